@@ -1,0 +1,4 @@
+pub mod Width
+pub mod Trap
+pub mod Refusal
+pub mod Storing

@@ -1,0 +1,28 @@
+-- The width of numbers: every bound that follows from it, by name.
+use Rattle.std.specs.Prelude.{ℕ, Bool, ℤ, pos, negsuc, neg_ℤ, ◌-ℤ◌, ◌≤ℤ◌, ◌^◌, FitsSigned, nat_lt}
+use Rattle.std.specs.Int.{Width, w64}
+
+-- the width of a number of the language
+abbrev pub num_width : Width
+num_width = w64
+
+-- a whole number that a number of the language can be
+abbrev pub IsNum : ℤ → Type 0
+IsNum z = FitsSigned num_width z
+
+-- the same, as a test
+abbrev pub is_num : ℤ → Bool
+is_num (pos n) = nat_lt n (2 ^ 63)
+is_num (negsuc n) = nat_lt n (2 ^ 63)
+
+-- the greatest size of a number type, in bits
+abbrev pub max_size : ℕ
+max_size = 32
+
+-- the greatest count of a shift
+abbrev pub max_shift : ℕ
+max_shift = 63
+
+-- the most bytes that one token takes
+abbrev pub max_token_bytes : ℕ
+max_token_bytes = 4

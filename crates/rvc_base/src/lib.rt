@@ -1,0 +1,20 @@
+//! What every crate of `rvc` shares: numbers and their types, the ids of a network, refusals, traps.
+//!
+//! Each bound that follows from the width of numbers stands once, by name, in `width`.
+#![tactic(auto)]
+
+mod ids;
+mod memory;
+mod refusal;
+mod round_kind;
+mod scalar;
+mod trap;
+mod width;
+
+pub use ids::{ActId, InstId, LinkId};
+pub use memory::Memory;
+pub use refusal::{Front, Place, Refusal, Rule};
+pub use round_kind::RoundKind;
+pub use scalar::{Scalar, conv};
+pub use trap::Trap;
+pub use width::{MAX_SHIFT, MAX_SIZE, MAX_TOKEN_BYTES, Num};

@@ -1,0 +1,5 @@
+pub mod Told
+pub mod Count
+pub mod Elsewhere
+pub mod Library
+pub mod Feeds

@@ -1,0 +1,19 @@
+//! The outside, as `rvc` sees it: files to read, feeds of bytes, channels that take bytes, and a gate.
+//!
+//! Each trait says what its calls do by what its values *tell* of their content, and by counts of
+//! faults that never fall. The objects in memory tell all.
+#![tactic(auto)]
+
+mod drains;
+mod feeds;
+mod gate;
+mod library;
+
+pub use drains::Drains;
+pub use feeds::Feeds;
+pub use gate::{Gate, OpenGate};
+pub use library::{Library, MAX_FILE_BYTES, ReadAnswer};
+
+/// A read or a write that failed.
+#[derive(Clone, Copy, Debug, PartialEq, Eq)]
+pub struct Failed;
