@@ -1,4 +1,5 @@
 pub mod Width
 pub mod Trap
+pub mod Behaviour
 pub mod Refusal
 pub mod Storing

@@ -1,0 +1,4 @@
+//! The meaning of actors: the tree of the first form, the value of its expression, and what it does.
+#![tactic(auto)]
+
+pub mod ast;
