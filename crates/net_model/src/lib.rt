@@ -1,13 +1,11 @@
-// A library with one function.
+//! Networks of actors: their states, events, runs and ends, port files and traces, as definitions.
+//!
+//! The definitions stand in `specs/`, for any number of leaves and links and any actor's behaviour.
+//! The functions of `laws` carry what holds of all runs.
 #![tactic(auto)]
 
-ghost use Rattle.std.specs.Prelude.{◌≡◌};
-ghost use Rattle.net_model.specs.Echo.{echo_of};
+mod laws;
+mod wiring;
 
-// The `ensures` clause is the contract: what `echo` returns is `echo_of` of its argument, a definition
-// in `specs/Echo.antt`, which a caller's clause can cite too.
-pub fn echo(x: usize) -> usize
-    ensures { result ≡ echo_of x }
-{
-    x
-}
+pub use laws::Meaning;
+pub use wiring::{End, Link, Port};
