@@ -1,0 +1,4 @@
+mod Errors
+mod Steps
+mod SoFar
+mod Outbox
