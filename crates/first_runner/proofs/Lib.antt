@@ -2,3 +2,5 @@ mod Errors
 mod Steps
 mod SoFar
 mod Outbox
+mod Inbox
+mod Firing

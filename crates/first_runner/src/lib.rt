@@ -3,6 +3,8 @@
 
 
 
+mod burst;
+mod filling;
 mod sending;
 mod trace_writer;
 
