@@ -4,3 +4,5 @@ mod SoFar
 mod Outbox
 mod Inbox
 mod Firing
+mod Tokens
+mod Delivering

@@ -13,26 +13,10 @@ use Rattle.cal_model.specs.Form.{Form}
 use Rattle.cal_model.specs.Meaning.{byte_type, SendsFor}
 use Rattle.cal_model.specs.declared.ast.Binary.{Binary}
 use Rattle.first_runner.specs.Source.{network_of}
-use Rattle.first_runner.specs.Ran.{fires_in, deliveries_in, AreMoves, Written, Ended, CutOff, BrokenOff, Counts, Tally, IsFrontOf}
-use Rattle.first_runner.proofs.Steps.{toks, results, state_at, fire-step, deliver-step, quiet-at, between-at, fits-at, results-length}
-
--- The lines lead from the start to `state_at`. `arrived_then` and `fired_then` are its numbers after the last delivery.
--- What is said of all that may follow needs no induction where one line is added.
-pub record SoFar (f : Form) (input : List ℕ) (lines : List Line) (rounds arrived fired out arrived_then fired_then : ℕ) : Type 0 where
-  pub plays : (after : List Line) (last : State (Unit {0}))
-      → PlaysFrom (network_of f) (state_at f.sum (toks input) arrived fired out) after last
-      → PlaysFrom (network_of f) (start_of (network_of f) (input ∷ [])) (lines ++ after) last
-  pub keeps : (after : List Line)
-      → KeepsFrom (network_of f) (state_at f.sum (toks input) arrived_then fired_then fired_then) (state_at f.sum (toks input) arrived fired out) after
-      → KeepsFrom (network_of f) (start_of (network_of f) (input ∷ [])) (start_of (network_of f) (input ∷ [])) (lines ++ after)
-  pub moves : (after : List Line) → AreMoves after → AreMoves (lines ++ after)
-  pub fires : (after : List Line) → fires_in (lines ++ after) ≡ fired + fires_in after
-  pub deliveries : (after : List Line) → deliveries_in (lines ++ after) ≡ rounds + deliveries_in after
-  pub out_behind : out ≤ fired
-  pub fired_behind : fired ≤ arrived
-  pub within : arrived ≤ length (toks input)
-  pub later : fired_then ≤ fired
-  pub few : fired ≤ fired_then + 512
+use Rattle.first_runner.specs.declared.outcome.Counts.{Counts}
+use Rattle.first_runner.specs.Ran.{fires_in, deliveries_in, AreMoves, Written, Ended, CutOff, BrokenOff, IsFrontOf}
+use Rattle.first_runner.specs.SoFar.{toks, results, state_at, SoFar}
+use Rattle.first_runner.proofs.Steps.{fire-step, deliver-step, quiet-at, between-at, fits-at, results-length}
 
 pub so_far-start : (f : Form) (input : List ℕ) → SoFar f input [] 0 0 0 0 0 0
 so_far-start f input = record {
@@ -113,9 +97,6 @@ module _ (f : Form) (input : List ℕ) (lines : List Line) (rounds arrived fired
   pub moves_so_far : AreMoves lines
   moves_so_far = subst AreMoves (append-nil lines) (so_far.moves [] tt)
 
-  pub tally_of : Tally
-  tally_of = record { firings = fired; rounds = rounds; arrived = arrived; sent = fired }
-
   -- nothing is left
   pub ended-quiet : fired ≡ length (toks input) → out ≡ fired
       → Ended f input Quiet (record { firings = fired; rounds = rounds; arrived = arrived; sent = fired })
@@ -129,7 +110,7 @@ module _ (f : Form) (input : List ℕ) (lines : List Line) (rounds arrived fired
         trace_is = refl;
         output_is = refl
       };
-      counts = record {
+      counted = record {
         firings = sym (so_far.fires (Quiet ∷ []) ∙ omega arith);
         rounds = sym (so_far.deliveries (Quiet ∷ []) ∙ omega arith);
         arrived = refl;
@@ -150,7 +131,7 @@ module _ (f : Form) (input : List ℕ) (lines : List Line) (rounds arrived fired
         trace_is = refl;
         output_is = refl
       };
-      counts = record {
+      counted = record {
         firings = sym (so_far.fires (Budget ∷ []) ∙ omega arith);
         rounds = sym (so_far.deliveries (Budget ∷ []) ∙ omega arith);
         arrived = refl;

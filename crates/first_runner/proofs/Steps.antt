@@ -19,34 +19,8 @@ use Rattle.cal_model.specs.Form.{Form}
 use Rattle.cal_model.specs.Eval.{Out, Gives, Traps, eval}
 use Rattle.cal_model.specs.Meaning.{byte_type, SendsFor, effect, effect_of}
 use Rattle.first_runner.specs.Source.{network_of}
+use Rattle.first_runner.specs.SoFar.{toks, outgoing, results, input_flow, output_flow, state_at}
 use Rattle.cal_model.specs.declared.ast.Binary.{Binary}
-
--- the tokens of the input
-abbrev pub toks : List ℕ → List ℤ
-toks input = map (conv byte_type) (tokens byte_type input)
-
--- what goes out for a value: it is stored in the port's type, and then in the reader's
-abbrev pub outgoing : Out → ℤ
-outgoing (Gives z) = conv byte_type (conv byte_type z)
-outgoing (Traps c) = pos 0
-
--- what went out once n tokens were taken
-abbrev pub results : Binary → List ℤ → ℕ → List ℤ
-results b ts n = map (λ v. outgoing (eval v b)) (take n ts)
-
-abbrev pub input_flow : List ℤ → ℕ → ℕ → Flow
-input_flow ts arrived fired = record { sent = ts; arrived = arrived; taken = fired }
-
-abbrev pub output_flow : List ℤ → ℕ → Flow
-output_flow sent out = record { sent = sent; arrived = out; taken = out }
-
--- so many tokens have arrived, were taken, and went out of the network
-abbrev pub state_at : Binary → List ℤ → ℕ → ℕ → ℕ → State (Unit {0})
-state_at b ts arrived fired out = record {
-    actors = tt ∷ [];
-    flows = input_flow ts arrived fired ∷ output_flow (results b ts fired) out ∷ [];
-    trapped = false
-  }
 
 pub start_is : (f : Form) (input : List ℕ) → start_of (network_of f) (input ∷ []) ≡ state_at f.sum (toks input) 0 0 0
 start_is f input = refl

@@ -2,3 +2,6 @@ pub mod Source
 pub mod Filling
 pub mod Burst
 pub mod Ran
+pub mod Outside
+pub mod Leaves
+pub mod SoFar

@@ -6,6 +6,7 @@ use Rattle.trace_text.specs.Text.{line_text}
 use Rattle.net_model.specs.State.{Flow, State}
 use Rattle.net_model.specs.Trace.{Plays, KeepsCapacities, bytes_out}
 use Rattle.cal_model.specs.Form.{Form}
+use Rattle.first_runner.specs.declared.outcome.Counts.{Counts}
 use Rattle.first_runner.specs.Source.{network_of}
 
 -- how many lines are firings, and how many are deliveries
@@ -38,19 +39,12 @@ arrived_on flows l = (Rattle.std.specs.Prelude.slice_index_or flows l (record { 
 abbrev pub sent_on : List Flow → ℕ → ℕ
 sent_on flows l = length (Rattle.std.specs.Prelude.slice_index_or flows l (record { sent = []; arrived = 0; taken = 0 })).sent
 
--- the numbers of the report
-pub record Tally : Type 0 where
-  pub firings : ℕ
-  pub rounds : ℕ
-  pub arrived : ℕ
-  pub sent : ℕ
-
--- they count these lines and the tokens of the state after them
-pub record Counts (tally : Tally) (lines : List Line) (last : State (Unit {0})) : Type 0 where
-  pub firings : tally.firings ≡ fires_in lines
-  pub rounds : tally.rounds ≡ deliveries_in lines
-  pub arrived : tally.arrived ≡ arrived_on last.flows 0
-  pub sent : tally.sent ≡ sent_on last.flows 1
+-- the numbers of the report count these lines and the tokens of the state after them
+pub record Counted (counts : Counts) (lines : List Line) (last : State (Unit {0})) : Type 0 where
+  pub firings : counts.firings ≡ fires_in lines
+  pub rounds : counts.rounds ≡ deliveries_in lines
+  pub arrived : counts.arrived ≡ arrived_on last.flows 0
+  pub sent : counts.sent ≡ sent_on last.flows 1
 
 -- Lines that play from the start of the actor's network over this input and keep its capacities have these
 -- lines' text, and the output is that of the state after them.
@@ -61,11 +55,11 @@ pub record Written (f : Form) (input : List ℕ) (lines : List Line) (last : Sta
   pub output_is : output ≡ bytes_out (network_of f) last 0
 
 -- the run ended by this line
-pub record Ended (f : Form) (input : List ℕ) (end : Line) (tally : Tally) (trace output : List ℕ) : Type 0 where
+pub record Ended (f : Form) (input : List ℕ) (end : Line) (counts : Counts) (trace output : List ℕ) : Type 0 where
   pub moves : List Line
   pub last : State (Unit {0})
   pub written : Written f input (moves ++ end ∷ []) last trace output
-  pub counts : Counts tally (moves ++ end ∷ []) last
+  pub counted : Counted counts (moves ++ end ∷ []) last
 
 -- lines without an end: firings and deliveries alone
 abbrev pub AreMoves : List Line → Type 0

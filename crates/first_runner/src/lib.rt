@@ -5,6 +5,9 @@
 
 mod burst;
 mod filling;
+mod outcome;
+mod progress;
+mod rounds;
 mod sending;
 mod trace_writer;
 
@@ -19,3 +22,6 @@ pub const OUTPUT_CHANNEL: u32 = 2;
 
 /// How many tokens a link can hold.
 pub const CAPACITY: usize = 512;
+
+/// How often the actor may fire in a round.
+pub const BURST: u64 = 64;

@@ -1,0 +1,46 @@
+-- What a run leaves on its two channels, for each end.
+use Rattle.std.specs.Prelude.{◌≡◌, ℕ, List, [], ◌++◌}
+use Rattle.trace_text.specs.declared.line.Line.TheVariants.{Quiet, Budget}
+use Rattle.cal_model.specs.Form.{Form}
+use Rattle.channel_writer.specs.Held.{Writes}
+use Rattle.first_runner.specs.declared.outcome.RunEnd.{RunEnd}
+use Rattle.first_runner.specs.declared.outcome.RunEnd.TheVariants as end
+use Rattle.first_runner.specs.Ran.{Ended, CutOff, BrokenOff}
+use Rattle.first_runner.specs.declared.outcome.Counts.{Counts}
+
+-- what was appended to the trace and to the output
+abbrev pub EndsAs : Form → List ℕ → RunEnd → Counts → List ℕ → List ℕ → Type 0
+EndsAs f input end.Quiet counts trace output = Ended f input Quiet counts trace output
+EndsAs f input end.Budget counts trace output = Ended f input Budget counts trace output
+EndsAs f input (end.ReadFault feed) counts trace output = CutOff f input trace output
+EndsAs f input (end.WriteFault channel) counts trace output = BrokenOff f input trace output
+
+-- the channels hold what they held, and what belongs to the end
+pub record Leaves (f : Form) (input : List ℕ) (how : RunEnd) (counts : Counts) (trace_old trace_new output_old output_new : List ℕ) : Type 0 where
+  pub trace : List ℕ
+  pub output : List ℕ
+  pub trace_is : trace_new ≡ trace_old ++ trace
+  pub output_is : output_new ≡ output_old ++ output
+  pub ends : EndsAs f input how counts trace output
+
+-- the same where a part of it is held back
+pub record Pends (f : Form) (input : List ℕ) (how : RunEnd) (counts : Counts) (trace_old trace_new trace_pending output_old output_new output_pending : List ℕ) : Type 0 where
+  pub trace : List ℕ
+  pub output : List ℕ
+  pub trace_is : Writes trace_old [] trace_new trace_pending trace
+  pub output_is : Writes output_old [] output_new output_pending output
+  pub ends : EndsAs f input how counts trace output
+
+-- after a failed write nothing more is put
+abbrev pub Comes : Form → List ℕ → RunEnd → Counts → (trace_old trace_new trace_pending output_old output_new output_pending : List ℕ) → Type 0
+Comes f input end.Quiet counts to tn tp oo on_ op = Pends f input end.Quiet counts to tn tp oo on_ op
+Comes f input end.Budget counts to tn tp oo on_ op = Pends f input end.Budget counts to tn tp oo on_ op
+Comes f input (end.ReadFault feed) counts to tn tp oo on_ op = Pends f input (end.ReadFault feed) counts to tn tp oo on_ op
+Comes f input (end.WriteFault channel) counts to tn tp oo on_ op = Leaves f input (end.WriteFault channel) counts to tn oo on_
+
+-- a read or a write failed
+abbrev pub IsFault : RunEnd → Type 0
+IsFault end.Quiet = ⊥
+IsFault end.Budget = ⊥
+IsFault (end.ReadFault feed) = Unit {0}
+IsFault (end.WriteFault channel) = Unit {0}

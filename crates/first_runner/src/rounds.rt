@@ -1,0 +1,64 @@
+//! The rounds of one actor: deliver, then fire, until an end.
+
+ghost use Rattle.std.specs.Prelude.{◌≡◌, ◌≤◌, ◌<◌, ◌+◌, ◌^◌, ℕ, Bool, true, List, [], Option, Some, OnOk, OnErr, IfOk, IfErr, MatchResult, Err, length};
+ghost use Rattle.rvc_io.specs.Count.{HasRisen};
+ghost use Rattle.cal_model.specs.Meaning.{IsFirstForm};
+ghost use Rattle.cal_model.specs.Form.{Form};
+ghost use Rattle.first_runner.specs.Outside.{KeepsOthers};
+ghost use Rattle.first_runner.specs.Leaves.{Comes, IsFault};
+ghost use Rattle.first_runner.specs.SoFar.{Going, Delivered};
+ghost use Rattle.first_runner.specs.declared.outcome.Counts.{Counts as Numbers};
+
+use cal_model::ast::Binary;
+use rvc_io::{Drains, Feeds};
+use trace_text::Line;
+
+use crate::burst::fire_burst;
+use crate::filling::fill;
+use crate::outcome::{Counts, RunEnd};
+use crate::progress::Progress;
+use crate::sending::send_out;
+use crate::trace_writer::note;
+use crate::{BURST, INPUT_FEED, OUTPUT_CHANNEL, TRACE_CHANNEL};
+
+/// Everything that was sent goes out, and the input link is filled.
+pub fn deliver<F: Feeds, D: Drains>(
+    run: &mut Progress,
+    feeds: &mut F,
+    drains: &mut D,
+) -> Result<(), RunEnd>
+    requires feed_open { F.is_open feeds.old INPUT_FEED ≡ true }
+    requires trace_open { D.is_open drains.old TRACE_CHANNEL ≡ true }
+    requires output_open { D.is_open drains.old OUTPUT_CHANNEL ≡ true }
+    requires few { run.old.rounds + 1 < 2 ^ 64 }
+
+    ensures delivered { (f : Form) (input trace_base output_base : List ℕ)
+        → Going f input trace_base output_base (F.left feeds.old INPUT_FEED) run.old.inbox.items run.old.outbox.items run.old.at_end run.old.firings run.old.rounds (D.tells drains.old) (D.held drains.old) run.old.trace run.old.output
+        → OnOk result (Delivered f input trace_base output_base (F.left feeds.new INPUT_FEED) run.new.inbox.items run.new.outbox.items run.new.at_end run.new.firings run.new.rounds (D.tells drains.new) (D.held drains.new) run.new.trace run.new.output) }
+    ensures cut { (f : Form) (input trace_base output_base : List ℕ) (counts : Numbers)
+        → Going f input trace_base output_base (F.left feeds.old INPUT_FEED) run.old.inbox.items run.old.outbox.items run.old.at_end run.old.firings run.old.rounds (D.tells drains.old) (D.held drains.old) run.old.trace run.old.output
+        → IfErr result (λ how. Comes f input how counts trace_base (D.held drains.new 1) run.new.trace output_base (D.held drains.new 2) run.new.output) }
+
+    ensures read_fault { (feed : ℕ) → result ≡ Err (RunEnd.ReadFault feed) → (feed ≡ INPUT_FEED) × HasRisen (F.faults feeds.old) (F.faults feeds.new) }
+    ensures write_fault { (channel : ℕ) → result ≡ Err (RunEnd.WriteFault channel) → HasRisen (D.faults drains.old) (D.faults drains.new) }
+    ensures only_faults { IfErr result IsFault }
+    ensures same_firings { run.new.firings ≡ run.old.firings }
+    ensures empty { OnOk result (run.new.outbox.items ≡ []) }
+    ensures one_round { OnOk result (run.new.rounds ≡ run.old.rounds + 1) }
+
+    ensures feeds_open { (other : ℕ) → F.is_open feeds.new other ≡ F.is_open feeds.old other }
+    ensures feeds_stay { F.faults feeds.old ≤ F.faults feeds.new }
+    ensures others { KeepsOthers (D.tells drains.old) (D.tells drains.new) (D.held drains.old) (D.held drains.new) (D.is_open drains.old) (D.is_open drains.new) (D.faults drains.old) (D.faults drains.new) }
+{
+    let Ok(()) = send_out(&mut run.outbox, &mut run.output, drains) else {
+        return Err(RunEnd::WriteFault { channel: OUTPUT_CHANNEL });
+    };
+    let Ok(()) = fill(feeds, &mut run.inbox, &mut run.at_end) else {
+        return Err(RunEnd::ReadFault { feed: INPUT_FEED });
+    };
+    let Ok(()) = note(&Line::Deliver, &mut run.trace, drains) else {
+        return Err(RunEnd::WriteFault { channel: TRACE_CHANNEL });
+    };
+    run.rounds += 1;
+    Ok(())
+}
