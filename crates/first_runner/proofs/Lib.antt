@@ -6,3 +6,5 @@ mod Inbox
 mod Firing
 mod Tokens
 mod Delivering
+mod Bursting
+mod Closing

@@ -26,7 +26,7 @@ pub start_is : (f : Form) (input : List ℕ) → start_of (network_of f) (input 
 start_is f input = refl
 
 -- what takes the next token leaves one list of results longer
-results-more : (b : Binary) (ts : List ℤ) (n : ℕ) (v : ℤ) (rest : List ℤ) → drop n ts ≡ v ∷ rest → results b ts (n + 1) ≡ results b ts n ++ outgoing (eval v b) ∷ []
+pub results-more : (b : Binary) (ts : List ℤ) (n : ℕ) (v : ℤ) (rest : List ℤ) → drop n ts ≡ v ∷ rest → results b ts (n + 1) ≡ results b ts n ++ outgoing (eval v b) ∷ []
 results-more b ts n v rest e =
     ap (map (λ x. outgoing (eval x b))) (take-add n 1 ts ∙ ap (λ us. take n ts ++ take 1 us) e)
     ∙ map-append (λ x. outgoing (eval x b)) (take n ts) (v ∷ [])

@@ -45,6 +45,7 @@ pub fn fire_burst<D: Drains>(
     ensures same_held { D.tells drains.old ≡ true → SameElsewhere (D.held drains.old) (D.held drains.new) TRACE_CHANNEL }
     ensures same_open { (other : ℕ) → D.is_open drains.new other ≡ D.is_open drains.old other }
     ensures faults_stay { D.faults drains.old ≤ D.faults drains.new }
+    ensures inbox_len { deque_len inbox.new ≤ deque_len inbox.old }
     ensures inbox_capacity { deque_capacity inbox.new ≡ deque_capacity inbox.old }
     ensures outbox_capacity { deque_capacity outbox.new ≡ deque_capacity outbox.old }
 {

@@ -62,3 +62,43 @@ pub fn deliver<F: Feeds, D: Drains>(
     run.rounds += 1;
     Ok(())
 }
+
+/// Fires the actor at most `limit` times, and says how often.
+pub fn fire<D: Drains>(
+    sum: &Binary,
+    limit: u64,
+    run: &mut Progress,
+    drains: &mut D,
+) -> Result<u64, RunEnd>
+    requires first_form { IsFirstForm sum.now }
+    requires trace_open { D.is_open drains.old TRACE_CHANNEL ≡ true }
+    requires burst { limit ≤ BURST }
+    requires empty { run.old.outbox.items ≡ [] }
+    requires few { run.old.firings + limit < 2 ^ 64 }
+
+    ensures fired { (f : Form) (input trace_base output_base : List ℕ) (left : Option (List ℕ)) → f.sum ≡ sum.now
+        → Delivered f input trace_base output_base left run.old.inbox.items run.old.outbox.items run.old.at_end run.old.firings run.old.rounds (D.tells drains.old) (D.held drains.old) run.old.trace run.old.output
+        → OnOk result (Going f input trace_base output_base left run.new.inbox.items run.new.outbox.items run.new.at_end run.new.firings run.new.rounds (D.tells drains.new) (D.held drains.new) run.new.trace run.new.output) }
+    ensures cut { (f : Form) (input trace_base output_base : List ℕ) (left : Option (List ℕ)) (counts : Numbers) → f.sum ≡ sum.now
+        → Delivered f input trace_base output_base left run.old.inbox.items run.old.outbox.items run.old.at_end run.old.firings run.old.rounds (D.tells drains.old) (D.held drains.old) run.old.trace run.old.output
+        → IfErr result (λ how. Comes f input how counts trace_base (D.held drains.new 1) run.new.trace output_base (D.held drains.new 2) run.new.output) }
+    ensures counted { IfOk result (λ n. run.new.firings ≡ run.old.firings + n) }
+    ensures most { IfOk result (λ n. n ≤ limit) }
+    ensures least { IfOk result (λ n. 0 < length run.old.inbox.items → 0 < limit → 0 < n) }
+    ensures write_fault { IfErr result (λ how. (how ≡ RunEnd.WriteFault TRACE_CHANNEL) × HasRisen (D.faults drains.old) (D.faults drains.new)) }
+    ensures same_rounds { run.new.rounds ≡ run.old.rounds }
+    ensures others { KeepsOthers (D.tells drains.old) (D.tells drains.new) (D.held drains.old) (D.held drains.new) (D.is_open drains.old) (D.is_open drains.new) (D.faults drains.old) (D.faults drains.new) }
+{
+    let Ok(count) = fire_burst(
+        sum,
+        limit,
+        &mut run.inbox,
+        &mut run.outbox,
+        &mut run.trace,
+        drains,
+    ) else {
+        return Err(RunEnd::WriteFault { channel: TRACE_CHANNEL });
+    };
+    run.firings += count;
+    Ok(count)
+}
