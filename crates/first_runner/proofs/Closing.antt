@@ -165,3 +165,11 @@ finishing-trace_cut f input how counts tb th tp ob oh op th_new oh_new pends out
     finishing-broken f input how counts 1 pends.trace pends.output tb th_new ob oh_new pends.ends
       (flush-front tb th th_new tp pends.trace pends.trace_is front)
       (whole-front ob oh_new pends.output (flushed ob oh oh_new op pends.output pends.output_is output_put))
+
+-- what isn't a failed write is still held back
+pub comes-pends : (f : Form) (input : List ℕ) (how : RunEnd) (counts : Counts) (tb th tp ob oh op : List ℕ)
+    → ((channel : ℕ) → how ≡ end.WriteFault channel → ⊥) → Comes f input how counts tb th tp ob oh op → Pends f input how counts tb th tp ob oh op
+comes-pends f input end.Quiet counts tb th tp ob oh op other comes = comes
+comes-pends f input end.Budget counts tb th tp ob oh op other comes = comes
+comes-pends f input (end.ReadFault feed) counts tb th tp ob oh op other comes = comes
+comes-pends f input (end.WriteFault channel) counts tb th tp ob oh op other comes = absurd (other channel refl)

@@ -9,3 +9,4 @@ mod Delivering
 mod Bursting
 mod Closing
 mod Rounding
+mod Starting

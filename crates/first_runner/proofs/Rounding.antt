@@ -1,5 +1,6 @@
 -- What the rounds keep.
-use Rattle.std.proofs.Common.{◌≡◌, ◌≢◌, ℕ, ◌+◌, ◌-◌, ◌<◌, ◌≤◌, Bool, true, List, refl, ◌∙◌, arith}
+use Rattle.std.proofs.Common.{◌≡◌, ◌≢◌, ℕ, ◌+◌, ◌-◌, ◌<◌, ◌≤◌, Bool, true, List, refl, ◌∙◌, inl, inr, arith}
+use Rattle.rvc_io.specs.Count.{HasRisen}
 use Rattle.first_runner.specs.Outside.{KeepsOthers}
 
 -- nothing changed yet
@@ -26,3 +27,13 @@ pub record IsRounding (budget firings rounds : ℕ) (feed_open : Bool) (feed_fau
   pub feed_is_open : feed_open ≡ true
   pub feeds_stay : feed_faults_old ≤ feed_faults
   pub others : KeepsOthers tells_old tells held_old held open_old open_now faults_old faults
+
+-- a count that rose in the last of two steps rose
+pub risen-later : (f0 f1 f2 : ℕ) → f0 ≤ f1 → HasRisen f1 f2 → HasRisen f0 f2
+risen-later f0 f1 f2 stay (inl less) = inl (omega arith)
+risen-later f0 f1 f2 stay (inr last) = inr last
+
+-- and one that rose in the first
+pub risen-before : (f0 f1 f2 : ℕ) → HasRisen f0 f1 → f1 ≤ f2 → HasRisen f0 f2
+risen-before f0 f1 f2 (inl less) stay = inl (omega arith)
+risen-before f0 f1 f2 (inr last) stay = inr (omega arith)

@@ -8,8 +8,12 @@ mod filling;
 mod outcome;
 mod progress;
 mod rounds;
+mod runner;
 mod sending;
 mod trace_writer;
+
+pub use outcome::{Counts, Outcome, RunEnd};
+pub use runner::Runner;
 
 /// The feed of the actor's input port.
 pub const INPUT_FEED: u32 = 1;

@@ -1,0 +1,148 @@
+//! A run of one actor, from its start to its end.
+
+ghost use Rattle.std.specs.Prelude.{◌≡◌, ◌≤◌, ◌⊎◌, ℕ, Bool, true, List, Some, IfOk, length};
+ghost use Rattle.rvc_io.specs.Count.{HasRisen};
+ghost use Rattle.cal_model.specs.Meaning.{IsFirstForm};
+ghost use Rattle.cal_model.specs.Form.{Form};
+ghost use Rattle.first_runner.specs.Outside.{KeepsOthers};
+ghost use Rattle.first_runner.specs.Leaves.{Leaves, Comes, numbers};
+ghost use Rattle.first_runner.specs.declared.outcome.Counts.{Counts as Numbers};
+
+use std::alloc::Global;
+use std::collections::VecDeque;
+use std::marker::Model;
+
+use cal_model::ast::Binary;
+use channel_writer::ChannelWriter;
+use rvc_base::{Memory, Num};
+use rvc_io::{Drains, Feeds};
+
+use crate::outcome::{Counts, Outcome, RunEnd};
+use crate::progress::Progress;
+use crate::rounds::make_rounds;
+use crate::{BURST, CAPACITY, INPUT_FEED, MAX_BUDGET, OUTPUT_CHANNEL, TRACE_CHANNEL};
+
+/// An actor that is ready to run, with all the memory that its run takes.
+///
+/// Contracts see the expression of its action.
+#[derive(Drop)]
+pub struct Runner {
+    sum: Binary,
+    inbox: VecDeque<u8>,
+    outbox: VecDeque<Num>,
+    trace: ChannelWriter,
+    output: ChannelWriter,
+}
+
+impl Model for Runner {
+    ghost use Rattle.std.specs.Prelude.{◌≡◌, ◌≤◌, []};
+    ghost use Rattle.std.specs.VecDeque.{deque_capacity, deque_len};
+    ghost use Rattle.cal_model.specs.declared.ast.Binary.{Binary as Expression};
+    ghost use Rattle.first_runner.specs.declared.TheConstants.{CAPACITY, BURST};
+
+    ghost Value = { Expression };
+
+    ghost view = { λ r. r.sum };
+
+    ghost invariant = { λ r. (r.inbox.items ≡ []) × (r.outbox.items ≡ []) × (r.trace ≡ []) × (r.output ≡ []) × (CAPACITY ≤ deque_capacity r.inbox) × (BURST ≤ deque_capacity r.outbox) };
+}
+
+impl Runner {
+    /// Takes the memory for a run of an actor whose action sends the value of `sum`.
+    pub fn new(alloc: Global, sum: Binary) -> Result<Runner, Memory>
+        ensures { IfOk result (λ r. r ≡ sum) }
+    {
+        let inbox = VecDeque::with_capacity(alloc, CAPACITY)?;
+        let outbox = VecDeque::with_capacity(alloc, BURST as usize)?;
+        let trace = ChannelWriter::new(alloc)?;
+        let output = ChannelWriter::new(alloc)?;
+        Ok(Runner {
+            sum,
+            inbox,
+            outbox,
+            trace,
+            output,
+        })
+    }
+
+    /// Runs the actor on its feed, with at most `budget` firings, and writes its event lines and its
+    /// output to their channels.
+    pub fn run<F: Feeds, D: Drains>(
+        self,
+        budget: u64,
+        feeds: &mut F,
+        drains: &mut D,
+    ) -> Outcome
+        requires first_form { IsFirstForm self }
+        requires feed_open { F.is_open feeds.old INPUT_FEED ≡ true }
+        requires trace_open { D.is_open drains.old TRACE_CHANNEL ≡ true }
+        requires output_open { D.is_open drains.old OUTPUT_CHANNEL ≡ true }
+        requires budget { budget ≤ MAX_BUDGET }
+
+        // What the run leaves is told by its end.
+        ensures leaves { (f : Form) (input : List ℕ) → f.sum ≡ self → F.left feeds.old INPUT_FEED ≡ Some input → D.tells drains.old ≡ true
+            → Leaves f input result.end result.counts (D.held drains.old TRACE_CHANNEL) (D.held drains.new TRACE_CHANNEL) (D.held drains.old OUTPUT_CHANNEL) (D.held drains.new OUTPUT_CHANNEL) }
+        ensures spent { result.end ≡ RunEnd.Budget → result.counts.firings ≡ budget }
+        ensures most { result.counts.firings ≤ budget }
+        ensures read_fault { (feed : ℕ) → result.end ≡ RunEnd.ReadFault feed → (feed ≡ INPUT_FEED) × HasRisen (F.faults feeds.old) (F.faults feeds.new) }
+        ensures write_fault { (channel : ℕ) → result.end ≡ RunEnd.WriteFault channel → HasRisen (D.faults drains.old) (D.faults drains.new) }
+        ensures feeds_stay { F.faults feeds.old ≤ F.faults feeds.new }
+        ensures others { KeepsOthers (D.tells drains.old) (D.tells drains.new) (D.held drains.old) (D.held drains.new) (D.is_open drains.old) (D.is_open drains.new) (D.faults drains.old) (D.faults drains.new) }
+    {
+        let Runner {
+            sum,
+            inbox,
+            outbox,
+            trace,
+            output,
+        } = self;
+        let mut run = Progress {
+            inbox,
+            outbox,
+            at_end: false,
+            trace,
+            output,
+            firings: 0,
+            rounds: 0,
+        };
+        let end = make_rounds(&sum, budget, &mut run, feeds, drains);
+        let counts = counts_of(&run);
+        let end = finish(end, &mut run, drains);
+        Outcome { end, counts }
+    }
+}
+
+/// The numbers of a run as it stands.
+fn counts_of(run: &Progress) -> Counts
+    requires { run.now.firings ≤ MAX_BUDGET }
+    ensures { result ≡ numbers run.now.firings run.now.rounds (length run.now.inbox.items) }
+{
+    Counts {
+        firings: run.firings,
+        rounds: run.rounds,
+        arrived: run.firings + run.inbox.len() as u64,
+        sent: run.firings,
+    }
+}
+
+/// Puts what is held back, unless a write failed.
+fn finish<D: Drains>(end: RunEnd, run: &mut Progress, drains: &mut D) -> RunEnd
+    requires trace_open { D.is_open drains.old TRACE_CHANNEL ≡ true }
+    requires output_open { D.is_open drains.old OUTPUT_CHANNEL ≡ true }
+    ensures leaves { (f : Form) (input trace_base output_base : List ℕ) (counts : Numbers) → D.tells drains.old ≡ true
+        → Comes f input end counts trace_base (D.held drains.old 1) run.old.trace output_base (D.held drains.old 2) run.old.output
+        → Leaves f input result counts trace_base (D.held drains.new 1) output_base (D.held drains.new 2) }
+    ensures ends { (result ≡ end) ⊎ ((channel : ℕ) × (result ≡ RunEnd.WriteFault channel) × HasRisen (D.faults drains.old) (D.faults drains.new)) }
+    ensures others { KeepsOthers (D.tells drains.old) (D.tells drains.new) (D.held drains.old) (D.held drains.new) (D.is_open drains.old) (D.is_open drains.new) (D.faults drains.old) (D.faults drains.new) }
+{
+    if let RunEnd::WriteFault { channel: _ } = end {
+        return end;
+    }
+    let Ok(()) = run.output.flush(drains, OUTPUT_CHANNEL) else {
+        return RunEnd::WriteFault { channel: OUTPUT_CHANNEL };
+    };
+    let Ok(()) = run.trace.flush(drains, TRACE_CHANNEL) else {
+        return RunEnd::WriteFault { channel: TRACE_CHANNEL };
+    };
+    end
+}
