@@ -1,2 +1,4 @@
 mod Rows
 mod Coding
+mod Growth
+mod Bounds

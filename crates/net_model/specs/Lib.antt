@@ -5,3 +5,5 @@ pub mod Event
 pub mod Ends
 pub mod Trace
 pub mod Lawful
+pub mod Wired
+pub mod Laws

@@ -7,5 +7,5 @@
 mod laws;
 mod wiring;
 
-pub use laws::Meaning;
+pub use laws::{Meaning, sent_lists_only_grow};
 pub use wiring::{End, Link, Port};
