@@ -2,3 +2,4 @@ mod Rows
 mod Coding
 mod Growth
 mod Bounds
+mod Lines

@@ -1,11 +1,11 @@
 -- What holds of all runs, as statements.
-use Rattle.std.specs.Prelude.{◌≡◌, ℕ, ◌≤◌, ◌<◌, List, [], ◌++◌, ℤ, length, slice_get, Option, None, Some}
+use Rattle.std.specs.Prelude.{◌≡◌, ℕ, ◌≤◌, ◌<◌, List, [], ◌∷◌, ◌++◌, ℤ, length, slice_get, Option, None, Some}
 use Rattle.trace_text.specs.declared.line.Line.{Line}
+use Rattle.trace_text.specs.declared.line.Line.TheVariants.{Header, Inst, Fire as FireLine, Deliver as DeliverLine, Quiet, Trap as TrapLine, Stall, Budget}
 use Rattle.net_model.specs.Network.{Leaf, Network}
-use Rattle.net_model.specs.State.{Flow, State, start_of}
-use Rattle.net_model.specs.Event.{Event, run}
+use Rattle.net_model.specs.State.{Flow, State}
+use Rattle.net_model.specs.Event.{Event, Fire, Deliver, Trap, run}
 use Rattle.net_model.specs.Lawful.{IsLawful}
-use Rattle.net_model.specs.Trace.{played}
 
 -- ys begins with xs
 abbrev pub IsPrefix : {A : Type 0} → List A → List A → Type 0
@@ -35,6 +35,26 @@ AreOrdered s = (l : ℕ) (flow : Flow) → slice_get s.flows l ≡ Some flow →
 abbrev pub AreLawful : {X : Type 0} → Network X → Type 0
 AreLawful {X} net = (i : ℕ) (leaf : Leaf X) → slice_get net.leaves i ≡ Some leaf → IsLawful leaf.behaviour
 
--- some events lead from s to t
-abbrev pub IsRun : {X : Type 0} → Network X → State X → State X → Type 0
-IsRun net s t = (events : List Event) × (run net s events ≡ Some t)
+-- the firings in events, and those that lines show: a leaf and its action, in order
+abbrev pub firings_in : List Event → List (ℕ × ℕ)
+firings_in [] = []
+firings_in (Fire i a ∷ events) = (i, a) ∷ firings_in events
+firings_in (Deliver l k ∷ events) = firings_in events
+firings_in (Trap i a c ∷ events) = firings_in events
+
+abbrev pub firings_shown : List Line → List (ℕ × ℕ)
+firings_shown [] = []
+firings_shown (FireLine i a ∷ lines) = (i, a) ∷ firings_shown lines
+firings_shown (DeliverLine ∷ lines) = firings_shown lines
+firings_shown (TrapLine i a c ∷ lines) = firings_shown lines
+firings_shown (Quiet ∷ lines) = firings_shown lines
+firings_shown (Stall i a l ∷ lines) = firings_shown lines
+firings_shown (Budget ∷ lines) = firings_shown lines
+firings_shown (Header n l ∷ lines) = firings_shown lines
+firings_shown (Inst k ∷ lines) = firings_shown lines
+
+-- Some events lead from s to t, and the firings among them are these.
+pub record IsRunOf {X : Type 0} (net : Network X) (s t : State X) (firings : List (ℕ × ℕ)) : Type 0 where
+  pub events : List Event
+  pub leads : run net s events ≡ Some t
+  pub same_firings : firings_in events ≡ firings
