@@ -1,7 +1,6 @@
 -- No more tokens are taken from a link than have arrived there, and no more arrive than were sent.
-use Rattle.std.proofs.Common.{◌≡◌, ℕ, zero, suc, ◌+◌, ◌-◌, ◌<◌, ◌≤◌, Bool, true, false, cond, List, [], ◌∷◌, ◌++◌, ℤ, length, take, drop, map, refl, sym, ap, ◌∙◌, subst, arith, rules}
+use Rattle.std.proofs.Common.{◌≡◌, ℕ, zero, suc, ◌+◌, ◌-◌, ◌<◌, ◌≤◌, Bool, true, false, List, [], ◌∷◌, length, map, refl, sym, ap, ◌∙◌, subst, arith}
 use Rattle.std.specs.Prelude.{Option, None, Some, slice_get, slice_set, slice_index_or, if◌then◌else◌, nat_le, ◌==◌, ◌&&◌}
-use Rattle.std.specs.List.{range_with_len}
 use Rattle.std.proofs.lemmas.Bool.{eqb-true, eq-eqb, leb-true}
 use Rattle.std.proofs.lemmas.List.FromFn.{get_or-map-range_with_len}
 use Rattle.std.proofs.lemmas.List.{length-take, length-drop, length-append}
@@ -13,7 +12,7 @@ use Rattle.net_model.specs.declared.wiring.End.TheVariants.{Leaf as AtLeaf, Net 
 use Rattle.net_model.specs.declared.wiring.Link.{Link}
 use Rattle.net_model.specs.Network.{Leaf, Network, is_output, is_leaf_port}
 use Rattle.net_model.specs.State.{Flow, State, waiting, inbox, inboxes, first_flow, start_of, effect_of, effect_at, need_of}
-use Rattle.net_model.specs.Event.{Event, Fire, Deliver, Trap, each_flow, sent_on, taken_from, after_firing, after_arrival, fire, deliver, trap, permitted, happens, and_then, run}
+use Rattle.net_model.specs.Event.{Event, Fire, Deliver, Trap, each_flow, taken_from, after_firing, after_arrival, fire, deliver, trap, permitted, happens, and_then, run}
 use Rattle.net_model.specs.Lawful.{IsLawful}
 use Rattle.net_model.specs.Wired.{IsWired, LeadsToPort, HasInput}
 use Rattle.net_model.specs.Laws.{IsOrdered, AreOrdered, AreLawful}
@@ -90,7 +89,7 @@ needs_waiting : {X : Type 0} (links : List Link) (flows : List Flow) (i a : ℕ)
     → (p : ℕ) → p < b.ins → b.need a p ≤ length (inbox i p links flows)
 needs_waiting links flows i a b x e lawful has p low =
     let there : b.need a p ≤ length (slice_index_or (inboxes i b.ins links flows) p []) =
-        lawful.has_tokens x (inboxes i b.ins links flows) a (λ none. cc) p low in
+    lawful.has_tokens x (inboxes i b.ins links flows) a (λ none. cc) p low in
     rw (get_or-map-range_with_len (λ q. inbox i q links flows) 0 b.ins p p [] low (omega arith)) at there
 
 input_there : {X : Type 0} (p : ℕ) (o : Option (Leaf X)) (leaf : Leaf X) → o ≡ Some leaf → HasInput p o → p < leaf.behaviour.ins
@@ -110,24 +109,24 @@ taken_fits net flows i a x e wired lawful has l link flow at_link at_flow (AtNet
 taken_fits net flows i a x e wired lawful has l link flow at_link at_flow (AtLeaf inst port) leads =
     elim_bool (i == inst.0)
     (λ here.
-        let same : i ≡ inst.0 = eqb-true i inst.0 here in
-        let source = source_of net.links flows i a (slice_get net.leaves i) x e has in
-        let to_here : link.to ≡ AtLeaf (record { 0 = i }) port =
-            leads ∙ ap (λ k. AtLeaf (record { 0 = k }) port) (sym same) in
-        let lawful_here : IsLawful source.that.behaviour = lawful i source.that source.there in
-        let leads_there : LeadsToPort net.leaves (AtLeaf (record { 0 = i }) port) =
-            subst (λ k. LeadsToPort net.leaves k) to_here (wired.to_ports l link at_link) in
-        let low : port < source.that.behaviour.ins = input_there port _ source.that source.there leads_there in
-        let waits : source.that.behaviour.need a port ≤ length (inbox i port net.links flows) =
-            needs_waiting net.links flows i a source.that.behaviour source.state e lawful_here source.has port low in
-        let only : IsOnly net.links l link = λ m that at same_end. wired.one_writer m l that link at at_link same_end in
-        let held : inbox i port net.links flows ≡ waiting flow =
-            inbox_of_link i port net.links flows l link flow at_link at_flow to_here only in
-        let held_length : length (inbox i port net.links flows) ≡ length (waiting flow) = ap (λ vs. length vs) held in
-        let few : length (waiting flow) ≤ flow.arrived - flow.taken = waiting_length flow in
-        let needed : need_of (slice_get net.leaves i) a port ≡ source.that.behaviour.need a port =
-            need_there _ source.that a port source.there in
-        rw (chosen (i == inst.0) (need_of (slice_get net.leaves i) a port) 0 here) (omega arith))
+    let same : i ≡ inst.0 = eqb-true i inst.0 here in
+    let source = source_of net.links flows i a (slice_get net.leaves i) x e has in
+    let to_here : link.to ≡ AtLeaf (record { 0 = i }) port =
+    leads ∙ ap (λ k. AtLeaf (record { 0 = k }) port) (sym same) in
+    let lawful_here : IsLawful source.that.behaviour = lawful i source.that source.there in
+    let leads_there : LeadsToPort net.leaves (AtLeaf (record { 0 = i }) port) =
+    subst (λ k. LeadsToPort net.leaves k) to_here (wired.to_ports l link at_link) in
+    let low : port < source.that.behaviour.ins = input_there port _ source.that source.there leads_there in
+    let waits : source.that.behaviour.need a port ≤ length (inbox i port net.links flows) =
+    needs_waiting net.links flows i a source.that.behaviour source.state e lawful_here source.has port low in
+    let only : IsOnly net.links l link = λ m that at same_end. wired.one_writer m l that link at at_link same_end in
+    let held : inbox i port net.links flows ≡ waiting flow =
+    inbox_of_link i port net.links flows l link flow at_link at_flow to_here only in
+    let held_length : length (inbox i port net.links flows) ≡ length (waiting flow) = ap (λ vs. length vs) held in
+    let few : length (waiting flow) ≤ flow.arrived - flow.taken = waiting_length flow in
+    let needed : need_of (slice_get net.leaves i) a port ≡ source.that.behaviour.need a port =
+    need_there _ source.that a port source.there in
+    rw (chosen (i == inst.0) (need_of (slice_get net.leaves i) a port) 0 here) (omega arith))
     (λ elsewhere. rw elsewhere (omega arith))
 
 -- what was taken and has arrived keep their order where each flow's change keeps it
@@ -158,13 +157,13 @@ fire_ordered : {X : Type 0} (net : Network X) (s t : State X) (i a : ℕ) (e : O
 fire_ordered net s t i a (Some (Fires x sent)) wired lawful ordered has h =
     from_some t _ h
     (each_ordered (after_firing i (need_of (slice_get net.leaves i) a) sent) net.links s.flows
-        (λ l link flow at_link at_flow.
-            let was : IsOrdered flow = ordered l flow at_flow in
-            let fits : taken_from i (need_of (slice_get net.leaves i) a) link.to ≤ flow.arrived - flow.taken =
-                taken_fits net s.flows i a (slice_get s.actors i) (Fires x sent) wired lawful has l link flow at_link at_flow link.to refl in
-            let low : flow.taken ≤ flow.arrived = was.0 in
-            let high : flow.arrived ≤ length flow.sent = was.1 in
-            (omega arith, rw length-append (omega arith))))
+    (λ l link flow at_link at_flow.
+    let was : IsOrdered flow = ordered l flow at_flow in
+    let fits : taken_from i (need_of (slice_get net.leaves i) a) link.to ≤ flow.arrived - flow.taken =
+    taken_fits net s.flows i a (slice_get s.actors i) (Fires x sent) wired lawful has l link flow at_link at_flow link.to refl in
+    let low : flow.taken ≤ flow.arrived = was.0 in
+    let high : flow.arrived ≤ length flow.sent = was.1 in
+    (omega arith, rw length-append (omega arith))))
 fire_ordered net s t i a (Some (TrapsInGuard c)) wired lawful ordered has h = cc
 fire_ordered net s t i a (Some (TrapsInBody c)) wired lawful ordered has h = cc
 fire_ordered net s t i a None wired lawful ordered has h = cc

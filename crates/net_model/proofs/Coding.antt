@@ -1,7 +1,6 @@
 -- Tokens of each size and their bytes, computed both ways by the definitions.
-use Rattle.std.proofs.Common.{◌≡◌, ℕ, List, [], ◌∷◌, ℤ, pos, refl}
+use Rattle.std.proofs.Common.{◌≡◌, [], ◌∷◌, pos, refl}
 use Rattle.std.specs.Prelude.{negsuc}
-use Rattle.rvc_base.specs.declared.scalar.Scalar.{Scalar}
 use Rattle.rvc_base.specs.declared.scalar.Scalar.TheVariants.{Bool as Truth, Int, Uint}
 use Rattle.net_model.specs.PortFile.{tokens, rest_of, all_encoded}
 

@@ -1,15 +1,15 @@
 -- Sent lists only grow.
-use Rattle.std.proofs.Common.{◌≡◌, ℕ, zero, suc, ◌+◌, ◌<◌, Bool, true, false, cond, List, [], ◌∷◌, ◌++◌, ℤ, length, refl, sym, ap, ◌∙◌, subst, arith, append_assoc, append-nil}
-use Rattle.std.specs.Prelude.{Option, None, Some, slice_get, slice_set, if◌then◌else◌, nat_le, ◌==◌}
+use Rattle.std.proofs.Common.{◌≡◌, ℕ, zero, suc, ◌<◌, Bool, true, false, List, [], ◌∷◌, ◌++◌, length, refl, sym, ap, ◌∙◌, subst, arith, append_assoc, append-nil}
+use Rattle.std.specs.Prelude.{Option, None, Some, slice_get, slice_set, if◌then◌else◌}
 use Rattle.rvc_base.specs.declared.trap.Trap.{Trap as TrapName}
 use Rattle.rvc_base.specs.Behaviour.{Effect, Fires, TrapsInGuard, TrapsInBody}
 use Rattle.trace_text.specs.declared.line.Line.{Line}
 use Rattle.trace_text.specs.declared.line.Line.TheVariants.{Header, Inst, Fire as FireLine, Deliver as DeliverLine, Quiet, Trap as TrapLine, Stall, Budget}
 use Rattle.net_model.specs.declared.wiring.Link.{Link}
-use Rattle.net_model.specs.Network.{Network, is_output}
-use Rattle.net_model.specs.State.{Flow, State, effect_at, need_of}
-use Rattle.net_model.specs.Event.{Event, Fire, Deliver, Trap, each_flow, sent_on, after_firing, after_arrival, fire, deliver, trap, number_of_trap, permitted, happens, and_then, run}
-use Rattle.net_model.specs.Trace.{delivered, after_delivery, goes, played}
+use Rattle.net_model.specs.Network.{Network}
+use Rattle.net_model.specs.State.{Flow, State}
+use Rattle.net_model.specs.Event.{Event, Fire, Deliver, Trap, each_flow, sent_on, after_arrival, fire, deliver, trap, permitted, happens, and_then, run}
+use Rattle.net_model.specs.Trace.{delivered, goes, played}
 use Rattle.net_model.specs.Laws.{IsPrefix, sent_of, sent_on_link, SentGrows}
 
 prefix_same : {A : Type 0} (xs : List A) → IsPrefix xs xs

@@ -1,5 +1,6 @@
-mod Rows
+pub mod Rows
 mod Coding
 mod Growth
 mod Bounds
 mod Lines
+mod Premises

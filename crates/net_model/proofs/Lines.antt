@@ -1,6 +1,6 @@
 -- The lines of a trace are runs of events, and lead to one state.
-use Rattle.std.proofs.Common.{◌≡◌, ℕ, zero, suc, ◌+◌, ◌-◌, ◌<◌, ◌≤◌, min, Bool, true, false, cond, List, [], ◌∷◌, ◌++◌, ℤ, length, map, refl, sym, ap, ◌∙◌, subst, ⊎_elim, arith, rules, append_assoc, append-nil, length-set}
-use Rattle.std.specs.Prelude.{Option, None, Some, slice_get, slice_set, if◌then◌else◌, nat_le}
+use Rattle.std.proofs.Common.{◌≡◌, ℕ, suc, ◌+◌, ◌-◌, ◌≤◌, min, Bool, true, false, List, [], ◌∷◌, ◌++◌, length, refl, sym, ap, ◌∙◌, subst, ⊎_elim, arith, append_assoc}
+use Rattle.std.specs.Prelude.{Option, None, Some, slice_get, slice_set, if◌then◌else◌}
 use Rattle.std.proofs.lemmas.Bool.{le-leb, cases_lt}
 use Rattle.std.proofs.lemmas.List.{length-map, length-append}
 use Rattle.rvc_base.specs.declared.trap.Trap.{Trap as TrapName}
@@ -9,9 +9,9 @@ use Rattle.trace_text.specs.declared.line.Line.{Line}
 use Rattle.trace_text.specs.declared.line.Line.TheVariants.{Header, Inst, Fire as FireLine, Deliver as DeliverLine, Quiet, Trap as TrapLine, Stall, Budget}
 use Rattle.net_model.specs.declared.wiring.Link.{Link}
 use Rattle.net_model.specs.Network.{Network, is_input, is_output}
-use Rattle.net_model.specs.State.{Flow, State, untaken, start_of, first_flow, need_of}
-use Rattle.net_model.specs.Event.{Event, Fire, Deliver, Trap, each_flow, after_firing, after_arrival, fire, deliver, trap, happens, and_then, run}
-use Rattle.net_model.specs.Trace.{arrivals, delivered, after_delivery, goes, played, EndIsTrue, OnNext, PlaysFrom, Plays}
+use Rattle.net_model.specs.State.{Flow, State, untaken, start_of, first_flow}
+use Rattle.net_model.specs.Event.{Event, Fire, Deliver, Trap, each_flow, after_arrival, fire, deliver, trap, happens, and_then, run}
+use Rattle.net_model.specs.Trace.{arrivals, delivered, after_delivery, goes, played, OnNext, PlaysFrom, Plays}
 use Rattle.net_model.specs.Laws.{firings_in, firings_shown, IsRunOf}
 
 next_played : {X : Type 0} (o : Option (State X)) (f : State X → Option (State X)) (P : State X → Type 0) (last : State X)
@@ -98,14 +98,14 @@ some_fit false room left = omega arith
 delivered_none : (link : Link) (flow : Flow) → length flow.sent ≤ flow.arrived → delivered link flow ≡ flow
 delivered_none link flow all =
     let none : arrivals link flow ≡ 0 =
-        none_arrives (is_input link) (link.capacity - untaken flow) (length flow.sent - flow.arrived) (omega arith) in
+    none_arrives (is_input link) (link.capacity - untaken flow) (length flow.sent - flow.arrived) (omega arith) in
     rw none (after_none link flow)
 
 delivered_fits : (link : Link) (flow : Flow) → flow.arrived ≤ length flow.sent
     → flow.arrived + arrivals link flow ≤ length flow.sent
 delivered_fits link flow some =
     let fit : arrivals link flow ≤ length flow.sent - flow.arrived =
-        some_fit (is_input link) (link.capacity - untaken flow) (length flow.sent - flow.arrived) in
+    some_fit (is_input link) (link.capacity - untaken flow) (length flow.sent - flow.arrived) in
     omega arith
 
 deliver_here : {X : Type 0} (s : State X) (j k : ℕ) (link : Link) (flow : Flow) (o : Option Link) (p : Option Flow)
@@ -134,16 +134,17 @@ one_arrives : {X : Type 0} (net : Network X) (actors : List X) (front : List Flo
 one_arrives net actors front link flow flows at_link =
     ⊎_elim
     (λ over. subst
-        (λ f. IsRunOf net (midst actors (front ++ (flow ∷ flows))) (midst actors (front ++ (f ∷ flows))) [])
-        (sym (delivered_none link flow (omega arith))) (no_run net (midst actors (front ++ (flow ∷ flows)))))
+    (λ f. IsRunOf net (midst actors (front ++ (flow ∷ flows))) (midst actors (front ++ (f ∷ flows))) [])
+    (sym (delivered_none link flow (omega arith))) (no_run net (midst actors (front ++ (flow ∷ flows)))))
     (λ some. record {
-        events = Deliver (length front) (arrivals link flow) ∷ [];
-        leads = rw (
-            deliver_here (midst actors (front ++ (flow ∷ flows))) (length front) (arrivals link flow) link flow
-                (slice_get net.links (length front)) (slice_get (front ++ (flow ∷ flows)) (length front))
-                at_link (get_after front flow flows) (delivered_fits link flow some),
-            set_after front flow (delivered link flow) flows);
-        same_firings = refl;
+      events = Deliver (length front) (arrivals link flow) ∷ [];
+      leads = rw (
+        deliver_here (midst actors (front ++ (flow ∷ flows))) (length front) (arrivals link flow) link flow
+            (slice_get net.links (length front)) (slice_get (front ++ (flow ∷ flows)) (length front))
+            at_link (get_after front flow flows) (delivered_fits link flow some),
+        set_after front flow (delivered link flow) flows,
+      );
+      same_firings = refl;
     })
     (cases_lt (length flow.sent) flow.arrived)
 
@@ -161,16 +162,16 @@ rest_arrives net actors front (link ∷ links) (flow ∷ flows) here same =
     let new : Flow = delivered link flow in
     let last : List Flow = each_flow delivered links flows in
     let first : slice_get net.links (length front) ≡ Some link =
-        (let none : length front ≡ length front + 0 = omega arith in ap (slice_get net.links) none ∙ here 0) in
+    (let none : length front ≡ length front + 0 = omega arith in ap (slice_get net.links) none ∙ here 0) in
     let others : IsRunOf net (midst actors ((front ++ (new ∷ [])) ++ flows)) (midst actors ((front ++ (new ∷ [])) ++ last)) [] =
-        rest_arrives net actors (front ++ (new ∷ [])) links flows
-        (λ k. ap (slice_get net.links) (next_place front new k) ∙ here (suc k))
-        (omega arith) in
+    rest_arrives net actors (front ++ (new ∷ [])) links flows
+    (λ k. ap (slice_get net.links) (next_place front new k) ∙ here (suc k))
+    (omega arith) in
     runs_then net _ _ _ [] [] (one_arrives net actors front link flow flows first)
     (subst (λ fs. IsRunOf net (midst actors fs) (midst actors (front ++ (new ∷ last))) [])
-        (append_assoc front (new ∷ []) flows)
-        (subst (λ fs. IsRunOf net (midst actors ((front ++ (new ∷ [])) ++ flows)) (midst actors fs) [])
-            (append_assoc front (new ∷ []) last) others))
+    (append_assoc front (new ∷ []) flows)
+    (subst (λ fs. IsRunOf net (midst actors ((front ++ (new ∷ [])) ++ flows)) (midst actors fs) [])
+    (append_assoc front (new ∷ []) last) others))
 
 none_before : (k : ℕ) → 0 + k ≡ k
 none_before k = omega arith
@@ -180,10 +181,10 @@ delivery_run : {X : Type 0} (net : Network X) (s : State X) → HasFlows net s �
     → IsRunOf net s (after_delivery net s) []
 delivery_run net s same untrapped =
     let run_of : IsRunOf net (midst s.actors s.flows) (midst s.actors (each_flow delivered net.links s.flows)) [] =
-        rest_arrives net s.actors [] net.links s.flows (λ k. ap (slice_get net.links) (none_before k)) same in
+    rest_arrives net s.actors [] net.links s.flows (λ k. ap (slice_get net.links) (none_before k)) same in
     subst (λ b. IsRunOf net (record { actors = s.actors; flows = s.flows; trapped = b })
-            (record { actors = s.actors; flows = each_flow delivered net.links s.flows; trapped = b }) [])
-        (sym untrapped) run_of
+    (record { actors = s.actors; flows = each_flow delivered net.links s.flows; trapped = b }) [])
+    (sym untrapped) run_of
 
 one_event : {X : Type 0} (net : Network X) (s t : State X) (event : Event) → happens net s event ≡ Some t
     → IsRunOf net s t (firings_in (event ∷ []))
@@ -271,7 +272,7 @@ played_run net s t [] same h = same_run net s t h
 played_run net s t (line ∷ lines) same h =
     subst (λ xs. IsRunOf net s t xs) (sym (shown_then line lines))
     (step_run net s t (goes net s line) (λ u. played net u lines) (firings_shown (line ∷ [])) (firings_shown lines)
-        (λ u. line_run net s u line same) (λ u e. played_run net u t lines (line_flows net s u line same e)) h)
+    (λ u. line_run net s u line same) (λ u e. played_run net u t lines (line_flows net s u line same e)) h)
 
 pub lines_run : {X : Type 0} (net : Network X) (inputs : List (List ℕ)) (lines : List Line) (t : State X)
     → Plays net inputs lines t → IsRunOf net (start_of net inputs) t (firings_shown lines)

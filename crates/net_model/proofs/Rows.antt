@@ -1,25 +1,24 @@
 -- Worked runs, computed by the definitions.
-use Rattle.std.proofs.Common.{◌≡◌, ℕ, zero, suc, ◌<◌, ◌≤◌, ◌⊎◌, Bool, true, false, cond, List, [], ◌∷◌, ℤ, pos, ◌+ℤ◌, nat_eq, refl, inl, inr, arith, rules}
+use Rattle.std.proofs.Common.{◌≡◌, ℕ, zero, suc, ◌<◌, ◌≤◌, ◌⊎◌, false, List, [], ◌∷◌, ℤ, pos, ◌+ℤ◌, refl, inl, inr, arith, rules}
 use Rattle.std.specs.Prelude.{Option, None, Some, codes, ◌==◌, if◌then◌else◌, slice_index_or}
-use Rattle.rvc_base.specs.declared.scalar.Scalar.{Scalar}
-use Rattle.rvc_base.specs.declared.scalar.Scalar.TheVariants.{Bool as Truth, Int, Uint}
+use Rattle.rvc_base.specs.declared.scalar.Scalar.TheVariants.{Uint}
 use Rattle.rvc_base.specs.Storing.{conv}
-use Rattle.rvc_base.specs.Behaviour.{Behaviour, Effect, Fires, TrapsInGuard, TrapsInBody, Choice, Waits, Picks, Faults}
+use Rattle.rvc_base.specs.Behaviour.{Behaviour, Effect, Fires, Choice, Waits, Picks}
 use Rattle.trace_text.specs.declared.line.Line.{Line}
-use Rattle.trace_text.specs.declared.line.Line.TheVariants.{Header, Inst, Fire, Deliver, Quiet, Trap, Stall, Budget}
+use Rattle.trace_text.specs.declared.line.Line.TheVariants.{Fire, Deliver, Quiet, Stall}
 use Rattle.net_model.specs.declared.wiring.End.{End}
 use Rattle.net_model.specs.declared.wiring.End.TheVariants.{Leaf as AtLeaf, Net as AtNet}
 use Rattle.net_model.specs.declared.wiring.Link.{Link}
-use Rattle.net_model.specs.Network.{Leaf, Network}
-use Rattle.net_model.specs.State.{Flow, State, start_of, effect_at, choice_at}
-use Rattle.net_model.specs.Ends.{IsQuiet, IsSettled, IsStalled, LacksRoom, all_fed}
+use Rattle.net_model.specs.Network.{Network}
+use Rattle.net_model.specs.State.{State, start_of, effect_at, choice_at}
+use Rattle.net_model.specs.Ends.{IsQuiet, IsStalled, LacksRoom, all_fed}
 use Rattle.net_model.specs.Trace.{goes, played, bytes_out, Plays, KeepsCapacities}
 
 -- a link of bytes
-abbrev link : End → End → ℕ → Link
+abbrev pub link : End → End → ℕ → Link
 link from to capacity = record { from = from; to = to; capacity = capacity; kind = Uint 8 }
 
-abbrev leaf_port : ℕ → ℕ → End
+abbrev pub leaf_port : ℕ → ℕ → End
 leaf_port i p = AtLeaf (record { 0 = i }) p
 
 abbrev rate : List ℕ → ℕ → ℕ → ℕ
@@ -191,7 +190,7 @@ pair_bytes = refl
 
 pair_each : (j : ℕ) → (choice_at pair_net (all_fed pair_net pair_last) j ≡ Waits)
     ⊎ ((b : ℕ) × (m : ℕ) × (choice_at pair_net (all_fed pair_net pair_last) j ≡ Picks b)
-        × LacksRoom pair_net (all_fed pair_net pair_last) j b m)
+    × LacksRoom pair_net (all_fed pair_net pair_last) j b m)
 pair_each zero = inr (0, 3, refl, (refl, omega arith))
 pair_each (suc zero) = inl refl
 pair_each (suc (suc zero)) = inl refl
@@ -225,43 +224,50 @@ pair_passes keeps = let passes : 2 ≤ 1 = keeps.2.2.2.1.1.1.0 refl in omega ari
 
 -- An actor that sends a byte of its own where it has none, and takes one where it has: which comes depends
 -- on the order. Its state is the number that its guards compare with 0.
-abbrev takes_first : ℕ → List ℤ → Option (Effect ℕ)
+abbrev pub takes_first : ℕ → List ℤ → Option (Effect ℕ)
 takes_first zero (v ∷ vs) = Some (Fires 2 ([] ∷ []))
 takes_first zero [] = None
 takes_first (suc n) vs = None
 
-abbrev sends_else : ℕ → List ℤ → Option (Effect ℕ)
+abbrev pub sends_else : ℕ → List ℤ → Option (Effect ℕ)
 sends_else zero (v ∷ vs) = None
 sends_else zero [] = Some (Fires 1 ((pos 1 ∷ []) ∷ []))
 sends_else (suc n) vs = None
 
-abbrev race_effect : ℕ → List ℤ → ℕ → Option (Effect ℕ)
+abbrev pub race_effect : ℕ → List ℤ → ℕ → Option (Effect ℕ)
 race_effect n vs zero = takes_first n vs
 race_effect n vs (suc zero) = sends_else n vs
 race_effect n vs (suc (suc a)) = None
 
-abbrev race_choice : ℕ → List ℤ → Choice
+abbrev pub race_choice : ℕ → List ℤ → Choice
 race_choice zero (v ∷ vs) = Picks 0
 race_choice zero [] = Picks 1
 race_choice (suc n) vs = Waits
 
--- one token in one action, none in the other
-abbrev race_rate : ℕ → ℕ → ℕ → ℕ
-race_rate action a (suc p) = 0
-race_rate action a zero = if a == action then 1 else 0
+-- the first action takes a token, the second gives one
+abbrev pub race_needs : ℕ → ℕ → ℕ
+race_needs zero zero = 1
+race_needs zero (suc p) = 0
+race_needs (suc a) p = 0
 
-abbrev race : Behaviour ℕ
+abbrev pub race_gives : ℕ → ℕ → ℕ
+race_gives zero p = 0
+race_gives (suc zero) zero = 1
+race_gives (suc zero) (suc p) = 0
+race_gives (suc (suc a)) p = 0
+
+abbrev pub race : Behaviour ℕ
 race = record {
   start = 0;
   ins = 1;
   outs = 1;
-  need = race_rate 0;
-  give = race_rate 1;
+  need = race_needs;
+  give = race_gives;
   effect = λ n u a. race_effect n (slice_index_or u 0 []) a;
   choice = λ n u. race_choice n (slice_index_or u 0 []);
 }
 
-abbrev ring_net : Network ℕ
+abbrev pub ring_net : Network ℕ
 ring_net = record {
   leaves = record { path = codes "p"; class = codes "Race"; behaviour = race }
       ∷ record { path = codes "q"; class = codes "Race"; behaviour = race } ∷ [];

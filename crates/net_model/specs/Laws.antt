@@ -3,9 +3,11 @@ use Rattle.std.specs.Prelude.{◌≡◌, ℕ, ◌≤◌, ◌<◌, List, [], ◌�
 use Rattle.trace_text.specs.declared.line.Line.{Line}
 use Rattle.trace_text.specs.declared.line.Line.TheVariants.{Header, Inst, Fire as FireLine, Deliver as DeliverLine, Quiet, Trap as TrapLine, Stall, Budget}
 use Rattle.net_model.specs.Network.{Leaf, Network}
-use Rattle.net_model.specs.State.{Flow, State}
+use Rattle.net_model.specs.State.{Flow, State, start_of}
 use Rattle.net_model.specs.Event.{Event, Fire, Deliver, Trap, run}
+use Rattle.net_model.specs.Trace.{Plays, played}
 use Rattle.net_model.specs.Lawful.{IsLawful}
+use Rattle.net_model.specs.Wired.{IsWired}
 
 -- ys begins with xs
 abbrev pub IsPrefix : {A : Type 0} → List A → List A → Type 0
@@ -58,3 +60,28 @@ pub record IsRunOf {X : Type 0} (net : Network X) (s t : State X) (firings : Lis
   pub events : List Event
   pub leads : run net s events ≡ Some t
   pub same_firings : firings_in events ≡ firings
+
+-- The laws, over states X of actors.
+
+-- what was sent stays in front of what is sent later, in every run ..
+abbrev pub EventsKeepSent : (X : Type 0) → Type 0
+EventsKeepSent X = (net : Network X) (s t : State X) (events : List Event) → run net s events ≡ Some t → SentGrows net s t
+
+-- .. and by every line
+abbrev pub LinesKeepSent : (X : Type 0) → Type 0
+LinesKeepSent X = (net : Network X) (s t : State X) (lines : List Line) → played net s lines ≡ Some t → SentGrows net s t
+
+-- in every state that a run from the start reaches, no more was taken than has arrived, and no more has arrived than was sent
+abbrev pub RunsAreOrdered : (X : Type 0) → Type 0
+RunsAreOrdered X = (net : Network X) (inputs : List (List ℕ)) (events : List Event) (t : State X)
+    → IsWired net → AreLawful net → run net (start_of net inputs) events ≡ Some t → AreOrdered t
+
+-- lines and inputs lead to one state
+abbrev pub LinesLeadToOne : (X : Type 0) → Type 0
+LinesLeadToOne X = (net : Network X) (inputs : List (List ℕ)) (lines : List Line) (s t : State X)
+    → Plays net inputs lines s → Plays net inputs lines t → s ≡ t
+
+-- what lines play is a run of events, with the firings that the lines show
+abbrev pub LinesAreRuns : (X : Type 0) → Type 0
+LinesAreRuns X = (net : Network X) (inputs : List (List ℕ)) (lines : List Line) (t : State X)
+    → Plays net inputs lines t → IsRunOf net (start_of net inputs) t (firings_shown lines)

@@ -7,5 +7,7 @@
 mod laws;
 mod wiring;
 
-pub use laws::{Meaning, lines_are_runs, lines_lead_to_one_state, sent_lists_only_grow, taken_have_arrived};
+pub use laws::{
+    Meaning, lines_are_runs, lines_lead_to_one_state, sent_lists_only_grow, taken_have_arrived,
+};
 pub use wiring::{End, Link, Port};
