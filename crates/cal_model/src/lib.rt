@@ -2,3 +2,6 @@
 #![tactic(auto)]
 
 pub mod ast;
+mod evaluate;
+
+pub use evaluate::sent_for;

@@ -23,3 +23,14 @@ line_text (Trap inst action trap) =
 line_text (Stall inst action link) =
     codes "s" ++ then_number inst ++ then_number action ++ then_number link ++ line_feed
 line_text Budget = codes "b" ++ line_feed
+
+-- a line whose text is written in one piece
+abbrev pub IsWhole : Line → Type 0
+IsWhole (Header instances links) = Unit {0}
+IsWhole (Inst inst) = ⊥
+IsWhole (Fire inst action) = Unit {0}
+IsWhole Deliver = Unit {0}
+IsWhole Quiet = Unit {0}
+IsWhole (Trap inst action trap) = Unit {0}
+IsWhole (Stall inst action link) = Unit {0}
+IsWhole Budget = Unit {0}

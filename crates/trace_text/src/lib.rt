@@ -2,5 +2,7 @@
 #![tactic(auto)]
 
 mod line;
+mod write;
 
 pub use line::Line;
+pub use write::{MAX_LINE_BYTES, write_line};
