@@ -5,4 +5,4 @@ mod line;
 mod write;
 
 pub use line::Line;
-pub use write::{MAX_LINE_BYTES, write_line};
+pub use write::{MAX_LINE_BYTES, write_front, write_line};
