@@ -4,3 +4,4 @@ mod Growth
 mod Bounds
 mod Lines
 mod Premises
+mod Ending

@@ -1,10 +1,12 @@
 -- What holds of all runs, as statements.
-use Rattle.std.specs.Prelude.{◌≡◌, ℕ, ◌≤◌, ◌<◌, List, [], ◌∷◌, ◌++◌, ℤ, length, slice_get, Option, None, Some}
+use Rattle.std.specs.Prelude.{◌≡◌, ℕ, ◌≤◌, ◌<◌, ◌↔◌, List, [], ◌∷◌, ◌++◌, ℤ, length, slice_get, Option, None, Some}
+use Rattle.rvc_base.specs.Behaviour.{Waits}
 use Rattle.trace_text.specs.declared.line.Line.{Line}
 use Rattle.trace_text.specs.declared.line.Line.TheVariants.{Header, Inst, Fire as FireLine, Deliver as DeliverLine, Quiet, Trap as TrapLine, Stall, Budget}
 use Rattle.net_model.specs.Network.{Leaf, Network}
-use Rattle.net_model.specs.State.{Flow, State, start_of}
+use Rattle.net_model.specs.State.{Flow, State, start_of, choice_at}
 use Rattle.net_model.specs.Event.{Event, Fire, Deliver, Trap, run}
+use Rattle.net_model.specs.Ends.{IsQuiet, IsSettled, IsStalled, all_fed}
 use Rattle.net_model.specs.Trace.{Plays, played}
 use Rattle.net_model.specs.Lawful.{IsLawful}
 use Rattle.net_model.specs.Wired.{IsWired}
@@ -85,3 +87,20 @@ LinesLeadToOne X = (net : Network X) (inputs : List (List ℕ)) (lines : List Li
 abbrev pub LinesAreRuns : (X : Type 0) → Type 0
 LinesAreRuns X = (net : Network X) (inputs : List (List ℕ)) (lines : List Line) (t : State X)
     → Plays net inputs lines t → IsRunOf net (start_of net inputs) t (firings_shown lines)
+
+-- each leaf's choice is to wait, with the rest of the feeds counted as arrived
+abbrev pub AllWait : {X : Type 0} → Network X → State X → Type 0
+AllWait net s = (i : ℕ) → choice_at net (all_fed net s) i ≡ Waits
+
+-- a state is quiet where it is settled and each leaf waits
+abbrev pub QuietIsWaiting : (X : Type 0) → Type 0
+QuietIsWaiting X = (net : Network X) (s : State X) → AreLawful net → IsQuiet net s ↔ (IsSettled net s × AllWait net s)
+
+-- a state is stalled in one place
+abbrev pub StallsInOnePlace : (X : Type 0) → Type 0
+StallsInOnePlace X = (net : Network X) (s : State X) (i a l j b m : ℕ)
+    → IsStalled net s i a l → IsStalled net s j b m → (i ≡ j) × (a ≡ b) × (l ≡ m)
+
+-- and it isn't quiet then
+abbrev pub StalledIsNotQuiet : (X : Type 0) → Type 0
+StalledIsNotQuiet X = (net : Network X) (s : State X) (i a l : ℕ) → AreLawful net → IsStalled net s i a l → IsQuiet net s → ⊥

@@ -2,7 +2,7 @@
 //!
 //! Each law is the contract of a function that does nothing: it is proved with the crate, and can be cited.
 
-ghost use Rattle.net_model.specs.Laws.{EventsKeepSent, LinesAreRuns, LinesKeepSent, LinesLeadToOne, RunsAreOrdered};
+ghost use Rattle.net_model.specs.Laws.{EventsKeepSent, LinesAreRuns, LinesKeepSent, LinesLeadToOne, QuietIsWaiting, RunsAreOrdered, StalledIsNotQuiet, StallsInOnePlace};
 
 /// The states of the actors of a network, as a type that laws can speak of.
 pub trait Meaning {
@@ -31,4 +31,15 @@ pub fn lines_lead_to_one_state<M: Meaning>()
 /// event for each link.
 pub fn lines_are_runs<M: Meaning>()
     ensures { LinesAreRuns M.State }
+{}
+
+/// A state is quiet exactly where it is settled and each leaf waits, where every leaf's behaviour is lawful.
+pub fn quiet_is_waiting<M: Meaning>()
+    ensures { QuietIsWaiting M.State }
+{}
+
+/// A state is stalled at one leaf, action and link, and isn't quiet then.
+pub fn stalled_in_one_place<M: Meaning>()
+    ensures one_place { StallsInOnePlace M.State }
+    ensures not_quiet { StalledIsNotQuiet M.State }
 {}
