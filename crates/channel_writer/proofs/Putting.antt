@@ -1,6 +1,8 @@
 -- How far a piece is put.
 use Rattle.std.proofs.Common.{◌≡◌, ℕ, ◌+◌, ◌-◌, ◌≤◌, ◌++◌, Bool, true, List, length, take, drop, sym, ap, ◌∙◌, arith, append_assoc, length-drop}
-use Rattle.std.proofs.lemmas.List.{take_all}
+use Rattle.std.proofs.lemmas.List.{take_all, take-append-drop}
+use Rattle.std.specs.Prelude.{Result, Ok, Err, OnErr}
+use Rattle.channel_writer.specs.Held.{HoldsFront}
 use Rattle.std.proofs.Math.Seq.{take-add}
 use Rattle.rvc_io.specs.Elsewhere.{SameElsewhere}
 
@@ -47,3 +49,20 @@ module _ (n at channel : ℕ) (piece : List ℕ) (tells_old tells tells_new : Bo
     same_open = λ other. more.same_open other ∙ so_far.same_open other;
     faults_stay = omega (arith, so_far.faults_stay, more.faults_stay);
   }
+
+module _ (at channel : ℕ) (piece : List ℕ) (tells_old tells : Bool) (held_old held held_new : ℕ → List ℕ) (open_old open_now : ℕ → Bool) (faults_old faults : ℕ) where
+  -- a put that fails leaves the front that was put before
+  pub put_stopped : IsPutUpTo at channel piece tells_old tells held_old held open_old open_now faults_old faults
+      → (tells ≡ true → held_new channel ≡ held channel)
+      → tells_old ≡ true → HoldsFront (held_old channel) (held_new channel) piece
+  put_stopped so_far same told = record {
+    put = take at piece;
+    left = drop at piece;
+    new_is = same (so_far.same_telling ∙ told) ∙ so_far.is_put told;
+    text_is = sym (take-append-drop at piece);
+  }
+
+-- what holds holds of an error too
+pub on_err : {T E : Type 0} (r : Result T E) (P : Type 0) → P → OnErr r P
+on_err (Ok x) P h = tt
+on_err (Err e) P h = h

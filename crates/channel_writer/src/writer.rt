@@ -3,7 +3,7 @@
 ghost use Rattle.std.specs.Prelude.{◌≡◌, ◌≤◌, ◌+◌, ◌++◌, ℕ, Bool, true, List, [], OnOk, OnErr, IfOk, length, vec_capacity, vec_len};
 ghost use Rattle.rvc_io.specs.Count.{HasRisen};
 ghost use Rattle.rvc_io.specs.Elsewhere.{SameElsewhere};
-ghost use Rattle.channel_writer.specs.Held.{HoldsFront};
+ghost use Rattle.channel_writer.specs.Held.{HoldsFront, Writes};
 ghost use Rattle.channel_writer.specs.declared.writer.TheConstants.{PIECE_BYTES};
 
 use crate::whole::put_all;
@@ -49,7 +49,7 @@ impl ChannelWriter {
     ) -> Result<(), Failed>
         requires open { D.is_open drains.old channel ≡ true }
         requires short { length text.now ≤ PIECE_BYTES }
-        ensures all { OnOk result (D.tells drains.old ≡ true → D.held drains.new channel ++ self.new ≡ D.held drains.old channel ++ self.old ++ text.now) }
+        ensures written { OnOk result (D.tells drains.old ≡ true → Writes (D.held drains.old channel) self.old (D.held drains.new channel) self.new text.now) }
         ensures front { OnErr result (D.tells drains.old ≡ true → HoldsFront (D.held drains.old channel) (D.held drains.new channel) (self.old ++ text.now)) }
         ensures failed { OnErr result (HasRisen (D.faults drains.old) (D.faults drains.new)) }
         ensures same_telling { D.tells drains.new ≡ D.tells drains.old }
