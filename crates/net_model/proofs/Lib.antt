@@ -5,3 +5,4 @@ mod Bounds
 mod Lines
 mod Premises
 mod Ending
+mod Commuting

@@ -1,11 +1,11 @@
 -- What holds of all runs, as statements.
-use Rattle.std.specs.Prelude.{◌≡◌, ℕ, ◌≤◌, ◌<◌, ◌↔◌, List, [], ◌∷◌, ◌++◌, ℤ, length, slice_get, Option, None, Some}
+use Rattle.std.specs.Prelude.{◌≡◌, ◌≢◌, ℕ, ◌≤◌, ◌<◌, ◌↔◌, List, [], ◌∷◌, ◌++◌, ℤ, length, slice_get, Option, None, Some}
 use Rattle.rvc_base.specs.Behaviour.{Waits}
 use Rattle.trace_text.specs.declared.line.Line.{Line}
 use Rattle.trace_text.specs.declared.line.Line.TheVariants.{Header, Inst, Fire as FireLine, Deliver as DeliverLine, Quiet, Trap as TrapLine, Stall, Budget}
 use Rattle.net_model.specs.Network.{Leaf, Network}
 use Rattle.net_model.specs.State.{Flow, State, start_of, choice_at}
-use Rattle.net_model.specs.Event.{Event, Fire, Deliver, Trap, run}
+use Rattle.net_model.specs.Event.{Event, Fire, Deliver, Trap, happens, run}
 use Rattle.net_model.specs.Ends.{IsQuiet, IsSettled, IsStalled, all_fed}
 use Rattle.net_model.specs.Trace.{Plays, played}
 use Rattle.net_model.specs.Lawful.{IsLawful}
@@ -104,3 +104,14 @@ StallsInOnePlace X = (net : Network X) (s : State X) (i a l j b m : ℕ)
 -- and it isn't quiet then
 abbrev pub StalledIsNotQuiet : (X : Type 0) → Type 0
 StalledIsNotQuiet X = (net : Network X) (s : State X) (i a l : ℕ) → AreLawful net → IsStalled net s i a l → IsQuiet net s → ⊥
+
+-- an event from t and another from u lead to one state
+pub record Meets {X : Type 0} (net : Network X) (t : State X) (from_t : Event) (u : State X) (from_u : Event) : Type 0 where
+  pub last : State X
+  pub one_way : happens net t from_t ≡ Some last
+  pub other_way : happens net u from_u ≡ Some last
+
+-- two firings of different leaves lead to one state in either order
+abbrev pub FiringsCommute : (X : Type 0) → Type 0
+FiringsCommute X = (net : Network X) (s t u : State X) (i a j b : ℕ) → AreOrdered s → i ≢ j
+    → happens net s (Fire i a) ≡ Some t → happens net s (Fire j b) ≡ Some u → Meets net t (Fire j b) u (Fire i a)

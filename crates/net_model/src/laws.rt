@@ -2,7 +2,7 @@
 //!
 //! Each law is the contract of a function that does nothing: it is proved with the crate, and can be cited.
 
-ghost use Rattle.net_model.specs.Laws.{EventsKeepSent, LinesAreRuns, LinesKeepSent, LinesLeadToOne, QuietIsWaiting, RunsAreOrdered, StalledIsNotQuiet, StallsInOnePlace};
+ghost use Rattle.net_model.specs.Laws.{EventsKeepSent, FiringsCommute, LinesAreRuns, LinesKeepSent, LinesLeadToOne, QuietIsWaiting, RunsAreOrdered, StalledIsNotQuiet, StallsInOnePlace};
 
 /// The states of the actors of a network, as a type that laws can speak of.
 pub trait Meaning {
@@ -42,4 +42,9 @@ pub fn quiet_is_waiting<M: Meaning>()
 pub fn stalled_in_one_place<M: Meaning>()
     ensures one_place { StallsInOnePlace M.State }
     ensures not_quiet { StalledIsNotQuiet M.State }
+{}
+
+/// Two firings of different leaves that may both happen lead to one state in either order.
+pub fn firings_commute<M: Meaning>()
+    ensures { FiringsCommute M.State }
 {}
