@@ -13,7 +13,7 @@ use Rattle.net_model.specs.State.{Flow, State, waiting, inbox, inboxes, effect_o
 use Rattle.net_model.specs.Event.{Event, Fire, each_flow, sent_on, taken_from, after_firing, fire, happens}
 use Rattle.net_model.specs.Laws.{AreOrdered, Meets}
 
-chosen_else : {A : Type 0} (b : Bool) (x y : A) → (b ≡ true → ⊥) → (if b then x else y) ≡ y
+pub chosen_else : {A : Type 0} (b : Bool) (x y : A) → (b ≡ true → ⊥) → (if b then x else y) ≡ y
 chosen_else true x y h = absurd (h refl)
 chosen_else false x y h = refl
 
@@ -29,7 +29,7 @@ same_branches : {A : Type 0} (b : Bool) (x x' y y' : A) → (b ≡ true → x �
 same_branches true x x' y y' p q = p refl
 same_branches false x x' y y' p q = q
 
-by_test : {P : Type 0} (b : Bool) → (b ≡ true → P) → (b ≡ false → P) → P
+pub by_test : {P : Type 0} (b : Bool) → (b ≡ true → P) → (b ≡ false → P) → P
 by_test true p q = p refl
 by_test false p q = q refl
 
@@ -76,14 +76,14 @@ effect_stays i j a needs sent differ links flows fits (Some leaf) None = refl
 effect_stays i j a needs sent differ links flows fits (Some leaf) (Some x) =
     ap (λ u. leaf.behaviour.effect x u a) (inboxes_stay i j leaf.behaviour.ins needs sent differ links flows fits)
 
-get_other : {A : Type 0} (xs : List A) (i j : ℕ) (x : A) → i ≢ j → slice_get (slice_set xs j x) i ≡ slice_get xs i
+pub get_other : {A : Type 0} (xs : List A) (i j : ℕ) (x : A) → i ≢ j → slice_get (slice_set xs j x) i ≡ slice_get xs i
 get_other [] i j x differ = refl
 get_other (y ∷ xs) zero zero x differ = absurd (differ refl)
 get_other (y ∷ xs) zero (suc j) x differ = refl
 get_other (y ∷ xs) (suc i) zero x differ = refl
 get_other (y ∷ xs) (suc i) (suc j) x differ = get_other xs i j x (λ same. differ (ap suc same))
 
-set_both : {A : Type 0} (xs : List A) (i j : ℕ) (x y : A) → i ≢ j → slice_set (slice_set xs i x) j y ≡ slice_set (slice_set xs j y) i x
+pub set_both : {A : Type 0} (xs : List A) (i j : ℕ) (x y : A) → i ≢ j → slice_set (slice_set xs i x) j y ≡ slice_set (slice_set xs j y) i x
 set_both [] i j x y differ = refl
 set_both (z ∷ xs) zero zero x y differ = absurd (differ refl)
 set_both (z ∷ xs) zero (suc j) x y differ = refl
@@ -120,7 +120,7 @@ same_some : {A : Type 0} (x y : A) → Some x ≡ Some y → x ≡ y
 same_some x y h = cc
 
 -- the state after a firing
-abbrev fired : {X : Type 0} → Network X → State X → ℕ → ℕ → X → List (List ℤ) → State X
+abbrev pub fired : {X : Type 0} → Network X → State X → ℕ → ℕ → X → List (List ℤ) → State X
 fired net s i a x sent = record {
   actors = slice_set s.actors i x;
   flows = each_flow (after_firing i (need_of (slice_get net.leaves i) a) sent) net.links s.flows;
@@ -128,12 +128,12 @@ fired net s i a x sent = record {
 }
 
 -- a firing that happens, with its effect
-record Fired {X : Type 0} (net : Network X) (s t : State X) (i a : ℕ) : Type 0 where
-  to : X
-  sent : List (List ℤ)
-  untrapped : s.trapped ≡ false
-  effect : effect_at net s i a ≡ Some (Fires to sent)
-  is : fired net s i a to sent ≡ t
+pub record Fired {X : Type 0} (net : Network X) (s t : State X) (i a : ℕ) : Type 0 where
+  pub to : X
+  pub sent : List (List ℤ)
+  pub untrapped : s.trapped ≡ false
+  pub effect : effect_at net s i a ≡ Some (Fires to sent)
+  pub is : fired net s i a to sent ≡ t
 
 fired_by : {X : Type 0} (net : Network X) (s t : State X) (i a : ℕ) (e : Option (Effect X)) → s.trapped ≡ false
     → effect_at net s i a ≡ e → fire net s i a e ≡ Some t → Fired net s t i a
@@ -143,12 +143,12 @@ fired_by net s t i a (Some (TrapsInGuard c)) untrapped effect h = cc
 fired_by net s t i a (Some (TrapsInBody c)) untrapped effect h = cc
 fired_by net s t i a None untrapped effect h = cc
 
-fired_unless : {X : Type 0} (net : Network X) (s t : State X) (i a : ℕ) (trapped : Bool) → s.trapped ≡ trapped
+pub fired_unless : {X : Type 0} (net : Network X) (s t : State X) (i a : ℕ) (trapped : Bool) → s.trapped ≡ trapped
     → (if trapped then None else fire net s i a (effect_at net s i a)) ≡ Some t → Fired net s t i a
 fired_unless net s t i a true is h = cc
 fired_unless net s t i a false is h = fired_by net s t i a _ is refl h
 
-fires_so : {X : Type 0} (net : Network X) (s : State X) (i a : ℕ) (x : X) (sent : List (List ℤ)) (e : Option (Effect X))
+pub fires_so : {X : Type 0} (net : Network X) (s : State X) (i a : ℕ) (x : X) (sent : List (List ℤ)) (e : Option (Effect X))
     → s.trapped ≡ false → e ≡ Some (Fires x sent)
     → (if s.trapped then None else fire net s i a e) ≡ Some (fired net s i a x sent)
 fires_so net s i a x sent e untrapped effect =
@@ -176,7 +176,7 @@ fired_both net s i a j b x y xs ys differ =
           (firing_both i j _ _ xs ys differ) net.links s.flows,
     )
 
-from_other : {X : Type 0} (net : Network X) (s t u : State X) (event : Event) → s ≡ t → happens net s event ≡ Some u → happens net t event ≡ Some u
+pub from_other : {X : Type 0} (net : Network X) (s t u : State X) (event : Event) → s ≡ t → happens net s event ≡ Some u → happens net t event ≡ Some u
 from_other net s t u event same h = subst (λ w. happens net w event ≡ Some u) same h
 
 pub firings_commute : {X : Type 0} (net : Network X) (s t u : State X) (i a j b : ℕ) → AreOrdered s → i ≢ j

@@ -10,7 +10,8 @@ use Rattle.net_model.specs.Network.{Network}
 use Rattle.net_model.specs.State.{Flow, State}
 use Rattle.net_model.specs.Event.{Event, Fire, Deliver, Trap, each_flow, sent_on, after_arrival, fire, deliver, trap, permitted, happens, and_then, run}
 use Rattle.net_model.specs.Trace.{delivered, goes, played}
-use Rattle.net_model.specs.Laws.{IsPrefix, sent_of, sent_on_link, SentGrows}
+use Rattle.net_model.specs.Stable.{IsPrefix}
+use Rattle.net_model.specs.Laws.{sent_of, sent_on_link, SentGrows}
 
 prefix_same : {A : Type 0} (xs : List A) → IsPrefix xs xs
 prefix_same xs = ([], sym (append-nil xs))

@@ -5,4 +5,5 @@ mod Bounds
 mod Lines
 mod Premises
 mod Ending
-mod Commuting
+pub mod Commuting
+mod Arriving

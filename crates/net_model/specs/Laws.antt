@@ -9,11 +9,8 @@ use Rattle.net_model.specs.Event.{Event, Fire, Deliver, Trap, happens, run}
 use Rattle.net_model.specs.Ends.{IsQuiet, IsSettled, IsStalled, all_fed}
 use Rattle.net_model.specs.Trace.{Plays, played}
 use Rattle.net_model.specs.Lawful.{IsLawful}
+use Rattle.net_model.specs.Stable.{IsPrefix, AreStable}
 use Rattle.net_model.specs.Wired.{IsWired}
-
--- ys begins with xs
-abbrev pub IsPrefix : {A : Type 0} → List A → List A → Type 0
-IsPrefix {A} xs ys = (rest : List A) × (ys ≡ xs ++ rest)
 
 abbrev pub sent_of : Option Flow → List ℤ
 sent_of None = []
@@ -115,3 +112,13 @@ pub record Meets {X : Type 0} (net : Network X) (t : State X) (from_t : Event) (
 abbrev pub FiringsCommute : (X : Type 0) → Type 0
 FiringsCommute X = (net : Network X) (s t u : State X) (i a j b : ℕ) → AreOrdered s → i ≢ j
     → happens net s (Fire i a) ≡ Some t → happens net s (Fire j b) ≡ Some u → Meets net t (Fire j b) u (Fire i a)
+
+-- a firing of a stable actor and a delivery lead to one state in either order
+abbrev pub DeliveriesKeepFirings : (X : Type 0) → Type 0
+DeliveriesKeepFirings X = (net : Network X) (s t u : State X) (i a l k : ℕ) → AreStable net
+    → happens net s (Fire i a) ≡ Some t → happens net s (Deliver l k) ≡ Some u → Meets net t (Deliver l k) u (Fire i a)
+
+-- two deliveries on different links lead to one state in either order
+abbrev pub DeliveriesCommute : (X : Type 0) → Type 0
+DeliveriesCommute X = (net : Network X) (s t u : State X) (l k m n : ℕ) → l ≢ m
+    → happens net s (Deliver l k) ≡ Some t → happens net s (Deliver m n) ≡ Some u → Meets net t (Deliver m n) u (Deliver l k)

@@ -6,4 +6,5 @@ pub mod Ends
 pub mod Trace
 pub mod Lawful
 pub mod Wired
+pub mod Stable
 pub mod Laws
