@@ -1,5 +1,5 @@
 -- What holds of all runs, as statements.
-use Rattle.std.specs.Prelude.{◌≡◌, ◌≢◌, ℕ, ◌≤◌, ◌<◌, ◌↔◌, List, [], ◌∷◌, ◌++◌, ℤ, length, slice_get, Option, None, Some}
+use Rattle.std.specs.Prelude.{◌≡◌, ◌≢◌, ℕ, ◌+◌, ◌≤◌, ◌<◌, ◌↔◌, List, [], ◌∷◌, ℤ, length, slice_get, Option, None, Some}
 use Rattle.rvc_base.specs.Behaviour.{Waits}
 use Rattle.trace_text.specs.declared.line.Line.{Line}
 use Rattle.trace_text.specs.declared.line.Line.TheVariants.{Header, Inst, Fire as FireLine, Deliver as DeliverLine, Quiet, Trap as TrapLine, Stall, Budget}
@@ -122,3 +122,9 @@ DeliveriesKeepFirings X = (net : Network X) (s t u : State X) (i a l k : ℕ) �
 abbrev pub DeliveriesCommute : (X : Type 0) → Type 0
 DeliveriesCommute X = (net : Network X) (s t u : State X) (l k m n : ℕ) → l ≢ m
     → happens net s (Deliver l k) ≡ Some t → happens net s (Deliver m n) ≡ Some u → Meets net t (Deliver m n) u (Deliver l k)
+
+-- and so do two deliveries on one link that together don't pass what was sent
+abbrev pub DeliveriesAdd : (X : Type 0) → Type 0
+DeliveriesAdd X = (net : Network X) (s t u : State X) (l k n : ℕ)
+    → ((flow : Flow) → slice_get s.flows l ≡ Some flow → flow.arrived + (k + n) ≤ length flow.sent)
+    → happens net s (Deliver l k) ≡ Some t → happens net s (Deliver l n) ≡ Some u → Meets net t (Deliver l n) u (Deliver l k)

@@ -2,7 +2,7 @@
 //!
 //! Each law is the contract of a function that does nothing: it is proved with the crate, and can be cited.
 
-ghost use Rattle.net_model.specs.Laws.{EventsKeepSent, FiringsCommute, LinesAreRuns, LinesKeepSent, LinesLeadToOne, QuietIsWaiting, RunsAreOrdered, StalledIsNotQuiet, StallsInOnePlace};
+ghost use Rattle.net_model.specs.Laws.{DeliveriesAdd, DeliveriesCommute, DeliveriesKeepFirings, EventsKeepSent, FiringsCommute, LinesAreRuns, LinesKeepSent, LinesLeadToOne, QuietIsWaiting, RunsAreOrdered, StalledIsNotQuiet, StallsInOnePlace};
 
 /// The states of the actors of a network, as a type that laws can speak of.
 pub trait Meaning {
@@ -47,4 +47,16 @@ pub fn stalled_in_one_place<M: Meaning>()
 /// Two firings of different leaves that may both happen lead to one state in either order.
 pub fn firings_commute<M: Meaning>()
     ensures { FiringsCommute M.State }
+{}
+
+/// Deliveries that may both happen lead to one state in either order: on different links, and on one link where
+/// together they don't pass what was sent.
+pub fn deliveries_commute<M: Meaning>()
+    ensures apart { DeliveriesCommute M.State }
+    ensures on_one_link { DeliveriesAdd M.State }
+{}
+
+/// A firing of a stable actor and a delivery that may both happen lead to one state in either order.
+pub fn deliveries_keep_firings<M: Meaning>()
+    ensures { DeliveriesKeepFirings M.State }
 {}
