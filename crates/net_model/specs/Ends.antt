@@ -1,10 +1,10 @@
 -- Ends: where a run is quiet, and where it is stalled.
-use Rattle.std.specs.Prelude.{◌≡◌, ℕ, ◌-◌, ◌<◌, ◌⊎◌, Bool, true, false, List, [], ◌∷◌, ℤ, length, slice_get, Option, None, Some, if◌then◌else◌}
-use Rattle.rvc_base.specs.Behaviour.{Choice, Waits, Picks}
+use Rattle.std.specs.Prelude.{◌≡◌, ℕ, ◌-◌, ◌<◌, ◌⊎◌, false, List, [], ◌∷◌, length, slice_get, Option, None, Some, if◌then◌else◌}
+use Rattle.rvc_base.specs.Behaviour.{Waits, Picks}
 use Rattle.net_model.specs.declared.wiring.End.{End}
 use Rattle.net_model.specs.declared.wiring.End.TheVariants.{Leaf as AtLeaf, Net as AtNet}
 use Rattle.net_model.specs.declared.wiring.Link.{Link}
-use Rattle.net_model.specs.Network.{Leaf, Network, is_input}
+use Rattle.net_model.specs.Network.{Network, is_input}
 use Rattle.net_model.specs.State.{Flow, State, untaken, effect_at, choice_at, give_of}
 use Rattle.net_model.specs.Event.{each_flow}
 

@@ -1,5 +1,5 @@
 -- Events: what can happen to a network, and what it makes of a state. Which comes next is free.
-use Rattle.std.specs.Prelude.{ℕ, ◌+◌, Bool, true, false, List, [], ◌∷◌, ◌++◌, ℤ, map, length, if◌then◌else◌, ◌==◌, nat_le, slice_index_or, slice_get, slice_set, Option, None, Some}
+use Rattle.std.specs.Prelude.{ℕ, ◌+◌, true, List, [], ◌∷◌, ◌++◌, ℤ, map, length, if◌then◌else◌, ◌==◌, nat_le, slice_index_or, slice_get, slice_set, Option, None, Some}
 use Rattle.rvc_base.specs.declared.trap.Trap.{Trap as TrapName}
 use Rattle.rvc_base.specs.declared.trap.Trap.TheVariants.{Overflow, DivideByZero, IndexRange, ShiftRange, TurnLimit}
 use Rattle.rvc_base.specs.Storing.{conv}
@@ -7,7 +7,7 @@ use Rattle.rvc_base.specs.Behaviour.{Effect, Fires, TrapsInGuard, TrapsInBody}
 use Rattle.net_model.specs.declared.wiring.End.{End}
 use Rattle.net_model.specs.declared.wiring.End.TheVariants.{Leaf as AtLeaf, Net as AtNet}
 use Rattle.net_model.specs.declared.wiring.Link.{Link}
-use Rattle.net_model.specs.Network.{Leaf, Network, is_output}
+use Rattle.net_model.specs.Network.{Network, is_output}
 use Rattle.net_model.specs.State.{Flow, State, effect_at, need_of}
 
 pub data Event : Type 0 where

@@ -1,7 +1,7 @@
 -- What holds of every actor.
-use Rattle.std.specs.Prelude.{◌≡◌, ◌≢◌, ℕ, ◌≤◌, ◌<◌, ◌⊎◌, List, [], ℤ, length, take, slice_index_or, Option, None, Some}
+use Rattle.std.specs.Prelude.{◌≡◌, ◌≢◌, ℕ, ◌≤◌, ◌<◌, ◌⊎◌, List, [], ℤ, length, take, slice_index_or, None, Some}
 use Rattle.rvc_base.specs.declared.trap.Trap.{Trap}
-use Rattle.rvc_base.specs.Behaviour.{Behaviour, Effect, Fires, TrapsInGuard, TrapsInBody, Choice, Waits, Picks, Faults}
+use Rattle.rvc_base.specs.Behaviour.{Behaviour, Fires, TrapsInGuard, TrapsInBody, Waits, Picks, Faults}
 
 pub record IsLawful {X : Type 0} (b : Behaviour X) : Type 0 where
   -- what has an effect has its tokens

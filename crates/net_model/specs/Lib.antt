@@ -5,3 +5,6 @@ pub mod Event
 pub mod Ends
 pub mod Trace
 pub mod Lawful
+pub mod Wired
+pub mod Stable
+pub mod Laws

@@ -1,5 +1,5 @@
 -- Networks: leaves, which are actors, and links between ports.
-use Rattle.std.specs.Prelude.{ℕ, Bool, true, false, ◌&&◌, ◌==◌, List, [], ◌∷◌, ℤ, map, length, if◌then◌else◌, slice_index_or}
+use Rattle.std.specs.Prelude.{ℕ, Bool, true, false, ◌&&◌, ◌==◌, List}
 use Rattle.rvc_base.specs.declared.scalar.Scalar.{Scalar}
 use Rattle.rvc_base.specs.Behaviour.{Behaviour}
 use Rattle.net_model.specs.declared.wiring.End.{End}

@@ -1,10 +1,10 @@
 -- The state of a network: its actors' states, and what was sent, has arrived and was taken on each link.
-use Rattle.std.specs.Prelude.{ℕ, ◌-◌, Bool, true, false, List, [], ◌∷◌, ℤ, map, length, take, drop, if◌then◌else◌, slice_index_or, slice_get, Option, None, Some}
+use Rattle.std.specs.Prelude.{ℕ, ◌-◌, Bool, false, List, [], ◌∷◌, ℤ, map, take, drop, if◌then◌else◌, slice_index_or, slice_get, Option, None, Some}
 use Rattle.std.specs.List.{range_with_len}
 use Rattle.rvc_base.specs.declared.scalar.Scalar.{Scalar}
 use Rattle.rvc_base.specs.declared.scalar.Scalar.TheVariants.{Bool as Truth}
 use Rattle.rvc_base.specs.Storing.{conv}
-use Rattle.rvc_base.specs.Behaviour.{Behaviour, Effect, Choice, Waits}
+use Rattle.rvc_base.specs.Behaviour.{Effect, Choice, Waits}
 use Rattle.net_model.specs.declared.wiring.End.{End}
 use Rattle.net_model.specs.declared.wiring.End.TheVariants.{Leaf as AtLeaf, Net as AtNet}
 use Rattle.net_model.specs.declared.wiring.Link.{Link}

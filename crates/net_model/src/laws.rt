@@ -1,6 +1,62 @@
 //! What holds of all runs.
+//!
+//! Each law is the contract of a function that does nothing: it is proved with the crate, and can be cited.
+
+ghost use Rattle.net_model.specs.Laws.{DeliveriesAdd, DeliveriesCommute, DeliveriesKeepFirings, EventsKeepSent, FiringsCommute, LinesAreRuns, LinesKeepSent, LinesLeadToOne, QuietIsWaiting, RunsAreOrdered, StalledIsNotQuiet, StallsInOnePlace};
 
 /// The states of the actors of a network, as a type that laws can speak of.
 pub trait Meaning {
     ghost State: { Type 0 };
 }
+
+/// What was sent on a link stays in front of what is sent later, in every run and by every line.
+pub fn sent_lists_only_grow<M: Meaning>()
+    ensures by_events { EventsKeepSent M.State }
+    ensures by_lines { LinesKeepSent M.State }
+{}
+
+/// No more tokens are taken from a link than have arrived there, and no more arrive than were sent, in every
+/// state that a run from the start reaches, where the links lead to the leaves' ports and every leaf's
+/// behaviour is lawful.
+pub fn taken_have_arrived<M: Meaning>()
+    ensures { RunsAreOrdered M.State }
+{}
+
+/// The lines of a trace and the inputs determine the state that the lines lead to.
+pub fn lines_lead_to_one_state<M: Meaning>()
+    ensures { LinesLeadToOne M.State }
+{}
+
+/// What the lines of a trace play is a run of events, with the firings that the lines show: a delivery is an
+/// event for each link.
+pub fn lines_are_runs<M: Meaning>()
+    ensures { LinesAreRuns M.State }
+{}
+
+/// A state is quiet exactly where it is settled and each leaf waits, where every leaf's behaviour is lawful.
+pub fn quiet_is_waiting<M: Meaning>()
+    ensures { QuietIsWaiting M.State }
+{}
+
+/// A state is stalled at one leaf, action and link, and isn't quiet then.
+pub fn stalled_in_one_place<M: Meaning>()
+    ensures one_place { StallsInOnePlace M.State }
+    ensures not_quiet { StalledIsNotQuiet M.State }
+{}
+
+/// Two firings of different leaves that may both happen lead to one state in either order.
+pub fn firings_commute<M: Meaning>()
+    ensures { FiringsCommute M.State }
+{}
+
+/// Deliveries that may both happen lead to one state in either order: on different links, and on one link where
+/// together they don't pass what was sent.
+pub fn deliveries_commute<M: Meaning>()
+    ensures apart { DeliveriesCommute M.State }
+    ensures on_one_link { DeliveriesAdd M.State }
+{}
+
+/// A firing of a stable actor and a delivery that may both happen lead to one state in either order.
+pub fn deliveries_keep_firings<M: Meaning>()
+    ensures { DeliveriesKeepFirings M.State }
+{}

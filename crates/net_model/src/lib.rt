@@ -7,5 +7,9 @@
 mod laws;
 mod wiring;
 
-pub use laws::Meaning;
+pub use laws::{
+    Meaning, deliveries_commute, deliveries_keep_firings, firings_commute, lines_are_runs,
+    lines_lead_to_one_state, quiet_is_waiting, sent_lists_only_grow, stalled_in_one_place,
+    taken_have_arrived,
+};
 pub use wiring::{End, Link, Port};

@@ -3,6 +3,7 @@
 ghost use Rattle.std.specs.Prelude.{◌≡◌, ◌≤◌, ◌+◌, ◌++◌, [], length, decimal, codes};
 ghost use Rattle.arrayvec.specs.ArrayVec.{array_vec_len};
 ghost use Rattle.trace_text.specs.Text.{line_text, then_number, IsWhole};
+ghost use Rattle.trace_text.specs.declared.line.Line.TheVariants.{Inst};
 
 use crate::line::Line;
 use arrayvec::ArrayVec;
@@ -49,6 +50,18 @@ pub fn write_line(line: &Line, out: &mut ArrayVec<u8, 64>)
     push_text(b"\n", out);
 }
 
+/// Writes what stands before the path in the line of an instance into `out`, which is empty.
+///
+/// The path, a blank, the class and one LF follow.
+pub fn write_front(inst: u32, out: &mut ArrayVec<u8, 64>)
+    requires empty { out.old.items ≡ [] }
+    ensures { out.new.items ≡ line_text (Inst inst) }
+{
+    push_text(b"i", out);
+    push_number(inst, out);
+    push_text(b" ", out);
+}
+
 /// Puts a short text behind what stands in `out`.
 fn push_text(text: &[u8], out: &mut ArrayVec<u8, 64>)
     requires { array_vec_len out.old + length text.now ≤ 64 }
@@ -70,4 +83,55 @@ fn push_number(n: u32, out: &mut ArrayVec<u8, 64>)
     let mut buffer = Buffer::new();
     push_text(b" ", out);
     push_text(buffer.format(n).as_bytes(), out);
+}
+
+#[cfg(test)]
+mod tests {
+    use super::*;
+    use rvc_base::Trap;
+
+    /// Whether a line has this text.
+    fn reads(line: &Line, text: &str) -> bool
+        requires { IsWhole line.now }
+    {
+        let mut out = ArrayVec::new();
+        write_line(line, &mut out);
+        out.as_slice() == text.as_bytes()
+    }
+
+    #[test]
+    fn each_kind_of_line(rt: HostRuntime) {
+        let header = Line::Header {
+            instances: 0,
+            links: 10,
+        };
+        assert!(rt; reads(&header, "rvc-trace 1 0 10\n"));
+        let fire = Line::Fire {
+            inst: 9,
+            action: 65535,
+        };
+        assert!(rt; reads(&fire, "f 9 65535\n"));
+        assert!(rt; reads(&Line::Deliver, "r\n"));
+        assert!(rt; reads(&Line::Quiet, "q\n"));
+        let trap = Line::Trap {
+            inst: 4294967295,
+            action: 0,
+            trap: Trap::DivideByZero,
+        };
+        assert!(rt; reads(&trap, "t 4294967295 0 DivideByZero\n"));
+        let stall = Line::Stall {
+            inst: 0,
+            action: 10,
+            link: 4294967295,
+        };
+        assert!(rt; reads(&stall, "s 0 10 4294967295\n"));
+        assert!(rt; reads(&Line::Budget, "b\n"));
+    }
+
+    #[test]
+    fn front_of_an_instance(rt: HostRuntime) {
+        let mut out = ArrayVec::new();
+        write_front(10, &mut out);
+        assert!(rt; out.as_slice() == b"i 10 ".as_slice());
+    }
 }

@@ -1,0 +1,130 @@
+-- What holds of all runs, as statements.
+use Rattle.std.specs.Prelude.{◌≡◌, ◌≢◌, ℕ, ◌+◌, ◌≤◌, ◌<◌, ◌↔◌, List, [], ◌∷◌, ℤ, length, slice_get, Option, None, Some}
+use Rattle.rvc_base.specs.Behaviour.{Waits}
+use Rattle.trace_text.specs.declared.line.Line.{Line}
+use Rattle.trace_text.specs.declared.line.Line.TheVariants.{Header, Inst, Fire as FireLine, Deliver as DeliverLine, Quiet, Trap as TrapLine, Stall, Budget}
+use Rattle.net_model.specs.Network.{Leaf, Network}
+use Rattle.net_model.specs.State.{Flow, State, start_of, choice_at}
+use Rattle.net_model.specs.Event.{Event, Fire, Deliver, Trap, happens, run}
+use Rattle.net_model.specs.Ends.{IsQuiet, IsSettled, IsStalled, all_fed}
+use Rattle.net_model.specs.Trace.{Plays, played}
+use Rattle.net_model.specs.Lawful.{IsLawful}
+use Rattle.net_model.specs.Stable.{IsPrefix, AreStable}
+use Rattle.net_model.specs.Wired.{IsWired}
+
+abbrev pub sent_of : Option Flow → List ℤ
+sent_of None = []
+sent_of (Some flow) = flow.sent
+
+-- the tokens that were sent on link l
+abbrev pub sent_on_link : {X : Type 0} → State X → ℕ → List ℤ
+sent_on_link s l = sent_of (slice_get s.flows l)
+
+-- what was sent in s on each link of the network was sent in t too, before all else
+abbrev pub SentGrows : {X : Type 0} → Network X → State X → State X → Type 0
+SentGrows net s t = (l : ℕ) → l < length net.links → IsPrefix (sent_on_link s l) (sent_on_link t l)
+
+-- no more tokens were taken than have arrived, and no more have arrived than were sent
+abbrev pub IsOrdered : Flow → Type 0
+IsOrdered flow = (flow.taken ≤ flow.arrived) × (flow.arrived ≤ length flow.sent)
+
+-- this holds on each link
+abbrev pub AreOrdered : {X : Type 0} → State X → Type 0
+AreOrdered s = (l : ℕ) (flow : Flow) → slice_get s.flows l ≡ Some flow → IsOrdered flow
+
+-- the behaviour of each leaf is lawful
+abbrev pub AreLawful : {X : Type 0} → Network X → Type 0
+AreLawful {X} net = (i : ℕ) (leaf : Leaf X) → slice_get net.leaves i ≡ Some leaf → IsLawful leaf.behaviour
+
+-- the firings in events, and those that lines show: a leaf and its action, in order
+abbrev pub firings_in : List Event → List (ℕ × ℕ)
+firings_in [] = []
+firings_in (Fire i a ∷ events) = (i, a) ∷ firings_in events
+firings_in (Deliver l k ∷ events) = firings_in events
+firings_in (Trap i a c ∷ events) = firings_in events
+
+abbrev pub firings_shown : List Line → List (ℕ × ℕ)
+firings_shown [] = []
+firings_shown (FireLine i a ∷ lines) = (i, a) ∷ firings_shown lines
+firings_shown (DeliverLine ∷ lines) = firings_shown lines
+firings_shown (TrapLine i a c ∷ lines) = firings_shown lines
+firings_shown (Quiet ∷ lines) = firings_shown lines
+firings_shown (Stall i a l ∷ lines) = firings_shown lines
+firings_shown (Budget ∷ lines) = firings_shown lines
+firings_shown (Header n l ∷ lines) = firings_shown lines
+firings_shown (Inst k ∷ lines) = firings_shown lines
+
+-- Some events lead from s to t, and the firings among them are these.
+pub record IsRunOf {X : Type 0} (net : Network X) (s t : State X) (firings : List (ℕ × ℕ)) : Type 0 where
+  pub events : List Event
+  pub leads : run net s events ≡ Some t
+  pub same_firings : firings_in events ≡ firings
+
+-- The laws, over states X of actors.
+
+-- what was sent stays in front of what is sent later, in every run ..
+abbrev pub EventsKeepSent : (X : Type 0) → Type 0
+EventsKeepSent X = (net : Network X) (s t : State X) (events : List Event) → run net s events ≡ Some t → SentGrows net s t
+
+-- .. and by every line
+abbrev pub LinesKeepSent : (X : Type 0) → Type 0
+LinesKeepSent X = (net : Network X) (s t : State X) (lines : List Line) → played net s lines ≡ Some t → SentGrows net s t
+
+-- in every state that a run from the start reaches, no more was taken than has arrived, and no more has arrived than was sent
+abbrev pub RunsAreOrdered : (X : Type 0) → Type 0
+RunsAreOrdered X = (net : Network X) (inputs : List (List ℕ)) (events : List Event) (t : State X)
+    → IsWired net → AreLawful net → run net (start_of net inputs) events ≡ Some t → AreOrdered t
+
+-- lines and inputs lead to one state
+abbrev pub LinesLeadToOne : (X : Type 0) → Type 0
+LinesLeadToOne X = (net : Network X) (inputs : List (List ℕ)) (lines : List Line) (s t : State X)
+    → Plays net inputs lines s → Plays net inputs lines t → s ≡ t
+
+-- what lines play is a run of events, with the firings that the lines show
+abbrev pub LinesAreRuns : (X : Type 0) → Type 0
+LinesAreRuns X = (net : Network X) (inputs : List (List ℕ)) (lines : List Line) (t : State X)
+    → Plays net inputs lines t → IsRunOf net (start_of net inputs) t (firings_shown lines)
+
+-- each leaf's choice is to wait, with the rest of the feeds counted as arrived
+abbrev pub AllWait : {X : Type 0} → Network X → State X → Type 0
+AllWait net s = (i : ℕ) → choice_at net (all_fed net s) i ≡ Waits
+
+-- a state is quiet where it is settled and each leaf waits
+abbrev pub QuietIsWaiting : (X : Type 0) → Type 0
+QuietIsWaiting X = (net : Network X) (s : State X) → AreLawful net → IsQuiet net s ↔ (IsSettled net s × AllWait net s)
+
+-- a state is stalled in one place
+abbrev pub StallsInOnePlace : (X : Type 0) → Type 0
+StallsInOnePlace X = (net : Network X) (s : State X) (i a l j b m : ℕ)
+    → IsStalled net s i a l → IsStalled net s j b m → (i ≡ j) × (a ≡ b) × (l ≡ m)
+
+-- and it isn't quiet then
+abbrev pub StalledIsNotQuiet : (X : Type 0) → Type 0
+StalledIsNotQuiet X = (net : Network X) (s : State X) (i a l : ℕ) → AreLawful net → IsStalled net s i a l → IsQuiet net s → ⊥
+
+-- an event from t and another from u lead to one state
+pub record Meets {X : Type 0} (net : Network X) (t : State X) (from_t : Event) (u : State X) (from_u : Event) : Type 0 where
+  pub last : State X
+  pub one_way : happens net t from_t ≡ Some last
+  pub other_way : happens net u from_u ≡ Some last
+
+-- two firings of different leaves lead to one state in either order
+abbrev pub FiringsCommute : (X : Type 0) → Type 0
+FiringsCommute X = (net : Network X) (s t u : State X) (i a j b : ℕ) → AreOrdered s → i ≢ j
+    → happens net s (Fire i a) ≡ Some t → happens net s (Fire j b) ≡ Some u → Meets net t (Fire j b) u (Fire i a)
+
+-- a firing of a stable actor and a delivery lead to one state in either order
+abbrev pub DeliveriesKeepFirings : (X : Type 0) → Type 0
+DeliveriesKeepFirings X = (net : Network X) (s t u : State X) (i a l k : ℕ) → AreStable net
+    → happens net s (Fire i a) ≡ Some t → happens net s (Deliver l k) ≡ Some u → Meets net t (Deliver l k) u (Fire i a)
+
+-- two deliveries on different links lead to one state in either order
+abbrev pub DeliveriesCommute : (X : Type 0) → Type 0
+DeliveriesCommute X = (net : Network X) (s t u : State X) (l k m n : ℕ) → l ≢ m
+    → happens net s (Deliver l k) ≡ Some t → happens net s (Deliver m n) ≡ Some u → Meets net t (Deliver m n) u (Deliver l k)
+
+-- and so do two deliveries on one link that together don't pass what was sent
+abbrev pub DeliveriesAdd : (X : Type 0) → Type 0
+DeliveriesAdd X = (net : Network X) (s t u : State X) (l k n : ℕ)
+    → ((flow : Flow) → slice_get s.flows l ≡ Some flow → flow.arrived + (k + n) ≤ length flow.sent)
+    → happens net s (Deliver l k) ≡ Some t → happens net s (Deliver l n) ≡ Some u → Meets net t (Deliver l n) u (Deliver l k)
