@@ -1,2 +1,3 @@
 pub mod Lexed
 pub mod Unique
+pub mod Gaps

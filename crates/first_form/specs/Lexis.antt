@@ -1,6 +1,7 @@
 -- The lexis of a source, as far as an actor of the first form needs it: blanks, comments, and the tokens
 -- that can stand in one.
 use Rattle.std.specs.Prelude.{◌≡◌, ℕ, ◌+◌, ◌<◌, ◌==◌, nat_eq, nat_le, Bool, true, false, not, ◌&&◌, ◌||◌, if◌then◌else◌, List, [], ◌∷◌, length, take, drop, codes, Option, None, Some, slice_index}
+use Rattle.std.specs.Option.{option_map}
 use Rattle.std.specs.List.{prefix_len, starts_with, list_any, list_all}
 use Rattle.std.specs.Str.{bytes_eq}
 
@@ -27,7 +28,7 @@ begins_with text front = starts_with nat_eq text front
 unfoldable pub place_of_close : List ℕ → Option ℕ
 place_of_close [] = None
 place_of_close (b ∷ rest) =
-    if begins_with (b ∷ rest) (codes "*/") then Some 0 else (elim (place_of_close rest) [ None ↦ None | Some n ↦ Some (n + 1) ])
+    if begins_with (b ∷ rest) (codes "*/") then Some 0 else option_map (λ n. n + 1) (place_of_close rest)
 
 -- the length of a comment up to the next `*/` and with it, behind its `/*`; none where it is never closed
 abbrev pub block_length : Option ℕ → ℕ
@@ -57,7 +58,7 @@ unfoldable pub symbol_length : List ℕ → ℕ
 symbol_length text =
     if begins_with text (codes "==>") || begins_with text (codes "-->") then 3
     else (if begins_with text (codes ":=") then 2
-    else (if list_any (λ symbol. nat_eq (slice_index text 0) symbol) (codes "()[]:=+-*") then 1 else 0))
+    else (if list_any (λ symbol. nat_eq symbol (slice_index text 0)) (codes "()[]:=+-*") then 1 else 0))
 
 -- the length of the token that a text begins with, the longest one; 0 where no token stands there that an
 -- actor of the form needs
@@ -82,19 +83,31 @@ pub data Lexes : List ℕ → List (List ℕ) → List ℕ → Type 0 where
   gap : {text rest : List ℕ} {tokens : List (List ℕ)} → IsGapAt text → Lexes (drop (gap_length text) text) tokens rest → Lexes text tokens rest
   token : {text rest t : List ℕ} {tokens : List (List ℕ)} → IsTokenAt text t → Lexes (drop (token_length text) text) tokens rest → Lexes text (t ∷ tokens) rest
 
--- the words that are no names
-abbrev pub reserved : List (List ℕ)
-reserved =
-    codes "actor" ∷ codes "unit" ∷ codes "package" ∷ codes "import" ∷ codes "action" ∷ codes "initialize" ∷ codes "function"
-    ∷ codes "procedure" ∷ codes "guard" ∷ codes "var" ∷ codes "do" ∷ codes "begin" ∷ codes "end" ∷ codes "if" ∷ codes "then"
-    ∷ codes "elsif" ∷ codes "else" ∷ codes "while" ∷ codes "foreach" ∷ codes "for" ∷ codes "in" ∷ codes "repeat"
-    ∷ codes "schedule" ∷ codes "fsm" ∷ codes "priority" ∷ codes "true" ∷ codes "false" ∷ codes "not" ∷ codes "and" ∷ codes "or"
-    ∷ codes "div" ∷ codes "mod" ∷ codes "endactor" ∷ codes "endunit" ∷ codes "endaction" ∷ codes "endinitialize"
-    ∷ codes "endfunction" ∷ codes "endprocedure" ∷ codes "endif" ∷ codes "endwhile" ∷ codes "endforeach" ∷ codes "endbegin"
-    ∷ codes "endschedule" ∷ codes "endpriority" ∷ []
+-- The words that are no names:
+
+-- the words of units and actors
+unfoldable pub is_unit_word : List ℕ → Bool
+is_unit_word text =
+    list_any (bytes_eq text) (codes "actor" ∷ codes "unit" ∷ codes "package" ∷ codes "import" ∷ codes "action" ∷ codes "initialize" ∷ codes "function" ∷ codes "procedure" ∷ codes "guard" ∷ codes "var" ∷ codes "do" ∷ [])
+
+-- the words of bodies and schedules
+unfoldable pub is_schedule_word : List ℕ → Bool
+is_schedule_word text =
+    list_any (bytes_eq text) (codes "begin" ∷ codes "end" ∷ codes "repeat" ∷ codes "schedule" ∷ codes "fsm" ∷ codes "priority" ∷ codes "true" ∷ codes "false" ∷ [])
+
+-- the words of statements and expressions
+unfoldable pub is_statement_word : List ℕ → Bool
+is_statement_word text =
+    list_any (bytes_eq text) (codes "if" ∷ codes "then" ∷ codes "elsif" ∷ codes "else" ∷ codes "while" ∷ codes "foreach" ∷ codes "for" ∷ codes "in" ∷ codes "not" ∷ codes "and" ∷ codes "or" ∷ codes "div" ∷ codes "mod" ∷ [])
+
+-- the long ends
+unfoldable pub is_long_end : List ℕ → Bool
+is_long_end text =
+    list_any (bytes_eq text) (codes "endactor" ∷ codes "endunit" ∷ codes "endaction" ∷ codes "endinitialize" ∷ codes "endfunction" ∷ codes "endprocedure" ∷ codes "endif" ∷ codes "endwhile" ∷ codes "endforeach" ∷ codes "endbegin" ∷ codes "endschedule" ∷ codes "endpriority" ∷ [])
 
 unfoldable pub is_reserved : List ℕ → Bool
-is_reserved text = list_any (bytes_eq text) reserved
+is_reserved text =
+    is_unit_word text || is_schedule_word text || is_statement_word text || is_long_end text
 
 -- a letter or `_` followed by letters, digits and `_`, and no reserved word
 unfoldable pub is_name : List ℕ → Bool

@@ -8,6 +8,7 @@
 
 mod fault;
 mod laws;
+mod lexis;
 
 pub use fault::FormFault;
 pub use laws::{never_both, one_form, one_place};
