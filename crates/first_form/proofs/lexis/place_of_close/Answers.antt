@@ -1,4 +1,5 @@
 use Rattle.std.proofs.Common.{◌≡◌, ◌-◌, false, List, take, drop, length, codes, subst, sym, arith, rules}
+use Rattle.std.proofs.lemmas.Grind.{common_steps}
 use Rattle.first_form.specs.Lexis.{begins_with}
 use Rattle.first_form.proofs.Gaps.{Searched-more, Searched-found, Searched-all}
 use Rattle.first_form.proofs.lexis.place_of_close.Goals as goal
@@ -10,7 +11,7 @@ pub loop-place-preserved : goal.loop-place-preserved
 loop-place-preserved c =
     let text = c.args.text.now in
     let n = c.loop-place.place in
-    let behind : take (length text - n) (drop n text) ≡ drop n text = search rules in
+    let behind : take (length text - n) (drop n text) ≡ drop n text = grind (arith, common_steps) in
     Searched-more text n c.loop-place.invariant (omega arith) (subst (λ t. begins_with t (codes "*/") ≡ false) behind (sym c.if-starts_with.ensures.value))
 
 pub returns-clause-place : goal.returns-clause-place
