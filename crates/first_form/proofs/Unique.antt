@@ -51,33 +51,33 @@ shift ts t us more = append_assoc ts (t ∷ us) more ∙ regroup ts t (us ++ mor
 pub never_both : (text : List ℕ) (f : Form) (at : ℕ) → Spells text f → DepartsAt text at → ⊥
 never_both text f at s d =
     elim (goes_on s.lexes d.lexes) [
-      inl w ↦ elim (goes d.no_gap w.lexes) [
-        nothing e r ↦ d.no_end r f s.is_form (w.tokens ∙ ap (λ us. d.tokens ++ us) e ∙ append_nil d.tokens)
-      | first t us e h ↦ d.no_token t h (record { form = f; is_form = s.is_form; more = us; whole = w.tokens ∙ ap (λ us. d.tokens ++ us) e ∙ regroup d.tokens t us })
+      | inl w ↦ elim (goes d.no_gap w.lexes) [
+        | nothing e r ↦ d.no_end r f s.is_form (w.tokens ∙ ap (λ us. d.tokens ++ us) e ∙ append_nil d.tokens)
+        | first t us e h ↦ d.no_token t h (record { form = f; is_form = s.is_form; more = us; whole = w.tokens ∙ ap (λ us. d.tokens ++ us) e ∙ regroup d.tokens t us })
       ]
-    | inr w ↦
-      let none = Lexes-empty [] refl w.lexes in
-      d.no_end none.1 f s.is_form (sym (w.tokens ∙ ap (λ us. form_tokens f ++ us) none.0 ∙ append_nil (form_tokens f)))
+      | inr w ↦
+          let none = Lexes-empty [] refl w.lexes in
+          d.no_end none.1 f s.is_form (sym (w.tokens ∙ ap (λ us. form_tokens f ++ us) none.0 ∙ append_nil (form_tokens f)))
     ]
 
 -- a reading that goes on from a departure is none
 stays : (text : List ℕ) (a b : ℕ) (d : DepartsAt text a) (e : DepartsAt text b) → GoesOn d.tokens e.tokens e.rest d.rest → e.rest ≡ d.rest
 stays text a b d e w =
     elim (goes e.no_gap w.lexes) [
-      nothing x r ↦ r
-    | first t us x h ↦ absurd (e.no_token t h (record {
+      | nothing x r ↦ r
+      | first t us x h ↦ absurd (e.no_token t h (record {
         form = d.begins.form;
         is_form = d.begins.is_form;
         more = us ++ d.begins.more;
-        whole = d.begins.whole ∙ ap (λ ts. ts ++ d.begins.more) (w.tokens ∙ ap (λ us. e.tokens ++ us) x) ∙ shift e.tokens t us d.begins.more
+        whole = d.begins.whole ∙ ap (λ ts. ts ++ d.begins.more) (w.tokens ∙ ap (λ us. e.tokens ++ us) x) ∙ shift e.tokens t us d.begins.more;
       }))
     ]
 
 pub one_place : (text : List ℕ) (a b : ℕ) → DepartsAt text a → DepartsAt text b → a ≡ b
 one_place text a b d e =
     let same : d.rest ≡ e.rest = elim (goes_on d.lexes e.lexes) [
-      inl w ↦ sym (stays text a b d e w)
-    | inr w ↦ stays text b a e d w
+      | inl w ↦ sym (stays text a b d e w)
+      | inr w ↦ stays text b a e d w
     ] in
     omega (arith, d.place, e.place, ap length same)
 
@@ -145,8 +145,8 @@ one_operator Mul Mul e = refl
 both_whole : (text : List ℕ) (ts us : List (List ℕ)) → Lexes text ts [] → Lexes text us [] → ts ≡ us
 both_whole text ts us d e =
     elim (goes_on d e) [
-      inl w ↦ w.tokens ∙ ap (λ vs. us ++ vs) (Lexes-empty [] refl w.lexes).0 ∙ append_nil us
-    | inr w ↦ sym (w.tokens ∙ ap (λ vs. ts ++ vs) (Lexes-empty [] refl w.lexes).0 ∙ append_nil ts)
+      | inl w ↦ w.tokens ∙ ap (λ vs. us ++ vs) (Lexes-empty [] refl w.lexes).0 ∙ append_nil us
+      | inr w ↦ sym (w.tokens ∙ ap (λ vs. ts ++ vs) (Lexes-empty [] refl w.lexes).0 ∙ append_nil ts)
     ]
 
 pub one_form : (text : List ℕ) (f g : Form) → Spells text f → Spells text g → f ≡ g

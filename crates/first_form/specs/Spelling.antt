@@ -8,6 +8,10 @@ use Rattle.cal_model.specs.declared.ast.Operator.TheVariants.{Add, Sub, Mul}
 use Rattle.cal_model.specs.declared.ast.TheConstants.{MAX_DIGITS}
 use Rattle.first_form.specs.Lexis.{Lexes, IsTokenAt, gap_length, is_name}
 
+-- each place of the text, its end too, can be written as an offset
+abbrev pub HasOffsets : List ℕ → Type 0
+HasOffsets text = length text < 2 ^ 32
+
 -- an operand's token: the name that the action gives its input token, or the number
 abbrev pub operand_token : List ℕ → Operand → List ℕ
 operand_token variable Token = variable

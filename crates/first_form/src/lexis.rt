@@ -196,7 +196,17 @@ pub(crate) fn is_text(word: &[u8], text: &str) -> bool
 fn is_unit_word(word: &[u8]) -> bool
     ensures { result ≡ is_unit_word word.now }
 {
-    is_text(word, "actor") || is_text(word, "unit") || is_text(word, "package") || is_text(word, "import") || is_text(word, "action") || is_text(word, "initialize") || is_text(word, "function") || is_text(word, "procedure") || is_text(word, "guard") || is_text(word, "var") || is_text(word, "do")
+    is_text(word, "actor")
+        || is_text(word, "unit")
+        || is_text(word, "package")
+        || is_text(word, "import")
+        || is_text(word, "action")
+        || is_text(word, "initialize")
+        || is_text(word, "function")
+        || is_text(word, "procedure")
+        || is_text(word, "guard")
+        || is_text(word, "var")
+        || is_text(word, "do")
 }
 
 /// Whether it is a word of bodies and schedules.
@@ -204,7 +214,14 @@ fn is_unit_word(word: &[u8]) -> bool
 fn is_schedule_word(word: &[u8]) -> bool
     ensures { result ≡ is_schedule_word word.now }
 {
-    is_text(word, "begin") || is_text(word, "end") || is_text(word, "repeat") || is_text(word, "schedule") || is_text(word, "fsm") || is_text(word, "priority") || is_text(word, "true") || is_text(word, "false")
+    is_text(word, "begin")
+        || is_text(word, "end")
+        || is_text(word, "repeat")
+        || is_text(word, "schedule")
+        || is_text(word, "fsm")
+        || is_text(word, "priority")
+        || is_text(word, "true")
+        || is_text(word, "false")
 }
 
 /// Whether it is a word of statements and expressions.
@@ -212,7 +229,19 @@ fn is_schedule_word(word: &[u8]) -> bool
 fn is_statement_word(word: &[u8]) -> bool
     ensures { result ≡ is_statement_word word.now }
 {
-    is_text(word, "if") || is_text(word, "then") || is_text(word, "elsif") || is_text(word, "else") || is_text(word, "while") || is_text(word, "foreach") || is_text(word, "for") || is_text(word, "in") || is_text(word, "not") || is_text(word, "and") || is_text(word, "or") || is_text(word, "div") || is_text(word, "mod")
+    is_text(word, "if")
+        || is_text(word, "then")
+        || is_text(word, "elsif")
+        || is_text(word, "else")
+        || is_text(word, "while")
+        || is_text(word, "foreach")
+        || is_text(word, "for")
+        || is_text(word, "in")
+        || is_text(word, "not")
+        || is_text(word, "and")
+        || is_text(word, "or")
+        || is_text(word, "div")
+        || is_text(word, "mod")
 }
 
 /// Whether it is a long end.
@@ -220,7 +249,18 @@ fn is_statement_word(word: &[u8]) -> bool
 fn is_long_end(word: &[u8]) -> bool
     ensures { result ≡ is_long_end word.now }
 {
-    is_text(word, "endactor") || is_text(word, "endunit") || is_text(word, "endaction") || is_text(word, "endinitialize") || is_text(word, "endfunction") || is_text(word, "endprocedure") || is_text(word, "endif") || is_text(word, "endwhile") || is_text(word, "endforeach") || is_text(word, "endbegin") || is_text(word, "endschedule") || is_text(word, "endpriority")
+    is_text(word, "endactor")
+        || is_text(word, "endunit")
+        || is_text(word, "endaction")
+        || is_text(word, "endinitialize")
+        || is_text(word, "endfunction")
+        || is_text(word, "endprocedure")
+        || is_text(word, "endif")
+        || is_text(word, "endwhile")
+        || is_text(word, "endforeach")
+        || is_text(word, "endbegin")
+        || is_text(word, "endschedule")
+        || is_text(word, "endpriority")
 }
 
 /// Whether a word is reserved.

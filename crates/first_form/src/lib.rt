@@ -6,9 +6,13 @@
 //! between tokens.
 #![tactic(auto)]
 
+mod draft;
 mod fault;
 mod laws;
 mod lexis;
+mod reader;
+mod slot;
 
 pub use fault::FormFault;
 pub use laws::{never_both, one_form, one_place};
+pub use reader::read_form;
