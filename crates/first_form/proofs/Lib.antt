@@ -1,3 +1,5 @@
 pub mod Lexed
 pub mod Unique
 pub mod Gaps
+pub mod Numbers
+pub mod Places

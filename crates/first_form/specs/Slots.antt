@@ -1,5 +1,7 @@
 -- The places of the form one by one, and what a token says at one.
-use Rattle.std.specs.Prelude.{◌≡◌, ℕ, true, List, codes}
+use Rattle.std.specs.Prelude.{◌≡◌, ◌==◌, ◌&&◌, ◌||◌, ℕ, Bool, not, nat_lt, nat_le, true, List, [], ◌∷◌, length, slice_index, codes}
+use Rattle.std.specs.List.{list_all}
+use Rattle.cal_model.specs.declared.ast.TheConstants.{MAX_DIGITS}
 use Rattle.cal_model.specs.Form.{Form}
 use Rattle.cal_model.specs.declared.ast.Operand.{Operand}
 use Rattle.cal_model.specs.declared.ast.Operator.{Operator}
@@ -8,7 +10,7 @@ use Rattle.first_form.specs.declared.slot.Fixed.TheVariants.{Actor, Action, End,
 use Rattle.first_form.specs.declared.slot.Slot.{Slot}
 use Rattle.first_form.specs.declared.slot.Slot.TheVariants.{Fixed as at_fixed, Name, Input, Output, Variable, InputAgain, OutputAgain, Left, Operator as Operation, Right}
 use Rattle.first_form.specs.declared.draft.Draft.{Draft}
-use Rattle.first_form.specs.Lexis.{is_name}
+use Rattle.first_form.specs.Lexis.{is_digit, is_name}
 use Rattle.first_form.specs.Spelling.{IsOperand, operand_token, operator_token}
 
 abbrev pub fixed_token : Fixed → List ℕ
@@ -39,6 +41,19 @@ slot_token f Left = operand_token f.variable f.sum.left
 slot_token f Operation = operator_token f.sum.op
 slot_token f Right = operand_token f.variable f.sum.right
 
+-- the places of the form, in their order
+abbrev pub slots : List Slot
+slots =
+    at_fixed Actor ∷ Name ∷ at_fixed Open ∷ at_fixed Close
+    ∷ at_fixed Uint ∷ at_fixed Open ∷ at_fixed Size ∷ at_fixed Equals ∷ at_fixed Eight ∷ at_fixed Close ∷ Input
+    ∷ at_fixed Arrow
+    ∷ at_fixed Uint ∷ at_fixed Open ∷ at_fixed Size ∷ at_fixed Equals ∷ at_fixed Eight ∷ at_fixed Close ∷ Output
+    ∷ at_fixed Colon ∷ at_fixed Action
+    ∷ InputAgain ∷ at_fixed Colon ∷ at_fixed OpenIndex ∷ Variable ∷ at_fixed CloseIndex
+    ∷ at_fixed Arrow
+    ∷ OutputAgain ∷ at_fixed Colon ∷ at_fixed OpenIndex ∷ Left ∷ Operation ∷ Right ∷ at_fixed CloseIndex
+    ∷ at_fixed End ∷ at_fixed End ∷ []
+
 -- a draft as a form
 abbrev pub draft_form : Draft → Form
 draft_form d = record {
@@ -48,6 +63,11 @@ draft_form d = record {
   variable = d.variable.now;
   sum = record { left = d.left; op = d.op; right = d.right };
 }
+
+-- the token is a decimal number of at most MAX_DIGITS digits, of which several do not begin with 0
+unfoldable pub is_number : List ℕ → Bool
+is_number token =
+    nat_lt 0 (length token) && nat_le (length token) MAX_DIGITS && (length token == 1 || not (slice_index token 0 == 48)) && list_all is_digit token
 
 -- what a token says at a place: the second form is the first one with that said
 abbrev pub Puts : Slot → List ℕ → Form → Form → Type 0

@@ -4,9 +4,11 @@ ghost use Rattle.std.specs.Prelude.{◌≡◌, ◌<◌, ◌^◌, ℕ, decimal, t
 ghost use Rattle.cal_model.specs.Form.{Form};
 ghost use Rattle.cal_model.specs.declared.ast.Operand.{Operand};
 ghost use Rattle.cal_model.specs.declared.ast.Operator.{Operator};
-ghost use Rattle.first_form.specs.Lexis.{is_name};
+ghost use Rattle.first_form.specs.Lexis.{is_digit, is_name};
+ghost use Rattle.std.specs.List.{list_all};
+ghost use Rattle.std.specs.Str.Parse.{digits_value};
 ghost use Rattle.first_form.specs.Spelling.{IsForm, IsOperand, operand_token, operator_token};
-ghost use Rattle.first_form.specs.Slots.{draft_form, Puts};
+ghost use Rattle.first_form.specs.Slots.{draft_form, is_number, Puts};
 
 use crate::lexis;
 use crate::slot::Slot;
@@ -39,21 +41,44 @@ pub(crate) fn blank() -> Draft<'static>
     }
 }
 
+/// Whether a token is a decimal number of at most [`MAX_DIGITS`] digits; several don't begin with 0.
+#[tactic(auto, unfolding(crate::specs::Slots::is_number))]
+fn is_number(token: &[u8]) -> bool
+    ensures { result ≡ is_number token.now }
+{
+    !token.is_empty()
+        && token.len() <= MAX_DIGITS
+        && (token.len() == 1 || token[0] != b'0')
+        && all_digits(token)
+}
+
+fn all_digits(text: &[u8]) -> bool
+    ensures { result ≡ list_all is_digit text.now }
+{
+    text.iter().all(|byte| lexis::is_digit(*byte))
+}
+
+/// The number that digits write.
+fn value(digits: &[u8]) -> u32
+    requires { is_number digits.now ≡ true }
+    ensures { result ≡ digits_value 10 digits.now }
+{
+    let mut value = 0u32;
+    for digit in digits {
+        value = value * 10 + u32::from(*digit - b'0');
+    }
+    value
+}
+
 /// The number that a token writes, where it is one of at most [`MAX_DIGITS`] digits.
 fn number(token: &[u8]) -> Option<u32>
     ensures { MatchOption result ((n : ℕ) → n < 10 ^ MAX_DIGITS → ¬ (decimal n ≡ token.now)) (λ n. (n < 10 ^ MAX_DIGITS) × (decimal n ≡ token.now)) }
 {
-    if token.is_empty() || MAX_DIGITS < token.len() || (1 < token.len() && token[0] == b'0') {
-        return None;
+    if is_number(token) {
+        Some(value(token))
+    } else {
+        None
     }
-    let mut value = 0;
-    for digit in token {
-        if !lexis::is_digit(*digit) {
-            return None;
-        }
-        value = value * 10 + u32::from(*digit - b'0');
-    }
-    Some(value)
 }
 
 /// The operand that a token writes.
