@@ -3,3 +3,4 @@ pub mod Unique
 pub mod Gaps
 pub mod Numbers
 pub mod Places
+pub mod Reading

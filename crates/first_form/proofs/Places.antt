@@ -1,7 +1,8 @@
 -- The places of the form: a token put at one changes no token before it.
-use Rattle.std.proofs.Common.{◌≡◌, ℕ, zero, suc, ◌<◌, Bool, true, false, not, ◌&&◌, ltb, List, [], ◌∷◌, ◌++◌, length, take, drop, get_or, map, refl, ap, sym, subst, ◌∙◌, arith, cond}
+use Rattle.std.proofs.Common.{inl, inr, ◌≡◌, ℕ, zero, suc, ◌<◌, Bool, true, false, not, ◌&&◌, ltb, List, [], ◌∷◌, ◌++◌, length, take, drop, get_or, map, refl, ap, sym, subst, ◌∙◌, arith, cond}
 use Rattle.std.specs.List.{list_all}
 use Rattle.std.proofs.lemmas.Bool.Decides.{nat_tests}
+use Rattle.std.proofs.lemmas.Bool.{cases_lt}
 use Rattle.std.proofs.lemmas.List.{take-map, get_or-map, get_or-take}
 use Rattle.cal_model.specs.Form.{Form}
 use Rattle.cal_model.specs.declared.ast.Operand.{Operand}
@@ -38,6 +39,12 @@ needs _ k = true
 abbrev pub slot_at : ℕ → Slot
 slot_at k = get_or slots k Name
 
+-- an element of a list has no default
+pub any_default : (xs : List Slot) (i : ℕ) (d e : Slot) → i < length xs → get_or xs i d ≡ get_or xs i e
+any_default [] i d e l = absurd (omega arith)
+any_default (x ∷ xs) zero d e l = refl
+any_default (x ∷ xs) (suc i) d e l = any_default xs i d e (omega arith)
+
 abbrev in_order : ℕ → Bool
 in_order k = list_all (λ s. not (touches (slot_at k) s)) (take k slots) && needs (slot_at k) k
 
@@ -45,9 +52,22 @@ abbrev all_below : (ℕ → Bool) → ℕ → Bool
 all_below p zero = true
 all_below p (suc n) = p n && all_below p n
 
+and_true : (a b : Bool) → (a && b) ≡ true → (a ≡ true) × (b ≡ true)
+and_true true b h = (refl, h)
+and_true false b h = cc
+
+not_true : (a : Bool) → not a ≡ true → a ≡ false
+not_true true h = cc
+not_true false h = refl
+
 all_below_at : (p : ℕ → Bool) (n k : ℕ) → all_below p n ≡ true → k < n → p k ≡ true
 all_below_at p zero k h l = absurd (omega arith)
-all_below_at p (suc n) k h l = ?
+all_below_at p (suc n) k h l =
+    let parts = and_true (p n) (all_below p n) h in
+    elim (cases_lt k n) [
+      inl m ↦ all_below_at p n k parts.1 m
+    | inr m ↦ let e : n ≡ k = omega arith in subst (λ i. p i ≡ true) e parts.0
+    ]
 
 ordered : all_below in_order 36 ≡ true
 ordered = refl
@@ -128,7 +148,11 @@ stays_form Right t f g p h = subst IsForm (sym p.1) (record { name = h.name; inp
 
 kept_all : (slot : Slot) (t : List ℕ) (f g : Form) → Puts slot t f g → (xs : List Slot) → list_all (λ s. not (touches slot s)) xs ≡ true → map (slot_token g) xs ≡ map (slot_token f) xs
 kept_all slot t f g p [] h = refl
-kept_all slot t f g p (s ∷ xs) h = ?
+kept_all slot t f g p (s ∷ xs) h =
+    let parts = and_true (not (touches slot s)) (list_all (λ x. not (touches slot x)) xs) h in
+    let first = kept slot t f g p s (not_true (touches slot s) parts.0) in
+    let others = kept_all slot t f g p xs parts.1 in
+    cc
 
 form_tokens_are : (f : Form) → form_tokens f ≡ map (slot_token f) slots
 unfolding form_tokens
@@ -141,7 +165,7 @@ pub token_at_place : (f : Form) (k : ℕ) → k < 36 → get_or (form_tokens f) 
 token_at_place f k l = ap (λ ts. get_or ts k []) (form_tokens_are f) ∙ get_or-map (slot_token f) slots k Name [] l
 
 in_order_at : (k : ℕ) → k < 36 → (list_all (λ s. not (touches (slot_at k) s)) (take k slots) ≡ true) × (needs (slot_at k) k ≡ true)
-in_order_at k l = let h = all_below_at in_order 36 k ordered l in ?
+in_order_at k l = and_true _ _ (all_below_at in_order 36 k ordered l)
 
 -- what stands before a place stays as it was
 pub before_kept : (k : ℕ) (t : List ℕ) (f g : Form) → k < 36 → Puts (slot_at k) t f g → take k (form_tokens g) ≡ take k (form_tokens f)
@@ -177,7 +201,7 @@ same_before : (k i : ℕ) (f g : Form) → i < k → take k (form_tokens g) ≡ 
 same_before k i f g l e = sym (get_or-take k (form_tokens g) i [] l) ∙ ap (λ ts. get_or ts i []) e ∙ get_or-take k (form_tokens f) i [] l
 
 needed : (k i : ℕ) (slot : Slot) → needs slot k ≡ true → (needs slot k ≡ ltb i k) → i < k
-needed k i slot h e = ?
+needed k i slot h e = let t : ltb i k ≡ true = sym e ∙ h in grind (arith, nat_tests)
 
 pub known_before : (k : ℕ) (f g : Form) → k < 36 → take k (form_tokens g) ≡ take k (form_tokens f) → Known (slot_at k) f g
 unfolding form_tokens

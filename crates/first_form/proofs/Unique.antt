@@ -1,9 +1,12 @@
 -- A text spells at most one form, and departs at one place at most, and never both.
-use Rattle.std.proofs.Common.{get_or, ◌≤◌, ◌≡◌, ◌≢◌, ℕ, ◌+◌, ◌<◌, ◌^◌, zero, List, [], ◌∷◌, ◌++◌, length, take, drop, ◌⊎◌, inl, inr, refl, ap, sym, append_assoc, ◌∙◌, subst, arith, rules, true, false}
+use Rattle.std.proofs.Common.{get_or, ◌≤◌, ◌≡◌, ◌≢◌, ℕ, ◌+◌, ◌<◌, ◌^◌, zero, suc, List, [], ◌∷◌, ◌++◌, length, take, drop, ◌⊎◌, inl, inr, refl, ap, sym, append_assoc, ◌∙◌, subst, arith, rules, true, false}
 use Rattle.std.proofs.lemmas.Fmt.{decimal_injective, decimal_by_steps}
 use Rattle.std.proofs.lemmas.Bool.Decides.{nat_tests}
 use Rattle.cal_model.specs.Form.{Form}
-use Rattle.first_form.specs.Lexis.{Lexes, IsGapAt, IsTokenAt, gap_length, token_length, symbol_length, is_name, is_letter}
+use Rattle.first_form.specs.Lexis.{Lexes, IsGapAt, IsTokenAt, gap_length, token_length, symbol_length, is_name, is_letter, is_name_part}
+use Rattle.std.specs.List.{list_all}
+use Rattle.std.specs.Str.{IsUtf8}
+use Rattle.std.proofs.lemmas.Str.{IsUtf8-from_ascii}
 use Rattle.first_form.specs.Lexis.Lexes.{here, gap, token}
 use Rattle.first_form.specs.Spelling.{Spells, DepartsAt, Begins, IsForm, IsOperand, form_tokens, operand_token, operator_token}
 use Rattle.cal_model.specs.declared.ast.Operand.{Operand}
@@ -39,10 +42,10 @@ goes clear here = nothing refl refl
 goes clear (gap g d) = absurd (omega (arith, g.some, clear))
 goes clear (token {t = t} {tokens = us} h d) = first t us refl h
 
-append_nil : (ts : List (List ℕ)) → ts ++ [] ≡ ts
+pub append_nil : (ts : List (List ℕ)) → ts ++ [] ≡ ts
 append_nil ts = search rules
 
-regroup : (ts : List (List ℕ)) (t : List ℕ) (us : List (List ℕ)) → ts ++ (t ∷ us) ≡ (ts ++ t ∷ []) ++ us
+pub regroup : (ts : List (List ℕ)) (t : List ℕ) (us : List (List ℕ)) → ts ++ (t ∷ us) ≡ (ts ++ t ∷ []) ++ us
 regroup ts t us = sym (append_assoc ts (t ∷ []) us)
 
 shift : (ts : List (List ℕ)) (t : List ℕ) (us more : List (List ℕ)) → (ts ++ (t ∷ us)) ++ more ≡ (ts ++ t ∷ []) ++ (us ++ more)
@@ -157,3 +160,16 @@ one_form text f g s t =
     let op = one_operator f.sum.op g.sum.op p.op in
     let sum : f.sum ≡ g.sum = λ i. record { left = left i; op = op i; right = right i } in
     λ i. record { name = p.name i; input = p.input i; output = p.output i; variable = p.variable i; sum = sum i }
+
+-- a name is text
+name_part_is_ascii : (b : ℕ) → is_name_part b ≡ true → b < 128
+name_part_is_ascii b h = grind (arith, nat_tests)
+
+parts_are_ascii : (t : List ℕ) → list_all is_name_part t ≡ true → (i : ℕ) → get_or t i 0 < 128
+parts_are_ascii [] h i = omega arith
+parts_are_ascii (b ∷ t) h zero = name_part_is_ascii b (grind (arith, nat_tests))
+parts_are_ascii (b ∷ t) h (suc i) = parts_are_ascii t (grind (arith, nat_tests)) i
+
+pub name_is_text : (t : List ℕ) → is_name t ≡ true → IsUtf8 t
+unfolding is_name
+name_is_text t h = IsUtf8-from_ascii t (parts_are_ascii t (grind (arith, nat_tests)))

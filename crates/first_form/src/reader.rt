@@ -10,7 +10,7 @@ ghost use Rattle.first_form.specs.declared.fault.FormFault.TheVariants.{Departs}
 use crate::draft::{self, Draft};
 use crate::fault::FormFault;
 use crate::lexis;
-use crate::slot::SLOTS;
+use crate::slot::{SLOTS, slot_at};
 use cal_model::ast::{Actor, Binary};
 use std::alloc::{AllocError, Global};
 
@@ -37,11 +37,11 @@ fn read_draft(text: &[u8]) -> Result<Draft<'_>, usize>
 {
     let mut draft = draft::blank();
     let mut rest = lexis::skip_gaps(text);
-    for slot in SLOTS {
+    for index in 0..SLOTS.len() {
         let Some((token, behind)) = lexis::split_token(rest) else {
             return Err(text.len() - rest.len());
         };
-        let Some(next) = draft::put(draft, slot, token) else {
+        let Some(next) = draft::put(draft, slot_at(index), token) else {
             return Err(text.len() - rest.len());
         };
         draft = next;

@@ -1,7 +1,8 @@
 //! What stands at each place of an actor of the first form.
 
-ghost use Rattle.std.specs.Prelude.{◌≡◌};
-ghost use Rattle.first_form.specs.Slots.{fixed_token};
+ghost use Rattle.std.specs.Prelude.{◌≡◌, ◌<◌, length, slice_index_or};
+ghost use Rattle.first_form.specs.Slots.{fixed_token, slots};
+ghost use Rattle.first_form.specs.declared.slot.Slot.TheVariants.{Name};
 
 /// A token that is the same in every actor of the form.
 #[derive(Clone, Copy)]
@@ -104,3 +105,11 @@ pub(crate) const SLOTS: [Slot; 36] = [
     Slot::Fixed(Fixed::End),
     Slot::Fixed(Fixed::End),
 ];
+
+/// The place of the form at an index.
+pub(crate) fn slot_at(index: usize) -> Slot
+    requires { index < length slots }
+    ensures { result ≡ slice_index_or slots index Name }
+{
+    SLOTS[index]
+}
