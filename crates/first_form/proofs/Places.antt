@@ -65,8 +65,8 @@ all_below_at p zero k h l = absurd (omega arith)
 all_below_at p (suc n) k h l =
     let parts = and_true (p n) (all_below p n) h in
     elim (cases_lt k n) [
-      inl m ↦ all_below_at p n k parts.1 m
-    | inr m ↦ let e : n ≡ k = omega arith in subst (λ i. p i ≡ true) e parts.0
+      | inl m ↦ all_below_at p n k parts.1 m
+      | inr m ↦ let e : n ≡ k = omega arith in subst (λ i. p i ≡ true) e parts.0
     ]
 
 ordered : all_below in_order 36 ≡ true

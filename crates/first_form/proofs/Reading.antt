@@ -37,7 +37,7 @@ Reading-none text rest f h d n = record { is_form = h; lexes = d; no_gap = n }
 pub Reading-more : (text rest behind after t : List ℕ) (f g : Form) (k : ℕ) → Reading text f k rest → k < 36 → IsTokenAt rest t → Puts (slot_at k) t f g → behind ≡ drop (token_length rest) rest → Lexes behind [] after → gap_length after ≡ 0 → Reading text g (k + 1) after
 Reading-more text rest behind after t f g k r l h p e d n =
     let tokens : take (k + 1) (form_tokens g) ≡ take k (form_tokens f) ++ t ∷ [] =
-          take_more (form_tokens g) k [] (omega (arith, form_tokens-length g)) ∙ ap (λ ts. ts ++ get_or (form_tokens g) k [] ∷ []) (before_kept k t f g l p) ∙ ap (λ u. take k (form_tokens f) ++ u ∷ []) (put_there k t f g l p) in
+    take_more (form_tokens g) k [] (omega (arith, form_tokens-length g)) ∙ ap (λ ts. ts ++ get_or (form_tokens g) k [] ∷ []) (before_kept k t f g l p) ∙ ap (λ u. take k (form_tokens f) ++ u ∷ []) (put_there k t f g l p) in
     let more : Lexes text ((take k (form_tokens f) ++ t ∷ []) ++ []) after = Lexes-append (Lexes-push t r.lexes h) (subst (λ b. Lexes b [] after) e d) in
     record {
       is_form = stays_form (slot_at k) t f g p r.is_form;
@@ -88,9 +88,9 @@ no_place_departs text rest t f k r l h never = record {
   begins = begins f k r.is_form;
   no_gap = r.no_gap;
   no_token = λ u i b.
-    let same : u ≡ t = i.is ∙ sym h.is in
-    let p = put_of_begins f k t l (subst (λ v. Begins (take k (form_tokens f) ++ v ∷ [])) same b) in
-    never p.0 p.1;
+      let same : u ≡ t = i.is ∙ sym h.is in
+      let p = put_of_begins f k t l (subst (λ v. Begins (take k (form_tokens f) ++ v ∷ [])) same b) in
+      never p.0 p.1;
   no_end = λ e g i w. not_whole f g k l w;
 }
 

@@ -12,6 +12,8 @@ mod laws;
 mod lexis;
 mod reader;
 mod slot;
+#[cfg(test)]
+mod tests;
 
 pub use fault::FormFault;
 pub use laws::{never_both, one_form, one_place};
