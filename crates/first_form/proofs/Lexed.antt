@@ -1,5 +1,5 @@
 -- Lexing is determined: of two readings of a text, one goes on from the other.
-use Rattle.std.proofs.Common.{◌≡◌, ℕ, ◌<◌, List, [], ◌∷◌, ◌++◌, length, take, drop, ◌⊎◌, inl, inr, refl, ap, sym, ◌∙◌, subst, arith}
+use Rattle.std.proofs.Common.{◌≡◌, ℕ, List, [], ◌∷◌, ◌++◌, drop, ◌⊎◌, inl, inr, refl, sym, ◌∙◌, arith}
 use Rattle.first_form.specs.Lexis.{Lexes, IsGapAt, IsTokenAt, gap_length, token_length}
 use Rattle.first_form.specs.Lexis.Lexes.{here, gap, token}
 

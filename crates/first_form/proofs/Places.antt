@@ -1,5 +1,5 @@
 -- The places of the form: a token put at one changes no token before it.
-use Rattle.std.proofs.Common.{inl, inr, ◌≡◌, ℕ, zero, suc, ◌<◌, Bool, true, false, not, ◌&&◌, ltb, List, [], ◌∷◌, ◌++◌, length, take, drop, get_or, map, refl, ap, sym, subst, ◌∙◌, arith, cond}
+use Rattle.std.proofs.Common.{inl, inr, ◌≡◌, ℕ, zero, suc, ◌<◌, Bool, true, false, not, ◌&&◌, ltb, List, [], ◌∷◌, length, take, get_or, map, refl, ap, sym, subst, ◌∙◌, arith}
 use Rattle.std.specs.List.{list_all}
 use Rattle.std.proofs.lemmas.Bool.Decides.{nat_tests}
 use Rattle.std.proofs.lemmas.Bool.{cases_lt}
@@ -10,7 +10,7 @@ use Rattle.cal_model.specs.declared.ast.Operator.{Operator}
 use Rattle.first_form.specs.declared.slot.Slot.{Slot}
 use Rattle.first_form.specs.declared.slot.Slot.TheVariants.{Fixed as at_fixed, Name, Input, Output, Variable, InputAgain, OutputAgain, Left, Operator as Operation, Right}
 use Rattle.first_form.specs.Lexis.{is_name}
-use Rattle.first_form.specs.Spelling.{IsForm, IsOperand, form_tokens, operand_token, operator_token}
+use Rattle.first_form.specs.Spelling.{IsForm, form_tokens, operand_token}
 use Rattle.first_form.specs.Slots.{slot_token, slots, Puts}
 
 -- whether what is put at the first place is read at the second

@@ -1,13 +1,13 @@
 -- The reader's loop: what is read so far, and where it can't go on.
-use Rattle.std.proofs.Common.{◌≡◌, ◌≢◌, ℕ, zero, suc, ◌+◌, ◌-◌, ◌<◌, ◌≤◌, List, [], ◌∷◌, ◌++◌, length, take, drop, get_or, refl, ap, sym, subst, ◌∙◌, append_assoc, length-append, length-drop, arith, rules}
+use Rattle.std.proofs.Common.{◌≡◌, ◌≢◌, ℕ, ◌+◌, ◌-◌, ◌<◌, ◌≤◌, List, [], ◌∷◌, ◌++◌, length, take, drop, get_or, refl, ap, sym, subst, ◌∙◌, append_assoc, length-append, length-drop, arith}
 use Rattle.std.proofs.lemmas.List.{take_more, take_all, take-append-drop, take-append-le, get_or-append-add, length-take}
 use Rattle.cal_model.specs.Form.{Form}
-use Rattle.first_form.specs.Lexis.{Lexes, IsGapAt, IsTokenAt, gap_length, token_length}
+use Rattle.first_form.specs.Lexis.{Lexes, IsTokenAt, gap_length, token_length}
 use Rattle.first_form.specs.Lexis.Lexes.{here, gap, token}
 use Rattle.first_form.specs.Spelling.{Spells, DepartsAt, Begins, IsForm, form_tokens}
-use Rattle.first_form.specs.Slots.{slot_token, slots, Puts}
+use Rattle.first_form.specs.Slots.{Puts}
 use Rattle.first_form.proofs.Lexed.{Lexes-push}
-use Rattle.first_form.proofs.Unique.{append_nil, regroup}
+use Rattle.first_form.proofs.Unique.{append_nil}
 use Rattle.first_form.proofs.Places.{slot_at, stays_form, before_kept, put_there, token_at_place, can_put, known_before}
 
 -- k tokens are read, and the parts that they tell

@@ -1,14 +1,14 @@
 -- A text spells at most one form, and departs at one place at most, and never both.
-use Rattle.std.proofs.Common.{get_or, ◌≤◌, ◌≡◌, ◌≢◌, ℕ, ◌+◌, ◌<◌, ◌^◌, zero, suc, List, [], ◌∷◌, ◌++◌, length, take, drop, ◌⊎◌, inl, inr, refl, ap, sym, append_assoc, ◌∙◌, subst, arith, rules, true, false}
+use Rattle.std.proofs.Common.{get_or, ◌≤◌, ◌≡◌, ℕ, ◌<◌, ◌^◌, zero, suc, List, [], ◌∷◌, ◌++◌, length, inl, inr, refl, ap, sym, append_assoc, ◌∙◌, arith, rules, true}
 use Rattle.std.proofs.lemmas.Fmt.{decimal_injective, decimal_by_steps}
 use Rattle.std.proofs.lemmas.Bool.Decides.{nat_tests}
 use Rattle.cal_model.specs.Form.{Form}
-use Rattle.first_form.specs.Lexis.{Lexes, IsGapAt, IsTokenAt, gap_length, token_length, symbol_length, is_name, is_letter, is_name_part}
+use Rattle.first_form.specs.Lexis.{Lexes, IsTokenAt, gap_length, token_length, symbol_length, is_name, is_letter, is_name_part}
 use Rattle.std.specs.List.{list_all}
 use Rattle.std.specs.Str.{IsUtf8}
 use Rattle.std.proofs.lemmas.Str.{IsUtf8-from_ascii}
 use Rattle.first_form.specs.Lexis.Lexes.{here, gap, token}
-use Rattle.first_form.specs.Spelling.{Spells, DepartsAt, Begins, IsForm, IsOperand, form_tokens, operand_token, operator_token}
+use Rattle.first_form.specs.Spelling.{Spells, DepartsAt, IsOperand, form_tokens, operand_token, operator_token}
 use Rattle.cal_model.specs.declared.ast.Operand.{Operand}
 use Rattle.cal_model.specs.declared.ast.Operand.TheVariants.{Token, Number}
 use Rattle.cal_model.specs.declared.ast.Operator.{Operator}

@@ -1,6 +1,6 @@
 -- The lexis of a source, as far as an actor of the first form needs it: blanks, comments, and the tokens
 -- that can stand in one.
-use Rattle.std.specs.Prelude.{◌≡◌, ℕ, ◌+◌, ◌<◌, ◌==◌, nat_eq, nat_le, Bool, true, false, not, ◌&&◌, ◌||◌, if◌then◌else◌, List, [], ◌∷◌, length, take, drop, codes, Option, None, Some, slice_index}
+use Rattle.std.specs.Prelude.{◌≡◌, ℕ, ◌+◌, ◌<◌, ◌==◌, nat_eq, nat_le, Bool, not, ◌&&◌, ◌||◌, if◌then◌else◌, List, [], ◌∷◌, take, drop, codes, Option, None, Some, slice_index}
 use Rattle.std.specs.Option.{option_map}
 use Rattle.std.specs.List.{prefix_len, starts_with, list_any, list_all}
 use Rattle.std.specs.Str.{bytes_eq}

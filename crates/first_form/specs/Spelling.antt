@@ -1,5 +1,5 @@
 -- What a text spells, and where one that spells nothing departs from the form.
-use Rattle.std.specs.Prelude.{◌≡◌, ℕ, ◌+◌, ◌^◌, ◌<◌, true, List, [], ◌∷◌, ◌++◌, length, codes, decimal, IsTrue}
+use Rattle.std.specs.Prelude.{◌≡◌, ℕ, ◌+◌, ◌^◌, ◌<◌, true, List, [], ◌∷◌, ◌++◌, length, codes, decimal}
 use Rattle.cal_model.specs.Form.{Form}
 use Rattle.cal_model.specs.declared.ast.Operand.{Operand}
 use Rattle.cal_model.specs.declared.ast.Operand.TheVariants.{Token, Number}

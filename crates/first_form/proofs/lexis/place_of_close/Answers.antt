@@ -1,4 +1,4 @@
-use Rattle.std.proofs.Common.{◌≡◌, ◌-◌, false, List, take, drop, length, codes, subst, sym, arith, rules}
+use Rattle.std.proofs.Common.{◌≡◌, ◌-◌, false, take, drop, length, codes, subst, sym, arith, rules}
 use Rattle.std.proofs.lemmas.Grind.{common_steps}
 use Rattle.first_form.specs.Lexis.{begins_with}
 use Rattle.first_form.proofs.Gaps.{Searched-more, Searched-found, Searched-all}

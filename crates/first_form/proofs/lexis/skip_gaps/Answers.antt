@@ -1,4 +1,4 @@
-use Rattle.std.proofs.Common.{◌≡◌, ℕ, List, [], drop, ap, sym, subst, ◌∙◌, arith}
+use Rattle.std.proofs.Common.{◌≡◌, [], drop, ap, sym, subst, ◌∙◌, arith}
 use Rattle.first_form.specs.Lexis.{Lexes, gap_length}
 use Rattle.first_form.specs.Lexis.Lexes.{here}
 use Rattle.first_form.proofs.Lexed.{Lexes-gap}

@@ -1,9 +1,8 @@
 use Rattle.std.proofs.lemmas.Bool.Decides.{nat_tests}
-use Rattle.std.proofs.Common.{◌∷◌, refl, true, false, eqb, ◌≡◌, ◌≢◌, ℕ, ◌<◌, ◌≤◌, List, [], length, drop, sym, ap, subst, ◌∙◌, arith, rules}
-use Rattle.first_form.specs.Lexis.{IsTokenAt, token_length}
+use Rattle.std.proofs.Common.{◌∷◌, refl, true, false, eqb, ◌≡◌, ◌≢◌, ℕ, List, [], length, sym, ap, subst, arith}
 use Rattle.cal_model.specs.Form.{Form}
 use Rattle.first_form.specs.Slots.{draft_form, Puts}
-use Rattle.first_form.proofs.Reading.{Reading, Reading-none, Reading-more, Lexes-shorter, no_token_departs, no_place_departs, all_read, more_departs}
+use Rattle.first_form.proofs.Reading.{Reading-none, Reading-more, Lexes-shorter, no_token_departs, no_place_departs, all_read, more_departs}
 use Rattle.first_form.proofs.reader.read_draft.Goals as goal
 
 empty_of_test : (xs : List ℕ) → eqb (length xs) 0 ≡ true → xs ≡ []
