@@ -1,13 +1,11 @@
 -- Budgets and ports by the facts that the code finds.
-use Rattle.std.proofs.Common.{◌⊎◌, inl, inr, leb, ◌≡◌, ◌≢◌, ℕ, ◌+◌, ◌<◌, ◌≤◌, ◌^◌, Bool, true, false, not, ◌||◌, ◌&&◌, cond, eqb, List, [], ◌∷◌, length, take, drop, Option, None, Some, Result, Ok, Err, refl, ap, sym, subst, ◌∙◌, arith, rules}
+use Rattle.std.proofs.Common.{◌⊎◌, inl, inr, leb, ◌≡◌, ◌≢◌, ℕ, ◌+◌, ◌<◌, ◌≤◌, ◌^◌, Bool, true, false, not, ◌||◌, ◌&&◌, cond, eqb, List, [], length, Option, None, Some, Result, Ok, Err, refl, ap, sym, ◌∙◌, arith, rules}
 use Rattle.std.specs.List.{before_first, after_first, position_or_len, list_all}
 use Rattle.std.specs.Str.Parse.{digits_value, ParsesUnsigned}
-use Rattle.std.specs.Result.{OkIff}
 use Rattle.std.proofs.lemmas.List.{drop_all}
 use Rattle.std.proofs.lemmas.Str.Parse.{IsNumeralModel, numerals_by_value, parse_digits}
 use Rattle.std.proofs.lemmas.Bool.Decides.{nat_tests}
-use Rattle.rvc_words.specs.declared.job.TheConstants.{MAX_BUDGET, MAX_BUDGET_DIGITS}
-use Rattle.rvc_words.specs.Words.{PortText, budget, port, is_digit, is_empty}
+use Rattle.rvc_words.specs.Words.{PortText, max_budget, max_budget_digits, budget, port, is_digit, is_empty}
 
 own : IsNumeralModel (λ ds. list_all is_digit ds ≡ true) (digits_value 10)
 own = numerals_by_value _ (search rules)
@@ -19,12 +17,12 @@ parsed_ok w n h d = let r : Result ℕ ℕ = Ok n in let p = parse_digits own 64
 pub parsed_err : (w : List ℕ) → ParsesUnsigned {E = ℕ} 64 10 w (Err 0) → list_all is_digit w ≡ true → 0 < length w → digits_value 10 w < 2 ^ 64 → ⊥
 parsed_err w h d some fits = let r : Result ℕ ℕ = Err 0 in let p = parse_digits own 64 w r h d in p (some, fits)
 
-pub budget_some : (w : List ℕ) (n : ℕ) → 0 < length w → length w ≤ MAX_BUDGET_DIGITS → list_all is_digit w ≡ true → n ≡ digits_value 10 w → n ≢ 0 → n ≤ MAX_BUDGET → Some n ≡ budget w
+pub budget_some : (w : List ℕ) (n : ℕ) → 0 < length w → length w ≤ max_budget_digits → list_all is_digit w ≡ true → n ≡ digits_value 10 w → n ≢ 0 → n ≤ max_budget → Some n ≡ budget w
 unfolding budget
 budget_some w n some short digits e low high = grind (arith, nat_tests)
 
 abbrev fits : List ℕ → Bool
-fits w = not (is_empty w) && leb (length w) MAX_BUDGET_DIGITS && list_all is_digit w && leb 1 (digits_value 10 w) && leb (digits_value 10 w) MAX_BUDGET
+fits w = not (is_empty w) && leb (length w) max_budget_digits && list_all is_digit w && leb 1 (digits_value 10 w) && leb (digits_value 10 w) max_budget
 
 either : (b : Bool) → (b ≡ false) ⊎ (b ≡ true)
 either true = inr refl
@@ -33,12 +31,12 @@ either false = inl refl
 cases : (w : List ℕ) → (fits w ≡ false) ⊎ (fits w ≡ true)
 cases w = either (fits w)
 
-pub budget_none : (w : List ℕ) → (0 < length w → length w ≤ MAX_BUDGET_DIGITS → list_all is_digit w ≡ true → digits_value 10 w ≢ 0 → digits_value 10 w ≤ MAX_BUDGET → ⊥) → None ≡ budget w
+pub budget_none : (w : List ℕ) → (0 < length w → length w ≤ max_budget_digits → list_all is_digit w ≡ true → digits_value 10 w ≢ 0 → digits_value 10 w ≤ max_budget → ⊥) → None ≡ budget w
 unfolding budget
 budget_none w never =
     elim (cases w) [
-      inl unfit ↦ ap (λ t. cond t (Some (digits_value 10 w)) None) (sym unfit)
-    | inr fit ↦ absurd (never (grind (arith, nat_tests)) (grind (arith, nat_tests)) (grind (arith, nat_tests)) (λ e. grind (arith, nat_tests)) (grind (arith, nat_tests)))
+      | inl unfit ↦ ap (λ t. cond t (Some (digits_value 10 w)) None) (sym unfit)
+      | inr fit ↦ absurd (never (grind (arith, nat_tests)) (grind (arith, nat_tests)) (grind (arith, nat_tests)) (λ e. grind (arith, nat_tests)) (grind (arith, nat_tests)))
     ]
 
 -- a port by its two sides

@@ -1,5 +1,4 @@
 -- The job while its texts are still the words'.
-use Rattle.std.specs.Prelude.{ℕ, List}
 use Rattle.rvc_words.specs.declared.reader.Given.{Given}
 use Rattle.rvc_words.specs.declared.reader.Port.{Port}
 use Rattle.rvc_words.specs.Words.{JobText, PortText}

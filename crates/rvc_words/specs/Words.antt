@@ -1,5 +1,5 @@
 -- What the words of the command line ask for.
-use Rattle.std.specs.Prelude.{◌≡◌, ℕ, ◌<◌, Bool, true, ◌&&◌, ◌||◌, not, nat_eq, nat_le, ◌==◌, if◌then◌else◌, List, [], ◌∷◌, map, length, codes, string_bytes, Option, None, Some, option_and_then}
+use Rattle.std.specs.Prelude.{ℕ, Bool, ◌&&◌, ◌||◌, not, nat_le, ◌==◌, if◌then◌else◌, List, [], ◌∷◌, map, length, codes, string_bytes, Option, None, Some, option_and_then}
 use Rattle.std.specs.List.{before_first, after_first, list_all}
 use Rattle.std.specs.Str.{bytes_eq}
 use Rattle.std.specs.Str.Parse.{digits_value}
@@ -7,7 +7,18 @@ use Rattle.std.specs.declared.alloc.Global.{Global}
 use Rattle.std.specs.declared.string.String.{String}
 use Rattle.rvc_words.specs.declared.job.Job.{Job}
 use Rattle.rvc_words.specs.declared.job.PortWord.{PortWord}
-use Rattle.rvc_words.specs.declared.job.TheConstants.{DEFAULT_BUDGET, MAX_BUDGET, MAX_BUDGET_DIGITS}
+
+-- the budget where the words name none, in firings
+abbrev pub default_budget : ℕ
+default_budget = 100000000
+
+-- the greatest budget
+abbrev pub max_budget : ℕ
+max_budget = 1000000000000
+
+-- the most digits of a budget
+abbrev pub max_budget_digits : ℕ
+max_budget_digits = 20
 
 -- a port and the file that it is read from or written to
 pub record PortText : Type 0 where
@@ -35,11 +46,11 @@ port word =
 abbrev pub is_digit : ℕ → Bool
 is_digit b = nat_le 48 b && nat_le b 57
 
--- a budget: 1 to MAX_BUDGET_DIGITS decimal digits, and a number from 1 to MAX_BUDGET
+-- a budget: 1 to max_budget_digits decimal digits, and a number from 1 to max_budget
 unfoldable pub budget : List ℕ → Option ℕ
 budget word =
     let number = digits_value 10 word in
-    if not (is_empty word) && nat_le (length word) MAX_BUDGET_DIGITS && list_all is_digit word && nat_le 1 number && nat_le number MAX_BUDGET
+    if not (is_empty word) && nat_le (length word) max_budget_digits && list_all is_digit word && nat_le 1 number && nat_le number max_budget
     then Some number else None
 
 infixl 10 ◌>>=◌
@@ -63,7 +74,7 @@ run_job verb top in_word out_word option trace limit =
 -- what the words ask for: the program's name, `run`, TOP, two ports, `--trace` FILE and perhaps `--budget` and a
 -- number, in this order and no other
 abbrev pub job : List (List ℕ) → Option JobText
-job (program ∷ verb ∷ top ∷ in_word ∷ out_word ∷ option ∷ trace ∷ []) = run_job verb top in_word out_word option trace (Some DEFAULT_BUDGET)
+job (program ∷ verb ∷ top ∷ in_word ∷ out_word ∷ option ∷ trace ∷ []) = run_job verb top in_word out_word option trace (Some default_budget)
 job (program ∷ verb ∷ top ∷ in_word ∷ out_word ∷ option ∷ trace ∷ limit_option ∷ limit ∷ []) =
     if bytes_eq limit_option (codes "--budget") then run_job verb top in_word out_word option trace (budget limit) else None
 job _ = None

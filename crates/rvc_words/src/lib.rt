@@ -4,7 +4,6 @@
 mod fault;
 mod job;
 mod reader;
-
 #[cfg(test)]
 mod tests;
 

@@ -59,7 +59,17 @@ fn read_given(words: &[String]) -> Option<Given<'_>>
             trace.as_str(),
             Some(DEFAULT_BUDGET),
         ),
-        [_, verb, top, input, output, option, trace, limit_option, limit] => {
+        [
+            _,
+            verb,
+            top,
+            input,
+            output,
+            option,
+            trace,
+            limit_option,
+            limit,
+        ] => {
             if limit_option.as_str() != "--budget" {
                 return None;
             }
@@ -127,7 +137,9 @@ fn cut_port(word: &str) -> Option<Port<'_>>
 fn is_digits(word: &str) -> bool
     ensures { result ≡ list_all is_digit word.now }
 {
-    word.as_bytes().iter().all(|byte| b'0' <= *byte && *byte <= b'9')
+    word.as_bytes()
+        .iter()
+        .all(|byte| b'0' <= *byte && *byte <= b'9')
 }
 
 /// The budget that a word names.

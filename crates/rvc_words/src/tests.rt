@@ -41,9 +41,15 @@ fn reads_a_command(rt: HostRuntime) -> Result<(), Fail> {
 
 #[test]
 fn reads_a_budget(rt: HostRuntime) -> Result<(), Fail> {
-    let least = job(&rt, "rvc run A.cal I=i O=o --trace t --budget 00000000000000000001")?;
+    let least = job(
+        &rt,
+        "rvc run A.cal I=i O=o --trace t --budget 00000000000000000001",
+    )?;
     assert_eq!(rt; least.budget, 1);
-    let greatest = job(&rt, "rvc run A.cal I=i O=o --trace t --budget 1000000000000")?;
+    let greatest = job(
+        &rt,
+        "rvc run A.cal I=i O=o --trace t --budget 1000000000000",
+    )?;
     assert_eq!(rt; greatest.budget, 1_000_000_000_000);
     Ok(())
 }
@@ -67,10 +73,25 @@ fn refuses_other_budgets(rt: HostRuntime) -> Result<(), Fail> {
     assert!(rt; is_usage(&rt, "rvc run A.cal I=i O=o --trace t --budget")?);
     assert!(rt; is_usage(&rt, "rvc run A.cal I=i O=o --trace t --budget ")?);
     assert!(rt; is_usage(&rt, "rvc run A.cal I=i O=o --trace t --budget 0")?);
-    assert!(rt; is_usage(&rt, "rvc run A.cal I=i O=o --trace t --budget 1000000000001")?);
+    assert!(rt;
+        is_usage(
+            &rt,
+            "rvc run A.cal I=i O=o --trace t --budget 1000000000001"
+        )?
+    );
     assert!(rt; is_usage(&rt, "rvc run A.cal I=i O=o --trace t --budget +1")?);
-    assert!(rt; is_usage(&rt, "rvc run A.cal I=i O=o --trace t --budget 000000000000000000001")?);
-    assert!(rt; is_usage(&rt, "rvc run A.cal I=i O=o --trace t --budget 99999999999999999999")?);
+    assert!(rt;
+        is_usage(
+            &rt,
+            "rvc run A.cal I=i O=o --trace t --budget 000000000000000000001"
+        )?
+    );
+    assert!(rt;
+        is_usage(
+            &rt,
+            "rvc run A.cal I=i O=o --trace t --budget 99999999999999999999"
+        )?
+    );
     Ok(())
 }
 

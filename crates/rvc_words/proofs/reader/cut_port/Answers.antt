@@ -1,4 +1,4 @@
-use Rattle.std.proofs.Common.{◌≡◌, None, Some, ap, ◌∙◌, arith}
+use Rattle.std.proofs.Common.{None, Some, ap, ◌∙◌, arith}
 use Rattle.std.specs.Option.{option_map}
 use Rattle.std.proofs.lemmas.Str.Pattern.{split_once_first}
 use Rattle.rvc_words.specs.Parts.{given_port}

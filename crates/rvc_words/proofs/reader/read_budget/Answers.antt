@@ -1,4 +1,4 @@
-use Rattle.std.proofs.Common.{◌≡◌, ◌≢◌, ℕ, sym, ◌∙◌, arith}
+use Rattle.std.proofs.Common.{sym, ◌∙◌, arith}
 use Rattle.std.proofs.lemmas.Bool.{false≢true}
 use Rattle.rvc_words.proofs.Words.{budget_some, budget_none, parsed_ok, parsed_err}
 use Rattle.rvc_words.proofs.reader.read_budget.Goals as goal
