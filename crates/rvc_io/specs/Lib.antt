@@ -3,3 +3,6 @@ pub mod Count
 pub mod Elsewhere
 pub mod Library
 pub mod Feeds
+pub mod Calls
+pub mod Files
+pub mod MemLibrary

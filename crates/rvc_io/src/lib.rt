@@ -4,15 +4,20 @@
 //! faults that never fall. The objects in memory tell all.
 #![tactic(auto)]
 
+mod calls;
 mod drains;
 mod feeds;
+mod files;
 mod gate;
 mod library;
+mod mem_library;
 
 pub use drains::Drains;
 pub use feeds::Feeds;
+pub use files::names_are_distinct;
 pub use gate::{Gate, OpenGate};
 pub use library::{Library, MAX_FILE_BYTES, ReadAnswer};
+pub use mem_library::MemLibrary;
 
 /// A read or a write that failed.
 #[derive(Clone, Copy, Debug, PartialEq, Eq)]
