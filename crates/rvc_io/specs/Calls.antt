@@ -1,5 +1,5 @@
 -- Which calls of an object in memory fail. Its calls are numbered from 1.
-use Rattle.std.specs.Prelude.{ℕ, ◌+◌, Bool, List, min, ◌==◌, if◌then◌else◌}
+use Rattle.std.specs.Prelude.{ℕ, ◌+◌, Bool, List, nat_lt, ◌==◌, if◌then◌else◌}
 use Rattle.std.specs.List.{list_any}
 use Rattle.rvc_io.specs.Count.{last_count}
 
@@ -11,7 +11,7 @@ pub record CallCount : Type 0 where
 
 -- a count after one more, which stands still at its last value
 abbrev pub one_more : ℕ → ℕ
-one_more n = min (n + 1) last_count
+one_more n = if nat_lt n last_count then n + 1 else n
 
 -- the number of the next call is among those that are to fail
 abbrev pub is_listed : CallCount → Bool

@@ -6,3 +6,4 @@ pub mod Feeds
 pub mod Calls
 pub mod Files
 pub mod MemLibrary
+pub mod MemFeeds

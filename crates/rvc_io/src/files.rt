@@ -15,6 +15,14 @@ pub(crate) fn place_of(files: &[(String, Vec<u8>)], name: &str) -> Option<usize>
     None
 }
 
+/// The bytes of the file at this place.
+pub(crate) fn bytes_at(files: &[(String, Vec<u8>)], place: usize) -> &[u8]
+    requires { place < length files.now }
+    ensures { result.now ≡ bytes_at (map named files.now) place }
+{
+    files[place].1.as_slice()
+}
+
 /// Whether no two of the files have one name.
 pub fn names_are_distinct(files: &[(String, Vec<u8>)]) -> bool
     ensures { result ≡ are_distinct (map named files.now) }

@@ -10,6 +10,7 @@ mod feeds;
 mod files;
 mod gate;
 mod library;
+mod mem_feeds;
 mod mem_library;
 
 pub use drains::Drains;
@@ -17,6 +18,7 @@ pub use feeds::Feeds;
 pub use files::names_are_distinct;
 pub use gate::{Gate, OpenGate};
 pub use library::{Library, MAX_FILE_BYTES, ReadAnswer};
+pub use mem_feeds::MemFeeds;
 pub use mem_library::MemLibrary;
 
 /// A read or a write that failed.

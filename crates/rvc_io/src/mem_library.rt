@@ -9,7 +9,7 @@ ghost use Rattle.rvc_io.specs.Files.{named, are_distinct};
 ghost use Rattle.rvc_io.specs.MemLibrary.{LibraryState, told, bytes_of};
 
 use crate::calls::Calls;
-use crate::files::place_of;
+use crate::files::{bytes_at, place_of};
 use crate::{Library, MAX_FILE_BYTES, ReadAnswer};
 use std::alloc::Global;
 use std::marker::Model;
@@ -60,8 +60,26 @@ impl Library for MemLibrary {
 
     fn read(&mut self, _alloc: Global, name: &str, out: &mut Vec<u8>) -> ReadAnswer
         requires { out.old.items ≡ [] }
-        ensures found { result ≡ ReadAnswer.Found → bytes_of self.old name.now ≡ Some out.new.items }
-        ensures failed { (result ≡ ReadAnswer.Failed) ↔ (is_listed self.old.calls ≡ true) }
+        ensures found { result ≡ ReadAnswer.Found → IsTold (told (bytes_of self.old name.now)) out.new.items }
+        ensures missing { result ≡ ReadAnswer.Missing → HasRisen self.old.misses self.new.misses × IsLacking (told (bytes_of self.old name.now)) }
+        ensures failed { result ≡ ReadAnswer.Failed → HasRisen self.old.calls.faults self.new.calls.faults }
+        ensures too_long { result ≡ ReadAnswer.TooLong → IsTooLong (told (bytes_of self.old name.now)) }
+        ensures nothing_else { result ≢ ReadAnswer.Found → out.new.items ≡ [] }
+        ensures same_files { (other : List ℕ) → told (bytes_of self.new other) ≡ told (bytes_of self.old other) }
+        ensures faults_stay { self.old.calls.faults ≤ self.new.calls.faults }
+        ensures misses_stay { self.old.misses ≤ self.new.misses }
+
+        // When each answer comes, want of memory apart.
+        ensures failed_exactly { (result ≡ ReadAnswer.Failed) ↔ (is_listed self.old.calls ≡ true) }
+        ensures missing_exactly { (result ≡ ReadAnswer.Missing) ↔ ((is_listed self.old.calls ≡ false) × (bytes_of self.old name.now ≡ None)) }
+        ensures too_long_exactly { (result ≡ ReadAnswer.TooLong) ↔ ((is_listed self.old.calls ≡ false) × IsSomeAnd (bytes_of self.old name.now) (λ bytes. max_file_bytes < length bytes)) }
+        ensures found_exactly { result ≡ ReadAnswer.Found → bytes_of self.old name.now ≡ Some out.new.items }
+
+        // What is counted, and what stays.
+        ensures calls { self.new.calls ≡ after_call (is_listed self.old.calls) self.old.calls }
+        ensures missed { result ≡ ReadAnswer.Missing → self.new.misses ≡ one_more self.old.misses }
+        ensures not_missed { result ≢ ReadAnswer.Missing → self.new.misses ≡ self.old.misses }
+        ensures files { self.new.files ≡ self.old.files }
     {
         let listed = self.calls.is_listed();
         self.calls.count(listed);
@@ -72,11 +90,11 @@ impl Library for MemLibrary {
             self.misses = self.misses.saturating_add(1);
             return ReadAnswer::Missing;
         };
-        let file = &self.files[place];
-        if file.1.len() > MAX_FILE_BYTES {
+        let bytes = bytes_at(&self.files, place);
+        if bytes.len() > MAX_FILE_BYTES {
             return ReadAnswer::TooLong;
         }
-        match out.extend_from_slice(&file.1) {
+        match out.extend_from_slice(bytes) {
             Ok(()) => ReadAnswer::Found,
             Err(_) => ReadAnswer::Memory,
         }
