@@ -7,3 +7,4 @@ pub mod Calls
 pub mod Files
 pub mod MemLibrary
 pub mod MemFeeds
+pub mod MemDrains

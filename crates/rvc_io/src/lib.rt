@@ -10,6 +10,7 @@ mod feeds;
 mod files;
 mod gate;
 mod library;
+mod mem_drains;
 mod mem_feeds;
 mod mem_library;
 
@@ -18,6 +19,7 @@ pub use feeds::Feeds;
 pub use files::names_are_distinct;
 pub use gate::{Gate, OpenGate};
 pub use library::{Library, MAX_FILE_BYTES, ReadAnswer};
+pub use mem_drains::MemDrains;
 pub use mem_feeds::MemFeeds;
 pub use mem_library::MemLibrary;
 
