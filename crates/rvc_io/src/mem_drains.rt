@@ -1,10 +1,10 @@
 //! Drains in memory.
 
-ghost use Rattle.std.specs.Prelude.{◌≡◌, ◌≤◌, ◌<◌, ◌++◌, ◌∷◌, ◌-◌, ℕ, List, [], Bool, IsTrue, true, false, Option, None, Some, IfOk, OnOk, OnErr, is_some, is_err, length, take, replicate, slice_set, unwrap_or, vec_capacity};
+ghost use Rattle.std.specs.Prelude.{◌≡◌, ◌≤◌, ◌<◌, ◌++◌, ◌∷◌, ◌-◌, ℕ, List, [], Bool, IsTrue, true, false, Option, None, Some, IfOk, OnOk, OnErr, is_some, is_err, if◌then◌else◌, length, take, replicate, slice_set, unwrap_or, vec_capacity};
 ghost use Rattle.rvc_io.specs.Count.{HasRisen};
 ghost use Rattle.rvc_io.specs.Elsewhere.{SameElsewhere};
 ghost use Rattle.rvc_io.specs.Calls.{CallCount, is_listed, after_call};
-ghost use Rattle.rvc_io.specs.MemDrains.{DrainsState, EachHasRoom, held_by_each, held_on, channel_is_open, bytes_held, opening_fails, put_fails, taken};
+ghost use Rattle.rvc_io.specs.MemDrains.{DrainsState, HasRoom, EachHasRoom, held_by, held_by_each, held_on, channel_is_open, bytes_held, opening_fails, put_fails, taken};
 
 use crate::calls::Calls;
 use crate::{Drains, Failed};
@@ -76,6 +76,30 @@ impl MemDrains {
         }
     }
 
+    /// Whether the next call fails where it is to open `channel`.
+    fn opening_fails(&self, channel: u32) -> bool
+        ensures { result ≡ opening_fails self.now channel }
+    {
+        self.calls.is_listed() || channel as usize >= self.channels.len()
+    }
+
+    /// Whether the next call fails where it is to put bytes on an open channel.
+    fn put_fails(&self, channel: u32) -> bool
+        ensures { result ≡ put_fails self.now channel }
+    {
+        self.calls.is_listed() || self.held(channel).len() >= self.room as usize
+    }
+
+    /// How many bytes a call takes of a piece of this length.
+    fn taken(&self, channel: u32, piece: usize) -> usize
+        requires { length (bytes_held self.now channel) < self.now.room }
+        ensures taken { result ≡ taken self.now piece (length (bytes_held self.now channel)) }
+        ensures some { 0 < piece → 0 < result }
+    {
+        let free = self.room as usize - self.held(channel).len();
+        piece.min(self.step as usize).min(free)
+    }
+
     /// Opens `channel`.
     fn set_open(&mut self, channel: u32)
         requires there { channel < length self.old.held }
@@ -103,6 +127,75 @@ impl MemDrains {
     }
 }
 
+impl Drains for MemDrains {
+    ghost tells = { λ _. true };
+
+    ghost held = { bytes_held };
+
+    ghost is_open = { channel_is_open };
+
+    ghost faults = { λ d. d.calls.faults };
+
+    fn open(&mut self, channel: u32, _name: &str) -> Result<(), Failed>
+        requires { channel_is_open self.old channel ≡ false }
+        ensures opened { OnOk result (channel_is_open self.new channel ≡ true) }
+        ensures empty { OnOk result (bytes_held self.new channel ≡ []) }
+        ensures failed { OnErr result (HasRisen self.old.calls.faults self.new.calls.faults) }
+        ensures failed_open { OnErr result (channel_is_open self.new channel ≡ channel_is_open self.old channel) }
+        ensures failed_held { OnErr result (bytes_held self.new channel ≡ bytes_held self.old channel) }
+        ensures same_held { SameElsewhere (bytes_held self.old) (bytes_held self.new) channel }
+        ensures same_open { SameElsewhere (channel_is_open self.old) (channel_is_open self.new) channel }
+        ensures faults_stay { self.old.calls.faults ≤ self.new.calls.faults }
+
+        // When it fails, and the whole change.
+        ensures fails { is_err result ≡ opening_fails self.old channel }
+        ensures held { OnOk result (self.new.held ≡ slice_set self.old.held channel (Some [])) }
+        ensures failed_all { OnErr result (self.new.held ≡ self.old.held) }
+        ensures calls { self.new.calls ≡ after_call (is_err result) self.old.calls }
+        ensures step { self.new.step ≡ self.old.step }
+        ensures room { self.new.room ≡ self.old.room }
+    {
+        let fails = self.opening_fails(channel);
+        self.calls.count(fails);
+        if fails {
+            return Err(Failed);
+        }
+        self.set_open(channel);
+        Ok(())
+    }
+
+    fn put(&mut self, channel: u32, piece: &[u8]) -> Result<usize, Failed>
+        requires open { channel_is_open self.old channel ≡ true }
+        requires some { 0 < length piece.now }
+        ensures least { IfOk result (λ n. 0 < n) }
+        ensures most { IfOk result (λ n. n ≤ length piece.now) }
+        ensures bytes { IfOk result (λ n. bytes_held self.new channel ≡ bytes_held self.old channel ++ take n piece.now) }
+        ensures failed { OnErr result (HasRisen self.old.calls.faults self.new.calls.faults) }
+        ensures failed_held { OnErr result (bytes_held self.new channel ≡ bytes_held self.old channel) }
+        ensures same_held { SameElsewhere (bytes_held self.old) (bytes_held self.new) channel }
+        ensures same_open { (other : ℕ) → channel_is_open self.new other ≡ channel_is_open self.old other }
+        ensures faults_stay { self.old.calls.faults ≤ self.new.calls.faults }
+
+        // When it fails, how many bytes it takes, and the whole change.
+        ensures fails { is_err result ≡ put_fails self.old channel }
+        ensures count { IfOk result (λ n. n ≡ taken self.old (length piece.now) (length (bytes_held self.old channel))) }
+        ensures held { IfOk result (λ n. self.new.held ≡ slice_set self.old.held channel (Some (bytes_held self.old channel ++ take n piece.now))) }
+        ensures failed_all { OnErr result (self.new.held ≡ self.old.held) }
+        ensures calls { self.new.calls ≡ after_call (is_err result) self.old.calls }
+        ensures step { self.new.step ≡ self.old.step }
+        ensures room { self.new.room ≡ self.old.room }
+    {
+        let fails = self.put_fails(channel);
+        self.calls.count(fails);
+        if fails {
+            return Err(Failed);
+        }
+        let count = self.taken(channel, piece.len());
+        self.append(channel, &piece[..count]);
+        Ok(count)
+    }
+}
+
 /// So many channels, each with memory for `room` bytes; the first is open.
 fn empty_channels(alloc: Global, channels: u32, room: u32) -> Result<Vec<Channel>, Memory>
     requires { 0 < channels }
@@ -110,12 +203,18 @@ fn empty_channels(alloc: Global, channels: u32, room: u32) -> Result<Vec<Channel
     ensures room { IfOk result (λ made. EachHasRoom room made.items) }
 {
     let mut made = Vec::with_capacity(alloc, channels as usize)?;
-    for number in 0..channels {
-        let bytes = Vec::with_capacity(alloc, room as usize)?;
-        made.push(Channel {
-            is_open: number == 0,
-            bytes,
-        })?;
+    made.push(empty_channel(alloc, room, true)?)?;
+    for _closed in 0..channels - 1 {
+        made.push(empty_channel(alloc, room, false)?)?;
     }
     Ok(made)
+}
+
+/// A channel with memory for `room` bytes that holds nothing.
+fn empty_channel(alloc: Global, room: u32, is_open: bool) -> Result<Channel, Memory>
+    ensures held { IfOk result (λ made. held_by made ≡ (if is_open then Some [] else None)) }
+    ensures room { IfOk result (λ made. HasRoom room made) }
+{
+    let bytes = Vec::with_capacity(alloc, room as usize)?;
+    Ok(Channel { is_open, bytes })
 }
