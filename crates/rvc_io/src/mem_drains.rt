@@ -121,7 +121,10 @@ impl MemDrains {
         ensures room { self.new.room ≡ self.old.room }
         ensures calls { self.new.calls ≡ self.old.calls }
     {
-        let Ok(()) = self.channels[channel as usize].bytes.extend_from_slice(piece) else {
+        let Ok(()) = self.channels[channel as usize]
+            .bytes
+            .extend_from_slice(piece)
+        else {
             unreachable!()
         };
     }

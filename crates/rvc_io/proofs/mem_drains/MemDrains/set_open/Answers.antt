@@ -1,4 +1,4 @@
-use Rattle.std.proofs.Common.{◌≡◌, ◌<◌, false, [], None, length, is_some, get_or, ap, arith}
+use Rattle.std.proofs.Common.{◌≡◌, ◌<◌, false, None, length, is_some, get_or, ap, arith}
 use Rattle.std.proofs.lemmas.List.{length-map}
 use Rattle.std.proofs.lemmas.List.Elements.{All-get_or}
 use Rattle.rvc_io.specs.MemDrains.{DrainsState, HasRoom, held_by, held_by_each}
