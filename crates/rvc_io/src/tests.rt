@@ -22,6 +22,11 @@ fn two_files(alloc: Global) -> Result<Vec<(String, Vec<u8>)>, AllocError> {
     Ok(files)
 }
 
+/// So many bytes.
+fn sevens(alloc: Global, count: usize) -> Result<Vec<u8>, AllocError> {
+    vec![in alloc; 7; count]
+}
+
 #[test]
 fn a_library_reads_by_name(rt: HostRuntime) -> Result<(), Fail> {
     let alloc = rt.alloc();
@@ -42,12 +47,9 @@ fn a_library_reads_by_name(rt: HostRuntime) -> Result<(), Fail> {
 #[test]
 fn a_long_file_is_refused(rt: HostRuntime) -> Result<(), Fail> {
     let alloc = rt.alloc();
-    let most = vec![in alloc; 7; 1_048_576]?;
-    let long = vec![in alloc; 7; 1_048_577]?;
-    let files = vec![in alloc;
-        (String::from_str(alloc, "most")?, most),
-        (String::from_str(alloc, "long")?, long),
-    ]?;
+    let mut files = Vec::new(alloc);
+    files.push((String::from_str(alloc, "most")?, sevens(alloc, 1_048_576)?))?;
+    files.push((String::from_str(alloc, "long")?, sevens(alloc, 1_048_577)?))?;
     assert!(rt; names_are_distinct(&files));
     let mut library = MemLibrary::new(files, Vec::new(alloc));
     let mut out = Vec::new(alloc);
