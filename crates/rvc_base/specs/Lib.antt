@@ -2,3 +2,5 @@ pub mod Width
 pub mod Trap
 pub mod Refusal
 pub mod Storing
+pub mod Picks
+pub mod Shares
