@@ -1,5 +1,6 @@
 pub mod Width
 pub mod Trap
+pub mod Behaviour
 pub mod Refusal
 pub mod Storing
 pub mod Picks

@@ -1,0 +1,3 @@
+pub mod Form
+pub mod Eval
+pub mod Meaning

@@ -1,0 +1,7 @@
+-- A fact stated of an error.
+use Rattle.std.specs.Prelude.{Result, Ok, Err, OnErr}
+
+-- what holds holds of an error too
+pub on_err : {T E : Type 0} (r : Result T E) (P : Type 0) → P → OnErr r P
+on_err (Ok x) P h = tt
+on_err (Err e) P h = h

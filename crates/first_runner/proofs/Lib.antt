@@ -1,0 +1,6 @@
+mod Errors
+mod Steps
+mod SoFar
+mod Outbox
+mod Inbox
+mod Firing

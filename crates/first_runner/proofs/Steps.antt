@@ -1,0 +1,152 @@
+-- The states of the network of one actor, by how many tokens arrived, were taken, and went out; and its steps.
+use Rattle.std.proofs.Common.{◌≡◌, ◌≢◌, ℕ, zero, suc, ◌+◌, ◌-◌, ◌<◌, ◌≤◌, min, Bool, true, false, cond, List, [], ◌∷◌, ◌++◌, length, take, drop, get_or, map, ℤ, pos, refl, sym, ap, subst, ◌∙◌, inl, inr, arith, length-append, length-drop, append-nil, add-zero, drop-cons}
+use Rattle.std.specs.Prelude.{Option, None, Some, slice_get}
+use Rattle.std.proofs.lemmas.List.{length-take-le, map-append, length-map, drop_all, take_all}
+use Rattle.std.proofs.lemmas.Bool.{false≢true}
+use Rattle.std.proofs.Math.Seq.{take-add}
+use Rattle.rvc_base.specs.Storing.{conv}
+use Rattle.rvc_base.specs.Behaviour.{Effect, Fires, TrapsInGuard, TrapsInBody, Choice, Waits, Picks}
+use Rattle.trace_text.specs.declared.line.Line.{Line}
+use Rattle.trace_text.specs.declared.line.Line.TheVariants.{Header, Inst, Fire, Deliver, Quiet, Trap, Stall, Budget}
+use Rattle.net_model.specs.State.{Flow, State, start_of, effect_at, choice_at, untaken}
+use Rattle.net_model.specs.Event.{happens}
+use Rattle.net_model.specs.Event as event
+use Rattle.net_model.specs.PortFile.{tokens}
+use Rattle.net_model.specs.Network.{Network}
+use Rattle.net_model.specs.Ends.{IsQuiet, IsSettled, IsStalled, IsBetween, LacksRoom, all_fed}
+use Rattle.net_model.specs.Trace.{goes, FitFlows}
+use Rattle.cal_model.specs.Form.{Form}
+use Rattle.cal_model.specs.Eval.{Out, Gives, Traps, eval}
+use Rattle.cal_model.specs.Meaning.{byte_type, SendsFor, effect, effect_of}
+use Rattle.first_runner.specs.Source.{network_of}
+use Rattle.cal_model.specs.declared.ast.Binary.{Binary}
+
+-- the tokens of the input
+abbrev pub toks : List ℕ → List ℤ
+toks input = map (conv byte_type) (tokens byte_type input)
+
+-- what goes out for a value: it is stored in the port's type, and then in the reader's
+abbrev pub outgoing : Out → ℤ
+outgoing (Gives z) = conv byte_type (conv byte_type z)
+outgoing (Traps c) = pos 0
+
+-- what went out once n tokens were taken
+abbrev pub results : Binary → List ℤ → ℕ → List ℤ
+results b ts n = map (λ v. outgoing (eval v b)) (take n ts)
+
+abbrev pub input_flow : List ℤ → ℕ → ℕ → Flow
+input_flow ts arrived fired = record { sent = ts; arrived = arrived; taken = fired }
+
+abbrev pub output_flow : List ℤ → ℕ → Flow
+output_flow sent out = record { sent = sent; arrived = out; taken = out }
+
+-- so many tokens have arrived, were taken, and went out of the network
+abbrev pub state_at : Binary → List ℤ → ℕ → ℕ → ℕ → State (Unit {0})
+state_at b ts arrived fired out = record {
+    actors = tt ∷ [];
+    flows = input_flow ts arrived fired ∷ output_flow (results b ts fired) out ∷ [];
+    trapped = false
+  }
+
+pub start_is : (f : Form) (input : List ℕ) → start_of (network_of f) (input ∷ []) ≡ state_at f.sum (toks input) 0 0 0
+start_is f input = refl
+
+-- what takes the next token leaves one list of results longer
+results-more : (b : Binary) (ts : List ℤ) (n : ℕ) (v : ℤ) (rest : List ℤ) → drop n ts ≡ v ∷ rest → results b ts (n + 1) ≡ results b ts n ++ outgoing (eval v b) ∷ []
+results-more b ts n v rest e =
+    ap (map (λ x. outgoing (eval x b))) (take-add n 1 ts ∙ ap (λ us. take n ts ++ take 1 us) e)
+    ∙ map-append (λ x. outgoing (eval x b)) (take n ts) (v ∷ [])
+
+-- one result a taken token
+pub results-length : (b : Binary) (ts : List ℤ) (n : ℕ) → n ≤ length ts → length (results b ts n) ≡ n
+results-length b ts n within = simp length-map (length-take-le n ts within)
+
+-- the state after a firing, in the terms of the definition
+abbrev fired_state : Binary → List ℤ → ℕ → ℕ → ℕ → List ℤ → ℕ → List ℤ → State (Unit {0})
+fired_state b ts arrived fired out nothing no_more sent = record {
+    actors = tt ∷ [];
+    flows = record { sent = ts ++ nothing; arrived = arrived; taken = fired + 1 }
+        ∷ record { sent = results b ts fired ++ sent; arrived = out; taken = out + no_more } ∷ [];
+    trapped = false
+  }
+
+pub effect-at : (f : Form) (ts : List ℤ) (arrived fired out : ℕ) (v : ℤ) (rest : List ℤ) → drop fired (take arrived ts) ≡ v ∷ rest → effect_at (network_of f) (state_at f.sum ts arrived fired out) 0 0 ≡ Some (effect_of (eval v f.sum))
+effect-at f ts arrived fired out v rest e = ap (λ us. effect f.sum (us ∷ []) 0) e
+
+-- a firing takes the next token and sends what it gives
+pub fire-step : (f : Form) (ts : List ℤ) (arrived fired out : ℕ) (v w : ℤ) (rest more : List ℤ) → drop fired (take arrived ts) ≡ v ∷ rest → drop fired ts ≡ v ∷ more → SendsFor f.sum v w → happens (network_of f) (state_at f.sum ts arrived fired out) (event.Fire 0 0) ≡ Some (state_at f.sum ts arrived (fired + 1) out)
+fire-step f ts arrived fired out v w rest more waits_there next sends =
+    ap (event.fire (network_of f) (state_at f.sum ts arrived fired out) 0 0)
+      (effect-at f ts arrived fired out v rest waits_there ∙ ap (λ o. Some (effect_of o)) sends.is_value)
+    ∙ same_state
+  where
+  value : ℤ
+  value = sends.value
+  same_state : Some (fired_state f.sum ts arrived fired out [] 0 (conv byte_type (conv byte_type sends.value) ∷ [])) ≡ Some (state_at f.sum ts arrived (fired + 1) out)
+  same_state = rw (append-nil {A = ℤ}, add-zero, results-more f.sum ts fired v more next, sends.is_value) refl
+
+-- a delivery fills the input link up to its capacity, and takes everything out that was sent
+pub deliver-step : (f : Form) (ts : List ℤ) (arrived fired out : ℕ) → out ≤ fired → fired ≤ length ts → goes (network_of f) (state_at f.sum ts arrived fired out) Deliver ≡ Some (state_at f.sum ts (arrived + min (512 - (arrived - fired)) (length ts - arrived)) fired fired)
+deliver-step f ts arrived fired out behind within =
+    let sent : length (results f.sum ts fired) ≡ fired = results-length f.sum ts fired within in
+    let all_out : out + (length (results f.sum ts fired) - out) ≡ fired = omega arith in
+    ap (λ n. Some (record {
+        actors = tt ∷ [];
+        flows = input_flow ts (arrived + min (512 - (arrived - fired)) (length ts - arrived)) fired
+            ∷ output_flow (results f.sum ts fired) n ∷ [];
+        trapped = false
+      })) all_out
+
+-- everything that was sent has come out
+settled-at : (f : Form) (ts : List ℤ) (arrived fired : ℕ) → fired ≤ length ts → IsSettled (network_of f) (state_at f.sum ts arrived fired fired)
+settled-at f ts arrived fired within = record {
+    untrapped = refl;
+    arrived = ((λ e. absurd (false≢true (sym e))), ((λ e. sym (results-length f.sum ts fired within)), tt))
+  }
+
+-- nothing is left: the run is quiet
+pub quiet-at : (f : Form) (ts : List ℤ) (arrived fired : ℕ) → fired ≡ length ts → IsQuiet (network_of f) (state_at f.sum ts arrived fired fired)
+quiet-at f ts arrived fired all_taken = record {
+    settled = settled-at f ts arrived fired (omega arith);
+    nothing = nothing
+  }
+  where
+  left : drop fired (take (length ts) ts) ≡ []
+  left = ap (drop fired) (take_all (length ts) ts (omega arith)) ∙ drop_all fired ts (omega arith)
+  nothing : (i a : ℕ) → effect_at (network_of f) (all_fed (network_of f) (state_at f.sum ts arrived fired fired)) i a ≡ None
+  nothing zero zero = ap (λ us. effect f.sum (us ∷ []) 0) left
+  nothing zero (suc a) = ap (λ us. effect f.sum (us ∷ []) (suc a)) left
+  nothing (suc i) a = refl
+
+-- what waits where the rest of the feed counts as arrived
+left-of : (ts : List ℤ) (fired : ℕ) (v : ℤ) (more : List ℤ) → drop fired ts ≡ v ∷ more → drop fired (take (length ts) ts) ≡ v ∷ more
+left-of ts fired v more next = ap (drop fired) (take_all (length ts) ts (omega arith)) ∙ next
+
+some≢none : {A : Type 0} (x : A) (o : Option A) → o ≡ Some x → o ≡ None → ⊥
+some≢none x o is_some is_none = cc
+
+-- no action lacks room where everything has come out
+room-at : (f : Form) (ts : List ℤ) (arrived fired i a l : ℕ) → LacksRoom (network_of f) (all_fed (network_of f) (state_at f.sum ts arrived fired fired)) i a l → ⊥
+room-at f ts arrived fired i a zero lacks = lacks
+room-at f ts arrived fired zero zero (suc zero) lacks = absurd (omega (arith, lacks.1))
+room-at f ts arrived fired zero (suc a) (suc zero) lacks = absurd (omega (arith, lacks.1))
+room-at f ts arrived fired (suc i) a (suc zero) lacks = absurd (omega (arith, lacks.0))
+room-at f ts arrived fired i a (suc (suc l)) lacks = lacks
+
+-- a token is left: the run is neither quiet nor stalled
+pub between-at : (f : Form) (ts : List ℤ) (arrived fired : ℕ) (v : ℤ) (more : List ℤ) → drop fired ts ≡ v ∷ more → fired ≤ length ts → IsBetween (network_of f) (state_at f.sum ts arrived fired fired)
+between-at f ts arrived fired v more next within = record {
+    settled = settled-at f ts arrived fired within;
+    not_quiet = λ quiet. some≢none (effect_of (eval v f.sum)) _ effect_there (quiet.nothing 0 0);
+    not_stalled = λ i a l stalled. room-at f ts arrived fired i a l stalled.lacks
+  }
+  where
+  effect_there : effect_at (network_of f) (all_fed (network_of f) (state_at f.sum ts arrived fired fired)) 0 0 ≡ Some (effect_of (eval v f.sum))
+  effect_there = ap (λ us. effect f.sum (us ∷ []) 0) (left-of ts fired v more next)
+
+-- since the delivery before it a firing leaves the output within its capacity
+pub fits-at : (f : Form) (ts : List ℤ) (arrived_then fired_then arrived fired out : ℕ) → fired_then ≤ fired → fired ≤ fired_then + 512 → fired ≤ length ts → FitFlows (network_of f).links (state_at f.sum ts arrived_then fired_then fired_then).flows (state_at f.sum ts arrived fired out).flows
+fits-at f ts arrived_then fired_then arrived fired out later few within =
+    let now : length (results f.sum ts fired) ≡ fired = results-length f.sum ts fired within in
+    let then_ : length (results f.sum ts fired_then) ≡ fired_then = results-length f.sum ts fired_then (omega arith) in
+    ((λ e. absurd (false≢true (sym e))), ((λ e. omega arith), tt))

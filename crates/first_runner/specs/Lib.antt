@@ -1,0 +1,4 @@
+pub mod Source
+pub mod Filling
+pub mod Burst
+pub mod Ran
