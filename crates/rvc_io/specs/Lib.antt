@@ -3,3 +3,8 @@ pub mod Count
 pub mod Elsewhere
 pub mod Library
 pub mod Feeds
+pub mod Calls
+pub mod Files
+pub mod MemLibrary
+pub mod MemFeeds
+pub mod MemDrains

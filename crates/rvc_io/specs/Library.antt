@@ -1,5 +1,5 @@
 -- When a file is too long.
-use Rattle.std.specs.Prelude.{ℕ, ◌<◌, List, length}
+use Rattle.std.specs.Prelude.{ℕ, ◌<◌, length}
 use Rattle.rvc_io.specs.Told.{Told, Untold, Lacking, Holding}
 
 -- the most bytes of a file

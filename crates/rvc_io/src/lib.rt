@@ -4,15 +4,26 @@
 //! faults that never fall. The objects in memory tell all.
 #![tactic(auto)]
 
+mod calls;
 mod drains;
 mod feeds;
+mod files;
 mod gate;
 mod library;
+mod mem_drains;
+mod mem_feeds;
+mod mem_library;
+#[cfg(test)]
+mod tests;
 
 pub use drains::Drains;
 pub use feeds::Feeds;
+pub use files::names_are_distinct;
 pub use gate::{Gate, OpenGate};
 pub use library::{Library, MAX_FILE_BYTES, ReadAnswer};
+pub use mem_drains::MemDrains;
+pub use mem_feeds::MemFeeds;
+pub use mem_library::MemLibrary;
 
 /// A read or a write that failed.
 #[derive(Clone, Copy, Debug, PartialEq, Eq)]

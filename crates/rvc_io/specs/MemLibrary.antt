@@ -1,0 +1,20 @@
+-- A library in memory.
+use Rattle.std.specs.Prelude.{ℕ, List, Option, None, Some}
+use Rattle.rvc_io.specs.Told.{Told, Lacking, Holding}
+use Rattle.rvc_io.specs.Calls.{CallCount}
+use Rattle.rvc_io.specs.Files.{File, under}
+
+-- its files, its calls, and how many names were found missing
+pub record LibraryState : Type 0 where
+  pub files : List File
+  pub calls : CallCount
+  pub misses : ℕ
+
+-- what is told where all is told
+abbrev pub told : Option (List ℕ) → Told
+told None = Lacking
+told (Some bytes) = Holding bytes
+
+-- the bytes under a name, where there is such a file
+abbrev pub bytes_of : LibraryState → List ℕ → Option (List ℕ)
+bytes_of l name = under l.files name
