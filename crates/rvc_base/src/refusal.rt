@@ -1,6 +1,6 @@
 //! Refusals: which rule a source or the words break, and where.
 
-ghost use Rattle.std.specs.Prelude.{◌≡◌, ◌/◌};
+ghost use Rattle.std.specs.Prelude.{◌≡◌, ◌/◌, ◌%◌};
 ghost use Rattle.rvc_base.specs.Refusal.{letter_of_group};
 
 use std::fmt;
@@ -19,6 +19,20 @@ impl Rule {
     pub const FILE_TOO_LONG: Rule = Rule(601);
     /// A class has no file.
     pub const NO_FILE: Rule = Rule(801);
+
+    /// The letter of the rule's group.
+    pub fn letter(self) -> &'static str
+        ensures { result.now ≡ letter_of_group (self.0 / 100) }
+    {
+        group_letter(self.0)
+    }
+
+    /// The rule's number in its group.
+    pub fn number(self) -> u16
+        ensures { result ≡ self.0 % 100 }
+    {
+        self.0 % 100
+    }
 }
 
 impl fmt::Display for Rule {

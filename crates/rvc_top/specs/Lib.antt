@@ -1,0 +1,5 @@
+pub mod Status
+pub mod Outside
+pub mod Report
+pub mod Refused
+pub mod Run

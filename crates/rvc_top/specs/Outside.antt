@@ -1,0 +1,19 @@
+-- What a report changes.
+use Rattle.std.specs.Prelude.{◌≡◌, ◌≤◌, ◌⊎◌, ℕ, Bool, true, List, ◌++◌}
+use Rattle.rvc_io.specs.Count.{HasRisen}
+use Rattle.rvc_top.specs.declared.status.Status.{Status}
+use Rattle.rvc_top.specs.declared.status.Status.TheVariants.{WriteFault}
+use Rattle.rvc_io.specs.Elsewhere.{SameElsewhere}
+
+-- nothing but what channel 0 holds
+pub record KeepsAll (tells_old tells : Bool) (held_old held : ℕ → List ℕ) (open_old open_now : ℕ → Bool) (faults_old faults : ℕ) : Type 0 where
+  pub same_telling : tells ≡ tells_old
+  pub same_held : tells_old ≡ true → SameElsewhere held_old held 0
+  pub same_open : (other : ℕ) → open_now other ≡ open_old other
+  pub faults_stay : faults_old ≤ faults
+
+-- the status was reported by this text, or the report couldn't be written
+abbrev pub Reported : Status → Status → Bool → ℕ → ℕ → (held_old held text : List ℕ) → Type 0
+Reported status result tells faults_old faults held_old held text =
+    ((result ≡ status) × (tells ≡ true → held ≡ held_old ++ text))
+    ⊎ ((result ≡ WriteFault 0) × HasRisen faults_old faults)

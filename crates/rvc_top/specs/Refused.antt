@@ -1,0 +1,45 @@
+-- What refuses a job: a rule is broken at its place.
+use Rattle.std.specs.Prelude.{◌≡◌, ◌≢◌, ℕ, ◌<◌, ◌⊎◌, List, [], ◌∷◌, ◌++◌, length, codes, true}
+use Rattle.rvc_io.specs.Told.{Told, Untold, Lacking, Holding, IsLacking}
+use Rattle.rvc_io.specs.Library.{max_file_bytes, IsTooLong}
+use Rattle.rvc_io.specs.Count.{HasRisen}
+use Rattle.rvc_base.specs.declared.refusal.Refusal.{Refusal}
+use Rattle.rvc_words.specs.Words.{JobText}
+use Rattle.first_form.specs.Lexis.{is_name}
+use Rattle.first_form.specs.Spelling.{Spells, DepartsAt}
+use Rattle.cal_model.specs.Form.{Form}
+
+-- the top is a name followed by `.cal`
+pub record IsTop (top : List ℕ) : Type 0 where
+  pub name : List ℕ
+  pub is_name_of : is_name name ≡ true
+  pub top_is : top ≡ name ++ codes ".cal"
+
+-- the words name the input port first and the output port second
+pub record NamesPorts (j : JobText) (f : Form) : Type 0 where
+  pub input : j.input.name ≡ f.input
+  pub output : j.output.name ≡ f.output
+
+-- The source departs from the form at the place, as far as it is told.
+abbrev pub DepartsThere : Told → ℕ → Type 0
+DepartsThere Untold at = Unit {0}
+DepartsThere Lacking at = ⊥
+DepartsThere (Holding source) at = DepartsAt source at
+
+-- The source is an actor whose ports the words don't name, as far as it is told.
+abbrev pub NamesOthers : JobText → Told → Type 0
+NamesOthers j Untold = Unit {0}
+NamesOthers j Lacking = ⊥
+NamesOthers j (Holding source) = (f : Form) × Spells source f × (NamesPorts j f → ⊥)
+
+-- A form that isn't built: the source's, from the first token or byte that departs; the words' else.
+pub data IsNotBuilt (j : JobText) (source : Told) : ℕ → ℕ → Type 0 where
+  top_no_name : (IsTop j.top → ⊥) → IsNotBuilt j source 0 0
+  source_departs : (at : ℕ) → DepartsThere source at → IsNotBuilt j source 1 at
+  other_ports : NamesOthers j source → IsNotBuilt j source 0 0
+
+-- the three refusals, by rule, file and offset
+pub data IsRefusal (j : JobText) (source : Told) (misses_old misses_new : ℕ) : Refusal → Type 0 where
+  not_built : (file offset : ℕ) → IsNotBuilt j source file offset → IsRefusal j source misses_old misses_new (record { rule = record { 0 = 1 }; place = record { file = file; offset = offset } })
+  no_file : HasRisen misses_old misses_new → IsLacking source → IsRefusal j source misses_old misses_new (record { rule = record { 0 = 801 }; place = record { file = 0; offset = 0 } })
+  too_long : IsTooLong source → IsRefusal j source misses_old misses_new (record { rule = record { 0 = 601 }; place = record { file = 1; offset = max_file_bytes } })

@@ -1,0 +1,33 @@
+-- The exit statuses.
+use Rattle.std.specs.Prelude.{ℕ}
+use Rattle.rvc_top.specs.declared.status.Status.{Status}
+use Rattle.rvc_top.specs.declared.status.Status.TheVariants.{Quiet, Usage, ReadFault, WriteFault, Refused, Budget, OutOfMemory}
+
+abbrev pub code_of : Status → ℕ
+code_of Quiet = 0
+code_of (Usage cause) = 1
+code_of (ReadFault place) = 2
+code_of (WriteFault channel) = 3
+code_of (Refused refusal) = 4
+code_of (Budget firings) = 7
+code_of OutOfMemory = 8
+
+-- the run hadn't begun, and no channel but that of the report was opened
+abbrev pub IsBeforeAll : Status → Type 0
+IsBeforeAll Quiet = ⊥
+IsBeforeAll (Usage cause) = Unit {0}
+IsBeforeAll (ReadFault place) = ⊥
+IsBeforeAll (WriteFault channel) = ⊥
+IsBeforeAll (Refused refusal) = Unit {0}
+IsBeforeAll (Budget firings) = ⊥
+IsBeforeAll OutOfMemory = Unit {0}
+
+-- what comes only of words that are a job
+abbrev pub IsOfJob : Status → Type 0
+IsOfJob Quiet = Unit {0}
+IsOfJob (Usage cause) = ⊥
+IsOfJob (ReadFault place) = Unit {0}
+IsOfJob (WriteFault channel) = Unit {0}
+IsOfJob (Refused refusal) = Unit {0}
+IsOfJob (Budget firings) = Unit {0}
+IsOfJob OutOfMemory = ⊥

@@ -1,0 +1,224 @@
+//! The report.
+
+ghost use Rattle.std.specs.Prelude.{◌≡◌, ◌≢◌, ◌≤◌, ◌+◌, ◌++◌, ◌⊎◌, ℕ, Bool, true, List, Option, Some, None, OnOk, OnErr, decimal, string_bytes, length};
+ghost use Rattle.rvc_io.specs.Count.{HasRisen};
+ghost use Rattle.rvc_io.specs.Elsewhere.{SameElsewhere};
+ghost use Rattle.rvc_words.specs.Words.{job_text};
+ghost use Rattle.rvc_top.specs.Report.{run_lines, counts_lines, input_line, output_line, last_line, refusal_line, file_name, usage_text, memory_text};
+ghost use Rattle.trace_text.specs.Text.{line_feed};
+ghost use Rattle.cal_model.specs.Form.{form_of};
+ghost use Rattle.rvc_top.specs.Outside.{KeepsAll, Reported};
+
+use cal_model::ast::Actor;
+use channel_writer::put_all;
+use first_runner::Counts;
+use itoa::Buffer;
+use rvc_base::Refusal;
+use rvc_io::{Drains, Failed};
+use rvc_words::{Job, UsageCause};
+
+use crate::status::{ReadAt, Status};
+
+/// The channel of the report.
+pub const REPORT_CHANNEL: u32 = 0;
+
+/// Puts a text behind the report so far.
+fn put<D: Drains>(text: &[u8], drains: &mut D) -> Result<(), Failed>
+    requires { D.is_open drains.old REPORT_CHANNEL ≡ true }
+    ensures reported { OnOk result (D.tells drains.old ≡ true → D.held drains.new REPORT_CHANNEL ≡ D.held drains.old REPORT_CHANNEL ++ text.now) }
+    ensures failed { OnErr result (HasRisen (D.faults drains.old) (D.faults drains.new)) }
+    ensures keeps { KeepsAll (D.tells drains.old) (D.tells drains.new) (D.held drains.old) (D.held drains.new) (D.is_open drains.old) (D.is_open drains.new) (D.faults drains.old) (D.faults drains.new) }
+{
+    put_all(drains, REPORT_CHANNEL, text)
+}
+
+/// Puts a number behind the report so far.
+fn put_number<D: Drains>(number: u64, drains: &mut D) -> Result<(), Failed>
+    requires { D.is_open drains.old REPORT_CHANNEL ≡ true }
+    ensures reported { OnOk result (D.tells drains.old ≡ true → D.held drains.new REPORT_CHANNEL ≡ D.held drains.old REPORT_CHANNEL ++ decimal number) }
+    ensures failed { OnErr result (HasRisen (D.faults drains.old) (D.faults drains.new)) }
+    ensures keeps { KeepsAll (D.tells drains.old) (D.tells drains.new) (D.held drains.old) (D.held drains.new) (D.is_open drains.old) (D.is_open drains.new) (D.faults drains.old) (D.faults drains.new) }
+{
+    let mut buffer = Buffer::new();
+    put(buffer.format(number).as_bytes(), drains)
+}
+
+/// Puts a text, a number and a text behind the report so far.
+fn put_numbered<D: Drains>(
+    before: &[u8],
+    number: u64,
+    after: &[u8],
+    drains: &mut D,
+) -> Result<(), Failed>
+    requires { D.is_open drains.old REPORT_CHANNEL ≡ true }
+    ensures reported { OnOk result (D.tells drains.old ≡ true → D.held drains.new REPORT_CHANNEL ≡ D.held drains.old REPORT_CHANNEL ++ (before.now ++ decimal number ++ after.now)) }
+    ensures failed { OnErr result (HasRisen (D.faults drains.old) (D.faults drains.new)) }
+    ensures keeps { KeepsAll (D.tells drains.old) (D.tells drains.new) (D.held drains.old) (D.held drains.new) (D.is_open drains.old) (D.is_open drains.new) (D.faults drains.old) (D.faults drains.new) }
+{
+    put(before, drains)?;
+    put_number(number, drains)?;
+    put(after, drains)
+}
+
+/// Puts the lines of a run, but for the last one.
+fn put_run_lines<D: Drains>(actor: &Actor, counts: &Counts, drains: &mut D) -> Result<(), Failed>
+    requires { D.is_open drains.old REPORT_CHANNEL ≡ true }
+    ensures reported { OnOk result (D.tells drains.old ≡ true → D.held drains.new REPORT_CHANNEL ≡ D.held drains.old REPORT_CHANNEL ++ run_lines (form_of actor.now) counts.now) }
+    ensures failed { OnErr result (HasRisen (D.faults drains.old) (D.faults drains.new)) }
+    ensures keeps { KeepsAll (D.tells drains.old) (D.tells drains.new) (D.held drains.old) (D.held drains.new) (D.is_open drains.old) (D.is_open drains.new) (D.faults drains.old) (D.faults drains.new) }
+{
+    put_counts(counts, drains)?;
+    put_input(actor, counts, drains)?;
+    put_output(actor, counts, drains)
+}
+
+fn put_counts<D: Drains>(counts: &Counts, drains: &mut D) -> Result<(), Failed>
+    requires { D.is_open drains.old REPORT_CHANNEL ≡ true }
+    ensures reported { OnOk result (D.tells drains.old ≡ true → D.held drains.new REPORT_CHANNEL ≡ D.held drains.old REPORT_CHANNEL ++ counts_lines counts.now) }
+    ensures failed { OnErr result (HasRisen (D.faults drains.old) (D.faults drains.new)) }
+    ensures keeps { KeepsAll (D.tells drains.old) (D.tells drains.new) (D.held drains.old) (D.held drains.new) (D.is_open drains.old) (D.is_open drains.new) (D.faults drains.old) (D.faults drains.new) }
+{
+    put_numbered(b"instances 1\nlinks 2\nfirings ", counts.firings, b"\n", drains)?;
+    put_numbered(b"rounds ", counts.rounds, b"\n", drains)
+}
+
+fn put_input<D: Drains>(actor: &Actor, counts: &Counts, drains: &mut D) -> Result<(), Failed>
+    requires { D.is_open drains.old REPORT_CHANNEL ≡ true }
+    ensures reported { OnOk result (D.tells drains.old ≡ true → D.held drains.new REPORT_CHANNEL ≡ D.held drains.old REPORT_CHANNEL ++ input_line (form_of actor.now) counts.now) }
+    ensures failed { OnErr result (HasRisen (D.faults drains.old) (D.faults drains.new)) }
+    ensures keeps { KeepsAll (D.tells drains.old) (D.tells drains.new) (D.held drains.old) (D.held drains.new) (D.is_open drains.old) (D.is_open drains.new) (D.faults drains.old) (D.faults drains.new) }
+{
+    put(b"in ", drains)?;
+    put(actor.input.as_bytes(), drains)?;
+    put_numbered(b" 0 tokens ", counts.arrived, b" rest 0\n", drains)
+}
+
+fn put_output<D: Drains>(actor: &Actor, counts: &Counts, drains: &mut D) -> Result<(), Failed>
+    requires { D.is_open drains.old REPORT_CHANNEL ≡ true }
+    ensures reported { OnOk result (D.tells drains.old ≡ true → D.held drains.new REPORT_CHANNEL ≡ D.held drains.old REPORT_CHANNEL ++ output_line (form_of actor.now) counts.now) }
+    ensures failed { OnErr result (HasRisen (D.faults drains.old) (D.faults drains.new)) }
+    ensures keeps { KeepsAll (D.tells drains.old) (D.tells drains.new) (D.held drains.old) (D.held drains.new) (D.is_open drains.old) (D.is_open drains.new) (D.faults drains.old) (D.faults drains.new) }
+{
+    put(b"out ", drains)?;
+    put(actor.output.as_bytes(), drains)?;
+    put_numbered(b" tokens ", counts.sent, b"\n", drains)
+}
+
+/// Puts a text, a name and the end of the line.
+fn put_named<D: Drains>(before: &[u8], name: &[u8], drains: &mut D) -> Result<(), Failed>
+    requires { D.is_open drains.old REPORT_CHANNEL ≡ true }
+    ensures reported { OnOk result (D.tells drains.old ≡ true → D.held drains.new REPORT_CHANNEL ≡ D.held drains.old REPORT_CHANNEL ++ (before.now ++ name.now ++ line_feed)) }
+    ensures failed { OnErr result (HasRisen (D.faults drains.old) (D.faults drains.new)) }
+    ensures keeps { KeepsAll (D.tells drains.old) (D.tells drains.new) (D.held drains.old) (D.held drains.new) (D.is_open drains.old) (D.is_open drains.new) (D.faults drains.old) (D.faults drains.new) }
+{
+    put(before, drains)?;
+    put(name, drains)?;
+    put(b"\n", drains)
+}
+
+fn put_refusal<D: Drains>(refusal: &Refusal, job: &Job, drains: &mut D) -> Result<(), Failed>
+    requires { D.is_open drains.old REPORT_CHANNEL ≡ true }
+    ensures reported { OnOk result (D.tells drains.old ≡ true → D.held drains.new REPORT_CHANNEL ≡ D.held drains.old REPORT_CHANNEL ++ refusal_line (job_text job.now) refusal.now) }
+    ensures failed { OnErr result (HasRisen (D.faults drains.old) (D.faults drains.new)) }
+    ensures keeps { KeepsAll (D.tells drains.old) (D.tells drains.new) (D.held drains.old) (D.held drains.new) (D.is_open drains.old) (D.is_open drains.new) (D.faults drains.old) (D.faults drains.new) }
+{
+    put(b"refused ", drains)?;
+    put(refusal.rule.letter().as_bytes(), drains)?;
+    put_numbered(b"", u64::from(refusal.rule.number()), b" ", drains)?;
+    put(file_name(job, refusal.place.file), drains)?;
+    put_numbered(b" ", u64::from(refusal.place.offset), b"\n", drains)
+}
+
+/// The name of a file, where file 0 is the command line.
+fn file_name(job: &Job, file: u32) -> &[u8]
+    ensures { result.now ≡ file_name (job_text job.now) file }
+{
+    if file == 0 {
+        b"words"
+    } else {
+        job.top.as_bytes()
+    }
+}
+
+/// Puts the last line of a job's report.
+fn put_last_line<D: Drains>(job: &Job, status: &Status, drains: &mut D) -> Result<(), Failed>
+    requires { D.is_open drains.old REPORT_CHANNEL ≡ true }
+    ensures reported { OnOk result (D.tells drains.old ≡ true → D.held drains.new REPORT_CHANNEL ≡ D.held drains.old REPORT_CHANNEL ++ last_line (job_text job.now) status.now) }
+    ensures failed { OnErr result (HasRisen (D.faults drains.old) (D.faults drains.new)) }
+    ensures keeps { KeepsAll (D.tells drains.old) (D.tells drains.new) (D.held drains.old) (D.held drains.new) (D.is_open drains.old) (D.is_open drains.new) (D.faults drains.old) (D.faults drains.new) }
+{
+    match status {
+        Status::Quiet => put(b"quiet\n", drains),
+        Status::Usage(_) => put(USAGE, drains),
+        Status::ReadFault(ReadAt::File(_)) => put_named(b"read fault ", job.top.as_bytes(), drains),
+        Status::ReadFault(ReadAt::Feed(_)) => {
+            put_named(b"read fault ", job.input.file.as_bytes(), drains)
+        }
+        Status::WriteFault { channel } => {
+            put_numbered(b"write fault ", u64::from(*channel), b"\n", drains)
+        }
+        Status::Refused(refusal) => put_refusal(refusal, job, drains),
+        Status::Budget { firings } => put_numbered(b"budget ", *firings, b"\n", drains),
+        Status::OutOfMemory => put(b"out of memory\n", drains),
+    }
+}
+
+/// What is reported of words that are no job.
+const USAGE: &[u8] = b"usage words\nrvc VERB TOP [PORT=FILE ..] [--trace FILE] [--workers N] [--round P] [--burst N] [--budget N]\n";
+
+/// Reports a status that isn't a run's: its last line alone.
+pub fn report<D: Drains>(status: Status, job: &Job, drains: &mut D) -> Status
+    requires { D.is_open drains.old REPORT_CHANNEL ≡ true }
+    ensures reported { Reported status result (D.tells drains.old) (D.faults drains.old) (D.faults drains.new) (D.held drains.old REPORT_CHANNEL) (D.held drains.new REPORT_CHANNEL) (last_line (job_text job.now) status) }
+    ensures keeps { KeepsAll (D.tells drains.old) (D.tells drains.new) (D.held drains.old) (D.held drains.new) (D.is_open drains.old) (D.is_open drains.new) (D.faults drains.old) (D.faults drains.new) }
+{
+    match put_last_line(job, &status, drains) {
+        Ok(()) => status,
+        Err(Failed) => Status::WriteFault { channel: REPORT_CHANNEL },
+    }
+}
+
+/// Reports a run that ended.
+pub fn report_run<D: Drains>(
+    status: Status,
+    job: &Job,
+    actor: &Actor,
+    counts: &Counts,
+    drains: &mut D,
+) -> Status
+    requires { D.is_open drains.old REPORT_CHANNEL ≡ true }
+    ensures reported { Reported status result (D.tells drains.old) (D.faults drains.old) (D.faults drains.new) (D.held drains.old REPORT_CHANNEL) (D.held drains.new REPORT_CHANNEL) (run_lines (form_of actor.now) counts.now ++ last_line (job_text job.now) status) }
+    ensures keeps { KeepsAll (D.tells drains.old) (D.tells drains.new) (D.held drains.old) (D.held drains.new) (D.is_open drains.old) (D.is_open drains.new) (D.faults drains.old) (D.faults drains.new) }
+{
+    let Ok(()) = put_run_lines(actor, counts, drains) else {
+        return Status::WriteFault { channel: REPORT_CHANNEL };
+    };
+    let Ok(()) = put_last_line(job, &status, drains) else {
+        return Status::WriteFault { channel: REPORT_CHANNEL };
+    };
+    status
+}
+
+/// Reports words that are no job.
+pub fn report_usage<D: Drains>(drains: &mut D) -> Status
+    requires { D.is_open drains.old REPORT_CHANNEL ≡ true }
+    ensures reported { Reported (Status.Usage UsageCause.Words) result (D.tells drains.old) (D.faults drains.old) (D.faults drains.new) (D.held drains.old REPORT_CHANNEL) (D.held drains.new REPORT_CHANNEL) usage_text }
+    ensures keeps { KeepsAll (D.tells drains.old) (D.tells drains.new) (D.held drains.old) (D.held drains.new) (D.is_open drains.old) (D.is_open drains.new) (D.faults drains.old) (D.faults drains.new) }
+{
+    match put(USAGE, drains) {
+        Ok(()) => Status::Usage(UsageCause::Words),
+        Err(Failed) => Status::WriteFault { channel: REPORT_CHANNEL },
+    }
+}
+
+/// Reports want of memory before the words were read.
+pub fn report_memory<D: Drains>(drains: &mut D) -> Status
+    requires { D.is_open drains.old REPORT_CHANNEL ≡ true }
+    ensures reported { Reported Status.OutOfMemory result (D.tells drains.old) (D.faults drains.old) (D.faults drains.new) (D.held drains.old REPORT_CHANNEL) (D.held drains.new REPORT_CHANNEL) memory_text }
+    ensures keeps { KeepsAll (D.tells drains.old) (D.tells drains.new) (D.held drains.old) (D.held drains.new) (D.is_open drains.old) (D.is_open drains.new) (D.faults drains.old) (D.faults drains.new) }
+{
+    match put(b"out of memory\n", drains) {
+        Ok(()) => Status::OutOfMemory,
+        Err(Failed) => Status::WriteFault { channel: REPORT_CHANNEL },
+    }
+}
