@@ -1,0 +1,7 @@
+//! The automaton of an actor's schedule: which actions are eligible in a state, and the state that follows.
+#![tactic(auto)]
+
+mod fsm;
+mod table;
+
+pub use fsm::{Fsm, FsmFault, Step, build};
