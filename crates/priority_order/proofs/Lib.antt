@@ -2,3 +2,4 @@ pub mod Cells
 pub mod Chains
 pub mod Widening
 pub mod ClosedTables
+pub mod Rings

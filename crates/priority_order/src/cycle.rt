@@ -1,6 +1,6 @@
 //! A cycle of declared pairs, where a number is above itself.
 
-ghost use Rattle.std.specs.Prelude.{◌≡◌, ◌≢◌, ◌<◌, ◌==◌, ℕ, length, slice_index, Contains, IfOk, AllPairs, position, nat_lt, take, drop, ◌++◌};
+ghost use Rattle.std.specs.Prelude.{◌≡◌, ◌≢◌, ◌<◌, ℕ, length, slice_index, Contains, IfOk, AllPairs, MatchOption, nat_lt, take, drop, ◌++◌};
 ghost use Rattle.std.specs.List.{IsFirstBest};
 ghost use Rattle.rvc_base.specs.Chain.{IsAbove};
 ghost use Rattle.priority_order.specs.Closed.{IsInRange, IsClosed};
@@ -17,8 +17,9 @@ pub(crate) fn cycle_from(alloc: Global, pairs: &[(u16, u16)], table: &[bool], n:
     requires on_cycle { IsAbove pairs.now start start }
     ensures { IfOk result (λ actions. IsCycle pairs.now actions.items) }
 {
-    let ring = ring_from(alloc, pairs, table, n, start)?;
-    least_first(alloc, &ring)
+    let mut ring = ring_from(alloc, pairs, table, n, start)?;
+    turn_least_first(&mut ring);
+    Ok(ring)
 }
 
 /// A ring of distinct numbers: walks along pairs that lead back until it comes to a number again.
@@ -33,17 +34,21 @@ fn ring_from(alloc: Global, pairs: &[(u16, u16)], table: &[bool], n: u16, start:
     let mut walk = Vec::new(alloc);
     let mut current = start;
     loop {
-        if let Some(first) = place_of(&walk, current) {
-            return Vec::from_slice(alloc, &walk[first..]);
+        match place_of(&walk, current) {
+            Some(first) => return Vec::from_slice(alloc, &walk[first..]),
+            None => {
+                walk.push(current)?;
+                current = next_on_cycle(pairs, table, n, current);
+            }
         }
-        walk.push(current)?;
-        current = next_on_cycle(pairs, table, n, current);
     }
 }
 
 /// Where a number stands in a list.
 fn place_of(numbers: &[u16], number: u16) -> Option<usize>
-    ensures { result ≡ position (λ x. x == number) numbers.now }
+    ensures { MatchOption result
+        ((k : ℕ) → k < length numbers.now → slice_index numbers.now k ≢ number)
+        (λ k. (k < length numbers.now) × (slice_index numbers.now k ≡ number)) }
 {
     numbers.iter().position(|x| *x == number)
 }
@@ -66,15 +71,13 @@ fn next_on_cycle(pairs: &[(u16, u16)], table: &[bool], n: u16, current: u16) -> 
     unreachable!()
 }
 
-/// The ring turned so that its least number stands first.
-fn least_first(alloc: Global, ring: &[u16]) -> Result<Vec<u16>, AllocError>
-    requires { 0 < length ring.now }
-    ensures turned { IfOk result (λ actions. (k : ℕ) × (IsFirstBest nat_lt ring.now (length ring.now) k) × (actions.items ≡ drop k ring.now ++ take k ring.now)) }
+/// Turns a ring so that its least number stands first.
+fn turn_least_first(ring: &mut [u16])
+    requires { 0 < length ring.old }
+    ensures turned { (k : ℕ) × IsFirstBest nat_lt ring.old (length ring.old) k × (ring.new ≡ drop k ring.old ++ take k ring.old) }
 {
     let least = place_of_least(ring);
-    let mut actions = Vec::from_slice(alloc, &ring[least..])?;
-    actions.extend_from_slice(&ring[..least])?;
-    Ok(actions)
+    ring.rotate_left(least);
 }
 
 /// Where the least number stands first.
