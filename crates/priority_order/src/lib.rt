@@ -6,6 +6,8 @@ mod closing;
 mod cycle;
 mod order;
 mod table;
+#[cfg(test)]
+mod tests;
 
 pub use closing::{OrderFault, close};
 pub use order::Order;

@@ -3,5 +3,7 @@
 
 mod fsm;
 mod table;
+#[cfg(test)]
+mod tests;
 
 pub use fsm::{Fsm, FsmFault, Step, build};
