@@ -46,5 +46,7 @@ marks_more pairs i n cells inside size row_in column_in so_far a b a_in b_in =
     let new = cell-set n cells pair.0 pair.1 a b size row_in column_in b_in in
     let more : take (i + 1) pairs ≡ take i pairs ++ pair ∷ [] = take_more pairs i (0, 0) inside in
     let last : (a ≡ pair.0) × (b ≡ pair.1) → pair ≡ (a, b) = λ both. rw (both.0, both.1) refl in
-    rw more (λ e. ⊎_elim (λ before. Contains-append_left (take i pairs) (pair ∷ []) (a, b) ((so_far a b a_in b_in).0 before)) (λ here. rw (← last here) (Contains-push (take i pairs) pair)) (new.0 e),
-      λ h. new.1 (⊎_elim (λ earlier. inl ((so_far a b a_in b_in).1 earlier)) (λ (here : pair ≡ (a, b)). inr (sym (ap (λ p. p.0) here), sym (ap (λ p. p.1) here))) (Contains-push_cases (take i pairs) pair (a, b) h)))
+    rw more (
+      λ e. ⊎_elim (λ before. Contains-append_left (take i pairs) (pair ∷ []) (a, b) ((so_far a b a_in b_in).0 before)) (λ here. rw (← last here) (Contains-push (take i pairs) pair)) (new.0 e),
+      λ h. new.1 (⊎_elim (λ earlier. inl ((so_far a b a_in b_in).1 earlier)) (λ (here : pair ≡ (a, b)). inr (sym (ap (λ p. p.0) here), sym (ap (λ p. p.1) here))) (Contains-push_cases (take i pairs) pair (a, b) h)),
+    )

@@ -1,5 +1,5 @@
 -- Chains of pairs, joined and split, and chains that pass only numbers below a bound.
-use Rattle.std.proofs.Common.{◌≡◌, ℕ, ◌+◌, ◌<◌, List, [], ◌∷◌, ◌++◌, ◌⊎◌, ⊎_elim, inl, inr, refl, sym, ap, ◌∙◌, subst, arith, Contains}
+use Rattle.std.proofs.Common.{◌≡◌, ℕ, ◌+◌, ◌<◌, List, [], ◌∷◌, ◌++◌, ◌⊎◌, ⊎_elim, inl, inr, subst, arith, Contains}
 use Rattle.std.specs.Prelude.{◌↔◌}
 use Rattle.std.proofs.lemmas.Bool.{cases_lt}
 use Rattle.std.proofs.lemmas.List.Elements.{All-contains}
@@ -49,10 +49,11 @@ below_split pairs bound a b (x ∷ xs) h =
     ⊎_elim passes (λ above. reaches (omega (arith, above, h.1))) (cases_lt x bound)
 
 pub above_by_more : (pairs : List (ℕ × ℕ)) (bound a b : ℕ) → IsAboveBy pairs (bound + 1) a b ↔ (IsAboveBy pairs bound a b ⊎ (IsAboveBy pairs bound a bound × IsAboveBy pairs bound bound b))
-above_by_more pairs bound a b =
-    (λ h. below_split pairs bound a b h.0 h.1,
-     λ h. ⊎_elim (λ by. (by.0, below_weaker pairs bound a b by.0 by.1))
-       (λ both. (both.0.0 ++ bound ∷ both.1.0, below_join pairs (bound + 1) a bound b both.0.0 both.1.0 (below_weaker pairs bound a bound both.0.0 both.0.1) (omega arith) (below_weaker pairs bound bound b both.1.0 both.1.1))) h)
+above_by_more pairs bound a b = (
+  λ h. below_split pairs bound a b h.0 h.1,
+  λ h. ⊎_elim (λ by. (by.0, below_weaker pairs bound a b by.0 by.1))
+      (λ both. (both.0.0 ++ bound ∷ both.1.0, below_join pairs (bound + 1) a bound b both.0.0 both.1.0 (below_weaker pairs bound a bound both.0.0 both.0.1) (omega arith) (below_weaker pairs bound bound b both.1.0 both.1.1))) h,
+)
 
 pub above_by_none : (pairs : List (ℕ × ℕ)) (a b : ℕ) → IsAboveBy pairs 0 a b ↔ Contains pairs (a, b)
 above_by_none pairs a b = (λ h. direct h.0 h.1, λ h. ([], h)) where

@@ -1,5 +1,5 @@
 -- The table holds the chains that pass only the first numbers.
-use Rattle.std.proofs.Common.{◌≡◌, ℕ, ◌+◌, ◌<◌, Bool, List, ◌⊎◌, ⊎_elim, inl, inr, Contains}
+use Rattle.std.proofs.Common.{ℕ, ◌+◌, ◌<◌, Bool, List, ◌⊎◌, ⊎_elim, inl, inr}
 use Rattle.std.specs.Prelude.{◌↔◌, IsTrue}
 use Rattle.rvc_base.specs.Chain.{IsAbove}
 use Rattle.priority_order.specs.Ranking.{cell}
@@ -22,9 +22,10 @@ closed_more pairs n bound cells new bound_in so_far next a b a_in b_in =
     let here = next a b a_in b_in in
     let whole = so_far a b a_in b_in in
     let front = so_far a bound a_in bound_in in
-    let back = so_far bound b bound_in b_in in
-    (λ e. more.1 (⊎_elim (λ was. inl (whole.0 was)) (λ both. inr (front.0 both.0, back.0 both.1)) (here.0 e)),
-     λ h. here.1 (⊎_elim (λ by. inl (whole.1 by)) (λ both. inr (front.1 both.0, back.1 both.1)) (more.0 h)))
+    let back = so_far bound b bound_in b_in in (
+      λ e. more.1 (⊎_elim (λ was. inl (whole.0 was)) (λ both. inr (front.0 both.0, back.0 both.1)) (here.0 e)),
+      λ h. here.1 (⊎_elim (λ by. inl (whole.1 by)) (λ both. inr (front.1 both.0, back.1 both.1)) (more.0 h)),
+    )
 
 pub closed_all : (pairs : List (ℕ × ℕ)) (n : ℕ) (cells : List Bool) → IsInRange pairs n → ClosedBelow pairs n n cells → (a b : ℕ) → a < n → b < n → IsTrue (cell n cells a b) ↔ IsAbove pairs a b
 closed_all pairs n cells in_range closed a b a_in b_in =

@@ -1,8 +1,8 @@
 -- Walks along pairs, and the rings that they close.
-use Rattle.std.proofs.Common.{◌≡◌, ◌≢◌, ℕ, suc, ◌+◌, ◌*◌, ◌<◌, ◌≤◌, Bool, true, false, List, [], ◌∷◌, ◌++◌, length, get_or, take, drop, ◌⊎◌, ⊎_elim, inl, inr, refl, sym, ap, ◌∙◌, subst, arith, Contains, nat_lt, nat_eq, zero}
+use Rattle.std.proofs.Common.{◌≡◌, ◌≢◌, ℕ, suc, ◌+◌, ◌<◌, ◌≤◌, Bool, true, List, [], ◌∷◌, ◌++◌, length, get_or, take, drop, ⊎_elim, refl, sym, ap, ◌∙◌, subst, arith, Contains, nat_lt, nat_eq, zero}
 use Rattle.std.specs.Prelude.{IsTrue, All, AllPairs, IsPermutation}
-use Rattle.std.specs.List.{IsFirstBest, IsDistinct, list_any}
-use Rattle.std.proofs.lemmas.Bool.{cases_lt, false≢true, ltb-false, eqb-true, or_cases}
+use Rattle.std.specs.List.{IsFirstBest, list_any}
+use Rattle.std.proofs.lemmas.Bool.{false≢true, ltb-false, eqb-true, or_cases}
 use Rattle.std.proofs.lemmas.Bool.Decides.{Decides-eqb, Decides-like, same_from_decides}
 use Rattle.std.proofs.lemmas.List.{take-append-drop, drop_more, append-nil, get_or-drop, length-drop, get_or_default}
 use Rattle.std.proofs.lemmas.List.Elements.{All-contains, All-push, All-tail}
@@ -65,7 +65,7 @@ walked_none pairs n start start_in above = record {
   on_cycle = above;
   in_range = λ k d inside. absurd (omega (arith, inside));
   distinct = λ i j d less inside. absurd (omega (arith, inside));
-  linked = tt
+  linked = tt;
 }
 
 pub walked_more : (pairs : List (ℕ × ℕ)) (n : ℕ) (walk : List ℕ) (current next : ℕ) → IsWalked pairs n walk current → ((k : ℕ) → k < length walk → get_or walk k 0 ≢ current) → Contains pairs (current, next) → next < n → IsAbove pairs next next → IsWalked pairs n (walk ++ current ∷ []) next
@@ -74,7 +74,7 @@ walked_more pairs n walk current next so_far new found next_in above = record {
   on_cycle = above;
   in_range = All-push (λ a. a < n) walk current so_far.in_range so_far.current_in;
   distinct = all_pairs_push (λ a b. a ≢ b) walk current so_far.distinct (λ k d inside e. new k inside (get_or_default walk k 0 d inside ∙ e));
-  linked = walk_push pairs walk current next so_far.linked found
+  linked = walk_push pairs walk current next so_far.linked found;
 }
 
 -- distinct numbers below n are at most n
@@ -135,5 +135,5 @@ cycle_from_ring pairs ring turned k is_ring distinct best e =
     rw e (record {
       ring = rw from_least (ring_turned pairs (take k ring) least (drop (k + 1) ring) cut);
       distinct = AllPairs-from_IsDistinct Decides-eqb (drop k ring ++ take k ring) (IsDistinct-IsPermutation nat_eq eqb_flips ring (drop k ring ++ take k ring) same (IsDistinct-from_AllPairs Decides-eqb ring distinct));
-      least_first = λ j d in_turned. rw first (moved j d in_turned)
+      least_first = λ j d in_turned. rw first (moved j d in_turned);
     })

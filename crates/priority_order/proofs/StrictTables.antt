@@ -1,5 +1,5 @@
 -- The closed table in which no number is above itself.
-use Rattle.std.proofs.Common.{◌≡◌, ℕ, ◌<◌, List, [], ◌∷◌, Bool, Contains}
+use Rattle.std.proofs.Common.{ℕ, ◌<◌, List, [], ◌∷◌, Bool}
 use Rattle.std.specs.Prelude.{IsTrue}
 use Rattle.std.proofs.lemmas.List.Elements.{All-contains}
 use Rattle.rvc_base.specs.Chain.{Leads, IsAbove}
@@ -12,7 +12,7 @@ strict_from_closed pairs n cells closed none = record {
   size = closed.size;
   not_itself = none;
   carries = λ a b c a_in b_in c_in over further.
-    (closed.chains a c a_in c_in).1 (above_joins pairs a b c ((closed.chains a b a_in b_in).0 over) ((closed.chains b c b_in c_in).0 further))
+      (closed.chains a c a_in c_in).1 (above_joins pairs a b c ((closed.chains a b a_in b_in).0 over) ((closed.chains b c b_in c_in).0 further));
 }
 
 -- a number from which a chain leads is below n

@@ -52,5 +52,9 @@ pub fn close(alloc: Global, pairs: &[(u16, u16)], n: u16) -> Result<Order, Order
         return Err(OrderFault::Cycle { actions });
     }
     let line = arrange(alloc, &cells, n)?;
-    Ok(Order { count: n, cells, line })
+    Ok(Order {
+        count: n,
+        cells,
+        line,
+    })
 }

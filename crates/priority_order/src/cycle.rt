@@ -10,7 +10,13 @@ use crate::table::place;
 use std::alloc::{AllocError, Global};
 
 /// A cycle of declared pairs, the least number first. `start` is above itself.
-pub(crate) fn cycle_from(alloc: Global, pairs: &[(u16, u16)], table: &[bool], n: u16, start: u16) -> Result<Vec<u16>, AllocError>
+pub(crate) fn cycle_from(
+    alloc: Global,
+    pairs: &[(u16, u16)],
+    table: &[bool],
+    n: u16,
+    start: u16,
+) -> Result<Vec<u16>, AllocError>
     requires in_range { IsInRange pairs.now n }
     requires closed { IsClosed pairs.now n table.now }
     requires start_in_range { start < n }
@@ -23,7 +29,13 @@ pub(crate) fn cycle_from(alloc: Global, pairs: &[(u16, u16)], table: &[bool], n:
 }
 
 /// A ring of distinct numbers: walks along pairs that lead back until it comes to a number again.
-fn ring_from(alloc: Global, pairs: &[(u16, u16)], table: &[bool], n: u16, start: u16) -> Result<Vec<u16>, AllocError>
+fn ring_from(
+    alloc: Global,
+    pairs: &[(u16, u16)],
+    table: &[bool],
+    n: u16,
+    start: u16,
+) -> Result<Vec<u16>, AllocError>
     requires in_range { IsInRange pairs.now n }
     requires closed { IsClosed pairs.now n table.now }
     requires start_in_range { start < n }

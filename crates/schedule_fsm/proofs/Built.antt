@@ -1,5 +1,5 @@
 -- The table that is built of the first steps.
-use Rattle.std.proofs.Common.{◌≡◌, ◌≢◌, ℕ, ◌+◌, ◌*◌, ◌<◌, ◌≤◌, Bool, true, false, List, [], Option, Some, None, length, get_or, set, take, drop, ◌∷◌, ◌++◌, ◌⊎◌, ⊎_elim, inl, inr, refl, sym, ap, ◌∙◌, subst, arith, Contains}
+use Rattle.std.proofs.Common.{◌≡◌, ◌≢◌, ℕ, ◌+◌, ◌*◌, ◌<◌, Bool, true, false, List, [], Option, Some, None, length, get_or, set, take, drop, ◌∷◌, ◌++◌, ◌⊎◌, ⊎_elim, inl, inr, refl, sym, ap, ◌∙◌, arith, Contains}
 use Rattle.std.specs.Prelude.{◌↔◌, IsTrue, All}
 use Rattle.std.proofs.lemmas.Bool.{cases_eq, false≢true}
 use Rattle.std.proofs.lemmas.List.{get_or-set_same, get_or-set_other, length-set, take_more, take-append-drop}
@@ -46,9 +46,9 @@ pub built_none : (free : List Bool) (states : ℕ) (table : List (Option ℕ)) �
 built_none free states table size stays = record {
   size = size;
   leads = λ state action to in_states in_actions.
-    let here : entry (length free) table state action ≡ stay state (get_or free action false) = stays state action in_states in_actions in
-    let alone = stays_or_goes state to (get_or free action false) in
-    (λ e. inl (alone.0 (sym here ∙ e)), λ h. here ∙ ⊎_elim (λ by_itself. alone.1 by_itself) (λ found. absurd (omega (arith, found.1))) h)
+      let here : entry (length free) table state action ≡ stay state (get_or free action false) = stays state action in_states in_actions in
+      let alone = stays_or_goes state to (get_or free action false) in
+      (λ e. inl (alone.0 (sym here ∙ e)), λ h. here ∙ ⊎_elim (λ by_itself. alone.1 by_itself) (λ found. absurd (omega (arith, found.1))) h);
 }
 
 -- ---- one step more
@@ -91,29 +91,31 @@ module _ (steps : List Step) (free : List Bool) (states : ℕ) (in_range : All (
   at_step one to =
       let new : entry (length free) (set table (step.from * length free + step.action) (Some step.to)) step.from step.action ≡ Some step.to = entered (length free) table step place_in in
       let by_step : to ≡ step.to → StepLeads (take (i + 1) steps) step.from step.action to =
-      λ e. take_more_last steps i (record { from = 0; action = 0; to = 0 }) (record { from = step.from; action = step.action; to = to }) in_steps (ap (λ t. record { from = step.from; action = step.action; to = t }) (sym e)) in
-      (λ e. inr (by_step cc),
-       λ leads. new ∙ ap Some (sym (⊎_elim (λ by_itself. absurd (is_bound by_itself.0))
-         (λ found. ⊎_elim (λ earlier. one to ((built.leads step.from step.action to from_in action_in).1 (inr earlier))) (λ last. let same : step ≡ record { from = step.from; action = step.action; to = to } = last in sym (ap (λ s. s.to) same))
-           (take_more_cases steps i (record { from = 0; action = 0; to = 0 }) (record { from = step.from; action = step.action; to = to }) in_steps found)) leads)))
+      λ e. take_more_last steps i (record { from = 0; action = 0; to = 0 }) (record { from = step.from; action = step.action; to = to }) in_steps (ap (λ t. record { from = step.from; action = step.action; to = t }) (sym e)) in (
+        λ e. inr (by_step cc),
+        λ leads. new ∙ ap Some (sym (⊎_elim (λ by_itself. absurd (is_bound by_itself.0))
+            (λ found. ⊎_elim (λ earlier. one to ((built.leads step.from step.action to from_in action_in).1 (inr earlier))) (λ last. let same : step ≡ record { from = step.from; action = step.action; to = to } = last in sym (ap (λ s. s.to) same))
+            (take_more_cases steps i (record { from = 0; action = 0; to = 0 }) (record { from = step.from; action = step.action; to = to }) in_steps found)) leads)),
+      )
 
   -- elsewhere nothing changes
   elsewhere : (state action to : ℕ) → state < states → action < length free → (state ≡ step.from → action ≡ step.action → ⊥) → (entry (length free) (set table (step.from * length free + step.action) (Some step.to)) state action ≡ Some to) ↔ Leads (take (i + 1) steps) free state action to
   elsewhere state action to in_states in_actions apart =
       let same : entry (length free) (set table (step.from * length free + step.action) (Some step.to)) state action ≡ entry (length free) table state action = stays_elsewhere (length free) table step state action in_actions action_in apart in
       let before = built.leads state action to in_states in_actions in
-      let x : Step = record { from = state; action = action; to = to } in
-      (λ e. ⊎_elim (λ by_itself. inl by_itself) (λ found. inr (take_more_earlier steps i (record { from = 0; action = 0; to = 0 }) x in_steps found)) (before.0 (sym same ∙ e)),
-       λ leads. same ∙ before.1 (⊎_elim (λ by_itself. inl by_itself)
-         (λ found. ⊎_elim (λ earlier. inr earlier) (λ last. let e : step ≡ x = last in absurd (apart (sym (ap (λ s. s.from) e)) (sym (ap (λ s. s.action) e))))
-           (take_more_cases steps i (record { from = 0; action = 0; to = 0 }) x in_steps found)) leads))
+      let x : Step = record { from = state; action = action; to = to } in (
+        λ e. ⊎_elim (λ by_itself. inl by_itself) (λ found. inr (take_more_earlier steps i (record { from = 0; action = 0; to = 0 }) x in_steps found)) (before.0 (sym same ∙ e)),
+        λ leads. same ∙ before.1 (⊎_elim (λ by_itself. inl by_itself)
+            (λ found. ⊎_elim (λ earlier. inr earlier) (λ last. let e : step ≡ x = last in absurd (apart (sym (ap (λ s. s.from) e)) (sym (ap (λ s. s.action) e))))
+            (take_more_cases steps i (record { from = 0; action = 0; to = 0 }) x in_steps found)) leads),
+      )
 
   pub built_more : IsOne → IsBuilt (take (i + 1) steps) free states (set table (step.from * length free + step.action) (Some step.to))
   built_more one = record {
     size = length-set table (step.from * length free + step.action) (Some step.to) ∙ built.size;
     leads = λ state action to in_states in_actions.
-      ⊎_elim (λ (s : state ≡ step.from). ⊎_elim (λ (a : action ≡ step.action). rw (s, a) (at_step one to)) (λ (a : action ≢ step.action). elsewhere state action to in_states in_actions (λ _ e. a e)) (cases_eq action step.action))
-        (λ (s : state ≢ step.from). elsewhere state action to in_states in_actions (λ e _. s e)) (cases_eq state step.from)
+        ⊎_elim (λ (s : state ≡ step.from). ⊎_elim (λ (a : action ≡ step.action). rw (s, a) (at_step one to)) (λ (a : action ≢ step.action). elsewhere state action to in_states in_actions (λ _ e. a e)) (cases_eq action step.action))
+        (λ (s : state ≢ step.from). elsewhere state action to in_states in_actions (λ e _. s e)) (cases_eq state step.from);
   }
 
   -- the entry holds another target than the step's, so steps lead to both

@@ -1,7 +1,7 @@
 -- The rows of a table that is made row by row.
-use Rattle.std.proofs.Common.{◌≡◌, ℕ, ◌+◌, ◌*◌, ◌<◌, Bool, false, List, Option, None, length, get_or, map, ◌++◌, ◌⊎◌, ⊎_elim, refl, sym, ap, ◌∙◌, arith, length-append}
+use Rattle.std.proofs.Common.{◌≡◌, ℕ, ◌+◌, ◌*◌, ◌<◌, Bool, false, List, Option, None, length, get_or, map, ◌++◌, ⊎_elim, refl, ap, ◌∙◌, arith, length-append}
 use Rattle.std.proofs.lemmas.Bool.{cases_lt}
-use Rattle.std.proofs.lemmas.List.{get_or_append_left, get_or-append-add, get_or-map, length-map}
+use Rattle.std.proofs.lemmas.List.{get_or_append_left, get_or-append-add, get_or-map}
 use Rattle.std.proofs.lemmas.Nat.{mul-add-lt}
 use Rattle.schedule_fsm.specs.Automaton.{entry}
 use Rattle.schedule_fsm.specs.Free.{stay}

@@ -1,5 +1,5 @@
 -- Where an action leads from a state, by steps and free actions.
-use Rattle.std.specs.Prelude.{◌≡◌, ◌≢◌, ℕ, Bool, true, false, List, slice_index_or, Contains, ◌⊎◌, IsTrue}
+use Rattle.std.specs.Prelude.{◌≡◌, ◌≢◌, ℕ, Bool, false, List, slice_index_or, Contains, ◌⊎◌, IsTrue}
 use Rattle.schedule_fsm.specs.declared.fsm.Step.{Step}
 
 -- a step leads from this state by this action to that one

@@ -101,7 +101,11 @@ pub fn build(alloc: Global, steps: &[Step], free: &[bool], states: u16) -> Resul
     for step in steps {
         add_step(&mut targets, free.len(), *step)?;
     }
-    Ok(Fsm { states, actions: free.len(), targets })
+    Ok(Fsm {
+        states,
+        actions: free.len(),
+        targets,
+    })
 }
 
 /// Enters a step into a table with so many columns, unless its action leads from its state to another

@@ -7,7 +7,11 @@ ghost use Rattle.schedule_fsm.specs.Free.{stay};
 use std::alloc::{AllocError, Global};
 
 /// The table without steps: a free action leads from each state to the state itself.
-pub(crate) fn free_moves(alloc: Global, free: &[bool], states: u16) -> Result<Vec<Option<u16>>, AllocError>
+pub(crate) fn free_moves(
+    alloc: Global,
+    free: &[bool],
+    states: u16,
+) -> Result<Vec<Option<u16>>, AllocError>
     ensures size { IfOk result (λ table. length table.items ≡ states * length free.now) }
     ensures stays { IfOk result (λ table. (state action : ℕ) → state < states → action < length free.now
         → entry (length free.now) table.items state action ≡ stay state (slice_index_or free.now action false)) }

@@ -3,9 +3,23 @@
 use super::*;
 use std::test::Fail;
 
-const TURN: Step = Step { from: 0, action: 0, to: 1 };
-const RETURN: Step = Step { from: 1, action: 1, to: 0 };
-const JUMP: Step = Step { from: 0, action: 0, to: 2 };
+const TURN: Step = Step {
+    from: 0,
+    action: 0,
+    to: 1,
+};
+
+const RETURN: Step = Step {
+    from: 1,
+    action: 1,
+    to: 0,
+};
+
+const JUMP: Step = Step {
+    from: 0,
+    action: 0,
+    to: 2,
+};
 
 #[test]
 fn steps_and_free_actions_lead(rt: HostRuntime) -> Result<(), Fail> {
@@ -21,5 +35,13 @@ fn steps_and_free_actions_lead(rt: HostRuntime) -> Result<(), Fail> {
 #[test]
 fn two_targets_are_refused(rt: HostRuntime) {
     let refused = build(rt.alloc(), &[TURN, RETURN, JUMP], &[false, false, true], 3);
-    assert!(rt; matches!(refused, Err(FsmFault::Ambiguous { state: 0, action: 0 })));
+    assert!(rt;
+        matches!(
+            refused,
+            Err(FsmFault::Ambiguous {
+                state: 0,
+                action: 0
+            })
+        )
+    );
 }

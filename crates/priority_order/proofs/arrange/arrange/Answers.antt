@@ -1,9 +1,9 @@
-use Rattle.std.proofs.Common.{◌≡◌, ℕ, ◌+◌, ◌-◌, ◌<◌, ◌≤◌, true, false, [], ◌∷◌, ◌++◌, length, get_or, set, vec_len, arith, length-append}
+use Rattle.std.proofs.Common.{ℕ, ◌-◌, ◌<◌, ◌≤◌, false, [], ◌∷◌, ◌++◌, length, get_or, vec_len, arith, length-append}
 use Rattle.std.specs.Prelude.{IsTrue}
 use Rattle.rvc_base.specs.Line.{MayStand, IsNext}
 use Rattle.priority_order.specs.Ranking.{Above}
 use Rattle.priority_order.proofs.Rings.{length-le_from_distinct}
-use Rattle.priority_order.proofs.Lines.{IsArranged, arranged_more, all_stand, line_distinct, line_in_range}
+use Rattle.priority_order.proofs.Lines.{arranged_more, all_stand, line_distinct, line_in_range}
 use Rattle.priority_order.proofs.arrange.arrange.Goals as goal
 
 pub loop-next-preserved : goal.loop-next-preserved
@@ -27,5 +27,5 @@ returns c =
     let none : (b : ℕ) → ¬ MayStand c.args.n (Above c.args.n c.args.table.now) (λ a. IsTrue (get_or c.loop-next.stands.items a false)) b = rw (← c.deref.ensures.value) c.in_default.ensures in
     record {
       each = λ a a_in. (c.loop-next.invariant.marks a a_in).0 (all_stand c.args.n c.args.table.now c.loop-next.stands.items c.requires none a a_in);
-      next = c.loop-next.invariant.next
+      next = c.loop-next.invariant.next;
     }

@@ -1,7 +1,6 @@
 use Rattle.std.proofs.Common.{◌≡◌, ℕ, ◌++◌, length, take, drop, arith, nat_lt}
 use Rattle.std.specs.List.{IsFirstBest}
 use Rattle.std.proofs.lemmas.List.{take_at}
-use Rattle.priority_order.specs.Cycle.{IsCycle}
 use Rattle.priority_order.proofs.Rings.{cycle_from_ring}
 use Rattle.priority_order.proofs.cycle.cycle_from.Goals as goal
 

@@ -1,8 +1,8 @@
-use Rattle.std.proofs.Common.{◌≡◌, ℕ, ◌<◌, ◌≤◌, true, false, length, get_or, Contains, refl, sym, ap, ◌∙◌, subst, arith}
+use Rattle.std.proofs.Common.{◌≡◌, ℕ, true, false, get_or, Contains, ap, ◌∙◌, subst, arith}
 use Rattle.std.specs.Prelude.{IsTrue}
 use Rattle.std.proofs.lemmas.List.{get_or_default}
 use Rattle.priority_order.specs.Ranking.{cell}
-use Rattle.priority_order.proofs.Rings.{NoneLeads, some_leads, next_is_on}
+use Rattle.priority_order.proofs.Rings.{some_leads, next_is_on}
 use Rattle.priority_order.proofs.cycle.next_on_cycle.Goals as goal
 
 pub returns-then-table-place-clause-on_cycle : goal.returns-then-table-place-clause-on_cycle

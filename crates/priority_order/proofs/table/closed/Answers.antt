@@ -1,4 +1,4 @@
-use Rattle.std.proofs.Common.{◌≡◌, ℕ, ◌+◌, ◌*◌, length, take, drop, subst, ◌∙◌, arith}
+use Rattle.std.proofs.Common.{◌≡◌, ◌*◌, length, drop, subst, arith}
 use Rattle.std.proofs.lemmas.List.{take_at}
 use Rattle.priority_order.proofs.ClosedTables.{ClosedBelow, closed_none, closed_more, closed_all}
 use Rattle.priority_order.proofs.table.closed.Goals as goal
@@ -6,7 +6,7 @@ use Rattle.priority_order.proofs.table.closed.Goals as goal
 pub loop-through-init : goal.loop-through-init
 loop-through-init c = record {
   size = c.in_ok-table.ensures.size;
-  chains = closed_none c.args.pairs.now c.args.n c.in_ok-table.table.items c.in_ok-table.ensures.pairs
+  chains = closed_none c.args.pairs.now c.args.n c.in_ok-table.table.items c.in_ok-table.ensures.pairs;
 }
 
 pub loop-through-preserved : goal.loop-through-preserved
@@ -18,7 +18,7 @@ loop-through-preserved c =
     let next = rw c.deref_mut.ensures.value at c.widen.ensures in
     record {
       size = rw (take_at new (drop (length new) before) c.loop-through.table.len width) size;
-      chains = rw (take_at new (drop (length new) before) c.loop-through.table.len width) (closed_more c.args.pairs.now c.args.n c.loop-through.through before new c.loop-through-test.true c.loop-through.invariant.chains next)
+      chains = rw (take_at new (drop (length new) before) c.loop-through.table.len width) (closed_more c.args.pairs.now c.args.n c.loop-through.through before new c.loop-through-test.true c.loop-through.invariant.chains next);
     }
 
 pub returns : goal.returns
@@ -28,5 +28,5 @@ returns c =
     subst (λ k. ClosedBelow c.args.pairs.now c.args.n k c.loop-through.table.items) end c.loop-through.invariant.chains in
     record {
       size = c.loop-through.invariant.size;
-      chains = closed_all c.args.pairs.now c.args.n c.loop-through.table.items c.requires closed
+      chains = closed_all c.args.pairs.now c.args.n c.loop-through.table.items c.requires closed;
     }

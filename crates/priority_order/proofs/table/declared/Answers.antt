@@ -1,5 +1,4 @@
-use Rattle.std.proofs.Common.{◌≡◌, ℕ, ◌+◌, ◌*◌, ◌<◌, true, length, get_or, set, take, ◌∙◌, arith}
-use Rattle.std.specs.Prelude.{vec_len}
+use Rattle.std.proofs.Common.{true, get_or, take, ◌∙◌, arith}
 use Rattle.std.proofs.lemmas.List.{length-set, take_all}
 use Rattle.priority_order.proofs.Cells.{Marks, marks_more, place_in}
 use Rattle.priority_order.proofs.table.declared.Goals as goal
@@ -18,7 +17,7 @@ loop-above-preserved c =
     let in_range = c.requires i (0, 0) c.loop-above-test.true in
     record {
       size = length-set cells c.place-at.result true ∙ c.loop-above.invariant.size;
-      marks = rw c.place-at.ensures (marks_more pairs i c.args.n cells c.loop-above-test.true c.loop-above.invariant.size in_range.0 in_range.1 c.loop-above.invariant.marks)
+      marks = rw c.place-at.ensures (marks_more pairs i c.args.n cells c.loop-above-test.true c.loop-above.invariant.size in_range.0 in_range.1 c.loop-above.invariant.marks);
     }
 
 pub returns-clause-pairs : goal.returns-clause-pairs

@@ -5,5 +5,5 @@ use Rattle.priority_order.proofs.table.declared.Given as goal
 abbrev pub invariant-loop-above : goal.invariant-loop-above
 invariant-loop-above l = record {
   size : length l.table.items ≡ l.n * l.n;
-  marks : Marks (take l.above-index l.pairs) l.n l.table.items
+  marks : Marks (take l.above-index l.pairs) l.n l.table.items;
 }

@@ -1,4 +1,4 @@
-use Rattle.std.proofs.Common.{◌≡◌, ℕ, ◌*◌, true, false, length, get_or, subst, arith}
+use Rattle.std.proofs.Common.{◌≡◌, true, false, get_or, subst}
 use Rattle.std.specs.Prelude.{IsTrue}
 use Rattle.priority_order.specs.Ranking.{cell}
 use Rattle.priority_order.proofs.Widening.{skips, widens}
@@ -13,8 +13,8 @@ loop-row-preserved c =
     let old = c.args.table.now in
     let now = c.loop-row.table in
     elim c.if-table-place.branch [
-      then-table-place w ↦ let is_set : IsTrue (cell n now row through) = subst (λ k. get_or now k false ≡ true) c.place.ensures w.if-table-place.true in
-        rw w.table-is (widens n through row old now c.requires.through_in_range c.loop-row-test.true c.loop-row.invariant w.widen_row.new.table w.widen_row.ensures is_set)
-    | else-table-place w ↦ let unset : cell n now row through ≡ false = subst (λ k. get_or now k false ≡ false) c.place.ensures w.if-table-place.false in
-        rw w.table-is (skips n through row old now c.requires.through_in_range c.loop-row-test.true c.loop-row.invariant unset)
+      | then-table-place w ↦ let is_set : IsTrue (cell n now row through) = subst (λ k. get_or now k false ≡ true) c.place.ensures w.if-table-place.true in
+          rw w.table-is (widens n through row old now c.requires.through_in_range c.loop-row-test.true c.loop-row.invariant w.widen_row.new.table w.widen_row.ensures is_set)
+      | else-table-place w ↦ let unset : cell n now row through ≡ false = subst (λ k. get_or now k false ≡ false) c.place.ensures w.if-table-place.false in
+          rw w.table-is (skips n through row old now c.requires.through_in_range c.loop-row-test.true c.loop-row.invariant unset)
     ]

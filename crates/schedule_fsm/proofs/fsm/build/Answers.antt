@@ -1,13 +1,10 @@
-use Rattle.std.proofs.Common.{◌≡◌, ◌≢◌, ℕ, ◌+◌, ◌*◌, ◌<◌, ◌≤◌, Some, length, get_or, set, take, drop, List, Option, Bool, refl, sym, ap, ◌∙◌, arith, rules, IfErr, slice_set}
-use Rattle.std.specs.Prelude.{All}
+use Rattle.std.proofs.Common.{◌≡◌, ℕ, ◌+◌, ◌*◌, ◌≤◌, Some, length, set, take, drop, List, Option, Bool, ap, arith}
 use Rattle.std.proofs.lemmas.List.{take_at, length-set, take_all}
 use Rattle.std.proofs.lemmas.Result.{err_from_is_err_and}
-use Rattle.std.proofs.lemmas.List.Elements.{All-get_or}
 use Rattle.schedule_fsm.specs.declared.fsm.Step.{Step}
 use Rattle.schedule_fsm.specs.Automaton.{entry}
-use Rattle.schedule_fsm.specs.Leads.{IsFree, HasTwoTargets}
-use Rattle.schedule_fsm.specs.Fault.{IsCause, IsTaken}
-use Rattle.schedule_fsm.proofs.Built.{IsBuilt, step_at, built_none, built_more, two_targets, one_target, target_in_range, cause_from_taken}
+use Rattle.schedule_fsm.specs.Fault.{IsTaken}
+use Rattle.schedule_fsm.proofs.Built.{IsBuilt, step_at, built_more, two_targets, one_target, target_in_range, cause_from_taken}
 use Rattle.schedule_fsm.proofs.fsm.build.Goals as goal
 
 -- the table once all steps are in
@@ -38,14 +35,14 @@ returns-in_err-add_step-clause-ambiguous c =
     let p = err_from_is_err_and c.from_residual-in_err-add_step.result c.from_residual-in_err-add_step.ensures.1 in
     let taken : IsTaken step (entry (length free) before step.from step.action) c.in_err-add_step.field-0.0 = rw (← c.deref_mut.ensures.value) c.in_err-add_step.ensures.another in
     rw (p.1, p.2) (cause_from_taken steps step (entry (length free) before step.from step.action) c.in_err-add_step.field-0.0 taken
-      (two_targets steps free c.args.states c.requires.states_in_range c.requires.actions_in_range c.requires.free_take_no_step before c.loop-step.step-index c.loop-step-test.true c.loop-step.invariant))
+    (two_targets steps free c.args.states c.requires.states_in_range c.requires.actions_in_range c.requires.free_take_no_step before c.loop-step.step-index c.loop-step-test.true c.loop-step.invariant))
 
 pub invariant_of-result : goal.invariant_of-result
 invariant_of-result c =
     let built = all_in c.args.steps.now c.args.free.now c.args.states c.loop-step.step-index c.loop-step.targets.items c.loop-step-test.false c.loop-step.invariant in
     record {
       size = built.size;
-      in_range = target_in_range c.args.steps.now c.args.free.now c.args.states c.loop-step.targets.items built c.requires.states_in_range
+      in_range = target_in_range c.args.steps.now c.args.free.now c.args.states c.loop-step.targets.items built c.requires.states_in_range;
     }
 
 pub returns-clause-leads : goal.returns-clause-leads

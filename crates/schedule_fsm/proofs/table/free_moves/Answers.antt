@@ -11,5 +11,5 @@ loop-state-preserved c =
     let rows = c.loop-state.state in
     record {
       size = rw c.in_ok-push_row.ensures (size_more (length free) rows before (map (stay rows) free) c.loop-state.invariant.size (length-map free (stay rows)));
-      stays = rw c.in_ok-push_row.ensures (stays_more free rows before c.loop-state.invariant.size c.loop-state.invariant.stays)
+      stays = rw c.in_ok-push_row.ensures (stays_more free rows before c.loop-state.invariant.size c.loop-state.invariant.stays);
     }
