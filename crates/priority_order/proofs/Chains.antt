@@ -3,14 +3,14 @@ use Rattle.std.proofs.Common.{◌≡◌, ℕ, ◌+◌, ◌<◌, List, [], ◌∷
 use Rattle.std.specs.Prelude.{◌↔◌}
 use Rattle.std.proofs.lemmas.Bool.{cases_lt}
 use Rattle.std.proofs.lemmas.List.Elements.{All-contains}
-use Rattle.rvc_base.specs.Chain.{Leads, IsAbove}
+use Rattle.rvc_base.specs.Chain.{ChainLeads, IsAbove}
 use Rattle.priority_order.specs.Closed.{IsInRange}
 
-pub leads_join : (pairs : List (ℕ × ℕ)) (a c b : ℕ) (xs ys : List ℕ) → Leads pairs a xs c → Leads pairs c ys b → Leads pairs a (xs ++ c ∷ ys) b
+pub leads_join : (pairs : List (ℕ × ℕ)) (a c b : ℕ) (xs ys : List ℕ) → ChainLeads pairs a xs c → ChainLeads pairs c ys b → ChainLeads pairs a (xs ++ c ∷ ys) b
 leads_join pairs a c b [] ys h k = (h, k)
 leads_join pairs a c b (x ∷ xs) ys h k = (h.0, leads_join pairs x c b xs ys h.1 k)
 
-pub leads_split : (pairs : List (ℕ × ℕ)) (a c b : ℕ) (xs ys : List ℕ) → Leads pairs a (xs ++ c ∷ ys) b → Leads pairs a xs c × Leads pairs c ys b
+pub leads_split : (pairs : List (ℕ × ℕ)) (a c b : ℕ) (xs ys : List ℕ) → ChainLeads pairs a (xs ++ c ∷ ys) b → ChainLeads pairs a xs c × ChainLeads pairs c ys b
 leads_split pairs a c b [] ys h = (h.0, h.1)
 leads_split pairs a c b (x ∷ xs) ys h =
     let rest = leads_split pairs x c b xs ys h.1 in
@@ -61,11 +61,11 @@ above_by_none pairs a b = (λ h. direct h.0 h.1, λ h. ([], h)) where
   direct [] h = h
   direct (x ∷ xs) h = absurd (omega (arith, h.1))
 
-leads_from_below : (pairs : List (ℕ × ℕ)) (bound a b : ℕ) (xs : List ℕ) → LeadsBelow pairs bound a xs b → Leads pairs a xs b
+leads_from_below : (pairs : List (ℕ × ℕ)) (bound a b : ℕ) (xs : List ℕ) → LeadsBelow pairs bound a xs b → ChainLeads pairs a xs b
 leads_from_below pairs bound a b [] h = h
 leads_from_below pairs bound a b (x ∷ xs) h = (h.0, leads_from_below pairs bound x b xs h.2)
 
-below_from_leads : (pairs : List (ℕ × ℕ)) (n a b : ℕ) (xs : List ℕ) → IsInRange pairs n → Leads pairs a xs b → LeadsBelow pairs n a xs b
+below_from_leads : (pairs : List (ℕ × ℕ)) (n a b : ℕ) (xs : List ℕ) → IsInRange pairs n → ChainLeads pairs a xs b → LeadsBelow pairs n a xs b
 below_from_leads pairs n a b [] in_range h = h
 below_from_leads pairs n a b (x ∷ xs) in_range h =
     (h.0, (All-contains (λ pair. (pair.0 < n) × (pair.1 < n)) pairs (a, x) in_range h.0).1, below_from_leads pairs n x b xs in_range h.1)

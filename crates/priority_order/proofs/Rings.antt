@@ -11,7 +11,7 @@ use Rattle.std.proofs.lemmas.List.Sorted.{IsPermutation-append_comm, All-permuta
 use Rattle.std.proofs.lemmas.Map.Keys.{IsDistinct-IsPermutation}
 use Rattle.std.proofs.lemmas.Map.Made.{AllPairs-from_IsDistinct, IsDistinct-from_AllPairs}
 use Rattle.std.proofs.lemmas.Map.Steps.{length-le_from_distinct_below}
-use Rattle.rvc_base.specs.Chain.{Leads, IsAbove}
+use Rattle.rvc_base.specs.Chain.{ChainLeads, IsAbove}
 use Rattle.priority_order.specs.Ranking.{cell}
 use Rattle.priority_order.specs.Closed.{IsInRange, IsClosed}
 use Rattle.priority_order.specs.Cycle.{IsRing, IsCycle}
@@ -33,7 +33,7 @@ module _ (pairs : List (ℕ × ℕ)) (n : ℕ) (cells : List Bool) (current : �
 
   pub some_leads : IsAbove pairs current current → NoneLeads pairs n cells current (length pairs) → ⊥
   some_leads above none = by_chain above.0 above.1 where
-    by_chain : (through : List ℕ) → Leads pairs current through current → ⊥
+    by_chain : (through : List ℕ) → ChainLeads pairs current through current → ⊥
     by_chain [] h = leads_back current h ([], h) none
     by_chain (x ∷ xs) h = leads_back x h.0 (xs, h.1) none
 
@@ -46,7 +46,7 @@ module _ (pairs : List (ℕ × ℕ)) (n : ℕ) (cells : List Bool) (current : �
 -- each number of the walk is paired with the next, and the last with the current one
 abbrev pub IsWalk : List (ℕ × ℕ) → List ℕ → ℕ → Type 0
 IsWalk pairs [] current = Unit {0}
-IsWalk pairs (x ∷ xs) current = Leads pairs x xs current
+IsWalk pairs (x ∷ xs) current = ChainLeads pairs x xs current
 
 pub record IsWalked (pairs : List (ℕ × ℕ)) (n : ℕ) (walk : List ℕ) (current : ℕ) : Type 0 where
   pub current_in : current < n
@@ -89,14 +89,14 @@ length-le_from_distinct xs n distinct all =
     length-le_from_distinct_below xs n (IsDistinct-from_AllPairs Decides-eqb xs distinct) (λ q e. is_below xs n q all e)
 
 -- ---- rings
-tail_walk : (pairs : List (ℕ × ℕ)) (x : ℕ) (xs : List ℕ) (current : ℕ) → Leads pairs x xs current → IsWalk pairs xs current
+tail_walk : (pairs : List (ℕ × ℕ)) (x : ℕ) (xs : List ℕ) (current : ℕ) → ChainLeads pairs x xs current → IsWalk pairs xs current
 tail_walk pairs x [] current h = tt
 tail_walk pairs x (y ∷ ys) current h = h.1
 
 -- a walk that came back is a ring from there on
 pub ring_from_walk : (pairs : List (ℕ × ℕ)) (walk : List ℕ) (current k : ℕ) → IsWalk pairs walk current → k < length walk → get_or walk k 0 ≡ current → IsRing pairs (drop k walk)
 ring_from_walk pairs [] current k h inside e = absurd (omega (arith, inside))
-ring_from_walk pairs (x ∷ xs) current zero h inside e = subst (λ c. Leads pairs x xs c) (sym e) h
+ring_from_walk pairs (x ∷ xs) current zero h inside e = subst (λ c. ChainLeads pairs x xs c) (sym e) h
 ring_from_walk pairs (x ∷ xs) current (suc k) h inside e =
     ring_from_walk pairs xs current k (tail_walk pairs x xs current h) (omega (arith, inside)) e
 

@@ -2,7 +2,7 @@
 use Rattle.std.proofs.Common.{ℕ, ◌<◌, List, [], ◌∷◌, Bool}
 use Rattle.std.specs.Prelude.{IsTrue}
 use Rattle.std.proofs.lemmas.List.Elements.{All-contains}
-use Rattle.rvc_base.specs.Chain.{Leads, IsAbove}
+use Rattle.rvc_base.specs.Chain.{ChainLeads, IsAbove}
 use Rattle.priority_order.specs.Ranking.{cell, IsStrict}
 use Rattle.priority_order.specs.Closed.{IsInRange, IsClosed}
 use Rattle.priority_order.proofs.Chains.{above_joins}
@@ -16,7 +16,7 @@ strict_from_closed pairs n cells closed none = record {
 }
 
 -- a number from which a chain leads is below n
-above_in_range : (pairs : List (ℕ × ℕ)) (n a b : ℕ) (through : List ℕ) → IsInRange pairs n → Leads pairs a through b → a < n
+above_in_range : (pairs : List (ℕ × ℕ)) (n a b : ℕ) (through : List ℕ) → IsInRange pairs n → ChainLeads pairs a through b → a < n
 above_in_range pairs n a b [] in_range h = (All-contains (λ pair. (pair.0 < n) × (pair.1 < n)) pairs (a, b) in_range h).0
 above_in_range pairs n a b (x ∷ xs) in_range h = (All-contains (λ pair. (pair.0 < n) × (pair.1 < n)) pairs (a, x) in_range h.0).0
 

@@ -1,13 +1,13 @@
 -- Cycles of declared pairs.
 use Rattle.std.specs.Prelude.{◌≢◌, ℕ, ◌≤◌, List, [], ◌∷◌, slice_index, All, AllPairs}
-use Rattle.rvc_base.specs.Chain.{Leads}
+use Rattle.rvc_base.specs.Chain.{ChainLeads}
 use Rattle.priority_order.specs.declared.closing.OrderFault.{OrderFault}
 use Rattle.priority_order.specs.declared.closing.OrderFault.TheVariants.{Cycle, Memory}
 
 -- each is paired with the next, and the last with the first
 abbrev pub IsRing : List (ℕ × ℕ) → List ℕ → Type 0
 IsRing pairs [] = ⊥
-IsRing pairs (first ∷ others) = Leads pairs first others first
+IsRing pairs (first ∷ others) = ChainLeads pairs first others first
 
 -- a ring of distinct numbers, the least first
 pub record IsCycle (pairs : List (ℕ × ℕ)) (actions : List ℕ) : Type 0 where

@@ -26,7 +26,7 @@ impl Order {
     ghost use Rattle.priority_order.specs.Ranking.{is_above};
     ghost use Rattle.rvc_base.specs.Line.{IsLine};
 
-    /// Whether `a` is above `b`.
+    /// Whether `a` is above `b`: whether a chain of the declared pairs leads from `a` to `b`.
     pub fn above(&self, a: u16, b: u16) -> bool
         requires a_in_range { a < self.now.count }
         requires b_in_range { b < self.now.count }

@@ -1,4 +1,5 @@
--- Where an action leads from a state, by steps and free actions.
+-- Where an action leads from a state, by steps and free actions: the action schedules of the CAL Language
+-- Report (action-level control structures), over numbers.
 use Rattle.std.specs.Prelude.{◌≡◌, ◌≢◌, ℕ, Bool, false, List, slice_index_or, Contains, ◌⊎◌, IsTrue}
 use Rattle.schedule_fsm.specs.declared.fsm.Step.{Step}
 

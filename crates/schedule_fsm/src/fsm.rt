@@ -1,6 +1,9 @@
 //! The automaton, and what it is built from.
 
 ghost use Rattle.std.specs.Prelude.{◌≡◌, ◌<◌, ◌+◌, ◌*◌, ℕ, ◌↔◌, length, slice_set, All, IfOk, IfErr, OnOk, IsTrue, IsSome, Some};
+ghost use Rattle.schedule_fsm.specs.Automaton.{target, entry};
+ghost use Rattle.schedule_fsm.specs.Leads.{Leads, IsFree, HasTwoTargets};
+ghost use Rattle.schedule_fsm.specs.Fault.{IsCause, IsTaken};
 
 use crate::table::free_moves;
 use std::alloc::{AllocError, Global};
@@ -36,7 +39,8 @@ impl From<AllocError> for FsmFault {
     }
 }
 
-/// An automaton of states and actions, both numbered from 0.
+/// An automaton of states and actions, both numbered from 0: a table with a row for each state and a column
+/// for each action.
 #[derive(Debug, Drop)]
 pub struct Fsm {
     states: u16,
@@ -55,8 +59,6 @@ impl Model for Fsm {
 }
 
 impl Fsm {
-    ghost use Rattle.schedule_fsm.specs.Automaton.{target};
-
     /// Whether `action` is eligible in `state`.
     pub fn eligible(&self, state: u16, action: u16) -> bool
         requires state_in_range { state < self.now.states }
@@ -78,14 +80,12 @@ impl Fsm {
     }
 }
 
-ghost use Rattle.schedule_fsm.specs.Automaton.{target, entry};
-ghost use Rattle.schedule_fsm.specs.Leads.{Leads, IsFree, HasTwoTargets};
-ghost use Rattle.schedule_fsm.specs.Fault.{IsCause, IsTaken};
-
 /// The automaton of these steps and free actions, with so many states. `free[a]` says that action `a` is
 /// eligible in each state and doesn't change it; there are as many actions as `free` has entries.
 ///
-/// Ambiguous names a state and an action from which steps lead to two states.
+/// States and actions of the steps are in range, and no free action takes a step. `Ambiguous` names a state
+/// and an action from which steps lead to two states, and comes exactly where there are such. `Memory` is
+/// want of memory.
 pub fn build(alloc: Global, steps: &[Step], free: &[bool], states: u16) -> Result<Fsm, FsmFault>
     requires states_in_range { All (λ step. (step.from < states) × (step.to < states)) steps.now }
     requires actions_in_range { All (λ step. step.action < length free.now) steps.now }

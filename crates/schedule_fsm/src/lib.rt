@@ -1,4 +1,5 @@
-//! The automaton of an actor's schedule: which actions are eligible in a state, and the state that follows.
+//! The automaton of an actor's schedule: which actions are eligible in a state, and the state that follows
+//! (CAL Language Report, action-level control structures).
 #![tactic(auto)]
 
 mod fsm;
