@@ -5,3 +5,5 @@ pub mod Refusal
 pub mod Storing
 pub mod Picks
 pub mod Shares
+pub mod Chain
+pub mod Line

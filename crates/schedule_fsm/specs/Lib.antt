@@ -1,0 +1,4 @@
+pub mod Automaton
+pub mod Leads
+pub mod Fault
+pub mod Free

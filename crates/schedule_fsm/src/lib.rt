@@ -1,0 +1,10 @@
+//! The automaton of an actor's schedule: which actions are eligible in a state, and the state that follows
+//! (CAL Language Report, action-level control structures).
+#![tactic(auto)]
+
+mod fsm;
+mod table;
+#[cfg(test)]
+mod tests;
+
+pub use fsm::{Fsm, FsmFault, Step, build};
