@@ -16,14 +16,14 @@ open_within (flag ∷ flags) (suc k) e = let rest : k < length flags = open_with
 
 -- what was set is read back
 pub set_here : (flags : List Bool) (k : ℕ) (flag : Bool) → k < length flags → get_or (set flags k flag) k false ≡ flag
-set_here [] k flag e = cc
+set_here [] k flag e = absurd (omega arith)
 set_here (f ∷ flags) zero flag e = refl
 set_here (f ∷ flags) (suc k) flag e = set_here flags k flag (omega arith)
 
 -- and nothing else changed
 pub set_elsewhere : (flags : List Bool) (k other : ℕ) (flag : Bool) → other ≢ k → get_or (set flags k flag) other false ≡ get_or flags other false
 set_elsewhere [] k other flag e = refl
-set_elsewhere (f ∷ flags) zero zero flag e = cc
+set_elsewhere (f ∷ flags) zero zero flag e = absurd (e refl)
 set_elsewhere (f ∷ flags) zero (suc other) flag e = refl
 set_elsewhere (f ∷ flags) (suc k) zero flag e = refl
 set_elsewhere (f ∷ flags) (suc k) (suc other) flag e = set_elsewhere flags k other flag (λ s. e (ap suc s))

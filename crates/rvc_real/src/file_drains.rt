@@ -9,11 +9,10 @@ ghost use Rattle.rvc_real.specs.Open.{OpenState, channel_is_open, tells, held_on
 use crate::open_files::OpenFiles;
 use rvc_io::{Drains, Failed};
 use std::alloc::Global;
-use std::fs;
-use std::io;
 use std::io::Write;
 use std::marker::Model;
 use std::rt::Files;
+use std::{fs, io};
 
 /// Channels of which number 0 is standard output and each other is a file, and of whose bytes
 /// nothing is told. A refused growth is a failure too.

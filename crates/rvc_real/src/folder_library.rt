@@ -123,10 +123,7 @@ fn read_whole<F: Read + Drop>(file: F, out: &mut Vec<u8>) -> ReadAnswer
 
 /// There is no such file: nothing has the name, or something on its path is no folder.
 fn is_lacking(error: &Error) -> bool {
-    matches!(
-        error.kind(),
-        ErrorKind::NotFound | ErrorKind::NotADirectory
-    )
+    matches!(error.kind(), ErrorKind::NotFound | ErrorKind::NotADirectory)
 }
 
 /// Whether a path leads out of the folder.
