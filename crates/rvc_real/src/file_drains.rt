@@ -1,6 +1,6 @@
 //! Channels that are files, and standard output.
 
-ghost use Rattle.std.specs.Prelude.{◌≡◌, ◌≤◌, ◌<◌, ◌++◌, ℕ, [], true, false, length, take, OnOk, OnErr, IfOk, is_err};
+ghost use Rattle.std.specs.Prelude.{◌≡◌, ◌≢◌, ◌≤◌, ◌<◌, ◌++◌, ℕ, [], true, false, length, take, OnOk, OnErr, IfOk, is_err};
 ghost use Rattle.rvc_io.specs.Count.{HasRisen};
 ghost use Rattle.rvc_io.specs.Elsewhere.{SameElsewhere};
 ghost use Rattle.rvc_real.specs.Counting.{counted};
@@ -35,7 +35,9 @@ impl<R: Files + Print> FileDrains<R> {
     /// Channels of the standard output of `rt` and of files that it creates. Only channel 0 is
     /// open.
     pub fn new(rt: R, alloc: Global) -> FileDrains<R>
-        ensures { result ≡ record { flags = []; faults = 0 } }
+        ensures fresh { result ≡ record { flags = []; faults = 0 } }
+        ensures output_open { channel_is_open result 0 ≡ true }
+        ensures others_closed { (channel : ℕ) → channel ≢ 0 → channel_is_open result channel ≡ false }
     {
         FileDrains {
             rt,

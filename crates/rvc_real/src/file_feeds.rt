@@ -34,7 +34,8 @@ impl<R: Files> Model for FileFeeds<R> {
 impl<R: Files> FileFeeds<R> {
     /// Feeds of the files that `rt` opens. None is open yet.
     pub fn new(rt: R, alloc: Global) -> FileFeeds<R>
-        ensures { result ≡ record { flags = []; faults = 0 } }
+        ensures fresh { result ≡ record { flags = []; faults = 0 } }
+        ensures none_open { (feed : ℕ) → feed_is_open result feed ≡ false }
     {
         FileFeeds {
             rt,
