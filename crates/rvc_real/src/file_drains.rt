@@ -1,0 +1,141 @@
+//! Channels that are files, and standard output.
+
+ghost use Rattle.std.specs.Prelude.{◌≡◌, ◌≢◌, ◌≤◌, ◌<◌, ◌++◌, ℕ, [], true, false, length, take, OnOk, OnErr, IfOk, is_err};
+ghost use Rattle.rvc_io.specs.Count.{HasRisen};
+ghost use Rattle.rvc_io.specs.Elsewhere.{SameElsewhere};
+ghost use Rattle.rvc_real.specs.Counting.{counted};
+ghost use Rattle.rvc_real.specs.Open.{OpenState, channel_is_open, tells, held_on};
+
+use crate::open_files::OpenFiles;
+use rvc_io::{Drains, Failed};
+use std::alloc::Global;
+use std::io::Write;
+use std::marker::Model;
+use std::rt::Files;
+use std::{fs, io};
+
+/// Channels of which number 0 is standard output and each other is a file, and of whose bytes
+/// nothing is told. A refused growth is a failure too.
+#[derive(Drop)]
+pub struct FileDrains<R: Files> {
+    rt: R,
+    files: OpenFiles<R::File>,
+    faults: u64,
+}
+
+impl<R: Files> Model for FileDrains<R> {
+    ghost use Rattle.rvc_real.specs.Open.{OpenState};
+
+    ghost Value = { OpenState };
+
+    ghost view = { λ d. record { flags = d.files; faults = d.faults } };
+}
+
+impl<R: Files + Print> FileDrains<R> {
+    /// Channels of the standard output of `rt` and of files that it creates. Only channel 0 is
+    /// open.
+    pub fn new(rt: R, alloc: Global) -> FileDrains<R>
+        ensures fresh { result ≡ record { flags = []; faults = 0 } }
+        ensures output_open { channel_is_open result 0 ≡ true }
+        ensures others_closed { (channel : ℕ) → channel ≢ 0 → channel_is_open result channel ≡ false }
+    {
+        FileDrains {
+            rt,
+            files: OpenFiles::new(alloc),
+            faults: 0,
+        }
+    }
+
+    /// Creates the file `name`, or empties it, as `channel`, and says whether that could be done.
+    #[tactic(auto, using(crate::proofs::OpenLemmas::set_here, crate::proofs::OpenLemmas::set_elsewhere))]
+    fn create_file(&mut self, channel: u32, name: &str) -> bool
+        ensures opened { result ≡ true → channel_is_open self.new channel ≡ true }
+        ensures closed { result ≡ false → channel_is_open self.new channel ≡ channel_is_open self.old channel }
+        ensures same_open { SameElsewhere (channel_is_open self.old) (channel_is_open self.new) channel }
+        ensures faults { self.new.faults ≡ self.old.faults }
+    {
+        if self.files.make_room(channel).is_err() {
+            return false;
+        }
+        let Ok(created) = fs::create(&self.rt, name) else {
+            return false;
+        };
+        self.files.keep(channel, created);
+        true
+    }
+
+    /// Writes bytes from the front of `piece` to `channel`, and says how many.
+    #[tactic(auto, using(crate::proofs::OpenLemmas::put_back))]
+    fn write_some(&mut self, channel: u32, piece: &[u8]) -> io::Result<usize>
+        requires open { channel_is_open self.old channel ≡ true }
+        ensures most { IfOk result (λ n. n ≤ length piece.now) }
+        ensures same_open { (other : ℕ) → channel_is_open self.new other ≡ channel_is_open self.old other }
+        ensures faults { self.new.faults ≡ self.old.faults }
+    {
+        if channel == 0 {
+            return self.rt.write_some(piece);
+        }
+        let mut file = self.files.take(channel);
+        let written = file.write(piece);
+        self.files.keep(channel, file);
+        written
+    }
+}
+
+impl<R: Files + Print> Drains for FileDrains<R> {
+    ghost tells = { tells };
+
+    ghost held = { held_on };
+
+    ghost is_open = { channel_is_open };
+
+    ghost faults = { λ d. d.faults };
+
+    fn open(&mut self, channel: u32, name: &str) -> Result<(), Failed>
+        requires { channel_is_open self.old channel ≡ false }
+        ensures opened { OnOk result (channel_is_open self.new channel ≡ true) }
+        ensures empty { OnOk result (tells self.old ≡ true → held_on self.new channel ≡ []) }
+        ensures failed { OnErr result (HasRisen self.old.faults self.new.faults) }
+        ensures failed_open { OnErr result (channel_is_open self.new channel ≡ channel_is_open self.old channel) }
+        ensures failed_held { OnErr result (tells self.old ≡ true → held_on self.new channel ≡ held_on self.old channel) }
+        ensures same_telling { tells self.new ≡ tells self.old }
+        ensures same_held { tells self.old ≡ true → SameElsewhere (held_on self.old) (held_on self.new) channel }
+        ensures same_open { SameElsewhere (channel_is_open self.old) (channel_is_open self.new) channel }
+        ensures faults_stay { self.old.faults ≤ self.new.faults }
+
+        // Each failure is counted once, and nothing else is.
+        ensures counted { self.new.faults ≡ counted (is_err result) self.old.faults }
+    {
+        if !self.create_file(channel, name) {
+            self.faults = self.faults.saturating_add(1);
+            return Err(Failed);
+        }
+        Ok(())
+    }
+
+    /// A write that takes nothing is a failure.
+    fn put(&mut self, channel: u32, piece: &[u8]) -> Result<usize, Failed>
+        requires open { channel_is_open self.old channel ≡ true }
+        requires some { 0 < length piece.now }
+        ensures least { IfOk result (λ n. 0 < n) }
+        ensures most { IfOk result (λ n. n ≤ length piece.now) }
+        ensures bytes { IfOk result (λ n. tells self.old ≡ true → held_on self.new channel ≡ held_on self.old channel ++ take n piece.now) }
+        ensures failed { OnErr result (HasRisen self.old.faults self.new.faults) }
+        ensures failed_held { OnErr result (tells self.old ≡ true → held_on self.new channel ≡ held_on self.old channel) }
+        ensures same_telling { tells self.new ≡ tells self.old }
+        ensures same_held { tells self.old ≡ true → SameElsewhere (held_on self.old) (held_on self.new) channel }
+        ensures same_open { (other : ℕ) → channel_is_open self.new other ≡ channel_is_open self.old other }
+        ensures faults_stay { self.old.faults ≤ self.new.faults }
+
+        // Each failure is counted once, and nothing else is.
+        ensures counted { self.new.faults ≡ counted (is_err result) self.old.faults }
+    {
+        match self.write_some(channel, piece) {
+            Ok(count) if count > 0 => Ok(count),
+            _ => {
+                self.faults = self.faults.saturating_add(1);
+                Err(Failed)
+            }
+        }
+    }
+}
