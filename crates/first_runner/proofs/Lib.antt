@@ -8,3 +8,4 @@ mod Tokens
 mod Delivering
 mod Bursting
 mod Closing
+mod Rounding

@@ -1,5 +1,6 @@
 -- What a run leaves on its two channels, for each end.
-use Rattle.std.specs.Prelude.{◌≡◌, ℕ, List, [], ◌++◌}
+use Rattle.std.specs.Prelude.{◌≡◌, ℕ, ◌+◌, ◌<◌, List, [], ◌++◌, length}
+use Rattle.trace_text.specs.Text.{line_text}
 use Rattle.trace_text.specs.declared.line.Line.TheVariants.{Quiet, Budget}
 use Rattle.cal_model.specs.Form.{Form}
 use Rattle.channel_writer.specs.Held.{Writes}
@@ -44,3 +45,27 @@ IsFault end.Quiet = ⊥
 IsFault end.Budget = ⊥
 IsFault (end.ReadFault feed) = Unit {0}
 IsFault (end.WriteFault channel) = Unit {0}
+
+-- an end that a look at the inbox gives
+abbrev pub EndFits : RunEnd → List ℕ → Type 0
+EndFits end.Quiet inbox = inbox ≡ []
+EndFits end.Budget inbox = 0 < length inbox
+EndFits (end.ReadFault feed) inbox = ⊥
+EndFits (end.WriteFault channel) inbox = ⊥
+
+-- the text of an end's line
+abbrev pub end_text : RunEnd → List ℕ
+end_text end.Quiet = line_text Quiet
+end_text end.Budget = line_text Budget
+end_text (end.ReadFault feed) = []
+end_text (end.WriteFault channel) = []
+
+-- the numbers of a run, where so many tokens wait in the inbox
+abbrev pub numbers : (firings rounds waiting : ℕ) → Counts
+numbers firings rounds waiting = record { firings = firings; rounds = rounds; arrived = firings + waiting; sent = firings }
+
+abbrev pub IsNoFault : RunEnd → Type 0
+IsNoFault end.Quiet = Unit {0}
+IsNoFault end.Budget = Unit {0}
+IsNoFault (end.ReadFault feed) = ⊥
+IsNoFault (end.WriteFault channel) = ⊥

@@ -1,11 +1,12 @@
 //! The rounds of one actor: deliver, then fire, until an end.
 
-ghost use Rattle.std.specs.Prelude.{◌≡◌, ◌≤◌, ◌<◌, ◌+◌, ◌^◌, ℕ, Bool, true, List, [], Option, Some, OnOk, OnErr, IfOk, IfErr, MatchResult, Err, length};
+ghost use Rattle.std.specs.Prelude.{◌≡◌, ◌≤◌, ◌<◌, ◌+◌, ◌^◌, ◌⊎◌, ℕ, Bool, true, List, [], Option, Some, OnOk, OnErr, IfOk, IfErr, MatchResult, Err, length};
 ghost use Rattle.rvc_io.specs.Count.{HasRisen};
 ghost use Rattle.cal_model.specs.Meaning.{IsFirstForm};
 ghost use Rattle.cal_model.specs.Form.{Form};
 ghost use Rattle.first_runner.specs.Outside.{KeepsOthers};
-ghost use Rattle.first_runner.specs.Leaves.{Comes, IsFault};
+ghost use Rattle.first_runner.specs.Leaves.{Comes, IsFault, IsNoFault, EndFits, end_text, numbers};
+ghost use Rattle.trace_text.specs.Text.{line_text, IsWhole};
 ghost use Rattle.first_runner.specs.SoFar.{Going, Delivered};
 ghost use Rattle.first_runner.specs.declared.outcome.Counts.{Counts as Numbers};
 
@@ -19,7 +20,7 @@ use crate::outcome::{Counts, RunEnd};
 use crate::progress::Progress;
 use crate::sending::send_out;
 use crate::trace_writer::note;
-use crate::{BURST, INPUT_FEED, OUTPUT_CHANNEL, TRACE_CHANNEL};
+use crate::{BURST, INPUT_FEED, MAX_BUDGET, OUTPUT_CHANNEL, TRACE_CHANNEL};
 
 /// Everything that was sent goes out, and the input link is filled.
 pub fn deliver<F: Feeds, D: Drains>(
@@ -83,6 +84,7 @@ pub fn fire<D: Drains>(
         → Delivered f input trace_base output_base left run.old.inbox.items run.old.outbox.items run.old.at_end run.old.firings run.old.rounds (D.tells drains.old) (D.held drains.old) run.old.trace run.old.output
         → IfErr result (λ how. Comes f input how counts trace_base (D.held drains.new 1) run.new.trace output_base (D.held drains.new 2) run.new.output) }
     ensures counted { IfOk result (λ n. run.new.firings ≡ run.old.firings + n) }
+    ensures uncounted { OnErr result (run.new.firings ≡ run.old.firings) }
     ensures most { IfOk result (λ n. n ≤ limit) }
     ensures least { IfOk result (λ n. 0 < length run.old.inbox.items → 0 < limit → 0 < n) }
     ensures write_fault { IfErr result (λ how. (how ≡ RunEnd.WriteFault TRACE_CHANNEL) × HasRisen (D.faults drains.old) (D.faults drains.new)) }
@@ -101,4 +103,80 @@ pub fn fire<D: Drains>(
     };
     run.firings += count;
     Ok(count)
+}
+
+/// Writes the line of an end that a look at the inbox gives.
+fn close<D: Drains>(end: RunEnd, run: &mut Progress, drains: &mut D) -> RunEnd
+    requires fits { EndFits end run.old.inbox.items }
+    requires trace_open { D.is_open drains.old TRACE_CHANNEL ≡ true }
+
+    ensures came { (f : Form) (input trace_base output_base : List ℕ) (left : Option (List ℕ))
+        → Delivered f input trace_base output_base left run.old.inbox.items run.old.outbox.items run.old.at_end run.old.firings run.old.rounds (D.tells drains.old) (D.held drains.old) run.old.trace run.old.output
+        → Comes f input result (numbers run.old.firings run.old.rounds (length run.old.inbox.items)) trace_base (D.held drains.new 1) run.new.trace output_base (D.held drains.new 2) run.new.output }
+    ensures ends { (result ≡ end) ⊎ ((result ≡ RunEnd.WriteFault TRACE_CHANNEL) × HasRisen (D.faults drains.old) (D.faults drains.new)) }
+    ensures same_inbox { run.new.inbox.items ≡ run.old.inbox.items }
+    ensures same_firings { run.new.firings ≡ run.old.firings }
+    ensures same_rounds { run.new.rounds ≡ run.old.rounds }
+    ensures others { KeepsOthers (D.tells drains.old) (D.tells drains.new) (D.held drains.old) (D.held drains.new) (D.is_open drains.old) (D.is_open drains.new) (D.faults drains.old) (D.faults drains.new) }
+{
+    let Ok(()) = note(&end_line(end), &mut run.trace, drains) else {
+        return RunEnd::WriteFault { channel: TRACE_CHANNEL };
+    };
+    end
+}
+
+/// The line of an end that isn't a fault.
+fn end_line(end: RunEnd) -> Line
+    requires { IsNoFault end }
+    ensures text { line_text result ≡ end_text end }
+    ensures whole { IsWhole result }
+{
+    match end {
+        RunEnd::Quiet => Line::Quiet,
+        RunEnd::Budget => Line::Budget,
+        RunEnd::ReadFault { feed: _ } | RunEnd::WriteFault { channel: _ } => unreachable!(),
+    }
+}
+
+/// Makes rounds until one ends the run, with at most `budget` firings.
+pub fn make_rounds<F: Feeds, D: Drains>(
+    sum: &Binary,
+    budget: u64,
+    run: &mut Progress,
+    feeds: &mut F,
+    drains: &mut D,
+) -> RunEnd
+    requires first_form { IsFirstForm sum.now }
+    requires feed_open { F.is_open feeds.old INPUT_FEED ≡ true }
+    requires trace_open { D.is_open drains.old TRACE_CHANNEL ≡ true }
+    requires output_open { D.is_open drains.old OUTPUT_CHANNEL ≡ true }
+    requires budget { budget ≤ MAX_BUDGET }
+    requires no_firings { run.old.firings ≡ 0 }
+    requires no_rounds { run.old.rounds ≡ 0 }
+
+    ensures came { (f : Form) (input trace_base output_base : List ℕ) → f.sum ≡ sum.now
+        → Going f input trace_base output_base (F.left feeds.old INPUT_FEED) run.old.inbox.items run.old.outbox.items run.old.at_end run.old.firings run.old.rounds (D.tells drains.old) (D.held drains.old) run.old.trace run.old.output
+        → Comes f input result (numbers run.new.firings run.new.rounds (length run.new.inbox.items)) trace_base (D.held drains.new 1) run.new.trace output_base (D.held drains.new 2) run.new.output }
+    ensures spent { result ≡ RunEnd.Budget → run.new.firings ≡ budget }
+    ensures most { run.new.firings ≤ budget }
+    ensures read_fault { (feed : ℕ) → result ≡ RunEnd.ReadFault feed → (feed ≡ INPUT_FEED) × HasRisen (F.faults feeds.old) (F.faults feeds.new) }
+    ensures write_fault { (channel : ℕ) → result ≡ RunEnd.WriteFault channel → HasRisen (D.faults drains.old) (D.faults drains.new) }
+    ensures feeds_stay { F.faults feeds.old ≤ F.faults feeds.new }
+    ensures others { KeepsOthers (D.tells drains.old) (D.tells drains.new) (D.held drains.old) (D.held drains.new) (D.is_open drains.old) (D.is_open drains.new) (D.faults drains.old) (D.faults drains.new) }
+{
+    'rounds: loop {
+        if let Err(fault) = deliver(run, feeds, drains) {
+            return fault;
+        }
+        if run.inbox.is_empty() {
+            return close(RunEnd::Quiet, run, drains);
+        }
+        let left = budget - run.firings;
+        if left == 0 {
+            return close(RunEnd::Budget, run, drains);
+        }
+        if let Err(fault) = fire(sum, left.min(BURST), run, drains) {
+            return fault;
+        }
+    }
 }
