@@ -256,8 +256,8 @@ impl ExprForm {
 
 /// An equal expression on the heap.
 #[cycle(copy)]
-fn copy_box(alloc: Global, e: &Expr) -> Result<Box<Expr>, AllocError>
-    ensures { IfOk result (λ copied. expr_tree copied.value ≡ expr_tree e.now) }
+fn copy_box(alloc: Global, e: &Box<Expr>) -> Result<Box<Expr>, AllocError>
+    ensures { IfOk result (λ copied. expr_tree copied.value ≡ expr_tree e.now.value) }
 {
     let copied = e.copy(alloc)?;
     Ok(Box::new(alloc, copied)?)

@@ -1,7 +1,7 @@
 //! Statements.
 
 ghost use Rattle.std.specs.Prelude.{◌≡◌, ℕ, IfOk, map};
-ghost use Rattle.cal_ast.specs.View.{stmt_tree, stmt_form_tree, body_tree};
+ghost use Rattle.cal_ast.specs.View.{stmt_tree, stmt_form_tree};
 
 use crate::expr::{Expr, TypeExpr};
 use crate::ident::Ident;
@@ -92,11 +92,22 @@ impl StmtForm {
                 name: name.copy(alloc)?,
                 args: copy_all(alloc, args)?,
             }),
-            StmtForm::If { test, yes, no } => Ok(StmtForm::If {
-                test: test.copy(alloc)?,
-                yes: copy_stmts(alloc, yes)?,
-                no: copy_otherwise(alloc, no)?,
-            }),
+            StmtForm::If { test, yes, no } => {
+                let test = test.copy(alloc)?;
+                let yes = copy_stmts(alloc, yes)?;
+                match no {
+                    Some(no) => Ok(StmtForm::If {
+                        test,
+                        yes,
+                        no: Some(copy_stmts(alloc, no)?),
+                    }),
+                    None => Ok(StmtForm::If {
+                        test,
+                        yes,
+                        no: None,
+                    }),
+                }
+            }
             StmtForm::While { test, body } => Ok(StmtForm::While {
                 test: test.copy(alloc)?,
                 body: copy_stmts(alloc, body)?,
@@ -132,17 +143,6 @@ fn copy_stmts(alloc: Global, stmts: &[Stmt]) -> Result<Vec<Stmt>, AllocError>
         copied.push(stmt.copy(alloc)?)?;
     }
     Ok(copied)
-}
-
-/// Equal statements of an `else`, where there is one.
-#[cycle(copy_stmt)]
-fn copy_otherwise(alloc: Global, stmts: &Option<Vec<Stmt>>) -> Result<Option<Vec<Stmt>>, AllocError>
-    ensures { IfOk result (λ copied. body_tree copied ≡ body_tree stmts.now) }
-{
-    match stmts {
-        Some(stmts) => Ok(Some(copy_stmts(alloc, stmts)?)),
-        None => Ok(None),
-    }
 }
 
 impl Part for Stmt {
