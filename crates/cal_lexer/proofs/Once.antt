@@ -12,8 +12,8 @@ no_longer bytes n m k l a b less = let none = a.longest m less b.within in let s
 pub one_size : (bytes : List ℕ) (n m : ℕ) (k l : Lexeme) → IsNext bytes n k → IsNext bytes m l → n ≡ m
 one_size bytes n m k l a b =
     ⊎_elim (λ less. absurd (no_longer bytes n m k l a b less))
-        (λ not_less. ⊎_elim (λ less. absurd (no_longer bytes m n l k b a less)) (λ not_more. omega arith) (cases_lt m n))
-        (cases_lt n m)
+    (λ not_less. ⊎_elim (λ less. absurd (no_longer bytes m n l k b a less)) (λ not_more. omega arith) (cases_lt m n))
+    (cases_lt n m)
 
 pub one_kind : (bytes : List ℕ) (n m : ℕ) (k l : Lexeme) → IsNext bytes n k → IsNext bytes m l → k ≡ l
 one_kind bytes n m k l a b = let e : n ≡ m = one_size bytes n m k l a b in let f = a.is in let g = b.is in cc

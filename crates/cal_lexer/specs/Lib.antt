@@ -1,3 +1,4 @@
 pub mod Lexeme
 pub mod Lexis
 pub mod Lexes
+pub mod Pieces
