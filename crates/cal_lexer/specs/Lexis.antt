@@ -161,7 +161,7 @@ token_of text =
 
 -- What stands at the front of a text.
 
--- the number of bytes before the first place where these two stand (one: 0 for the second), or of all bytes
+-- the number of bytes before the first place where a test of what stands from there on holds, or of all bytes
 abbrev pub before : (List ℕ → Bool) → List ℕ → ℕ
 before stops [] = 0
 before stops (b ∷ rest) = if stops (b ∷ rest) then 0 else before stops rest + 1
@@ -175,6 +175,10 @@ at_close bytes = (slice_index bytes 0 == 42) && (slice_index bytes 1 == 47)
 -- the bytes that the lexis has outside comments
 abbrev pub in_alphabet : ℕ → Bool
 in_alphabet b = is_blank b || (goes_on_name b || ((b == 34) || ((b == 33) || is_some (find (b ∷ []) symbols_of_one))))
+
+-- nothing of the lexis begins so: the first byte is outside the alphabet, or a `!` without `=` at once after it
+abbrev pub is_foreign : ℕ → ℕ → Bool
+is_foreign first second = not (in_alphabet first) || ((first == 33) && not (second == 61))
 
 -- nothing, a blank or a comment of so many bytes, a fault that no token has, or a token
 pub data Front : Type 0 where
@@ -195,9 +199,8 @@ front bytes =
     else (if (slice_index bytes 0 == 47) && (slice_index bytes 1 == 47) then Gap (before at_line_end bytes)
     else (if (slice_index bytes 0 == 47) && (slice_index bytes 1 == 42) then comment (drop 2 bytes)
     else (if slice_index bytes 0 == 34 then Fault STRING_LITERAL
-    else (if not (in_alphabet (slice_index bytes 0)) then Fault FOREIGN_BYTE
-    else (if (slice_index bytes 0 == 33) && not (slice_index bytes 1 == 61) then Fault FOREIGN_BYTE
-    else Token))))))
+    else (if is_foreign (slice_index bytes 0) (slice_index bytes 1) then Fault FOREIGN_BYTE
+    else Token)))))
 
 -- the longest token that the bytes begin with
 pub record IsNext (bytes : List ℕ) (size : ℕ) (kind : Lexeme) : Type 0 where

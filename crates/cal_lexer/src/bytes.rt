@@ -1,9 +1,8 @@
 //! Classes of bytes, and the runs of bytes that a text begins with.
 
-ghost use Rattle.std.specs.Prelude.{◌≡◌, ◌&&◌, ◌||◌, ◌==◌, not};
-ghost use Rattle.std.specs.Prelude.{slice_index};
+ghost use Rattle.std.specs.Prelude.{◌≡◌, ◌&&◌, ◌==◌, slice_index};
 ghost use Rattle.std.specs.Char.{is_ascii_digit, is_ascii_hexdigit};
-ghost use Rattle.cal_lexer.specs.Lexis.{is_blank, begins_name, goes_on_name, in_alphabet, before, at_line_end, at_close};
+ghost use Rattle.cal_lexer.specs.Lexis.{is_blank, begins_name, goes_on_name, in_alphabet, is_foreign, before, at_line_end, at_close};
 ghost use Rattle.cal_lexer.specs.Pieces.{IsRun};
 
 use crate::symbols::one_byte;
@@ -45,9 +44,16 @@ fn in_alphabet(b: u8) -> bool
 
 /// Whether nothing of the lexis begins with these two bytes.
 pub(crate) fn is_foreign(first: u8, second: u8) -> bool
-    ensures { result ≡ (not (in_alphabet first) || ((first == 33) && not (second == 61))) }
+    ensures { result ≡ is_foreign first second }
 {
     !in_alphabet(first) || (first == b'!' && second != b'=')
+}
+
+/// Whether these two bytes are `/` and the mark.
+pub(crate) fn is_slash_and(mark: u8, first: u8, second: u8) -> bool
+    ensures { result ≡ ((first == 47) && (second == mark)) }
+{
+    first == b'/' && second == mark
 }
 
 /// How many bytes of a name or a reserved word the text begins with.

@@ -1,6 +1,6 @@
 //! Numbers.
 
-ghost use Rattle.std.specs.Prelude.{◌≡◌, ◌≤◌, ◌+◌, ◌*◌, ◌^◌, length, true, slice_index, MatchOption};
+ghost use Rattle.std.specs.Prelude.{◌≡◌, ◌==◌, ◌&&◌, ◌≤◌, ◌+◌, ◌*◌, ◌^◌, length, true, slice_index, MatchOption};
 ghost use Rattle.std.specs.Char.{is_ascii_digit, is_ascii_hexdigit};
 ghost use Rattle.cal_lexer.specs.Lexeme.{Number};
 ghost use Rattle.cal_lexer.specs.Lexis.{front, IsNext, digit_value, value_of, runs_on, has_leading_zero};
@@ -18,15 +18,20 @@ pub(crate) fn number(text: &[u8]) -> Piece
     requires digit { is_ascii_digit (slice_index text.now 0) ≡ true }
     ensures { IsPiece text.now result }
 {
-    if byte_at(text, 0) == b'0'
-        && byte_at(text, 1) == b'x'
-        && byte_at(text, 2).is_ascii_hexdigit()
-    {
+    let hex = is_hex_mark(byte_at(text, 0), byte_at(text, 1), byte_at(text, 2));
+    if hex {
         hexadecimal(text)
     } else {
         let size = digits_len(text);
         numeral(text, size, value(&text[..size], 10))
     }
+}
+
+/// Whether these are `0`, `x` and a hexadecimal digit.
+fn is_hex_mark(first: u8, second: u8, third: u8) -> bool
+    ensures { result ≡ ((first == 48) && ((second == 120) && is_ascii_hexdigit third)) }
+{
+    first == b'0' && (second == b'x' && third.is_ascii_hexdigit())
 }
 
 /// A number of this many bytes: its token, or its first fault.

@@ -1,11 +1,11 @@
 //! What a text begins with.
 
-ghost use Rattle.std.specs.Prelude.{◌≡◌, ◌<◌, length, IfOk, true, slice_index};
-ghost use Rattle.cal_lexer.specs.Lexis.{front, begins_name};
+ghost use Rattle.std.specs.Prelude.{◌≡◌, ◌<◌, length, IfOk, true, false, ◌==◌, slice_index};
+ghost use Rattle.cal_lexer.specs.Lexis.{front, begins_name, is_blank, is_foreign};
 ghost use Rattle.cal_lexer.specs.Lexis as lexis;
 ghost use Rattle.cal_lexer.specs.Pieces.{IsPiece};
 
-use crate::bytes::{begins_name, byte_at, is_blank, is_foreign, line_len, name_len, until_close};
+use crate::bytes::{is_slash_and, begins_name, byte_at, is_blank, is_foreign, line_len, name_len, until_close};
 use crate::number::number;
 use crate::rules::{FOREIGN_BYTE, MAX_NAME, NAME_TOO_LONG, OPEN_COMMENT, STRING_LITERAL};
 use crate::symbols::longest_symbol;
@@ -32,19 +32,23 @@ pub(crate) fn next_piece(alloc: Global, text: &[u8]) -> Result<Piece, Memory>
     ensures { IfOk result (IsPiece text.now) }
 {
     let first = byte_at(text, 0);
+    let second = byte_at(text, 1);
     if is_blank(first) {
         return Ok(Piece::Gap(1));
     }
-    if first == b'/' && byte_at(text, 1) == b'/' {
+    let line = is_slash_and(b'/', first, second);
+    if line {
         return Ok(Piece::Gap(line_len(text)));
     }
-    if first == b'/' && byte_at(text, 1) == b'*' {
+    let block = is_slash_and(b'*', first, second);
+    if block {
         return Ok(comment(text));
     }
     if first == b'"' {
         return Ok(Piece::Fault(STRING_LITERAL));
     }
-    if is_foreign(first, byte_at(text, 1)) {
+    let foreign = is_foreign(first, second);
+    if foreign {
         return Ok(Piece::Fault(FOREIGN_BYTE));
     }
     token(alloc, text)
@@ -66,7 +70,10 @@ fn comment(text: &[u8]) -> Piece
 
 /// A token, or the fault that it has.
 fn token(alloc: Global, text: &[u8]) -> Result<Piece, Memory>
-    requires { front text.now ≡ lexis.Token }
+    requires begins { front text.now ≡ lexis.Token }
+    requires known { is_foreign (slice_index text.now 0) (slice_index text.now 1) ≡ false }
+    requires dark { is_blank (slice_index text.now 0) ≡ false }
+    requires bare { (slice_index text.now 0 == 34) ≡ false }
     ensures { IfOk result (IsPiece text.now) }
 {
     let first = byte_at(text, 0);

@@ -19,7 +19,7 @@ pub fn lex(alloc: Global, file: u32, text: &[u8]) -> Result<Vec<Token>, Front>
     requires { length text.now < 2 ^ 32 }
     ensures listed { IfOk result (λ tokens. lexes text.now (plain_tokens tokens.items)) }
     ensures refused { IfErr result (IsRightly file text.now) }
-    ensures read { (tokens : List Placed) → lexes text.now tokens → MatchResult result (λ ts. plain_tokens ts.items ≡ tokens) (λ e. e ≡ Memory) }
+    ensures read { (tokens : List Placed) → lexes text.now tokens → MatchResult result (λ ts. plain_tokens ts.items ≡ tokens) (λ e. e ≡ Front.Memory) }
     ensures faulted { (rule : Rule) (at : ℕ) → faults text.now rule at → IsErrAnd result (IsMemoryOr file rule at) }
 {
     let mut tokens = Vec::new(alloc);
