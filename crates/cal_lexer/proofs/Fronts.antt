@@ -73,11 +73,19 @@ pub front_quote : (bytes : List ℕ) → slice_index bytes 0 ≡ 34 → front by
 front_quote [] e = absurd (omega arith)
 front_quote (b ∷ rest) e = rw e
 
+pub front_blank : (bytes : List ℕ) → 0 < length bytes → is_blank (slice_index bytes 0) ≡ true → IsGap bytes 1
+front_blank [] h e = absurd (omega arith)
+front_blank (b ∷ rest) h e = record { positive = omega arith; within = omega arith; is = rw e }
+
+last : (blank line block quote foreign other : Bool) (a b c d e f : Front) → blank ≡ false → line ≡ false → block ≡ false → quote ≡ false → foreign ≡ other
+    → (if blank then a else (if line then b else (if block then c else (if quote then d else (if foreign then e else f))))) ≡ (if other then e else f)
+last blank line block quote foreign other a b c d e f p q r s t = rw (p, q, r, s, t)
+
 -- neither a blank, nor a comment, nor a quote
 pub front_other : (bytes : List ℕ) (foreign : Bool) → 0 < length bytes → is_blank (slice_index bytes 0) ≡ false → ((slice_index bytes 0 == 47) && (slice_index bytes 1 == 47)) ≡ false → ((slice_index bytes 0 == 47) && (slice_index bytes 1 == 42)) ≡ false
     → (slice_index bytes 0 == 34) ≡ false → is_foreign (slice_index bytes 0) (slice_index bytes 1) ≡ foreign → front bytes ≡ (if foreign then Fault FOREIGN_BYTE else Token)
 front_other [] foreign h blank line block quote is = absurd (omega arith)
-front_other (b ∷ rest) foreign h blank line block quote is = rw (blank, line, block, quote, is)
+front_other (b ∷ rest) foreign h blank line block quote is = last _ _ _ _ _ _ _ _ _ _ _ _ blank line block quote is
 
 pub token_some : (bytes : List ℕ) → front bytes ≡ Token → 0 < length bytes
 token_some [] e = cc

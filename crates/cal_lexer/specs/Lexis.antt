@@ -192,15 +192,18 @@ abbrev pub comment : List ℕ → Front
 comment inside =
     if nat_lt (before at_close inside) (length inside) then Gap (before at_close inside + 4) else Fault OPEN_COMMENT
 
-abbrev pub front : List ℕ → Front
-front bytes =
-    if length bytes == 0 then Nothing
-    else (if is_blank (slice_index bytes 0) then Gap 1
+abbrev pub some_front : List ℕ → Front
+some_front bytes =
+    if is_blank (slice_index bytes 0) then Gap 1
     else (if (slice_index bytes 0 == 47) && (slice_index bytes 1 == 47) then Gap (before at_line_end bytes)
     else (if (slice_index bytes 0 == 47) && (slice_index bytes 1 == 42) then comment (drop 2 bytes)
     else (if slice_index bytes 0 == 34 then Fault STRING_LITERAL
     else (if is_foreign (slice_index bytes 0) (slice_index bytes 1) then Fault FOREIGN_BYTE
-    else Token)))))
+    else Token))))
+
+abbrev pub front : List ℕ → Front
+front [] = Nothing
+front (b ∷ rest) = some_front (b ∷ rest)
 
 -- the longest token that the bytes begin with
 pub record IsNext (bytes : List ℕ) (size : ℕ) (kind : Lexeme) : Type 0 where
