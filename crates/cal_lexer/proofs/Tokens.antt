@@ -13,7 +13,7 @@ use Rattle.cal_lexer.specs.declared.rules.TheConstants.{NUMBER_TOO_BIG, NUMBER_R
 use Rattle.cal_lexer.specs.Lexeme.{Lexeme, Name, Number}
 use Rattle.cal_lexer.specs.Lexis.{front, Token, IsNext, flaw, token_of, word, number, hexadecimal, decimal_number, value_of, symbol, begins_name, goes_on_name, reserved, first_of_both, find, words, long_ends, symbols_of_one, symbols_of_two, symbols_of_three, runs_on, has_leading_zero}
 use Rattle.cal_lexer.specs.Lexes.{FaultsFrom, flawed}
-use Rattle.cal_lexer.specs.Pieces.{IsLongestSymbol, IsRun, IsToken, IsTooBig}
+use Rattle.cal_lexer.specs.Pieces.{IsLongestSymbol, IsRun, IsToken, IsTooBig, IsNumber}
 use Rattle.cal_lexer.proofs.Fronts.{both, token_some}
 
 -- runs
@@ -232,8 +232,8 @@ number_hex : (text : List ℕ) → slice_index text 1 ≡ 120 → number text �
 number_hex text e = rw e
 
 pub next_hex : (bytes : List ℕ) (n h : ℕ) → front bytes ≡ Token → slice_index bytes 0 ≡ 48 → slice_index bytes 1 ≡ 120 → is_ascii_hexdigit (slice_index bytes 2) ≡ true → IsRun is_ascii_hexdigit (drop 2 bytes) h → n ≡ 2 + h
-    → IsNext bytes n (Number (value_of 16 (drop 2 (take n bytes))))
-next_hex bytes n h begins zeroth first second run size =
+    → (digits : List ℕ) → digits ≡ take h (drop 2 bytes) → IsNext bytes n (Number (value_of 16 digits))
+next_hex bytes n h begins zeroth first second run size digits same =
     let hexed : is_ascii_hexdigit (slice_index (drop 2 bytes) 0) ≡ true = ap is_ascii_hexdigit (get_or-drop 2 bytes 0 0) ∙ second in
     let some : 0 < length (drop 2 bytes) = hex_some (drop 2 bytes) hexed in
     let positive : 0 < h = run_positive is_ascii_hexdigit (drop 2 bytes) h hexed some run in
@@ -246,7 +246,8 @@ next_hex bytes n h begins zeroth first second run size =
         begins = begins;
         within = within;
         is = token_number n bytes (omega arith) digit ∙ number_hex (take n bytes) (get_or-take n bytes 1 0 (omega arith) ∙ first)
-            ∙ hex_is (take n bytes) (get_or-take n bytes 0 0 (omega arith) ∙ zeroth) (omega (arith, length-take-le n bytes within)) all;
+            ∙ hex_is (take n bytes) (get_or-take n bytes 0 0 (omega arith) ∙ zeroth) (omega (arith, length-take-le n bytes within)) all
+            ∙ ap (λ ds. Some (Number (value_of 16 ds))) (behind_two bytes n h size ∙ sym same);
         longest = λ more less most.
             token_number more bytes (omega arith) digit ∙ number_hex (take more bytes) (get_or-take more bytes 1 0 (omega arith) ∙ first)
             ∙ hex_none (take more bytes) (ap (list_all is_ascii_hexdigit) (behind_two bytes more (more - 2) (omega arith)) ∙ run_longer is_ascii_hexdigit (drop 2 bytes) h (more - 2) run (omega arith) (omega arith));
@@ -275,9 +276,9 @@ number_token bytes n value next small e f = record {
     flawless = number_flaw value (take n bytes) (drop n bytes) small ∙ rw (e, f);
 }
 
-pub read_number : (r : Option ℕ) (bytes : List ℕ) (n value : ℕ) → IsNext bytes n (Number value) → MatchOption r (2 ^ 128 ≤ value) (λ v. v ≡ value) → MatchOption r (IsTooBig bytes n) (λ v. IsNext bytes n (Number v))
+pub read_number : (r : Option ℕ) (bytes : List ℕ) (n value : ℕ) → IsNext bytes n (Number value) → MatchOption r (2 ^ 128 ≤ value) (λ v. (v ≡ value) × (v < 2 ^ 128)) → MatchOption r (IsTooBig bytes n) (IsNumber bytes n)
 read_number None bytes n value next big = record { value = value; big = big; next = next }
-read_number (Some v) bytes n value next e = subst (λ k. IsNext bytes n (Number k)) (sym e) next
+read_number (Some v) bytes n value next e = record { small = e.1; next = subst (λ k. IsNext bytes n (Number k)) (sym e.0) next }
 
 -- a name is ASCII
 

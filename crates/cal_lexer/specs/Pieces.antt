@@ -37,6 +37,11 @@ pub record IsTooBig (bytes : List ℕ) (size : ℕ) : Type 0 where
   pub big : 2 ^ 128 ≤ value
   pub next : IsNext bytes size (Number value)
 
+-- a number that fits 128 bits
+pub record IsNumber (bytes : List ℕ) (size : ℕ) (value : ℕ) : Type 0 where
+  pub small : value < 2 ^ 128
+  pub next : IsNext bytes size (Number value)
+
 -- the piece is what the bytes begin with
 abbrev pub IsPiece : List ℕ → Piece → Type 0
 IsPiece bytes (Gap size) = IsGap bytes size

@@ -1,11 +1,10 @@
 //! Numbers.
 
-ghost use Rattle.std.specs.Prelude.{◌≡◌, ◌==◌, ◌&&◌, ◌≤◌, ◌+◌, ◌*◌, ◌^◌, length, true, slice_index, MatchOption};
+ghost use Rattle.std.specs.Prelude.{◌≡◌, ◌==◌, ◌&&◌, ◌≤◌, ◌+◌, ◌*◌, ◌^◌, ◌<◌, length, true, slice_index, MatchOption};
 ghost use Rattle.std.specs.Char.{is_ascii_digit, is_ascii_hexdigit};
-ghost use Rattle.cal_lexer.specs.Lexeme.{Number};
-ghost use Rattle.cal_lexer.specs.Lexis.{front, IsNext, digit_value, value_of, runs_on, has_leading_zero};
+ghost use Rattle.cal_lexer.specs.Lexis.{front, digit_value, value_of, runs_on, has_leading_zero};
 ghost use Rattle.cal_lexer.specs.Lexis as lexis;
-ghost use Rattle.cal_lexer.specs.Pieces.{IsPiece, IsTooBig};
+ghost use Rattle.cal_lexer.specs.Pieces.{IsNumber, IsPiece, IsTooBig};
 
 use crate::bytes::{begins_name, byte_at, digits_len, hex_len};
 use crate::piece::Piece;
@@ -37,7 +36,7 @@ fn is_hex_mark(first: u8, second: u8, third: u8) -> bool
 /// A number of this many bytes: its token, or its first fault.
 fn numeral(text: &[u8], size: usize, value: Option<u128>) -> Piece
     requires within { size ≤ length text.now }
-    requires read { MatchOption value (IsTooBig text.now size) (λ v. IsNext text.now size (Number v)) }
+    requires read { MatchOption value (IsTooBig text.now size) (IsNumber text.now size) }
     ensures { IsPiece text.now result }
 {
     match value {
@@ -71,7 +70,7 @@ fn has_leading_zero(text: &[u8]) -> bool
 /// The number that digits stand for, unless it needs more than 128 bits.
 fn value(digits: &[u8], base: u128) -> Option<u128>
     requires { 1 ≤ base }
-    ensures { MatchOption result (2 ^ 128 ≤ value_of base digits.now) (λ v. v ≡ value_of base digits.now) }
+    ensures { MatchOption result (2 ^ 128 ≤ value_of base digits.now) (λ v. (v ≡ value_of base digits.now) × (v < 2 ^ 128)) }
 {
     let mut value: u128 = 0;
     for b in digits {
@@ -82,7 +81,7 @@ fn value(digits: &[u8], base: u128) -> Option<u128>
 
 /// The number with one more digit, unless it needs more than 128 bits.
 fn with_digit(value: u128, base: u128, digit: u8) -> Option<u128>
-    ensures { MatchOption result (2 ^ 128 ≤ value * base + digit_value digit) (λ v. v ≡ value * base + digit_value digit) }
+    ensures { MatchOption result (2 ^ 128 ≤ value * base + digit_value digit) (λ v. (v ≡ value * base + digit_value digit) × (v < 2 ^ 128)) }
 {
     value.checked_mul(base)?.checked_add(digit_value(digit))
 }

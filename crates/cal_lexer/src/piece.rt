@@ -8,7 +8,7 @@ ghost use Rattle.cal_lexer.specs.Pieces.{IsPiece};
 use crate::bytes::{is_slash_and, begins_name, byte_at, is_blank, is_foreign, line_len, name_len, until_close};
 use crate::number::number;
 use crate::rules::{FOREIGN_BYTE, MAX_NAME, NAME_TOO_LONG, OPEN_COMMENT, STRING_LITERAL};
-use crate::symbols::longest_symbol;
+use crate::symbols::{Symbol, longest_symbol};
 use crate::token::TokenKind;
 use crate::words::reserved;
 use rvc_base::{Memory, Rule};
@@ -84,7 +84,7 @@ fn token(alloc: Global, text: &[u8]) -> Result<Piece, Memory>
         return Ok(number(text));
     }
     match longest_symbol(text) {
-        Some(found) => Ok(Piece::Token(found.kind, found.size)),
+        Some(Symbol { kind, size }) => Ok(Piece::Token(kind, size)),
         None => unreachable!(),
     }
 }
