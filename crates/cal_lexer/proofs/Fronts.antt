@@ -58,9 +58,9 @@ gap_comment bytes inside e f is less =
     let within : before at_close (drop 2 bytes) < length (drop 2 bytes) = omega arith in
     let fits : before at_close (drop 2 bytes) + 2 ≤ length (drop 2 bytes) = close_fits (drop 2 bytes) within in
     record {
-        positive = omega arith;
-        within = omega arith;
-        is = front_comment bytes e f ∙ rw (lt-ltb (before at_close (drop 2 bytes)) (length (drop 2 bytes)) within) (ap (λ n. Gap (n + 4)) (sym is));
+      positive = omega arith;
+      within = omega arith;
+      is = front_comment bytes e f ∙ rw (lt-ltb (before at_close (drop 2 bytes)) (length (drop 2 bytes)) within) (ap (λ n. Gap (n + 4)) (sym is));
     }
 
 pub open_comment : (bytes : List ℕ) (inside : ℕ) → slice_index bytes 0 ≡ 47 → slice_index bytes 1 ≡ 42 → inside ≡ before at_close (drop 2 bytes) → length bytes - 2 ≤ inside → front bytes ≡ Fault OPEN_COMMENT

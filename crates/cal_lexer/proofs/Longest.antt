@@ -58,37 +58,37 @@ pub longest_three : (bytes : List ℕ) (kind : Lexeme) → Some kind ≡ find (t
 longest_three bytes kind e =
     let len : length (take 3 bytes) ≡ 3 = found_length 3 symbols_of_three (take 3 bytes) kind all_three (sym e) in
     record {
-        positive = omega arith;
-        within = omega (arith, length-take 3 bytes);
-        is = symbol_three (take 3 bytes) len ∙ sym e;
-        longest = λ more less most. symbol_long (take more bytes) (omega (arith, length-take more bytes));
+      positive = omega arith;
+      within = omega (arith, length-take 3 bytes);
+      is = symbol_three (take 3 bytes) len ∙ sym e;
+      longest = λ more less most. symbol_long (take more bytes) (omega (arith, length-take more bytes));
     }
 
 at_three : (bytes : List ℕ) (more : ℕ) → find (take 3 bytes) symbols_of_three ≡ None → 2 < more → more ≤ length bytes → symbol (take more bytes) ≡ None
 at_three bytes more none less most =
     ⊎_elim (λ long. symbol_long (take more bytes) (omega (arith, length-take more bytes)))
-        (λ short. let is : more ≡ 3 = omega arith in rw is (symbol_three (take 3 bytes) (omega (arith, length-take 3 bytes)) ∙ none))
-        (cases_lt 3 more)
+    (λ short. let is : more ≡ 3 = omega arith in rw is (symbol_three (take 3 bytes) (omega (arith, length-take 3 bytes)) ∙ none))
+    (cases_lt 3 more)
 
 pub longest_two : (bytes : List ℕ) (kind : Lexeme) → find (take 3 bytes) symbols_of_three ≡ None → Some kind ≡ find (take 2 bytes) symbols_of_two → IsLongestSymbol bytes 2 kind
 longest_two bytes kind none e =
     let len : length (take 2 bytes) ≡ 2 = found_length 2 symbols_of_two (take 2 bytes) kind all_two (sym e) in
     record {
-        positive = omega arith;
-        within = omega (arith, length-take 2 bytes);
-        is = symbol_two (take 2 bytes) len ∙ sym e;
-        longest = λ more less most. at_three bytes more none less most;
+      positive = omega arith;
+      within = omega (arith, length-take 2 bytes);
+      is = symbol_two (take 2 bytes) len ∙ sym e;
+      longest = λ more less most. at_three bytes more none less most;
     }
 
 pub longest_one : (bytes : List ℕ) (kind : Lexeme) → find (take 3 bytes) symbols_of_three ≡ None → find (take 2 bytes) symbols_of_two ≡ None → Some kind ≡ find (take 1 bytes) symbols_of_one → IsLongestSymbol bytes 1 kind
 longest_one bytes kind none nothing e =
     let len : length (take 1 bytes) ≡ 1 = found_length 1 symbols_of_one (take 1 bytes) kind all_one (sym e) in
     record {
-        positive = omega arith;
-        within = omega (arith, length-take 1 bytes);
-        is = symbol_one (take 1 bytes) len ∙ sym e;
-        longest = λ more less most.
-            ⊎_elim (λ long. at_three bytes more none long most)
-                (λ short. let is : more ≡ 2 = omega arith in rw is (symbol_two (take 2 bytes) (omega (arith, length-take 2 bytes)) ∙ nothing))
-                (cases_lt 2 more);
+      positive = omega arith;
+      within = omega (arith, length-take 1 bytes);
+      is = symbol_one (take 1 bytes) len ∙ sym e;
+      longest = λ more less most.
+          ⊎_elim (λ long. at_three bytes more none long most)
+          (λ short. let is : more ≡ 2 = omega arith in rw is (symbol_two (take 2 bytes) (omega (arith, length-take 2 bytes)) ∙ nothing))
+          (cases_lt 2 more);
     }

@@ -20,9 +20,9 @@ past_gap text done at size so gap =
     let small = gap.within in
     let near = so.within in
     record {
-        within = omega (arith, length-drop at text);
-        lists = λ tokens l. so.lists tokens (after_gap gap.is (subst (λ bytes. LexesFrom bytes (at + size) tokens) (sym (drop-drop size at text)) l));
-        faulty = λ rule place f. so.faulty rule place (behind_gap gap.is (subst (λ bytes. FaultsFrom bytes (at + size) rule place) (sym (drop-drop size at text)) f));
+      within = omega (arith, length-drop at text);
+      lists = λ tokens l. so.lists tokens (after_gap gap.is (subst (λ bytes. LexesFrom bytes (at + size) tokens) (sym (drop-drop size at text)) l));
+      faulty = λ rule place f. so.faulty rule place (behind_gap gap.is (subst (λ bytes. FaultsFrom bytes (at + size) rule place) (sym (drop-drop size at text)) f));
     }
 
 pub past_token : (text : List ℕ) (done : List Placed) (at size : ℕ) (kind : Lexeme) → SoFar text done at → IsToken (drop at text) size kind → SoFar text (done ++ placed kind at ∷ []) (at + size)
@@ -30,11 +30,11 @@ past_token text done at size kind so token =
     let small = token.next.within in
     let near = so.within in
     record {
-        within = omega (arith, length-drop at text);
-        lists = λ tokens l.
-            subst (LexesFrom text 0) (sym (append_assoc done (placed kind at ∷ []) tokens))
-                (so.lists (placed kind at ∷ tokens) (after_token token.next token.flawless (subst (λ bytes. LexesFrom bytes (at + size) tokens) (sym (drop-drop size at text)) l)));
-        faulty = λ rule place f. so.faulty rule place (behind_token token.next token.flawless (subst (λ bytes. FaultsFrom bytes (at + size) rule place) (sym (drop-drop size at text)) f));
+      within = omega (arith, length-drop at text);
+      lists = λ tokens l.
+          subst (LexesFrom text 0) (sym (append_assoc done (placed kind at ∷ []) tokens))
+          (so.lists (placed kind at ∷ tokens) (after_token token.next token.flawless (subst (λ bytes. LexesFrom bytes (at + size) tokens) (sym (drop-drop size at text)) l)));
+      faulty = λ rule place f. so.faulty rule place (behind_token token.next token.flawless (subst (λ bytes. FaultsFrom bytes (at + size) rule place) (sym (drop-drop size at text)) f));
     }
 
 pub finish : (text : List ℕ) (done : List Placed) (at : ℕ) → SoFar text done at → length text ≤ at → LexesFrom text 0 done

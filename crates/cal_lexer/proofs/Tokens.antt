@@ -46,10 +46,10 @@ next_word : (bytes : List ℕ) (n : ℕ) (kind : Lexeme) → front bytes ≡ Tok
 next_word bytes n kind begins named run is =
     let positive : 0 < n = run_positive goes_on_name bytes n (goes_on (slice_index bytes 0) named) (token_some bytes begins) run in
     record {
-        begins = begins;
-        within = run.within;
-        is = token_word n bytes positive named ∙ rw run.pass is;
-        longest = λ more less most. token_word more bytes (omega arith) named ∙ rw (run_longer goes_on_name bytes n more run less most);
+      begins = begins;
+      within = run.within;
+      is = token_word n bytes positive named ∙ rw run.pass is;
+      longest = λ more less most. token_word more bytes (omega arith) named ∙ rw (run_longer goes_on_name bytes n more run less most);
     }
 
 -- reserved words and symbols have no flaw
@@ -110,16 +110,16 @@ reserved_fixed text kind e = fixed_both (find text words) (find text long_ends) 
 symbol_fixed : (text : List ℕ) (kind : Lexeme) → symbol text ≡ Some kind → is_fixed kind ≡ true
 symbol_fixed text kind e =
     fixed_both (find text symbols_of_three) (first_of_both (find text symbols_of_two) (find text symbols_of_one)) kind (fixed_found symbols_of_three text kind three_fixed)
-        (fixed_both (find text symbols_of_two) (find text symbols_of_one) kind (fixed_found symbols_of_two text kind two_fixed) (fixed_found symbols_of_one text kind one_fixed))
-        e
+    (fixed_both (find text symbols_of_two) (find text symbols_of_one) kind (fixed_found symbols_of_two text kind two_fixed) (fixed_found symbols_of_one text kind one_fixed))
+    e
 
 pub reserved_token : (bytes text : List ℕ) (n : ℕ) (kind : Lexeme) → front bytes ≡ Token → begins_name (slice_index bytes 0) ≡ true → IsRun goes_on_name bytes n → text ≡ take n bytes → Some kind ≡ reserved text → IsToken bytes n kind
 reserved_token bytes text n kind begins named run same e =
     let found : reserved (take n bytes) ≡ Some kind = ap reserved (sym same) ∙ sym e in
     record {
-        positive = run_positive goes_on_name bytes n (goes_on (slice_index bytes 0) named) (token_some bytes begins) run;
-        next = next_word bytes n kind begins named run (rw found);
-        flawless = flaw_fixed kind (take n bytes) (drop n bytes) (reserved_fixed (take n bytes) kind found);
+      positive = run_positive goes_on_name bytes n (goes_on (slice_index bytes 0) named) (token_some bytes begins) run;
+      next = next_word bytes n kind begins named run (rw found);
+      flawless = flaw_fixed kind (take n bytes) (drop n bytes) (reserved_fixed (take n bytes) kind found);
     }
 
 next_name : (bytes text : List ℕ) (n : ℕ) → front bytes ≡ Token → begins_name (slice_index bytes 0) ≡ true → IsRun goes_on_name bytes n → text ≡ take n bytes → reserved text ≡ None → IsNext bytes n (Name (take n bytes))
@@ -130,9 +130,9 @@ next_name bytes text n begins named run same e =
 pub name_token : (bytes text : List ℕ) (n : ℕ) → front bytes ≡ Token → begins_name (slice_index bytes 0) ≡ true → IsRun goes_on_name bytes n → text ≡ take n bytes → reserved text ≡ None → n ≤ MAX_NAME → IsToken bytes n (Name text)
 name_token bytes text n begins named run same e small =
     subst (λ t. IsToken bytes n (Name t)) (sym same) (record {
-        positive = run_positive goes_on_name bytes n (goes_on (slice_index bytes 0) named) (token_some bytes begins) run;
-        next = next_name bytes text n begins named run same e;
-        flawless = rw (le-ltb MAX_NAME (length (take n bytes)) (omega (arith, length-take-le n bytes run.within)));
+      positive = run_positive goes_on_name bytes n (goes_on (slice_index bytes 0) named) (token_some bytes begins) run;
+      next = next_name bytes text n begins named run same e;
+      flawless = rw (le-ltb MAX_NAME (length (take n bytes)) (omega (arith, length-take-le n bytes run.within)));
     })
 
 pub name_fault : (bytes text : List ℕ) (n at : ℕ) → front bytes ≡ Token → begins_name (slice_index bytes 0) ≡ true → IsRun goes_on_name bytes n → text ≡ take n bytes → reserved text ≡ None → MAX_NAME < n → FaultsFrom bytes at NAME_TOO_LONG at
@@ -148,14 +148,14 @@ pub symbol_token : (bytes : List ℕ) (size : ℕ) (kind : Lexeme) → front byt
 symbol_token bytes size kind begins name digit found =
     let above = found.positive in
     record {
-        positive = found.positive;
-        next = record {
-            begins = begins;
-            within = found.within;
-            is = token_symbol size bytes found.positive name digit ∙ found.is;
-            longest = λ more less most. token_symbol more bytes (omega arith) name digit ∙ found.longest more less most;
-        };
-        flawless = flaw_fixed kind (take size bytes) (drop size bytes) (symbol_fixed (take size bytes) kind found.is);
+      positive = found.positive;
+      next = record {
+        begins = begins;
+        within = found.within;
+        is = token_symbol size bytes found.positive name digit ∙ found.is;
+        longest = λ more less most. token_symbol more bytes (omega arith) name digit ∙ found.longest more less most;
+      };
+      flawless = flaw_fixed kind (take size bytes) (drop size bytes) (symbol_fixed (take size bytes) kind found.is);
     }
 
 -- numbers
@@ -174,8 +174,8 @@ token_number n bytes h e = rw (first_of_take n bytes h, digit_not_name (slice_in
 second_of_run : (bytes : List ℕ) (n : ℕ) → IsRun is_ascii_digit bytes n → (slice_index (take n bytes) 1 == 120) ≡ false
 second_of_run bytes n run =
     ⊎_elim (λ long. is_x (slice_index (take n bytes) 1) _ refl (passes_at is_ascii_digit (take n bytes) 1 _ refl run.pass (omega (arith, length-take-le n bytes run.within))))
-        (λ short. rw (get_or_past (take n bytes) 1 0 (omega (arith, length-take-le n bytes run.within))))
-        (cases_lt 1 n)
+    (λ short. rw (get_or_past (take n bytes) 1 0 (omega (arith, length-take-le n bytes run.within))))
+    (cases_lt 1 n)
 
 -- without a hexadecimal digit behind the `x` there is no hexadecimal number
 no_hex_at : (bytes : List ℕ) (more : ℕ) (t : Bool) → ((slice_index bytes 0 == 48) && ((slice_index bytes 1 == 120) && is_ascii_hexdigit (slice_index bytes 2))) ≡ false → slice_index (take more bytes) 1 ≡ 120
@@ -204,10 +204,10 @@ pub next_decimal : (bytes : List ℕ) (n : ℕ) → front bytes ≡ Token → is
 next_decimal bytes n begins digit run mark =
     let positive : 0 < n = run_positive is_ascii_digit bytes n digit (token_some bytes begins) run in
     record {
-        begins = begins;
-        within = run.within;
-        is = token_number n bytes positive digit ∙ rw (second_of_run bytes n run, run.pass);
-        longest = λ more less most. token_number more bytes (omega arith) digit ∙ number_none (take more bytes) _ refl (no_hex bytes more mark) (rw (run_longer is_ascii_digit bytes n more run less most));
+      begins = begins;
+      within = run.within;
+      is = token_number n bytes positive digit ∙ rw (second_of_run bytes n run, run.pass);
+      longest = λ more less most. token_number more bytes (omega arith) digit ∙ number_none (take more bytes) _ refl (no_hex bytes more mark) (rw (run_longer is_ascii_digit bytes n more run less most));
     }
 
 hex_some : (xs : List ℕ) → is_ascii_hexdigit (slice_index xs 0) ≡ true → 0 < length xs
@@ -243,14 +243,14 @@ next_hex bytes n h begins zeroth first second run size digits same =
     let within : n ≤ length bytes = omega arith in
     let all : list_all is_ascii_hexdigit (drop 2 (take n bytes)) ≡ true = ap (list_all is_ascii_hexdigit) (behind_two bytes n h size) ∙ run.pass in
     record {
-        begins = begins;
-        within = within;
-        is = token_number n bytes (omega arith) digit ∙ number_hex (take n bytes) (get_or-take n bytes 1 0 (omega arith) ∙ first)
-            ∙ hex_is (take n bytes) (get_or-take n bytes 0 0 (omega arith) ∙ zeroth) (omega (arith, length-take-le n bytes within)) all
-            ∙ ap (λ ds. Some (Number (value_of 16 ds))) (behind_two bytes n h size ∙ sym same);
-        longest = λ more less most.
-            token_number more bytes (omega arith) digit ∙ number_hex (take more bytes) (get_or-take more bytes 1 0 (omega arith) ∙ first)
-            ∙ hex_none (take more bytes) (ap (list_all is_ascii_hexdigit) (behind_two bytes more (more - 2) (omega arith)) ∙ run_longer is_ascii_hexdigit (drop 2 bytes) h (more - 2) run (omega arith) (omega arith));
+      begins = begins;
+      within = within;
+      is = token_number n bytes (omega arith) digit ∙ number_hex (take n bytes) (get_or-take n bytes 1 0 (omega arith) ∙ first)
+          ∙ hex_is (take n bytes) (get_or-take n bytes 0 0 (omega arith) ∙ zeroth) (omega (arith, length-take-le n bytes within)) all
+          ∙ ap (λ ds. Some (Number (value_of 16 ds))) (behind_two bytes n h size ∙ sym same);
+      longest = λ more less most.
+          token_number more bytes (omega arith) digit ∙ number_hex (take more bytes) (get_or-take more bytes 1 0 (omega arith) ∙ first)
+          ∙ hex_none (take more bytes) (ap (list_all is_ascii_hexdigit) (behind_two bytes more (more - 2) (omega arith)) ∙ run_longer is_ascii_hexdigit (drop 2 bytes) h (more - 2) run (omega arith) (omega arith));
     }
 
 number_flaw : (value : ℕ) (text rest : List ℕ) → value < 2 ^ 128 → flaw (Number value) text rest ≡ (if runs_on rest then Some NUMBER_RUNS_ON else (if has_leading_zero text then Some LEADING_ZERO else None))
@@ -271,9 +271,9 @@ positive_number bytes (suc n) value next = omega arith
 
 pub number_token : (bytes : List ℕ) (n value : ℕ) → IsNext bytes n (Number value) → value < 2 ^ 128 → runs_on (drop n bytes) ≡ false → has_leading_zero (take n bytes) ≡ false → IsToken bytes n (Number value)
 number_token bytes n value next small e f = record {
-    positive = positive_number bytes n value next;
-    next = next;
-    flawless = number_flaw value (take n bytes) (drop n bytes) small ∙ rw (e, f);
+  positive = positive_number bytes n value next;
+  next = next;
+  flawless = number_flaw value (take n bytes) (drop n bytes) small ∙ rw (e, f);
 }
 
 pub read_number : (r : Option ℕ) (bytes : List ℕ) (n value : ℕ) → IsNext bytes n (Number value) → MatchOption r (2 ^ 128 ≤ value) (λ v. (v ≡ value) × (v < 2 ^ 128)) → MatchOption r (IsTooBig bytes n) (IsNumber bytes n)

@@ -6,6 +6,8 @@ mod number;
 mod piece;
 mod rules;
 mod symbols;
+#[cfg(test)]
+mod tests;
 mod text;
 mod token;
 mod words;

@@ -5,7 +5,9 @@ ghost use Rattle.cal_lexer.specs.Lexis.{front, begins_name, is_blank, is_foreign
 ghost use Rattle.cal_lexer.specs.Lexis as lexis;
 ghost use Rattle.cal_lexer.specs.Pieces.{IsPiece};
 
-use crate::bytes::{is_slash_and, begins_name, byte_at, is_blank, is_foreign, line_len, name_len, until_close};
+use crate::bytes::{
+    begins_name, byte_at, is_blank, is_foreign, is_slash_and, line_len, name_len, until_close,
+};
 use crate::number::number;
 use crate::rules::{FOREIGN_BYTE, MAX_NAME, NAME_TOO_LONG, OPEN_COMMENT, STRING_LITERAL};
 use crate::symbols::{Symbol, longest_symbol};

@@ -1,4 +1,4 @@
-use Rattle.std.proofs.Common.{◌≡◌, ◌-◌, [], ◌∷◌, ◌++◌, take, drop, length, refl, sym, ap, ◌∙◌, subst, arith}
+use Rattle.std.proofs.Common.{◌≡◌, ◌+◌, ◌-◌, [], ◌∷◌, ◌++◌, take, drop, length, refl, sym, ap, ◌∙◌, subst, arith}
 use Rattle.std.proofs.lemmas.List.{take_all, length-drop, map-append}
 use Rattle.cal_lexer.specs.Lexeme.{lexeme, placed, plain, plain_tokens}
 use Rattle.cal_lexer.specs.Pieces.{IsPiece}
@@ -23,7 +23,7 @@ loop-at-preserved c =
     let token = subst (λ p. IsPiece (drop at text) p) c.in-Token.is piece in
     let done = plain_tokens c.loop-at.tokens.items in
     let longer : plain_tokens c.push.new.self.items ≡ done ++ placed (lexeme c.in-Token.kind) at ∷ [] = ap plain_tokens c.in-Ok-push.ensures.items ∙ map-append plain c.loop-at.tokens.items _ in
-    subst (λ tokens. SoFar text tokens _) (sym longer) (past_token text done at c.in-Token.size (lexeme c.in-Token.kind) c.loop-at.invariant token)
+    subst (λ tokens. SoFar text tokens (at + c.in-Token.size)) (sym longer) (past_token text done at c.in-Token.size (lexeme c.in-Token.kind) c.loop-at.invariant token)
 
 pub returns-in-Fault-clause-read : goal.returns-in-Fault-clause-read
 returns-in-Fault-clause-read c = λ tokens l.
