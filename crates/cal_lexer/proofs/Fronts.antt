@@ -4,7 +4,7 @@ use Rattle.std.proofs.lemmas.List.{length-drop}
 use Rattle.std.specs.Prelude.{◌&&◌, ◌||◌, ◌==◌, not, is_some, if◌then◌else◌, slice_index}
 use borrow.Author.Tests.{le-ltb}
 use Rattle.rvc_base.specs.declared.refusal.Rule.{Rule}
-use Rattle.cal_lexer.specs.declared.rules.TheConstants.{FOREIGN_BYTE, OPEN_COMMENT, STRING_LITERAL}
+use Rattle.cal_lexer.specs.Rules.{foreign_byte, open_comment, string_literal}
 use Rattle.cal_lexer.specs.Lexis.{front, Front, Nothing, Gap, Fault, Token, before, at_line_end, at_close, comment, is_blank, begins_name, goes_on_name, is_foreign, in_alphabet, find, symbols_of_one, symbols_of_two}
 use Rattle.std.specs.Char.{is_ascii_digit}
 use Rattle.cal_lexer.specs.Pieces.{IsGap}
@@ -63,13 +63,13 @@ gap_comment bytes inside e f is less =
       is = front_comment bytes e f ∙ rw (lt-ltb (before at_close (drop 2 bytes)) (length (drop 2 bytes)) within) (ap (λ n. Gap (n + 4)) (sym is));
     }
 
-pub open_comment : (bytes : List ℕ) (inside : ℕ) → slice_index bytes 0 ≡ 47 → slice_index bytes 1 ≡ 42 → inside ≡ before at_close (drop 2 bytes) → length bytes - 2 ≤ inside → front bytes ≡ Fault OPEN_COMMENT
-open_comment bytes inside e f is most =
+pub unclosed : (bytes : List ℕ) (inside : ℕ) → slice_index bytes 0 ≡ 47 → slice_index bytes 1 ≡ 42 → inside ≡ before at_close (drop 2 bytes) → length bytes - 2 ≤ inside → front bytes ≡ Fault open_comment
+unclosed bytes inside e f is most =
     let len = length-drop 2 bytes in
     let past : length (drop 2 bytes) ≤ before at_close (drop 2 bytes) = omega arith in
     front_comment bytes e f ∙ rw (le-ltb (before at_close (drop 2 bytes)) (length (drop 2 bytes)) past)
 
-pub front_quote : (bytes : List ℕ) → slice_index bytes 0 ≡ 34 → front bytes ≡ Fault STRING_LITERAL
+pub front_quote : (bytes : List ℕ) → slice_index bytes 0 ≡ 34 → front bytes ≡ Fault string_literal
 front_quote [] e = absurd (omega arith)
 front_quote (b ∷ rest) e = rw e
 
@@ -83,7 +83,7 @@ last blank line block quote foreign other a b c d e f p q r s t = rw (p, q, r, s
 
 -- neither a blank, nor a comment, nor a quote
 pub front_other : (bytes : List ℕ) (foreign : Bool) → 0 < length bytes → is_blank (slice_index bytes 0) ≡ false → ((slice_index bytes 0 == 47) && (slice_index bytes 1 == 47)) ≡ false → ((slice_index bytes 0 == 47) && (slice_index bytes 1 == 42)) ≡ false
-    → (slice_index bytes 0 == 34) ≡ false → is_foreign (slice_index bytes 0) (slice_index bytes 1) ≡ foreign → front bytes ≡ (if foreign then Fault FOREIGN_BYTE else Token)
+    → (slice_index bytes 0 == 34) ≡ false → is_foreign (slice_index bytes 0) (slice_index bytes 1) ≡ foreign → front bytes ≡ (if foreign then Fault foreign_byte else Token)
 front_other [] foreign h blank line block quote is = absurd (omega arith)
 front_other (b ∷ rest) foreign h blank line block quote is = last _ _ _ _ _ _ _ _ _ _ _ _ blank line block quote is
 

@@ -9,7 +9,7 @@ use Rattle.std.specs.List.{list_all}
 use Rattle.std.specs.Char.{is_ascii_digit, is_ascii_hexdigit}
 use borrow.Author.Tests.{le-ltb, le-leb, lt-leb, ltb-true}
 use Rattle.rvc_base.specs.declared.refusal.Rule.{Rule}
-use Rattle.cal_lexer.specs.declared.rules.TheConstants.{NUMBER_TOO_BIG, NUMBER_RUNS_ON, LEADING_ZERO, NAME_TOO_LONG, MAX_NAME}
+use Rattle.cal_lexer.specs.Rules.{number_too_big, number_runs_on, leading_zero, name_too_long, max_name}
 use Rattle.cal_lexer.specs.Lexeme.{Lexeme, Name, Number}
 use Rattle.cal_lexer.specs.Lexis.{front, Token, IsNext, flaw, token_of, word, number, hexadecimal, decimal_number, value_of, symbol, begins_name, goes_on_name, reserved, first_of_both, find, words, long_ends, symbols_of_one, symbols_of_two, symbols_of_three, runs_on, has_leading_zero}
 use Rattle.cal_lexer.specs.Lexes.{FaultsFrom, flawed}
@@ -127,17 +127,17 @@ next_name bytes text n begins named run same e =
     let found : reserved (take n bytes) ≡ None = ap reserved (sym same) ∙ e in
     next_word bytes n (Name (take n bytes)) begins named run (rw found)
 
-pub name_token : (bytes text : List ℕ) (n : ℕ) → front bytes ≡ Token → begins_name (slice_index bytes 0) ≡ true → IsRun goes_on_name bytes n → text ≡ take n bytes → reserved text ≡ None → n ≤ MAX_NAME → IsToken bytes n (Name text)
+pub name_token : (bytes text : List ℕ) (n : ℕ) → front bytes ≡ Token → begins_name (slice_index bytes 0) ≡ true → IsRun goes_on_name bytes n → text ≡ take n bytes → reserved text ≡ None → n ≤ max_name → IsToken bytes n (Name text)
 name_token bytes text n begins named run same e small =
     subst (λ t. IsToken bytes n (Name t)) (sym same) (record {
       positive = run_positive goes_on_name bytes n (goes_on (slice_index bytes 0) named) (token_some bytes begins) run;
       next = next_name bytes text n begins named run same e;
-      flawless = rw (le-ltb MAX_NAME (length (take n bytes)) (omega (arith, length-take-le n bytes run.within)));
+      flawless = rw (le-ltb max_name (length (take n bytes)) (omega (arith, length-take-le n bytes run.within)));
     })
 
-pub name_fault : (bytes text : List ℕ) (n at : ℕ) → front bytes ≡ Token → begins_name (slice_index bytes 0) ≡ true → IsRun goes_on_name bytes n → text ≡ take n bytes → reserved text ≡ None → MAX_NAME < n → FaultsFrom bytes at NAME_TOO_LONG at
+pub name_fault : (bytes text : List ℕ) (n at : ℕ) → front bytes ≡ Token → begins_name (slice_index bytes 0) ≡ true → IsRun goes_on_name bytes n → text ≡ take n bytes → reserved text ≡ None → max_name < n → FaultsFrom bytes at name_too_long at
 name_fault bytes text n at begins named run same e big =
-    flawed (next_name bytes text n begins named run same e) (rw (lt-ltb MAX_NAME (length (take n bytes)) (omega (arith, length-take-le n bytes run.within))))
+    flawed (next_name bytes text n begins named run same e) (rw (lt-ltb max_name (length (take n bytes)) (omega (arith, length-take-le n bytes run.within))))
 
 -- symbols
 
@@ -253,16 +253,16 @@ next_hex bytes n h begins zeroth first second run size digits same =
           ∙ hex_none (take more bytes) (ap (list_all is_ascii_hexdigit) (behind_two bytes more (more - 2) (omega arith)) ∙ run_longer is_ascii_hexdigit (drop 2 bytes) h (more - 2) run (omega arith) (omega arith));
     }
 
-number_flaw : (value : ℕ) (text rest : List ℕ) → value < 2 ^ 128 → flaw (Number value) text rest ≡ (if runs_on rest then Some NUMBER_RUNS_ON else (if has_leading_zero text then Some LEADING_ZERO else None))
+number_flaw : (value : ℕ) (text rest : List ℕ) → value < 2 ^ 128 → flaw (Number value) text rest ≡ (if runs_on rest then Some number_runs_on else (if has_leading_zero text then Some leading_zero else None))
 number_flaw value text rest h = let e : nat_le (2 ^ 128) value ≡ false = lt-leb (2 ^ 128) value h in rw e
 
-pub too_big : (bytes : List ℕ) (n at : ℕ) → IsTooBig bytes n → FaultsFrom bytes at NUMBER_TOO_BIG at
+pub too_big : (bytes : List ℕ) (n at : ℕ) → IsTooBig bytes n → FaultsFrom bytes at number_too_big at
 too_big bytes n at big = flawed big.next (rw (le-leb (2 ^ 128) big.value big.big))
 
-pub runs_on_fault : (bytes : List ℕ) (n value at : ℕ) → IsNext bytes n (Number value) → value < 2 ^ 128 → runs_on (drop n bytes) ≡ true → FaultsFrom bytes at NUMBER_RUNS_ON at
+pub runs_on_fault : (bytes : List ℕ) (n value at : ℕ) → IsNext bytes n (Number value) → value < 2 ^ 128 → runs_on (drop n bytes) ≡ true → FaultsFrom bytes at number_runs_on at
 runs_on_fault bytes n value at next small e = flawed next (number_flaw value (take n bytes) (drop n bytes) small ∙ rw e)
 
-pub zero_fault : (bytes : List ℕ) (n value at : ℕ) → IsNext bytes n (Number value) → value < 2 ^ 128 → runs_on (drop n bytes) ≡ false → has_leading_zero (take n bytes) ≡ true → FaultsFrom bytes at LEADING_ZERO at
+pub zero_fault : (bytes : List ℕ) (n value at : ℕ) → IsNext bytes n (Number value) → value < 2 ^ 128 → runs_on (drop n bytes) ≡ false → has_leading_zero (take n bytes) ≡ true → FaultsFrom bytes at leading_zero at
 zero_fault bytes n value at next small e f = flawed next (number_flaw value (take n bytes) (drop n bytes) small ∙ rw (e, f))
 
 positive_number : (bytes : List ℕ) (n value : ℕ) → IsNext bytes n (Number value) → 0 < n

@@ -4,7 +4,7 @@ use Rattle.std.specs.List.{list_all}
 use Rattle.std.specs.Str.{bytes_eq}
 use Rattle.std.specs.Char.{is_ascii_alphabetic, is_ascii_digit, is_ascii_hexdigit}
 use Rattle.rvc_base.specs.declared.refusal.Rule.{Rule}
-use Rattle.cal_lexer.specs.declared.rules.TheConstants.{FOREIGN_BYTE, OPEN_COMMENT, NUMBER_TOO_BIG, NUMBER_RUNS_ON, STRING_LITERAL, LEADING_ZERO, NAME_TOO_LONG, MAX_NAME}
+use Rattle.cal_lexer.specs.Rules.{foreign_byte, open_comment, number_too_big, number_runs_on, string_literal, leading_zero, name_too_long, max_name}
 use Rattle.cal_lexer.specs.Lexeme.{Lexeme, Placed, placed, Name, Number, Actor, Unit, Package, Import, Action, Initialize, Function, Procedure, Guard, Var, Do, Begin, End, If, Then, Elsif, Else, While, Foreach, For, In, Repeat, Schedule, Fsm, Priority, True, False, Not, And, Or, Div, Mod, EndActor, EndUnit, EndAction, EndInitialize, EndFunction, EndProcedure, EndIf, EndWhile, EndForeach, EndBegin, EndSchedule, EndPriority, LongDoubleArrow, LongArrow, Assign, DotDot, LessEqual, GreaterEqual, NotEqual, ShiftLeft, ShiftRight, AndAnd, OrOr, LeftParen, RightParen, LeftBracket, RightBracket, Comma, Semicolon, Colon, Dot, Plus, Minus, Star, Slash, Equal, Less, Greater, Ampersand, Bar, Caret, Tilde}
 
 -- Bytes. The byte at a place past the end is 0, which nothing of the lexis has.
@@ -190,15 +190,15 @@ pub data Front : Type 0 where
 -- what a comment is that begins with `/*`, by the bytes behind these two
 abbrev pub comment : List ℕ → Front
 comment inside =
-    if nat_lt (before at_close inside) (length inside) then Gap (before at_close inside + 4) else Fault OPEN_COMMENT
+    if nat_lt (before at_close inside) (length inside) then Gap (before at_close inside + 4) else Fault open_comment
 
 abbrev pub some_front : List ℕ → Front
 some_front bytes =
     if is_blank (slice_index bytes 0) then Gap 1
     else (if (slice_index bytes 0 == 47) && (slice_index bytes 1 == 47) then Gap (before at_line_end bytes)
     else (if (slice_index bytes 0 == 47) && (slice_index bytes 1 == 42) then comment (drop 2 bytes)
-    else (if slice_index bytes 0 == 34 then Fault STRING_LITERAL
-    else (if is_foreign (slice_index bytes 0) (slice_index bytes 1) then Fault FOREIGN_BYTE
+    else (if slice_index bytes 0 == 34 then Fault string_literal
+    else (if is_foreign (slice_index bytes 0) (slice_index bytes 1) then Fault foreign_byte
     else Token))))
 
 abbrev pub front : List ℕ → Front
@@ -223,9 +223,9 @@ has_leading_zero text = (slice_index text 0 == 48) && (nat_lt 1 (length text) &&
 -- the first rule that a token breaks, by its text and the bytes behind it
 abbrev pub flaw : Lexeme → List ℕ → List ℕ → Option Rule
 flaw (Number value) text rest =
-    if nat_le (2 ^ 128) value then Some NUMBER_TOO_BIG
-    else (if runs_on rest then Some NUMBER_RUNS_ON
-    else (if has_leading_zero text then Some LEADING_ZERO
+    if nat_le (2 ^ 128) value then Some number_too_big
+    else (if runs_on rest then Some number_runs_on
+    else (if has_leading_zero text then Some leading_zero
     else None))
-flaw (Name name) text rest = if nat_lt MAX_NAME (length name) then Some NAME_TOO_LONG else None
+flaw (Name name) text rest = if nat_lt max_name (length name) then Some name_too_long else None
 flaw _ text rest = None

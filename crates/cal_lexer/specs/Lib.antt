@@ -1,3 +1,4 @@
+pub mod Rules
 pub mod Lexeme
 pub mod Lexis
 pub mod Lexes
