@@ -1,17 +1,17 @@
 -- The forms whose parts are both trees and lists of trees: equal parts make equal forms.
-use Rattle.std.proofs.Common.{◌≡◌, ℕ, map, Vec, Option, Some, None, Global, Box, refl, sym, ap, ◌∙◌, rules}
-use Rattle.cal_ast.specs.Tree.{Tree, comp, if_stmt, listed, absent, present}
+use Rattle.std.proofs.Common.{◌≡◌, ℕ, map, Vec, Option, Some, None, Global, Box, sym, ap, ◌∙◌, rules}
+use Rattle.cal_ast.specs.Tree.{Tree, comp, if_stmt, listed}
 use Rattle.cal_ast.specs.View.{expr_tree, form_tree, gen_tree, stmt_tree, stmt_form_tree, body_tree, stmt_form_step, stmt_step}
 use Rattle.cal_ast.specs.declared.expr.Expr.{Expr}
 use Rattle.cal_ast.specs.declared.expr.Gen.{Gen}
-use Rattle.cal_ast.specs.declared.expr.ExprForm.{ExprForm, Comp}
+use Rattle.cal_ast.specs.declared.expr.ExprForm.{Comp}
 use Rattle.cal_ast.specs.declared.expr.ExprForm as forms
 use Rattle.cal_ast.specs.declared.stmt.Stmt.{Stmt}
 use Rattle.cal_ast.specs.declared.stmt.StmtForm.{StmtForm, If}
 use Rattle.cal_ast.specs.declared.stmt.StmtForm as stmts
 use Rattle.cal_ast.specs.declared.stmt.StmtForm.TheVariants.{rolls-If}
 use Rattle.cal_ast.specs.declared.stmt.StmtForm.TheOpen.{StmtForm-F}
-use Rattle.cal_ast.specs.declared.stmt.StmtForm.TheFolds.{fold-roll-StmtForm, map-StmtForm}
+use Rattle.cal_ast.specs.declared.stmt.StmtForm.TheFolds.{fold-roll-StmtForm}
 
 form-Comp : (item : Box Expr Global) (gens : Vec Gen Global) (at : ℕ) → form_tree (Comp item gens) at ≡ comp (expr_tree item.value) (listed (map gen_tree gens.items)) at
 form-Comp item gens at = search (rules, forms.the_lemmas)

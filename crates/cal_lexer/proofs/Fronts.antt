@@ -1,11 +1,10 @@
 -- Blanks, comments and faults at the front of a text.
-use Rattle.std.proofs.Common.{◌≡◌, ℕ, zero, suc, ◌+◌, ◌-◌, ◌<◌, ◌≤◌, Bool, true, false, List, [], ◌∷◌, length, take, drop, get_or, Option, Some, None, refl, sym, ap, ◌∙◌, arith, eqb-true, eq-eqb, lt-ltb}
+use Rattle.std.proofs.Common.{◌≡◌, ℕ, suc, ◌+◌, ◌-◌, ◌<◌, ◌≤◌, Bool, true, false, List, [], ◌∷◌, length, take, drop, None, refl, sym, ap, ◌∙◌, arith, eqb-true, lt-ltb}
 use Rattle.std.proofs.lemmas.List.{length-drop}
 use Rattle.std.specs.Prelude.{◌&&◌, ◌||◌, ◌==◌, not, is_some, if◌then◌else◌, slice_index}
 use borrow.Author.Tests.{le-ltb}
-use Rattle.rvc_base.specs.declared.refusal.Rule.{Rule}
 use Rattle.cal_lexer.specs.Rules.{foreign_byte, open_comment, string_literal}
-use Rattle.cal_lexer.specs.Lexis.{front, Front, Nothing, Gap, Fault, Token, before, at_line_end, at_close, comment, is_blank, begins_name, goes_on_name, is_foreign, in_alphabet, find, symbols_of_one, symbols_of_two}
+use Rattle.cal_lexer.specs.Lexis.{front, Front, Gap, Fault, Token, before, at_line_end, at_close, comment, is_blank, begins_name, is_foreign, in_alphabet, find, symbols_of_one, symbols_of_two}
 use Rattle.std.specs.Char.{is_ascii_digit}
 use Rattle.cal_lexer.specs.Pieces.{IsGap}
 

@@ -1,9 +1,9 @@
 -- A text has one list of tokens or one first fault, and not both.
-use Rattle.std.proofs.Common.{◌≡◌, ℕ, ◌+◌, ◌<◌, List, [], ◌∷◌, take, drop, Some, None, refl, sym, ap, ◌∙◌, subst, ⊎_elim, arith}
+use Rattle.std.proofs.Common.{◌≡◌, ℕ, ◌+◌, ◌<◌, List, take, drop, refl, subst, ⊎_elim, arith}
 use Rattle.std.proofs.lemmas.Bool.{cases_lt}
 use Rattle.rvc_base.specs.declared.refusal.Rule.{Rule}
-use Rattle.cal_lexer.specs.Lexeme.{Lexeme, Placed, placed}
-use Rattle.cal_lexer.specs.Lexis.{front, Front, Nothing, Gap, Fault, Token, IsNext, flaw, token_of}
+use Rattle.cal_lexer.specs.Lexeme.{Lexeme, Placed}
+use Rattle.cal_lexer.specs.Lexis.{front, Gap, IsNext, flaw}
 use Rattle.cal_lexer.specs.Lexes.{LexesFrom, ends, after_gap, after_token, FaultsFrom, no_token, flawed, behind_gap, behind_token}
 
 no_longer : (bytes : List ℕ) (n m : ℕ) (k l : Lexeme) → IsNext bytes n k → IsNext bytes m l → n < m → ⊥

@@ -1,9 +1,8 @@
 -- The number that digits stand for.
-use Rattle.std.proofs.Common.{◌≡◌, ℕ, suc, zero, ◌+◌, ◌*◌, ◌<◌, ◌≤◌, Bool, true, false, List, [], ◌∷◌, length, take, drop, get_or, refl, sym, ap, ◌∙◌, arith, rules}
-use Rattle.std.specs.Prelude.{fold, if◌then◌else◌}
+use Rattle.std.proofs.Common.{ℕ, suc, zero, ◌+◌, ◌*◌, ◌≤◌, List, [], ◌∷◌, take, arith}
+use Rattle.std.specs.Prelude.{fold}
 use Rattle.std.proofs.Math.Nat.{mul-le-mul_left}
-use Rattle.std.proofs.Common.{add-one}
-use Rattle.cal_lexer.specs.Lexis.{before, value_of, digit_value}
+use Rattle.cal_lexer.specs.Lexis.{value_of, digit_value}
 
 -- more digits make no smaller number
 grows : (base acc : ℕ) (digits : List ℕ) → 1 ≤ base → acc ≤ fold (λ value b. value * base + digit_value b) acc digits

@@ -1,9 +1,8 @@
 -- What was read so far, and what is left.
-use Rattle.std.proofs.Common.{◌≡◌, ℕ, ◌+◌, ◌≤◌, ◌<◌, List, [], ◌∷◌, ◌++◌, length, drop, take, refl, sym, ap, ◌∙◌, subst, append_assoc, append-nil, arith}
+use Rattle.std.proofs.Common.{◌≡◌, ℕ, ◌+◌, ◌≤◌, List, [], ◌∷◌, ◌++◌, length, drop, sym, subst, append_assoc, append-nil, arith}
 use Rattle.std.proofs.lemmas.List.{drop-drop, length-drop, drop_all}
 use Rattle.rvc_base.specs.declared.refusal.Rule.{Rule}
 use Rattle.cal_lexer.specs.Lexeme.{Lexeme, Placed, placed}
-use Rattle.cal_lexer.specs.Lexis.{front, IsNext, flaw}
 use Rattle.cal_lexer.specs.Lexes.{LexesFrom, ends, after_gap, after_token, FaultsFrom, behind_gap, behind_token}
 use Rattle.cal_lexer.specs.Pieces.{IsGap, IsToken}
 

@@ -1,14 +1,13 @@
 -- The longest token at the front of a text, and its first flaw.
-use Rattle.std.proofs.Common.{◌≡◌, ℕ, zero, suc, ◌+◌, ◌-◌, ◌*◌, ◌^◌, ◌<◌, ◌≤◌, Bool, true, false, List, [], ◌∷◌, length, take, drop, get_or, Option, Some, None, refl, sym, ap, ◌∙◌, subst, ⊎_elim, arith, eqb-true, eq-eqb, lt-ltb}
+use Rattle.std.proofs.Common.{◌≡◌, ℕ, zero, suc, ◌+◌, ◌-◌, ◌^◌, ◌<◌, ◌≤◌, Bool, true, false, List, [], ◌∷◌, length, take, drop, get_or, Option, Some, None, refl, sym, ap, ◌∙◌, subst, ⊎_elim, arith, eqb-true, lt-ltb}
 use Rattle.std.proofs.lemmas.Bool.{cases_lt}
 use Rattle.std.proofs.lemmas.Bool.Decides.{nat_tests}
 use Rattle.std.proofs.lemmas.List.{get_or_past, length-take, length-drop, get_or-take, get_or-drop, drop-take, length-take-le}
 use Rattle.std.proofs.lemmas.List.Folds.{list_all_at}
-use Rattle.std.specs.Prelude.{◌&&◌, ◌||◌, ◌==◌, not, MatchOption, if◌then◌else◌, slice_index, nat_lt, nat_le}
+use Rattle.std.specs.Prelude.{◌&&◌, ◌==◌, MatchOption, if◌then◌else◌, slice_index, nat_lt, nat_le}
 use Rattle.std.specs.List.{list_all}
 use Rattle.std.specs.Char.{is_ascii_digit, is_ascii_hexdigit}
 use borrow.Author.Tests.{le-ltb, le-leb, lt-leb, ltb-true}
-use Rattle.rvc_base.specs.declared.refusal.Rule.{Rule}
 use Rattle.cal_lexer.specs.Rules.{number_too_big, number_runs_on, leading_zero, name_too_long, max_name}
 use Rattle.cal_lexer.specs.Lexeme.{Lexeme, Name, Number}
 use Rattle.cal_lexer.specs.Lexis.{front, Token, IsNext, flaw, token_of, word, number, hexadecimal, decimal_number, value_of, symbol, begins_name, goes_on_name, reserved, first_of_both, find, words, long_ends, symbols_of_one, symbols_of_two, symbols_of_three, runs_on, has_leading_zero}

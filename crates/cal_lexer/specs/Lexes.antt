@@ -4,7 +4,7 @@ use Rattle.rvc_base.specs.declared.refusal.Rule.{Rule}
 use Rattle.rvc_base.specs.declared.refusal.Front.{Front as Answer}
 use Rattle.rvc_base.specs.declared.refusal.Front.TheVariants.{Refused, Memory}
 use Rattle.cal_lexer.specs.Lexeme.{Lexeme, Placed, placed}
-use Rattle.cal_lexer.specs.Lexis.{front, Nothing, Gap, Fault, Token, IsNext, flaw}
+use Rattle.cal_lexer.specs.Lexis.{front, Gap, Fault, IsNext, flaw}
 
 -- These bytes, which stand from an offset on, have these tokens and no fault.
 pub data LexesFrom : List ℕ → ℕ → List Placed → Type 0 where

@@ -5,7 +5,7 @@ use Rattle.std.specs.Str.{bytes_eq}
 use Rattle.std.specs.Char.{is_ascii_alphabetic, is_ascii_digit, is_ascii_hexdigit}
 use Rattle.rvc_base.specs.declared.refusal.Rule.{Rule}
 use Rattle.cal_lexer.specs.Rules.{foreign_byte, open_comment, number_too_big, number_runs_on, string_literal, leading_zero, name_too_long, max_name}
-use Rattle.cal_lexer.specs.Lexeme.{Lexeme, Placed, placed, Name, Number, Actor, Unit, Package, Import, Action, Initialize, Function, Procedure, Guard, Var, Do, Begin, End, If, Then, Elsif, Else, While, Foreach, For, In, Repeat, Schedule, Fsm, Priority, True, False, Not, And, Or, Div, Mod, EndActor, EndUnit, EndAction, EndInitialize, EndFunction, EndProcedure, EndIf, EndWhile, EndForeach, EndBegin, EndSchedule, EndPriority, LongDoubleArrow, LongArrow, Assign, DotDot, LessEqual, GreaterEqual, NotEqual, ShiftLeft, ShiftRight, AndAnd, OrOr, LeftParen, RightParen, LeftBracket, RightBracket, Comma, Semicolon, Colon, Dot, Plus, Minus, Star, Slash, Equal, Less, Greater, Ampersand, Bar, Caret, Tilde}
+use Rattle.cal_lexer.specs.Lexeme.{Lexeme, Name, Number, Actor, Unit, Package, Import, Action, Initialize, Function, Procedure, Guard, Var, Do, Begin, End, If, Then, Elsif, Else, While, Foreach, For, In, Repeat, Schedule, Fsm, Priority, True, False, Not, And, Or, Div, Mod, EndActor, EndUnit, EndAction, EndInitialize, EndFunction, EndProcedure, EndIf, EndWhile, EndForeach, EndBegin, EndSchedule, EndPriority, LongDoubleArrow, LongArrow, Assign, DotDot, LessEqual, GreaterEqual, NotEqual, ShiftLeft, ShiftRight, AndAnd, OrOr, LeftParen, RightParen, LeftBracket, RightBracket, Comma, Semicolon, Colon, Dot, Plus, Minus, Star, Slash, Equal, Less, Greater, Ampersand, Bar, Caret, Tilde}
 
 -- Bytes. The byte at a place past the end is 0, which nothing of the lexis has.
 

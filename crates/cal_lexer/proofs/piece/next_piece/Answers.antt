@@ -1,7 +1,6 @@
-use Rattle.std.proofs.Common.{◌≡◌, true, false, sym, ap, ◌∙◌, subst}
-use Rattle.std.specs.Prelude.{◌&&◌, ◌==◌, slice_index}
+use Rattle.std.proofs.Common.{◌≡◌, true, false, sym, ◌∙◌, subst}
+use Rattle.std.specs.Prelude.{slice_index}
 use borrow.Author.Tests.{ne_eqb}
-use Rattle.cal_lexer.specs.Lexis.{before, at_line_end, is_blank, is_foreign}
 use Rattle.cal_lexer.specs.Lexes.{no_token}
 use Rattle.cal_lexer.specs.Pieces.{IsGap}
 use Rattle.cal_lexer.proofs.Fronts.{gap_line, front_quote, front_other, first_is, second_is}
