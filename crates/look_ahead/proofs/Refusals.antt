@@ -8,9 +8,9 @@ use Rattle.look_ahead.proofs.Frames.{Framed, IsFramed, read_framed}
 
 module _ {Token Tree Rule : Type 0} (body : Rule → Program Token Tree Rule) (size : Rule → List Token → ℕ) (P : ℕ → Rule → List Token → Outcome Token Tree → Type 0) (spent : (m : ℕ) (r : Rule) (ts : List Token) → P m r ts Spent) (gets : (m : ℕ) (r : Rule) (ts : List Token) → Gets P (λ r' ts'. size r' ts' < size r ts) m (body r) ts (P m r ts)) (top : Rule) (Spelled : List Token → Tree → Type 0) (height : Tree → ℕ) (complete : (m : ℕ) (ts : List Token) (x : Tree) → Spelled ts x → height x ≤ m → read body size m top ts ≡ Gave x []) where
   frame_at : (m : ℕ) (ts left : List Token) (make : List Token → Outcome Token Tree) (o : Outcome Token Tree) → read body size m top ts ≡ o → (Framed (read body size m top) ts o → IsFramed (read body size m top) make ts left) → IsFramed (read body size m top) make ts left
-  frame_at m ts left make o e as =
+  frame_at m ts left make o e turn =
       let h : Framed (read body size m top) ts (read body size m top ts) = read_framed body size P spent gets m top ts in
-      as (rw e at h)
+      turn (rw e at h)
 
   kept_at : (m more : ℕ) (ts left : List Token) → m ≤ more → read body size m top ts ≡ Refused left → read body size more top ts ≡ Refused left
   kept_at m more ts left less e =
@@ -25,10 +25,10 @@ module _ {Token Tree Rule : Type 0} (body : Rule → Program Token Tree Rule) (s
         front = h.front;
         is_front = h.is_front;
         none = λ other x same spelled.
-        let here : read body size m top (h.front ++ other) ≡ Refused other = h.same other same in
-        let above : read body size (max m (height x)) top (h.front ++ other) ≡ Refused other = kept_at m (max m (height x)) (h.front ++ other) other (omega arith) here in
-        let gave : read body size (max m (height x)) top (h.front ++ other) ≡ Gave x [] = complete (max m (height x)) (h.front ++ other) x spelled (omega arith) in
-        cc;
+            let here : read body size m top (h.front ++ other) ≡ Refused other = h.same other same in
+            let above : read body size (max m (height x)) top (h.front ++ other) ≡ Refused other = kept_at m (max m (height x)) (h.front ++ other) other (omega arith) here in
+            let gave : read body size (max m (height x)) top (h.front ++ other) ≡ Gave x [] = complete (max m (height x)) (h.front ++ other) x spelled (omega arith) in
+            cc;
       }
 
   -- where it finds what is too high, no list that goes on alike spells a tree that fits
@@ -40,9 +40,9 @@ module _ {Token Tree Rule : Type 0} (body : Rule → Program Token Tree Rule) (s
         front = h.front;
         is_front = h.is_front;
         none = λ other x same low spelled.
-        let here : read body size m top (h.front ++ other) ≡ TooHigh other = h.same other same in
-        let gave : read body size m top (h.front ++ other) ≡ Gave x [] = complete m (h.front ++ other) x spelled low in
-        cc;
+            let here : read body size m top (h.front ++ other) ≡ TooHigh other = h.same other same in
+            let gave : read body size m top (h.front ++ other) ≡ Gave x [] = complete m (h.front ++ other) x spelled low in
+            cc;
         far = omega arith;
       }
 
