@@ -1,89 +1,106 @@
 -- The words are told apart by their numbers.
-use Rattle.std.proofs.Common.{◌≡◌, ℕ, zero, suc, List, [], ◌∷◌, get_or, Bool, true, false, nat_eq, refl, sym, ap, ◌∙◌, arith}
-use Rattle.cal_parser.specs.declared.word.Word.{Word}
-use Rattle.cal_parser.specs.declared.word.Word.TheVariants.{Actor, Unit, Package, Import, Action, Initialize, Function, Procedure, Guard, Var, Do, Begin, End, If, Then, Elsif, Else, While, Foreach, For, In, Repeat, Schedule, Fsm, Priority, True, False, Not, And, Or, Div, Mod, EndActor, EndUnit, EndAction, EndInitialize, EndFunction, EndProcedure, EndIf, EndWhile, EndForeach, EndBegin, EndSchedule, EndPriority, LongDoubleArrow, LongArrow, Assign, DotDot, LessEqual, GreaterEqual, NotEqual, ShiftLeft, ShiftRight, AndAnd, OrOr, LeftParen, RightParen, LeftBracket, RightBracket, Comma, Semicolon, Colon, Dot, Plus, Minus, Star, Slash, Equal, Less, Greater, Ampersand, Bar, Caret, Tilde}
+use Rattle.std.proofs.Common.{◌≡◌, ℕ, zero, suc, ◌⊎◌, inl, inr, List, [], ◌∷◌, get_or, Bool, true, false, ◌&&◌, nat_eq, nat_lt, refl, sym, ap, ◌∙◌, arith}
+use Rattle.std.proofs.lemmas.Bool.{eqb-true}
+use Rattle.cal_lexer.specs.Lexeme.{Lexeme}
 use Rattle.cal_parser.specs.Token.{word_number, same_word}
 
-words : List Word
-words = Actor ∷ Unit ∷ Package ∷ Import ∷ Action ∷ Initialize ∷ Function ∷ Procedure ∷ Guard ∷ Var ∷ Do ∷ Begin ∷ End ∷ If ∷ Then ∷ Elsif ∷ Else ∷ While ∷ Foreach ∷ For ∷ In ∷ Repeat ∷ Schedule ∷ Fsm ∷ Priority ∷ True ∷ False ∷ Not ∷ And ∷ Or ∷ Div ∷ Mod ∷ EndActor ∷ EndUnit ∷ EndAction ∷ EndInitialize ∷ EndFunction ∷ EndProcedure ∷ EndIf ∷ EndWhile ∷ EndForeach ∷ EndBegin ∷ EndSchedule ∷ EndPriority ∷ LongDoubleArrow ∷ LongArrow ∷ Assign ∷ DotDot ∷ LessEqual ∷ GreaterEqual ∷ NotEqual ∷ ShiftLeft ∷ ShiftRight ∷ AndAnd ∷ OrOr ∷ LeftParen ∷ RightParen ∷ LeftBracket ∷ RightBracket ∷ Comma ∷ Semicolon ∷ Colon ∷ Dot ∷ Plus ∷ Minus ∷ Star ∷ Slash ∷ Equal ∷ Less ∷ Greater ∷ Ampersand ∷ Bar ∷ Caret ∷ Tilde ∷ []
+words : List Lexeme
+words = Lexeme.End ∷ Lexeme.Actor ∷ Lexeme.Unit ∷ Lexeme.Package ∷ Lexeme.Import ∷ Lexeme.Action ∷ Lexeme.Initialize ∷ Lexeme.Function ∷ Lexeme.Procedure ∷ Lexeme.Guard ∷ Lexeme.Var ∷ Lexeme.Do ∷ Lexeme.Begin ∷ Lexeme.End ∷ Lexeme.If ∷ Lexeme.Then ∷ Lexeme.Elsif ∷ Lexeme.Else ∷ Lexeme.While ∷ Lexeme.Foreach ∷ Lexeme.For ∷ Lexeme.In ∷ Lexeme.Repeat ∷ Lexeme.Schedule ∷ Lexeme.Fsm ∷ Lexeme.Priority ∷ Lexeme.True ∷ Lexeme.False ∷ Lexeme.Not ∷ Lexeme.And ∷ Lexeme.Or ∷ Lexeme.Div ∷ Lexeme.Mod ∷ Lexeme.EndActor ∷ Lexeme.EndUnit ∷ Lexeme.EndAction ∷ Lexeme.EndInitialize ∷ Lexeme.EndFunction ∷ Lexeme.EndProcedure ∷ Lexeme.EndIf ∷ Lexeme.EndWhile ∷ Lexeme.EndForeach ∷ Lexeme.EndBegin ∷ Lexeme.EndSchedule ∷ Lexeme.EndPriority ∷ Lexeme.LongDoubleArrow ∷ Lexeme.LongArrow ∷ Lexeme.Assign ∷ Lexeme.DotDot ∷ Lexeme.LessEqual ∷ Lexeme.GreaterEqual ∷ Lexeme.NotEqual ∷ Lexeme.ShiftLeft ∷ Lexeme.ShiftRight ∷ Lexeme.AndAnd ∷ Lexeme.OrOr ∷ Lexeme.LeftParen ∷ Lexeme.RightParen ∷ Lexeme.LeftBracket ∷ Lexeme.RightBracket ∷ Lexeme.Comma ∷ Lexeme.Semicolon ∷ Lexeme.Colon ∷ Lexeme.Dot ∷ Lexeme.Plus ∷ Lexeme.Minus ∷ Lexeme.Star ∷ Lexeme.Slash ∷ Lexeme.Equal ∷ Lexeme.Less ∷ Lexeme.Greater ∷ Lexeme.Ampersand ∷ Lexeme.Bar ∷ Lexeme.Caret ∷ Lexeme.Tilde ∷ []
 
-abbrev word_at : ℕ → Word
+word_at : ℕ → Lexeme
 unfolding words
-word_at n = get_or words n Actor
+word_at n = get_or words n Lexeme.End
 
-word_at-number : (w : Word) → word_at (word_number w) ≡ w
-unfolding words
-word_at-number Actor = refl
-word_at-number Unit = refl
-word_at-number Package = refl
-word_at-number Import = refl
-word_at-number Action = refl
-word_at-number Initialize = refl
-word_at-number Function = refl
-word_at-number Procedure = refl
-word_at-number Guard = refl
-word_at-number Var = refl
-word_at-number Do = refl
-word_at-number Begin = refl
-word_at-number End = refl
-word_at-number If = refl
-word_at-number Then = refl
-word_at-number Elsif = refl
-word_at-number Else = refl
-word_at-number While = refl
-word_at-number Foreach = refl
-word_at-number For = refl
-word_at-number In = refl
-word_at-number Repeat = refl
-word_at-number Schedule = refl
-word_at-number Fsm = refl
-word_at-number Priority = refl
-word_at-number True = refl
-word_at-number False = refl
-word_at-number Not = refl
-word_at-number And = refl
-word_at-number Or = refl
-word_at-number Div = refl
-word_at-number Mod = refl
-word_at-number EndActor = refl
-word_at-number EndUnit = refl
-word_at-number EndAction = refl
-word_at-number EndInitialize = refl
-word_at-number EndFunction = refl
-word_at-number EndProcedure = refl
-word_at-number EndIf = refl
-word_at-number EndWhile = refl
-word_at-number EndForeach = refl
-word_at-number EndBegin = refl
-word_at-number EndSchedule = refl
-word_at-number EndPriority = refl
-word_at-number LongDoubleArrow = refl
-word_at-number LongArrow = refl
-word_at-number Assign = refl
-word_at-number DotDot = refl
-word_at-number LessEqual = refl
-word_at-number GreaterEqual = refl
-word_at-number NotEqual = refl
-word_at-number ShiftLeft = refl
-word_at-number ShiftRight = refl
-word_at-number AndAnd = refl
-word_at-number OrOr = refl
-word_at-number LeftParen = refl
-word_at-number RightParen = refl
-word_at-number LeftBracket = refl
-word_at-number RightBracket = refl
-word_at-number Comma = refl
-word_at-number Semicolon = refl
-word_at-number Colon = refl
-word_at-number Dot = refl
-word_at-number Plus = refl
-word_at-number Minus = refl
-word_at-number Star = refl
-word_at-number Slash = refl
-word_at-number Equal = refl
-word_at-number Less = refl
-word_at-number Greater = refl
-word_at-number Ampersand = refl
-word_at-number Bar = refl
-word_at-number Caret = refl
-word_at-number Tilde = refl
+word_known : (w : Lexeme) → (word_number w ≡ 0) ⊎ (word_at (word_number w) ≡ w)
+unfolding words word_at
+word_known (Lexeme.Name text) = inl refl
+word_known (Lexeme.Number value) = inl refl
+word_known Lexeme.Actor = inr refl
+word_known Lexeme.Unit = inr refl
+word_known Lexeme.Package = inr refl
+word_known Lexeme.Import = inr refl
+word_known Lexeme.Action = inr refl
+word_known Lexeme.Initialize = inr refl
+word_known Lexeme.Function = inr refl
+word_known Lexeme.Procedure = inr refl
+word_known Lexeme.Guard = inr refl
+word_known Lexeme.Var = inr refl
+word_known Lexeme.Do = inr refl
+word_known Lexeme.Begin = inr refl
+word_known Lexeme.End = inr refl
+word_known Lexeme.If = inr refl
+word_known Lexeme.Then = inr refl
+word_known Lexeme.Elsif = inr refl
+word_known Lexeme.Else = inr refl
+word_known Lexeme.While = inr refl
+word_known Lexeme.Foreach = inr refl
+word_known Lexeme.For = inr refl
+word_known Lexeme.In = inr refl
+word_known Lexeme.Repeat = inr refl
+word_known Lexeme.Schedule = inr refl
+word_known Lexeme.Fsm = inr refl
+word_known Lexeme.Priority = inr refl
+word_known Lexeme.True = inr refl
+word_known Lexeme.False = inr refl
+word_known Lexeme.Not = inr refl
+word_known Lexeme.And = inr refl
+word_known Lexeme.Or = inr refl
+word_known Lexeme.Div = inr refl
+word_known Lexeme.Mod = inr refl
+word_known Lexeme.EndActor = inr refl
+word_known Lexeme.EndUnit = inr refl
+word_known Lexeme.EndAction = inr refl
+word_known Lexeme.EndInitialize = inr refl
+word_known Lexeme.EndFunction = inr refl
+word_known Lexeme.EndProcedure = inr refl
+word_known Lexeme.EndIf = inr refl
+word_known Lexeme.EndWhile = inr refl
+word_known Lexeme.EndForeach = inr refl
+word_known Lexeme.EndBegin = inr refl
+word_known Lexeme.EndSchedule = inr refl
+word_known Lexeme.EndPriority = inr refl
+word_known Lexeme.LongDoubleArrow = inr refl
+word_known Lexeme.LongArrow = inr refl
+word_known Lexeme.Assign = inr refl
+word_known Lexeme.DotDot = inr refl
+word_known Lexeme.LessEqual = inr refl
+word_known Lexeme.GreaterEqual = inr refl
+word_known Lexeme.NotEqual = inr refl
+word_known Lexeme.ShiftLeft = inr refl
+word_known Lexeme.ShiftRight = inr refl
+word_known Lexeme.AndAnd = inr refl
+word_known Lexeme.OrOr = inr refl
+word_known Lexeme.LeftParen = inr refl
+word_known Lexeme.RightParen = inr refl
+word_known Lexeme.LeftBracket = inr refl
+word_known Lexeme.RightBracket = inr refl
+word_known Lexeme.Comma = inr refl
+word_known Lexeme.Semicolon = inr refl
+word_known Lexeme.Colon = inr refl
+word_known Lexeme.Dot = inr refl
+word_known Lexeme.Plus = inr refl
+word_known Lexeme.Minus = inr refl
+word_known Lexeme.Star = inr refl
+word_known Lexeme.Slash = inr refl
+word_known Lexeme.Equal = inr refl
+word_known Lexeme.Less = inr refl
+word_known Lexeme.Greater = inr refl
+word_known Lexeme.Ampersand = inr refl
+word_known Lexeme.Bar = inr refl
+word_known Lexeme.Caret = inr refl
+word_known Lexeme.Tilde = inr refl
+
+-- what passes the test is the word
+pub same_is : (v w : Lexeme) → same_word v w ≡ true → w ≡ v
+same_is v w e = go (word_known v) (word_known w) (and_left _ _ e) (eqb-true (word_number v) (word_number w) (and_right _ _ e))
+  where
+    and_left : (a b : Bool) → (a && b) ≡ true → a ≡ true
+    and_left true b h = refl
+    and_left false b h = h
+    and_right : (a b : Bool) → (a && b) ≡ true → b ≡ true
+    and_right true b h = h
+    and_right false b h = cc
+    go : (word_number v ≡ 0) ⊎ (word_at (word_number v) ≡ v) → (word_number w ≡ 0) ⊎ (word_at (word_number w) ≡ w) → nat_lt 0 (word_number v) ≡ true → word_number v ≡ word_number w → w ≡ v
+    go (inl z) k more same = let off : nat_lt 0 0 ≡ true = rw z at more in cc
+    go (inr a) (inl z) more same = let zero_v : word_number v ≡ 0 = same ∙ z in let off : nat_lt 0 0 ≡ true = rw zero_v at more in cc
+    go (inr a) (inr b) more same = sym b ∙ ap word_at (sym same) ∙ a

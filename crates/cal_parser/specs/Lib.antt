@@ -1,3 +1,4 @@
 pub mod Token
 pub mod Operators
 pub mod Spells
+pub mod Rules

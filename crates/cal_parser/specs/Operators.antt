@@ -5,33 +5,32 @@ use Rattle.cal_ast.specs.declared.expr.PrefixOp.TheVariants as prefixes
 use Rattle.cal_ast.specs.declared.expr.BinOp.{BinOp}
 use Rattle.cal_ast.specs.declared.expr.BinOp.TheVariants as binaries
 use Rattle.cal_ast.specs.Tree.{Tree, absent, present, nil, cons, ident, tag, import_part, file, actor, unit, param, port, var, function, procedure, action, pattern, output, schedule, move, priority, type_of, shape_arg, value_arg, assign, call_stmt, if_stmt, while_stmt, foreach_stmt, block, number, truth, variable, call, paren, if_expr, list, comp, gen, index, prefix, binary}
-use Rattle.cal_parser.specs.declared.word.Word.{Word}
-use Rattle.cal_parser.specs.declared.word.Word.TheVariants as words
-use Rattle.cal_parser.specs.Token.{Plain, word, name, numeral, same_word}
+use Rattle.cal_lexer.specs.Lexeme.{Lexeme, Placed, placed}
+use Rattle.cal_parser.specs.Token.{same_word}
 
 -- the level of a binary operator, from 1 for the tightest to 10 for the loosest; 0 for what is none
-abbrev pub level_of : Word → ℕ
-level_of words.Or = 10
-level_of words.OrOr = 10
-level_of words.And = 9
-level_of words.AndAnd = 9
-level_of words.Bar = 8
-level_of words.Caret = 7
-level_of words.Ampersand = 6
-level_of words.Equal = 5
-level_of words.NotEqual = 5
-level_of words.Less = 4
-level_of words.LessEqual = 4
-level_of words.Greater = 4
-level_of words.GreaterEqual = 4
-level_of words.ShiftLeft = 3
-level_of words.ShiftRight = 3
-level_of words.Plus = 2
-level_of words.Minus = 2
-level_of words.Star = 1
-level_of words.Slash = 1
-level_of words.Div = 1
-level_of words.Mod = 1
+abbrev pub level_of : Lexeme → ℕ
+level_of Lexeme.Or = 10
+level_of Lexeme.OrOr = 10
+level_of Lexeme.And = 9
+level_of Lexeme.AndAnd = 9
+level_of Lexeme.Bar = 8
+level_of Lexeme.Caret = 7
+level_of Lexeme.Ampersand = 6
+level_of Lexeme.Equal = 5
+level_of Lexeme.NotEqual = 5
+level_of Lexeme.Less = 4
+level_of Lexeme.LessEqual = 4
+level_of Lexeme.Greater = 4
+level_of Lexeme.GreaterEqual = 4
+level_of Lexeme.ShiftLeft = 3
+level_of Lexeme.ShiftRight = 3
+level_of Lexeme.Plus = 2
+level_of Lexeme.Minus = 2
+level_of Lexeme.Star = 1
+level_of Lexeme.Slash = 1
+level_of Lexeme.Div = 1
+level_of Lexeme.Mod = 1
 level_of _ = 0
 
 -- the level of the loosest operators
@@ -39,60 +38,60 @@ abbrev pub loosest : ℕ
 loosest = 10
 
 -- the binary operator that a word of a level stands for
-abbrev pub binary_of : Word → BinOp
-binary_of words.OrOr = binaries.Or
-binary_of words.And = binaries.And
-binary_of words.AndAnd = binaries.And
-binary_of words.Bar = binaries.BitOr
-binary_of words.Caret = binaries.BitXor
-binary_of words.Ampersand = binaries.BitAnd
-binary_of words.Equal = binaries.Eq
-binary_of words.NotEqual = binaries.Ne
-binary_of words.Less = binaries.Lt
-binary_of words.LessEqual = binaries.Le
-binary_of words.Greater = binaries.Gt
-binary_of words.GreaterEqual = binaries.Ge
-binary_of words.ShiftLeft = binaries.Shl
-binary_of words.ShiftRight = binaries.Shr
-binary_of words.Plus = binaries.Add
-binary_of words.Minus = binaries.Sub
-binary_of words.Star = binaries.Mul
-binary_of words.Slash = binaries.Div
-binary_of words.Div = binaries.Div
-binary_of words.Mod = binaries.Mod
+abbrev pub binary_of : Lexeme → BinOp
+binary_of Lexeme.OrOr = binaries.Or
+binary_of Lexeme.And = binaries.And
+binary_of Lexeme.AndAnd = binaries.And
+binary_of Lexeme.Bar = binaries.BitOr
+binary_of Lexeme.Caret = binaries.BitXor
+binary_of Lexeme.Ampersand = binaries.BitAnd
+binary_of Lexeme.Equal = binaries.Eq
+binary_of Lexeme.NotEqual = binaries.Ne
+binary_of Lexeme.Less = binaries.Lt
+binary_of Lexeme.LessEqual = binaries.Le
+binary_of Lexeme.Greater = binaries.Gt
+binary_of Lexeme.GreaterEqual = binaries.Ge
+binary_of Lexeme.ShiftLeft = binaries.Shl
+binary_of Lexeme.ShiftRight = binaries.Shr
+binary_of Lexeme.Plus = binaries.Add
+binary_of Lexeme.Minus = binaries.Sub
+binary_of Lexeme.Star = binaries.Mul
+binary_of Lexeme.Slash = binaries.Div
+binary_of Lexeme.Div = binaries.Div
+binary_of Lexeme.Mod = binaries.Mod
 binary_of _ = binaries.Or
 
 -- whether a word is a prefix, and which operator it stands for
-abbrev pub is_prefix : Word → Bool
-is_prefix words.Not = true
-is_prefix words.Minus = true
-is_prefix words.Tilde = true
+abbrev pub is_prefix : Lexeme → Bool
+is_prefix Lexeme.Not = true
+is_prefix Lexeme.Minus = true
+is_prefix Lexeme.Tilde = true
 is_prefix _ = false
 
-abbrev pub prefix_of : Word → PrefixOp
-prefix_of words.Minus = prefixes.Neg
-prefix_of words.Tilde = prefixes.BitNot
+abbrev pub prefix_of : Lexeme → PrefixOp
+prefix_of Lexeme.Minus = prefixes.Neg
+prefix_of Lexeme.Tilde = prefixes.BitNot
 prefix_of _ = prefixes.Not
 
 -- the long end of what begins with a word
-abbrev pub long_end : Word → Word
-long_end words.Actor = words.EndActor
-long_end words.Unit = words.EndUnit
-long_end words.Action = words.EndAction
-long_end words.Initialize = words.EndInitialize
-long_end words.Function = words.EndFunction
-long_end words.Procedure = words.EndProcedure
-long_end words.If = words.EndIf
-long_end words.While = words.EndWhile
-long_end words.Foreach = words.EndForeach
-long_end words.Begin = words.EndBegin
-long_end words.Schedule = words.EndSchedule
-long_end words.Priority = words.EndPriority
-long_end _ = words.End
+abbrev pub long_end : Lexeme → Lexeme
+long_end Lexeme.Actor = Lexeme.EndActor
+long_end Lexeme.Unit = Lexeme.EndUnit
+long_end Lexeme.Action = Lexeme.EndAction
+long_end Lexeme.Initialize = Lexeme.EndInitialize
+long_end Lexeme.Function = Lexeme.EndFunction
+long_end Lexeme.Procedure = Lexeme.EndProcedure
+long_end Lexeme.If = Lexeme.EndIf
+long_end Lexeme.While = Lexeme.EndWhile
+long_end Lexeme.Foreach = Lexeme.EndForeach
+long_end Lexeme.Begin = Lexeme.EndBegin
+long_end Lexeme.Schedule = Lexeme.EndSchedule
+long_end Lexeme.Priority = Lexeme.EndPriority
+long_end _ = Lexeme.End
 
 -- whether w ends what begins with v: `end`, or its long end
-abbrev pub ends : Word → Word → Bool
-ends v w = same_word words.End w || same_word (long_end v) w
+abbrev pub ends : Lexeme → Lexeme → Bool
+ends v w = same_word Lexeme.End w || same_word (long_end v) w
 
 -- the offset of an expression, a type, a name, or the first of several parts
 abbrev pub place : Tree → ℕ

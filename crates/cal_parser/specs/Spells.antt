@@ -4,16 +4,25 @@
 -- `repeated` and `separated` are the grammar's brackets; `ends v w` says that w is `end` or the long end of v.
 use Rattle.std.specs.Prelude.{◌≡◌, ℕ, suc, Bool, true, false, List, [], ◌∷◌}
 use Rattle.cal_ast.specs.Tree.{Tree, absent, present, nil, cons, ident, tag, import_part, file, actor, unit, param, port, var, function, procedure, action, pattern, output, schedule, move, priority, type_of, shape_arg, value_arg, assign, call_stmt, if_stmt, while_stmt, foreach_stmt, block, number, truth, variable, call, paren, if_expr, list, comp, gen, index, prefix, binary}
-use Rattle.cal_parser.specs.declared.word.Word.{Word}
-use Rattle.cal_parser.specs.declared.word.Word.TheVariants as words
-use Rattle.cal_parser.specs.Token.{Plain, word, name, numeral}
+use Rattle.cal_lexer.specs.Lexeme.{Lexeme, Placed, placed}
 use Rattle.cal_parser.specs.Operators.{level_of, loosest, binary_of, is_prefix, prefix_of, ends, place, group, with_tag, onto, import_at, with_package, first_place}
+
+-- what stands between parts
+pub data Mark : Type 0 where
+  comma : Mark
+  dot : Mark
+  greater : Mark
+
+abbrev pub mark : Mark → Lexeme
+mark comma = Lexeme.Comma
+mark dot = Lexeme.Dot
+mark greater = Lexeme.Greater
 
 pub data Part : Type 0 where
   -- one or more, with a word between them; what follows the first of them; the same or nothing; any number
-  separated : Word → Part → Part
-  rest : Word → Part → Part
-  any : Word → Part → Part
+  separated : Mark → Part → Part
+  rest : Mark → Part → Part
+  any : Mark → Part → Part
   repeated : Part → Part
   -- expressions: binary operations of a level and tighter ones (0 for prefixes), without operators, without indices
   level : ℕ → Part
@@ -62,102 +71,102 @@ pub data Part : Type 0 where
 abbrev pub an_expr : Part
 an_expr = level loosest
 
-pub data Spells : Part → List Plain → List Plain → Tree → Type 0 where
+pub data Spells : Part → List Placed → List Placed → Tree → Type 0 where
   -- lists
-  the_separated : {v : Word} {p : Part} {a b c : List Plain} {x xs : Tree} → Spells p a b x → Spells (rest v p) b c xs → Spells (separated v p) a c (cons x xs)
-  the_last : {v : Word} {p : Part} {a : List Plain} → Spells (rest v p) a a nil
-  the_more : {v : Word} {p : Part} {q : ℕ} {a b : List Plain} {xs : Tree} → Spells (separated v p) a b xs → Spells (rest v p) (word v q ∷ a) b xs
-  the_none : {v : Word} {p : Part} {a : List Plain} → Spells (any v p) a a nil
-  the_some : {v : Word} {p : Part} {a b : List Plain} {xs : Tree} → Spells (separated v p) a b xs → Spells (any v p) a b xs
-  the_end : {p : Part} {a : List Plain} → Spells (repeated p) a a nil
-  the_again : {p : Part} {a b c : List Plain} {x xs : Tree} → Spells p a b x → Spells (repeated p) b c xs → Spells (repeated p) a c (cons x xs)
+  the_separated : {v : Mark} {p : Part} {a b c : List Placed} {x xs : Tree} → Spells p a b x → Spells (rest v p) b c xs → Spells (separated v p) a c (cons x xs)
+  the_last : {v : Mark} {p : Part} {a : List Placed} → Spells (rest v p) a a nil
+  the_more : {v : Mark} {p : Part} {q : ℕ} {a b : List Placed} {xs : Tree} → Spells (separated v p) a b xs → Spells (rest v p) (placed (mark v) q ∷ a) b xs
+  the_none : {v : Mark} {p : Part} {a : List Placed} → Spells (any v p) a a nil
+  the_some : {v : Mark} {p : Part} {a b : List Placed} {xs : Tree} → Spells (separated v p) a b xs → Spells (any v p) a b xs
+  the_end : {p : Part} {a : List Placed} → Spells (repeated p) a a nil
+  the_again : {p : Part} {a b c : List Placed} {x xs : Tree} → Spells p a b x → Spells (repeated p) b c xs → Spells (repeated p) a c (cons x xs)
   -- expressions
-  the_binary : {n q : ℕ} {w : Word} {a b c : List Plain} {x y : Tree} → Spells (level (suc n)) a (word w q ∷ b) x → level_of w ≡ suc n → Spells (level n) b c y → Spells (level (suc n)) a c (binary (binary_of w) x y (place x))
-  the_tighter : {n : ℕ} {a b : List Plain} {x : Tree} → Spells (level n) a b x → Spells (level (suc n)) a b x
-  the_prefix : {q : ℕ} {w : Word} {a b : List Plain} {x : Tree} → is_prefix w ≡ true → Spells (level 0) a b x → Spells (level 0) (word w q ∷ a) b (prefix (prefix_of w) x q)
-  the_postfix : {a b : List Plain} {x : Tree} → Spells a_postfix a b x → Spells (level 0) a b x
-  the_index : {q r : ℕ} {a b c : List Plain} {x i : Tree} → Spells a_postfix a (word words.LeftBracket q ∷ b) x → Spells an_expr b (word words.RightBracket r ∷ c) i → Spells a_postfix a c (index x i (place x))
-  the_primary : {a b : List Plain} {x : Tree} → Spells a_primary a b x → Spells a_postfix a b x
-  the_number : {v q : ℕ} {a : List Plain} → Spells a_primary (numeral v q ∷ a) a (number v q)
-  the_true : {q : ℕ} {a : List Plain} → Spells a_primary (word words.True q ∷ a) a (truth true q)
-  the_false : {q : ℕ} {a : List Plain} → Spells a_primary (word words.False q ∷ a) a (truth false q)
-  the_variable : {s : List ℕ} {q : ℕ} {a : List Plain} → Spells a_primary (name s q ∷ a) a (variable s q)
-  the_call : {s : List ℕ} {q r t : ℕ} {a b : List Plain} {xs : Tree} → Spells (any words.Comma an_expr) a (word words.RightParen t ∷ b) xs → Spells a_primary (name s q ∷ word words.LeftParen r ∷ a) b (call s xs q)
-  the_pair : {q r : ℕ} {a b : List Plain} {x : Tree} → Spells an_expr a (word words.RightParen r ∷ b) x → Spells a_primary (word words.LeftParen q ∷ a) b (group q x)
-  the_if : {w : Word} {q r s t : ℕ} {a b c d : List Plain} {x y z : Tree} → Spells an_expr a (word words.Then r ∷ b) x → Spells an_expr b (word words.Else s ∷ c) y → Spells an_expr c (word w t ∷ d) z → ends words.If w ≡ true → Spells a_primary (word words.If q ∷ a) d (if_expr x y z q)
-  the_list : {q r : ℕ} {a b : List Plain} {xs : Tree} → Spells (separated words.Comma an_expr) a (word words.RightBracket r ∷ b) xs → Spells a_primary (word words.LeftBracket q ∷ a) b (list xs q)
-  the_comp : {q r s : ℕ} {a b c : List Plain} {x gs : Tree} → Spells an_expr a (word words.Colon r ∷ b) x → Spells (separated words.Comma a_gen) b (word words.RightBracket s ∷ c) gs → Spells a_primary (word words.LeftBracket q ∷ a) c (comp x gs q)
-  the_gen : {s : List ℕ} {q r t u : ℕ} {a b c d : List Plain} {shape x y : Tree} → Spells a_type a (name s r ∷ word words.In t ∷ b) shape → Spells an_expr b (word words.DotDot u ∷ c) x → Spells an_expr c d y → Spells a_gen (word words.For q ∷ a) d (gen shape (ident s r) x y q)
+  the_binary : {n q : ℕ} {w : Lexeme} {a b c : List Placed} {x y : Tree} → Spells (level (suc n)) a (placed w q ∷ b) x → level_of w ≡ suc n → Spells (level n) b c y → Spells (level (suc n)) a c (binary (binary_of w) x y (place x))
+  the_tighter : {n : ℕ} {a b : List Placed} {x : Tree} → Spells (level n) a b x → Spells (level (suc n)) a b x
+  the_prefix : {q : ℕ} {w : Lexeme} {a b : List Placed} {x : Tree} → is_prefix w ≡ true → Spells (level 0) a b x → Spells (level 0) (placed w q ∷ a) b (prefix (prefix_of w) x q)
+  the_postfix : {a b : List Placed} {x : Tree} → Spells a_postfix a b x → Spells (level 0) a b x
+  the_index : {q r : ℕ} {a b c : List Placed} {x i : Tree} → Spells a_postfix a (placed Lexeme.LeftBracket q ∷ b) x → Spells an_expr b (placed Lexeme.RightBracket r ∷ c) i → Spells a_postfix a c (index x i (place x))
+  the_primary : {a b : List Placed} {x : Tree} → Spells a_primary a b x → Spells a_postfix a b x
+  the_number : {v q : ℕ} {a : List Placed} → Spells a_primary (placed (Lexeme.Number v) q ∷ a) a (number v q)
+  the_true : {q : ℕ} {a : List Placed} → Spells a_primary (placed Lexeme.True q ∷ a) a (truth true q)
+  the_false : {q : ℕ} {a : List Placed} → Spells a_primary (placed Lexeme.False q ∷ a) a (truth false q)
+  the_variable : {s : List ℕ} {q : ℕ} {a : List Placed} → Spells a_primary (placed (Lexeme.Name s) q ∷ a) a (variable s q)
+  the_call : {s : List ℕ} {q r t : ℕ} {a b : List Placed} {xs : Tree} → Spells (any comma an_expr) a (placed Lexeme.RightParen t ∷ b) xs → Spells a_primary (placed (Lexeme.Name s) q ∷ placed Lexeme.LeftParen r ∷ a) b (call s xs q)
+  the_pair : {q r : ℕ} {a b : List Placed} {x : Tree} → Spells an_expr a (placed Lexeme.RightParen r ∷ b) x → Spells a_primary (placed Lexeme.LeftParen q ∷ a) b (group q x)
+  the_if : {w : Lexeme} {q r s t : ℕ} {a b c d : List Placed} {x y z : Tree} → Spells an_expr a (placed Lexeme.Then r ∷ b) x → Spells an_expr b (placed Lexeme.Else s ∷ c) y → Spells an_expr c (placed w t ∷ d) z → ends Lexeme.If w ≡ true → Spells a_primary (placed Lexeme.If q ∷ a) d (if_expr x y z q)
+  the_list : {q r : ℕ} {a b : List Placed} {xs : Tree} → Spells (separated comma an_expr) a (placed Lexeme.RightBracket r ∷ b) xs → Spells a_primary (placed Lexeme.LeftBracket q ∷ a) b (list xs q)
+  the_comp : {q r s : ℕ} {a b c : List Placed} {x gs : Tree} → Spells an_expr a (placed Lexeme.Colon r ∷ b) x → Spells (separated comma a_gen) b (placed Lexeme.RightBracket s ∷ c) gs → Spells a_primary (placed Lexeme.LeftBracket q ∷ a) c (comp x gs q)
+  the_gen : {s : List ℕ} {q r t u : ℕ} {a b c d : List Placed} {shape x y : Tree} → Spells a_type a (placed (Lexeme.Name s) r ∷ placed Lexeme.In t ∷ b) shape → Spells an_expr b (placed Lexeme.DotDot u ∷ c) x → Spells an_expr c d y → Spells a_gen (placed Lexeme.For q ∷ a) d (gen shape (ident s r) x y q)
   -- types and declarations
-  the_type : {s : List ℕ} {q : ℕ} {a : List Plain} → Spells a_type (name s q ∷ a) a (type_of (ident s q) nil q)
-  the_type_with : {s : List ℕ} {q r t : ℕ} {a b : List Plain} {xs : Tree} → Spells (separated words.Comma a_type_arg) a (word words.RightParen t ∷ b) xs → Spells a_type (name s q ∷ word words.LeftParen r ∷ a) b (type_of (ident s q) xs q)
-  the_shape_arg : {s : List ℕ} {q r : ℕ} {a b : List Plain} {x : Tree} → Spells a_type a b x → Spells a_type_arg (name s q ∷ word words.Colon r ∷ a) b (shape_arg (ident s q) x)
-  the_value_arg : {s : List ℕ} {q r : ℕ} {a b : List Plain} {x : Tree} → Spells an_expr a b x → Spells a_type_arg (name s q ∷ word words.Equal r ∷ a) b (value_arg (ident s q) x)
-  the_var : {s : List ℕ} {q : ℕ} {a b : List Plain} {shape : Tree} → Spells a_type a (name s q ∷ b) shape → Spells a_var a b (var shape (ident s q) absent true (place shape))
-  the_var_changing : {s : List ℕ} {q r : ℕ} {a b c : List Plain} {shape x : Tree} → Spells a_type a (name s q ∷ word words.Assign r ∷ b) shape → Spells an_expr b c x → Spells a_var a c (var shape (ident s q) (present x) true (place shape))
-  the_var_constant : {s : List ℕ} {q r : ℕ} {a b c : List Plain} {shape x : Tree} → Spells a_type a (name s q ∷ word words.Equal r ∷ b) shape → Spells an_expr b c x → Spells a_var a c (var shape (ident s q) (present x) false (place shape))
-  the_no_vars : {a : List Plain} → Spells some_vars a a nil
-  the_vars : {q : ℕ} {a b : List Plain} {xs : Tree} → Spells (separated words.Comma a_var) a b xs → Spells some_vars (word words.Var q ∷ a) b xs
-  the_param : {s : List ℕ} {q : ℕ} {a b : List Plain} {shape : Tree} → Spells a_type a (name s q ∷ b) shape → Spells a_param a b (param shape (ident s q) absent (place shape))
-  the_param_default : {s : List ℕ} {q r : ℕ} {a b c : List Plain} {shape x : Tree} → Spells a_type a (name s q ∷ word words.Equal r ∷ b) shape → Spells an_expr b c x → Spells a_param a c (param shape (ident s q) (present x) (place shape))
-  the_port : {s : List ℕ} {q : ℕ} {a b : List Plain} {shape : Tree} → Spells a_type a (name s q ∷ b) shape → Spells a_port a b (port shape (ident s q) (place shape))
-  the_name : {s : List ℕ} {q : ℕ} {a : List Plain} → Spells a_name (name s q ∷ a) a (ident s q)
-  the_tag : {a b : List Plain} {xs : Tree} → Spells (separated words.Dot a_name) a b xs → Spells a_tag a b (tag xs (place xs))
+  the_type : {s : List ℕ} {q : ℕ} {a : List Placed} → Spells a_type (placed (Lexeme.Name s) q ∷ a) a (type_of (ident s q) nil q)
+  the_type_with : {s : List ℕ} {q r t : ℕ} {a b : List Placed} {xs : Tree} → Spells (separated comma a_type_arg) a (placed Lexeme.RightParen t ∷ b) xs → Spells a_type (placed (Lexeme.Name s) q ∷ placed Lexeme.LeftParen r ∷ a) b (type_of (ident s q) xs q)
+  the_shape_arg : {s : List ℕ} {q r : ℕ} {a b : List Placed} {x : Tree} → Spells a_type a b x → Spells a_type_arg (placed (Lexeme.Name s) q ∷ placed Lexeme.Colon r ∷ a) b (shape_arg (ident s q) x)
+  the_value_arg : {s : List ℕ} {q r : ℕ} {a b : List Placed} {x : Tree} → Spells an_expr a b x → Spells a_type_arg (placed (Lexeme.Name s) q ∷ placed Lexeme.Equal r ∷ a) b (value_arg (ident s q) x)
+  the_var : {s : List ℕ} {q : ℕ} {a b : List Placed} {shape : Tree} → Spells a_type a (placed (Lexeme.Name s) q ∷ b) shape → Spells a_var a b (var shape (ident s q) absent true (place shape))
+  the_var_changing : {s : List ℕ} {q r : ℕ} {a b c : List Placed} {shape x : Tree} → Spells a_type a (placed (Lexeme.Name s) q ∷ placed Lexeme.Assign r ∷ b) shape → Spells an_expr b c x → Spells a_var a c (var shape (ident s q) (present x) true (place shape))
+  the_var_constant : {s : List ℕ} {q r : ℕ} {a b c : List Placed} {shape x : Tree} → Spells a_type a (placed (Lexeme.Name s) q ∷ placed Lexeme.Equal r ∷ b) shape → Spells an_expr b c x → Spells a_var a c (var shape (ident s q) (present x) false (place shape))
+  the_no_vars : {a : List Placed} → Spells some_vars a a nil
+  the_vars : {q : ℕ} {a b : List Placed} {xs : Tree} → Spells (separated comma a_var) a b xs → Spells some_vars (placed Lexeme.Var q ∷ a) b xs
+  the_param : {s : List ℕ} {q : ℕ} {a b : List Placed} {shape : Tree} → Spells a_type a (placed (Lexeme.Name s) q ∷ b) shape → Spells a_param a b (param shape (ident s q) absent (place shape))
+  the_param_default : {s : List ℕ} {q r : ℕ} {a b c : List Placed} {shape x : Tree} → Spells a_type a (placed (Lexeme.Name s) q ∷ placed Lexeme.Equal r ∷ b) shape → Spells an_expr b c x → Spells a_param a c (param shape (ident s q) (present x) (place shape))
+  the_port : {s : List ℕ} {q : ℕ} {a b : List Placed} {shape : Tree} → Spells a_type a (placed (Lexeme.Name s) q ∷ b) shape → Spells a_port a b (port shape (ident s q) (place shape))
+  the_name : {s : List ℕ} {q : ℕ} {a : List Placed} → Spells a_name (placed (Lexeme.Name s) q ∷ a) a (ident s q)
+  the_tag : {a b : List Placed} {xs : Tree} → Spells (separated dot a_name) a b xs → Spells a_tag a b (tag xs (place xs))
   -- statements
-  the_place : {q r : ℕ} {a b : List Plain} {x : Tree} → Spells an_expr a (word words.RightBracket r ∷ b) x → Spells a_place (word words.LeftBracket q ∷ a) b x
-  the_assign : {s : List ℕ} {q r t : ℕ} {a b c : List Plain} {xs x : Tree} → Spells (repeated a_place) a (word words.Assign r ∷ b) xs → Spells an_expr b (word words.Semicolon t ∷ c) x → Spells a_stmt (name s q ∷ a) c (assign (ident s q) xs x q)
-  the_call_stmt : {s : List ℕ} {q r t u : ℕ} {a b : List Plain} {xs : Tree} → Spells (any words.Comma an_expr) a (word words.RightParen t ∷ word words.Semicolon u ∷ b) xs → Spells a_stmt (name s q ∷ word words.LeftParen r ∷ a) b (call_stmt (ident s q) xs q)
-  the_if_stmt : {q r : ℕ} {a b c d : List Plain} {x ys z : Tree} → Spells an_expr a (word words.Then r ∷ b) x → Spells (repeated a_stmt) b c ys → Spells otherwise c d z → Spells a_stmt (word words.If q ∷ a) d (if_stmt x ys z q)
-  the_while : {w : Word} {q r t : ℕ} {a b c : List Plain} {x ys : Tree} → Spells an_expr a (word words.Do r ∷ b) x → Spells (repeated a_stmt) b (word w t ∷ c) ys → ends words.While w ≡ true → Spells a_stmt (word words.While q ∷ a) c (while_stmt x ys q)
-  the_foreach : {w : Word} {s : List ℕ} {q r t u v o : ℕ} {a b c d e : List Plain} {shape x y zs : Tree} → Spells a_type a (name s r ∷ word words.In t ∷ b) shape → Spells an_expr b (word words.DotDot u ∷ c) x → Spells an_expr c (word words.Do v ∷ d) y → Spells (repeated a_stmt) d (word w o ∷ e) zs → ends words.Foreach w ≡ true → Spells a_stmt (word words.Foreach q ∷ a) e (foreach_stmt shape (ident s r) x y zs q)
-  the_block : {w : Word} {q r : ℕ} {a b : List Plain} {ys : Tree} → Spells (repeated a_stmt) a (word w r ∷ b) ys → ends words.Begin w ≡ true → Spells a_stmt (word words.Begin q ∷ a) b (block nil ys q)
-  the_block_with : {w : Word} {q r t u : ℕ} {a b c : List Plain} {xs ys : Tree} → Spells (separated words.Comma a_var) a (word words.Do t ∷ b) xs → Spells (repeated a_stmt) b (word w u ∷ c) ys → ends words.Begin w ≡ true → Spells a_stmt (word words.Begin q ∷ word words.Var r ∷ a) c (block xs ys q)
-  the_if_end : {w : Word} {q : ℕ} {a : List Plain} → ends words.If w ≡ true → Spells otherwise (word w q ∷ a) a absent
-  the_else : {w : Word} {q r : ℕ} {a b : List Plain} {ys : Tree} → Spells (repeated a_stmt) a (word w r ∷ b) ys → ends words.If w ≡ true → Spells otherwise (word words.Else q ∷ a) b (present ys)
-  the_elsif : {q r : ℕ} {a b c d : List Plain} {x ys z : Tree} → Spells an_expr a (word words.Then r ∷ b) x → Spells (repeated a_stmt) b c ys → Spells otherwise c d z → Spells otherwise (word words.Elsif q ∷ a) d (present (cons (if_stmt x ys z q) nil))
+  the_place : {q r : ℕ} {a b : List Placed} {x : Tree} → Spells an_expr a (placed Lexeme.RightBracket r ∷ b) x → Spells a_place (placed Lexeme.LeftBracket q ∷ a) b x
+  the_assign : {s : List ℕ} {q r t : ℕ} {a b c : List Placed} {xs x : Tree} → Spells (repeated a_place) a (placed Lexeme.Assign r ∷ b) xs → Spells an_expr b (placed Lexeme.Semicolon t ∷ c) x → Spells a_stmt (placed (Lexeme.Name s) q ∷ a) c (assign (ident s q) xs x q)
+  the_call_stmt : {s : List ℕ} {q r t u : ℕ} {a b : List Placed} {xs : Tree} → Spells (any comma an_expr) a (placed Lexeme.RightParen t ∷ placed Lexeme.Semicolon u ∷ b) xs → Spells a_stmt (placed (Lexeme.Name s) q ∷ placed Lexeme.LeftParen r ∷ a) b (call_stmt (ident s q) xs q)
+  the_if_stmt : {q r : ℕ} {a b c d : List Placed} {x ys z : Tree} → Spells an_expr a (placed Lexeme.Then r ∷ b) x → Spells (repeated a_stmt) b c ys → Spells otherwise c d z → Spells a_stmt (placed Lexeme.If q ∷ a) d (if_stmt x ys z q)
+  the_while : {w : Lexeme} {q r t : ℕ} {a b c : List Placed} {x ys : Tree} → Spells an_expr a (placed Lexeme.Do r ∷ b) x → Spells (repeated a_stmt) b (placed w t ∷ c) ys → ends Lexeme.While w ≡ true → Spells a_stmt (placed Lexeme.While q ∷ a) c (while_stmt x ys q)
+  the_foreach : {w : Lexeme} {s : List ℕ} {q r t u v o : ℕ} {a b c d e : List Placed} {shape x y zs : Tree} → Spells a_type a (placed (Lexeme.Name s) r ∷ placed Lexeme.In t ∷ b) shape → Spells an_expr b (placed Lexeme.DotDot u ∷ c) x → Spells an_expr c (placed Lexeme.Do v ∷ d) y → Spells (repeated a_stmt) d (placed w o ∷ e) zs → ends Lexeme.Foreach w ≡ true → Spells a_stmt (placed Lexeme.Foreach q ∷ a) e (foreach_stmt shape (ident s r) x y zs q)
+  the_block : {w : Lexeme} {q r : ℕ} {a b : List Placed} {ys : Tree} → Spells (repeated a_stmt) a (placed w r ∷ b) ys → ends Lexeme.Begin w ≡ true → Spells a_stmt (placed Lexeme.Begin q ∷ a) b (block nil ys q)
+  the_block_with : {w : Lexeme} {q r t u : ℕ} {a b c : List Placed} {xs ys : Tree} → Spells (separated comma a_var) a (placed Lexeme.Do t ∷ b) xs → Spells (repeated a_stmt) b (placed w u ∷ c) ys → ends Lexeme.Begin w ≡ true → Spells a_stmt (placed Lexeme.Begin q ∷ placed Lexeme.Var r ∷ a) c (block xs ys q)
+  the_if_end : {w : Lexeme} {q : ℕ} {a : List Placed} → ends Lexeme.If w ≡ true → Spells otherwise (placed w q ∷ a) a absent
+  the_else : {w : Lexeme} {q r : ℕ} {a b : List Placed} {ys : Tree} → Spells (repeated a_stmt) a (placed w r ∷ b) ys → ends Lexeme.If w ≡ true → Spells otherwise (placed Lexeme.Else q ∷ a) b (present ys)
+  the_elsif : {q r : ℕ} {a b c d : List Placed} {x ys z : Tree} → Spells an_expr a (placed Lexeme.Then r ∷ b) x → Spells (repeated a_stmt) b c ys → Spells otherwise c d z → Spells otherwise (placed Lexeme.Elsif q ∷ a) d (present (cons (if_stmt x ys z q) nil))
   -- members
-  the_function : {w : Word} {s : List ℕ} {q r t u v o i : ℕ} {a b c d e : List Plain} {xs shape vs x : Tree} → Spells (any words.Comma a_port) a (word words.RightParen u ∷ word words.LongArrow v ∷ b) xs → Spells a_type b c shape → Spells some_vars c (word words.Colon o ∷ d) vs → Spells an_expr d (word w i ∷ e) x → ends words.Function w ≡ true → Spells a_function (word words.Function q ∷ name s r ∷ word words.LeftParen t ∷ a) e (function (ident s r) xs shape vs x q)
-  the_procedure : {w : Word} {s : List ℕ} {q r t u v o : ℕ} {a b c d : List Plain} {xs vs ys : Tree} → Spells (any words.Comma a_port) a (word words.RightParen u ∷ b) xs → Spells some_vars b (word words.Begin v ∷ c) vs → Spells (repeated a_stmt) c (word w o ∷ d) ys → ends words.Procedure w ≡ true → Spells a_procedure (word words.Procedure q ∷ name s r ∷ word words.LeftParen t ∷ a) d (procedure (ident s r) xs vs ys q)
-  the_no_guards : {a : List Plain} → Spells some_guards a a nil
-  the_guards : {q : ℕ} {a b : List Plain} {xs : Tree} → Spells (separated words.Comma an_expr) a b xs → Spells some_guards (word words.Guard q ∷ a) b xs
-  the_no_repeat : {a : List Plain} → Spells some_repeat a a absent
-  the_repeat : {q : ℕ} {a b : List Plain} {x : Tree} → Spells an_expr a b x → Spells some_repeat (word words.Repeat q ∷ a) b (present x)
-  the_no_body : {a : List Plain} → Spells a_body a a absent
-  the_body : {q : ℕ} {a b : List Plain} {ys : Tree} → Spells (repeated a_stmt) a b ys → Spells a_body (word words.Do q ∷ a) b (present ys)
-  the_in : {q r : ℕ} {a b c : List Plain} {xs x : Tree} → Spells (separated words.Comma a_name) a (word words.RightBracket r ∷ b) xs → Spells some_repeat b c x → Spells an_in (word words.LeftBracket q ∷ a) c (pattern absent xs x q)
-  the_in_at : {s : List ℕ} {q r t u : ℕ} {a b c : List Plain} {xs x : Tree} → Spells (separated words.Comma a_name) a (word words.RightBracket u ∷ b) xs → Spells some_repeat b c x → Spells an_in (name s q ∷ word words.Colon r ∷ word words.LeftBracket t ∷ a) c (pattern (present (ident s q)) xs x q)
-  the_out : {q r : ℕ} {a b c : List Plain} {xs x : Tree} → Spells (separated words.Comma an_expr) a (word words.RightBracket r ∷ b) xs → Spells some_repeat b c x → Spells an_out (word words.LeftBracket q ∷ a) c (output absent xs x q)
-  the_out_at : {s : List ℕ} {q r t u : ℕ} {a b c : List Plain} {xs x : Tree} → Spells (separated words.Comma an_expr) a (word words.RightBracket u ∷ b) xs → Spells some_repeat b c x → Spells an_out (name s q ∷ word words.Colon r ∷ word words.LeftBracket t ∷ a) c (output (present (ident s q)) xs x q)
-  the_action : {w : Word} {q r t : ℕ} {a b c d e f : List Plain} {ins outs gs vs x : Tree} → Spells (any words.Comma an_in) a (word words.LongDoubleArrow r ∷ b) ins → Spells (any words.Comma an_out) b c outs → Spells some_guards c d gs → Spells some_vars d e vs → Spells a_body e (word w t ∷ f) x → ends words.Action w ≡ true → Spells an_action (word words.Action q ∷ a) f (action absent false ins outs gs vs x q)
-  the_initialize : {w : Word} {q r t : ℕ} {b c d e f : List Plain} {outs gs vs x : Tree} → Spells (any words.Comma an_out) b c outs → Spells some_guards c d gs → Spells some_vars d e vs → Spells a_body e (word w t ∷ f) x → ends words.Initialize w ≡ true → Spells an_action (word words.Initialize q ∷ word words.LongDoubleArrow r ∷ b) f (action absent true nil outs gs vs x q)
-  the_unlabelled : {a b : List Plain} {x : Tree} → Spells an_action a b x → Spells a_labelled a b x
-  the_labelled : {r : ℕ} {a b c : List Plain} {t x : Tree} → Spells a_tag a (word words.Colon r ∷ b) t → Spells an_action b c x → Spells a_labelled a c (with_tag t x)
-  the_move : {s i : List ℕ} {q r t u v o : ℕ} {a b : List Plain} {xs : Tree} → Spells (separated words.Comma a_tag) a (word words.RightParen t ∷ word words.LongArrow u ∷ name i v ∷ word words.Semicolon o ∷ b) xs → Spells a_move (name s q ∷ word words.LeftParen r ∷ a) b (move (ident s q) xs (ident i v) q)
-  the_schedule : {w : Word} {s : List ℕ} {q r t u v : ℕ} {a b : List Plain} {xs : Tree} → Spells (repeated a_move) a (word w v ∷ b) xs → ends words.Schedule w ≡ true → Spells a_schedule (word words.Schedule q ∷ word words.Fsm r ∷ name s t ∷ word words.Colon u ∷ a) b (schedule (ident s t) xs q)
-  the_chain : {q r : ℕ} {a b c : List Plain} {x xs : Tree} → Spells a_tag a (word words.Greater q ∷ b) x → Spells (separated words.Greater a_tag) b (word words.Semicolon r ∷ c) xs → Spells a_chain a c (cons x xs)
-  the_priority : {w : Word} {q r : ℕ} {a b : List Plain} {xs : Tree} → Spells (repeated a_chain) a (word w r ∷ b) xs → ends words.Priority w ≡ true → Spells a_priority (word words.Priority q ∷ a) b (priority xs q)
-  the_var_member : {q : ℕ} {a b : List Plain} {x : Tree} → Spells a_var a (word words.Semicolon q ∷ b) x → Spells a_member a b x
-  the_function_member : {a b : List Plain} {x : Tree} → Spells a_function a b x → Spells a_member a b x
-  the_procedure_member : {a b : List Plain} {x : Tree} → Spells a_procedure a b x → Spells a_member a b x
-  the_action_member : {a b : List Plain} {x : Tree} → Spells a_labelled a b x → Spells a_member a b x
-  the_priority_member : {a b : List Plain} {x : Tree} → Spells a_priority a b x → Spells a_member a b x
-  the_no_members : {k : Bool} {a : List Plain} → Spells (members k) a a nil
-  the_member : {k : Bool} {a b c : List Plain} {x xs : Tree} → Spells a_member a b x → Spells (members k) b c xs → Spells (members k) a c (cons x xs)
-  the_schedule_member : {a b c : List Plain} {x xs : Tree} → Spells a_schedule a b x → Spells (members false) b c xs → Spells (members true) a c (cons x xs)
-  the_unit_var : {q : ℕ} {a b : List Plain} {x : Tree} → Spells a_var a (word words.Semicolon q ∷ b) x → Spells a_unit_member a b x
-  the_unit_function : {a b : List Plain} {x : Tree} → Spells a_function a b x → Spells a_unit_member a b x
+  the_function : {w : Lexeme} {s : List ℕ} {q r t u v o i : ℕ} {a b c d e : List Placed} {xs shape vs x : Tree} → Spells (any comma a_port) a (placed Lexeme.RightParen u ∷ placed Lexeme.LongArrow v ∷ b) xs → Spells a_type b c shape → Spells some_vars c (placed Lexeme.Colon o ∷ d) vs → Spells an_expr d (placed w i ∷ e) x → ends Lexeme.Function w ≡ true → Spells a_function (placed Lexeme.Function q ∷ placed (Lexeme.Name s) r ∷ placed Lexeme.LeftParen t ∷ a) e (function (ident s r) xs shape vs x q)
+  the_procedure : {w : Lexeme} {s : List ℕ} {q r t u v o : ℕ} {a b c d : List Placed} {xs vs ys : Tree} → Spells (any comma a_port) a (placed Lexeme.RightParen u ∷ b) xs → Spells some_vars b (placed Lexeme.Begin v ∷ c) vs → Spells (repeated a_stmt) c (placed w o ∷ d) ys → ends Lexeme.Procedure w ≡ true → Spells a_procedure (placed Lexeme.Procedure q ∷ placed (Lexeme.Name s) r ∷ placed Lexeme.LeftParen t ∷ a) d (procedure (ident s r) xs vs ys q)
+  the_no_guards : {a : List Placed} → Spells some_guards a a nil
+  the_guards : {q : ℕ} {a b : List Placed} {xs : Tree} → Spells (separated comma an_expr) a b xs → Spells some_guards (placed Lexeme.Guard q ∷ a) b xs
+  the_no_repeat : {a : List Placed} → Spells some_repeat a a absent
+  the_repeat : {q : ℕ} {a b : List Placed} {x : Tree} → Spells an_expr a b x → Spells some_repeat (placed Lexeme.Repeat q ∷ a) b (present x)
+  the_no_body : {a : List Placed} → Spells a_body a a absent
+  the_body : {q : ℕ} {a b : List Placed} {ys : Tree} → Spells (repeated a_stmt) a b ys → Spells a_body (placed Lexeme.Do q ∷ a) b (present ys)
+  the_in : {q r : ℕ} {a b c : List Placed} {xs x : Tree} → Spells (separated comma a_name) a (placed Lexeme.RightBracket r ∷ b) xs → Spells some_repeat b c x → Spells an_in (placed Lexeme.LeftBracket q ∷ a) c (pattern absent xs x q)
+  the_in_at : {s : List ℕ} {q r t u : ℕ} {a b c : List Placed} {xs x : Tree} → Spells (separated comma a_name) a (placed Lexeme.RightBracket u ∷ b) xs → Spells some_repeat b c x → Spells an_in (placed (Lexeme.Name s) q ∷ placed Lexeme.Colon r ∷ placed Lexeme.LeftBracket t ∷ a) c (pattern (present (ident s q)) xs x q)
+  the_out : {q r : ℕ} {a b c : List Placed} {xs x : Tree} → Spells (separated comma an_expr) a (placed Lexeme.RightBracket r ∷ b) xs → Spells some_repeat b c x → Spells an_out (placed Lexeme.LeftBracket q ∷ a) c (output absent xs x q)
+  the_out_at : {s : List ℕ} {q r t u : ℕ} {a b c : List Placed} {xs x : Tree} → Spells (separated comma an_expr) a (placed Lexeme.RightBracket u ∷ b) xs → Spells some_repeat b c x → Spells an_out (placed (Lexeme.Name s) q ∷ placed Lexeme.Colon r ∷ placed Lexeme.LeftBracket t ∷ a) c (output (present (ident s q)) xs x q)
+  the_action : {w : Lexeme} {q r t : ℕ} {a b c d e f : List Placed} {ins outs gs vs x : Tree} → Spells (any comma an_in) a (placed Lexeme.LongDoubleArrow r ∷ b) ins → Spells (any comma an_out) b c outs → Spells some_guards c d gs → Spells some_vars d e vs → Spells a_body e (placed w t ∷ f) x → ends Lexeme.Action w ≡ true → Spells an_action (placed Lexeme.Action q ∷ a) f (action absent false ins outs gs vs x q)
+  the_initialize : {w : Lexeme} {q r t : ℕ} {b c d e f : List Placed} {outs gs vs x : Tree} → Spells (any comma an_out) b c outs → Spells some_guards c d gs → Spells some_vars d e vs → Spells a_body e (placed w t ∷ f) x → ends Lexeme.Initialize w ≡ true → Spells an_action (placed Lexeme.Initialize q ∷ placed Lexeme.LongDoubleArrow r ∷ b) f (action absent true nil outs gs vs x q)
+  the_unlabelled : {a b : List Placed} {x : Tree} → Spells an_action a b x → Spells a_labelled a b x
+  the_labelled : {r : ℕ} {a b c : List Placed} {t x : Tree} → Spells a_tag a (placed Lexeme.Colon r ∷ b) t → Spells an_action b c x → Spells a_labelled a c (with_tag t x)
+  the_move : {s i : List ℕ} {q r t u v o : ℕ} {a b : List Placed} {xs : Tree} → Spells (separated comma a_tag) a (placed Lexeme.RightParen t ∷ placed Lexeme.LongArrow u ∷ placed (Lexeme.Name i) v ∷ placed Lexeme.Semicolon o ∷ b) xs → Spells a_move (placed (Lexeme.Name s) q ∷ placed Lexeme.LeftParen r ∷ a) b (move (ident s q) xs (ident i v) q)
+  the_schedule : {w : Lexeme} {s : List ℕ} {q r t u v : ℕ} {a b : List Placed} {xs : Tree} → Spells (repeated a_move) a (placed w v ∷ b) xs → ends Lexeme.Schedule w ≡ true → Spells a_schedule (placed Lexeme.Schedule q ∷ placed Lexeme.Fsm r ∷ placed (Lexeme.Name s) t ∷ placed Lexeme.Colon u ∷ a) b (schedule (ident s t) xs q)
+  the_chain : {q r : ℕ} {a b c : List Placed} {x xs : Tree} → Spells a_tag a (placed Lexeme.Greater q ∷ b) x → Spells (separated greater a_tag) b (placed Lexeme.Semicolon r ∷ c) xs → Spells a_chain a c (cons x xs)
+  the_priority : {w : Lexeme} {q r : ℕ} {a b : List Placed} {xs : Tree} → Spells (repeated a_chain) a (placed w r ∷ b) xs → ends Lexeme.Priority w ≡ true → Spells a_priority (placed Lexeme.Priority q ∷ a) b (priority xs q)
+  the_var_member : {q : ℕ} {a b : List Placed} {x : Tree} → Spells a_var a (placed Lexeme.Semicolon q ∷ b) x → Spells a_member a b x
+  the_function_member : {a b : List Placed} {x : Tree} → Spells a_function a b x → Spells a_member a b x
+  the_procedure_member : {a b : List Placed} {x : Tree} → Spells a_procedure a b x → Spells a_member a b x
+  the_action_member : {a b : List Placed} {x : Tree} → Spells a_labelled a b x → Spells a_member a b x
+  the_priority_member : {a b : List Placed} {x : Tree} → Spells a_priority a b x → Spells a_member a b x
+  the_no_members : {k : Bool} {a : List Placed} → Spells (members k) a a nil
+  the_member : {k : Bool} {a b c : List Placed} {x xs : Tree} → Spells a_member a b x → Spells (members k) b c xs → Spells (members k) a c (cons x xs)
+  the_schedule_member : {a b c : List Placed} {x xs : Tree} → Spells a_schedule a b x → Spells (members false) b c xs → Spells (members true) a c (cons x xs)
+  the_unit_var : {q : ℕ} {a b : List Placed} {x : Tree} → Spells a_var a (placed Lexeme.Semicolon q ∷ b) x → Spells a_unit_member a b x
+  the_unit_function : {a b : List Placed} {x : Tree} → Spells a_function a b x → Spells a_unit_member a b x
   -- files
-  the_path_name : {s : List ℕ} {q r : ℕ} {a : List Plain} → Spells a_path (word words.Dot q ∷ name s r ∷ a) a (import_part nil (present (ident s r)) 0)
-  the_path_all : {q r : ℕ} {a : List Plain} → Spells a_path (word words.Dot q ∷ word words.Star r ∷ a) a (import_part nil absent 0)
-  the_path_on : {s : List ℕ} {q r : ℕ} {a b : List Plain} {x : Tree} → Spells a_path a b x → Spells a_path (word words.Dot q ∷ name s r ∷ a) b (onto (ident s r) x)
-  the_import : {s : List ℕ} {q r t : ℕ} {a b : List Plain} {x : Tree} → Spells a_path a (word words.Semicolon t ∷ b) x → Spells an_import (word words.Import q ∷ name s r ∷ a) b (import_at q (onto (ident s r) x))
-  the_actor : {w : Word} {s : List ℕ} {q r t u v o i : ℕ} {a b c d e : List Plain} {ps ins outs ms : Tree} → Spells (any words.Comma a_param) a (word words.RightParen u ∷ b) ps → Spells (any words.Comma a_port) b (word words.LongDoubleArrow v ∷ c) ins → Spells (any words.Comma a_port) c (word words.Colon o ∷ d) outs → Spells (members true) d (word w i ∷ e) ms → ends words.Actor w ≡ true → Spells an_actor (word words.Actor q ∷ name s r ∷ word words.LeftParen t ∷ a) e (actor (ident s r) ps ins outs ms q)
-  the_unit : {w : Word} {s : List ℕ} {q r t u : ℕ} {a b : List Plain} {ms : Tree} → Spells (repeated a_unit_member) a (word w u ∷ b) ms → ends words.Unit w ≡ true → Spells a_unit (word words.Unit q ∷ name s r ∷ word words.Colon t ∷ a) b (unit (ident s r) ms q)
-  the_actor_file : {a b c : List Plain} {xs x : Tree} → Spells (repeated an_import) a b xs → Spells an_actor b c x → Spells some_imports a c (file absent xs x (first_place xs x))
-  the_unit_file : {a b c : List Plain} {xs x : Tree} → Spells (repeated an_import) a b xs → Spells a_unit b c x → Spells some_imports a c (file absent xs x (first_place xs x))
-  the_file : {a b : List Plain} {x : Tree} → Spells some_imports a b x → Spells a_file a b x
-  the_package_file : {q r : ℕ} {a b c : List Plain} {t x : Tree} → Spells a_tag a (word words.Semicolon r ∷ b) t → Spells some_imports b c x → Spells a_file (word words.Package q ∷ a) c (with_package q t x)
+  the_path_name : {s : List ℕ} {q r : ℕ} {a : List Placed} → Spells a_path (placed Lexeme.Dot q ∷ placed (Lexeme.Name s) r ∷ a) a (import_part nil (present (ident s r)) 0)
+  the_path_all : {q r : ℕ} {a : List Placed} → Spells a_path (placed Lexeme.Dot q ∷ placed Lexeme.Star r ∷ a) a (import_part nil absent 0)
+  the_path_on : {s : List ℕ} {q r : ℕ} {a b : List Placed} {x : Tree} → Spells a_path a b x → Spells a_path (placed Lexeme.Dot q ∷ placed (Lexeme.Name s) r ∷ a) b (onto (ident s r) x)
+  the_import : {s : List ℕ} {q r t : ℕ} {a b : List Placed} {x : Tree} → Spells a_path a (placed Lexeme.Semicolon t ∷ b) x → Spells an_import (placed Lexeme.Import q ∷ placed (Lexeme.Name s) r ∷ a) b (import_at q (onto (ident s r) x))
+  the_actor : {w : Lexeme} {s : List ℕ} {q r t u v o i : ℕ} {a b c d e : List Placed} {ps ins outs ms : Tree} → Spells (any comma a_param) a (placed Lexeme.RightParen u ∷ b) ps → Spells (any comma a_port) b (placed Lexeme.LongDoubleArrow v ∷ c) ins → Spells (any comma a_port) c (placed Lexeme.Colon o ∷ d) outs → Spells (members true) d (placed w i ∷ e) ms → ends Lexeme.Actor w ≡ true → Spells an_actor (placed Lexeme.Actor q ∷ placed (Lexeme.Name s) r ∷ placed Lexeme.LeftParen t ∷ a) e (actor (ident s r) ps ins outs ms q)
+  the_unit : {w : Lexeme} {s : List ℕ} {q r t u : ℕ} {a b : List Placed} {ms : Tree} → Spells (repeated a_unit_member) a (placed w u ∷ b) ms → ends Lexeme.Unit w ≡ true → Spells a_unit (placed Lexeme.Unit q ∷ placed (Lexeme.Name s) r ∷ placed Lexeme.Colon t ∷ a) b (unit (ident s r) ms q)
+  the_actor_file : {a b c : List Placed} {xs x : Tree} → Spells (repeated an_import) a b xs → Spells an_actor b c x → Spells some_imports a c (file absent xs x (first_place xs x))
+  the_unit_file : {a b c : List Placed} {xs x : Tree} → Spells (repeated an_import) a b xs → Spells a_unit b c x → Spells some_imports a c (file absent xs x (first_place xs x))
+  the_file : {a b : List Placed} {x : Tree} → Spells some_imports a b x → Spells a_file a b x
+  the_package_file : {q r : ℕ} {a b c : List Placed} {t x : Tree} → Spells a_tag a (placed Lexeme.Semicolon r ∷ b) t → Spells some_imports b c x → Spells a_file (placed Lexeme.Package q ∷ a) c (with_package q t x)
 
 -- the tokens spell this file
-abbrev pub spells : List Plain → Tree → Type 0
+abbrev pub spells : List Placed → Tree → Type 0
 spells ts x = Spells a_file ts [] x
