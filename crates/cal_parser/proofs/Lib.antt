@@ -1,2 +1,4 @@
 mod Words
 mod Costs
+mod Meets
+mod Sound
