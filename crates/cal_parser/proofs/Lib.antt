@@ -2,3 +2,5 @@ mod Words
 mod Costs
 mod Meets
 mod Sound
+mod SoundStatements
+mod SoundMembers

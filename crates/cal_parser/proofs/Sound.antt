@@ -14,25 +14,25 @@ use Rattle.cal_parser.proofs.Meets.{IsRead, IsFar, Meets, MeetsWhole, Keeps, not
 use Rattle.cal_parser.proofs.Costs.{Cost, costs, takes, height-group, height-group_any, height-inside}
 use Rattle.cal_parser.specs.Rules.{level_body, at_level, chain_body, places_body, name_body, pair_body, if_body, list_body, primary_body, gen_body, type_tail_body, type_arg_body, var_tail_body, param_body, first, begin}
 
-abbrev Kept : Part → ℕ → List Placed → Type 0
+abbrev pub Kept : Part → ℕ → List Placed → Type 0
 Kept p m a = Shows (size (part p) a) m (part_body p) a (Meets p m a)
 
 -- lists
 
-separated_kept : (m : ℕ) (v : Mark) (p : Part) (a : List Placed) → Kept (separated v p) m a
+pub separated_kept : (m : ℕ) (v : Mark) (p : Part) (a : List Placed) → Kept (separated v p) m a
 separated_kept m v p a =
     invokes _ _ p (separated v p) a a _ (omega arith) (omega arith) λ x b hx lx cx tx.
     invokes _ _ (rest v p) (separated v p) a b _ (omega arith) (omega arith) λ xs c hs ls cs ts.
     gives _ _ _ _ _ (record { spelled = the_separated hx hs; low = omega arith })
 
-rest_kept : (m : ℕ) (v : Mark) (p : Part) (a : List Placed) → Kept (rest v p) m a
+pub rest_kept : (m : ℕ) (v : Mark) (p : Part) (a : List Placed) → Kept (rest v p) m a
 rest_kept m v p a =
     asks _ _ _ _ _ _ _
     (λ e. takes_word _ _ (mark v) (λ l. length l ≡ length a) (λ l. Meets (rest v p) m l) _ a e refl λ q b n f.
     jumps _ _ _ _ _ (omega arith) (turns (separated v p) (rest v p) m (placed (mark v) q ∷ b) b (omega arith) (λ x left h. the_more h)))
     (λ e. gives _ _ _ _ _ (record { spelled = the_last; low = omega arith }))
 
-any_kept : (m : ℕ) (v : Mark) (p : Part) (a : List Placed) → Kept (any v p) m a
+pub any_kept : (m : ℕ) (v : Mark) (p : Part) (a : List Placed) → Kept (any v p) m a
 any_kept m v p a =
     asks _ _ _ _ _ _ _
     (λ e. jumps _ _ _ _ _ (omega arith) (turns (separated v p) (any v p) m a a (omega arith) (λ x left h. the_some h)))
@@ -59,7 +59,7 @@ never_empty a_unit_member (Some t) e = refl
 never_empty an_import (Some t) e = refl
 never_empty _ (Some t) e = absurd cc
 
-repeated_kept : (m : ℕ) (p : Part) (a : List Placed) → Kept (repeated p) m a
+pub repeated_kept : (m : ℕ) (p : Part) (a : List Placed) → Kept (repeated p) m a
 repeated_kept m p a =
     asks _ _ _ _ _ _ _
     (λ e. let one : takes p ≡ 1 = never_empty p (ahead a) e in
@@ -70,7 +70,7 @@ repeated_kept m p a =
 
 -- expressions
 
-level_kept : (m n : ℕ) (a : List Placed) → Kept (level n) m a
+pub level_kept : (m n : ℕ) (a : List Placed) → Kept (level n) m a
 level_kept m zero a =
     asks _ _ _ _ _ _ _
     (λ e. checks _ _ _ _ _ _ (λ high. record { far = omega arith; at_token = some_left is_prefix a e }) λ low.
@@ -82,7 +82,7 @@ level_kept m (suc n) a =
     invokes _ _ (level n) (level (suc n)) a a _ (omega arith) (omega arith) λ x b hx lx cx tx.
     jumps _ _ _ _ _ (omega arith) (λ o h. h a (the_tighter hx) lx)
 
-chain_kept : (m n : ℕ) (x : Tree) (c : List Placed) → Shows (size (chain n x) c) m (chain_body n x) c (Keeps m (chain n x) c)
+pub chain_kept : (m n : ℕ) (x : Tree) (c : List Placed) → Shows (size (chain n x) c) m (chain_body n x) c (Keeps m (chain n x) c)
 chain_kept m n x c =
     asks _ _ _ _ _ _ _
     (λ e. let at : 0 < length c = some_left (at_level n) c e in
@@ -92,12 +92,12 @@ chain_kept m n x c =
     jumps _ _ _ _ _ (omega arith) (λ o keeps a h l. keeps a (the_binary h (eqb-true (level_of k) (suc n) same) hy) (omega arith)))
     (λ e. gives _ _ _ _ _ (λ a h l. record { spelled = h; low = l }))
 
-postfix_kept : (m : ℕ) (a : List Placed) → Kept a_postfix m a
+pub postfix_kept : (m : ℕ) (a : List Placed) → Kept a_postfix m a
 postfix_kept m a =
     invokes _ _ a_primary a_postfix a a _ (omega arith) (omega arith) λ x b hx lx cx tx.
     jumps _ _ _ _ _ (omega arith) (λ o h. h a (the_primary hx) lx)
 
-places_kept : (m : ℕ) (x : Tree) (c : List Placed) → Shows (size (places x) c) m (places_body x) c (Keeps m (places x) c)
+pub places_kept : (m : ℕ) (x : Tree) (c : List Placed) → Shows (size (places x) c) m (places_body x) c (Keeps m (places x) c)
 places_kept m x c =
     asks _ _ _ _ _ _ _
     (λ e. let at : 0 < length c = some_left (same_word Lexeme.LeftBracket) c e in
@@ -110,7 +110,7 @@ places_kept m x c =
     (λ e2. fails _ _ _ _ (λ a h l. tt)))
     (λ e. gives _ _ _ _ _ (λ a h l. record { spelled = h; low = l }))
 
-primary_kept : (m : ℕ) (a : List Placed) → Kept a_primary m a
+pub primary_kept : (m : ℕ) (a : List Placed) → Kept a_primary m a
 primary_kept m a =
     asks _ _ _ _ _ _ _
     (λ e. checks _ _ _ _ _ _ (λ high. record { far = omega arith; at_token = some_left counts a e }) λ low.
@@ -152,7 +152,7 @@ primary_kept m a =
     gives _ _ _ _ _ (record { spelled = the_list (the_separated hx hs2); low = omega arith }))) λ e7.
     fails _ _ _ _ tt
 
-gen_kept : (m : ℕ) (a : List Placed) → Kept a_gen m a
+pub gen_kept : (m : ℕ) (a : List Placed) → Kept a_gen m a
 gen_kept m a =
     word_or _ _ Lexeme.For (λ l. Unit {0}) (λ l. Meets a_gen m l) _ _ a tt
     (λ q b n f. invokes _ _ a_type a_gen (placed Lexeme.For q ∷ b) b _ (omega arith) (omega arith) λ shape c hs ls cs ts.
@@ -167,7 +167,7 @@ gen_kept m a =
 
 -- types and declarations
 
-type_kept : (m : ℕ) (a : List Placed) → Kept a_type m a
+pub type_kept : (m : ℕ) (a : List Placed) → Kept a_type m a
 type_kept m a =
     asks _ _ _ _ _ _ _
     (λ e. checks _ _ _ _ _ _ (λ high. record { far = omega arith; at_token = some_left names a e }) λ low.
@@ -175,7 +175,7 @@ type_kept m a =
     jumps _ _ _ _ _ (omega arith) (λ o h. h low))
     (λ e. fails _ _ _ _ tt)
 
-type_tail_kept : (m : ℕ) (s : List ℕ) (q : ℕ) (c : List Placed) → Shows (size (type_tail s q) c) m (type_tail_body s q) c (Keeps m (type_tail s q) c)
+pub type_tail_kept : (m : ℕ) (s : List ℕ) (q : ℕ) (c : List Placed) → Shows (size (type_tail s q) c) m (type_tail_body s q) c (Keeps m (type_tail s q) c)
 type_tail_kept m s q c =
     word_or _ _ Lexeme.LeftParen (λ l. Unit {0}) (λ l o. 1 ≤ m → Meets a_type m (placed (Lexeme.Name s) q ∷ l) o) _ _ c tt
     (λ r d n f. entered _ _ (separated comma a_type_arg) d _ _ (omega arith) (λ left low. tt) (λ left far there low. record { far = omega arith; at_token = there }) λ xs g hs ls cs ts.
@@ -185,7 +185,7 @@ type_tail_kept m s q c =
     (λ e. fails _ _ _ _ (λ low. tt)))
     (λ e. gives _ _ _ _ _ (λ low. record { spelled = the_type; low = omega arith }))
 
-type_arg_kept : (m : ℕ) (a : List Placed) → Kept a_type_arg m a
+pub type_arg_kept : (m : ℕ) (a : List Placed) → Kept a_type_arg m a
 type_arg_kept m a =
     name_or _ _ (λ l. Unit {0}) (λ l. Meets a_type_arg m l) _ _ a tt
     (λ s q b n f. word_or _ _ Lexeme.Colon (λ l. Unit {0}) (λ l. Meets a_type_arg m (placed (Lexeme.Name s) q ∷ l)) _ _ b tt
@@ -197,12 +197,12 @@ type_arg_kept m a =
     (λ e. fails _ _ _ _ tt)))
     (λ e. fails _ _ _ _ tt)
 
-var_kept : (m : ℕ) (a : List Placed) → Kept a_var m a
+pub var_kept : (m : ℕ) (a : List Placed) → Kept a_var m a
 var_kept m a =
     invokes _ _ a_type a_var a a _ (omega arith) (omega arith) λ x b hx lx cx tx.
     jumps _ _ _ _ _ (omega arith) (λ o h. h a hx lx)
 
-var_tail_kept : (m : ℕ) (x : Tree) (c : List Placed) → Shows (size (var_tail x) c) m (var_tail_body x) c (Keeps m (var_tail x) c)
+pub var_tail_kept : (m : ℕ) (x : Tree) (c : List Placed) → Shows (size (var_tail x) c) m (var_tail_body x) c (Keeps m (var_tail x) c)
 var_tail_kept m x c =
     name_or _ _ (λ l. length l ≡ length c) (λ l o. (a : List Placed) → Spells a_type a l x → height x ≤ m → Meets a_var m a o) _ _ c refl
     (λ s q b n f. word_or _ _ Lexeme.Assign (λ l. length l ≡ length b) (λ l o. (a : List Placed) → Spells a_type a (placed (Lexeme.Name s) q ∷ l) x → height x ≤ m → Meets a_var m a o) _ _ b refl
@@ -214,13 +214,13 @@ var_tail_kept m x c =
     (λ no_equal. gives _ _ _ _ _ (λ a h l. record { spelled = the_var h; low = omega arith }))))
     (λ e. fails _ _ _ _ (λ a h l. tt))
 
-some_vars_kept : (m : ℕ) (a : List Placed) → Kept some_vars m a
+pub some_vars_kept : (m : ℕ) (a : List Placed) → Kept some_vars m a
 some_vars_kept m a =
     word_or _ _ Lexeme.Var (λ l. length l ≡ length a) (λ l. Meets some_vars m l) _ _ a refl
     (λ q b n f. jumps _ _ _ _ _ (omega arith) (turns (separated comma a_var) some_vars m (placed Lexeme.Var q ∷ b) b (omega arith) (λ x left h. the_vars h)))
     (λ e. gives _ _ _ _ _ (record { spelled = the_no_vars; low = omega arith }))
 
-param_kept : (m : ℕ) (a : List Placed) → Kept a_param m a
+pub param_kept : (m : ℕ) (a : List Placed) → Kept a_param m a
 param_kept m a =
     invokes _ _ a_type a_param a a _ (omega arith) (omega arith) λ x b hx lx cx tx.
     names_next _ _ a_type a_param a x _ b _ hx λ s q c n hx2.
@@ -229,19 +229,19 @@ param_kept m a =
     gives _ _ _ _ _ (record { spelled = the_param_default hx3 hy; low = omega arith }))
     (λ e. gives _ _ _ _ _ (record { spelled = the_param hx2; low = omega arith }))
 
-port_kept : (m : ℕ) (a : List Placed) → Kept a_port m a
+pub port_kept : (m : ℕ) (a : List Placed) → Kept a_port m a
 port_kept m a =
     invokes _ _ a_type a_port a a _ (omega arith) (omega arith) λ x b hx lx cx tx.
     names_next _ _ a_type a_port a x _ b _ hx λ s q c n hx2.
     gives _ _ _ _ _ (record { spelled = the_port hx2; low = lx })
 
-name_kept : (m : ℕ) (a : List Placed) → Kept a_name m a
+pub name_kept : (m : ℕ) (a : List Placed) → Kept a_name m a
 name_kept m a =
     name_or _ _ (λ l. Unit {0}) (λ l. Meets a_name m l) _ _ a tt
     (λ s q b n f. gives _ _ _ _ _ (record { spelled = the_name; low = omega arith }))
     (λ e. fails _ _ _ _ tt)
 
-tag_kept : (m : ℕ) (a : List Placed) → Kept a_tag m a
+pub tag_kept : (m : ℕ) (a : List Placed) → Kept a_tag m a
 tag_kept m a =
     invokes _ _ (separated dot a_name) a_tag a a _ (omega arith) (omega arith) λ xs b hs ls cs ts.
     gives _ _ _ _ _ (record { spelled = the_tag hs; low = omega arith })
