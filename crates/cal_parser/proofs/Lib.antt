@@ -4,3 +4,7 @@ mod Meets
 mod Sound
 mod SoundStatements
 mod SoundMembers
+mod Reading
+mod Follow
+mod Claims
+mod Complete

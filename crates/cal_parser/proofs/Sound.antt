@@ -41,7 +41,11 @@ any_kept m v p a =
 -- what may be repeated isn't empty
 never_empty : (p : Part) (h : Option Placed) → here (starts p) h ≡ true → takes p ≡ 1
 never_empty p None e = absurd cc
+never_empty (separated v p) (Some t) e = never_empty p (Some t) e
 never_empty (level n) (Some t) e = refl
+never_empty a_postfix (Some t) e = refl
+never_empty a_primary (Some t) e = refl
+never_empty a_type (Some t) e = refl
 never_empty a_type_arg (Some t) e = refl
 never_empty a_var (Some t) e = refl
 never_empty a_param (Some t) e = refl

@@ -64,7 +64,11 @@ starts_unit_member Lexeme.Function = true
 starts_unit_member _ = false
 
 abbrev pub starts : Part → Lexeme → Bool
+starts (separated v p) k = starts p k
 starts (level n) k = starts_expr k
+starts a_postfix k = starts_expr k
+starts a_primary k = starts_expr k
+starts a_type k = names k
 starts a_type_arg k = names k
 starts a_var k = names k
 starts a_param k = names k
