@@ -80,7 +80,7 @@ may_follow a_type_arg k = follows_expr k
 may_follow a_var k = not (same_word Lexeme.Assign k) && follows_expr k
 may_follow some_vars k = not (same_word Lexeme.Var k) && (not (same_word Lexeme.Comma k) && (not (same_word Lexeme.Assign k) && follows_expr k))
 may_follow a_param k = follows_expr k
-may_follow a_tag k = not (same_word Lexeme.Dot k)
+may_follow a_tag k = not (same_word Lexeme.Dot k) && true
 may_follow some_guards k = not (same_word Lexeme.Guard k) && (not (same_word Lexeme.Comma k) && follows_expr k)
 may_follow some_repeat k = not (same_word Lexeme.Repeat k) && follows_expr k
 may_follow a_body k = not (same_word Lexeme.Do k) && not (starts_stmt k)
@@ -315,3 +315,8 @@ named_is (Some (placed _ q)) f g e = absurd cc
 
 pub var_begins : {a b : List Placed} {x : Tree} → Spells a_var a b x → (f : Lexeme → Bool) → ((s : List ℕ) → f (Lexeme.Name s) ≡ false) → here f (ahead a) ≡ false
 var_begins h f g = named_is _ f g (begins h refl)
+
+pub name_is_member : (h : Option Placed) → here names h ≡ true → here starts_member h ≡ true
+name_is_member None e = absurd cc
+name_is_member (Some (placed (Lexeme.Name s) q)) e = refl
+name_is_member (Some (placed _ q)) e = absurd cc

@@ -8,3 +8,4 @@ mod Reading
 mod Follow
 mod Claims
 mod Complete
+mod Whole

@@ -2,3 +2,4 @@ pub mod Token
 pub mod Operators
 pub mod Spells
 pub mod Rules
+pub mod Refusals

@@ -137,8 +137,8 @@ pub data Spells : Part → List Placed → List Placed → Tree → Type 0 where
   the_in_at : {s : List ℕ} {q r t u : ℕ} {a b c : List Placed} {xs x : Tree} → Spells (separated comma a_name) a (placed Lexeme.RightBracket u ∷ b) xs → Spells some_repeat b c x → Spells an_in (placed (Lexeme.Name s) q ∷ placed Lexeme.Colon r ∷ placed Lexeme.LeftBracket t ∷ a) c (pattern (present (ident s q)) xs x q)
   the_out : {q r : ℕ} {a b c : List Placed} {xs x : Tree} → Spells (separated comma an_expr) a (placed Lexeme.RightBracket r ∷ b) xs → Spells some_repeat b c x → Spells an_out (placed Lexeme.LeftBracket q ∷ a) c (output absent xs x q)
   the_out_at : {s : List ℕ} {q r t u : ℕ} {a b c : List Placed} {xs x : Tree} → Spells (separated comma an_expr) a (placed Lexeme.RightBracket u ∷ b) xs → Spells some_repeat b c x → Spells an_out (placed (Lexeme.Name s) q ∷ placed Lexeme.Colon r ∷ placed Lexeme.LeftBracket t ∷ a) c (output (present (ident s q)) xs x q)
-  the_action : {w : Lexeme} {q r t : ℕ} {a b c d e f : List Placed} {ins outs gs vs x : Tree} → Spells (any comma an_in) a (placed Lexeme.LongDoubleArrow r ∷ b) ins → Spells (any comma an_out) b c outs → Spells some_guards c d gs → Spells some_vars d e vs → Spells a_body e (placed w t ∷ f) x → ends Lexeme.Action w ≡ true → Spells an_action (placed Lexeme.Action q ∷ a) f (action absent false ins outs gs vs x q)
-  the_initialize : {w : Lexeme} {q r t : ℕ} {b c d e f : List Placed} {outs gs vs x : Tree} → Spells (any comma an_out) b c outs → Spells some_guards c d gs → Spells some_vars d e vs → Spells a_body e (placed w t ∷ f) x → ends Lexeme.Initialize w ≡ true → Spells an_action (placed Lexeme.Initialize q ∷ placed Lexeme.LongDoubleArrow r ∷ b) f (action absent true nil outs gs vs x q)
+  the_action : {w : Lexeme} {q r t : ℕ} {a b c d e g : List Placed} {ins outs gs vs x : Tree} → Spells (any comma an_in) a (placed Lexeme.LongDoubleArrow r ∷ b) ins → Spells (any comma an_out) b c outs → Spells some_guards c d gs → Spells some_vars d e vs → Spells a_body e (placed w t ∷ g) x → ends Lexeme.Action w ≡ true → Spells an_action (placed Lexeme.Action q ∷ a) g (action absent false ins outs gs vs x q)
+  the_initialize : {w : Lexeme} {q r t : ℕ} {b c d e g : List Placed} {outs gs vs x : Tree} → Spells (any comma an_out) b c outs → Spells some_guards c d gs → Spells some_vars d e vs → Spells a_body e (placed w t ∷ g) x → ends Lexeme.Initialize w ≡ true → Spells an_action (placed Lexeme.Initialize q ∷ placed Lexeme.LongDoubleArrow r ∷ b) g (action absent true nil outs gs vs x q)
   the_unlabelled : {a b : List Placed} {x : Tree} → Spells an_action a b x → Spells a_labelled a b x
   the_labelled : {r : ℕ} {a b c : List Placed} {t x : Tree} → Spells a_tag a (placed Lexeme.Colon r ∷ b) t → Spells an_action b c x → Spells a_labelled a c (with_tag t x)
   the_move : {s i : List ℕ} {q r t u v o : ℕ} {a b : List Placed} {xs : Tree} → Spells (separated comma a_tag) a (placed Lexeme.RightParen t ∷ placed Lexeme.LongArrow u ∷ placed (Lexeme.Name i) v ∷ placed Lexeme.Semicolon o ∷ b) xs → Spells a_move (placed (Lexeme.Name s) q ∷ placed Lexeme.LeftParen r ∷ a) b (move (ident s q) xs (ident i v) q)
