@@ -60,11 +60,11 @@ pub record Cost (p : Part) (a b : List Placed) (x : Tree) : Type 0 where
 
 pub costs : {p : Part} {a b : List Placed} {x : Tree} → Spells p a b x → Cost p a b x
 costs (the_separated h1 h2) = let c1 = costs h1 in let c2 = costs h2 in record { high = omega arith; taken = omega arith }
-costs the_last =  record { high = omega arith; taken = omega arith }
+costs the_last = record { high = omega arith; taken = omega arith }
 costs (the_more h1) = let c1 = costs h1 in record { high = omega arith; taken = omega arith }
-costs the_none =  record { high = omega arith; taken = omega arith }
+costs the_none = record { high = omega arith; taken = omega arith }
 costs (the_some h1) = let c1 = costs h1 in record { high = omega arith; taken = omega arith }
-costs the_end =  record { high = omega arith; taken = omega arith }
+costs the_end = record { high = omega arith; taken = omega arith }
 costs (the_again h1 h2) = let c1 = costs h1 in let c2 = costs h2 in record { high = omega arith; taken = omega arith }
 costs (the_binary h1 e2 h3) = let c1 = costs h1 in let c3 = costs h3 in record { high = omega arith; taken = omega arith }
 costs (the_tighter h1) = let c1 = costs h1 in record { high = omega arith; taken = omega arith }
@@ -72,29 +72,29 @@ costs (the_prefix e1 h2) = let c2 = costs h2 in record { high = omega arith; tak
 costs (the_postfix h1) = let c1 = costs h1 in record { high = omega arith; taken = omega arith }
 costs (the_index h1 h2) = let c1 = costs h1 in let c2 = costs h2 in record { high = omega arith; taken = omega arith }
 costs (the_primary h1) = let c1 = costs h1 in record { high = omega arith; taken = omega arith }
-costs the_number =  record { high = omega arith; taken = omega arith }
-costs the_true =  record { high = omega arith; taken = omega arith }
-costs the_false =  record { high = omega arith; taken = omega arith }
-costs the_variable =  record { high = omega arith; taken = omega arith }
+costs the_number = record { high = omega arith; taken = omega arith }
+costs the_true = record { high = omega arith; taken = omega arith }
+costs the_false = record { high = omega arith; taken = omega arith }
+costs the_variable = record { high = omega arith; taken = omega arith }
 costs (the_call h1) = let c1 = costs h1 in record { high = omega arith; taken = omega arith }
 costs (the_pair {q = q} {x = x} h1) = let c1 = costs h1 in record { high = omega (arith, height-group q x); taken = omega (arith, height-group q x) }
 costs (the_if h1 h2 h3 e4) = let c1 = costs h1 in let c2 = costs h2 in let c3 = costs h3 in record { high = omega arith; taken = omega arith }
 costs (the_list h1) = let c1 = costs h1 in record { high = omega arith; taken = omega arith }
 costs (the_comp h1 h2) = let c1 = costs h1 in let c2 = costs h2 in record { high = omega arith; taken = omega arith }
 costs (the_gen h1 h2 h3) = let c1 = costs h1 in let c2 = costs h2 in let c3 = costs h3 in record { high = omega arith; taken = omega arith }
-costs the_type =  record { high = omega arith; taken = omega arith }
+costs the_type = record { high = omega arith; taken = omega arith }
 costs (the_type_with h1) = let c1 = costs h1 in record { high = omega arith; taken = omega arith }
 costs (the_shape_arg h1) = let c1 = costs h1 in record { high = omega arith; taken = omega arith }
 costs (the_value_arg h1) = let c1 = costs h1 in record { high = omega arith; taken = omega arith }
 costs (the_var h1) = let c1 = costs h1 in record { high = omega arith; taken = omega arith }
 costs (the_var_changing h1 h2) = let c1 = costs h1 in let c2 = costs h2 in record { high = omega arith; taken = omega arith }
 costs (the_var_constant h1 h2) = let c1 = costs h1 in let c2 = costs h2 in record { high = omega arith; taken = omega arith }
-costs the_no_vars =  record { high = omega arith; taken = omega arith }
+costs the_no_vars = record { high = omega arith; taken = omega arith }
 costs (the_vars h1) = let c1 = costs h1 in record { high = omega arith; taken = omega arith }
 costs (the_param h1) = let c1 = costs h1 in record { high = omega arith; taken = omega arith }
 costs (the_param_default h1 h2) = let c1 = costs h1 in let c2 = costs h2 in record { high = omega arith; taken = omega arith }
 costs (the_port h1) = let c1 = costs h1 in record { high = omega arith; taken = omega arith }
-costs the_name =  record { high = omega arith; taken = omega arith }
+costs the_name = record { high = omega arith; taken = omega arith }
 costs (the_tag h1) = let c1 = costs h1 in record { high = omega arith; taken = omega arith }
 costs (the_place h1) = let c1 = costs h1 in record { high = omega arith; taken = omega arith }
 costs (the_assign h1 h2) = let c1 = costs h1 in let c2 = costs h2 in record { high = omega arith; taken = omega arith }
@@ -104,16 +104,16 @@ costs (the_while h1 h2 e3) = let c1 = costs h1 in let c2 = costs h2 in record { 
 costs (the_foreach h1 h2 h3 h4 e5) = let c1 = costs h1 in let c2 = costs h2 in let c3 = costs h3 in let c4 = costs h4 in record { high = omega arith; taken = omega arith }
 costs (the_block h1 e2) = let c1 = costs h1 in record { high = omega arith; taken = omega arith }
 costs (the_block_with h1 h2 e3) = let c1 = costs h1 in let c2 = costs h2 in record { high = omega arith; taken = omega arith }
-costs (the_if_end e1) =  record { high = omega arith; taken = omega arith }
+costs (the_if_end e1) = record { high = omega arith; taken = omega arith }
 costs (the_else h1 e2) = let c1 = costs h1 in record { high = omega arith; taken = omega arith }
 costs (the_elsif h1 h2 h3) = let c1 = costs h1 in let c2 = costs h2 in let c3 = costs h3 in record { high = omega arith; taken = omega arith }
 costs (the_function h1 h2 h3 h4 e5) = let c1 = costs h1 in let c2 = costs h2 in let c3 = costs h3 in let c4 = costs h4 in record { high = omega arith; taken = omega arith }
 costs (the_procedure h1 h2 h3 e4) = let c1 = costs h1 in let c2 = costs h2 in let c3 = costs h3 in record { high = omega arith; taken = omega arith }
-costs the_no_guards =  record { high = omega arith; taken = omega arith }
+costs the_no_guards = record { high = omega arith; taken = omega arith }
 costs (the_guards h1) = let c1 = costs h1 in record { high = omega arith; taken = omega arith }
-costs the_no_repeat =  record { high = omega arith; taken = omega arith }
+costs the_no_repeat = record { high = omega arith; taken = omega arith }
 costs (the_repeat h1) = let c1 = costs h1 in record { high = omega arith; taken = omega arith }
-costs the_no_body =  record { high = omega arith; taken = omega arith }
+costs the_no_body = record { high = omega arith; taken = omega arith }
 costs (the_body h1) = let c1 = costs h1 in record { high = omega arith; taken = omega arith }
 costs (the_in h1 h2) = let c1 = costs h1 in let c2 = costs h2 in record { high = omega arith; taken = omega arith }
 costs (the_in_at h1 h2) = let c1 = costs h1 in let c2 = costs h2 in record { high = omega arith; taken = omega arith }
@@ -132,13 +132,13 @@ costs (the_function_member h1) = let c1 = costs h1 in record { high = omega arit
 costs (the_procedure_member h1) = let c1 = costs h1 in record { high = omega arith; taken = omega arith }
 costs (the_action_member h1) = let c1 = costs h1 in record { high = omega arith; taken = omega arith }
 costs (the_priority_member h1) = let c1 = costs h1 in record { high = omega arith; taken = omega arith }
-costs the_no_members =  record { high = omega arith; taken = omega arith }
+costs the_no_members = record { high = omega arith; taken = omega arith }
 costs (the_member h1 h2) = let c1 = costs h1 in let c2 = costs h2 in record { high = omega arith; taken = omega arith }
 costs (the_schedule_member h1 h2) = let c1 = costs h1 in let c2 = costs h2 in record { high = omega arith; taken = omega arith }
 costs (the_unit_var h1) = let c1 = costs h1 in record { high = omega arith; taken = omega arith }
 costs (the_unit_function h1) = let c1 = costs h1 in record { high = omega arith; taken = omega arith }
-costs the_path_name =  record { high = omega arith; taken = omega arith }
-costs the_path_all =  record { high = omega arith; taken = omega arith }
+costs the_path_name = record { high = omega arith; taken = omega arith }
+costs the_path_all = record { high = omega arith; taken = omega arith }
 costs (the_path_on {s = s} {r = r} {x = x} h1) = let c1 = costs h1 in record { high = omega (arith, height-onto (ident s r) x); taken = omega (arith, height-onto (ident s r) x) }
 costs (the_import {s = s} {q = q} {r = r} {x = x} h1) = let c1 = costs h1 in record { high = omega (arith, height-onto (ident s r) x, height-import_at q (onto (ident s r) x)); taken = omega (arith, height-onto (ident s r) x, height-import_at q (onto (ident s r) x)) }
 costs (the_actor h1 h2 h3 h4 e5) = let c1 = costs h1 in let c2 = costs h2 in let c3 = costs h3 in let c4 = costs h4 in record { high = omega arith; taken = omega arith }

@@ -186,21 +186,29 @@ member_named_kept m a s q b n =
     λ e1. asks _ _ _ _ _ _ _
     (λ e. let at : 0 < length b = some_left goes_on_type b e in
     checks _ _ _ _ _ _ (λ high. record { far = omega arith; at_token = at }) λ low.
-    record { it = (let less : 0 + 100 * length b < size (part a_member) a = omega arith in less,
-    λ shape c k. let read_type = k low in let cost = costs read_type.spelled in
-    (member_var_kept m a s q b n shape c read_type).it,
-    λ left k. tt,
-    λ left k. let there = k low in record { far = there.far; at_token = there.at_token }) })
+    record {
+      it = (
+        let less : 0 + 100 * length b < size (part a_member) a = omega arith in less,
+        λ shape c k. let read_type = k low in let cost = costs read_type.spelled in
+            (member_var_kept m a s q b n shape c read_type).it,
+        λ left k. tt,
+        λ left k. let there = k low in record { far = there.far; at_token = there.at_token },
+      );
+    })
     (λ e. fails _ _ _ _ tt)
   where
     member_var_kept : (m : ℕ) (a : List Placed) (s : List ℕ) (q : ℕ) (b : List Placed) → length a ≡ suc (length b) → (shape : Tree) (c : List Placed) → IsRead a_type m (placed (Lexeme.Name s) q ∷ b) c shape → Shows (size (part a_member) a) m (invoke (var_tail shape) (λ x. expect Lexeme.Semicolon (give x))) c (Meets a_member m (placed (Lexeme.Name s) q ∷ b))
     member_var_kept m a s q b n shape c type_read =
         let cost = costs type_read.spelled in
-        record { it = (let less : 0 + 100 * length c < size (part a_member) a = omega arith in less,
-        λ x d k. let var_read = k (placed (Lexeme.Name s) q ∷ b) type_read.spelled type_read.low in
-        (expects _ _ Lexeme.Semicolon a_var a_member (placed (Lexeme.Name s) q ∷ b) x (placed (Lexeme.Name s) q ∷ b) d (give x) var_read.spelled λ r d2 n2 hx. gives (size (part a_member) a) m x d2 (Meets a_member m (placed (Lexeme.Name s) q ∷ b)) (record { spelled = the_var_member hx; low = var_read.low })).it,
-        λ left k. tt,
-        λ left k. k (placed (Lexeme.Name s) q ∷ b) type_read.spelled type_read.low) }
+        record {
+          it = (
+            let less : 0 + 100 * length c < size (part a_member) a = omega arith in less,
+            λ x d k. let var_read = k (placed (Lexeme.Name s) q ∷ b) type_read.spelled type_read.low in
+                (expects _ _ Lexeme.Semicolon a_var a_member (placed (Lexeme.Name s) q ∷ b) x (placed (Lexeme.Name s) q ∷ b) d (give x) var_read.spelled λ r d2 n2 hx. gives (size (part a_member) a) m x d2 (Meets a_member m (placed (Lexeme.Name s) q ∷ b)) (record { spelled = the_var_member hx; low = var_read.low })).it,
+            λ left k. tt,
+            λ left k. k (placed (Lexeme.Name s) q ∷ b) type_read.spelled type_read.low,
+          );
+        }
 
 pub member_kept : (m : ℕ) (a : List Placed) → Kept a_member m a
 member_kept m a =

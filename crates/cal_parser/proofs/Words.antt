@@ -97,9 +97,11 @@ same_is v w e = go (word_known v) (word_known w) (and_left _ _ e) (eqb-true (wor
     and_left : (a b : Bool) → (a && b) ≡ true → a ≡ true
     and_left true b h = refl
     and_left false b h = h
+
     and_right : (a b : Bool) → (a && b) ≡ true → b ≡ true
     and_right true b h = h
     and_right false b h = cc
+
     go : (word_number v ≡ 0) ⊎ (word_at (word_number v) ≡ v) → (word_number w ≡ 0) ⊎ (word_at (word_number w) ≡ w) → nat_lt 0 (word_number v) ≡ true → word_number v ≡ word_number w → w ≡ v
     go (inl z) k more same = let off : nat_lt 0 0 ≡ true = rw z at more in cc
     go (inr a) (inl z) more same = let zero_v : word_number v ≡ 0 = same ∙ z in let off : nat_lt 0 0 ≡ true = rw zero_v at more in cc

@@ -1,2 +1,9 @@
 //! From tokens to the tree of a file.
+//!
+//! `specs/Spells.antt` is the grammar: which tokens spell which tree. `specs/Rules.antt` writes its rules
+//! as programs that look one token ahead. `proofs/` shows that they read exactly what is spelled.
 #![tactic(auto)]
+
+mod laws;
+
+pub use laws::one_tree;
