@@ -1,4 +1,6 @@
 pub mod Token
+pub mod Word
+pub mod Cursor
 pub mod Operators
 pub mod Spells
 pub mod Rules

@@ -4,6 +4,8 @@
 //! as programs that look one token ahead. `proofs/` shows that they read exactly what is spelled.
 #![tactic(auto)]
 
+mod cursor;
 mod laws;
+mod word;
 
 pub use laws::one_tree;
