@@ -11,17 +11,14 @@ pub data Tree : Type 0 where
   present : (part : Tree) → Tree
   nil : Tree
   cons : (first rest : Tree) → Tree
-
   -- names
   ident : (text : List ℕ) (at : ℕ) → Tree
   tag : (parts : Tree) (at : ℕ) → Tree
-
   -- files; the last name of an import is absent for `*`
   import_part : (path last : Tree) (at : ℕ) → Tree
   file : (in_package imports body : Tree) (at : ℕ) → Tree
   actor : (name params ins outs members : Tree) (at : ℕ) → Tree
   unit : (name members : Tree) (at : ℕ) → Tree
-
   -- members; `changes` is false where a variable is declared with `=`
   param : (shape name start : Tree) (at : ℕ) → Tree
   port : (shape name : Tree) (at : ℕ) → Tree
@@ -34,12 +31,10 @@ pub data Tree : Type 0 where
   schedule : (start moves : Tree) (at : ℕ) → Tree
   move : (from tags to : Tree) (at : ℕ) → Tree
   priority : (chains : Tree) (at : ℕ) → Tree
-
   -- types and their arguments
   type_of : (name args : Tree) (at : ℕ) → Tree
   shape_arg : (name shape : Tree) → Tree
   value_arg : (name value : Tree) → Tree
-
   -- statements
   assign : (name places value : Tree) (at : ℕ) → Tree
   call_stmt : (name args : Tree) (at : ℕ) → Tree
@@ -47,7 +42,6 @@ pub data Tree : Type 0 where
   while_stmt : (test body : Tree) (at : ℕ) → Tree
   foreach_stmt : (shape name from to body : Tree) (at : ℕ) → Tree
   block : (vars body : Tree) (at : ℕ) → Tree
-
   -- expressions
   number : (value : ℕ) (at : ℕ) → Tree
   truth : (value : Bool) (at : ℕ) → Tree

@@ -1,6 +1,11 @@
 //! Expressions, and the types whose arguments hold expressions.
 
+ghost use Rattle.std.specs.Prelude.{◌≡◌, ℕ, IfOk, map};
+ghost use Rattle.cal_ast.specs.View.{expr_tree, form_tree, gen_tree, type_tree, type_arg_tree};
+
 use crate::ident::Ident;
+use crate::part::Part;
+use std::alloc::{AllocError, Global};
 
 /// A type: its name and its arguments, as in `int(size=8)`.
 #[derive(Debug, Drop)]
@@ -143,4 +148,161 @@ pub enum BinOp {
     Div,
     /// `mod`
     Mod,
+}
+
+impl TypeExpr {
+    /// An equal type.
+    #[cycle(copy)]
+    pub fn copy(&self, alloc: Global) -> Result<TypeExpr, AllocError>
+        ensures { IfOk result (λ copied. type_tree copied ≡ type_tree self.now) }
+    {
+        Ok(TypeExpr {
+            name: self.name.copy(alloc)?,
+            args: copy_type_args(alloc, &self.args)?,
+            at: self.at,
+        })
+    }
+}
+
+impl TypeArg {
+    /// An equal argument.
+    #[cycle(copy)]
+    pub fn copy(&self, alloc: Global) -> Result<TypeArg, AllocError>
+        ensures { IfOk result (λ copied. type_arg_tree copied ≡ type_arg_tree self.now) }
+    {
+        match self {
+            TypeArg::Shape { name, shape } => Ok(TypeArg::Shape {
+                name: name.copy(alloc)?,
+                shape: shape.copy(alloc)?,
+            }),
+            TypeArg::Value { name, value } => Ok(TypeArg::Value {
+                name: name.copy(alloc)?,
+                value: value.copy(alloc)?,
+            }),
+        }
+    }
+}
+
+impl Gen {
+    /// An equal generator.
+    #[cycle(copy)]
+    pub fn copy(&self, alloc: Global) -> Result<Gen, AllocError>
+        ensures { IfOk result (λ copied. gen_tree copied ≡ gen_tree self.now) }
+    {
+        Ok(Gen {
+            shape: self.shape.copy(alloc)?,
+            name: self.name.copy(alloc)?,
+            from: self.from.copy(alloc)?,
+            to: self.to.copy(alloc)?,
+            at: self.at,
+        })
+    }
+}
+
+impl Expr {
+    /// An equal expression.
+    #[cycle(copy)]
+    pub fn copy(&self, alloc: Global) -> Result<Expr, AllocError>
+        ensures { IfOk result (λ copied. expr_tree copied ≡ expr_tree self.now) }
+    {
+        Ok(Expr {
+            form: self.form.copy(alloc)?,
+            at: self.at,
+        })
+    }
+}
+
+impl ExprForm {
+    /// An equal form of an expression.
+    #[cycle(copy)]
+    pub fn copy(&self, alloc: Global) -> Result<ExprForm, AllocError>
+        ensures { IfOk result (λ copied. (at : ℕ) → form_tree copied at ≡ form_tree self.now at) }
+    {
+        match self {
+            ExprForm::Number(value) => Ok(ExprForm::Number(*value)),
+            ExprForm::Bool(value) => Ok(ExprForm::Bool(*value)),
+            ExprForm::Name(text) => Ok(ExprForm::Name(text.clone()?)),
+            ExprForm::Call { name, args } => Ok(ExprForm::Call {
+                name: name.clone()?,
+                args: copy_exprs(alloc, args)?,
+            }),
+            ExprForm::Paren(inner) => Ok(ExprForm::Paren(copy_box(alloc, inner)?)),
+            ExprForm::If { test, yes, no } => Ok(ExprForm::If {
+                test: copy_box(alloc, test)?,
+                yes: copy_box(alloc, yes)?,
+                no: copy_box(alloc, no)?,
+            }),
+            ExprForm::List(items) => Ok(ExprForm::List(copy_exprs(alloc, items)?)),
+            ExprForm::Comp { item, gens } => Ok(ExprForm::Comp {
+                item: copy_box(alloc, item)?,
+                gens: copy_gens(alloc, gens)?,
+            }),
+            ExprForm::Index { base, place } => Ok(ExprForm::Index {
+                base: copy_box(alloc, base)?,
+                place: copy_box(alloc, place)?,
+            }),
+            ExprForm::Prefix { op, of } => Ok(ExprForm::Prefix {
+                op: *op,
+                of: copy_box(alloc, of)?,
+            }),
+            ExprForm::Binary { op, left, right } => Ok(ExprForm::Binary {
+                op: *op,
+                left: copy_box(alloc, left)?,
+                right: copy_box(alloc, right)?,
+            }),
+        }
+    }
+}
+
+/// An equal expression on the heap.
+#[cycle(copy)]
+fn copy_box(alloc: Global, e: &Box<Expr>) -> Result<Box<Expr>, AllocError>
+    ensures { IfOk result (λ copied. expr_tree copied.value ≡ expr_tree e.now.value) }
+{
+    let copied = e.copy(alloc)?;
+    Ok(Box::new(alloc, copied)?)
+}
+
+/// Equal expressions in the same order.
+#[cycle(copy)]
+fn copy_exprs(alloc: Global, exprs: &[Expr]) -> Result<Vec<Expr>, AllocError>
+    ensures { IfOk result (λ copied. map expr_tree copied.items ≡ map expr_tree exprs.now) }
+{
+    let mut copied = Vec::new(alloc);
+    for e in exprs {
+        copied.push(e.copy(alloc)?)?;
+    }
+    Ok(copied)
+}
+
+/// Equal arguments in the same order.
+#[cycle(copy)]
+fn copy_type_args(alloc: Global, args: &[TypeArg]) -> Result<Vec<TypeArg>, AllocError>
+    ensures { IfOk result (λ copied. map type_arg_tree copied.items ≡ map type_arg_tree args.now) }
+{
+    let mut copied = Vec::new(alloc);
+    for arg in args {
+        copied.push(arg.copy(alloc)?)?;
+    }
+    Ok(copied)
+}
+
+/// Equal generators in the same order.
+#[cycle(copy)]
+fn copy_gens(alloc: Global, gens: &[Gen]) -> Result<Vec<Gen>, AllocError>
+    ensures { IfOk result (λ copied. map gen_tree copied.items ≡ map gen_tree gens.now) }
+{
+    let mut copied = Vec::new(alloc);
+    for gen_part in gens {
+        copied.push(gen_part.copy(alloc)?)?;
+    }
+    Ok(copied)
+}
+
+impl Part for Expr {
+    ghost tree = { expr_tree };
+
+    fn copied(&self, alloc: Global) -> Result<Expr, AllocError> {
+        self.copy(alloc)
+    }
 }

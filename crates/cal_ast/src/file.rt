@@ -1,7 +1,12 @@
 //! Files: an actor or a unit, with its package and its imports.
 
+ghost use Rattle.std.specs.Prelude.{◌≡◌, IfOk};
+ghost use Rattle.cal_ast.specs.View.{file_tree, file_body_tree, import_tree, actor_tree, unit_tree};
+
 use crate::ident::{Ident, Tag};
 use crate::member::{Member, Param, PortDecl};
+use crate::part::{Part, copy_all, copy_optional};
+use std::alloc::{AllocError, Global};
 
 /// A file.
 #[derive(Debug, Drop)]
@@ -49,4 +54,80 @@ pub struct UnitFile {
     pub members: Vec<Member>,
     /// The offset of its first byte.
     pub at: u32,
+}
+
+impl File {
+    /// An equal file.
+    pub fn copy(&self, alloc: Global) -> Result<File, AllocError>
+        ensures { IfOk result (λ copied. file_tree copied ≡ file_tree self.now) }
+    {
+        Ok(File {
+            package: copy_optional(alloc, &self.package)?,
+            imports: copy_all(alloc, &self.imports)?,
+            body: self.body.copy(alloc)?,
+            at: self.at,
+        })
+    }
+}
+
+impl Body {
+    /// An equal actor or unit.
+    pub fn copy(&self, alloc: Global) -> Result<Body, AllocError>
+        ensures { IfOk result (λ copied. file_body_tree copied ≡ file_body_tree self.now) }
+    {
+        match self {
+            Body::Actor(a) => Ok(Body::Actor(a.copy(alloc)?)),
+            Body::Unit(u) => Ok(Body::Unit(u.copy(alloc)?)),
+        }
+    }
+}
+
+impl Import {
+    /// An equal import.
+    pub fn copy(&self, alloc: Global) -> Result<Import, AllocError>
+        ensures { IfOk result (λ copied. import_tree copied ≡ import_tree self.now) }
+    {
+        Ok(Import {
+            path: copy_all(alloc, &self.path)?,
+            last: copy_optional(alloc, &self.last)?,
+            at: self.at,
+        })
+    }
+}
+
+impl Part for Import {
+    ghost tree = { import_tree };
+
+    fn copied(&self, alloc: Global) -> Result<Import, AllocError> {
+        self.copy(alloc)
+    }
+}
+
+impl Actor {
+    /// An equal actor.
+    pub fn copy(&self, alloc: Global) -> Result<Actor, AllocError>
+        ensures { IfOk result (λ copied. actor_tree copied ≡ actor_tree self.now) }
+    {
+        Ok(Actor {
+            name: self.name.copy(alloc)?,
+            params: copy_all(alloc, &self.params)?,
+            ins: copy_all(alloc, &self.ins)?,
+            outs: copy_all(alloc, &self.outs)?,
+            members: copy_all(alloc, &self.members)?,
+            at: self.at,
+        })
+    }
+}
+
+impl UnitFile {
+    /// An equal unit.
+    pub fn copy(&self, alloc: Global) -> Result<UnitFile, AllocError>
+        ensures { IfOk result (λ copied. unit_tree copied ≡ unit_tree self.now) }
+    {
+        Ok(UnitFile {
+            name: self.name.copy(alloc)?,
+            members: copy_all(alloc, &self.members)?,
+            at: self.at,
+        })
+    }
 }

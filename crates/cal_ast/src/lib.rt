@@ -8,6 +8,7 @@ mod expr;
 mod file;
 mod ident;
 mod member;
+mod part;
 mod stmt;
 
 pub use action::{Action, Move, Output, Pattern, Priority, Schedule};

@@ -1,9 +1,14 @@
 //! What actors and units declare, but for their actions.
 
+ghost use Rattle.std.specs.Prelude.{◌≡◌, IfOk};
+ghost use Rattle.cal_ast.specs.View.{member_tree, param_tree, port_tree, var_tree, function_tree, procedure_tree};
+
 use crate::action::{Action, Priority, Schedule};
 use crate::expr::{Expr, TypeExpr};
 use crate::ident::Ident;
+use crate::part::{Part, copy_all, copy_optional};
 use crate::stmt::Stmt;
+use std::alloc::{AllocError, Global};
 
 /// A member of an actor or a unit.
 #[derive(Debug, Drop)]
@@ -70,4 +75,125 @@ pub struct Procedure {
     pub body: Vec<Stmt>,
     /// The offset of its first byte.
     pub at: u32,
+}
+
+impl Member {
+    /// An equal member.
+    pub fn copy(&self, alloc: Global) -> Result<Member, AllocError>
+        ensures { IfOk result (λ copied. member_tree copied ≡ member_tree self.now) }
+    {
+        match self {
+            Member::Var(v) => Ok(Member::Var(v.copy(alloc)?)),
+            Member::Function(f) => Ok(Member::Function(f.copy(alloc)?)),
+            Member::Procedure(p) => Ok(Member::Procedure(p.copy(alloc)?)),
+            Member::Action(a) => Ok(Member::Action(a.copy(alloc)?)),
+            Member::Schedule(s) => Ok(Member::Schedule(s.copy(alloc)?)),
+            Member::Priority(p) => Ok(Member::Priority(p.copy(alloc)?)),
+        }
+    }
+}
+
+impl Part for Member {
+    ghost tree = { member_tree };
+
+    fn copied(&self, alloc: Global) -> Result<Member, AllocError> {
+        self.copy(alloc)
+    }
+}
+
+impl Param {
+    /// An equal parameter.
+    pub fn copy(&self, alloc: Global) -> Result<Param, AllocError>
+        ensures { IfOk result (λ copied. param_tree copied ≡ param_tree self.now) }
+    {
+        Ok(Param {
+            shape: self.shape.copy(alloc)?,
+            name: self.name.copy(alloc)?,
+            start: copy_optional(alloc, &self.start)?,
+            at: self.at,
+        })
+    }
+}
+
+impl Part for Param {
+    ghost tree = { param_tree };
+
+    fn copied(&self, alloc: Global) -> Result<Param, AllocError> {
+        self.copy(alloc)
+    }
+}
+
+impl PortDecl {
+    /// An equal port or formal parameter.
+    pub fn copy(&self, alloc: Global) -> Result<PortDecl, AllocError>
+        ensures { IfOk result (λ copied. port_tree copied ≡ port_tree self.now) }
+    {
+        Ok(PortDecl {
+            shape: self.shape.copy(alloc)?,
+            name: self.name.copy(alloc)?,
+            at: self.at,
+        })
+    }
+}
+
+impl Part for PortDecl {
+    ghost tree = { port_tree };
+
+    fn copied(&self, alloc: Global) -> Result<PortDecl, AllocError> {
+        self.copy(alloc)
+    }
+}
+
+impl VarDecl {
+    /// An equal variable.
+    pub fn copy(&self, alloc: Global) -> Result<VarDecl, AllocError>
+        ensures { IfOk result (λ copied. var_tree copied ≡ var_tree self.now) }
+    {
+        Ok(VarDecl {
+            shape: self.shape.copy(alloc)?,
+            name: self.name.copy(alloc)?,
+            start: copy_optional(alloc, &self.start)?,
+            changes: self.changes,
+            at: self.at,
+        })
+    }
+}
+
+impl Part for VarDecl {
+    ghost tree = { var_tree };
+
+    fn copied(&self, alloc: Global) -> Result<VarDecl, AllocError> {
+        self.copy(alloc)
+    }
+}
+
+impl Function {
+    /// An equal function.
+    pub fn copy(&self, alloc: Global) -> Result<Function, AllocError>
+        ensures { IfOk result (λ copied. function_tree copied ≡ function_tree self.now) }
+    {
+        Ok(Function {
+            name: self.name.copy(alloc)?,
+            formals: copy_all(alloc, &self.formals)?,
+            result: self.result.copy(alloc)?,
+            vars: copy_all(alloc, &self.vars)?,
+            body: self.body.copy(alloc)?,
+            at: self.at,
+        })
+    }
+}
+
+impl Procedure {
+    /// An equal procedure.
+    pub fn copy(&self, alloc: Global) -> Result<Procedure, AllocError>
+        ensures { IfOk result (λ copied. procedure_tree copied ≡ procedure_tree self.now) }
+    {
+        Ok(Procedure {
+            name: self.name.copy(alloc)?,
+            formals: copy_all(alloc, &self.formals)?,
+            vars: copy_all(alloc, &self.vars)?,
+            body: copy_all(alloc, &self.body)?,
+            at: self.at,
+        })
+    }
 }

@@ -1,1 +1,3 @@
 pub mod Lexeme
+pub mod Lexis
+pub mod Lexes
