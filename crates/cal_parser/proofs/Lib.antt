@@ -9,3 +9,4 @@ mod Follow
 mod Claims
 mod Complete
 mod Whole
+mod Taking

@@ -1,18 +1,16 @@
 -- Lists, expressions and types: what their rules keep to.
-use Rattle.std.proofs.Common.{◌≡◌, ℕ, zero, suc, ◌+◌, ◌-◌, ◌*◌, ◌<◌, ◌≤◌, max, Bool, true, false, List, [], ◌∷◌, length, Option, None, Some, refl, sym, subst, ap, ◌∙◌, arith}
+use Rattle.std.proofs.Common.{◌≡◌, ℕ, zero, suc, ◌<◌, ◌≤◌, true, List, ◌∷◌, length, Option, None, Some, refl, arith}
 use Rattle.std.proofs.lemmas.Bool.{eqb-true}
-use Rattle.look_ahead.specs.Program.{Program, Outcome, give, fail, ask, take, check, jump, invoke, enter, Gave, Refused, TooHigh, Spent, ahead}
-use Rattle.look_ahead.proofs.Gets.{Gets}
-use Rattle.cal_ast.specs.Tree.{Tree, absent, present, nil, cons, ident, tag, import_part, file, actor, unit, param, port, var, function, procedure, action, pattern, output, schedule, move, priority, type_of, shape_arg, value_arg, assign, call_stmt, if_stmt, while_stmt, foreach_stmt, block, number, truth, variable, call, paren, if_expr, list, comp, gen, index, prefix, binary}
+use Rattle.look_ahead.specs.Program.{ahead}
+use Rattle.cal_ast.specs.Tree.{Tree}
 use Rattle.cal_lexer.specs.Lexeme.{Lexeme, Placed, placed}
-use Rattle.cal_parser.specs.Token.{here, names, counts, same_word, kind_of, offset, text_of, value_of}
-use Rattle.cal_parser.specs.Operators.{level_of, loosest, binary_of, is_prefix, prefix_of, ends, place, group, with_tag, onto, import_at, with_package, first_place, height}
-use Rattle.cal_parser.specs.Spells.{Mark, comma, dot, greater, mark, Part, Spells, separated, rest, any, repeated, level, a_postfix, a_primary, a_gen, a_type, a_type_arg, a_var, some_vars, a_param, a_port, a_name, a_tag, a_place, a_stmt, otherwise, a_function, a_procedure, some_guards, some_repeat, a_body, an_in, an_out, an_action, a_labelled, a_move, a_schedule, a_chain, a_priority, a_member, members, a_unit_member, a_path, an_import, an_actor, a_unit, some_imports, a_file, an_expr, the_separated, the_last, the_more, the_none, the_some, the_end, the_again, the_binary, the_tighter, the_prefix, the_postfix, the_index, the_primary, the_number, the_true, the_false, the_variable, the_call, the_pair, the_if, the_list, the_comp, the_gen, the_type, the_type_with, the_shape_arg, the_value_arg, the_var, the_var_changing, the_var_constant, the_no_vars, the_vars, the_param, the_param_default, the_port, the_name, the_tag, the_place, the_assign, the_call_stmt, the_if_stmt, the_while, the_foreach, the_block, the_block_with, the_if_end, the_else, the_elsif, the_function, the_procedure, the_no_guards, the_guards, the_no_repeat, the_repeat, the_no_body, the_body, the_in, the_in_at, the_out, the_out_at, the_action, the_initialize, the_unlabelled, the_labelled, the_move, the_schedule, the_chain, the_priority, the_var_member, the_function_member, the_procedure_member, the_action_member, the_priority_member, the_no_members, the_member, the_schedule_member, the_unit_var, the_unit_function, the_path_name, the_path_all, the_path_on, the_import, the_actor, the_unit, the_actor_file, the_unit_file, the_file, the_package_file}
-use Rattle.cal_parser.specs.Rules
-use Rattle.cal_parser.specs.Rules.{Rule, part, chain, places, type_tail, var_tail, whole, Step, size, rule_rank, rank, starts, on, expect, named, finish, ident_of, part_body, body}
-use Rattle.cal_parser.proofs.Meets.{IsRead, IsFar, Meets, MeetsWhole, Keeps, nothing_spent, Shows, gives, fails, asks, checks, jumps, word_or, name_or, first_or, takes_kind, takes_word, takes_name, takes_number, invoked, entered, invokes, enters, expects, names_next, finishes, some_left, turns}
-use Rattle.cal_parser.proofs.Costs.{Cost, costs, takes, height-group, height-group_any, height-inside}
-use Rattle.cal_parser.specs.Rules.{level_body, at_level, chain_body, places_body, name_body, pair_body, if_body, list_body, primary_body, gen_body, type_tail_body, type_arg_body, var_tail_body, param_body, first, begin}
+use Rattle.cal_parser.specs.Token.{here, names, counts, same_word}
+use Rattle.cal_parser.specs.Operators.{level_of, is_prefix, height}
+use Rattle.cal_parser.specs.Spells.{Mark, comma, dot, mark, Part, Spells, separated, rest, any, repeated, level, a_postfix, a_primary, a_gen, a_type, a_type_arg, a_var, some_vars, a_param, a_port, a_name, a_tag, a_place, a_stmt, an_in, an_out, a_move, a_chain, a_member, a_unit_member, an_import, an_expr, the_separated, the_last, the_more, the_none, the_some, the_end, the_again, the_binary, the_tighter, the_prefix, the_postfix, the_index, the_primary, the_number, the_true, the_false, the_variable, the_call, the_pair, the_if, the_list, the_comp, the_gen, the_type, the_type_with, the_shape_arg, the_value_arg, the_var, the_var_changing, the_var_constant, the_no_vars, the_vars, the_param, the_param_default, the_port, the_name, the_tag}
+use Rattle.cal_parser.specs.Rules.{part, chain, places, type_tail, var_tail, size, starts, part_body}
+use Rattle.cal_parser.proofs.Meets.{Meets, Keeps, Shows, gives, fails, asks, checks, jumps, word_or, name_or, first_or, takes_kind, takes_word, takes_name, takes_number, invoked, entered, invokes, enters, expects, names_next, finishes, some_left, turns}
+use Rattle.cal_parser.proofs.Costs.{costs, takes, height-group, height-group_any}
+use Rattle.cal_parser.specs.Rules.{at_level, chain_body, places_body, type_tail_body, var_tail_body}
 
 abbrev pub Kept : Part → ℕ → List Placed → Type 0
 Kept p m a = Shows (size (part p) a) m (part_body p) a (Meets p m a)

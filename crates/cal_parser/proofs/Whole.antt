@@ -1,6 +1,6 @@
 -- A whole file: what its reading says.
-use Rattle.std.proofs.Common.{◌≡◌, ℕ, ◌+◌, ◌≤◌, List, [], length, refl, ◌∙◌, ap, arith}
-use Rattle.look_ahead.specs.Program.{Outcome, Gave, Refused, TooHigh, exec, after}
+use Rattle.std.proofs.Common.{◌≡◌, ℕ, ◌≤◌, List, [], refl}
+use Rattle.look_ahead.specs.Program.{Gave, Refused, TooHigh, exec}
 use Rattle.look_ahead.proofs.Refusals as refusals
 use Rattle.cal_ast.specs.Tree.{Tree}
 use Rattle.cal_lexer.specs.Lexeme.{Placed}

@@ -1,5 +1,5 @@
 -- What is promised of the reading of a file.
-use Rattle.std.specs.Prelude.{ℕ, List}
+use Rattle.std.specs.Prelude.{List}
 use Rattle.look_ahead.specs.Reading.{IsRefused, IsTooHigh}
 use Rattle.cal_lexer.specs.Lexeme.{Placed}
 use Rattle.cal_parser.specs.Operators.{height, max_height}

@@ -1,5 +1,5 @@
 -- Questions on what stands at the front of a list of tokens.
-use Rattle.std.specs.Prelude.{ℕ, List, [], ◌∷◌, Bool, true, false, ◌&&◌, Option, None, Some, nat_eq, nat_lt}
+use Rattle.std.specs.Prelude.{ℕ, List, [], Bool, true, false, ◌&&◌, Option, None, Some, nat_eq, nat_lt}
 use Rattle.cal_lexer.specs.Lexeme.{Lexeme, Placed, placed}
 
 -- the offset of its first byte

@@ -2,13 +2,16 @@
 
 ghost use Rattle.std.specs.Prelude.{◌≡◌, ◌<◌, true, false, length, MatchResult, string_bytes, IsTrue};
 ghost use Rattle.cal_lexer.specs.Lexeme.{Name};
-ghost use Rattle.cal_parser.specs.Cursor.{Took, stands};
+ghost use Rattle.cal_parser.specs.Cursor.{Took, TookName, TookWord, stands};
 ghost use Rattle.cal_parser.specs.Operators.{ends};
 ghost use Rattle.cal_parser.specs.Token.{counts, names, same_word};
 ghost use Rattle.cal_parser.specs.Word.{asked};
 
+use crate::fault::Fault;
 use crate::word::{Word, number_of};
+use cal_ast::Ident;
 use cal_lexer::{Token, TokenKind};
+use std::alloc::Global;
 
 /// Whether this word is at the front.
 pub fn is_word(tokens: &[Token], word: Word) -> bool
@@ -47,4 +50,44 @@ pub fn is_number(tokens: &[Token]) -> bool
             _ => false,
         },
     }
+}
+
+/// Takes the word at the front, and says where it stands.
+pub fn take_word(tokens: &mut &[Token], word: Word) -> u32
+    requires { stands (same_word (asked word)) tokens.old.now ≡ true }
+    ensures { Took (asked word) result tokens.old.now tokens.new.now }
+{
+    let all = *tokens;
+    let Some((token, rest)) = all.split_first() else {
+        unreachable!()
+    };
+    *tokens = rest;
+    token.at
+}
+
+/// Takes this word, which must be at the front, and says where it stands.
+pub fn expect(tokens: &mut &[Token], word: Word) -> Result<u32, Fault>
+    ensures { TookWord (asked word) result tokens.old.now tokens.new.now }
+{
+    if is_word(tokens, word) {
+        Ok(take_word(tokens, word))
+    } else {
+        Err(Fault::Refused)
+    }
+}
+
+/// Takes a name, which must be at the front.
+pub fn name(alloc: Global, tokens: &mut &[Token]) -> Result<Ident, Fault>
+    ensures { TookName result tokens.old.now tokens.new.now }
+{
+    let all = *tokens;
+    let Some((token, rest)) = all.split_first() else {
+        return Err(Fault::Refused)
+    };
+    let TokenKind::Name(text) = &token.kind else {
+        return Err(Fault::Refused)
+    };
+    let text = text.clone()?;
+    *tokens = rest;
+    Ok(Ident { text, at: token.at })
 }

@@ -5,6 +5,7 @@
 #![tactic(auto)]
 
 mod cursor;
+mod fault;
 mod laws;
 mod word;
 
