@@ -10,3 +10,5 @@ mod Claims
 mod Complete
 mod Whole
 mod Taking
+mod Lists
+mod NameLists

@@ -1,6 +1,9 @@
 pub mod Token
 pub mod Word
 pub mod Cursor
+pub mod Tells
+pub mod Separator
+pub mod SoFar
 pub mod Operators
 pub mod Spells
 pub mod Rules

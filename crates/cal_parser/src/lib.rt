@@ -7,6 +7,7 @@
 mod cursor;
 mod fault;
 mod laws;
+mod names;
 mod word;
 
 pub use laws::one_tree;
