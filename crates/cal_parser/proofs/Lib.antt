@@ -12,3 +12,4 @@ mod Whole
 mod Taking
 mod Lists
 mod NameLists
+mod Tags

@@ -3,13 +3,14 @@ use Rattle.std.specs.Prelude.{◌≡◌, ℕ, List, [], ◌∷◌, map, Result, 
 use Rattle.std.specs.declared.alloc.Global.{Global}
 use Rattle.look_ahead.specs.Program.{Outcome, Gave, Refused, TooHigh, Spent}
 use Rattle.cal_ast.specs.Tree.{Tree, cons, listed}
-use Rattle.cal_ast.specs.View.{ident_tree}
+use Rattle.cal_ast.specs.View.{ident_tree, tag_tree}
 use Rattle.cal_ast.specs.declared.ident.Ident.{Ident}
+use Rattle.cal_ast.specs.declared.ident.Tag.{Tag}
 use Rattle.cal_lexer.specs.Lexeme.{Placed, plain_tokens}
 use Rattle.cal_lexer.specs.declared.token.Token.{Token}
 use Rattle.cal_parser.specs.declared.fault.Fault.{Fault}
 use Rattle.cal_parser.specs.declared.fault.Fault.TheVariants as faults
-use Rattle.cal_parser.specs.Spells.{separated, a_name, Mark}
+use Rattle.cal_parser.specs.Spells.{separated, a_name, a_tag, Mark}
 use Rattle.cal_parser.specs.Rules.{part, read}
 
 abbrev pub TellsFault : Fault → List Token → Outcome Placed Tree → Type 0
@@ -32,3 +33,7 @@ before xs (Gave ys left) = Gave (joined xs ys) left
 before xs (Refused left) = Refused left
 before xs (TooHigh left) = TooHigh left
 before xs Spent = Spent
+
+abbrev pub TellsTag : Result Tag Fault → List Token → List Token → Type 0
+TellsTag (Ok t) old new = (m : ℕ) → read m (part a_tag) (plain_tokens old) ≡ Gave (tag_tree t) (plain_tokens new)
+TellsTag (Err fault) old new = (m : ℕ) → TellsFault fault new (read m (part a_tag) (plain_tokens old))
