@@ -13,3 +13,4 @@ mod Taking
 mod Lists
 mod NameLists
 mod Tags
+mod Rows

@@ -45,10 +45,10 @@ module _ (v : Mark) (w : Lexeme) (start now : List Token) (xs : List Ident) (far
   names_more i mid after q named marked ys e = record {
     word_is = far.word_is;
     far = λ m.
-      let marked_is : plain_tokens mid ≡ placed (mark v) q ∷ plain_tokens after = marked ∙ ap (λ k. placed k q ∷ plain_tokens after) far.word_is in
-      let item : read m (part a_name) (plain_tokens now) ≡ Gave (ident_tree i) (placed (mark v) q ∷ plain_tokens after) = name_read m i now mid named ∙ ap (λ l. Gave (ident_tree i) l) marked_is in
-      let list_is : map ident_tree xs ++ ident_tree i ∷ [] ≡ map ident_tree ys = sym (map-append xs i) ∙ ap (λ l. map ident_tree l) (sym e) in
-      Lists.on_more m v a_name (plain_tokens start) (plain_tokens now) (map ident_tree xs) (far.far m) (plain_tokens after) (ident_tree i) q item ∙ ap (λ l. before l (read m (part (separated v a_name)) (plain_tokens after))) list_is;
+        let marked_is : plain_tokens mid ≡ placed (mark v) q ∷ plain_tokens after = marked ∙ ap (λ k. placed k q ∷ plain_tokens after) far.word_is in
+        let item : read m (part a_name) (plain_tokens now) ≡ Gave (ident_tree i) (placed (mark v) q ∷ plain_tokens after) = name_read m i now mid named ∙ ap (λ l. Gave (ident_tree i) l) marked_is in
+        let list_is : map ident_tree xs ++ ident_tree i ∷ [] ≡ map ident_tree ys = sym (map-append xs i) ∙ ap (λ l. map ident_tree l) (sym e) in
+        Lists.on_more m v a_name (plain_tokens start) (plain_tokens now) (map ident_tree xs) (far.far m) (plain_tokens after) (ident_tree i) q item ∙ ap (λ l. before l (read m (part (separated v a_name)) (plain_tokens after))) list_is;
   }
 
   -- the last name
