@@ -1,8 +1,8 @@
 -- Lists that are read one part after the other.
-use Rattle.std.proofs.Common.{◌≡◌, ℕ, Bool, true, false, List, [], ◌∷◌, ◌++◌, map, refl, sym, ap, ◌∙◌}
-use Rattle.look_ahead.specs.Program.{Outcome, Gave, Refused, TooHigh, Spent, ahead, exec, after, give}
+use Rattle.std.proofs.Common.{◌≡◌, ℕ, false, List, [], ◌∷◌, ◌++◌, refl, ap, ◌∙◌}
+use Rattle.look_ahead.specs.Program.{Outcome, Gave, Refused, TooHigh, Spent, ahead, exec, after}
 use Rattle.cal_ast.specs.Tree.{Tree, cons, nil, listed}
-use Rattle.cal_lexer.specs.Lexeme.{Lexeme, Placed, placed}
+use Rattle.cal_lexer.specs.Lexeme.{Placed, placed}
 use Rattle.cal_parser.specs.Token.{here, same_word}
 use Rattle.cal_parser.specs.Spells.{Mark, mark, Part, separated, rest}
 use Rattle.cal_parser.specs.Rules.{part, read}

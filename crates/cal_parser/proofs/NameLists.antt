@@ -1,10 +1,10 @@
 -- Names that are taken one after the other.
-use Rattle.std.proofs.Common.{◌≡◌, ℕ, suc, ◌<◌, Bool, true, false, List, [], ◌∷◌, ◌++◌, map, length, string_bytes, Ok, Err, refl, sym, ap, ◌∙◌, arith}
-use Rattle.look_ahead.specs.Program.{Outcome, Gave, Refused, exec, ahead}
-use Rattle.cal_ast.specs.Tree.{Tree, ident, listed}
+use Rattle.std.proofs.Common.{◌≡◌, ℕ, suc, ◌<◌, false, List, [], ◌∷◌, ◌++◌, map, length, string_bytes, Err, refl, sym, ap, ◌∙◌, arith}
+use Rattle.look_ahead.specs.Program.{Gave, Refused, exec, ahead}
+use Rattle.cal_ast.specs.Tree.{listed}
 use Rattle.cal_ast.specs.View.{ident_tree}
 use Rattle.cal_ast.specs.declared.ident.Ident.{Ident}
-use Rattle.cal_lexer.specs.Lexeme.{Lexeme, Placed, placed, plain, plain_tokens}
+use Rattle.cal_lexer.specs.Lexeme.{Lexeme, placed, plain_tokens}
 use Rattle.cal_lexer.specs.declared.token.Token.{Token}
 use Rattle.cal_parser.specs.Cursor.{Took, TookName, Stays, stands}
 use Rattle.cal_parser.specs.SoFar.{IsSoFar}

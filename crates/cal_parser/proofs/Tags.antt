@@ -1,17 +1,15 @@
 -- A tag is a list of names.
-use Rattle.std.proofs.Common.{◌≡◌, ℕ, List, [], ◌∷◌, map, Ok, Err, Vec, length, refl, ap, ◌∙◌}
-use Rattle.std.specs.declared.alloc.Global.{Global}
-use Rattle.look_ahead.specs.Program.{Outcome, Gave, Refused, TooHigh, exec}
-use Rattle.cal_ast.specs.Tree.{Tree, tag, listed}
-use Rattle.cal_ast.specs.View.{ident_tree, tag_tree}
-use Rattle.cal_ast.specs.declared.ident.Ident.{Ident}
+use Rattle.std.proofs.Common.{◌≡◌, ℕ, List, map, Ok, Err, refl, ap}
+use Rattle.look_ahead.specs.Program.{Gave, exec}
+use Rattle.cal_ast.specs.Tree.{tag, listed}
+use Rattle.cal_ast.specs.View.{ident_tree}
 use Rattle.cal_ast.specs.declared.ident.Tag.{Tag}
 use Rattle.cal_lexer.specs.Lexeme.{plain_tokens}
 use Rattle.cal_lexer.specs.declared.token.Token.{Token}
 use Rattle.cal_parser.specs.Operators.{place}
 use Rattle.cal_parser.specs.Spells.{separated, a_name, a_tag, dot}
 use Rattle.cal_parser.specs.Rules.{part, read}
-use Rattle.cal_parser.specs.Tells.{TellsFault, TellsNames, TellsTag}
+use Rattle.cal_parser.specs.Tells.{TellsNames, TellsTag}
 use Rattle.cal_parser.specs.declared.fault.Fault.{Fault}
 use Rattle.cal_parser.specs.declared.fault.Fault.TheVariants as faults
 use Rattle.cal_parser.proofs.Reading.{read_is}

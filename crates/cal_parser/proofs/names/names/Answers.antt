@@ -1,4 +1,4 @@
-use Rattle.std.proofs.Common.{◌≡◌, Ok, Err, rules, sym, ◌∙◌}
+use Rattle.std.proofs.Common.{◌≡◌, Err, rules, sym, ◌∙◌}
 use Rattle.cal_parser.specs.Separator.{mark_of}
 use Rattle.cal_parser.specs.Word.{asked}
 use Rattle.cal_parser.proofs.NameLists.{names_more, names_last, names_fail}

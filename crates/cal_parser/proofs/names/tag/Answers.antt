@@ -1,4 +1,4 @@
-use Rattle.std.proofs.Common.{◌≡◌, map, Ok, Err, rules, ap, ◌∙◌}
+use Rattle.std.proofs.Common.{◌≡◌, map, Err, rules, ap, ◌∙◌}
 use Rattle.cal_ast.specs.Tree.{listed}
 use Rattle.cal_ast.specs.View.{ident_tree}
 use Rattle.cal_parser.specs.Operators.{place}
