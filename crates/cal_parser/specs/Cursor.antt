@@ -1,11 +1,12 @@
 -- Where the parser stands: the tokens that are left, as plain ones.
-use Rattle.std.specs.Prelude.{◌≡◌, ℕ, List, ◌∷◌, Bool, false, Result, Ok, Err, string_bytes}
+use Rattle.std.specs.Prelude.{◌≡◌, ℕ, List, ◌∷◌, Bool, true, false, Result, Ok, Err, string_bytes}
 use Rattle.cal_ast.specs.declared.ident.Ident.{Ident}
 use Rattle.cal_parser.specs.declared.fault.Fault.{Fault}
 use Rattle.cal_parser.specs.declared.fault.Fault.TheVariants as faults
 use Rattle.look_ahead.specs.Program.{ahead}
 use Rattle.cal_lexer.specs.Lexeme.{Lexeme, placed, plain_tokens}
 use Rattle.cal_lexer.specs.declared.token.Token.{Token}
+use Rattle.cal_parser.specs.Operators.{ends}
 use Rattle.cal_parser.specs.Token.{here, names, same_word}
 
 -- whether there is a token of such a kind at the front
@@ -33,3 +34,15 @@ TookWord w (Ok at) old new = Took w at old new
 TookWord w (Err faults.Refused) old new = Stays (same_word w) old new
 TookWord w (Err faults.TooHigh) old new = ⊥
 TookWord w (Err faults.Memory) old new = ⊥
+
+-- the end of what begins with v was taken
+pub record TookEnd (v : Lexeme) (old new : List Token) : Type 0 where
+  pub kind : Lexeme
+  pub at : ℕ
+  pub is_end : ends v kind ≡ true
+  pub took : Took kind at old new
+
+-- the same, or none stands there
+abbrev pub Finished : Lexeme → Bool → List Token → List Token → Type 0
+Finished v true old new = TookEnd v old new
+Finished v false old new = Stays (ends v) old new

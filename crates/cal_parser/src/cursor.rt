@@ -2,7 +2,7 @@
 
 ghost use Rattle.std.specs.Prelude.{◌≡◌, ◌<◌, true, false, length, MatchResult, string_bytes, IsTrue};
 ghost use Rattle.cal_lexer.specs.Lexeme.{Name};
-ghost use Rattle.cal_parser.specs.Cursor.{Took, TookName, TookWord, stands};
+ghost use Rattle.cal_parser.specs.Cursor.{Finished, Took, TookName, TookWord, stands};
 ghost use Rattle.cal_parser.specs.Operators.{ends};
 ghost use Rattle.cal_parser.specs.Token.{counts, names, same_word};
 ghost use Rattle.cal_parser.specs.Word.{asked};
@@ -90,4 +90,20 @@ pub fn name(alloc: Global, tokens: &mut &[Token]) -> Result<Ident, Fault>
     let text = text.clone()?;
     *tokens = rest;
     Ok(Ident { text, at: token.at })
+}
+
+/// Takes the end of what begins with this word, and says whether it is there: `end`, or its long end.
+pub fn finish(tokens: &mut &[Token], opener: Word) -> bool
+    ensures { Finished (asked opener) result tokens.old.now tokens.new.now }
+{
+    let long = opener.long_end();
+    if is_word(tokens, Word::End) {
+        take_word(tokens, Word::End);
+        return true;
+    }
+    if is_word(tokens, long) {
+        take_word(tokens, long);
+        return true;
+    }
+    false
 }

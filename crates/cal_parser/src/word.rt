@@ -2,6 +2,7 @@
 
 ghost use Rattle.std.specs.Prelude.{◌≡◌};
 ghost use Rattle.cal_lexer.specs.Lexeme.{lexeme};
+ghost use Rattle.cal_parser.specs.Operators.{long_end};
 ghost use Rattle.cal_parser.specs.Token.{word_number};
 ghost use Rattle.cal_parser.specs.Word.{asked};
 
@@ -196,6 +197,27 @@ impl Word {
             Word::Bar => 72,
             Word::Caret => 73,
             Word::Tilde => 74,
+        }
+    }
+
+    /// The long end of what begins with this word, or `end`.
+    pub fn long_end(self) -> Word
+        ensures { asked result ≡ long_end (asked self) }
+    {
+        match self {
+            Word::Actor => Word::EndActor,
+            Word::Unit => Word::EndUnit,
+            Word::Action => Word::EndAction,
+            Word::Initialize => Word::EndInitialize,
+            Word::Function => Word::EndFunction,
+            Word::Procedure => Word::EndProcedure,
+            Word::If => Word::EndIf,
+            Word::While => Word::EndWhile,
+            Word::Foreach => Word::EndForeach,
+            Word::Begin => Word::EndBegin,
+            Word::Schedule => Word::EndSchedule,
+            Word::Priority => Word::EndPriority,
+            _ => Word::End,
         }
     }
 }
