@@ -1,0 +1,16 @@
+mod Words
+mod Costs
+mod Meets
+mod Sound
+mod SoundStatements
+mod SoundMembers
+mod Reading
+mod Follow
+mod Claims
+mod Complete
+mod Whole
+mod Taking
+mod Lists
+mod NameLists
+mod Tags
+mod Rows

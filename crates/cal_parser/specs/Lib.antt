@@ -1,0 +1,10 @@
+pub mod Token
+pub mod Word
+pub mod Cursor
+pub mod Tells
+pub mod Separator
+pub mod SoFar
+pub mod Operators
+pub mod Spells
+pub mod Rules
+pub mod Refusals

@@ -1,0 +1,13 @@
+-- How far a loop over the parts of a list has come.
+use Rattle.std.specs.Prelude.{◌≡◌, ℕ, List}
+use Rattle.cal_ast.specs.Tree.{Tree}
+use Rattle.cal_lexer.specs.Lexeme.{Lexeme, plain_tokens}
+use Rattle.cal_lexer.specs.declared.token.Token.{Token}
+use Rattle.cal_parser.specs.Spells.{Mark, mark, Part, separated}
+use Rattle.cal_parser.specs.Rules.{part, read}
+use Rattle.cal_parser.specs.Tells.{before}
+
+-- these trees are read from `start` on, with a mark behind each, and the rest is read from `now` on
+pub record IsSoFar (v : Mark) (p : Part) (w : Lexeme) (start now : List Token) (xs : List Tree) : Type 0 where
+  pub word_is : w ≡ mark v
+  pub far : (m : ℕ) → read m (part (separated v p)) (plain_tokens start) ≡ before xs (read m (part (separated v p)) (plain_tokens now))

@@ -1,0 +1,13 @@
+//! From tokens to the tree of a file.
+//!
+//! `specs/Spells.antt` is the grammar: which tokens spell which tree. `specs/Rules.antt` writes its rules
+//! as programs that look one token ahead. `proofs/` shows that they read exactly what is spelled.
+#![tactic(auto)]
+
+mod cursor;
+mod fault;
+mod laws;
+mod names;
+mod word;
+
+pub use laws::one_tree;

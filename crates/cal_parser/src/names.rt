@@ -1,0 +1,76 @@
+//! Names with dots or commas between them.
+
+ghost use Rattle.std.specs.Prelude.{◌≡◌, map};
+ghost use Rattle.cal_ast.specs.Tree.{listed};
+ghost use Rattle.cal_ast.specs.View.{ident_tree};
+ghost use Rattle.cal_parser.specs.Operators.{place};
+ghost use Rattle.cal_parser.specs.Separator.{mark_of};
+ghost use Rattle.cal_parser.specs.Tells.{TellsNames, TellsTag};
+
+use crate::cursor::{is_word, name, take_word};
+use crate::fault::Fault;
+use crate::word::Word;
+use cal_ast::{Ident, Tag};
+use cal_lexer::Token;
+use std::alloc::Global;
+
+/// What stands between the parts of a list.
+#[derive(Clone, Copy)]
+pub enum Separator {
+    Comma,
+    Dot,
+    Greater,
+}
+
+impl Separator {
+    ghost use Rattle.std.specs.Prelude.{◌≡◌};
+    ghost use Rattle.cal_parser.specs.Separator.{mark_of};
+    ghost use Rattle.cal_parser.specs.Spells.{mark};
+    ghost use Rattle.cal_parser.specs.Word.{asked};
+
+    /// The word that it is.
+    pub fn word(self) -> Word
+        ensures { asked result ≡ mark (mark_of self) }
+    {
+        match self {
+            Separator::Comma => Word::Comma,
+            Separator::Dot => Word::Dot,
+            Separator::Greater => Word::Greater,
+        }
+    }
+}
+
+/// One name or more.
+pub fn names(alloc: Global, tokens: &mut &[Token], between: Separator) -> Result<Vec<Ident>, Fault>
+    ensures { TellsNames (mark_of between) result tokens.old.now tokens.new.now }
+{
+    let mut found = Vec::new(alloc);
+    let word = between.word();
+    'names: loop {
+        let next = name(alloc, tokens)?;
+        found.push(next)?;
+        if !is_word(tokens, word) {
+            return Ok(found);
+        }
+        take_word(tokens, word);
+    }
+}
+
+/// The offset of the first of several names, or 0.
+fn first_offset(names: &[Ident]) -> u32
+    ensures { result ≡ place (listed (map ident_tree names.now)) }
+{
+    match names.first() {
+        None => 0,
+        Some(first) => first.at,
+    }
+}
+
+/// A tag, or the name of a package: names with dots between them.
+pub fn tag(alloc: Global, tokens: &mut &[Token]) -> Result<Tag, Fault>
+    ensures { TellsTag result tokens.old.now tokens.new.now }
+{
+    let parts = names(alloc, tokens, Separator::Dot)?;
+    let at = first_offset(&parts);
+    Ok(Tag { parts, at })
+}

@@ -1,0 +1,5 @@
+pub mod Gets
+pub mod Ending
+pub mod Frames
+pub mod Looser
+pub mod Refusals
