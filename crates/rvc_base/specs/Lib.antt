@@ -3,3 +3,5 @@ pub mod Trap
 pub mod Behaviour
 pub mod Refusal
 pub mod Storing
+pub mod Arithmetic
+pub mod Turns

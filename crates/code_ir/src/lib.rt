@@ -1,0 +1,10 @@
+//! Code of actors: instructions, what running them means, and the test that code must pass before it runs.
+#![tactic(auto)]
+
+mod instr;
+mod outcome;
+mod tokens;
+
+pub use instr::{ActorCode, Instr, Routine};
+pub use outcome::Outcome;
+pub use tokens::Tokens;
