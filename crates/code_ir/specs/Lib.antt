@@ -1,3 +1,4 @@
 pub mod Code
 pub mod Effect
 pub mod Running
+pub mod Typing
