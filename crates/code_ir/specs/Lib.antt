@@ -2,3 +2,4 @@ pub mod Code
 pub mod Effect
 pub mod Running
 pub mod Typing
+pub mod Standing

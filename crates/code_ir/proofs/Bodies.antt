@@ -1,0 +1,105 @@
+-- The body and the routine of a place, and that ways stay inside the code.
+use Rattle.std.proofs.Common.{◌≡◌, ◌≢◌, ℕ, zero, suc, ◌+◌, ◌-◌, ◌*◌, ◌<◌, ◌≤◌, refl, sym, ap, ◌∙◌, subst, Bool, true, false, ◌||◌, List, [], ◌∷◌, ◌++◌, length, map, arith, rules, add-one}
+use Rattle.std.specs.Prelude.{Option, None, Some, slice_get, ◌==◌, if◌then◌else◌}
+use Rattle.std.proofs.lemmas.Option.{slice_get_within, slice_get-get_or, slice_get_cases}
+use Rattle.std.proofs.lemmas.Bool.Decides.{nat_tests, Decides-eqb}
+use Rattle.code_ir.specs.declared.instr.Instr.{Instr}
+use Rattle.code_ir.specs.declared.instr.Instr.TheVariants as op
+use Rattle.code_ir.specs.declared.instr.Routine.{Routine}
+use Rattle.code_ir.specs.Code.{Code, begins, is_among, body_of, routine_at, routine_of, results_of}
+use Rattle.code_ir.proofs.Effects.{chosen}
+use Rattle.code_ir.specs.Typing.{AreDistinct, PlacesStand, IsAdmitted, IsTyped, IsTarget, StaysInside, Way, begin, next, jump, JumpsInside, target, goes_on, pops, pushes}
+
+-- ---- bodies
+
+pub body_of-begin : (code : Code) (p : ℕ) → is_among p (begins code) ≡ true → body_of code p ≡ p
+body_of-begin code zero e = refl
+body_of-begin code (suc p) e = rw e refl
+
+pub body_of-next : (code : Code) (p : ℕ) → is_among (p + 1) (begins code) ≡ false → body_of code (p + 1) ≡ body_of code p
+body_of-next code p e = let f : is_among (suc p) (begins code) ≡ false = rw add-one at e in rw (add-one, f) refl
+
+-- ---- places in lists
+
+or-left : (a b : Bool) → (a || b) ≡ false → a ≡ false
+or-left true b e = e
+or-left false b e = refl
+
+or-right : (a b : Bool) → (a || b) ≡ false → b ≡ false
+or-right true b e = cc
+or-right false b e = e
+
+or-cases : {P : Type 0} (a b : Bool) → (a || b) ≡ true → (a ≡ true → P) → (b ≡ true → P) → P
+or-cases true b e p q = p refl
+or-cases false b e p q = q e
+
+or-true : (a b : Bool) → b ≡ true → (a || b) ≡ true
+or-true true b e = refl
+or-true false b e = e
+
+eqb-same : (p : ℕ) → (p == p) ≡ true
+eqb-same p = (Decides-eqb p p).1 refl
+
+eqb-turned : (p q : ℕ) → (p == q) ≡ false → (q == p) ≡ false
+eqb-turned p q e = grind (arith, nat_tests)
+
+-- a place that is among distinct places is inside
+pub among-inside : (size p : ℕ) (places : List ℕ) → AreDistinct size places → is_among p places ≡ true → p < size
+among-inside size p [] d e = cc
+among-inside size p (q ∷ places) d e =
+    or-cases (q == p) (is_among p places) e (λ f. let g : q ≡ p = (Decides-eqb q p).0 f in let i : q < size = d.0 in omega arith) (λ f. among-inside size p places d.2 f)
+
+-- ---- routines
+
+pub routine_at-bound : (routines : List Routine) (p : ℕ) → routine_at routines p ≤ length routines
+routine_at-bound [] p = omega arith
+routine_at-bound (r ∷ routines) p =
+    let rest : routine_at routines p ≤ length routines = routine_at-bound routines p in
+    chosen (λ n. n ≤ suc (length routines)) (r.start == p) 0 (suc (routine_at routines p)) (λ _. omega arith) (λ _. omega arith)
+
+-- where a place is among none, no routine starts there
+no_start : (p r : ℕ) (x : Routine) (routines : List Routine) (entries : List ℕ) → is_among p (map (λ r. r.start) routines ++ entries) ≡ false → slice_get routines r ≡ Some x → (x.start == p) ≡ false
+no_start p r x [] entries e g = cc
+no_start p zero x (y ∷ routines) entries e g =
+    let same : y ≡ x = cc in subst (λ z. (z.start == p) ≡ false) same (or-left (y.start == p) _ e)
+no_start p (suc r) x (y ∷ routines) entries e g = no_start p r x routines entries (or-right (y.start == p) _ e) g
+
+-- the routine whose body begins where a routine starts is that one
+pub routine_at-start : (size r : ℕ) (x : Routine) (routines : List Routine) (entries : List ℕ) → AreDistinct size (map (λ r. r.start) routines ++ entries) → slice_get routines r ≡ Some x → routine_at routines x.start ≡ r
+routine_at-start size r x [] entries d g = cc
+routine_at-start size zero x (y ∷ routines) entries d g =
+    let same : y ≡ x = cc in subst (λ z. routine_at (y ∷ routines) z.start ≡ 0) same (rw eqb-same refl)
+routine_at-start size (suc r) x (y ∷ routines) entries d g =
+    let other : (y.start == x.start) ≡ false = eqb-turned x.start y.start (no_start y.start r x routines entries d.1 g) in
+    rw other (ap suc (routine_at-start size r x routines entries d.2 g))
+
+pub start-among : (r : ℕ) (x : Routine) (routines : List Routine) (entries : List ℕ) → slice_get routines r ≡ Some x → is_among x.start (map (λ r. r.start) routines ++ entries) ≡ true
+start-among r x [] entries g = cc
+start-among zero x (y ∷ routines) entries g =
+    let same : y ≡ x = cc in subst (λ z. is_among z.start (map (λ r. r.start) (y ∷ routines) ++ entries) ≡ true) same (rw eqb-same refl)
+start-among (suc r) x (y ∷ routines) entries g = or-true (y.start == x.start) _ (start-among r x routines entries g)
+
+-- the start of a routine is a place of its body
+pub routine_of-start : (code : Code) (r : ℕ) (x : Routine) → PlacesStand code → slice_get code.routines r ≡ Some x → routine_of code x.start ≡ r
+routine_of-start code r x places g =
+    ap (routine_at code.routines) (body_of-begin code x.start (start-among r x code.routines code.entries g)) ∙ routine_at-start _ r x code.routines code.entries places.distinct g
+
+-- ---- ways
+
+target-of : (code : Code) (p t : ℕ) (i : Instr) → JumpsInside code p i → target i ≡ Some t → IsTarget code p t
+target-of code p t (op.Jump u) inside e = let same : u ≡ t = cc in subst (IsTarget code p) same inside
+target-of code p t (op.JumpIfNot u) inside e = let same : u ≡ t = cc in subst (IsTarget code p) same inside
+target-of code p t i inside e = cc
+
+pub way-inside : {p h : ℕ} (code : Code) → IsAdmitted code → Way code p h → p < length code.instrs
+way-inside {p} code admitted (begin e) = among-inside (length code.instrs) p (begins code) admitted.places.distinct e
+way-inside code admitted (next w g on enough) = (admitted.typed _ _ g).after.inside on
+way-inside code admitted (jump w g t enough) = (target-of code _ _ _ (admitted.typed _ _ g).jumps t).inside
+
+pub found : {X : Type 0} (xs : List X) (p : ℕ) → p < length xs → (x : X) × (slice_get xs p ≡ Some x)
+found [] p h = absurd (omega arith)
+found (x ∷ xs) zero h = (x, refl)
+found (x ∷ xs) (suc p) h = found xs p (omega arith)
+
+pub routine-next : (code : Code) (p : ℕ) → is_among (p + 1) (begins code) ≡ false → routine_of code (p + 1) ≡ routine_of code p
+routine-next code p e = ap (routine_at code.routines) (body_of-next code p e)
