@@ -91,8 +91,8 @@ target-of code p t (op.Jump u) inside e = let same : u ≡ t = cc in subst (IsTa
 target-of code p t (op.JumpIfNot u) inside e = let same : u ≡ t = cc in subst (IsTarget code p) same inside
 target-of code p t i inside e = cc
 
-pub way-inside : {p h : ℕ} (code : Code) → IsAdmitted code → Way code p h → p < length code.instrs
-way-inside {p} code admitted (begin e) = among-inside (length code.instrs) p (begins code) admitted.places.distinct e
+pub way-inside : (code : Code) {p h : ℕ} → IsAdmitted code → Way code p h → p < length code.instrs
+way-inside code {p} admitted (begin e) = among-inside (length code.instrs) p (begins code) admitted.places.distinct e
 way-inside code admitted (next w g on enough) = (admitted.typed _ _ g).after.inside on
 way-inside code admitted (jump w g t enough) = (target-of code _ _ _ (admitted.typed _ _ g).jumps t).inside
 
@@ -103,3 +103,27 @@ found (x ∷ xs) (suc p) h = found xs p (omega arith)
 
 pub routine-next : (code : Code) (p : ℕ) → is_among (p + 1) (begins code) ≡ false → routine_of code (p + 1) ≡ routine_of code p
 routine-next code p e = ap (routine_at code.routines) (body_of-next code p e)
+
+other_place : (p e : ℕ) (more entries : List ℕ) → is_among p (more ++ entries) ≡ false → is_among e entries ≡ true → (p == e) ≡ false
+other_place p e [] [] a b = cc
+other_place p e [] (q ∷ entries) a b =
+    or-cases (q == e) (is_among e entries) b (λ f. let same : q ≡ e = (Decides-eqb q e).0 f in subst (λ z. (p == z) ≡ false) same (eqb-turned q p (or-left (q == p) _ a))) (λ f. other_place p e [] entries (or-right (q == p) _ a) f)
+other_place p e (m ∷ more) entries a b = other_place p e more entries (or-right (m == p) _ a) b
+
+-- an entry is a place of no routine
+pub routine_at-entry : (size e : ℕ) (routines : List Routine) (entries : List ℕ) → AreDistinct size (map (λ r. r.start) routines ++ entries) → is_among e entries ≡ true → routine_at routines e ≡ length routines
+routine_at-entry size e [] entries d g = refl
+routine_at-entry size e (y ∷ routines) entries d g =
+    let other : (y.start == e) ≡ false = other_place y.start e (map (λ r. r.start) routines) entries d.1 g in
+    rw other (ap suc (routine_at-entry size e routines entries d.2 g))
+
+pub among-later : (e : ℕ) (more entries : List ℕ) → is_among e entries ≡ true → is_among e (more ++ entries) ≡ true
+among-later e [] entries g = g
+among-later e (m ∷ more) entries g = or-true (m == e) _ (among-later e more entries g)
+
+pub entry-among : (code : Code) (e : ℕ) → is_among e code.entries ≡ true → is_among e (begins code) ≡ true
+entry-among code e g = among-later e (map (λ r. r.start) code.routines) code.entries g
+
+pub routine_of-entry : (code : Code) (e : ℕ) → PlacesStand code → is_among e code.entries ≡ true → routine_of code e ≡ length code.routines
+routine_of-entry code e places g =
+    ap (routine_at code.routines) (body_of-begin code e (entry-among code e g)) ∙ routine_at-entry _ e code.routines code.entries places.distinct g

@@ -42,6 +42,9 @@ chosen P false x y p q = q refl
 pub test-le : (a b : ℕ) → leb a b ≡ true → a ≤ b
 test-le a b h = grind (arith, nat_tests)
 
+pub test-lt : (a b : ℕ) → leb a b ≡ false → b < a
+test-lt a b h = grind (arith, nat_tests)
+
 with_offset-good : (h n : ℕ) (o : ℤ) (m k : ℕ) (next : ℕ → Effect) → ((j : ℕ) → j + m ≤ k → IsGood h n (next j)) → IsGood h n (with_offset o m k next)
 with_offset-good h n (pos o) m k next good =
     chosen (IsGood h n) (leb (o + m) k) (next o) (Fails IndexRange) (λ e. good o (test-le (o + m) k e)) (λ _. tt)

@@ -1,2 +1,4 @@
 pub mod Effects
 pub mod Bodies
+pub mod Fuel
+pub mod Safety
