@@ -2,3 +2,4 @@ pub mod Effects
 pub mod Bodies
 pub mod Fuel
 pub mod Safety
+pub mod Ends

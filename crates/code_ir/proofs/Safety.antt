@@ -10,17 +10,10 @@ use Rattle.code_ir.specs.Code.{Code, begins, is_among, body_of, routine_at, rout
 use Rattle.code_ir.specs.Effect.{Effect, Leaves, Fails, LacksToken, Breaks, effect}
 use Rattle.code_ir.specs.Running.{State, Next, Goes, Over, Lacks, Stuck, step, obey, go_on, jump_if_not, turn, call, return, answer}
 use Rattle.code_ir.specs.Typing.{IsAdmitted, IsTyped, IsTarget, Way, begin, next, jump, pops, pushes, goes_on, target, StaysInside, NamesCells}
-use Rattle.code_ir.specs.Standing.{Stands, Framed, entry, called, body_left, frames_left, jumps_left, most_steps, unit_of}
+use Rattle.code_ir.specs.Standing.{IsFine, Stands, Framed, entry, called, body_left, frames_left, jumps_left, most_steps, unit_of}
 use Rattle.code_ir.proofs.Effects.{IsGood, effect-good, is_straight, chosen, test-le, test-lt}
 use Rattle.code_ir.proofs.Bodies.{way-inside, found, routine-next, routine_of-start, start-among, routine_at-bound}
 use Rattle.code_ir.proofs.Fuel.{fewer-on, fewer-back, jumps-few, forward, left-bound, called-less, body-positive}
-
--- the step is over, lacks a token, or goes to a state that stands and is nearer to its end
-abbrev pub IsFine : Code → State → Next → Type 0
-IsFine code s (Goes t) = Stands code t × (most_steps code t < most_steps code s)
-IsFine code s (Over o cells) = Unit {0}
-IsFine code s Lacks = Unit {0}
-IsFine code s Stuck = ⊥
 
 module _ (code : Code) (s : State) (i : Instr) (admitted : IsAdmitted code) (stands : Stands code s) (at : slice_get code.instrs s.place ≡ Some i) where
   typed : IsTyped code s.place i

@@ -2,6 +2,7 @@
 use Rattle.std.specs.Prelude.{ℕ, ◌+◌, ◌==◌, zero, suc, Bool, true, false, ◌||◌, if◌then◌else◌, List, [], ◌∷◌, ◌++◌, map, Option, None, Some, slice_get}
 use Rattle.code_ir.specs.declared.instr.Instr.{Instr}
 use Rattle.code_ir.specs.declared.instr.Routine.{Routine}
+use Rattle.code_ir.specs.declared.instr.ActorCode.{ActorCode}
 
 pub record Code : Type 0 where
   pub instrs : List Instr
@@ -9,6 +10,10 @@ pub record Code : Type 0 where
   pub entries : List ℕ
   -- how many cells it has
   pub cells : ℕ
+
+-- code as it is written
+abbrev pub code_of : ActorCode → Code
+code_of code = record { instrs = code.instrs.items; routines = code.routines.items; entries = code.entries.items; cells = code.cells }
 
 -- the places that begin bodies
 abbrev pub begins : Code → List ℕ

@@ -3,7 +3,8 @@ use Rattle.std.specs.Prelude.{◌≡◌, ℕ, suc, ◌+◌, ◌-◌, ◌*◌, �
 use Rattle.code_ir.specs.declared.instr.Instr.{Instr}
 use Rattle.code_ir.specs.declared.instr.Instr.TheVariants.{Turn}
 use Rattle.code_ir.specs.Code.{Code, routine_of, results_of}
-use Rattle.code_ir.specs.Running.{State}
+use Rattle.code_ir.specs.declared.outcome.Outcome.{Outcome}
+use Rattle.code_ir.specs.Running.{State, Next, Goes, Over, Lacks, Stuck}
 use Rattle.code_ir.specs.Typing.{Way}
 
 -- The calls that are open below a body of this routine, with so many operands under it. Each goes on at a
@@ -43,3 +44,10 @@ jumps_left (Some instr) = 1
 
 abbrev pub most_steps : Code → State → ℕ
 most_steps code s = (s.left + s.left + jumps_left (slice_get code.instrs s.place)) * unit_of code (suc (length code.routines)) + (body_left code s.place + frames_left code s.frames)
+
+-- the step is over, lacks a token, or goes to a state that stands and is nearer to its end
+abbrev pub IsFine : Code → State → Next → Type 0
+IsFine code s (Goes t) = Stands code t × (most_steps code t < most_steps code s)
+IsFine code s (Over o cells) = Unit {0}
+IsFine code s Lacks = Unit {0}
+IsFine code s Stuck = ⊥

@@ -1,9 +1,11 @@
 -- The lines that code must meet before it runs.
-use Rattle.std.specs.Prelude.{◌≡◌, ◌≢◌, ℕ, ◌+◌, ◌-◌, ◌<◌, ◌≤◌, Bool, true, false, if◌then◌else◌, List, [], ◌∷◌, length, Option, None, Some, slice_get, ◌⊎◌}
+use Rattle.std.specs.Prelude.{◌≡◌, ◌≢◌, ℕ, ◌+◌, ◌-◌, ◌<◌, ◌≤◌, Bool, true, false, if◌then◌else◌, List, [], ◌∷◌, length, Option, None, Some, slice_get, take, ◌⊎◌}
 use Rattle.rvc_base.specs.declared.scalar.Scalar.{Scalar}
 use Rattle.rvc_base.specs.Storing.{IsSize}
 use Rattle.code_ir.specs.declared.instr.Instr.{Instr}
 use Rattle.code_ir.specs.declared.instr.Instr.TheVariants as op
+use Rattle.code_ir.specs.declared.admitted.CodeFault.{CodeFault}
+use Rattle.code_ir.specs.declared.admitted.CodeFault.TheVariants.{Bad, Memory}
 use Rattle.code_ir.specs.Code.{Code, begins, is_among, body_of, routine_of, results_of}
 
 -- ---- the places that begin bodies
@@ -12,7 +14,7 @@ use Rattle.code_ir.specs.Code.{Code, begins, is_among, body_of, routine_of, resu
 abbrev pub IsWrong : ℕ → List ℕ → ℕ → Type 0
 IsWrong size before place = (size ≤ place) ⊎ (is_among place before ≡ true)
 
--- each place of a list is inside the code, and among none before it
+-- each place of a list is inside the code, and none stands twice
 abbrev pub AreDistinct : ℕ → List ℕ → Type 0
 AreDistinct size [] = Unit {0}
 AreDistinct size (place ∷ places) = (place < size) × (is_among place places ≡ false) × AreDistinct size places
@@ -120,12 +122,13 @@ pub record HasOneHeight (code : Code) (p : ℕ) (i : Instr) : Type 0 where
 
 -- ---- what the other lines ask
 
--- `Return` stands in bodies of routines alone, `Answer` and `Done` in bodies of entries alone
-abbrev pub StandsInItsBody : Code → ℕ → Instr → Type 0
-StandsInItsBody code p op.Return = routine_of code p < length code.routines
-StandsInItsBody code p op.Answer = length code.routines ≤ routine_of code p
-StandsInItsBody code p op.Done = length code.routines ≤ routine_of code p
-StandsInItsBody code p instr = Unit {0}
+-- `Return` stands in bodies of routines alone, `Answer` and `Done` in bodies of entries alone, whose number is
+-- the number of routines
+abbrev pub StandsInBody : ℕ → ℕ → Instr → Type 0
+StandsInBody routines r op.Return = r < routines
+StandsInBody routines r op.Answer = routines ≤ r
+StandsInBody routines r op.Done = routines ≤ r
+StandsInBody routines r instr = Unit {0}
 
 -- a jump goes to a place of the same body, and one that goes not forward goes to a `Turn`
 pub record IsTarget (code : Code) (p t : ℕ) : Type 0 where
@@ -153,9 +156,9 @@ NamesCells cells instr = Unit {0}
 
 -- A call names a routine. In the body of a routine it names one with a smaller number; the number of the
 -- routine of an entry's body is the number of routines.
-abbrev pub CallsSmaller : Code → ℕ → Instr → Type 0
-CallsSmaller code p (op.Call r) = r < routine_of code p
-CallsSmaller code p instr = Unit {0}
+abbrev pub CallsSmaller : ℕ → Instr → Type 0
+CallsSmaller number (op.Call r) = r < number
+CallsSmaller number instr = Unit {0}
 
 -- the instruction after one that goes on is of the same body
 pub record StaysInside (code : Code) (p : ℕ) (i : Instr) : Type 0 where
@@ -181,13 +184,28 @@ AllSized instrs = (p : ℕ) (i : Instr) → slice_get instrs p ≡ Some i → Ha
 
 -- the instruction at a place breaks no line
 pub record IsTyped (code : Code) (p : ℕ) (i : Instr) : Type 0 where
-  pub body : StandsInItsBody code p i
+  pub body : StandsInBody (length code.routines) (routine_of code p) i
   pub height : HasOneHeight code p i
   pub jumps : JumpsInside code p i
   pub cells : NamesCells code.cells i
-  pub calls : CallsSmaller code p i
+  pub calls : CallsSmaller (routine_of code p) i
   pub after : StaysInside code p i
 
 pub record IsAdmitted (code : Code) : Type 0 where
   pub places : PlacesStand code
   pub typed : (p : ℕ) (i : Instr) → slice_get code.instrs p ≡ Some i → IsTyped code p i
+
+-- ---- what is named where a line is broken
+
+-- the first place that is wrong, or 0 where no body begins there
+abbrev pub IsWrongPlace : Code → ℕ → Type 0
+IsWrongPlace code at = ((k : ℕ) × (slice_get (begins code) k ≡ Some at) × AreDistinct (length code.instrs) (take k (begins code)) × IsWrong (length code.instrs) (take k (begins code)) at) ⊎ (AreDistinct (length code.instrs) (begins code) × (0 < length code.instrs) × (is_among 0 (begins code) ≡ false) × (at ≡ 0))
+
+-- the places stand, and the instruction at this one breaks a line
+abbrev pub IsWrongInstr : Code → ℕ → Type 0
+IsWrongInstr code at = PlacesStand code × ((i : Instr) × (slice_get code.instrs at ≡ Some i) × ¬ IsTyped code at i)
+
+-- what a refusal of code says
+abbrev pub IsCause : Code → CodeFault → Type 0
+IsCause code (Bad at) = IsWrongPlace code at ⊎ IsWrongInstr code at
+IsCause code Memory = Unit {0}

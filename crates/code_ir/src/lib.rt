@@ -1,10 +1,13 @@
 //! Code of actors: instructions, what running them means, and the test that code must pass before it runs.
 #![tactic(auto)]
 
+mod admitted;
 mod instr;
+pub mod laws;
 mod outcome;
 mod tokens;
 
+pub use admitted::{Admitted, CodeFault};
 pub use instr::{ActorCode, Instr, Routine};
 pub use outcome::Outcome;
 pub use tokens::Tokens;
