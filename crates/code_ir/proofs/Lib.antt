@@ -1,3 +1,4 @@
+pub mod Lists
 pub mod Effects
 pub mod Bodies
 pub mod Fuel

@@ -3,3 +3,4 @@ pub mod Effect
 pub mod Running
 pub mod Typing
 pub mod Standing
+pub mod Tables

@@ -197,9 +197,16 @@ pub record IsAdmitted (code : Code) : Type 0 where
 
 -- ---- what is named where a line is broken
 
+-- it is the first of these places that is wrong
+pub record IsFirstWrong (size : ℕ) (places : List ℕ) (at : ℕ) : Type 0 where
+  pub index : ℕ
+  pub is : slice_get places index ≡ Some at
+  pub before : AreDistinct size (take index places)
+  pub wrong : IsWrong size (take index places) at
+
 -- the first place that is wrong, or 0 where no body begins there
 abbrev pub IsWrongPlace : Code → ℕ → Type 0
-IsWrongPlace code at = ((k : ℕ) × (slice_get (begins code) k ≡ Some at) × AreDistinct (length code.instrs) (take k (begins code)) × IsWrong (length code.instrs) (take k (begins code)) at) ⊎ (AreDistinct (length code.instrs) (begins code) × (0 < length code.instrs) × (is_among 0 (begins code) ≡ false) × (at ≡ 0))
+IsWrongPlace code at = IsFirstWrong (length code.instrs) (begins code) at ⊎ (AreDistinct (length code.instrs) (begins code) × (0 < length code.instrs) × (is_among 0 (begins code) ≡ false) × (at ≡ 0))
 
 -- the places stand, and the instruction at this one breaks a line
 abbrev pub IsWrongInstr : Code → ℕ → Type 0

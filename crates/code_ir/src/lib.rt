@@ -5,6 +5,7 @@ mod admitted;
 mod instr;
 pub mod laws;
 mod outcome;
+mod places;
 mod tokens;
 
 pub use admitted::{Admitted, CodeFault};
