@@ -21,26 +21,26 @@ body_of-next code p e = let f : is_among (suc p) (begins code) ≡ false = rw ad
 
 -- ---- places in lists
 
-or-left : (a b : Bool) → (a || b) ≡ false → a ≡ false
+pub or-left : (a b : Bool) → (a || b) ≡ false → a ≡ false
 or-left true b e = e
 or-left false b e = refl
 
-or-right : (a b : Bool) → (a || b) ≡ false → b ≡ false
+pub or-right : (a b : Bool) → (a || b) ≡ false → b ≡ false
 or-right true b e = cc
 or-right false b e = e
 
-or-cases : {P : Type 0} (a b : Bool) → (a || b) ≡ true → (a ≡ true → P) → (b ≡ true → P) → P
+pub or-cases : {P : Type 0} (a b : Bool) → (a || b) ≡ true → (a ≡ true → P) → (b ≡ true → P) → P
 or-cases true b e p q = p refl
 or-cases false b e p q = q e
 
-or-true : (a b : Bool) → b ≡ true → (a || b) ≡ true
+pub or-true : (a b : Bool) → b ≡ true → (a || b) ≡ true
 or-true true b e = refl
 or-true false b e = e
 
-eqb-same : (p : ℕ) → (p == p) ≡ true
+pub eqb-same : (p : ℕ) → (p == p) ≡ true
 eqb-same p = (Decides-eqb p p).1 refl
 
-eqb-turned : (p q : ℕ) → (p == q) ≡ false → (q == p) ≡ false
+pub eqb-turned : (p q : ℕ) → (p == q) ≡ false → (q == p) ≡ false
 eqb-turned p q e = grind (arith, nat_tests)
 
 -- a place that is among distinct places is inside

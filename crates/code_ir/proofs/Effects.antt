@@ -45,6 +45,14 @@ test-le a b h = grind (arith, nat_tests)
 pub test-lt : (a b : ℕ) → leb a b ≡ false → b < a
 test-lt a b h = grind (arith, nat_tests)
 
+by-test : {P : Type 0} (a b : ℕ) (t : Bool) → leb a b ≡ t → (a ≤ b → P) → (b < a → P) → P
+by-test a b true e p q = p (test-le a b e)
+by-test a b false e p q = q (test-lt a b e)
+
+-- of two numbers either is the lesser
+pub by-le : {P : Type 0} (a b : ℕ) → (a ≤ b → P) → (b < a → P) → P
+by-le a b p q = by-test a b (leb a b) refl p q
+
 with_offset-good : (h n : ℕ) (o : ℤ) (m k : ℕ) (next : ℕ → Effect) → ((j : ℕ) → j + m ≤ k → IsGood h n (next j)) → IsGood h n (with_offset o m k next)
 with_offset-good h n (pos o) m k next good =
     chosen (IsGood h n) (leb (o + m) k) (next o) (Fails IndexRange) (λ e. good o (test-le (o + m) k e)) (λ _. tt)
