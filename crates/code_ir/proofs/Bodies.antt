@@ -93,8 +93,8 @@ target-of code p t i inside e = cc
 
 pub way-inside : (code : Code) {p h : ℕ} → IsAdmitted code → Way code p h → p < length code.instrs
 way-inside code {p} admitted (begin e) = among-inside (length code.instrs) p (begins code) admitted.places.distinct e
-way-inside code admitted (next w g on enough) = (admitted.typed _ _ g).after.inside on
-way-inside code admitted (jump w g t enough) = (target-of code _ _ _ (admitted.typed _ _ g).jumps t).inside
+way-inside code admitted (next w g on enough) = (admitted.typed _ _ g).alone.after.inside on
+way-inside code admitted (jump w g t enough) = (target-of code _ _ _ (admitted.typed _ _ g).alone.jumps t).inside
 
 pub found : {X : Type 0} (xs : List X) (p : ℕ) → p < length xs → (x : X) × (slice_get xs p ≡ Some x)
 found [] p h = absurd (omega arith)

@@ -32,7 +32,7 @@ module _ (code : Code) (s : State) (i : Instr) (admitted : IsAdmitted code) (sta
     below = stands.below;
     way = next stands.way at on enough;
     operands = let e : pops i ≤ stands.height = enough in let f : length s.stack ≡ stands.height + stands.below = stands.operands in omega (arith, h);
-    framed = subst (λ r. Framed code r s.frames stands.below) (sym (routine-next code s.place (typed.after.same_body on))) stands.framed;
+    framed = subst (λ r. Framed code r s.frames stands.below) (sym (routine-next code s.place (typed.alone.after.same_body on))) stands.framed;
     cells = n ∙ stands.cells
   }
 
@@ -45,7 +45,7 @@ module _ (code : Code) (s : State) (i : Instr) (admitted : IsAdmitted code) (sta
 
   go_on-fine : (e : Effect) → goes_on i ≡ true → jumps_left (Some i) ≡ 1 → IsGood (length s.stack - pops i + pushes code i) (length s.cells) e → IsFine code s (go_on s e)
   go_on-fine (Leaves stack cells) on one good =
-    (go_on-stands stack cells s.left on good.0 good.1, forward-fewer (record { place = s.place + 1; stack = stack; frames = s.frames; cells = cells; left = s.left }) refl refl (routine-next code s.place (typed.after.same_body on)) (omega arith) one)
+    (go_on-stands stack cells s.left on good.0 good.1, forward-fewer (record { place = s.place + 1; stack = stack; frames = s.frames; cells = cells; left = s.left }) refl refl (routine-next code s.place (typed.alone.after.same_body on)) (omega arith) one)
   go_on-fine (Fails trap) on one good = tt
   go_on-fine LacksToken on one good = tt
   go_on-fine Breaks on one good = good
@@ -76,7 +76,7 @@ module _ (code : Code) (s : State) (i : Instr) (admitted : IsAdmitted code) (sta
   turn-fewer : (left : ℕ) → s.left ≡ suc left → jumps_left (Some i) ≡ 0 → goes_on i ≡ true → most_steps code (record { place = s.place + 1; stack = s.stack; frames = s.frames; cells = s.cells; left = left }) < most_steps code s
   turn-fewer left e none on =
     let few : jumps_left (slice_get code.instrs (s.place + 1)) ≤ 1 = jumps-few (slice_get code.instrs (s.place + 1)) in
-    let part : body_left code (s.place + 1) < body_left code s.place = forward code s.place (s.place + 1) (omega arith) inside (routine-next code s.place (typed.after.same_body on)) in
+    let part : body_left code (s.place + 1) < body_left code s.place = forward code s.place (s.place + 1) (omega arith) inside (routine-next code s.place (typed.alone.after.same_body on)) in
     fewer-on _ _ _ _ _ (omega (arith, few, e)) (omega (arith, part))
 
   turn-fine : (left : ℕ) → s.left ≡ left → jumps_left (Some i) ≡ 0 → goes_on i ≡ true → pops i ≡ 0 → pushes code i ≡ 0 → IsFine code s (turn s left)
@@ -88,7 +88,7 @@ module _ (code : Code) (s : State) (i : Instr) (admitted : IsAdmitted code) (sta
   call-stands : (r : ℕ) (x : Routine) → slice_get code.routines r ≡ Some x → r < routine_of code s.place → goes_on i ≡ true → pops i ≡ 0 → pushes code i ≡ results_of code r → Stands code (record { place = x.start; stack = s.stack; frames = (s.place + 1) ∷ s.frames; cells = s.cells; left = s.left })
   call-stands r x g less on none results =
     let here : routine_of code x.start ≡ r = routine_of-start code r x admitted.places g in
-    let after : routine_of code (s.place + 1) ≡ routine_of code s.place = routine-next code s.place (typed.after.same_body on) in
+    let after : routine_of code (s.place + 1) ≡ routine_of code s.place = routine-next code s.place (typed.alone.after.same_body on) in
     let back : Way code (s.place + 1) (stands.height - pops i + pushes code i) = next stands.way at on enough in
     let height : stands.height - pops i + pushes code i ≡ stands.height + results_of code r = omega (arith, none, results) in
     record {
@@ -104,7 +104,7 @@ module _ (code : Code) (s : State) (i : Instr) (admitted : IsAdmitted code) (sta
   call-fewer : (r : ℕ) (x : Routine) → slice_get code.routines r ≡ Some x → r < routine_of code s.place → goes_on i ≡ true → jumps_left (Some i) ≡ 1 → most_steps code (record { place = x.start; stack = s.stack; frames = (s.place + 1) ∷ s.frames; cells = s.cells; left = s.left }) < most_steps code s
   call-fewer r x g less on one =
     let here : routine_of code x.start ≡ r = routine_of-start code r x admitted.places g in
-    let after : routine_of code (s.place + 1) ≡ routine_of code s.place = routine-next code s.place (typed.after.same_body on) in
+    let after : routine_of code (s.place + 1) ≡ routine_of code s.place = routine-next code s.place (typed.alone.after.same_body on) in
     let few : jumps_left (slice_get code.instrs x.start) ≤ 1 = jumps-few (slice_get code.instrs x.start) in
     let now : jumps_left (slice_get code.instrs s.place) ≡ 1 = ap jumps_left at ∙ one in
     let part : body_left code x.start + body_left code (s.place + 1) < body_left code s.place = called-less code s.place x.start r inside less here after in
@@ -143,8 +143,8 @@ jump_if_not-fine code s t [] admitted stands at e =
 jump_if_not-fine code s t (a ∷ stack) admitted stands at e =
     let i : Instr = op.JumpIfNot t in
     let h : length stack ≡ length s.stack - 1 + 0 = let g : length s.stack ≡ suc (length stack) = ap length e in omega arith in
-    let to : IsTarget code s.place t = (typed code s i admitted stands at).jumps in
-    let after = (typed code s i admitted stands at).after in
+    let to : IsTarget code s.place t = (typed code s i admitted stands at).alone.jumps in
+    let after = (typed code s i admitted stands at).alone.after in
     let there = jump-stands code s i admitted stands at t stack refl to h in
     chosen (λ p. IsFine code s (Goes (record { place = p; stack = stack; frames = s.frames; cells = s.cells; left = s.left }))) (is_true a) (s.place + 1) t
       (λ _. (go_on-stands code s i admitted stands at stack s.cells s.left refl h refl, forward-fewer code s i admitted stands at (record { place = s.place + 1; stack = stack; frames = s.frames; cells = s.cells; left = s.left }) refl refl (routine-next code s.place (after.same_body refl)) (omega arith) refl))
@@ -162,22 +162,22 @@ straight-fine : (code : Code) (tokens : ℕ → List ℤ) (s : State) (i : Instr
 straight-fine code tokens s i admitted stands at straight on one =
     let f : length s.stack ≡ stands.height + stands.below = stands.operands in
     let g : pops i ≤ stands.height = enough code s i admitted stands at in
-    let cells = subst (λ n. NamesCells n i) (sym stands.cells) (typed code s i admitted stands at).cells in
+    let cells = subst (λ n. NamesCells n i) (sym stands.cells) (typed code s i admitted stands at).alone.cells in
     go_on-fine code s i admitted stands at (effect tokens i s.stack s.cells) on one (effect-good code tokens i s.stack s.cells straight (omega arith) cells)
 
 obey-fine : (code : Code) (tokens : ℕ → List ℤ) (s : State) (i : Instr) → IsAdmitted code → Stands code s → slice_get code.instrs s.place ≡ Some i → IsFine code s (obey code tokens s i)
 obey-fine code tokens s (op.Jump t) admitted stands at =
     let i : Instr = op.Jump t in
-    let to : IsTarget code s.place t = (typed code s i admitted stands at).jumps in
+    let to : IsTarget code s.place t = (typed code s i admitted stands at).alone.jumps in
     let there = jump-stands code s i admitted stands at t s.stack refl to (omega arith) in
     (there, jump-fewer code s i admitted stands at t s.stack to refl there)
 obey-fine code tokens s (op.JumpIfNot t) admitted stands at = jump_if_not-fine code s t s.stack admitted stands at refl
 obey-fine code tokens s op.Turn admitted stands at = turn-fine code s op.Turn admitted stands at s.left refl refl refl refl refl
 obey-fine code tokens s (op.Call r) admitted stands at =
-    call-fine code s (op.Call r) admitted stands at r (typed code s (op.Call r) admitted stands at).calls refl refl refl refl
+    call-fine code s (op.Call r) admitted stands at r (typed code s (op.Call r) admitted stands at).alone.calls refl refl refl refl
 obey-fine code tokens s op.Return admitted stands at =
     let t = typed code s op.Return admitted stands at in
-    return-fine code s op.Return admitted stands at s.frames stands.below refl refl stands.framed t.body (t.height.results stands.height stands.way) refl
+    return-fine code s op.Return admitted stands at s.frames stands.below refl refl stands.framed t.alone.body (t.height.results stands.height stands.way) refl
 obey-fine code tokens s op.Answer admitted stands at = answer-fine code s s.stack admitted stands at refl
 obey-fine code tokens s op.Done admitted stands at = tt
 obey-fine code tokens s i admitted stands at = straight-fine code tokens s i admitted stands at refl refl refl

@@ -182,14 +182,24 @@ AllSized instrs = (p : ℕ) (i : Instr) → slice_get instrs p ≡ Some i → Ha
 
 -- ---- admitted code
 
--- the instruction at a place breaks no line
-pub record IsTyped (code : Code) (p : ℕ) (i : Instr) : Type 0 where
+-- the instruction at a place breaks no line but that of heights
+pub record FitsAlone (code : Code) (p : ℕ) (i : Instr) : Type 0 where
   pub body : StandsInBody (length code.routines) (routine_of code p) i
-  pub height : HasOneHeight code p i
   pub jumps : JumpsInside code p i
   pub cells : NamesCells code.cells i
   pub calls : CallsSmaller (routine_of code p) i
   pub after : StaysInside code p i
+
+abbrev pub AllFitAlone : Code → Type 0
+AllFitAlone code = (p : ℕ) (i : Instr) → slice_get code.instrs p ≡ Some i → FitsAlone code p i
+
+abbrev pub IsUnfit : Code → ℕ → Type 0
+IsUnfit code p = (i : Instr) × (slice_get code.instrs p ≡ Some i) × ¬ FitsAlone code p i
+
+-- it breaks no line
+pub record IsTyped (code : Code) (p : ℕ) (i : Instr) : Type 0 where
+  pub alone : FitsAlone code p i
+  pub height : HasOneHeight code p i
 
 pub record IsAdmitted (code : Code) : Type 0 where
   pub places : PlacesStand code

@@ -3,6 +3,7 @@
 
 mod admitted;
 mod instr;
+mod lines;
 pub mod laws;
 mod outcome;
 mod places;
