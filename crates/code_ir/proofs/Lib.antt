@@ -5,3 +5,4 @@ pub mod Tables
 pub mod Fuel
 pub mod Safety
 pub mod Ends
+pub mod Marks

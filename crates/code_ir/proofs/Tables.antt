@@ -2,10 +2,14 @@
 use Rattle.std.proofs.Common.{◌≡◌, ℕ, zero, suc, ◌+◌, ◌-◌, ◌<◌, ◌≤◌, refl, sym, ap, ◌∙◌, subst, Bool, true, false, ◌||◌, List, [], ◌∷◌, ◌++◌, length, arith, add-one, length-append}
 use Rattle.std.specs.Prelude.{Option, None, Some, slice_get, ◌==◌, if◌then◌else◌}
 use Rattle.code_ir.specs.Code.{Code, begins, is_among, body_of}
-use Rattle.code_ir.specs.Typing.{AreDistinct}
+use Rattle.code_ir.specs.Typing.{AreDistinct, FitsAlone, AllFitAlone, IsUnfit}
+use Rattle.code_ir.specs.declared.instr.Instr.{Instr}
+use Rattle.std.specs.Bool.{MatchBool}
+use Rattle.std.proofs.lemmas.Bool.Decides.{when_true, when_false}
+use Rattle.std.proofs.lemmas.Option.{slice_get_within}
 use Rattle.code_ir.specs.Tables.{IsTableOf}
 use Rattle.code_ir.proofs.Effects.{chosen, by-le}
-use Rattle.code_ir.proofs.Bodies.{or-left, or-right, eqb-turned}
+use Rattle.code_ir.proofs.Bodies.{found, or-left, or-right, eqb-turned}
 
 among-more : (y x : ℕ) (ys : List ℕ) → is_among y ys ≡ false → (x == y) ≡ false → is_among y (ys ++ x ∷ []) ≡ false
 among-more y x [] e f = rw f refl
@@ -47,3 +51,24 @@ body-step code zero before now e t f = body-first (is_among 0 (begins code)) t f
     body-first false t f = f refl ∙ e
 body-step code (suc p) before now e t f =
     chosen (λ b. now ≡ b) (is_among (suc p) (begins code)) (suc p) (body_of code p) t (λ g. f g ∙ e ∙ ap (body_of code) (omega arith))
+
+-- ---- instructions that fit
+
+pub unfit-here : (code : Code) (p : ℕ) (r : Bool) → p < length code.instrs → ((i : Instr) → slice_get code.instrs p ≡ Some i → MatchBool r (FitsAlone code p i) (¬ FitsAlone code p i)) → r ≡ false → IsUnfit code p
+unfit-here code p r inside told e =
+    let there : (i : Instr) × (slice_get code.instrs p ≡ Some i) = found code.instrs p inside in
+    (there.0, there.1, when_false (FitsAlone code p there.0) (¬ FitsAlone code p there.0) e (told there.0 there.1))
+
+abbrev pub FitBelow : Code → ℕ → Type 0
+FitBelow code n = (p : ℕ) (i : Instr) → p < n → slice_get code.instrs p ≡ Some i → FitsAlone code p i
+
+pub fit-more : (code : Code) (n : ℕ) (r : Bool) → FitBelow code n → ((i : Instr) → slice_get code.instrs n ≡ Some i → MatchBool r (FitsAlone code n i) (¬ FitsAlone code n i)) → r ≡ true → FitBelow code (n + 1)
+fit-more code n r below told e p i h g =
+    by-le (suc p) n (λ less. below p i less g)
+    (λ more.
+      let same : n ≡ p = omega arith in
+      subst (λ q. slice_get code.instrs q ≡ Some i → FitsAlone code q i) same (λ at. when_true (FitsAlone code n i) (¬ FitsAlone code n i) e (told i at)) g)
+
+pub fit-all : (code : Code) (n : ℕ) → FitBelow code n → length code.instrs ≤ n → AllFitAlone code
+fit-all code n below all p i g =
+    let inside : p < length code.instrs = slice_get_within code.instrs p i g in below p i (omega arith) g

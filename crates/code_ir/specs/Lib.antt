@@ -4,3 +4,5 @@ pub mod Running
 pub mod Typing
 pub mod Standing
 pub mod Tables
+pub mod Heights
+pub mod Marked

@@ -2,6 +2,7 @@
 #![tactic(auto)]
 
 mod admitted;
+mod heights;
 mod instr;
 mod lines;
 pub mod laws;
