@@ -86,7 +86,7 @@ routine_of-start code r x places g =
 
 -- ---- ways
 
-target-of : (code : Code) (p t : ℕ) (i : Instr) → JumpsInside code p i → target i ≡ Some t → IsTarget code p t
+pub target-of : (code : Code) (p t : ℕ) (i : Instr) → JumpsInside code p i → target i ≡ Some t → IsTarget code p t
 target-of code p t (op.Jump u) inside e = let same : u ≡ t = cc in subst (IsTarget code p) same inside
 target-of code p t (op.JumpIfNot u) inside e = let same : u ≡ t = cc in subst (IsTarget code p) same inside
 target-of code p t i inside e = cc

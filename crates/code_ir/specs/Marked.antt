@@ -1,8 +1,16 @@
 -- What marking a place comes to.
 use Rattle.code_ir.specs.declared.heights.Marked.{Marked}
 use Rattle.code_ir.specs.declared.heights.Marked.TheVariants.{Done, Conflict, Memory}
+use Rattle.code_ir.specs.declared.heights.Passed.{Passed}
+use Rattle.code_ir.specs.declared.heights.Passed.TheVariants as passed
+use Rattle.std.specs.Prelude.{ℕ}
 
 abbrev pub MatchMarked : Marked → Type 0 → Type 0 → Type 0
 MatchMarked Done P Q = P
 MatchMarked Conflict P Q = Q
 MatchMarked Memory P Q = Unit {0}
+
+abbrev pub MatchPassed : Passed → Type 0 → (ℕ → Type 0) → Type 0
+MatchPassed passed.Done P Q = P
+MatchPassed (passed.Bad at) P Q = Q at
+MatchPassed passed.Memory P Q = Unit {0}
