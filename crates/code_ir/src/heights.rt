@@ -158,3 +158,18 @@ fn mark_begins(heights: &mut Vec<Option<u32>>, work: &mut Vec<u32>, places: &[u3
     }
     Ok(())
 }
+
+/// The greatest of the heights, 0 where there is none.
+fn greatest(heights: &[Option<u32>]) -> u32
+    ensures { (p h : ℕ) → IsMarked heights.now p h → h ≤ result }
+{
+    let mut most = 0;
+    for height in heights {
+        if let Some(height) = *height {
+            if height > most {
+                most = height;
+            }
+        }
+    }
+    most
+}

@@ -52,7 +52,7 @@ returns-in-Done-clause-passed c =
     let marked : IsMarked c.args.heights.now.items p h = read-marked _ p h c.index-2.result.now inside.0 c.index-2.ensures c.in-Some.is in
     let much : pops i ≤ h = omega (arith, c.pops-popped.ensures, c.if-popped-height.false) in
     let is_after : a ≡ h - pops i + pushes code i = omega (arith, c.in-Some-checked_add.ensures.1, c.pops-popped.ensures, c.pushes.ensures.value) in
-    let enough : IsEnough code p h i = record { enough = much; results = when_true (LeavesResults code p h i) _ (search rules) c.leaves_results.ensures } in
+    let enough : IsEnough code p h i = record { enough = much; results = when_true {b = c.leaves_results.result} (LeavesResults code p h i) _ (search rules) c.leaves_results.ensures } in
     passed-all code p h a i c.args.heights.now.items c.pass_to_next.new.heights.items c.args.work.now.items c.pass_to_next.new.work.items is_after c.requires.alone c.requires.sound g marked enough c.in-Done.ensures.grows c.pass_to_target.new.heights.items c.pass_to_target.new.work.items c.pass_to_target.result c.in-Done.ensures.passed c.pass_to_target.ensures.grows c.pass_to_target.ensures.passed
 
 pub returns-in-Done-clause-grows : goal.returns-in-Done-clause-grows
@@ -67,7 +67,7 @@ returns-in-Done-clause-grows c =
     let marked : IsMarked c.args.heights.now.items p h = read-marked _ p h c.index-2.result.now inside.0 c.index-2.ensures c.in-Some.is in
     let much : pops i ≤ h = omega (arith, c.pops-popped.ensures, c.if-popped-height.false) in
     let is_after : a ≡ h - pops i + pushes code i = omega (arith, c.in-Some-checked_add.ensures.1, c.pops-popped.ensures, c.pushes.ensures.value) in
-    let enough : IsEnough code p h i = record { enough = much; results = when_true (LeavesResults code p h i) _ (search rules) c.leaves_results.ensures } in
+    let enough : IsEnough code p h i = record { enough = much; results = when_true {b = c.leaves_results.result} (LeavesResults code p h i) _ (search rules) c.leaves_results.ensures } in
     passed-grows code p h a i c.args.heights.now.items c.pass_to_next.new.heights.items c.args.work.now.items c.pass_to_next.new.work.items is_after c.requires.alone c.requires.sound g marked enough c.in-Done.ensures.grows c.pass_to_target.new.heights.items c.pass_to_target.new.work.items c.pass_to_target.result c.pass_to_target.ensures.grows
 
 pub returns-in-Bad-clause-passed : goal.returns-in-Bad-clause-passed
