@@ -1,5 +1,5 @@
 -- Marks that grow.
-use Rattle.std.proofs.Common.{◌≡◌, ◌≢◌, ℕ, zero, suc, ◌+◌, ◌-◌, ◌*◌, ◌<◌, ◌≤◌, ◌⊎◌, inl, inr, refl, sym, ap, ◌∙◌, subst, Bool, true, false, ◌||◌, List, [], ◌∷◌, ◌++◌, length, get_or, set, arith, add-one, length-append}
+use Rattle.std.proofs.Common.{◌≡◌, ◌≢◌, ℕ, zero, suc, ◌+◌, ◌-◌, ◌*◌, ◌<◌, ◌≤◌, ◌⊎◌, inl, inr, refl, sym, ap, ◌∙◌, subst, Bool, true, false, ◌||◌, List, [], ◌∷◌, ◌++◌, length, get_or, set, take, arith, add-one, length-append}
 use Rattle.std.specs.Prelude.{Option, None, Some, slice_get, ◌==◌}
 use Rattle.std.proofs.lemmas.List.{length-set}
 use Rattle.std.proofs.lemmas.Bool.Decides.{Decides-eqb}
@@ -12,6 +12,7 @@ use Rattle.code_ir.specs.Marked.{MatchPassed}
 use Rattle.code_ir.specs.declared.heights.Passed.{Passed}
 use Rattle.code_ir.specs.declared.heights.Passed.TheVariants as passed
 use Rattle.code_ir.specs.Typing.{AllFitAlone, IsTarget}
+use Rattle.code_ir.proofs.Lists.{take-at}
 use Rattle.code_ir.proofs.Bodies.{target-of, or-cases, or-true, eqb-same, found}
 
 pub among-last : (p : ℕ) (xs : List ℕ) → is_among p (xs ++ p ∷ []) ≡ true
@@ -226,3 +227,35 @@ module _ (code : Code) (p h a : ℕ) (i : Instr) (before between : List (Option 
 pub bad-next : (code : Code) (p h a at : ℕ) (i : Instr) (before : List (Option ℕ)) → a ≡ h - pops i + pushes code i → AllFitAlone code → ((q k : ℕ) → IsMarked before q k → Way code q k) → slice_get code.instrs p ≡ Some i → IsMarked before p h → pops i ≤ h → (at ≡ p + 1) × (goes_on i ≡ true) × Differs before (p + 1) a → IsBadHeight code at
 bad-next code p h a at i before is_after alone sound g marked enough u =
     subst (IsBadHeight code) (sym u.0) (bad-differs code before (p + 1) a (next-inside code p i alone g u.1) sound (subst (λ x. Way code (p + 1) x) (sym is_after) (next (sound p h marked) g u.1 enough)) u.2)
+
+-- ---- loops
+
+pub among-at : (xs : List ℕ) (k : ℕ) → k < length xs → is_among (get_or xs k 0) xs ≡ true
+among-at [] k h = absurd (omega arith)
+among-at (x ∷ xs) zero h = or-first (x == x) _ (eqb-same x)
+among-at (x ∷ xs) (suc k) h = or-true (x == get_or xs k 0) _ (among-at xs k (omega arith))
+
+get-split : {X : Type 0} (ys : List X) (o v : X) (p : ℕ) → slice_get (ys ++ o ∷ []) p ≡ Some v → (slice_get ys p ≡ Some v) ⊎ (o ≡ v)
+get-split [] o v zero e = let f : o ≡ v = cc in inr f
+get-split [] o v (suc p) e = cc
+get-split (y ∷ ys) o v zero e = inl e
+get-split (y ∷ ys) o v (suc p) e = get-split ys o v p e
+
+pub greatest-more : (xs : List (Option ℕ)) (k most now : ℕ) → k < length xs → ((p h : ℕ) → IsMarked (take k xs) p h → h ≤ most) → most ≤ now → ((h : ℕ) → get_or xs k None ≡ Some h → h ≤ now) → (p h : ℕ) → IsMarked (take (k + 1) xs) p h → h ≤ now
+greatest-more xs k most now inside below le new p h e =
+    let f : slice_get (take k xs ++ get_or xs k None ∷ []) p ≡ Some (Some h) = subst (λ ys. slice_get ys p ≡ Some (Some h)) (take-at xs k None inside) e in
+    elim (get-split (take k xs) (get_or xs k None) (Some h) p f) [ inl g ↦ (let b : h ≤ most = below p h g in omega arith) | inr g ↦ new h g ]
+
+pub greatest-of : (h k most : ℕ) (o : Option ℕ) → o ≡ Some k → k ≤ most → o ≡ Some h → h ≤ most
+greatest-of h k most o e le f = let same : h ≡ k = cc in omega arith
+
+pub begins-more : (places work later : List ℕ) (first before after : List (Option ℕ)) (k : ℕ) → k < length places → Grows (λ q h. (h ≡ 0) × (is_among q places ≡ true)) first before [] work → Grows (λ q h. (q ≡ get_or places k 0) × (h ≡ 0)) before after work later → Grows (λ q h. (h ≡ 0) × (is_among q places ≡ true)) first after [] later
+begins-more places work later first before after k inside so_far new =
+    grows-then _ first before after [] work later so_far (grows-lift _ _ before after work later (λ q h f. (f.1, subst (λ r. is_among r places ≡ true) (sym f.0) (among-at places k inside))) new)
+
+pub begun-more : (places : List ℕ) (before after : List (Option ℕ)) (k : ℕ) → k < length places → ((q : ℕ) → is_among q (take k places) ≡ true → IsMarked before q 0) → ((q h : ℕ) → IsMarked before q h → IsMarked after q h) → IsMarked after (get_or places k 0) 0 → (q : ℕ) → is_among q (take (k + 1) places) ≡ true → IsMarked after q 0
+begun-more places before after k inside so_far keeps new q e =
+    elim (among-split q (get_or places k 0) (take k places) (subst (λ ys. is_among q ys ≡ true) (take-at places k 0 inside) e)) [
+      inl f ↦ keeps q 0 (so_far q f)
+    | inr same ↦ subst (λ r. IsMarked after r 0) (sym same) new
+    ]

@@ -4,6 +4,10 @@ use Rattle.code_ir.specs.declared.heights.Marked.TheVariants.{Done, Conflict, Me
 use Rattle.code_ir.specs.declared.heights.Passed.{Passed}
 use Rattle.code_ir.specs.declared.heights.Passed.TheVariants as passed
 use Rattle.std.specs.Prelude.{ℕ}
+use Rattle.code_ir.specs.declared.admitted.CodeFault.{CodeFault}
+use Rattle.code_ir.specs.declared.admitted.CodeFault.TheVariants as fault
+use Rattle.code_ir.specs.Code.{Code}
+use Rattle.code_ir.specs.Heights.{IsBadHeight}
 
 abbrev pub MatchMarked : Marked → Type 0 → Type 0 → Type 0
 MatchMarked Done P Q = P
@@ -14,3 +18,8 @@ abbrev pub MatchPassed : Passed → Type 0 → (ℕ → Type 0) → Type 0
 MatchPassed passed.Done P Q = P
 MatchPassed (passed.Bad at) P Q = Q at
 MatchPassed passed.Memory P Q = Unit {0}
+
+-- the fault names an instruction that breaks the line of heights
+abbrev pub IsHeightFault : Code → CodeFault → Type 0
+IsHeightFault code (fault.Bad at) = IsBadHeight code at
+IsHeightFault code fault.Memory = Unit {0}

@@ -1,18 +1,21 @@
 //! The heights of the stack on the ways through the code.
 
-ghost use Rattle.std.specs.Prelude.{◌≡◌, ◌≢◌, ◌+◌, ◌-◌, ◌*◌, ◌≤◌, ◌<◌, ◌⊎◌, ℕ, List, length, slice_get, Option, Some, OnOk, IfErr, true, [], MatchOption};
+ghost use Rattle.std.specs.Prelude.{◌≡◌, ◌≢◌, ◌+◌, ◌-◌, ◌*◌, ◌≤◌, ◌<◌, ◌⊎◌, ℕ, List, length, slice_get, Option, Some, OnOk, IfOk, IfErr, true, [], MatchOption};
 ghost use Rattle.std.specs.Bool.{MatchBool};
 ghost use Rattle.code_ir.specs.declared.instr.Instr.{Instr as TheInstr};
 ghost use Rattle.code_ir.specs.Code.{begins, body_of, code_of, is_among};
-ghost use Rattle.code_ir.specs.Typing.{AllFitAlone, LeavesResults, Way, goes_on, pops, pushes, target};
+ghost use Rattle.code_ir.specs.Typing.{AllFitAlone, LeavesResults, PlacesStand, Way, goes_on, pops, pushes, target};
+ghost use Rattle.code_ir.specs.Marked.{IsHeightFault};
 ghost use Rattle.code_ir.specs.Heights.{Differs, Grows, HaveOneHeight, IsBadHeight, IsEnough, IsMarked, IsPassedOn, Marking};
 ghost use Rattle.code_ir.specs.Marked.{MatchMarked, MatchPassed};
 ghost use Rattle.code_ir.specs.Tables.{IsTableOf};
 
+use crate::admitted::CodeFault;
 use crate::instr::{ActorCode, Instr};
 use crate::lines::{goes_on, pops, pushes, results_of, target};
 use crate::places::routine_at;
 use rvc_base::Memory;
+use std::alloc::{AllocError, Global};
 
 /// What marking a place comes to.
 #[derive(Clone, Copy)]
@@ -165,11 +168,47 @@ fn greatest(heights: &[Option<u32>]) -> u32
 {
     let mut most = 0;
     for height in heights {
-        if let Some(height) = *height {
-            if height > most {
-                most = height;
+        match *height {
+            None => {}
+            Some(height) => {
+                if height > most {
+                    most = height;
+                }
             }
         }
     }
     most
+}
+
+/// Finds the heights on all ways, or where the line of heights is broken. The greatest of them comes back.
+pub(crate) fn find_heights(alloc: Global, code: &ActorCode, places: &[u32], bodies: &[u32]) -> Result<u32, CodeFault>
+    requires places { places.now ≡ begins (code_of code.now) }
+    requires stand { PlacesStand (code_of code.now) }
+    requires alone { AllFitAlone (code_of code.now) }
+    requires table { IsTableOf (length code.now.instrs.items) (body_of (code_of code.now)) bodies.now }
+    requires small { length code.now.instrs.items ≤ 4294967295 }
+    ensures ok { IfOk result (λ most. HaveOneHeight (code_of code.now) × ((p h : ℕ) → Way (code_of code.now) p h → h ≤ most)) }
+    ensures bad { IfErr result (IsHeightFault (code_of code.now)) }
+{
+    let size = code.instrs.len();
+    let Ok(mut heights) = no_heights(alloc, size) else { return Err(CodeFault::Memory) };
+    let mut work = Vec::new(alloc);
+    let Ok(()) = mark_begins(&mut heights, &mut work, places) else { return Err(CodeFault::Memory) };
+    match pass_all(&mut heights, &mut work, code, bodies) {
+        Passed::Done => Ok(greatest(&heights)),
+        Passed::Bad(at) => Err(CodeFault::Bad { at }),
+        Passed::Memory => Err(CodeFault::Memory),
+    }
+}
+
+/// Heights of so many places, none of which is marked.
+fn no_heights(alloc: Global, size: usize) -> Result<Vec<Option<u32>>, AllocError>
+    ensures size { IfOk result (λ v. length v.items ≡ size) }
+    ensures none { IfOk result (λ v. (q k : ℕ) → ¬ IsMarked v.items q k) }
+{
+    let mut heights = Vec::new(alloc);
+    for _place in 0..size {
+        heights.push(None)?;
+    }
+    Ok(heights)
 }
