@@ -259,3 +259,9 @@ begun-more places before after k inside so_far keeps new q e =
       inl f ↦ keeps q 0 (so_far q f)
     | inr same ↦ subst (λ r. IsMarked after r 0) (sym same) new
     ]
+
+pub none-more : (xs : List (Option ℕ)) → ((q k : ℕ) → ¬ IsMarked xs q k) → (q k : ℕ) → ¬ IsMarked (xs ++ None ∷ []) q k
+none-more xs none q k e = elim (get-split xs None (Some k) q e) [ inl f ↦ none q k f | inr f ↦ cc ]
+
+pub marked-most : (code : Code) (heights : List (Option ℕ)) (most : ℕ) → Marking code heights [] → ((p h : ℕ) → IsMarked heights p h → h ≤ most) → (p h : ℕ) → Way code p h → h ≤ most
+marked-most code heights most marking below p h w = below p h (marks-way code heights marking w)

@@ -3,7 +3,8 @@ use Rattle.code_ir.specs.declared.heights.Marked.{Marked}
 use Rattle.code_ir.specs.declared.heights.Marked.TheVariants.{Done, Conflict, Memory}
 use Rattle.code_ir.specs.declared.heights.Passed.{Passed}
 use Rattle.code_ir.specs.declared.heights.Passed.TheVariants as passed
-use Rattle.std.specs.Prelude.{ℕ}
+use Rattle.std.specs.Prelude.{ℕ, List}
+use Rattle.code_ir.specs.Typing.{IsWrongAmong}
 use Rattle.code_ir.specs.declared.admitted.CodeFault.{CodeFault}
 use Rattle.code_ir.specs.declared.admitted.CodeFault.TheVariants as fault
 use Rattle.code_ir.specs.Code.{Code}
@@ -23,3 +24,8 @@ MatchPassed passed.Memory P Q = Unit {0}
 abbrev pub IsHeightFault : Code → CodeFault → Type 0
 IsHeightFault code (fault.Bad at) = IsBadHeight code at
 IsHeightFault code fault.Memory = Unit {0}
+
+-- the fault names a place that may not begin a body
+abbrev pub IsPlaceFault : ℕ → List ℕ → CodeFault → Type 0
+IsPlaceFault size places (fault.Bad at) = IsWrongAmong size places at
+IsPlaceFault size places fault.Memory = ⊥

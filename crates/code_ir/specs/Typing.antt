@@ -214,9 +214,12 @@ pub record IsFirstWrong (size : ℕ) (places : List ℕ) (at : ℕ) : Type 0 whe
   pub before : AreDistinct size (take index places)
   pub wrong : IsWrong size (take index places) at
 
--- the first place that is wrong, or 0 where no body begins there
+-- the first of these places that is wrong, or 0 where no body begins there
+abbrev pub IsWrongAmong : ℕ → List ℕ → ℕ → Type 0
+IsWrongAmong size places at = IsFirstWrong size places at ⊎ (AreDistinct size places × (0 < size) × (is_among 0 places ≡ false) × (at ≡ 0))
+
 abbrev pub IsWrongPlace : Code → ℕ → Type 0
-IsWrongPlace code at = IsFirstWrong (length code.instrs) (begins code) at ⊎ (AreDistinct (length code.instrs) (begins code) × (0 < length code.instrs) × (is_among 0 (begins code) ≡ false) × (at ≡ 0))
+IsWrongPlace code at = IsWrongAmong (length code.instrs) (begins code) at
 
 -- the places stand, and the instruction at this one breaks a line
 abbrev pub IsWrongInstr : Code → ℕ → Type 0

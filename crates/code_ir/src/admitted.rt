@@ -18,9 +18,9 @@ pub enum CodeFault {
 /// Code that meets the typing lines, and so runs without a fault other than those that it may trap with.
 #[derive(Drop)]
 pub struct Admitted {
-    code: ActorCode,
+    pub(crate) code: ActorCode,
     /// No way through the code has more operands on the stack.
-    most: u32,
+    pub(crate) most: u32,
 }
 
 impl Model for Admitted {

@@ -1,6 +1,7 @@
 //! Code of actors: instructions, what running them means, and the test that code must pass before it runs.
 #![tactic(auto)]
 
+mod admission;
 mod admitted;
 mod heights;
 mod instr;
@@ -10,6 +11,7 @@ mod outcome;
 mod places;
 mod tokens;
 
+pub use admission::admit;
 pub use admitted::{Admitted, CodeFault};
 pub use instr::{ActorCode, Instr, Routine};
 pub use outcome::Outcome;
