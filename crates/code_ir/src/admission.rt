@@ -77,12 +77,14 @@ fn check_instrs(alloc: Global, code: &ActorCode, places: &[u32]) -> Result<u32, 
         return Err(CodeFault::Memory);
     }
     let Ok(bodies) = bodies(alloc, code, places) else { return Err(CodeFault::Memory) };
-    if let Some(at) = first_unfit(code, places, &bodies) {
-        return Err(CodeFault::Bad { at });
-    }
-    match find_heights(alloc, code, places, &bodies) {
-        Ok(most) => Ok(most),
-        Err(CodeFault::Bad { at }) => Err(CodeFault::Bad { at }),
-        Err(CodeFault::Memory) => Err(CodeFault::Memory),
+    match first_unfit(code, places, &bodies) {
+        Some(at) => Err(CodeFault::Bad { at }),
+        None => {
+            match find_heights(alloc, code, places, &bodies) {
+                Ok(most) => Ok(most),
+                Err(CodeFault::Bad { at }) => Err(CodeFault::Bad { at }),
+                Err(CodeFault::Memory) => Err(CodeFault::Memory),
+            }
+        }
     }
 }
