@@ -1,14 +1,13 @@
 -- The body and the routine of a place, and that ways stay inside the code.
-use Rattle.std.proofs.Common.{◌≡◌, ◌≢◌, ℕ, zero, suc, ◌+◌, ◌-◌, ◌*◌, ◌<◌, ◌≤◌, refl, sym, ap, ◌∙◌, subst, Bool, true, false, ◌||◌, List, [], ◌∷◌, ◌++◌, length, map, arith, rules, add-one}
-use Rattle.std.specs.Prelude.{Option, None, Some, slice_get, ◌==◌, if◌then◌else◌}
-use Rattle.std.proofs.lemmas.Option.{slice_get_within, slice_get-get_or, slice_get_cases}
+use Rattle.std.proofs.Common.{◌≡◌, ℕ, zero, suc, ◌+◌, ◌<◌, ◌≤◌, refl, ap, ◌∙◌, subst, Bool, true, false, ◌||◌, List, [], ◌∷◌, ◌++◌, length, map, arith, add-one}
+use Rattle.std.specs.Prelude.{Some, slice_get, ◌==◌}
 use Rattle.std.proofs.lemmas.Bool.Decides.{nat_tests, Decides-eqb}
 use Rattle.code_ir.specs.declared.instr.Instr.{Instr}
 use Rattle.code_ir.specs.declared.instr.Instr.TheVariants as op
 use Rattle.code_ir.specs.declared.instr.Routine.{Routine}
-use Rattle.code_ir.specs.Code.{Code, begins, is_among, body_of, routine_at, routine_of, results_of}
+use Rattle.code_ir.specs.Code.{Code, begins, is_among, body_of, routine_at, routine_of}
 use Rattle.code_ir.proofs.Effects.{chosen}
-use Rattle.code_ir.specs.Typing.{AreDistinct, PlacesStand, IsAdmitted, IsTyped, IsTarget, StaysInside, Way, begin, next, jump, JumpsInside, target, goes_on, pops, pushes}
+use Rattle.code_ir.specs.Typing.{AreDistinct, PlacesStand, IsAdmitted, IsTarget, Way, begin, next, jump, JumpsInside, target}
 
 -- ---- bodies
 

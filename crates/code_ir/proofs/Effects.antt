@@ -1,7 +1,7 @@
 -- An instruction that has its operands and whose cells are there breaks nothing, and leaves the height that
 -- the typing lines count.
-use Rattle.std.proofs.Common.{◌≡◌, ◌≢◌, ℕ, zero, suc, ◌+◌, ◌-◌, ◌*◌, ◌<◌, ◌≤◌, refl, sym, ap, ◌∙◌, subst, ℤ, pos, negsuc, Bool, true, false, not, leb, List, [], ◌∷◌, length, get_or, set, arith, rules}
-use Rattle.std.specs.Prelude.{Option, None, Some, slice_get, nat_le, if◌then◌else◌}
+use Rattle.std.proofs.Common.{◌≡◌, ℕ, zero, suc, ◌+◌, ◌-◌, ◌*◌, ◌<◌, ◌≤◌, refl, ◌∙◌, ℤ, pos, negsuc, Bool, true, false, not, leb, List, [], ◌∷◌, length, set, arith}
+use Rattle.std.specs.Prelude.{Option, None, Some, slice_get, if◌then◌else◌}
 use Rattle.std.proofs.lemmas.List.{length-set}
 use Rattle.std.proofs.lemmas.Bool.Decides.{nat_tests}
 use Rattle.rvc_base.specs.declared.scalar.Scalar.{Scalar}
@@ -11,7 +11,7 @@ use Rattle.code_ir.specs.declared.instr.Instr.{Instr}
 use Rattle.code_ir.specs.declared.instr.Instr.TheVariants as op
 use Rattle.code_ir.specs.Code.{Code}
 use Rattle.code_ir.specs.Effect.{Effect, Leaves, Fails, LacksToken, Breaks, effect, stored, cell, pop, pop_two, with_cells, with_offset, push_computed, push_token, on_top, on_two, leave_taken, copied, zeroed, taken}
-use Rattle.code_ir.specs.Typing.{pops, pushes, goes_on, target, NamesCells}
+use Rattle.code_ir.specs.Typing.{pops, pushes, NamesCells}
 
 -- the effect leaves h operands and n cells, or fails as a run may
 abbrev pub IsGood : ℕ → ℕ → Effect → Type 0

@@ -1,10 +1,10 @@
 -- A run of admitted code never gets stuck, and has exactly one end.
-use Rattle.std.proofs.Common.{◌≡◌, ◌≢◌, ℕ, zero, suc, ◌+◌, ◌<◌, ◌≤◌, refl, sym, ap, ◌∙◌, subst, ℤ, true, List, [], ◌∷◌, length, arith}
+use Rattle.std.proofs.Common.{◌≡◌, ◌≢◌, ℕ, zero, suc, ◌<◌, refl, subst, ℤ, true, List, length, arith}
 use Rattle.code_ir.specs.declared.outcome.Outcome.{Outcome}
-use Rattle.code_ir.specs.Code.{Code, is_among, routine_of, begins}
+use Rattle.code_ir.specs.Code.{Code, is_among, routine_of}
 use Rattle.code_ir.specs.Running.{State, Next, Goes, Over, Lacks, Stuck, step, Ends, stop, go, Reaches, here, after, start, runs, HasItsTokens}
 use Rattle.code_ir.specs.Typing.{IsAdmitted, begin}
-use Rattle.code_ir.specs.Standing.{IsFine, Stands, Framed, entry, most_steps}
+use Rattle.code_ir.specs.Standing.{IsFine, Stands, entry, most_steps}
 use Rattle.code_ir.proofs.Bodies.{entry-among, routine_of-entry}
 use Rattle.code_ir.proofs.Safety.{fine}
 
@@ -17,7 +17,7 @@ start-stands code e cells admitted g n =
       way = begin (entry-among code e g);
       operands = refl;
       framed = entry (omega arith);
-      cells = n
+      cells = n;
     }
 
 fine-goes : (code : Code) (s t : State) (n : Next) → n ≡ Goes t → IsFine code s n → Stands code t
@@ -64,7 +64,7 @@ end-within : (n : ℕ) (code : Code) (tokens : ℕ → List ℤ) (s : State) →
 end-within zero code tokens s less admitted stands token = absurd (omega (arith, less))
 end-within (suc n) code tokens s less admitted stands token =
     end-after code tokens s (step code tokens s) refl (fine code tokens s admitted stands) (token s here)
-      (λ t e there fewer. end-within n code tokens t (omega (arith, less, fewer)) admitted there (λ u r. token u (after e r)))
+    (λ t e there fewer. end-within n code tokens t (omega (arith, less, fewer)) admitted there (λ u r. token u (after e r)))
 
 pub some-end : (code : Code) (e : ℕ) (cells : List ℤ) (tokens : ℕ → List ℤ) → IsAdmitted code → is_among e code.entries ≡ true → length cells ≡ code.cells → HasItsTokens code e cells tokens → (o : Outcome) × (c : List ℤ) × runs code e cells tokens o c
 some-end code e cells tokens admitted g n token =

@@ -1,14 +1,13 @@
 -- How the number of steps to the end falls.
-use Rattle.std.proofs.Common.{◌≡◌, ◌≢◌, ℕ, zero, suc, ◌+◌, ◌-◌, ◌*◌, ◌^◌, ◌<◌, ◌≤◌, refl, sym, ap, ◌∙◌, subst, List, [], ◌∷◌, length, arith, rules, add-one}
-use Rattle.std.specs.Prelude.{Option, None, Some, slice_get}
+use Rattle.std.proofs.Common.{◌≡◌, ℕ, suc, ◌+◌, ◌-◌, ◌*◌, ◌^◌, ◌<◌, ◌≤◌, subst, List, length, arith}
+use Rattle.std.specs.Prelude.{Option, None, Some}
 use Rattle.std.proofs.Math.Nat.{pow-le-pow_right, mul-lt-mul_of_pos_right, mul-le-mul_right, pow-succ', one-le-pow}
 use Rattle.code_ir.specs.declared.instr.Instr.{Instr}
 use Rattle.code_ir.specs.declared.instr.Instr.TheVariants as op
-use Rattle.code_ir.specs.Code.{Code, routine_at, routine_of, body_of}
-use Rattle.code_ir.specs.Running.{State}
-use Rattle.code_ir.specs.Typing.{IsAdmitted, Way}
-use Rattle.code_ir.specs.Standing.{Framed, entry, called, unit_of, body_left, frames_left, jumps_left, most_steps}
-use Rattle.code_ir.proofs.Bodies.{routine_at-bound, way-inside}
+use Rattle.code_ir.specs.Code.{Code, routine_of, body_of}
+use Rattle.code_ir.specs.Typing.{IsAdmitted}
+use Rattle.code_ir.specs.Standing.{Framed, entry, called, unit_of, body_left, frames_left, jumps_left}
+use Rattle.code_ir.proofs.Bodies.{routine_at-bound}
 
 pub fewer-on : (a b m w v : ℕ) → a ≤ b → w < v → a * m + w < b * m + v
 fewer-on a b m w v h k = let p : a * m ≤ b * m = mul-le-mul_right m h in omega arith

@@ -6,3 +6,4 @@ pub mod Fuel
 pub mod Safety
 pub mod Ends
 pub mod Marks
+pub mod Rows

@@ -1,17 +1,17 @@
 -- Marks that grow.
-use Rattle.std.proofs.Common.{◌≡◌, ◌≢◌, ℕ, zero, suc, ◌+◌, ◌-◌, ◌*◌, ◌<◌, ◌≤◌, ◌⊎◌, inl, inr, refl, sym, ap, ◌∙◌, subst, Bool, true, false, ◌||◌, List, [], ◌∷◌, ◌++◌, length, get_or, set, take, arith, add-one, length-append}
+use Rattle.std.proofs.Common.{◌≡◌, ◌≢◌, ℕ, zero, suc, ◌+◌, ◌-◌, ◌<◌, ◌≤◌, ◌⊎◌, inl, inr, refl, sym, ap, ◌∙◌, subst, Bool, true, false, ◌||◌, List, [], ◌∷◌, ◌++◌, length, get_or, set, take, arith, length-append}
 use Rattle.std.specs.Prelude.{Option, None, Some, slice_get, ◌==◌}
 use Rattle.std.proofs.lemmas.List.{length-set}
 use Rattle.std.proofs.lemmas.Bool.Decides.{Decides-eqb}
 use Rattle.code_ir.specs.declared.instr.Instr.{Instr}
 use Rattle.code_ir.specs.Code.{Code, begins, is_among}
-use Rattle.code_ir.specs.Typing.{Way, begin, next, jump, HasOneHeight, LeavesResults, pops, pushes, goes_on, target}
+use Rattle.code_ir.specs.Typing.{Way, begin, next, jump, LeavesResults, pops, pushes, goes_on, target}
 use Rattle.code_ir.specs.Heights.{IsMarked, unmarked, Grows, Differs, IsEnough, IsPassedOn, Marking, IsBadHeight, HaveOneHeight}
 use Rattle.std.proofs.lemmas.Option.{slice_get_read, slice_get_within}
 use Rattle.code_ir.specs.Marked.{MatchPassed}
 use Rattle.code_ir.specs.declared.heights.Passed.{Passed}
 use Rattle.code_ir.specs.declared.heights.Passed.TheVariants as passed
-use Rattle.code_ir.specs.Typing.{AllFitAlone, IsTarget}
+use Rattle.code_ir.specs.Typing.{AllFitAlone}
 use Rattle.code_ir.proofs.Lists.{take-at}
 use Rattle.code_ir.proofs.Bodies.{target-of, or-cases, or-true, eqb-same, found}
 
@@ -54,7 +54,7 @@ unmarked-set (Some k ∷ xs) (suc p) h e = unmarked-set xs p h e
 
 by-same : {P : Type 0} (q p : ℕ) → (q ≡ p → P) → (q ≢ p → P) → P
 by-same q p f g = by-test-same (q == p) (Decides-eqb q p) f g
-    where
+  where
     by-test-same : {P : Type 0} (b : Bool) → (b ≡ true → q ≡ p) × (q ≡ p → b ≡ true) → (q ≡ p → P) → (q ≢ p → P) → P
     by-test-same true d f g = f (d.0 refl)
     by-test-same false d f g = g (λ e. let h : false ≡ true = d.1 e in cc)
@@ -63,14 +63,14 @@ pub mark-new : (heights : List (Option ℕ)) (work : List ℕ) (p h : ℕ) → s
 mark-new heights work p h none inside = record {
   keeps = λ q k e. by-same q p (λ same. let f : slice_get heights p ≡ Some (Some k) = subst (λ r. slice_get heights r ≡ Some (Some k)) same e in cc) (λ other. get-other heights p q (Some h) other ∙ e);
   adds = λ q k e. by-same q p
-    (λ same. let f : slice_get (set heights p (Some h)) p ≡ Some (Some k) = subst (λ r. slice_get (set heights p (Some h)) r ≡ Some (Some k)) same e in
+      (λ same. let f : slice_get (set heights p (Some h)) p ≡ Some (Some k) = subst (λ r. slice_get (set heights p (Some h)) r ≡ Some (Some k)) same e in
       let g : slice_get (set heights p (Some h)) p ≡ Some (Some h) = get-set heights p (Some h) inside in
       let i : k ≡ h = cc in inr ((same, i), subst (λ r. is_among r (work ++ p ∷ []) ≡ true) (sym same) (among-last p work)))
-    (λ other. inl (sym (get-other heights p q (Some h) other) ∙ e));
+      (λ other. inl (sym (get-other heights p q (Some h) other) ∙ e));
   holds = λ q e. among-kept q p work e;
   takes = λ q e. elim (among-split q p work e) [ inl f ↦ inl f | inr same ↦ inr (h, subst (λ r. slice_get (set heights p (Some h)) r ≡ Some (Some h)) (sym same) (get-set heights p (Some h) inside)) ];
   size = length-set heights p (Some h);
-  fewer = omega (arith, unmarked-set heights p h none, length-append work (p ∷ []))
+  fewer = omega (arith, unmarked-set heights p h none, length-append work (p ∷ []));
 }
 
 pub grows-same : (P : ℕ → ℕ → Type 0) (heights : List (Option ℕ)) (work : List ℕ) → Grows P heights heights work work
@@ -80,7 +80,7 @@ grows-same P heights work = record {
   holds = λ q e. e;
   takes = λ q e. inl e;
   size = refl;
-  fewer = omega arith
+  fewer = omega arith;
 }
 
 pub grows-lift : (P Q : ℕ → ℕ → Type 0) (before after : List (Option ℕ)) (work later : List ℕ) → ((q k : ℕ) → P q k → Q q k) → Grows P before after work later → Grows Q before after work later
@@ -90,7 +90,7 @@ grows-lift P Q before after work later f g = record {
   holds = g.holds;
   takes = g.takes;
   size = g.size;
-  fewer = g.fewer
+  fewer = g.fewer;
 }
 
 pub grows-then : (P : ℕ → ℕ → Type 0) (a b c : List (Option ℕ)) (w x y : List ℕ) → Grows P a b w x → Grows P b c x y → Grows P a c w y
@@ -100,14 +100,14 @@ grows-then P a b c w x y g h = record {
   holds = λ q e. h.holds q (g.holds q e);
   takes = λ q e. elim (h.takes q e) [ inl f ↦ elim (g.takes q f) [ inl i ↦ inl i | inr i ↦ inr (i.0, h.keeps q i.0 i.1) ] | inr f ↦ inr f ];
   size = h.size ∙ g.size;
-  fewer = omega (arith, g.fewer, h.fewer)
+  fewer = omega (arith, g.fewer, h.fewer);
 }
 
 passed-later : (code : Code) (before after : List (Option ℕ)) (p h : ℕ) → ((q k : ℕ) → IsMarked before q k → IsMarked after q k) → IsPassedOn code before p h → IsPassedOn code after p h
 passed-later code before after p h keeps passed = record {
   enough = passed.enough;
   next = λ i e on. keeps _ _ (passed.next i e on);
-  jump = λ i t e to. keeps _ _ (passed.jump i t e to)
+  jump = λ i t e to. keeps _ _ (passed.jump i t e to);
 }
 
 -- a place is taken from the work, and its mark passed on
@@ -117,17 +117,17 @@ marking-next code before after work later p marking grows passed = record {
   sound = λ q k e. elim (grows.adds q k e) [ inl f ↦ marking.sound q k f | inr f ↦ f.0 ];
   begun = λ q e. grows.keeps q 0 (marking.begun q e);
   pending = λ q e. elim (grows.takes q e) [ inl f ↦ let m = marking.pending q (among-kept q p work f) in (m.0, grows.keeps q m.0 m.1) | inr f ↦ f ];
-  passed = λ q k e. elim (grows.adds q k e) [ inl f ↦ still q k f | inr f ↦ inl f.1 ]
+  passed = λ q k e. elim (grows.adds q k e) [ inl f ↦ still q k f | inr f ↦ inl f.1 ];
 }
-    where
+  where
     still : (q k : ℕ) → IsMarked before q k → (is_among q later ≡ true) ⊎ IsPassedOn code after q k
     still q k f = elim (marking.passed q k f) [
-        inl g ↦ elim (among-split q p work g) [
-          inl i ↦ inl (grows.holds q i)
-          | inr same ↦ inr (subst (λ r. IsPassedOn code after r k) (sym same) (passed k (subst (λ r. IsMarked before r k) same f)))
-        ]
-        | inr g ↦ inr (passed-later code before after q k grows.keeps g)
+      | inl g ↦ elim (among-split q p work g) [
+        | inl i ↦ inl (grows.holds q i)
+        | inr same ↦ inr (subst (λ r. IsPassedOn code after r k) (sym same) (passed k (subst (λ r. IsMarked before r k) same f)))
       ]
+      | inr g ↦ inr (passed-later code before after q k grows.keeps g)
+    ]
 
 -- ---- the marks of all ways
 
@@ -146,7 +146,7 @@ pub one-height : (code : Code) (heights : List (Option ℕ)) → Marking code he
 one-height code heights marking p i g = record {
   same = λ h k v w. let a : slice_get heights p ≡ Some (Some h) = marks-way code heights marking v in let b : slice_get heights p ≡ Some (Some k) = marks-way code heights marking w in cc;
   enough = λ h w. (enough-way code heights i marking g w).enough;
-  results = λ h w. (enough-way code heights i marking g w).results
+  results = λ h w. (enough-way code heights i marking g w).results;
 }
 
 pub way-marked : (code : Code) (heights : List (Option ℕ)) (p h : ℕ) → Marking code heights [] → Way code p h → IsMarked heights p h
@@ -172,7 +172,7 @@ marking-first code before after work size none grows begun = record {
   sound = λ q k e. elim (grows.adds q k e) [ inl f ↦ absurd (none q k f) | inr f ↦ subst (λ h. Way code q h) (sym f.0.0) (begin f.0.1) ];
   begun = begun;
   pending = λ q e. elim (grows.takes q e) [ inl f ↦ cc | inr f ↦ f ];
-  passed = λ q k e. elim (grows.adds q k e) [ inl f ↦ absurd (none q k f) | inr f ↦ inl f.1 ]
+  passed = λ q k e. elim (grows.adds q k e) [ inl f ↦ absurd (none q k f) | inr f ↦ inl f.1 ];
 }
 
 -- ---- one place, with its instruction and its height
@@ -208,20 +208,20 @@ module _ (code : Code) (p h a : ℕ) (i : Instr) (before between : List (Option 
 
   pub passed-grows : (after : List (Option ℕ)) (later : List ℕ) (r : Passed) → MatchPassed r (Grows (λ q k. (target i ≡ Some q) × (k ≡ a)) between after more later) (λ _. Unit {0}) → MatchPassed r (Grows (Way code) before after work later) (λ _. Unit {0})
   passed-grows after later passed.Done t =
-    grows-then (Way code) before between after work more later (grows-lift _ (Way code) before between work more next-way on) (grows-lift _ (Way code) between after more later jump-way t)
+      grows-then (Way code) before between after work more later (grows-lift _ (Way code) before between work more next-way on) (grows-lift _ (Way code) between after more later jump-way t)
   passed-grows after later (passed.Bad at) t = tt
   passed-grows after later passed.Memory t = tt
 
   pub passed-all : (after : List (Option ℕ)) (later : List ℕ) (r : Passed) → (goes_on i ≡ true → IsMarked between (p + 1) a) → MatchPassed r (Grows (λ q k. (target i ≡ Some q) × (k ≡ a)) between after more later) (λ _. Unit {0}) → MatchPassed r ((t : ℕ) → target i ≡ Some t → IsMarked after t a) (λ at. (target i ≡ Some at) × Differs between at a) → MatchPassed r ((k : ℕ) → IsMarked before p k → IsPassedOn code after p k) (IsBadHeight code)
   passed-all after later passed.Done m t u = λ k e.
-    let same : k ≡ h = cc in
-    subst (λ x. IsPassedOn code after p x) (sym same) (record {
-      enough = λ j f. let is : i ≡ j = cc in subst (IsEnough code p h) is enough;
-      next = λ j f o. let is : i ≡ j = cc in subst (λ x. goes_on x ≡ true → IsMarked after (p + 1) (h - pops x + pushes code x)) is (λ n. subst (λ x. IsMarked after (p + 1) x) is_after (t.keeps _ _ (m n))) o;
-      jump = λ j v f o. let is : i ≡ j = cc in subst (λ x. target x ≡ Some v → IsMarked after v (h - pops x + pushes code x)) is (λ n. subst (λ x. IsMarked after v x) is_after (u v n)) o
-    })
+      let same : k ≡ h = cc in
+      subst (λ x. IsPassedOn code after p x) (sym same) (record {
+        enough = λ j f. let is : i ≡ j = cc in subst (IsEnough code p h) is enough;
+        next = λ j f o. let is : i ≡ j = cc in subst (λ x. goes_on x ≡ true → IsMarked after (p + 1) (h - pops x + pushes code x)) is (λ n. subst (λ x. IsMarked after (p + 1) x) is_after (t.keeps _ _ (m n))) o;
+        jump = λ j v f o. let is : i ≡ j = cc in subst (λ x. target x ≡ Some v → IsMarked after v (h - pops x + pushes code x)) is (λ n. subst (λ x. IsMarked after v x) is_after (u v n)) o;
+      })
   passed-all after later (passed.Bad at) m t u =
-    bad-differs code between at a (target-inside code p at i alone g u.0) between-sound (jump-way at a (u.0, refl)) u.1
+      bad-differs code between at a (target-inside code p at i alone g u.0) between-sound (jump-way at a (u.0, refl)) u.1
   passed-all after later passed.Memory m t u = tt
 
 pub bad-next : (code : Code) (p h a at : ℕ) (i : Instr) (before : List (Option ℕ)) → a ≡ h - pops i + pushes code i → AllFitAlone code → ((q k : ℕ) → IsMarked before q k → Way code q k) → slice_get code.instrs p ≡ Some i → IsMarked before p h → pops i ≤ h → (at ≡ p + 1) × (goes_on i ≡ true) × Differs before (p + 1) a → IsBadHeight code at
@@ -256,8 +256,8 @@ begins-more places work later first before after k inside so_far new =
 pub begun-more : (places : List ℕ) (before after : List (Option ℕ)) (k : ℕ) → k < length places → ((q : ℕ) → is_among q (take k places) ≡ true → IsMarked before q 0) → ((q h : ℕ) → IsMarked before q h → IsMarked after q h) → IsMarked after (get_or places k 0) 0 → (q : ℕ) → is_among q (take (k + 1) places) ≡ true → IsMarked after q 0
 begun-more places before after k inside so_far keeps new q e =
     elim (among-split q (get_or places k 0) (take k places) (subst (λ ys. is_among q ys ≡ true) (take-at places k 0 inside) e)) [
-      inl f ↦ keeps q 0 (so_far q f)
-    | inr same ↦ subst (λ r. IsMarked after r 0) (sym same) new
+      | inl f ↦ keeps q 0 (so_far q f)
+      | inr same ↦ subst (λ r. IsMarked after r 0) (sym same) new
     ]
 
 pub none-more : (xs : List (Option ℕ)) → ((q k : ℕ) → ¬ IsMarked xs q k) → (q k : ℕ) → ¬ IsMarked (xs ++ None ∷ []) q k

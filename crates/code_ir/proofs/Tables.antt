@@ -1,6 +1,6 @@
 -- Tables and lists of places that grow at their end.
-use Rattle.std.proofs.Common.{◌≡◌, ℕ, zero, suc, ◌+◌, ◌-◌, ◌<◌, ◌≤◌, refl, sym, ap, ◌∙◌, subst, Bool, true, false, ◌||◌, List, [], ◌∷◌, ◌++◌, length, arith, add-one, length-append}
-use Rattle.std.specs.Prelude.{Option, None, Some, slice_get, ◌==◌, if◌then◌else◌}
+use Rattle.std.proofs.Common.{◌≡◌, ℕ, zero, suc, ◌+◌, ◌-◌, ◌<◌, ◌≤◌, refl, sym, ap, ◌∙◌, subst, Bool, true, false, List, [], ◌∷◌, ◌++◌, length, arith, length-append}
+use Rattle.std.specs.Prelude.{Some, slice_get, ◌==◌}
 use Rattle.code_ir.specs.Code.{Code, begins, is_among, body_of}
 use Rattle.code_ir.specs.Typing.{AreDistinct, FitsAlone, AllFitAlone, IsUnfit}
 use Rattle.code_ir.specs.declared.instr.Instr.{Instr}
@@ -37,15 +37,15 @@ at-last f xs n p v e g h =
 pub table-more : (n : ℕ) (f : ℕ → ℕ) (xs : List ℕ) (v : ℕ) → IsTableOf n f xs → v ≡ f n → IsTableOf (n + 1) f (xs ++ v ∷ [])
 table-more n f xs v table e = record {
   size = let size : length xs ≡ n = table.size in omega (arith, length-append xs (v ∷ []), size);
-  at = λ p h. chosen-place p h
+  at = λ p h. chosen-place p h;
 }
-    where
+  where
     chosen-place : (p : ℕ) → p < n + 1 → slice_get (xs ++ v ∷ []) p ≡ Some (f p)
     chosen-place p h = by-le (suc p) n (λ less. get-before xs (v ∷ []) p (omega (arith, table.size, less)) ∙ table.at p less) (λ more. at-last f xs n p v table.size (omega arith) e)
 
 pub body-step : (code : Code) (p before now : ℕ) → before ≡ body_of code (p - 1) → (is_among p (begins code) ≡ true → now ≡ p) → (is_among p (begins code) ≡ false → now ≡ before) → now ≡ body_of code p
 body-step code zero before now e t f = body-first (is_among 0 (begins code)) t f
-    where
+  where
     body-first : (b : Bool) → (b ≡ true → now ≡ 0) → (b ≡ false → now ≡ before) → now ≡ 0
     body-first true t f = t refl
     body-first false t f = f refl ∙ e
@@ -66,8 +66,8 @@ pub fit-more : (code : Code) (n : ℕ) (r : Bool) → FitBelow code n → ((i : 
 fit-more code n r below told e p i h g =
     by-le (suc p) n (λ less. below p i less g)
     (λ more.
-      let same : n ≡ p = omega arith in
-      subst (λ q. slice_get code.instrs q ≡ Some i → FitsAlone code q i) same (λ at. when_true (FitsAlone code n i) (¬ FitsAlone code n i) e (told i at)) g)
+    let same : n ≡ p = omega arith in
+    subst (λ q. slice_get code.instrs q ≡ Some i → FitsAlone code q i) same (λ at. when_true (FitsAlone code n i) (¬ FitsAlone code n i) e (told i at)) g)
 
 pub fit-all : (code : Code) (n : ℕ) → FitBelow code n → length code.instrs ≤ n → AllFitAlone code
 fit-all code n below all p i g =

@@ -1,5 +1,5 @@
 -- Heights found so far: a mark for each place that some way was seen to lead to.
-use Rattle.std.specs.Prelude.{◌≡◌, ◌≢◌, ℕ, zero, suc, ◌+◌, ◌-◌, ◌*◌, ◌<◌, ◌≤◌, ◌⊎◌, true, List, [], ◌∷◌, length, Option, None, Some, slice_get}
+use Rattle.std.specs.Prelude.{◌≡◌, ◌≢◌, ℕ, suc, ◌+◌, ◌-◌, ◌*◌, ◌≤◌, ◌⊎◌, true, List, [], ◌∷◌, length, Option, None, Some, slice_get}
 use Rattle.code_ir.specs.declared.instr.Instr.{Instr}
 use Rattle.code_ir.specs.Code.{Code, begins, is_among}
 use Rattle.code_ir.specs.Typing.{Way, HasOneHeight, LeavesResults, pops, pushes, goes_on, target}

@@ -1,9 +1,8 @@
 -- The states that runs of admitted code come by, and how far each is from its end at most.
-use Rattle.std.specs.Prelude.{◌≡◌, ℕ, suc, ◌+◌, ◌-◌, ◌*◌, ◌^◌, ◌<◌, ◌≤◌, ℤ, List, [], ◌∷◌, length, Option, None, Some, slice_get}
+use Rattle.std.specs.Prelude.{◌≡◌, ℕ, suc, ◌+◌, ◌-◌, ◌*◌, ◌^◌, ◌<◌, ◌≤◌, List, [], ◌∷◌, length, Option, None, Some, slice_get}
 use Rattle.code_ir.specs.declared.instr.Instr.{Instr}
 use Rattle.code_ir.specs.declared.instr.Instr.TheVariants.{Turn}
 use Rattle.code_ir.specs.Code.{Code, routine_of, results_of}
-use Rattle.code_ir.specs.declared.outcome.Outcome.{Outcome}
 use Rattle.code_ir.specs.Running.{State, Next, Goes, Over, Lacks, Stuck}
 use Rattle.code_ir.specs.Typing.{Way}
 

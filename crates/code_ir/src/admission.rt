@@ -1,8 +1,8 @@
 //! The test that code must pass before it runs.
 
-ghost use Rattle.std.specs.Prelude.{◌≡◌, ◌<◌, ◌≤◌, ℕ, true, IfOk, OnOk, IfErr};
+ghost use Rattle.std.specs.Prelude.{◌≡◌, ◌<◌, ◌≤◌, ℕ, true, [], ◌∷◌, IfOk, OnOk, IfErr};
 ghost use Rattle.code_ir.specs.Code.{begins, code_of, is_among};
-ghost use Rattle.code_ir.specs.Typing.{AllSized, AreDistinct, IsAdmitted, IsCause, PlacesStand, Way};
+ghost use Rattle.code_ir.specs.Typing.{AllSized, AreDistinct, HasSizes, IsAdmitted, IsCause, PlacesStand, Way};
 ghost use Rattle.code_ir.specs.Marked.{IsPlaceFault};
 
 use crate::admitted::{Admitted, CodeFault};
@@ -42,7 +42,9 @@ fn check(alloc: Global, code: &ActorCode) -> Result<u32, CodeFault>
     ensures most { IfOk result (λ most. (p h : ℕ) → Way (code_of code.now) p h → h ≤ most) }
     ensures bad { IfErr result (IsCause (code_of code.now)) }
 {
-    let Ok(begins) = places(alloc, code) else { return Err(CodeFault::Memory) };
+    let Ok(begins) = places(alloc, code) else {
+        return Err(CodeFault::Memory)
+    };
     match check_places(&begins, code.instrs.len()) {
         Ok(()) => check_instrs(alloc, code, &begins),
         Err(CodeFault::Bad { at }) => Err(CodeFault::Bad { at }),
@@ -76,7 +78,9 @@ fn check_instrs(alloc: Global, code: &ActorCode, places: &[u32]) -> Result<u32, 
     if code.instrs.len() > u32::MAX as usize {
         return Err(CodeFault::Memory);
     }
-    let Ok(bodies) = bodies(alloc, code, places) else { return Err(CodeFault::Memory) };
+    let Ok(bodies) = bodies(alloc, code, places) else {
+        return Err(CodeFault::Memory)
+    };
     match first_unfit(code, places, &bodies) {
         Some(at) => Err(CodeFault::Bad { at }),
         None => {
@@ -86,5 +90,65 @@ fn check_instrs(alloc: Global, code: &ActorCode, places: &[u32]) -> Result<u32, 
                 Err(CodeFault::Memory) => Err(CodeFault::Memory),
             }
         }
+    }
+}
+
+#[cfg(test)]
+mod tests {
+    use super::*;
+    use crate::instr::Instr;
+    use std::alloc::AllocError;
+    use std::test::Fail;
+
+    /// One instruction, with an entry at it.
+    fn single(alloc: Global, instr: Instr) -> Result<ActorCode, AllocError>
+        ensures { IfOk result (λ code. code.instrs.items ≡ instr ∷ []) }
+    {
+        let mut instrs = Vec::new(alloc);
+        instrs.push(instr)?;
+        let mut entries = Vec::new(alloc);
+        entries.push(0)?;
+        Ok(ActorCode {
+            instrs,
+            routines: Vec::new(alloc),
+            entries,
+            cells: 0,
+        })
+    }
+
+    fn admit_single(alloc: Global, instr: Instr) -> Result<Result<Admitted, CodeFault>, AllocError>
+        requires { HasSizes instr }
+    {
+        Ok(admit(alloc, single(alloc, instr)?))
+    }
+
+    #[test]
+    fn names_what_breaks_a_line(rt: HostRuntime) -> Result<(), Fail> {
+        assert!(rt;
+            matches!(
+                admit_single(rt.alloc(), Instr::Jump(9))?,
+                Err(CodeFault::Bad { at: 0 })
+            )
+        );
+        assert!(rt;
+            matches!(
+                admit_single(rt.alloc(), Instr::Jump(0))?,
+                Err(CodeFault::Bad { at: 0 })
+            )
+        );
+        assert!(rt;
+            matches!(
+                admit_single(rt.alloc(), Instr::Return)?,
+                Err(CodeFault::Bad { at: 0 })
+            )
+        );
+        Ok(())
+    }
+
+    #[test]
+    fn admits_a_firing_without_effect(rt: HostRuntime) -> Result<(), Fail> {
+        let admitted = admit_single(rt.alloc(), Instr::Done)?;
+        assert!(rt; admitted.is_ok());
+        Ok(())
     }
 }

@@ -42,9 +42,17 @@ fn mark(heights: &mut Vec<Option<u32>>, work: &mut Vec<u32>, place: u32, height:
     ensures grows { MatchMarked result (Grows (λ q k. (q ≡ place) × (k ≡ height)) heights.old.items heights.new.items work.old.items work.new.items) (Differs heights.old.items place height) }
 {
     match heights[place as usize] {
-        Some(other) => { if other == height { Marked::Done } else { Marked::Conflict } }
+        Some(other) => {
+            if other == height {
+                Marked::Done
+            } else {
+                Marked::Conflict
+            }
+        }
         None => {
-            let Ok(()) = work.push(place) else { return Marked::Memory };
+            let Ok(()) = work.push(place) else {
+                return Marked::Memory
+            };
             heights[place as usize] = Some(height);
             Marked::Done
         }
@@ -67,7 +75,13 @@ fn leaves_results(code: &ActorCode, bodies: &[u32], place: u32, height: u32, ins
 }
 
 /// Passes a height on to the next place, where the instruction goes on.
-fn pass_to_next(heights: &mut Vec<Option<u32>>, work: &mut Vec<u32>, instr: &Instr, place: u32, height: u32) -> Passed
+fn pass_to_next(
+    heights: &mut Vec<Option<u32>>,
+    work: &mut Vec<u32>,
+    instr: &Instr,
+    place: u32,
+    height: u32,
+) -> Passed
     requires inside { goes_on instr.now ≡ true → place + 1 < length heights.old.items }
     requires small { place < 4294967295 }
     ensures passed { MatchPassed result (goes_on instr.now ≡ true → IsMarked heights.new.items (place + 1) height) (λ at. (at ≡ place + 1) × (goes_on instr.now ≡ true) × Differs heights.old.items (place + 1) height) }
@@ -84,7 +98,12 @@ fn pass_to_next(heights: &mut Vec<Option<u32>>, work: &mut Vec<u32>, instr: &Ins
 }
 
 /// Passes a height on to the target of a jump.
-fn pass_to_target(heights: &mut Vec<Option<u32>>, work: &mut Vec<u32>, instr: &Instr, height: u32) -> Passed
+fn pass_to_target(
+    heights: &mut Vec<Option<u32>>,
+    work: &mut Vec<u32>,
+    instr: &Instr,
+    height: u32,
+) -> Passed
     requires inside { (t : ℕ) → target instr.now ≡ Some t → t < length heights.old.items }
     ensures passed { MatchPassed result ((t : ℕ) → target instr.now ≡ Some t → IsMarked heights.new.items t height) (λ at. (target instr.now ≡ Some at) × Differs heights.old.items at height) }
     ensures grows { MatchPassed result (Grows (λ q k. (target instr.now ≡ Some q) × (k ≡ height)) heights.old.items heights.new.items work.old.items work.new.items) (λ _. Unit {0}) }
@@ -102,7 +121,13 @@ fn pass_to_target(heights: &mut Vec<Option<u32>>, work: &mut Vec<u32>, instr: &I
 }
 
 /// Passes the height of a place on to the places that may come next.
-fn pass_on(heights: &mut Vec<Option<u32>>, work: &mut Vec<u32>, code: &ActorCode, bodies: &[u32], place: u32) -> Passed
+fn pass_on(
+    heights: &mut Vec<Option<u32>>,
+    work: &mut Vec<u32>,
+    code: &ActorCode,
+    bodies: &[u32],
+    place: u32,
+) -> Passed
     requires alone { AllFitAlone (code_of code.now) }
     requires table { IsTableOf (length code.now.instrs.items) (body_of (code_of code.now)) bodies.now }
     requires small { length code.now.instrs.items ≤ 4294967295 }
@@ -113,12 +138,16 @@ fn pass_on(heights: &mut Vec<Option<u32>>, work: &mut Vec<u32>, code: &ActorCode
     ensures grows { MatchPassed result (Grows (Way (code_of code.now)) heights.old.items heights.new.items work.old.items work.new.items) (λ _. Unit {0}) }
 {
     let instr = code.instrs[place as usize];
-    let Some(height) = heights[place as usize] else { unreachable!() };
+    let Some(height) = heights[place as usize] else {
+        unreachable!()
+    };
     let popped = pops(&instr);
     if popped > height || !leaves_results(code, bodies, place, height, &instr) {
         return Passed::Bad(place);
     }
-    let Some(after) = (height - popped).checked_add(pushes(code, &instr)) else { return Passed::Memory };
+    let Some(after) = (height - popped).checked_add(pushes(code, &instr)) else {
+        return Passed::Memory
+    };
     match pass_to_next(heights, work, &instr, place, after) {
         Passed::Done => pass_to_target(heights, work, &instr, after),
         Passed::Bad(at) => Passed::Bad(at),
@@ -127,7 +156,12 @@ fn pass_on(heights: &mut Vec<Option<u32>>, work: &mut Vec<u32>, code: &ActorCode
 }
 
 /// Passes heights on until no place is left.
-fn pass_all(heights: &mut Vec<Option<u32>>, work: &mut Vec<u32>, code: &ActorCode, bodies: &[u32]) -> Passed
+fn pass_all(
+    heights: &mut Vec<Option<u32>>,
+    work: &mut Vec<u32>,
+    code: &ActorCode,
+    bodies: &[u32],
+) -> Passed
     requires alone { AllFitAlone (code_of code.now) }
     requires table { IsTableOf (length code.now.instrs.items) (body_of (code_of code.now)) bodies.now }
     requires small { length code.now.instrs.items ≤ 4294967295 }
@@ -145,7 +179,11 @@ fn pass_all(heights: &mut Vec<Option<u32>>, work: &mut Vec<u32>, code: &ActorCod
 }
 
 /// Marks the starts of the bodies with 0.
-fn mark_begins(heights: &mut Vec<Option<u32>>, work: &mut Vec<u32>, places: &[u32]) -> Result<(), Memory>
+fn mark_begins(
+    heights: &mut Vec<Option<u32>>,
+    work: &mut Vec<u32>,
+    places: &[u32],
+) -> Result<(), Memory>
     requires none { (q k : ℕ) → ¬ IsMarked heights.old.items q k }
     requires no_work { work.old.items ≡ [] }
     requires inside { (q : ℕ) → is_among q places.now ≡ true → q < length heights.old.items }
@@ -181,7 +219,12 @@ fn greatest(heights: &[Option<u32>]) -> u32
 }
 
 /// Finds the heights on all ways, or where the line of heights is broken. The greatest of them comes back.
-pub(crate) fn find_heights(alloc: Global, code: &ActorCode, places: &[u32], bodies: &[u32]) -> Result<u32, CodeFault>
+pub(crate) fn find_heights(
+    alloc: Global,
+    code: &ActorCode,
+    places: &[u32],
+    bodies: &[u32],
+) -> Result<u32, CodeFault>
     requires places { places.now ≡ begins (code_of code.now) }
     requires stand { PlacesStand (code_of code.now) }
     requires alone { AllFitAlone (code_of code.now) }
@@ -191,9 +234,13 @@ pub(crate) fn find_heights(alloc: Global, code: &ActorCode, places: &[u32], bodi
     ensures bad { IfErr result (IsHeightFault (code_of code.now)) }
 {
     let size = code.instrs.len();
-    let Ok(mut heights) = no_heights(alloc, size) else { return Err(CodeFault::Memory) };
+    let Ok(mut heights) = no_heights(alloc, size) else {
+        return Err(CodeFault::Memory)
+    };
     let mut work = Vec::new(alloc);
-    let Ok(()) = mark_begins(&mut heights, &mut work, places) else { return Err(CodeFault::Memory) };
+    let Ok(()) = mark_begins(&mut heights, &mut work, places) else {
+        return Err(CodeFault::Memory)
+    };
     match pass_all(&mut heights, &mut work, code, bodies) {
         Passed::Done => Ok(greatest(&heights)),
         Passed::Bad(at) => Err(CodeFault::Bad { at }),

@@ -15,7 +15,10 @@ use crate::places::{is_among, routine_at};
 pub(crate) fn goes_on(instr: &Instr) -> bool
     ensures { result ≡ goes_on instr.now }
 {
-    !matches!(instr, Instr::Jump(_) | Instr::Return | Instr::Answer | Instr::Done)
+    !matches!(
+        instr,
+        Instr::Jump(_) | Instr::Return | Instr::Answer | Instr::Done
+    )
 }
 
 /// Where the instruction may jump to.

@@ -45,7 +45,11 @@ pub(crate) fn first_wrong(places: &[u32], size: usize) -> Option<u32>
 }
 
 /// Where the body of each place of the code begins.
-pub(crate) fn bodies(alloc: Global, code: &ActorCode, places: &[u32]) -> Result<Vec<u32>, AllocError>
+pub(crate) fn bodies(
+    alloc: Global,
+    code: &ActorCode,
+    places: &[u32],
+) -> Result<Vec<u32>, AllocError>
     requires { places.now ≡ begins (code_of code.now) }
     ensures { IfOk result (λ v. IsTableOf (length code.now.instrs.items) (body_of (code_of code.now)) v.items) }
 {
@@ -53,7 +57,9 @@ pub(crate) fn bodies(alloc: Global, code: &ActorCode, places: &[u32]) -> Result<
     let mut bodies = Vec::new(alloc);
     let mut body = 0;
     for p in 0..size {
-        let Ok(place) = u32::try_from(p) else { return Err(AllocError) };
+        let Ok(place) = u32::try_from(p) else {
+            return Err(AllocError)
+        };
         if is_among(place, places) {
             body = place;
         }

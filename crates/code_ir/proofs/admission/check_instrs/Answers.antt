@@ -4,5 +4,5 @@ pub returns-in-Ok-find_heights-clause-admitted : goal.returns-in-Ok-find_heights
 returns-in-Ok-find_heights-clause-admitted c =
     record {
       places = c.requires.stand;
-      typed = λ p i g. record { alone = c.in-None.ensures p i g; height = c.in-Ok-find_heights.ensures.ok.0 p i g }
+      typed = λ p i g. record { alone = c.in-None.ensures p i g; height = c.in-Ok-find_heights.ensures.ok.0 p i g };
     }

@@ -1,4 +1,4 @@
-use Rattle.std.proofs.Common.{rules, ◌≡◌, ◌<◌, length, arith, get_or}
+use Rattle.std.proofs.Common.{◌<◌, length, arith, get_or}
 use Rattle.code_ir.proofs.Marks.{among-at, begins-more, begun-more}
 use Rattle.code_ir.proofs.heights.mark_begins.Goals as goal
 
@@ -13,5 +13,5 @@ loop-place-preserved c =
     let inside : c.loop-place.place-index < length c.args.places.now = omega arith in
     record {
       grows = begins-more c.args.places.now c.loop-place.work.items c.mark.new.work.items c.args.heights.now.items c.loop-place.heights.items c.mark.new.heights.items c.loop-place.place-index inside c.loop-place.invariant.grows c.in-Done.ensures.grows;
-      begun = begun-more c.args.places.now c.loop-place.heights.items c.mark.new.heights.items c.loop-place.place-index inside c.loop-place.invariant.begun c.in-Done.ensures.grows.keeps c.in-Done.ensures.marked
+      begun = begun-more c.args.places.now c.loop-place.heights.items c.mark.new.heights.items c.loop-place.place-index inside c.loop-place.invariant.begun c.in-Done.ensures.grows.keeps c.in-Done.ensures.marked;
     }

@@ -6,5 +6,5 @@ use Rattle.code_ir.proofs.heights.mark_begins.Given as goal
 abbrev pub invariant-loop-place : goal.invariant-loop-place
 invariant-loop-place l = record {
   grows : Grows (λ q k. (k ≡ 0) × (is_among q l.places ≡ true)) l.initial.heights.items l.heights.items [] l.work.items;
-  begun : (q : ℕ) → is_among q (take l.place-index l.places) ≡ true → IsMarked l.heights.items q 0
+  begun : (q : ℕ) → is_among q (take l.place-index l.places) ≡ true → IsMarked l.heights.items q 0;
 }

@@ -1,6 +1,6 @@
-use Rattle.std.proofs.Common.{rules, ◌≡◌, ◌++◌, ◌∷◌, [], true, subst}
-use Rattle.code_ir.specs.Code.{code_of, is_among}
-use Rattle.code_ir.specs.Heights.{Marking, IsMarked}
+use Rattle.std.proofs.Common.{◌≡◌, ◌++◌, ◌∷◌, [], subst}
+use Rattle.code_ir.specs.Code.{code_of}
+use Rattle.code_ir.specs.Heights.{Marking}
 use Rattle.code_ir.proofs.Marks.{among-last, marking-next}
 use Rattle.code_ir.proofs.heights.pass_all.Goals as goal
 
@@ -13,4 +13,4 @@ pub loop-place-preserved : goal.loop-place-preserved
 loop-place-preserved c =
     let e : c.loop-place.work.items ≡ c.pop.new.self.items ++ c.in-Some.place ∷ [] = c.in-Some.ensures.items in
     marking-next (code_of c.args.code.now) c.loop-place.heights.items c.pass_on.new.heights.items c.pop.new.self.items c.pass_on.new.work.items c.in-Some.place
-      (subst (Marking (code_of c.args.code.now) c.loop-place.heights.items) e c.loop-place.invariant) c.in-Done.ensures.grows c.in-Done.ensures.passed
+    (subst (Marking (code_of c.args.code.now) c.loop-place.heights.items) e c.loop-place.invariant) c.in-Done.ensures.grows c.in-Done.ensures.passed

@@ -1,10 +1,9 @@
-use Rattle.std.proofs.Common.{rules, ◌≡◌, ◌+◌, ◌-◌, ◌<◌, ◌≤◌, length, refl, sym, ap, subst, ◌∙◌, arith, true, false}
-use Rattle.std.specs.Prelude.{slice_get, Some, None}
+use Rattle.std.proofs.Common.{rules, ◌≡◌, ◌+◌, ◌-◌, ◌≤◌, arith}
+use Rattle.std.specs.Prelude.{slice_get, Some}
 use Rattle.std.proofs.lemmas.Bool.Decides.{when_true, when_false}
 use Rattle.code_ir.specs.Code.{code_of}
-use Rattle.code_ir.specs.Heights.{IsMarked, IsEnough, Grows, Differs, IsBadHeight, IsPassedOn}
-use Rattle.code_ir.specs.Marked.{MatchPassed}
-use Rattle.code_ir.specs.Typing.{pops, pushes, goes_on, target, LeavesResults}
+use Rattle.code_ir.specs.Heights.{IsMarked, IsEnough}
+use Rattle.code_ir.specs.Typing.{pops, pushes, LeavesResults}
 use Rattle.code_ir.proofs.Marks.{read-at, read-marked, marked-inside, next-inside, target-inside, passed-grows, passed-all, bad-next, bad-enough, bad-results}
 use Rattle.code_ir.proofs.heights.pass_on.Goals as goal
 use Rattle.code_ir.proofs.heights.pass_on.Goals.{then-popped-height-via-then-popped-height, then-popped-height-via-else-popped-height+then-not-leaves_results}
@@ -17,8 +16,8 @@ returns-then-popped-height-clause-passed c =
     let marked : IsMarked c.args.heights.now.items c.args.place c.in-Some.height = read-marked _ c.args.place c.in-Some.height c.index-2.result.now inside.0 c.index-2.ensures c.in-Some.is in
     let way = c.requires.sound c.args.place c.in-Some.height marked in
     elim c.then-popped-height.branch [
-      then-popped-height-via-then-popped-height w ↦ bad-enough code c.args.place c.in-Some.height c.index.result.now g way (λ h. omega (arith, c.pops-popped.ensures, w.if-popped-height.true, h))
-    | then-popped-height-via-else-popped-height+then-not-leaves_results w ↦ bad-results code c.args.place c.in-Some.height c.index.result.now g way (when_false (LeavesResults code c.args.place c.in-Some.height c.index.result.now) _ (search rules) w.leaves_results.ensures)
+      | then-popped-height-via-then-popped-height w ↦ bad-enough code c.args.place c.in-Some.height c.index.result.now g way (λ h. omega (arith, c.pops-popped.ensures, w.if-popped-height.true, h))
+      | then-popped-height-via-else-popped-height+then-not-leaves_results w ↦ bad-results code c.args.place c.in-Some.height c.index.result.now g way (when_false (LeavesResults code c.args.place c.in-Some.height c.index.result.now) _ (search rules) w.leaves_results.ensures)
     ]
 
 pub pass_to_next-requires-clause-inside : goal.pass_to_next-requires-clause-inside

@@ -1,4 +1,4 @@
-use Rattle.std.proofs.Common.{rules, ◌≡◌, ◌≤◌, ◌<◌, ℕ, length, false, true, arith}
+use Rattle.std.proofs.Common.{rules, arith}
 use Rattle.code_ir.specs.Code.{code_of}
 use Rattle.code_ir.proofs.Tables.{unfit-here, fit-more, fit-all}
 use Rattle.code_ir.proofs.lines.first_unfit.Goals as goal

@@ -1,4 +1,4 @@
-use Rattle.std.proofs.Common.{◌≡◌, ◌-◌, vec_len}
+use Rattle.std.proofs.Common.{◌≡◌, ◌-◌}
 use Rattle.code_ir.specs.Code.{body_of, code_of}
 use Rattle.code_ir.specs.Tables.{IsTableOf}
 use Rattle.code_ir.proofs.places.bodies.Given as goal

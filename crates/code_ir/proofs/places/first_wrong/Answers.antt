@@ -1,4 +1,4 @@
-use Rattle.std.proofs.Common.{rules, ◌<◌, length, take, arith}
+use Rattle.std.proofs.Common.{rules, ◌<◌, length, arith}
 use Rattle.code_ir.proofs.Lists.{take-at}
 use Rattle.code_ir.proofs.Tables.{distinct-more}
 use Rattle.code_ir.proofs.places.first_wrong.Goals as goal

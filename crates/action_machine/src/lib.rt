@@ -1,0 +1,4 @@
+//! The machine that runs admitted code.
+#![tactic(auto)]
+
+mod arithmetic;
