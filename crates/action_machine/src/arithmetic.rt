@@ -1,7 +1,7 @@
 //! Arithmetic on numbers of the language.
 
-ghost use Rattle.std.specs.Prelude.{◌≡◌};
-ghost use Rattle.rvc_base.specs.Arithmetic.{Gives, sum, difference, product, opposite, quotient, rest, left_shift, right_shift, bits_of_both, bits_of_either, bits_of_one, other_bits, truth};
+ghost use Rattle.std.specs.Prelude.{◌≡◌, not};
+ghost use Rattle.rvc_base.specs.Arithmetic.{Gives, sum, difference, product, opposite, quotient, rest, left_shift, right_shift, bits_of_both, bits_of_either, bits_of_one, other_bits, truth, is_equal, is_below, is_true};
 ghost use Rattle.action_machine.specs.Computing.{computed_of};
 
 use rvc_base::{MAX_SHIFT, Num, Trap};
@@ -101,10 +101,84 @@ pub(crate) fn right_shift(a: Num, b: Num) -> Result<Num, Trap>
     Ok(a >> b)
 }
 
-/// A truth value as a number.
+/// The bits of both, in two's complement.
 #[inline]
-pub(crate) fn truth(b: bool) -> Num
-    ensures { result ≡ truth b }
+pub(crate) fn both_bits(a: Num, b: Num) -> Result<Num, Trap>
+    ensures { computed_of result ≡ Gives (bits_of_both a b) }
 {
-    if b { 1 } else { 0 }
+    Ok(a & b)
+}
+
+/// The bits of either.
+#[inline]
+pub(crate) fn either_bits(a: Num, b: Num) -> Result<Num, Trap>
+    ensures { computed_of result ≡ Gives (bits_of_either a b) }
+{
+    Ok(a | b)
+}
+
+/// The bits of one alone.
+#[inline]
+pub(crate) fn one_bits(a: Num, b: Num) -> Result<Num, Trap>
+    ensures { computed_of result ≡ Gives (bits_of_one a b) }
+{
+    Ok(a ^ b)
+}
+
+/// The other bits.
+#[inline]
+pub(crate) fn other_bits(a: Num) -> Result<Num, Trap>
+    ensures { computed_of result ≡ Gives (other_bits a) }
+{
+    Ok(!a)
+}
+
+/// The other truth value.
+#[inline]
+pub(crate) fn opposite_truth(a: Num) -> Result<Num, Trap>
+    ensures { computed_of result ≡ Gives (truth (not (is_true a))) }
+{
+    if a == 0 { Ok(1) } else { Ok(0) }
+}
+
+#[inline]
+pub(crate) fn equal(a: Num, b: Num) -> Result<Num, Trap>
+    ensures { computed_of result ≡ Gives (truth (is_equal a b)) }
+{
+    if a == b { Ok(1) } else { Ok(0) }
+}
+
+#[inline]
+pub(crate) fn unequal(a: Num, b: Num) -> Result<Num, Trap>
+    ensures { computed_of result ≡ Gives (truth (not (is_equal a b))) }
+{
+    if a == b { Ok(0) } else { Ok(1) }
+}
+
+#[inline]
+pub(crate) fn less(a: Num, b: Num) -> Result<Num, Trap>
+    ensures { computed_of result ≡ Gives (truth (is_below a b)) }
+{
+    if a < b { Ok(1) } else { Ok(0) }
+}
+
+#[inline]
+pub(crate) fn at_most(a: Num, b: Num) -> Result<Num, Trap>
+    ensures { computed_of result ≡ Gives (truth (not (is_below b a))) }
+{
+    if b < a { Ok(0) } else { Ok(1) }
+}
+
+#[inline]
+pub(crate) fn greater(a: Num, b: Num) -> Result<Num, Trap>
+    ensures { computed_of result ≡ Gives (truth (is_below b a)) }
+{
+    if b < a { Ok(1) } else { Ok(0) }
+}
+
+#[inline]
+pub(crate) fn at_least(a: Num, b: Num) -> Result<Num, Trap>
+    ensures { computed_of result ≡ Gives (truth (not (is_below a b))) }
+{
+    if a < b { Ok(0) } else { Ok(1) }
 }

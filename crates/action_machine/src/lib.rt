@@ -2,3 +2,5 @@
 #![tactic(auto)]
 
 mod arithmetic;
+mod operators;
+mod stack;
