@@ -1,3 +1,4 @@
 pub mod Computing
 pub mod Stacks
 pub mod Acting
+pub mod Kept

@@ -2,5 +2,8 @@
 #![tactic(auto)]
 
 mod arithmetic;
+mod cells;
 mod operators;
 mod stack;
+
+pub use cells::Cells;
