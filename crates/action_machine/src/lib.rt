@@ -2,8 +2,10 @@
 #![tactic(auto)]
 
 mod arithmetic;
-mod cells;
+mod kept;
+mod making;
 mod operators;
 mod stack;
 
-pub use cells::Cells;
+pub use kept::Cells;
+pub use making::cells;
