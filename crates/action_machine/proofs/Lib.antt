@@ -2,3 +2,4 @@ pub mod Tops
 pub mod Arms
 pub mod Shifts
 pub mod Zeros
+pub mod Offsets

@@ -2,3 +2,4 @@ pub mod Computing
 pub mod Stacks
 pub mod Acting
 pub mod Kept
+pub mod Offset

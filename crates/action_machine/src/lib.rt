@@ -3,7 +3,9 @@
 
 mod arithmetic;
 mod kept;
+mod loads;
 mod making;
+mod offset;
 mod operators;
 mod stack;
 
