@@ -2,4 +2,3 @@ pub mod Tops
 pub mod Arms
 pub mod Shifts
 pub mod Zeros
-pub mod Offsets
