@@ -4,8 +4,9 @@ use Rattle.std.proofs.Common.{to_z, of_z, w64, SFits}
 use Rattle.std.proofs.lemmas.Int.{to_z-of_z}
 use Rattle.std.specs.declared.result.Result.{Result}
 use Rattle.rvc_base.specs.declared.trap.Trap.{Trap}
+use Rattle.rvc_base.specs.declared.trap.Trap.TheVariants.{IndexRange}
 use Rattle.rvc_base.specs.Arithmetic.{Computed}
-use Rattle.code_ir.specs.Effect.{Effect, with_cells, pop, push_computed, on_top, on_two}
+use Rattle.code_ir.specs.Effect.{Effect, Fails, with_offset, with_cells, pop, push_computed, on_top, on_two}
 use Rattle.std.proofs.lemmas.Bool.Decides.{nat_tests}
 use Rattle.action_machine.specs.Computing.{computed_of}
 use Rattle.action_machine.specs.declared.stack.Acted.{Acted}
@@ -29,3 +30,9 @@ cells-there cells c n e f inside same = rw (le-test (c + n) (length cells) insid
 
 pub popped : (all rest : List ℤ) (v : ℤ) (next : ℤ → List ℤ → Effect) (f : Effect) → all ≡ v ∷ rest → next v rest ≡ f → pop all next ≡ f
 popped all rest v next f e g = rw e g
+
+pub offset-none : (o : ℤ) (m n : ℕ) (next : ℕ → Effect) → SFits w64 o → ((g : ℕ → Effect) → with_offset (to_z w64 (of_z w64 o)) m n g ≡ Fails IndexRange) → with_offset o m n next ≡ Fails IndexRange
+offset-none o m n next fits h = subst (λ x. with_offset x m n next ≡ Fails IndexRange) (to_z-of_z w64 o fits) (h next)
+
+pub offset-some : (o : ℤ) (m n k : ℕ) (next : ℕ → Effect) → SFits w64 o → ((g : ℕ → Effect) → with_offset (to_z w64 (of_z w64 o)) m n g ≡ g k) → with_offset o m n next ≡ next k
+offset-some o m n k next fits h = subst (λ x. with_offset x m n next ≡ next k) (to_z-of_z w64 o fits) (h next)

@@ -2,6 +2,7 @@
 #![tactic(auto)]
 
 mod arithmetic;
+mod indexed;
 mod kept;
 mod loads;
 mod making;
