@@ -1,5 +1,5 @@
 -- What the arms of the machine come to.
-use Rattle.std.proofs.Common.{◌≡◌, ℕ, ◌+◌, ◌≤◌, leb, true, length, arith, refl, sym, ap, ◌∙◌, subst, ℤ, List, [], ◌∷◌}
+use Rattle.std.proofs.Common.{◌≡◌, ℕ, ◌+◌, ◌≤◌, leb, true, length, arith, sym, ap, ◌∙◌, subst, ℤ, List, ◌∷◌}
 use Rattle.std.proofs.Common.{to_z, of_z, w64, SFits}
 use Rattle.std.proofs.lemmas.Int.{to_z-of_z}
 use Rattle.std.specs.declared.result.Result.{Result}

@@ -1,5 +1,5 @@
 -- A shift to the left by fewer than the greatest count.
-use Rattle.std.proofs.Common.{◌≡◌, ℕ, ◌+◌, ◌*◌, ◌%◌, ◌^◌, ◌<◌, ◌≤◌, refl, sym, ap, ◌∙◌, subst, ℤ, pos, negsuc, ◌*ℤ◌, Bool, true, false, ltb, leb, arith, to_z, of_z, w64, SFits}
+use Rattle.std.proofs.Common.{◌≡◌, ℕ, ◌*◌, ◌%◌, ◌^◌, ◌<◌, ap, ◌∙◌, subst, ℤ, pos, negsuc, ◌*ℤ◌, true, false, ltb, leb, arith, to_z, of_z, w64, SFits}
 use Rattle.std.specs.Prelude.{int_lt}
 use Rattle.std.proofs.lemmas.Int.{to_z-of_z, to_z_pos}
 use Rattle.std.proofs.lemmas.Nat.{one_shl, pow_below}

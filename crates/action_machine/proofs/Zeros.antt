@@ -1,5 +1,5 @@
 -- Lists of zeros that grow.
-use Rattle.std.proofs.Common.{◌≡◌, ℕ, zero, suc, ◌+◌, ◌*◌, ◌<◌, ◌≤◌, refl, sym, ap, ◌∙◌, ℤ, pos, List, [], ◌∷◌, ◌++◌, length, arith, length-append}
+use Rattle.std.proofs.Common.{◌≡◌, ℕ, zero, suc, ◌+◌, ◌<◌, refl, ℤ, pos, List, [], ◌∷◌, ◌++◌, length, arith, length-append}
 use Rattle.std.specs.Prelude.{Some, slice_get}
 use Rattle.action_machine.specs.Kept.{AreZeros}
 
@@ -12,5 +12,5 @@ zero-at (x ∷ xs) (suc p) h less = zero-at xs p (λ k l. h (suc k) (omega (arit
 pub zeros-more : (n : ℕ) (xs : List ℤ) → AreZeros n xs → AreZeros (n + 1) (xs ++ pos 0 ∷ [])
 zeros-more n xs are = record {
   size = omega (arith, length-append xs (pos 0 ∷ []), are.size);
-  zero = λ k h. zero-at xs k (λ j l. are.zero j (omega (arith, l, are.size))) (omega (arith, h, are.size))
+  zero = λ k h. zero-at xs k (λ j l. are.zero j (omega (arith, l, are.size))) (omega (arith, h, are.size));
 }

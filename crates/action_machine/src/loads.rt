@@ -34,7 +34,13 @@ pub(crate) fn load(c: u32, top: &mut usize, stack: &mut [Num], cells: &[Num]) ->
 
 /// Pops a number into cell `c`.
 #[inline]
-pub(crate) fn store(c: u32, t: Option<Scalar>, top: &mut usize, stack: &[Num], cells: &mut [Num]) -> Acted
+pub(crate) fn store(
+    c: u32,
+    t: Option<Scalar>,
+    top: &mut usize,
+    stack: &[Num],
+    cells: &mut [Num],
+) -> Acted
     requires some { 0 < top.old }
     requires below { top.old ≤ length stack.now }
     requires inside { c + 1 ≤ length cells.old }

@@ -40,10 +40,24 @@ pub fn cells(alloc: Global, code: &Admitted) -> Result<Cells, Memory>
     ensures made { IfOk result (IsMadeFor code.now) }
 {
     let routines = code.routines().len();
-    let Some(bodies) = routines.checked_add(1) else { return Err(Memory) };
-    let Some(room) = (code.most_operands() as usize).checked_mul(bodies) else { return Err(Memory) };
-    let Ok(numbers) = zeros(alloc, code.cells() as usize) else { return Err(Memory) };
-    let Ok(stack) = zeros(alloc, room) else { return Err(Memory) };
-    let Ok(frames) = no_calls(alloc, routines) else { return Err(Memory) };
-    Ok(Cells { numbers, stack, frames })
+    let Some(bodies) = routines.checked_add(1) else {
+        return Err(Memory)
+    };
+    let Some(room) = (code.most_operands() as usize).checked_mul(bodies) else {
+        return Err(Memory)
+    };
+    let Ok(numbers) = zeros(alloc, code.cells() as usize) else {
+        return Err(Memory)
+    };
+    let Ok(stack) = zeros(alloc, room) else {
+        return Err(Memory)
+    };
+    let Ok(frames) = no_calls(alloc, routines) else {
+        return Err(Memory)
+    };
+    Ok(Cells {
+        numbers,
+        stack,
+        frames,
+    })
 }

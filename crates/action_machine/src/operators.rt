@@ -6,7 +6,11 @@ ghost use Rattle.code_ir.specs.Effect.{on_top, on_two};
 ghost use Rattle.action_machine.specs.Stacks.{top_first};
 ghost use Rattle.action_machine.specs.Acting.{effect_of};
 
-use crate::arithmetic::{at_least, at_most, both_bits, difference, either_bits, equal, greater, left_shift, less, one_bits, opposite, opposite_truth, other_bits, product, quotient, rest, right_shift, sum, unequal};
+use crate::arithmetic::{
+    at_least, at_most, both_bits, difference, either_bits, equal, greater, left_shift, less,
+    one_bits, opposite, opposite_truth, other_bits, product, quotient, rest, right_shift, sum,
+    unequal,
+};
 use crate::stack::{Acted, pop, push_result};
 use rvc_base::Num;
 

@@ -1,4 +1,4 @@
-use Rattle.std.proofs.Common.{rules, ◌≡◌, ◌∷◌, ◌+◌, ℕ, pos, w64, SFits, ◌∙◌}
+use Rattle.std.proofs.Common.{rules, ◌∷◌, ◌+◌, ℕ, pos, w64, SFits, ◌∙◌}
 use Rattle.code_ir.specs.Effect.{Effect, Leaves, cell, with_cells}
 use Rattle.action_machine.specs.Stacks.{top_first}
 use Rattle.action_machine.proofs.Arms.{popped, offset-none, offset-some}

@@ -1,4 +1,3 @@
-use Rattle.std.proofs.Common.{rules}
 use Rattle.action_machine.proofs.Zeros.{zeros-more}
 use Rattle.action_machine.proofs.making.zeros.Goals as goal
 

@@ -1,5 +1,5 @@
-use Rattle.std.proofs.Common.{rules, SFits, w64, ◌≡◌, ◌∷◌, ◌∙◌, ap, not}
-use Rattle.rvc_base.specs.Arithmetic.{Gives, opposite, other_bits, truth, is_true}
+use Rattle.std.proofs.Common.{rules, SFits, w64}
+use Rattle.rvc_base.specs.Arithmetic.{Gives, other_bits}
 use Rattle.action_machine.proofs.Arms.{one}
 use Rattle.action_machine.proofs.operators.invert.Goals as goal
 

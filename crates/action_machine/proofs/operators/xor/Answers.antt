@@ -1,5 +1,5 @@
-use Rattle.std.proofs.Common.{rules, SFits, w64, ◌≡◌, ◌∷◌, ◌∙◌, ap, not}
-use Rattle.rvc_base.specs.Arithmetic.{Gives, sum, difference, product, opposite, quotient, rest, left_shift, right_shift, bits_of_both, bits_of_either, bits_of_one, other_bits, truth, is_equal, is_below, is_true}
+use Rattle.std.proofs.Common.{rules, SFits, w64, ◌∷◌, ◌∙◌, ap}
+use Rattle.rvc_base.specs.Arithmetic.{Gives, bits_of_one}
 use Rattle.action_machine.proofs.Arms.{two}
 use Rattle.action_machine.proofs.operators.xor.Goals as goal
 
