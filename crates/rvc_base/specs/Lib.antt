@@ -7,3 +7,5 @@ pub mod Picks
 pub mod Shares
 pub mod Chain
 pub mod Line
+pub mod Arithmetic
+pub mod Turns

@@ -9,6 +9,7 @@ mod refusal;
 mod round_kind;
 mod scalar;
 mod trap;
+mod turns;
 mod width;
 
 pub use ids::{ActId, InstId, LinkId};
@@ -17,4 +18,5 @@ pub use refusal::{Front, Place, Refusal, Rule};
 pub use round_kind::RoundKind;
 pub use scalar::{Scalar, conv};
 pub use trap::Trap;
+pub use turns::MAX_TURNS;
 pub use width::{MAX_SHIFT, MAX_SIZE, MAX_TOKEN_BYTES, Num};

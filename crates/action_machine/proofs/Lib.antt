@@ -1,0 +1,4 @@
+pub mod Tops
+pub mod Arms
+pub mod Shifts
+pub mod Zeros

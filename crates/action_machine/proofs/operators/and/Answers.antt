@@ -1,0 +1,10 @@
+use Rattle.std.proofs.Common.{rules, SFits, w64, ◌∷◌, ◌∙◌, ap}
+use Rattle.rvc_base.specs.Arithmetic.{Gives, bits_of_both}
+use Rattle.action_machine.proofs.Arms.{two}
+use Rattle.action_machine.proofs.operators.and.Goals as goal
+
+pub returns : goal.returns
+returns c =
+    let fa : SFits w64 c.pop-a.result = search rules in
+    let fb : SFits w64 c.pop-b.result = search rules in
+    two (λ a b. Gives (bits_of_both a b)) c.pop-a.result c.pop-b.result c.both_bits.result c.push_result.result _ _ _ fa fb (c.pop-b.ensures.operands ∙ ap (λ s. c.pop-b.result ∷ s) c.pop-a.ensures.operands) c.both_bits.ensures c.push_result.ensures

@@ -1,0 +1,5 @@
+pub mod Computing
+pub mod Stacks
+pub mod Acting
+pub mod Kept
+pub mod Offset

@@ -1,0 +1,184 @@
+//! Arithmetic on numbers of the language.
+
+ghost use Rattle.std.specs.Prelude.{◌≡◌, not};
+ghost use Rattle.rvc_base.specs.Arithmetic.{Gives, sum, difference, product, opposite, quotient, rest, left_shift, right_shift, bits_of_both, bits_of_either, bits_of_one, other_bits, truth, is_equal, is_below, is_true};
+ghost use Rattle.action_machine.specs.Computing.{computed_of};
+
+use rvc_base::{MAX_SHIFT, Num, Trap};
+
+#[inline]
+pub(crate) fn sum(a: Num, b: Num) -> Result<Num, Trap>
+    ensures { computed_of result ≡ sum a b }
+{
+    match a.checked_add(b) {
+        Some(v) => Ok(v),
+        None => Err(Trap::Overflow),
+    }
+}
+
+#[inline]
+pub(crate) fn difference(a: Num, b: Num) -> Result<Num, Trap>
+    ensures { computed_of result ≡ difference a b }
+{
+    match a.checked_sub(b) {
+        Some(v) => Ok(v),
+        None => Err(Trap::Overflow),
+    }
+}
+
+#[inline]
+pub(crate) fn product(a: Num, b: Num) -> Result<Num, Trap>
+    ensures { computed_of result ≡ product a b }
+{
+    match a.checked_mul(b) {
+        Some(v) => Ok(v),
+        None => Err(Trap::Overflow),
+    }
+}
+
+#[inline]
+pub(crate) fn opposite(a: Num) -> Result<Num, Trap>
+    ensures { computed_of result ≡ opposite a }
+{
+    match a.checked_neg() {
+        Some(v) => Ok(v),
+        None => Err(Trap::Overflow),
+    }
+}
+
+/// Rounds towards 0.
+#[inline]
+pub(crate) fn quotient(a: Num, b: Num) -> Result<Num, Trap>
+    ensures { computed_of result ≡ quotient a b }
+{
+    if b == 0 {
+        return Err(Trap::DivideByZero);
+    }
+    match a.checked_div(b) {
+        Some(v) => Ok(v),
+        None => Err(Trap::Overflow),
+    }
+}
+
+/// What the quotient leaves.
+#[inline]
+pub(crate) fn rest(a: Num, b: Num) -> Result<Num, Trap>
+    ensures { computed_of result ≡ rest a b }
+{
+    if b == 0 {
+        return Err(Trap::DivideByZero);
+    }
+    if b == -1 {
+        return Ok(0);
+    }
+    Ok(a % b)
+}
+
+#[inline]
+pub(crate) fn left_shift(a: Num, b: Num) -> Result<Num, Trap>
+    ensures { computed_of result ≡ left_shift a b }
+{
+    if b < 0 || b > Num::from(MAX_SHIFT) {
+        return Err(Trap::ShiftRange);
+    }
+    if b < Num::from(MAX_SHIFT) {
+        return product(a, 1 << b);
+    }
+    match opposite(a) {
+        Ok(n) => product(n, Num::MIN),
+        Err(trap) => Err(trap),
+    }
+}
+
+/// Rounds towards the lower number.
+#[inline]
+pub(crate) fn right_shift(a: Num, b: Num) -> Result<Num, Trap>
+    ensures { computed_of result ≡ right_shift a b }
+{
+    if b < 0 || b > Num::from(MAX_SHIFT) {
+        return Err(Trap::ShiftRange);
+    }
+    Ok(a >> b)
+}
+
+/// The bits of both, in two's complement.
+#[inline]
+pub(crate) fn both_bits(a: Num, b: Num) -> Result<Num, Trap>
+    ensures { computed_of result ≡ Gives (bits_of_both a b) }
+{
+    Ok(a & b)
+}
+
+/// The bits of either.
+#[inline]
+pub(crate) fn either_bits(a: Num, b: Num) -> Result<Num, Trap>
+    ensures { computed_of result ≡ Gives (bits_of_either a b) }
+{
+    Ok(a | b)
+}
+
+/// The bits of one alone.
+#[inline]
+pub(crate) fn one_bits(a: Num, b: Num) -> Result<Num, Trap>
+    ensures { computed_of result ≡ Gives (bits_of_one a b) }
+{
+    Ok(a ^ b)
+}
+
+/// The other bits.
+#[inline]
+pub(crate) fn other_bits(a: Num) -> Result<Num, Trap>
+    ensures { computed_of result ≡ Gives (other_bits a) }
+{
+    Ok(!a)
+}
+
+/// The other truth value.
+#[inline]
+pub(crate) fn opposite_truth(a: Num) -> Result<Num, Trap>
+    ensures { computed_of result ≡ Gives (truth (not (is_true a))) }
+{
+    if a == 0 { Ok(1) } else { Ok(0) }
+}
+
+#[inline]
+pub(crate) fn equal(a: Num, b: Num) -> Result<Num, Trap>
+    ensures { computed_of result ≡ Gives (truth (is_equal a b)) }
+{
+    if a == b { Ok(1) } else { Ok(0) }
+}
+
+#[inline]
+pub(crate) fn unequal(a: Num, b: Num) -> Result<Num, Trap>
+    ensures { computed_of result ≡ Gives (truth (not (is_equal a b))) }
+{
+    if a == b { Ok(0) } else { Ok(1) }
+}
+
+#[inline]
+pub(crate) fn less(a: Num, b: Num) -> Result<Num, Trap>
+    ensures { computed_of result ≡ Gives (truth (is_below a b)) }
+{
+    if a < b { Ok(1) } else { Ok(0) }
+}
+
+#[inline]
+pub(crate) fn at_most(a: Num, b: Num) -> Result<Num, Trap>
+    ensures { computed_of result ≡ Gives (truth (not (is_below b a))) }
+{
+    if b < a { Ok(0) } else { Ok(1) }
+}
+
+#[inline]
+pub(crate) fn greater(a: Num, b: Num) -> Result<Num, Trap>
+    ensures { computed_of result ≡ Gives (truth (is_below b a)) }
+{
+    if b < a { Ok(1) } else { Ok(0) }
+}
+
+#[inline]
+pub(crate) fn at_least(a: Num, b: Num) -> Result<Num, Trap>
+    ensures { computed_of result ≡ Gives (truth (not (is_below a b))) }
+{
+    if a < b { Ok(0) } else { Ok(1) }
+}

@@ -1,0 +1,45 @@
+//! The cells of running code, with the room that its runs need.
+
+ghost use Rattle.std.specs.Prelude.{◌≡◌, ◌<◌, length, slice_get, slice_set, Some};
+
+use rvc_base::Num;
+use std::marker::Model;
+
+/// The cells of code. They hold a number each, and keep the room that a run needs, so that it takes no memory.
+#[derive(Drop)]
+pub struct Cells {
+    pub(crate) numbers: Vec<Num>,
+    pub(crate) stack: Vec<Num>,
+    pub(crate) frames: Vec<u32>,
+}
+
+impl Model for Cells {
+    ghost use Rattle.std.specs.Prelude.{length};
+    ghost use Rattle.action_machine.specs.Kept.{Kept};
+
+    ghost Value = { Kept };
+
+    ghost view = { λ a. record { numbers = a.numbers.items; operands = length a.stack.items; calls = length a.frames.items } };
+}
+
+impl Cells {
+    /// The number in cell `c`.
+    #[inline]
+    pub fn get(&self, c: u32) -> Num
+        requires { c < length self.now.numbers }
+        ensures { slice_get self.now.numbers c ≡ Some result }
+    {
+        self.numbers[c as usize]
+    }
+
+    /// Puts a number in cell `c`.
+    #[inline]
+    pub fn set(&mut self, c: u32, v: Num)
+        requires { c < length self.old.numbers }
+        ensures number { self.new.numbers ≡ slice_set self.old.numbers c v }
+        ensures operands { self.new.operands ≡ self.old.operands }
+        ensures calls { self.new.calls ≡ self.old.calls }
+    {
+        self.numbers[c as usize] = v;
+    }
+}

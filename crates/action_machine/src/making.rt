@@ -1,0 +1,63 @@
+//! Cells for code.
+
+ghost use Rattle.std.specs.Prelude.{◌≡◌, IfOk, length};
+ghost use Rattle.action_machine.specs.Kept.{AreZeros, IsMadeFor};
+
+use crate::kept::Cells;
+use code_ir::Admitted;
+use rvc_base::{Memory, Num};
+use std::alloc::{AllocError, Global};
+
+/// So many zeros.
+fn zeros(alloc: Global, n: usize) -> Result<Vec<Num>, AllocError>
+    ensures { IfOk result (λ v. AreZeros n v.items) }
+{
+    let mut zeros = Vec::new(alloc);
+    for _k in 0..n {
+        zeros.push(0)?;
+    }
+    Ok(zeros)
+}
+
+/// Room for so many open calls.
+fn no_calls(alloc: Global, n: usize) -> Result<Vec<u32>, AllocError>
+    ensures { IfOk result (λ v. length v.items ≡ n) }
+{
+    let mut frames = Vec::new(alloc);
+    for _k in 0..n {
+        frames.push(0)?;
+    }
+    Ok(frames)
+}
+
+/// Cells for this code, each of which holds 0.
+///
+/// # Errors
+///
+/// `Memory` where an allocation was refused.
+pub fn cells(alloc: Global, code: &Admitted) -> Result<Cells, Memory>
+    ensures zeros { IfOk result (λ cells. AreZeros code.now.cells cells.numbers) }
+    ensures made { IfOk result (IsMadeFor code.now) }
+{
+    let routines = code.routines().len();
+    let Some(bodies) = routines.checked_add(1) else {
+        return Err(Memory)
+    };
+    let Some(room) = (code.most_operands() as usize).checked_mul(bodies) else {
+        return Err(Memory)
+    };
+    let Ok(numbers) = zeros(alloc, code.cells() as usize) else {
+        return Err(Memory)
+    };
+    let Ok(stack) = zeros(alloc, room) else {
+        return Err(Memory)
+    };
+    let Ok(frames) = no_calls(alloc, routines) else {
+        return Err(Memory)
+    };
+    Ok(Cells {
+        numbers,
+        stack,
+        frames,
+    })
+}

@@ -1,0 +1,75 @@
+-- Arithmetic on numbers of the language: the value, or the trap that comes in its place.
+use Rattle.std.specs.Prelude.{ℕ, ℤ, pos, negsuc, ◌+ℤ◌, ◌-ℤ◌, ◌*ℤ◌, neg_ℤ, int_div, int_rem, int_lt, unsigned_abs, ◌^◌, Bool, true, false, not, if◌then◌else◌, ◌==◌, nat_le}
+use Rattle.std.specs.Int.{int_bit_and, int_bit_or, int_bit_xor, int_bit_not, int_shr}
+use Rattle.std.specs.Ordering.{int_eq}
+use Rattle.rvc_base.specs.declared.trap.Trap.{Trap}
+use Rattle.rvc_base.specs.declared.trap.Trap.TheVariants.{Overflow, DivideByZero, ShiftRange}
+use Rattle.rvc_base.specs.Width.{num_width, is_num, max_shift}
+
+-- what an operation gives
+pub data Computed : Type 0 where
+  Gives : ℤ → Computed
+  Traps : Trap → Computed
+
+-- a whole number, where it is a number of the language
+abbrev pub whole : ℤ → Computed
+whole z = if is_num z then Gives z else Traps Overflow
+
+abbrev pub sum : ℤ → ℤ → Computed
+sum a b = whole (a +ℤ b)
+
+abbrev pub difference : ℤ → ℤ → Computed
+difference a b = whole (a -ℤ b)
+
+abbrev pub product : ℤ → ℤ → Computed
+product a b = whole (a *ℤ b)
+
+abbrev pub opposite : ℤ → Computed
+opposite a = whole (neg_ℤ a)
+
+-- rounded towards zero
+abbrev pub quotient : ℤ → ℤ → Computed
+quotient a b = if unsigned_abs b == 0 then Traps DivideByZero else whole (int_div a b)
+
+-- what that quotient leaves
+abbrev pub rest : ℤ → ℤ → Computed
+rest a b = if unsigned_abs b == 0 then Traps DivideByZero else Gives (int_rem a b)
+
+-- an operation by a count of a shift, which is neither below 0 nor above the greatest count
+abbrev pub by_count : ℤ → (ℕ → Computed) → Computed
+by_count (pos n) f = if nat_le n max_shift then f n else Traps ShiftRange
+by_count (negsuc n) f = Traps ShiftRange
+
+abbrev pub left_shift : ℤ → ℤ → Computed
+left_shift a b = by_count b (λ n. whole (a *ℤ pos (2 ^ n)))
+
+-- rounded towards the lower number
+abbrev pub right_shift : ℤ → ℤ → Computed
+right_shift a b = by_count b (λ n. Gives (int_shr a n))
+
+-- bit by bit, in two's complement
+abbrev pub bits_of_both : ℤ → ℤ → ℤ
+bits_of_both a b = int_bit_and num_width a b
+
+abbrev pub bits_of_either : ℤ → ℤ → ℤ
+bits_of_either a b = int_bit_or num_width a b
+
+abbrev pub bits_of_one : ℤ → ℤ → ℤ
+bits_of_one a b = int_bit_xor num_width a b
+
+abbrev pub other_bits : ℤ → ℤ
+other_bits a = int_bit_not num_width a
+
+-- a truth value as a number
+abbrev pub truth : Bool → ℤ
+truth b = if b then pos 1 else pos 0
+
+abbrev pub is_equal : ℤ → ℤ → Bool
+is_equal a b = int_eq a b
+
+abbrev pub is_below : ℤ → ℤ → Bool
+is_below a b = int_lt a b
+
+-- a number other than 0 stands for true
+abbrev pub is_true : ℤ → Bool
+is_true a = not (unsigned_abs a == 0)
