@@ -61,11 +61,11 @@ after-burst : (f : Form) (input : List ℕ) (rounds arrived out arrived_then fir
     → map pos (taken ++ rest) ≡ drop fired (take arrived (toks input)) → SendAll f.sum taken sent → fired + length taken ≤ fired_then + 512
     → After f input lines rounds arrived fired out arrived_then fired_then rest sent (length taken)
 after-burst f input rounds arrived out arrived_then fired_then [] rest [] lines fired so_far there sends few = record {
-    so_far = subst (λ ls. SoFar f input ls rounds arrived (fired + 0) out arrived_then fired_then) (sym (append-nil lines))
-        (subst (λ n. SoFar f input lines rounds arrived n out arrived_then fired_then) (let e : fired ≡ fired + 0 = omega arith in e) so_far);
-    inbox_is = there ∙ ap (λ n. drop n (take arrived (toks input))) (let e : fired ≡ fired + 0 = omega arith in e);
-    bytes_are = ap (λ n. all_encoded byte_type (results f.sum (toks input) n)) (let e : fired + 0 ≡ fired = omega arith in e) ∙ sym (append-nil _)
-  }
+  so_far = subst (λ ls. SoFar f input ls rounds arrived (fired + 0) out arrived_then fired_then) (sym (append-nil lines))
+      (subst (λ n. SoFar f input lines rounds arrived n out arrived_then fired_then) (let e : fired ≡ fired + 0 = omega arith in e) so_far);
+  inbox_is = there ∙ ap (λ n. drop n (take arrived (toks input))) (let e : fired ≡ fired + 0 = omega arith in e);
+  bytes_are = ap (λ n. all_encoded byte_type (results f.sum (toks input) n)) (let e : fired + 0 ≡ fired = omega arith in e) ∙ sym (append-nil _);
+}
 after-burst f input rounds arrived out arrived_then fired_then [] rest (w ∷ ws) lines fired so_far there sends few = absurd sends
 after-burst f input rounds arrived out arrived_then fired_then (v ∷ vs) rest [] lines fired so_far there sends few = absurd sends
 after-burst f input rounds arrived out arrived_then fired_then (v ∷ vs) rest (w ∷ ws) lines fired so_far there sends few =
@@ -76,7 +76,7 @@ after-burst f input rounds arrived out arrived_then fired_then (v ∷ vs) rest (
     let next : drop fired (toks input) ≡ pos v ∷ (map pos (vs ++ rest) ++ drop arrived (toks input)) = next-of (toks input) fired arrived (pos v) (map pos (vs ++ rest)) first behind within in
     let before : fired < arrived = before-of (toks input) fired arrived (pos v) (map pos (vs ++ rest)) first within in
     let one : SoFar f input (lines ++ Fire 0 0 ∷ []) rounds arrived (fired + 1) out arrived_then fired_then =
-        so_far-fire f input lines rounds arrived fired out arrived_then fired_then so_far (pos v) w (map pos (vs ++ rest)) (map pos (vs ++ rest) ++ drop arrived (toks input)) first next before (omega arith) sends.0 in
+    so_far-fire f input lines rounds arrived fired out arrived_then fired_then so_far (pos v) w (map pos (vs ++ rest)) (map pos (vs ++ rest) ++ drop arrived (toks input)) first next before (omega arith) sends.0 in
     let there_after : map pos (vs ++ rest) ≡ drop (fired + 1) (take arrived (toks input)) = ap (drop 1) there ∙ drop-drop 1 fired (take arrived (toks input)) in
     let tail = after-burst f input rounds arrived out arrived_then fired_then vs rest ws (lines ++ Fire 0 0 ∷ []) (fired + 1) one there_after sends.1 (omega arith) in
     let sum : fired + 1 + length vs ≡ fired + suc (length vs) = omega arith in
@@ -86,7 +86,7 @@ after-burst f input rounds arrived out arrived_then fired_then (v ∷ vs) rest (
       inbox_is = tail.inbox_is ∙ ap (λ n. drop n (take arrived (toks input))) sum;
       bytes_are = ap (λ n. all_encoded byte_type (results f.sum (toks input) n)) (sym sum) ∙ tail.bytes_are
           ∙ ap (λ xs. xs ++ all_encoded byte_type ws) (results-bytes f.sum (toks input) fired (pos v) w _ next sends.0)
-          ∙ append_assoc (all_encoded byte_type (results f.sum (toks input) fired)) (encoded byte_type w) (all_encoded byte_type ws)
+          ∙ append_assoc (all_encoded byte_type (results f.sum (toks input) fired)) (encoded byte_type w) (all_encoded byte_type ws);
     }
 
 -- the text of a burst behind that of other lines
@@ -101,7 +101,7 @@ module _ (f : Form) (b : Binary) (sum_is : f.sum ≡ b) (input trace_base output
       → After f input ready.going.lines rounds ready.going.arrived firings ready.going.out ready.going.arrived_then ready.going.fired_then rest sent (length taken)
   after-of taken rest sent inbox_is sends few =
       after-burst f input rounds ready.going.arrived ready.going.out ready.going.arrived_then ready.going.fired_then taken rest sent ready.going.lines firings ready.going.so_far
-        (ap (map pos) (sym inbox_is) ∙ ready.going.inbox_is) (subst (λ s. SendAll s taken sent) (sym sum_is) sends) (omega (arith, ready.opened))
+      (ap (map pos) (sym inbox_is) ∙ ready.going.inbox_is) (subst (λ s. SendAll s taken sent) (sym sum_is) sends) (omega (arith, ready.opened))
 
   -- the burst was made
   pub burst-going : (n : ℕ) (inbox_new : List ℕ) (outbox_new : List ℤ) (tells_new : Bool) (held_new : ℕ → List ℕ) (trace_pending_new : List ℕ)
@@ -130,7 +130,7 @@ module _ (f : Form) (b : Binary) (sum_is : f.sum ≡ b) (input trace_base output
             ∙ ap (λ xs. ready.going.gone ++ xs) (flat_map-append (encoded byte_type) outbox bursts.sent)
             ∙ sym (append_assoc ready.going.gone (all_encoded byte_type outbox) (all_encoded byte_type bursts.sent))
             ∙ ap (λ xs. xs ++ all_encoded byte_type bursts.sent) ready.going.sent_is
-            ∙ sym after.bytes_are ∙ ap (λ k. all_encoded byte_type (results f.sum (toks input) (firings + k))) count
+            ∙ sym after.bytes_are ∙ ap (λ k. all_encoded byte_type (results f.sum (toks input) (firings + k))) count;
       }
 
   -- a line of it couldn't be written
@@ -140,11 +140,11 @@ module _ (f : Form) (b : Binary) (sum_is : f.sum ≡ b) (input trace_base output
   burst-cut counts limit held_new few same broken =
       let after = after-of broken.taken broken.rest broken.sent broken.inbox_is broken.sends (omega (arith, broken.few)) in
       broken-off f input (ready.going.lines ++ fire_lines (length broken.taken)) rounds ready.going.arrived (firings + length broken.taken) ready.going.out ready.going.arrived_then ready.going.fired_then after.so_far
-        counts 1 trace_base (held_new 1) output_base (held_new 2)
-        (subst (HoldsFront trace_base (held_new 1)) (sym (burst-text ready.going.lines (length broken.taken)))
-          (breaks-then trace_base [] (held 1) trace_pending (held_new 1) (flat_map line_text ready.going.lines) ready.going.trace_is (flat_map line_text (fire_lines (length broken.taken))) broken.front))
-        (subst (HoldsFront output_base (held_new 2)) (sym after.bytes_are)
-          (front-longer output_base (held_new 2) (all_encoded byte_type (results f.sum (toks input) firings)) (all_encoded byte_type broken.sent)
-            (subst (λ h. HoldsFront output_base h (all_encoded byte_type (results f.sum (toks input) firings))) (sym same)
-              (subst (HoldsFront output_base (held 2)) ready.going.sent_is
-                (front-longer output_base (held 2) ready.going.gone (all_encoded byte_type outbox) (front-of output_base (held 2) output_pending ready.going.gone ready.going.output_is))))))
+      counts 1 trace_base (held_new 1) output_base (held_new 2)
+      (subst (HoldsFront trace_base (held_new 1)) (sym (burst-text ready.going.lines (length broken.taken)))
+      (breaks-then trace_base [] (held 1) trace_pending (held_new 1) (flat_map line_text ready.going.lines) ready.going.trace_is (flat_map line_text (fire_lines (length broken.taken))) broken.front))
+      (subst (HoldsFront output_base (held_new 2)) (sym after.bytes_are)
+      (front-longer output_base (held_new 2) (all_encoded byte_type (results f.sum (toks input) firings)) (all_encoded byte_type broken.sent)
+      (subst (λ h. HoldsFront output_base h (all_encoded byte_type (results f.sum (toks input) firings))) (sym same)
+      (subst (HoldsFront output_base (held 2)) ready.going.sent_is
+      (front-longer output_base (held 2) ready.going.gone (all_encoded byte_type outbox) (front-of output_base (held 2) output_pending ready.going.gone ready.going.output_is))))))

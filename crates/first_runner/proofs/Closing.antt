@@ -25,20 +25,20 @@ pub broken-of : (f : Form) (input : List ℕ) (lines : List Line) (last : Rattle
     → HoldsFront trace_base trace_held trace → HoldsFront output_base output_held output
     → Leaves f input (end.WriteFault channel) counts trace_base trace_held output_base output_held
 broken-of f input lines last trace output written counts channel trace_base trace_held output_base output_held trace_front output_front = record {
-    trace = trace_front.put;
-    output = output_front.put;
-    trace_is = trace_front.new_is;
-    output_is = output_front.new_is;
-    ends = record {
-      lines = lines;
-      last = last;
-      whole_trace = trace;
-      whole_output = output;
-      written = written;
-      trace_front = record { rest = trace_front.left; is = trace_front.text_is };
-      output_front = record { rest = output_front.left; is = output_front.text_is }
-    }
-  }
+  trace = trace_front.put;
+  output = output_front.put;
+  trace_is = trace_front.new_is;
+  output_is = output_front.new_is;
+  ends = record {
+    lines = lines;
+    last = last;
+    whole_trace = trace;
+    whole_output = output;
+    written = written;
+    trace_front = record { rest = trace_front.left; is = trace_front.text_is };
+    output_front = record { rest = output_front.left; is = output_front.text_is };
+  };
+}
 
 module _ (f : Form) (input trace_base output_base : List ℕ) (left : Option (List ℕ)) (outbox : List ℤ) (at_end : Bool) (firings rounds : ℕ) (tells : Bool) (held : ℕ → List ℕ) (trace_pending output_pending : List ℕ) where
   -- everything that went out is written
@@ -51,10 +51,10 @@ module _ (f : Form) (input trace_base output_base : List ℕ) (left : Option (Li
   closing-quiet inbox ready empty =
       let e = ended-quiet f input ready.going.lines rounds ready.going.arrived firings ready.going.out ready.going.arrived_then ready.going.fired_then ready.going.so_far (ready.all_taken empty) ready.all_out in
       let arrived : ready.going.arrived ≡ firings + length inbox =
-          let none : length inbox ≡ 0 = ap length empty in
-          omega (arith, ready.all_taken empty, ready.going.so_far.within, ready.going.so_far.fired_behind) in
+      let none : length inbox ≡ 0 = ap length empty in
+      omega (arith, ready.all_taken empty, ready.going.so_far.within, ready.going.so_far.fired_behind) in
       subst (λ o. Ended f input Quiet (numbers firings rounds (length inbox)) (flat_map line_text (ready.going.lines ++ Quiet ∷ [])) o) (sym (gone-is inbox ready))
-        (subst (λ n. Ended f input Quiet (record { firings = firings; rounds = rounds; arrived = n; sent = firings }) (flat_map line_text (ready.going.lines ++ Quiet ∷ [])) (all_encoded byte_type (results f.sum (toks input) firings))) arrived e)
+      (subst (λ n. Ended f input Quiet (record { firings = firings; rounds = rounds; arrived = n; sent = firings }) (flat_map line_text (ready.going.lines ++ Quiet ∷ [])) (all_encoded byte_type (results f.sum (toks input) firings))) arrived e)
 
   pub closing-budget : (b : ℕ) (bs : List ℕ) (ready : Delivered f input trace_base output_base left (b ∷ bs) outbox at_end firings rounds tells held trace_pending output_pending)
       → Ended f input Budget (numbers firings rounds (length (b ∷ bs))) (flat_map line_text (ready.going.lines ++ Budget ∷ [])) ready.going.gone
@@ -64,11 +64,11 @@ module _ (f : Form) (input trace_base output_base : List ℕ) (left : Option (Li
       let next = next-of (toks input) firings ready.going.arrived (pos b) (map pos bs) (sym ready.going.inbox_is) behind within in
       let e = ended-budget f input ready.going.lines rounds ready.going.arrived firings ready.going.out ready.going.arrived_then ready.going.fired_then ready.going.so_far (pos b) (map pos bs ++ drop ready.going.arrived (toks input)) next ready.all_out in
       let len : length (b ∷ bs) ≡ ready.going.arrived - firings =
-          sym (Rattle.std.proofs.lemmas.List.length-map (b ∷ bs) pos) ∙ ap length ready.going.inbox_is ∙ Rattle.std.proofs.Common.length-drop firings (take ready.going.arrived (toks input))
-          ∙ ap (λ n. n - firings) (Rattle.std.proofs.lemmas.List.length-take-le ready.going.arrived (toks input) within) in
+      sym (Rattle.std.proofs.lemmas.List.length-map (b ∷ bs) pos) ∙ ap length ready.going.inbox_is ∙ Rattle.std.proofs.Common.length-drop firings (take ready.going.arrived (toks input))
+      ∙ ap (λ n. n - firings) (Rattle.std.proofs.lemmas.List.length-take-le ready.going.arrived (toks input) within) in
       let arrived : ready.going.arrived ≡ firings + length (b ∷ bs) = omega arith in
       subst (λ o. Ended f input Budget (numbers firings rounds (length (b ∷ bs))) (flat_map line_text (ready.going.lines ++ Budget ∷ [])) o) (sym (gone-is (b ∷ bs) ready))
-        (subst (λ n. Ended f input Budget (record { firings = firings; rounds = rounds; arrived = n; sent = firings }) (flat_map line_text (ready.going.lines ++ Budget ∷ [])) (all_encoded byte_type (results f.sum (toks input) firings))) arrived e)
+      (subst (λ n. Ended f input Budget (record { firings = firings; rounds = rounds; arrived = n; sent = firings }) (flat_map line_text (ready.going.lines ++ Budget ∷ [])) (all_encoded byte_type (results f.sum (toks input) firings))) arrived e)
 
   -- the end's line was written
   pub closing-comes : (how : RunEnd) (inbox : List ℕ) (held_new : ℕ → List ℕ) (trace_pending_new : List ℕ) → EndFits how inbox
@@ -76,22 +76,22 @@ module _ (f : Form) (input trace_base output_base : List ℕ) (left : Option (Li
       → held_new 2 ≡ held 2 → Writes (held 1) trace_pending (held_new 1) trace_pending_new (end_text how)
       → Comes f input how (numbers firings rounds (length inbox)) trace_base (held_new 1) trace_pending_new output_base (held_new 2) output_pending
   closing-comes end.Quiet inbox held_new trace_pending_new empty ready same noted = record {
-      trace = flat_map line_text (ready.going.lines ++ Quiet ∷ []);
-      output = ready.going.gone;
-      trace_is = subst (Writes trace_base [] (held_new 1) trace_pending_new) (sym (text-more ready.going.lines Quiet))
-          (writes-then trace_base [] (held 1) trace_pending (held_new 1) (flat_map line_text ready.going.lines) ready.going.trace_is trace_pending_new (line_text Quiet) noted);
-      output_is = subst (λ h. Writes output_base [] h output_pending ready.going.gone) (sym same) ready.going.output_is;
-      ends = closing-quiet inbox ready empty
-    }
+    trace = flat_map line_text (ready.going.lines ++ Quiet ∷ []);
+    output = ready.going.gone;
+    trace_is = subst (Writes trace_base [] (held_new 1) trace_pending_new) (sym (text-more ready.going.lines Quiet))
+        (writes-then trace_base [] (held 1) trace_pending (held_new 1) (flat_map line_text ready.going.lines) ready.going.trace_is trace_pending_new (line_text Quiet) noted);
+    output_is = subst (λ h. Writes output_base [] h output_pending ready.going.gone) (sym same) ready.going.output_is;
+    ends = closing-quiet inbox ready empty;
+  }
   closing-comes end.Budget [] held_new trace_pending_new some ready same noted = absurd (omega (arith, some))
   closing-comes end.Budget (b ∷ bs) held_new trace_pending_new some ready same noted = record {
-      trace = flat_map line_text (ready.going.lines ++ Budget ∷ []);
-      output = ready.going.gone;
-      trace_is = subst (Writes trace_base [] (held_new 1) trace_pending_new) (sym (text-more ready.going.lines Budget))
-          (writes-then trace_base [] (held 1) trace_pending (held_new 1) (flat_map line_text ready.going.lines) ready.going.trace_is trace_pending_new (line_text Budget) noted);
-      output_is = subst (λ h. Writes output_base [] h output_pending ready.going.gone) (sym same) ready.going.output_is;
-      ends = closing-budget b bs ready
-    }
+    trace = flat_map line_text (ready.going.lines ++ Budget ∷ []);
+    output = ready.going.gone;
+    trace_is = subst (Writes trace_base [] (held_new 1) trace_pending_new) (sym (text-more ready.going.lines Budget))
+        (writes-then trace_base [] (held 1) trace_pending (held_new 1) (flat_map line_text ready.going.lines) ready.going.trace_is trace_pending_new (line_text Budget) noted);
+    output_is = subst (λ h. Writes output_base [] h output_pending ready.going.gone) (sym same) ready.going.output_is;
+    ends = closing-budget b bs ready;
+  }
   closing-comes (end.ReadFault feed) inbox held_new trace_pending_new never ready same noted = absurd never
   closing-comes (end.WriteFault channel) inbox held_new trace_pending_new never ready same noted = absurd never
 
@@ -103,14 +103,14 @@ module _ (f : Form) (input trace_base output_base : List ℕ) (left : Option (Li
   closing-cut end.Quiet inbox held_new counts empty ready same front =
       let e = closing-quiet inbox ready empty in
       broken-of f input (e.moves ++ Quiet ∷ []) e.last _ _ e.written counts 1 trace_base (held_new 1) output_base (held_new 2)
-        (subst (HoldsFront trace_base (held_new 1)) (sym (text-more ready.going.lines Quiet)) (breaks-then trace_base [] (held 1) trace_pending (held_new 1) (flat_map line_text ready.going.lines) ready.going.trace_is (line_text Quiet) front))
-        (subst (λ h. HoldsFront output_base h ready.going.gone) (sym same) (front-of output_base (held 2) output_pending ready.going.gone ready.going.output_is))
+      (subst (HoldsFront trace_base (held_new 1)) (sym (text-more ready.going.lines Quiet)) (breaks-then trace_base [] (held 1) trace_pending (held_new 1) (flat_map line_text ready.going.lines) ready.going.trace_is (line_text Quiet) front))
+      (subst (λ h. HoldsFront output_base h ready.going.gone) (sym same) (front-of output_base (held 2) output_pending ready.going.gone ready.going.output_is))
   closing-cut end.Budget [] held_new counts some ready same front = absurd (omega (arith, some))
   closing-cut end.Budget (b ∷ bs) held_new counts some ready same front =
       let e = closing-budget b bs ready in
       broken-of f input (e.moves ++ Budget ∷ []) e.last _ _ e.written counts 1 trace_base (held_new 1) output_base (held_new 2)
-        (subst (HoldsFront trace_base (held_new 1)) (sym (text-more ready.going.lines Budget)) (breaks-then trace_base [] (held 1) trace_pending (held_new 1) (flat_map line_text ready.going.lines) ready.going.trace_is (line_text Budget) front))
-        (subst (λ h. HoldsFront output_base h ready.going.gone) (sym same) (front-of output_base (held 2) output_pending ready.going.gone ready.going.output_is))
+      (subst (HoldsFront trace_base (held_new 1)) (sym (text-more ready.going.lines Budget)) (breaks-then trace_base [] (held 1) trace_pending (held_new 1) (flat_map line_text ready.going.lines) ready.going.trace_is (line_text Budget) front))
+      (subst (λ h. HoldsFront output_base h ready.going.gone) (sym same) (front-of output_base (held 2) output_pending ready.going.gone ready.going.output_is))
   closing-cut (end.ReadFault feed) inbox held_new counts never ready same front = absurd never
   closing-cut (end.WriteFault channel) inbox held_new counts never ready same front = absurd never
 
@@ -120,11 +120,11 @@ flushed base held held_new pending text w e = e ∙ ap (λ xs. xs ++ pending) w.
 
 flush-front : (base held held_new pending text : List ℕ) → Writes base [] held pending text → HoldsFront held held_new pending → HoldsFront base held_new text
 flush-front base held held_new pending text w front = record {
-    put = w.put ++ front.put;
-    left = front.left;
-    new_is = front.new_is ∙ ap (λ xs. xs ++ front.put) w.new_is ∙ append_assoc base w.put front.put;
-    text_is = w.text_is ∙ ap (λ xs. w.put ++ xs) front.text_is ∙ sym (append_assoc w.put front.put front.left)
-  }
+  put = w.put ++ front.put;
+  left = front.left;
+  new_is = front.new_is ∙ ap (λ xs. xs ++ front.put) w.new_is ∙ append_assoc base w.put front.put;
+  text_is = w.text_is ∙ ap (λ xs. w.put ++ xs) front.text_is ∙ sym (append_assoc w.put front.put front.left);
+}
 
 -- what was put whole is a front of it
 whole-front : (base held text : List ℕ) → held ≡ base ++ text → HoldsFront base held text
@@ -134,12 +134,12 @@ whole-front base held text e = record { put = text; left = []; new_is = e; text_
 pub finishing-leaves : (f : Form) (input : List ℕ) (how : RunEnd) (counts : Counts) (tb th tp ob oh op th_new oh_new : List ℕ)
     → Pends f input how counts tb th tp ob oh op → oh_new ≡ oh ++ op → th_new ≡ th ++ tp → Leaves f input how counts tb th_new ob oh_new
 finishing-leaves f input how counts tb th tp ob oh op th_new oh_new pends output_put trace_put = record {
-    trace = pends.trace;
-    output = pends.output;
-    trace_is = flushed tb th th_new tp pends.trace pends.trace_is trace_put;
-    output_is = flushed ob oh oh_new op pends.output pends.output_is output_put;
-    ends = pends.ends
-  }
+  trace = pends.trace;
+  output = pends.output;
+  trace_is = flushed tb th th_new tp pends.trace pends.trace_is trace_put;
+  output_is = flushed ob oh oh_new op pends.output pends.output_is output_put;
+  ends = pends.ends;
+}
 
 -- what is put of an end where a write fails
 pub finishing-broken : (f : Form) (input : List ℕ) (how : RunEnd) (counts : Counts) (channel : ℕ) (trace output : List ℕ) (tb th ob oh : List ℕ)
@@ -149,22 +149,22 @@ finishing-broken f input end.Budget counts channel trace output tb th ob oh e t 
 finishing-broken f input (end.ReadFault feed) counts channel trace output tb th ob oh e t o = broken-of f input e.moves e.last trace output e.written counts channel tb th ob oh t o
 finishing-broken f input (end.WriteFault other) counts channel trace output tb th ob oh e t o = broken-of f input e.lines e.last e.whole_trace e.whole_output e.written counts channel tb th ob oh (longer tb th trace e.whole_trace e.trace_front t) (longer ob oh output e.whole_output e.output_front o)
   where
-  longer : (base held front text : List ℕ) → Rattle.first_runner.specs.Ran.IsFrontOf front text → HoldsFront base held front → HoldsFront base held text
-  longer base held front text is_front holds = subst (HoldsFront base held) (sym is_front.is) (front-longer base held front is_front.rest holds)
+    longer : (base held front text : List ℕ) → Rattle.first_runner.specs.Ran.IsFrontOf front text → HoldsFront base held front → HoldsFront base held text
+    longer base held front text is_front holds = subst (HoldsFront base held) (sym is_front.is) (front-longer base held front is_front.rest holds)
 
 pub finishing-output_cut : (f : Form) (input : List ℕ) (how : RunEnd) (counts : Counts) (tb th tp ob oh op th_new oh_new : List ℕ)
     → Pends f input how counts tb th tp ob oh op → th_new ≡ th → HoldsFront oh oh_new op → Leaves f input (end.WriteFault 2) counts tb th_new ob oh_new
 finishing-output_cut f input how counts tb th tp ob oh op th_new oh_new pends same front =
     finishing-broken f input how counts 2 pends.trace pends.output tb th_new ob oh_new pends.ends
-      (subst (λ h. HoldsFront tb h pends.trace) (sym same) (front-of tb th tp pends.trace pends.trace_is))
-      (flush-front ob oh oh_new op pends.output pends.output_is front)
+    (subst (λ h. HoldsFront tb h pends.trace) (sym same) (front-of tb th tp pends.trace pends.trace_is))
+    (flush-front ob oh oh_new op pends.output pends.output_is front)
 
 pub finishing-trace_cut : (f : Form) (input : List ℕ) (how : RunEnd) (counts : Counts) (tb th tp ob oh op th_new oh_new : List ℕ)
     → Pends f input how counts tb th tp ob oh op → oh_new ≡ oh ++ op → HoldsFront th th_new tp → Leaves f input (end.WriteFault 1) counts tb th_new ob oh_new
 finishing-trace_cut f input how counts tb th tp ob oh op th_new oh_new pends output_put front =
     finishing-broken f input how counts 1 pends.trace pends.output tb th_new ob oh_new pends.ends
-      (flush-front tb th th_new tp pends.trace pends.trace_is front)
-      (whole-front ob oh_new pends.output (flushed ob oh oh_new op pends.output pends.output_is output_put))
+    (flush-front tb th th_new tp pends.trace pends.trace_is front)
+    (whole-front ob oh_new pends.output (flushed ob oh oh_new op pends.output pends.output_is output_put))
 
 -- what isn't a failed write is still held back
 pub comes-pends : (f : Form) (input : List ℕ) (how : RunEnd) (counts : Counts) (tb th tp ob oh op : List ℕ)

@@ -31,20 +31,20 @@ pub broken-off : (f : Form) (input : List ℕ) (lines : List Line) (rounds arriv
     → HoldsFront trace_base trace_held (flat_map line_text lines) → HoldsFront output_base output_held (all_encoded byte_type (results f.sum (toks input) fired))
     → Leaves f input (end.WriteFault channel) counts trace_base trace_held output_base output_held
 broken-off f input lines rounds arrived fired out arrived_then fired_then so_far counts channel trace_base trace_held output_base output_held trace_front output_front = record {
-    trace = trace_front.put;
-    output = output_front.put;
-    trace_is = trace_front.new_is;
-    output_is = output_front.new_is;
-    ends = record {
-      lines = lines;
-      last = state_at f.sum (toks input) arrived fired out;
-      whole_trace = flat_map line_text lines;
-      whole_output = all_encoded byte_type (results f.sum (toks input) fired);
-      written = written_so_far f input lines rounds arrived fired out arrived_then fired_then so_far;
-      trace_front = record { rest = trace_front.left; is = trace_front.text_is };
-      output_front = record { rest = output_front.left; is = output_front.text_is }
-    }
-  }
+  trace = trace_front.put;
+  output = output_front.put;
+  trace_is = trace_front.new_is;
+  output_is = output_front.new_is;
+  ends = record {
+    lines = lines;
+    last = state_at f.sum (toks input) arrived fired out;
+    whole_trace = flat_map line_text lines;
+    whole_output = all_encoded byte_type (results f.sum (toks input) fired);
+    written = written_so_far f input lines rounds arrived fired out arrived_then fired_then so_far;
+    trace_front = record { rest = trace_front.left; is = trace_front.text_is };
+    output_front = record { rest = output_front.left; is = output_front.text_is };
+  };
+}
 
 -- one line's text behind that of others
 pub text-more : (lines : List Line) (x : Line) → flat_map line_text (lines ++ x ∷ []) ≡ flat_map line_text lines ++ line_text x
@@ -56,8 +56,8 @@ module _ (f : Form) (input trace_base output_base : List ℕ) (left : Option (Li
       → Leaves f input (end.WriteFault 2) counts trace_base (held_new 1) output_base (held_new 2)
   sending-cut counts held_new same front =
       broken-off f input going.lines rounds going.arrived firings going.out going.arrived_then going.fired_then going.so_far counts 2 trace_base (held_new 1) output_base (held_new 2)
-        (subst (λ h. HoldsFront trace_base h (flat_map line_text going.lines)) (sym same) (front-of trace_base (held 1) trace_pending (flat_map line_text going.lines) going.trace_is))
-        (subst (HoldsFront output_base (held_new 2)) going.sent_is (breaks-then output_base [] (held 2) output_pending (held_new 2) going.gone going.output_is (all_encoded byte_type outbox) front))
+      (subst (λ h. HoldsFront trace_base h (flat_map line_text going.lines)) (sym same) (front-of trace_base (held 1) trace_pending (flat_map line_text going.lines) going.trace_is))
+      (subst (HoldsFront output_base (held_new 2)) going.sent_is (breaks-then output_base [] (held 2) output_pending (held_new 2) going.gone going.output_is (all_encoded byte_type outbox) front))
 
   -- once the outbox is written
   module _ (held_new : ℕ → List ℕ) (output_pending_new : List ℕ) (same : held_new 1 ≡ held 1) (sent : Writes (held 2) output_pending (held_new 2) output_pending_new (all_encoded byte_type outbox)) where
@@ -71,27 +71,27 @@ module _ (f : Form) (input trace_base output_base : List ℕ) (left : Option (Li
     -- the feed couldn't be read
     pub filling-cut : (counts : Counts) → Pends f input (end.ReadFault 1) counts trace_base (held_new 1) trace_pending output_base (held_new 2) output_pending_new
     filling-cut counts = record {
-        trace = flat_map line_text going.lines;
-        output = all_encoded byte_type (results f.sum (toks input) firings);
-        trace_is = trace-kept;
-        output_is = output-written;
-        ends = record {
-          moves = going.lines;
-          are_moves = moves_so_far f input going.lines rounds going.arrived firings going.out going.arrived_then going.fired_then going.so_far;
-          last = state_at f.sum (toks input) going.arrived firings going.out;
-          written = written_so_far f input going.lines rounds going.arrived firings going.out going.arrived_then going.fired_then going.so_far
-        }
-      }
+      trace = flat_map line_text going.lines;
+      output = all_encoded byte_type (results f.sum (toks input) firings);
+      trace_is = trace-kept;
+      output_is = output-written;
+      ends = record {
+        moves = going.lines;
+        are_moves = moves_so_far f input going.lines rounds going.arrived firings going.out going.arrived_then going.fired_then going.so_far;
+        last = state_at f.sum (toks input) going.arrived firings going.out;
+        written = written_so_far f input going.lines rounds going.arrived firings going.out going.arrived_then going.fired_then going.so_far;
+      };
+    }
 
     -- the line couldn't be written
     pub noting-cut : (counts : Counts) (held_last : ℕ → List ℕ) → held_last 2 ≡ held_new 2 → HoldsFront (held_new 1) (held_last 1) (trace_pending ++ line_text Deliver)
         → Leaves f input (end.WriteFault 1) counts trace_base (held_last 1) output_base (held_last 2)
     noting-cut counts held_last same_output front =
         broken-off f input (going.lines ++ Deliver ∷ []) (rounds + 1) _ firings firings _ firings
-          (so_far-deliver f input going.lines rounds going.arrived firings going.out going.arrived_then going.fired_then going.so_far)
-          counts 1 trace_base (held_last 1) output_base (held_last 2)
-          (subst (HoldsFront trace_base (held_last 1)) (sym (text-more going.lines Deliver)) (breaks-then trace_base [] (held_new 1) trace_pending (held_last 1) (flat_map line_text going.lines) trace-kept (line_text Deliver) front))
-          (subst (λ h. HoldsFront output_base h (all_encoded byte_type (results f.sum (toks input) firings))) (sym same_output) (front-of output_base (held_new 2) output_pending_new _ output-written))
+        (so_far-deliver f input going.lines rounds going.arrived firings going.out going.arrived_then going.fired_then going.so_far)
+        counts 1 trace_base (held_last 1) output_base (held_last 2)
+        (subst (HoldsFront trace_base (held_last 1)) (sym (text-more going.lines Deliver)) (breaks-then trace_base [] (held_new 1) trace_pending (held_last 1) (flat_map line_text going.lines) trace-kept (line_text Deliver) front))
+        (subst (λ h. HoldsFront output_base h (all_encoded byte_type (results f.sum (toks input) firings))) (sym same_output) (front-of output_base (held_new 2) output_pending_new _ output-written))
 
     -- everything went well
     module _ (inbox_new : List ℕ) (left_new : Option (List ℕ)) (end_new : Bool) (fills : Fills (drop going.arrived input) inbox inbox_new left_new end_new) where
@@ -124,33 +124,33 @@ module _ (f : Form) (input trace_base output_base : List ℕ) (left : Option (Li
           → Writes (held_new 1) trace_pending (held_last 1) trace_pending_new (line_text Deliver)
           → Delivered f input trace_base output_base left_new inbox_new outbox_new end_new firings (rounds + 1) tells_last held_last trace_pending_new output_pending_new
       delivered held_last trace_pending_new tells_last outbox_new telling same_output no_outbox noted = record {
-          going = record {
-            lines = going.lines ++ Deliver ∷ [];
-            arrived = going.arrived + min (512 - (going.arrived - firings)) (length (toks input) - going.arrived);
-            out = firings;
-            arrived_then = going.arrived + min (512 - (going.arrived - firings)) (length (toks input) - going.arrived);
-            fired_then = firings;
-            gone = all_encoded byte_type (results f.sum (toks input) firings);
-            told = telling ∙ going.told;
-            so_far = so_far-deliver f input going.lines rounds going.arrived firings going.out going.arrived_then going.fired_then going.so_far;
-            inbox_is = inbox-is ∙ ap (λ n. drop firings (take n (toks input))) arrived-is;
-            left_is = fills.left_is ∙ ap Some (drop-drop fills.count going.arrived input ∙ ap (λ n. drop n input) arrived-is);
-            end_is = λ e. ap (λ n. drop n input) (sym arrived-is) ∙ sym (drop-drop fills.count going.arrived input) ∙ fills.end_is e;
-            trace_is = subst (Writes trace_base [] (held_last 1) trace_pending_new) (sym (text-more going.lines Deliver))
-                (writes-then trace_base [] (held_new 1) trace_pending (held_last 1) (flat_map line_text going.lines) trace-kept trace_pending_new (line_text Deliver) noted);
-            output_is = subst (λ h. Writes output_base [] h output_pending_new (all_encoded byte_type (results f.sum (toks input) firings))) (sym same_output) output-written;
-            sent_is = ap (λ o. all_encoded byte_type (results f.sum (toks input) firings) ++ all_encoded byte_type o) no_outbox ∙ append-nil (all_encoded byte_type (results f.sum (toks input) firings))
-          };
-          all_out = refl;
-          opened = refl;
-          outbox_is = no_outbox;
-          all_taken = λ empty. taken-all empty
-        }
+        going = record {
+          lines = going.lines ++ Deliver ∷ [];
+          arrived = going.arrived + min (512 - (going.arrived - firings)) (length (toks input) - going.arrived);
+          out = firings;
+          arrived_then = going.arrived + min (512 - (going.arrived - firings)) (length (toks input) - going.arrived);
+          fired_then = firings;
+          gone = all_encoded byte_type (results f.sum (toks input) firings);
+          told = telling ∙ going.told;
+          so_far = so_far-deliver f input going.lines rounds going.arrived firings going.out going.arrived_then going.fired_then going.so_far;
+          inbox_is = inbox-is ∙ ap (λ n. drop firings (take n (toks input))) arrived-is;
+          left_is = fills.left_is ∙ ap Some (drop-drop fills.count going.arrived input ∙ ap (λ n. drop n input) arrived-is);
+          end_is = λ e. ap (λ n. drop n input) (sym arrived-is) ∙ sym (drop-drop fills.count going.arrived input) ∙ fills.end_is e;
+          trace_is = subst (Writes trace_base [] (held_last 1) trace_pending_new) (sym (text-more going.lines Deliver))
+              (writes-then trace_base [] (held_new 1) trace_pending (held_last 1) (flat_map line_text going.lines) trace-kept trace_pending_new (line_text Deliver) noted);
+          output_is = subst (λ h. Writes output_base [] h output_pending_new (all_encoded byte_type (results f.sum (toks input) firings))) (sym same_output) output-written;
+          sent_is = ap (λ o. all_encoded byte_type (results f.sum (toks input) firings) ++ all_encoded byte_type o) no_outbox ∙ append-nil (all_encoded byte_type (results f.sum (toks input) firings));
+        };
+        all_out = refl;
+        opened = refl;
+        outbox_is = no_outbox;
+        all_taken = λ empty. taken-all empty;
+      }
         where
-        taken-all : inbox_new ≡ [] → firings ≡ length (toks input)
-        taken-all empty =
-            let len : length inbox_new ≡ (going.arrived + fills.count) - firings =
-                sym (length-map inbox_new pos) ∙ ap length inbox-is ∙ length-drop firings (take (going.arrived + fills.count) (toks input))
-                ∙ ap (λ n. n - firings) (length-take-le (going.arrived + fills.count) (toks input) (omega (arith, arrived-is, going.so_far.within))) in
-            let none : length inbox_new ≡ 0 = ap length empty in
-            omega (arith, arrived-is, going.so_far.within, going.so_far.fired_behind)
+          taken-all : inbox_new ≡ [] → firings ≡ length (toks input)
+          taken-all empty =
+              let len : length inbox_new ≡ (going.arrived + fills.count) - firings =
+              sym (length-map inbox_new pos) ∙ ap length inbox-is ∙ length-drop firings (take (going.arrived + fills.count) (toks input))
+              ∙ ap (λ n. n - firings) (length-take-le (going.arrived + fills.count) (toks input) (omega (arith, arrived-is, going.so_far.within))) in
+              let none : length inbox_new ≡ 0 = ap length empty in
+              omega (arith, arrived-is, going.so_far.within, going.so_far.fired_behind)

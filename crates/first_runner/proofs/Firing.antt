@@ -27,17 +27,17 @@ pub record IsFiring (b : Binary) (n : ℕ) (inbox_old inbox : List ℕ) (outbox_
 pub firing-starts : (b : Binary) (inbox : List ℕ) (outbox : List ℤ) (in_now out_now : ℕ) (pending : List ℕ) (tells : Bool) (held : ℕ → List ℕ) (open_now : ℕ → Bool) (faults : ℕ) → open_now 1 ≡ true
     → IsFiring b 0 inbox inbox outbox outbox in_now in_now out_now out_now pending pending tells tells held held open_now open_now faults faults
 firing-starts b inbox outbox in_now out_now pending tells held open_now faults opened = record {
-    bursts = record { taken = []; sent = []; count_is = refl; inbox_is = refl; outbox_is = sym (append-nil outbox); sends = tt };
-    inbox_capacity = refl;
-    outbox_capacity = refl;
-    outbox_len = omega arith;
-    open_channel = opened;
-    same_telling = refl;
-    written = λ told. writes-nothing (held 1) pending;
-    same_held = λ told other away. refl;
-    same_open = λ other. refl;
-    faults_stay = omega arith
-  }
+  bursts = record { taken = []; sent = []; count_is = refl; inbox_is = refl; outbox_is = sym (append-nil outbox); sends = tt };
+  inbox_capacity = refl;
+  outbox_capacity = refl;
+  outbox_len = omega arith;
+  open_channel = opened;
+  same_telling = refl;
+  written = λ told. writes-nothing (held 1) pending;
+  same_held = λ told other away. refl;
+  same_open = λ other. refl;
+  faults_stay = omega arith;
+}
 
 send_all-snoc : (b : Binary) (vs : List ℕ) (ws : List ℤ) (v : ℕ) (w : ℤ) → SendAll b vs ws → SendsFor b (pos v) w → SendAll b (vs ++ v ∷ []) (ws ++ w ∷ [])
 send_all-snoc b [] [] v w all one = (one, tt)
@@ -68,36 +68,36 @@ module _ (b : Binary) (n : ℕ) (inbox_old inbox inbox_new : List ℕ) (outbox_o
       → in_new ≡ in_now → out_new ≡ out_now
       → IsFiring b (n + 1) inbox_old inbox_new outbox_old outbox_new in_old in_new out_old out_new pending_old pending_new tells_old tells_new held_old held_new open_old open_new faults_old faults_new
   firing-more pending_new tells_new faults_new written telling elsewhere opened stay in_same out_same = record {
-      bursts = record {
-        taken = so_far.bursts.taken ++ v ∷ [];
-        sent = so_far.bursts.sent ++ one.sent ∷ [];
-        count_is = count_is;
-        inbox_is = taken_is;
-        outbox_is = one.outbox_is ∙ ap (λ xs. xs ++ one.sent ∷ []) so_far.bursts.outbox_is ∙ append_assoc outbox_old so_far.bursts.sent (one.sent ∷ []);
-        sends = sends_all
-      };
-      inbox_capacity = in_same ∙ so_far.inbox_capacity;
-      outbox_capacity = out_same ∙ so_far.outbox_capacity;
-      outbox_len = ap length one.outbox_is ∙ length-append outbox (one.sent ∷ []) ∙ omega (arith, so_far.outbox_len);
-      open_channel = opened 1 ∙ so_far.open_channel;
-      same_telling = telling ∙ so_far.same_telling;
-      written = λ told. subst (Writes (held_old 1) pending_old (held_new 1) pending_new) (sym (fire_text-more n))
-          (writes-then (held_old 1) pending_old (held 1) pending (held_new 1) (flat_map line_text (fire_lines n)) (so_far.written told) pending_new (flat_map line_text (fire_lines 1)) (written (so_far.same_telling ∙ told)));
-      same_held = λ told other away. elsewhere (so_far.same_telling ∙ told) other away ∙ so_far.same_held told other away;
-      same_open = λ other. opened other ∙ so_far.same_open other;
-      faults_stay = omega (arith, so_far.faults_stay)
-    }
+    bursts = record {
+      taken = so_far.bursts.taken ++ v ∷ [];
+      sent = so_far.bursts.sent ++ one.sent ∷ [];
+      count_is = count_is;
+      inbox_is = taken_is;
+      outbox_is = one.outbox_is ∙ ap (λ xs. xs ++ one.sent ∷ []) so_far.bursts.outbox_is ∙ append_assoc outbox_old so_far.bursts.sent (one.sent ∷ []);
+      sends = sends_all;
+    };
+    inbox_capacity = in_same ∙ so_far.inbox_capacity;
+    outbox_capacity = out_same ∙ so_far.outbox_capacity;
+    outbox_len = ap length one.outbox_is ∙ length-append outbox (one.sent ∷ []) ∙ omega (arith, so_far.outbox_len);
+    open_channel = opened 1 ∙ so_far.open_channel;
+    same_telling = telling ∙ so_far.same_telling;
+    written = λ told. subst (Writes (held_old 1) pending_old (held_new 1) pending_new) (sym (fire_text-more n))
+        (writes-then (held_old 1) pending_old (held 1) pending (held_new 1) (flat_map line_text (fire_lines n)) (so_far.written told) pending_new (flat_map line_text (fire_lines 1)) (written (so_far.same_telling ∙ told)));
+    same_held = λ told other away. elsewhere (so_far.same_telling ∙ told) other away ∙ so_far.same_held told other away;
+    same_open = λ other. opened other ∙ so_far.same_open other;
+    faults_stay = omega (arith, so_far.faults_stay);
+  }
 
   pub firing-breaks : (limit : ℕ) → n < limit → (tells ≡ true → HoldsFront (held 1) (held_new 1) (pending ++ flat_map line_text (fire_lines 1)))
       → tells_old ≡ true → BreaksBurst b limit inbox_old (held_old 1) (held_new 1) pending_old
   firing-breaks limit before front told = record {
-      taken = so_far.bursts.taken ++ v ∷ [];
-      rest = inbox_new;
-      sent = so_far.bursts.sent ++ one.sent ∷ [];
-      inbox_is = taken_is;
-      few = omega (arith, count_is);
-      sends = sends_all;
-      front = subst (λ xs. HoldsFront (held_old 1) (held_new 1) (pending_old ++ xs))
-          (sym (fire_text-more n) ∙ ap (λ k. flat_map line_text (fire_lines k)) (sym count_is))
-          (breaks-then (held_old 1) pending_old (held 1) pending (held_new 1) (flat_map line_text (fire_lines n)) (so_far.written told) (flat_map line_text (fire_lines 1)) (front (so_far.same_telling ∙ told)))
-    }
+    taken = so_far.bursts.taken ++ v ∷ [];
+    rest = inbox_new;
+    sent = so_far.bursts.sent ++ one.sent ∷ [];
+    inbox_is = taken_is;
+    few = omega (arith, count_is);
+    sends = sends_all;
+    front = subst (λ xs. HoldsFront (held_old 1) (held_new 1) (pending_old ++ xs))
+        (sym (fire_text-more n) ∙ ap (λ k. flat_map line_text (fire_lines k)) (sym count_is))
+        (breaks-then (held_old 1) pending_old (held 1) pending (held_new 1) (flat_map line_text (fire_lines n)) (so_far.written told) (flat_map line_text (fire_lines 1)) (front (so_far.same_telling ∙ told)));
+  }

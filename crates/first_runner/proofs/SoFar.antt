@@ -20,17 +20,17 @@ use Rattle.first_runner.proofs.Steps.{fire-step, deliver-step, quiet-at, between
 
 pub so_far-start : (f : Form) (input : List ℕ) → SoFar f input [] 0 0 0 0 0 0
 so_far-start f input = record {
-    plays = λ after last h. h;
-    keeps = λ after h. h;
-    moves = λ after h. h;
-    fires = λ after. omega arith;
-    deliveries = λ after. omega arith;
-    out_behind = omega arith;
-    fired_behind = omega arith;
-    within = omega arith;
-    later = omega arith;
-    few = omega arith
-  }
+  plays = λ after last h. h;
+  keeps = λ after h. h;
+  moves = λ after h. h;
+  fires = λ after. omega arith;
+  deliveries = λ after. omega arith;
+  out_behind = omega arith;
+  fired_behind = omega arith;
+  within = omega arith;
+  later = omega arith;
+  few = omega arith;
+}
 
 -- what follows a line, where the line leads to a state
 next-plays : {X : Type 0} (P : State X → Type 0) (o : Option (State X)) (t : State X) → o ≡ Some t → P t → OnNext o P
@@ -61,7 +61,7 @@ module _ (f : Form) (input : List ℕ) (lines : List Line) (rounds arrived fired
         fired_behind = omega (arith, so_far.fired_behind);
         within = omega (arith, so_far.within);
         later = omega arith;
-        few = omega arith
+        few = omega arith;
       }
 
   -- a firing, which takes the next token
@@ -82,17 +82,17 @@ module _ (f : Form) (input : List ℕ) (lines : List Line) (rounds arrived fired
         fired_behind = omega arith;
         within = so_far.within;
         later = omega (arith, so_far.later);
-        few = omega arith
+        few = omega arith;
       }
 
   -- the lines so far without an end, and what belongs to them
   pub written_so_far : Written f input lines (state_at f.sum (toks input) arrived fired out) (flat_map line_text lines) (all_encoded byte_type (results f.sum (toks input) fired))
   written_so_far = record {
-      plays = subst (λ ls. PlaysFrom (network_of f) (start_of (network_of f) (input ∷ [])) ls (state_at f.sum (toks input) arrived fired out)) (append-nil lines) (so_far.plays [] _ refl);
-      keeps = subst (λ ls. KeepsFrom (network_of f) (start_of (network_of f) (input ∷ [])) (start_of (network_of f) (input ∷ [])) ls) (append-nil lines) (so_far.keeps [] fits_now);
-      trace_is = refl;
-      output_is = refl
-    }
+    plays = subst (λ ls. PlaysFrom (network_of f) (start_of (network_of f) (input ∷ [])) ls (state_at f.sum (toks input) arrived fired out)) (append-nil lines) (so_far.plays [] _ refl);
+    keeps = subst (λ ls. KeepsFrom (network_of f) (start_of (network_of f) (input ∷ [])) (start_of (network_of f) (input ∷ [])) ls) (append-nil lines) (so_far.keeps [] fits_now);
+    trace_is = refl;
+    output_is = refl;
+  }
 
   pub moves_so_far : AreMoves lines
   moves_so_far = subst AreMoves (append-nil lines) (so_far.moves [] tt)
@@ -100,41 +100,41 @@ module _ (f : Form) (input : List ℕ) (lines : List Line) (rounds arrived fired
   -- nothing is left
   pub ended-quiet : fired ≡ length (toks input) → out ≡ fired
       → Ended f input Quiet (record { firings = fired; rounds = rounds; arrived = arrived; sent = fired })
-          (flat_map line_text (lines ++ Quiet ∷ [])) (all_encoded byte_type (results f.sum (toks input) fired))
+      (flat_map line_text (lines ++ Quiet ∷ [])) (all_encoded byte_type (results f.sum (toks input) fired))
   ended-quiet all_taken all_out = record {
-      moves = lines;
-      last = state_at f.sum (toks input) arrived fired out;
-      written = record {
-        plays = so_far.plays (Quiet ∷ []) _ ((subst (λ n. Rattle.net_model.specs.Ends.IsQuiet (network_of f) (state_at f.sum (toks input) arrived fired n)) (sym all_out) (quiet-at f (toks input) arrived fired all_taken), refl), refl);
-        keeps = so_far.keeps (Quiet ∷ []) (fits_now, tt, fits_now);
-        trace_is = refl;
-        output_is = refl
-      };
-      counted = record {
-        firings = sym (so_far.fires (Quiet ∷ []) ∙ omega arith);
-        rounds = sym (so_far.deliveries (Quiet ∷ []) ∙ omega arith);
-        arrived = refl;
-        sent = sym (results-length f.sum (toks input) fired (omega (arith, so_far.fired_behind, so_far.within)))
-      }
-    }
+    moves = lines;
+    last = state_at f.sum (toks input) arrived fired out;
+    written = record {
+      plays = so_far.plays (Quiet ∷ []) _ ((subst (λ n. Rattle.net_model.specs.Ends.IsQuiet (network_of f) (state_at f.sum (toks input) arrived fired n)) (sym all_out) (quiet-at f (toks input) arrived fired all_taken), refl), refl);
+      keeps = so_far.keeps (Quiet ∷ []) (fits_now, tt, fits_now);
+      trace_is = refl;
+      output_is = refl;
+    };
+    counted = record {
+      firings = sym (so_far.fires (Quiet ∷ []) ∙ omega arith);
+      rounds = sym (so_far.deliveries (Quiet ∷ []) ∙ omega arith);
+      arrived = refl;
+      sent = sym (results-length f.sum (toks input) fired (omega (arith, so_far.fired_behind, so_far.within)));
+    };
+  }
 
   -- a token is left, and no firing
   pub ended-budget : (v : ℤ) (more : List ℤ) → drop fired (toks input) ≡ v ∷ more → out ≡ fired
       → Ended f input Budget (record { firings = fired; rounds = rounds; arrived = arrived; sent = fired })
-          (flat_map line_text (lines ++ Budget ∷ [])) (all_encoded byte_type (results f.sum (toks input) fired))
+      (flat_map line_text (lines ++ Budget ∷ [])) (all_encoded byte_type (results f.sum (toks input) fired))
   ended-budget v more next all_out = record {
-      moves = lines;
-      last = state_at f.sum (toks input) arrived fired out;
-      written = record {
-        plays = so_far.plays (Budget ∷ []) _ ((subst (λ n. Rattle.net_model.specs.Ends.IsBetween (network_of f) (state_at f.sum (toks input) arrived fired n)) (sym all_out) (between-at f (toks input) arrived fired v more next (omega (arith, so_far.fired_behind, so_far.within))), refl), refl);
-        keeps = so_far.keeps (Budget ∷ []) (fits_now, tt, fits_now);
-        trace_is = refl;
-        output_is = refl
-      };
-      counted = record {
-        firings = sym (so_far.fires (Budget ∷ []) ∙ omega arith);
-        rounds = sym (so_far.deliveries (Budget ∷ []) ∙ omega arith);
-        arrived = refl;
-        sent = sym (results-length f.sum (toks input) fired (omega (arith, so_far.fired_behind, so_far.within)))
-      }
-    }
+    moves = lines;
+    last = state_at f.sum (toks input) arrived fired out;
+    written = record {
+      plays = so_far.plays (Budget ∷ []) _ ((subst (λ n. Rattle.net_model.specs.Ends.IsBetween (network_of f) (state_at f.sum (toks input) arrived fired n)) (sym all_out) (between-at f (toks input) arrived fired v more next (omega (arith, so_far.fired_behind, so_far.within))), refl), refl);
+      keeps = so_far.keeps (Budget ∷ []) (fits_now, tt, fits_now);
+      trace_is = refl;
+      output_is = refl;
+    };
+    counted = record {
+      firings = sym (so_far.fires (Budget ∷ []) ∙ omega arith);
+      rounds = sym (so_far.deliveries (Budget ∷ []) ∙ omega arith);
+      arrived = refl;
+      sent = sym (results-length f.sum (toks input) fired (omega (arith, so_far.fired_behind, so_far.within)));
+    };
+  }

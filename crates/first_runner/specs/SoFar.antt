@@ -36,10 +36,10 @@ output_flow sent out = record { sent = sent; arrived = out; taken = out }
 -- so many tokens have arrived, were taken, and went out of the network
 abbrev pub state_at : Binary → List ℤ → ℕ → ℕ → ℕ → State (Unit {0})
 state_at b ts arrived fired out = record {
-    actors = tt ∷ [];
-    flows = input_flow ts arrived fired ∷ output_flow (results b ts fired) out ∷ [];
-    trapped = false
-  }
+  actors = tt ∷ [];
+  flows = input_flow ts arrived fired ∷ output_flow (results b ts fired) out ∷ [];
+  trapped = false;
+}
 
 -- The lines lead from the start to `state_at`. `arrived_then` and `fired_then` are its numbers after the last delivery.
 -- What is said of all that may follow needs no induction where one line is added.

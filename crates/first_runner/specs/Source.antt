@@ -23,8 +23,8 @@ output_link = record { from = of_actor 0; to = AtNet 0; capacity = default_capac
 
 abbrev pub network_of : Form → Network (Unit {0})
 network_of f = record {
-    leaves = record { path = f.name; class = f.name; behaviour = behaviour f.sum } ∷ [];
-    links = input_link ∷ output_link ∷ [];
-    ins = byte_type ∷ [];
-    outs = byte_type ∷ []
-  }
+  leaves = record { path = f.name; class = f.name; behaviour = behaviour f.sum } ∷ [];
+  links = input_link ∷ output_link ∷ [];
+  ins = byte_type ∷ [];
+  outs = byte_type ∷ [];
+}

@@ -9,17 +9,15 @@ ghost use Rattle.cal_model.specs.Meaning.{IsFirstForm, SendsFor};
 ghost use Rattle.std.specs.VecDeque.{deque_capacity, deque_len};
 ghost use Rattle.first_runner.specs.Burst.{Bursts, BreaksBurst, fire_lines, SendsOne};
 
-use std::collections::VecDeque;
-
+use crate::TRACE_CHANNEL;
+use crate::trace_writer::note;
 use cal_model::ast::Binary;
 use cal_model::sent_for;
 use channel_writer::ChannelWriter;
 use rvc_base::Num;
 use rvc_io::{Drains, Failed};
+use std::collections::VecDeque;
 use trace_text::Line;
-
-use crate::TRACE_CHANNEL;
-use crate::trace_writer::note;
 
 /// Fires the action on the tokens of the inbox in order, at most `limit` times, and says how often.
 ///

@@ -5,11 +5,9 @@ ghost use Rattle.rvc_io.specs.Count.{HasRisen};
 ghost use Rattle.std.specs.VecDeque.{deque_capacity, deque_len};
 ghost use Rattle.first_runner.specs.Filling.{IsBytes, Fills, Takes};
 
-use std::collections::VecDeque;
-
-use rvc_io::{Failed, Feeds};
-
 use crate::{CAPACITY, INPUT_FEED};
+use rvc_io::{Failed, Feeds};
+use std::collections::VecDeque;
 
 /// Fills the inbox from the feed, up to the link's capacity or to the end of input. A token is a byte.
 ///

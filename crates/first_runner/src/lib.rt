@@ -1,8 +1,6 @@
 //! Runs an actor of the first form: rounds of one instance, with what they leave on the channels.
 #![tactic(auto)]
 
-
-
 mod burst;
 mod filling;
 mod outcome;

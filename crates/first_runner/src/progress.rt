@@ -4,10 +4,9 @@ ghost use Rattle.std.specs.Prelude.{◌≤◌};
 ghost use Rattle.std.specs.VecDeque.{deque_capacity, deque_len};
 ghost use Rattle.first_runner.specs.declared.TheConstants.{CAPACITY, BURST};
 
-use std::collections::VecDeque;
-
 use channel_writer::ChannelWriter;
 use rvc_base::Num;
+use std::collections::VecDeque;
 
 /// The queues of a run, what is held back of its trace and of its output, and its numbers.
 #[derive(Drop)]

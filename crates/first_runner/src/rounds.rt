@@ -10,10 +10,6 @@ ghost use Rattle.trace_text.specs.Text.{line_text, IsWhole};
 ghost use Rattle.first_runner.specs.SoFar.{Going, Delivered};
 ghost use Rattle.first_runner.specs.declared.outcome.Counts.{Counts as Numbers};
 
-use cal_model::ast::Binary;
-use rvc_io::{Drains, Feeds};
-use trace_text::Line;
-
 use crate::burst::fire_burst;
 use crate::filling::fill;
 use crate::outcome::{Counts, RunEnd};
@@ -21,6 +17,9 @@ use crate::progress::Progress;
 use crate::sending::send_out;
 use crate::trace_writer::note;
 use crate::{BURST, INPUT_FEED, MAX_BUDGET, OUTPUT_CHANNEL, TRACE_CHANNEL};
+use cal_model::ast::Binary;
+use rvc_io::{Drains, Feeds};
+use trace_text::Line;
 
 /// Everything that was sent goes out, and the input link is filled.
 pub fn deliver<F: Feeds, D: Drains>(
@@ -52,13 +51,17 @@ pub fn deliver<F: Feeds, D: Drains>(
     ensures others { KeepsOthers (D.tells drains.old) (D.tells drains.new) (D.held drains.old) (D.held drains.new) (D.is_open drains.old) (D.is_open drains.new) (D.faults drains.old) (D.faults drains.new) }
 {
     let Ok(()) = send_out(&mut run.outbox, &mut run.output, drains) else {
-        return Err(RunEnd::WriteFault { channel: OUTPUT_CHANNEL });
+        return Err(RunEnd::WriteFault {
+            channel: OUTPUT_CHANNEL,
+        });
     };
     let Ok(()) = fill(feeds, &mut run.inbox, &mut run.at_end) else {
         return Err(RunEnd::ReadFault { feed: INPUT_FEED });
     };
     let Ok(()) = note(&Line::Deliver, &mut run.trace, drains) else {
-        return Err(RunEnd::WriteFault { channel: TRACE_CHANNEL });
+        return Err(RunEnd::WriteFault {
+            channel: TRACE_CHANNEL,
+        });
     };
     run.rounds += 1;
     Ok(())
@@ -99,7 +102,9 @@ pub fn fire<D: Drains>(
         &mut run.trace,
         drains,
     ) else {
-        return Err(RunEnd::WriteFault { channel: TRACE_CHANNEL });
+        return Err(RunEnd::WriteFault {
+            channel: TRACE_CHANNEL,
+        });
     };
     run.firings += count;
     Ok(count)
@@ -120,7 +125,9 @@ fn close<D: Drains>(end: RunEnd, run: &mut Progress, drains: &mut D) -> RunEnd
     ensures others { KeepsOthers (D.tells drains.old) (D.tells drains.new) (D.held drains.old) (D.held drains.new) (D.is_open drains.old) (D.is_open drains.new) (D.faults drains.old) (D.faults drains.new) }
 {
     let Ok(()) = note(&end_line(end), &mut run.trace, drains) else {
-        return RunEnd::WriteFault { channel: TRACE_CHANNEL };
+        return RunEnd::WriteFault {
+            channel: TRACE_CHANNEL,
+        };
     };
     end
 }

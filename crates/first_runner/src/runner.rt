@@ -8,19 +8,17 @@ ghost use Rattle.first_runner.specs.Outside.{KeepsOthers};
 ghost use Rattle.first_runner.specs.Leaves.{Leaves, Comes, numbers};
 ghost use Rattle.first_runner.specs.declared.outcome.Counts.{Counts as Numbers};
 
-use std::alloc::Global;
-use std::collections::VecDeque;
-use std::marker::Model;
-
-use cal_model::ast::Binary;
-use channel_writer::ChannelWriter;
-use rvc_base::{Memory, Num};
-use rvc_io::{Drains, Feeds};
-
 use crate::outcome::{Counts, Outcome, RunEnd};
 use crate::progress::Progress;
 use crate::rounds::make_rounds;
 use crate::{BURST, CAPACITY, INPUT_FEED, MAX_BUDGET, OUTPUT_CHANNEL, TRACE_CHANNEL};
+use cal_model::ast::Binary;
+use channel_writer::ChannelWriter;
+use rvc_base::{Memory, Num};
+use rvc_io::{Drains, Feeds};
+use std::alloc::Global;
+use std::collections::VecDeque;
+use std::marker::Model;
 
 /// An actor that is ready to run, with all the memory that its run takes.
 ///
@@ -67,12 +65,7 @@ impl Runner {
 
     /// Runs the actor on its feed, with at most `budget` firings, and writes its event lines and its
     /// output to their channels.
-    pub fn run<F: Feeds, D: Drains>(
-        self,
-        budget: u64,
-        feeds: &mut F,
-        drains: &mut D,
-    ) -> Outcome
+    pub fn run<F: Feeds, D: Drains>(self, budget: u64, feeds: &mut F, drains: &mut D) -> Outcome
         requires first_form { IsFirstForm self }
         requires feed_open { F.is_open feeds.old INPUT_FEED ≡ true }
         requires trace_open { D.is_open drains.old TRACE_CHANNEL ≡ true }
@@ -139,10 +132,14 @@ fn finish<D: Drains>(end: RunEnd, run: &mut Progress, drains: &mut D) -> RunEnd
         return end;
     }
     let Ok(()) = run.output.flush(drains, OUTPUT_CHANNEL) else {
-        return RunEnd::WriteFault { channel: OUTPUT_CHANNEL };
+        return RunEnd::WriteFault {
+            channel: OUTPUT_CHANNEL,
+        };
     };
     let Ok(()) = run.trace.flush(drains, TRACE_CHANNEL) else {
-        return RunEnd::WriteFault { channel: TRACE_CHANNEL };
+        return RunEnd::WriteFault {
+            channel: TRACE_CHANNEL,
+        };
     };
     end
 }

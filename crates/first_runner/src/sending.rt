@@ -8,13 +8,11 @@ ghost use Rattle.net_model.specs.PortFile.{all_encoded, encoded};
 ghost use Rattle.cal_model.specs.Meaning.{byte_type};
 ghost use Rattle.std.specs.VecDeque.{deque_capacity};
 
-use std::collections::VecDeque;
-
+use crate::OUTPUT_CHANNEL;
 use channel_writer::ChannelWriter;
 use rvc_base::Num;
 use rvc_io::{Drains, Failed};
-
-use crate::OUTPUT_CHANNEL;
+use std::collections::VecDeque;
 
 /// Writes the tokens of the outbox, and leaves it empty.
 pub fn send_out<D: Drains>(

@@ -6,19 +6,14 @@ ghost use Rattle.rvc_io.specs.Elsewhere.{SameElsewhere};
 ghost use Rattle.channel_writer.specs.Held.{HoldsFront, Writes};
 ghost use Rattle.trace_text.specs.Text.{line_text, IsWhole};
 
+use crate::TRACE_CHANNEL;
 use arrayvec::ArrayVec;
 use channel_writer::ChannelWriter;
 use rvc_io::{Drains, Failed};
 use trace_text::{Line, write_line};
 
-use crate::TRACE_CHANNEL;
-
 /// Writes a line behind what was written to the trace so far.
-pub fn note<D: Drains>(
-    line: &Line,
-    trace: &mut ChannelWriter,
-    drains: &mut D,
-) -> Result<(), Failed>
+pub fn note<D: Drains>(line: &Line, trace: &mut ChannelWriter, drains: &mut D) -> Result<(), Failed>
     requires open { D.is_open drains.old TRACE_CHANNEL ≡ true }
     requires whole { IsWhole line.now }
     ensures written { OnOk result (D.tells drains.old ≡ true → Writes (D.held drains.old TRACE_CHANNEL) trace.old (D.held drains.new TRACE_CHANNEL) trace.new (line_text line.now)) }

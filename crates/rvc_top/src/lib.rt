@@ -1,12 +1,8 @@
 //! The top call: from words to files read, a network run, its trace and outputs written, and a report.
 #![tactic(auto)]
 
-
-
 mod reporting;
 mod status;
 
-
 pub use rvc_words::UsageCause;
 pub use status::{ReadAt, Status};
-

@@ -9,6 +9,7 @@ ghost use Rattle.trace_text.specs.Text.{line_feed};
 ghost use Rattle.cal_model.specs.Form.{form_of};
 ghost use Rattle.rvc_top.specs.Outside.{KeepsAll, Reported};
 
+use crate::status::{ReadAt, Status};
 use cal_model::ast::Actor;
 use channel_writer::put_all;
 use first_runner::Counts;
@@ -16,8 +17,6 @@ use itoa::Buffer;
 use rvc_base::Refusal;
 use rvc_io::{Drains, Failed};
 use rvc_words::{Job, UsageCause};
-
-use crate::status::{ReadAt, Status};
 
 /// The channel of the report.
 pub const REPORT_CHANNEL: u32 = 0;
@@ -78,7 +77,12 @@ fn put_counts<D: Drains>(counts: &Counts, drains: &mut D) -> Result<(), Failed>
     ensures failed { OnErr result (HasRisen (D.faults drains.old) (D.faults drains.new)) }
     ensures keeps { KeepsAll (D.tells drains.old) (D.tells drains.new) (D.held drains.old) (D.held drains.new) (D.is_open drains.old) (D.is_open drains.new) (D.faults drains.old) (D.faults drains.new) }
 {
-    put_numbered(b"instances 1\nlinks 2\nfirings ", counts.firings, b"\n", drains)?;
+    put_numbered(
+        b"instances 1\nlinks 2\nfirings ",
+        counts.firings,
+        b"\n",
+        drains,
+    )?;
     put_numbered(b"rounds ", counts.rounds, b"\n", drains)
 }
 
@@ -164,7 +168,8 @@ fn put_last_line<D: Drains>(job: &Job, status: &Status, drains: &mut D) -> Resul
 }
 
 /// What is reported of words that are no job.
-const USAGE: &[u8] = b"usage words\nrvc VERB TOP [PORT=FILE ..] [--trace FILE] [--workers N] [--round P] [--burst N] [--budget N]\n";
+const USAGE: &[u8] =
+    b"usage words\nrvc VERB TOP [PORT=FILE ..] [--trace FILE] [--workers N] [--round P] [--burst N] [--budget N]\n";
 
 /// Reports a status that isn't a run's: its last line alone.
 pub fn report<D: Drains>(status: Status, job: &Job, drains: &mut D) -> Status
@@ -174,7 +179,9 @@ pub fn report<D: Drains>(status: Status, job: &Job, drains: &mut D) -> Status
 {
     match put_last_line(job, &status, drains) {
         Ok(()) => status,
-        Err(Failed) => Status::WriteFault { channel: REPORT_CHANNEL },
+        Err(Failed) => Status::WriteFault {
+            channel: REPORT_CHANNEL,
+        },
     }
 }
 
@@ -191,10 +198,14 @@ pub fn report_run<D: Drains>(
     ensures keeps { KeepsAll (D.tells drains.old) (D.tells drains.new) (D.held drains.old) (D.held drains.new) (D.is_open drains.old) (D.is_open drains.new) (D.faults drains.old) (D.faults drains.new) }
 {
     let Ok(()) = put_run_lines(actor, counts, drains) else {
-        return Status::WriteFault { channel: REPORT_CHANNEL };
+        return Status::WriteFault {
+            channel: REPORT_CHANNEL,
+        };
     };
     let Ok(()) = put_last_line(job, &status, drains) else {
-        return Status::WriteFault { channel: REPORT_CHANNEL };
+        return Status::WriteFault {
+            channel: REPORT_CHANNEL,
+        };
     };
     status
 }
@@ -207,7 +218,9 @@ pub fn report_usage<D: Drains>(drains: &mut D) -> Status
 {
     match put(USAGE, drains) {
         Ok(()) => Status::Usage(UsageCause::Words),
-        Err(Failed) => Status::WriteFault { channel: REPORT_CHANNEL },
+        Err(Failed) => Status::WriteFault {
+            channel: REPORT_CHANNEL,
+        },
     }
 }
 
@@ -219,6 +232,8 @@ pub fn report_memory<D: Drains>(drains: &mut D) -> Status
 {
     match put(b"out of memory\n", drains) {
         Ok(()) => Status::OutOfMemory,
-        Err(Failed) => Status::WriteFault { channel: REPORT_CHANNEL },
+        Err(Failed) => Status::WriteFault {
+            channel: REPORT_CHANNEL,
+        },
     }
 }

@@ -12,8 +12,8 @@ invariant-rounds g l = IsRounding l.budget l.run.firings l.run.rounds (g.F.Feeds
     (g.D.Drains.is_open l.initial.drains) (g.D.Drains.is_open l.drains)
     (g.D.Drains.faults l.initial.drains) (g.D.Drains.faults l.drains)
     × ((f : Form) (input trace_base output_base : List ℕ) → f.sum ≡ l.sum
-      → Going f input trace_base output_base (g.F.Feeds.left l.initial.feeds 1) l.initial.run.inbox.items l.initial.run.outbox.items l.initial.run.at_end l.initial.run.firings l.initial.run.rounds (g.D.Drains.tells l.initial.drains) (g.D.Drains.held l.initial.drains) l.initial.run.trace l.initial.run.output
-      → Going f input trace_base output_base (g.F.Feeds.left l.feeds 1) l.run.inbox.items l.run.outbox.items l.run.at_end l.run.firings l.run.rounds (g.D.Drains.tells l.drains) (g.D.Drains.held l.drains) l.run.trace l.run.output)
+    → Going f input trace_base output_base (g.F.Feeds.left l.initial.feeds 1) l.initial.run.inbox.items l.initial.run.outbox.items l.initial.run.at_end l.initial.run.firings l.initial.run.rounds (g.D.Drains.tells l.initial.drains) (g.D.Drains.held l.initial.drains) l.initial.run.trace l.initial.run.output
+    → Going f input trace_base output_base (g.F.Feeds.left l.feeds 1) l.run.inbox.items l.run.outbox.items l.run.at_end l.run.firings l.run.rounds (g.D.Drains.tells l.drains) (g.D.Drains.held l.drains) l.run.trace l.run.output)
 
 abbrev pub decreases-rounds : goal.decreases-rounds
 decreases-rounds g l = l.budget - l.run.firings

@@ -12,13 +12,14 @@ loop-token-init g c = (sending-starts _ _ _ (g.D.Drains.held c.args.drains.now) 
 pub loop-token-preserved : goal.loop-token-preserved
 loop-token-preserved g c =
     let fits : FitsSigned w64 c.in-Some.token = search rules in
-    let byte_is : encoded byte_type c.in-Some.token ≡ c.byte_of.result ∷ [] = sym (ap (encoded byte_type) (to_z-of_z w64 c.in-Some.token fits)) ∙ c.byte_of.ensures in
-    (sending-more _ c.loop-token.outbox.items c.pop_front.new.self.items c.in-Some.token (c.byte_of.result ∷ []) _ c.loop-token.output _ _
-    (g.D.Drains.held c.args.drains.now) (g.D.Drains.held c.loop-token.drains) (g.D.Drains.held c.write.new.drains)
-    (g.D.Drains.is_open c.args.drains.now) (g.D.Drains.is_open c.loop-token.drains) (g.D.Drains.is_open c.write.new.drains) _ _
-    c.loop-token.invariant.0 c.in-Some.ensures.items byte_is _ _ _
-    c.in_ok-write.ensures.written c.in_ok-write.ensures.same_telling c.in_ok-write.ensures.same_held c.in_ok-write.ensures.same_open c.in_ok-write.ensures.faults_stay,
-    c.in-Some.ensures.capacity ∙ c.loop-token.invariant.1)
+    let byte_is : encoded byte_type c.in-Some.token ≡ c.byte_of.result ∷ [] = sym (ap (encoded byte_type) (to_z-of_z w64 c.in-Some.token fits)) ∙ c.byte_of.ensures in (
+      sending-more _ c.loop-token.outbox.items c.pop_front.new.self.items c.in-Some.token (c.byte_of.result ∷ []) _ c.loop-token.output _ _
+          (g.D.Drains.held c.args.drains.now) (g.D.Drains.held c.loop-token.drains) (g.D.Drains.held c.write.new.drains)
+          (g.D.Drains.is_open c.args.drains.now) (g.D.Drains.is_open c.loop-token.drains) (g.D.Drains.is_open c.write.new.drains) _ _
+          c.loop-token.invariant.0 c.in-Some.ensures.items byte_is _ _ _
+          c.in_ok-write.ensures.written c.in_ok-write.ensures.same_telling c.in_ok-write.ensures.same_held c.in_ok-write.ensures.same_open c.in_ok-write.ensures.faults_stay,
+      c.in-Some.ensures.capacity ∙ c.loop-token.invariant.1,
+    )
 
 pub returns-in_err-write-clause-front : goal.returns-in_err-write-clause-front
 returns-in_err-write-clause-front g c =
