@@ -287,7 +287,7 @@ fn all_name_parts(text: &[u8]) -> bool
 
 /// Whether a text is a name.
 #[tactic(auto, unfolding(crate::specs::Lexis::is_name))]
-pub(crate) fn is_name(text: &[u8]) -> bool
+pub fn is_name(text: &[u8]) -> bool
     ensures { result ≡ is_name text.now }
 {
     is_word(text) && !is_reserved(text)

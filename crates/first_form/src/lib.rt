@@ -17,4 +17,5 @@ mod tests;
 
 pub use fault::FormFault;
 pub use laws::{never_both, one_form, one_place};
+pub use lexis::is_name;
 pub use reader::read_form;
