@@ -43,3 +43,8 @@ pub data IsRefusal (j : JobText) (source : Told) (misses_old misses_new : ℕ) :
   not_built : (file offset : ℕ) → IsNotBuilt j source file offset → IsRefusal j source misses_old misses_new (record { rule = record { 0 = 1 }; place = record { file = file; offset = offset } })
   no_file : HasRisen misses_old misses_new → IsLacking source → IsRefusal j source misses_old misses_new (record { rule = record { 0 = 801 }; place = record { file = 0; offset = 0 } })
   too_long : IsTooLong source → IsRefusal j source misses_old misses_new (record { rule = record { 0 = 601 }; place = record { file = 1; offset = max_file_bytes } })
+
+-- the refusals of a source that was read
+pub data IsActorRefusal (j : JobText) (source : List ℕ) : Refusal → Type 0 where
+  departs : (at : ℕ) → DepartsAt source at → IsActorRefusal j source (record { rule = record { 0 = 1 }; place = record { file = 1; offset = at } })
+  others : (f : Form) → Spells source f → (NamesPorts j f → ⊥) → IsActorRefusal j source (record { rule = record { 0 = 1 }; place = record { file = 0; offset = 0 } })

@@ -1,8 +1,11 @@
 //! The top call: from words to files read, a network run, its trace and outputs written, and a report.
 #![tactic(auto)]
 
+mod opening;
+mod preparing;
 mod reporting;
 mod status;
+mod top;
 
 pub use rvc_words::UsageCause;
 pub use status::{ReadAt, Status};

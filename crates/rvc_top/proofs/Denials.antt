@@ -1,0 +1,36 @@
+-- Which refusal an answer is.
+use Rattle.std.proofs.Common.{◌≡◌, ℕ, List, refl, sym, ap, subst, ◌∙◌}
+use Rattle.std.specs.Prelude.{Result, Ok, Err, IsTrue, ◌↔◌, Bool, false, true}
+use Rattle.rvc_io.specs.Told.{Told, Untold, Lacking, Holding, IsTold, IsLacking}
+use Rattle.rvc_io.specs.Library.{max_file_bytes, IsTooLong}
+use Rattle.rvc_io.specs.Count.{HasRisen}
+use Rattle.rvc_base.specs.declared.refusal.Refusal.{Refusal}
+use Rattle.rvc_base.specs.declared.refusal.Rule.{Rule}
+use Rattle.rvc_words.specs.Words.{JobText}
+use Rattle.cal_model.specs.Form.{Form}
+use Rattle.first_form.specs.Spelling.{Spells, DepartsAt}
+use Rattle.rvc_top.specs.declared.status.Status.{Status}
+use Rattle.rvc_top.specs.declared.status.Status.TheVariants.{Refused}
+use Rattle.rvc_top.specs.Refused.{IsTop, NamesPorts, IsNotBuilt, top_no_name, source_departs, other_ports, IsRefusal, not_built, no_file, too_long, IsActorRefusal, departs, others, DepartsThere, NamesOthers}
+
+-- an answer is this refusal, so what is said of it holds
+pub denied : {T : Type 0} (P : Refusal → Type 0) (s : Status) (stated refusal : Refusal) → s ≡ Refused stated → ◌≡◌ {A = Result T Status} (Err s) (Err (Refused refusal)) → P stated → P refusal
+denied P s stated refusal is_stated answered holds = let e : stated ≡ refusal = cc in subst P e holds
+
+-- a refusal of a source that was read is one of the job's
+pub actor-refusal : (j : JobText) (told : Told) (source : List ℕ) (misses_old misses_new : ℕ) (refusal : Refusal) → IsTold told source → IsActorRefusal j source refusal → IsRefusal j told misses_old misses_new refusal
+actor-refusal j Untold source misses_old misses_new _ is_told (departs at h) = not_built 1 at (source_departs at tt)
+actor-refusal j Untold source misses_old misses_new _ is_told (others f spelled not_named) = not_built 0 0 (other_ports tt)
+actor-refusal j Lacking source misses_old misses_new _ is_told h = absurd is_told
+actor-refusal j (Holding told) source misses_old misses_new _ is_told (departs at h) = not_built 1 at (source_departs at (subst (λ s. DepartsAt s at) is_told h))
+actor-refusal j (Holding told) source misses_old misses_new _ is_told (others f spelled not_named) = not_built 0 0 (other_ports (f, subst (λ s. Spells s f) is_told spelled, not_named))
+
+-- a file that was found is longer than the limit
+pub found-too_long : (told : Told) (source : List ℕ) → IsTold told source → Rattle.std.proofs.Common.◌<◌ max_file_bytes (Rattle.std.proofs.Common.length source) → IsTooLong told
+found-too_long Untold source is_told long = tt
+found-too_long Lacking source is_told long = absurd is_told
+found-too_long (Holding told) source is_told long = subst (λ s. Rattle.std.proofs.Common.◌<◌ max_file_bytes (Rattle.std.proofs.Common.length s)) is_told long
+
+-- a test that failed refutes its fact
+pub refuted : (b : Bool) (P : Type 0) → (IsTrue b ↔ P) → b ≡ false → P → ⊥
+refuted b P decides failed holds = Rattle.std.proofs.lemmas.Bool.false≢true (sym failed ∙ decides.1 holds)

@@ -1,0 +1,3 @@
+mod Denials
+mod Ending
+mod Budgets

@@ -1,0 +1,125 @@
+//! The top call.
+
+ghost use Rattle.std.specs.Prelude.{◌≡◌, ◌≢◌, ◌≤◌, ◌++◌, ◌⊎◌, ℕ, Bool, true, false, List, [], Option, Some, None, IsSome, string_bytes};
+ghost use Rattle.rvc_io.specs.Count.{HasRisen};
+ghost use Rattle.rvc_io.specs.Told.{Told, Holding};
+ghost use Rattle.rvc_io.specs.Elsewhere.{SameElsewhere};
+ghost use Rattle.rvc_base.specs.declared.refusal.Refusal.{Refusal as Denial};
+ghost use Rattle.cal_model.specs.Form.{form_of};
+ghost use Rattle.rvc_words.specs.Words.{JobText, job, job_text, texts};
+ghost use Rattle.rvc_top.specs.Status.{IsBeforeAll, IsOfJob};
+ghost use Rattle.rvc_top.specs.Refused.{IsRefusal};
+ghost use Rattle.rvc_top.specs.Planned.{IsPlanned, IsReady, IsPerformed, HasCause};
+ghost use Rattle.rvc_top.specs.Run.{Leaves};
+ghost use Rattle.rvc_top.specs.Outside.{KeepsAll, Answers};
+ghost use Rattle.first_form.specs.Spelling.{Spells};
+ghost use Rattle.first_runner.specs.Leaves.{Leaves as HasLeft};
+ghost use Rattle.first_runner.specs.Source.{network_of};
+ghost use Rattle.net_model.specs.Trace.{head_text};
+
+use std::alloc::Global;
+use std::thread::Threads;
+
+use cal_model::ast::Actor;
+use channel_writer::put_all;
+use first_runner::{MAX_BUDGET, Outcome, RunEnd, TRACE_CHANNEL};
+use rvc_io::{Drains, Feeds, Gate, Library};
+use rvc_words::{Job, WordFault, read_words};
+
+use crate::opening::open_all;
+use crate::preparing::{Plan, prepare};
+use crate::reporting::{REPORT_CHANNEL, report, report_memory, report_run, report_usage};
+use crate::status::{ReadAt, Status};
+
+/// Runs what is planned, and reports it.
+fn perform<F: Feeds, D: Drains>(
+    plan: Plan,
+    job: &Job,
+    feeds: &mut F,
+    drains: &mut D,
+) -> Status
+    requires feed_closed { F.is_open feeds.old 1 ≡ false }
+    requires trace_closed { D.is_open drains.old 1 ≡ false }
+    requires output_closed { D.is_open drains.old 2 ≡ false }
+    requires report_open { D.is_open drains.old 0 ≡ true }
+    requires planned { IsReady (form_of plan.actor) plan.runner plan.head.items }
+    requires bounded { job.now.budget ≤ MAX_BUDGET }
+    ensures leaves { (source input : List ℕ) → Spells source (form_of plan.actor) → F.under feeds.old (string_bytes job.now.input.file) ≡ Some input → D.tells drains.old ≡ true
+        → Leaves (job_text job.now) source input result (D.held drains.old) (D.held drains.new) (D.is_open drains.new) job.now.budget }
+    ensures performed { IsPerformed (F.faults feeds.old) (F.faults feeds.new) (D.faults drains.old) (D.faults drains.new) result }
+{
+    let Plan {
+        actor,
+        runner,
+        head,
+    } = plan;
+    if let Err(status) = open_all(job, feeds, drains) {
+        return report(status, job, drains);
+    }
+    let Ok(()) = put_all(drains, TRACE_CHANNEL, head.as_slice()) else {
+        let status = Status::WriteFault {
+            channel: TRACE_CHANNEL,
+        };
+        return report(status, job, drains);
+    };
+    let outcome = runner.run(job.budget, feeds, drains);
+    conclude(&outcome, job, &actor, drains)
+}
+
+/// Reports how a run ended.
+fn conclude<D: Drains>(
+    outcome: &Outcome,
+    job: &Job,
+    actor: &Actor,
+    drains: &mut D,
+) -> Status
+    requires { D.is_open drains.old REPORT_CHANNEL ≡ true }
+    ensures leaves { (source input : List ℕ) (held_first : ℕ → List ℕ) → Spells source (form_of actor.now) → D.tells drains.old ≡ true
+        → held_first 0 ≡ D.held drains.old 0
+        → HasLeft (form_of actor.now) input outcome.now.end outcome.now.counts (head_text (network_of (form_of actor.now))) (D.held drains.old 1) [] (D.held drains.old 2)
+        → (outcome.now.end ≡ RunEnd.Budget → outcome.now.counts.firings ≡ job.now.budget)
+        → Leaves (job_text job.now) source input result held_first (D.held drains.new) (D.is_open drains.new) job.now.budget }
+    ensures answers { Answers outcome.now.end result (D.faults drains.old) (D.faults drains.new) }
+    ensures keeps { KeepsAll (D.tells drains.old) (D.tells drains.new) (D.held drains.old) (D.held drains.new) (D.is_open drains.old) (D.is_open drains.new) (D.faults drains.old) (D.faults drains.new) }
+{
+    let counts = &outcome.counts;
+    match outcome.end {
+        RunEnd::Quiet => report_run(Status::Quiet, job, actor, counts, drains),
+        RunEnd::Budget => {
+            let status = Status::Budget {
+                firings: counts.firings,
+            };
+            report_run(status, job, actor, counts, drains)
+        }
+        RunEnd::ReadFault { feed } => {
+            report(Status::ReadFault(ReadAt::Feed(feed)), job, drains)
+        }
+        RunEnd::WriteFault { channel } => report(Status::WriteFault { channel }, job, drains),
+    }
+}
+
+/// Does a job.
+fn run_job<L: Library, F: Feeds, D: Drains>(
+    alloc: Global,
+    job: &Job,
+    library: &mut L,
+    feeds: &mut F,
+    drains: &mut D,
+) -> Status
+    requires feed_closed { F.is_open feeds.old 1 ≡ false }
+    requires trace_closed { D.is_open drains.old 1 ≡ false }
+    requires output_closed { D.is_open drains.old 2 ≡ false }
+    requires report_open { D.is_open drains.old 0 ≡ true }
+    requires bounded { job.now.budget ≤ MAX_BUDGET }
+    ensures leaves { (source input : List ℕ) → L.file library.old (string_bytes job.now.top) ≡ Holding source → F.under feeds.old (string_bytes job.now.input.file) ≡ Some input → D.tells drains.old ≡ true
+        → Leaves (job_text job.now) source input result (D.held drains.old) (D.held drains.new) (D.is_open drains.new) job.now.budget }
+    ensures refused { (refusal : Denial) → result ≡ Status.Refused refusal → IsRefusal (job_text job.now) (L.file library.old (string_bytes job.now.top)) (L.misses library.old) (L.misses library.new) refusal }
+    ensures faults { HasCause (L.faults library.old) (L.faults library.new) (F.faults feeds.old) (F.faults feeds.new) (D.faults drains.old) (D.faults drains.new) result }
+    ensures nothing_else { IsBeforeAll result → D.tells drains.old ≡ true → SameElsewhere (D.held drains.old) (D.held drains.new) 0 }
+    ensures nothing_opened { IsBeforeAll result → (other : ℕ) → D.is_open drains.new other ≡ D.is_open drains.old other }
+{
+    match prepare(alloc, job, library) {
+        Err(status) => report(status, job, drains),
+        Ok(plan) => perform(plan, job, feeds, drains),
+    }
+}
