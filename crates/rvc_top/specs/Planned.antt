@@ -72,3 +72,14 @@ HasCause lo ln ffo ff fo fn (WriteFault channel) = HasRisen fo fn
 HasCause lo ln ffo ff fo fn (Refused refusal) = Unit {0}
 HasCause lo ln ffo ff fo fn (Budget firings) = Unit {0}
 HasCause lo ln ffo ff fo fn OutOfMemory = Unit {0}
+
+-- Each fault with the count that rose.
+abbrev pub IsCaused : (file_faults_old file_faults feed_faults_old feed_faults faults_old faults : ℕ) → Status → Type 0
+IsCaused lo ln ffo ff fo fn Quiet = Unit {0}
+IsCaused lo ln ffo ff fo fn (Usage cause) = Unit {0}
+IsCaused lo ln ffo ff fo fn (ReadFault (File file)) = HasRisen lo ln
+IsCaused lo ln ffo ff fo fn (ReadFault (Feed feed)) = HasRisen ffo ff
+IsCaused lo ln ffo ff fo fn (WriteFault channel) = HasRisen fo fn
+IsCaused lo ln ffo ff fo fn (Refused refusal) = Unit {0}
+IsCaused lo ln ffo ff fo fn (Budget firings) = Unit {0}
+IsCaused lo ln ffo ff fo fn OutOfMemory = Unit {0}

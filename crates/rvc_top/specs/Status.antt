@@ -22,12 +22,12 @@ IsBeforeAll (Refused refusal) = Unit {0}
 IsBeforeAll (Budget firings) = ⊥
 IsBeforeAll OutOfMemory = Unit {0}
 
--- what comes only of words that are a job
+-- what comes only of words that are a job; the report of others can fail too
 abbrev pub IsOfJob : Status → Type 0
 IsOfJob Quiet = Unit {0}
 IsOfJob (Usage cause) = ⊥
 IsOfJob (ReadFault place) = Unit {0}
-IsOfJob (WriteFault channel) = Unit {0}
+IsOfJob (WriteFault channel) = ⊥
 IsOfJob (Refused refusal) = Unit {0}
 IsOfJob (Budget firings) = Unit {0}
 IsOfJob OutOfMemory = ⊥

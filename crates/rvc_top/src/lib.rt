@@ -9,3 +9,4 @@ mod top;
 
 pub use rvc_words::UsageCause;
 pub use status::{ReadAt, Status};
+pub use top::rvc;

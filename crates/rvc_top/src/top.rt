@@ -7,9 +7,10 @@ ghost use Rattle.rvc_io.specs.Elsewhere.{SameElsewhere};
 ghost use Rattle.rvc_base.specs.declared.refusal.Refusal.{Refusal as Denial};
 ghost use Rattle.cal_model.specs.Form.{form_of};
 ghost use Rattle.rvc_words.specs.Words.{JobText, job, job_text, texts};
+ghost use Rattle.rvc_words.specs.declared.fault.UsageCause.{UsageCause};
 ghost use Rattle.rvc_top.specs.Status.{IsBeforeAll, IsOfJob};
 ghost use Rattle.rvc_top.specs.Refused.{IsRefusal};
-ghost use Rattle.rvc_top.specs.Planned.{IsPlanned, IsReady, IsPerformed, HasCause};
+ghost use Rattle.rvc_top.specs.Planned.{IsReady, IsPerformed, HasCause, IsCaused};
 ghost use Rattle.rvc_top.specs.Run.{Leaves};
 ghost use Rattle.rvc_top.specs.Outside.{KeepsAll, Answers};
 ghost use Rattle.first_form.specs.Spelling.{Spells};
@@ -121,5 +122,46 @@ fn run_job<L: Library, F: Feeds, D: Drains>(
     match prepare(alloc, job, library) {
         Err(status) => report(status, job, drains),
         Ok(plan) => perform(plan, job, feeds, drains),
+    }
+}
+
+/// Runs what the words ask for: `run TOP NAME=FILE NAME=FILE --trace FILE`, perhaps with `--budget N` behind it.
+///
+/// The words are read, the program's name first; then the source, which is checked against the form that is
+/// built; then the input and the trace and the output are opened, the rounds go, and the report is written last.
+///
+/// - `run`: where the source, the input and the channels are told, the trace is the text of a run of the source's
+///   network over the input, the output is the bytes of that run, the status names how it ended, and the report
+///   counts it. After a fault the trace and the output are fronts of what belongs to one run.
+/// - `refused`: the rule is broken at its place.
+/// - `usage`: the words are no job, and only such words are answered so.
+/// - `faults`: each fault names what failed in this call.
+/// - `nothing_else` and `nothing_opened`: before the run begins nothing is opened and nothing but the report is
+///   written.
+pub fn rvc<R: Threads + Sync, L: Library, F: Feeds, D: Drains, G: Gate>(
+    _rt: &R,
+    alloc: Global,
+    words: &[String],
+    library: &mut L,
+    feeds: &mut F,
+    drains: &mut D,
+    _gate: &G,
+) -> Status
+    requires feeds_closed { (other : ℕ) → F.is_open feeds.old other ≡ false }
+    requires report_open { D.is_open drains.old 0 ≡ true }
+    requires others_closed { (other : ℕ) → other ≢ 0 → D.is_open drains.old other ≡ false }
+    ensures run { (j : JobText) (source input : List ℕ) → job (texts words.now) ≡ Some j → L.file library.old j.top ≡ Holding source → F.under feeds.old j.input.file ≡ Some input → D.tells drains.old ≡ true
+        → Leaves j source input result (D.held drains.old) (D.held drains.new) (D.is_open drains.new) j.budget }
+    ensures refused { (j : JobText) (refusal : Denial) → job (texts words.now) ≡ Some j → result ≡ Status.Refused refusal → IsRefusal j (L.file library.old j.top) (L.misses library.old) (L.misses library.new) refusal }
+    ensures usage { (cause : UsageCause) → result ≡ Status.Usage cause → job (texts words.now) ≡ None }
+    ensures planned { IsOfJob result → IsSome (job (texts words.now)) }
+    ensures faults { IsCaused (L.faults library.old) (L.faults library.new) (F.faults feeds.old) (F.faults feeds.new) (D.faults drains.old) (D.faults drains.new) result }
+    ensures nothing_else { IsBeforeAll result → D.tells drains.old ≡ true → SameElsewhere (D.held drains.old) (D.held drains.new) 0 }
+    ensures nothing_opened { IsBeforeAll result → (other : ℕ) → D.is_open drains.new other ≡ D.is_open drains.old other }
+{
+    match read_words(alloc, words) {
+        Err(WordFault::Memory) => report_memory(drains),
+        Err(WordFault::Usage(_)) => report_usage(drains),
+        Ok(job) => run_job(alloc, &job, library, feeds, drains),
     }
 }

@@ -1,4 +1,3 @@
-use Rattle.std.proofs.Common.{sym, ◌∙◌}
 use Rattle.cal_model.specs.Form.{form_of}
 use Rattle.rvc_words.specs.Words.{job_text}
 use Rattle.first_runner.specs.declared.outcome.RunEnd.TheVariants as end

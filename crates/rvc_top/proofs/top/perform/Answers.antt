@@ -1,5 +1,4 @@
 use Rattle.std.proofs.Common.{◌≡◌, sym, ap, subst, ◌∙◌, [], ◌++◌}
-use Rattle.std.specs.Prelude.{string_bytes}
 use Rattle.cal_model.specs.Form.{form_of}
 use Rattle.rvc_words.specs.Words.{job_text}
 use Rattle.first_runner.specs.Leaves.{Leaves as HasLeft}

@@ -1,0 +1,43 @@
+//! The program `rvc`: its words, the files of the system, and the top call.
+#![tactic(auto)]
+
+use std::alloc::AllocError;
+use std::env;
+use std::io::ErrorKind;
+use std::process::ExitCode;
+
+use rvc_io::OpenGate;
+use rvc_real::{FileDrains, FileFeeds, FolderLibrary};
+use rvc_top::rvc;
+
+fn main(rt: HostRuntime) -> ExitCode {
+    let Ok(words) = read_arguments(&rt) else {
+        return ExitCode::from(8);
+    };
+    let mut library = FolderLibrary::new(&rt);
+    let mut feeds = FileFeeds::new(&rt, rt.alloc());
+    let mut drains = FileDrains::new(&rt, rt.alloc());
+    let status = rvc(
+        &rt,
+        rt.alloc(),
+        words.as_slice(),
+        &mut library,
+        &mut feeds,
+        &mut drains,
+        &OpenGate,
+    );
+    ExitCode::from(status.code())
+}
+
+/// The words of the command line. Words that aren't text are no job, like no words.
+///
+/// # Errors
+///
+/// `AllocError` where an allocation was refused.
+fn read_arguments(rt: &HostRuntime) -> Result<Vec<String>, AllocError> {
+    match env::args(rt) {
+        Ok(words) => words.collect(rt.alloc()),
+        Err(e) if e.kind() == ErrorKind::OutOfMemory => Err(AllocError),
+        Err(_) => Ok(Vec::new(rt.alloc())),
+    }
+}
