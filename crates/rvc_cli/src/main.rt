@@ -1,14 +1,13 @@
 //! The program `rvc`: its words, the files of the system, and the top call.
 #![tactic(auto)]
 
+use rvc_io::OpenGate;
+use rvc_real::{FileDrains, FileFeeds, FolderLibrary};
+use rvc_top::rvc;
 use std::alloc::AllocError;
 use std::env;
 use std::io::ErrorKind;
 use std::process::ExitCode;
-
-use rvc_io::OpenGate;
-use rvc_real::{FileDrains, FileFeeds, FolderLibrary};
-use rvc_top::rvc;
 
 fn main(rt: HostRuntime) -> ExitCode {
     let Ok(words) = read_arguments(&rt) else {

@@ -1,17 +1,14 @@
 -- Which refusal an answer is.
 use Rattle.std.proofs.Common.{◌≡◌, ℕ, List, refl, sym, ap, subst, ◌∙◌}
-use Rattle.std.specs.Prelude.{Result, Ok, Err, IsTrue, ◌↔◌, Bool, false, true}
-use Rattle.rvc_io.specs.Told.{Told, Untold, Lacking, Holding, IsTold, IsLacking}
+use Rattle.std.specs.Prelude.{Result, Err, IsTrue, ◌↔◌, Bool, false}
+use Rattle.rvc_io.specs.Told.{Told, Untold, Lacking, Holding, IsTold}
 use Rattle.rvc_io.specs.Library.{max_file_bytes, IsTooLong}
-use Rattle.rvc_io.specs.Count.{HasRisen}
 use Rattle.rvc_base.specs.declared.refusal.Refusal.{Refusal}
-use Rattle.rvc_base.specs.declared.refusal.Rule.{Rule}
 use Rattle.rvc_words.specs.Words.{JobText}
-use Rattle.cal_model.specs.Form.{Form}
 use Rattle.first_form.specs.Spelling.{Spells, DepartsAt}
 use Rattle.rvc_top.specs.declared.status.Status.{Status}
 use Rattle.rvc_top.specs.declared.status.Status.TheVariants.{Refused}
-use Rattle.rvc_top.specs.Refused.{IsTop, NamesPorts, IsNotBuilt, top_no_name, source_departs, other_ports, IsRefusal, not_built, no_file, too_long, IsActorRefusal, departs, others, DepartsThere, NamesOthers}
+use Rattle.rvc_top.specs.Refused.{source_departs, other_ports, IsRefusal, not_built, IsActorRefusal, departs, others}
 
 -- an answer is this refusal, so what is said of it holds
 pub denied : {T : Type 0} (P : Refusal → Type 0) (s : Status) (stated refusal : Refusal) → s ≡ Refused stated → ◌≡◌ {A = Result T Status} (Err s) (Err (Refused refusal)) → P stated → P refusal

@@ -1,12 +1,10 @@
 -- What a run left, as the top call's clauses say it.
 use Rattle.std.proofs.Common.{◌≡◌, ℕ, ◌++◌, Bool, true, List, [], ◌∷◌, refl, sym, ap, subst, ◌∙◌, append_assoc, append-nil}
-use Rattle.std.specs.Prelude.{flat_map}
 use Rattle.trace_text.specs.declared.line.Line.{Line}
 use Rattle.trace_text.specs.declared.line.Line.TheVariants.{Quiet as QuietLine, Budget as BudgetLine}
-use Rattle.trace_text.specs.Text.{line_text}
 use Rattle.channel_writer.specs.Held.{HoldsFront}
-use Rattle.net_model.specs.State.{State, start_of}
-use Rattle.net_model.specs.Trace.{head_text, text}
+use Rattle.net_model.specs.State.{start_of}
+use Rattle.net_model.specs.Trace.{head_text}
 use Rattle.cal_model.specs.Form.{Form}
 use Rattle.first_form.specs.Spelling.{Spells}
 use Rattle.first_runner.specs.declared.outcome.Counts.{Counts}
@@ -29,85 +27,85 @@ use Rattle.rvc_top.specs.Run.{IsRun, IsCutRun, IsBrokenRun, Leaves}
 module _ (source input : List ℕ) (f : Form) (spelled : Spells source f) (counts : Counts) (trace output held_trace held_output : List ℕ) (trace_is : held_trace ≡ head_text (network_of f) ++ trace) (output_is : held_output ≡ output) where
   pub run-of : (end : Line) → Ended f input end counts trace output → IsRun source input end f counts held_trace held_output
   run-of end e = record {
-      spelled = spelled;
-      moves = e.moves;
-      last = e.last;
-      plays = e.written.plays;
-      keeps = e.written.keeps;
-      trace_is = trace_is ∙ ap (λ t. head_text (network_of f) ++ t) e.written.trace_is;
-      output_is = output_is ∙ e.written.output_is;
-      counted = e.counted
-    }
+    spelled = spelled;
+    moves = e.moves;
+    last = e.last;
+    plays = e.written.plays;
+    keeps = e.written.keeps;
+    trace_is = trace_is ∙ ap (λ t. head_text (network_of f) ++ t) e.written.trace_is;
+    output_is = output_is ∙ e.written.output_is;
+    counted = e.counted;
+  }
 
   pub cut-of : CutOff f input trace output → IsCutRun source input held_trace held_output
   cut-of e = record {
-      form = f;
-      spelled = spelled;
-      moves = e.moves;
-      are_moves = e.are_moves;
-      last = e.last;
-      plays = e.written.plays;
-      keeps = e.written.keeps;
-      trace_is = trace_is ∙ ap (λ t. head_text (network_of f) ++ t) e.written.trace_is;
-      output_is = output_is ∙ e.written.output_is
-    }
+    form = f;
+    spelled = spelled;
+    moves = e.moves;
+    are_moves = e.are_moves;
+    last = e.last;
+    plays = e.written.plays;
+    keeps = e.written.keeps;
+    trace_is = trace_is ∙ ap (λ t. head_text (network_of f) ++ t) e.written.trace_is;
+    output_is = output_is ∙ e.written.output_is;
+  }
 
   pub broken-of : (open_output : Bool) → BrokenOff f input trace output → IsBrokenRun source input held_trace open_output held_output
   broken-of open_output e = record {
-      form = f;
-      spelled = spelled;
-      lines = e.lines;
-      last = e.last;
-      plays = e.written.plays;
-      keeps = e.written.keeps;
-      trace_front = record {
-        rest = e.trace_front.rest;
-        is = ap (λ t. head_text (network_of f) ++ t) (sym e.written.trace_is ∙ e.trace_front.is)
-            ∙ sym (append_assoc (head_text (network_of f)) trace e.trace_front.rest) ∙ ap (λ h. h ++ e.trace_front.rest) (sym trace_is)
-      };
-      output_front = λ opened. record {
-        rest = e.output_front.rest;
-        is = sym e.written.output_is ∙ e.output_front.is ∙ ap (λ o. o ++ e.output_front.rest) (sym output_is)
-      }
-    }
+    form = f;
+    spelled = spelled;
+    lines = e.lines;
+    last = e.last;
+    plays = e.written.plays;
+    keeps = e.written.keeps;
+    trace_front = record {
+      rest = e.trace_front.rest;
+      is = ap (λ t. head_text (network_of f) ++ t) (sym e.written.trace_is ∙ e.trace_front.is)
+          ∙ sym (append_assoc (head_text (network_of f)) trace e.trace_front.rest) ∙ ap (λ h. h ++ e.trace_front.rest) (sym trace_is);
+    };
+    output_front = λ opened. record {
+      rest = e.output_front.rest;
+      is = sym e.written.output_is ∙ e.output_front.is ∙ ap (λ o. o ++ e.output_front.rest) (sym output_is);
+    };
+  }
 
 -- the report of a whole run couldn't be written
 pub broken-run : (source input : List ℕ) (end : Line) (f : Form) (counts : Counts) (held_trace held_output : List ℕ) (open_output : Bool) → IsRun source input end f counts held_trace held_output → IsBrokenRun source input held_trace open_output held_output
 broken-run source input end f counts held_trace held_output open_output r = record {
-    form = f;
-    spelled = r.spelled;
-    lines = r.moves ++ end ∷ [];
-    last = r.last;
-    plays = r.plays;
-    keeps = r.keeps;
-    trace_front = record { rest = []; is = sym r.trace_is ∙ sym (append-nil held_trace) };
-    output_front = λ opened. record { rest = []; is = sym r.output_is ∙ sym (append-nil held_output) }
-  }
+  form = f;
+  spelled = r.spelled;
+  lines = r.moves ++ end ∷ [];
+  last = r.last;
+  plays = r.plays;
+  keeps = r.keeps;
+  trace_front = record { rest = []; is = sym r.trace_is ∙ sym (append-nil held_trace) };
+  output_front = λ opened. record { rest = []; is = sym r.output_is ∙ sym (append-nil held_output) };
+}
 
 pub broken-cut : (source input held_trace held_output : List ℕ) (open_output : Bool) → IsCutRun source input held_trace held_output → IsBrokenRun source input held_trace open_output held_output
 broken-cut source input held_trace held_output open_output r = record {
-    form = r.form;
-    spelled = r.spelled;
-    lines = r.moves;
-    last = r.last;
-    plays = r.plays;
-    keeps = r.keeps;
-    trace_front = record { rest = []; is = sym r.trace_is ∙ sym (append-nil held_trace) };
-    output_front = λ opened. record { rest = []; is = sym r.output_is ∙ sym (append-nil held_output) }
-  }
+  form = r.form;
+  spelled = r.spelled;
+  lines = r.moves;
+  last = r.last;
+  plays = r.plays;
+  keeps = r.keeps;
+  trace_front = record { rest = []; is = sym r.trace_is ∙ sym (append-nil held_trace) };
+  output_front = λ opened. record { rest = []; is = sym r.output_is ∙ sym (append-nil held_output) };
+}
 
 -- nothing but a front of the head was written
 pub broken-head : (source input : List ℕ) (f : Form) (held_trace held_output : List ℕ) (open_output : Bool) → Spells source f → IsFrontOf held_trace (head_text (network_of f)) → (open_output ≡ true → held_output ≡ []) → IsBrokenRun source input held_trace open_output held_output
 broken-head source input f held_trace held_output open_output spelled front empty = record {
-    form = f;
-    spelled = spelled;
-    lines = [];
-    last = start_of (network_of f) (input ∷ []);
-    plays = refl;
-    keeps = ((λ e. absurd (Rattle.std.proofs.lemmas.Bool.false≢true (sym e))), ((λ e. omega arith), tt));
-    trace_front = record { rest = front.rest; is = append-nil (head_text (network_of f)) ∙ front.is };
-    output_front = λ opened. record { rest = []; is = ap (λ o. o ++ []) (sym (empty opened)) }
-  }
+  form = f;
+  spelled = spelled;
+  lines = [];
+  last = start_of (network_of f) (input ∷ []);
+  plays = refl;
+  keeps = ((λ e. absurd (Rattle.std.proofs.lemmas.Bool.false≢true (sym e))), ((λ e. omega arith), tt));
+  trace_front = record { rest = front.rest; is = append-nil (head_text (network_of f)) ∙ front.is };
+  output_front = λ opened. record { rest = []; is = ap (λ o. o ++ []) (sym (empty opened)) };
+}
 
 -- the answer's clause for each end
 module _ (j : JobText) (source input : List ℕ) (f : Form) (spelled : Spells source f) (counts : Counts) (tells : Bool) (told : tells ≡ true) (faults_old faults : ℕ) (limit : ℕ) (held_first held held_new : ℕ → List ℕ) (open_new : ℕ → Bool) (result : Status) (first : held_first 0 ≡ held 0) (same_trace : held_new 1 ≡ held 1) (same_output : held_new 2 ≡ held 2) where
@@ -117,11 +115,11 @@ module _ (j : JobText) (source input : List ℕ) (f : Form) (spelled : Spells so
   concluded-quiet left (inl done) =
       let run = run-of source input f spelled counts left.trace left.output (held_new 1) (held_new 2) (same_trace ∙ left.trace_is) (same_output ∙ left.output_is) QuietLine left.ends in
       subst (λ s. Leaves j source input s held_first held_new open_new limit) (sym done.0)
-        (counts.firings, record { form = f; counts = counts; is_run = run; report = done.1 told ∙ ap (λ h. h ++ (run_lines f counts ++ last_line j Quiet)) (sym first); firings_are = refl })
+      (counts.firings, record { form = f; counts = counts; is_run = run; report = done.1 told ∙ ap (λ h. h ++ (run_lines f counts ++ last_line j Quiet)) (sym first); firings_are = refl })
   concluded-quiet left (inr failed) =
       let run = run-of source input f spelled counts left.trace left.output (held_new 1) (held_new 2) (same_trace ∙ left.trace_is) (same_output ∙ left.output_is) QuietLine left.ends in
       subst (λ s. Leaves j source input s held_first held_new open_new limit) (sym failed.0)
-        (λ opened. broken-run source input QuietLine f counts (held_new 1) (held_new 2) (open_new 2) run)
+      (λ opened. broken-run source input QuietLine f counts (held_new 1) (held_new 2) (open_new 2) run)
 
   pub concluded-budget : HasLeft f input end.Budget counts (head_text (network_of f)) (held 1) [] (held 2) → counts.firings ≡ limit
       → Reported (Budget counts.firings) result tells faults_old faults (held 0) (held_new 0) (run_lines f counts ++ last_line j (Budget counts.firings))
@@ -129,31 +127,31 @@ module _ (j : JobText) (source input : List ℕ) (f : Form) (spelled : Spells so
   concluded-budget left spent (inl done) =
       let run = run-of source input f spelled counts left.trace left.output (held_new 1) (held_new 2) (same_trace ∙ left.trace_is) (same_output ∙ left.output_is) BudgetLine left.ends in
       subst (λ s. Leaves j source input s held_first held_new open_new limit) (sym done.0)
-        (record { form = f; counts = counts; is_run = run; report = done.1 told ∙ ap (λ h. h ++ (run_lines f counts ++ last_line j (Budget counts.firings))) (sym first); firings_are = refl }, spent)
+      (record { form = f; counts = counts; is_run = run; report = done.1 told ∙ ap (λ h. h ++ (run_lines f counts ++ last_line j (Budget counts.firings))) (sym first); firings_are = refl }, spent)
   concluded-budget left spent (inr failed) =
       let run = run-of source input f spelled counts left.trace left.output (held_new 1) (held_new 2) (same_trace ∙ left.trace_is) (same_output ∙ left.output_is) BudgetLine left.ends in
       subst (λ s. Leaves j source input s held_first held_new open_new limit) (sym failed.0)
-        (λ opened. broken-run source input BudgetLine f counts (held_new 1) (held_new 2) (open_new 2) run)
+      (λ opened. broken-run source input BudgetLine f counts (held_new 1) (held_new 2) (open_new 2) run)
 
   pub concluded-read_fault : (feed : ℕ) (line : List ℕ) → HasLeft f input (end.ReadFault feed) counts (head_text (network_of f)) (held 1) [] (held 2)
       → Reported (ReadFault (Feed feed)) result tells faults_old faults (held 0) (held_new 0) line
       → Leaves j source input result held_first held_new open_new limit
   concluded-read_fault feed line left (inl done) =
       subst (λ s. Leaves j source input s held_first held_new open_new limit) (sym done.0)
-        (λ opened. cut-of source input f spelled counts left.trace left.output (held_new 1) (held_new 2) (same_trace ∙ left.trace_is) (same_output ∙ left.output_is) left.ends)
+      (λ opened. cut-of source input f spelled counts left.trace left.output (held_new 1) (held_new 2) (same_trace ∙ left.trace_is) (same_output ∙ left.output_is) left.ends)
   concluded-read_fault feed line left (inr failed) =
       subst (λ s. Leaves j source input s held_first held_new open_new limit) (sym failed.0)
-        (λ opened. broken-cut source input (held_new 1) (held_new 2) (open_new 2) (cut-of source input f spelled counts left.trace left.output (held_new 1) (held_new 2) (same_trace ∙ left.trace_is) (same_output ∙ left.output_is) left.ends))
+      (λ opened. broken-cut source input (held_new 1) (held_new 2) (open_new 2) (cut-of source input f spelled counts left.trace left.output (held_new 1) (held_new 2) (same_trace ∙ left.trace_is) (same_output ∙ left.output_is) left.ends))
 
   pub concluded-write_fault : (channel : ℕ) (line : List ℕ) → HasLeft f input (end.WriteFault channel) counts (head_text (network_of f)) (held 1) [] (held 2)
       → Reported (WriteFault channel) result tells faults_old faults (held 0) (held_new 0) line
       → Leaves j source input result held_first held_new open_new limit
   concluded-write_fault channel line left (inl done) =
       subst (λ s. Leaves j source input s held_first held_new open_new limit) (sym done.0)
-        (λ opened. broken-of source input f spelled counts left.trace left.output (held_new 1) (held_new 2) (same_trace ∙ left.trace_is) (same_output ∙ left.output_is) (open_new 2) left.ends)
+      (λ opened. broken-of source input f spelled counts left.trace left.output (held_new 1) (held_new 2) (same_trace ∙ left.trace_is) (same_output ∙ left.output_is) (open_new 2) left.ends)
   concluded-write_fault channel line left (inr failed) =
       subst (λ s. Leaves j source input s held_first held_new open_new limit) (sym failed.0)
-        (λ opened. broken-of source input f spelled counts left.trace left.output (held_new 1) (held_new 2) (same_trace ∙ left.trace_is) (same_output ∙ left.output_is) (open_new 2) left.ends)
+      (λ opened. broken-of source input f spelled counts left.trace left.output (held_new 1) (held_new 2) (same_trace ∙ left.trace_is) (same_output ∙ left.output_is) (open_new 2) left.ends)
 
 -- of an end that is known
 pub left-as : (f : Form) (input : List ℕ) (how known : RunEnd) (counts : Counts) (tb th ob oh : List ℕ) → how ≡ known → HasLeft f input how counts tb th ob oh → HasLeft f input known counts tb th ob oh
@@ -180,13 +178,13 @@ pub opening-failed : (j : JobText) (source input : List ℕ) (f : Form) → Spel
     → Leaves j source input result held_first held_new open_new limit
 opening-failed j source input f spelled tells ffo ff fo fn faults_old faults trace_open limit held_first held_new held_zero held_zero_new line open_new (ReadFault (Feed feed)) result opening (inl done) same no_trace no_output =
     subst (λ s. Leaves j source input s held_first held_new open_new limit) (sym done.0)
-      (λ opened. absurd (Rattle.std.proofs.lemmas.Bool.false≢true (sym opening.1 ∙ sym same ∙ opened)))
+    (λ opened. absurd (Rattle.std.proofs.lemmas.Bool.false≢true (sym opening.1 ∙ sym same ∙ opened)))
 opening-failed j source input f spelled tells ffo ff fo fn faults_old faults trace_open limit held_first held_new held_zero held_zero_new line open_new (WriteFault channel) result opening (inl done) same no_trace no_output =
     subst (λ s. Leaves j source input s held_first held_new open_new limit) (sym done.0)
-      (λ opened. broken-head source input f (held_new 1) (held_new 2) (open_new 2) spelled (record { rest = head_text (network_of f); is = ap (λ h. h ++ head_text (network_of f)) (sym (no_trace opened)) }) no_output)
+    (λ opened. broken-head source input f (held_new 1) (held_new 2) (open_new 2) spelled (record { rest = head_text (network_of f); is = ap (λ h. h ++ head_text (network_of f)) (sym (no_trace opened)) }) no_output)
 opening-failed j source input f spelled tells ffo ff fo fn faults_old faults trace_open limit held_first held_new held_zero held_zero_new line open_new status result opening (inr failed) same no_trace no_output =
     subst (λ s. Leaves j source input s held_first held_new open_new limit) (sym failed.0)
-      (λ opened. broken-head source input f (held_new 1) (held_new 2) (open_new 2) spelled (record { rest = head_text (network_of f); is = ap (λ h. h ++ head_text (network_of f)) (sym (no_trace opened)) }) no_output)
+    (λ opened. broken-head source input f (held_new 1) (held_new 2) (open_new 2) spelled (record { rest = head_text (network_of f); is = ap (λ h. h ++ head_text (network_of f)) (sym (no_trace opened)) }) no_output)
 opening-failed j source input f spelled tells ffo ff fo fn faults_old faults trace_open limit held_first held_new held_zero held_zero_new line open_new (ReadFault (File file)) result opening (inl done) same no_trace no_output = absurd opening
 opening-failed j source input f spelled tells ffo ff fo fn faults_old faults trace_open limit held_first held_new held_zero held_zero_new line open_new Quiet result opening (inl done) same no_trace no_output = absurd opening
 opening-failed j source input f spelled tells ffo ff fo fn faults_old faults trace_open limit held_first held_new held_zero held_zero_new line open_new (Usage cause) result opening (inl done) same no_trace no_output = absurd opening
@@ -201,13 +199,15 @@ pub head-failed : (j : JobText) (source input : List ℕ) (f : Form) → Spells 
     → Leaves j source input result held_first held_new open_new limit
 head-failed j source input f spelled tells faults_old faults limit held_first held_new held_zero held_zero_new line head held_before held_after open_new result reported head_is none front same no_output = answered reported
   where
-  is_front : IsFrontOf (held_new 1) (head_text (network_of f))
-  is_front = record { rest = front.left; is = sym head_is ∙ front.text_is ∙ ap (λ h. h ++ front.left) (sym (same ∙ front.new_is ∙ ap (λ h. h ++ front.put) none)) }
-  broken : IsBrokenRun source input (held_new 1) (open_new 2) (held_new 2)
-  broken = broken-head source input f (held_new 1) (held_new 2) (open_new 2) spelled is_front no_output
-  answered : Reported (WriteFault 1) result tells faults_old faults held_zero held_zero_new line → Leaves j source input result held_first held_new open_new limit
-  answered (inl done) = subst (λ s. Leaves j source input s held_first held_new open_new limit) (sym done.0) (λ opened. broken)
-  answered (inr failed) = subst (λ s. Leaves j source input s held_first held_new open_new limit) (sym failed.0) (λ opened. broken)
+    is_front : IsFrontOf (held_new 1) (head_text (network_of f))
+    is_front = record { rest = front.left; is = sym head_is ∙ front.text_is ∙ ap (λ h. h ++ front.left) (sym (same ∙ front.new_is ∙ ap (λ h. h ++ front.put) none)) }
+
+    broken : IsBrokenRun source input (held_new 1) (open_new 2) (held_new 2)
+    broken = broken-head source input f (held_new 1) (held_new 2) (open_new 2) spelled is_front no_output
+
+    answered : Reported (WriteFault 1) result tells faults_old faults held_zero held_zero_new line → Leaves j source input result held_first held_new open_new limit
+    answered (inl done) = subst (λ s. Leaves j source input s held_first held_new open_new limit) (sym done.0) (λ opened. broken)
+    answered (inr failed) = subst (λ s. Leaves j source input s held_first held_new open_new limit) (sym failed.0) (λ opened. broken)
 
 pub report≢trace : ◌≢◌ {A = ℕ} 0 1
 report≢trace e = absurd (omega arith)

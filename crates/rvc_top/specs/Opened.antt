@@ -3,7 +3,6 @@ use Rattle.std.specs.Prelude.{◌≡◌, ℕ, Bool, false}
 use Rattle.rvc_io.specs.Count.{HasRisen}
 use Rattle.rvc_top.specs.declared.status.Status.{Status}
 use Rattle.rvc_top.specs.declared.status.Status.TheVariants.{Quiet, Usage, ReadFault, WriteFault, Refused, Budget, OutOfMemory}
-use Rattle.rvc_top.specs.declared.status.ReadAt.{ReadAt}
 use Rattle.rvc_top.specs.declared.status.ReadAt.TheVariants.{File, Feed}
 
 abbrev pub IsOpening : (feed_faults_old feed_faults faults_old faults : ℕ) → (trace_open : Bool) → Status → Type 0

@@ -12,7 +12,6 @@ use Rattle.first_runner.specs.Source.{network_of}
 use Rattle.rvc_top.specs.Refused.{NamesPorts}
 use Rattle.rvc_top.specs.declared.status.Status.{Status}
 use Rattle.rvc_top.specs.declared.status.Status.TheVariants.{Quiet, Usage, ReadFault, WriteFault, Refused, Budget, OutOfMemory}
-use Rattle.rvc_top.specs.declared.status.ReadAt.{ReadAt}
 use Rattle.rvc_top.specs.declared.status.ReadAt.TheVariants.{File, Feed}
 
 -- an answer before the run begins

@@ -1,5 +1,5 @@
 -- What refuses a job: a rule is broken at its place.
-use Rattle.std.specs.Prelude.{◌≡◌, ◌≢◌, ℕ, ◌<◌, ◌⊎◌, List, [], ◌∷◌, ◌++◌, length, codes, true}
+use Rattle.std.specs.Prelude.{◌≡◌, ℕ, List, ◌++◌, codes, true}
 use Rattle.rvc_io.specs.Told.{Told, Untold, Lacking, Holding, IsLacking}
 use Rattle.rvc_io.specs.Library.{max_file_bytes, IsTooLong}
 use Rattle.rvc_io.specs.Count.{HasRisen}

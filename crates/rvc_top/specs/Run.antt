@@ -12,7 +12,6 @@ use Rattle.first_runner.specs.Source.{network_of}
 use Rattle.first_runner.specs.Ran.{Counted, AreMoves, IsFrontOf}
 use Rattle.rvc_top.specs.declared.status.Status.{Status}
 use Rattle.rvc_top.specs.declared.status.Status.TheVariants.{Quiet, Usage, ReadFault, WriteFault, Refused, Budget, OutOfMemory}
-use Rattle.rvc_top.specs.declared.status.ReadAt.{ReadAt}
 use Rattle.rvc_top.specs.declared.status.ReadAt.TheVariants.{File, Feed}
 use Rattle.rvc_top.specs.Report.{run_lines, last_line}
 

@@ -5,6 +5,8 @@ mod opening;
 mod preparing;
 mod reporting;
 mod status;
+#[cfg(test)]
+mod tests;
 mod top;
 
 pub use rvc_words::UsageCause;

@@ -14,8 +14,7 @@ ghost use Rattle.rvc_base.specs.declared.refusal.Refusal.{Refusal as Denial};
 ghost use Rattle.rvc_top.specs.declared.status.ReadAt.{ReadAt as Where};
 ghost use Rattle.std.specs.Result.{IsErrOf};
 
-use std::alloc::Global;
-
+use crate::status::{ReadAt, Status};
 use arrayvec::ArrayVec;
 use cal_model::ast::Actor;
 use first_form::{FormFault, is_name, read_form};
@@ -23,9 +22,8 @@ use first_runner::Runner;
 use rvc_base::{Memory, Place, Refusal, Rule};
 use rvc_io::{Library, MAX_FILE_BYTES, ReadAnswer};
 use rvc_words::Job;
+use std::alloc::Global;
 use trace_text::{Line, write_front, write_line};
-
-use crate::status::{ReadAt, Status};
 
 /// What is ready to run.
 #[derive(Drop)]
@@ -67,11 +65,7 @@ fn is_top(top: &str) -> bool
 }
 
 /// Reads the source of the job's top.
-fn source_of<L: Library>(
-    alloc: Global,
-    job: &Job,
-    library: &mut L,
-) -> Result<Vec<u8>, Status>
+fn source_of<L: Library>(alloc: Global, job: &Job, library: &mut L) -> Result<Vec<u8>, Status>
     ensures found { IfOk result (λ source. IsTold (L.file library.old (string_bytes job.now.top)) source.items) }
     ensures short { IfOk result (λ source. length source.items ≤ MAX_FILE_BYTES) }
     ensures refused { (refusal : Denial) → IsErrOf result (Status.Refused refusal) → IsRefusal (job_text job.now) (L.file library.old (string_bytes job.now.top)) (L.misses library.old) (L.misses library.new) refusal }
@@ -150,11 +144,7 @@ fn head_of(alloc: Global, actor: &Actor) -> Result<Vec<u8>, Memory>
 }
 
 /// Reads the job's actor, and takes the memory for its run.
-pub fn prepare<L: Library>(
-    alloc: Global,
-    job: &Job,
-    library: &mut L,
-) -> Result<Plan, Status>
+pub fn prepare<L: Library>(alloc: Global, job: &Job, library: &mut L) -> Result<Plan, Status>
     ensures planned { IfOk result (λ plan. IsPlanned (L.file library.old (string_bytes job.now.top)) (job_text job.now) (form_of plan.actor) plan.runner plan.head.items) }
     ensures refused { (refusal : Denial) → IsErrOf result (Status.Refused refusal) → IsRefusal (job_text job.now) (L.file library.old (string_bytes job.now.top)) (L.misses library.old) (L.misses library.new) refusal }
     ensures fault { (place : Where) → IsErrOf result (Status.ReadFault place) → HasRisen (L.faults library.old) (L.faults library.new) }

@@ -18,27 +18,20 @@ ghost use Rattle.first_runner.specs.Leaves.{Leaves as HasLeft};
 ghost use Rattle.first_runner.specs.Source.{network_of};
 ghost use Rattle.net_model.specs.Trace.{head_text};
 
-use std::alloc::Global;
-use std::thread::Threads;
-
+use crate::opening::open_all;
+use crate::preparing::{Plan, prepare};
+use crate::reporting::{REPORT_CHANNEL, report, report_memory, report_run, report_usage};
+use crate::status::{ReadAt, Status};
 use cal_model::ast::Actor;
 use channel_writer::put_all;
 use first_runner::{MAX_BUDGET, Outcome, RunEnd, TRACE_CHANNEL};
 use rvc_io::{Drains, Feeds, Gate, Library};
 use rvc_words::{Job, WordFault, read_words};
-
-use crate::opening::open_all;
-use crate::preparing::{Plan, prepare};
-use crate::reporting::{REPORT_CHANNEL, report, report_memory, report_run, report_usage};
-use crate::status::{ReadAt, Status};
+use std::alloc::Global;
+use std::thread::Threads;
 
 /// Runs what is planned, and reports it.
-fn perform<F: Feeds, D: Drains>(
-    plan: Plan,
-    job: &Job,
-    feeds: &mut F,
-    drains: &mut D,
-) -> Status
+fn perform<F: Feeds, D: Drains>(plan: Plan, job: &Job, feeds: &mut F, drains: &mut D) -> Status
     requires feed_closed { F.is_open feeds.old 1 ≡ false }
     requires trace_closed { D.is_open drains.old 1 ≡ false }
     requires output_closed { D.is_open drains.old 2 ≡ false }
@@ -68,12 +61,7 @@ fn perform<F: Feeds, D: Drains>(
 }
 
 /// Reports how a run ended.
-fn conclude<D: Drains>(
-    outcome: &Outcome,
-    job: &Job,
-    actor: &Actor,
-    drains: &mut D,
-) -> Status
+fn conclude<D: Drains>(outcome: &Outcome, job: &Job, actor: &Actor, drains: &mut D) -> Status
     requires { D.is_open drains.old REPORT_CHANNEL ≡ true }
     ensures leaves { (source input : List ℕ) (held_first : ℕ → List ℕ) → Spells source (form_of actor.now) → D.tells drains.old ≡ true
         → held_first 0 ≡ D.held drains.old 0
@@ -92,9 +80,7 @@ fn conclude<D: Drains>(
             };
             report_run(status, job, actor, counts, drains)
         }
-        RunEnd::ReadFault { feed } => {
-            report(Status::ReadFault(ReadAt::Feed(feed)), job, drains)
-        }
+        RunEnd::ReadFault { feed } => { report(Status::ReadFault(ReadAt::Feed(feed)), job, drains) }
         RunEnd::WriteFault { channel } => report(Status::WriteFault { channel }, job, drains),
     }
 }

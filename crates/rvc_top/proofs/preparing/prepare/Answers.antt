@@ -11,4 +11,4 @@ pub returns-in-Err-clause-refused : goal.returns-in-Err-clause-refused
 returns-in-Err-clause-refused g c = λ refusal answered.
     let told : IsTold (g.L.Library.file c.args.library.now (string_bytes c.args.job.now.top)) c.in_ok-source.source.items = c.in_ok-source.ensures.found in
     actor-refusal (job_text c.args.job.now) _ c.in_ok-source.source.items _ _ refusal told
-      (let s : c.in-Err.status ≡ Refused refusal = cc in subst (λ xs. IsActorRefusal (job_text c.args.job.now) xs refusal) c.as_slice.ensures.value (c.in-Err.ensures.refused refusal (ap Err s)))
+    (let s : c.in-Err.status ≡ Refused refusal = cc in subst (λ xs. IsActorRefusal (job_text c.args.job.now) xs refusal) c.as_slice.ensures.value (c.in-Err.ensures.refused refusal (ap Err s)))

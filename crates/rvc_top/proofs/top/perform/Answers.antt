@@ -12,18 +12,18 @@ use Rattle.rvc_top.proofs.top.perform.Goals as goal
 pub returns-in-Err-clause-leaves : goal.returns-in-Err-clause-leaves
 returns-in-Err-clause-leaves g c = λ source input spelled input_is told.
     opening-failed (job_text c.args.job.now) source input (form_of c.args.plan.actor) spelled _ _ _ _ _ _ _ (g.D.Drains.is_open c.open_all.new.drains 1) c.args.job.now.budget (g.D.Drains.held c.args.drains.now) (g.D.Drains.held c.report.new.drains) (g.D.Drains.held c.open_all.new.drains 0) (g.D.Drains.held c.report.new.drains 0) (last_line (job_text c.args.job.now) c.in-Err.status) (g.D.Drains.is_open c.report.new.drains) c.in-Err.status c.report.result
-      c.in-Err.ensures.faults c.report.ensures.reported (c.report.ensures.keeps.same_open 1)
-      (λ opened. c.report.ensures.keeps.same_held (c.in-Err.ensures.same_telling ∙ told) 1 trace≢report ∙ c.in-Err.ensures.trace_empty told (sym (c.report.ensures.keeps.same_open 1) ∙ opened))
-      (λ opened. c.report.ensures.keeps.same_held (c.in-Err.ensures.same_telling ∙ told) 2 output≢report ∙ c.in-Err.ensures.output_empty told (sym (c.report.ensures.keeps.same_open 2) ∙ opened))
+    c.in-Err.ensures.faults c.report.ensures.reported (c.report.ensures.keeps.same_open 1)
+    (λ opened. c.report.ensures.keeps.same_held (c.in-Err.ensures.same_telling ∙ told) 1 trace≢report ∙ c.in-Err.ensures.trace_empty told (sym (c.report.ensures.keeps.same_open 1) ∙ opened))
+    (λ opened. c.report.ensures.keeps.same_held (c.in-Err.ensures.same_telling ∙ told) 2 output≢report ∙ c.in-Err.ensures.output_empty told (sym (c.report.ensures.keeps.same_open 2) ∙ opened))
 
 pub returns-in_default-put_all-clause-leaves : goal.returns-in_default-put_all-clause-leaves
 returns-in_default-put_all-clause-leaves g c = λ source input spelled input_is told.
     let told_1 = c.in_default.ensures.same_telling ∙ told in
     let told_2 = c.in_default-put_all.ensures.same_telling ∙ c.in_default.ensures.same_telling ∙ told in
     head-failed (job_text c.args.job.now) source input (form_of c.args.plan.actor) spelled _ _ _ c.args.job.now.budget (g.D.Drains.held c.args.drains.now) (g.D.Drains.held c.report-in_default-put_all.new.drains) (g.D.Drains.held c.put_all.new.drains 0) (g.D.Drains.held c.report-in_default-put_all.new.drains 0) (last_line (job_text c.args.job.now) (WriteFault 1)) c.as_slice.result.now (g.D.Drains.held c.open_all.new.drains 1) (g.D.Drains.held c.put_all.new.drains 1) (g.D.Drains.is_open c.report-in_default-put_all.new.drains) c.report-in_default-put_all.result
-      c.report-in_default-put_all.ensures.reported (c.as_slice.ensures.value ∙ c.requires.planned.head_is) (c.in_default.ensures.trace_empty told c.in_default.ensures.trace_open)
-      (c.in_default-put_all.ensures.front told_1) (c.report-in_default-put_all.ensures.keeps.same_held told_2 1 trace≢report)
-      (λ opened. c.report-in_default-put_all.ensures.keeps.same_held told_2 2 output≢report ∙ c.in_default-put_all.ensures.same_held told_1 2 output≢trace ∙ c.in_default.ensures.output_empty told c.in_default.ensures.output_open)
+    c.report-in_default-put_all.ensures.reported (c.as_slice.ensures.value ∙ c.requires.planned.head_is) (c.in_default.ensures.trace_empty told c.in_default.ensures.trace_open)
+    (c.in_default-put_all.ensures.front told_1) (c.report-in_default-put_all.ensures.keeps.same_held told_2 1 trace≢report)
+    (λ opened. c.report-in_default-put_all.ensures.keeps.same_held told_2 2 output≢report ∙ c.in_default-put_all.ensures.same_held told_1 2 output≢trace ∙ c.in_default.ensures.output_empty told c.in_default.ensures.output_open)
 
 pub returns-clause-leaves : goal.returns-clause-leaves
 returns-clause-leaves g c = λ source input spelled input_is told.
@@ -31,12 +31,12 @@ returns-clause-leaves g c = λ source input spelled input_is told.
     let told_2 = c.in-Ok.ensures.same_telling ∙ c.in_default.ensures.same_telling ∙ told in
     let told_3 = c.run-outcome.ensures.others.same_telling ∙ told_2 in
     let head_there : g.D.Drains.held c.put_all.new.drains 1 ≡ head_text (network_of (form_of c.args.plan.actor)) =
-        c.in-Ok.ensures.all told_1 ∙ ap (λ h. h ++ c.as_slice.result.now) (c.in_default.ensures.trace_empty told c.in_default.ensures.trace_open) ∙ c.as_slice.ensures.value ∙ c.requires.planned.head_is in
+    c.in-Ok.ensures.all told_1 ∙ ap (λ h. h ++ c.as_slice.result.now) (c.in_default.ensures.trace_empty told c.in_default.ensures.trace_open) ∙ c.as_slice.ensures.value ∙ c.requires.planned.head_is in
     let output_empty : g.D.Drains.held c.put_all.new.drains 2 ≡ [] =
-        c.in-Ok.ensures.same_held told_1 2 output≢trace ∙ c.in_default.ensures.output_empty told c.in_default.ensures.output_open in
+    c.in-Ok.ensures.same_held told_1 2 output≢trace ∙ c.in_default.ensures.output_empty told c.in_default.ensures.output_open in
     let left = c.run-outcome.ensures.leaves (form_of c.args.plan.actor) input c.requires.planned.sum_is (c.in_default.ensures.input ∙ input_is) told_2 in
     c.conclude.ensures.leaves source input (g.D.Drains.held c.args.drains.now) spelled told_3
-      (sym (c.run-outcome.ensures.others.same_held told_2 0 report≢trace report≢output ∙ c.in-Ok.ensures.same_held told_1 0 report≢trace ∙ c.in_default.ensures.same_held told 0 report≢trace report≢output))
-      (subst (λ h. HasLeft (form_of c.args.plan.actor) input c.run-outcome.result.end c.run-outcome.result.counts h (g.D.Drains.held c.run-outcome.new.drains 1) [] (g.D.Drains.held c.run-outcome.new.drains 2)) head_there
-        (subst (λ o. HasLeft (form_of c.args.plan.actor) input c.run-outcome.result.end c.run-outcome.result.counts (g.D.Drains.held c.put_all.new.drains 1) (g.D.Drains.held c.run-outcome.new.drains 1) o (g.D.Drains.held c.run-outcome.new.drains 2)) output_empty left))
-      c.run-outcome.ensures.spent
+    (sym (c.run-outcome.ensures.others.same_held told_2 0 report≢trace report≢output ∙ c.in-Ok.ensures.same_held told_1 0 report≢trace ∙ c.in_default.ensures.same_held told 0 report≢trace report≢output))
+    (subst (λ h. HasLeft (form_of c.args.plan.actor) input c.run-outcome.result.end c.run-outcome.result.counts h (g.D.Drains.held c.run-outcome.new.drains 1) [] (g.D.Drains.held c.run-outcome.new.drains 2)) head_there
+    (subst (λ o. HasLeft (form_of c.args.plan.actor) input c.run-outcome.result.end c.run-outcome.result.counts (g.D.Drains.held c.put_all.new.drains 1) (g.D.Drains.held c.run-outcome.new.drains 1) o (g.D.Drains.held c.run-outcome.new.drains 2)) output_empty left))
+    c.run-outcome.ensures.spent

@@ -1,0 +1,232 @@
+//! Runs over the objects in memory: their outputs, traces, reports and statuses, and what faults leave.
+
+ghost use Rattle.std.specs.Prelude.{◌<◌};
+
+use crate::{ReadAt, Status, rvc};
+use rvc_io::{MemDrains, MemFeeds, MemLibrary, OpenGate, names_are_distinct};
+use std::alloc::{AllocError, Global};
+use std::process::Abort;
+use std::test::Fail;
+use std::thread::Threads;
+
+const INC: &[u8] =
+    b"actor Inc() uint(size=8) In ==> uint(size=8) Out : action In:[a] ==> Out:[a + 1] end end";
+
+const INC_WORDS: &str = "rvc run Inc.cal In=in Out=out --trace t";
+
+const INC_TRACE: &[u8] = b"rvc-trace 1 1 2\ni 0 Inc Inc\nr\nf 0 0\nf 0 0\nf 0 0\nr\nq\n";
+
+const INC_REPORT: &[u8] =
+    b"instances 1\nlinks 2\nfirings 3\nrounds 2\nin In 0 tokens 3 rest 0\nout Out tokens 3\nquiet\n";
+
+const HEAD: &[u8] = b"rvc-trace 1 1 2\ni 0 Inc Inc\n";
+
+/// What is run: the words, the source under the name `Inc.cal`, and the input under the name `in`.
+#[derive(Drop)]
+struct Setting<'a> {
+    words: &'a str,
+    source: &'a [u8],
+    input: &'a [u8],
+    /// The most bytes that a call moves.
+    step: u32,
+    /// The call to the feeds that fails, counted from 1; 0 for none.
+    failing_feed: u64,
+    /// The call to the channels that fails, counted from 1; 0 for none.
+    failing_drain: u64,
+}
+
+/// The first example: three bytes, and calls that move many bytes and don't fail.
+fn inc() -> Setting<'static> {
+    Setting {
+        words: INC_WORDS,
+        source: INC,
+        input: &[0, 1, 255],
+        step: 1000,
+        failing_feed: 0,
+        failing_drain: 0,
+    }
+}
+
+/// How a run ended, and its channels.
+#[derive(Drop)]
+struct Ran {
+    status: Status,
+    drains: MemDrains,
+}
+
+/// The words of a line, which one blank each parts.
+fn words(alloc: Global, line: &str) -> Result<Vec<String>, AllocError> {
+    let mut words = Vec::new(alloc);
+    for word in line.split(' ') {
+        words.push(String::from_str(alloc, word)?)?;
+    }
+    Ok(words)
+}
+
+/// One file.
+fn file(alloc: Global, name: &str, bytes: &[u8]) -> Result<Vec<(String, Vec<u8>)>, AllocError> {
+    let mut files = Vec::new(alloc);
+    files.push((
+        String::from_str(alloc, name)?,
+        Vec::from_slice(alloc, bytes)?,
+    ))?;
+    Ok(files)
+}
+
+/// Runs a setting on objects of its own.
+fn run_setting<R: Abort + Threads + Sync>(
+    rt: &R,
+    alloc: Global,
+    setting: &Setting<'_>,
+) -> Result<Ran, Fail> {
+    let sources = file(alloc, "Inc.cal", setting.source)?;
+    let inputs = file(alloc, "in", setting.input)?;
+    assert!(rt; names_are_distinct(&sources));
+    assert!(rt; names_are_distinct(&inputs));
+    assert!(rt; setting.step > 0);
+    let mut library = MemLibrary::new(sources, Vec::new(alloc));
+    let pulls = vec![in alloc; setting.failing_feed]?;
+    let puts = vec![in alloc; setting.failing_drain]?;
+    let mut feeds = MemFeeds::new(alloc, inputs, pulls, setting.step, 2)?;
+    let mut drains = MemDrains::new(alloc, puts, setting.step, 3, 4096)?;
+    let words = words(alloc, setting.words)?;
+    let status = rvc(
+        rt,
+        alloc,
+        words.as_slice(),
+        &mut library,
+        &mut feeds,
+        &mut drains,
+        &OpenGate,
+    );
+    Ok(Ran { status, drains })
+}
+
+#[test]
+fn adds_one_to_each_byte(rt: HostRuntime) -> Result<(), Fail> {
+    for step in [1, 3, 1000] {
+        let ran = run_setting(&rt, rt.alloc(), &Setting { step, ..inc() })?;
+        assert_eq!(rt; ran.status, Status::Quiet);
+        assert_eq!(rt; ran.drains.held(2), [1, 2, 0].as_slice());
+        assert_eq!(rt; ran.drains.held(1), INC_TRACE);
+        assert_eq!(rt; ran.drains.held(0), INC_REPORT);
+    }
+    Ok(())
+}
+
+#[test]
+fn no_bytes_give_no_bytes(rt: HostRuntime) -> Result<(), Fail> {
+    let setting = Setting {
+        input: &[],
+        ..inc()
+    };
+    let ran = run_setting(&rt, rt.alloc(), &setting)?;
+    assert_eq!(rt; ran.status, Status::Quiet);
+    assert_eq!(rt; ran.drains.held(2).len(), 0);
+    assert_eq!(rt;
+        ran.drains.held(1),
+        b"rvc-trace 1 1 2\ni 0 Inc Inc\nr\nq\n".as_slice()
+    );
+    assert_eq!(rt;
+        ran.drains.held(0),
+        b"instances 1\nlinks 2\nfirings 0\nrounds 1\nin In 0 tokens 0 rest 0\nout Out tokens 0\nquiet\n".as_slice()
+    );
+    Ok(())
+}
+
+#[test]
+fn ends_by_its_budget(rt: HostRuntime) -> Result<(), Fail> {
+    let setting = Setting {
+        words: "rvc run Inc.cal In=in Out=out --trace t --budget 2",
+        ..inc()
+    };
+    let ran = run_setting(&rt, rt.alloc(), &setting)?;
+    assert_eq!(rt; ran.status, Status::Budget { firings: 2 });
+    assert_eq!(rt; ran.status.code(), 7);
+    assert_eq!(rt; ran.drains.held(2), [1, 2].as_slice());
+    assert_eq!(rt;
+        ran.drains.held(1),
+        b"rvc-trace 1 1 2\ni 0 Inc Inc\nr\nf 0 0\nf 0 0\nr\nb\n".as_slice()
+    );
+    assert!(rt; ran.drains.held(0).ends_with(b"\nbudget 2\n"));
+    Ok(())
+}
+
+#[test]
+fn a_budget_just_great_enough_is_quiet(rt: HostRuntime) -> Result<(), Fail> {
+    let setting = Setting {
+        words: "rvc run Inc.cal In=in Out=out --trace t --budget 3",
+        ..inc()
+    };
+    let ran = run_setting(&rt, rt.alloc(), &setting)?;
+    assert_eq!(rt; ran.status, Status::Quiet);
+    assert_eq!(rt; ran.drains.held(1), INC_TRACE);
+    Ok(())
+}
+
+#[test]
+fn a_failed_pull_is_a_read_fault(rt: HostRuntime) -> Result<(), Fail> {
+    let setting = Setting {
+        step: 1,
+        failing_feed: 3,
+        ..inc()
+    };
+    let ran = run_setting(&rt, rt.alloc(), &setting)?;
+    assert_eq!(rt; ran.status, Status::ReadFault(ReadAt::Feed(1)));
+    assert_eq!(rt; ran.drains.held(2).len(), 0);
+    assert_eq!(rt; ran.drains.held(1), HEAD);
+    assert_eq!(rt; ran.drains.held(0), b"read fault in\n".as_slice());
+    Ok(())
+}
+
+#[test]
+fn a_failed_output_is_a_write_fault(rt: HostRuntime) -> Result<(), Fail> {
+    let setting = Setting {
+        failing_drain: 4,
+        ..inc()
+    };
+    let ran = run_setting(&rt, rt.alloc(), &setting)?;
+    assert_eq!(rt; ran.status, Status::WriteFault { channel: 2 });
+    assert_eq!(rt; ran.drains.held(2).len(), 0);
+    assert_eq!(rt; ran.drains.held(0), b"write fault 2\n".as_slice());
+    Ok(())
+}
+
+#[test]
+fn a_file_that_lacks_is_refused(rt: HostRuntime) -> Result<(), Fail> {
+    let setting = Setting {
+        words: "rvc run No.cal In=in Out=out --trace t",
+        ..inc()
+    };
+    let ran = run_setting(&rt, rt.alloc(), &setting)?;
+    assert_eq!(rt; ran.status.code(), 4);
+    assert_eq!(rt; ran.drains.held(1).len(), 0);
+    assert_eq!(rt; ran.drains.held(0), b"refused N1 words 0\n".as_slice());
+    Ok(())
+}
+
+#[test]
+fn a_source_is_refused_where_it_departs(rt: HostRuntime) -> Result<(), Fail> {
+    let setting = Setting {
+        source: b"actor B() uint(size=8) In ==> ",
+        ..inc()
+    };
+    let ran = run_setting(&rt, rt.alloc(), &setting)?;
+    assert_eq!(rt; ran.status.code(), 4);
+    assert_eq!(rt; ran.drains.held(1).len(), 0);
+    assert_eq!(rt; ran.drains.held(0), b"refused Y1 Inc.cal 30\n".as_slice());
+    Ok(())
+}
+
+#[test]
+fn words_that_are_no_job_are_usage(rt: HostRuntime) -> Result<(), Fail> {
+    let setting = Setting {
+        words: "rvc run Inc.cal",
+        ..inc()
+    };
+    let ran = run_setting(&rt, rt.alloc(), &setting)?;
+    assert_eq!(rt; ran.status.code(), 1);
+    assert_eq!(rt; ran.drains.held(1).len(), 0);
+    assert!(rt; ran.drains.held(0).starts_with(b"usage words\n"));
+    Ok(())
+}
