@@ -1,3 +1,4 @@
 mod Denials
 mod Ending
 mod Budgets
+mod Reports

@@ -1,5 +1,5 @@
 -- The report.
-use Rattle.std.specs.Prelude.{ℕ, List, ◌++◌, codes, decimal, ◌==◌, if◌then◌else◌}
+use Rattle.std.specs.Prelude.{ℕ, ◌≡◌, ◌≢◌, List, ◌++◌, codes, decimal, ◌==◌, if◌then◌else◌}
 use Rattle.rvc_base.specs.Refusal.{rule_text}
 use Rattle.rvc_base.specs.declared.refusal.Refusal.{Refusal}
 use Rattle.rvc_words.specs.Words.{JobText}
@@ -50,3 +50,24 @@ last_line j (WriteFault channel) = codes "write fault " ++ decimal channel ++ li
 last_line j (Refused refusal) = refusal_line j refusal
 last_line j (Budget firings) = codes "budget " ++ decimal firings ++ line_feed
 last_line j OutOfMemory = memory_text
+
+-- Channel 0 got exactly the report, where no run ended. Nothing is said where the report itself couldn't be
+-- written, which is a write fault on channel 0; what a run's end reports stands with what it leaves.
+abbrev pub IsReported : JobText → Status → (held_old held : List ℕ) → Type 0
+IsReported j Quiet held_old held = Unit {0}
+IsReported j (Usage cause) held_old held = held ≡ held_old ++ usage_text
+IsReported j (ReadFault place) held_old held = held ≡ held_old ++ last_line j (ReadFault place)
+IsReported j (WriteFault channel) held_old held = channel ≢ 0 → held ≡ held_old ++ last_line j (WriteFault channel)
+IsReported j (Refused refusal) held_old held = held ≡ held_old ++ last_line j (Refused refusal)
+IsReported j (Budget firings) held_old held = Unit {0}
+IsReported j OutOfMemory held_old held = held ≡ held_old ++ memory_text
+
+-- the reports that come without a job too
+abbrev pub IsReportedPlainly : Status → (held_old held : List ℕ) → Type 0
+IsReportedPlainly Quiet held_old held = Unit {0}
+IsReportedPlainly (Usage cause) held_old held = held ≡ held_old ++ usage_text
+IsReportedPlainly (ReadFault place) held_old held = Unit {0}
+IsReportedPlainly (WriteFault channel) held_old held = Unit {0}
+IsReportedPlainly (Refused refusal) held_old held = Unit {0}
+IsReportedPlainly (Budget firings) held_old held = Unit {0}
+IsReportedPlainly OutOfMemory held_old held = held ≡ held_old ++ memory_text

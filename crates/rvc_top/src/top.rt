@@ -9,6 +9,7 @@ ghost use Rattle.cal_model.specs.Form.{form_of};
 ghost use Rattle.rvc_words.specs.Words.{JobText, job, job_text, texts};
 ghost use Rattle.rvc_words.specs.declared.fault.UsageCause.{UsageCause};
 ghost use Rattle.rvc_top.specs.Status.{IsBeforeAll, IsOfJob};
+ghost use Rattle.rvc_top.specs.Report.{IsReported, IsReportedPlainly};
 ghost use Rattle.rvc_top.specs.Refused.{IsRefusal};
 ghost use Rattle.rvc_top.specs.Planned.{IsReady, IsPerformed, HasCause, IsCaused};
 ghost use Rattle.rvc_top.specs.Run.{Leaves};
@@ -41,6 +42,7 @@ fn perform<F: Feeds, D: Drains>(plan: Plan, job: &Job, feeds: &mut F, drains: &m
     ensures leaves { (source input : List ℕ) → Spells source (form_of plan.actor) → F.under feeds.old (string_bytes job.now.input.file) ≡ Some input → D.tells drains.old ≡ true
         → Leaves (job_text job.now) source input result (D.held drains.old) (D.held drains.new) (D.is_open drains.new) job.now.budget }
     ensures performed { IsPerformed (F.faults feeds.old) (F.faults feeds.new) (D.faults drains.old) (D.faults drains.new) result }
+    ensures reported { D.tells drains.old ≡ true → IsReported (job_text job.now) result (D.held drains.old 0) (D.held drains.new 0) }
 {
     let Plan {
         actor,
@@ -69,6 +71,7 @@ fn conclude<D: Drains>(outcome: &Outcome, job: &Job, actor: &Actor, drains: &mut
         → (outcome.now.end ≡ RunEnd.Budget → outcome.now.counts.firings ≡ job.now.budget)
         → Leaves (job_text job.now) source input result held_first (D.held drains.new) (D.is_open drains.new) job.now.budget }
     ensures answers { Answers outcome.now.end result (D.faults drains.old) (D.faults drains.new) }
+    ensures reported { D.tells drains.old ≡ true → IsReported (job_text job.now) result (D.held drains.old 0) (D.held drains.new 0) }
     ensures keeps { KeepsAll (D.tells drains.old) (D.tells drains.new) (D.held drains.old) (D.held drains.new) (D.is_open drains.old) (D.is_open drains.new) (D.faults drains.old) (D.faults drains.new) }
 {
     let counts = &outcome.counts;
@@ -102,6 +105,7 @@ fn run_job<L: Library, F: Feeds, D: Drains>(
         → Leaves (job_text job.now) source input result (D.held drains.old) (D.held drains.new) (D.is_open drains.new) job.now.budget }
     ensures refused { (refusal : Denial) → result ≡ Status.Refused refusal → IsRefusal (job_text job.now) (L.file library.old (string_bytes job.now.top)) (L.misses library.old) (L.misses library.new) refusal }
     ensures faults { HasCause (L.faults library.old) (L.faults library.new) (F.faults feeds.old) (F.faults feeds.new) (D.faults drains.old) (D.faults drains.new) result }
+    ensures reported { D.tells drains.old ≡ true → IsReported (job_text job.now) result (D.held drains.old 0) (D.held drains.new 0) }
     ensures nothing_else { IsBeforeAll result → D.tells drains.old ≡ true → SameElsewhere (D.held drains.old) (D.held drains.new) 0 }
     ensures nothing_opened { IsBeforeAll result → (other : ℕ) → D.is_open drains.new other ≡ D.is_open drains.old other }
 {
@@ -122,6 +126,8 @@ fn run_job<L: Library, F: Feeds, D: Drains>(
 /// - `refused`: the rule is broken at its place.
 /// - `usage`: the words are no job, and only such words are answered so.
 /// - `faults`: each fault names what failed in this call.
+/// - `report` and `plain_report`: where no run ended, channel 0 got exactly the report, unless that couldn't be
+///   written.
 /// - `nothing_else` and `nothing_opened`: before the run begins nothing is opened and nothing but the report is
 ///   written.
 pub fn rvc<R: Threads + Sync, L: Library, F: Feeds, D: Drains, G: Gate>(
@@ -142,6 +148,8 @@ pub fn rvc<R: Threads + Sync, L: Library, F: Feeds, D: Drains, G: Gate>(
     ensures usage { (cause : UsageCause) → result ≡ Status.Usage cause → job (texts words.now) ≡ None }
     ensures planned { IsOfJob result → IsSome (job (texts words.now)) }
     ensures faults { IsCaused (L.faults library.old) (L.faults library.new) (F.faults feeds.old) (F.faults feeds.new) (D.faults drains.old) (D.faults drains.new) result }
+    ensures report { (j : JobText) → job (texts words.now) ≡ Some j → D.tells drains.old ≡ true → IsReported j result (D.held drains.old 0) (D.held drains.new 0) }
+    ensures plain_report { D.tells drains.old ≡ true → IsReportedPlainly result (D.held drains.old 0) (D.held drains.new 0) }
     ensures nothing_else { IsBeforeAll result → D.tells drains.old ≡ true → SameElsewhere (D.held drains.old) (D.held drains.new) 0 }
     ensures nothing_opened { IsBeforeAll result → (other : ℕ) → D.is_open drains.new other ≡ D.is_open drains.old other }
 {

@@ -4,8 +4,9 @@ use Rattle.rvc_words.specs.Words.{job_text}
 use Rattle.first_runner.specs.Leaves.{Leaves as HasLeft}
 use Rattle.first_runner.specs.Source.{network_of}
 use Rattle.net_model.specs.Trace.{head_text}
-use Rattle.rvc_top.specs.Report.{last_line}
+use Rattle.rvc_top.specs.Report.{last_line, IsReported}
 use Rattle.rvc_top.specs.declared.status.Status.TheVariants.{WriteFault}
+use Rattle.rvc_top.proofs.Reports.{by-last-line}
 use Rattle.rvc_top.proofs.Ending.{opening-failed, head-failed, trace≢report, output≢report, report≢trace, report≢output, output≢trace}
 use Rattle.rvc_top.proofs.top.perform.Goals as goal
 
@@ -40,3 +41,24 @@ returns-clause-leaves g c = λ source input spelled input_is told.
     (subst (λ h. HasLeft (form_of c.args.plan.actor) input c.run-outcome.result.end c.run-outcome.result.counts h (g.D.Drains.held c.run-outcome.new.drains 1) [] (g.D.Drains.held c.run-outcome.new.drains 2)) head_there
     (subst (λ o. HasLeft (form_of c.args.plan.actor) input c.run-outcome.result.end c.run-outcome.result.counts (g.D.Drains.held c.put_all.new.drains 1) (g.D.Drains.held c.run-outcome.new.drains 1) o (g.D.Drains.held c.run-outcome.new.drains 2)) output_empty left))
     c.run-outcome.ensures.spent
+
+pub returns-in-Err-clause-reported : goal.returns-in-Err-clause-reported
+returns-in-Err-clause-reported g c = λ told.
+    by-last-line (job_text c.args.job.now) c.in-Err.status c.report.result _ _ _ (g.D.Drains.held c.args.drains.now 0) (g.D.Drains.held c.open_all.new.drains 0) (g.D.Drains.held c.report.new.drains 0)
+    c.report.ensures.reported (c.in-Err.ensures.same_telling ∙ told) (c.in-Err.ensures.same_held told 0 report≢trace report≢output)
+
+pub returns-in_default-put_all-clause-reported : goal.returns-in_default-put_all-clause-reported
+returns-in_default-put_all-clause-reported g c = λ told.
+    let told_1 = c.in_default.ensures.same_telling ∙ told in
+    by-last-line (job_text c.args.job.now) (WriteFault 1) c.report-in_default-put_all.result _ _ _ (g.D.Drains.held c.args.drains.now 0) (g.D.Drains.held c.put_all.new.drains 0) (g.D.Drains.held c.report-in_default-put_all.new.drains 0)
+    c.report-in_default-put_all.ensures.reported (c.in_default-put_all.ensures.same_telling ∙ told_1)
+    (c.in_default-put_all.ensures.same_held told_1 0 report≢trace ∙ c.in_default.ensures.same_held told 0 report≢trace report≢output)
+
+pub returns-clause-reported : goal.returns-clause-reported
+returns-clause-reported g c = λ told.
+    let told_1 = c.in_default.ensures.same_telling ∙ told in
+    let told_2 = c.in-Ok.ensures.same_telling ∙ told_1 in
+    let told_3 = c.run-outcome.ensures.others.same_telling ∙ told_2 in
+    subst (λ h. IsReported (job_text c.args.job.now) c.conclude.result h (g.D.Drains.held c.conclude.new.drains 0))
+    (c.run-outcome.ensures.others.same_held told_2 0 report≢trace report≢output ∙ c.in-Ok.ensures.same_held told_1 0 report≢trace ∙ c.in_default.ensures.same_held told 0 report≢trace report≢output)
+    (c.conclude.ensures.reported told_3)
