@@ -1,6 +1,8 @@
 -- The exit statuses.
 use Rattle.std.specs.Prelude.{ℕ}
 use Rattle.rvc_top.specs.declared.status.Status.{Status}
+use Rattle.rvc_top.specs.declared.status.ReadAt.{ReadAt}
+use Rattle.rvc_top.specs.declared.status.ReadAt.TheVariants.{File, Feed}
 use Rattle.rvc_top.specs.declared.status.Status.TheVariants.{Quiet, Usage, ReadFault, WriteFault, Refused, Budget, OutOfMemory}
 
 abbrev pub code_of : Status → ℕ
@@ -12,11 +14,12 @@ code_of (Refused refusal) = 4
 code_of (Budget firings) = 7
 code_of OutOfMemory = 8
 
--- the run hadn't begun, and no channel but that of the report was opened
+-- nothing was opened yet
 abbrev pub IsBeforeAll : Status → Type 0
 IsBeforeAll Quiet = ⊥
 IsBeforeAll (Usage cause) = Unit {0}
-IsBeforeAll (ReadFault place) = ⊥
+IsBeforeAll (ReadFault (File file)) = Unit {0}
+IsBeforeAll (ReadFault (Feed feed)) = ⊥
 IsBeforeAll (WriteFault channel) = ⊥
 IsBeforeAll (Refused refusal) = Unit {0}
 IsBeforeAll (Budget firings) = ⊥
