@@ -120,16 +120,18 @@ fn run_job<L: Library, F: Feeds, D: Drains>(
 /// The words are read, the program's name first; then the source, which is checked against the form that is
 /// built; then the input and the trace and the output are opened, the rounds go, and the report is written last.
 ///
-/// - `run`: where the source, the input and the channels are told, the trace is the text of a run of the source's
-///   network over the input, the output is the bytes of that run, the status names how it ended, and the report
-///   counts it. After a fault the trace and the output are fronts of what belongs to one run.
-/// - `refused`: the rule is broken at its place.
-/// - `usage`: the words are no job, and only such words are answered so.
-/// - `faults`: each fault names what failed in this call.
+/// - `run`: where the source, the input and the channels are told, and the answer is `Quiet` or `Budget`, the trace
+///   is the text of a run of the source's network over the input, the output is the bytes of that run, the answer
+///   is true of its end, and the report counts it. After a fault on the way, where the trace was opened, the trace
+///   and the output are those of a part of a run, or fronts of them.
+/// - `refused`: the rule is broken at its place, as far as the source is told.
+/// - `usage`: `Usage` comes only of words that are no job.
+/// - `planned`: `Quiet`, `Budget`, `Refused` and `ReadFault` come only of words that are a job.
+/// - `faults`: a fault comes only where the count of faults of what it names rose in this call.
 /// - `report` and `plain_report`: where no run ended, channel 0 got exactly the report, unless that couldn't be
 ///   written.
-/// - `nothing_else` and `nothing_opened`: before the run begins nothing is opened and nothing but the report is
-///   written.
+/// - `nothing_else` and `nothing_opened`: after `Usage`, `Refused`, `OutOfMemory` and a source that can't be read,
+///   nothing was opened, and nothing but the report was written.
 pub fn rvc<R: Threads + Sync, L: Library, F: Feeds, D: Drains, G: Gate>(
     _rt: &R,
     alloc: Global,
