@@ -47,6 +47,9 @@ fn inc() -> Setting<'static> {
     }
 }
 
+/// How many bytes a call moves at most, in each row once: one, a few, and more than a row has.
+const STEPS: [u32; 3] = [1, 3, 1000];
+
 /// How a run ended, and its channels.
 #[derive(Drop)]
 struct Ran {
@@ -104,7 +107,7 @@ fn run_setting<R: Abort + Threads + Sync>(
 
 #[test]
 fn adds_one_to_each_byte(rt: HostRuntime) -> Result<(), Fail> {
-    for step in [1, 3, 1000] {
+    for step in STEPS {
         let ran = run_setting(&rt, rt.alloc(), &Setting { step, ..inc() })?;
         assert_eq!(rt; ran.status, Status::Quiet);
         assert_eq!(rt; ran.drains.held(2), [1, 2, 0].as_slice());
@@ -116,117 +119,140 @@ fn adds_one_to_each_byte(rt: HostRuntime) -> Result<(), Fail> {
 
 #[test]
 fn no_bytes_give_no_bytes(rt: HostRuntime) -> Result<(), Fail> {
-    let setting = Setting {
-        input: &[],
-        ..inc()
-    };
-    let ran = run_setting(&rt, rt.alloc(), &setting)?;
-    assert_eq!(rt; ran.status, Status::Quiet);
-    assert_eq!(rt; ran.drains.held(2).len(), 0);
-    assert_eq!(rt;
-        ran.drains.held(1),
-        b"rvc-trace 1 1 2\ni 0 Inc Inc\nr\nq\n".as_slice()
-    );
-    assert_eq!(rt;
-        ran.drains.held(0),
-        b"instances 1\nlinks 2\nfirings 0\nrounds 1\nin In 0 tokens 0 rest 0\nout Out tokens 0\nquiet\n".as_slice()
-    );
+    for step in STEPS {
+        let setting = Setting {
+            step,
+            input: &[],
+            ..inc()
+        };
+        let ran = run_setting(&rt, rt.alloc(), &setting)?;
+        assert_eq!(rt; ran.status, Status::Quiet);
+        assert_eq!(rt; ran.drains.held(2).len(), 0);
+        assert_eq!(rt;
+            ran.drains.held(1),
+            b"rvc-trace 1 1 2\ni 0 Inc Inc\nr\nq\n".as_slice()
+        );
+        assert_eq!(rt;
+            ran.drains.held(0),
+            b"instances 1\nlinks 2\nfirings 0\nrounds 1\nin In 0 tokens 0 rest 0\nout Out tokens 0\nquiet\n".as_slice()
+        );
+    }
     Ok(())
 }
 
 #[test]
 fn ends_by_its_budget(rt: HostRuntime) -> Result<(), Fail> {
-    let setting = Setting {
-        words: "rvc run Inc.cal In=in Out=out --trace t --budget 2",
-        ..inc()
-    };
-    let ran = run_setting(&rt, rt.alloc(), &setting)?;
-    assert_eq!(rt; ran.status, Status::Budget { firings: 2 });
-    assert_eq!(rt; ran.status.code(), 7);
-    assert_eq!(rt; ran.drains.held(2), [1, 2].as_slice());
-    assert_eq!(rt;
-        ran.drains.held(1),
-        b"rvc-trace 1 1 2\ni 0 Inc Inc\nr\nf 0 0\nf 0 0\nr\nb\n".as_slice()
-    );
-    assert!(rt; ran.drains.held(0).ends_with(b"\nbudget 2\n"));
+    for step in STEPS {
+        let setting = Setting {
+            step,
+            words: "rvc run Inc.cal In=in Out=out --trace t --budget 2",
+            ..inc()
+        };
+        let ran = run_setting(&rt, rt.alloc(), &setting)?;
+        assert_eq!(rt; ran.status, Status::Budget { firings: 2 });
+        assert_eq!(rt; ran.status.code(), 7);
+        assert_eq!(rt; ran.drains.held(2), [1, 2].as_slice());
+        assert_eq!(rt;
+            ran.drains.held(1),
+            b"rvc-trace 1 1 2\ni 0 Inc Inc\nr\nf 0 0\nf 0 0\nr\nb\n".as_slice()
+        );
+        assert!(rt; ran.drains.held(0).ends_with(b"\nbudget 2\n"));
+    }
     Ok(())
 }
 
 #[test]
 fn a_budget_just_great_enough_is_quiet(rt: HostRuntime) -> Result<(), Fail> {
-    let setting = Setting {
-        words: "rvc run Inc.cal In=in Out=out --trace t --budget 3",
-        ..inc()
-    };
-    let ran = run_setting(&rt, rt.alloc(), &setting)?;
-    assert_eq!(rt; ran.status, Status::Quiet);
-    assert_eq!(rt; ran.drains.held(1), INC_TRACE);
+    for step in STEPS {
+        let setting = Setting {
+            step,
+            words: "rvc run Inc.cal In=in Out=out --trace t --budget 3",
+            ..inc()
+        };
+        let ran = run_setting(&rt, rt.alloc(), &setting)?;
+        assert_eq!(rt; ran.status, Status::Quiet);
+        assert_eq!(rt; ran.drains.held(1), INC_TRACE);
+    }
     Ok(())
 }
 
 #[test]
 fn a_failed_pull_is_a_read_fault(rt: HostRuntime) -> Result<(), Fail> {
-    let setting = Setting {
-        step: 1,
-        failing_feed: 3,
-        ..inc()
-    };
-    let ran = run_setting(&rt, rt.alloc(), &setting)?;
-    assert_eq!(rt; ran.status, Status::ReadFault(ReadAt::Feed(1)));
-    assert_eq!(rt; ran.drains.held(2).len(), 0);
-    assert_eq!(rt; ran.drains.held(1), HEAD);
-    assert_eq!(rt; ran.drains.held(0), b"read fault in\n".as_slice());
+    for step in STEPS {
+        let setting = Setting {
+            step,
+            failing_feed: 3,
+            ..inc()
+        };
+        let ran = run_setting(&rt, rt.alloc(), &setting)?;
+        assert_eq!(rt; ran.status, Status::ReadFault(ReadAt::Feed(1)));
+        assert_eq!(rt; ran.drains.held(2).len(), 0);
+        assert_eq!(rt; ran.drains.held(1), HEAD);
+        assert_eq!(rt; ran.drains.held(0), b"read fault in\n".as_slice());
+    }
     Ok(())
 }
 
 #[test]
 fn a_failed_output_is_a_write_fault(rt: HostRuntime) -> Result<(), Fail> {
-    let setting = Setting {
-        failing_drain: 4,
-        ..inc()
-    };
-    let ran = run_setting(&rt, rt.alloc(), &setting)?;
-    assert_eq!(rt; ran.status, Status::WriteFault { channel: 2 });
-    assert_eq!(rt; ran.drains.held(2).len(), 0);
-    assert_eq!(rt; ran.drains.held(0), b"write fault 2\n".as_slice());
+    for (step, failing_drain) in [(1, 31), (3, 13), (1000, 4)] {
+        let setting = Setting {
+            step,
+            failing_drain,
+            ..inc()
+        };
+        let ran = run_setting(&rt, rt.alloc(), &setting)?;
+        assert_eq!(rt; ran.status, Status::WriteFault { channel: 2 });
+        assert_eq!(rt; ran.drains.held(2).len(), 0);
+        assert_eq!(rt; ran.drains.held(0), b"write fault 2\n".as_slice());
+    }
     Ok(())
 }
 
 #[test]
 fn a_file_that_lacks_is_refused(rt: HostRuntime) -> Result<(), Fail> {
-    let setting = Setting {
-        words: "rvc run No.cal In=in Out=out --trace t",
-        ..inc()
-    };
-    let ran = run_setting(&rt, rt.alloc(), &setting)?;
-    assert_eq!(rt; ran.status.code(), 4);
-    assert_eq!(rt; ran.drains.held(1).len(), 0);
-    assert_eq!(rt; ran.drains.held(0), b"refused N1 words 0\n".as_slice());
+    for step in STEPS {
+        let setting = Setting {
+            step,
+            words: "rvc run No.cal In=in Out=out --trace t",
+            ..inc()
+        };
+        let ran = run_setting(&rt, rt.alloc(), &setting)?;
+        assert_eq!(rt; ran.status.code(), 4);
+        assert_eq!(rt; ran.drains.held(1).len(), 0);
+        assert_eq!(rt; ran.drains.held(0), b"refused N1 words 0\n".as_slice());
+    }
     Ok(())
 }
 
 #[test]
 fn a_source_is_refused_where_it_departs(rt: HostRuntime) -> Result<(), Fail> {
-    let setting = Setting {
-        source: b"actor B() uint(size=8) In ==> ",
-        ..inc()
-    };
-    let ran = run_setting(&rt, rt.alloc(), &setting)?;
-    assert_eq!(rt; ran.status.code(), 4);
-    assert_eq!(rt; ran.drains.held(1).len(), 0);
-    assert_eq!(rt; ran.drains.held(0), b"refused Y1 Inc.cal 30\n".as_slice());
+    for step in STEPS {
+        let setting = Setting {
+            step,
+            source: b"actor B() uint(size=8) In ==> ",
+            ..inc()
+        };
+        let ran = run_setting(&rt, rt.alloc(), &setting)?;
+        assert_eq!(rt; ran.status.code(), 4);
+        assert_eq!(rt; ran.drains.held(1).len(), 0);
+        assert_eq!(rt; ran.drains.held(0), b"refused Y1 Inc.cal 30\n".as_slice());
+    }
     Ok(())
 }
 
 #[test]
 fn words_that_are_no_job_are_usage(rt: HostRuntime) -> Result<(), Fail> {
-    let setting = Setting {
-        words: "rvc run Inc.cal",
-        ..inc()
-    };
-    let ran = run_setting(&rt, rt.alloc(), &setting)?;
-    assert_eq!(rt; ran.status.code(), 1);
-    assert_eq!(rt; ran.drains.held(1).len(), 0);
-    assert!(rt; ran.drains.held(0).starts_with(b"usage words\n"));
+    for step in STEPS {
+        let setting = Setting {
+            step,
+            words: "rvc run Inc.cal",
+            ..inc()
+        };
+        let ran = run_setting(&rt, rt.alloc(), &setting)?;
+        assert_eq!(rt; ran.status.code(), 1);
+        assert_eq!(rt; ran.drains.held(1).len(), 0);
+        assert!(rt; ran.drains.held(0).starts_with(b"usage words\n"));
+    }
     Ok(())
 }
