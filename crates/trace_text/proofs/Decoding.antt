@@ -8,27 +8,25 @@ use Rattle.rvc_base.specs.Trap.{trap_name}
 use Rattle.trace_text.specs.declared.line.Line.{Line}
 use Rattle.trace_text.specs.declared.line.Line.TheVariants.{Header, Inst, Fire, Deliver, Quiet, Trap, Stall, Budget}
 use Rattle.trace_text.specs.Text.{line_text, then_number}
+use Rattle.trace_text.specs.Waiting.{IsDigit}
 use Rattle.trace_text.specs.Table.{IsWritten, AreWritten, number_bound}
 
-abbrev IsDigit : ℕ → Type 0
-IsDigit c = (48 ≤ c) × (c < 58)
-
-abbrev AreDigits : List ℕ → Type 0
+abbrev pub AreDigits : List ℕ → Type 0
 AreDigits [] = Unit {0}
 AreDigits (c ∷ cs) = IsDigit c × AreDigits cs
 
-digits_then : (xs : List ℕ) (c : ℕ) → AreDigits xs → IsDigit c → AreDigits (xs ++ (c ∷ []))
+pub digits_then : (xs : List ℕ) (c : ℕ) → AreDigits xs → IsDigit c → AreDigits (xs ++ (c ∷ []))
 digits_then [] c all one = (one, tt)
 digits_then (x ∷ xs) c all one = (all.0, digits_then xs c all.1 one)
 
-decimal_digits : (n : ℕ) → n < 2 ^ 64 → AreDigits (decimal n)
+pub decimal_digits : (n : ℕ) → n < 2 ^ 64 → AreDigits (decimal n)
 decimal_digits = decimal_by_steps (λ n ds. AreDigits ds) (λ n low. ((omega arith, omega arith), tt))
     (λ n ds high all. digits_then ds (48 + n % 10) all (omega arith, omega arith))
 
-tails : {A : Type 0} (x y : A) (xs ys : List A) → x ∷ xs ≡ y ∷ ys → xs ≡ ys
+pub tails : {A : Type 0} (x y : A) (xs ys : List A) → x ∷ xs ≡ y ∷ ys → xs ≡ ys
 tails x y xs ys h = cc
 
-heads : {A : Type 0} (x y : A) (xs ys : List A) → x ∷ xs ≡ y ∷ ys → x ≡ y
+pub heads : {A : Type 0} (x y : A) (xs ys : List A) → x ∷ xs ≡ y ∷ ys → x ≡ y
 heads x y xs ys h = cc
 
 record Parted (xs ys : List ℕ) (c d : ℕ) (r s : List ℕ) : Type 0 where
@@ -63,7 +61,7 @@ number_tells i j c d r s low low' nc nd h =
     record { same = decimal_injective i j (omega arith) (omega arith) parts.same; next = parts.next; rest = parts.rest }
 
 -- the text of a line and what follows it
-abbrev spread : Line → List ℕ → List ℕ
+abbrev pub spread : Line → List ℕ → List ℕ
 spread (Header n l) xs = codes "rvc-trace 1 " ++ (decimal n ++ (32 ∷ (decimal l ++ (10 ∷ xs))))
 spread (Inst k) xs = 105 ∷ 32 ∷ (decimal k ++ (32 ∷ xs))
 spread (Fire i a) xs = 102 ∷ 32 ∷ (decimal i ++ (32 ∷ (decimal a ++ (10 ∷ xs))))
@@ -73,7 +71,7 @@ spread (Trap i a c) xs = 116 ∷ 32 ∷ (decimal i ++ (32 ∷ (decimal a ++ (32 
 spread (Stall i a l) xs = 115 ∷ 32 ∷ (decimal i ++ (32 ∷ (decimal a ++ (32 ∷ (decimal l ++ (10 ∷ xs))))))
 spread Budget xs = 98 ∷ 10 ∷ xs
 
-spread_is : (line : Line) (xs : List ℕ) → line_text line ++ xs ≡ spread line xs
+pub spread_is : (line : Line) (xs : List ℕ) → line_text line ++ xs ≡ spread line xs
 spread_is (Header n l) xs = simp append_assoc
 spread_is (Inst k) xs = simp append_assoc
 spread_is (Fire i a) xs = simp append_assoc

@@ -1,1 +1,6 @@
 mod Decoding
+mod Digits
+mod Naming
+mod Numbering
+mod Starting
+mod Advancing

@@ -1,10 +1,14 @@
 //! The lines of a trace, and their text.
 #![tactic(auto)]
 
+mod advance;
 mod laws;
 mod line;
+mod place;
+mod reader;
 mod write;
 
 pub use laws::text_tells_lines;
 pub use line::Line;
+pub use reader::{LineReader, Step2};
 pub use write::{MAX_LINE_BYTES, write_front, write_line};

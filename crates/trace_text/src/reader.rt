@@ -1,0 +1,69 @@
+//! Lines read back from their text, a byte at a time.
+
+ghost use Rattle.std.specs.Prelude.{◌≡◌, ◌↔◌, ◌++◌, ◌∷◌, [], ℕ, List};
+ghost use Rattle.trace_text.specs.Spelling.{Spells, Begins, IsFront, since_line_feed};
+ghost use Rattle.trace_text.specs.HasRead.{HasRead};
+ghost use Rattle.trace_text.specs.Answer.{answer_of};
+ghost use Rattle.trace_text.specs.declared.line.Line.{Line as TheLine};
+
+use crate::advance::advance;
+use crate::line::Line;
+use crate::place::Place;
+
+/// A reader of lines. It takes no memory, and what it keeps has one size whatever it reads.
+#[derive(Clone, Copy, Debug)]
+pub struct LineReader {
+    place: Place,
+}
+
+/// What a reader says of the bytes since the last line feed.
+#[derive(Clone, Copy, Debug, PartialEq, Eq)]
+pub enum Step2 {
+    /// They begin a line, and are none.
+    More,
+    /// They are this line, its line feed included.
+    Line(Line),
+    /// They begin no line.
+    Bad,
+}
+
+impl LineReader {
+    /// A reader that has read nothing.
+    pub fn new() -> LineReader
+        ensures { HasRead result [] }
+    {
+        LineReader {
+            place: Place::Start,
+        }
+    }
+
+    /// Reads the next byte, and says what the bytes since the last line feed are, with this one.
+    ///
+    /// After `Bad` each byte up to the next line feed is `Bad`, and that line feed too. Behind each line feed
+    /// a new line begins, whatever stood before it.
+    pub fn next(&mut self, byte: u8) -> Step2
+        ensures line { (read : List ℕ) (line : TheLine) → HasRead self.old read → (result ≡ Step2.Line line) ↔ Spells line (read ++ byte ∷ []) }
+        ensures more { (read : List ℕ) → HasRead self.old read → (result ≡ Step2.More) ↔ IsFront (read ++ byte ∷ []) }
+        ensures bad { (read : List ℕ) → HasRead self.old read → (result ≡ Step2.Bad) ↔ ¬ Begins (read ++ byte ∷ []) }
+        ensures read { (read : List ℕ) → HasRead self.old read → HasRead self.new (since_line_feed read byte) }
+    {
+        let place = advance(self.place, byte);
+        self.place = if byte == b'\n' {
+            Place::Start
+        } else {
+            place
+        };
+        answer(place)
+    }
+}
+
+/// What is said at a place.
+fn answer(place: Place) -> Step2
+    ensures { result ≡ answer_of place }
+{
+    match place {
+        Place::Ended { line } => Step2::Line(line),
+        Place::Lost => Step2::Bad,
+        _ => Step2::More,
+    }
+}
