@@ -156,7 +156,7 @@ line_tells this (Inst k) xs ys w v h = absurd v
 line_tells this that xs ys w v h =
     let e : first (spread this xs) ≡ first (spread that ys) = ap first h in absurd (omega arith)
 
-starts : (line : Line) (xs : List ℕ) → [] ≡ spread line xs → ⊥
+pub starts : (line : Line) (xs : List ℕ) → [] ≡ spread line xs → ⊥
 starts (Header n l) xs h = let e : ◌≡◌ {A = ℕ} 0 114 = ap first h in omega arith
 starts (Inst k) xs h = let e : ◌≡◌ {A = ℕ} 0 105 = ap first h in omega arith
 starts (Fire i a) xs h = let e : ◌≡◌ {A = ℕ} 0 102 = ap first h in omega arith

@@ -4,3 +4,4 @@ mod Naming
 mod Numbering
 mod Starting
 mod Advancing
+mod Reading

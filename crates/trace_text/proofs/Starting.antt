@@ -30,10 +30,10 @@ letter_of (Trap i a c) = 116
 letter_of (Stall i a l) = 115
 letter_of Budget = 98
 
-text_spread : (line : Line) → line_text line ≡ spread line []
+pub text_spread : (line : Line) → line_text line ≡ spread line []
 text_spread line = sym (append-nil (line_text line)) ∙ spread_is line []
 
-inst_spread : (k : ℕ) (path class : List ℕ)
+pub inst_spread : (k : ℕ) (path class : List ℕ)
     → line_text (Inst k) ++ path ++ codes " " ++ class ++ line_feed ≡ spread (Inst k) (path ++ (32 ∷ (class ++ (10 ∷ []))))
 inst_spread k path class = simp append_assoc
 

@@ -1,14 +1,17 @@
-use Rattle.std.proofs.Common.{rules, ◌≡◌, ◌↔◌, ◌++◌, ◌∷◌, [], ℕ, List, ◌+◌, ◌-◌, ◌*◌, ◌<◌, ◌≤◌, length, ◌/◌, ◌%◌, Bool, true, false, nat_eq, nat_lt, slice_index_or, slice_set, bit_and, bit_or, Fits, w8, w32, w64, Bor, MutBor}
-use Rattle.trace_text.specs.Spelling.{Spells, Begins, IsFront, since_line_feed}
-use Rattle.trace_text.specs.HasRead.{HasRead}
-use Rattle.trace_text.specs.Answer.{answer_of}
-use Rattle.trace_text.specs.declared.line.Line.{Line as TheLine}
+use Rattle.std.proofs.Common.{[], ◌∷◌, ◌++◌, ◌∙◌, sym}
+use Rattle.trace_text.proofs.Reading.{stands, says_line, is_said, says_more, more_is_said}
 use Rattle.trace_text.proofs.reader.LineReader.next.Goals as goal
 
--- src/reader.rt:44:5
 pub returns-clause-line : goal.returns-clause-line
-returns-clause-line c = ?
+returns-clause-line c read line h =
+    let place = c.advance-place.result in
+    let there = stands c.args.self.now read c.args.byte place h c.advance-place.ensures in
+    (λ e. says_line place (read ++ c.args.byte ∷ []) there line (sym c.answer.ensures ∙ e),
+    λ w. c.answer.ensures ∙ is_said place (read ++ c.args.byte ∷ []) there line w)
 
--- src/reader.rt:44:5
 pub returns-clause-more : goal.returns-clause-more
-returns-clause-more c = ?
+returns-clause-more c read h =
+    let place = c.advance-place.result in
+    let there = stands c.args.self.now read c.args.byte place h c.advance-place.ensures in
+    (λ e. says_more place (read ++ c.args.byte ∷ []) there (sym c.answer.ensures ∙ e),
+    λ w. c.answer.ensures ∙ more_is_said place (read ++ c.args.byte ∷ []) there w)
