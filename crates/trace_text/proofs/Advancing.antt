@@ -37,7 +37,7 @@ front_more read byte low e =
     record {
       onward = λ line bytes w. (behind_more front (InField Instances None line) read byte bytes low w).1;
       back = λ line bytes w. behind_less front (InField Instances None line) read byte bytes low e w;
-      alive = (some.0, drop (read + 1) front ++ some.1, behind_all (drop (read + 1) front) (InField Instances None some.0) some.1 some.2)
+      alive = (some.0, drop (read + 1) front ++ some.1, behind_all (drop (read + 1) front) (InField Instances None some.0) some.1 some.2);
     }
 
 pub front_lost : (read byte : ℕ) → read < 12 → (slice_index_or front read 0 ≡ byte → ⊥) → Leads (Front read) byte Lost
@@ -51,8 +51,11 @@ trap_more inst action trap read byte low e =
     record {
       onward = λ line bytes w. (behind_more (trap_name trap) (Ends this line) read byte bytes low w).1;
       back = λ line bytes w. behind_less (trap_name trap) (Ends this line) read byte bytes low e w;
-      alive = (this, drop (read + 1) (trap_name trap) ++ (10 ∷ []),
-      behind_all (drop (read + 1) (trap_name trap)) (Ends this this) (10 ∷ []) (refl, (refl, refl)))
+      alive = (
+        this,
+        drop (read + 1) (trap_name trap) ++ (10 ∷ []),
+        behind_all (drop (read + 1) (trap_name trap)) (Ends this this) (10 ∷ []) (refl, (refl, refl)),
+      );
     }
 
 pub first_front : Leads AfterR 118 (Front 2)
@@ -61,7 +64,7 @@ first_front =
     record {
       onward = λ line bytes w. elim w [ inl v ↦ absurd (let e : ◌≡◌ {A = ℕ} 118 10 = v.0 in omega arith) | inr v ↦ v.1 ];
       back = λ line bytes w. inr (refl, w);
-      alive = (some.0, drop 2 front ++ some.1, behind_all (drop 2 front) (InField Instances None some.0) some.1 some.2)
+      alive = (some.0, drop 2 front ++ some.1, behind_all (drop 2 front) (InField Instances None some.0) some.1 some.2);
     }
 
 pub blank : (field : Field) → Leads (Letter field) 32 (Number field None)
@@ -98,26 +101,26 @@ other_back false P Q e w = w
 
 pub a_name_byte : (inst : ℕ) (part : Part) (byte : ℕ) → is_name_byte byte ≡ true → Leads (InName inst part) byte (InName inst part)
 a_name_byte inst part byte e = record {
-    onward = λ line bytes w. chosen (is_name_byte byte) _ _ e w;
-    back = λ line bytes w. chosen_back (is_name_byte byte) _ _ e w;
-    alive = alive_part inst part
-  }
+  onward = λ line bytes w. chosen (is_name_byte byte) _ _ e w;
+  back = λ line bytes w. chosen_back (is_name_byte byte) _ _ e w;
+  alive = alive_part inst part;
+}
 
 pub a_separator : (inst : ℕ) (part : Part) (byte : ℕ) → is_name_byte byte ≡ false → (byte == separator_of part) ≡ true
     → Leads (InName inst part) byte (AtName inst part)
 a_separator inst part byte e d = record {
-    onward = λ line bytes w. chosen (byte == separator_of part) _ _ d (other (is_name_byte byte) _ _ e w);
-    back = λ line bytes w. other_back (is_name_byte byte) _ _ e (chosen_back (byte == separator_of part) _ _ d w);
-    alive = alive_name inst part
-  }
+  onward = λ line bytes w. chosen (byte == separator_of part) _ _ d (other (is_name_byte byte) _ _ e w);
+  back = λ line bytes w. other_back (is_name_byte byte) _ _ e (chosen_back (byte == separator_of part) _ _ d w);
+  alive = alive_name inst part;
+}
 
 pub out_of_names : (inst : ℕ) (part : Part) (byte : ℕ) (next : Place) → is_name_byte byte ≡ false → (byte == separator_of part) ≡ false
     → LeadsOut inst part byte next → Leads (InName inst part) byte next
 out_of_names inst part byte next e d there = record {
-    onward = λ line bytes w. there.onward line bytes (other (byte == separator_of part) _ _ d (other (is_name_byte byte) _ _ e w));
-    back = λ line bytes w. other_back (is_name_byte byte) _ _ e (other_back (byte == separator_of part) _ _ d (there.back line bytes w));
-    alive = there.alive
-  }
+  onward = λ line bytes w. there.onward line bytes (other (byte == separator_of part) _ _ d (other (is_name_byte byte) _ _ e w));
+  back = λ line bytes w. other_back (is_name_byte byte) _ _ e (other_back (byte == separator_of part) _ _ d (there.back line bytes w));
+  alive = there.alive;
+}
 
 pub out_of_path : (inst : ℕ) → LeadsOut inst Path 32 (AtName inst Class)
 out_of_path inst = record { onward = λ line bytes w. w.1; back = λ line bytes w. (refl, w); alive = alive_name inst Class }
@@ -156,11 +159,14 @@ same_trap trap that e = absurd (omega arith)
 
 pub an_initial : (inst action : ℕ) (trap : TrapName) → Leads (AtTrap inst action) (initial trap) (InTrap inst action trap 1)
 an_initial inst action trap = record {
-    onward = λ line bytes w.
-    let first = initial_is w.0 (Ends (Trap inst action w.0) line) (initial trap) bytes w.1 in
-    subst (λ (that : TrapName). Behind (drop 1 (trap_name that)) (Ends (Trap inst action that) line) bytes)
-    (same_trap w.0 trap (sym first.0)) first.1;
-    back = λ line bytes w. (trap, is_initial trap (Ends (Trap inst action trap) line) bytes w);
-    alive = (Trap inst action trap, drop 1 (trap_name trap) ++ (10 ∷ []),
-    behind_all (drop 1 (trap_name trap)) (Ends (Trap inst action trap) (Trap inst action trap)) (10 ∷ []) (refl, (refl, refl)))
-  }
+  onward = λ line bytes w.
+      let first = initial_is w.0 (Ends (Trap inst action w.0) line) (initial trap) bytes w.1 in
+      subst (λ (that : TrapName). Behind (drop 1 (trap_name that)) (Ends (Trap inst action that) line) bytes)
+      (same_trap w.0 trap (sym first.0)) first.1;
+  back = λ line bytes w. (trap, is_initial trap (Ends (Trap inst action trap) line) bytes w);
+  alive = (
+    Trap inst action trap,
+    drop 1 (trap_name trap) ++ (10 ∷ []),
+    behind_all (drop 1 (trap_name trap)) (Ends (Trap inst action trap) (Trap inst action trap)) (10 ∷ []) (refl, (refl, refl)),
+  );
+}

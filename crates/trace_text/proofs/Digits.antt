@@ -53,8 +53,8 @@ shorter (a ∷ b ∷ us) bs [] l h = absurd (let e : b ∷ (us ++ bs) ≡ [] = t
 shorter (a ∷ us) bs (x ∷ xs) l h =
     let first : a ≡ x = heads a x (us ++ bs) (xs ++ (l ∷ [])) h in
     elim (shorter us bs xs l (tails a x _ _ h)) [
-      inl e ↦ inl (both a x us (xs ++ (l ∷ [])) first e) |
-      inr e ↦ inr (e.0, both a x (us ++ e.0) xs first e.1)
+      | inl e ↦ inl (both a x us (xs ++ (l ∷ [])) first e)
+      | inr e ↦ inr (e.0, both a x (us ++ e.0) xs first e.1)
     ]
 
 abbrev NoneGreater : ℕ → List ℕ → Type 0
@@ -67,19 +67,24 @@ whole (x ∷ []) (d ∷ ds) c long h = absurd (let e : d ∷ ds ≡ [] = tails x
 whole (x ∷ y ∷ xs) ds c long h = absurd (let e : y ∷ (xs ++ ds) ≡ [] = tails x c (y ∷ (xs ++ ds)) [] h in cc)
 
 none_greater_one : (n : ℕ) → n < 10 → NoneGreater n ((48 + n) ∷ [])
-none_greater_one n low fits = (sym (decimal_digit n low), λ m ds small h.
-    let e : m ≡ n = decimal_injective m n small fits (whole (decimal m) ds (48 + n) (decimal_nonempty m small) h ∙ sym (decimal_digit n low))
-    in omega arith)
+none_greater_one n low fits = (
+  sym (decimal_digit n low),
+  λ m ds small h.
+      let e : m ≡ n = decimal_injective m n small fits (whole (decimal m) ds (48 + n) (decimal_nonempty m small) h ∙ sym (decimal_digit n low))
+      in omega arith,
+)
 
 none_greater_more : (n : ℕ) (xs : List ℕ) → 10 ≤ n → NoneGreater (n / 10) xs → NoneGreater n (xs ++ ((48 + n % 10) ∷ []))
 none_greater_more n xs high below fits =
     let there = below (omega arith) in
     let same : xs ++ ((48 + n % 10) ∷ []) ≡ decimal n =
-    ap (λ u. u ++ ((48 + n % 10) ∷ [])) there.0 ∙ sym (decimal_step n high fits) in
-    (same, λ m ds small h. elim (shorter (decimal m) ds xs (48 + n % 10) h) [
-      inl e ↦ (let e' : m ≡ n = decimal_injective m n small fits (e ∙ same) in omega arith) |
-      inr e ↦ (let e' : m ≤ n / 10 = there.1 m e.0 small e.1 in omega arith)
-    ])
+    ap (λ u. u ++ ((48 + n % 10) ∷ [])) there.0 ∙ sym (decimal_step n high fits) in (
+      same,
+      λ m ds small h. elim (shorter (decimal m) ds xs (48 + n % 10) h) [
+        | inl e ↦ (let e' : m ≡ n = decimal_injective m n small fits (e ∙ same) in omega arith)
+        | inr e ↦ (let e' : m ≤ n / 10 = there.1 m e.0 small e.1 in omega arith)
+      ],
+    )
 
 -- a number whose digits begin those of another is no greater
 no_greater : (m n : ℕ) (r tail : List ℕ) → m < 2 ^ 64 → n < 2 ^ 64 → Stops tail → decimal m ++ r ≡ decimal n ++ tail → m ≤ n
@@ -129,7 +134,7 @@ stopped bound v byte after bytes low stops plain w =
     let same : v ≡ w.number = decimal_injective v w.number (omega arith) fits parts.same in
     record {
       is_bounded = omega arith;
-      follows = subst (λ n. after n (byte ∷ bytes)) (sym same) (subst (λ u. after w.number u) (sym parts.rest) w.follows)
+      follows = subst (λ n. after n (byte ∷ bytes)) (sym same) (subst (λ u. after w.number u) (sym parts.rest) w.follows);
     }
 
 pub unstopped : (bound v : ℕ) (after : ℕ → List ℕ → Type 0) (bytes : List ℕ) → bound ≤ 2 ^ 32 → v < bound → after v bytes → Numbers bound (Some v) after bytes
@@ -167,46 +172,46 @@ too_great bound v d after bytes low stops some digit great w =
 pub more_digits : (bound v d : ℕ) (after : ℕ → List ℕ → Type 0) (bytes : List ℕ) → 0 < v → v * 10 + d < 2 ^ 32 → d < 10
     → Numbers bound (Some v) after ((48 + d) ∷ bytes) → Numbers bound (Some (v * 10 + d)) after bytes
 more_digits bound v d after bytes some small digit w = record {
-    fits = small;
-    number = w.number;
-    tail = w.tail;
-    is_bounded = w.is_bounded;
-    text = ap (λ u. u ++ bytes) (longer v d some (omega arith) digit) ∙ append_assoc (decimal v) ((48 + d) ∷ []) bytes ∙ w.text;
-    follows = w.follows
-  }
+  fits = small;
+  number = w.number;
+  tail = w.tail;
+  is_bounded = w.is_bounded;
+  text = ap (λ u. u ++ bytes) (longer v d some (omega arith) digit) ∙ append_assoc (decimal v) ((48 + d) ∷ []) bytes ∙ w.text;
+  follows = w.follows;
+}
 
 pub less_digits : (bound v d : ℕ) (after : ℕ → List ℕ → Type 0) (bytes : List ℕ) → 0 < v → v * 10 + d < 2 ^ 32 → d < 10
     → Numbers bound (Some (v * 10 + d)) after bytes → Numbers bound (Some v) after ((48 + d) ∷ bytes)
 less_digits bound v d after bytes some small digit w = record {
-    fits = omega arith;
-    number = w.number;
-    tail = w.tail;
-    is_bounded = w.is_bounded;
-    text = sym (append_assoc (decimal v) ((48 + d) ∷ []) bytes) ∙ ap (λ u. u ++ bytes) (sym (longer v d some (omega arith) digit)) ∙ w.text;
-    follows = w.follows
-  }
+  fits = omega arith;
+  number = w.number;
+  tail = w.tail;
+  is_bounded = w.is_bounded;
+  text = sym (append_assoc (decimal v) ((48 + d) ∷ []) bytes) ∙ ap (λ u. u ++ bytes) (sym (longer v d some (omega arith) digit)) ∙ w.text;
+  follows = w.follows;
+}
 
 pub one_digit : (bound d : ℕ) (after : ℕ → List ℕ → Type 0) (bytes : List ℕ) → d < 10
     → Numbers bound None after ((48 + d) ∷ bytes) → Numbers bound (Some d) after bytes
 one_digit bound d after bytes digit w = record {
-    fits = omega arith;
-    number = w.number;
-    tail = w.tail;
-    is_bounded = w.is_bounded;
-    text = ap (λ u. u ++ bytes) (decimal_digit d digit) ∙ w.text;
-    follows = w.follows
-  }
+  fits = omega arith;
+  number = w.number;
+  tail = w.tail;
+  is_bounded = w.is_bounded;
+  text = ap (λ u. u ++ bytes) (decimal_digit d digit) ∙ w.text;
+  follows = w.follows;
+}
 
 pub no_digit : (bound d : ℕ) (after : ℕ → List ℕ → Type 0) (bytes : List ℕ) → d < 10
     → Numbers bound (Some d) after bytes → Numbers bound None after ((48 + d) ∷ bytes)
 no_digit bound d after bytes digit w = record {
-    fits = tt;
-    number = w.number;
-    tail = w.tail;
-    is_bounded = w.is_bounded;
-    text = ap (λ u. u ++ bytes) (sym (decimal_digit d digit)) ∙ w.text;
-    follows = w.follows
-  }
+  fits = tt;
+  number = w.number;
+  tail = w.tail;
+  is_bounded = w.is_bounded;
+  text = ap (λ u. u ++ bytes) (sym (decimal_digit d digit)) ∙ w.text;
+  follows = w.follows;
+}
 
 -- a number that waits has more to come
 digits_end : (xs : List ℕ) (c : ℕ) (tail : List ℕ) → AreDigits (xs ++ (c ∷ tail)) → IsDigit c

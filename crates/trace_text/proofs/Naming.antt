@@ -21,26 +21,26 @@ IsApart separator after = (b : ℕ) (bytes : List ℕ) → after (b ∷ bytes) �
 within : (separator : ℕ) (after : List ℕ → Type 0) (b : ℕ) (bytes : List ℕ)
     → Cut separator after bytes → is_name_byte b ≡ true → Cut separator after (b ∷ bytes)
 within separator after b bytes cut e = record {
-    rest = b ∷ cut.rest;
-    others = cut.others;
-    tail = cut.tail;
-    are_bytes = (e, cut.are_bytes);
-    are_names = cut.are_names;
-    text = ap (λ u. b ∷ u) cut.text;
-    follows = cut.follows
-  }
+  rest = b ∷ cut.rest;
+  others = cut.others;
+  tail = cut.tail;
+  are_bytes = (e, cut.are_bytes);
+  are_names = cut.are_names;
+  text = ap (λ u. b ∷ u) cut.text;
+  follows = cut.follows;
+}
 
 next_name : (separator : ℕ) (after : List ℕ → Type 0) (c : ℕ) (bytes : List ℕ)
     → Cut separator after bytes → is_letter c ≡ true → Cut separator after (separator ∷ c ∷ bytes)
 next_name separator after c bytes cut e = record {
-    rest = [];
-    others = (c ∷ cut.rest) ∷ cut.others;
-    tail = cut.tail;
-    are_bytes = tt;
-    are_names = ((e, cut.are_bytes), cut.are_names);
-    text = ap (λ u. separator ∷ c ∷ u) (cut.text ∙ sym (append_assoc cut.rest (each_behind separator cut.others) cut.tail));
-    follows = cut.follows
-  }
+  rest = [];
+  others = (c ∷ cut.rest) ∷ cut.others;
+  tail = cut.tail;
+  are_bytes = tt;
+  are_names = ((e, cut.are_bytes), cut.are_names);
+  text = ap (λ u. separator ∷ c ∷ u) (cut.text ∙ sym (append_assoc cut.rest (each_behind separator cut.others) cut.tail));
+  follows = cut.follows;
+}
 
 done : (separator : ℕ) (after : List ℕ → Type 0) (bytes : List ℕ) → after bytes → Cut separator after bytes
 done separator after bytes there =
@@ -59,8 +59,8 @@ cut_by : (separator : ℕ) (after : List ℕ → Type 0) (b : ℕ) (bytes : List
 cut_by separator after b bytes true q e d inside start w = within separator after b bytes (inside w) e
 cut_by separator after b bytes false true e d inside start w =
     subst (λ (c : ℕ). Cut separator after (c ∷ bytes)) (sym (same b separator d)) (start w) where
-  same : (m n : ℕ) → (m == n) ≡ true → m ≡ n
-  same m n h = search rules
+      same : (m n : ℕ) → (m == n) ≡ true → m ≡ n
+      same m n h = search rules
 cut_by separator after b bytes false false e d inside start w = done separator after (b ∷ bytes) w
 
 -- what waits within a name is the rest of it, other names, and what follows them ..
@@ -112,16 +112,18 @@ named_parted separator after (b ∷ bytes) w =
       tail = cut.tail;
       are_joined = (b ∷ cut.rest, cut.others, (w.0, cut.are_bytes), cut.are_names, refl);
       text = ap (λ u. b ∷ u) (cut.text ∙ sym (append_assoc cut.rest (each_behind separator cut.others) cut.tail));
-      follows = cut.follows
+      follows = cut.follows;
     }
 
 joined_first : (separator : ℕ) (after : List ℕ → Type 0) → IsNoPart separator → (first : List ℕ) (others : List (List ℕ)) (tail : List ℕ)
     → IsName first → AreNames others → Named true separator after tail
     → Named false separator after (first ++ (each_behind separator others ++ tail))
 joined_first separator after apart [] others tail name names w = absurd name
-joined_first separator after apart (b ∷ first) others tail name names w =
-    (name.0, behind_name separator after first (each_behind separator others ++ tail) name.1
-    (behind_names separator after apart others tail names w))
+joined_first separator after apart (b ∷ first) others tail name names w = (
+  name.0,
+  behind_name separator after first (each_behind separator others ++ tail) name.1
+      (behind_names separator after apart others tail names w),
+)
 
 pub joined_named : (separator : ℕ) (after : List ℕ → Type 0) → IsNoPart separator → (names tail : List ℕ)
     → IsJoined separator names → Named true separator after tail → Named false separator after (names ++ tail)

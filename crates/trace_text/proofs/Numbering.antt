@@ -56,15 +56,19 @@ has_more Instance n = (Inst n, 97 ∷ 32 ∷ 97 ∷ 10 ∷ [], (refl, (refl, (re
 has_more (FiringAction i) n = (Fire i n, [], (refl, refl))
 has_more FiringInst n = (Fire n 0, decimal 0 ++ (10 ∷ []), zero_then _ _ (10 ∷ []) (omega arith) (refl, (refl, refl)))
 has_more (TrappingAction i) n = (Trap i n Overflow, trap_name Overflow ++ (10 ∷ []), overflow_end i n)
-has_more TrappingInst n =
-    (Trap n 0 Overflow, decimal 0 ++ (32 ∷ (trap_name Overflow ++ (10 ∷ []))),
-    zero_then _ _ (32 ∷ (trap_name Overflow ++ (10 ∷ []))) (omega arith) (refl, overflow_end n 0))
+has_more TrappingInst n = (
+  Trap n 0 Overflow,
+  decimal 0 ++ (32 ∷ (trap_name Overflow ++ (10 ∷ []))),
+  zero_then _ _ (32 ∷ (trap_name Overflow ++ (10 ∷ []))) (omega arith) (refl, overflow_end n 0),
+)
 has_more (StalledLink i a) n = (Stall i a n, [], (refl, refl))
 has_more (StalledAction i) n = (Stall i n 0, decimal 0 ++ (10 ∷ []), zero_then _ _ (10 ∷ []) (omega arith) (refl, (refl, refl)))
-has_more StalledInst n =
-    (Stall n 0 0, decimal 0 ++ (32 ∷ (decimal 0 ++ (10 ∷ []))),
-    zero_then _ _ (32 ∷ (decimal 0 ++ (10 ∷ []))) (omega arith)
-    (refl, zero_then _ _ (10 ∷ []) (omega arith) (refl, (refl, refl))))
+has_more StalledInst n = (
+  Stall n 0 0,
+  decimal 0 ++ (32 ∷ (decimal 0 ++ (10 ∷ []))),
+  zero_then _ _ (32 ∷ (decimal 0 ++ (10 ∷ []))) (omega arith)
+      (refl, zero_then _ _ (10 ∷ []) (omega arith) (refl, (refl, refl))),
+)
 
 pub alive_number : (field : Field) (n : ℕ) → n < bound_of field → IsAlive (Number field (Some n))
 alive_number field n low =
@@ -82,10 +86,10 @@ lost place byte none = record { onward = none; back = λ line bytes w. absurd w;
 -- a first digit
 pub leads_first : (field : Field) (d : ℕ) → d < 10 → Leads (Number field None) (48 + d) (Number field (Some d))
 leads_first field d digit = record {
-    onward = λ line bytes w. one_digit (bound_of field) d _ bytes digit w;
-    back = λ line bytes w. no_digit (bound_of field) d _ bytes digit w;
-    alive = alive_number field d (let h = high_bound field in omega arith)
-  }
+  onward = λ line bytes w. one_digit (bound_of field) d _ bytes digit w;
+  back = λ line bytes w. no_digit (bound_of field) d _ bytes digit w;
+  alive = alive_number field d (let h = high_bound field in omega arith);
+}
 
 -- a digit more
 pub leads_more : (field : Field) (v d : ℕ) → 0 < v → d < 10 → v * 10 + d < bound_of field
@@ -93,10 +97,10 @@ pub leads_more : (field : Field) (v d : ℕ) → 0 < v → d < 10 → v * 10 + d
 leads_more field v d some digit low =
     let high = low_bound field in
     record {
-    onward = λ line bytes w. more_digits (bound_of field) v d _ bytes some (omega arith) digit w;
-    back = λ line bytes w. less_digits (bound_of field) v d _ bytes some (omega arith) digit w;
-    alive = alive_number field (v * 10 + d) low
-  }
+      onward = λ line bytes w. more_digits (bound_of field) v d _ bytes some (omega arith) digit w;
+      back = λ line bytes w. less_digits (bound_of field) v d _ bytes some (omega arith) digit w;
+      alive = alive_number field (v * 10 + d) low;
+    }
 
 leads_great : (field : Field) (v d : ℕ) → 0 < v → d < 10 → bound_of field ≤ v * 10 + d
     → Leads (Number field (Some v)) (48 + d) Lost
@@ -135,11 +139,11 @@ leads_no_digit field (Some (suc v)) byte digit most e low bound w =
 pub leads_stop : (field : Field) (v byte : ℕ) (next : Place) → (IsDigit byte → ⊥) → v < bound_of field → byte ≡ stop_of field
     → StandsBehind field v next → Leads (Number field (Some v)) byte next
 leads_stop field v byte next plain low e there = record {
-    onward = λ line bytes w. there.onward line bytes
-    (stopped (bound_of field) v byte _ bytes (low_bound field) (field_stops field line) plain w).follows.1;
-    back = λ line bytes w. unstopped (bound_of field) v _ (byte ∷ bytes) (low_bound field) low (e, there.back line bytes w);
-    alive = there.alive
-  }
+  onward = λ line bytes w. there.onward line bytes
+      (stopped (bound_of field) v byte _ bytes (low_bound field) (field_stops field line) plain w).follows.1;
+  back = λ line bytes w. unstopped (bound_of field) v _ (byte ∷ bytes) (low_bound field) low (e, there.back line bytes w);
+  alive = there.alive;
+}
 
 pub leads_nowhere : (field : Field) (v byte : ℕ) → (IsDigit byte → ⊥) → (v < bound_of field → byte ≡ stop_of field → ⊥)
     → Leads (Number field (Some v)) byte Lost

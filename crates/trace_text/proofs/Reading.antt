@@ -65,12 +65,12 @@ pub record Stands (place : Place) (text : List ℕ) : Type 0 where
 pub stands : (reader : LineReader) (read : List ℕ) (byte : ℕ) (next : Place) → HasRead reader read → Leads reader.place byte next
     → Stands next (read ++ byte ∷ [])
 stands reader read byte next h there = record {
-    onward = λ line bytes w. there.onward line bytes (h.onward line (byte ∷ bytes)
-    (subst (λ (u : List ℕ). Spells line u) (append_assoc read (byte ∷ []) bytes) w));
-    back = λ line bytes w. subst (λ (u : List ℕ). Spells line u) (sym (append_assoc read (byte ∷ []) bytes))
-    (h.back line (byte ∷ bytes) (there.back line bytes w));
-    alive = there.alive
-  }
+  onward = λ line bytes w. there.onward line bytes (h.onward line (byte ∷ bytes)
+      (subst (λ (u : List ℕ). Spells line u) (append_assoc read (byte ∷ []) bytes) w));
+  back = λ line bytes w. subst (λ (u : List ℕ). Spells line u) (sym (append_assoc read (byte ∷ []) bytes))
+      (h.back line (byte ∷ bytes) (there.back line bytes w));
+  alive = there.alive;
+}
 
 whole_on : (place : Place) (text : List ℕ) → Stands place text → (line : Line) → Spells line text → Waits place line []
 whole_on place text h line w = h.onward line [] (subst (λ (u : List ℕ). Spells line u) (sym (append-nil text)) w)

@@ -68,11 +68,17 @@ at P xs ys e w = subst P (sym e) w
 fire_on : (line : Line) (bytes : List ℕ) → Spells line (102 ∷ bytes) → Then 32 (InField FiringInst None line) bytes
 fire_on (Fire i a) bytes w =
     at (Then 32 (InField FiringInst None (Fire i a))) bytes (32 ∷ (decimal i ++ (32 ∷ (decimal a ++ (10 ∷ [])))))
-    (tails 102 102 _ _ (w.1 ∙ text_spread (Fire i a)))
-    (refl, record {
-      fits = tt; number = i; tail = 32 ∷ (decimal a ++ (10 ∷ [])); is_bounded = w.0.0; text = refl;
-      follows = (refl, record { fits = tt; number = a; tail = 10 ∷ []; is_bounded = w.0.1; text = refl; follows = (refl, (refl, refl)) })
-    })
+    (tails 102 102 _ _ (w.1 ∙ text_spread (Fire i a))) (
+      refl,
+      record {
+        fits = tt;
+        number = i;
+        tail = 32 ∷ (decimal a ++ (10 ∷ []));
+        is_bounded = w.0.0;
+        text = refl;
+        follows = (refl, record { fits = tt; number = a; tail = 10 ∷ []; is_bounded = w.0.1; text = refl; follows = (refl, (refl, refl)) });
+      },
+    )
 fire_on line bytes w = absurd (let e : 102 ≡ letter_of line = first_letter line 102 bytes w in omega arith)
 
 fire_back : (line : Line) (bytes : List ℕ) → Then 32 (InField FiringInst None line) bytes → Spells line (102 ∷ bytes)
@@ -83,9 +89,11 @@ fire_back line bytes w =
     let action = b.2 in
     let c = then_is 10 _ action.tail action.follows in
     let ends : c.0 ≡ [] = c.2.1 in
-    subst (λ (l : Line). Spells l (102 ∷ bytes)) (sym c.2.0)
-    ((i.is_bounded, action.is_bounded), (let e : 102 ∷ bytes ≡ spread (Fire i.number action.number) [] = cc in
-    e ∙ sym (text_spread (Fire i.number action.number))))
+    subst (λ (l : Line). Spells l (102 ∷ bytes)) (sym c.2.0) (
+      (i.is_bounded, action.is_bounded),
+      (let e : 102 ∷ bytes ≡ spread (Fire i.number action.number) [] = cc in
+          e ∙ sym (text_spread (Fire i.number action.number))),
+    )
 
 alive_letter : (field : Field) → IsAlive (Letter field)
 alive_letter field = let some = alive_none field in (some.0, 32 ∷ some.1, (refl, some.2))
@@ -97,14 +105,27 @@ trap_on : (line : Line) (bytes : List ℕ) → Spells line (116 ∷ bytes) → T
 trap_on (Trap i a c) bytes w =
     at (Then 32 (InField TrappingInst None (Trap i a c))) bytes
     (32 ∷ (decimal i ++ (32 ∷ (decimal a ++ (32 ∷ (trap_name c ++ (10 ∷ [])))))))
-    (tails 116 116 _ _ (w.1 ∙ text_spread (Trap i a c)))
-    (refl, record {
-      fits = tt; number = i; tail = 32 ∷ (decimal a ++ (32 ∷ (trap_name c ++ (10 ∷ [])))); is_bounded = w.0.0; text = refl;
-      follows = (refl, record {
-        fits = tt; number = a; tail = 32 ∷ (trap_name c ++ (10 ∷ [])); is_bounded = w.0.1; text = refl;
-        follows = (refl, (c, behind_all (trap_name c) (Ends (Trap i a c) (Trap i a c)) (10 ∷ []) (refl, (refl, refl))))
-      })
-    })
+    (tails 116 116 _ _ (w.1 ∙ text_spread (Trap i a c))) (
+      refl,
+      record {
+        fits = tt;
+        number = i;
+        tail = 32 ∷ (decimal a ++ (32 ∷ (trap_name c ++ (10 ∷ []))));
+        is_bounded = w.0.0;
+        text = refl;
+        follows = (
+          refl,
+          record {
+            fits = tt;
+            number = a;
+            tail = 32 ∷ (trap_name c ++ (10 ∷ []));
+            is_bounded = w.0.1;
+            text = refl;
+            follows = (refl, (c, behind_all (trap_name c) (Ends (Trap i a c) (Trap i a c)) (10 ∷ []) (refl, (refl, refl))));
+          },
+        );
+      },
+    )
 trap_on line bytes w = absurd (let e : 116 ≡ letter_of line = first_letter line 116 bytes w in omega arith)
 
 trap_back : (line : Line) (bytes : List ℕ) → Then 32 (InField TrappingInst None line) bytes → Spells line (116 ∷ bytes)
@@ -127,14 +148,27 @@ stall_on : (line : Line) (bytes : List ℕ) → Spells line (115 ∷ bytes) → 
 stall_on (Stall i a l) bytes w =
     at (Then 32 (InField StalledInst None (Stall i a l))) bytes
     (32 ∷ (decimal i ++ (32 ∷ (decimal a ++ (32 ∷ (decimal l ++ (10 ∷ [])))))))
-    (tails 115 115 _ _ (w.1 ∙ text_spread (Stall i a l)))
-    (refl, record {
-      fits = tt; number = i; tail = 32 ∷ (decimal a ++ (32 ∷ (decimal l ++ (10 ∷ [])))); is_bounded = w.0.0; text = refl;
-      follows = (refl, record {
-        fits = tt; number = a; tail = 32 ∷ (decimal l ++ (10 ∷ [])); is_bounded = w.0.1; text = refl;
-        follows = (refl, record { fits = tt; number = l; tail = 10 ∷ []; is_bounded = w.0.2; text = refl; follows = (refl, (refl, refl)) })
-      })
-    })
+    (tails 115 115 _ _ (w.1 ∙ text_spread (Stall i a l))) (
+      refl,
+      record {
+        fits = tt;
+        number = i;
+        tail = 32 ∷ (decimal a ++ (32 ∷ (decimal l ++ (10 ∷ []))));
+        is_bounded = w.0.0;
+        text = refl;
+        follows = (
+          refl,
+          record {
+            fits = tt;
+            number = a;
+            tail = 32 ∷ (decimal l ++ (10 ∷ []));
+            is_bounded = w.0.1;
+            text = refl;
+            follows = (refl, record { fits = tt; number = l; tail = 10 ∷ []; is_bounded = w.0.2; text = refl; follows = (refl, (refl, refl)) });
+          },
+        );
+      },
+    )
 stall_on line bytes w = absurd (let e : 115 ≡ letter_of line = first_letter line 115 bytes w in omega arith)
 
 stall_back : (line : Line) (bytes : List ℕ) → Then 32 (InField StalledInst None line) bytes → Spells line (115 ∷ bytes)
@@ -156,12 +190,21 @@ inst_on (Inst k) bytes w =
     let path = w.1.0 in
     let class = w.1.1 in
     at (Then 32 (InField Instance None (Inst k))) bytes (32 ∷ (decimal k ++ (32 ∷ (path ++ (32 ∷ (class ++ (10 ∷ [])))))))
-    (tails 105 105 _ _ (w.1.4 ∙ inst_spread k path class))
-    (refl, record {
-      fits = tt; number = k; tail = 32 ∷ (path ++ (32 ∷ (class ++ (10 ∷ [])))); is_bounded = w.0; text = refl;
-      follows = (refl, joined_named slash (after_names Path k (Inst k)) (refl, refl) path (32 ∷ (class ++ (10 ∷ []))) w.1.2
-      (refl, joined_named dot (Ends (Inst k) (Inst k)) (refl, refl) class (10 ∷ []) w.1.3 (refl, (refl, refl))))
-    })
+    (tails 105 105 _ _ (w.1.4 ∙ inst_spread k path class)) (
+      refl,
+      record {
+        fits = tt;
+        number = k;
+        tail = 32 ∷ (path ++ (32 ∷ (class ++ (10 ∷ []))));
+        is_bounded = w.0;
+        text = refl;
+        follows = (
+          refl,
+          joined_named slash (after_names Path k (Inst k)) (refl, refl) path (32 ∷ (class ++ (10 ∷ []))) w.1.2
+              (refl, joined_named dot (Ends (Inst k) (Inst k)) (refl, refl) class (10 ∷ []) w.1.3 (refl, (refl, refl))),
+        );
+      },
+    )
 inst_on line bytes w = absurd (let e : 105 ≡ letter_of line = first_letter line 105 bytes w in omega arith)
 
 inst_back : (line : Line) (bytes : List ℕ) → Then 32 (InField Instance None line) bytes → Spells line (105 ∷ bytes)
@@ -184,8 +227,12 @@ header_on (Header n l) bytes w = inr
     (codes "vc-trace 1 " ++ (decimal n ++ (32 ∷ (decimal l ++ (10 ∷ [])))))
     (tails 114 114 _ _ (w.1 ∙ text_spread (Header n l)))
     (behind_all (drop 1 front) (InField Instances None (Header n l)) (decimal n ++ (32 ∷ (decimal l ++ (10 ∷ [])))) (record {
-      fits = tt; number = n; tail = 32 ∷ (decimal l ++ (10 ∷ [])); is_bounded = w.0.0; text = refl;
-      follows = (refl, record { fits = tt; number = l; tail = 10 ∷ []; is_bounded = w.0.1; text = refl; follows = (refl, (refl, refl)) })
+      fits = tt;
+      number = n;
+      tail = 32 ∷ (decimal l ++ (10 ∷ []));
+      is_bounded = w.0.0;
+      text = refl;
+      follows = (refl, record { fits = tt; number = l; tail = 10 ∷ []; is_bounded = w.0.1; text = refl; follows = (refl, (refl, refl)) });
     })))
 header_on Deliver bytes w = inl (at (Ends Deliver Deliver) bytes (10 ∷ []) (tails 114 114 _ _ w.1) (refl, (refl, refl)))
 header_on line bytes w = absurd (let e : 114 ≡ letter_of line = first_letter line 114 bytes w in omega arith)
@@ -215,13 +262,13 @@ alive_end this = (this, 10 ∷ [], (refl, (refl, refl)))
 
 pub leads_r : Leads Start 114 AfterR
 leads_r = record {
-    onward = header_on;
-    back = λ line bytes w. elim w [
-      inl v ↦ end_back Deliver line 114 bytes (tt, refl) v |
-      inr v ↦ header_back line bytes v
-    ];
-    alive = (Deliver, 10 ∷ [], inl (refl, (refl, refl)))
-  }
+  onward = header_on;
+  back = λ line bytes w. elim w [
+    | inl v ↦ end_back Deliver line 114 bytes (tt, refl) v
+    | inr v ↦ header_back line bytes v
+  ];
+  alive = (Deliver, 10 ∷ [], inl (refl, (refl, refl)));
+}
 
 pub leads_inst : Leads Start 105 (Letter Instance)
 leads_inst = record { onward = inst_on; back = inst_back; alive = alive_letter Instance }
@@ -238,10 +285,10 @@ quiet_on line bytes w = absurd (let e : 113 ≡ letter_of line = first_letter li
 
 pub leads_quiet : Leads Start 113 (Ending Quiet)
 leads_quiet = record {
-    onward = quiet_on;
-    back = λ line bytes w. end_back Quiet line 113 bytes (tt, refl) w;
-    alive = alive_end Quiet
-  }
+  onward = quiet_on;
+  back = λ line bytes w. end_back Quiet line 113 bytes (tt, refl) w;
+  alive = alive_end Quiet;
+}
 
 budget_on : (line : Line) (bytes : List ℕ) → Spells line (98 ∷ bytes) → Ends Budget line bytes
 budget_on Budget bytes w = at (Ends Budget Budget) bytes (10 ∷ []) (tails 98 98 _ _ w.1) (refl, (refl, refl))
@@ -249,10 +296,10 @@ budget_on line bytes w = absurd (let e : 98 ≡ letter_of line = first_letter li
 
 pub leads_budget : Leads Start 98 (Ending Budget)
 leads_budget = record {
-    onward = budget_on;
-    back = λ line bytes w. end_back Budget line 98 bytes (tt, refl) w;
-    alive = alive_end Budget
-  }
+  onward = budget_on;
+  back = λ line bytes w. end_back Budget line 98 bytes (tt, refl) w;
+  alive = alive_end Budget;
+}
 
 -- the bytes that lines begin with
 abbrev pub IsNoLetter : ℕ → Type 0

@@ -11,17 +11,33 @@ pub(crate) enum Place {
     /// An `r`, which is a delivery or begins the first line.
     AfterR,
     /// So many bytes of what stands before the numbers of the first line.
-    Front { read: usize },
+    Front {
+        read: usize,
+    },
     /// The letter of a line. A blank and the number come next.
-    Letter { field: Field },
+    Letter {
+        field: Field,
+    },
     /// The blank before a number, and what number its digits so far are.
-    Number { field: Field, so_far: Option<u32> },
+    Number {
+        field: Field,
+        so_far: Option<u32>,
+    },
     /// All before a name of an instance's path or class.
-    AtName { inst: u32, part: Part },
+    AtName {
+        inst: u32,
+        part: Part,
+    },
     /// At least one byte of such a name.
-    InName { inst: u32, part: Part },
+    InName {
+        inst: u32,
+        part: Part,
+    },
     /// All before the name of a trap.
-    AtTrap { inst: u32, action: u16 },
+    AtTrap {
+        inst: u32,
+        action: u16,
+    },
     /// So many bytes of the name of a trap.
     InTrap {
         inst: u32,
@@ -30,9 +46,13 @@ pub(crate) enum Place {
         read: usize,
     },
     /// All of a line but its line feed.
-    Ending { line: Line },
+    Ending {
+        line: Line,
+    },
     /// All of a line.
-    Ended { line: Line },
+    Ended {
+        line: Line,
+    },
     /// What begins no line.
     Lost,
 }

@@ -48,11 +48,7 @@ impl LineReader {
         ensures read { (read : List ℕ) → HasRead self.old read → HasRead self.new (since_line_feed read byte) }
     {
         let place = advance(self.place, byte);
-        self.place = if byte == b'\n' {
-            Place::Start
-        } else {
-            place
-        };
+        self.place = if byte == b'\n' { Place::Start } else { place };
         answer(place)
     }
 }
@@ -67,3 +63,6 @@ fn answer(place: Place) -> Step2
         _ => Step2::More,
     }
 }
+
+#[cfg(test)]
+mod tests;

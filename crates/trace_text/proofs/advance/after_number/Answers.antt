@@ -11,6 +11,6 @@ returns-then-number-most c =
 
 pub returns-else-byte-stop : goal.returns-else-byte-stop
 returns-else-byte-stop c = leads_nowhere c.args.field c.args.number c.args.byte c.requires (λ low same. elim c.else-byte-stop.branch [
-    else-byte-stop-via-then-byte-stop+else-number-most w ↦ omega arith |
-    else-byte-stop-via-else-byte-stop w ↦ omega arith
-  ])
+  | else-byte-stop-via-then-byte-stop+else-number-most w ↦ omega arith
+  | else-byte-stop-via-else-byte-stop w ↦ omega arith
+])

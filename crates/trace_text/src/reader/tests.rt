@@ -1,0 +1,229 @@
+ghost use Rattle.trace_text.specs.Text.{IsWhole};
+
+use super::*;
+use crate::write::write_line;
+use arrayvec::ArrayVec;
+use rvc_base::Trap;
+
+/// Whether a reader takes `line` from the text at its last byte, and wants more before.
+fn is_line(text: &[u8], line: Line) -> bool {
+    let mut reader = LineReader::new();
+    let mut rest = text.len();
+    for byte in text {
+        rest = rest.saturating_sub(1);
+        let wanted = if rest == 0 {
+            Step2::Line(line)
+        } else {
+            Step2::More
+        };
+        if reader.next(*byte) != wanted {
+            return false;
+        }
+    }
+    !text.is_empty()
+}
+
+/// Whether a reader wants more up to the byte at `place`, and finds bad what stands there and behind it.
+fn is_bad_at(text: &[u8], place: usize) -> bool {
+    let mut reader = LineReader::new();
+    for (at, byte) in text.iter().enumerate() {
+        let wanted = if at < place { Step2::More } else { Step2::Bad };
+        if reader.next(*byte) != wanted {
+            return false;
+        }
+    }
+    place < text.len()
+}
+
+fn fire(inst: u32, action: u16) -> Line {
+    Line::Fire { inst, action }
+}
+
+fn trap(inst: u32, action: u16, trap: Trap) -> Line {
+    Line::Trap { inst, action, trap }
+}
+
+fn stall(inst: u32, action: u16, link: u32) -> Line {
+    Line::Stall { inst, action, link }
+}
+
+fn header(instances: u32, links: u32) -> Line {
+    Line::Header { instances, links }
+}
+
+#[test]
+fn lines_of_the_table(rt: HostRuntime) {
+    let most = 4294967295;
+    let lines = [
+        ("rvc-trace 1 0 0\n", header(0, 0)),
+        ("rvc-trace 1 12 305\n", header(12, 305)),
+        ("rvc-trace 1 4294967295 4294967295\n", header(most, most)),
+        ("i 0 Inc Inc\n", Line::Inst { inst: 0 }),
+        ("i 4294967295 a/_1/b_2 p.q9._\n", Line::Inst { inst: most }),
+        ("i 10 begin end\n", Line::Inst { inst: 10 }),
+        ("f 0 0\n", fire(0, 0)),
+        ("f 4294967295 65535\n", fire(most, 65535)),
+        ("r\n", Line::Deliver),
+        ("q\n", Line::Quiet),
+        ("b\n", Line::Budget),
+        ("t 1 2 Overflow\n", trap(1, 2, Trap::Overflow)),
+        ("t 1 2 DivideByZero\n", trap(1, 2, Trap::DivideByZero)),
+        ("t 1 2 IndexRange\n", trap(1, 2, Trap::IndexRange)),
+        ("t 1 2 ShiftRange\n", trap(1, 2, Trap::ShiftRange)),
+        (
+            "t 4294967295 65535 TurnLimit\n",
+            trap(most, 65535, Trap::TurnLimit),
+        ),
+        ("s 7 8 9\n", stall(7, 8, 9)),
+        ("s 4294967295 65535 4294967295\n", stall(most, 65535, most)),
+    ];
+    for (text, line) in lines.iter() {
+        assert!(rt; is_line(text.as_bytes(), *line), "{text}");
+    }
+}
+
+#[test]
+fn bytes_that_can_not_follow(rt: HostRuntime) {
+    let texts = [
+        // too great numbers
+        ("rvc-trace 1 4294967296 0\n", 21),
+        ("rvc-trace 1 0 4294967296\n", 23),
+        ("rvc-trace 1 10000000000 0\n", 22),
+        ("i 4294967296 a b\n", 11),
+        ("f 4294967296 0\n", 11),
+        ("f 99999999999 0\n", 11),
+        ("f 0 65536\n", 8),
+        ("f 0 655350\n", 9),
+        ("t 4294967296 0 Overflow\n", 11),
+        ("t 0 65536 Overflow\n", 8),
+        ("s 4294967296 0 0\n", 11),
+        ("s 0 65536 0\n", 8),
+        ("s 0 0 4294967296\n", 15),
+        // leading zeros and signs
+        ("rvc-trace 1 00 0\n", 13),
+        ("i 01 a b\n", 3),
+        ("f 00 0\n", 3),
+        ("f 0 01\n", 5),
+        ("t 0 00 Overflow\n", 5),
+        ("s 0 0 007\n", 7),
+        ("f -1 0\n", 2),
+        ("f 0 +1\n", 4),
+        ("f 0x1 0\n", 3),
+        // blanks
+        (" r\n", 0),
+        ("r \n", 1),
+        ("f0 0\n", 1),
+        ("f  0 0\n", 2),
+        ("f 0  0\n", 4),
+        ("f 0 0 \n", 5),
+        ("f\t0 0\n", 1),
+        ("rvc-trace  1 0 0\n", 10),
+        ("rvc-trace 1  0 0\n", 12),
+        ("i 0  a b\n", 4),
+        ("i 0 a  b\n", 6),
+        ("i 0 a b \n", 7),
+        ("t 0 0  Overflow\n", 6),
+        // other ends of lines
+        ("\n", 0),
+        ("\r\n", 0),
+        ("r\r\n", 1),
+        ("f 0 0\r\n", 5),
+        ("i 0 a b\r\n", 7),
+        ("t 0 0 Overflow\r\n", 14),
+        ("f\n", 1),
+        ("f \n", 2),
+        ("f 0\n", 3),
+        ("f 0 \n", 4),
+        ("f 0 0 0\n", 5),
+        ("s 0 0\n", 5),
+        ("t 0 0\n", 5),
+        ("t 0 0 \n", 6),
+        // the first line
+        ("rvc\n", 3),
+        ("rvc-trace\n", 9),
+        ("rvc-trace 1\n", 11),
+        ("rvc-trace 2 0 0\n", 10),
+        ("rvc-trace 10 0 0\n", 11),
+        ("rvc-trace 1 0\n", 13),
+        ("rvc-trace 1 0 0 0\n", 15),
+        ("RVC-trace 1 0 0\n", 0),
+        // letters and names
+        ("g\n", 0),
+        ("qq\n", 1),
+        ("t 0 0 overflow\n", 6),
+        ("t 0 0 Overfl\n", 12),
+        ("t 0 0 Overflows\n", 14),
+        ("t 0 0 IndexBound\n", 11),
+        ("t 0 0 ShiftLimit\n", 11),
+        ("t 0 0 TurnRange\n", 10),
+        ("t 0 0 Memory\n", 6),
+        ("i 0 1a b\n", 4),
+        ("i 0 /a b\n", 4),
+        ("i 0 a//b c\n", 6),
+        ("i 0 a/ b\n", 6),
+        ("i 0 a.b c\n", 5),
+        ("i 0 a-b c\n", 5),
+        ("i 0 a\n", 5),
+        ("i 0 a \n", 6),
+        ("i 0 a b/c\n", 7),
+        ("i 0 a .b\n", 6),
+        ("i 0 a b.\n", 8),
+        ("i 0 a b..c\n", 8),
+        ("i 0 a b c\n", 7),
+        ("i 0 ä b\n", 4),
+    ];
+    for (text, place) in texts.iter() {
+        assert!(rt; is_bad_at(text.as_bytes(), *place), "{text}");
+    }
+}
+
+/// What a reader says of each byte: `.` for more, `l` for a line, `x` for what is bad.
+fn says(text: &[u8], wanted: &[u8]) -> bool {
+    let mut reader = LineReader::new();
+    for (byte, want) in text.iter().zip(wanted) {
+        let said = match reader.next(*byte) {
+            Step2::More => b'.',
+            Step2::Line(_) => b'l',
+            Step2::Bad => b'x',
+        };
+        if said != *want {
+            return false;
+        }
+    }
+    text.len() == wanted.len()
+}
+
+#[test]
+fn behind_each_line_feed_a_line_begins(rt: HostRuntime) {
+    let texts = [
+        ("r\nf 0 0\nq\n", ".l.....l.l"),
+        ("x\nr\n", "xx.l"),
+        ("r r\nr\n", ".xxx.l"),
+        ("\n\nb\n", "xx.l"),
+        ("f 0 0r\nq\n", ".....xx.l"),
+        ("r\n\nq\n", ".lx.l"),
+    ];
+    for (text, wanted) in texts.iter() {
+        assert!(rt; says(text.as_bytes(), wanted.as_bytes()), "{text}");
+    }
+}
+
+/// Whether a line that was written is read back.
+fn comes_back(line: Line) -> bool
+    requires { IsWhole line }
+{
+    let mut out = ArrayVec::new();
+    write_line(&line, &mut out);
+    is_line(out.as_slice(), line)
+}
+
+#[test]
+fn written_lines_come_back(rt: HostRuntime) {
+    assert!(rt; comes_back(header(1, 2)));
+    assert!(rt; comes_back(fire(10, 65535)));
+    assert!(rt; comes_back(Line::Deliver));
+    assert!(rt; comes_back(Line::Quiet));
+    assert!(rt; comes_back(trap(0, 10, Trap::IndexRange)));
+    assert!(rt; comes_back(stall(4294967295, 0, 100)));
+    assert!(rt; comes_back(Line::Budget));
+}
