@@ -1,11 +1,10 @@
 -- Where a byte leads, apart from numbers and from the first byte of a line.
-use Rattle.std.proofs.Common.{◌≡◌, ℕ, suc, ◌+◌, ◌<◌, ◌≤◌, Bool, true, false, List, [], ◌∷◌, ◌++◌, Option, None, Some, refl, sym, ap, ◌∙◌, subst, inl, inr, arith, length, slice_index_or, add-one}
-use Rattle.std.specs.Prelude.{drop, ◌⊎◌, ◌==◌, MatchBool}
+use Rattle.std.proofs.Common.{◌≡◌, ℕ, ◌+◌, ◌<◌, Bool, true, false, List, [], ◌∷◌, ◌++◌, None, refl, sym, subst, inl, inr, arith, length, slice_index_or, add-one}
+use Rattle.std.specs.Prelude.{drop, ◌==◌, MatchBool}
 use Rattle.std.proofs.Math.Seq.{drop-cons}
 use Rattle.rvc_base.specs.declared.trap.Trap.{Trap as TrapName}
 use Rattle.rvc_base.specs.declared.trap.Trap.TheVariants.{Overflow, DivideByZero, IndexRange, ShiftRange, TurnLimit}
 use Rattle.rvc_base.specs.Trap.{trap_name}
-use Rattle.trace_text.specs.declared.line.Line.{Line}
 use Rattle.trace_text.specs.declared.line.Line.TheVariants.{Inst, Trap}
 use Rattle.trace_text.specs.declared.place.Place.{Place}
 use Rattle.trace_text.specs.declared.place.Place.TheVariants.{AfterR, Front, Letter, Number, AtName, InName, AtTrap, InTrap, Lost}
@@ -14,7 +13,7 @@ use Rattle.trace_text.specs.declared.place.Field.TheVariants.{Instances}
 use Rattle.trace_text.specs.declared.place.Part.{Part}
 use Rattle.trace_text.specs.declared.place.Part.TheVariants.{Path, Class}
 use Rattle.trace_text.specs.Names.{is_letter, is_name_byte}
-use Rattle.trace_text.specs.Waiting.{Behind, Ends, Named, separator_of, after_names, NamesTrap, InField, Waits, IsAlive, Leads, LeadsOut, front}
+use Rattle.trace_text.specs.Waiting.{Behind, Ends, separator_of, InField, IsAlive, Leads, LeadsOut, front}
 use Rattle.trace_text.proofs.Numbering.{alive_none, lost}
 use Rattle.trace_text.proofs.Starting.{behind_all}
 

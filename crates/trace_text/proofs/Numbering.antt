@@ -1,5 +1,5 @@
 -- Where a byte leads from a number.
-use Rattle.std.proofs.Common.{◌≡◌, ℕ, zero, suc, ◌+◌, ◌*◌, ◌^◌, ◌<◌, ◌≤◌, List, [], ◌∷◌, ◌++◌, Option, None, Some, refl, sym, subst, arith}
+use Rattle.std.proofs.Common.{◌≡◌, ℕ, zero, suc, ◌+◌, ◌*◌, ◌^◌, ◌<◌, ◌≤◌, List, [], ◌∷◌, ◌++◌, Option, None, Some, refl, subst, arith}
 use Rattle.std.specs.Prelude.{decimal}
 use Rattle.rvc_base.specs.declared.trap.Trap.TheVariants.{Overflow}
 use Rattle.rvc_base.specs.Trap.{trap_name}
@@ -10,7 +10,7 @@ use Rattle.trace_text.specs.declared.place.Place.TheVariants.{Number, AtName, At
 use Rattle.trace_text.specs.declared.place.Field.{Field}
 use Rattle.trace_text.specs.declared.place.Field.TheVariants.{Instances, Links, Instance, FiringInst, FiringAction, TrappingInst, TrappingAction, StalledInst, StalledAction, StalledLink}
 use Rattle.trace_text.specs.declared.place.Part.TheVariants.{Path}
-use Rattle.trace_text.specs.Waiting.{Behind, Then, Numbers, IsDigit, bound_of, stop_of, follows, InField, NamesTrap, Waits, IsAlive, Leads, StandsBehind, SoFar}
+use Rattle.trace_text.specs.Waiting.{Then, Numbers, IsDigit, bound_of, stop_of, follows, NamesTrap, Waits, IsAlive, Leads, StandsBehind, SoFar}
 use Rattle.trace_text.proofs.Digits.{Stops, AllStop, no_first, stopped, unstopped, after_zero, too_great, more_digits, less_digits, one_digit, no_digit}
 
 then_stops : (c : ℕ) (P : List ℕ → Type 0) (tail : List ℕ) → (IsDigit c → ⊥) → Then c P tail → Stops tail

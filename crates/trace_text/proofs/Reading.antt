@@ -1,8 +1,7 @@
 -- What a reader says of the bytes that it has read.
-use Rattle.std.proofs.Common.{◌≡◌, ℕ, Bool, true, false, List, [], ◌∷◌, ◌++◌, refl, sym, ap, ◌∙◌, subst, inl, inr, arith, append_assoc}
-use Rattle.std.specs.Prelude.{◌↔◌, ◌==◌, None}
+use Rattle.std.proofs.Common.{◌≡◌, ℕ, List, [], ◌∷◌, ◌++◌, refl, sym, ap, ◌∙◌, subst, inl, inr, append_assoc}
+use Rattle.std.specs.Prelude.{None}
 use Rattle.std.proofs.lemmas.List.{append-nil}
-use Rattle.rvc_base.specs.declared.trap.Trap.TheVariants.{Overflow, DivideByZero, IndexRange, ShiftRange, TurnLimit}
 use Rattle.rvc_base.specs.Trap.{trap_name}
 use Rattle.trace_text.specs.declared.line.Line.{Line}
 use Rattle.trace_text.specs.declared.line.Line.TheVariants.{Header, Inst, Fire, Deliver, Quiet, Trap, Stall, Budget}
@@ -10,15 +9,14 @@ use Rattle.trace_text.specs.declared.place.Place.{Place}
 use Rattle.trace_text.specs.declared.place.Place.TheVariants.{Start, AfterR, Front, Letter, Number, AtName, InName, AtTrap, InTrap, Ending, Ended, Lost}
 use Rattle.trace_text.specs.declared.place.Field.TheVariants.{Instances}
 use Rattle.trace_text.specs.declared.reader.LineReader.{LineReader}
-use Rattle.trace_text.specs.declared.reader.Step2.{Step2}
 use Rattle.trace_text.specs.declared.reader.Step2.TheVariants.{More, Line as TheLine, Bad}
-use Rattle.trace_text.specs.Spelling.{Spells, Begins, IsFront, since_line_feed}
-use Rattle.trace_text.specs.Waiting.{Behind, Ends, InField, Numbers, Waits, IsAlive, Leads, front, bound_of, stop_of, Then, follows}
+use Rattle.trace_text.specs.Spelling.{Spells, Begins, IsFront}
+use Rattle.trace_text.specs.Waiting.{Behind, Ends, InField, Waits, IsAlive, Leads, bound_of}
 use Rattle.trace_text.specs.HasRead.{HasRead}
 use Rattle.trace_text.specs.Answer.{answer_of}
 use Rattle.trace_text.proofs.Decoding.{starts}
 use Rattle.trace_text.proofs.Digits.{no_end}
-use Rattle.trace_text.proofs.Numbering.{alive_none, field_stops}
+use Rattle.trace_text.proofs.Numbering.{field_stops}
 use Rattle.trace_text.proofs.Starting.{text_spread, inst_spread}
 
 has_line : (line : Line) → Spells line [] → ⊥

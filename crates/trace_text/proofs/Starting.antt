@@ -1,22 +1,20 @@
 -- The first byte of a line.
-use Rattle.std.proofs.Common.{◌≡◌, false, ℕ, ◌+◌, ◌^◌, ◌<◌, ◌≤◌, List, [], ◌∷◌, ◌++◌, Option, None, Some, refl, sym, ap, ◌∙◌, subst, inl, inr, arith, append_assoc}
-use Rattle.std.specs.Prelude.{decimal, codes, drop, ◌⊎◌, ◌≢◌}
+use Rattle.std.proofs.Common.{◌≡◌, false, ℕ, List, [], ◌∷◌, ◌++◌, None, refl, sym, ap, ◌∙◌, subst, inl, inr, arith, append_assoc}
+use Rattle.std.specs.Prelude.{decimal, codes, drop, ◌≢◌}
 use Rattle.std.proofs.lemmas.List.{append-nil}
-use Rattle.rvc_base.specs.declared.trap.Trap.{Trap as TrapName}
 use Rattle.rvc_base.specs.Trap.{trap_name}
 use Rattle.trace_text.specs.declared.line.Line.{Line}
 use Rattle.trace_text.specs.declared.line.Line.TheVariants.{Header, Inst, Fire, Deliver, Quiet, Trap, Stall, Budget}
-use Rattle.trace_text.specs.declared.place.Place.{Place}
 use Rattle.trace_text.specs.declared.place.Place.TheVariants.{Start, AfterR, Letter, Ending, Lost}
 use Rattle.trace_text.specs.declared.place.Field.{Field}
 use Rattle.trace_text.specs.declared.place.Field.TheVariants.{Instances, Instance, FiringInst, TrappingInst, StalledInst}
-use Rattle.trace_text.specs.declared.place.Part.TheVariants.{Path, Class}
+use Rattle.trace_text.specs.declared.place.Part.TheVariants.{Path}
 use Rattle.trace_text.specs.Text.{line_text, line_feed}
 use Rattle.trace_text.specs.Spelling.{Spells}
-use Rattle.trace_text.specs.Waiting.{IsAll, Behind, Then, Ends, Numbers, Named, after_names, NamesTrap, InField, Waits, IsAlive, Leads, front}
+use Rattle.trace_text.specs.Waiting.{IsAll, Behind, Then, Ends, Named, after_names, NamesTrap, InField, Waits, IsAlive, Leads, front}
 use Rattle.trace_text.specs.Names.{slash, dot}
 use Rattle.trace_text.proofs.Decoding.{heads, tails, spread, spread_is}
-use Rattle.trace_text.proofs.Naming.{Parted, named_parted, joined_named}
+use Rattle.trace_text.proofs.Naming.{named_parted, joined_named}
 use Rattle.trace_text.proofs.Numbering.{alive_none, lost}
 
 -- the first byte of a line's text

@@ -1,7 +1,7 @@
 -- Which bytes are a line of the table, and which begin one.
 use Rattle.std.specs.Prelude.{◌≡◌, ◌==◌, ℕ, ◌<◌, List, [], ◌∷◌, ◌++◌, codes, if◌then◌else◌}
 use Rattle.trace_text.specs.declared.line.Line.{Line}
-use Rattle.trace_text.specs.declared.line.Line.TheVariants.{Header, Inst, Fire, Deliver, Quiet, Trap, Stall, Budget}
+use Rattle.trace_text.specs.declared.line.Line.TheVariants.{Inst}
 use Rattle.trace_text.specs.Text.{line_text, line_feed}
 use Rattle.trace_text.specs.Table.{number_bound, IsWritten}
 use Rattle.trace_text.specs.Names.{IsPath, IsClass}

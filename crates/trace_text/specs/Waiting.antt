@@ -3,7 +3,7 @@ use Rattle.std.specs.Prelude.{◌≡◌, ◌⊎◌, ℕ, ◌+◌, ◌*◌, ◌<�
 use Rattle.rvc_base.specs.declared.trap.Trap.{Trap as TrapName}
 use Rattle.rvc_base.specs.Trap.{trap_name}
 use Rattle.trace_text.specs.declared.line.Line.{Line}
-use Rattle.trace_text.specs.declared.line.Line.TheVariants.{Header, Inst, Fire, Deliver, Quiet, Trap, Stall, Budget}
+use Rattle.trace_text.specs.declared.line.Line.TheVariants.{Header, Inst, Fire, Deliver, Trap, Stall}
 use Rattle.trace_text.specs.declared.place.Place.{Place}
 use Rattle.trace_text.specs.declared.place.Place.TheVariants.{Start, AfterR, Front, Letter, Number, AtName, InName, AtTrap, InTrap, Ending, Ended, Lost}
 use Rattle.trace_text.specs.declared.place.Field.{Field}

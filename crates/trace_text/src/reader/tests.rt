@@ -219,11 +219,33 @@ fn comes_back(line: Line) -> bool
 
 #[test]
 fn written_lines_come_back(rt: HostRuntime) {
-    assert!(rt; comes_back(header(1, 2)));
-    assert!(rt; comes_back(fire(10, 65535)));
+    assert!(rt;
+        comes_back(Line::Header {
+            instances: 1,
+            links: 2
+        })
+    );
+    assert!(rt;
+        comes_back(Line::Fire {
+            inst: 10,
+            action: 65535
+        })
+    );
     assert!(rt; comes_back(Line::Deliver));
     assert!(rt; comes_back(Line::Quiet));
-    assert!(rt; comes_back(trap(0, 10, Trap::IndexRange)));
-    assert!(rt; comes_back(stall(4294967295, 0, 100)));
+    assert!(rt;
+        comes_back(Line::Trap {
+            inst: 0,
+            action: 10,
+            trap: Trap::IndexRange
+        })
+    );
+    assert!(rt;
+        comes_back(Line::Stall {
+            inst: 4294967295,
+            action: 0,
+            link: 100
+        })
+    );
     assert!(rt; comes_back(Line::Budget));
 }

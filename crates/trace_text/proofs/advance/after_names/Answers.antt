@@ -1,4 +1,3 @@
-use Rattle.std.proofs.Common.{subst, sym}
 use Rattle.trace_text.proofs.Advancing.{out_of_path}
 use Rattle.trace_text.proofs.advance.after_names.Goals as goal
 

@@ -1,5 +1,4 @@
-use Rattle.std.proofs.Common.{◌≡◌, ◌+◌, ◌<◌, ◌∙◌, arith}
-use Rattle.trace_text.specs.Waiting.{bound_of, stop_of}
+use Rattle.std.proofs.Common.{◌∙◌, arith}
 use Rattle.trace_text.proofs.Numbering.{leads_stop, leads_nowhere}
 use Rattle.trace_text.proofs.advance.after_number.Goals.{else-byte-stop-via-then-byte-stop+else-number-most, else-byte-stop-via-else-byte-stop}
 use Rattle.trace_text.proofs.advance.after_number.Goals as goal

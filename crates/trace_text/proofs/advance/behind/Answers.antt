@@ -1,4 +1,3 @@
-use Rattle.trace_text.specs.declared.place.Field.TheVariants.{Links, FiringAction, TrappingAction, StalledAction, StalledLink}
 use Rattle.trace_text.proofs.Numbering.{behind_instances, behind_instance, behind_firing, behind_trapping, behind_trap, behind_stalled, behind_link}
 use Rattle.trace_text.proofs.advance.behind.Goals as goal
 

@@ -1,4 +1,4 @@
-use Rattle.std.proofs.Common.{◌≡◌, ◌+◌, ◌-◌, ◌<◌, arith, rules}
+use Rattle.std.proofs.Common.{◌-◌, arith}
 use Rattle.trace_text.specs.Waiting.{IsDigit}
 use Rattle.trace_text.proofs.Numbering.{leads_digit, leads_no_digit, leads_none}
 use Rattle.trace_text.proofs.advance.in_number.Goals as goal

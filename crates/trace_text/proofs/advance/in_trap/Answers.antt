@@ -1,4 +1,4 @@
-use Rattle.std.proofs.Common.{◌≡◌, ◌<◌, ℕ, List, length, slice_index_or, sym, ◌∙◌, subst}
+use Rattle.std.proofs.Common.{◌≡◌, ◌<◌, ℕ, List, length, slice_index_or, ◌∙◌, subst}
 use Rattle.rvc_base.specs.Trap.{trap_name}
 use Rattle.trace_text.proofs.Advancing.{trap_more}
 use Rattle.trace_text.proofs.advance.in_trap.Goals as goal
