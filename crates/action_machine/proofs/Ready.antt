@@ -1,16 +1,16 @@
 -- What a state of a run that stands has for its next instruction, and where the step leads.
-use Rattle.std.proofs.Common.{◌≡◌, ◌≢◌, ℕ, ◌+◌, ◌<◌, ◌≤◌, refl, sym, ap, ◌∙◌, subst, ℤ, pos, true, List, [], ◌∷◌, length, arith}
+use Rattle.std.proofs.Common.{◌≡◌, ◌≢◌, ℕ, ◌+◌, ◌<◌, ◌≤◌, refl, sym, ap, ◌∙◌, subst, ℤ, pos, List, [], ◌∷◌, length, arith}
 use Rattle.std.specs.Prelude.{Option, None, Some, slice_get, slice_index_or}
 use Rattle.std.proofs.lemmas.Option.{slice_get_within, slice_get-get_or}
 use Rattle.code_ir.specs.declared.instr.Instr.{Instr}
 use Rattle.code_ir.specs.declared.instr.Instr.TheVariants as op
 use Rattle.code_ir.specs.declared.outcome.Outcome.{Outcome}
 use Rattle.code_ir.specs.Code.{Code}
-use Rattle.code_ir.specs.Effect.{Effect, Leaves, Fails, LacksToken, Breaks, effect}
+use Rattle.code_ir.specs.Effect.{LacksToken, effect}
 use Rattle.code_ir.specs.declared.instr.Routine.{Routine}
 use Rattle.code_ir.specs.Running.{State, Next, Goes, Over, Lacks, Stuck, step, obey, go_on, call, return, Ends, stop, go, Reaches, here, after}
 use Rattle.code_ir.specs.Standing.{IsFine, Stands, most_steps}
-use Rattle.code_ir.specs.Typing.{HasSizes, NamesCells, pops}
+use Rattle.code_ir.specs.Typing.{NamesCells, pops}
 use Rattle.action_machine.specs.declared.registers.Registers.{Registers}
 use Rattle.action_machine.specs.Stacks.{top_first}
 use Rattle.action_machine.specs.Machine.{IsPlain, IsReady, rises, state_of}

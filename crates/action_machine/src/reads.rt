@@ -12,7 +12,13 @@ use rvc_base::{Num, Trap};
 
 /// Pushes token `k` of a port.
 #[inline]
-pub(crate) fn token<T: Tokens>(p: u32, k: u32, top: &mut usize, stack: &mut [Num], tokens: &T) -> Acted
+pub(crate) fn token<T: Tokens>(
+    p: u32,
+    k: u32,
+    top: &mut usize,
+    stack: &mut [Num],
+    tokens: &T,
+) -> Acted
     requires room { top.old < length stack.old }
     requires there { (cells : List ℤ) → push_token (slice_get (T.tokens tokens.now p) k) (top_first (pos 0) top.old stack.old) cells ≢ LacksToken }
     ensures { (cells : List ℤ) → push_token (slice_get (T.tokens tokens.now p) k) (top_first (pos 0) top.old stack.old) cells ≡ effect_of result (top_first (pos 0) top.new stack.new) cells }
@@ -70,15 +76,7 @@ pub(crate) fn token_list<T: Tokens>(
 
 /// Puts the tokens `k`, `k + m` and so on, `n` of them, into the cells from `d`.
 #[inline]
-fn take_tokens<T: Tokens>(
-    d: usize,
-    p: u32,
-    k: u64,
-    m: u64,
-    n: u32,
-    cells: &mut [Num],
-    tokens: &T,
-)
+fn take_tokens<T: Tokens>(d: usize, p: u32, k: u64, m: u64, n: u32, cells: &mut [Num], tokens: &T)
     requires inside { d + n ≤ length cells.old }
     requires start { k < 2 ^ 32 }
     requires step { m < 2 ^ 32 }

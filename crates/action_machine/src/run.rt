@@ -9,8 +9,7 @@ ghost use Rattle.action_machine.specs.Machine.{HasRoom};
 use crate::kept::Cells;
 use crate::registers::Registers;
 use crate::step::step;
-use code_ir::{Admitted, Outcome, Tokens};
-use code_ir::laws;
+use code_ir::{Admitted, Outcome, Tokens, laws};
 use rvc_base::{MAX_TURNS, Num};
 
 /// Code that runs.

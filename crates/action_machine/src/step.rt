@@ -72,7 +72,11 @@ fn answer(at: &mut Registers, stack: &[Num]) -> Outcome
     ensures { (frames : List ℕ) (cells : List ℤ) → answer (state_of at.old stack.now frames cells) (top_first (pos 0) at.old.top stack.now) ≡ next_of (Some result) (state_of at.new stack.now frames cells) }
 {
     let v = pop(&mut at.top, stack);
-    if v == 0 { Outcome::False } else { Outcome::True }
+    if v == 0 {
+        Outcome::False
+    } else {
+        Outcome::True
+    }
 }
 
 /// Goes to the next place, unless the instruction failed.

@@ -1,4 +1,4 @@
-use Rattle.std.proofs.Common.{rules, ◌≡◌, ◌+◌, ◌*◌, ◌<◌, ◌^◌, ℕ, ℤ, List, pos, [], length, arith, ◌∙◌, subst, w64, SFits}
+use Rattle.std.proofs.Common.{rules, ◌≡◌, ◌+◌, ◌*◌, ◌<◌, ℕ, ℤ, List, pos, [], length, arith, ◌∙◌, w64, SFits}
 use Rattle.std.specs.Prelude.{slice_get}
 use Rattle.code_ir.specs.Effect.{Effect, pop, push_token, with_offset}
 use Rattle.action_machine.specs.Stacks.{top_first}
@@ -13,7 +13,7 @@ at-requires g c =
     let f : SFits w64 c.pop-i.result = search rules in
     let next : ℕ → Effect = λ j. push_token (slice_get xs (c.args.k + j * c.args.m)) rest [] in
     let same : pop (top_first (pos 0) c.args.top.now c.args.stack.now) (λ i s. with_offset i 1 c.args.n (λ j. push_token (slice_get xs (c.args.k + j * c.args.m)) s [])) ≡ next c.in-Some.j =
-        popped _ _ c.pop-i.result _ _ c.pop-i.ensures.operands (offset-some c.pop-i.result 1 c.args.n c.in-Some.j next f c.in-Some.ensures.effect) in
+    popped _ _ c.pop-i.result _ _ c.pop-i.ensures.operands (offset-some c.pop-i.result 1 c.args.n c.in-Some.j next f c.in-Some.ensures.effect) in
     let inside : c.args.k + c.in-Some.j * c.args.m < length xs = token-inside xs (c.args.k + c.in-Some.j * c.args.m) rest [] (λ e. c.requires.there [] (same ∙ e)) in
     rw (c.from.ensures, c.from-in-Some.ensures, c.from-in-Some-2.ensures) inside
 

@@ -1,7 +1,7 @@
-use Rattle.std.proofs.Common.{rules, ◌≡◌, ◌+◌, ◌<◌, ◌≤◌, ◌∙◌, ℕ, ℤ, List, [], refl, sym, ap, subst, arith, length}
-use Rattle.rvc_base.specs.Turns.{max_turns, max_turns_is}
+use Rattle.std.proofs.Common.{◌≡◌, ℕ, [], sym, subst, arith, length}
+use Rattle.rvc_base.specs.Turns.{max_turns_is}
 use Rattle.code_ir.specs.Running.{State, Reaches, here, start, step}
-use Rattle.code_ir.specs.Standing.{IsFine, Stands}
+use Rattle.code_ir.specs.Standing.{Stands}
 use Rattle.action_machine.specs.Machine.{HasRoom, state_of}
 use Rattle.action_machine.proofs.Ready.{stands-next, nearer-next, reaches-next, ends-there}
 use Rattle.action_machine.proofs.run.run_in.Goals as goal
@@ -9,7 +9,7 @@ use Rattle.action_machine.proofs.run.run_in.Goals as goal
 pub steps-init : goal.steps-init
 steps-init g c =
     let first : Stands c.args.code.now (start c.args.entry c.args.cells.now) =
-        c.stands.ensures.first c.args.code.now c.args.entry c.args.cells.now c.most_operands-most.ensures.admitted c.requires.entry c.requires.size in
+    c.stands.ensures.first c.args.code.now c.args.entry c.args.cells.now c.most_operands-most.ensures.admitted c.requires.entry c.requires.size in
     record {
       stands = subst (λ (n : ℕ). Stands c.args.code.now (record { place = c.args.entry; stack = []; frames = []; cells = c.args.cells.now; left = n })) (sym max_turns_is) first;
       reaches = subst (λ (n : ℕ). Reaches c.args.code.now (g.T.Tokens.tokens c.args.tokens.now) (start c.args.entry c.args.cells.now) (record { place = c.args.entry; stack = []; frames = []; cells = c.args.cells.now; left = n })) (sym max_turns_is) here;
