@@ -2,3 +2,6 @@ pub mod Tops
 pub mod Arms
 pub mod Shifts
 pub mod Zeros
+pub mod Room
+pub mod Ready
+pub mod CellRanges

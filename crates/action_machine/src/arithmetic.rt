@@ -1,7 +1,7 @@
 //! Arithmetic on numbers of the language.
 
-ghost use Rattle.std.specs.Prelude.{◌≡◌, not};
-ghost use Rattle.rvc_base.specs.Arithmetic.{Gives, sum, difference, product, opposite, quotient, rest, left_shift, right_shift, bits_of_both, bits_of_either, bits_of_one, other_bits, truth, is_equal, is_below, is_true};
+ghost use Rattle.std.specs.Prelude.{◌≡◌, ◌*◌, ◌+ℤ◌, pos, not};
+ghost use Rattle.rvc_base.specs.Arithmetic.{Gives, whole, sum, difference, product, opposite, quotient, rest, left_shift, right_shift, bits_of_both, bits_of_either, bits_of_one, other_bits, truth, is_equal, is_below, is_true};
 ghost use Rattle.action_machine.specs.Computing.{computed_of};
 
 use rvc_base::{MAX_SHIFT, Num, Trap};
@@ -12,6 +12,20 @@ pub(crate) fn sum(a: Num, b: Num) -> Result<Num, Trap>
 {
     match a.checked_add(b) {
         Some(v) => Ok(v),
+        None => Err(Trap::Overflow),
+    }
+}
+
+/// The offset after `k` elements of `m` numbers each. Their count may be above the greatest number, so it is
+/// added in halves.
+#[inline]
+pub(crate) fn stepped(o: Num, k: u32, m: u32) -> Result<Num, Trap>
+    ensures { computed_of result ≡ whole (o +ℤ pos (k * m)) }
+{
+    let count = u64::from(k) * u64::from(m);
+    let half = count / 2;
+    match o.checked_add(half as Num) {
+        Some(v) => sum(v, (count - half) as Num),
         None => Err(Trap::Overflow),
     }
 }

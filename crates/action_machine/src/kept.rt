@@ -10,7 +10,7 @@ use std::marker::Model;
 pub struct Cells {
     pub(crate) numbers: Vec<Num>,
     pub(crate) stack: Vec<Num>,
-    pub(crate) frames: Vec<u32>,
+    pub(crate) frames: Vec<usize>,
 }
 
 impl Model for Cells {

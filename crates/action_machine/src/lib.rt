@@ -2,13 +2,20 @@
 #![tactic(auto)]
 
 mod arithmetic;
+mod carrying;
 mod indexed;
 mod kept;
 mod loads;
 mod making;
 mod offset;
 mod operators;
+mod ranges;
+mod reads;
+mod registers;
+mod run;
 mod stack;
+mod step;
 
 pub use kept::Cells;
 pub use making::cells;
+pub use run::Run;

@@ -21,6 +21,16 @@ pub(crate) fn stored(t: Option<Scalar>, v: Num) -> Num
     }
 }
 
+/// Pushes a number.
+#[inline]
+pub(crate) fn constant(v: Num, top: &mut usize, stack: &mut [Num]) -> Acted
+    requires { top.old < length stack.old }
+    ensures { (cells : List ℤ) → Leaves (v ∷ top_first (pos 0) top.old stack.old) cells ≡ effect_of result (top_first (pos 0) top.new stack.new) cells }
+{
+    push(top, stack, v);
+    Acted::On
+}
+
 /// Pushes cell `c`.
 #[inline]
 pub(crate) fn load(c: u32, top: &mut usize, stack: &mut [Num], cells: &[Num]) -> Acted

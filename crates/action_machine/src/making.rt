@@ -20,7 +20,7 @@ fn zeros(alloc: Global, n: usize) -> Result<Vec<Num>, AllocError>
 }
 
 /// Room for so many open calls.
-fn no_calls(alloc: Global, n: usize) -> Result<Vec<u32>, AllocError>
+fn no_calls(alloc: Global, n: usize) -> Result<Vec<usize>, AllocError>
     ensures { IfOk result (λ v. length v.items ≡ n) }
 {
     let mut frames = Vec::new(alloc);

@@ -1,0 +1,6 @@
+use Rattle.std.proofs.Common.{◌≡◌, ◌+◌, ◌-◌}
+use Rattle.code_ir.specs.Effect.{zeroed}
+use Rattle.action_machine.proofs.ranges.zero_cells.Given as goal
+
+abbrev pub invariant-loop-k : goal.invariant-loop-k
+invariant-loop-k l = zeroed (l.c + l.k) (l.n - l.k) l.cells ≡ zeroed l.c l.n l.initial.cells
