@@ -1,3 +1,14 @@
 pub mod Form
 pub mod Eval
 pub mod Meaning
+pub mod Value
+pub mod Outcome
+pub mod Env
+pub mod Expression
+pub mod Actor
+pub mod Call
+pub mod Statement
+pub mod Rates
+pub mod Eligible
+pub mod Selection
+pub mod Firing
