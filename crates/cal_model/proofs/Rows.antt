@@ -16,14 +16,14 @@ use Rattle.cal_model.specs.Expression.{Calls, eval}
 abbrev no_calls : Calls
 no_calls globals name args left = Lacks
 
-abbrev nothing : Env
+abbrev pub nothing : Env
 nothing = record { globals = []; locals = [] }
 
 -- what an expression without names gives, where so many turns are left
 abbrev plain : Tree → ℕ → Out Value
 plain e left = eval e no_calls nothing left
 
-abbrev n_ : ℕ → Tree
+abbrev pub n_ : ℕ → Tree
 n_ n = tree.number n 0
 
 abbrev t_ : Tree
@@ -32,10 +32,10 @@ t_ = tree.truth true 0
 abbrev f_ : Tree
 f_ = tree.truth false 0
 
-abbrev two : BinOp → Tree → Tree → Tree
+abbrev pub two : BinOp → Tree → Tree → Tree
 two op a b = tree.binary op a b 0
 
-abbrev minus : Tree → Tree
+abbrev pub minus : Tree → Tree
 minus e = tree.prefix Neg e 0
 
 rounds_towards_zero : plain (two Div (minus (n_ 7)) (n_ 2)) 9 ≡ Gives (Num (negsuc 2)) 9
@@ -69,10 +69,10 @@ or_ends_early = refl
 and_goes_on : plain (two And t_ (two Eq (two Div (n_ 1) (n_ 0)) (n_ 1))) 9 ≡ Traps DivideByZero
 and_goes_on = refl
 
-abbrev int_type : Tree
+abbrev pub int_type : Tree
 int_type = tree.type_of (tree.ident (codes "int") 0) tree.nil 0
 
-abbrev name_ : List ℕ → Tree
+abbrev pub name_ : List ℕ → Tree
 name_ text = tree.variable text 0
 
 abbrev gen_ : List ℕ → ℕ → ℕ → Tree

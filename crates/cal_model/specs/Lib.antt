@@ -12,3 +12,4 @@ pub mod Rates
 pub mod Eligible
 pub mod Selection
 pub mod Firing
+pub mod View
