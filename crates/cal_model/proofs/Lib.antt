@@ -1,3 +1,4 @@
 mod Rows
 mod StatementRows
 mod ActorRows
+mod KindRows

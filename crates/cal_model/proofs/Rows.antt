@@ -26,7 +26,7 @@ plain e left = eval e no_calls nothing left
 abbrev pub n_ : ℕ → Tree
 n_ n = tree.number n 0
 
-abbrev t_ : Tree
+abbrev pub t_ : Tree
 t_ = tree.truth true 0
 
 abbrev f_ : Tree
@@ -75,7 +75,7 @@ int_type = tree.type_of (tree.ident (codes "int") 0) tree.nil 0
 abbrev pub name_ : List ℕ → Tree
 name_ text = tree.variable text 0
 
-abbrev gen_ : List ℕ → ℕ → ℕ → Tree
+abbrev pub gen_ : List ℕ → ℕ → ℕ → Tree
 gen_ name a b = tree.gen int_type (tree.ident name 0) (n_ a) (n_ b) 0
 
 -- [ i * 10 + j : for int i in 1 .. 2, for int j in 3 .. 4 ] takes four turns

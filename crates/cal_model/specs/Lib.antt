@@ -13,3 +13,5 @@ pub mod Eligible
 pub mod Selection
 pub mod Firing
 pub mod View
+pub mod Kinding
+pub mod Sound
