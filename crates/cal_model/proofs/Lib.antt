@@ -2,3 +2,5 @@ mod Rows
 mod StatementRows
 mod ActorRows
 mod KindRows
+mod Stored
+mod Choosing

@@ -15,3 +15,4 @@ pub mod Firing
 pub mod View
 pub mod Kinding
 pub mod Sound
+pub mod Laws

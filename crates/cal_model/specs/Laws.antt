@@ -1,0 +1,63 @@
+-- What holds of all values, expressions and actors, as statements.
+use Rattle.std.specs.Prelude.{◌≡◌, ℕ, ◌≤◌, ◌↔◌, ◌⊎◌, List, ℤ, Option, None, Some, length}
+use Rattle.rvc_base.specs.declared.scalar.Scalar.{Scalar}
+use Rattle.rvc_base.specs.declared.trap.Trap.{Trap}
+use Rattle.rvc_base.specs.Behaviour.{Fires, TrapsInGuard, TrapsInBody, Waits, Picks, Faults}
+use Rattle.cal_model.specs.Value.{Shape, Value, HasKind, IsOf, IsType, kind_of_type, stored, zero_of}
+use Rattle.cal_model.specs.Actor.{Actor}
+use Rattle.cal_model.specs.Rates.{need}
+use Rattle.cal_model.specs.Selection.{State, Priorities, AreFalse, AreTrapping, readiness, IsEnabled, IsExposed, choice}
+use Rattle.cal_model.specs.Firing.{IsFiring, IsTrapping, effect}
+
+-- a value of a type's kind, once stored, is in the type
+abbrev pub StoredIsOfType : Type 0
+StoredIsOfType = (t : Shape) (v : Value) → IsType t → HasKind (kind_of_type t) v → IsOf t (stored t v)
+
+-- storing it again changes nothing
+abbrev pub StoringStays : Type 0
+StoringStays = (t : Shape) (v : Value) → IsType t → IsOf t v → stored t v ≡ v
+
+-- what a variable without value holds is in its type
+abbrev pub ZeroIsOfType : Type 0
+ZeroIsOfType = (t : Shape) → IsType t → IsOf t (zero_of t)
+
+-- one action has one firing in a state, over given tokens
+abbrev pub OneFiring : Type 0
+OneFiring = (actor : Actor) (x y z : State) (u sent other : List (List ℤ)) (a : ℕ) (taken more : ℕ → ℕ)
+    → IsFiring actor x u a y taken sent → IsFiring actor x u a z more other
+    → (y ≡ z) × ((port : ℕ) → taken port ≡ more port) × (sent ≡ other)
+
+-- .. or one trap
+abbrev pub OneTrap : Type 0
+OneTrap = (actor : Actor) (x : State) (u : List (List ℤ)) (a : ℕ) (c d : Trap)
+    → IsTrapping actor x u a c → IsTrapping actor x u a d → c ≡ d
+
+-- .. and never both
+abbrev pub NeverBoth : Type 0
+NeverBoth = (actor : Actor) (x y : State) (u sent : List (List ℤ)) (a : ℕ) (taken : ℕ → ℕ) (c : Trap)
+    → IsFiring actor x u a y taken sent → ¬ IsTrapping actor x u a c
+
+-- an action that is chosen to fire is exposed and enabled
+abbrev pub ChosenIsEnabled : Type 0
+ChosenIsEnabled = (actor : Actor) (p : Priorities actor) (x : State) (u : List (List ℤ)) (a : ℕ)
+    → choice actor p x u ≡ Picks a → IsExposed actor x u a × IsEnabled actor x u a
+
+-- one that is chosen to trap is exposed, and its guards trap
+abbrev pub ChosenTraps : Type 0
+ChosenTraps = (actor : Actor) (p : Priorities actor) (x : State) (u : List (List ℤ)) (a : ℕ) (c : Trap)
+    → choice actor p x u ≡ Faults a c → IsExposed actor x u a × (readiness actor x u a ≡ AreTrapping c)
+
+-- there is none to choose where no action is enabled or has guards that trap
+abbrev pub WaitingIsIdle : Type 0
+WaitingIsIdle = (actor : Actor) (p : Priorities actor) (x : State) (u : List (List ℤ))
+    → choice actor p x u ≡ Waits → (a : ℕ) → readiness actor x u a ≡ AreFalse
+
+-- the effects of the behaviour are the firings ..
+abbrev pub EffectsAreFirings : Type 0
+EffectsAreFirings = (actor : Actor) (p : Priorities actor) (x y : State) (u sent : List (List ℤ)) (a : ℕ)
+    → (effect actor p x u a ≡ Some (Fires y sent)) ↔ IsFiring actor x u a y (need actor a) sent
+
+-- .. and the traps
+abbrev pub EffectsAreTraps : Type 0
+EffectsAreTraps = (actor : Actor) (p : Priorities actor) (x : State) (u : List (List ℤ)) (a : ℕ) (c : Trap)
+    → ((effect actor p x u a ≡ Some (TrapsInGuard c)) ⊎ (effect actor p x u a ≡ Some (TrapsInBody c))) ↔ IsTrapping actor x u a c
