@@ -4,3 +4,4 @@ mod ActorRows
 mod KindRows
 mod Stored
 mod Choosing
+mod Turns

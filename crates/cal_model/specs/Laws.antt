@@ -1,9 +1,13 @@
 -- What holds of all values, expressions and actors, as statements.
-use Rattle.std.specs.Prelude.{◌≡◌, ℕ, ◌≤◌, ◌↔◌, ◌⊎◌, List, ℤ, Option, None, Some, length}
+use Rattle.std.specs.Prelude.{◌≡◌, ℕ, ◌+◌, ◌<◌, ◌≤◌, ◌↔◌, ◌⊎◌, List, ℤ, Option, None, Some, length}
 use Rattle.rvc_base.specs.declared.scalar.Scalar.{Scalar}
 use Rattle.rvc_base.specs.declared.trap.Trap.{Trap}
+use Rattle.rvc_base.specs.declared.trap.Trap.TheVariants.{TurnLimit}
 use Rattle.rvc_base.specs.Behaviour.{Fires, TrapsInGuard, TrapsInBody, Waits, Picks, Faults}
 use Rattle.cal_model.specs.Value.{Shape, Value, HasKind, IsOf, IsType, kind_of_type, stored, zero_of}
+use Rattle.cal_model.specs.Outcome.{Gives, Traps}
+use Rattle.cal_model.specs.Env.{Env}
+use Rattle.cal_model.specs.Statement.{for_loop}
 use Rattle.cal_model.specs.Actor.{Actor}
 use Rattle.cal_model.specs.Rates.{need}
 use Rattle.cal_model.specs.Selection.{State, Priorities, AreFalse, AreTrapping, readiness, IsEnabled, IsExposed, choice}
@@ -61,3 +65,11 @@ EffectsAreFirings = (actor : Actor) (p : Priorities actor) (x y : State) (u sent
 abbrev pub EffectsAreTraps : Type 0
 EffectsAreTraps = (actor : Actor) (p : Priorities actor) (x : State) (u : List (List ℤ)) (a : ℕ) (c : Trap)
     → ((effect actor p x u a ≡ Some (TrapsInGuard c)) ⊎ (effect actor p x u a ≡ Some (TrapsInBody c))) ↔ IsTrapping actor x u a c
+
+-- a loop over n numbers makes n turns where its body makes none ..
+abbrev pub LoopsCountTurns : Type 0
+LoopsCountTurns = (n left : ℕ) (i : ℤ) (env : Env) → for_loop n i (λ at now k. Gives now k) env (n + left) ≡ Gives env left
+
+-- .. and is one turn too many where fewer are left
+abbrev pub LoopsEndByTurns : Type 0
+LoopsEndByTurns = (n left : ℕ) (i : ℤ) (env : Env) → left < n → for_loop n i (λ at now k. Gives now k) env left ≡ Traps TurnLimit

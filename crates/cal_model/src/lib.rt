@@ -8,6 +8,7 @@ pub mod ast;
 mod bound;
 mod evaluate;
 mod kind;
+mod laws;
 mod value;
 
 pub use bound::{
@@ -16,4 +17,8 @@ pub use bound::{
 };
 pub use evaluate::sent_for;
 pub use kind::{Kind, Shape, kind_of_type};
+pub use laws::{
+    behaviour_is_the_firing_rule, loops_count_turns, one_effect, selection,
+    stored_values_are_in_their_type,
+};
 pub use value::{Value, Values};
