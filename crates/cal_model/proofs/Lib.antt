@@ -5,3 +5,5 @@ mod KindRows
 mod Stored
 mod Choosing
 mod Turns
+mod Needs
+mod Parts

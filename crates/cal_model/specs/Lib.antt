@@ -16,3 +16,4 @@ pub mod View
 pub mod Kinding
 pub mod Sound
 pub mod Laws
+pub mod Certified

@@ -248,6 +248,17 @@ abbrev pub IsRepeat : Option ℕ → Type 0
 IsRepeat None = Unit {0}
 IsRepeat (Some n) = 1 ≤ n
 
+-- this holds of the repeat of each
+abbrev pub AreRepeated : {A : Type 0} → (A → Option ℕ) → List A → Type 0
+AreRepeated repeat [] = Unit {0}
+AreRepeated repeat (x ∷ xs) = IsRepeat (repeat x) × AreRepeated repeat xs
+
+abbrev pub repeat_in : Pattern → Option ℕ
+repeat_in q = q.repeat
+
+abbrev pub repeat_out : Output → Option ℕ
+repeat_out o = o.repeat
+
 -- the kind of what stands for tokens, which are lists where they are repeated
 abbrev pub kind_of_tokens : Scalar → Option ℕ → Kind
 kind_of_tokens t None = kind_of_scalar t

@@ -9,6 +9,7 @@ mod bound;
 mod evaluate;
 mod kind;
 mod laws;
+mod rates;
 mod value;
 
 pub use bound::{
@@ -21,4 +22,5 @@ pub use laws::{
     behaviour_is_the_firing_rule, loops_count_turns, one_effect, selection,
     stored_values_are_in_their_type,
 };
+pub use rates::{give, need};
 pub use value::{Value, Values};
