@@ -1,7 +1,7 @@
 //! How many tokens an action takes and gives.
 
 ghost use Rattle.std.specs.Prelude.{◌≡◌, ◌≤◌, ◌<◌, length, map};
-ghost use Rattle.cal_model.specs.Rates.{give, given_on, need, parts_times, taken_on};
+ghost use Rattle.cal_model.specs.Rates.{give, given_on, need, parts, parts_times, taken_on};
 ghost use Rattle.cal_model.specs.Sound.{AreRepeated, IsRepeat, IsSound, max_rate, repeat_in, repeat_out};
 ghost use Rattle.cal_model.specs.View.{actor_of, output_view, pattern_view};
 
@@ -42,7 +42,6 @@ fn taken_on(port: u32, patterns: &[BoundPattern]) -> u32
 }
 
 /// How many tokens the outputs give on the port.
-#[tactic(auto, using(crate::proofs::Parts::parts_listed))]
 fn given_on(port: u32, outputs: &[BoundOutput]) -> u32
     requires repeated { AreRepeated repeat_out (map output_view outputs.now) }
     requires few { given_on port (map output_view outputs.now) ≤ max_rate }
@@ -50,10 +49,19 @@ fn given_on(port: u32, outputs: &[BoundOutput]) -> u32
 {
     for output in outputs {
         if output.port == port {
-            return tokens(output.values.len(), output.repeat);
+            return given_by(output);
         }
     }
     0
+}
+
+/// How many tokens an output gives on its port.
+fn given_by(output: &BoundOutput) -> u32
+    requires repeated { IsRepeat output.now.repeat }
+    requires few { parts_times (parts (output_view output.now).values) output.now.repeat ≤ max_rate }
+    ensures { result ≡ parts_times (parts (output_view output.now).values) output.now.repeat }
+{
+    tokens(output.values.len(), output.repeat)
 }
 
 /// So many parts, as often as they are repeated.
