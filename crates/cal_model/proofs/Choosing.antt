@@ -198,6 +198,7 @@ outranks actor above x u a b (c ∷ cs) e f m = go (in-rest b c cs m) (outranks 
     or-true : (v : Bool) → (v || true) ≡ true
     or-true true = refl
     or-true false = refl
+
     go : (b ≡ c) ⊎ Contains cs b → (Contains cs b → outranked actor above x u a cs ≡ true) → outranked actor above x u a (c ∷ cs) ≡ true
     go (inl same) ih =
         let first : above c a ≡ true = subst (λ k. above k a ≡ true) same e in
@@ -267,6 +268,7 @@ effects-are-firings actor p x y u sent a = (λ h. go (is_exposed actor p x u a) 
         record { exposed = is-exposed actor p x u a e; enabled = f; takes = λ port. refl; left = inside.0; gives = inside.1 }
     go true AreFalse e f h = absurd (grind arith)
     go true (AreTrapping t) e f h = absurd (grind arith)
+
     back : IsFiring actor x u a y (need actor a) sent → effect actor p x u a ≡ Some (Fires y sent)
     back f = ap (λ b. exposed_effect b actor x u a (readiness actor x u a)) (exposed-is actor p x u a f.exposed)
         ∙ ap (effect_of_exposed actor x u a) f.enabled ∙ ap effect_of_body f.gives
@@ -294,14 +296,17 @@ effects-are-traps actor p x u a c = (λ h. there h, λ f. back f f.where_)
     guard true (AreTrapping t) e f h =
         let same : t ≡ c = cc in
         record { exposed = is-exposed actor p x u a e; where_ = inl (f ∙ ap (λ s. AreTrapping s) same) }
+
     rest : (b : Bool) (g : Guards) → is_exposed actor p x u a ≡ b → readiness actor x u a ≡ g → exposed_effect b actor x u a g ≡ Some (TrapsInBody c) → IsTrapping actor x u a c
     rest false g e f h = absurd (grind arith)
     rest true AreTrue e f h = record { exposed = is-exposed actor p x u a e; where_ = inr (f, traps-body (body actor x u a) c h) }
     rest true AreFalse e f h = absurd (grind arith)
     rest true (AreTrapping t) e f h = absurd (grind arith)
+
     there : (effect actor p x u a ≡ Some (TrapsInGuard c)) ⊎ (effect actor p x u a ≡ Some (TrapsInBody c)) → IsTrapping actor x u a c
     there (inl h) = guard (is_exposed actor p x u a) (readiness actor x u a) refl refl h
     there (inr h) = rest (is_exposed actor p x u a) (readiness actor x u a) refl refl h
+
     back : IsTrapping actor x u a c → (readiness actor x u a ≡ AreTrapping c) ⊎ (IsEnabled actor x u a × (body actor x u a ≡ Traps c))
         → (effect actor p x u a ≡ Some (TrapsInGuard c)) ⊎ (effect actor p x u a ≡ Some (TrapsInBody c))
     back f (inl h) = inl (ap (λ b. exposed_effect b actor x u a (readiness actor x u a)) (exposed-is actor p x u a f.exposed) ∙ ap (effect_of_exposed actor x u a) h)

@@ -7,3 +7,4 @@ mod Choosing
 mod Turns
 mod Needs
 mod Parts
+mod FirstForm

@@ -47,9 +47,9 @@ module _ (b : Bound) (a n : ℕ) (act : BoundAction) (same : n ≡ a) (there : a
   pub repeated-in : (qs : List BoundPattern) → IsSound (actor_of b) → qs ≡ act.patterns.items → AreRepeated repeat_in (map pattern_view qs)
   repeated-in qs sound e =
       subst (λ l. AreRepeated repeat_in (map pattern_view l)) (sym e)
-          (patterns-repeated (actor_of b) (action_view act).patterns (each-at (IsAction (actor_of b)) (map action_view b.actions.items) a (action_view act) sound.actions at-place).patterns)
+      (patterns-repeated (actor_of b) (action_view act).patterns (each-at (IsAction (actor_of b)) (map action_view b.actions.items) a (action_view act) sound.actions at-place).patterns)
 
   pub repeated-out : (os : List BoundOutput) → IsSound (actor_of b) → os ≡ act.outputs.items → AreRepeated repeat_out (map output_view os)
   repeated-out os sound e =
       subst (λ l. AreRepeated repeat_out (map output_view l)) (sym e)
-          (outputs-repeated (actor_of b) _ (action_view act).outputs (each-at (IsAction (actor_of b)) (map action_view b.actions.items) a (action_view act) sound.actions at-place).outputs)
+      (outputs-repeated (actor_of b) _ (action_view act).outputs (each-at (IsAction (actor_of b)) (map action_view b.actions.items) a (action_view act) sound.actions at-place).outputs)

@@ -70,9 +70,9 @@ abbrev mutual
   pub all_scalars_range : Values → Option Interval
   all_scalars_range Nil = None
   all_scalars_range (Cons v vs) = elim (scalars_range v) [
-      None ↦ all_scalars_range vs
+    | None ↦ all_scalars_range vs
     | Some i ↦ elim (all_scalars_range vs) [ None ↦ Some i | Some j ↦ Some (hull i j) ]
-    ]
+  ]
 
 -- ---- names of guards
 
@@ -129,16 +129,16 @@ range_of_both op i j = Some truths
 -- the range of what has this type, and this value where it is or is part of a constant
 abbrev pub range_of_name : Ranged → Option Interval
 range_of_name x = elim x.shape [
-    Single t ↦ elim x.value [ None ↦ fitting (type_range t) | Some v ↦ elim (scalars_range v) [ None ↦ None | Some i ↦ fitting i ] ]
+  | Single t ↦ elim x.value [ None ↦ fitting (type_range t) | Some v ↦ elim (scalars_range v) [ None ↦ None | Some i ↦ fitting i ] ]
   | Many n items ↦ None
-  ]
+]
 
 -- what stands in a list at a place within this interval
 abbrev pub item_ranged : Interval → Ranged → Option Ranged
 item_ranged i x = elim x.shape [
-    Single t ↦ None
+  | Single t ↦ None
   | Many n items ↦ if lies_within i (pos 0) (pos n -ℤ pos 1) then Some (record x { shape = items }) else None
-  ]
+]
 
 abbrev pub on_interval : {A : Type 0} → Option Interval → (Interval → Option A) → Option A
 on_interval None f = None

@@ -83,9 +83,9 @@ body_of actor x u to act =
 -- what the locals, the body and the outputs of an action come to
 abbrev pub body : Actor → State → List (List ℤ) → ℕ → Out Fired
 body actor x u a = elim (slice_get actor.actions a) [
-    None ↦ Clashes
+  | None ↦ Clashes
   | Some act ↦ elim (next actor x.at a) [ None ↦ Clashes | Some to ↦ body_of actor x u to act ]
-  ]
+]
 
 -- The action fires: it takes so many tokens from each input port, sends these on each output port, and leaves this
 -- state.

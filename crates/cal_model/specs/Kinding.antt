@@ -36,20 +36,28 @@ and_so (Broken rule at) f = Broken rule at
 -- the numbers of the rules
 abbrev pub unknown_name : ℕ
 unknown_name = 301
+
 abbrev pub wrong_kind : ℕ
 wrong_kind = 401
+
 abbrev pub wrong_type_argument : ℕ
 wrong_type_argument = 402
+
 abbrev pub unsupported_type : ℕ
 unsupported_type = 403
+
 abbrev pub wrong_length : ℕ
 wrong_length = 405
+
 abbrev pub wrong_number_of_arguments : ℕ
 wrong_number_of_arguments = 406
+
 abbrev pub constant_traps : ℕ
 constant_traps = 407
+
 abbrev pub not_constant : ℕ
 not_constant = 409
+
 abbrev pub list_too_long : ℕ
 list_too_long = 604
 
@@ -271,9 +279,9 @@ abbrev mutual
   kind (tree.truth b at) names = Fine BoolKind
   kind (tree.variable name at) names = elim (meant_by name names) [ None ↦ Broken unknown_name at | Some x ↦ Fine x.kind ]
   kind (tree.call name args at) names = elim (fun_named name names.funs) [
-      None ↦ Broken unknown_name at
+    | None ↦ Broken unknown_name at
     | Some f ↦ and_so (arguments_fit args f.formals names) (λ as_many. if as_many then Fine (kind_of_scalar f.result) else Broken wrong_number_of_arguments at)
-    ]
+  ]
   kind (tree.paren e at) names = kind e names
   kind (tree.if_expr test first other at) names =
       and_so (kind test names) (λ c. and_so (kind first names) (λ k. and_so (kind other names) (λ l. branch_kind c k l at)))

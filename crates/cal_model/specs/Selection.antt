@@ -111,9 +111,9 @@ guards_say (g ∷ gs) calls env = guard_then (eval g calls env max_turns) (guard
 -- What the guards of an action say. Where it isn't eligible or lacks tokens, they are false.
 abbrev pub readiness : Actor → State → List (List ℤ) → ℕ → Guards
 readiness actor x u a = elim (slice_get actor.actions a) [
-    None ↦ AreFalse
+  | None ↦ AreFalse
   | Some act ↦ if eligible actor x.at a && has_its_tokens actor u a then guards_say act.guards (calls_of actor.funs) (seen_by actor x u act) else AreFalse
-  ]
+]
 
 -- ---- enabled and exposed actions
 

@@ -17,14 +17,18 @@ use Rattle.cal_model.specs.Kinding.{Judged, Fine, Known, Names, meant_by, with_k
 
 abbrev pub max_actions : ℕ
 max_actions = 256
+
 abbrev pub max_states : ℕ
 max_states = 1024
+
 -- of one direction
 abbrev pub max_ports : ℕ
 max_ports = 32
+
 -- that an action takes from a port or gives on one
 abbrev pub max_rate : ℕ
 max_rate = 4096
+
 -- of all variables of an actor
 abbrev pub max_variable_scalars : ℕ
 max_variable_scalars = 65536

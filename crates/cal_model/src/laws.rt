@@ -2,7 +2,7 @@
 //!
 //! Each law is the contract of a function that does nothing: it is proved with the crate, and can be cited.
 
-ghost use Rattle.cal_model.specs.Laws.{ChosenIsEnabled, ChosenTraps, EffectsAreFirings, EffectsAreTraps, LoopsCountTurns, LoopsEndByTurns, NeverBoth, OneFiring, OneTrap, StoredIsOfType, WaitingIsIdle, ZeroIsOfType};
+ghost use Rattle.cal_model.specs.Laws.{ChosenIsEnabled, ChosenTraps, EffectsAreFirings, EffectsAreTraps, FirstFormIsCase, LoopsCountTurns, LoopsEndByTurns, NeverBoth, OneFiring, OneTrap, StoredIsOfType, WaitingIsIdle, ZeroIsOfType};
 
 /// A value of a type's kind is in the type once it is stored, and so is what a variable without value holds.
 pub fn stored_values_are_in_their_type()
@@ -36,4 +36,10 @@ pub fn behaviour_is_the_firing_rule()
 pub fn loops_count_turns()
     ensures end { LoopsCountTurns }
     ensures too_many { LoopsEndByTurns }
+{}
+
+/// The value of an expression of the first form, over the token that the action takes, is what the whole language
+/// says.
+pub fn first_form_is_a_case()
+    ensures { FirstFormIsCase }
 {}

@@ -19,7 +19,7 @@ pub use bound::{
 pub use evaluate::sent_for;
 pub use kind::{Kind, Shape, kind_of_type};
 pub use laws::{
-    behaviour_is_the_firing_rule, loops_count_turns, one_effect, selection,
+    behaviour_is_the_firing_rule, first_form_is_a_case, loops_count_turns, one_effect, selection,
     stored_values_are_in_their_type,
 };
 pub use rates::{give, need};
