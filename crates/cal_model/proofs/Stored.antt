@@ -1,6 +1,8 @@
 -- What is stored in a type is in it.
 use Rattle.std.proofs.Common.{◌≡◌, ℕ, zero, suc, ◌+◌, ◌-◌, ◌*◌, ◌%◌, ◌^◌, ◌<◌, ◌≤◌, ◌⊎◌, inl, inr, ℤ, pos, negsuc, ◌+ℤ◌, ◌-ℤ◌, Bool, true, false, refl, sym, ap, ◌∙◌, arith, rules, pow-add, pow_pos}
 use Rattle.std.specs.Prelude.{unsigned_abs, nat_lt, if◌then◌else◌, ◌<ℤ◌, ◌≤ℤ◌, ◌==◌}
+use Rattle.std.proofs.Math.Nat.{mod-eq_of_lt}
+use Rattle.std.proofs.lemmas.Bool.{ltb-true, lt-ltb}
 use Rattle.std.proofs.lemmas.Int.{ints}
 use Rattle.rvc_base.specs.declared.scalar.Scalar.{Scalar}
 use Rattle.rvc_base.specs.declared.scalar.Scalar.TheVariants as scalar
@@ -68,3 +70,57 @@ zero-is-of (Single scalar.Bool) h = tt
 zero-is-of (Single (scalar.Int n)) h = let e : 0 < 2 ^ (n - 1) = pow_pos (n - 1) in grind (arith, ints)
 zero-is-of (Single (scalar.Uint n)) h = let e : 0 < 2 ^ n = pow_pos n in grind (arith, ints)
 zero-is-of (Many n items) h = (count-repeated n (zero_of items), all-repeated n items (zero_of items) (zero-is-of items h.2))
+
+-- ---- what is in a type stays as it is
+
+stays-unsigned : (n : ℕ) (v : ℤ) → InRange (scalar.Uint n) v → conv (scalar.Uint n) v ≡ v
+stays-unsigned n (pos a) h =
+    let less : a < 2 ^ n = omega (arith, ints) in
+    ap pos (mod-eq_of_lt less)
+stays-unsigned n (negsuc a) h = absurd (omega (arith, ints))
+
+-- a number below 0 in two's complement
+below-zero : (a h w : ℕ) (b : Bool) → nat_lt (w - 1 - a % w) h ≡ b → w ≡ h + h → a < h → (if b then pos (w - 1 - a % w) else pos (w - 1 - a % w) -ℤ pos w) ≡ negsuc a
+below-zero a h w true e f g =
+    let within : a < w = omega arith in
+    let k : a % w ≡ a = mod-eq_of_lt within in
+    let less : w - 1 - a % w < h = ltb-true (w - 1 - a % w) h e in
+    absurd (omega arith)
+below-zero a h w false e f g =
+    let within : a < w = omega arith in
+    let k : a % w ≡ a = mod-eq_of_lt within in
+    omega (arith, ints)
+
+above-zero : (a h w : ℕ) (b : Bool) → nat_lt (a % w) h ≡ b → w ≡ h + h → a < h → (if b then pos (a % w) else pos (a % w) -ℤ pos w) ≡ pos a
+above-zero a h w true e f g = let within : a < w = omega arith in ap pos (mod-eq_of_lt within)
+above-zero a h w false e f g =
+    let within : a < w = omega arith in
+    let k : a % w ≡ a = mod-eq_of_lt within in
+    let less : a % w < h = omega arith in
+    let t : nat_lt (a % w) h ≡ true = lt-ltb (a % w) h less in
+    let u : true ≡ false = sym t ∙ e in
+    absurd (grind arith)
+
+stays-signed : (n : ℕ) (v : ℤ) → 1 ≤ n → InRange (scalar.Int n) v → conv (scalar.Int n) v ≡ v
+stays-signed n (pos a) s h =
+    above-zero a (2 ^ (n - 1)) (2 ^ n) (nat_lt (a % 2 ^ n) (2 ^ (n - 1))) refl (halves n s) (omega (arith, ints))
+stays-signed n (negsuc a) s h =
+    below-zero a (2 ^ (n - 1)) (2 ^ n) (nat_lt (2 ^ n - 1 - a % 2 ^ n) (2 ^ (n - 1))) refl (halves n s) (omega (arith, ints))
+
+mutual
+  pub stored-stays : (v : Value) (t : Shape) → IsType t → IsOf t v → stored t v ≡ v
+  stored-stays (Num z) (Single scalar.Bool) h k = absurd k
+  stored-stays (Num z) (Single (scalar.Int n)) h k = ap Num (stays-signed n z h.0 k)
+  stored-stays (Num z) (Single (scalar.Uint n)) h k = ap Num (stays-unsigned n z k)
+  stored-stays (Num z) (Many n items) h k = absurd k
+  stored-stays (Truth true) (Single scalar.Bool) h k = refl
+  stored-stays (Truth false) (Single scalar.Bool) h k = refl
+  stored-stays (Truth b) (Single (scalar.Int n)) h k = absurd k
+  stored-stays (Truth b) (Single (scalar.Uint n)) h k = absurd k
+  stored-stays (Truth b) (Many n items) h k = absurd k
+  stored-stays (Items vs) (Single t) h k = absurd k
+  stored-stays (Items vs) (Many n items) h k = ap Items (stored-all-stay vs items h.2 k.1)
+
+  stored-all-stay : (vs : Values) (t : Shape) → IsType t → AreOf t vs → stored_each t vs ≡ vs
+  stored-all-stay Nil t h k = refl
+  stored-all-stay (Cons v vs) t h k = ap (λ w. Cons w (stored_each t vs)) (stored-stays v t h k.0) ∙ ap (Cons v) (stored-all-stay vs t h k.1)

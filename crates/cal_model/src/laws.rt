@@ -2,11 +2,13 @@
 //!
 //! Each law is the contract of a function that does nothing: it is proved with the crate, and can be cited.
 
-ghost use Rattle.cal_model.specs.Laws.{ChosenIsEnabled, ChosenTraps, EffectsAreFirings, EffectsAreTraps, FirstFormIsCase, LoopsCountTurns, LoopsEndByTurns, NeverBoth, OneFiring, OneTrap, StoredIsOfType, WaitingIsIdle, ZeroIsOfType};
+ghost use Rattle.cal_model.specs.Laws.{ChosenIsEnabled, ChosenTraps, EffectsAreFirings, EffectsAreTraps, FirstFormIsCase, LoopsCountTurns, LoopsEndByTurns, NeverBoth, OneFiring, OneTrap, StoredIsOfType, StoringStays, WaitingIsIdle, ZeroIsOfType};
 
-/// A value of a type's kind is in the type once it is stored, and so is what a variable without value holds.
+/// A value of a type's kind is in the type once it is stored, and then stays when it is stored again. What a
+/// variable without value holds is in the type too.
 pub fn stored_values_are_in_their_type()
     ensures stored { StoredIsOfType }
+    ensures stays { StoringStays }
     ensures without_value { ZeroIsOfType }
 {}
 
