@@ -10,6 +10,8 @@ mod evaluate;
 mod kind;
 mod laws;
 mod rates;
+#[cfg(test)]
+mod tests;
 mod value;
 
 pub use bound::{
