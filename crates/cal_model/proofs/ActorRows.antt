@@ -187,3 +187,58 @@ seven_by_none_is_chosen = refl
 
 seven_by_none_traps : after divides ((pos 7 ∷ pos 0 ∷ []) ∷ []) 0 ≡ Traps DivideByZero
 seven_by_none_traps = refl
+
+-- ---- repeated patterns and outputs: `In:[a, b] repeat 2 ==> Out:[b, a] repeat 2` swaps neighbours
+
+abbrev swaps : Actor
+swaps = actor_ (port_ (codes "In") ∷ []) [] (record {
+  tag = [];
+  patterns = record { port = 0; names = codes "a" ∷ codes "b" ∷ []; repeat = Some 2 } ∷ [];
+  outputs = record { port = 0; values = listed (name_ (codes "b") ∷ name_ (codes "a") ∷ []); repeat = Some 2 } ∷ [];
+  guards = [];
+  locals = [];
+  body = tree.nil;
+  initialize = false;
+} ∷ []) [] [] []
+
+takes_four : need swaps 0 0 ≡ 4
+takes_four = refl
+
+gives_four : give swaps 0 0 ≡ 4
+gives_four = refl
+
+swaps_neighbours : after swaps ((pos 1 ∷ pos 2 ∷ pos 3 ∷ pos 4 ∷ []) ∷ []) 0
+    ≡ Gives (record { state = record { at = 0; vars = [] }; sent = (pos 2 ∷ pos 1 ∷ pos 4 ∷ pos 3 ∷ []) ∷ [] }) max_turns
+swaps_neighbours = refl
+
+three_are_too_few : chooses swaps (0 ∷ []) ((pos 1 ∷ pos 2 ∷ pos 3 ∷ []) ∷ []) ≡ Waits
+three_are_too_few = refl
+
+-- ---- an `initialize` action fires first, and alone; then a guard traps
+
+abbrev begins : Actor
+begins = actor_ (port_ (codes "In") ∷ []) [] (record {
+  tag = [];
+  patterns = [];
+  outputs = sends_ (n_ 300) ∷ [];
+  guards = [];
+  locals = [];
+  body = tree.nil;
+  initialize = true;
+} ∷ acts_ [] (takes_ 0 (codes "a" ∷ []) ∷ []) (two Eq (two Div (n_ 6) (name_ (codes "a"))) (n_ 3) ∷ []) [] (n_ 1) ∷ []) [] [] []
+
+begins_fresh : chooses begins (0 ∷ 1 ∷ []) ((pos 2 ∷ []) ∷ []) ≡ Picks 0
+begins_fresh = refl
+
+-- what is sent is stored in the type of the port
+begins_with_44 : after begins ((pos 2 ∷ []) ∷ []) 0 ≡ sent_in 0 [] (pos 44)
+begins_with_44 = refl
+
+never_again : choice_among begins (record { at = 0; vars = [] }) ((pos 2 ∷ []) ∷ []) (0 ∷ 1 ∷ []) ≡ Picks 1
+never_again = refl
+
+guard_is_false : choice_among begins (record { at = 0; vars = [] }) ((pos 3 ∷ []) ∷ []) (0 ∷ 1 ∷ []) ≡ Waits
+guard_is_false = refl
+
+guard_traps : choice_among begins (record { at = 0; vars = [] }) ((pos 0 ∷ []) ∷ []) (0 ∷ 1 ∷ []) ≡ Faults 1 DivideByZero
+guard_traps = refl

@@ -8,3 +8,4 @@ mod Turns
 mod Needs
 mod Parts
 mod FirstForm
+mod RangeRows
