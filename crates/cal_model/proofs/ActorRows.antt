@@ -1,6 +1,6 @@
 -- Worked examples of actors: their choices and firings, computed by the definitions.
-use Rattle.std.proofs.Common.{◌≡◌, ℕ, zero, suc, refl, ℤ, pos, negsuc, List, [], ◌∷◌, true, false, codes}
-use Rattle.std.specs.Prelude.{Some, None, Bool, ◌==◌, ◌&&◌}
+use Rattle.std.proofs.Common.{◌≡◌, ℕ, refl, ℤ, pos, List, [], ◌∷◌, true, false, codes}
+use Rattle.std.specs.Prelude.{Some, None}
 use Rattle.rvc_base.specs.declared.scalar.Scalar.{Scalar}
 use Rattle.rvc_base.specs.declared.scalar.Scalar.TheVariants as scalar
 use Rattle.rvc_base.specs.declared.trap.Trap.TheVariants.{DivideByZero}
@@ -9,11 +9,11 @@ use Rattle.rvc_base.specs.Turns.{max_turns}
 use Rattle.cal_ast.specs.Tree as tree
 use Rattle.cal_ast.specs.Tree.{Tree, listed}
 use Rattle.cal_ast.specs.declared.expr.BinOp.TheVariants.{Eq, Ne, Lt, Ge, Gt, Add, Div}
-use Rattle.cal_model.specs.Value.{Shape, Single, Value, Num}
+use Rattle.cal_model.specs.Value.{Single, Num}
 use Rattle.cal_model.specs.Outcome.{Out, Gives, Traps}
 use Rattle.cal_model.specs.Env.{Var, variable}
 use Rattle.cal_model.specs.Actor.{Port, Held, Pattern, Output, Action, Move, Actor}
-use Rattle.cal_model.specs.Selection.{State, start_of, AreTrue, AreFalse, AreTrapping, readiness, choice_among}
+use Rattle.cal_model.specs.Selection.{start_of, choice_among}
 use Rattle.cal_model.specs.Firing.{Fired, body}
 use Rattle.cal_model.specs.Rates.{need, give}
 use Rattle.cal_model.proofs.Rows.{n_, two, name_}

@@ -1,13 +1,12 @@
 -- The value of an expression of the first form is what the whole language says.
-use Rattle.std.proofs.Common.{◌≡◌, ℕ, ◌<◌, ◌^◌, ℤ, pos, ◌+ℤ◌, ◌-ℤ◌, ◌*ℤ◌, Bool, true, false, List, [], ◌∷◌, refl, sym, ap, ◌∙◌, arith, rules, Some, None}
-use Rattle.std.specs.Prelude.{nat_lt, nat_eq, if◌then◌else◌, ◌&&◌, Option}
+use Rattle.std.proofs.Common.{◌≡◌, ℕ, ◌<◌, ◌^◌, ℤ, pos, ◌+ℤ◌, ◌-ℤ◌, ◌*ℤ◌, Bool, true, false, List, refl, ap, ◌∙◌, arith, Some, None}
+use Rattle.std.specs.Prelude.{nat_lt, if◌then◌else◌}
 use Rattle.std.specs.Str.{bytes_eq}
 use Rattle.std.proofs.lemmas.Bool.{lt-ltb}
 use Rattle.std.proofs.lemmas.Slice.Eq.{bytes_eq-Decides}
 use Rattle.rvc_base.specs.declared.trap.Trap.TheVariants.{Overflow}
 use Rattle.rvc_base.specs.Width.{is_num}
 use Rattle.rvc_base.specs.Arithmetic as arithmetic
-use Rattle.cal_ast.specs.declared.expr.BinOp.{BinOp}
 use Rattle.cal_ast.specs.declared.expr.BinOp.TheVariants.{Add, Sub, Mul}
 use Rattle.cal_model.specs.declared.ast.Operand.{Operand}
 use Rattle.cal_model.specs.declared.ast.Operand.TheVariants.{Token, Number}
@@ -16,9 +15,8 @@ use Rattle.cal_model.specs.declared.ast.Operator.TheVariants as operator
 use Rattle.cal_model.specs.declared.ast.Binary.{Binary}
 use Rattle.cal_model.specs.Eval as form
 use Rattle.cal_model.specs.Meaning.{IsFirstForm, IsShort}
-use Rattle.cal_model.specs.Value.{Value, Num}
-use Rattle.cal_model.specs.Outcome.{Out, Gives, Traps, and_then, known}
-use Rattle.cal_model.specs.Env.{Env}
+use Rattle.cal_model.specs.Value.{Num}
+use Rattle.cal_model.specs.Outcome.{Gives, and_then, known}
 use Rattle.cal_model.specs.Expression.{Calls, eval, computed, applied, with_right}
 use Rattle.cal_model.specs.Laws.{tree_of, tree_of_operand, operator_of, as_outcome, token_named}
 

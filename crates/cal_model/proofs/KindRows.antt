@@ -1,14 +1,13 @@
 -- Worked examples of kinds, computed by the definition.
-use Rattle.std.proofs.Common.{◌≡◌, ℕ, zero, suc, refl, ℤ, pos, negsuc, List, [], ◌∷◌, true, false, codes}
+use Rattle.std.proofs.Common.{◌≡◌, ℕ, refl, pos, List, [], ◌∷◌, true, false, codes}
 use Rattle.std.specs.Prelude.{Some, None}
 use Rattle.rvc_base.specs.declared.scalar.Scalar.TheVariants as scalar
 use Rattle.cal_ast.specs.Tree as tree
 use Rattle.cal_ast.specs.Tree.{Tree, listed}
 use Rattle.cal_ast.specs.declared.expr.BinOp.TheVariants.{And, Add, Lt, Div}
-use Rattle.cal_model.specs.Value.{Kind, NumKind, BoolKind, ListKind, Shape, Single, Many, Value, Num}
-use Rattle.cal_model.specs.Actor.{Fun, Local}
-use Rattle.cal_model.specs.Kinding.{Judged, Fine, Broken, Known, Names, kind, type_judged}
-use Rattle.cal_model.proofs.Rows.{n_, two, minus, name_, int_type, gen_, t_}
+use Rattle.cal_model.specs.Value.{NumKind, BoolKind, ListKind, Single, Many, Num}
+use Rattle.cal_model.specs.Kinding.{Fine, Broken, Names, kind, type_judged}
+use Rattle.cal_model.proofs.Rows.{n_, two, name_, int_type, gen_, t_}
 
 -- b is a truth value, and n a constant that is 4
 abbrev names_ : Names

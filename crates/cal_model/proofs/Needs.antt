@@ -1,12 +1,12 @@
 -- What an action of a sound actor takes and gives, by the patterns and outputs of its code.
-use Rattle.std.proofs.Common.{◌≡◌, ℕ, ◌<◌, ◌≤◌, List, [], ◌∷◌, map, length, slice_index_or, refl, sym, ap, subst, ◌∙◌, arith}
-use Rattle.std.specs.Prelude.{Option, None, Some, option_map, slice_get}
+use Rattle.std.proofs.Common.{◌≡◌, ℕ, ◌<◌, ◌≤◌, List, [], ◌∷◌, map, length, slice_index_or, sym, ap, subst, ◌∙◌, arith}
+use Rattle.std.specs.Prelude.{None, Some, option_map, slice_get}
 use Rattle.std.proofs.lemmas.Option.{slice_get-map, slice_get-get_or}
 use Rattle.cal_model.specs.declared.bound.Bound.{Bound}
 use Rattle.cal_model.specs.declared.bound.BoundAction.{BoundAction}
 use Rattle.cal_model.specs.declared.bound.BoundPattern.{BoundPattern}
 use Rattle.cal_model.specs.declared.bound.BoundOutput.{BoundOutput}
-use Rattle.cal_model.specs.Actor.{Actor, Action, Pattern, Output}
+use Rattle.cal_model.specs.Actor.{Actor, Pattern, Output}
 use Rattle.cal_model.specs.Kinding.{Names}
 use Rattle.cal_model.specs.Rates.{need, give, taken_on, given_on}
 use Rattle.cal_model.specs.Sound.{Each, IsAction, IsPattern, IsOutput, AreRepeated, repeat_in, repeat_out, IsSound, max_rate}

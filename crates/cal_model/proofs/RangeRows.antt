@@ -1,12 +1,12 @@
 -- Worked examples of ranges, computed by the certification rule.
-use Rattle.std.proofs.Common.{◌≡◌, ℕ, refl, ℤ, pos, negsuc, List, [], ◌∷◌, codes}
+use Rattle.std.proofs.Common.{◌≡◌, refl, pos, negsuc, List, [], ◌∷◌, codes}
 use Rattle.std.specs.Prelude.{Some, None}
 use Rattle.rvc_base.specs.declared.scalar.Scalar.TheVariants as scalar
 use Rattle.cal_ast.specs.Tree as tree
 use Rattle.cal_ast.specs.Tree.{Tree}
 use Rattle.cal_ast.specs.declared.expr.BinOp.TheVariants.{And, Lt, Shl, Shr, Add, Mul, Div, Mod}
-use Rattle.cal_model.specs.Value.{Shape, Single, Many, Value, Num, Items, Values, Nil, Cons}
-use Rattle.cal_model.specs.Certified.{Interval, between, Ranged, range, conjuncts}
+use Rattle.cal_model.specs.Value.{Single, Many, Num, Items, Nil, Cons}
+use Rattle.cal_model.specs.Certified.{between, Ranged, range, conjuncts}
 use Rattle.cal_model.proofs.Rows.{n_, two, name_}
 
 -- v is a token of int(size=8), t a list of four bytes, and z a constant list of 7, -2 and 5

@@ -1,16 +1,15 @@
 -- Worked examples of expressions, computed by the definition of evaluation.
-use Rattle.std.proofs.Common.{◌≡◌, ℕ, zero, suc, refl, ℤ, pos, negsuc, List, [], ◌∷◌, true, false, codes}
-use Rattle.std.specs.Prelude.{Some, None}
+use Rattle.std.proofs.Common.{◌≡◌, ℕ, refl, pos, negsuc, List, [], ◌∷◌, true, false, codes}
 use Rattle.rvc_base.specs.declared.scalar.Scalar.TheVariants as scalar
-use Rattle.rvc_base.specs.declared.trap.Trap.TheVariants.{DivideByZero, Overflow, IndexRange, ShiftRange, TurnLimit}
+use Rattle.rvc_base.specs.declared.trap.Trap.TheVariants.{DivideByZero, Overflow, ShiftRange, TurnLimit}
 use Rattle.cal_ast.specs.Tree as tree
 use Rattle.cal_ast.specs.Tree.{Tree, listed}
-use Rattle.cal_ast.specs.declared.expr.PrefixOp.TheVariants.{Not, Neg, BitNot}
+use Rattle.cal_ast.specs.declared.expr.PrefixOp.TheVariants.{Neg}
 use Rattle.cal_ast.specs.declared.expr.BinOp.{BinOp}
-use Rattle.cal_ast.specs.declared.expr.BinOp.TheVariants.{Or, And, BitOr, BitXor, BitAnd, Eq, Ne, Lt, Le, Gt, Ge, Shl, Shr, Add, Sub, Mul, Div, Mod}
-use Rattle.cal_model.specs.Value.{Shape, Single, Many, Value, Num, Truth, Items, Values, Nil, Cons, stored}
-use Rattle.cal_model.specs.Outcome.{Out, Gives, Traps, Lacks, Clashes}
-use Rattle.cal_model.specs.Env.{Var, Env}
+use Rattle.cal_ast.specs.declared.expr.BinOp.TheVariants.{Or, And, Eq, Shl, Shr, Add, Mul, Div, Mod}
+use Rattle.cal_model.specs.Value.{Single, Value, Num, Truth, Items, Nil, Cons, stored}
+use Rattle.cal_model.specs.Outcome.{Out, Gives, Traps, Lacks}
+use Rattle.cal_model.specs.Env.{Env}
 use Rattle.cal_model.specs.Expression.{Calls, eval}
 
 abbrev no_calls : Calls

@@ -1,18 +1,16 @@
 -- Worked examples of statements, computed by the definition of execution.
-use Rattle.std.proofs.Common.{◌≡◌, ℕ, zero, suc, refl, ℤ, pos, negsuc, List, [], ◌∷◌, true, false, codes}
+use Rattle.std.proofs.Common.{◌≡◌, ℕ, refl, ℤ, pos, negsuc, List, [], ◌∷◌, true, codes}
 use Rattle.std.specs.Prelude.{Some, None}
 use Rattle.rvc_base.specs.declared.scalar.Scalar.TheVariants as scalar
-use Rattle.rvc_base.specs.declared.trap.Trap.TheVariants.{DivideByZero, Overflow, IndexRange, ShiftRange, TurnLimit}
+use Rattle.rvc_base.specs.declared.trap.Trap.TheVariants.{DivideByZero, Overflow, IndexRange, TurnLimit}
 use Rattle.cal_ast.specs.Tree as tree
 use Rattle.cal_ast.specs.Tree.{Tree, listed}
-use Rattle.cal_ast.specs.declared.expr.PrefixOp.TheVariants.{Not, Neg, BitNot}
-use Rattle.cal_ast.specs.declared.expr.BinOp.{BinOp}
 use Rattle.cal_ast.specs.declared.expr.BinOp.TheVariants.{Lt, Add, Mul, Div}
-use Rattle.cal_model.specs.Value.{Shape, Single, Many, Value, Num, Truth, Items, Values, Nil, Cons, stored}
-use Rattle.cal_model.specs.Outcome.{Out, Gives, Traps, Lacks, Clashes}
+use Rattle.cal_model.specs.Value.{Shape, Single, Many, Value, Num, Items, Values, Nil, Cons}
+use Rattle.cal_model.specs.Outcome.{Out, Gives, Traps}
 use Rattle.cal_model.specs.Env.{Var, Env, variable}
 use Rattle.cal_model.specs.Expression.{Calls, eval}
-use Rattle.cal_model.specs.Actor.{Fun, Local, Proc}
+use Rattle.cal_model.specs.Actor.{Fun, Proc}
 use Rattle.cal_model.specs.Call.{calls_of}
 use Rattle.cal_model.specs.Statement.{exec, runs_of}
 use Rattle.cal_model.proofs.Rows.{n_, two, minus, name_, int_type, nothing}

@@ -6,8 +6,8 @@ use Rattle.std.proofs.lemmas.Bool.{ltb-true, lt-ltb}
 use Rattle.std.proofs.lemmas.Int.{ints}
 use Rattle.rvc_base.specs.declared.scalar.Scalar.{Scalar}
 use Rattle.rvc_base.specs.declared.scalar.Scalar.TheVariants as scalar
-use Rattle.rvc_base.specs.Storing.{conv, low_part, in_twos_complement, IsSize, InRange}
-use Rattle.cal_model.specs.Value.{Kind, Shape, Single, Many, Value, Num, Truth, Items, Values, Nil, Cons, count, kind_of_type, stored, stored_each, zero_of, repeated, HasKind, HaveKind, IsOf, AreOf, IsType}
+use Rattle.rvc_base.specs.Storing.{conv, low_part, IsSize, InRange}
+use Rattle.cal_model.specs.Value.{Shape, Single, Many, Value, Num, Truth, Items, Values, Nil, Cons, count, kind_of_type, stored, stored_each, zero_of, repeated, HasKind, HaveKind, IsOf, AreOf, IsType}
 
 low-part-below : (n : ℕ) (v : ℤ) → low_part n v < 2 ^ n
 low-part-below n (pos a) = let h : 0 < 2 ^ n = pow_pos n in omega arith

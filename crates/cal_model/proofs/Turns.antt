@@ -1,7 +1,7 @@
 -- Loops count their turns.
-use Rattle.std.proofs.Common.{◌≡◌, ℕ, zero, suc, ◌+◌, ◌<◌, ◌≤◌, ℤ, pos, ◌+ℤ◌, refl, sym, ap, ◌∙◌, arith, subst}
+use Rattle.std.proofs.Common.{◌≡◌, ℕ, zero, suc, ◌+◌, ◌<◌, ℤ, pos, ◌+ℤ◌, refl, sym, ap, ◌∙◌, arith}
 use Rattle.rvc_base.specs.declared.trap.Trap.TheVariants.{TurnLimit}
-use Rattle.rvc_base.specs.Turns.{max_turns, max_turns_is}
+use Rattle.rvc_base.specs.Turns.{max_turns}
 use Rattle.cal_model.specs.Outcome.{Out, Gives, Traps}
 use Rattle.cal_model.specs.Env.{Env}
 use Rattle.cal_model.specs.Statement.{for_loop}

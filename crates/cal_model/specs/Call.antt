@@ -3,7 +3,7 @@ use Rattle.std.specs.Prelude.{ℕ, zero, suc, List, [], ◌∷◌, length, if◌
 use Rattle.std.specs.Str.{bytes_eq}
 use Rattle.cal_ast.specs.Tree.{Tree}
 use Rattle.cal_model.specs.Value.{Shape, Single, Value, Values, Nil, Cons, stored, zero_of}
-use Rattle.cal_model.specs.Outcome.{Out, Gives, Traps, Lacks, Clashes, and_then, needed}
+use Rattle.cal_model.specs.Outcome.{Out, Gives, Lacks, and_then, needed}
 use Rattle.cal_model.specs.Env.{Var, Env, variable, with_local}
 use Rattle.cal_model.specs.Expression.{Calls, eval}
 use Rattle.cal_model.specs.Actor.{Local, Fun}

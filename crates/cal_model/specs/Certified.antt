@@ -1,6 +1,6 @@
 -- The certification rule: actors of which more tokens never change what they do (Kahn 1974, for each firing; the
 -- rule itself is this profile's).
-use Rattle.std.specs.Prelude.{◌≡◌, ◌≢◌, ℕ, zero, suc, ◌-◌, ◌<◌, ◌≤◌, ◌^◌, ◌⊎◌, Bool, true, false, not, ◌&&◌, List, [], ◌∷◌, ◌++◌, length, IsTrue, ℤ, pos, negsuc, ◌+ℤ◌, ◌-ℤ◌, ◌*ℤ◌, ◌≤ℤ◌, ◌<ℤ◌, neg_ℤ, int_lt, int_le, if◌then◌else◌, Option, None, Some, slice_get}
+use Rattle.std.specs.Prelude.{◌≡◌, ◌≢◌, ℕ, suc, ◌-◌, ◌<◌, ◌≤◌, ◌^◌, ◌⊎◌, Bool, true, false, ◌&&◌, List, [], ◌∷◌, ◌++◌, length, ℤ, pos, negsuc, ◌+ℤ◌, ◌-ℤ◌, ◌*ℤ◌, ◌≤ℤ◌, ◌<ℤ◌, neg_ℤ, int_lt, int_le, if◌then◌else◌, Option, None, Some, slice_get}
 use Rattle.std.specs.Str.{bytes_eq}
 use Rattle.std.specs.Int.{int_min, int_max}
 use Rattle.rvc_base.specs.declared.scalar.Scalar.{Scalar}
@@ -10,7 +10,7 @@ use Rattle.rvc_base.specs.Width.{is_num, max_shift}
 use Rattle.cal_ast.specs.declared.expr.PrefixOp.{PrefixOp}
 use Rattle.cal_ast.specs.declared.expr.PrefixOp.TheVariants.{Not, Neg, BitNot}
 use Rattle.cal_ast.specs.declared.expr.BinOp.{BinOp}
-use Rattle.cal_ast.specs.declared.expr.BinOp.TheVariants.{Or, And, BitOr, BitXor, BitAnd, Eq, Ne, Lt, Le, Gt, Ge, Shl, Shr, Add, Sub, Mul, Div, Mod}
+use Rattle.cal_ast.specs.declared.expr.BinOp.TheVariants.{And, BitOr, BitXor, BitAnd, Eq, Ne, Lt, Le, Gt, Ge, Shl, Shr, Add, Sub, Mul, Div, Mod}
 use Rattle.cal_ast.specs.Tree as tree
 use Rattle.cal_ast.specs.Tree.{Tree}
 use Rattle.cal_ast.specs.Apart.{IsEqualApart}

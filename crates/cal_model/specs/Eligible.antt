@@ -1,6 +1,6 @@
 -- Eligibility: which actions the schedule lets fire in a state, and where they lead (CAL Language Report,
 -- action schedules).
-use Rattle.std.specs.Prelude.{ℕ, suc, max, Bool, true, false, ◌||◌, ◌&&◌, List, [], ◌∷◌, length, ◌==◌, if◌then◌else◌, Option, None, Some, is_some, slice_get}
+use Rattle.std.specs.Prelude.{ℕ, max, Bool, true, false, ◌||◌, ◌&&◌, List, [], ◌∷◌, length, ◌==◌, if◌then◌else◌, Option, None, Some, is_some, slice_get}
 use Rattle.cal_model.specs.Actor.{Action, Move, Actor}
 
 -- there are as many states as the schedule names, and state 0 alone where there is no schedule

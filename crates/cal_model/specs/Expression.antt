@@ -1,7 +1,7 @@
 -- Evaluation: what an expression gives (ISO/IEC 23001-4, RVC-CAL: expressions; CAL Language Report, expressions).
 --
 -- From left to right, one case a form. Each step is told how many turns are left, and says how many it leaves.
-use Rattle.std.specs.Prelude.{ℕ, zero, suc, ◌+◌, Bool, true, false, not, ◌&&◌, ◌||◌, ◌==◌, nat_le, List, [], ◌∷◌, codes, ℤ, pos, negsuc, ◌+ℤ◌, ◌-ℤ◌, int_lt, unsigned_abs, if◌then◌else◌, Option, None, Some}
+use Rattle.std.specs.Prelude.{ℕ, zero, suc, Bool, true, false, not, ◌&&◌, ◌||◌, nat_le, List, codes, ℤ, pos, ◌+ℤ◌, ◌-ℤ◌, int_lt, unsigned_abs, if◌then◌else◌, Option, None, Some}
 use Rattle.std.specs.Str.{bytes_eq}
 use Rattle.rvc_base.specs.declared.scalar.Scalar.TheVariants as scalar
 use Rattle.rvc_base.specs.Arithmetic.{Computed, whole, sum, difference, product, opposite, quotient, rest, left_shift, right_shift, bits_of_both, bits_of_either, bits_of_one, other_bits, is_equal, is_below}
@@ -15,7 +15,7 @@ use Rattle.cal_ast.specs.declared.expr.BinOp.TheVariants.{Or, And, BitOr, BitXor
 use Rattle.cal_ast.specs.Tree as tree
 use Rattle.cal_ast.specs.Tree.{Tree}
 use Rattle.cal_model.specs.Value.{Shape, Single, Many, Value, Num, Truth, Items, Values, Nil, Cons, one, joined, stored}
-use Rattle.cal_model.specs.Outcome.{Out, Gives, Traps, Lacks, Clashes, and_then, turn, alone, needed, known}
+use Rattle.cal_model.specs.Outcome.{Out, Gives, Traps, Clashes, and_then, turn, alone, needed, known}
 use Rattle.cal_model.specs.Env.{Var, Env, look_up, variable, with_local, item_at}
 
 -- what a function gives: over the globals, by its name, for these arguments, where so many turns are left

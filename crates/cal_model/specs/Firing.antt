@@ -1,7 +1,6 @@
 -- The firing rule: what an action makes of a state and its tokens (CAL Language Report, the execution of an actor).
-use Rattle.std.specs.Prelude.{◌≡◌, ℕ, zero, suc, Bool, true, false, ◌⊎◌, List, [], ◌∷◌, ◌++◌, map, length, ◌==◌, ℤ, pos, if◌then◌else◌, Option, None, Some, slice_get}
+use Rattle.std.specs.Prelude.{◌≡◌, ℕ, zero, suc, ◌⊎◌, List, [], ◌∷◌, ◌++◌, map, length, ◌==◌, ℤ, pos, if◌then◌else◌, Option, None, Some, slice_get}
 use Rattle.std.specs.List.{range_with_len}
-use Rattle.rvc_base.specs.declared.scalar.Scalar.{Scalar}
 use Rattle.rvc_base.specs.declared.trap.Trap.{Trap}
 use Rattle.rvc_base.specs.Storing.{conv}
 use Rattle.rvc_base.specs.Arithmetic.{truth}
@@ -9,7 +8,7 @@ use Rattle.rvc_base.specs.Behaviour.{Behaviour, Effect, Fires, TrapsInGuard, Tra
 use Rattle.rvc_base.specs.Turns.{max_turns}
 use Rattle.cal_model.specs.Value.{Value, Num, Truth, Items, Values, Nil, Cons, value_at}
 use Rattle.cal_model.specs.Outcome.{Out, Gives, Traps, Lacks, Clashes, and_then}
-use Rattle.cal_model.specs.Env.{Var, Env}
+use Rattle.cal_model.specs.Env.{Env}
 use Rattle.cal_model.specs.Expression.{Calls, eval_all}
 use Rattle.cal_model.specs.Actor.{Port, Output, Action, Actor}
 use Rattle.cal_model.specs.Call.{calls_of, declared}

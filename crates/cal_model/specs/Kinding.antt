@@ -3,7 +3,7 @@
 --
 -- Parts come before wholes, and from left to right: where an expression has no kind, the first rule that it breaks is
 -- named with its place.
-use Rattle.std.specs.Prelude.{ℕ, zero, suc, ◌+◌, ◌*◌, Bool, true, false, not, ◌&&◌, ◌||◌, ◌==◌, nat_le, nat_lt, List, [], ◌∷◌, ◌++◌, length, codes, ℤ, pos, negsuc, if◌then◌else◌, Option, None, Some, slice_get}
+use Rattle.std.specs.Prelude.{ℕ, zero, suc, ◌*◌, Bool, true, false, not, ◌&&◌, ◌||◌, ◌==◌, nat_le, List, [], ◌∷◌, ◌++◌, length, codes, ℤ, pos, negsuc, if◌then◌else◌, Option, None, Some}
 use Rattle.std.specs.Str.{bytes_eq}
 use Rattle.rvc_base.specs.declared.scalar.Scalar.{Scalar}
 use Rattle.rvc_base.specs.declared.scalar.Scalar.TheVariants as scalar
@@ -16,8 +16,8 @@ use Rattle.cal_ast.specs.declared.expr.BinOp.TheVariants.{Or, And, Eq, Ne, Lt, L
 use Rattle.cal_ast.specs.Tree as tree
 use Rattle.cal_ast.specs.Tree.{Tree}
 use Rattle.cal_model.specs.Value.{Kind, NumKind, BoolKind, ListKind, Shape, Single, Many, Value, Num, kind_of_scalar, kind_of_type, scalars_of_kind, scalars_of_type, max_list_scalars}
-use Rattle.cal_model.specs.Outcome.{Out, Gives, Traps, Lacks, Clashes}
-use Rattle.cal_model.specs.Env.{Var, Env}
+use Rattle.cal_model.specs.Outcome.{Out, Gives, Traps}
+use Rattle.cal_model.specs.Env.{Var}
 use Rattle.cal_model.specs.Expression.{Calls, eval, span}
 use Rattle.cal_model.specs.Actor.{Local, Fun}
 use Rattle.cal_model.specs.Call.{calls_of, fun_named}

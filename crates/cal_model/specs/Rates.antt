@@ -1,8 +1,8 @@
 -- Rates: how many tokens an action takes from a port, and gives on one (CAL Language Report, input patterns and
 -- output expressions).
 use Rattle.std.specs.Prelude.{ℕ, suc, ◌*◌, List, [], ◌∷◌, length, ◌==◌, if◌then◌else◌, Option, None, Some, slice_get}
-use Rattle.cal_ast.specs.Tree.{Tree, cons, nil}
-use Rattle.cal_model.specs.Actor.{Pattern, Output, Action, Actor}
+use Rattle.cal_ast.specs.Tree.{Tree, cons}
+use Rattle.cal_model.specs.Actor.{Pattern, Output, Actor}
 
 -- how often a pattern or an output is repeated
 abbrev pub times : Option ℕ → ℕ

@@ -1,5 +1,5 @@
 -- Selection: which action is to fire (CAL Language Report, guards, priorities and the choice of an action).
-use Rattle.std.specs.Prelude.{◌≡◌, ℕ, zero, suc, ◌+◌, ◌*◌, Bool, true, false, not, ◌&&◌, ◌||◌, ◌↔◌, IsTrue, List, [], ◌∷◌, ◌++◌, map, length, nat_le, ℤ, pos, if◌then◌else◌, Option, None, Some, slice_get, slice_index_or}
+use Rattle.std.specs.Prelude.{◌≡◌, ℕ, zero, suc, ◌+◌, Bool, true, false, not, ◌&&◌, ◌||◌, ◌↔◌, IsTrue, List, [], ◌∷◌, ◌++◌, map, length, nat_le, ℤ, pos, if◌then◌else◌, Option, None, Some, slice_get, slice_index_or}
 use Rattle.std.specs.List.{range_with_len}
 use Rattle.rvc_base.specs.declared.scalar.Scalar.{Scalar}
 use Rattle.rvc_base.specs.declared.scalar.Scalar.TheVariants as scalar
@@ -9,8 +9,8 @@ use Rattle.rvc_base.specs.Chain.{IsAbove}
 use Rattle.rvc_base.specs.Line.{IsLine}
 use Rattle.rvc_base.specs.Turns.{max_turns}
 use Rattle.cal_ast.specs.Tree.{Tree}
-use Rattle.cal_model.specs.Value.{Value, Num, Truth, Items, Values, Nil, Cons, of_number}
-use Rattle.cal_model.specs.Outcome.{Out, Gives, Traps, Lacks, Clashes}
+use Rattle.cal_model.specs.Value.{Value, Truth, Items, Values, Nil, Cons, of_number}
+use Rattle.cal_model.specs.Outcome.{Out, Gives, Traps}
 use Rattle.cal_model.specs.Env.{Var, Env, variable}
 use Rattle.cal_model.specs.Expression.{Calls, eval}
 use Rattle.cal_model.specs.Actor.{Port, Held, Pattern, Action, Actor}

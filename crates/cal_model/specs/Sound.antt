@@ -1,13 +1,12 @@
 -- Which actors are sound: their names, kinds, sizes and numbers are those that the rules of the language ask for.
-use Rattle.std.specs.Prelude.{◌≡◌, ◌≢◌, ℕ, zero, suc, ◌+◌, ◌*◌, ◌<◌, ◌≤◌, Bool, true, false, ◌||◌, List, [], ◌∷◌, ◌++◌, map, length, reverse, Contains, if◌then◌else◌, ◌==◌, Option, None, Some, slice_get}
-use Rattle.std.specs.Str.{bytes_eq}
+use Rattle.std.specs.Prelude.{◌≡◌, ◌≢◌, ℕ, ◌+◌, ◌<◌, ◌≤◌, true, false, List, [], ◌∷◌, ◌++◌, map, length, Contains, if◌then◌else◌, Option, None, Some, slice_get}
 use Rattle.rvc_base.specs.declared.scalar.Scalar.{Scalar}
 use Rattle.rvc_base.specs.Storing.{IsSize}
 use Rattle.cal_ast.specs.declared.expr.PrefixOp.TheVariants.{Neg}
 use Rattle.cal_ast.specs.Tree as tree
 use Rattle.cal_ast.specs.Tree.{Tree}
-use Rattle.cal_model.specs.Value.{Kind, NumKind, BoolKind, ListKind, Shape, Single, Many, kind_of_scalar, kind_of_type, scalars_of_type, IsOf, IsType}
-use Rattle.cal_model.specs.Actor.{Port, Held, Local, Fun, Proc, Pattern, Output, Action, Move, Actor}
+use Rattle.cal_model.specs.Value.{Kind, NumKind, BoolKind, ListKind, Shape, Single, kind_of_scalar, kind_of_type, scalars_of_type, IsOf, IsType}
+use Rattle.cal_model.specs.Actor.{Held, Local, Fun, Proc, Pattern, Output, Action, Move, Actor}
 use Rattle.cal_model.specs.Rates.{need, give}
 use Rattle.cal_model.specs.Selection.{Above, kind_of_port}
 use Rattle.cal_model.specs.Statement.{proc_named}

@@ -1,11 +1,11 @@
 -- Execution: what a statement makes of an environment (ISO/IEC 23001-4, RVC-CAL: statements; CAL Language Report,
 -- statements).
-use Rattle.std.specs.Prelude.{ℕ, zero, suc, Bool, true, false, List, [], ◌∷◌, length, if◌then◌else◌, ℤ, pos, ◌+ℤ◌, Option, None, Some}
+use Rattle.std.specs.Prelude.{ℕ, zero, suc, false, List, [], ◌∷◌, length, if◌then◌else◌, ℤ, pos, ◌+ℤ◌, Option, None, Some}
 use Rattle.std.specs.Str.{bytes_eq}
 use Rattle.cal_ast.specs.Tree as tree
 use Rattle.cal_ast.specs.Tree.{Tree}
-use Rattle.cal_model.specs.Value.{Shape, Value, Num, Truth, Items, Values, Nil, Cons, stored, zero_of}
-use Rattle.cal_model.specs.Outcome.{Out, Gives, Traps, Lacks, Clashes, and_then, turn}
+use Rattle.cal_model.specs.Value.{Shape, Value, Num, Values, stored, zero_of}
+use Rattle.cal_model.specs.Outcome.{Out, Gives, Lacks, Clashes, and_then, turn}
 use Rattle.cal_model.specs.Env.{Var, Env, variable, with_local, back_to, assign}
 use Rattle.cal_model.specs.Expression.{Calls, eval, eval_all, chosen, span, range_of, type_meant}
 use Rattle.cal_model.specs.Actor.{Proc}

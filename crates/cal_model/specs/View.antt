@@ -1,6 +1,6 @@
 -- What the declared types stand for, without where they lie in memory.
-use Rattle.std.specs.Prelude.{ℕ, List, [], ◌∷◌, map, Option, None, Some, option_map, string_bytes}
-use Rattle.cal_ast.specs.Tree.{Tree, listed}
+use Rattle.std.specs.Prelude.{List, [], ◌∷◌, map, option_map, string_bytes}
+use Rattle.cal_ast.specs.Tree.{listed}
 use Rattle.cal_ast.specs.View.{expr_tree, stmt_tree}
 use Rattle.cal_model.specs.declared.kind.Kind.{Kind as DeclaredKind}
 use Rattle.cal_model.specs.declared.kind.Kind.TheOpen.{Kind-F}
