@@ -1,7 +1,28 @@
-//! The meaning of actors: the tree of the first form, the value of its expression, and what it does.
+//! The meaning of actors: values, types and kinds, an actor that was checked, and what it does.
+//!
+//! The definitions stand in `specs/`. The tree of the first form and its meaning stand beside them, for the crates
+//! that run actors of that form.
 #![tactic(auto)]
 
 pub mod ast;
+mod bound;
 mod evaluate;
+mod kind;
+mod laws;
+mod rates;
+#[cfg(test)]
+mod tests;
+mod value;
 
+pub use bound::{
+    Bound, BoundAction, BoundFun, BoundLocal, BoundMove, BoundOutput, BoundPattern, BoundProc,
+    BoundVar, Port,
+};
 pub use evaluate::sent_for;
+pub use kind::{Kind, Shape, kind_of_type};
+pub use laws::{
+    behaviour_is_the_firing_rule, first_form_is_a_case, loops_count_turns, one_effect, selection,
+    stored_values_are_in_their_type,
+};
+pub use rates::{give, need};
+pub use value::{Value, Values};

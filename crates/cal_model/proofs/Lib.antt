@@ -1,0 +1,11 @@
+mod Rows
+mod StatementRows
+mod ActorRows
+mod KindRows
+mod Stored
+mod Choosing
+mod Turns
+mod Needs
+mod Parts
+mod FirstForm
+mod RangeRows

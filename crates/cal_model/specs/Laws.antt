@@ -1,0 +1,115 @@
+-- What holds of all values, expressions and actors, as statements.
+use Rattle.std.specs.Prelude.{◌≡◌, ℕ, ◌+◌, ◌<◌, ◌↔◌, ◌⊎◌, List, [], ◌∷◌, ℤ, None, Some}
+use Rattle.rvc_base.specs.declared.trap.Trap.{Trap}
+use Rattle.rvc_base.specs.declared.trap.Trap.TheVariants.{TurnLimit}
+use Rattle.rvc_base.specs.Behaviour.{Fires, TrapsInGuard, TrapsInBody, Waits, Picks, Faults}
+use Rattle.cal_ast.specs.declared.expr.BinOp.{BinOp}
+use Rattle.cal_ast.specs.declared.expr.BinOp.TheVariants.{Add, Sub, Mul}
+use Rattle.cal_ast.specs.Tree as tree
+use Rattle.cal_ast.specs.Tree.{Tree}
+use Rattle.cal_model.specs.declared.ast.Operand.{Operand}
+use Rattle.cal_model.specs.declared.ast.Operand.TheVariants.{Token, Number}
+use Rattle.cal_model.specs.declared.ast.Operator.{Operator}
+use Rattle.cal_model.specs.declared.ast.Operator.TheVariants as operator
+use Rattle.cal_model.specs.declared.ast.Binary.{Binary}
+use Rattle.cal_model.specs.Eval as form
+use Rattle.cal_model.specs.Meaning.{IsFirstForm}
+use Rattle.cal_model.specs.Value.{Shape, Value, Num, HasKind, IsOf, IsType, kind_of_type, stored, zero_of}
+use Rattle.cal_model.specs.Outcome.{Out, Gives, Traps}
+use Rattle.cal_model.specs.Expression.{Calls, eval}
+use Rattle.cal_model.specs.Env.{Env}
+use Rattle.cal_model.specs.Statement.{for_loop}
+use Rattle.cal_model.specs.Actor.{Actor}
+use Rattle.cal_model.specs.Rates.{need}
+use Rattle.cal_model.specs.Selection.{State, Priorities, AreFalse, AreTrapping, readiness, IsEnabled, IsExposed, choice}
+use Rattle.cal_model.specs.Firing.{IsFiring, IsTrapping, effect}
+
+-- a value of a type's kind, once stored, is in the type
+abbrev pub StoredIsOfType : Type 0
+StoredIsOfType = (t : Shape) (v : Value) → IsType t → HasKind (kind_of_type t) v → IsOf t (stored t v)
+
+-- storing it again changes nothing
+abbrev pub StoringStays : Type 0
+StoringStays = (t : Shape) (v : Value) → IsType t → IsOf t v → stored t v ≡ v
+
+-- what a variable without value holds is in its type
+abbrev pub ZeroIsOfType : Type 0
+ZeroIsOfType = (t : Shape) → IsType t → IsOf t (zero_of t)
+
+-- one action has one firing in a state, over given tokens
+abbrev pub OneFiring : Type 0
+OneFiring = (actor : Actor) (x y z : State) (u sent other : List (List ℤ)) (a : ℕ) (taken more : ℕ → ℕ)
+    → IsFiring actor x u a y taken sent → IsFiring actor x u a z more other
+    → (y ≡ z) × ((port : ℕ) → taken port ≡ more port) × (sent ≡ other)
+
+-- .. or one trap
+abbrev pub OneTrap : Type 0
+OneTrap = (actor : Actor) (x : State) (u : List (List ℤ)) (a : ℕ) (c d : Trap)
+    → IsTrapping actor x u a c → IsTrapping actor x u a d → c ≡ d
+
+-- .. and never both
+abbrev pub NeverBoth : Type 0
+NeverBoth = (actor : Actor) (x y : State) (u sent : List (List ℤ)) (a : ℕ) (taken : ℕ → ℕ) (c : Trap)
+    → IsFiring actor x u a y taken sent → ¬ IsTrapping actor x u a c
+
+-- an action that is chosen to fire is exposed and enabled
+abbrev pub ChosenIsEnabled : Type 0
+ChosenIsEnabled = (actor : Actor) (p : Priorities actor) (x : State) (u : List (List ℤ)) (a : ℕ)
+    → choice actor p x u ≡ Picks a → IsExposed actor x u a × IsEnabled actor x u a
+
+-- one that is chosen to trap is exposed, and its guards trap
+abbrev pub ChosenTraps : Type 0
+ChosenTraps = (actor : Actor) (p : Priorities actor) (x : State) (u : List (List ℤ)) (a : ℕ) (c : Trap)
+    → choice actor p x u ≡ Faults a c → IsExposed actor x u a × (readiness actor x u a ≡ AreTrapping c)
+
+-- there is none to choose where no action is enabled or has guards that trap
+abbrev pub WaitingIsIdle : Type 0
+WaitingIsIdle = (actor : Actor) (p : Priorities actor) (x : State) (u : List (List ℤ))
+    → choice actor p x u ≡ Waits → (a : ℕ) → readiness actor x u a ≡ AreFalse
+
+-- the effects of the behaviour are the firings ..
+abbrev pub EffectsAreFirings : Type 0
+EffectsAreFirings = (actor : Actor) (p : Priorities actor) (x y : State) (u sent : List (List ℤ)) (a : ℕ)
+    → (effect actor p x u a ≡ Some (Fires y sent)) ↔ IsFiring actor x u a y (need actor a) sent
+
+-- .. and the traps
+abbrev pub EffectsAreTraps : Type 0
+EffectsAreTraps = (actor : Actor) (p : Priorities actor) (x : State) (u : List (List ℤ)) (a : ℕ) (c : Trap)
+    → ((effect actor p x u a ≡ Some (TrapsInGuard c)) ⊎ (effect actor p x u a ≡ Some (TrapsInBody c))) ↔ IsTrapping actor x u a c
+
+-- a loop over n numbers makes n turns where its body makes none ..
+abbrev pub LoopsCountTurns : Type 0
+LoopsCountTurns = (n left : ℕ) (i : ℤ) (env : Env) → for_loop n i (λ at now k. Gives now k) env (n + left) ≡ Gives env left
+
+-- .. and is one turn too many where fewer are left
+abbrev pub LoopsEndByTurns : Type 0
+LoopsEndByTurns = (n left : ℕ) (i : ℤ) (env : Env) → left < n → for_loop n i (λ at now k. Gives now k) env left ≡ Traps TurnLimit
+
+-- ---- the first form
+
+-- an expression of the first form as it is written, where the action's token has this name
+abbrev pub tree_of_operand : List ℕ → Operand → Tree
+tree_of_operand name Token = tree.variable name 0
+tree_of_operand name (Number n) = tree.number n 0
+
+abbrev pub operator_of : Operator → BinOp
+operator_of operator.Add = Add
+operator_of operator.Sub = Sub
+operator_of operator.Mul = Mul
+
+abbrev pub tree_of : List ℕ → Binary → Tree
+tree_of name b = tree.binary (operator_of b.op) (tree_of_operand name b.left) (tree_of_operand name b.right) 0
+
+-- its value or its trap, with so many turns left
+abbrev pub as_outcome : form.Out → ℕ → Out Value
+as_outcome (form.Gives z) left = Gives (Num z) left
+as_outcome (form.Traps c) left = Traps c
+
+-- the action's token as a name
+abbrev pub token_named : List ℕ → ℤ → Env
+token_named name v = record { globals = []; locals = record { name = name; value = Num v; kept = None } ∷ [] }
+
+-- the value of an expression of the first form is what the whole language says
+abbrev pub FirstFormIsCase : Type 0
+FirstFormIsCase = (calls : Calls) (name : List ℕ) (v : ℤ) (b : Binary) (left : ℕ)
+    → IsFirstForm b → eval (tree_of name b) calls (token_named name v) left ≡ as_outcome (form.eval v b) left
