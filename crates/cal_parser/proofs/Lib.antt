@@ -12,5 +12,9 @@ mod Whole
 mod Taking
 mod Lists
 mod NameLists
+mod Loops
+mod Steps
+mod Declarations
+mod Statements
 mod Tags
 mod Rows

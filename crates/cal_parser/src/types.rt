@@ -1,0 +1,26 @@
+//! Types.
+
+ghost use Rattle.std.specs.Prelude.{string_bytes};
+ghost use Rattle.cal_ast.specs.View.{type_tree};
+ghost use Rattle.cal_parser.specs.Rules.{part, type_tail};
+ghost use Rattle.cal_parser.specs.Spells.{a_type};
+ghost use Rattle.cal_parser.specs.Tells.{Tells};
+
+use crate::fault::Fault;
+use cal_ast::{Ident, TypeExpr};
+use cal_lexer::Token;
+use std::alloc::Global;
+
+/// A type.
+pub fn type_expr(_alloc: Global, _tokens: &mut &[Token], _room: u32) -> Result<TypeExpr, Fault>
+    ensures { Tells type_tree _room (part a_type) result _tokens.old.now _tokens.new.now }
+{
+    Err(Fault::Memory)
+}
+
+/// A type behind its name.
+pub fn type_after(_alloc: Global, _tokens: &mut &[Token], _room: u32, name: Ident) -> Result<TypeExpr, Fault>
+    ensures { Tells type_tree _room (type_tail (string_bytes name.text) name.at) result _tokens.old.now _tokens.new.now }
+{
+    Err(Fault::Memory)
+}
