@@ -13,7 +13,7 @@ use Rattle.cal_parser.specs.Tells.{before, TellsFault}
 use Rattle.cal_parser.specs.declared.fault.Fault.{Fault}
 use Rattle.cal_parser.specs.declared.fault.Fault.TheVariants as faults
 use Rattle.cal_parser.proofs.Costs.{costs, takes}
-use Rattle.cal_parser.proofs.Lists
+use Rattle.cal_parser.proofs.ListSteps
 use Rattle.cal_parser.proofs.Meets.{Meets}
 use Rattle.cal_parser.proofs.NameLists.{length-plain, took_less}
 use Rattle.cal_parser.proofs.Reading.{read_is, read_keeps}
@@ -54,19 +54,19 @@ module _ {A : Type 0} (tree : A → Tree) (m : ℕ) (v : Mark) (p : Part) (start
     far =
         let marked_is : plain_tokens mid ≡ placed (mark v) q ∷ plain_tokens next = marked ∙ ap (λ k. placed k q ∷ plain_tokens next) is in
         let item : read m (part p) (plain_tokens now) ≡ Gave (tree x) (placed (mark v) q ∷ plain_tokens next) = got ∙ ap (λ l. Gave (tree x) l) marked_is in
-        Lists.on_more m v p (plain_tokens start) (plain_tokens now) (map tree xs) far.far (plain_tokens next) (tree x) q item ∙ ap (λ l. before l (read m (part (separated v p)) (plain_tokens next))) (trees_more tree xs ys x e);
+        ListSteps.on_more m v p (plain_tokens start) (plain_tokens now) (map tree xs) far.far (plain_tokens next) (tree x) q item ∙ ap (λ l. before l (read m (part (separated v p)) (plain_tokens next))) (trees_more tree xs ys x e);
   }
 
   -- the last part
   pub parts_last : (w : Lexeme) → w ≡ mark v → (x : A) (mid : List Token) → read m (part p) (plain_tokens now) ≡ Gave (tree x) (plain_tokens mid) → stands (same_word w) mid ≡ false → (ys : List A) → ys ≡ xs ++ x ∷ [] → read m (part (separated v p)) (plain_tokens start) ≡ Gave (listed (map tree ys)) (plain_tokens mid)
   parts_last w is x mid got none ys e =
       let none_is : here (same_word (mark v)) (ahead (plain_tokens mid)) ≡ false = ap (λ k. stands (same_word k) mid) (sym is) ∙ none in
-      Lists.on_last m v p (plain_tokens start) (plain_tokens now) (map tree xs) far.far (plain_tokens mid) (tree x) got none_is ∙ ap (λ l. Gave (listed l) (plain_tokens mid)) (trees_more tree xs ys x e)
+      ListSteps.on_last m v p (plain_tokens start) (plain_tokens now) (map tree xs) far.far (plain_tokens mid) (tree x) got none_is ∙ ap (λ l. Gave (listed l) (plain_tokens mid)) (trees_more tree xs ys x e)
 
   -- a part that isn't read
   pub parts_fail : (left : List Token) (fault : Fault) → TellsFault fault left (read m (part p) (plain_tokens now)) → TellsFault fault left (read m (part (separated v p)) (plain_tokens start))
-  parts_fail left faults.Refused h = Lists.on_refused m v p (plain_tokens start) (plain_tokens now) (map tree xs) far.far (plain_tokens left) h
-  parts_fail left faults.TooHigh h = Lists.on_high m v p (plain_tokens start) (plain_tokens now) (map tree xs) far.far (plain_tokens left) h
+  parts_fail left faults.Refused h = ListSteps.on_refused m v p (plain_tokens start) (plain_tokens now) (map tree xs) far.far (plain_tokens left) h
+  parts_fail left faults.TooHigh h = ListSteps.on_high m v p (plain_tokens start) (plain_tokens now) (map tree xs) far.far (plain_tokens left) h
   parts_fail left faults.Memory h = tt
 
 pub any_none : (m : ℕ) (v : Mark) (p : Part) (ts : List Placed) → here (starts p) (ahead ts) ≡ false → read m (part (any v p)) ts ≡ Gave nil ts
@@ -84,7 +84,7 @@ module _ (m : ℕ) (p : Part) where
   repeated_more : (ts l : List Placed) (x : Tree) → here (starts p) (ahead ts) ≡ true → read m (part p) ts ≡ Gave x l → read m (part (repeated p)) ts ≡ before (x ∷ []) (read m (part (repeated p)) l)
   repeated_more ts l x begins e =
       let opened : read m (part (repeated p)) ts ≡ after (read m (part (repeated p)) l) (λ xs r. Gave (cons x xs) r) = rw (read_is m (part (repeated p)) ts, begins, e, exec) refl in
-      opened ∙ Lists.after_cons x (read m (part (repeated p)) l)
+      opened ∙ ListSteps.after_cons x (read m (part (repeated p)) l)
 
   repeated_refused : (ts l : List Placed) → here (starts p) (ahead ts) ≡ true → read m (part p) ts ≡ Refused l → read m (part (repeated p)) ts ≡ Refused l
   repeated_refused ts l begins e = rw (read_is m (part (repeated p)) ts, begins, e, exec) refl
@@ -99,13 +99,13 @@ module _ (m : ℕ) (p : Part) where
       far =
           far.far
           ∙ ap (λ o. before (map tree xs) o) (repeated_more (plain_tokens now) (plain_tokens next) (tree x) begins got)
-          ∙ Lists.before-append (map tree xs) (tree x) (read m (part (repeated p)) (plain_tokens next))
+          ∙ ListSteps.before-append (map tree xs) (tree x) (read m (part (repeated p)) (plain_tokens next))
           ∙ ap (λ l. before l (read m (part (repeated p)) (plain_tokens next))) (trees_more tree xs ys x e);
     }
 
     -- no part more
     pub again_none : stands (starts p) now ≡ false → read m (part (repeated p)) (plain_tokens start) ≡ Gave (listed (map tree xs)) (plain_tokens now)
-    again_none none = far.far ∙ ap (λ o. before (map tree xs) o) (repeated_none (plain_tokens now) none) ∙ ap (λ t. Gave t (plain_tokens now)) (Lists.joined-nil (map tree xs))
+    again_none none = far.far ∙ ap (λ o. before (map tree xs) o) (repeated_none (plain_tokens now) none) ∙ ap (λ t. Gave t (plain_tokens now)) (ListSteps.joined-nil (map tree xs))
 
     -- a part that isn't read
     pub again_fail : stands (starts p) now ≡ true → (left : List Token) (fault : Fault) → TellsFault fault left (read m (part p) (plain_tokens now)) → TellsFault fault left (read m (part (repeated p)) (plain_tokens start))
@@ -115,4 +115,4 @@ module _ (m : ℕ) (p : Part) where
 
 -- no part yet
 pub read_none : (m : ℕ) (r : Rule) (start : List Token) → HasRead m r start start []
-read_none m r start = record { far = Lists.before-none (read m r (plain_tokens start)) }
+read_none m r start = record { far = ListSteps.before-none (read m r (plain_tokens start)) }

@@ -20,7 +20,7 @@ use Rattle.cal_parser.specs.Tells.{Tells, TellsFault, each}
 use Rattle.cal_parser.specs.Token.{here, names, same_word}
 use Rattle.cal_parser.specs.declared.fault.Fault.{Fault}
 use Rattle.cal_parser.specs.declared.fault.Fault.TheVariants as faults
-use Rattle.cal_parser.specs.declared.stmts.Range.{Range}
+use Rattle.cal_parser.specs.declared.stmts.Bounds.{Bounds}
 use Rattle.cal_parser.proofs.Reading.{read_is}
 use Rattle.cal_parser.proofs.Steps.{fault_on, on_yes, on_no, expect_yes, expect_no, expect_fails, named_yes, named_fails, finish_yes, finish_no, invoke_yes, invoke_fails, enter_yes, enter_fails, end_yes, end_no, first_no, first_yes}
 
@@ -399,10 +399,10 @@ foreach_next q shape i x y = body_then Lexeme.Foreach (λ zs. give (foreach_stmt
 pub foreach_no_range : (m q : ℕ) (old new : List Token) (fault : Fault) → LeadsRange m (Err fault) old new → Does stmt_tree m (foreach_body (placed Lexeme.Foreach q)) (Err fault) old new
 foreach_no_range m q old new fault h = h (foreach_next q)
 
-pub foreach_no_body : (m q : ℕ) (r : Range) (old a new : List Token) (fault : Fault) → LeadsRange m (Ok r) old a → Leads (each stmt_tree) m (body_then Lexeme.Foreach) (Err fault) a new → Does stmt_tree m (foreach_body (placed Lexeme.Foreach q)) (Err fault) old new
+pub foreach_no_body : (m q : ℕ) (r : Bounds) (old a new : List Token) (fault : Fault) → LeadsRange m (Ok r) old a → Leads (each stmt_tree) m (body_then Lexeme.Foreach) (Err fault) a new → Does stmt_tree m (foreach_body (placed Lexeme.Foreach q)) (Err fault) old new
 foreach_no_body m q r old a new fault h k = fault_on fault new _ _ (h (foreach_next q)) (k (λ zs. give (foreach_stmt (type_tree r.shape) (ident_tree r.name) (expr_tree r.from) (expr_tree r.to) zs q)))
 
-pub foreach_read : (m q : ℕ) (r : Range) (zs : Vec Stmt Global) (old a new : List Token) → LeadsRange m (Ok r) old a → Leads (each stmt_tree) m (body_then Lexeme.Foreach) (Ok zs) a new → exec read m (foreach_body (placed Lexeme.Foreach q)) (plain_tokens old) ≡ Gave (foreach_stmt (type_tree r.shape) (ident_tree r.name) (expr_tree r.from) (expr_tree r.to) (each stmt_tree zs) q) (plain_tokens new)
+pub foreach_read : (m q : ℕ) (r : Bounds) (zs : Vec Stmt Global) (old a new : List Token) → LeadsRange m (Ok r) old a → Leads (each stmt_tree) m (body_then Lexeme.Foreach) (Ok zs) a new → exec read m (foreach_body (placed Lexeme.Foreach q)) (plain_tokens old) ≡ Gave (foreach_stmt (type_tree r.shape) (ident_tree r.name) (expr_tree r.from) (expr_tree r.to) (each stmt_tree zs) q) (plain_tokens new)
 foreach_read m q r zs old a new h k = h (foreach_next q) ∙ k (λ ts. give (foreach_stmt (type_tree r.shape) (ident_tree r.name) (expr_tree r.from) (expr_tree r.to) ts q))
 
 abbrev block_next : ℕ → Tree → Step

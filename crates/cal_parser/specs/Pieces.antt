@@ -8,7 +8,7 @@ use Rattle.cal_ast.specs.declared.stmt.Stmt.{Stmt}
 use Rattle.cal_lexer.specs.Lexeme.{Lexeme, Placed, placed, plain_tokens}
 use Rattle.cal_lexer.specs.declared.token.Token.{Token}
 use Rattle.cal_parser.specs.declared.fault.Fault.{Fault}
-use Rattle.cal_parser.specs.declared.stmts.Range.{Range}
+use Rattle.cal_parser.specs.declared.stmts.Bounds.{Bounds}
 use Rattle.cal_parser.specs.Spells.{comma, separated, any, repeated, a_type, a_var, a_place, a_stmt, an_expr}
 use Rattle.cal_parser.specs.Rules.{part, Step, read, on, expect, named, finish, ident_of, if_stmt_body}
 use Rattle.cal_parser.specs.Tells.{TellsFault}
@@ -42,7 +42,7 @@ Leads view m p (Ok x) old new = (next : Tree → Step) → exec read m (p next) 
 Leads view m p (Err fault) old new = (next : Tree → Step) → TellsFault fault new (exec read m (p next) (plain_tokens old))
 
 -- the same of what a loop runs over
-abbrev pub LeadsRange : ℕ → Result Range Fault → List Token → List Token → Type 0
+abbrev pub LeadsRange : ℕ → Result Bounds Fault → List Token → List Token → Type 0
 LeadsRange m (Ok r) old new = (next : Tree → Tree → Tree → Tree → Step) → exec read m (range_then next) (plain_tokens old) ≡ exec read m (next (type_tree r.shape) (ident_tree r.name) (expr_tree r.from) (expr_tree r.to)) (plain_tokens new)
 LeadsRange m (Err fault) old new = (next : Tree → Tree → Tree → Tree → Step) → TellsFault fault new (exec read m (range_then next) (plain_tokens old))
 

@@ -25,7 +25,7 @@ use std::alloc::Global;
 
 /// What a `foreach` runs over: `shape name in from .. to`.
 #[derive(Drop)]
-struct Range {
+struct Bounds {
     shape: TypeExpr,
     name: Ident,
     from: Expr,
@@ -160,7 +160,7 @@ fn foreach_rest(alloc: Global, tokens: &mut &[Token], room: u32, at: u32) -> Res
     requires { 1 ≤ room }
     ensures { Does stmt_tree room (foreach_body (placed Lexeme.Foreach at)) result tokens.old.now tokens.new.now }
 {
-    let Range {
+    let Bounds {
         shape,
         name,
         from,
@@ -230,7 +230,7 @@ fn expr_before(
 }
 
 /// What a `foreach` runs over, and the `do` behind it.
-fn range(alloc: Global, tokens: &mut &[Token], room: u32) -> Result<Range, Fault>
+fn range(alloc: Global, tokens: &mut &[Token], room: u32) -> Result<Bounds, Fault>
     requires { 1 ≤ room }
     ensures { LeadsRange room result tokens.old.now tokens.new.now }
 {
@@ -239,7 +239,7 @@ fn range(alloc: Global, tokens: &mut &[Token], room: u32) -> Result<Range, Fault
     expect(tokens, Word::In)?;
     let from = expr_before(alloc, tokens, room, Word::DotDot)?;
     let to = expr_before(alloc, tokens, room, Word::Do)?;
-    Ok(Range {
+    Ok(Bounds {
         shape,
         name,
         from,
