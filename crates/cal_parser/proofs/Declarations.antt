@@ -13,6 +13,7 @@ use Rattle.cal_lexer.specs.Lexeme.{Lexeme, Placed, placed, plain_tokens}
 use Rattle.cal_lexer.specs.declared.token.Token.{Token}
 use Rattle.cal_parser.specs.Cursor.{Took, TookName, stands}
 use Rattle.cal_parser.specs.Operators.{place}
+use Rattle.cal_parser.specs.Pieces.{Does, value_then}
 use Rattle.cal_parser.specs.Rules.{Rule, part, var_tail, read, Step, on, named, ident_of}
 use Rattle.cal_parser.specs.Spells.{comma, separated, a_type, a_var, a_param, a_port, some_vars, an_expr}
 use Rattle.cal_parser.specs.Tells.{Tells, TellsFault, each}
@@ -28,14 +29,11 @@ tells_jump view m r n old mid new (Err fault) e h = fault_on fault new _ _ e h
 
 -- a variable behind its type
 
-abbrev start_of : (Tree → Tree) → Step
-start_of make = invoke (part an_expr) (λ x. give (make x))
-
 abbrev var_equal : Tree → Tree → Step
-var_equal shape i = on Lexeme.Equal (start_of (λ x. var shape i (present x) false (place shape))) (give (var shape i absent true (place shape)))
+var_equal shape i = on Lexeme.Equal (value_then (λ x. var shape i (present x) false (place shape))) (give (var shape i absent true (place shape)))
 
 abbrev var_next : Tree → Placed → Step
-var_next shape t = on Lexeme.Assign (start_of (λ x. var shape (ident_of t) (present x) true (place shape))) (var_equal shape (ident_of t))
+var_next shape t = on Lexeme.Assign (value_then (λ x. var shape (ident_of t) (present x) true (place shape))) (var_equal shape (ident_of t))
 
 pub var_no_name : (m : ℕ) (shape : Tree) (old new : List Token) (fault : Fault) → TookName (Err fault) old new → TellsFault fault new (read m (var_tail shape) (plain_tokens old))
 var_no_name m shape old new fault h = fault_on fault new _ _ (read_is m (var_tail shape) (plain_tokens old)) (named_fails m (var_next shape) old new fault h)
@@ -44,32 +42,31 @@ module _ (m : ℕ) (shape : Tree) (i : Ident) (old a : List Token) (got_name : T
   var_at : read m (var_tail shape) (plain_tokens old) ≡ exec read m (var_next shape (placed (Lexeme.Name (string_bytes i.text)) i.at)) (plain_tokens a)
   var_at = read_is m (var_tail shape) (plain_tokens old) ∙ named_yes m (var_next shape) i old a got_name
 
-  module _ (q : ℕ) (b : List Token) (some : stands (same_word Lexeme.Assign) a ≡ true) (took : Took Lexeme.Assign q a b) where
-    behind_assign : read m (var_tail shape) (plain_tokens old) ≡ exec read m (start_of (λ x. var shape (ident_tree i) (present x) true (place shape))) (plain_tokens b)
-    behind_assign = var_at ∙ on_yes m Lexeme.Assign (start_of (λ x. var shape (ident_tree i) (present x) true (place shape))) (var_equal shape (ident_tree i)) a b q some took
-
-    pub var_changing_fails : (new : List Token) (fault : Fault) → Tells expr_tree m (part an_expr) (Err fault) b new → TellsFault fault new (read m (var_tail shape) (plain_tokens old))
-    var_changing_fails new fault h = fault_on fault new _ _ behind_assign (invoke_fails m (part an_expr) (λ x. give (var shape (ident_tree i) (present x) true (place shape))) b new fault h)
-
-    pub var_changing : (x : Expr) (new : List Token) → Tells expr_tree m (part an_expr) (Ok x) b new → read m (var_tail shape) (plain_tokens old) ≡ Gave (var shape (ident_tree i) (present (expr_tree x)) true (place shape)) (plain_tokens new)
-    var_changing x new h = behind_assign ∙ invoke_yes m (part an_expr) (λ y. give (var shape (ident_tree i) (present y) true (place shape))) (expr_tree x) b new h
+  pub var_assign : (q : ℕ) (b : List Token) → stands (same_word Lexeme.Assign) a ≡ true → Took Lexeme.Assign q a b → read m (var_tail shape) (plain_tokens old) ≡ exec read m (value_then (λ x. var shape (ident_tree i) (present x) true (place shape))) (plain_tokens b)
+  var_assign q b some took = var_at ∙ on_yes m Lexeme.Assign (value_then (λ x. var shape (ident_tree i) (present x) true (place shape))) (var_equal shape (ident_tree i)) a b q some took
 
   module _ (no_assign : stands (same_word Lexeme.Assign) a ≡ false) where
     at_equal : read m (var_tail shape) (plain_tokens old) ≡ exec read m (var_equal shape (ident_tree i)) (plain_tokens a)
-    at_equal = var_at ∙ on_no m Lexeme.Assign (start_of (λ x. var shape (ident_tree i) (present x) true (place shape))) (var_equal shape (ident_tree i)) a no_assign
+    at_equal = var_at ∙ on_no m Lexeme.Assign (value_then (λ x. var shape (ident_tree i) (present x) true (place shape))) (var_equal shape (ident_tree i)) a no_assign
 
     pub var_plain : stands (same_word Lexeme.Equal) a ≡ false → read m (var_tail shape) (plain_tokens old) ≡ Gave (var shape (ident_tree i) absent true (place shape)) (plain_tokens a)
-    var_plain none = at_equal ∙ on_no m Lexeme.Equal (start_of (λ x. var shape (ident_tree i) (present x) false (place shape))) (give (var shape (ident_tree i) absent true (place shape))) a none
+    var_plain none = at_equal ∙ on_no m Lexeme.Equal (value_then (λ x. var shape (ident_tree i) (present x) false (place shape))) (give (var shape (ident_tree i) absent true (place shape))) a none
 
-    module _ (q : ℕ) (b : List Token) (some : stands (same_word Lexeme.Equal) a ≡ true) (took : Took Lexeme.Equal q a b) where
-      behind_equal : read m (var_tail shape) (plain_tokens old) ≡ exec read m (start_of (λ x. var shape (ident_tree i) (present x) false (place shape))) (plain_tokens b)
-      behind_equal = at_equal ∙ on_yes m Lexeme.Equal (start_of (λ x. var shape (ident_tree i) (present x) false (place shape))) (give (var shape (ident_tree i) absent true (place shape))) a b q some took
+    pub var_constant : (q : ℕ) (b : List Token) → stands (same_word Lexeme.Equal) a ≡ true → Took Lexeme.Equal q a b → read m (var_tail shape) (plain_tokens old) ≡ exec read m (value_then (λ x. var shape (ident_tree i) (present x) false (place shape))) (plain_tokens b)
+    var_constant q b some took = at_equal ∙ on_yes m Lexeme.Equal (value_then (λ x. var shape (ident_tree i) (present x) false (place shape))) (give (var shape (ident_tree i) absent true (place shape))) a b q some took
 
-      pub var_constant_fails : (new : List Token) (fault : Fault) → Tells expr_tree m (part an_expr) (Err fault) b new → TellsFault fault new (read m (var_tail shape) (plain_tokens old))
-      var_constant_fails new fault h = fault_on fault new _ _ behind_equal (invoke_fails m (part an_expr) (λ x. give (var shape (ident_tree i) (present x) false (place shape))) b new fault h)
+-- a first value
 
-      pub var_constant : (x : Expr) (new : List Token) → Tells expr_tree m (part an_expr) (Ok x) b new → read m (var_tail shape) (plain_tokens old) ≡ Gave (var shape (ident_tree i) (present (expr_tree x)) false (place shape)) (plain_tokens new)
-      var_constant x new h = behind_equal ∙ invoke_yes m (part an_expr) (λ y. give (var shape (ident_tree i) (present y) false (place shape))) (expr_tree x) b new h
+pub value_fails : {A : Type 0} (view : A → Tree) (m : ℕ) (make : Tree → Tree) (old new : List Token) (fault : Fault) → Tells expr_tree m (part an_expr) (Err fault) old new → Does view m (value_then make) (Err fault) old new
+value_fails view m make old new fault h = invoke_fails m (part an_expr) (λ x. give (make x)) old new fault h
+
+pub value_read : (m : ℕ) (make : Tree → Tree) (x : Expr) (old new : List Token) → Tells expr_tree m (part an_expr) (Ok x) old new → exec read m (value_then make) (plain_tokens old) ≡ Gave (make (expr_tree x)) (plain_tokens new)
+value_read m make x old new h = invoke_yes m (part an_expr) (λ y. give (make y)) (expr_tree x) old new h
+
+-- what the rest of a rule does is what a program does
+pub tells_rest : {A : Type 0} (view : A → Tree) (m : ℕ) (r : Rule) (n : Step) (old mid new : List Token) (o : Result A Fault) → read m r (plain_tokens old) ≡ exec read m n (plain_tokens mid) → Does view m n o mid new → Tells view m r o old new
+tells_rest view m r n old mid new (Ok x) e h = e ∙ h
+tells_rest view m r n old mid new (Err fault) e h = fault_on fault new _ _ e h
 
 -- a variable
 
@@ -93,7 +90,7 @@ some_vars_at m q old mid some took = read_is m (part some_vars) (plain_tokens ol
 -- a parameter
 
 abbrev param_next : Tree → Placed → Step
-param_next shape t = on Lexeme.Equal (start_of (λ x. param shape (ident_of t) (present x) (place shape))) (give (param shape (ident_of t) absent (place shape)))
+param_next shape t = on Lexeme.Equal (value_then (λ x. param shape (ident_of t) (present x) (place shape))) (give (param shape (ident_of t) absent (place shape)))
 
 abbrev param_named : Tree → Step
 param_named shape = named (param_next shape)
@@ -113,11 +110,11 @@ module _ (m : ℕ) (shape : Tree) (old a : List Token) (got_type : read m (part 
     param_behind = param_at ∙ named_yes m (param_next shape) i a b got_name
 
     pub param_plain : stands (same_word Lexeme.Equal) b ≡ false → read m (part a_param) (plain_tokens old) ≡ Gave (param shape (ident_tree i) absent (place shape)) (plain_tokens b)
-    param_plain none = param_behind ∙ on_no m Lexeme.Equal (start_of (λ x. param shape (ident_tree i) (present x) (place shape))) (give (param shape (ident_tree i) absent (place shape))) b none
+    param_plain none = param_behind ∙ on_no m Lexeme.Equal (value_then (λ x. param shape (ident_tree i) (present x) (place shape))) (give (param shape (ident_tree i) absent (place shape))) b none
 
     module _ (q : ℕ) (c : List Token) (some : stands (same_word Lexeme.Equal) b ≡ true) (took : Took Lexeme.Equal q b c) where
-      param_start : read m (part a_param) (plain_tokens old) ≡ exec read m (start_of (λ x. param shape (ident_tree i) (present x) (place shape))) (plain_tokens c)
-      param_start = param_behind ∙ on_yes m Lexeme.Equal (start_of (λ x. param shape (ident_tree i) (present x) (place shape))) (give (param shape (ident_tree i) absent (place shape))) b c q some took
+      param_start : read m (part a_param) (plain_tokens old) ≡ exec read m (value_then (λ x. param shape (ident_tree i) (present x) (place shape))) (plain_tokens c)
+      param_start = param_behind ∙ on_yes m Lexeme.Equal (value_then (λ x. param shape (ident_tree i) (present x) (place shape))) (give (param shape (ident_tree i) absent (place shape))) b c q some took
 
       pub param_no_start : (new : List Token) (fault : Fault) → Tells expr_tree m (part an_expr) (Err fault) c new → TellsFault fault new (read m (part a_param) (plain_tokens old))
       param_no_start new fault h = fault_on fault new _ _ param_start (invoke_fails m (part an_expr) (λ x. give (param shape (ident_tree i) (present x) (place shape))) c new fault h)

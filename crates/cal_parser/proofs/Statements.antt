@@ -13,7 +13,7 @@ use Rattle.cal_lexer.specs.Lexeme.{Lexeme, Placed, placed, plain_tokens}
 use Rattle.cal_lexer.specs.declared.token.Token.{Token}
 use Rattle.cal_parser.specs.Cursor.{Took, TookName, TookWord, TookEnd, Stays, stands}
 use Rattle.cal_parser.specs.Operators.{ends}
-use Rattle.cal_parser.specs.Pieces.{expr_then, body_then, vars_then, range_then, call_rest, assign_rest, Does, DoesIf, Leads, LeadsRange}
+use Rattle.cal_parser.specs.Pieces.{expr_then, body_then, vars_then, range_then, call_rest, assign_rest, else_rest, Does, DoesIf, Leads, LeadsRange}
 use Rattle.cal_parser.specs.Rules.{part, read, Step, on, expect, named, finish, first, starts_stmt, stmt_body, named_stmt_body, if_stmt_body, while_body, foreach_body, block_body, otherwise_body, ident_of}
 use Rattle.cal_parser.specs.Spells.{Part, comma, separated, any, repeated, a_type, a_var, a_place, a_stmt, an_expr, otherwise}
 use Rattle.cal_parser.specs.Tells.{Tells, TellsFault, each}
@@ -329,8 +329,17 @@ from_elsif = first Lexeme.Elsif (if_stmt_body (λ x. present (cons x nil))) fail
 abbrev else_next : Tree → Step
 else_next ys = finish Lexeme.If (give (present ys))
 
+pub else_fails : (m : ℕ) (old new : List Token) (fault : Fault) → Tells (each stmt_tree) m (part (repeated a_stmt)) (Err fault) old new → Does body_tree m else_rest (Err fault) old new
+else_fails m old new fault h = invoke_fails m (part (repeated a_stmt)) else_next old new fault h
+
+pub else_unfinished : (m : ℕ) (ys : Vec Stmt Global) (old a new : List Token) → Tells (each stmt_tree) m (part (repeated a_stmt)) (Ok ys) old a → Stays (ends Lexeme.If) a new → exec read m else_rest (plain_tokens old) ≡ Refused (plain_tokens new)
+else_unfinished m ys old a new h none = invoke_yes m (part (repeated a_stmt)) else_next (each stmt_tree ys) old a h ∙ finish_no m Lexeme.If (give (present (each stmt_tree ys))) a new none
+
+pub else_read : (m : ℕ) (ys : Vec Stmt Global) (old a new : List Token) → Tells (each stmt_tree) m (part (repeated a_stmt)) (Ok ys) old a → TookEnd Lexeme.If a new → exec read m else_rest (plain_tokens old) ≡ Gave (present (each stmt_tree ys)) (plain_tokens new)
+else_read m ys old a new h done = invoke_yes m (part (repeated a_stmt)) else_next (each stmt_tree ys) old a h ∙ finish_yes m Lexeme.If (give (present (each stmt_tree ys))) a new done
+
 abbrev from_else : Step
-from_else = on Lexeme.Else (invoke (part (repeated a_stmt)) else_next) from_elsif
+from_else = on Lexeme.Else else_rest from_elsif
 
 pub other_none : (m : ℕ) (old new : List Token) → TookEnd Lexeme.If old new → read m (part otherwise) (plain_tokens old) ≡ Gave absent (plain_tokens new)
 other_none m old new h = read_is m (part otherwise) (plain_tokens old) ∙ end_yes m Lexeme.If (give absent) from_else old new h
@@ -339,26 +348,12 @@ module _ (m : ℕ) (old a : List Token) (no_end : Stays (ends Lexeme.If) old a) 
   at_else : read m (part otherwise) (plain_tokens old) ≡ exec read m from_else (plain_tokens a)
   at_else = read_is m (part otherwise) (plain_tokens old) ∙ end_no m Lexeme.If (take (λ t. give absent)) from_else old a no_end
 
-  module _ (q : ℕ) (b : List Token) (some : stands (same_word Lexeme.Else) a ≡ true) (took : Took Lexeme.Else q a b) where
-    behind_else : read m (part otherwise) (plain_tokens old) ≡ exec read m (invoke (part (repeated a_stmt)) else_next) (plain_tokens b)
-    behind_else = at_else ∙ on_yes m Lexeme.Else (invoke (part (repeated a_stmt)) else_next) from_elsif a b q some took
-
-    pub else_fails : (new : List Token) (fault : Fault) → Tells (each stmt_tree) m (part (repeated a_stmt)) (Err fault) b new → Tells body_tree m (part otherwise) (Err fault) old new
-    else_fails new fault h = fault_on fault new _ _ behind_else (invoke_fails m (part (repeated a_stmt)) else_next b new fault h)
-
-    module _ (ys : Vec Stmt Global) (c : List Token) (got : Tells (each stmt_tree) m (part (repeated a_stmt)) (Ok ys) b c) where
-      at_end : read m (part otherwise) (plain_tokens old) ≡ exec read m (else_next (each stmt_tree ys)) (plain_tokens c)
-      at_end = behind_else ∙ invoke_yes m (part (repeated a_stmt)) else_next (each stmt_tree ys) b c got
-
-      pub else_unfinished : (new : List Token) → Stays (ends Lexeme.If) c new → read m (part otherwise) (plain_tokens old) ≡ Refused (plain_tokens new)
-      else_unfinished new h = at_end ∙ finish_no m Lexeme.If (give (present (each stmt_tree ys))) c new h
-
-      pub else_read : (new : List Token) → TookEnd Lexeme.If c new → read m (part otherwise) (plain_tokens old) ≡ Gave (present (each stmt_tree ys)) (plain_tokens new)
-      else_read new h = at_end ∙ finish_yes m Lexeme.If (give (present (each stmt_tree ys))) c new h
+  pub behind_else : (q : ℕ) (b : List Token) → stands (same_word Lexeme.Else) a ≡ true → Took Lexeme.Else q a b → read m (part otherwise) (plain_tokens old) ≡ exec read m else_rest (plain_tokens b)
+  behind_else q b some took = at_else ∙ on_yes m Lexeme.Else else_rest from_elsif a b q some took
 
   module _ (no_else : stands (same_word Lexeme.Else) a ≡ false) where
     at_elsif : read m (part otherwise) (plain_tokens old) ≡ exec read m from_elsif (plain_tokens a)
-    at_elsif = at_else ∙ on_no m Lexeme.Else (invoke (part (repeated a_stmt)) else_next) from_elsif a no_else
+    at_elsif = at_else ∙ on_no m Lexeme.Else (else_rest from_elsif a no_else
 
     pub no_elsif : stands (same_word Lexeme.Elsif) a ≡ false → read m (part otherwise) (plain_tokens old) ≡ Refused (plain_tokens a)
     no_elsif none = at_elsif ∙ first_no m Lexeme.Elsif (if_stmt_body (λ x. present (cons x nil))) fail a none

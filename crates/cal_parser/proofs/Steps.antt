@@ -25,8 +25,8 @@ module _ (m : ℕ) where
   -- a word that may come
   pub on_yes : (w : Lexeme) (p other : Step) (old new : List Token) (q : ℕ) → stands (same_word w) old ≡ true → Took w q old new → exec read m (on w p other) (plain_tokens old) ≡ exec read m p (plain_tokens new)
   on_yes w p other old new q s e =
-      let open : exec read m (on w p other) (plain_tokens old) ≡ exec read m (take (λ t. p)) (plain_tokens old) = rw (s, exec) refl in
-      open ∙ ap (λ l. exec read m (take (λ t. p)) l) e
+      let goes : exec read m (on w p other) (plain_tokens old) ≡ exec read m (take (λ t. p)) (plain_tokens old) = rw (s, exec) refl in
+      goes ∙ ap (λ l. exec read m (take (λ t. p)) l) e
 
   pub on_no : (w : Lexeme) (p other : Step) (old : List Token) → stands (same_word w) old ≡ false → exec read m (on w p other) (plain_tokens old) ≡ exec read m other (plain_tokens old)
   on_no w p other old s = rw (s, exec) refl
@@ -108,5 +108,5 @@ module _ (m : ℕ) where
   pub first_yes : (w : Lexeme) (next : Placed → Step) (other : Step) (old new : List Token) (q : ℕ) → 1 ≤ m → stands (same_word w) old ≡ true → Took w q old new → exec read m (first w next other) (plain_tokens old) ≡ exec read m (next (placed w q)) (plain_tokens new)
   first_yes w next other old new q low some e =
       let fits : nat_le 1 m ≡ true = le-leb 1 m (omega arith) in
-      let open : exec read m (first w next other) (plain_tokens old) ≡ exec read m (take next) (plain_tokens old) = rw (some, fits, exec) refl in
-      open ∙ ap (λ l. exec read m (take next) l) e
+      let goes : exec read m (first w next other) (plain_tokens old) ≡ exec read m (take next) (plain_tokens old) = rw (some, fits, exec) refl in
+      goes ∙ ap (λ l. exec read m (take next) l) e

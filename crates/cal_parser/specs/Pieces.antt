@@ -1,7 +1,7 @@
 -- Pieces of the rules that functions of their own read: the rest of a rule, or its front.
 use Rattle.std.specs.Prelude.{◌≡◌, ℕ, List, Result, Ok, Err, string_bytes}
-use Rattle.look_ahead.specs.Program.{Gave, exec, give, enter}
-use Rattle.cal_ast.specs.Tree.{Tree, nil, assign, call_stmt}
+use Rattle.look_ahead.specs.Program.{Gave, exec, give, invoke, enter}
+use Rattle.cal_ast.specs.Tree.{Tree, nil, present, assign, call_stmt}
 use Rattle.cal_ast.specs.View.{ident_tree, type_tree, expr_tree, stmt_tree}
 use Rattle.cal_ast.specs.declared.ident.Ident.{Ident}
 use Rattle.cal_ast.specs.declared.stmt.Stmt.{Stmt}
@@ -12,6 +12,14 @@ use Rattle.cal_parser.specs.declared.stmts.Bounds.{Bounds}
 use Rattle.cal_parser.specs.Spells.{comma, separated, any, repeated, a_type, a_var, a_place, a_stmt, an_expr}
 use Rattle.cal_parser.specs.Rules.{part, Step, read, on, expect, named, finish, ident_of, if_stmt_body}
 use Rattle.cal_parser.specs.Tells.{TellsFault}
+
+-- an expression, and what is made of it
+abbrev pub value_then : (Tree → Tree) → Step
+value_then make = invoke (part an_expr) (λ x. give (make x))
+
+-- the statements behind `else`, with the end of the `if`
+abbrev pub else_rest : Step
+else_rest = invoke (part (repeated a_stmt)) (λ ys. finish Lexeme.If (give (present ys)))
 
 -- an expression with a word behind it
 abbrev pub expr_then : Lexeme → (Tree → Step) → Step

@@ -1,7 +1,11 @@
 //! What is declared: variables, parameters and ports.
 
-ghost use Rattle.std.specs.Prelude.{◌≡◌, map, option_map};
-ghost use Rattle.cal_ast.specs.View.{param_tree, port_tree, type_tree, var_tree};
+ghost use Rattle.std.specs.Prelude.{◌≡◌};
+ghost use Rattle.cal_ast.specs.Tree as tree;
+ghost use Rattle.cal_ast.specs.Tree.{present};
+ghost use Rattle.cal_ast.specs.View.{ident_tree, param_tree, port_tree, type_tree, var_tree};
+ghost use Rattle.cal_parser.specs.Operators.{place};
+ghost use Rattle.cal_parser.specs.Pieces.{Does, value_then};
 ghost use Rattle.cal_parser.specs.Rules.{part, var_tail};
 ghost use Rattle.cal_parser.specs.Spells.{a_param, a_port, a_var, any, comma, some_vars as some_vars_part};
 ghost use Rattle.cal_parser.specs.Tells.{Tells, each};
@@ -13,7 +17,7 @@ use crate::lists::{Read, any, separated};
 use crate::names::Separator;
 use crate::types::type_expr;
 use crate::word::Word;
-use cal_ast::{Param, PortDecl, TypeExpr, VarDecl};
+use cal_ast::{Ident, Param, PortDecl, TypeExpr, VarDecl};
 use cal_lexer::Token;
 use std::alloc::Global;
 
@@ -34,30 +38,16 @@ pub fn var_after(
 ) -> Result<VarDecl, Fault>
     ensures { Tells var_tree room (var_tail (type_tree shape)) result tokens.old.now tokens.new.now }
 {
-    let at = shape.at;
     let name = name(alloc, tokens)?;
     if is_word(tokens, Word::Assign) {
         take_word(tokens, Word::Assign);
-        let start = Some(expr(alloc, tokens, room)?);
-        return Ok(VarDecl {
-            shape,
-            name,
-            start,
-            changes: true,
-            at,
-        });
+        return var_with_start(alloc, tokens, room, shape, name, true);
     }
     if is_word(tokens, Word::Equal) {
         take_word(tokens, Word::Equal);
-        let start = Some(expr(alloc, tokens, room)?);
-        return Ok(VarDecl {
-            shape,
-            name,
-            start,
-            changes: false,
-            at,
-        });
+        return var_with_start(alloc, tokens, room, shape, name, false);
     }
+    let at = place_of(&shape);
     Ok(VarDecl {
         shape,
         name,
@@ -65,6 +55,35 @@ pub fn var_after(
         changes: true,
         at,
     })
+}
+
+/// The first value of a variable, which makes it whole.
+fn var_with_start(
+    alloc: Global,
+    tokens: &mut &[Token],
+    room: u32,
+    shape: TypeExpr,
+    name: Ident,
+    changes: bool,
+) -> Result<VarDecl, Fault>
+    ensures { Does var_tree room (value_then (λ x. tree.var (type_tree shape) (ident_tree name) (present x) changes (place (type_tree shape)))) result tokens.old.now tokens.new.now }
+{
+    let start = expr(alloc, tokens, room)?;
+    let at = place_of(&shape);
+    Ok(VarDecl {
+        shape,
+        name,
+        start: Some(start),
+        changes,
+        at,
+    })
+}
+
+/// The offset of a type.
+fn place_of(shape: &TypeExpr) -> u32
+    ensures { result ≡ place (type_tree shape.now) }
+{
+    shape.at
 }
 
 impl Read for VarDecl {
@@ -100,22 +119,22 @@ pub fn param(alloc: Global, tokens: &mut &[Token], room: u32) -> Result<Param, F
     ensures { Tells param_tree room (part a_param) result tokens.old.now tokens.new.now }
 {
     let shape = type_expr(alloc, tokens, room)?;
-    let at = shape.at;
+    let at = place_of(&shape);
     let name = name(alloc, tokens)?;
-    if is_word(tokens, Word::Equal) {
-        take_word(tokens, Word::Equal);
-        let start = Some(expr(alloc, tokens, room)?);
+    if !is_word(tokens, Word::Equal) {
         return Ok(Param {
             shape,
             name,
-            start,
+            start: None,
             at,
         });
     }
+    take_word(tokens, Word::Equal);
+    let start = expr(alloc, tokens, room)?;
     Ok(Param {
         shape,
         name,
-        start: None,
+        start: Some(start),
         at,
     })
 }
@@ -149,7 +168,7 @@ pub fn port(alloc: Global, tokens: &mut &[Token], room: u32) -> Result<PortDecl,
     ensures { Tells port_tree room (part a_port) result tokens.old.now tokens.new.now }
 {
     let shape = type_expr(alloc, tokens, room)?;
-    let at = shape.at;
+    let at = place_of(&shape);
     let name = name(alloc, tokens)?;
     Ok(PortDecl { shape, name, at })
 }

@@ -60,11 +60,10 @@ pub fn separated<T: Read>(
 pub fn any<T: Read>(alloc: Global, tokens: &mut &[Token], room: u32) -> Result<Vec<T>, Fault>
     ensures { Tells (each T.tree) room (part (any comma T.part)) result tokens.old.now tokens.new.now }
 {
-    if T::starts(tokens) {
-        separated::<T>(alloc, tokens, room, Separator::Comma)
-    } else {
-        Ok(Vec::new(alloc))
+    if !T::starts(tokens) {
+        return Ok(Vec::new(alloc));
     }
+    separated::<T>(alloc, tokens, room, Separator::Comma)
 }
 
 /// Any number of parts, one behind the other.

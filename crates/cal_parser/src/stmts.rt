@@ -50,29 +50,18 @@ pub fn stmts(alloc: Global, tokens: &mut &[Token], room: u32) -> Result<Vec<Stmt
 {
     let mut found = Vec::new(alloc);
     'all: while is_stmt(tokens) {
+        if room == 0 {
+            return Err(Fault::TooHigh);
+        }
         let next = stmt(alloc, tokens, room)?;
         found.push(next)?;
     }
     Ok(found)
 }
 
-/// A statement.
-#[cycle(stmt)]
-fn stmt(alloc: Global, tokens: &mut &[Token], room: u32) -> Result<Stmt, Fault>
-    ensures { Tells stmt_tree room (part a_stmt) result tokens.old.now tokens.new.now }
-{
-    if !is_stmt(tokens) {
-        return Err(Fault::Refused);
-    }
-    if room == 0 {
-        return Err(Fault::TooHigh);
-    }
-    low_stmt(alloc, tokens, room)
-}
-
 /// A statement, where there is room for one.
 #[cycle(stmt)]
-fn low_stmt(alloc: Global, tokens: &mut &[Token], room: u32) -> Result<Stmt, Fault>
+fn stmt(alloc: Global, tokens: &mut &[Token], room: u32) -> Result<Stmt, Fault>
     requires { 1 ≤ room }
     ensures { Tells stmt_tree room (part a_stmt) result tokens.old.now tokens.new.now }
 {
@@ -123,11 +112,7 @@ fn otherwise(alloc: Global, tokens: &mut &[Token], room: u32) -> Result<Option<V
     }
     if is_word(tokens, Word::Else) {
         take_word(tokens, Word::Else);
-        let no = stmts(alloc, tokens, room)?;
-        if !finish(tokens, Word::If) {
-            return Err(Fault::Refused);
-        }
-        return Ok(Some(no));
+        return else_rest(alloc, tokens, room);
     }
     if !is_word(tokens, Word::Elsif) {
         return Err(Fault::Refused);
@@ -136,8 +121,22 @@ fn otherwise(alloc: Global, tokens: &mut &[Token], room: u32) -> Result<Option<V
         return Err(Fault::TooHigh);
     }
     let at = take_word(tokens, Word::Elsif);
-    let no = if_rest(alloc, tokens, room, at)?;
-    Ok(Some(vec![in alloc; no]?))
+    let test = if_rest(alloc, tokens, room, at)?;
+    let mut no = Vec::new(alloc);
+    no.push(test)?;
+    Ok(Some(no))
+}
+
+/// What stands behind `else`, up to the end of the `if`.
+#[cycle(stmt)]
+fn else_rest(alloc: Global, tokens: &mut &[Token], room: u32) -> Result<Option<Vec<Stmt>>, Fault>
+    ensures { Does body_tree room pieces.else_rest result tokens.old.now tokens.new.now }
+{
+    let no = stmts(alloc, tokens, room)?;
+    if !finish(tokens, Word::If) {
+        return Err(Fault::Refused);
+    }
+    Ok(Some(no))
 }
 
 /// A `while` behind its first word.
@@ -160,19 +159,14 @@ fn foreach_rest(alloc: Global, tokens: &mut &[Token], room: u32, at: u32) -> Res
     requires { 1 ≤ room }
     ensures { Does stmt_tree room (foreach_body (placed Lexeme.Foreach at)) result tokens.old.now tokens.new.now }
 {
-    let Bounds {
-        shape,
-        name,
-        from,
-        to,
-    } = range(alloc, tokens, room)?;
+    let over = range(alloc, tokens, room)?;
     let body = body_before(alloc, tokens, room, Word::Foreach)?;
     Ok(Stmt {
         form: StmtForm::Foreach {
-            shape,
-            name,
-            from,
-            to,
+            shape: over.shape,
+            name: over.name,
+            from: over.from,
+            to: over.to,
             body,
         },
         at,
@@ -284,12 +278,12 @@ fn call_rest(
     requires { 1 ≤ room }
     ensures { Does stmt_tree room (pieces.call_rest (ident_tree name) name.at) result tokens.old.now tokens.new.now }
 {
-    let args = args(alloc, tokens, room - 1)?;
+    let given = args(alloc, tokens, room - 1)?;
     expect(tokens, Word::RightParen)?;
     expect(tokens, Word::Semicolon)?;
     let at = name.at;
     Ok(Stmt {
-        form: StmtForm::Call { name, args },
+        form: StmtForm::Call { name, args: given },
         at,
     })
 }
@@ -304,14 +298,14 @@ fn assign_rest(
     requires { 1 ≤ room }
     ensures { Does stmt_tree room (pieces.assign_rest (ident_tree name) name.at) result tokens.old.now tokens.new.now }
 {
-    let places = places(alloc, tokens, room - 1)?;
+    let found = places(alloc, tokens, room - 1)?;
     expect(tokens, Word::Assign)?;
     let value = expr_before(alloc, tokens, room, Word::Semicolon)?;
     let at = name.at;
     Ok(Stmt {
         form: StmtForm::Assign {
             name,
-            places,
+            places: found,
             value,
         },
         at,

@@ -14,14 +14,14 @@ decreases-stmts-all l = length l.tokens.now
 abbrev pub decreases-otherwise : goal.decreases-otherwise
 decreases-otherwise l = l.room * 6 + 5
 
+abbrev pub decreases-else_rest : goal.decreases-else_rest
+decreases-else_rest l = l.room * 6 + 4
+
 abbrev pub decreases-stmts : goal.decreases-stmts
-decreases-stmts l = l.room * 6 + 4
+decreases-stmts l = l.room * 6 + 3
 
 abbrev pub decreases-stmt : goal.decreases-stmt
-decreases-stmt l = l.room * 6 + 3
-
-abbrev pub decreases-low_stmt : goal.decreases-low_stmt
-decreases-low_stmt l = l.room * 6 + 2
+decreases-stmt l = l.room * 6 + 2
 
 abbrev pub decreases-if_rest : goal.decreases-if_rest
 decreases-if_rest l = l.room * 6 + 1
