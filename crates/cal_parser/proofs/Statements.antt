@@ -353,7 +353,7 @@ module _ (m : ℕ) (old a : List Token) (no_end : Stays (ends Lexeme.If) old a) 
 
   module _ (no_else : stands (same_word Lexeme.Else) a ≡ false) where
     at_elsif : read m (part otherwise) (plain_tokens old) ≡ exec read m from_elsif (plain_tokens a)
-    at_elsif = at_else ∙ on_no m Lexeme.Else (else_rest from_elsif a no_else
+    at_elsif = at_else ∙ on_no m Lexeme.Else else_rest from_elsif a no_else
 
     pub no_elsif : stands (same_word Lexeme.Elsif) a ≡ false → read m (part otherwise) (plain_tokens old) ≡ Refused (plain_tokens a)
     no_elsif none = at_elsif ∙ first_no m Lexeme.Elsif (if_stmt_body (λ x. present (cons x nil))) fail a none

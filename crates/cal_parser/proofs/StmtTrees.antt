@@ -7,7 +7,7 @@ use Rattle.cal_ast.specs.declared.expr.TypeExpr.{TypeExpr}
 use Rattle.cal_ast.specs.declared.ident.Ident.{Ident}
 use Rattle.cal_ast.specs.declared.member.VarDecl.{VarDecl}
 use Rattle.cal_ast.specs.declared.stmt.Stmt.{Stmt}
-use Rattle.cal_ast.specs.declared.stmt.StmtForm.{Assign, Call, If, While, Foreach, Block}
+use Rattle.cal_ast.specs.declared.stmt.StmtForm.{StmtForm, Assign, Call, If, While, Foreach, Block}
 use Rattle.cal_ast.specs.declared.stmt.StmtForm as stmts
 use Rattle.cal_ast.specs.declared.stmt.StmtForm.TheVariants.{rolls-If}
 use Rattle.cal_ast.specs.declared.stmt.StmtForm.TheOpen.{StmtForm-F}
@@ -18,8 +18,11 @@ form_if test first None at = search (rules, stmts.the_lemmas)
 form_if test first (Some other) at =
     ap (λ f. stmt_form_tree f at) (sym (rolls-If test first (Some other))) ∙ ap (λ f. f at) (fold-roll-StmtForm (ℕ → Tree) Tree stmt_form_step stmt_step (StmtForm-F.If test first (Some other)))
 
+of_form : (form : StmtForm) (at : ℕ) → stmt_tree (record { form = form; at = at }) ≡ stmt_form_tree form at
+of_form form at = search (rules, stmts.the_lemmas)
+
 pub tree_if : (test : Expr) (first : Vec Stmt Global) (other : Option (Vec Stmt Global)) (at : ℕ) → stmt_tree (record { form = If test first other; at = at }) ≡ if_stmt (expr_tree test) (listed (map stmt_tree first.items)) (body_tree other) at
-tree_if test first other at = form_if test first other at
+tree_if test first other at = of_form (If test first other) at ∙ form_if test first other at
 
 pub tree_while : (test : Expr) (body : Vec Stmt Global) (at : ℕ) → stmt_tree (record { form = While test body; at = at }) ≡ while_stmt (expr_tree test) (listed (map stmt_tree body.items)) at
 tree_while test body at = search (rules, stmts.the_lemmas)

@@ -11,22 +11,22 @@ use cal_lexer::Token;
 use std::alloc::Global;
 
 /// An expression.
-pub fn expr(_alloc: Global, _tokens: &mut &[Token], _room: u32) -> Result<Expr, Fault>
-    ensures { Tells expr_tree _room (part an_expr) result _tokens.old.now _tokens.new.now }
+pub fn expr(alloc: Global, tokens: &mut &[Token], room: u32) -> Result<Expr, Fault>
+    ensures { Tells expr_tree room (part an_expr) result tokens.old.now tokens.new.now }
 {
     Err(Fault::Memory)
 }
 
 /// One expression or more, with commas between them.
-pub fn exprs(_alloc: Global, _tokens: &mut &[Token], _room: u32) -> Result<Vec<Expr>, Fault>
-    ensures { Tells (each expr_tree) _room (part (separated comma an_expr)) result _tokens.old.now _tokens.new.now }
+pub fn exprs(alloc: Global, tokens: &mut &[Token], room: u32) -> Result<Vec<Expr>, Fault>
+    ensures { Tells (each expr_tree) room (part (separated comma an_expr)) result tokens.old.now tokens.new.now }
 {
     Err(Fault::Memory)
 }
 
 /// Any number of expressions, with commas between them.
-pub fn args(_alloc: Global, _tokens: &mut &[Token], _room: u32) -> Result<Vec<Expr>, Fault>
-    ensures { Tells (each expr_tree) _room (part (any comma an_expr)) result _tokens.old.now _tokens.new.now }
+pub fn args(alloc: Global, tokens: &mut &[Token], room: u32) -> Result<Vec<Expr>, Fault>
+    ensures { Tells (each expr_tree) room (part (any comma an_expr)) result tokens.old.now tokens.new.now }
 {
     Err(Fault::Memory)
 }

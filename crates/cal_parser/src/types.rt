@@ -12,15 +12,15 @@ use cal_lexer::Token;
 use std::alloc::Global;
 
 /// A type.
-pub fn type_expr(_alloc: Global, _tokens: &mut &[Token], _room: u32) -> Result<TypeExpr, Fault>
-    ensures { Tells type_tree _room (part a_type) result _tokens.old.now _tokens.new.now }
+pub fn type_expr(alloc: Global, tokens: &mut &[Token], room: u32) -> Result<TypeExpr, Fault>
+    ensures { Tells type_tree room (part a_type) result tokens.old.now tokens.new.now }
 {
     Err(Fault::Memory)
 }
 
 /// A type behind its name.
-pub fn type_after(_alloc: Global, _tokens: &mut &[Token], _room: u32, name: Ident) -> Result<TypeExpr, Fault>
-    ensures { Tells type_tree _room (type_tail (string_bytes name.text) name.at) result _tokens.old.now _tokens.new.now }
+pub fn type_after(alloc: Global, tokens: &mut &[Token], room: u32, name: Ident) -> Result<TypeExpr, Fault>
+    ensures { Tells type_tree room (type_tail (string_bytes name.text) name.at) result tokens.old.now tokens.new.now }
 {
     Err(Fault::Memory)
 }

@@ -14,7 +14,7 @@ returns-in_err-shape c =
 
 pub returns-in_err-name : goal.returns-in_err-name
 returns-in_err-name c =
-    let same : c.from_residual.result ≡ Err c.in_err-name.field-0.0 = search rules in
+    let same : c.from_residual-in_err-name.result ≡ Err c.in_err-name.field-0.0 = search rules in
     rw same (param_no_name c.args.room (type_tree c.in_ok-shape.shape) c.args.tokens.now.now c.type_expr.new.tokens.now c.in_ok-shape.ensures c.name.new.tokens.now c.in_err-name.field-0.0 c.in_err-name.ensures)
 
 pub returns-then-not-is_word : goal.returns-then-not-is_word
@@ -24,7 +24,7 @@ returns-then-not-is_word c =
 
 pub returns-in_err-start : goal.returns-in_err-start
 returns-in_err-start c =
-    let same : c.from_residual.result ≡ Err c.in_err-start.field-0.0 = search rules in
+    let same : c.from_residual-in_err-start.result ≡ Err c.in_err-start.field-0.0 = search rules in
     rw same (param_no_start c.args.room (type_tree c.in_ok-shape.shape) c.args.tokens.now.now c.type_expr.new.tokens.now c.in_ok-shape.ensures c.in_ok-name.name c.name.new.tokens.now c.in_ok-name.ensures c.take_word.result c.take_word.new.tokens.now (sym c.is_word.ensures ∙ c.if-not-is_word.false) c.take_word.ensures c.expr.new.tokens.now c.in_err-start.field-0.0 c.in_err-start.ensures)
 
 pub returns : goal.returns

@@ -13,7 +13,7 @@ returns-in_err-shape c =
 
 pub returns-in_err-name : goal.returns-in_err-name
 returns-in_err-name c =
-    let same : c.from_residual.result ≡ Err c.in_err-name.field-0.0 = search rules in
+    let same : c.from_residual-in_err-name.result ≡ Err c.in_err-name.field-0.0 = search rules in
     rw same (port_no_name c.args.room (type_tree c.in_ok-shape.shape) c.args.tokens.now.now c.type_expr.new.tokens.now c.in_ok-shape.ensures c.name.new.tokens.now c.in_err-name.field-0.0 c.in_err-name.ensures)
 
 pub returns : goal.returns

@@ -79,12 +79,12 @@ if_rest-returns-in_err-test t c =
 
 pub if_rest-returns-in_err-yes : goal.if_rest-returns-in_err-yes
 if_rest-returns-in_err-yes t c =
-    let same : c.from_residual.result ≡ Err c.in_err-yes.field-0.0 = search rules in
+    let same : c.from_residual-in_err-yes.result ≡ Err c.in_err-yes.field-0.0 = search rules in
     rw same (if_no_first c.args.room c.args.at c.in_ok-test.test c.args.tokens.now.now c.expr_before.new.tokens.now c.in_ok-test.ensures c.stmts.new.tokens.now c.in_err-yes.field-0.0 c.in_err-yes.ensures)
 
 pub if_rest-returns-in_err-no : goal.if_rest-returns-in_err-no
 if_rest-returns-in_err-no t c =
-    let same : c.from_residual.result ≡ Err c.in_err-no.field-0.0 = search rules in
+    let same : c.from_residual-in_err-no.result ≡ Err c.in_err-no.field-0.0 = search rules in
     rw same (if_no_other c.args.room c.args.at c.in_ok-test.test c.args.tokens.now.now c.expr_before.new.tokens.now c.in_ok-test.ensures c.in_ok-yes.yes c.stmts.new.tokens.now c.in_ok-yes.ensures c.otherwise.new.tokens.now c.in_err-no.field-0.0 c.in_err-no.ensures)
 
 pub if_rest-returns : goal.if_rest-returns
@@ -138,7 +138,7 @@ while_rest-returns-in_err-test t c =
 
 pub while_rest-returns-in_err-body : goal.while_rest-returns-in_err-body
 while_rest-returns-in_err-body t c =
-    let same : c.from_residual.result ≡ Err c.in_err-body.field-0.0 = search rules in
+    let same : c.from_residual-in_err-body.result ≡ Err c.in_err-body.field-0.0 = search rules in
     rw same (while_no_body c.args.room c.args.at c.in_ok-test.test c.args.tokens.now.now c.expr_before.new.tokens.now c.body_before.new.tokens.now c.in_err-body.field-0.0 c.in_ok-test.ensures c.in_err-body.ensures)
 
 pub while_rest-returns : goal.while_rest-returns
@@ -153,7 +153,7 @@ foreach_rest-returns-in_err-over t c =
 
 pub foreach_rest-returns-in_err-body : goal.foreach_rest-returns-in_err-body
 foreach_rest-returns-in_err-body t c =
-    let same : c.from_residual.result ≡ Err c.in_err-body.field-0.0 = search rules in
+    let same : c.from_residual-in_err-body.result ≡ Err c.in_err-body.field-0.0 = search rules in
     rw same (foreach_no_body c.args.room c.args.at c.in_ok-over.over c.args.tokens.now.now c.range.new.tokens.now c.body_before.new.tokens.now c.in_err-body.field-0.0 c.in_ok-over.ensures c.in_err-body.ensures)
 
 pub foreach_rest-returns : goal.foreach_rest-returns
@@ -168,7 +168,7 @@ block_rest-returns-in_err-vars t c =
 
 pub block_rest-returns-in_err-body : goal.block_rest-returns-in_err-body
 block_rest-returns-in_err-body t c =
-    let same : c.from_residual.result ≡ Err c.in_err-body.field-0.0 = search rules in
+    let same : c.from_residual-in_err-body.result ≡ Err c.in_err-body.field-0.0 = search rules in
     rw same (block_no_body c.args.room c.args.at c.in_ok-vars.vars c.args.tokens.now.now c.block_vars.new.tokens.now c.body_before.new.tokens.now c.in_err-body.field-0.0 c.in_ok-vars.ensures c.in_err-body.ensures)
 
 pub block_rest-returns : goal.block_rest-returns

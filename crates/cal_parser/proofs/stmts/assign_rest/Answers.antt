@@ -12,12 +12,12 @@ returns-in_err-found c =
 
 pub returns-in_err-expect : goal.returns-in_err-expect
 returns-in_err-expect c =
-    let same : c.from_residual.result ≡ Err c.in_err-expect.field-0.0 = search rules in
+    let same : c.from_residual-in_err-expect.result ≡ Err c.in_err-expect.field-0.0 = search rules in
     rw same (assign_no_sign c.args.room c.args.name c.in_ok-found.found c.args.tokens.now.now c.places.new.tokens.now c.in_ok-found.ensures c.expect.new.tokens.now c.in_err-expect.field-0.0 c.in_err-expect.ensures)
 
 pub returns-in_err-value : goal.returns-in_err-value
 returns-in_err-value c =
-    let same : c.from_residual.result ≡ Err c.in_err-value.field-0.0 = search rules in
+    let same : c.from_residual-in_err-value.result ≡ Err c.in_err-value.field-0.0 = search rules in
     rw same (assign_no_value c.args.room c.args.name c.in_ok-found.found c.args.tokens.now.now c.places.new.tokens.now c.in_ok-found.ensures c.in_ok-expect.field-0 c.expect.new.tokens.now c.in_ok-expect.ensures c.expr_before.new.tokens.now c.in_err-value.field-0.0 c.in_err-value.ensures)
 
 pub returns : goal.returns

@@ -12,7 +12,7 @@ returns-in_err-vars c =
 
 pub returns-in_err-expect : goal.returns-in_err-expect
 returns-in_err-expect c =
-    let same : c.from_residual.result ≡ Err c.in_err-expect.field-0.0 = search rules in
+    let same : c.from_residual-in_err-expect.result ≡ Err c.in_err-expect.field-0.0 = search rules in
     rw same (vars_alone c.args.room c.take_word.result c.args.tokens.now.now c.take_word.new.tokens.now (sym c.is_word.ensures ∙ c.if-not-is_word.false) c.take_word.ensures c.in_ok-vars.vars c.separated.new.tokens.now c.expect.new.tokens.now c.in_err-expect.field-0.0 c.in_ok-vars.ensures c.in_err-expect.ensures)
 
 pub returns : goal.returns

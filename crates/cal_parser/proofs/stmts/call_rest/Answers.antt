@@ -12,12 +12,12 @@ returns-in_err-given c =
 
 pub returns-in_err-expect : goal.returns-in_err-expect
 returns-in_err-expect c =
-    let same : c.from_residual.result ≡ Err c.in_err-expect.field-0.0 = search rules in
+    let same : c.from_residual-in_err-expect.result ≡ Err c.in_err-expect.field-0.0 = search rules in
     rw same (call_open c.args.room c.args.name c.in_ok-given.given c.args.tokens.now.now c.args-given.new.tokens.now c.in_ok-given.ensures c.expect.new.tokens.now c.in_err-expect.field-0.0 c.in_err-expect.ensures)
 
 pub returns-in_err-expect-2 : goal.returns-in_err-expect-2
 returns-in_err-expect-2 c =
-    let same : c.from_residual.result ≡ Err c.in_err-expect-2.field-0.0 = search rules in
+    let same : c.from_residual-in_err-expect-2.result ≡ Err c.in_err-expect-2.field-0.0 = search rules in
     rw same (call_endless c.args.room c.args.name c.in_ok-given.given c.args.tokens.now.now c.args-given.new.tokens.now c.in_ok-given.ensures c.in_ok-expect.field-0 c.expect.new.tokens.now c.in_ok-expect.ensures c.expect-2.new.tokens.now c.in_err-expect-2.field-0.0 c.in_err-expect-2.ensures)
 
 pub returns : goal.returns
