@@ -10,6 +10,7 @@ use Rattle.cal_parser.specs.Word.{asked}
 use Rattle.cal_parser.specs.declared.fault.Fault.TheVariants as faults
 use Rattle.cal_parser.proofs.Loops.{again_more, again_none, again_fail, read_shorter}
 use Rattle.cal_parser.proofs.Statements.{body_fails, body_unfinished, body_read, tells_on, does_if, stmt_high, stmt_named, stmt_if, stmt_while, stmt_foreach, stmt_block, stmt_none, if_no_test, if_no_first, if_no_other, if_read, other_none, behind_else, no_elsif, elsif_high, elsif_fails, elsif_read, else_fails, else_unfinished, else_read, while_no_test, while_no_body, while_read, foreach_no_range, foreach_no_body, foreach_read, block_no_vars, block_no_body, block_read}
+use Rattle.cal_parser.proofs.Taking.{end_stood, none_stood}
 use Rattle.cal_parser.proofs.StmtTrees.{tree_if, tree_while, tree_foreach, tree_block}
 use Rattle.cal_parser.proofs.stmts.+stmt.Goals as goal
 
@@ -93,30 +94,30 @@ if_rest-returns t c = λ make w.
     ∙ ap (λ u. Gave (make u) (plain_tokens c.otherwise.new.tokens.now)) (sym (tree_if c.in_ok-test.test c.in_ok-yes.yes c.in_ok-no.no c.args.at))
 
 pub otherwise-returns-then-finish : goal.otherwise-returns-then-finish
-otherwise-returns-then-finish t c = other_none c.args.room c.args.tokens.now.now c.finish.new.tokens.now c.finish.ensures
+otherwise-returns-then-finish t c = other_none c.args.room c.args.tokens.now.now c.finish.new.tokens.now (end_stood Lexeme.If c.finish.result c.args.tokens.now.now c.finish.new.tokens.now c.finish.ensures c.if-finish.true)
 
 pub otherwise-returns-then-is_word : goal.otherwise-returns-then-is_word
 otherwise-returns-then-is_word t c =
     tells_on body_tree c.args.room otherwise else_rest c.args.tokens.now.now c.take_word.new.tokens.now c.else_rest.new.tokens.now c.else_rest.result
-    (behind_else c.args.room c.args.tokens.now.now c.finish.new.tokens.now c.finish.ensures c.take_word.result c.take_word.new.tokens.now (sym c.is_word.ensures ∙ c.if-is_word.true) c.take_word.ensures)
+    (behind_else c.args.room c.args.tokens.now.now c.finish.new.tokens.now (none_stood Lexeme.If c.finish.result c.args.tokens.now.now c.finish.new.tokens.now c.finish.ensures c.if-finish.false) c.take_word.result c.take_word.new.tokens.now (sym c.is_word.ensures ∙ c.if-is_word.true) c.take_word.ensures)
     c.else_rest.ensures
 
-pub otherwise-returns-then-not-is_word-2 : goal.otherwise-returns-then-not-is_word-2
-otherwise-returns-then-not-is_word-2 t c =
-    no_elsif c.args.room c.args.tokens.now.now c.finish.new.tokens.now c.finish.ensures (sym c.is_word.ensures ∙ c.if-is_word.false) (sym c.is_word-2.ensures ∙ c.if-not-is_word-2.true)
+pub otherwise-returns-then-not-is_word : goal.otherwise-returns-then-not-is_word
+otherwise-returns-then-not-is_word t c =
+    no_elsif c.args.room c.args.tokens.now.now c.finish.new.tokens.now (none_stood Lexeme.If c.finish.result c.args.tokens.now.now c.finish.new.tokens.now c.finish.ensures c.if-finish.false) (sym c.is_word.ensures ∙ c.if-is_word.false) (sym c.is_word-2.ensures ∙ c.if-not-is_word.true)
 
 pub otherwise-returns-then-room-eq0 : goal.otherwise-returns-then-room-eq0
 otherwise-returns-then-room-eq0 t c =
-    elsif_high c.args.room c.args.tokens.now.now c.finish.new.tokens.now c.finish.ensures (sym c.is_word.ensures ∙ c.if-is_word.false) (sym c.is_word-2.ensures ∙ c.if-not-is_word-2.false) c.if-room-eq0.true
+    elsif_high c.args.room c.args.tokens.now.now c.finish.new.tokens.now (none_stood Lexeme.If c.finish.result c.args.tokens.now.now c.finish.new.tokens.now c.finish.ensures c.if-finish.false) (sym c.is_word.ensures ∙ c.if-is_word.false) (sym c.is_word-2.ensures ∙ c.if-not-is_word.false) c.if-room-eq0.true
 
 pub otherwise-returns-in_err-test : goal.otherwise-returns-in_err-test
 otherwise-returns-in_err-test t c =
     let same : c.from_residual.result ≡ Err c.in_err-test.field-0.0 = search rules in
-    rw same (elsif_fails c.args.room c.args.tokens.now.now c.finish.new.tokens.now c.finish.ensures (sym c.is_word.ensures ∙ c.if-is_word.false) (sym c.is_word-2.ensures ∙ c.if-not-is_word-2.false) (omega (arith, c.if-room-eq0.false)) c.take_word-at.result c.take_word-at.new.tokens.now c.take_word-at.ensures c.if_rest.new.tokens.now c.in_err-test.field-0.0 c.in_err-test.ensures)
+    rw same (elsif_fails c.args.room c.args.tokens.now.now c.finish.new.tokens.now (none_stood Lexeme.If c.finish.result c.args.tokens.now.now c.finish.new.tokens.now c.finish.ensures c.if-finish.false) (sym c.is_word.ensures ∙ c.if-is_word.false) (sym c.is_word-2.ensures ∙ c.if-not-is_word.false) (omega (arith, c.if-room-eq0.false)) c.take_word-at.result c.take_word-at.new.tokens.now c.take_word-at.ensures c.if_rest.new.tokens.now c.in_err-test.field-0.0 c.in_err-test.ensures)
 
 pub otherwise-returns : goal.otherwise-returns
 otherwise-returns t c =
-    elsif_read c.args.room c.args.tokens.now.now c.finish.new.tokens.now c.finish.ensures (sym c.is_word.ensures ∙ c.if-is_word.false) (sym c.is_word-2.ensures ∙ c.if-not-is_word-2.false) (omega (arith, c.if-room-eq0.false)) c.take_word-at.result c.take_word-at.new.tokens.now c.take_word-at.ensures c.in_ok-test.test c.push.new.self c.if_rest.new.tokens.now (search rules) c.in_ok-test.ensures
+    elsif_read c.args.room c.args.tokens.now.now c.finish.new.tokens.now (none_stood Lexeme.If c.finish.result c.args.tokens.now.now c.finish.new.tokens.now c.finish.ensures c.if-finish.false) (sym c.is_word.ensures ∙ c.if-is_word.false) (sym c.is_word-2.ensures ∙ c.if-not-is_word.false) (omega (arith, c.if-room-eq0.false)) c.take_word-at.result c.take_word-at.new.tokens.now c.take_word-at.ensures c.in_ok-test.test c.push.new.self c.if_rest.new.tokens.now (search rules) c.in_ok-test.ensures
 
 pub else_rest-returns-in_err-no : goal.else_rest-returns-in_err-no
 else_rest-returns-in_err-no t c =
@@ -124,10 +125,10 @@ else_rest-returns-in_err-no t c =
     rw same (else_fails c.args.room c.args.tokens.now.now c.stmts.new.tokens.now c.in_err-no.field-0.0 c.in_err-no.ensures)
 
 pub else_rest-returns-then-not-finish : goal.else_rest-returns-then-not-finish
-else_rest-returns-then-not-finish t c = else_unfinished c.args.room c.in_ok-no.no c.args.tokens.now.now c.stmts.new.tokens.now c.finish.new.tokens.now c.in_ok-no.ensures c.finish.ensures
+else_rest-returns-then-not-finish t c = else_unfinished c.args.room c.in_ok-no.no c.args.tokens.now.now c.stmts.new.tokens.now c.finish.new.tokens.now c.in_ok-no.ensures (none_stood Lexeme.If c.finish.result c.stmts.new.tokens.now c.finish.new.tokens.now c.finish.ensures c.if-not-finish.true)
 
 pub else_rest-returns : goal.else_rest-returns
-else_rest-returns t c = else_read c.args.room c.in_ok-no.no c.args.tokens.now.now c.stmts.new.tokens.now c.finish.new.tokens.now c.in_ok-no.ensures c.finish.ensures
+else_rest-returns t c = else_read c.args.room c.in_ok-no.no c.args.tokens.now.now c.stmts.new.tokens.now c.finish.new.tokens.now c.in_ok-no.ensures (end_stood Lexeme.If c.finish.result c.stmts.new.tokens.now c.finish.new.tokens.now c.finish.ensures c.if-not-finish.false)
 
 -- the other statements
 
@@ -182,7 +183,7 @@ body_before-returns-in_err-found t c =
     rw same (body_fails c.args.room (asked c.args.opener) c.args.tokens.now.now c.stmts.new.tokens.now c.in_err-found.field-0.0 c.in_err-found.ensures)
 
 pub body_before-returns-then-not-finish : goal.body_before-returns-then-not-finish
-body_before-returns-then-not-finish t c = body_unfinished c.args.room (asked c.args.opener) c.in_ok-found.found c.args.tokens.now.now c.stmts.new.tokens.now c.finish.new.tokens.now c.in_ok-found.ensures c.finish.ensures
+body_before-returns-then-not-finish t c = body_unfinished c.args.room (asked c.args.opener) c.in_ok-found.found c.args.tokens.now.now c.stmts.new.tokens.now c.finish.new.tokens.now c.in_ok-found.ensures (none_stood (asked c.args.opener) c.finish.result c.stmts.new.tokens.now c.finish.new.tokens.now c.finish.ensures c.if-not-finish.true)
 
 pub body_before-returns : goal.body_before-returns
-body_before-returns t c = body_read c.args.room (asked c.args.opener) c.in_ok-found.found c.args.tokens.now.now c.stmts.new.tokens.now c.finish.new.tokens.now c.in_ok-found.ensures c.finish.ensures
+body_before-returns t c = body_read c.args.room (asked c.args.opener) c.in_ok-found.found c.args.tokens.now.now c.stmts.new.tokens.now c.finish.new.tokens.now c.in_ok-found.ensures (end_stood (asked c.args.opener) c.finish.result c.stmts.new.tokens.now c.finish.new.tokens.now c.finish.ensures c.if-not-finish.false)
