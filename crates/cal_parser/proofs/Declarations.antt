@@ -1,14 +1,11 @@
 -- Declarations: what the functions that read them do, exit by exit.
-use Rattle.std.proofs.Common.{◌≡◌, ℕ, Bool, true, false, List, [], map, Vec, Global, string_bytes, Result, Ok, Err, refl, sym, ap, ◌∙◌, rules}
-use Rattle.look_ahead.specs.Program.{Outcome, Gave, Refused, TooHigh, give, jump, invoke, exec}
+use Rattle.std.proofs.Common.{◌≡◌, ℕ, true, false, List, [], map, Vec, Global, string_bytes, Result, Ok, Err, sym, ap, ◌∙◌}
+use Rattle.look_ahead.specs.Program.{Gave, give, jump, exec}
 use Rattle.cal_ast.specs.Tree.{Tree, nil, present, absent, listed, var, param, port}
-use Rattle.cal_ast.specs.View.{expr_tree, ident_tree, type_tree, var_tree, param_tree, port_tree}
+use Rattle.cal_ast.specs.View.{expr_tree, ident_tree, var_tree}
 use Rattle.cal_ast.specs.declared.expr.Expr.{Expr}
-use Rattle.cal_ast.specs.declared.expr.TypeExpr.{TypeExpr}
 use Rattle.cal_ast.specs.declared.ident.Ident.{Ident}
 use Rattle.cal_ast.specs.declared.member.VarDecl.{VarDecl}
-use Rattle.cal_ast.specs.declared.member.Param.{Param}
-use Rattle.cal_ast.specs.declared.member.PortDecl.{PortDecl}
 use Rattle.cal_lexer.specs.Lexeme.{Lexeme, Placed, placed, plain_tokens}
 use Rattle.cal_lexer.specs.declared.token.Token.{Token}
 use Rattle.cal_parser.specs.Cursor.{Took, TookName, stands}

@@ -1,6 +1,6 @@
 -- Lists of values whose trees are read one after the other, in one room.
-use Rattle.std.proofs.Common.{◌≡◌, ℕ, suc, ◌+◌, ◌<◌, ◌≤◌, true, false, List, [], ◌∷◌, ◌++◌, map, length, refl, sym, ap, ◌∙◌, arith}
-use Rattle.look_ahead.specs.Program.{Outcome, Gave, Refused, TooHigh, Spent, ahead, exec, after}
+use Rattle.std.proofs.Common.{◌≡◌, ℕ, ◌+◌, ◌<◌, ◌≤◌, true, false, List, [], ◌∷◌, ◌++◌, map, length, refl, sym, ap, ◌∙◌, arith}
+use Rattle.look_ahead.specs.Program.{Gave, Refused, TooHigh, ahead, exec, after}
 use Rattle.cal_ast.specs.Tree.{Tree, nil, cons, listed}
 use Rattle.cal_lexer.specs.Lexeme.{Lexeme, Placed, placed, plain_tokens}
 use Rattle.cal_lexer.specs.declared.token.Token.{Token}
@@ -15,7 +15,7 @@ use Rattle.cal_parser.specs.declared.fault.Fault.TheVariants as faults
 use Rattle.cal_parser.proofs.Costs.{costs, takes}
 use Rattle.cal_parser.proofs.ListSteps
 use Rattle.cal_parser.proofs.Meets.{Meets}
-use Rattle.cal_parser.proofs.NameLists.{length-plain, took_less}
+use Rattle.cal_parser.proofs.NameLists.{length-plain}
 use Rattle.cal_parser.proofs.Reading.{read_is, read_keeps}
 use Rattle.cal_parser.proofs.Sound.{never_empty}
 

@@ -1,7 +1,7 @@
 -- Statements: what the functions that read them do, exit by exit.
-use Rattle.std.proofs.Common.{◌≡◌, ℕ, zero, suc, ◌-◌, ◌≤◌, Bool, true, false, nat_le, Result, List, [], ◌∷◌, map, Option, Some, None, Vec, Global, string_bytes, Ok, Err, refl, sym, ap, ◌∙◌, rules, arith}
+use Rattle.std.proofs.Common.{◌≡◌, ℕ, ◌-◌, ◌≤◌, true, false, nat_le, Result, List, [], ◌∷◌, map, Option, Some, Vec, Global, string_bytes, Ok, Err, refl, sym, ap, ◌∙◌, arith}
 use Rattle.std.proofs.lemmas.Bool.{le-leb}
-use Rattle.look_ahead.specs.Program.{Outcome, Gave, Refused, TooHigh, give, enter, take, check, ask, fail, invoke, ahead, exec}
+use Rattle.look_ahead.specs.Program.{Gave, Refused, TooHigh, give, enter, take, fail, invoke, ahead, exec}
 use Rattle.cal_ast.specs.Tree.{Tree, nil, cons, present, absent, listed, if_stmt, while_stmt, foreach_stmt, block, assign, call_stmt}
 use Rattle.cal_ast.specs.View.{body_tree, expr_tree, ident_tree, stmt_tree, type_tree, var_tree}
 use Rattle.cal_ast.specs.declared.expr.Expr.{Expr}
@@ -14,7 +14,7 @@ use Rattle.cal_lexer.specs.declared.token.Token.{Token}
 use Rattle.cal_parser.specs.Cursor.{Took, TookName, TookWord, TookEnd, Stays, stands}
 use Rattle.cal_parser.specs.Operators.{ends}
 use Rattle.cal_parser.specs.Pieces.{expr_then, body_then, vars_then, range_then, call_rest, assign_rest, else_rest, Does, DoesIf, Leads, LeadsRange}
-use Rattle.cal_parser.specs.Rules.{part, read, Step, on, expect, named, finish, first, starts_stmt, stmt_body, named_stmt_body, if_stmt_body, while_body, foreach_body, block_body, otherwise_body, ident_of}
+use Rattle.cal_parser.specs.Rules.{part, read, Step, on, expect, named, finish, first, starts_stmt, stmt_body, named_stmt_body, if_stmt_body, while_body, foreach_body, block_body, ident_of}
 use Rattle.cal_parser.specs.Spells.{Part, comma, separated, any, repeated, a_type, a_var, a_place, a_stmt, an_expr, otherwise}
 use Rattle.cal_parser.specs.Tells.{Tells, TellsFault, each}
 use Rattle.cal_parser.specs.Token.{here, names, same_word}

@@ -1,9 +1,8 @@
 -- What the code does at one step of a program, and how the program goes on.
-use Rattle.std.proofs.Common.{◌≡◌, ℕ, suc, ◌-◌, ◌≤◌, true, false, List, ◌∷◌, nat_le, string_bytes, Result, Ok, Err, refl, sym, ap, ◌∙◌, subst, arith}
+use Rattle.std.proofs.Common.{◌≡◌, ℕ, ◌-◌, ◌≤◌, true, false, List, ◌∷◌, nat_le, string_bytes, Err, refl, sym, ap, ◌∙◌, arith}
 use Rattle.std.proofs.lemmas.Bool.{le-leb}
-use Rattle.look_ahead.specs.Program.{Outcome, Gave, Refused, TooHigh, Spent, give, fail, ask, take, check, jump, invoke, enter, ahead, exec, after}
+use Rattle.look_ahead.specs.Program.{Outcome, Gave, Refused, ask, take, invoke, enter, exec, after}
 use Rattle.cal_ast.specs.Tree.{Tree}
-use Rattle.cal_ast.specs.View.{ident_tree}
 use Rattle.cal_ast.specs.declared.ident.Ident.{Ident}
 use Rattle.cal_lexer.specs.Lexeme.{Lexeme, Placed, placed, plain_tokens}
 use Rattle.cal_lexer.specs.declared.token.Token.{Token}

@@ -1,5 +1,5 @@
 -- The trees of statements.
-use Rattle.std.proofs.Common.{◌≡◌, ℕ, map, Vec, Global, Option, Some, None, refl, sym, ap, ◌∙◌, rules}
+use Rattle.std.proofs.Common.{◌≡◌, ℕ, map, Vec, Global, Option, Some, None, sym, ap, ◌∙◌, rules}
 use Rattle.cal_ast.specs.Tree.{Tree, listed, if_stmt, while_stmt, foreach_stmt, block, assign, call_stmt}
 use Rattle.cal_ast.specs.View.{body_tree, expr_tree, ident_tree, stmt_tree, stmt_form_tree, type_tree, var_tree, stmt_form_step, stmt_step}
 use Rattle.cal_ast.specs.declared.expr.Expr.{Expr}

@@ -1,11 +1,10 @@
 -- Pieces of the rules that functions of their own read: the rest of a rule, or its front.
-use Rattle.std.specs.Prelude.{◌≡◌, ℕ, List, Result, Ok, Err, string_bytes}
+use Rattle.std.specs.Prelude.{◌≡◌, ℕ, List, Result, Ok, Err}
 use Rattle.look_ahead.specs.Program.{Gave, exec, give, invoke, enter}
 use Rattle.cal_ast.specs.Tree.{Tree, nil, present, assign, call_stmt}
 use Rattle.cal_ast.specs.View.{ident_tree, type_tree, expr_tree, stmt_tree}
-use Rattle.cal_ast.specs.declared.ident.Ident.{Ident}
 use Rattle.cal_ast.specs.declared.stmt.Stmt.{Stmt}
-use Rattle.cal_lexer.specs.Lexeme.{Lexeme, Placed, placed, plain_tokens}
+use Rattle.cal_lexer.specs.Lexeme.{Lexeme, placed, plain_tokens}
 use Rattle.cal_lexer.specs.declared.token.Token.{Token}
 use Rattle.cal_parser.specs.declared.fault.Fault.{Fault}
 use Rattle.cal_parser.specs.declared.stmts.Bounds.{Bounds}

@@ -206,12 +206,7 @@ fn body_before(
 }
 
 /// An expression inside a statement, and the word behind it.
-fn expr_before(
-    alloc: Global,
-    tokens: &mut &[Token],
-    room: u32,
-    word: Word,
-) -> Result<Expr, Fault>
+fn expr_before(alloc: Global, tokens: &mut &[Token], room: u32, word: Word) -> Result<Expr, Fault>
     requires { 1 ≤ room }
     ensures { Leads expr_tree room (pieces.expr_then (asked word)) result tokens.old.now tokens.new.now }
 {
@@ -269,12 +264,7 @@ fn named_stmt(alloc: Global, tokens: &mut &[Token], room: u32) -> Result<Stmt, F
 }
 
 /// A call behind its name and a parenthesis.
-fn call_rest(
-    alloc: Global,
-    tokens: &mut &[Token],
-    room: u32,
-    name: Ident,
-) -> Result<Stmt, Fault>
+fn call_rest(alloc: Global, tokens: &mut &[Token], room: u32, name: Ident) -> Result<Stmt, Fault>
     requires { 1 ≤ room }
     ensures { Does stmt_tree room (pieces.call_rest (ident_tree name) name.at) result tokens.old.now tokens.new.now }
 {
@@ -289,12 +279,7 @@ fn call_rest(
 }
 
 /// An assignment behind its name.
-fn assign_rest(
-    alloc: Global,
-    tokens: &mut &[Token],
-    room: u32,
-    name: Ident,
-) -> Result<Stmt, Fault>
+fn assign_rest(alloc: Global, tokens: &mut &[Token], room: u32, name: Ident) -> Result<Stmt, Fault>
     requires { 1 ≤ room }
     ensures { Does stmt_tree room (pieces.assign_rest (ident_tree name) name.at) result tokens.old.now tokens.new.now }
 {

@@ -19,7 +19,12 @@ pub fn type_expr(alloc: Global, tokens: &mut &[Token], room: u32) -> Result<Type
 }
 
 /// A type behind its name.
-pub fn type_after(alloc: Global, tokens: &mut &[Token], room: u32, name: Ident) -> Result<TypeExpr, Fault>
+pub fn type_after(
+    alloc: Global,
+    tokens: &mut &[Token],
+    room: u32,
+    name: Ident,
+) -> Result<TypeExpr, Fault>
     ensures { Tells type_tree room (type_tail (string_bytes name.text) name.at) result tokens.old.now tokens.new.now }
 {
     Err(Fault::Memory)

@@ -1,6 +1,5 @@
 use Rattle.std.proofs.Common.{◌≡◌, Err, rules, sym, ap, ◌∙◌, arith}
 use Rattle.look_ahead.specs.Program.{Gave}
-use Rattle.cal_ast.specs.Tree.{cons, present, nil}
 use Rattle.cal_ast.specs.View.{body_tree, stmt_tree}
 use Rattle.cal_lexer.specs.Lexeme.{Lexeme, placed, plain_tokens}
 use Rattle.cal_parser.specs.Pieces.{else_rest}
