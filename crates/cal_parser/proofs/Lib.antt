@@ -10,7 +10,12 @@ mod Claims
 mod Complete
 mod Whole
 mod Taking
-mod Lists
+mod ListSteps
 mod NameLists
+mod Loops
+mod Steps
+mod Declarations
+mod StmtTrees
+mod Statements
 mod Tags
 mod Rows

@@ -37,7 +37,7 @@ any_kept m v p a =
     (λ e. gives _ _ _ _ _ (record { spelled = the_none; low = omega arith }))
 
 -- what may be repeated isn't empty
-never_empty : (p : Part) (h : Option Placed) → here (starts p) h ≡ true → takes p ≡ 1
+pub never_empty : (p : Part) (h : Option Placed) → here (starts p) h ≡ true → takes p ≡ 1
 never_empty p None e = absurd cc
 never_empty (separated v p) (Some t) e = never_empty p (Some t) e
 never_empty (level n) (Some t) e = refl

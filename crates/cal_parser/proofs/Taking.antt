@@ -5,7 +5,7 @@ use Rattle.cal_lexer.specs.Lexeme.{Lexeme, Placed, placed, plain, plain_tokens, 
 use Rattle.cal_lexer.specs.declared.token.Token.{Token}
 use Rattle.cal_parser.specs.Token.{here, same_word, kind_of}
 use Rattle.cal_parser.specs.Operators.{ends, long_end}
-use Rattle.cal_parser.specs.Cursor.{stands, Took, TookEnd}
+use Rattle.cal_parser.specs.Cursor.{stands, Took, TookEnd, Stays, Finished}
 use Rattle.cal_parser.proofs.Words.{same_is}
 
 pub word_taken : (w : Lexeme) (t : Token) (ts rest : List Token) → ts ≡ t ∷ rest → stands (same_word w) ts ≡ true → Took w t.at ts rest
@@ -57,3 +57,12 @@ neither_here v (Some t) a b = neither_true (same_word Lexeme.End (kind_of t)) (s
 
 pub no_end : (v w : Lexeme) (ts : List Token) → w ≡ long_end v → stands (same_word Lexeme.End) ts ≡ false → stands (same_word w) ts ≡ false → stands (ends v) ts ≡ false
 no_end v w ts e a b = neither_here v (ahead (plain_tokens ts)) a (sym (ap (λ k. stands (same_word k) ts) e) ∙ b)
+
+-- what `finish` says where its answer is known
+pub end_stood : (v : Lexeme) (b : Bool) (old new : List Token) → Finished v b old new → b ≡ true → TookEnd v old new
+end_stood v true old new h e = h
+end_stood v false old new h e = absurd cc
+
+pub none_stood : (v : Lexeme) (b : Bool) (old new : List Token) → Finished v b old new → b ≡ false → Stays (ends v) old new
+none_stood v true old new h e = absurd cc
+none_stood v false old new h e = h

@@ -7,4 +7,5 @@ pub mod SoFar
 pub mod Operators
 pub mod Spells
 pub mod Rules
+pub mod Pieces
 pub mod Refusals

@@ -11,12 +11,21 @@ use Rattle.cal_lexer.specs.declared.token.Token.{Token}
 use Rattle.cal_parser.specs.declared.fault.Fault.{Fault}
 use Rattle.cal_parser.specs.declared.fault.Fault.TheVariants as faults
 use Rattle.cal_parser.specs.Spells.{separated, a_name, a_tag, Mark}
-use Rattle.cal_parser.specs.Rules.{part, read}
+use Rattle.cal_parser.specs.Rules.{Rule, part, read}
 
 abbrev pub TellsFault : Fault → List Token → Outcome Placed Tree → Type 0
 TellsFault faults.Refused new o = o ≡ Refused (plain_tokens new)
 TellsFault faults.TooHigh new o = o ≡ TooHigh (plain_tokens new)
 TellsFault faults.Memory new o = Unit {0}
+
+-- what is given is the tree that the rule reads in a room of m, or why it reads none; `view` is the tree of a value
+abbrev pub Tells : {A : Type 0} → (A → Tree) → ℕ → Rule → Result A Fault → List Token → List Token → Type 0
+Tells view m r (Ok x) old new = read m r (plain_tokens old) ≡ Gave (view x) (plain_tokens new)
+Tells view m r (Err fault) old new = TellsFault fault new (read m r (plain_tokens old))
+
+-- the tree of a list of values
+abbrev pub each : {A : Type 0} → (A → Tree) → Vec A Global → Tree
+each view xs = listed (map view xs.items)
 
 abbrev pub TellsNames : Mark → Result (Vec Ident Global) Fault → List Token → List Token → Type 0
 TellsNames v (Ok xs) old new = (m : ℕ) → read m (part (separated v a_name)) (plain_tokens old) ≡ Gave (listed (map ident_tree xs.items)) (plain_tokens new)

@@ -5,9 +5,14 @@
 #![tactic(auto)]
 
 mod cursor;
+mod decls;
+mod expr;
 mod fault;
 mod laws;
+mod lists;
 mod names;
+mod stmts;
+mod types;
 mod word;
 
 pub use laws::one_tree;

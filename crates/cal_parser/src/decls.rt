@@ -1,0 +1,198 @@
+//! What is declared: variables, parameters and ports.
+
+ghost use Rattle.std.specs.Prelude.{◌≡◌};
+ghost use Rattle.cal_ast.specs.Tree as tree;
+ghost use Rattle.cal_ast.specs.Tree.{present};
+ghost use Rattle.cal_ast.specs.View.{ident_tree, param_tree, port_tree, type_tree, var_tree};
+ghost use Rattle.cal_parser.specs.Operators.{place};
+ghost use Rattle.cal_parser.specs.Pieces.{Does, value_then};
+ghost use Rattle.cal_parser.specs.Rules.{part, var_tail};
+ghost use Rattle.cal_parser.specs.Spells.{a_param, a_port, a_var, any, comma, some_vars as some_vars_part};
+ghost use Rattle.cal_parser.specs.Tells.{Tells, each};
+
+use crate::cursor::{is_name, is_word, name, take_word};
+use crate::expr::expr;
+use crate::fault::Fault;
+use crate::lists::{Read, any, separated};
+use crate::names::Separator;
+use crate::types::type_expr;
+use crate::word::Word;
+use cal_ast::{Ident, Param, PortDecl, TypeExpr, VarDecl};
+use cal_lexer::Token;
+use std::alloc::Global;
+
+/// A variable.
+pub fn var(alloc: Global, tokens: &mut &[Token], room: u32) -> Result<VarDecl, Fault>
+    ensures { Tells var_tree room (part a_var) result tokens.old.now tokens.new.now }
+{
+    let shape = type_expr(alloc, tokens, room)?;
+    var_after(alloc, tokens, room, shape)
+}
+
+/// A variable behind its type.
+pub fn var_after(
+    alloc: Global,
+    tokens: &mut &[Token],
+    room: u32,
+    shape: TypeExpr,
+) -> Result<VarDecl, Fault>
+    ensures { Tells var_tree room (var_tail (type_tree shape)) result tokens.old.now tokens.new.now }
+{
+    let name = name(alloc, tokens)?;
+    if is_word(tokens, Word::Assign) {
+        take_word(tokens, Word::Assign);
+        return var_with_start(alloc, tokens, room, shape, name, true);
+    }
+    if is_word(tokens, Word::Equal) {
+        take_word(tokens, Word::Equal);
+        return var_with_start(alloc, tokens, room, shape, name, false);
+    }
+    let at = place_of(&shape);
+    Ok(VarDecl {
+        shape,
+        name,
+        start: None,
+        changes: true,
+        at,
+    })
+}
+
+/// The first value of a variable, which makes it whole.
+fn var_with_start(
+    alloc: Global,
+    tokens: &mut &[Token],
+    room: u32,
+    shape: TypeExpr,
+    name: Ident,
+    changes: bool,
+) -> Result<VarDecl, Fault>
+    ensures { Does var_tree room (value_then (λ x. tree.var (type_tree shape) (ident_tree name) (present x) changes (place (type_tree shape)))) result tokens.old.now tokens.new.now }
+{
+    let start = expr(alloc, tokens, room)?;
+    let at = place_of(&shape);
+    Ok(VarDecl {
+        shape,
+        name,
+        start: Some(start),
+        changes,
+        at,
+    })
+}
+
+/// The offset of a type.
+fn place_of(shape: &TypeExpr) -> u32
+    ensures { result ≡ place (type_tree shape.now) }
+{
+    shape.at
+}
+
+impl Read for VarDecl {
+    ghost use Rattle.cal_ast.specs.View.{var_tree};
+    ghost use Rattle.cal_parser.specs.Spells.{a_var};
+
+    ghost part = { a_var };
+
+    ghost tree = { var_tree };
+
+    fn read(alloc: Global, tokens: &mut &[Token], room: u32) -> Result<VarDecl, Fault> {
+        var(alloc, tokens, room)
+    }
+
+    fn starts(tokens: &[Token]) -> bool {
+        is_name(tokens)
+    }
+}
+
+/// The variables behind `var`, or none.
+pub fn some_vars(alloc: Global, tokens: &mut &[Token], room: u32) -> Result<Vec<VarDecl>, Fault>
+    ensures { Tells (each var_tree) room (part some_vars_part) result tokens.old.now tokens.new.now }
+{
+    if !is_word(tokens, Word::Var) {
+        return Ok(Vec::new(alloc));
+    }
+    take_word(tokens, Word::Var);
+    separated::<VarDecl>(alloc, tokens, room, Separator::Comma)
+}
+
+/// A parameter of an actor.
+pub fn param(alloc: Global, tokens: &mut &[Token], room: u32) -> Result<Param, Fault>
+    ensures { Tells param_tree room (part a_param) result tokens.old.now tokens.new.now }
+{
+    let shape = type_expr(alloc, tokens, room)?;
+    let at = place_of(&shape);
+    let name = name(alloc, tokens)?;
+    if !is_word(tokens, Word::Equal) {
+        return Ok(Param {
+            shape,
+            name,
+            start: None,
+            at,
+        });
+    }
+    take_word(tokens, Word::Equal);
+    let start = expr(alloc, tokens, room)?;
+    Ok(Param {
+        shape,
+        name,
+        start: Some(start),
+        at,
+    })
+}
+
+impl Read for Param {
+    ghost use Rattle.cal_ast.specs.View.{param_tree};
+    ghost use Rattle.cal_parser.specs.Spells.{a_param};
+
+    ghost part = { a_param };
+
+    ghost tree = { param_tree };
+
+    fn read(alloc: Global, tokens: &mut &[Token], room: u32) -> Result<Param, Fault> {
+        param(alloc, tokens, room)
+    }
+
+    fn starts(tokens: &[Token]) -> bool {
+        is_name(tokens)
+    }
+}
+
+/// Any number of parameters, with commas between them.
+pub fn params(alloc: Global, tokens: &mut &[Token], room: u32) -> Result<Vec<Param>, Fault>
+    ensures { Tells (each param_tree) room (part (any comma a_param)) result tokens.old.now tokens.new.now }
+{
+    any::<Param>(alloc, tokens, room)
+}
+
+/// A port of an actor, or a formal parameter.
+pub fn port(alloc: Global, tokens: &mut &[Token], room: u32) -> Result<PortDecl, Fault>
+    ensures { Tells port_tree room (part a_port) result tokens.old.now tokens.new.now }
+{
+    let shape = type_expr(alloc, tokens, room)?;
+    let at = place_of(&shape);
+    let name = name(alloc, tokens)?;
+    Ok(PortDecl { shape, name, at })
+}
+
+impl Read for PortDecl {
+    ghost use Rattle.cal_ast.specs.View.{port_tree};
+    ghost use Rattle.cal_parser.specs.Spells.{a_port};
+
+    ghost part = { a_port };
+
+    ghost tree = { port_tree };
+
+    fn read(alloc: Global, tokens: &mut &[Token], room: u32) -> Result<PortDecl, Fault> {
+        port(alloc, tokens, room)
+    }
+
+    fn starts(tokens: &[Token]) -> bool {
+        is_name(tokens)
+    }
+}
+
+/// Any number of ports or formal parameters, with commas between them.
+pub fn ports(alloc: Global, tokens: &mut &[Token], room: u32) -> Result<Vec<PortDecl>, Fault>
+    ensures { Tells (each port_tree) room (part (any comma a_port)) result tokens.old.now tokens.new.now }
+{
+    any::<PortDecl>(alloc, tokens, room)
+}

@@ -1,0 +1,79 @@
+//! Lists of parts, of any kind that reads itself.
+
+ghost use Rattle.std.specs.Prelude.{◌≡◌};
+ghost use Rattle.cal_parser.specs.Rules.{part};
+ghost use Rattle.cal_parser.specs.Separator.{mark_of};
+ghost use Rattle.cal_parser.specs.Spells.{comma, separated, any, repeated};
+ghost use Rattle.cal_parser.specs.Tells.{Tells, each};
+
+use crate::cursor::{is_word, take_word};
+use crate::fault::Fault;
+use crate::names::Separator;
+use cal_lexer::Token;
+use std::alloc::Global;
+
+/// A part of the grammar that lists are made of.
+pub trait Read: Drop {
+    ghost use Rattle.cal_ast.specs.Tree.{Tree};
+    ghost use Rattle.cal_parser.specs.Cursor.{stands};
+    ghost use Rattle.cal_parser.specs.Rules as rules;
+    ghost use Rattle.cal_parser.specs.Spells.{Part};
+    ghost use Rattle.cal_parser.specs.Tells.{Tells};
+
+    /// Which part it is.
+    ghost part: { Part };
+
+    /// The tree that a value stands for.
+    ghost tree: { Self → Tree };
+
+    /// Reads the part, in a room.
+    fn read(alloc: Global, tokens: &mut &[Token], room: u32) -> Result<Self, Fault>
+        ensures { Tells tree room (rules.part part) result tokens.old.now tokens.new.now };
+
+    /// Whether such a part begins at the front.
+    fn starts(tokens: &[Token]) -> bool
+        ensures { result ≡ stands (rules.starts part) tokens.now };
+}
+
+/// One part or more, with a word between them.
+pub fn separated<T: Read>(
+    alloc: Global,
+    tokens: &mut &[Token],
+    room: u32,
+    between: Separator,
+) -> Result<Vec<T>, Fault>
+    ensures { Tells (each T.tree) room (part (separated (mark_of between) T.part)) result tokens.old.now tokens.new.now }
+{
+    let mut found = Vec::new(alloc);
+    let word = between.word();
+    'parts: loop {
+        let next = T::read(alloc, tokens, room)?;
+        found.push(next)?;
+        if !is_word(tokens, word) {
+            return Ok(found);
+        }
+        take_word(tokens, word);
+    }
+}
+
+/// Any number of parts, with commas between them.
+pub fn any<T: Read>(alloc: Global, tokens: &mut &[Token], room: u32) -> Result<Vec<T>, Fault>
+    ensures { Tells (each T.tree) room (part (any comma T.part)) result tokens.old.now tokens.new.now }
+{
+    if !T::starts(tokens) {
+        return Ok(Vec::new(alloc));
+    }
+    separated::<T>(alloc, tokens, room, Separator::Comma)
+}
+
+/// Any number of parts, one behind the other.
+pub fn repeated<T: Read>(alloc: Global, tokens: &mut &[Token], room: u32) -> Result<Vec<T>, Fault>
+    ensures { Tells (each T.tree) room (part (repeated T.part)) result tokens.old.now tokens.new.now }
+{
+    let mut found = Vec::new(alloc);
+    'parts: while T::starts(tokens) {
+        let next = T::read(alloc, tokens, room)?;
+        found.push(next)?;
+    }
+    Ok(found)
+}
