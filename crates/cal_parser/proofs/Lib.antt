@@ -10,7 +10,10 @@ mod Claims
 mod Complete
 mod Whole
 mod Taking
-mod Lists
+mod ListSteps
 mod NameLists
 mod Tags
+mod FileAnswers
+mod ImportPaths
+mod MemberLists
 mod Rows

@@ -14,7 +14,7 @@ use Rattle.cal_parser.specs.Rules.{part, read}
 use Rattle.cal_parser.specs.Tells.{before, TellsNames}
 use Rattle.cal_parser.specs.declared.fault.Fault.{Fault}
 use Rattle.cal_parser.specs.declared.fault.Fault.TheVariants as faults
-use Rattle.cal_parser.proofs.Lists
+use Rattle.cal_parser.proofs.ListSteps
 use Rattle.cal_parser.proofs.Reading.{read_is}
 
 pub length-plain : (ts : List Token) → length (plain_tokens ts) ≡ length ts
@@ -48,7 +48,7 @@ module _ (v : Mark) (w : Lexeme) (start now : List Token) (xs : List Ident) (far
         let marked_is : plain_tokens mid ≡ placed (mark v) q ∷ plain_tokens after = marked ∙ ap (λ k. placed k q ∷ plain_tokens after) far.word_is in
         let item : read m (part a_name) (plain_tokens now) ≡ Gave (ident_tree i) (placed (mark v) q ∷ plain_tokens after) = name_read m i now mid named ∙ ap (λ l. Gave (ident_tree i) l) marked_is in
         let list_is : map ident_tree xs ++ ident_tree i ∷ [] ≡ map ident_tree ys = sym (map-append xs i) ∙ ap (λ l. map ident_tree l) (sym e) in
-        Lists.on_more m v a_name (plain_tokens start) (plain_tokens now) (map ident_tree xs) (far.far m) (plain_tokens after) (ident_tree i) q item ∙ ap (λ l. before l (read m (part (separated v a_name)) (plain_tokens after))) list_is;
+        ListSteps.on_more m v a_name (plain_tokens start) (plain_tokens now) (map ident_tree xs) (far.far m) (plain_tokens after) (ident_tree i) q item ∙ ap (λ l. before l (read m (part (separated v a_name)) (plain_tokens after))) list_is;
   }
 
   -- the last name
@@ -56,12 +56,12 @@ module _ (v : Mark) (w : Lexeme) (start now : List Token) (xs : List Ident) (far
   names_last i mid named none ys e m =
       let none_is : here (same_word (mark v)) (ahead (plain_tokens mid)) ≡ false = ap (λ k. stands (same_word k) mid) (sym far.word_is) ∙ none in
       let list_is : map ident_tree xs ++ ident_tree i ∷ [] ≡ map ident_tree ys = sym (map-append xs i) ∙ ap (λ l. map ident_tree l) (sym e) in
-      Lists.on_last m v a_name (plain_tokens start) (plain_tokens now) (map ident_tree xs) (far.far m) (plain_tokens mid) (ident_tree i) (name_read m i now mid named) none_is ∙ ap (λ l. Gave (listed l) (plain_tokens mid)) list_is
+      ListSteps.on_last m v a_name (plain_tokens start) (plain_tokens now) (map ident_tree xs) (far.far m) (plain_tokens mid) (ident_tree i) (name_read m i now mid named) none_is ∙ ap (λ l. Gave (listed l) (plain_tokens mid)) list_is
 
   -- no name where one must come
   pub names_refused : (left : List Token) → Stays names now left → (m : ℕ) → read m (part (separated v a_name)) (plain_tokens start) ≡ Refused (plain_tokens left)
   names_refused left stays m =
-      Lists.on_refused m v a_name (plain_tokens start) (plain_tokens now) (map ident_tree xs) (far.far m) (plain_tokens now) (name_refused m now stays.0) ∙ ap (λ l. Refused (plain_tokens l)) (sym stays.1)
+      ListSteps.on_refused m v a_name (plain_tokens start) (plain_tokens now) (map ident_tree xs) (far.far m) (plain_tokens now) (name_refused m now stays.0) ∙ ap (λ l. Refused (plain_tokens l)) (sym stays.1)
 
 -- why no name is read
 pub names_fail : (v : Mark) (w : Lexeme) (start now : List Token) (xs : List Ident) → IsSoFar v a_name w start now (map ident_tree xs) → (left : List Token) (fault : Fault) → TookName (Err fault) now left → TellsNames v (Err fault) start left
