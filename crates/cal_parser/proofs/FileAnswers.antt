@@ -1,10 +1,16 @@
 -- What the reading of a whole file says of the answer.
-use Rattle.std.proofs.Common.{◌≡◌, ℕ, ◌≤◌, List, [], ◌∷◌, arith}
+use Rattle.std.proofs.Common.{◌≡◌, ℕ, ◌≤◌, List, [], ◌∷◌, refl, sym, subst, ap, ◌∙◌, arith}
+use Rattle.rvc_base.specs.declared.refusal.Front.{Front as Answer}
+use Rattle.rvc_base.specs.declared.refusal.Front.TheVariants.{Memory}
 use Rattle.look_ahead.specs.Program.{Gave, Refused, TooHigh}
 use Rattle.cal_ast.specs.Tree.{Tree}
-use Rattle.cal_lexer.specs.Lexeme.{Placed}
+use Rattle.cal_lexer.specs.Lexeme.{Placed, plain_tokens}
+use Rattle.cal_lexer.specs.declared.token.Token.{Token}
 use Rattle.cal_parser.specs.Operators.{height, max_height}
-use Rattle.cal_parser.specs.Refusals.{Breaks, breaks_off, grows_high, place_in, spells_no_file, too_high}
+use Rattle.cal_parser.specs.Refusals.{Breaks, breaks_off, grows_high, IsRightly, answer_of, place_in, spells_no_file, too_high}
+use Rattle.cal_parser.specs.Tells.{TellsFault}
+use Rattle.cal_parser.specs.declared.fault.Fault.{Fault}
+use Rattle.cal_parser.specs.declared.fault.Fault.TheVariants as faults
 use Rattle.cal_parser.specs.Rules.{whole, read}
 use Rattle.cal_parser.specs.Spells.{spells}
 use Rattle.cal_parser.proofs.Meets.{MeetsWhole, IsFar}
@@ -38,3 +44,21 @@ at_token ts left e = let k : MeetsWhole max_height ts (read max_height whole ts)
 pub high_breaks : (ts left : List Placed) (end : ℕ) → read max_height whole ts ≡ TooHigh left → Breaks end ts too_high (place_in end left)
 high_breaks ts [] end e = let far = at_token ts [] e in absurd (omega (arith, far.at_token))
 high_breaks ts (t ∷ left) end e = grows_high t left (whole_too_high ts (t ∷ left) e)
+
+module _ (number end : ℕ) (ts : List Token) (left : List Token) where
+  rightly_at_once : (fault : Fault) → TellsFault fault left (read max_height whole (plain_tokens ts)) → IsRightly number end (plain_tokens ts) (answer_of fault number (place_in end (plain_tokens left)))
+  rightly_at_once faults.Refused e = (refl, refused_breaks (plain_tokens ts) (plain_tokens left) end e)
+  rightly_at_once faults.TooHigh e = (refl, high_breaks (plain_tokens ts) (plain_tokens left) end e)
+  rightly_at_once faults.Memory e = tt
+
+  -- a refusal is right
+  pub rightly : (fault : Fault) (at : ℕ) (answer : Answer) → TellsFault fault left (read max_height whole (plain_tokens ts)) → at ≡ place_in end (plain_tokens left) → answer ≡ answer_of fault number at → IsRightly number end (plain_tokens ts) answer
+  rightly fault at answer e place is =
+      let whole_is : answer ≡ answer_of fault number (place_in end (plain_tokens left)) = is ∙ ap (λ q. answer_of fault number q) place in
+      subst (λ (a : Answer). IsRightly number end (plain_tokens ts) a) (sym whole_is) (rightly_at_once fault e)
+
+-- where a file is spelled, only memory may be wanting
+pub only_memory : (number : ℕ) (ts left : List Token) (fault : Fault) (at : ℕ) (answer : Answer) (x : Tree) → TellsFault fault left (read max_height whole (plain_tokens ts)) → answer ≡ answer_of fault number at → spells (plain_tokens ts) x → height x ≤ max_height → answer ≡ Memory
+only_memory number ts left faults.Refused at answer x e is h low = absurd (none_refused (plain_tokens ts) (plain_tokens left) x e h low)
+only_memory number ts left faults.TooHigh at answer x e is h low = absurd (none_high (plain_tokens ts) (plain_tokens left) x e h low)
+only_memory number ts left faults.Memory at answer x e is h low = is

@@ -39,6 +39,16 @@ after_onto i (Refused left) = refl
 after_onto i (TooHigh left) = refl
 after_onto i Spent = refl
 
+unpathed : (o : Outcome Placed Tree) → o ≡ path_behind [] o
+unpathed (Gave x left) = refl
+unpathed (Refused left) = refl
+unpathed (TooHigh left) = refl
+unpathed Spent = refl
+
+-- no name yet
+pub no_path_yet : (m : ℕ) (start : List Token) → IsPathSoFar m start start []
+no_path_yet m start = record { far = unpathed (read m (part a_path) (plain_tokens start)) }
+
 module _ (m : ℕ) where
   -- a dot and a name, with a dot behind them
   path_more : (q r : ℕ) (s : List ℕ) (l : List Placed) → here (same_word Lexeme.Dot) (ahead l) ≡ true → read m (part a_path) (placed Lexeme.Dot q ∷ placed (Lexeme.Name s) r ∷ l) ≡ path_behind (ident s r ∷ []) (read m (part a_path) l)

@@ -16,4 +16,5 @@ mod Tags
 mod FileAnswers
 mod ImportPaths
 mod MemberLists
+mod Openings
 mod Rows

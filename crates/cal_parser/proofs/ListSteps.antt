@@ -14,6 +14,10 @@ pub joined-listed : (xs : List Tree) (x : Tree) → joined xs (cons x nil) ≡ l
 joined-listed [] x = refl
 joined-listed (y ∷ xs) x = ap (λ t. cons y t) (joined-listed xs x)
 
+pub joined-nil : (xs : List Tree) → joined xs nil ≡ listed xs
+joined-nil [] = refl
+joined-nil (y ∷ xs) = ap (λ t. cons y t) (joined-nil xs)
+
 joined-append : (xs : List Tree) (x ys : Tree) → joined xs (cons x ys) ≡ joined (xs ++ x ∷ []) ys
 joined-append [] x ys = refl
 joined-append (y ∷ xs) x ys = ap (λ t. cons y t) (joined-append xs x ys)
@@ -30,7 +34,7 @@ before-none (Refused left) = refl
 before-none (TooHigh left) = refl
 before-none Spent = refl
 
-after_cons : (x : Tree) (o : Outcome Placed Tree) → after o (λ xs l. Gave (cons x xs) l) ≡ before (x ∷ []) o
+pub after_cons : (x : Tree) (o : Outcome Placed Tree) → after o (λ xs l. Gave (cons x xs) l) ≡ before (x ∷ []) o
 after_cons x (Gave ys left) = refl
 after_cons x (Refused left) = refl
 after_cons x (TooHigh left) = refl

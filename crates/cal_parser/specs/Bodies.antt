@@ -25,9 +25,13 @@ TellsStep view m step (Err fault) old new = TellsFault fault new (exec read m st
 abbrev pub opened : (Tree → ℕ → Step) → Step
 opened next = begin Lexeme.LeftBracket (λ t. next absent (offset t)) (named (λ t. expect Lexeme.Colon (expect Lexeme.LeftBracket (next (present (ident_of t)) (offset t)))))
 
+-- what follows the `[` of a pattern or an output
+abbrev pub after_opening : (Tree → ℕ → Step) → Opening → Step
+after_opening next o = next (optional (option_map ident_tree o.port)) o.at
+
 -- a pattern or an output goes on from its `[`
 abbrev pub TellsOpening : Result Opening Fault → List Token → List Token → Type 0
-TellsOpening (Ok o) old new = (m : ℕ) (next : Tree → ℕ → Step) → exec read m (opened next) (plain_tokens old) ≡ exec read m (next (optional (option_map ident_tree o.port)) o.at) (plain_tokens new)
+TellsOpening (Ok o) old new = (m : ℕ) (next : Tree → ℕ → Step) → exec read m (opened next) (plain_tokens old) ≡ exec read m (after_opening next o) (plain_tokens new)
 TellsOpening (Err fault) old new = (m : ℕ) (next : Tree → ℕ → Step) → TellsFault fault new (exec read m (opened next) (plain_tokens old))
 
 -- the word that an action begins with

@@ -2,8 +2,8 @@
 
 ghost use Rattle.std.specs.Prelude.{◌≡◌};
 ghost use Rattle.cal_ast.specs.View.{action_tree, body_tree, expr_tree, optional_expr, output_tree, pattern_tree};
-ghost use Rattle.cal_parser.specs.Bodies.{TellsOpening, TellsStart, TellsStep, after_arrow};
-ghost use Rattle.cal_parser.specs.Rules.{part};
+ghost use Rattle.cal_parser.specs.Bodies.{TellsOpening, TellsStart, TellsStep, after_arrow, after_opening};
+ghost use Rattle.cal_parser.specs.Rules.{in_body, out_body, part};
 ghost use Rattle.cal_parser.specs.Spells.{a_body, an_action, an_in, an_out, some_guards, some_repeat};
 ghost use Rattle.cal_parser.specs.Tells.{Tells, each};
 
@@ -82,12 +82,16 @@ fn read_opening(alloc: Global, tokens: &mut &[Token]) -> Result<Opening, Fault>
     })
 }
 
-/// What an action takes from one port.
+/// A pattern from its `[` on.
 #[tactic(auto, using(crate::proofs::Reading::read_is))]
-fn pattern(alloc: Global, tokens: &mut &[Token], room: u32) -> Result<Pattern, Fault>
-    ensures { Tells pattern_tree room (part an_in) result tokens.old.now tokens.new.now }
+fn pattern_from(
+    alloc: Global,
+    tokens: &mut &[Token],
+    room: u32,
+    from: Opening,
+) -> Result<Pattern, Fault>
+    ensures { TellsStep pattern_tree room (after_opening in_body from) result tokens.old.now tokens.new.now }
 {
-    let from = read_opening(alloc, tokens)?;
     let names = names(alloc, tokens, Separator::Comma)?;
     expect(tokens, Word::RightBracket)?;
     let repeat = repeat(alloc, tokens, room)?;
@@ -97,6 +101,14 @@ fn pattern(alloc: Global, tokens: &mut &[Token], room: u32) -> Result<Pattern, F
         repeat,
         at: from.at,
     })
+}
+
+/// What an action takes from one port.
+fn pattern(alloc: Global, tokens: &mut &[Token], room: u32) -> Result<Pattern, Fault>
+    ensures { Tells pattern_tree room (part an_in) result tokens.old.now tokens.new.now }
+{
+    let from = read_opening(alloc, tokens)?;
+    pattern_from(alloc, tokens, room, from)
 }
 
 impl Read for Pattern {
@@ -115,12 +127,16 @@ impl Read for Pattern {
     }
 }
 
-/// What an action sends to one port.
+/// An output from its `[` on.
 #[tactic(auto, using(crate::proofs::Reading::read_is))]
-fn output(alloc: Global, tokens: &mut &[Token], room: u32) -> Result<Output, Fault>
-    ensures { Tells output_tree room (part an_out) result tokens.old.now tokens.new.now }
+fn output_from(
+    alloc: Global,
+    tokens: &mut &[Token],
+    room: u32,
+    to: Opening,
+) -> Result<Output, Fault>
+    ensures { TellsStep output_tree room (after_opening out_body to) result tokens.old.now tokens.new.now }
 {
-    let to = read_opening(alloc, tokens)?;
     let values = exprs(alloc, tokens, room)?;
     expect(tokens, Word::RightBracket)?;
     let repeat = repeat(alloc, tokens, room)?;
@@ -130,6 +146,14 @@ fn output(alloc: Global, tokens: &mut &[Token], room: u32) -> Result<Output, Fau
         repeat,
         at: to.at,
     })
+}
+
+/// What an action sends to one port.
+fn output(alloc: Global, tokens: &mut &[Token], room: u32) -> Result<Output, Fault>
+    ensures { Tells output_tree room (part an_out) result tokens.old.now tokens.new.now }
+{
+    let to = read_opening(alloc, tokens)?;
+    output_from(alloc, tokens, room, to)
 }
 
 impl Read for Output {

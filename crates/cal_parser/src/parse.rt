@@ -5,7 +5,7 @@ ghost use Rattle.cal_ast.specs.Tree.{Tree};
 ghost use Rattle.cal_ast.specs.View.{file_tree};
 ghost use Rattle.cal_lexer.specs.Lexeme.{plain_tokens};
 ghost use Rattle.cal_parser.specs.Operators.{height, max_height};
-ghost use Rattle.cal_parser.specs.Refusals.{IsRightly, place_in};
+ghost use Rattle.cal_parser.specs.Refusals.{IsRightly, answer_of, place_in};
 ghost use Rattle.cal_parser.specs.Spells.{spells};
 
 use crate::fault::Fault;
@@ -13,7 +13,7 @@ use crate::files::whole;
 use crate::rules::{MAX_HEIGHT, SPELLS_NO_FILE, TOO_HIGH};
 use cal_ast::File;
 use cal_lexer::Token;
-use rvc_base::{Front, Place, Refusal, Rule};
+use rvc_base::{Front, Place, Refusal};
 use std::alloc::Global;
 
 /// The file that the tokens of a text spell. The text is the file of this number, and `end` is its length.
@@ -35,9 +35,7 @@ pub fn parse_file(alloc: Global, file: u32, tokens: &[Token], end: u32) -> Resul
     let mut left = tokens;
     match whole(alloc, &mut left, MAX_HEIGHT) {
         Ok(found) => Ok(found),
-        Err(Fault::Refused) => Err(refusal(SPELLS_NO_FILE, file, place(left, end))),
-        Err(Fault::TooHigh) => Err(refusal(TOO_HIGH, file, place(left, end))),
-        Err(Fault::Memory) => Err(Front::Memory),
+        Err(fault) => Err(answer(fault, file, place(left, end))),
     }
 }
 
@@ -51,12 +49,20 @@ fn place(tokens: &[Token], end: u32) -> u32
     }
 }
 
-/// The answer that this rule is broken at an offset of a file.
-fn refusal(rule: Rule, file: u32, offset: u32) -> Front
-    ensures { result ≡ Front.Refused (record { rule = rule; place = record { file = file; offset = offset } }) }
+/// Why a file isn't read, where it is known why and at which offset.
+fn answer(fault: Fault, file: u32, offset: u32) -> Front
+    ensures { result ≡ answer_of fault file offset }
 {
-    Front::Refused(Refusal {
-        rule,
-        place: Place { file, offset },
-    })
+    let place = Place { file, offset };
+    match fault {
+        Fault::Refused => Front::Refused(Refusal {
+            rule: SPELLS_NO_FILE,
+            place,
+        }),
+        Fault::TooHigh => Front::Refused(Refusal {
+            rule: TOO_HIGH,
+            place,
+        }),
+        Fault::Memory => Front::Memory,
+    }
 }
