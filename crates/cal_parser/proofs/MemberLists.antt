@@ -1,5 +1,5 @@
 -- The members of an actor, read one after the other.
-use Rattle.std.proofs.Common.{◌≡◌, ℕ, ◌+◌, ◌<◌, ◌≤◌, Bool, true, false, List, [], ◌∷◌, ◌++◌, map, length, refl, sym, ap, ◌∙◌, arith}
+use Rattle.std.proofs.Common.{◌≡◌, ℕ, ◌+◌, ◌<◌, ◌≤◌, Bool, true, false, List, [], ◌∷◌, ◌++◌, map, length, refl, sym, ap, subst, ◌∙◌, arith}
 use Rattle.std.proofs.lemmas.List.{map-append}
 use Rattle.look_ahead.specs.Program.{Outcome, Gave, Refused, TooHigh, Spent, ahead, exec, after}
 use Rattle.cal_ast.specs.Tree.{Tree, cons, nil, listed}
@@ -89,9 +89,11 @@ module _ (m : ℕ) where
     pub member_fails : (new : List Token) (fault : Fault) → stands starts_member now ≡ true → TellsFault fault new (read m (part a_member) (plain_tokens now)) → TellsFault fault new (read m (part (members true)) (plain_tokens start))
     member_fails new fault there e = passed new fault (failed_member k now new fault there e)
 
-  module _ (start now : List Token) (xs : List Member) (so_far : IsMembersSoFar m start now true (map member_tree xs)) where
-    pub schedule_more : (new : List Token) (x : Member) (ys : List Member) → ys ≡ xs ++ x ∷ [] → stands starts_member now ≡ false → stands (same_word Lexeme.Schedule) now ≡ true → read m (part a_schedule) (plain_tokens now) ≡ Gave (member_tree x) (plain_tokens new) → IsMembersSoFar m start new false (map member_tree ys)
-    schedule_more new x ys e none there item = further start now true xs so_far new false x ys e (one_schedule (plain_tokens now) (plain_tokens new) (member_tree x) none there item)
+    pub schedule_more : (new : List Token) (x : Member) (ys : List Member) → ys ≡ xs ++ x ∷ [] → k ≡ true → stands starts_member now ≡ false → stands (same_word Lexeme.Schedule) now ≡ true → read m (part a_schedule) (plain_tokens now) ≡ Gave (member_tree x) (plain_tokens new) → IsMembersSoFar m start new false (map member_tree ys)
+    schedule_more new x ys e may none there item = further new false x ys e (ap (λ b. read m (part (members b)) (plain_tokens now)) may ∙ one_schedule (plain_tokens now) (plain_tokens new) (member_tree x) none there item)
 
-    pub schedule_fails : (new : List Token) (fault : Fault) → stands starts_member now ≡ false → stands (same_word Lexeme.Schedule) now ≡ true → TellsFault fault new (read m (part a_schedule) (plain_tokens now)) → TellsFault fault new (read m (part (members true)) (plain_tokens start))
-    schedule_fails new fault none there e = passed start now true xs so_far new fault (failed_schedule now new fault none there e)
+    pub schedule_fails : (new : List Token) (fault : Fault) → k ≡ true → stands starts_member now ≡ false → stands (same_word Lexeme.Schedule) now ≡ true → TellsFault fault new (read m (part a_schedule) (plain_tokens now)) → TellsFault fault new (read m (part (members true)) (plain_tokens start))
+    schedule_fails new fault may none there e = passed new fault (subst (λ (b : Bool). TellsFault fault new (read m (part (members b)) (plain_tokens now))) (sym may) (failed_schedule now new fault none there e))
+
+    pub no_schedule_left : stands starts_member now ≡ false → k ≡ false → read m (part (members true)) (plain_tokens start) ≡ Gave (listed (map member_tree xs)) (plain_tokens now)
+    no_schedule_left none past = all_members none (λ may. let never : true ≡ false = sym may ∙ past in absurd cc)

@@ -195,13 +195,17 @@ pub fn members(alloc: Global, tokens: &mut &[Token], room: u32) -> Result<Vec<Me
         if starts_member(tokens) {
             let next = member(alloc, tokens, room)?;
             found.push(next)?;
-        } else if may_schedule && is_word(tokens, Word::Schedule) {
-            let next = schedule(alloc, tokens, room)?;
-            found.push(Member::Schedule(next))?;
-            may_schedule = false;
-        } else {
+            continue;
+        }
+        if !may_schedule {
             return Ok(found);
         }
+        if !is_word(tokens, Word::Schedule) {
+            return Ok(found);
+        }
+        let last = schedule(alloc, tokens, room)?;
+        found.push(Member::Schedule(last))?;
+        may_schedule = false;
     }
 }
 
