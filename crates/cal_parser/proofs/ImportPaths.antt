@@ -46,8 +46,8 @@ unpathed (TooHigh left) = refl
 unpathed Spent = refl
 
 -- no name yet
-pub no_path_yet : (m : ℕ) (start : List Token) → IsPathSoFar m start start []
-no_path_yet m start = record { far = unpathed (read m (part a_path) (plain_tokens start)) }
+pub no_path_yet : (m : ℕ) (start : List Token) (is : List Ident) → is ≡ [] → IsPathSoFar m start start (map ident_tree is)
+no_path_yet m start is none = record { far = unpathed (read m (part a_path) (plain_tokens start)) ∙ ap (λ l. path_behind (map ident_tree l) (read m (part a_path) (plain_tokens start))) (sym none) }
 
 module _ (m : ℕ) where
   -- a dot and a name, with a dot behind them

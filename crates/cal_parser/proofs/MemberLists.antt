@@ -36,8 +36,8 @@ pub schedule_shorter : (m : ℕ) (x : Tree) (old new : List Token) → read m (p
 schedule_shorter m x old new e = shorter m a_schedule x old new refl e
 
 -- no member yet
-pub no_members_yet : (m : ℕ) (start : List Token) → IsMembersSoFar m start start true []
-no_members_yet m start = record { far = ListSteps.before-none (read m (part (members true)) (plain_tokens start)) }
+pub no_members_yet : (m : ℕ) (start : List Token) (xs : List Member) → xs ≡ [] → IsMembersSoFar m start start true (map member_tree xs)
+no_members_yet m start xs none = record { far = ListSteps.before-none (read m (part (members true)) (plain_tokens start)) ∙ ap (λ l. before (map member_tree l) (read m (part (members true)) (plain_tokens start))) (sym none) }
 
 module _ (m : ℕ) where
   one_member : (k : Bool) (ts l : List Placed) (x : Tree) → here starts_member (ahead ts) ≡ true → read m (part a_member) ts ≡ Gave x l → read m (part (members k)) ts ≡ before (x ∷ []) (read m (part (members k)) l)

@@ -1,11 +1,13 @@
 //! Files: their package, their imports, and the actor or unit that they declare.
 
 ghost use Rattle.std.specs.Prelude.{◌≡◌, map};
+ghost use Rattle.look_ahead.specs.Program.{ahead};
 ghost use Rattle.cal_ast.specs.Tree.{listed};
 ghost use Rattle.cal_ast.specs.View.{actor_tree, file_body_tree, file_tree, import_tree, unit_tree};
 ghost use Rattle.cal_parser.specs.Operators.{first_place};
+ghost use Rattle.cal_lexer.specs.Lexeme.{plain_tokens};
 ghost use Rattle.cal_parser.specs.ImportPath.{body_part, path_tree};
-ghost use Rattle.cal_parser.specs.Rules.{part, whole as a_whole_file};
+ghost use Rattle.cal_parser.specs.Rules.{at_end, part, whole as a_whole_file};
 ghost use Rattle.cal_parser.specs.Spells.{a_file, a_path, a_unit, an_actor, an_import, some_imports};
 ghost use Rattle.cal_parser.specs.Tells.{Tells};
 
@@ -187,13 +189,23 @@ fn file(alloc: Global, tokens: &mut &[Token], room: u32) -> Result<File, Fault>
     })
 }
 
+/// Whether no token is left.
+fn is_at_end(tokens: &[Token]) -> bool
+    ensures { result ≡ at_end (ahead (plain_tokens tokens.now)) }
+{
+    match tokens.first() {
+        None => true,
+        Some(_) => false,
+    }
+}
+
 /// A file, and nothing behind it.
 #[tactic(auto, using(crate::proofs::Reading::read_is))]
 pub fn whole(alloc: Global, tokens: &mut &[Token], room: u32) -> Result<File, Fault>
     ensures { Tells file_tree room a_whole_file result tokens.old.now tokens.new.now }
 {
     let found = file(alloc, tokens, room)?;
-    if tokens.is_empty() {
+    if is_at_end(tokens) {
         Ok(found)
     } else {
         Err(Fault::Refused)

@@ -5,7 +5,7 @@ use Rattle.cal_parser.proofs.MemberLists.{all_members, member_fails, member_more
 use Rattle.cal_parser.proofs.members.members.Goals as goal
 
 pub members-init : goal.members-init
-members-init c = no_members_yet c.args.room c.args.tokens.now.now
+members-init c = no_members_yet c.args.room c.args.tokens.now.now c.new-found.result.items c.new-found.ensures.items
 
 pub returns-in_err-next : goal.returns-in_err-next
 returns-in_err-next c =
@@ -26,7 +26,7 @@ returns-then-not-is_word c =
 
 pub returns-in_err-last : goal.returns-in_err-last
 returns-in_err-last c =
-    let same : c.from_residual-2.result ≡ Err c.in_err-last.field-0.0 = search rules in
+    let same : c.from_residual-in_err-last.result ≡ Err c.in_err-last.field-0.0 = search rules in
     rw same (schedule_fails c.args.room c.args.tokens.now.now c.members.tokens.now c.members.may_schedule c.members.found.items c.members.invariant c.schedule.new.tokens.now c.in_err-last.field-0.0 c.if-not-may_schedule.false (sym c.starts_member.ensures ∙ c.if-starts_member.false) (sym c.is_word.ensures ∙ c.if-not-is_word.false) c.in_err-last.ensures)
 
 pub members-preserved : goal.members-preserved
