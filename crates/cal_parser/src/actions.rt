@@ -116,6 +116,7 @@ impl Read for Pattern {
     ghost use Rattle.cal_parser.specs.Spells.{an_in};
 
     ghost part = { an_in };
+
     ghost tree = { pattern_tree };
 
     fn read(alloc: Global, tokens: &mut &[Token], room: u32) -> Result<Pattern, Fault> {
@@ -161,6 +162,7 @@ impl Read for Output {
     ghost use Rattle.cal_parser.specs.Spells.{an_out};
 
     ghost part = { an_out };
+
     ghost tree = { output_tree };
 
     fn read(alloc: Global, tokens: &mut &[Token], room: u32) -> Result<Output, Fault> {

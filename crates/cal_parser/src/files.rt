@@ -75,6 +75,7 @@ impl Read for Import {
     ghost use Rattle.cal_parser.specs.Spells.{an_import};
 
     ghost part = { an_import };
+
     ghost tree = { import_tree };
 
     fn read(alloc: Global, tokens: &mut &[Token], room: u32) -> Result<Import, Fault> {

@@ -21,6 +21,7 @@ pub trait Read: Drop {
     ghost use Rattle.cal_parser.specs.Tells.{Tells};
 
     ghost part: { Part };
+
     ghost tree: { Self → Tree };
 
     fn read(alloc: Global, tokens: &mut &[Token], room: u32) -> Result<Self, Fault>

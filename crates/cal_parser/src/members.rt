@@ -117,12 +117,7 @@ fn labelled_action(
 
 /// A variable behind the name of its type.
 #[tactic(auto, using(crate::proofs::Reading::read_is))]
-fn variable(
-    alloc: Global,
-    tokens: &mut &[Token],
-    room: u32,
-    first: Ident,
-) -> Result<VarDecl, Fault>
+fn variable(alloc: Global, tokens: &mut &[Token], room: u32, first: Ident) -> Result<VarDecl, Fault>
     ensures { TellsStep var_tree room (after_type first) result tokens.old.now tokens.new.now }
 {
     let shape = type_after(alloc, tokens, room, first)?;
@@ -228,6 +223,7 @@ impl Read for Member {
     ghost use Rattle.cal_parser.specs.Spells.{a_unit_member};
 
     ghost part = { a_unit_member };
+
     ghost tree = { member_tree };
 
     fn read(alloc: Global, tokens: &mut &[Token], room: u32) -> Result<Member, Fault> {

@@ -35,6 +35,7 @@ impl Read for Tag {
     ghost use Rattle.cal_parser.specs.Spells.{a_tag};
 
     ghost part = { a_tag };
+
     ghost tree = { tag_tree };
 
     fn read(alloc: Global, tokens: &mut &[Token], _room: u32) -> Result<Tag, Fault> {
@@ -51,6 +52,7 @@ impl Read for Move {
     ghost use Rattle.cal_parser.specs.Spells.{a_move};
 
     ghost part = { a_move };
+
     ghost tree = { move_tree };
 
     fn read(alloc: Global, tokens: &mut &[Token], room: u32) -> Result<Move, Fault> {
@@ -96,6 +98,7 @@ impl Read for Vec<Tag> {
     ghost use Rattle.cal_parser.specs.Spells.{a_chain};
 
     ghost part = { a_chain };
+
     ghost tree = { chain_tree };
 
     fn read(alloc: Global, tokens: &mut &[Token], room: u32) -> Result<Vec<Tag>, Fault> {

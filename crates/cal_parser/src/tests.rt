@@ -40,7 +40,8 @@ fn has_members(rt: &impl Abort, alloc: Global, text: &[u8], expected: &str) -> R
 }
 
 /// The actor that adds 1 to each token.
-const INC: &[u8] = b"actor Inc() uint(size=8) In ==> uint(size=8) Out : action In:[a] ==> Out:[a + 1] end end";
+const INC: &[u8] =
+    b"actor Inc() uint(size=8) In ==> uint(size=8) Out : action In:[a] ==> Out:[a + 1] end end";
 
 #[test]
 fn files(rt: HostRuntime) -> Result<(), Fail> {

@@ -16,6 +16,9 @@ pub members-preserved-then-starts_member : goal.members-preserved-then-starts_me
 members-preserved-then-starts_member c =
     member_more c.args.room c.args.tokens.now.now c.members.tokens.now c.members.may_schedule c.members.found.items c.members.invariant c.member.new.tokens.now c.in_ok-next.next c.push.new.self.items c.in_ok-push.ensures.items (sym c.starts_member.ensures ∙ c.if-starts_member.true) c.in_ok-next.ensures
 
+pub members-smaller-then-starts_member : goal.members-smaller-then-starts_member
+members-smaller-then-starts_member c = member_shorter c.args.room (member_tree c.in_ok-next.next) c.members.tokens.now c.member.new.tokens.now c.in_ok-next.ensures
+
 pub returns-then-not-may_schedule : goal.returns-then-not-may_schedule
 returns-then-not-may_schedule c =
     no_schedule_left c.args.room c.args.tokens.now.now c.members.tokens.now c.members.may_schedule c.members.found.items c.members.invariant (sym c.starts_member.ensures ∙ c.if-starts_member.false) c.if-not-may_schedule.true
@@ -31,7 +34,7 @@ returns-in_err-last c =
 
 pub members-preserved : goal.members-preserved
 members-preserved c =
-    schedule_more c.args.room c.args.tokens.now.now c.members.tokens.now c.members.may_schedule c.members.found.items c.members.invariant c.schedule.new.tokens.now (members.Schedule c.in_ok-last.last) c.push.new.self.items c.in_ok-push-2.ensures.items c.if-not-may_schedule.false (sym c.starts_member.ensures ∙ c.if-starts_member.false) (sym c.is_word.ensures ∙ c.if-not-is_word.false) c.in_ok-last.ensures
+    schedule_more c.args.room c.args.tokens.now.now c.members.tokens.now c.members.may_schedule c.members.found.items c.members.invariant c.schedule.new.tokens.now (members.Schedule c.in_ok-last.last) c.push-in-members.new.self.items c.in_ok-push-2.ensures.items c.if-not-may_schedule.false (sym c.starts_member.ensures ∙ c.if-starts_member.false) (sym c.is_word.ensures ∙ c.if-not-is_word.false) c.in_ok-last.ensures
 
 pub members-smaller : goal.members-smaller
-members-smaller c = schedule_shorter c.args.room _ c.members.tokens.now c.schedule.new.tokens.now c.in_ok-last.ensures
+members-smaller c = schedule_shorter c.args.room (member_tree (members.Schedule c.in_ok-last.last)) c.members.tokens.now c.schedule.new.tokens.now c.in_ok-last.ensures
