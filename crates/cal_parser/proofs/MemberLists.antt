@@ -1,7 +1,7 @@
 -- The members of an actor, read one after the other.
-use Rattle.std.proofs.Common.{◌≡◌, ℕ, ◌+◌, ◌<◌, ◌≤◌, Bool, true, false, List, [], ◌∷◌, ◌++◌, map, length, refl, sym, ap, subst, ◌∙◌, arith}
+use Rattle.std.proofs.Common.{◌≡◌, ℕ, ◌<◌, Bool, true, false, List, [], ◌∷◌, ◌++◌, map, length, refl, sym, ap, subst, ◌∙◌, arith}
 use Rattle.std.proofs.lemmas.List.{map-append}
-use Rattle.look_ahead.specs.Program.{Outcome, Gave, Refused, TooHigh, Spent, ahead, exec, after}
+use Rattle.look_ahead.specs.Program.{Gave, ahead, exec, after}
 use Rattle.cal_ast.specs.Tree.{Tree, cons, nil, listed}
 use Rattle.cal_ast.specs.View.{member_tree}
 use Rattle.cal_ast.specs.declared.member.Member.{Member}

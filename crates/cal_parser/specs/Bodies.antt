@@ -1,11 +1,10 @@
 -- What the code's answers say of pieces of the rules.
-use Rattle.std.specs.Prelude.{◌≡◌, ℕ, Bool, true, false, List, map, option_map, string_bytes, Result, Ok, Err, Vec}
-use Rattle.std.specs.declared.alloc.Global.{Global}
+use Rattle.std.specs.Prelude.{◌≡◌, ℕ, Bool, true, false, List, map, option_map, string_bytes, Result, Ok, Err}
 use Rattle.look_ahead.specs.Program.{Gave, exec, invoke, give}
 use Rattle.cal_ast.specs.Tree.{Tree, absent, present, cons, tag, listed}
 use Rattle.cal_ast.specs.View.{ident_tree, optional, pattern_tree}
 use Rattle.cal_ast.specs.declared.ident.Ident.{Ident}
-use Rattle.cal_lexer.specs.Lexeme.{Lexeme, placed, plain_tokens}
+use Rattle.cal_lexer.specs.Lexeme.{Lexeme, plain_tokens}
 use Rattle.cal_lexer.specs.declared.token.Token.{Token}
 use Rattle.cal_parser.specs.declared.actions.Opening.{Opening}
 use Rattle.cal_parser.specs.declared.actions.Start.{Start}

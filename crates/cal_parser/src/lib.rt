@@ -9,6 +9,8 @@ mod cursor;
 mod decls;
 mod expr;
 mod fault;
+#[cfg(test)]
+mod file_tests;
 mod files;
 mod laws;
 mod lists;
@@ -18,8 +20,6 @@ mod parse;
 mod rules;
 mod schedules;
 mod stmts;
-#[cfg(test)]
-mod tests;
 mod types;
 mod word;
 

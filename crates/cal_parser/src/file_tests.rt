@@ -29,7 +29,8 @@ fn refused(rt: &impl Abort, alloc: Global, text: &[u8], rule: Rule, offset: u32)
 
 /// Stops unless the members of the actor in the text are these.
 fn has_members(rt: &impl Abort, alloc: Global, text: &[u8], expected: &str) -> Result<(), Fail> {
-    match parsed(rt, alloc, text)?.body {
+    let file = parsed(rt, alloc, text)?;
+    match &file.body {
         Body::Actor(actor) => {
             let members = &actor.members;
             assert_eq!(rt; format!(in alloc; "{members:?}")?.as_str(), expected);
