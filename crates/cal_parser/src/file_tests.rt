@@ -228,12 +228,14 @@ fn append(text: &mut Vec<u8>, piece: &[u8], times: usize) -> Result<(), Fail> {
 
 /// A unit with a constant, which stands in so many pairs of parentheses.
 fn in_pairs(alloc: Global, inner: &[u8], pairs: usize) -> Result<Vec<u8>, Fail> {
+    let opens = vec![in alloc; b'('; pairs]?;
+    let closes = vec![in alloc; b')'; pairs]?;
     let mut text = Vec::new(alloc);
-    append(&mut text, b"unit U : int X = ", 1)?;
-    append(&mut text, b"(", pairs)?;
-    append(&mut text, inner, 1)?;
-    append(&mut text, b")", pairs)?;
-    append(&mut text, b"; end", 1)?;
+    text.extend_from_slice(b"unit U : int X = ")?;
+    text.extend_from_slice(&opens)?;
+    text.extend_from_slice(inner)?;
+    text.extend_from_slice(&closes)?;
+    text.extend_from_slice(b"; end")?;
     Ok(text)
 }
 
