@@ -18,4 +18,8 @@ mod Declarations
 mod StmtTrees
 mod Statements
 mod Tags
+mod FileAnswers
+mod ImportPaths
+mod MemberLists
+mod Openings
 mod Rows

@@ -4,6 +4,9 @@ pub mod Cursor
 pub mod Tells
 pub mod Separator
 pub mod SoFar
+pub mod ImportPath
+pub mod MembersSoFar
+pub mod Bodies
 pub mod Operators
 pub mod Spells
 pub mod Rules

@@ -1,9 +1,15 @@
 -- What is promised of the reading of a file.
-use Rattle.std.specs.Prelude.{List}
+use Rattle.std.specs.Prelude.{◌≡◌, ℕ, List, [], ◌∷◌}
+use Rattle.rvc_base.specs.declared.refusal.Rule.{Rule}
+use Rattle.rvc_base.specs.declared.refusal.Front.{Front as Answer}
+use Rattle.rvc_base.specs.declared.refusal.Front.TheVariants.{Refused, Memory}
 use Rattle.look_ahead.specs.Reading.{IsRefused, IsTooHigh}
 use Rattle.cal_lexer.specs.Lexeme.{Placed}
+use Rattle.cal_parser.specs.declared.fault.Fault.{Fault}
+use Rattle.cal_parser.specs.declared.fault.Fault.TheVariants as faults
 use Rattle.cal_parser.specs.Operators.{height, max_height}
 use Rattle.cal_parser.specs.Spells.{spells}
+use Rattle.cal_parser.specs.Token.{offset}
 
 -- what is left stands where no file's tokens go on
 abbrev pub IsNoFile : List Placed → List Placed → Type 0
@@ -12,3 +18,32 @@ IsNoFile ts left = IsRefused spells ts left
 -- what is left stands where no file of a height that is read goes on
 abbrev pub IsHighFile : List Placed → List Placed → Type 0
 IsHighFile ts left = IsTooHigh spells height max_height ts left
+
+-- the tokens spell no file
+abbrev pub spells_no_file : Rule
+spells_no_file = record { 0 = 201 }
+
+-- the tokens spell no file of a height that is read
+abbrev pub too_high : Rule
+too_high = record { 0 = 202 }
+
+-- the offset of the first of these tokens; where there is none, the end of the text
+abbrev pub place_in : ℕ → List Placed → ℕ
+place_in end [] = end
+place_in end (t ∷ ts) = offset t
+
+-- which rule of the grammar the tokens of a text of this length break, and where
+pub data Breaks (end : ℕ) (ts : List Placed) : Rule → ℕ → Type 0 where
+  breaks_off : (left : List Placed) → IsNoFile ts left → Breaks end ts spells_no_file (place_in end left)
+  grows_high : (t : Placed) (left : List Placed) → IsHighFile ts (t ∷ left) → Breaks end ts too_high (offset t)
+
+-- a refusal names this file, and what its tokens break; want of memory says nothing of them
+abbrev pub IsRightly : ℕ → ℕ → List Placed → Answer → Type 0
+IsRightly number end ts (Refused refusal) = (refusal.place.file ≡ number) × Breaks end ts refusal.rule refusal.place.offset
+IsRightly number end ts Memory = Unit {0}
+
+-- the answer where a file isn't read, for this reason at this offset
+abbrev pub answer_of : Fault → ℕ → ℕ → Answer
+answer_of faults.Refused number at = Refused (record { rule = spells_no_file; place = record { file = number; offset = at } })
+answer_of faults.TooHigh number at = Refused (record { rule = too_high; place = record { file = number; offset = at } })
+answer_of faults.Memory number at = Memory

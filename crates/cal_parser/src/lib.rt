@@ -4,15 +4,25 @@
 //! as programs that look one token ahead. `proofs/` shows that they read exactly what is spelled.
 #![tactic(auto)]
 
+mod actions;
 mod cursor;
 mod decls;
 mod expr;
 mod fault;
+#[cfg(test)]
+mod file_tests;
+mod files;
 mod laws;
 mod lists;
+mod members;
 mod names;
+mod parse;
+mod rules;
+mod schedules;
 mod stmts;
 mod types;
 mod word;
 
 pub use laws::one_tree;
+pub use parse::parse_file;
+pub use rules::{MAX_HEIGHT, SPELLS_NO_FILE, TOO_HIGH};

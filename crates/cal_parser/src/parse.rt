@@ -1,0 +1,68 @@
+//! Reading the file that tokens spell.
+
+ghost use Rattle.std.specs.Prelude.{◌≡◌, ◌≤◌, IfOk, IfErr, MatchResult};
+ghost use Rattle.cal_ast.specs.Tree.{Tree};
+ghost use Rattle.cal_ast.specs.View.{file_tree};
+ghost use Rattle.cal_lexer.specs.Lexeme.{plain_tokens};
+ghost use Rattle.cal_parser.specs.Operators.{height, max_height};
+ghost use Rattle.cal_parser.specs.Refusals.{IsRightly, answer_of, place_in};
+ghost use Rattle.cal_parser.specs.Spells.{spells};
+
+use crate::fault::Fault;
+use crate::files::whole;
+use crate::rules::{MAX_HEIGHT, SPELLS_NO_FILE, TOO_HIGH};
+use cal_ast::File;
+use cal_lexer::Token;
+use rvc_base::{Front, Place, Refusal};
+use std::alloc::Global;
+
+/// The file that the tokens of a text spell. The text is the file of this number, and `end` is its length.
+///
+/// A list of tokens spells at most one tree, and one of a height of at most [`MAX_HEIGHT`] is always read, unless
+/// memory is wanting.
+///
+/// # Errors
+///
+/// `Refused` with [`SPELLS_NO_FILE`] at a token such that no file's tokens begin with those up to and including
+/// it, or at `end` where all the tokens together spell none; with [`TOO_HIGH`] at a token such that no file of a
+/// height of at most [`MAX_HEIGHT`] has tokens that begin with those up to and including it. And `Memory`.
+pub fn parse_file(alloc: Global, file: u32, tokens: &[Token], end: u32) -> Result<File, Front>
+    ensures spelled { IfOk result (λ f. spells (plain_tokens tokens.now) (file_tree f)) }
+    ensures low { IfOk result (λ f. height (file_tree f) ≤ max_height) }
+    ensures refused { IfErr result (IsRightly file end (plain_tokens tokens.now)) }
+    ensures read { (x : Tree) → spells (plain_tokens tokens.now) x → height x ≤ max_height → MatchResult result (λ f. file_tree f ≡ x) (λ e. e ≡ Front.Memory) }
+{
+    let mut left = tokens;
+    match whole(alloc, &mut left, MAX_HEIGHT) {
+        Ok(found) => Ok(found),
+        Err(fault) => Err(answer(fault, file, place(left, end))),
+    }
+}
+
+/// The offset of the first token, or the end of the text.
+fn place(tokens: &[Token], end: u32) -> u32
+    ensures { result ≡ place_in end (plain_tokens tokens.now) }
+{
+    match tokens.first() {
+        None => end,
+        Some(token) => token.at,
+    }
+}
+
+/// Why a file isn't read, where it is known why and at which offset.
+fn answer(fault: Fault, file: u32, offset: u32) -> Front
+    ensures { result ≡ answer_of fault file offset }
+{
+    let place = Place { file, offset };
+    match fault {
+        Fault::Refused => Front::Refused(Refusal {
+            rule: SPELLS_NO_FILE,
+            place,
+        }),
+        Fault::TooHigh => Front::Refused(Refusal {
+            rule: TOO_HIGH,
+            place,
+        }),
+        Fault::Memory => Front::Memory,
+    }
+}
