@@ -8,3 +8,5 @@ pub mod Operators
 pub mod Spells
 pub mod Rules
 pub mod Refusals
+pub mod Leading
+pub mod Steps

@@ -5,9 +5,19 @@
 #![tactic(auto)]
 
 mod cursor;
+mod expr;
 mod fault;
+mod forms;
 mod laws;
+mod leading;
+mod leaves;
 mod names;
+mod operators;
+mod pairs;
+mod tall;
+#[cfg(test)]
+mod tests;
+mod types;
 mod word;
 
 pub use laws::one_tree;
