@@ -14,3 +14,9 @@ mod Lists
 mod NameLists
 mod Tags
 mod Rows
+mod Climbing
+mod Nesting
+mod Going
+mod Chains
+mod Primaries
+mod Views

@@ -14,7 +14,7 @@ use Rattle.cal_parser.specs.declared.tall.TallType.{TallType}
 use Rattle.cal_parser.specs.declared.tall.TallTypeArg.{TallTypeArg}
 use Rattle.cal_parser.specs.declared.tall.TallTypeArgs.{TallTypeArgs}
 use Rattle.cal_parser.specs.Operators.{group, height, place}
-use Rattle.cal_parser.specs.Rules.{Step, chain, expect, finish, read}
+use Rattle.cal_parser.specs.Rules.{Rule, Step, chain, expect, finish, read}
 use Rattle.cal_parser.specs.Tells.{TellsFault}
 use Rattle.cal_parser.specs.Token.{here, offset, same_word, value_of}
 
@@ -29,8 +29,11 @@ Answers view o (Err fault) new = TellsFault fault new o
 
 -- the same of a step
 abbrev pub Does : {A : Type 0} → (A → Tree) → ℕ → Step → Result A Fault → List Token → List Token → Type 0
-Does view m p (Ok x) old new = does m p (plain_tokens old) ≡ Gave (view x) (plain_tokens new)
-Does view m p (Err fault) old new = TellsFault fault new (does m p (plain_tokens old))
+Does view m p result old new = Answers view (does m p (plain_tokens old)) result new
+
+-- the same of a rule
+abbrev pub Reads : {A : Type 0} → (A → Tree) → ℕ → Rule → Result A Fault → List Token → List Token → Type 0
+Reads view m r result old new = Answers view (read m r (plain_tokens old)) result new
 
 -- the trees of parts with their heights
 

@@ -10,7 +10,7 @@ ghost use Rattle.look_ahead.specs.Program.{check, take};
 ghost use Rattle.cal_parser.specs.Cursor.{stands};
 ghost use Rattle.cal_parser.specs.Rules.{if_body, list_body, name_body, part, places, type_tail};
 ghost use Rattle.cal_parser.specs.Spells.{a_gen, a_primary, a_type, a_type_arg, an_expr, any, comma, level, separated};
-ghost use Rattle.cal_parser.specs.Steps.{Answers, Does, climbs, each_expr, each_gen, each_type_arg, tall_gen, tall_tree, tall_type, tall_type_arg};
+ghost use Rattle.cal_parser.specs.Steps.{Answers, Does, Reads, climbs, each_expr, each_gen, each_type_arg, tall_gen, tall_tree, tall_type, tall_type_arg};
 ghost use Rattle.cal_parser.specs.Tells.{Tells, each};
 ghost use Rattle.cal_parser.specs.Token.{names, same_word};
 
@@ -87,7 +87,7 @@ fn level_expr(
     room: u32,
     top: u8,
 ) -> Result<TallExpr, Fault>
-    ensures told { Tells tall_tree room (part (level top)) result tokens.old.now tokens.new.now }
+    ensures told { Reads tall_tree room (part (level top)) result tokens.old.now tokens.new.now }
     ensures low { IfOk result (λ x. x.high ≤ room) }
 {
     let mut opens = take_opens(alloc, tokens)?;
@@ -136,7 +136,7 @@ fn indexes(
     first: TallExpr,
 ) -> Result<TallExpr, Fault>
     requires { first.high ≤ room }
-    ensures told { Tells tall_tree room (places (tall_tree first)) result tokens.old.now tokens.new.now }
+    ensures told { Reads tall_tree room (places (tall_tree first)) result tokens.old.now tokens.new.now }
     ensures low { IfOk result (λ x. x.high ≤ room) }
 {
     let mut base = first;
@@ -155,7 +155,7 @@ fn indexes(
 #[cycle(reading)]
 fn operand(alloc: Global, tokens: &mut &[Token], room: u32) -> Result<TallExpr, Fault>
     requires { stands (same_word LeftParen) tokens.old.now ≡ false }
-    ensures told { Tells tall_tree room (part (level 0)) result tokens.old.now tokens.new.now }
+    ensures told { Reads tall_tree room (part (level 0)) result tokens.old.now tokens.new.now }
     ensures low { IfOk result (λ x. x.high ≤ room) }
 {
     if is_prefix(tokens) {
@@ -171,7 +171,7 @@ fn operand(alloc: Global, tokens: &mut &[Token], room: u32) -> Result<TallExpr, 
 #[cycle(reading)]
 fn primary(alloc: Global, tokens: &mut &[Token], room: u32) -> Result<TallExpr, Fault>
     requires { stands (same_word LeftParen) tokens.old.now ≡ false }
-    ensures told { Tells tall_tree room (part a_primary) result tokens.old.now tokens.new.now }
+    ensures told { Reads tall_tree room (part a_primary) result tokens.old.now tokens.new.now }
     ensures low { IfOk result (λ x. x.high ≤ room) }
 {
     if is_number(tokens) {
@@ -254,7 +254,7 @@ fn bracketed(alloc: Global, tokens: &mut &[Token], room: u32) -> Result<TallExpr
 /// Any number of expressions, with commas between them.
 #[cycle(reading)]
 fn tall_args(alloc: Global, tokens: &mut &[Token], room: u32) -> Result<TallExprs, Fault>
-    ensures told { Tells each_expr room (part (any comma an_expr)) result tokens.old.now tokens.new.now }
+    ensures told { Reads each_expr room (part (any comma an_expr)) result tokens.old.now tokens.new.now }
     ensures low { IfOk result (λ xs. xs.high ≤ room) }
 {
     if !starts_expr(tokens) {
@@ -266,7 +266,7 @@ fn tall_args(alloc: Global, tokens: &mut &[Token], room: u32) -> Result<TallExpr
 /// One expression or more, with commas between them.
 #[cycle(reading)]
 fn tall_exprs(alloc: Global, tokens: &mut &[Token], room: u32) -> Result<TallExprs, Fault>
-    ensures told { Tells each_expr room (part (separated comma an_expr)) result tokens.old.now tokens.new.now }
+    ensures told { Reads each_expr room (part (separated comma an_expr)) result tokens.old.now tokens.new.now }
     ensures low { IfOk result (λ xs. xs.high ≤ room) }
 {
     let mut found = no_exprs(alloc);
@@ -283,7 +283,7 @@ fn tall_exprs(alloc: Global, tokens: &mut &[Token], room: u32) -> Result<TallExp
 /// One generator or more, with commas between them.
 #[cycle(reading)]
 fn tall_gens(alloc: Global, tokens: &mut &[Token], room: u32) -> Result<TallGens, Fault>
-    ensures told { Tells each_gen room (part (separated comma a_gen)) result tokens.old.now tokens.new.now }
+    ensures told { Reads each_gen room (part (separated comma a_gen)) result tokens.old.now tokens.new.now }
     ensures low { IfOk result (λ xs. xs.high ≤ room) }
 {
     let mut found = no_gens(alloc);
@@ -300,7 +300,7 @@ fn tall_gens(alloc: Global, tokens: &mut &[Token], room: u32) -> Result<TallGens
 /// A generator.
 #[cycle(reading)]
 fn generator(alloc: Global, tokens: &mut &[Token], room: u32) -> Result<TallGen, Fault>
-    ensures told { Tells tall_gen room (part a_gen) result tokens.old.now tokens.new.now }
+    ensures told { Reads tall_gen room (part a_gen) result tokens.old.now tokens.new.now }
     ensures low { IfOk result (λ x. x.high ≤ room) }
 {
     let at = expect(tokens, Word::For)?;
@@ -316,7 +316,7 @@ fn generator(alloc: Global, tokens: &mut &[Token], room: u32) -> Result<TallGen,
 /// A type.
 #[cycle(reading)]
 fn tall_type(alloc: Global, tokens: &mut &[Token], room: u32) -> Result<TallType, Fault>
-    ensures told { Tells tall_type room (part a_type) result tokens.old.now tokens.new.now }
+    ensures told { Reads tall_type room (part a_type) result tokens.old.now tokens.new.now }
     ensures low { IfOk result (λ x. x.high ≤ room) }
 {
     if !is_name(tokens) {
@@ -334,7 +334,7 @@ fn tall_type(alloc: Global, tokens: &mut &[Token], room: u32) -> Result<TallType
 /// One argument of a type or more, with commas between them.
 #[cycle(reading)]
 fn type_args(alloc: Global, tokens: &mut &[Token], room: u32) -> Result<TallTypeArgs, Fault>
-    ensures told { Tells each_type_arg room (part (separated comma a_type_arg)) result tokens.old.now tokens.new.now }
+    ensures told { Reads each_type_arg room (part (separated comma a_type_arg)) result tokens.old.now tokens.new.now }
     ensures low { IfOk result (λ xs. xs.high ≤ room) }
 {
     let mut found = no_type_args(alloc);
@@ -351,7 +351,7 @@ fn type_args(alloc: Global, tokens: &mut &[Token], room: u32) -> Result<TallType
 /// An argument of a type.
 #[cycle(reading)]
 fn type_arg(alloc: Global, tokens: &mut &[Token], room: u32) -> Result<TallTypeArg, Fault>
-    ensures told { Tells tall_type_arg room (part a_type_arg) result tokens.old.now tokens.new.now }
+    ensures told { Reads tall_type_arg room (part a_type_arg) result tokens.old.now tokens.new.now }
     ensures low { IfOk result (λ x. x.high ≤ room) }
 {
     let name = name(alloc, tokens)?;

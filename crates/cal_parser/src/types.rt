@@ -1,6 +1,6 @@
 //! Types, their arguments, and generators, as they are made of their parts.
 
-ghost use Rattle.std.specs.Prelude.{◌≡◌, ◌≤◌, ◌-◌, ◌++◌, ◌∷◌, [], IfOk, map, max, string_bytes};
+ghost use Rattle.std.specs.Prelude.{◌≡◌, ◌+◌, ◌≤◌, ◌-◌, ◌++◌, ◌∷◌, [], IfOk, map, max, string_bytes};
 ghost use Rattle.cal_ast.specs.Tree.{gen, nil, type_of, shape_arg as shape_arg_tree, value_arg as value_arg_tree};
 ghost use Rattle.cal_ast.specs.View.{expr_tree, gen_tree, ident_tree, type_arg_tree, type_tree};
 ghost use Rattle.cal_parser.specs.Steps.{Does, each_type_arg, tall_type, type_step};
