@@ -44,9 +44,9 @@ chain_none m n x now none =
 
 chain_high : (m n : ℕ) (x : Tree) (now new : List Token) → stands (at_level n) now ≡ true → HasNoRoom m (suc (height x)) now new → read m (chain n x) (plain_tokens now) ≡ TooHigh (plain_tokens new)
 unfolding chain_takes
-chain_high m n x now new one no =
+chain_high m n x now new one lacks =
     let start : read m (chain n x) (plain_tokens now) ≡ does m (ask (here (at_level n)) (check (suc (height x)) (take (chain_takes n x))) (give x)) (plain_tokens now) = read_is m (chain n x) (plain_tokens now) in
-    high_on (read m (chain n x) (plain_tokens now)) m (suc (height x)) (take (chain_takes n x)) now new (yes_on (read m (chain n x) (plain_tokens now)) m (at_level n) (check (suc (height x)) (take (chain_takes n x))) (give x) now start one) no
+    high_on (read m (chain n x) (plain_tokens now)) m (suc (height x)) (take (chain_takes n x)) now new (yes_on (read m (chain n x) (plain_tokens now)) m (at_level n) (check (suc (height x)) (take (chain_takes n x))) (give x) now start one) lacks
 
 -- how far the levels have come: from the level n on
 pub record IsClimbed (m top : ℕ) (x : Tree) (start : List Token) (n : ℕ) (y : Tree) (now : List Token) : Type 0 where
@@ -153,15 +153,15 @@ module _ (m : ℕ) (x : Tree) (start : List Token) (y : Tree) (now : List Token)
 
   -- behind a bracket
   module _ (q : ℕ) (mid : List Token) (took : Took Lexeme.LeftBracket q now mid) (low : height y < m) where
-    far_on : read m (places x) (plain_tokens start) ≡ after (read (m - 1) (part an_expr) (plain_tokens mid)) (places_on m y)
-    far_on = i.far ∙ places_goes m y q now mid took low
+    index_on : read m (places x) (plain_tokens start) ≡ after (read (m - 1) (part an_expr) (plain_tokens mid)) (places_on m y)
+    index_on = i.far ∙ places_goes m y q now mid took low
 
     pub indexed_fault : (fault : Fault) (new : List Token) → TellsFault fault new (read (m - 1) (part an_expr) (plain_tokens mid)) → TellsFault fault new (read m (places x) (plain_tokens start))
-    indexed_fault fault new h = fault_on (read m (places x) (plain_tokens start)) (read (m - 1) (part an_expr) (plain_tokens mid)) (places_on m y) fault new far_on h
+    indexed_fault fault new h = fault_on (read m (places x) (plain_tokens start)) (read (m - 1) (part an_expr) (plain_tokens mid)) (places_on m y) fault new index_on h
 
     inside : (at : Tree) (left : List Token) → read (m - 1) (part an_expr) (plain_tokens mid) ≡ Gave at (plain_tokens left) → read m (places x) (plain_tokens start) ≡ after (does m (index_step y at) (plain_tokens left)) (λ z l. read m (places z) l)
     inside at left e =
-        gave_on (read m (places x) (plain_tokens start)) (read (m - 1) (part an_expr) (plain_tokens mid)) (places_on m y) at (plain_tokens left) far_on e
+        gave_on (read m (places x) (plain_tokens start)) (read (m - 1) (part an_expr) (plain_tokens mid)) (places_on m y) at (plain_tokens left) index_on e
         ∙ jump_behind m Lexeme.RightBracket (index y at (place y)) (plain_tokens left)
 
     pub indexed_open : (at : Tree) (left : List Token) (fault : Fault) (new : List Token) → read (m - 1) (part an_expr) (plain_tokens mid) ≡ Gave at (plain_tokens left) → TellsFault fault new (does m (index_step y at) (plain_tokens left)) → TellsFault fault new (read m (places x) (plain_tokens start))

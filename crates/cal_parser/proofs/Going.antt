@@ -1,5 +1,5 @@
 -- How an outcome goes on, step by step, as the code does.
-use Rattle.std.proofs.Common.{◌≡◌, ℕ, ◌<◌, ◌≤◌, Bool, true, false, List, Result, Ok, Err, nat_le, length, refl, sym, ap, ◌∙◌, subst, arith}
+use Rattle.std.proofs.Common.{◌≡◌, ℕ, ◌<◌, ◌≤◌, Bool, true, false, List, Result, Ok, Err, length, refl, sym, ap, ◌∙◌, subst, arith}
 use Rattle.std.proofs.lemmas.Bool.{le-leb, lt-leb}
 use Rattle.look_ahead.specs.Program.{Outcome, Gave, Refused, TooHigh, Spent, ahead, after, fail, ask, take, check}
 use Rattle.cal_ast.specs.Tree.{Tree}
@@ -36,10 +36,22 @@ gave_on S o f x ts s e = s ∙ ap (λ v. after v f) e
 pub fault_on : (S o : Outcome Placed Tree) (f : Next) (fault : Fault) (new : List Token) → S ≡ after o f → TellsFault fault new o → TellsFault fault new S
 fault_on S o f fault new s h = fault_same fault new S (after o f) s (fault_after fault new o f h)
 
-refused_on : (S : Outcome Placed Tree) (m : ℕ) (f : Lexeme → Bool) (p : Step) (old new : List Token) → S ≡ does m (ask (here f) p fail) (plain_tokens old) → Stays f old new → S ≡ Refused (plain_tokens new)
-refused_on S m f p old new s h =
-    let none : here f (ahead (plain_tokens old)) ≡ false = h.0 in
-    s ∙ rw none (ap (λ l. Refused (plain_tokens l)) (sym h.1))
+-- a question, and a test of the room
+
+ask_no : (m : ℕ) (f : Lexeme → Bool) (p other : Step) (ts : List Placed) → here f (ahead ts) ≡ false → does m (ask (here f) p other) ts ≡ does m other ts
+ask_no m f p other ts e = subst (λ b. ◌≡◌ {A = Outcome Placed Tree} (elim b [ true ↦ does m p ts | false ↦ does m other ts ]) (does m other ts)) (sym e) refl
+
+ask_yes : (m : ℕ) (f : Lexeme → Bool) (p other : Step) (ts : List Placed) → here f (ahead ts) ≡ true → does m (ask (here f) p other) ts ≡ does m p ts
+ask_yes m f p other ts e = subst (λ b. ◌≡◌ {A = Outcome Placed Tree} (elim b [ true ↦ does m p ts | false ↦ does m other ts ]) (does m p ts)) (sym e) refl
+
+pub check_low : (m h : ℕ) (p : Step) (ts : List Placed) → h ≤ m → does m (check h p) ts ≡ does m p ts
+check_low m h p ts low = subst (λ b. ◌≡◌ {A = Outcome Placed Tree} (elim b [ true ↦ does m p ts | false ↦ TooHigh ts ]) (does m p ts)) (sym (le-leb h m low)) refl
+
+check_high : (m h : ℕ) (p : Step) (ts : List Placed) → m < h → does m (check h p) ts ≡ TooHigh ts
+check_high m h p ts high = subst (λ b. ◌≡◌ {A = Outcome Placed Tree} (elim b [ true ↦ does m p ts | false ↦ TooHigh ts ]) (TooHigh ts)) (sym (lt-leb h m high)) refl
+
+pub refused_on : (S : Outcome Placed Tree) (m : ℕ) (f : Lexeme → Bool) (p : Step) (old new : List Token) → S ≡ does m (ask (here f) p fail) (plain_tokens old) → Stays f old new → S ≡ Refused (plain_tokens new)
+refused_on S m f p old new s h = s ∙ ask_no m f p fail (plain_tokens old) h.0 ∙ ap (λ l. Refused (plain_tokens l)) (sym h.1)
 
 -- a word doesn't come
 pub begin_on : (S : Outcome Placed Tree) (m : ℕ) (w : Lexeme) (next : Placed → Step) (fault : Fault) (old new : List Token) → S ≡ does m (ask (here (same_word w)) (take next) fail) (plain_tokens old) → TookWord w (Err fault) old new → TellsFault fault new S
@@ -58,19 +70,17 @@ named_on S m next faults.Memory old new s h = tt
 
 -- a question that is answered by no
 pub not_on : (S : Outcome Placed Tree) (m : ℕ) (f : Lexeme → Bool) (p other : Step) (old : List Token) → S ≡ does m (ask (here f) p other) (plain_tokens old) → stands f old ≡ false → S ≡ does m other (plain_tokens old)
-not_on S m f p other old s h = let none : here f (ahead (plain_tokens old)) ≡ false = h in s ∙ rw none refl
+not_on S m f p other old s h = s ∙ ask_no m f p other (plain_tokens old) h
 
 pub yes_on : (S : Outcome Placed Tree) (m : ℕ) (f : Lexeme → Bool) (p other : Step) (old : List Token) → S ≡ does m (ask (here f) p other) (plain_tokens old) → stands f old ≡ true → S ≡ does m p (plain_tokens old)
-yes_on S m f p other old s h = let one : here f (ahead (plain_tokens old)) ≡ true = h in s ∙ rw one refl
+yes_on S m f p other old s h = s ∙ ask_yes m f p other (plain_tokens old) h
 
 -- what fits the room
 pub fits_on : (S : Outcome Placed Tree) (m h : ℕ) (p : Step) (ts : List Placed) → S ≡ does m (check h p) ts → h ≤ m → S ≡ does m p ts
-fits_on S m h p ts s low = let one : nat_le h m ≡ true = le-leb h m low in s ∙ rw one refl
+fits_on S m h p ts s low = s ∙ check_low m h p ts low
 
 pub high_on : (S : Outcome Placed Tree) (m h : ℕ) (p : Step) (old new : List Token) → S ≡ does m (check h p) (plain_tokens old) → HasNoRoom m h old new → S ≡ TooHigh (plain_tokens new)
-high_on S m h p old new s no =
-    let none : nat_le h m ≡ false = lt-leb h m no.0 in
-    s ∙ rw none (ap (λ l. TooHigh (plain_tokens l)) (sym no.1))
+high_on S m h p old new s lacks = s ∙ check_high m h p (plain_tokens old) lacks.0 ∙ ap (λ l. TooHigh (plain_tokens l)) (sym lacks.1)
 
 -- a word or a name that begins a part
 pub word_led : (S : Outcome Placed Tree) (m : ℕ) (w : Lexeme) (next : Placed → Step) (fault : Fault) (old new : List Token) → S ≡ does m (check 1 (take next)) (plain_tokens old) → LedByWord m w (Err fault) old new → TellsFault fault new S

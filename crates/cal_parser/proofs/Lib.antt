@@ -20,3 +20,5 @@ mod Going
 mod Chains
 mod Primaries
 mod Views
+mod Exits
+mod Pushed

@@ -15,7 +15,7 @@ use Rattle.cal_parser.specs.Token.{counts, here, names, offset, same_word, text_
 use Rattle.cal_parser.specs.declared.fault.Fault.{Fault}
 use Rattle.cal_parser.specs.declared.fault.Fault.TheVariants as faults
 use Rattle.cal_parser.proofs.Climbing.{Next}
-use Rattle.cal_parser.proofs.Going.{begin_on, name_led, named_on, yes_on}
+use Rattle.cal_parser.proofs.Going.{begin_on, check_low, name_led, named_on, yes_on}
 use Rattle.cal_parser.proofs.Lists
 use Rattle.cal_parser.proofs.Reading.{read_is}
 
@@ -70,20 +70,19 @@ module _ (m : ℕ) (old : List Token) where
 
 taken_here : (m : ℕ) (next : Placed → Step) (k : Lexeme) (q : ℕ) (old mid : List Token) → Took k q old mid → 1 ≤ m → does m (check 1 (take next)) (plain_tokens old) ≡ does m (next (placed k q)) (plain_tokens mid)
 taken_here m next k q old mid took low =
-    let one : nat_le 1 m ≡ true = le-leb 1 m low in
-    ap (λ l. does m (check 1 (take next)) l) took ∙ rw one refl
+    ap (λ l. does m (check 1 (take next)) l) took ∙ check_low m 1 (take next) (placed k q ∷ plain_tokens mid) low
 
 -- variables and calls
 
 pub named_alone : (m : ℕ) (s : List ℕ) (q : ℕ) (old mid : List Token) → Took (Lexeme.Name s) q old mid → 1 ≤ m → stands (same_word Lexeme.LeftParen) mid ≡ false → does m (check 1 (take name_body)) (plain_tokens old) ≡ Gave (variable s q) (plain_tokens mid)
 named_alone m s q old mid took low none =
     let none_here : here (same_word Lexeme.LeftParen) (ahead (plain_tokens mid)) ≡ false = none in
-    let alone : does m (name_body (placed (Lexeme.Name s) q)) (plain_tokens mid) ≡ Gave (variable s q) (plain_tokens mid) = rw none_here refl in
+    let alone : exec read m (name_body (placed (Lexeme.Name s) q)) (plain_tokens mid) ≡ Gave (variable s q) (plain_tokens mid) = rw (none_here, exec) refl in
     taken_here m name_body (Lexeme.Name s) q old mid took low ∙ alone
 
 pub named_call : (m : ℕ) (s : List ℕ) (q r : ℕ) (old mid l : List Token) → Took (Lexeme.Name s) q old mid → 1 ≤ m → Took Lexeme.LeftParen r mid l → does m (check 1 (take name_body)) (plain_tokens old) ≡ after (read (m - 1) (part (any comma an_expr)) (plain_tokens l)) (λ xs left. does m (call_step s q xs) left)
-named_call m s q r old mid l took low open =
-    taken_here m name_body (Lexeme.Name s) q old mid took low ∙ ap (λ v. does m (name_body (placed (Lexeme.Name s) q)) v) open
+named_call m s q r old mid l took low paren =
+    taken_here m name_body (Lexeme.Name s) q old mid took low ∙ ap (λ v. does m (name_body (placed (Lexeme.Name s) q)) v) paren
 
 -- `if`: behind the test, and behind what it gives where it holds
 
@@ -121,7 +120,7 @@ list_alone m q x a colon none =
     let colon_here : here (same_word Lexeme.Colon) (ahead (plain_tokens a)) ≡ false = colon in
     let none_here : here (same_word Lexeme.Comma) (ahead (plain_tokens a)) ≡ false = none in
     let ends : read (m - 1) (part (rest comma an_expr)) (plain_tokens a) ≡ Gave nil (plain_tokens a) = rw (read_is (m - 1) (part (rest comma an_expr)) (plain_tokens a), none_here, exec) refl in
-    let opens : list_on m q x (plain_tokens a) ≡ after (read (m - 1) (part (rest comma an_expr)) (plain_tokens a)) (λ xs left. does m (list_step q (cons x xs)) left) = rw colon_here refl in
+    let opens : exec read m (on Lexeme.Colon (enter (part (separated comma a_gen)) (λ gs. comp_step q x gs)) (enter (part (rest comma an_expr)) (λ xs. list_step q (cons x xs)))) (plain_tokens a) ≡ after (read (m - 1) (part (rest comma an_expr)) (plain_tokens a)) (λ xs left. does m (list_step q (cons x xs)) left) = rw (colon_here, exec) refl in
     opens ∙ ap (λ o. after o (λ xs left. does m (list_step q (cons x xs)) left)) ends
 
 pub list_more : (m q r : ℕ) (x : Tree) (a b : List Token) → Took Lexeme.Comma r a b → list_on m q x (plain_tokens a) ≡ after (read (m - 1) (part (separated comma an_expr)) (plain_tokens b)) (λ xs left. does m (list_step q (cons x xs)) left)
@@ -251,7 +250,8 @@ arg_colon m s q r a b took = ap (λ l. arg_on m s q l) took
 pub arg_other : (m : ℕ) (s : List ℕ) (q : ℕ) (a : List Token) → stands (same_word Lexeme.Colon) a ≡ false → arg_on m s q (plain_tokens a) ≡ does m (expect Lexeme.Equal (arg_value s q)) (plain_tokens a)
 arg_other m s q a none =
     let none_here : here (same_word Lexeme.Colon) (ahead (plain_tokens a)) ≡ false = none in
-    rw none_here refl
+    let other : exec read m (on Lexeme.Colon (invoke (part a_type) (λ x. give (shape_arg (ident s q) x))) (expect Lexeme.Equal (arg_value s q))) (plain_tokens a) ≡ does m (expect Lexeme.Equal (arg_value s q)) (plain_tokens a) = rw (none_here, exec) refl in
+    other
 
 pub arg_no : (m : ℕ) (s : List ℕ) (q : ℕ) (fault : Fault) (a new : List Token) → stands (same_word Lexeme.Colon) a ≡ false → TookWord Lexeme.Equal (Err fault) a new → TellsFault fault new (arg_on m s q (plain_tokens a))
 arg_no m s q fault a new none h = begin_on (arg_on m s q (plain_tokens a)) m Lexeme.Equal (λ t. arg_value s q) fault a new (arg_other m s q a none) h

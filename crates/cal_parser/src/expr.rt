@@ -26,8 +26,8 @@ use crate::operators::{LOOSEST, is_operator, is_prefix, take_operator, take_pref
 use crate::pairs::{close_pair, take_opens};
 use crate::tall::{TallExpr, TallExprs, TallGen, TallGens, TallType, TallTypeArg, TallTypeArgs};
 use crate::types::{
-    bare_type, closed_type, generated, no_gens, no_type_args, shape_arg, value_arg,
-    with_gen, with_type_arg,
+    bare_type, closed_type, generated, no_gens, no_type_args, shape_arg, value_arg, with_gen,
+    with_type_arg,
 };
 use crate::word::Word;
 use cal_ast::{Expr, Ident, TypeExpr};
@@ -38,28 +38,32 @@ use std::alloc::Global;
 pub fn expr(alloc: Global, tokens: &mut &[Token], room: u32) -> Result<Expr, Fault>
     ensures { Tells expr_tree room (part an_expr) result tokens.old.now tokens.new.now }
 {
-    Ok(level_expr(alloc, tokens, room, LOOSEST)?.expr)
+    let found = level_expr(alloc, tokens, room, LOOSEST)?;
+    Ok(found.expr)
 }
 
 /// One expression or more, with commas between them.
 pub fn exprs(alloc: Global, tokens: &mut &[Token], room: u32) -> Result<Vec<Expr>, Fault>
     ensures { Tells (each expr_tree) room (part (separated comma an_expr)) result tokens.old.now tokens.new.now }
 {
-    Ok(tall_exprs(alloc, tokens, room)?.exprs)
+    let found = tall_exprs(alloc, tokens, room)?;
+    Ok(found.exprs)
 }
 
 /// Any number of expressions, with commas between them.
 pub fn args(alloc: Global, tokens: &mut &[Token], room: u32) -> Result<Vec<Expr>, Fault>
     ensures { Tells (each expr_tree) room (part (any comma an_expr)) result tokens.old.now tokens.new.now }
 {
-    Ok(tall_args(alloc, tokens, room)?.exprs)
+    let found = tall_args(alloc, tokens, room)?;
+    Ok(found.exprs)
 }
 
 /// A type.
 pub fn type_expr(alloc: Global, tokens: &mut &[Token], room: u32) -> Result<TypeExpr, Fault>
     ensures { Tells type_tree room (part a_type) result tokens.old.now tokens.new.now }
 {
-    Ok(tall_type(alloc, tokens, room)?.shape)
+    let found = tall_type(alloc, tokens, room)?;
+    Ok(found.shape)
 }
 
 /// A type whose name is taken.
@@ -72,11 +76,13 @@ pub fn type_after(
     ensures { Tells type_tree room (type_tail (string_bytes name.text) name.at) result tokens.old.now tokens.new.now }
 {
     if !is_word(tokens, Word::LeftParen) {
-        return Ok(bare_type(alloc, name).shape);
+        let found = bare_type(alloc, name);
+        return Ok(found.shape);
     }
     take_word(tokens, Word::LeftParen);
     let args = type_args(alloc, tokens, room.saturating_sub(1))?;
-    Ok(closed_type(tokens, room, name, args)?.shape)
+    let found = closed_type(tokens, room, name, args)?;
+    Ok(found.shape)
 }
 
 /// Binary operations of this level and of tighter ones; 0 for an operand with its prefixes.
@@ -161,7 +167,8 @@ fn operand(alloc: Global, tokens: &mut &[Token], room: u32) -> Result<TallExpr, 
     if is_prefix(tokens) {
         let operator = take_prefix(tokens, room)?;
         let of = level_expr(alloc, tokens, room - 1, 0)?;
-        return Ok(prefixed(alloc, room, operator, of)?);
+        let found = prefixed(alloc, room, operator, of)?;
+        return Ok(found);
     }
     let first = primary(alloc, tokens, room)?;
     indexes(alloc, tokens, room, first)
@@ -338,7 +345,7 @@ fn type_args(alloc: Global, tokens: &mut &[Token], room: u32) -> Result<TallType
     ensures low { IfOk result (λ xs. xs.high ≤ room) }
 {
     let mut found = no_type_args(alloc);
-    'args: loop {
+    'items: loop {
         let next = type_arg(alloc, tokens, room)?;
         found = with_type_arg(found, next)?;
         if !is_word(tokens, Word::Comma) {

@@ -81,8 +81,8 @@ invariant-tall_gens-gens l = IsListed l.room a_gen l.fn.tokens.now (map gen_tree
 abbrev pub decreases-tall_gens-gens : goal.decreases-tall_gens-gens
 decreases-tall_gens-gens l = length l.tokens.now
 
-abbrev pub invariant-type_args-args : goal.invariant-type_args-args
-invariant-type_args-args l = IsListed l.room a_type_arg l.fn.tokens.now (map type_arg_tree l.found.args.items) l.tokens.now × (l.found.high ≤ l.room)
+abbrev pub invariant-type_args-items : goal.invariant-type_args-items
+invariant-type_args-items l = IsListed l.room a_type_arg l.fn.tokens.now (map type_arg_tree l.found.args.items) l.tokens.now × (l.found.high ≤ l.room)
 
-abbrev pub decreases-type_args-args : goal.decreases-type_args-args
-decreases-type_args-args l = length l.tokens.now
+abbrev pub decreases-type_args-items : goal.decreases-type_args-items
+decreases-type_args-items l = length l.tokens.now
