@@ -1,6 +1,6 @@
 -- Where the code that reads an operand or a type leaves, and what its rule's outcome is there.
-use Rattle.std.proofs.Common.{◌≡◌, ℕ, ◌-◌, ◌≤◌, false, List, [], ◌∷◌, ◌++◌, Option, Some, None, IsSome, Result, Err, option_to_list, length, ◌<◌, refl, sym, subst, ap, ◌∙◌, arith}
-use Rattle.look_ahead.specs.Program.{Outcome, Gave, after, check, take, invoke, enter, give}
+use Rattle.std.proofs.Common.{◌≡◌, ℕ, suc, ◌-◌, ◌≤◌, Bool, true, false, List, [], ◌∷◌, ◌++◌, Option, Some, None, IsSome, Result, Err, option_to_list, length, ◌<◌, refl, sym, subst, ap, ◌∙◌, arith}
+use Rattle.look_ahead.specs.Program.{Outcome, Gave, Refused, after, check, take, invoke, enter, give}
 use Rattle.cal_ast.specs.Tree.{Tree, cons, ident, gen, nil, shape_arg, value_arg, type_of, variable}
 use Rattle.cal_lexer.specs.Lexeme.{Lexeme, Placed, plain_tokens}
 use Rattle.cal_lexer.specs.declared.token.Token.{Token}
@@ -10,11 +10,12 @@ use Rattle.cal_parser.specs.Rules.{Step, expect, ident_of, if_body, list_body, n
 use Rattle.cal_parser.specs.Spells.{a_gen, a_type, a_type_arg, an_expr, any, comma, separated}
 use Rattle.cal_parser.specs.Steps.{Answers, call_step, comp_step, does, if_step, list_step, type_step}
 use Rattle.cal_parser.specs.Tells.{TellsFault}
-use Rattle.cal_parser.specs.Token.{names, same_word}
+use Rattle.cal_parser.specs.Token.{kind_of, names, same_word}
 use Rattle.cal_parser.specs.declared.fault.Fault.{Fault}
 use Rattle.cal_parser.specs.declared.fault.Fault.TheVariants as faults
 use Rattle.cal_parser.proofs.Climbing.{fault_same}
 use Rattle.cal_parser.proofs.Going.{answers_same, expect_on, fault_on, gave_on, name_led, named_on, word_led}
+use Rattle.cal_parser.proofs.NameLists.{length-plain}
 use Rattle.cal_parser.proofs.Primaries
 
 -- a fault that is passed on
@@ -210,4 +211,21 @@ popped old new result q e is = e ∙ ap (λ r. new ++ option_to_list r) is
 
 pub all_popped : (old : List ℕ) (n : ℕ) (result : Option ℕ) → (0 < n → IsSome result) → n ≡ length old → result ≡ None → old ≡ []
 all_popped [] n result some size none = refl
-all_popped (q ∷ qs) n result some size none = absurd (subst IsSome none (some (omega arith)))
+all_popped (q ∷ qs) n result some size none =
+    let more : n ≡ suc (length qs) = size in
+    let off : false ≡ true = subst IsSome none (some (omega arith)) in
+    cc
+
+-- behind a word that comes no more tokens are left than before it
+expect_less : (m : ℕ) (w : Lexeme) (x : Tree) (ts : List Placed) (y : Tree) (left : List Placed) → does m (expect w (give x)) ts ≡ Gave y left → length left ≤ length ts
+expect_less m w x [] y left e = absurd cc
+expect_less m w x (t ∷ l) y left e = branch (same_word w (kind_of t)) e
+  where
+    branch : (b : Bool) → ◌≡◌ {A = Outcome Placed Tree} (elim b [ true ↦ Gave x l | false ↦ Refused (t ∷ l) ]) (Gave y left) → length left ≤ length (t ∷ l)
+    branch true h = let same : length l ≡ length left = ap length (let s : l ≡ left = cc in s) in omega arith
+    branch false h = absurd cc
+
+pub word_less : (m : ℕ) (w : Lexeme) (x : Tree) (old : List Token) (y : Tree) (new : List Token) → does m (expect w (give x)) (plain_tokens old) ≡ Gave y (plain_tokens new) → length new ≤ length old
+word_less m w x old y new e =
+    let less : length (plain_tokens new) ≤ length (plain_tokens old) = expect_less m w x (plain_tokens old) y (plain_tokens new) e in
+    omega (arith, length-plain old, length-plain new)

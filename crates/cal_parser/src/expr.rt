@@ -101,7 +101,8 @@ fn level_expr(
     'pairs: while let Some(at) = opens.pop() {
         let inner = operations(alloc, tokens, room, LOOSEST, found)?;
         let pair = close_pair(alloc, tokens, room, at, inner)?;
-        found = indexes(alloc, tokens, room, pair)?;
+        let next = indexes(alloc, tokens, room, pair)?;
+        found = next;
     }
     operations(alloc, tokens, room, top, found)
 }
@@ -128,7 +129,8 @@ fn operations(
         }
         let op = take_operator(tokens, room, n, left.high)?;
         let right = level_expr(alloc, tokens, room - 1, n)?;
-        left = operation(alloc, room, op, left, right)?;
+        let next = operation(alloc, room, op, left, right)?;
+        left = next;
     }
     Ok(left)
 }
@@ -152,7 +154,8 @@ fn indexes(
         }
         take_word(tokens, Word::LeftBracket);
         let place = level_expr(alloc, tokens, room - 1, LOOSEST)?;
-        base = indexed(alloc, tokens, room, base, place)?;
+        let next = indexed(alloc, tokens, room, base, place)?;
+        base = next;
     }
     Ok(base)
 }
@@ -279,7 +282,8 @@ fn tall_exprs(alloc: Global, tokens: &mut &[Token], room: u32) -> Result<TallExp
     let mut found = no_exprs(alloc);
     'exprs: loop {
         let next = level_expr(alloc, tokens, room, LOOSEST)?;
-        found = with_expr(found, next)?;
+        let more = with_expr(found, next)?;
+        found = more;
         if !is_word(tokens, Word::Comma) {
             return Ok(found);
         }
@@ -296,7 +300,8 @@ fn tall_gens(alloc: Global, tokens: &mut &[Token], room: u32) -> Result<TallGens
     let mut found = no_gens(alloc);
     'gens: loop {
         let next = generator(alloc, tokens, room)?;
-        found = with_gen(found, next)?;
+        let more = with_gen(found, next)?;
+        found = more;
         if !is_word(tokens, Word::Comma) {
             return Ok(found);
         }
@@ -347,7 +352,8 @@ fn type_args(alloc: Global, tokens: &mut &[Token], room: u32) -> Result<TallType
     let mut found = no_type_args(alloc);
     'items: loop {
         let next = type_arg(alloc, tokens, room)?;
-        found = with_type_arg(found, next)?;
+        let more = with_type_arg(found, next)?;
+        found = more;
         if !is_word(tokens, Word::Comma) {
             return Ok(found);
         }
