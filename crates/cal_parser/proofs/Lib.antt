@@ -19,6 +19,5 @@ mod Nesting
 mod Going
 mod Chains
 mod Primaries
-mod Views
 mod Exits
 mod Pushed
