@@ -87,12 +87,7 @@ pub fn type_after(
 
 /// Binary operations of this level and of tighter ones; 0 for an operand with its prefixes.
 #[cycle(reading)]
-fn level_expr(
-    alloc: Global,
-    tokens: &mut &[Token],
-    room: u32,
-    top: u8,
-) -> Result<TallExpr, Fault>
+fn level_expr(alloc: Global, tokens: &mut &[Token], room: u32, top: u8) -> Result<TallExpr, Fault>
     ensures told { Reads tall_tree room (part (level top)) result tokens.old.now tokens.new.now }
     ensures low { IfOk result (λ x. x.high ≤ room) }
 {

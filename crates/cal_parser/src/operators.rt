@@ -25,10 +25,7 @@ fn level_of(kind: &TokenKind) -> u8
         TokenKind::Caret => 7,
         TokenKind::Ampersand => 6,
         TokenKind::Equal | TokenKind::NotEqual => 5,
-        TokenKind::Less
-        | TokenKind::LessEqual
-        | TokenKind::Greater
-        | TokenKind::GreaterEqual => 4,
+        TokenKind::Less | TokenKind::LessEqual | TokenKind::Greater | TokenKind::GreaterEqual => 4,
         TokenKind::ShiftLeft | TokenKind::ShiftRight => 3,
         TokenKind::Plus | TokenKind::Minus => 2,
         TokenKind::Star | TokenKind::Slash | TokenKind::Div | TokenKind::Mod => 1,
@@ -87,12 +84,7 @@ pub fn is_operator(tokens: &[Token], n: u8) -> bool
 }
 
 /// Takes the binary operator of the level `n + 1` at the front, behind a left side of this height.
-pub fn take_operator(
-    tokens: &mut &[Token],
-    room: u32,
-    n: u8,
-    high: u32,
-) -> Result<BinOp, Fault>
+pub fn take_operator(tokens: &mut &[Token], room: u32, n: u8, high: u32) -> Result<BinOp, Fault>
     requires { stands (at_level n) tokens.old.now ≡ true }
     ensures { TookOperator room n high result tokens.old.now tokens.new.now }
 {

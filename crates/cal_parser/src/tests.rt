@@ -105,7 +105,10 @@ fn primaries(rt: HostRuntime) -> Result<(), Fail> {
         read_expr(a, b"[1 : for int i in 2 .. 3]", 2)?.as_str(),
         "Expr { form: Comp { item: Expr { form: Number(1), at: 1 }, gens: [Gen { shape: TypeExpr { name: Ident { text: \"int\", at: 9 }, args: [], at: 9 }, name: Ident { text: \"i\", at: 13 }, from: Expr { form: Number(2), at: 18 }, to: Expr { form: Number(3), at: 23 }, at: 5 }] }, at: 0 }, 0 left"
     );
-    assert_eq!(rt; count_exprs(a, b"1, [2, 3], f(4, 5)", false)?.as_str(), "3, 0 left");
+    assert_eq!(rt;
+        count_exprs(a, b"1, [2, 3], f(4, 5)", false)?.as_str(),
+        "3, 0 left"
+    );
     assert_eq!(rt; count_exprs(a, b")", false)?.as_str(), "Refused, 1 left");
     assert_eq!(rt; count_exprs(a, b")", true)?.as_str(), "0, 1 left");
     Ok(())
@@ -114,11 +117,17 @@ fn primaries(rt: HostRuntime) -> Result<(), Fail> {
 #[test]
 fn types_with_arguments(rt: HostRuntime) -> Result<(), Fail> {
     let a = rt.alloc();
-    assert_eq!(rt; read_type(a, b"List(type, size = 2)", 2)?.as_str(), "Refused, 5 left");
+    assert_eq!(rt;
+        read_type(a, b"List(type, size = 2)", 2)?.as_str(),
+        "Refused, 5 left"
+    );
     assert_eq!(rt;
         read_type(a, b"List(type: int, size=2) x", 2)?.as_str(),
         "TypeExpr { name: Ident { text: \"List\", at: 0 }, args: [Shape { name: Ident { text: \"type\", at: 5 }, shape: TypeExpr { name: Ident { text: \"int\", at: 11 }, args: [], at: 11 } }, Value { name: Ident { text: \"size\", at: 16 }, value: Expr { form: Number(2), at: 21 } }], at: 0 }, 1 left"
     );
-    assert_eq!(rt; read_type(a, b"List(type: int)", 1)?.as_str(), "TooHigh, 2 left");
+    assert_eq!(rt;
+        read_type(a, b"List(type: int)", 1)?.as_str(),
+        "TooHigh, 2 left"
+    );
     Ok(())
 }
