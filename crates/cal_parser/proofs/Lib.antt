@@ -23,3 +23,10 @@ mod ImportPaths
 mod MemberLists
 mod Openings
 mod Rows
+mod Climbing
+mod Nesting
+mod Going
+mod Chains
+mod Primaries
+mod Exits
+mod Pushed

@@ -12,3 +12,5 @@ pub mod Spells
 pub mod Rules
 pub mod Pieces
 pub mod Refusals
+pub mod Leading
+pub mod Steps

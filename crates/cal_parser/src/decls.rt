@@ -11,11 +11,10 @@ ghost use Rattle.cal_parser.specs.Spells.{a_param, a_port, a_var, any, comma, so
 ghost use Rattle.cal_parser.specs.Tells.{Tells, each};
 
 use crate::cursor::{is_name, is_word, name, take_word};
-use crate::expr::expr;
+use crate::expr::{expr, type_expr};
 use crate::fault::Fault;
 use crate::lists::{Read, any, separated};
 use crate::names::Separator;
-use crate::types::type_expr;
 use crate::word::Word;
 use cal_ast::{Ident, Param, PortDecl, TypeExpr, VarDecl};
 use cal_lexer::Token;

@@ -13,11 +13,10 @@ ghost use Rattle.cal_parser.specs.Tells.{Tells, each};
 ghost use Rattle.cal_parser.specs.Word.{asked};
 
 use crate::cursor::{expect, finish, is_name, is_word, name, take_word};
-use crate::expr::{args, expr};
+use crate::expr::{args, expr, type_expr};
 use crate::fault::Fault;
 use crate::lists::separated;
 use crate::names::Separator;
-use crate::types::type_expr;
 use crate::word::Word;
 use cal_ast::{Expr, Ident, Stmt, StmtForm, TypeExpr, VarDecl};
 use cal_lexer::Token;

@@ -1,0 +1,64 @@
+//! Parts that are read, each with its height.
+
+ghost use Rattle.std.specs.Prelude.{◌≡◌, map};
+ghost use Rattle.cal_ast.specs.Tree.{listed};
+ghost use Rattle.cal_ast.specs.View.{expr_tree, gen_tree, type_arg_tree, type_tree};
+ghost use Rattle.cal_parser.specs.Operators.{height};
+
+use cal_ast::{Expr, Gen, TypeArg, TypeExpr};
+
+/// An expression and its height.
+#[derive(Drop)]
+pub struct TallExpr {
+    pub expr: Expr,
+    pub high: u32,
+    ghost is_high: { high ≡ height (expr_tree expr) },
+}
+
+/// Expressions and the greatest of their heights.
+#[derive(Drop)]
+pub struct TallExprs {
+    pub exprs: Vec<Expr>,
+    pub high: u32,
+    ghost is_high: { high ≡ height (listed (map expr_tree exprs.items)) },
+}
+
+/// A generator and its height.
+#[derive(Drop)]
+pub struct TallGen {
+    pub generator: Gen,
+    pub high: u32,
+    ghost is_high: { high ≡ height (gen_tree generator) },
+}
+
+/// Generators and the greatest of their heights.
+#[derive(Drop)]
+pub struct TallGens {
+    pub gens: Vec<Gen>,
+    pub high: u32,
+    ghost is_high: { high ≡ height (listed (map gen_tree gens.items)) },
+}
+
+/// A type and its height.
+#[derive(Drop)]
+pub struct TallType {
+    pub shape: TypeExpr,
+    pub high: u32,
+    ghost is_high: { high ≡ height (type_tree shape) },
+}
+
+/// An argument of a type and its height.
+#[derive(Drop)]
+pub struct TallTypeArg {
+    pub arg: TypeArg,
+    pub high: u32,
+    ghost is_high: { high ≡ height (type_arg_tree arg) },
+}
+
+/// Arguments of a type and the greatest of their heights.
+#[derive(Drop)]
+pub struct TallTypeArgs {
+    pub args: Vec<TypeArg>,
+    pub high: u32,
+    ghost is_high: { high ≡ height (listed (map type_arg_tree args.items)) },
+}
