@@ -16,7 +16,7 @@ use Rattle.cal_parser.specs.declared.fault.Fault.{Fault}
 use Rattle.cal_parser.specs.declared.fault.Fault.TheVariants as faults
 use Rattle.cal_parser.proofs.Climbing.{Next}
 use Rattle.cal_parser.proofs.Going.{begin_on, check_low, name_led, named_on, yes_on}
-use Rattle.cal_parser.proofs.Lists
+use Rattle.cal_parser.proofs.ListSteps
 use Rattle.cal_parser.proofs.Reading.{read_is}
 
 -- which primary it is
@@ -146,21 +146,21 @@ pub record IsListed (m : ℕ) (p : Part) (start : List Token) (xs : List Tree) (
   pub far : read m (part (separated comma p)) (plain_tokens start) ≡ before xs (read m (part (separated comma p)) (plain_tokens now))
 
 pub listed_first : (m : ℕ) (p : Part) (start : List Token) (xs : List Tree) → xs ≡ [] → IsListed m p start xs start
-listed_first m p start xs none = record { far = Lists.before-none (read m (part (separated comma p)) (plain_tokens start)) ∙ ap (λ l. before l (read m (part (separated comma p)) (plain_tokens start))) (sym none) }
+listed_first m p start xs none = record { far = ListSteps.before-none (read m (part (separated comma p)) (plain_tokens start)) ∙ ap (λ l. before l (read m (part (separated comma p)) (plain_tokens start))) (sym none) }
 
 module _ (m : ℕ) (p : Part) (start : List Token) (xs : List Tree) (now : List Token) (i : IsListed m p start xs now) where
   pub listed_fault : (fault : Fault) (new : List Token) → TellsFault fault new (read m (part p) (plain_tokens now)) → TellsFault fault new (read m (part (separated comma p)) (plain_tokens start))
-  listed_fault faults.Refused new h = Lists.on_refused m comma p (plain_tokens start) (plain_tokens now) xs i.far (plain_tokens new) h
-  listed_fault faults.TooHigh new h = Lists.on_high m comma p (plain_tokens start) (plain_tokens now) xs i.far (plain_tokens new) h
+  listed_fault faults.Refused new h = ListSteps.on_refused m comma p (plain_tokens start) (plain_tokens now) xs i.far (plain_tokens new) h
+  listed_fault faults.TooHigh new h = ListSteps.on_high m comma p (plain_tokens start) (plain_tokens now) xs i.far (plain_tokens new) h
   listed_fault faults.Memory new h = tt
 
   module _ (x : Tree) (mid : List Token) (item : read m (part p) (plain_tokens now) ≡ Gave x (plain_tokens mid)) (ys : List Tree) (more : ys ≡ xs ++ x ∷ []) where
     pub listed_last : stands (same_word Lexeme.Comma) mid ≡ false → read m (part (separated comma p)) (plain_tokens start) ≡ Gave (listed ys) (plain_tokens mid)
-    listed_last none = Lists.on_last m comma p (plain_tokens start) (plain_tokens now) xs i.far (plain_tokens mid) x item none ∙ ap (λ l. Gave (listed l) (plain_tokens mid)) (sym more)
+    listed_last none = ListSteps.on_last m comma p (plain_tokens start) (plain_tokens now) xs i.far (plain_tokens mid) x item none ∙ ap (λ l. Gave (listed l) (plain_tokens mid)) (sym more)
 
     pub listed_more : (q : ℕ) (new : List Token) → Took Lexeme.Comma q mid new → IsListed m p start ys new
     listed_more q new took = record {
-      far = Lists.on_more m comma p (plain_tokens start) (plain_tokens now) xs i.far (plain_tokens new) x q (item ∙ ap (λ l. Gave x l) took) ∙ ap (λ l. before l (read m (part (separated comma p)) (plain_tokens new))) (sym more);
+      far = ListSteps.on_more m comma p (plain_tokens start) (plain_tokens now) xs i.far (plain_tokens new) x q (item ∙ ap (λ l. Gave x l) took) ∙ ap (λ l. before l (read m (part (separated comma p)) (plain_tokens new))) (sym more);
     }
 
 -- generators: behind the type, its name, and the first bound
