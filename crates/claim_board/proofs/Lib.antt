@@ -1,0 +1,4 @@
+mod Sums
+mod Views
+mod Keeps
+mod Passes
