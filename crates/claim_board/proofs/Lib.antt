@@ -2,3 +2,7 @@ mod Sums
 mod Views
 mod Keeps
 mod Passes
+mod Slots
+mod Lists
+mod Gathers
+mod Closes

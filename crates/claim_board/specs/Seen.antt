@@ -1,5 +1,6 @@
 -- A board and its passes, as contracts see them.
 use Rattle.std.specs.Prelude.{◌≡◌, ◌⊎◌, ℕ, ◌+◌, ◌<◌, ◌≤◌, List, [], ◌∷◌, ◌++◌, length, Bool, true, false, Option, Some, None, slice_get}
+use Rattle.std.specs.List.{Any}
 use Rattle.atomic_table.specs.Seated.{TableId}
 use Rattle.claim_board.specs.declared.slot.Slot.{Slot}
 use Rattle.claim_board.specs.Counts.{total, times, once_below}
@@ -72,3 +73,20 @@ module _ {P : Type 0} where
     pub hand : length me.1 ≤ 1
     pub drew : Drew me.0.drawn me.0.put me.0.home me.1 ended
     pub places : (n : ℕ) → 0 < times n (me.0.home ++ places_of me.1) → n < length me.0.put
+
+  abbrev pub board_at : TableId → List P → ℕ → BoardSeen P
+  board_at id put passes = record { id = id; put = put; passes = passes }
+
+  -- a seat with no slot out that knows what these passes know
+  pub record Gathered (put : List P) (passes : List (PassSeen P)) (me : Seated P) : Type 0 where
+    pub hand : me.1 ≡ []
+    pub count : me.0.passes ≡ length passes
+    pub starts : me.0.put ≡ put
+    pub home : (place : ℕ) → times place me.0.home ≡ times_drawn place passes
+    pub places : (place : ℕ) → 0 < times place me.0.home → place < length put
+    pub drawn : (place : ℕ) → place < length put → times place me.0.drawn ≡ times_drawn place passes
+    pub ended : Any (λ pass. pass.ended ≡ true) passes → (n : ℕ) × (length put ≤ n) × (0 < times n me.0.drawn)
+
+  -- the seat of this pass
+  abbrev pub IsSeatOf : TableId → Seated P → PassSeen P → Type 0
+  IsSeatOf id me pass = (ended : Bool) × (pass_seen id me ended ≡ pass) × IsPass me ended

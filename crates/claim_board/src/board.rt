@@ -5,14 +5,17 @@ ghost use Rattle.std.specs.List.{All, Any};
 ghost use Rattle.claim_board.specs.Pieces.{IsAsPut, IsWorked};
 ghost use Rattle.claim_board.specs.Seen.{IsPassOf, new_pass, drew_place, ended_pass, gave_back, times_drawn, EachDrawnOnce, AtEachPlace};
 
+use crate::deal::{deal, gather};
+use crate::layout::{lay_out, take_back, take_out};
 use crate::pass::Pass;
 use crate::piece::Piece;
 use crate::rule::{BringsHome, Claims, Draws};
 use crate::slot::Slot;
 use crate::view::{Opening, View};
-use atomic_table::Table;
+use atomic_table::{Refused, Table};
 use std::alloc::Global;
 use std::marker::Model;
+use std::snapshot::Snapshot;
 
 /// Pieces of work, each in its place, from which workers draw. Places are numbered from 0.
 #[derive(Drop)]
@@ -40,6 +43,43 @@ impl<P: Piece> Model for Board<P> {
 }
 
 impl<P: Piece> Board<P> {
+    /// A board with these pieces, and as many passes.
+    pub fn open(
+        alloc: Global,
+        pieces: Vec<P>,
+        passes: u32,
+    ) -> Result<(Board<P>, Vec<Pass<P>>), NoBoard<P>>
+        requires some_pass { 1 ≤ passes }
+        requires unmarked { All (λ p. P.marked p ≡ false) pieces.items }
+        requires few { vec_len pieces < 2 ^ 32 }
+        ensures put { IfOk result (λ r. r.0.put ≡ pieces.items) }
+        ensures passes { IfOk result (λ r. (r.0.passes ≡ passes) × (length r.1.items ≡ passes)) }
+        ensures new { IfOk result (λ r. All (λ pass. pass ≡ new_pass r.0) r.1.items) }
+        ensures no_board { IfErr result (λ e. e.pieces.items ≡ pieces.items) }
+    {
+        let places = pieces.len();
+        let Ok(slots) = Vec::with_capacity(alloc, places + 1) else {
+            return Err(NoBoard { pieces });
+        };
+        let Ok(list) = Vec::with_capacity(alloc, passes as usize) else {
+            return Err(NoBoard { pieces });
+        };
+        let opening = Opening {
+            put: Snapshot::of(&pieces),
+            passes,
+        };
+        match Table::new(alloc, &[0], lay_out(pieces, slots), &opening) {
+            Ok((table, seat)) => {
+                let passes = deal(&table.shared, seat, passes, list);
+                let places = places as u32;
+                Ok((Board { table, places }, passes))
+            }
+            Err(Refused { slots }) => Err(NoBoard {
+                pieces: take_back(slots),
+            }),
+        }
+    }
+
     /// Draws a piece that nobody drew yet: the piece and its place.
     pub fn draw(&self, pass: &mut Pass<P>) -> Option<(u32, P)>
         requires own { IsPassOf self.now pass.old }
@@ -78,5 +118,22 @@ impl<P: Piece> Board<P> {
         let shared = &self.table.shared;
         drop(shared.exchange(&mut pass.seat, place as usize, Slot::Holds(piece)));
         shared.fetch_add::<BringsHome>(&mut pass.seat, 0, 0);
+    }
+
+    /// Gives the pieces in their places. These are all the passes of the board.
+    pub fn close(self, passes: Vec<Pass<P>>) -> Vec<P>
+        requires own { All (λ pass. IsPassOf self pass) passes.items }
+        requires all { length passes.items ≡ self.passes }
+        requires free { All (λ pass. pass.held ≡ None) passes.items }
+        ensures places { length result.items ≡ length self.put }
+        ensures each { AtEachPlace (λ place piece. IsWorked P.state P.marked P.gives self.put place piece ⊎ IsAsPut P.state P.marked self.put place piece) result.items }
+        ensures drawn { AtEachPlace (λ place piece. 0 < times_drawn place passes.items → IsWorked P.state P.marked P.gives self.put place piece) result.items }
+        ensures left { AtEachPlace (λ place piece. times_drawn place passes.items ≡ 0 → slice_get self.put place ≡ Some piece) result.items }
+        ensures once { EachDrawnOnce self.put passes.items }
+        ensures ended { Any (λ pass. pass.ended ≡ true) passes.items → AtEachPlace (λ place piece. IsWorked P.state P.marked P.gives self.put place piece) result.items }
+    {
+        let Board { table, places } = self;
+        let seat = gather(&table.shared, passes);
+        take_out(table.close_with(seat), places as usize)
     }
 }

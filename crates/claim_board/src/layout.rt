@@ -1,9 +1,12 @@
 //! How the pieces get into the slots of the table, and out of them.
 
-ghost use Rattle.std.specs.Prelude.{◌≡◌, ◌+◌, ◌≤◌, List, [], vec_len, vec_capacity};
-ghost use Rattle.claim_board.specs.Layout.{IsLaidOut};
+ghost use Rattle.std.specs.Prelude.{◌≡◌, ◌+◌, ◌≤◌, [], length, vec_len, vec_capacity};
+ghost use Rattle.std.specs.Mem.Slots.{slots_items, IsFull};
+ghost use Rattle.claim_board.specs.Layout.{IsLaidOut, pieces_of};
 
 use crate::slot::Slot;
+use atomic_table::Closed;
+use std::alloc::Global;
 
 /// A slot for each piece, and one with the room that they leave.
 pub(crate) fn lay_out<P: Drop>(mut pieces: Vec<P>, mut slots: Vec<Slot<P>>) -> Vec<Slot<P>>
@@ -21,8 +24,8 @@ pub(crate) fn lay_out<P: Drop>(mut pieces: Vec<P>, mut slots: Vec<Slot<P>>) -> V
 
 /// The pieces as they were before [`lay_out`].
 pub(crate) fn take_back<P: Drop>(mut slots: Vec<Slot<P>>) -> Vec<P>
-    requires { (pieces : List P) × IsLaidOut pieces slots.items }
-    ensures { (pieces : List P) → IsLaidOut pieces slots.items → result.items ≡ pieces }
+    requires { IsLaidOut (pieces_of slots.items) slots.items }
+    ensures { result.items ≡ pieces_of slots.items }
 {
     let Some(Slot::Room(mut pieces)) = slots.pop() else {
         unreachable!()
@@ -34,5 +37,25 @@ pub(crate) fn take_back<P: Drop>(mut slots: Vec<Slot<P>>) -> Vec<P>
             _ => unreachable!(),
         }
     }
+    pieces
+}
+
+/// The pieces of a table that is closed.
+pub(crate) fn take_out<P: Drop>(mut closed: Closed<Slot<P>, Global>, places: usize) -> Vec<P>
+    requires full { IsFull closed.words × IsFull closed.slots }
+    requires laid { IsLaidOut (pieces_of (slots_items closed.slots)) (slots_items closed.slots) }
+    requires places { places ≡ length (pieces_of (slots_items closed.slots)) }
+    ensures { result.items ≡ pieces_of (slots_items closed.slots) }
+{
+    let Slot::Room(mut pieces) = closed.take(places) else {
+        unreachable!()
+    };
+    for place in 0..places {
+        match closed.take(place) {
+            Slot::Holds(piece) => pieces.push_reserved(piece),
+            _ => unreachable!(),
+        }
+    }
+    closed.free();
     pieces
 }

@@ -6,6 +6,7 @@
 #![tactic(auto)]
 
 mod board;
+mod deal;
 mod layout;
 mod pass;
 mod piece;

@@ -1,5 +1,7 @@
 //! The right of one worker to draw.
 
+ghost use Rattle.claim_board.specs.Seen.{IsSeatOf};
+
 use crate::slot::Slot;
 use crate::view::View;
 use atomic_table::Seat;
@@ -20,4 +22,14 @@ impl<P> Model for Pass<P> {
     ghost view = { λ p. pass_seen p.seat.table_id p.seat.me p.ended };
 
     ghost invariant = { λ p. IsPass p.seat.me p.ended };
+}
+
+impl<P> Pass<P> {
+    /// The seat at the table.
+    pub(crate) fn into_seat(self) -> Seat<Slot<P>, View<P>>
+        ensures { IsSeatOf result.table_id result.me self }
+    {
+        let Pass { seat, ended: _ } = self;
+        seat
+    }
 }

@@ -16,6 +16,7 @@ pub struct View<P> {
 }
 
 /// What is fixed when the board is opened.
+#[derive(Drop)]
 pub struct Opening<P> {
     pub put: Snapshot<Vec<P>>,
     pub passes: u32,
