@@ -66,9 +66,9 @@ module _ {P X : Type 0} (state : P → X) (marked : P → Bool) (works : X → X
         shared_out = omega (arith, total-set (λ (u : View P). u.passes) s.views id v w at, k.shared_out);
         each_view = λ j u e. ⊎_elim
             (λ (t : (j ≡ id) × (w ≡ u)). subst (λ y. Ks now y) t.1
-                (knows-drew state marked works put s.homes now v c (omega arith) new (omega arith) (λ place ne lt. same place ne) here (k.each_view id v at)))
+            (knows-drew state marked works put s.homes now v c (omega arith) new (omega arith) (λ place ne lt. same place ne) here (k.each_view id v at)))
             (λ (t : (j ≢ id) × (get_elem? s.views j ≡ some u)). knows-same state marked works put s.homes now u
-                (λ place lt drawn. same place (λ is. absurd (omega (arith, is, drawn-below s k j u t.1 place drawn)))) (k.each_view j u t.1))
+            (λ place lt drawn. same place (λ is. absurd (omega (arith, is, drawn-below s k j u t.1 place drawn)))) (k.each_view j u t.1))
             (at_set s.views id j w u e);
         drawn_once = λ n. omega (arith, total-set (λ (u : View P). times n u.drawn) s.views id v w at, k.drawn_once n, times-append n v.drawn (c ∷ []), once-next c n);
         waiting = λ place piece le is. same place (λ e. absurd (omega (arith, e))) ∙ k.waiting place piece (omega arith) is;
@@ -86,32 +86,36 @@ module _ {P X : Type 0} (state : P → X) (marked : P → Bool) (works : X → X
   draws-place : (s : St) (k : R s) (id : ℕ) (me : Seated P) (st : Step (Slot P)) → get_elem? s.views id ≡ some me.0 → me.0.passes ≡ 1 → me.0.put ≡ put → past (length put) me.0.drawn ≡ 0
       → (k.counter + 1) % 2 ^ 64 ≡ k.counter + 1 → k.counter < length put → Goes (at_table (k.counter ∷ []) s.homes s.views) id me (λ n. (n + 1) % 2 ^ 64) (drew st me)
   draws-place s k id me st at one starts no-past small lt =
-      let c : ℕ = k.counter in let p = piece_at put c lt in let there = k.waiting c p.0 (omega arith) p.1 in let now : Homes P = set s.homes c none in
-      (
+      let c : ℕ = k.counter in let p = piece_at put c lt in let there = k.waiting c p.0 (omega arith) p.1 in let now : Homes P = set s.homes c none in (
         with_number me.0 c,
         takes c (Holds p.0),
         there,
         subst (λ m. R (at_table (m ∷ []) now (set s.views id (with_number me.0 c)))) (sym small)
             (after-draw s k id me.0 at one no-past now (length-set s.homes c none) (λ place ne. set_else s.homes c place none ne) (set_else s.homes c (length put) none (omega arith))
-                (λ _. set_here s.homes c none (omega (arith, k.slots)))),
-        (refl, (λ n drawn. drawn-below s k id me.0 at n drawn),
+            (λ _. set_here s.homes c none (omega (arith, k.slots)))),
+        (
+          refl,
+          (λ n drawn. drawn-below s k id me.0 at n drawn),
           (λ piece is. ap (λ (x : P). (c, Holds x) ∷ me.1) (same-piece put c p.0 piece p.1 (subst (λ xs. slice_get xs c ≡ Some piece) starts is))),
-          (λ le. absurd (omega (arith, le, ap length starts)))),
+          (λ le. absurd (omega (arith, le, ap length starts))),
+        ),
       )
 
   draws-past : (s : St) (k : R s) (id : ℕ) (me : Seated P) (st : Step (Slot P)) → get_elem? s.views id ≡ some me.0 → me.0.passes ≡ 1 → me.0.put ≡ put → past (length put) me.0.drawn ≡ 0
       → (k.counter + 1) % 2 ^ 64 ≡ k.counter + 1 → length put ≤ k.counter → Goes (at_table (k.counter ∷ []) s.homes s.views) id me (λ n. (n + 1) % 2 ^ 64) (drew st me)
   draws-past s k id me st at one starts no-past small le =
-      let c : ℕ = k.counter in
-      (
+      let c : ℕ = k.counter in (
         with_number me.0 c,
         keeps,
         tt,
         subst (λ m. R (at_table (m ∷ []) s.homes (set s.views id (with_number me.0 c)))) (sym small)
             (after-draw s k id me.0 at one no-past s.homes refl (λ place ne. refl) refl (λ lt. absurd (omega arith))),
-        (refl, (λ n drawn. drawn-below s k id me.0 at n drawn),
+        (
+          refl,
+          (λ n drawn. drawn-below s k id me.0 at n drawn),
           (λ piece is. absurd (omega (arith, slice_get_within put c piece (subst (λ xs. slice_get xs c ≡ Some piece) starts is)))),
-          (λ past-it. refl)),
+          (λ past-it. refl),
+        ),
       )
 
   -- a pass that drew no number past the last place draws the next one
@@ -120,7 +124,7 @@ module _ {P X : Type 0} (state : P → X) (marked : P → Bool) (works : X → X
   draws slots id me st few few-passes one starts no-past s k long at lt =
       let small : (k.counter + 1) % 2 ^ 64 ≡ k.counter + 1 = mod-eq_of_lt (omega (arith, k.bounded, past-few s k)) in
       by-counter s k id me (λ n. (n + 1) % 2 ^ 64) (drew st me)
-          (dite (dec_le (length put) k.counter) (λ le. draws-past s k id me st at one starts no-past small le) (λ no. draws-place s k id me st at one starts no-past small (lt_of_not-le no)))
+      (dite (dec_le (length put) k.counter) (λ le. draws-past s k id me st at one starts no-past small le) (λ no. draws-place s k id me st at one starts no-past small (lt_of_not-le no)))
 
   -- a pass that holds a slot brings it home with a worked piece
   pub brings-home : (slots id : ℕ) (me : Seated P) (st : Step (Slot P)) (p : ℕ) (piece : P) → me.1 ≡ (p, Holds piece) ∷ [] → p < length put → times p me.0.home < times p me.0.drawn
@@ -141,23 +145,23 @@ module _ {P X : Type 0} (state : P → X) (marked : P → Bool) (works : X → X
         shared_out = omega (arith, total-set (λ (u : View P). u.passes) s.views id me.0 w at, k.shared_out);
         each_view = λ j u e. ⊎_elim
             (λ (t : (j ≡ id) × (w ≡ u)). subst (λ y. Ks now y) t.1
-                (knows-brought state marked works put s.homes now me.0 p drawn not-yet (piece, here, worked) else-same (k.each_view id me.0 at)))
+            (knows-brought state marked works put s.homes now me.0 p drawn not-yet (piece, here, worked) else-same (k.each_view id me.0 at)))
             (λ (t : (j ≢ id) × (get_elem? s.views j ≡ some u)). knows-same state marked works put s.homes now u
-                (λ place l drew. else-same place (λ is. absurd (omega (arith, drawn, subst (λ m. 0 < times m u.drawn) is drew, terms_le (λ (y : View P). times p y.drawn) s.views id j me.0 u t.0 at t.1, k.drawn_once p, once-at_most c p)))) (k.each_view j u t.1))
+            (λ place l drew. else-same place (λ is. absurd (omega (arith, drawn, subst (λ m. 0 < times m u.drawn) is drew, terms_le (λ (y : View P). times p y.drawn) s.views id j me.0 u t.0 at t.1, k.drawn_once p, once-at_most c p)))) (k.each_view j u t.1))
             (at_set s.views id j w u e);
         drawn_once = λ n. omega (arith, total-set (λ (u : View P). times n u.drawn) s.views id me.0 w at, k.drawn_once n);
         waiting = λ place q le is. else-same place (λ e. absurd (omega (arith, e, mine))) ∙ k.waiting place q le is;
         bounded = omega (arith, total-set (λ (u : View P). past (length put) u.drawn) s.views id me.0 w at, k.bounded);
       } in
       by-counter s k id me (λ n. (n + 0) % 2 ^ 64) (brought st me)
-          (subst (λ (h : List (ℕ × Slot P)). Goes (at_table (c ∷ []) s.homes s.views) id (me.0, h) (λ n. (n + 0) % 2 ^ 64) (brought st (me.0, h))) (sym hand)
-            (w, brings, tt, subst (λ m. R (at_table (m ∷ []) now (set s.views id w))) (sym small) kept, refl))
+      (subst (λ (h : List (ℕ × Slot P)). Goes (at_table (c ∷ []) s.homes s.views) id (me.0, h) (λ n. (n + 0) % 2 ^ 64) (brought st (me.0, h))) (sym hand)
+      (w, brings, tt, subst (λ m. R (at_table (m ∷ []) now (set s.views id w))) (sym small) kept, refl))
 
   -- a load changes nothing
   pub loads : (slots id : ℕ) (me : Seated P) (st : Step (Slot P)) → Allows R slots id me 0 (λ n. n) (looked st me)
   loads slots id me st s k long at few =
       let kept : R (at_table (k.counter ∷ []) s.homes (set s.views id me.0)) =
-          subst (λ vs. R (at_table (k.counter ∷ []) s.homes vs)) (sym (set_again s.views id me.0 at)) (subst (λ ws. R (at_table ws s.homes s.views)) k.word k) in
+      subst (λ vs. R (at_table (k.counter ∷ []) s.homes vs)) (sym (set_again s.views id me.0 at)) (subst (λ ws. R (at_table ws s.homes s.views)) k.word k) in
       by-counter s k id me (λ n. n) (looked st me) (me.0, keeps, tt, kept, refl)
 
   -- a seat that stands for several passes, and drew nothing, gives one of them to a new seat
@@ -181,9 +185,9 @@ module _ {P X : Type 0} (state : P → X) (marked : P → Bool) (works : X → X
         shared_out = omega (arith, total-append (λ (u : View P). u.passes) (set s.views id l) (r ∷ []), total-set (λ (u : View P). u.passes) s.views id v l at, k.shared_out);
         each_view = λ j u e. ⊎_elim
             (λ (d : get_elem? (set s.views id l) j ≡ some u). ⊎_elim
-                (λ (t : (j ≡ id) × (l ≡ u)). subst (λ y. Ks s.homes y) t.1 less)
-                (λ (t : (j ≢ id) × (get_elem? s.views j ≡ some u)). k.each_view j u t.1)
-                (at_set s.views id j l u d))
+            (λ (t : (j ≡ id) × (l ≡ u)). subst (λ y. Ks s.homes y) t.1 less)
+            (λ (t : (j ≢ id) × (get_elem? s.views j ≡ some u)). k.each_view j u t.1)
+            (at_set s.views id j l u d))
             (λ (is : r ≡ u). subst (λ y. Ks s.homes y) is new)
             (at_snoc (set s.views id l) r u j e);
         drawn_once = λ n. omega (arith, total-append (λ (u : View P). times n u.drawn) (set s.views id l) (r ∷ []), total-set (λ (u : View P). times n u.drawn) s.views id v l at, k.drawn_once n);
@@ -198,7 +202,7 @@ module _ {P X : Type 0} (state : P → X) (marked : P → Bool) (works : X → X
       let was : get_elem? s.views other ≡ some w = sym (set_else s.views id other both apart) ∙ at-other in
       let mine = k.each_view id v at in let theirs = k.each_view other w was in
       let moved : (f : View P → ℕ) → f both ≡ f v + f w → f blank ≡ 0 → total f (set mid other blank) ≡ total f s.views =
-          λ f sum none. omega (arith, total-set f mid other w blank at-other, total-set f s.views id v both at, sum, none) in
+      λ f sum none. omega (arith, total-set f mid other w blank at-other, total-set f s.views id v both at, sum, none) in
       record {
         counter = k.counter;
         word = k.word;
@@ -208,9 +212,9 @@ module _ {P X : Type 0} (state : P → X) (marked : P → Bool) (works : X → X
         each_view = λ j u e. ⊎_elim
             (λ (t : (j ≡ other) × (blank ≡ u)). subst (λ y. Ks s.homes y) t.1 (knows-blank state marked works put s.homes))
             (λ (d : (j ≢ other) × (get_elem? mid j ≡ some u)). ⊎_elim
-                (λ (t : (j ≡ id) × (both ≡ u)). subst (λ y. Ks s.homes y) t.1 (knows-joined state marked works put s.homes v w some-pass mine theirs))
-                (λ (t : (j ≢ id) × (get_elem? s.views j ≡ some u)). k.each_view j u t.1)
-                (at_set s.views id j both u d.1))
+            (λ (t : (j ≡ id) × (both ≡ u)). subst (λ y. Ks s.homes y) t.1 (knows-joined state marked works put s.homes v w some-pass mine theirs))
+            (λ (t : (j ≢ id) × (get_elem? s.views j ≡ some u)). k.each_view j u t.1)
+            (at_set s.views id j both u d.1))
             (at_set mid other j blank u e);
         drawn_once = λ n. moved (λ (u : View P). times n u.drawn) (times-append n v.drawn w.drawn) refl ∙ k.drawn_once n;
         waiting = k.waiting;

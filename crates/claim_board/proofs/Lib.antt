@@ -6,3 +6,4 @@ mod Slots
 mod Lists
 mod Gathers
 mod Closes
+mod Opens

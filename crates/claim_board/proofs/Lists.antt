@@ -16,8 +16,7 @@ module _ {A : Type 0} (Q : A → Type 0) where
   pub all-last : (xs ys : List A) (x : A) → xs ≡ ys ++ x ∷ [] → All Q xs → Q x × All Q ys
   all-last xs ys x e all =
       let both : All Q (ys ++ x ∷ []) = subst (λ (l : List A). All Q l) e all in
-      let long = length-append ys (x ∷ []) in
-      (
+      let long = length-append ys (x ∷ []) in (
         subst Q (get_or-append_seam ys x [] x) (both (length ys) x (omega (arith, long))),
         λ k d lt. subst Q (get_or_append_left ys (x ∷ []) d k lt) (both k d (omega (arith, long))),
       )

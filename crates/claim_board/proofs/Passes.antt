@@ -106,8 +106,7 @@ module _ {P : Type 0} where
   pub held-drawn : (me : Seated P) (ended : Bool) (place : ℕ) (x : Slot P) → IsPass me ended → me.1 ≡ (place, x) ∷ [] → (place < length me.0.put) × (times place me.0.home < times place me.0.drawn)
   held-drawn me ended place x pass hand =
       let places : me.0.home ++ places_of me.1 ≡ me.0.home ++ place ∷ [] = ap (λ (l : List (ℕ × Slot P)). me.0.home ++ places_of l) hand in
-      let counts : times place (me.0.home ++ places_of me.1) ≡ times place me.0.home + 1 = ap (times place) places ∙ times-append place me.0.home (place ∷ []) ∙ omega (arith, times-same place place refl) in
-      (
+      let counts : times place (me.0.home ++ places_of me.1) ≡ times place me.0.home + 1 = ap (times place) places ∙ times-append place me.0.home (place ∷ []) ∙ omega (arith, times-same place place refl) in (
         pass.places place (omega (arith, counts)),
         omega (arith, counts, ap (times place) (drew-places me ended pass (not-ended me ended place x pass.drew hand))),
       )

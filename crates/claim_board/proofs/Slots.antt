@@ -50,8 +50,7 @@ module _ {P : Type 0} where
   pub pours-more : (before slots : List (Slot P)) (x : Slot P) (taken now all : List P) (piece : P) → before ≡ slots ++ x ∷ [] → x ≡ Holds piece → now ≡ taken ++ piece ∷ [] → IsPouring before taken all → IsPouring slots now all
   pours-more before slots x taken now all piece e is more pours =
       let found = pours-piece slots x pours.0 (ap (λ (l : List (Slot P)). reverse l) (sym e) ∙ pours.1) in
-      let same : found.0 ≡ piece = same-held found.0 piece (sym found.3 ∙ is) in
-      (
+      let same : found.0 ≡ piece = same-held found.0 piece (sym found.3 ∙ is) in (
         found.1,
         found.4,
         ap (λ (l : List P). l ++ found.1) more ∙ append_assoc taken (piece ∷ []) found.1 ∙ ap (λ (p : P). taken ++ p ∷ found.1) (sym same) ∙ ap (λ (l : List P). taken ++ l) (sym found.2) ∙ pours.2,
@@ -82,8 +81,7 @@ module _ {P : Type 0} where
   -- two lists that are one, without their last items
   pub last-of : (xs ys : List (Slot P)) (x y : Slot P) → xs ++ x ∷ [] ≡ ys ++ y ∷ [] → (xs ≡ ys) × (x ≡ y)
   last-of xs ys x y e =
-      let turned : x ∷ reverse xs ≡ y ∷ reverse ys = sym (reverse-last xs x) ∙ ap (λ (l : List (Slot P)). reverse l) e ∙ reverse-last ys y in
-      (
+      let turned : x ∷ reverse xs ≡ y ∷ reverse ys = sym (reverse-last xs x) ∙ ap (λ (l : List (Slot P)). reverse l) e ∙ reverse-last ys y in (
         sym (reverse-twice xs) ∙ ap (λ (l : List (Slot P)). reverse l) (same-tail x y (reverse xs) (reverse ys) turned) ∙ reverse-twice ys,
         same-head x y (reverse xs) (reverse ys) turned,
       )

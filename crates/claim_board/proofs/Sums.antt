@@ -77,5 +77,5 @@ pub once-next : (count n : ℕ) → once_below (count + 1) n ≡ once_below coun
 once-next count n = dite (ℕ_discrete count n)
     (λ e. omega (arith, once-within (count + 1) n (omega arith), once-beyond count n (omega arith), times-same n count e))
     (λ ne. dite (dec_le count n)
-        (λ le. omega (arith, once-beyond (count + 1) n (omega (arith, ne)), once-beyond count n le, times-other n count ne))
-        (λ no. omega (arith, once-within (count + 1) n (omega (arith, lt_of_not-le no)), once-within count n (lt_of_not-le no), times-other n count ne)))
+    (λ le. omega (arith, once-beyond (count + 1) n (omega (arith, ne)), once-beyond count n le, times-other n count ne))
+    (λ no. omega (arith, once-within (count + 1) n (omega (arith, lt_of_not-le no)), once-within count n (lt_of_not-le no), times-other n count ne)))

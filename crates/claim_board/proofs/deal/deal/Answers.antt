@@ -17,8 +17,7 @@ split_seat-requires g c = (
 pub loop-preserved : goal.loop-preserved
 loop-preserved g c =
     let put = c.args.shared.now.key.put.value.items in let s = c.split_seat.ensures in let v = c.loop.seat.me.0 in
-    let view = ap (λ (m : Seated g.row.P.Denot). m.0) s.2 in
-    (
+    let view = ap (λ (m : Seated g.row.P.Denot). m.0) s.2 in (
       s.0 ∙ c.loop.invariant.0,
       ap (λ (m : Seated g.row.P.Denot). m.1) s.2 ∙ c.loop.invariant.1,
       view ∙ ap (λ (u : View g.row.P.Denot). less_one u) c.loop.invariant.2 ∙ ap (λ n. first_view put n) (sym (ap (λ (u : View g.row.P.Denot). u.passes) view)),

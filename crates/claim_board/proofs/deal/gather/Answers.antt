@@ -18,8 +18,7 @@ pub loop-pass-init : goal.loop-pass-init
 loop-pass-init g c =
     let own = all-last (Own {P = g.row.P.Denot} c.args.shared.now.table_id c.args.shared.now.key.put.value.items) c.args.passes.items c.pop.new.self.items c.in-Some.pass c.in-Some.ensures.items c.requires.own in
     let free = all-last (Free {P = g.row.P.Denot}) c.args.passes.items c.pop.new.self.items c.in-Some.pass c.in-Some.ensures.items c.requires.free in
-    let seat = c.into_seat-seat.ensures in
-    (
+    let seat = c.into_seat-seat.ensures in (
       ap (λ (q : PassSeen g.row.P.Denot). q.id) seat.1 ∙ own.0.0,
       own.1,
       free.1,
@@ -31,8 +30,7 @@ pub join_seat-requires : goal.join_seat-requires
 join_seat-requires g c =
     let own = all-last (Own {P = g.row.P.Denot} c.args.shared.now.table_id c.args.shared.now.key.put.value.items) c.loop-pass.passes.items c.pop-in-loop-pass.new.self.items c.in-Some-pop.pass c.in-Some-pop.ensures.items c.loop-pass.invariant.1 in
     let free = all-last (Free {P = g.row.P.Denot}) c.loop-pass.passes.items c.pop-in-loop-pass.new.self.items c.in-Some-pop.pass c.in-Some-pop.ensures.items c.loop-pass.invariant.2 in
-    let other = c.into_seat-other.ensures in
-    (
+    let other = c.into_seat-other.ensures in (
       c.loop-pass.invariant.0,
       ap (λ (q : PassSeen g.row.P.Denot). q.id) other.1 ∙ own.0.0,
       no-hand c.into_seat-other.result.me.1 (ap (λ (q : PassSeen g.row.P.Denot). q.held) other.1 ∙ free.0),
@@ -46,8 +44,7 @@ loop-pass-preserved g c =
     let own = all-last (Own {P = g.row.P.Denot} c.args.shared.now.table_id put) c.loop-pass.passes.items rest x c.in-Some-pop.ensures.items c.loop-pass.invariant.1 in
     let free = all-last (Free {P = g.row.P.Denot}) c.loop-pass.passes.items rest x c.in-Some-pop.ensures.items c.loop-pass.invariant.2 in
     let one = gathered-one put c.into_seat-other.result.table_id c.into_seat-other.result.me x c.into_seat-other.ensures own.0.1 free.0 in
-    let inv = c.loop-pass.invariant.4 in
-    (
+    let inv = c.loop-pass.invariant.4 in (
       c.join_seat.ensures.0 ∙ c.loop-pass.invariant.0,
       own.1,
       free.1,

@@ -10,7 +10,7 @@ invariant-loop-pass g l =
     × All (λ (pass : PassSeen g.row.P.Denot). pass.held ≡ None) l.passes.items
     × (0 < l.seat.me.0.passes)
     × ((done : List (PassSeen g.row.P.Denot)) × (l.initial.passes.items ≡ l.passes.items ++ done)
-        × ((before : List (PassSeen g.row.P.Denot)) → Gathered l.shared.key.put.value.items before l.initial.seat.me → Gathered l.shared.key.put.value.items (done ++ before) l.seat.me))
+    × ((before : List (PassSeen g.row.P.Denot)) → Gathered l.shared.key.put.value.items before l.initial.seat.me → Gathered l.shared.key.put.value.items (done ++ before) l.seat.me))
 
 abbrev pub decreases-loop-pass : goal.decreases-loop-pass
 decreases-loop-pass g l = vec_len l.passes

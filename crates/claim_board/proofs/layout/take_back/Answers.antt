@@ -10,8 +10,7 @@ loop-slot-init g c =
     let ps : List g.row.P.Denot = pieces_of c.args.slots.items in
     let both = last-of (holding ps) c.pop.new.self.items c.requires.0 c.in-Some-Room.field-0 (sym c.requires.1 ∙ c.in-Some-Room.ensures.items) in
     let room = room-of (length ps) c.requires.0 c.in-Some-Room.pieces c.requires.2 (both.1 ∙ c.in-Some-Room.field-0-is) in
-    let order : reverse c.reverse.new.self.items ≡ holding ps = ap (λ (l : List (Slot g.row.P.Denot)). reverse l) c.reverse.ensures.items ∙ reverse-twice c.pop.new.self.items ∙ sym both.0 in
-    (
+    let order : reverse c.reverse.new.self.items ≡ holding ps = ap (λ (l : List (Slot g.row.P.Denot)). reverse l) c.reverse.ensures.items ∙ reverse-twice c.pop.new.self.items ∙ sym both.0 in (
       pours-start c.reverse.new.self.items ps c.in-Some-Room.pieces.items order room.0,
       omega (arith, room.1, ap (λ (l : List g.row.P.Denot). length l) room.0, c.in-Some-Room.pieces.ok, c.reverse.ensures.len, ap (λ (l : List (Slot g.row.P.Denot)). length l) both.0, c.pop.new.self.ok, held-length ps),
     )

@@ -24,8 +24,7 @@ loop-place-init g c =
     let ps : List g.row.P.Denot = pieces_of (slots_items c.args.closed.slots) in let laid = c.requires.laid in let told = c.take.ensures.others in
     let is = laid-room ps (slots_items c.args.closed.slots) c.take.result c.args.places laid c.requires.places c.take.ensures.value in
     let room = room-of (length ps) laid.0 c.in-Room.pieces laid.2 (sym is ∙ c.in-Room.is) in
-    let long : slots_len c.args.closed.slots ≡ c.args.places + 1 = omega (arith, c.args.closed.slots.ok, laid-length ps (slots_items c.args.closed.slots) laid, c.requires.places) in
-    (
+    let long : slots_len c.args.closed.slots ≡ c.args.places + 1 = omega (arith, c.args.closed.slots.ok, laid-length ps (slots_items c.args.closed.slots) laid, c.requires.places) in (
       refl,
       refl,
       (λ k le lt. ap (λ fs. get_or fs k false) told.1 ∙ get_or-set_other (slots_filled c.args.closed.slots) c.args.places k false false (omega arith) ∙ c.requires.full.1 k (omega arith) (omega (arith, long))),
@@ -59,8 +58,7 @@ loop-place-preserved g c =
     let long : slots_len c.args.closed.slots ≡ c.args.places + 1 = omega (arith, c.args.closed.slots.ok, laid-length ps (slots_items c.args.closed.slots) c.requires.laid, c.requires.places) in
     let within : n < length (slots_filled c.loop-place.closed.slots) = omega (arith, c.loop-place.closed.slots.ok, inv.1, c.take.ensures.others.2, long, c.loop-place-test.true) in
     let other : (k : ℕ) → k ≢ n → get_or (slots_filled c.take-in-loop-place.new.self.slots) k false ≡ get_or (slots_filled c.loop-place.closed.slots) k false =
-        λ k ne. ap (λ fs. get_or fs k false) told.1 ∙ get_or-set_other (slots_filled c.loop-place.closed.slots) n k false false (λ e. ne (sym e)) in
-    (
+    λ k ne. ap (λ fs. get_or fs k false) told.1 ∙ get_or-set_other (slots_filled c.loop-place.closed.slots) n k false false ne in (
       told.0 ∙ inv.0,
       told.2 ∙ inv.1,
       (λ k le lt. other k (omega arith) ∙ inv.2 k (omega arith) lt),
@@ -79,5 +77,5 @@ free-requires g c k lt =
     let long : slots_len c.args.closed.slots ≡ c.args.places + 1 = omega (arith, c.args.closed.slots.ok, laid-length ps (slots_items c.args.closed.slots) c.requires.laid, c.requires.places) in
     let few : k < c.args.places + 1 = omega (arith, lt, c.loop-place.invariant.1, c.take.ensures.others.2, long) in
     dite (ℕ_discrete k c.args.places)
-        (λ e. subst (λ m. get_or (slots_filled c.loop-place.closed.slots) m false ≡ false) (sym e) c.loop-place.invariant.4)
-        (λ ne. c.loop-place.invariant.3 k (omega (arith, ne, few, c.loop-place-test.false)))
+    (λ e. subst (λ m. get_or (slots_filled c.loop-place.closed.slots) m false ≡ false) (sym e) c.loop-place.invariant.4)
+    (λ ne. c.loop-place.invariant.3 k (omega (arith, ne, few, c.loop-place-test.false)))

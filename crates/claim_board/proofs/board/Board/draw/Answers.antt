@@ -12,8 +12,7 @@ use Rattle.claim_board.proofs.board.Board.draw.Goals as goal
 pub fetch_add-number-requires : goal.fetch_add-number-requires
 fetch_add-number-requires g c =
     let me = c.pass.inside.seat.me in
-    let starts : me.0.put ≡ c.self.inside.table.shared.key.put.value.items = ap (λ p. p.put) c.pass.view_is ∙ c.requires.own.1 ∙ sym (ap (λ b. b.put) c.self.view_is) in
-    (
+    let starts : me.0.put ≡ c.self.inside.table.shared.key.put.value.items = ap (λ p. p.put) c.pass.view_is ∙ c.requires.own.1 ∙ sym (ap (λ b. b.put) c.self.view_is) in (
       ap (λ p. p.id) c.pass.view_is ∙ c.requires.own.0 ∙ sym (ap (λ b. b.id) c.self.view_is),
       search rules,
       draws g.P.Piece.state g.P.Piece.marked g.P.Piece.gives _ _ _ _ me (step c.self.inside.table.shared.table_id.slots 0 1 0 none) (search rules) (search rules) c.pass.invariant.one starts
@@ -26,8 +25,7 @@ exchange-slot-requires g c =
     let starts : me.0.put ≡ c.self.inside.table.shared.key.put.value.items = ap (λ p. p.put) c.pass.view_is ∙ c.requires.own.1 ∙ sym (ap (λ b. b.put) c.self.view_is) in
     let lt : c.fetch_add-number.result < length me.0.put = omega (arith, ap length starts, c.self.invariant.2, c.from.ensures, c.if-number-from.false) in
     let p = piece_at me.0.put c.fetch_add-number.result lt in
-    let told = c.fetch_add-number.ensures in
-    (
+    let told = c.fetch_add-number.ensures in (
       told.0 ∙ ap (λ p. p.id) c.pass.view_is ∙ c.requires.own.0 ∙ sym (ap (λ b. b.id) c.self.view_is),
       (Holds p.0, first-of _ _ _ (told.2.2 p.0 p.1)),
     )
@@ -50,7 +48,6 @@ invariant_of-pass-2 g c =
     let is : c.exchange-slot.new.seat.me ≡ taken me n = after-taken me c.fetch_add-number.new.seat.me c.exchange-slot.new.seat.me n (Holds p.0) told.0 (told.2 p.0 p.1) none c.exchange-slot.ensures.3 in
     subst (λ (m : Seated g.row.P.Denot). IsPass m c.pass.inside.ended) (sym is) (taken-pass me n c.pass.inside.ended c.pass.invariant c.if-pass.false none lt)
 
-
 pub returns-clause-piece : goal.returns-clause-piece
 returns-clause-piece g c =
     let me = c.pass.inside.seat.me in let n = c.fetch_add-number.result in
@@ -58,14 +55,14 @@ returns-clause-piece g c =
     let inside : me.0.put ≡ c.self.inside.table.shared.key.put.value.items = starts ∙ sym (ap (λ b. b.put) c.self.view_is) in
     let lt : n < length me.0.put = omega (arith, ap length inside, c.self.invariant.2, c.from.ensures, c.if-number-from.false) in
     subst (λ l. slice_get l n ≡ Some c.in-Holds.piece) starts
-        (drawn-piece (step c.self.inside.table.shared.table_id.slots 0 1 0 none) me c.fetch_add-number.new.seat.me n c.exchange-slot.result c.in-Holds.piece _ c.fetch_add-number.ensures.2 lt c.exchange-slot.ensures.2 c.in-Holds.is)
+    (drawn-piece (step c.self.inside.table.shared.table_id.slots 0 1 0 none) me c.fetch_add-number.new.seat.me n c.exchange-slot.result c.in-Holds.piece _ c.fetch_add-number.ensures.2 lt c.exchange-slot.ensures.2 c.in-Holds.is)
 
 pub returns-clause-as_put : goal.returns-clause-as_put
 returns-clause-as_put g c =
     let unmarked = c.self.invariant.6 in
     put-as-put g.P.Piece.state g.P.Piece.marked c.args.self.now.put c.fetch_add-number.result c.in-Holds.piece
-        (subst (λ l. (k : ℕ) (d : g.row.P.Denot) → k < length l → g.P.Piece.marked (slice_index_or l k d) ≡ false) (ap (λ b. b.put) c.self.view_is) unmarked)
-        (returns-clause-piece g c)
+    (subst (λ l. (k : ℕ) (d : g.row.P.Denot) → k < length l → g.P.Piece.marked (slice_index_or l k d) ≡ false) (ap (λ b. b.put) c.self.view_is) unmarked)
+    (returns-clause-piece g c)
 
 pub returns-clause-some : goal.returns-clause-some
 returns-clause-some g c =

@@ -14,8 +14,7 @@ use Rattle.claim_board.proofs.board.Board.give_back.Goals as goal
 pub exchange-requires : goal.exchange-requires
 exchange-requires g c =
     let me = c.pass.inside.seat.me in
-    let hand = one-hand me.1 c.args.place c.pass.invariant.hand (ap (λ q. q.held) c.pass.view_is ∙ c.requires.held) in
-    (
+    let hand = one-hand me.1 c.args.place c.pass.invariant.hand (ap (λ q. q.held) c.pass.view_is ∙ c.requires.held) in (
       ap (λ p. p.id) c.pass.view_is ∙ c.requires.own.0 ∙ sym (ap (λ b. b.id) c.self.view_is),
       (hand.0, first-of me.1 _ _ hand.1),
     )
@@ -29,8 +28,7 @@ fetch_add-requires g c =
     let held = held-drawn me c.pass.inside.ended c.args.place hand.0 c.pass.invariant hand.1 in
     let is = c.exchange.ensures.3 in
     let now : c.exchange.new.seat.me.1 ≡ (c.args.place, Holds c.args.piece) ∷ [] = ap (λ (m : Seated g.row.P.Denot). m.1) is ∙ ap (λ (l : List (ℕ × Slot g.row.P.Denot)). (c.args.place, Holds c.args.piece) ∷ rest l) hand.1 in
-    let view : c.exchange.new.seat.me.0 ≡ me.0 = ap (λ (m : Seated g.row.P.Denot). m.0) is in
-    (
+    let view : c.exchange.new.seat.me.0 ≡ me.0 = ap (λ (m : Seated g.row.P.Denot). m.0) is in (
       c.exchange.ensures.0 ∙ ap (λ p. p.id) c.pass.view_is ∙ c.requires.own.0 ∙ sym (ap (λ b. b.id) c.self.view_is),
       search rules,
       brings-home g.P.Piece.state g.P.Piece.marked g.P.Piece.gives _ _ _ _ c.exchange.new.seat.me (step c.self.inside.table.shared.table_id.slots 0 0 0 none) c.args.place c.args.piece now
