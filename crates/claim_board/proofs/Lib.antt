@@ -1,0 +1,9 @@
+mod Sums
+mod Views
+mod Keeps
+mod Passes
+mod Slots
+mod Lists
+mod Gathers
+mod Closes
+mod Opens

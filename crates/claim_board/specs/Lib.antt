@@ -1,0 +1,6 @@
+pub mod Pieces
+pub mod Counts
+pub mod Rule
+pub mod Steps
+pub mod Seen
+pub mod Layout
