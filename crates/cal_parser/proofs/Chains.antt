@@ -1,7 +1,7 @@
 -- Operations and indexes behind a left side, as loops read them.
 use Rattle.std.proofs.Common.{◌≡◌, ℕ, suc, ◌+◌, ◌-◌, ◌<◌, ◌≤◌, Bool, true, false, List, [], ◌∷◌, ◌++◌, Err, nat_le, refl, sym, ap, ◌∙◌, arith}
 use Rattle.std.proofs.lemmas.Bool.{le-leb}
-use Rattle.look_ahead.specs.Program.{Outcome, Gave, Refused, TooHigh, after, exec, give, fail, ask, take, check, jump, enter, ahead}
+use Rattle.look_ahead.specs.Program.{Outcome, Gave, Refused, TooHigh, after, exec, give, ask, take, check, jump, enter, ahead}
 use Rattle.cal_ast.specs.Tree.{Tree, binary, index, prefix}
 use Rattle.cal_ast.specs.declared.expr.BinOp.{BinOp}
 use Rattle.cal_lexer.specs.Lexeme.{Lexeme, Placed, placed, plain_tokens}
@@ -18,7 +18,7 @@ use Rattle.cal_parser.specs.declared.fault.Fault.{Fault}
 use Rattle.cal_parser.specs.declared.fault.Fault.TheVariants as faults
 use Rattle.cal_parser.specs.declared.operators.Prefix.{Prefix}
 use Rattle.cal_parser.proofs.Climbing.{Next, climbs_more, climbs_none, fault_after, fault_same, level_climbs}
-use Rattle.cal_parser.proofs.Going.{fault_on, gave_on, high_on, not_on, yes_on}
+use Rattle.cal_parser.proofs.Going.{fault_on, gave_on, high_on, yes_on}
 use Rattle.cal_parser.proofs.Nesting.{closes, fault_nests, leaves, nests, nests_last, opened_is, postfix_is}
 use Rattle.cal_parser.proofs.Reading.{read_is}
 

@@ -1,8 +1,8 @@
 -- The levels above an operand: each level's operations stand behind those of the tighter ones.
-use Rattle.std.proofs.Common.{◌≡◌, ℕ, zero, suc, ◌+◌, ◌-◌, ◌<◌, Bool, true, false, List, Err, refl, sym, ap, ◌∙◌, arith}
-use Rattle.look_ahead.specs.Program.{Outcome, Gave, Refused, TooHigh, Spent, after, exec}
+use Rattle.std.proofs.Common.{◌≡◌, ℕ, zero, suc, ◌+◌, List, refl, sym, ap, ◌∙◌, arith}
+use Rattle.look_ahead.specs.Program.{Outcome, Gave, Refused, TooHigh, Spent, after}
 use Rattle.cal_ast.specs.Tree.{Tree}
-use Rattle.cal_lexer.specs.Lexeme.{Placed, plain_tokens}
+use Rattle.cal_lexer.specs.Lexeme.{Placed}
 use Rattle.cal_lexer.specs.declared.token.Token.{Token}
 use Rattle.cal_parser.specs.Spells.{level}
 use Rattle.cal_parser.specs.Rules.{part, chain, read}

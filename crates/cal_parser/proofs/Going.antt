@@ -1,7 +1,7 @@
 -- How an outcome goes on, step by step, as the code does.
 use Rattle.std.proofs.Common.{◌≡◌, ℕ, ◌<◌, ◌≤◌, Bool, true, false, List, Result, Ok, Err, length, refl, sym, ap, ◌∙◌, subst, arith}
 use Rattle.std.proofs.lemmas.Bool.{le-leb, lt-leb}
-use Rattle.look_ahead.specs.Program.{Outcome, Gave, Refused, TooHigh, Spent, ahead, after, fail, ask, take, check}
+use Rattle.look_ahead.specs.Program.{Outcome, Gave, Refused, TooHigh, ahead, after, fail, ask, take, check}
 use Rattle.cal_ast.specs.Tree.{Tree}
 use Rattle.cal_lexer.specs.Lexeme.{Lexeme, Placed, placed, plain_tokens}
 use Rattle.cal_lexer.specs.declared.token.Token.{Token}

@@ -1,8 +1,8 @@
 -- Pairs of parentheses round an operand: what stands inside is read first, and each pair is closed behind it.
-use Rattle.std.proofs.Common.{◌≡◌, ℕ, List, [], ◌∷◌, ◌++◌, refl, sym, ap, ◌∙◌}
-use Rattle.look_ahead.specs.Program.{Outcome, Gave, Refused, TooHigh, after, exec}
+use Rattle.std.proofs.Common.{◌≡◌, ℕ, List, [], ◌∷◌, ◌++◌, refl, ap, ◌∙◌}
+use Rattle.look_ahead.specs.Program.{Outcome, after}
 use Rattle.cal_ast.specs.Tree.{Tree}
-use Rattle.cal_lexer.specs.Lexeme.{Lexeme, Placed, placed, plain_tokens}
+use Rattle.cal_lexer.specs.Lexeme.{Lexeme, Placed, placed}
 use Rattle.cal_lexer.specs.declared.token.Token.{Token}
 use Rattle.cal_parser.specs.Spells.{a_postfix, a_primary, an_expr, level}
 use Rattle.cal_parser.specs.Rules.{part, places, read}
@@ -10,9 +10,8 @@ use Rattle.cal_parser.specs.Leading.{opened}
 use Rattle.cal_parser.specs.Steps.{closing_step, climbs, does}
 use Rattle.cal_parser.specs.Tells.{TellsFault}
 use Rattle.cal_parser.specs.declared.fault.Fault.{Fault}
-use Rattle.cal_parser.specs.declared.fault.Fault.TheVariants as faults
 use Rattle.cal_parser.proofs.Reading.{read_is}
-use Rattle.cal_parser.proofs.Climbing.{Next, after_after, after_same, fault_after, level_climbs}
+use Rattle.cal_parser.proofs.Climbing.{Next, after_after, fault_after, level_climbs}
 
 -- the end of a pair, behind the expression inside
 abbrev pub closes : ℕ → ℕ → Next

@@ -1,15 +1,15 @@
 -- Operands without operators, generators, types: which tokens stand for which step.
-use Rattle.std.proofs.Common.{◌≡◌, ℕ, ◌-◌, ◌≤◌, Bool, true, false, List, [], ◌∷◌, ◌++◌, Err, nat_le, refl, sym, ap, ◌∙◌}
+use Rattle.std.proofs.Common.{◌≡◌, ℕ, ◌-◌, ◌≤◌, true, false, List, [], ◌∷◌, ◌++◌, Err, nat_le, refl, sym, ap, ◌∙◌}
 use Rattle.std.proofs.lemmas.Bool.{le-leb}
-use Rattle.look_ahead.specs.Program.{Outcome, Gave, Refused, TooHigh, ahead, after, exec, give, fail, ask, take, check, jump, invoke, enter}
+use Rattle.look_ahead.specs.Program.{Outcome, Gave, Refused, ahead, after, exec, give, fail, take, check, jump, invoke, enter}
 use Rattle.cal_ast.specs.Tree.{Tree, cons, nil, ident, variable, gen, type_of, shape_arg, value_arg, listed}
 use Rattle.cal_lexer.specs.Lexeme.{Lexeme, Placed, placed, plain_tokens}
 use Rattle.cal_lexer.specs.declared.token.Token.{Token}
-use Rattle.cal_parser.specs.Cursor.{Stays, Took, TookName, TookWord, stands}
+use Rattle.cal_parser.specs.Cursor.{Took, TookName, TookWord, stands}
 use Rattle.cal_parser.specs.Leading.{LedByName}
-use Rattle.cal_parser.specs.Rules.{Rule, Step, expect, ident_of, if_body, list_body, name_body, named, on, part, read, starts, starts_expr, type_tail}
+use Rattle.cal_parser.specs.Rules.{Step, expect, ident_of, if_body, list_body, name_body, named, on, part, read, starts, starts_expr, type_tail}
 use Rattle.cal_parser.specs.Spells.{Part, a_gen, a_primary, a_type, a_type_arg, an_expr, any, comma, rest, separated}
-use Rattle.cal_parser.specs.Steps.{Answers, call_step, comp_step, does, if_step, list_step, number_step, truth_step, type_step}
+use Rattle.cal_parser.specs.Steps.{call_step, comp_step, does, if_step, list_step, number_step, truth_step, type_step}
 use Rattle.cal_parser.specs.Tells.{TellsFault, before}
 use Rattle.cal_parser.specs.Token.{counts, here, names, offset, same_word, text_of}
 use Rattle.cal_parser.specs.declared.fault.Fault.{Fault}

@@ -1,5 +1,5 @@
 -- The height of a list that gets one part more.
-use Rattle.std.proofs.Common.{◌≡◌, ℕ, List, [], ◌∷◌, ◌++◌, map, max, refl, sym, ap, ◌∙◌, arith}
+use Rattle.std.proofs.Common.{◌≡◌, ℕ, List, [], ◌∷◌, ◌++◌, map, max, sym, ap, ◌∙◌, arith}
 use Rattle.cal_ast.specs.Tree.{Tree, listed}
 use Rattle.cal_parser.specs.Operators.{height}
 

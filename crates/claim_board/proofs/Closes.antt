@@ -1,9 +1,9 @@
 -- What the slots hold when one seat stands for all passes.
-use Rattle.std.proofs.Common.{◌≡◌, ◌≢◌, ◌⊎◌, inl, inr, slice_index_or, false, ℕ, zero, suc, ◌+◌, ◌<◌, ◌≤◌, List, [], ◌∷◌, ◌++◌, length, slice_get, Some, Bool, true, Any, sym, refl, ap, ◌∙◌, subst, lt_of_not-le, arith}
+use Rattle.std.proofs.Common.{◌≡◌, ◌⊎◌, inl, inr, slice_index_or, false, ℕ, zero, suc, ◌+◌, ◌<◌, ◌≤◌, List, [], ◌∷◌, ◌++◌, length, slice_get, Some, Bool, true, Any, sym, refl, ap, ◌∙◌, subst, lt_of_not-le, arith}
 use Rattle.std.proofs.lemmas.Option.{slice_get_within}
 use mathlib.Core.Logic.{dite}
 use native.Mathlib.Decide.{ℕ_discrete, dec_le}
-use mathlib.Core.Option.{some, none, some-injective, some-ne-none}
+use mathlib.Core.Option.{some, some-injective, some-ne-none}
 use lib.ListN.{get_elem?}
 use Rattle.atomic_table.specs.Table.{State, Final, Seen}
 use Rattle.claim_board.specs.declared.slot.Slot.{Slot}
@@ -16,7 +16,7 @@ use Rattle.claim_board.specs.Steps.{Seated}
 use Rattle.claim_board.specs.Seen.{PassSeen, times_drawn, EachDrawnOnce, AtEachPlace, Gathered}
 use Rattle.claim_board.specs.Layout.{holding, IsLaidOut, pieces_of}
 use Rattle.claim_board.proofs.Sums.{term_le, once-within, once-beyond, once-some}
-use Rattle.claim_board.proofs.Keeps.{piece_at, same-piece}
+use Rattle.claim_board.proofs.Keeps.{piece_at}
 use Rattle.claim_board.proofs.Passes.{same-held, put-as-put}
 use Rattle.claim_board.proofs.Slots.{pieces_of-holding, held-at}
 

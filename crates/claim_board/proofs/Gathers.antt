@@ -1,13 +1,12 @@
 -- One seat comes to know what several passes knew.
-use Rattle.std.proofs.Common.{◌≡◌, ◌≢◌, ℕ, zero, suc, ◌+◌, ◌<◌, ◌≤◌, List, [], ◌∷◌, ◌++◌, length, None, Bool, true, false, true≢false, Any, sym, refl, ap, ◌∙◌, subst, append-nil, arith}
+use Rattle.std.proofs.Common.{◌≡◌, ◌≢◌, ℕ, ◌+◌, ◌<◌, ◌≤◌, List, [], ◌∷◌, ◌++◌, length, None, Bool, true, false, true≢false, sym, refl, ap, ◌∙◌, subst, arith}
 use mathlib.Core.Logic.{dite}
 use native.Mathlib.Decide.{ℕ_discrete}
 use Rattle.atomic_table.specs.Seated.{TableId}
-use Rattle.claim_board.specs.declared.slot.Slot.{Slot}
 use Rattle.claim_board.specs.declared.view.View.{View}
-use Rattle.claim_board.specs.Counts.{total, times}
-use Rattle.claim_board.specs.Steps.{Seated, places_of, joined, newcomer, first_view}
-use Rattle.claim_board.specs.Seen.{PassSeen, new_pass, board_at, times_drawn, pass_seen, Drew, IsPass, IsSeatOf, Gathered}
+use Rattle.claim_board.specs.Counts.{times}
+use Rattle.claim_board.specs.Steps.{Seated, joined, newcomer, first_view}
+use Rattle.claim_board.specs.Seen.{PassSeen, new_pass, board_at, times_drawn, pass_seen, Drew, IsSeatOf, Gathered}
 use Rattle.claim_board.proofs.Sums.{times-append, times-same, times-other}
 use Rattle.claim_board.proofs.Passes.{no-hand, home-all}
 use Rattle.claim_board.proofs.Lists.{any-cases, any-none}

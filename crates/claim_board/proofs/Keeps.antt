@@ -1,10 +1,9 @@
 -- Each kind of step keeps the rule.
-use Rattle.std.proofs.Common.{◌≡◌, ◌≢◌, ◌⊎◌, ℕ, zero, suc, ◌+◌, ◌-◌, ◌%◌, ◌^◌, ◌<◌, ◌≤◌, List, [], ◌∷◌, ◌++◌, map, length, slice_get, slice_index, Some, unwrap_or, Bool, set, sym, refl, ap, ◌∙◌, subst, ⊎_elim, lt_of_not-le, mod-eq_of_lt, length-set, arith}
+use Rattle.std.proofs.Common.{◌≡◌, ◌≢◌, ℕ, zero, suc, ◌+◌, ◌%◌, ◌^◌, ◌<◌, ◌≤◌, List, [], ◌∷◌, length, slice_get, slice_index, Some, unwrap_or, Bool, set, sym, refl, ap, ◌∙◌, subst, ⊎_elim, lt_of_not-le, mod-eq_of_lt, length-set, arith}
 use Rattle.std.proofs.lemmas.Option.{slice_get_within}
 use mathlib.Core.Logic.{dite}
 use native.Mathlib.Decide.{ℕ_discrete, dec_le}
 use mathlib.Core.Option.{some, none}
-use mathlib.Core.Option as maybe
 use lib.ListN.{get_elem?}
 use Rattle.atomic_table.specs.Table.{State, Step, Act, keeps, takes, gives as brings, Valid, carried_after, stepped, Allows, Splits, Joins}
 use Rattle.atomic_table.proofs.Lists.{at_set, set_here, set_else, set_again, at_snoc}
@@ -12,10 +11,10 @@ use Rattle.claim_board.specs.declared.slot.Slot.{Slot}
 use Rattle.claim_board.specs.declared.slot.Slot.TheVariants.{Holds}
 use Rattle.claim_board.specs.declared.view.View.{View}
 use Rattle.claim_board.specs.Pieces.{IsWorked}
-use Rattle.claim_board.specs.Counts.{total, times, past, once_below}
-use Rattle.claim_board.specs.Rule.{blank, IsBack, Knows, Kept}
+use Rattle.claim_board.specs.Counts.{total, times, past}
+use Rattle.claim_board.specs.Rule.{blank, Knows, Kept}
 use Rattle.claim_board.specs.Steps.{Seated, with_number, with_home, drew, brought, looked, less_one, newcomer, joined}
-use Rattle.claim_board.proofs.Sums.{total-append, total-set, term_le, terms_le, total-le, times-append, times-same, times-other, past-append, past-place, past-past, once-within, once-beyond, once-at_most, once-some, once-next}
+use Rattle.claim_board.proofs.Sums.{total-append, total-set, term_le, terms_le, total-le, times-append, past-append, past-place, past-past, once-at_most, once-some, once-next}
 use Rattle.claim_board.proofs.Views.{Homes, knows-same, knows-blank, knows-new, knows-drew, knows-brought, knows-joined}
 
 -- the piece at a place

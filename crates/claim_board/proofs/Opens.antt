@@ -1,5 +1,5 @@
 -- A board that was just opened meets the rule.
-use Rattle.std.proofs.Common.{◌≡◌, ◌≢◌, ℕ, zero, suc, ◌+◌, ◌<◌, ◌≤◌, List, [], ◌∷◌, ◌++◌, map, length, slice_get, Some, sym, refl, ap, ◌∙◌, subst, Bool, arith}
+use Rattle.std.proofs.Common.{◌≡◌, ℕ, zero, suc, ◌<◌, List, [], ◌∷◌, map, length, sym, refl, ap, ◌∙◌, subst, Bool, arith}
 use Rattle.std.proofs.lemmas.List.{length-map}
 use mathlib.Core.Option.{some, some-injective, some-ne-none}
 use lib.ListN.{get_elem?}

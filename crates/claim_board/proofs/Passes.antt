@@ -1,5 +1,5 @@
 -- What a pass drew, brought home and holds.
-use Rattle.std.proofs.Common.{◌≡◌, ◌≢◌, ℕ, zero, suc, ◌+◌, ◌<◌, ◌≤◌, List, [], ◌∷◌, ◌++◌, length, get_or, slice_get, slice_index_or, Option, Some, None, is_some, unwrap_or, Bool, true, false, true≢false, sym, refl, ap, ◌∙◌, subst, append-nil, All, map, option_map, arith}
+use Rattle.std.proofs.Common.{◌≡◌, ℕ, zero, suc, ◌+◌, ◌<◌, ◌≤◌, List, [], ◌∷◌, ◌++◌, length, get_or, slice_get, slice_index_or, Some, None, is_some, unwrap_or, Bool, true, false, true≢false, sym, refl, ap, ◌∙◌, subst, append-nil, option_map, arith}
 use Rattle.std.proofs.lemmas.Option.{slice_get-map, slice_get_within, get_or_from_slice_get}
 use mathlib.Core.Logic.{dite}
 use native.Mathlib.Decide.{ℕ_discrete}
@@ -7,13 +7,12 @@ use Rattle.atomic_table.specs.Table.{Step, rest}
 use Rattle.atomic_table.specs.Seated.{TableId}
 use Rattle.claim_board.specs.declared.slot.Slot.{Slot}
 use Rattle.claim_board.specs.declared.slot.Slot.TheVariants.{Empty, Holds, Room}
-use Rattle.claim_board.specs.declared.view.View.{View}
 use Rattle.claim_board.specs.Pieces.{IsAsPut}
 use Rattle.claim_board.specs.Counts.{times, past}
-use Rattle.claim_board.specs.Steps.{Seated, places_of, with_number, with_home, drew}
-use Rattle.claim_board.specs.Seen.{PassSeen, IsPassOf, drew_place, ended_pass, gave_back, held_in, pass_seen, Drew, IsPass}
-use Rattle.claim_board.proofs.Sums.{times-append, times-same, times-other, past-append, past-past, past-none}
-use Rattle.claim_board.proofs.Keeps.{piece_at, same-piece}
+use Rattle.claim_board.specs.Steps.{Seated, places_of, with_number, drew}
+use Rattle.claim_board.specs.Seen.{drew_place, held_in, pass_seen, Drew, IsPass}
+use Rattle.claim_board.proofs.Sums.{times-append, times-same, times-other, past-none}
+use Rattle.claim_board.proofs.Keeps.{piece_at}
 
 -- an item stands in its list
 pub times-at : (xs : List ℕ) (k d : ℕ) → k < length xs → 0 < times (get_or xs k d) xs

@@ -1,14 +1,12 @@
 -- What is true of a view stays true through a step.
-use Rattle.std.proofs.Common.{◌≡◌, ◌≢◌, ℕ, zero, suc, ◌+◌, ◌<◌, ◌≤◌, List, [], ◌∷◌, ◌++◌, length, Bool, sym, refl, ap, ◌∙◌, subst, arith}
+use Rattle.std.proofs.Common.{◌≡◌, ◌≢◌, ℕ, ◌+◌, ◌<◌, ◌≤◌, List, [], ◌∷◌, ◌++◌, length, Bool, sym, refl, ap, ◌∙◌, subst, arith}
 use mathlib.Core.Logic.{dite}
 use native.Mathlib.Decide.{ℕ_discrete}
 use mathlib.Core.Option.{some, none}
 use mathlib.Core.Option as maybe
 use lib.ListN.{get_elem?}
 use Rattle.claim_board.specs.declared.slot.Slot.{Slot}
-use Rattle.claim_board.specs.declared.slot.Slot.TheVariants.{Holds}
 use Rattle.claim_board.specs.declared.view.View.{View}
-use Rattle.claim_board.specs.Pieces.{IsWorked}
 use Rattle.claim_board.specs.Counts.{times, past}
 use Rattle.claim_board.specs.Rule.{blank, IsBack, Knows}
 use Rattle.claim_board.specs.Steps.{with_number, with_home, joined}

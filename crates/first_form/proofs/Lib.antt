@@ -1,6 +1,5 @@
-pub mod Lexed
-pub mod Unique
-pub mod Gaps
-pub mod Numbers
-pub mod Places
-pub mod Reading
+pub mod Reasons
+pub mod Parted
+pub mod Staying
+pub mod Ports
+pub mod Lawful

@@ -1,3 +1,5 @@
-pub mod Lexis
+pub mod FormTree
+pub mod Departing
+pub mod Formed
+pub mod Parts
 pub mod Spelling
-pub mod Slots

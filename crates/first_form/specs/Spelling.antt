@@ -1,76 +1,56 @@
--- What a text spells, and where one that spells nothing departs from the form.
-use Rattle.std.specs.Prelude.{◌≡◌, ℕ, ◌+◌, ◌^◌, ◌<◌, true, List, [], ◌∷◌, ◌++◌, length, codes, decimal}
-use Rattle.cal_model.specs.Form.{Form}
-use Rattle.cal_model.specs.declared.ast.Operand.{Operand}
-use Rattle.cal_model.specs.declared.ast.Operand.TheVariants.{Token, Number}
-use Rattle.cal_model.specs.declared.ast.Operator.{Operator}
-use Rattle.cal_model.specs.declared.ast.Operator.TheVariants.{Add, Sub, Mul}
-use Rattle.cal_model.specs.declared.ast.TheConstants.{MAX_DIGITS}
-use Rattle.first_form.specs.Lexis.{Lexes, IsTokenAt, gap_length, is_name}
+-- What a source spells, and why one that spells no actor of the first form is refused.
+use Rattle.std.specs.Prelude.{◌≡◌, ℕ, ◌^◌, ◌<◌, List, [], ◌∷◌, ◌++◌, length, Some, Result, Ok, Err}
+use Rattle.rvc_base.specs.declared.refusal.Rule.{Rule}
+use Rattle.rvc_base.specs.declared.refusal.Front.{Front as Answer}
+use Rattle.rvc_base.specs.declared.refusal.Front.TheVariants.{Refused, Memory}
+use Rattle.cal_ast.specs.Tree.{Tree}
+use Rattle.cal_ast.specs.Apart.{IsEqualApart}
+use Rattle.cal_lexer.specs.Lexeme.{Placed}
+use Rattle.cal_lexer.specs.Lexes.{lexes, faults}
+use Rattle.cal_parser.specs.Refusals as grammar
+use Rattle.cal_parser.specs.Spells.{spells}
+use Rattle.cal_model.specs.Form.{Form, form_of}
+use Rattle.cal_model.specs.declared.ast.Actor.{Actor}
+use Rattle.first_form.specs.FormTree.{form_tree, HasShortNumbers}
+use Rattle.first_form.specs.Departing.{departs}
+
+-- the text has these tokens, and they spell this tree
+pub record IsSource (text : List ℕ) (tree : Tree) : Type 0 where
+  pub tokens : List Placed
+  pub lexed : lexes text tokens
+  pub spelled : spells tokens tree
+
+-- the text spells the actor: its tree is that of the form, offsets aside
+pub record Spells (text : List ℕ) (f : Form) : Type 0 where
+  pub tree : Tree
+  pub source : IsSource text tree
+  pub is_form : IsEqualApart tree (form_tree f)
+  pub short : HasShortNumbers f
+
+-- the text spells a file whose first part that isn't of the form begins at this offset
+pub record DepartsAt (text : List ℕ) (at : ℕ) : Type 0 where
+  pub tree : Tree
+  pub source : IsSource text tree
+  pub departs_there : departs tree ≡ Some at
+
+-- which rule the source of this file breaks first, and where: of the lexis, of the grammar, or that what isn't of the
+-- form isn't built
+pub data Breaks (text : List ℕ) : Rule → ℕ → Type 0 where
+  in_lexis : (rule : Rule) (at : ℕ) → faults text rule at → Breaks text rule at
+  in_grammar : (tokens : List Placed) (rule : Rule) (at : ℕ) → lexes text tokens → grammar.Breaks (length text) tokens rule at → Breaks text rule at
+  in_form : (at : ℕ) → DepartsAt text at → Breaks text (record { 0 = 1 }) at
+
+-- a refusal names this file, and what its source breaks; want of memory says nothing of it
+abbrev pub IsRightly : ℕ → List ℕ → Answer → Type 0
+IsRightly number text (Refused refusal) = (refusal.place.file ≡ number) × Breaks text refusal.rule refusal.place.offset
+IsRightly number text Memory = Unit {0}
 
 -- each place of the text, its end too, can be written as an offset
 abbrev pub HasOffsets : List ℕ → Type 0
 HasOffsets text = length text < 2 ^ 32
 
--- an operand's token: the name that the action gives its input token, or the number
-abbrev pub operand_token : List ℕ → Operand → List ℕ
-operand_token variable Token = variable
-operand_token variable (Number n) = decimal n
-
-abbrev pub operator_token : Operator → List ℕ
-operator_token Add = codes "+"
-operator_token Sub = codes "-"
-operator_token Mul = codes "*"
-
--- the tokens of an actor of the form
-unfoldable pub form_tokens : Form → List (List ℕ)
-form_tokens f =
-    codes "actor" ∷ f.name ∷ codes "(" ∷ codes ")"
-    ∷ codes "uint" ∷ codes "(" ∷ codes "size" ∷ codes "=" ∷ codes "8" ∷ codes ")" ∷ f.input
-    ∷ codes "==>"
-    ∷ codes "uint" ∷ codes "(" ∷ codes "size" ∷ codes "=" ∷ codes "8" ∷ codes ")" ∷ f.output
-    ∷ codes ":" ∷ codes "action"
-    ∷ f.input ∷ codes ":" ∷ codes "[" ∷ f.variable ∷ codes "]"
-    ∷ codes "==>"
-    ∷ f.output ∷ codes ":" ∷ codes "[" ∷ operand_token f.variable f.sum.left ∷ operator_token f.sum.op
-    ∷ operand_token f.variable f.sum.right ∷ codes "]"
-    ∷ codes "end" ∷ codes "end" ∷ []
-
--- a number has at most MAX_DIGITS digits
-abbrev pub IsOperand : Operand → Type 0
-IsOperand Token = Unit {0}
-IsOperand (Number n) = n < 10 ^ MAX_DIGITS
-
--- the names are names, and the numbers are short enough
-pub record IsForm (f : Form) : Type 0 where
-  pub name : is_name f.name ≡ true
-  pub input : is_name f.input ≡ true
-  pub output : is_name f.output ≡ true
-  pub variable : is_name f.variable ≡ true
-  pub left : IsOperand f.sum.left
-  pub right : IsOperand f.sum.right
-
--- the text's tokens are those of the form, to its end
-pub record Spells (text : List ℕ) (f : Form) : Type 0 where
-  pub is_form : IsForm f
-  pub lexes : Lexes text (form_tokens f) []
-
--- the tokens begin the token list of some form
-pub record Begins (tokens : List (List ℕ)) : Type 0 where
-  pub form : Form
-  pub is_form : IsForm form
-  pub more : List (List ℕ)
-  pub whole : form_tokens form ≡ tokens ++ more
-
--- The text departs from the form at this place: what stands before it are blanks, comments and tokens that
--- begin the token list of some form; what stands there is no blank and no comment, no token with which such a
--- list goes on, and not the end of the text where the list is whole.
-pub record DepartsAt (text : List ℕ) (at : ℕ) : Type 0 where
-  pub tokens : List (List ℕ)
-  pub rest : List ℕ
-  pub lexes : Lexes text tokens rest
-  pub place : at + length rest ≡ length text
-  pub begins : Begins tokens
-  pub no_gap : gap_length rest ≡ 0
-  pub no_token : (t : List ℕ) → IsTokenAt rest t → ¬ (Begins (tokens ++ t ∷ []))
-  pub no_end : rest ≡ [] → (f : Form) → IsForm f → ¬ (form_tokens f ≡ tokens)
+-- what comes of a tree: the actor that it is, offsets aside, or where it departs
+abbrev pub IsActor : ℕ → Tree → Result Actor Answer → Type 0
+IsActor number tree (Ok actor) = IsEqualApart tree (form_tree (form_of actor)) × HasShortNumbers (form_of actor)
+IsActor number tree (Err (Refused refusal)) = (refusal.place.file ≡ number) × (refusal.rule ≡ record { 0 = 1 }) × (departs tree ≡ Some refusal.place.offset)
+IsActor number tree (Err Memory) = Unit {0}

@@ -1,21 +1,18 @@
-//! The reader of actors of the first form, from the bytes of a source to the tree.
+//! The reader of actors of the first form, from the bytes of a source to the actor.
 //!
 //! The form is `actor` Name `() uint(size=8)` Name `==> uint(size=8)` Name `: action` Name `:[` Name
 //! `] ==>` Name `:[` X op Y `] end end`, where the action names the header's ports, X and Y are the name that
-//! the action gives its token or a decimal number, and op is `+`, `-` or `*`. Blanks and comments may stand
-//! between tokens.
+//! the action gives its token or a number of at most 9 digits, and op is `+`, `-` or `*`. The source is read by
+//! the lexis and the grammar of the whole language; a file of another form is refused at the first part that
+//! isn't of this one.
 #![tactic(auto)]
 
-mod draft;
-mod fault;
+mod actor;
 mod laws;
-mod lexis;
 mod reader;
-mod slot;
 #[cfg(test)]
 mod tests;
+mod value;
 
-pub use fault::FormFault;
-pub use laws::{never_both, one_form, one_place};
-pub use lexis::is_name;
+pub use laws::{never_both, one_form};
 pub use reader::read_form;

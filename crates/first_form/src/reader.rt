@@ -1,84 +1,62 @@
-//! The reader: one token after another, by the places of the form.
+//! The reader.
 
-ghost use Rattle.std.specs.Prelude.{◌≡◌, ◌<◌, ◌≤◌, ◌^◌, ℕ, Err, IfOk, length, string_bytes, true, MatchResult, ◌-◌, ◌+◌};
+ghost use Rattle.std.specs.Prelude.{IfOk, IfErr};
 ghost use Rattle.cal_model.specs.Form.{form_of};
-ghost use Rattle.first_form.specs.Lexis.{is_name};
-ghost use Rattle.first_form.specs.Spelling.{DepartsAt, HasOffsets, IsForm, Spells};
-ghost use Rattle.first_form.specs.Slots.{draft_form};
-ghost use Rattle.first_form.specs.declared.fault.FormFault.TheVariants.{Departs};
+ghost use Rattle.cal_ast.specs.View.{file_tree};
+ghost use Rattle.cal_lexer.specs.Lexeme.{plain_tokens};
+ghost use Rattle.cal_lexer.specs.Lexes.{lexes};
+ghost use Rattle.first_form.specs.Spelling.{HasOffsets, IsActor, IsRightly, Spells};
 
-use crate::draft::{self, Draft};
-use crate::fault::FormFault;
-use crate::lexis;
-use crate::slot::{SLOTS, slot_at};
-use cal_model::ast::{Actor, Binary};
-use std::alloc::{AllocError, Global};
+use crate::actor::{given_file, owned};
+use cal_ast::File;
+use cal_lexer::{Token, lex};
+use cal_model::ast::Actor;
+use cal_parser::parse_file;
+use rvc_base::{Front, Place, Refusal, Rule};
+use std::alloc::Global;
 
-/// Reads the source of an actor of the first form.
+/// Reads the source of an actor of the first form. The text is the file of this number.
 ///
 /// # Errors
 ///
-/// `Departs` exactly where the text isn't of the form, with the offset of the first token or byte that departs
-/// from it, the end of the text where it stops early; `Memory` where an allocation was refused.
-pub fn read_form(alloc: Global, text: &[u8]) -> Result<Actor, FormFault>
+/// `Refused` with the first fault of the lexis; with a rule of the grammar, at its place; with Y1 where the text
+/// spells a file of another form, at the first part that isn't of it. And `Memory`.
+pub fn read_form(alloc: Global, file: u32, text: &[u8]) -> Result<Actor, Front>
     requires { HasOffsets text.now }
     ensures read { IfOk result (λ actor. Spells text.now (form_of actor)) }
-    ensures departs { (at : ℕ) → result ≡ Err (Departs at) → DepartsAt text.now at }
+    ensures refused { IfErr result (IsRightly file text.now) }
 {
-    match read_draft(text) {
-        Ok(draft) => Ok(actor(alloc, draft)?),
-        Err(at) => Err(FormFault::Departs { at: at as u32 }),
+    match lex(alloc, file, text) {
+        Ok(tokens) => read_tokens(alloc, file, text, tokens.as_slice()),
+        Err(front) => Err(front),
     }
 }
 
-/// Reads a draft whose every part is read; an error is the offset where the text departs from the form.
-fn read_draft(text: &[u8]) -> Result<Draft<'_>, usize>
-    ensures { MatchResult result (λ draft. Spells text.now (draft_form draft)) (λ at. DepartsAt text.now at) }
+/// Reads the tokens of a text.
+fn read_tokens(alloc: Global, file: u32, text: &[u8], tokens: &[Token]) -> Result<Actor, Front>
+    requires short { HasOffsets text.now }
+    requires lexed { lexes text.now (plain_tokens tokens.now) }
+    ensures read { IfOk result (λ actor. Spells text.now (form_of actor)) }
+    ensures refused { IfErr result (IsRightly file text.now) }
 {
-    let mut draft = draft::blank();
-    let mut rest = lexis::skip_gaps(text);
-    for index in 0..SLOTS.len() {
-        let Some((token, behind)) = lexis::split_token(rest) else {
-            return Err(text.len() - rest.len());
-        };
-        let Some(next) = draft::put(draft, slot_at(index), token) else {
-            return Err(text.len() - rest.len());
-        };
-        draft = next;
-        rest = lexis::skip_gaps(behind);
-    }
-    if rest.is_empty() {
-        Ok(draft)
-    } else {
-        Err(text.len() - rest.len())
+    match parse_file(alloc, file, tokens, text.len() as u32) {
+        Ok(tree) => read_tree(alloc, file, &tree),
+        Err(front) => Err(front),
     }
 }
 
-/// The tree of a draft.
-fn actor(alloc: Global, draft: Draft<'_>) -> Result<Actor, AllocError>
-    requires { IsForm (draft_form draft) }
-    ensures { IfOk result (λ actor. form_of actor ≡ draft_form draft.entry) }
+/// The actor that a tree is.
+fn read_tree(alloc: Global, file: u32, tree: &File) -> Result<Actor, Front>
+    ensures { IsActor file (file_tree tree.now) result }
 {
-    Ok(Actor {
-        name: string(alloc, draft.name)?,
-        input: string(alloc, draft.input)?,
-        output: string(alloc, draft.output)?,
-        variable: string(alloc, draft.variable)?,
-        sum: Binary {
-            left: draft.left,
-            op: draft.op,
-            right: draft.right,
+    match given_file(tree) {
+        Ok(given) => match owned(alloc, given) {
+            Ok(actor) => Ok(actor),
+            Err(_) => Err(Front::Memory),
         },
-    })
-}
-
-/// A name as a string.
-fn string(alloc: Global, name: &[u8]) -> Result<String, AllocError>
-    requires { is_name name.now ≡ true }
-    ensures { IfOk result (λ string. string_bytes string ≡ name.now) }
-{
-    match str::from_utf8(name) {
-        Ok(name) => String::from_str(alloc, name),
-        Err(_) => unreachable!(),
+        Err(offset) => Err(Front::Refused(Refusal {
+            rule: Rule::NOT_BUILT,
+            place: Place { file, offset },
+        })),
     }
 }

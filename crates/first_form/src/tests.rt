@@ -1,34 +1,42 @@
-//! Sources that are of the form, and where others depart from it.
+//! Sources that are of the form, and where others break a rule.
 
-use crate::{FormFault, read_form};
+use crate::read_form;
 use cal_model::ast::{Operand, Operator};
+use rvc_base::{Front, Place, Refusal, Rule};
 use std::test::Fail;
 
-/// Where a text departs from the form, -1 where it is read, and -2 for want of memory.
-fn departure(rt: &HostRuntime, text: &[u8]) -> i64 {
-    if text.len() > 1000 {
-        return -3;
-    }
-    match read_form(rt.alloc(), text) {
-        Ok(_actor) => -1,
-        Err(FormFault::Departs { at }) => i64::from(at),
-        Err(FormFault::Memory) => -2,
+/// The number of the source file.
+const FILE: u32 = 1;
+
+/// Which rule a source breaks and where; none where it is read.
+fn refusal(rt: &HostRuntime, text: &[u8]) -> Result<Option<Refusal>, Fail> {
+    assert!(rt; text.len() < 1000);
+    match read_form(rt.alloc(), FILE, text) {
+        Ok(_actor) => Ok(None),
+        Err(Front::Refused(refusal)) => Ok(Some(refusal)),
+        Err(fault) => Err(fault)?,
     }
 }
 
-/// The same of a source whose action is this text, counted from there.
-fn action_departure(rt: &HostRuntime, action: &str) -> Result<i64, Fail> {
-    let source = format!(in rt.alloc();
+fn at(rule: u16, offset: u32) -> Option<Refusal> {
+    Some(Refusal {
+        rule: Rule(rule),
+        place: Place { file: FILE, offset },
+    })
+}
+
+/// A source with this between `action` and the ends. The action begins at 49, and what is given at 56.
+fn with_action(rt: &HostRuntime, action: &str) -> Result<String, Fail> {
+    Ok(format!(in rt.alloc();
         "actor A() uint(size=8) In ==> uint(size=8) Out : action {action} end end"
-    )?;
-    let place = departure(rt, source.as_bytes());
-    Ok(if place < 0 { place } else { place - 56 })
+    )?)
 }
 
 #[test]
 fn reads_the_increment(rt: HostRuntime) -> Result<(), Fail> {
     let actor = read_form(
         rt.alloc(),
+        FILE,
         b"actor Inc() uint(size=8) In ==> uint(size=8) Out : action In:[a] ==> Out:[a + 1] end end",
     )?;
     assert_eq!(rt; actor.name.as_str(), "Inc");
@@ -42,58 +50,91 @@ fn reads_the_increment(rt: HostRuntime) -> Result<(), Fail> {
 }
 
 #[test]
-fn takes_blanks_and_comments_between_tokens(rt: HostRuntime) {
+fn takes_what_lexis_and_grammar_leave_open(rt: HostRuntime) -> Result<(), Fail> {
     assert_eq!(rt;
-        departure(
+        refusal(
             &rt,
-            b"/* an **/actor//x\n A/**/(\t)\r\nuint(size/*/*/=8)In==>uint(size=8)Out:action In:[a]==>Out:[a*1]end//\nend\x0c// the end"
+            b"/* an **/actor//x\n A/**/(\t)\r\nuint(size/*/*/=0x8)In==>uint(size=8)Out:action In:[a]==>Out:[a*1]endaction//\nend\x0c// the end"
+        )?,
+        None
+    );
+    for action in [
+        "In:[a] ==> Out:[a+1]",
+        "In:[a] ==> Out:[1 - a]",
+        "In:[a] ==> Out:[(a + 1)]",
+        "In:[a] ==> Out:[999999999 * 0]",
+    ] {
+        assert_eq!(rt; refusal(&rt, with_action(&rt, action)?.as_bytes())?, None);
+    }
+    Ok(())
+}
+
+#[test]
+fn other_files_break_a_rule(rt: HostRuntime) -> Result<(), Fail> {
+    let rows: [(&[u8], u16, u32); 14] = [
+        (b"actor A() \xff", 101, 10),
+        (b"actor A() /* never closed", 102, 10),
+        (b"", 201, 0),
+        (b"actor B() uint(size=8) In ==> ", 201, 30),
+        (b"actor end() uint(size=8) In", 201, 6),
+        (b"actors A()", 201, 0),
+        (b"package p; actor A() ==> : end", 1, 0),
+        (b" import p.U; actor A() ==> : end", 1, 1),
+        (b"unit U : end", 1, 0),
+        (
+            b"actor A(int K) uint(size=8) In ==> uint(size=8) Out : end",
+            1,
+            8,
         ),
-        -1
-    );
-    assert_eq!(rt; departure(&rt, b"actor A() /* never closed"), 10);
-    assert_eq!(rt; departure(&rt, b"actor A() /*/"), 10);
+        (b"actor A() ==> uint(size=8) Out : end", 1, 0),
+        (
+            b"actor A() uint(size=16) In ==> uint(size=8) Out : end",
+            1,
+            10,
+        ),
+        (
+            b"actor A() uint(size=8) In, uint(size=8) B ==> : end",
+            1,
+            27,
+        ),
+        (
+            b"actor A() uint(size=8) In ==> uint(size=8) Out : end",
+            1,
+            0,
+        ),
+    ];
+    for (source, rule, offset) in rows {
+        assert_eq!(rt; refusal(&rt, source)?, at(rule, offset));
+    }
+    Ok(())
 }
 
 #[test]
-fn stops_at_the_end_where_it_comes_early(rt: HostRuntime) {
-    assert_eq!(rt; departure(&rt, b""), 0);
-    assert_eq!(rt; departure(&rt, b"actor B() uint(size=8) In ==> "), 30);
-    assert_eq!(rt; departure(&rt, b"actor B() // In"), 15);
-}
-
-#[test]
-fn stops_at_the_first_token_that_departs(rt: HostRuntime) {
-    assert_eq!(rt; departure(&rt, b"actor end() uint(size=8) In"), 6);
-    assert_eq!(rt; departure(&rt, b"actors A()"), 0);
-    assert_eq!(rt; departure(&rt, b"actor A() uint(size=16) In"), 20);
-    assert_eq!(rt; departure(&rt, b"actor A() uint(size=08) In"), 20);
-    assert_eq!(rt; departure(&rt, b"actor A() uint(size==>8)"), 19);
-    assert_eq!(rt; departure(&rt, b"actor A() \xff"), 10);
-}
-
-#[test]
-fn reads_the_action(rt: HostRuntime) -> Result<(), Fail> {
-    assert_eq!(rt; action_departure(&rt, "In:[a] ==> Out:[a+1]")?, -1);
-    assert_eq!(rt; action_departure(&rt, "In:[a] ==> Out:[1 - a]")?, -1);
-    assert_eq!(rt;
-        action_departure(&rt, "In:[a] ==> Out:[999999999 * 0]")?,
-        -1
-    );
-    assert_eq!(rt;
-        action_departure(&rt, "In:[a] ==> Out:[1000000000 + a]")?,
-        16
-    );
-    assert_eq!(rt; action_departure(&rt, "In:[a] ==> Out:[a + 08]")?, 20);
-    assert_eq!(rt; action_departure(&rt, "In:[a] ==> Out:[a + 1x]")?, 20);
-    assert_eq!(rt; action_departure(&rt, "In:[a] ==> Out:[a + 1.5]")?, 20);
-    assert_eq!(rt; action_departure(&rt, "In:[a] ==> Out:[a / 1]")?, 18);
-    assert_eq!(rt; action_departure(&rt, "In:[a] ==> Out:[a + b]")?, 20);
-    assert_eq!(rt; action_departure(&rt, "Out:[a] ==> Out:[a + 1]")?, 0);
-    assert_eq!(rt; action_departure(&rt, "In:[a] ==> In:[a + 1]")?, 11);
-    assert_eq!(rt; action_departure(&rt, "In:=[a] ==> Out:[a + 1]")?, 2);
-    assert_eq!(rt;
-        action_departure(&rt, "In:[a] ==> Out:[a + 1] end end e")?,
-        31
-    );
+fn other_actions_break_a_rule(rt: HostRuntime) -> Result<(), Fail> {
+    let rows: [(&str, u16, u32); 19] = [
+        ("In:[a] ==> Out:[a + 08]", 106, 76),
+        ("In:[a] ==> Out:[a + 1x]", 104, 76),
+        ("In:[a] ==> Out:[a + 1.5]", 104, 76),
+        ("In:=[a] ==> Out:[a + 1]", 201, 58),
+        ("In:[a] ==> Out:[a + 1] end end e", 201, 87),
+        ("In:[a] ==> Out:[1000000000 + a]", 1, 72),
+        ("In:[a] ==> Out:[a / 1]", 1, 72),
+        ("In:[a] ==> Out:[(a) + 1]", 1, 72),
+        ("In:[a] ==> Out:[a + b]", 1, 76),
+        ("Out:[a] ==> Out:[a + 1]", 1, 56),
+        ("In:[a] ==> In:[a + 1]", 1, 67),
+        ("In:[a, b] ==> Out:[a + 1]", 1, 63),
+        ("In:[a] repeat 2 ==> Out:[a + 1]", 1, 70),
+        ("In:[a], In:[b] ==> Out:[a + 1]", 1, 64),
+        ("In:[a] ==> Out:[a + 1] guard a = 1", 1, 85),
+        ("In:[a] ==> Out:[a + 1] var int x", 1, 83),
+        ("In:[a] ==> Out:[a + 1] do x := 1;", 1, 82),
+        ("In:[a] ==> Out:[a + 1] do", 1, 49),
+        ("==> Out:[a + 1]", 1, 49),
+    ];
+    for (action, rule, offset) in rows {
+        let source = with_action(&rt, action)?;
+        assert_eq!(rt; refusal(&rt, source.as_bytes())?, at(rule, offset));
+    }
     Ok(())
 }

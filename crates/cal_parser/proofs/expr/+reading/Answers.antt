@@ -1,4 +1,4 @@
-use Rattle.std.proofs.Common.{◌≡◌, None, true, false, ◌+◌, ◌-◌, ◌<◌, ◌≤◌, List, [], ◌∷◌, ◌++◌, length, map, string_bytes, vec_len, refl, sym, ap, ◌∙◌, subst, arith, rules}
+use Rattle.std.proofs.Common.{◌≡◌, None, true, false, ◌+◌, ◌-◌, ◌<◌, ◌≤◌, [], ◌∷◌, ◌++◌, length, map, string_bytes, vec_len, refl, sym, ap, ◌∙◌, subst, arith, rules}
 use Rattle.look_ahead.specs.Program.{Gave, check, take}
 use Rattle.cal_ast.specs.Tree.{index, listed, prefix}
 use Rattle.cal_ast.specs.View.{expr_tree, gen_tree, type_arg_tree}

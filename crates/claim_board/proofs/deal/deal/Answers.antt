@@ -1,4 +1,4 @@
-use Rattle.std.proofs.Common.{◌≡◌, ◌∙◌, [], List, length, ap, sym, arith}
+use Rattle.std.proofs.Common.{◌≡◌, ◌∙◌, ap, sym, arith}
 use Rattle.claim_board.specs.declared.view.View.{View}
 use Rattle.claim_board.specs.Steps.{Seated, less_one, first_view}
 use Rattle.claim_board.specs.Seen.{PassSeen, new_pass, board_at}

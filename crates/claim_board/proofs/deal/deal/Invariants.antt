@@ -1,4 +1,4 @@
-use Rattle.std.proofs.Common.{◌≡◌, ◌+◌, ◌≤◌, [], length, vec_capacity}
+use Rattle.std.proofs.Common.{◌≡◌, ◌+◌, [], length, vec_capacity}
 use Rattle.std.specs.List.{All}
 use Rattle.claim_board.specs.Steps.{first_view}
 use Rattle.claim_board.specs.Seen.{new_pass, board_at}

@@ -1,6 +1,6 @@
-use Rattle.std.proofs.Common.{rules, ◌≡◌, ◌<◌, ◌++◌, ◌∷◌, ◌∙◌, [], List, length, Option, None, ap, sym, refl, subst, append-nil, append_assoc, arith}
+use Rattle.std.proofs.Common.{◌≡◌, ◌++◌, ◌∷◌, ◌∙◌, [], List, None, ap, sym, subst, append-nil, append_assoc, arith}
 use Rattle.atomic_table.specs.Seated.{TableId}
-use Rattle.claim_board.specs.Seen.{PassSeen, Gathered, pass_seen}
+use Rattle.claim_board.specs.Seen.{PassSeen, Gathered}
 use Rattle.claim_board.specs.Steps.{Seated}
 use Rattle.claim_board.proofs.Keeps.{joins}
 use Rattle.claim_board.proofs.Lists.{all-last, nil-of, none-case}

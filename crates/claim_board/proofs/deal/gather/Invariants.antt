@@ -1,6 +1,6 @@
-use Rattle.std.proofs.Common.{◌≡◌, ◌<◌, ◌++◌, List, length, vec_len, None}
+use Rattle.std.proofs.Common.{◌≡◌, ◌<◌, ◌++◌, List, vec_len, None}
 use Rattle.std.specs.List.{All}
-use Rattle.claim_board.specs.Seen.{PassSeen, IsPassOf, board_at, Gathered}
+use Rattle.claim_board.specs.Seen.{PassSeen, Gathered}
 use Rattle.claim_board.proofs.deal.gather.Given as goal
 
 abbrev pub invariant-loop-pass : goal.invariant-loop-pass

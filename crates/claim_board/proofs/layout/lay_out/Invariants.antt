@@ -1,4 +1,4 @@
-use Rattle.std.proofs.Common.{◌≡◌, ◌+◌, ◌≤◌, ◌++◌, List, [], vec_len, vec_capacity, length, reverse}
+use Rattle.std.proofs.Common.{◌≡◌, ◌+◌, ◌++◌, vec_len, vec_capacity, reverse}
 use Rattle.claim_board.specs.Layout.{holding}
 use Rattle.claim_board.proofs.layout.lay_out.Given as goal
 

@@ -1,4 +1,4 @@
-use Rattle.std.proofs.Common.{◌≡◌, ◌+◌, ◌≤◌, ◌++◌, ◌∷◌, ◌∙◌, [], List, length, reverse, vec_len, vec_capacity, ap, sym, refl, rules, arith}
+use Rattle.std.proofs.Common.{◌≡◌, ◌∙◌, List, length, reverse, ap, sym, arith}
 use Rattle.claim_board.specs.declared.slot.Slot.{Slot}
 use Rattle.claim_board.specs.Layout.{holding, pieces_of}
 use Rattle.claim_board.proofs.Slots.{last-of, room-of, pours-start, pours-more, pours-holds, pours-end, pieces_of-all, reverse-twice, held-length}

@@ -1,12 +1,9 @@
-use Rattle.std.proofs.Common.{◌≡◌, ◌≢◌, ℕ, suc, ◌<◌, ◌≤◌, ◌+◌, ◌++◌, ◌∷◌, ◌∙◌, [], List, length, take, true, false, get_or, set, slice_get, ap, sym, refl, subst, get_or-set_other, get_or-set_same, arith}
+use Rattle.std.proofs.Common.{◌≡◌, ◌≢◌, ℕ, ◌<◌, ◌+◌, ◌++◌, ◌∷◌, ◌∙◌, [], List, length, take, false, get_or, ap, sym, refl, subst, get_or-set_other, get_or-set_same, arith}
 use mathlib.Core.Logic.{dite}
 use native.Mathlib.Decide.{ℕ_discrete}
-use mathlib.Core.Option.{some, some-injective}
-use lib.ListN.{get_elem?}
 use Rattle.std.specs.Mem.Slots.{slots_items, slots_filled, slots_len}
 use Rattle.claim_board.specs.declared.slot.Slot.{Slot}
-use Rattle.claim_board.specs.declared.slot.Slot.TheVariants.{Holds, Room}
-use Rattle.claim_board.specs.Layout.{holding, pieces_of}
+use Rattle.claim_board.specs.Layout.{pieces_of}
 use Rattle.claim_board.proofs.Keeps.{piece_at}
 use Rattle.claim_board.proofs.Passes.{same-held}
 use Rattle.claim_board.proofs.Slots.{room-of, room-is, laid-room, laid-length, laid-piece, take-more}

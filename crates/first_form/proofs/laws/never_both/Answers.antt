@@ -1,5 +1,5 @@
-use Rattle.first_form.proofs.Unique.{never_both}
+use Rattle.first_form.proofs.Lawful.{never_both as law}
 use Rattle.first_form.proofs.laws.never_both.Goals as goal
 
 pub returns : goal.returns
-returns c = never_both
+returns c = law c.one_list.ensures c.one_tree.ensures

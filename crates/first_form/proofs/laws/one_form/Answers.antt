@@ -1,5 +1,5 @@
-use Rattle.first_form.proofs.Unique.{one_form}
+use Rattle.first_form.proofs.Lawful.{one_form as law}
 use Rattle.first_form.proofs.laws.one_form.Goals as goal
 
 pub returns : goal.returns
-returns c = one_form
+returns c = law c.one_list.ensures c.one_tree.ensures

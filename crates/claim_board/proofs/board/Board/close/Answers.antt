@@ -1,8 +1,7 @@
-use Rattle.std.proofs.Common.{◌≡◌, ◌⊎◌, ◌<◌, ◌∙◌, ℕ, List, length, slice_get, slice_index_or, Some, Any, true, false, None, ap, sym, refl, subst, rules, arith}
+use Rattle.std.proofs.Common.{◌≡◌, ◌⊎◌, ◌<◌, ◌∙◌, ℕ, List, length, slice_get, slice_index_or, Some, Any, true, false, ap, sym, subst, arith}
 use Rattle.std.specs.Mem.Slots.{slots_items}
 use Rattle.claim_board.specs.Pieces.{IsAsPut, IsWorked}
-use Rattle.claim_board.specs.Seen.{PassSeen, IsPassOf, AtEachPlace, EachDrawnOnce, times_drawn}
-use Rattle.claim_board.specs.Layout.{pieces_of}
+use Rattle.claim_board.specs.Seen.{PassSeen, AtEachPlace, times_drawn}
 use Rattle.claim_board.proofs.Closes.{Closes, closed, each-place}
 use Rattle.claim_board.proofs.board.Board.close.Goals as goal
 

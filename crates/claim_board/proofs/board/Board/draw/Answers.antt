@@ -1,12 +1,12 @@
-use Rattle.std.proofs.Common.{◌≡◌, ◌<◌, ◌∷◌, [], ◌∙◌, List, ℕ, length, slice_get, slice_index_or, Some, false, ap, sym, refl, subst, arith, rules}
-use Rattle.claim_board.specs.Steps.{Seated, with_number}
+use Rattle.std.proofs.Common.{◌≡◌, ◌<◌, ◌∙◌, ℕ, length, slice_get, slice_index_or, Some, false, ap, sym, subst, arith, rules}
+use Rattle.claim_board.specs.Steps.{Seated}
 use Rattle.claim_board.specs.Seen.{pass_seen, drew_place, IsPass}
-use Rattle.claim_board.specs.declared.slot.Slot.TheVariants.{Holds, Empty}
+use Rattle.claim_board.specs.declared.slot.Slot.TheVariants.{Holds}
 use Rattle.atomic_table.specs.Table.{step}
 use mathlib.Core.Option.{none}
 use Rattle.claim_board.specs.Counts.{past, times}
 use Rattle.claim_board.proofs.Keeps.{draws, piece_at}
-use Rattle.claim_board.proofs.Passes.{same-slot, first-of, no-hand, none-past, taken, after-taken, taken-pass, taken-seen, drew-places, home-all, drawn-piece, all-below, put-as-put, ended-is}
+use Rattle.claim_board.proofs.Passes.{same-slot, first-of, no-hand, none-past, taken, after-taken, taken-pass, taken-seen, drew-places, drawn-piece, all-below, put-as-put}
 use Rattle.claim_board.proofs.board.Board.draw.Goals as goal
 
 pub fetch_add-number-requires : goal.fetch_add-number-requires

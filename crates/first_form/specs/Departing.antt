@@ -1,0 +1,174 @@
+-- Where a tree departs from the first form: at the first part, in the order of the text, that isn't of it.
+--
+-- A part that is there once too often departs where it begins. Where a part is lacking, what should hold it departs.
+use Rattle.std.specs.Prelude.{ℕ, ◌^◌, nat_lt, nat_eq, Bool, true, false, not, ◌&&◌, List, Option, None, Some, codes}
+use Rattle.std.specs.Str.{bytes_eq}
+use Rattle.cal_ast.specs.declared.expr.BinOp.{BinOp}
+use Rattle.cal_ast.specs.declared.expr.BinOp.TheVariants as ops
+use Rattle.cal_ast.specs.Tree.{Tree, absent, present, nil, cons, ident, tag, import_part, file, actor, unit, param, port, var, function, procedure, action, pattern, output, schedule, move, priority, type_of, value_arg, assign, call_stmt, if_stmt, while_stmt, foreach_stmt, block, number, truth, variable, call, paren, if_expr, list, comp, index, prefix, binary}
+use Rattle.cal_model.specs.declared.ast.TheConstants.{MAX_DIGITS}
+
+-- the offset at which a part begins
+abbrev pub begins : Tree → ℕ
+begins (present x) = begins x
+begins (cons x xs) = begins x
+begins (ident text at) = at
+begins (tag parts at) = at
+begins (import_part path last at) = at
+begins (file in_package imports body at) = at
+begins (actor name params ins outs members at) = at
+begins (unit name members at) = at
+begins (param shape name start at) = at
+begins (port shape name at) = at
+begins (var shape name start changes at) = at
+begins (function name formals result vars body at) = at
+begins (procedure name formals vars body at) = at
+begins (action t initialize patterns outputs guards vars body at) = at
+begins (pattern from names repeat at) = at
+begins (output to values repeat at) = at
+begins (schedule start moves at) = at
+begins (move from tags to at) = at
+begins (priority chains at) = at
+begins (type_of name args at) = at
+begins (assign name places value at) = at
+begins (call_stmt name args at) = at
+begins (if_stmt test first other at) = at
+begins (while_stmt test body at) = at
+begins (foreach_stmt shape name from to body at) = at
+begins (block vars body at) = at
+begins (number value at) = at
+begins (truth value at) = at
+begins (variable text at) = at
+begins (call name args at) = at
+begins (paren inner at) = at
+begins (if_expr test first other at) = at
+begins (list items at) = at
+begins (comp item gens at) = at
+begins (index base i at) = at
+begins (prefix op operand at) = at
+begins (binary op left right at) = at
+begins _ = 0
+
+-- the first of two places
+infixr 5 ◌or_else◌
+abbrev pub ◌or_else◌ : Option ℕ → Option ℕ → Option ℕ
+None or_else q = q
+Some at or_else q = Some at
+
+-- it departs there, unless this holds
+abbrev pub unless : Bool → ℕ → Option ℕ
+unless true at = None
+unless false at = Some at
+
+-- there must be no such part
+abbrev pub none : Tree → Option ℕ
+none nil = None
+none absent = None
+none x = Some (begins x)
+
+-- there must be one part and no other; `at` is where what holds it begins
+abbrev pub alone : ℕ → (Tree → Option ℕ) → Tree → Option ℕ
+alone at each (cons x xs) = each x or_else none xs
+alone at each _ = Some at
+
+abbrev pub is_8 : Tree → Bool
+is_8 (number value at) = nat_eq value 8
+is_8 _ = false
+
+abbrev pub is_size_8 : Tree → Bool
+is_size_8 (value_arg (ident name at) value) = bytes_eq name (codes "size") && is_8 value
+is_size_8 _ = false
+
+abbrev pub is_nil : Tree → Bool
+is_nil nil = true
+is_nil _ = false
+
+abbrev pub is_alone_8 : Tree → Bool
+is_alone_8 (cons arg others) = is_nil others && is_size_8 arg
+is_alone_8 _ = false
+
+-- uint(size=8)
+abbrev pub is_byte_type : Tree → Bool
+is_byte_type (type_of (ident name q) args at) = bytes_eq name (codes "uint") && is_alone_8 args
+is_byte_type _ = false
+
+abbrev pub departs_port : Tree → Option ℕ
+departs_port (port shape name at) = unless (is_byte_type shape) at
+departs_port x = Some (begins x)
+
+-- what a part is named
+abbrev pub name_of : Tree → List ℕ
+name_of (ident text at) = text
+name_of (present x) = name_of x
+name_of (cons x xs) = name_of x
+name_of (port shape name at) = name_of name
+name_of (pattern from names repeat at) = name_of names
+name_of _ = Rattle.std.specs.Prelude.[]
+
+-- the name of a port is there, and is this one
+abbrev pub is_named : List ℕ → Tree → Bool
+is_named name (present (ident text at)) = bytes_eq text name
+is_named name _ = false
+
+-- a pattern of one name at the port `name`
+abbrev pub departs_pattern : List ℕ → Tree → Option ℕ
+departs_pattern name (pattern from names repeat at) = unless (is_named name from) at or_else alone at (λ x. None) names or_else none repeat
+departs_pattern name x = Some (begins x)
+
+-- the token, under the name that the action gives it, or a number of at most MAX_DIGITS digits
+abbrev pub is_operand : List ℕ → Tree → Bool
+is_operand token (variable text at) = bytes_eq text token
+is_operand token (number value at) = nat_lt value (10 ^ MAX_DIGITS)
+is_operand token _ = false
+
+abbrev pub is_operator : BinOp → Bool
+is_operator ops.Add = true
+is_operator ops.Sub = true
+is_operator ops.Mul = true
+is_operator _ = false
+
+-- an operation on two operands
+abbrev pub departs_value : List ℕ → Tree → Option ℕ
+departs_value token (binary op left right at) = unless (is_operator op) at or_else unless (is_operand token left) (begins left) or_else unless (is_operand token right) (begins right)
+departs_value token x = Some (begins x)
+
+-- an output of one value at the port `name`
+abbrev pub departs_output : List ℕ → List ℕ → Tree → Option ℕ
+departs_output name token (output to values repeat at) = unless (is_named name to) at or_else alone at (departs_value token) values or_else none repeat
+departs_output name token x = Some (begins x)
+
+abbrev pub is_absent : Tree → Bool
+is_absent absent = true
+is_absent _ = false
+
+-- there must be no body; one without statements begins nowhere, so its action departs
+abbrev pub no_body : ℕ → Tree → Option ℕ
+no_body at absent = None
+no_body at (present (cons x xs)) = Some (begins x)
+no_body at _ = Some at
+
+-- what may stand behind the outputs of an action: nothing
+abbrev pub departs_behind : ℕ → Tree → Tree → Tree → Option ℕ
+departs_behind at guards vars body = none guards or_else none vars or_else no_body at body
+
+-- an action without a tag that takes a token from one port and sends one to the other, and does no more
+abbrev pub departs_action : List ℕ → List ℕ → Tree → Option ℕ
+departs_action in_port out_port (action t initialize patterns outputs guards vars body at) =
+    unless (is_absent t && not initialize) at
+    or_else alone at (departs_pattern in_port) patterns
+    or_else alone at (departs_output out_port (name_of patterns)) outputs
+    or_else departs_behind at guards vars body
+departs_action in_port out_port x = Some (begins x)
+
+abbrev pub departs_actor : Tree → Option ℕ
+departs_actor (actor name params ins outs members at) =
+    none params
+    or_else alone at departs_port ins
+    or_else alone at departs_port outs
+    or_else alone at (departs_action (name_of ins) (name_of outs)) members
+departs_actor x = Some (begins x)
+
+-- a file that is an actor of the form
+abbrev pub departs : Tree → Option ℕ
+departs (file in_package imports body at) = unless (is_absent in_package) at or_else none imports or_else departs_actor body
+departs x = Some (begins x)
