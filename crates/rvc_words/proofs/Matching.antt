@@ -1,6 +1,6 @@
 -- What clap's clauses say of the command.
-use Rattle.std.proofs.Common.{◌⊎◌, inl, inr, ◌≡◌, ◌∙◌, ap, sym, refl, ℕ, Bool, true, false, not, List, [], ◌∷◌, codes}
-use Rattle.clap.specs.Walk.{Row, Text, is_empty}
+use Rattle.std.proofs.Common.{◌⊎◌, inl, inr, ◌≡◌, ◌∙◌, ap, sym, refl, ℕ, true, false, List, [], ◌∷◌, codes}
+use Rattle.clap.specs.Walk.{Row, Text}
 use Rattle.clap.specs.Simple.{App, app_of, app_of_fields, is_simple, matches_of, new_app, on_top, with_rule}
 use Rattle.clap.specs.Faults.{fault_of, is_simple_and_free}
 use Rattle.clap.specs.Kinds.{HasKind, Kinds}
@@ -9,7 +9,7 @@ use Rattle.clap.specs.declared.error.Error.{Error}
 use Rattle.clap.specs.declared.error.kind.ErrorKind.TheVariants.{OutOfMemory}
 use Rattle.clap.specs.declared.builder.command.Command.{Command}
 use Rattle.clap.specs.declared.builder.command.Command.TheOpen.{Command-F}
-use Rattle.rvc_words.specs.Command.{last_place, matches, option, place, refuses, rvc, without_flags}
+use Rattle.rvc_words.specs.Command.{is_some_fault, last_place, matches, option, place, refuses, rvc, without_flags}
 
 simple : is_simple rvc ≡ true
 unfolding rvc
@@ -38,13 +38,13 @@ whole a b c d e f g h last ea eb ec ed ee ef eg eh el =
 
 pub accepted : (a : App) (words : List Text) → a ≡ rvc → (is_simple_and_free a ≡ true → fault_of a words ≡ []) → refuses words ≡ false
 unfolding refuses
-accepted a words e h = ap (λ kinds. not (is_empty kinds)) (ap (λ b. fault_of b words) (sym e) ∙ h (ap is_simple_and_free e ∙ simple_and_free))
+accepted a words e h = ap is_some_fault (ap (λ b. fault_of b words) (sym e) ∙ h (ap is_simple_and_free e ∙ simple_and_free))
 
 pub matched : (a : App) (words : List Text) (rows : List Row) (X : Type 0) → a ≡ rvc → (is_simple a ≡ true → (rows ≡ matches_of a words) × X) → rows ≡ matches words
 unfolding matches
 matched a words rows X e h = (h (ap is_simple e ∙ simple)).0 ∙ ap (λ b. matches_of b words) e
 
-has_fault : (kinds : Kinds) (error : Error) → HasKind kinds error → (kind_of error ≡ OutOfMemory → ⊥) → not (is_empty kinds) ≡ true
+has_fault : (kinds : Kinds) (error : Error) → HasKind kinds error → (kind_of error ≡ OutOfMemory → ⊥) → is_some_fault kinds ≡ true
 has_fault [] error (inl memory) other = absurd (other memory)
 has_fault [] error (inr none) other = absurd none
 has_fault (kind ∷ kinds) error h other = refl
@@ -52,4 +52,4 @@ has_fault (kind ∷ kinds) error h other = refl
 pub refused : (a : App) (words : List Text) (error : Error) → a ≡ rvc → (is_simple_and_free a ≡ true → HasKind (fault_of a words) error) → (kind_of error ≡ OutOfMemory → ⊥) → refuses words ≡ true
 unfolding refuses
 refused a words error e h other =
-    ap (λ b. not (is_empty (fault_of b words))) (sym e) ∙ has_fault (fault_of a words) error (h (ap is_simple_and_free e ∙ simple_and_free)) other
+    ap (λ b. is_some_fault (fault_of b words)) (sym e) ∙ has_fault (fault_of a words) error (h (ap is_simple_and_free e ∙ simple_and_free)) other

@@ -1,9 +1,10 @@
 -- The command that the words are matched by, and what stands at its places.
-use Rattle.std.specs.Prelude.{ℕ, Bool, true, false, not, List, [], Option, Some, codes, unwrap_or}
+use Rattle.std.specs.Prelude.{ℕ, Bool, true, false, List, [], ◌∷◌, Option, Some, codes, unwrap_or}
 use Rattle.clap.specs.Lexer.{usize_max}
-use Rattle.clap.specs.Walk.{Row, Rule, Text, all_of, first_of, is_empty}
+use Rattle.clap.specs.Walk.{Row, Rule, Text, all_of, first_of}
 use Rattle.clap.specs.Simple.{App, matches_of, new_app, new_rule, on_top, with_rule}
 use Rattle.clap.specs.Faults.{fault_of}
+use Rattle.clap.specs.Kinds.{Kinds}
 
 -- a place that one word has to take
 abbrev pub place : Text → Rule
@@ -27,10 +28,14 @@ rvc =
     let places = with_rule (with_rule (with_rule (without_flags (new_app (codes "rvc"))) (place (codes "VERB"))) (place (codes "TOP"))) (last_place (codes "PORTS")) in
     with_rule (with_rule (with_rule (with_rule (with_rule places (option (codes "trace"))) (option (codes "workers"))) (option (codes "round"))) (option (codes "burst"))) (option (codes "budget"))
 
+abbrev pub is_some_fault : Kinds → Bool
+is_some_fault [] = false
+is_some_fault (kind ∷ more) = true
+
 -- The command finds fault with the words: a place is lacking, an option isn't known, has no value or is given
 -- twice, or an option's value begins with `-` and isn't joined to it by `=`.
 unfoldable pub refuses : List Text → Bool
-refuses words = not (is_empty (fault_of rvc words))
+refuses words = is_some_fault (fault_of rvc words)
 
 -- what the command makes of the words
 unfoldable pub matches : List Text → List Row

@@ -3,7 +3,7 @@ use Rattle.std.specs.Prelude.{ℕ, Bool, true, false, ◌||◌, ◌&&◌, not, n
 use Rattle.std.specs.List.{before_first, after_first, list_all, list_any, slice_split}
 use Rattle.std.specs.Str.{bytes_eq}
 use Rattle.std.specs.Str.Parse.{digits_value}
-use Rattle.cal_lexer.specs.Lexis.{begins_name, goes_on_name, reserved}
+use Rattle.cal_lexer.specs.Lexis.{begins_name, find, goes_on_name, long_ends, words}
 use Rattle.rvc_base.specs.declared.round_kind.RoundKind.{RoundKind}
 use Rattle.rvc_base.specs.declared.round_kind.RoundKind.TheVariants.{All, Turn, Seed}
 use Rattle.rvc_words.specs.declared.job.Verb.{Verb}
@@ -41,7 +41,7 @@ given_or default read (Some word) = read word
 
 -- a reserved word of the language
 unfoldable pub is_reserved : List ℕ → Bool
-is_reserved text = is_some (reserved text)
+is_reserved text = is_some (find text words) || is_some (find text long_ends)
 
 -- a letter or `_` followed by letters, digits and `_`, and no reserved word
 unfoldable pub is_name : List ℕ → Bool

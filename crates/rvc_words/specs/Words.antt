@@ -37,13 +37,13 @@ abbrev pub kept : {A : Type 0} → Bool → A → UsageCause → Result A UsageC
 kept true value cause = Ok value
 kept false value cause = Err cause
 
-abbrev pub then : {A B : Type 0} → Result A UsageCause → (A → Result B UsageCause) → Result B UsageCause
-then (Ok value) next = next value
-then (Err cause) next = Err cause
+abbrev pub and_then : {A B : Type 0} → Result A UsageCause → (A → Result B UsageCause) → Result B UsageCause
+and_then (Ok value) next = next value
+and_then (Err cause) next = Err cause
 
 infixl 10 ◌>>=◌
 abbrev pub ◌>>=◌ : {A B : Type 0} → Result A UsageCause → (A → Result B UsageCause) → Result B UsageCause
-r >>= next = then r next
+r >>= next = and_then r next
 
 -- what the parts of a command ask for, or the first of them that isn't of its form
 unfoldable pub asked : Parts → Result JobText UsageCause

@@ -1,8 +1,9 @@
 //! The forms of the words.
 
-ghost use Rattle.std.specs.Prelude.{◌≡◌, option_map};
+ghost use Rattle.std.specs.Prelude.{◌≡◌};
 ghost use Rattle.rvc_base.specs.declared.round_kind.RoundKind.TheVariants.{All};
 ghost use Rattle.rvc_words.specs.Forms.{given_or, is_actor_or_network, is_port, is_source, is_top, needs_trace, round_of, verb_of};
+ghost use Rattle.rvc_words.specs.Given.{word_of};
 
 use crate::job::{MAX_GENERATED, Verb};
 use crate::names::{cut, is_file};
@@ -73,7 +74,7 @@ fn round_of(word: &str) -> Option<RoundKind>
 
 /// The policy of the option, or all instances where it isn't given.
 pub fn round_or_all(word: Option<&str>) -> Option<RoundKind>
-    ensures { result ≡ given_or All round_of (option_map (λ s. s.now) word) }
+    ensures { result ≡ given_or All round_of (word_of word.entry) }
 {
     match word {
         Some(word) => round_of(word),

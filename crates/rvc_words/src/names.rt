@@ -83,6 +83,7 @@ fn all_go_on(text: &str) -> bool
 }
 
 /// Whether a text is a reserved word.
+#[tactic(auto, unfolding(crate::specs::Forms::is_reserved))]
 fn is_reserved(text: &str) -> bool
     ensures { result ≡ is_reserved text.now }
 {

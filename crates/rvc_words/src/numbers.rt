@@ -1,8 +1,9 @@
 //! Numbers in decimal digits.
 
-ghost use Rattle.std.specs.Prelude.{◌≡◌, ◌≤◌, IfSome, option_map};
+ghost use Rattle.std.specs.Prelude.{◌≡◌, ◌≤◌, IfSome};
 ghost use Rattle.std.specs.List.{list_all};
 ghost use Rattle.rvc_words.specs.Forms.{given_or, is_digit, number};
+ghost use Rattle.rvc_words.specs.Given.{word_of};
 
 /// The most digits of a number; leading zeros count.
 const MAX_DIGITS: usize = 20;
@@ -42,7 +43,7 @@ pub fn read_number(word: &str, least: u64, most: u64) -> Option<u64>
 /// The number of an option, or the default where it isn't given.
 pub fn number_or(word: Option<&str>, default: u64, most: u64) -> Option<u64>
     requires { default ≤ most }
-    ensures value { result ≡ given_or default (number 1 most) (option_map (λ s. s.now) word) }
+    ensures value { result ≡ given_or default (number 1 most) (word_of word.entry) }
     ensures bound { IfSome result (λ value. value ≤ most) }
 {
     match word {

@@ -1,10 +1,10 @@
 //! What stands at the places of the command and behind its options.
 
-ghost use Rattle.std.specs.Prelude.{◌≡◌, option_map};
-ghost use Rattle.clap.specs.Walk.{first_of, rows_of, texts};
+ghost use Rattle.std.specs.Prelude.{◌≡◌};
+ghost use Rattle.clap.specs.Walk.{first_of, rows_of};
 ghost use Rattle.clap.specs.Matches.{found_of};
 ghost use Rattle.rvc_words.specs.Command.{parts_of, text_at, texts_at};
-ghost use Rattle.rvc_words.specs.Given.{parts_text};
+ghost use Rattle.rvc_words.specs.Given.{parts_text, word_of, words_of};
 
 use clap::ArgMatches;
 
@@ -13,7 +13,8 @@ use clap::ArgMatches;
 pub struct Parts<'a, 'm> {
     pub verb: &'a str,
     pub top: &'a str,
-    pub ports: &'m [&'a str],
+    /// None where there is no port word.
+    pub ports: Option<&'m [&'a str]>,
     pub trace: &'a str,
     pub workers: Option<&'a str>,
     pub round: Option<&'a str>,
@@ -23,7 +24,7 @@ pub struct Parts<'a, 'm> {
 
 /// The word behind an option.
 fn option_at<'a>(matches: &ArgMatches<'a>, id: &str) -> Option<&'a str>
-    ensures { option_map (λ s. s.now) result ≡ first_of id.now (rows_of (found_of matches.now)) }
+    ensures { word_of result ≡ first_of id.now (rows_of (found_of matches.now)) }
 {
     matches.get_str(id)
 }
@@ -39,13 +40,10 @@ fn text_at<'a>(matches: &ArgMatches<'a>, id: &str) -> &'a str
 }
 
 /// The words at a place.
-fn texts_at<'a, 'm>(matches: &'m ArgMatches<'a>, id: &str) -> &'m [&'a str]
-    ensures { texts result.now ≡ texts_at id.now (rows_of (found_of matches.now)) }
+fn texts_at<'a, 'm>(matches: &'m ArgMatches<'a>, id: &str) -> Option<&'m [&'a str]>
+    ensures { words_of result ≡ texts_at id.now (rows_of (found_of matches.now)) }
 {
-    match matches.get_strs(id) {
-        Some(words) => words,
-        None => &[],
-    }
+    matches.get_strs(id)
 }
 
 /// The parts of a command by its matches.

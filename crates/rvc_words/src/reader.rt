@@ -4,7 +4,7 @@ ghost use Rattle.std.specs.Prelude.{◌≡◌, Err, IfOk, Ok, map};
 ghost use Rattle.std.specs.List.{list_all};
 ghost use Rattle.clap.specs.Walk.{texts as texts_behind};
 ghost use Rattle.rvc_words.specs.Forms.{is_port};
-ghost use Rattle.rvc_words.specs.Given.{parts_text};
+ghost use Rattle.rvc_words.specs.Given.{parts_text, words_of};
 ghost use Rattle.rvc_words.specs.Words.{asked, job, job_text, port, port_text, texts};
 ghost use Rattle.rvc_words.specs.declared.fault.UsageCause.{UsageCause as Cause};
 ghost use Rattle.rvc_words.specs.declared.fault.WordFault.TheVariants.{Usage};
@@ -69,14 +69,32 @@ fn asked(alloc: Global, parts: Parts<'_, '_>) -> Result<Job, WordFault>
 }
 
 /// Whether each word is `NAME=FILE`.
-fn are_ports(words: &[&str]) -> bool
+fn are_ports(words: Option<&[&str]>) -> bool
+    ensures { result ≡ list_all is_port (words_of words.entry) }
+{
+    match words {
+        Some(words) => all_are_ports(words),
+        None => true,
+    }
+}
+
+fn all_are_ports(words: &[&str]) -> bool
     ensures { result ≡ list_all is_port (texts_behind words.now) }
 {
     words.iter().all(|word| is_port(word))
 }
 
 /// The words, each cut at its first `=`.
-fn port_words(alloc: Global, words: &[&str]) -> Result<Vec<PortWord>, AllocError>
+fn port_words(alloc: Global, words: Option<&[&str]>) -> Result<Vec<PortWord>, AllocError>
+    ensures { IfOk result (λ ports. map port_text ports.items ≡ map port (words_of words.entry)) }
+{
+    match words {
+        Some(words) => all_port_words(alloc, words),
+        None => Ok(Vec::new(alloc)),
+    }
+}
+
+fn all_port_words(alloc: Global, words: &[&str]) -> Result<Vec<PortWord>, AllocError>
     ensures { IfOk result (λ ports. map port_text ports.items ≡ map port (texts_behind words.now)) }
 {
     let mut ports = Vec::new(alloc);

@@ -13,14 +13,14 @@ pub returns-in_default-clause-value : goal.returns-in_default-clause-value
 returns-in_default-clause-value c =
     number_none c.args.least c.args.most c.args.word.now (λ some short digits low high. parsed_err c.args.word.now c.in_default.ensures.value.0 digits some (omega arith))
 
-pub returns-then-value-lt-least-clause-value : goal.returns-then-value-lt-least-clause-value
-returns-then-value-lt-least-clause-value c =
+pub returns-then-value-least-clause-value : goal.returns-then-value-least-clause-value
+returns-then-value-least-clause-value c =
     number_none c.args.least c.args.most c.args.word.now (λ some short digits low high.
     let p = parsed_ok c.args.word.now c.in-Ok.value c.in-Ok.ensures.value.0 digits in
     absurd (omega (arith, p.1)))
 
-pub returns-then-value-gt-most-clause-value : goal.returns-then-value-gt-most-clause-value
-returns-then-value-gt-most-clause-value c =
+pub returns-then-most-value-clause-value : goal.returns-then-most-value-clause-value
+returns-then-most-value-clause-value c =
     number_none c.args.least c.args.most c.args.word.now (λ some short digits low high.
     let p = parsed_ok c.args.word.now c.in-Ok.value c.in-Ok.ensures.value.0 digits in
     absurd (omega (arith, p.1)))
