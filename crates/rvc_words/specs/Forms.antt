@@ -98,3 +98,7 @@ needs_trace Run = true
 needs_trace Replay = true
 needs_trace Gen = true
 needs_trace _ = false
+
+-- the verb needs a trace, and none is named
+abbrev pub lacks_trace : Verb → List ℕ → Bool
+lacks_trace verb trace = needs_trace verb && is_empty trace

@@ -1,5 +1,5 @@
 -- What the words of the command line ask for.
-use Rattle.std.specs.Prelude.{ℕ, Bool, true, false, not, ◌&&◌, if◌then◌else◌, List, map, string_bytes, Result, Ok, Err, ok_or}
+use Rattle.std.specs.Prelude.{ℕ, Bool, true, false, not, if◌then◌else◌, List, map, string_bytes, Result, Ok, Err, ok_or}
 use Rattle.std.specs.List.{list_all}
 use Rattle.rvc_base.specs.declared.round_kind.RoundKind.{RoundKind}
 use Rattle.rvc_base.specs.declared.round_kind.RoundKind.TheVariants.{All}
@@ -10,7 +10,7 @@ use Rattle.rvc_words.specs.declared.job.PortWord.{PortWord}
 use Rattle.rvc_words.specs.declared.job.Verb.{Verb}
 pub use Rattle.rvc_words.specs.Texts.{texts}
 use Rattle.rvc_words.specs.Command.{Parts, matches, parts_of, refuses}
-use Rattle.rvc_words.specs.Forms.{front_of, given_or, is_empty, is_port, is_top, needs_trace, number, rest_of, round_of, verb_of}
+use Rattle.rvc_words.specs.Forms.{front_of, given_or, is_port, is_top, lacks_trace, number, rest_of, round_of, verb_of}
 use Rattle.rvc_words.specs.Limits.{default_budget, default_burst, default_workers, max_budget, max_burst, max_workers}
 
 -- a port and the file that it is read from or written to
@@ -55,7 +55,7 @@ asked p = do
   budget ← ok_or (given_or default_budget (number 1 max_budget) p.budget) Number
   round ← ok_or (given_or All round_of p.round) Round
   ports ← kept (list_all is_port p.ports) (map port p.ports) Port
-  trace ← kept (not (needs_trace verb && is_empty p.trace)) p.trace Trace
+  trace ← kept (not (lacks_trace verb p.trace)) p.trace Trace
   Ok (record { verb = verb; top = top; ports = ports; trace = trace; workers = workers; round = round; burst = burst; budget = budget })
 
 -- what the words ask for, the program's name first, or why they are no job

@@ -2,7 +2,7 @@
 
 ghost use Rattle.std.specs.Prelude.{◌≡◌};
 ghost use Rattle.rvc_base.specs.declared.round_kind.RoundKind.TheVariants.{All};
-ghost use Rattle.rvc_words.specs.Forms.{given_or, is_actor_or_network, is_port, is_source, is_top, needs_trace, round_of, verb_of};
+ghost use Rattle.rvc_words.specs.Forms.{given_or, is_actor_or_network, is_port, is_source, is_top, lacks_trace, needs_trace, round_of, verb_of};
 ghost use Rattle.rvc_words.specs.Given.{word_of};
 
 use crate::job::{MAX_GENERATED, Verb};
@@ -91,8 +91,15 @@ pub fn is_port(word: &str) -> bool
     !parts.front.is_empty() && !parts.rest.is_empty()
 }
 
+/// Whether a verb needs a trace, and none is named.
+pub fn lacks_trace(verb: Verb, trace: &str) -> bool
+    ensures { result ≡ lacks_trace verb trace.now }
+{
+    needs_trace(verb) && trace.is_empty()
+}
+
 /// Whether a verb writes or reads a trace.
-pub fn needs_trace(verb: Verb) -> bool
+fn needs_trace(verb: Verb) -> bool
     ensures { result ≡ needs_trace verb }
 {
     match verb {

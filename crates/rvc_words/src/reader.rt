@@ -11,7 +11,7 @@ ghost use Rattle.rvc_words.specs.declared.fault.WordFault.TheVariants.{Usage};
 
 use crate::command::matches;
 use crate::fault::{UsageCause, WordFault};
-use crate::forms::{is_port, is_top, needs_trace, round_or_all, verb_of};
+use crate::forms::{is_port, is_top, lacks_trace, round_or_all, verb_of};
 use crate::job::{
     DEFAULT_BUDGET, DEFAULT_BURST, DEFAULT_WORKERS, Job, MAX_BUDGET, MAX_BURST, MAX_WORKERS,
     PortWord,
@@ -53,7 +53,7 @@ fn asked(alloc: Global, parts: Parts<'_, '_>) -> Result<Job, WordFault>
     if !are_ports(parts.ports) {
         return Err(WordFault::Usage(UsageCause::Port));
     }
-    if needs_trace(verb) && parts.trace.is_empty() {
+    if lacks_trace(verb, parts.trace) {
         return Err(WordFault::Usage(UsageCause::Trace));
     }
     Ok(Job {
