@@ -1,5 +1,5 @@
 -- What the words of the command line ask for.
-use Rattle.std.specs.Prelude.{ℕ, Bool, true, false, not, if◌then◌else◌, List, map, string_bytes, Result, Ok, Err, ok_or}
+use Rattle.std.specs.Prelude.{ℕ, ◌≤◌, Bool, true, false, not, if◌then◌else◌, List, map, string_bytes, Result, Ok, Err, ok_or}
 use Rattle.std.specs.List.{list_all}
 use Rattle.rvc_base.specs.declared.round_kind.RoundKind.{RoundKind}
 use Rattle.rvc_base.specs.declared.round_kind.RoundKind.TheVariants.{All}
@@ -77,3 +77,12 @@ job_text j = record {
   burst = j.burst;
   budget = j.budget;
 }
+
+-- the numbers of a job lie within their limits
+pub record IsWithin (j : JobText) : Type 0 where
+  pub workers_least : 1 ≤ j.workers
+  pub workers_most : j.workers ≤ max_workers
+  pub burst_least : 1 ≤ j.burst
+  pub burst_most : j.burst ≤ max_burst
+  pub budget_least : 1 ≤ j.budget
+  pub budget_most : j.budget ≤ max_budget

@@ -20,7 +20,7 @@ fn is_digits(word: &str) -> bool
 /// The number that a word names, within bounds.
 pub fn read_number(word: &str, least: u64, most: u64) -> Option<u64>
     ensures value { result ≡ number least most word.now }
-    ensures bound { IfSome result (λ value. value ≤ most) }
+    ensures bounds { IfSome result (λ value. (least ≤ value) × (value ≤ most)) }
 {
     if MAX_DIGITS < word.len() {
         return None;
@@ -42,9 +42,10 @@ pub fn read_number(word: &str, least: u64, most: u64) -> Option<u64>
 
 /// The number of an option, or the default where it isn't given.
 pub fn number_or(word: Option<&str>, default: u64, most: u64) -> Option<u64>
-    requires { default ≤ most }
+    requires least { 1 ≤ default }
+    requires most { default ≤ most }
     ensures value { result ≡ given_or default (number 1 most) (word_of word.entry) }
-    ensures bound { IfSome result (λ value. value ≤ most) }
+    ensures bounds { IfSome result (λ value. (1 ≤ value) × (value ≤ most)) }
 {
     match word {
         Some(word) => read_number(word, 1, most),

@@ -5,7 +5,7 @@ ghost use Rattle.std.specs.List.{list_all};
 ghost use Rattle.clap.specs.Walk.{texts as texts_behind};
 ghost use Rattle.rvc_words.specs.Forms.{is_port};
 ghost use Rattle.rvc_words.specs.Given.{parts_text, words_of};
-ghost use Rattle.rvc_words.specs.Words.{asked, job, job_text, port, port_text, texts};
+ghost use Rattle.rvc_words.specs.Words.{IsWithin, asked, job, job_text, port, port_text, texts};
 ghost use Rattle.rvc_words.specs.declared.fault.UsageCause.{UsageCause as Cause};
 ghost use Rattle.rvc_words.specs.declared.fault.WordFault.TheVariants.{Usage};
 
@@ -32,6 +32,7 @@ use std::alloc::{AllocError, Global};
 pub fn read_words(alloc: Global, words: &[String]) -> Result<Job, WordFault>
     ensures read { IfOk result (λ given. job (texts words.now) ≡ Ok (job_text given)) }
     ensures usage { (cause : Cause) → result ≡ Err (Usage cause) → job (texts words.now) ≡ Err cause }
+    ensures within { IfOk result (λ given. IsWithin (job_text given)) }
 {
     let found = matches(alloc, words)?;
     asked(alloc, parts_of(&found))
@@ -41,6 +42,7 @@ pub fn read_words(alloc: Global, words: &[String]) -> Result<Job, WordFault>
 fn asked(alloc: Global, parts: Parts<'_, '_>) -> Result<Job, WordFault>
     ensures read { IfOk result (λ given. asked (parts_text parts.entry) ≡ Ok (job_text given)) }
     ensures usage { (cause : Cause) → result ≡ Err (Usage cause) → asked (parts_text parts.entry) ≡ Err cause }
+    ensures within { IfOk result (λ given. IsWithin (job_text given)) }
 {
     let verb = verb_of(parts.verb).ok_or(UsageCause::Verb)?;
     if !is_top(verb, parts.top) {
