@@ -4,7 +4,7 @@ use Rattle.std.specs.Prelude.{Result, Err, IsTrue, ◌↔◌, Bool, false}
 use Rattle.rvc_io.specs.Told.{Told, Untold, Lacking, Holding, IsTold}
 use Rattle.rvc_io.specs.Library.{max_file_bytes, IsTooLong}
 use Rattle.rvc_base.specs.declared.refusal.Refusal.{Refusal}
-use Rattle.rvc_words.specs.Words.{JobText}
+use Rattle.rvc_top.specs.Plain.{PlainText}
 use Rattle.first_form.specs.Spelling.{Spells, DepartsAt}
 use Rattle.rvc_top.specs.declared.status.Status.{Status}
 use Rattle.rvc_top.specs.declared.status.Status.TheVariants.{Refused}
@@ -15,7 +15,7 @@ pub denied : {T : Type 0} (P : Refusal → Type 0) (s : Status) (stated refusal 
 denied P s stated refusal is_stated answered holds = let e : stated ≡ refusal = cc in subst P e holds
 
 -- a refusal of a source that was read is one of the job's
-pub actor-refusal : (j : JobText) (told : Told) (source : List ℕ) (misses_old misses_new : ℕ) (refusal : Refusal) → IsTold told source → IsActorRefusal j source refusal → IsRefusal j told misses_old misses_new refusal
+pub actor-refusal : (j : PlainText) (told : Told) (source : List ℕ) (misses_old misses_new : ℕ) (refusal : Refusal) → IsTold told source → IsActorRefusal j source refusal → IsRefusal j told misses_old misses_new refusal
 actor-refusal j Untold source misses_old misses_new _ is_told (departs at h) = not_built 1 at (source_departs at tt)
 actor-refusal j Untold source misses_old misses_new _ is_told (others f spelled not_named) = not_built 0 0 (other_ports tt)
 actor-refusal j Lacking source misses_old misses_new _ is_told h = absurd is_told
