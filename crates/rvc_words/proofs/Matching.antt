@@ -1,7 +1,7 @@
 -- What clap's clauses say of the command.
-use Rattle.std.proofs.Common.{◌⊎◌, inl, inr, ◌≡◌, ◌∙◌, ap, sym, refl, ℕ, true, false, List, [], ◌∷◌, codes}
+use Rattle.std.proofs.Common.{inl, inr, ◌≡◌, ◌∙◌, ap, sym, refl, true, false, List, [], ◌∷◌, codes}
 use Rattle.clap.specs.Walk.{Row, Text}
-use Rattle.clap.specs.Simple.{App, app_of, app_of_fields, is_simple, matches_of, new_app, on_top, with_rule}
+use Rattle.clap.specs.Simple.{App, app_of_fields, is_simple, matches_of, new_app, with_rule}
 use Rattle.clap.specs.Faults.{fault_of, is_simple_and_free}
 use Rattle.clap.specs.Kinds.{HasKind, Kinds}
 use Rattle.clap.specs.Values.{kind_of}

@@ -1,5 +1,5 @@
 -- Numbers by the facts that the code finds.
-use Rattle.std.proofs.Common.{◌⊎◌, inl, inr, leb, ◌≡◌, ◌≢◌, ℕ, ◌<◌, ◌≤◌, ◌^◌, Bool, true, false, not, ◌&&◌, cond, List, length, Option, None, Some, Result, Ok, Err, refl, ap, sym, arith, rules}
+use Rattle.std.proofs.Common.{◌⊎◌, inl, inr, leb, ◌≡◌, ℕ, ◌<◌, ◌≤◌, ◌^◌, Bool, true, false, not, ◌&&◌, cond, List, length, None, Some, Result, Ok, Err, refl, ap, sym, arith, rules}
 use Rattle.std.specs.List.{list_all}
 use Rattle.std.specs.Str.Parse.{digits_value, ParsesUnsigned}
 use Rattle.std.proofs.lemmas.Str.Parse.{IsNumeralModel, numerals_by_value, parse_digits}

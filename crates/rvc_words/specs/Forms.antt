@@ -1,6 +1,6 @@
 -- The forms of the words.
-use Rattle.std.specs.Prelude.{ℕ, Bool, true, false, ◌||◌, ◌&&◌, not, nat_le, ◌==◌, if◌then◌else◌, List, [], ◌∷◌, length, codes, Option, None, Some, is_some, option_map, slice_index}
-use Rattle.std.specs.List.{before_first, after_first, list_all, list_any, slice_split}
+use Rattle.std.specs.Prelude.{ℕ, Bool, true, false, ◌||◌, ◌&&◌, not, nat_le, ◌==◌, if◌then◌else◌, List, length, codes, Option, None, Some, is_some, option_map, slice_index}
+use Rattle.std.specs.List.{before_first, after_first, list_all, slice_split}
 use Rattle.std.specs.Str.{bytes_eq}
 use Rattle.std.specs.Str.Parse.{digits_value}
 use Rattle.cal_lexer.specs.Lexis.{begins_name, find, goes_on_name, long_ends, words}
