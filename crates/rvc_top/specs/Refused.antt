@@ -52,6 +52,6 @@ pub data IsActorRefusal (j : PlainText) (source : List ℕ) : Refusal → Type 0
   others : (f : Form) → Spells source f → (NamesPorts j f → ⊥) → IsActorRefusal j source (record { rule = record { 0 = 1 }; place = record { file = 0; offset = 0 } })
 
 -- What refuses a job: it isn't built, or the run that it asks for is refused.
-pub data IsDenial (j : JobText) (source : Told) (misses_old misses_new : ℕ) : Refusal → Type 0 where
-  unbuilt : built j ≡ None → IsDenial j source misses_old misses_new not_built_here
-  refused_run : (r : PlainText) (refusal : Refusal) → built j ≡ Some r → IsRefusal r source misses_old misses_new refusal → IsDenial j source misses_old misses_new refusal
+pub data IsDenial (j : JobText) (file : List ℕ → Told) (misses_old misses_new : ℕ) : Refusal → Type 0 where
+  unbuilt : built j ≡ None → IsDenial j file misses_old misses_new not_built_here
+  refused_run : (r : PlainText) (refusal : Refusal) → built j ≡ Some r → IsRefusal r (file r.top) misses_old misses_new refusal → IsDenial j file misses_old misses_new refusal

@@ -23,8 +23,8 @@ pub struct PlainRun {
 /// The run that a job asks for, where it is built.
 #[tactic(auto, unfolding(crate::specs::Plain::built))]
 pub fn plain_run(job: Job) -> Option<PlainRun>
-    ensures run { option_map plain_text result ≡ built (job_text job.entry) }
-    ensures budget { IfSome result (λ run. run.budget ≡ job.entry.budget) }
+    ensures run { option_map plain_text result ≡ built (job_text job) }
+    ensures budget { IfSome result (λ run. run.budget ≡ job.budget) }
 {
     if !is_plain(&job) {
         return None;
@@ -77,7 +77,7 @@ fn is_all(round: RoundKind) -> bool
 
 /// The two port words, where there are two.
 fn two(ports: Vec<PortWord>) -> Option<(PortWord, PortWord)>
-    ensures { option_map two_texts result ≡ two (map port_text ports.entry.items) }
+    ensures { option_map two_texts result ≡ two (map port_text ports.items) }
 {
     let mut ports = ports;
     if ports.len() != 2 {

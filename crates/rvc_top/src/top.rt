@@ -153,7 +153,7 @@ pub fn rvc<R: Threads + Sync, L: Library, F: Feeds, D: Drains, G: Gate>(
     requires others_closed { (other : ℕ) → other ≢ 0 → D.is_open drains.old other ≡ false }
     ensures run { (j : JobText) (r : PlainText) (source input : List ℕ) → job (texts words.now) ≡ Ok j → built j ≡ Some r → L.file library.old r.top ≡ Holding source → F.under feeds.old r.input.file ≡ Some input → D.tells drains.old ≡ true
         → Leaves r source input result (D.held drains.old) (D.held drains.new) (D.is_open drains.new) r.budget }
-    ensures refused { (j : JobText) (refusal : Denial) → job (texts words.now) ≡ Ok j → result ≡ Status.Refused refusal → IsDenial j (L.file library.old j.top) (L.misses library.old) (L.misses library.new) refusal }
+    ensures refused { (j : JobText) (refusal : Denial) → job (texts words.now) ≡ Ok j → result ≡ Status.Refused refusal → IsDenial j (L.file library.old) (L.misses library.old) (L.misses library.new) refusal }
     ensures not_built { (j : JobText) → job (texts words.now) ≡ Ok j → built j ≡ None → (result ≡ Status.OutOfMemory) ⊎ Reported (Status.Refused not_built_here) result (D.tells drains.old) (D.faults drains.old) (D.faults drains.new) (D.held drains.old 0) (D.held drains.new 0) not_built_text }
     ensures usage { (cause : UsageCause) → result ≡ Status.Usage cause → job (texts words.now) ≡ Err cause }
     ensures no_job { (cause : UsageCause) → job (texts words.now) ≡ Err cause → (result ≡ Status.OutOfMemory) ⊎ Reported (Status.Usage cause) result (D.tells drains.old) (D.faults drains.old) (D.faults drains.new) (D.held drains.old 0) (D.held drains.new 0) (usage_text cause) }

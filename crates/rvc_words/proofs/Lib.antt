@@ -1,3 +1,4 @@
 mod Asking
 mod Matching
 mod Numerals
+mod Rows
