@@ -15,7 +15,7 @@ use Rattle.std.proofs.Common.{inl, inr, arith}
 use Rattle.first_runner.specs.declared.outcome.RunEnd.{RunEnd}
 use Rattle.first_runner.specs.declared.outcome.RunEnd.TheVariants as end
 use Rattle.first_runner.specs.Leaves.{Leaves as HasLeft}
-use Rattle.rvc_words.specs.Words.{JobText}
+use Rattle.rvc_top.specs.Plain.{PlainText}
 use Rattle.rvc_top.specs.declared.status.Status.{Status}
 use Rattle.rvc_top.specs.declared.status.Status.TheVariants.{Quiet, Usage, ReadFault, WriteFault, Refused, Budget, OutOfMemory}
 use Rattle.rvc_top.specs.declared.status.ReadAt.TheVariants.{File, Feed}
@@ -108,7 +108,7 @@ broken-head source input f held_trace held_output open_output spelled front empt
 }
 
 -- the answer's clause for each end
-module _ (j : JobText) (source input : List ℕ) (f : Form) (spelled : Spells source f) (counts : Counts) (tells : Bool) (told : tells ≡ true) (faults_old faults : ℕ) (limit : ℕ) (held_first held held_new : ℕ → List ℕ) (open_new : ℕ → Bool) (result : Status) (first : held_first 0 ≡ held 0) (same_trace : held_new 1 ≡ held 1) (same_output : held_new 2 ≡ held 2) where
+module _ (j : PlainText) (source input : List ℕ) (f : Form) (spelled : Spells source f) (counts : Counts) (tells : Bool) (told : tells ≡ true) (faults_old faults : ℕ) (limit : ℕ) (held_first held held_new : ℕ → List ℕ) (open_new : ℕ → Bool) (result : Status) (first : held_first 0 ≡ held 0) (same_trace : held_new 1 ≡ held 1) (same_output : held_new 2 ≡ held 2) where
   pub concluded-quiet : HasLeft f input end.Quiet counts (head_text (network_of f)) (held 1) [] (held 2)
       → Reported Quiet result tells faults_old faults (held 0) (held_new 0) (run_lines f counts ++ last_line j Quiet)
       → Leaves j source input result held_first held_new open_new limit
@@ -172,7 +172,7 @@ pub put-both : (t0 t1 : Bool) (h0 h1 h2 a b : List ℕ) → t1 ≡ t0 → (t0 �
 put-both t0 t1 h0 h1 h2 a b same before after told = after (same ∙ told) ∙ ap (λ h. h ++ b) (before told) ∙ append_assoc h0 a b
 
 -- nothing was written but the report: the channels that are open hold nothing
-pub opening-failed : (j : JobText) (source input : List ℕ) (f : Form) → Spells source f → (tells : Bool) (ffo ff fo fn faults_old faults : ℕ) (trace_open : Bool) (limit : ℕ) (held_first held_new : ℕ → List ℕ) (held_zero held_zero_new line : List ℕ) (open_new : ℕ → Bool) (status result : Status)
+pub opening-failed : (j : PlainText) (source input : List ℕ) (f : Form) → Spells source f → (tells : Bool) (ffo ff fo fn faults_old faults : ℕ) (trace_open : Bool) (limit : ℕ) (held_first held_new : ℕ → List ℕ) (held_zero held_zero_new line : List ℕ) (open_new : ℕ → Bool) (status result : Status)
     → IsOpening ffo ff fo fn trace_open status → Reported status result tells faults_old faults held_zero held_zero_new line
     → open_new 1 ≡ trace_open → (open_new 1 ≡ true → held_new 1 ≡ []) → (open_new 2 ≡ true → held_new 2 ≡ [])
     → Leaves j source input result held_first held_new open_new limit
@@ -193,7 +193,7 @@ opening-failed j source input f spelled tells ffo ff fo fn faults_old faults tra
 opening-failed j source input f spelled tells ffo ff fo fn faults_old faults trace_open limit held_first held_new held_zero held_zero_new line open_new OutOfMemory result opening (inl done) same no_trace no_output = absurd opening
 
 -- the head of the trace couldn't be written
-pub head-failed : (j : JobText) (source input : List ℕ) (f : Form) → Spells source f → (tells : Bool) (faults_old faults : ℕ) (limit : ℕ) (held_first held_new : ℕ → List ℕ) (held_zero held_zero_new line head held_before held_after : List ℕ) (open_new : ℕ → Bool) (result : Status)
+pub head-failed : (j : PlainText) (source input : List ℕ) (f : Form) → Spells source f → (tells : Bool) (faults_old faults : ℕ) (limit : ℕ) (held_first held_new : ℕ → List ℕ) (held_zero held_zero_new line head held_before held_after : List ℕ) (open_new : ℕ → Bool) (result : Status)
     → Reported (WriteFault 1) result tells faults_old faults held_zero held_zero_new line
     → head ≡ head_text (network_of f) → held_before ≡ [] → HoldsFront held_before held_after head → held_new 1 ≡ held_after → (open_new 2 ≡ true → held_new 2 ≡ [])
     → Leaves j source input result held_first held_new open_new limit

@@ -1,4 +1,3 @@
 mod Denials
 mod Ending
-mod Budgets
 mod Reports

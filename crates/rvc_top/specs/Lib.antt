@@ -1,3 +1,4 @@
+pub mod Plain
 pub mod Status
 pub mod Outside
 pub mod Report

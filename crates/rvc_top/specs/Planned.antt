@@ -3,7 +3,7 @@ use Rattle.std.specs.Prelude.{◌≡◌, ℕ, List}
 use Rattle.rvc_io.specs.Told.{Told, IsTold}
 use Rattle.rvc_io.specs.Count.{HasRisen}
 use Rattle.cal_model.specs.Meaning.{IsFirstForm}
-use Rattle.rvc_words.specs.Words.{JobText}
+use Rattle.rvc_top.specs.Plain.{PlainText}
 use Rattle.cal_model.specs.Form.{Form}
 use Rattle.cal_model.specs.declared.ast.Binary.{Binary}
 use Rattle.first_form.specs.Spelling.{Spells}
@@ -36,7 +36,7 @@ IsActorFault (Budget firings) = ⊥
 IsActorFault OutOfMemory = Unit {0}
 
 -- the source spells the actor whose run is ready, and the words name its ports
-pub record IsPlanned (source : Told) (j : JobText) (f : Form) (sum : Binary) (head : List ℕ) : Type 0 where
+pub record IsPlanned (source : Told) (j : PlainText) (f : Form) (sum : Binary) (head : List ℕ) : Type 0 where
   pub text : List ℕ
   pub is_told : IsTold source text
   pub spelled : Spells text f

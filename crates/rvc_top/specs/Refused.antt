@@ -1,10 +1,12 @@
 -- What refuses a job: a rule is broken at its place.
-use Rattle.std.specs.Prelude.{◌≡◌, ℕ, List, ◌++◌, codes, true}
+use Rattle.std.specs.Prelude.{◌≡◌, ℕ, List, ◌++◌, codes, true, None, Some}
 use Rattle.rvc_io.specs.Told.{Told, Untold, Lacking, Holding, IsLacking}
 use Rattle.rvc_io.specs.Library.{max_file_bytes, IsTooLong}
 use Rattle.rvc_io.specs.Count.{HasRisen}
 use Rattle.rvc_base.specs.declared.refusal.Refusal.{Refusal}
 use Rattle.rvc_words.specs.Words.{JobText}
+use Rattle.rvc_top.specs.Plain.{PlainText, built}
+use Rattle.rvc_top.specs.Report.{not_built_here}
 use Rattle.first_form.specs.Lexis.{is_name}
 use Rattle.first_form.specs.Spelling.{Spells, DepartsAt}
 use Rattle.cal_model.specs.Form.{Form}
@@ -16,7 +18,7 @@ pub record IsTop (top : List ℕ) : Type 0 where
   pub top_is : top ≡ name ++ codes ".cal"
 
 -- the words name the input port first and the output port second
-pub record NamesPorts (j : JobText) (f : Form) : Type 0 where
+pub record NamesPorts (j : PlainText) (f : Form) : Type 0 where
   pub input : j.input.name ≡ f.input
   pub output : j.output.name ≡ f.output
 
@@ -27,24 +29,29 @@ DepartsThere Lacking at = ⊥
 DepartsThere (Holding source) at = DepartsAt source at
 
 -- The source is an actor whose ports the words don't name, as far as it is told.
-abbrev pub NamesOthers : JobText → Told → Type 0
+abbrev pub NamesOthers : PlainText → Told → Type 0
 NamesOthers j Untold = Unit {0}
 NamesOthers j Lacking = ⊥
 NamesOthers j (Holding source) = (f : Form) × Spells source f × (NamesPorts j f → ⊥)
 
 -- A form that isn't built: the source's, from the first token or byte that departs; the words' else.
-pub data IsNotBuilt (j : JobText) (source : Told) : ℕ → ℕ → Type 0 where
+pub data IsNotBuilt (j : PlainText) (source : Told) : ℕ → ℕ → Type 0 where
   top_no_name : (IsTop j.top → ⊥) → IsNotBuilt j source 0 0
   source_departs : (at : ℕ) → DepartsThere source at → IsNotBuilt j source 1 at
   other_ports : NamesOthers j source → IsNotBuilt j source 0 0
 
 -- the three refusals, by rule, file and offset
-pub data IsRefusal (j : JobText) (source : Told) (misses_old misses_new : ℕ) : Refusal → Type 0 where
+pub data IsRefusal (j : PlainText) (source : Told) (misses_old misses_new : ℕ) : Refusal → Type 0 where
   not_built : (file offset : ℕ) → IsNotBuilt j source file offset → IsRefusal j source misses_old misses_new (record { rule = record { 0 = 1 }; place = record { file = file; offset = offset } })
   no_file : HasRisen misses_old misses_new → IsLacking source → IsRefusal j source misses_old misses_new (record { rule = record { 0 = 801 }; place = record { file = 0; offset = 0 } })
   too_long : IsTooLong source → IsRefusal j source misses_old misses_new (record { rule = record { 0 = 601 }; place = record { file = 1; offset = max_file_bytes } })
 
 -- the refusals of a source that was read
-pub data IsActorRefusal (j : JobText) (source : List ℕ) : Refusal → Type 0 where
+pub data IsActorRefusal (j : PlainText) (source : List ℕ) : Refusal → Type 0 where
   departs : (at : ℕ) → DepartsAt source at → IsActorRefusal j source (record { rule = record { 0 = 1 }; place = record { file = 1; offset = at } })
   others : (f : Form) → Spells source f → (NamesPorts j f → ⊥) → IsActorRefusal j source (record { rule = record { 0 = 1 }; place = record { file = 0; offset = 0 } })
+
+-- What refuses a job: it isn't built, or the run that it asks for is refused.
+pub data IsDenial (j : JobText) (file : List ℕ → Told) (misses_old misses_new : ℕ) : Refusal → Type 0 where
+  unbuilt : built j ≡ None → IsDenial j file misses_old misses_new not_built_here
+  refused_run : (r : PlainText) (refusal : Refusal) → built j ≡ Some r → IsRefusal r (file r.top) misses_old misses_new refusal → IsDenial j file misses_old misses_new refusal

@@ -2,7 +2,9 @@
 use Rattle.std.specs.Prelude.{ℕ, ◌≡◌, ◌≢◌, List, ◌++◌, codes, decimal, ◌==◌, if◌then◌else◌}
 use Rattle.rvc_base.specs.Refusal.{rule_text}
 use Rattle.rvc_base.specs.declared.refusal.Refusal.{Refusal}
-use Rattle.rvc_words.specs.Words.{JobText}
+use Rattle.rvc_words.specs.Causes.{cause_name}
+use Rattle.rvc_words.specs.declared.fault.UsageCause.{UsageCause}
+use Rattle.rvc_top.specs.Plain.{PlainText}
 use Rattle.cal_model.specs.Form.{Form}
 use Rattle.trace_text.specs.Text.{line_feed}
 use Rattle.first_runner.specs.declared.outcome.Counts.{Counts}
@@ -25,26 +27,37 @@ abbrev pub run_lines : Form → Counts → List ℕ
 run_lines f c = counts_lines c ++ input_line f c ++ output_line f c
 
 -- a file's name, where file 0 is the command line
-abbrev pub file_name : JobText → ℕ → List ℕ
+abbrev pub file_name : PlainText → ℕ → List ℕ
 file_name j file = if file == 0 then codes "words" else j.top
 
-abbrev pub fault_name : JobText → ReadAt → List ℕ
+abbrev pub fault_name : PlainText → ReadAt → List ℕ
 fault_name j (File file) = j.top
 fault_name j (Feed feed) = j.input.file
 
-abbrev pub refusal_line : JobText → Refusal → List ℕ
+abbrev pub refusal_line : PlainText → Refusal → List ℕ
 refusal_line j r = codes "refused " ++ rule_text r.rule ++ codes " " ++ file_name j r.place.file ++ codes " " ++ decimal r.place.offset ++ line_feed
 
-abbrev pub usage_text : List ℕ
-usage_text = codes "usage words\nrvc VERB TOP [PORT=FILE ..] [--trace FILE] [--workers N] [--round P] [--burst N] [--budget N]\n"
+abbrev pub usage_line : List ℕ
+usage_line = codes "\nrvc VERB TOP [PORT=FILE ..] [--trace FILE] [--workers N] [--round P] [--burst N] [--budget N]\n"
+
+-- the cause, and how the program is used
+abbrev pub usage_text : UsageCause → List ℕ
+usage_text cause = codes "usage " ++ cause_name cause ++ usage_line
+
+-- the refusal of what isn't built, at the command line
+abbrev pub not_built_here : Refusal
+not_built_here = record { rule = record { 0 = 1 }; place = record { file = 0; offset = 0 } }
+
+abbrev pub not_built_text : List ℕ
+not_built_text = codes "refused Y1 words 0\n"
 
 abbrev pub memory_text : List ℕ
 memory_text = codes "out of memory\n"
 
 -- the last line; after words that are no job another one shows how the program is used
-abbrev pub last_line : JobText → Status → List ℕ
+abbrev pub last_line : PlainText → Status → List ℕ
 last_line j Quiet = codes "quiet\n"
-last_line j (Usage cause) = usage_text
+last_line j (Usage cause) = usage_text cause
 last_line j (ReadFault place) = codes "read fault " ++ fault_name j place ++ line_feed
 last_line j (WriteFault channel) = codes "write fault " ++ decimal channel ++ line_feed
 last_line j (Refused refusal) = refusal_line j refusal
@@ -53,9 +66,9 @@ last_line j OutOfMemory = memory_text
 
 -- Channel 0 got exactly the report, where no run ended. Nothing is said where the report itself couldn't be
 -- written, which is a write fault on channel 0; what a run's end reports stands with what it leaves.
-abbrev pub IsReported : JobText → Status → (held_old held : List ℕ) → Type 0
+abbrev pub IsReported : PlainText → Status → (held_old held : List ℕ) → Type 0
 IsReported j Quiet held_old held = Unit {0}
-IsReported j (Usage cause) held_old held = held ≡ held_old ++ usage_text
+IsReported j (Usage cause) held_old held = held ≡ held_old ++ usage_text cause
 IsReported j (ReadFault place) held_old held = held ≡ held_old ++ last_line j (ReadFault place)
 IsReported j (WriteFault channel) held_old held = channel ≢ 0 → held ≡ held_old ++ last_line j (WriteFault channel)
 IsReported j (Refused refusal) held_old held = held ≡ held_old ++ last_line j (Refused refusal)
@@ -65,7 +78,7 @@ IsReported j OutOfMemory held_old held = held ≡ held_old ++ memory_text
 -- the reports that come without a job too
 abbrev pub IsReportedPlainly : Status → (held_old held : List ℕ) → Type 0
 IsReportedPlainly Quiet held_old held = Unit {0}
-IsReportedPlainly (Usage cause) held_old held = held ≡ held_old ++ usage_text
+IsReportedPlainly (Usage cause) held_old held = held ≡ held_old ++ usage_text cause
 IsReportedPlainly (ReadFault place) held_old held = Unit {0}
 IsReportedPlainly (WriteFault channel) held_old held = Unit {0}
 IsReportedPlainly (Refused refusal) held_old held = Unit {0}

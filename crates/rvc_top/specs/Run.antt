@@ -4,7 +4,7 @@ use Rattle.trace_text.specs.declared.line.Line.{Line}
 use Rattle.trace_text.specs.declared.line.Line.TheVariants.{Quiet as QuietLine, Budget as BudgetLine}
 use Rattle.net_model.specs.State.{State}
 use Rattle.net_model.specs.Trace.{Plays, KeepsCapacities, text, bytes_out}
-use Rattle.rvc_words.specs.Words.{JobText}
+use Rattle.rvc_top.specs.Plain.{PlainText}
 use Rattle.cal_model.specs.Form.{Form}
 use Rattle.first_form.specs.Spelling.{Spells}
 use Rattle.first_runner.specs.declared.outcome.Counts.{Counts}
@@ -29,7 +29,7 @@ pub record IsRun (source input : List ℕ) (end : Line) (form : Form) (counts : 
   pub counted : Counted counts (moves ++ end ∷ []) last
 
 -- a run that ended, with its report
-pub record HasEnded (j : JobText) (source input : List ℕ) (end : Line) (status : Status) (held_old held : ℕ → List ℕ) (firings : ℕ) : Type 0 where
+pub record HasEnded (j : PlainText) (source input : List ℕ) (end : Line) (status : Status) (held_old held : ℕ → List ℕ) (firings : ℕ) : Type 0 where
   pub form : Form
   pub counts : Counts
   pub is_run : IsRun source input end form counts (held 1) (held 2)
@@ -61,7 +61,7 @@ pub record IsBrokenRun (source input trace : List ℕ) (output_open : Bool) (out
 
 -- What the top call leaves, where the source, the input and the channels are told. After a fault the trace's
 -- channel holds something only where it was opened.
-abbrev pub Leaves : JobText → (source input : List ℕ) → Status → (held_old held : ℕ → List ℕ) → (is_open : ℕ → Bool) → ℕ → Type 0
+abbrev pub Leaves : PlainText → (source input : List ℕ) → Status → (held_old held : ℕ → List ℕ) → (is_open : ℕ → Bool) → ℕ → Type 0
 Leaves j source input Quiet held_old held is_open limit = (firings : ℕ) × HasEnded j source input QuietLine Quiet held_old held firings
 Leaves j source input (Budget firings) held_old held is_open limit =
     HasEnded j source input BudgetLine (Budget firings) held_old held firings × (firings ≡ limit)

@@ -2,6 +2,7 @@
 #![tactic(auto)]
 
 mod opening;
+mod plain;
 mod preparing;
 mod reporting;
 mod status;

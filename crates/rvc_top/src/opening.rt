@@ -3,13 +3,17 @@
 ghost use Rattle.std.specs.Prelude.{◌≡◌, ◌≢◌, ◌≤◌, ℕ, Bool, true, false, List, [], OnOk, OnErr, IfErr, string_bytes};
 ghost use Rattle.rvc_top.specs.Opened.{IsOpening};
 
+use crate::plain::PlainRun;
 use crate::status::{ReadAt, Status};
 use first_runner::{INPUT_FEED, OUTPUT_CHANNEL, TRACE_CHANNEL};
 use rvc_io::{Drains, Feeds};
-use rvc_words::Job;
 
 /// Opens the input's feed, then the trace's channel, then the output's.
-pub fn open_all<F: Feeds, D: Drains>(job: &Job, feeds: &mut F, drains: &mut D) -> Result<(), Status>
+pub fn open_all<F: Feeds, D: Drains>(
+    job: &PlainRun,
+    feeds: &mut F,
+    drains: &mut D,
+) -> Result<(), Status>
     requires feed_closed { F.is_open feeds.old INPUT_FEED ≡ false }
     requires trace_closed { D.is_open drains.old TRACE_CHANNEL ≡ false }
     requires output_closed { D.is_open drains.old OUTPUT_CHANNEL ≡ false }

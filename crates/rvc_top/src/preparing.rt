@@ -7,13 +7,14 @@ ghost use Rattle.cal_model.specs.Form.{form_of};
 ghost use Rattle.net_model.specs.Trace.{head_text};
 ghost use Rattle.first_runner.specs.Source.{network_of};
 ghost use Rattle.first_form.specs.Spelling.{Spells, DepartsAt};
-ghost use Rattle.rvc_words.specs.Words.{job_text};
+ghost use Rattle.rvc_top.specs.Plain.{plain_text};
 ghost use Rattle.rvc_top.specs.Refused.{IsTop, IsRefusal, IsActorRefusal, NamesPorts};
 ghost use Rattle.rvc_top.specs.Planned.{IsPlanned, IsPreparing, IsActorFault};
 ghost use Rattle.rvc_base.specs.declared.refusal.Refusal.{Refusal as Denial};
 ghost use Rattle.rvc_top.specs.declared.status.ReadAt.{ReadAt as Where};
 ghost use Rattle.std.specs.Result.{IsErrOf};
 
+use crate::plain::PlainRun;
 use crate::status::{ReadAt, Status};
 use arrayvec::ArrayVec;
 use cal_model::ast::Actor;
@@ -21,7 +22,6 @@ use first_form::{FormFault, is_name, read_form};
 use first_runner::Runner;
 use rvc_base::{Memory, Place, Refusal, Rule};
 use rvc_io::{Library, MAX_FILE_BYTES, ReadAnswer};
-use rvc_words::Job;
 use std::alloc::Global;
 use trace_text::{Line, write_front, write_line};
 
@@ -65,10 +65,10 @@ fn is_top(top: &str) -> bool
 }
 
 /// Reads the source of the job's top.
-fn source_of<L: Library>(alloc: Global, job: &Job, library: &mut L) -> Result<Vec<u8>, Status>
+fn source_of<L: Library>(alloc: Global, job: &PlainRun, library: &mut L) -> Result<Vec<u8>, Status>
     ensures found { IfOk result (λ source. IsTold (L.file library.old (string_bytes job.now.top)) source.items) }
     ensures short { IfOk result (λ source. length source.items ≤ MAX_FILE_BYTES) }
-    ensures refused { (refusal : Denial) → IsErrOf result (Status.Refused refusal) → IsRefusal (job_text job.now) (L.file library.old (string_bytes job.now.top)) (L.misses library.old) (L.misses library.new) refusal }
+    ensures refused { (refusal : Denial) → IsErrOf result (Status.Refused refusal) → IsRefusal (plain_text job.now) (L.file library.old (string_bytes job.now.top)) (L.misses library.old) (L.misses library.new) refusal }
     ensures fault { (place : Where) → IsErrOf result (Status.ReadFault place) → HasRisen (L.faults library.old) (L.faults library.new) }
     ensures only { IfErr result IsPreparing }
     ensures misses_stay { L.misses library.old ≤ L.misses library.new }
@@ -94,19 +94,19 @@ fn source_of<L: Library>(alloc: Global, job: &Job, library: &mut L) -> Result<Ve
 }
 
 /// Whether the words name the actor's input port first and its output port second.
-fn names_ports(job: &Job, actor: &Actor) -> bool
-    ensures { IsTrue result ↔ NamesPorts (job_text job.now) (form_of actor.now) }
+fn names_ports(job: &PlainRun, actor: &Actor) -> bool
+    ensures { IsTrue result ↔ NamesPorts (plain_text job.now) (form_of actor.now) }
 {
     job.input.name.as_bytes() == actor.input.as_bytes()
         && job.output.name.as_bytes() == actor.output.as_bytes()
 }
 
 /// The actor in a source, whose ports the words name.
-fn actor_of(alloc: Global, job: &Job, source: &[u8]) -> Result<Actor, Status>
+fn actor_of(alloc: Global, job: &PlainRun, source: &[u8]) -> Result<Actor, Status>
     requires { length source.now ≤ MAX_FILE_BYTES }
     ensures spelled { IfOk result (λ actor. Spells source.now (form_of actor)) }
-    ensures named { IfOk result (λ actor. NamesPorts (job_text job.now) (form_of actor)) }
-    ensures refused { (refusal : Denial) → IsErrOf result (Status.Refused refusal) → IsActorRefusal (job_text job.now) source.now refusal }
+    ensures named { IfOk result (λ actor. NamesPorts (plain_text job.now) (form_of actor)) }
+    ensures refused { (refusal : Denial) → IsErrOf result (Status.Refused refusal) → IsActorRefusal (plain_text job.now) source.now refusal }
     ensures only { IfErr result IsActorFault }
 {
     let actor = match read_form(alloc, source) {
@@ -144,9 +144,9 @@ fn head_of(alloc: Global, actor: &Actor) -> Result<Vec<u8>, Memory>
 }
 
 /// Reads the job's actor, and takes the memory for its run.
-pub fn prepare<L: Library>(alloc: Global, job: &Job, library: &mut L) -> Result<Plan, Status>
-    ensures planned { IfOk result (λ plan. IsPlanned (L.file library.old (string_bytes job.now.top)) (job_text job.now) (form_of plan.actor) plan.runner plan.head.items) }
-    ensures refused { (refusal : Denial) → IsErrOf result (Status.Refused refusal) → IsRefusal (job_text job.now) (L.file library.old (string_bytes job.now.top)) (L.misses library.old) (L.misses library.new) refusal }
+pub fn prepare<L: Library>(alloc: Global, job: &PlainRun, library: &mut L) -> Result<Plan, Status>
+    ensures planned { IfOk result (λ plan. IsPlanned (L.file library.old (string_bytes job.now.top)) (plain_text job.now) (form_of plan.actor) plan.runner plan.head.items) }
+    ensures refused { (refusal : Denial) → IsErrOf result (Status.Refused refusal) → IsRefusal (plain_text job.now) (L.file library.old (string_bytes job.now.top)) (L.misses library.old) (L.misses library.new) refusal }
     ensures fault { (place : Where) → IsErrOf result (Status.ReadFault place) → HasRisen (L.faults library.old) (L.faults library.new) }
     ensures only { IfErr result IsPreparing }
 {

@@ -3,20 +3,21 @@
 ghost use Rattle.std.specs.Prelude.{◌≡◌, ◌≢◌, ◌≤◌, ◌+◌, ◌++◌, ◌⊎◌, ℕ, Bool, true, List, Option, Some, None, OnOk, OnErr, decimal, string_bytes, length};
 ghost use Rattle.rvc_io.specs.Count.{HasRisen};
 ghost use Rattle.rvc_io.specs.Elsewhere.{SameElsewhere};
-ghost use Rattle.rvc_words.specs.Words.{job_text};
-ghost use Rattle.rvc_top.specs.Report.{run_lines, counts_lines, input_line, output_line, last_line, refusal_line, file_name, usage_text, memory_text};
+ghost use Rattle.rvc_top.specs.Plain.{plain_text};
+ghost use Rattle.rvc_top.specs.Report.{run_lines, counts_lines, input_line, output_line, last_line, refusal_line, file_name, usage_text, memory_text, not_built_here, not_built_text};
 ghost use Rattle.trace_text.specs.Text.{line_feed};
 ghost use Rattle.cal_model.specs.Form.{form_of};
 ghost use Rattle.rvc_top.specs.Outside.{KeepsAll, Reported};
 
+use crate::plain::PlainRun;
 use crate::status::{ReadAt, Status};
 use cal_model::ast::Actor;
 use channel_writer::put_all;
 use first_runner::Counts;
 use itoa::Buffer;
-use rvc_base::Refusal;
+use rvc_base::{Place, Refusal, Rule};
 use rvc_io::{Drains, Failed};
-use rvc_words::{Job, UsageCause};
+use rvc_words::UsageCause;
 
 /// The channel of the report.
 pub const REPORT_CHANNEL: u32 = 0;
@@ -120,9 +121,9 @@ fn put_named<D: Drains>(before: &[u8], name: &[u8], drains: &mut D) -> Result<()
     put(b"\n", drains)
 }
 
-fn put_refusal<D: Drains>(refusal: &Refusal, job: &Job, drains: &mut D) -> Result<(), Failed>
+fn put_refusal<D: Drains>(refusal: &Refusal, job: &PlainRun, drains: &mut D) -> Result<(), Failed>
     requires { D.is_open drains.old REPORT_CHANNEL ≡ true }
-    ensures reported { OnOk result (D.tells drains.old ≡ true → D.held drains.new REPORT_CHANNEL ≡ D.held drains.old REPORT_CHANNEL ++ refusal_line (job_text job.now) refusal.now) }
+    ensures reported { OnOk result (D.tells drains.old ≡ true → D.held drains.new REPORT_CHANNEL ≡ D.held drains.old REPORT_CHANNEL ++ refusal_line (plain_text job.now) refusal.now) }
     ensures failed { OnErr result (HasRisen (D.faults drains.old) (D.faults drains.new)) }
     ensures keeps { KeepsAll (D.tells drains.old) (D.tells drains.new) (D.held drains.old) (D.held drains.new) (D.is_open drains.old) (D.is_open drains.new) (D.faults drains.old) (D.faults drains.new) }
 {
@@ -134,8 +135,8 @@ fn put_refusal<D: Drains>(refusal: &Refusal, job: &Job, drains: &mut D) -> Resul
 }
 
 /// The name of a file, where file 0 is the command line.
-fn file_name(job: &Job, file: u32) -> &[u8]
-    ensures { result.now ≡ file_name (job_text job.now) file }
+fn file_name(job: &PlainRun, file: u32) -> &[u8]
+    ensures { result.now ≡ file_name (plain_text job.now) file }
 {
     if file == 0 {
         b"words"
@@ -145,15 +146,15 @@ fn file_name(job: &Job, file: u32) -> &[u8]
 }
 
 /// Puts the last line of a job's report.
-fn put_last_line<D: Drains>(job: &Job, status: &Status, drains: &mut D) -> Result<(), Failed>
+fn put_last_line<D: Drains>(job: &PlainRun, status: &Status, drains: &mut D) -> Result<(), Failed>
     requires { D.is_open drains.old REPORT_CHANNEL ≡ true }
-    ensures reported { OnOk result (D.tells drains.old ≡ true → D.held drains.new REPORT_CHANNEL ≡ D.held drains.old REPORT_CHANNEL ++ last_line (job_text job.now) status.now) }
+    ensures reported { OnOk result (D.tells drains.old ≡ true → D.held drains.new REPORT_CHANNEL ≡ D.held drains.old REPORT_CHANNEL ++ last_line (plain_text job.now) status.now) }
     ensures failed { OnErr result (HasRisen (D.faults drains.old) (D.faults drains.new)) }
     ensures keeps { KeepsAll (D.tells drains.old) (D.tells drains.new) (D.held drains.old) (D.held drains.new) (D.is_open drains.old) (D.is_open drains.new) (D.faults drains.old) (D.faults drains.new) }
 {
     match status {
         Status::Quiet => put(b"quiet\n", drains),
-        Status::Usage(_) => put(USAGE, drains),
+        Status::Usage(cause) => put_usage(*cause, drains),
         Status::ReadFault(ReadAt::File(_)) => put_named(b"read fault ", job.top.as_bytes(), drains),
         Status::ReadFault(ReadAt::Feed(_)) => {
             put_named(b"read fault ", job.input.file.as_bytes(), drains)
@@ -167,14 +168,26 @@ fn put_last_line<D: Drains>(job: &Job, status: &Status, drains: &mut D) -> Resul
     }
 }
 
-/// What is reported of words that are no job.
+/// Puts the cause why words are no job, and how the program is used.
+fn put_usage<D: Drains>(cause: UsageCause, drains: &mut D) -> Result<(), Failed>
+    requires { D.is_open drains.old REPORT_CHANNEL ≡ true }
+    ensures reported { OnOk result (D.tells drains.old ≡ true → D.held drains.new REPORT_CHANNEL ≡ D.held drains.old REPORT_CHANNEL ++ usage_text cause) }
+    ensures failed { OnErr result (HasRisen (D.faults drains.old) (D.faults drains.new)) }
+    ensures keeps { KeepsAll (D.tells drains.old) (D.tells drains.new) (D.held drains.old) (D.held drains.new) (D.is_open drains.old) (D.is_open drains.new) (D.faults drains.old) (D.faults drains.new) }
+{
+    put(b"usage ", drains)?;
+    put(cause.name().as_bytes(), drains)?;
+    put(USAGE, drains)
+}
+
+/// How the program is used, behind the cause.
 const USAGE: &[u8] =
-    b"usage words\nrvc VERB TOP [PORT=FILE ..] [--trace FILE] [--workers N] [--round P] [--burst N] [--budget N]\n";
+    b"\nrvc VERB TOP [PORT=FILE ..] [--trace FILE] [--workers N] [--round P] [--burst N] [--budget N]\n";
 
 /// Reports a status that isn't a run's: its last line alone.
-pub fn report<D: Drains>(status: Status, job: &Job, drains: &mut D) -> Status
+pub fn report<D: Drains>(status: Status, job: &PlainRun, drains: &mut D) -> Status
     requires { D.is_open drains.old REPORT_CHANNEL ≡ true }
-    ensures reported { Reported status result (D.tells drains.old) (D.faults drains.old) (D.faults drains.new) (D.held drains.old REPORT_CHANNEL) (D.held drains.new REPORT_CHANNEL) (last_line (job_text job.now) status) }
+    ensures reported { Reported status result (D.tells drains.old) (D.faults drains.old) (D.faults drains.new) (D.held drains.old REPORT_CHANNEL) (D.held drains.new REPORT_CHANNEL) (last_line (plain_text job.now) status) }
     ensures keeps { KeepsAll (D.tells drains.old) (D.tells drains.new) (D.held drains.old) (D.held drains.new) (D.is_open drains.old) (D.is_open drains.new) (D.faults drains.old) (D.faults drains.new) }
 {
     match put_last_line(job, &status, drains) {
@@ -188,13 +201,13 @@ pub fn report<D: Drains>(status: Status, job: &Job, drains: &mut D) -> Status
 /// Reports a run that ended.
 pub fn report_run<D: Drains>(
     status: Status,
-    job: &Job,
+    job: &PlainRun,
     actor: &Actor,
     counts: &Counts,
     drains: &mut D,
 ) -> Status
     requires { D.is_open drains.old REPORT_CHANNEL ≡ true }
-    ensures reported { Reported status result (D.tells drains.old) (D.faults drains.old) (D.faults drains.new) (D.held drains.old REPORT_CHANNEL) (D.held drains.new REPORT_CHANNEL) (run_lines (form_of actor.now) counts.now ++ last_line (job_text job.now) status) }
+    ensures reported { Reported status result (D.tells drains.old) (D.faults drains.old) (D.faults drains.new) (D.held drains.old REPORT_CHANNEL) (D.held drains.new REPORT_CHANNEL) (run_lines (form_of actor.now) counts.now ++ last_line (plain_text job.now) status) }
     ensures keeps { KeepsAll (D.tells drains.old) (D.tells drains.new) (D.held drains.old) (D.held drains.new) (D.is_open drains.old) (D.is_open drains.new) (D.faults drains.old) (D.faults drains.new) }
 {
     let Ok(()) = put_run_lines(actor, counts, drains) else {
@@ -211,13 +224,30 @@ pub fn report_run<D: Drains>(
 }
 
 /// Reports words that are no job.
-pub fn report_usage<D: Drains>(drains: &mut D) -> Status
+pub fn report_usage<D: Drains>(cause: UsageCause, drains: &mut D) -> Status
     requires { D.is_open drains.old REPORT_CHANNEL ≡ true }
-    ensures reported { Reported (Status.Usage UsageCause.Words) result (D.tells drains.old) (D.faults drains.old) (D.faults drains.new) (D.held drains.old REPORT_CHANNEL) (D.held drains.new REPORT_CHANNEL) usage_text }
+    ensures reported { Reported (Status.Usage cause) result (D.tells drains.old) (D.faults drains.old) (D.faults drains.new) (D.held drains.old REPORT_CHANNEL) (D.held drains.new REPORT_CHANNEL) (usage_text cause) }
     ensures keeps { KeepsAll (D.tells drains.old) (D.tells drains.new) (D.held drains.old) (D.held drains.new) (D.is_open drains.old) (D.is_open drains.new) (D.faults drains.old) (D.faults drains.new) }
 {
-    match put(USAGE, drains) {
-        Ok(()) => Status::Usage(UsageCause::Words),
+    match put_usage(cause, drains) {
+        Ok(()) => Status::Usage(cause),
+        Err(Failed) => Status::WriteFault {
+            channel: REPORT_CHANNEL,
+        },
+    }
+}
+
+/// Reports a job that isn't built.
+pub fn report_not_built<D: Drains>(drains: &mut D) -> Status
+    requires { D.is_open drains.old REPORT_CHANNEL ≡ true }
+    ensures reported { Reported (Status.Refused not_built_here) result (D.tells drains.old) (D.faults drains.old) (D.faults drains.new) (D.held drains.old REPORT_CHANNEL) (D.held drains.new REPORT_CHANNEL) not_built_text }
+    ensures keeps { KeepsAll (D.tells drains.old) (D.tells drains.new) (D.held drains.old) (D.held drains.new) (D.is_open drains.old) (D.is_open drains.new) (D.faults drains.old) (D.faults drains.new) }
+{
+    match put(b"refused Y1 words 0\n", drains) {
+        Ok(()) => Status::Refused(Refusal {
+            rule: Rule::NOT_BUILT,
+            place: Place { file: 0, offset: 0 },
+        }),
         Err(Failed) => Status::WriteFault {
             channel: REPORT_CHANNEL,
         },

@@ -19,6 +19,9 @@ const INC_TRACE: &[u8] = b"rvc-trace 1 1 2\ni 0 Inc Inc\nr\nf 0 0\nf 0 0\nf 0 0\
 const INC_REPORT: &[u8] =
     b"instances 1\nlinks 2\nfirings 3\nrounds 2\nin In 0 tokens 3 rest 0\nout Out tokens 3\nquiet\n";
 
+const USAGE: &[u8] =
+    b"\nrvc VERB TOP [PORT=FILE ..] [--trace FILE] [--workers N] [--round P] [--burst N] [--budget N]\n";
+
 const HEAD: &[u8] = b"rvc-trace 1 1 2\ni 0 Inc Inc\n";
 
 /// What is run: the words, the source under the name `Inc.cal`, and the input under the name `in`.
@@ -243,16 +246,71 @@ fn a_source_is_refused_where_it_departs(rt: HostRuntime) -> Result<(), Fail> {
 
 #[test]
 fn words_that_are_no_job_are_usage(rt: HostRuntime) -> Result<(), Fail> {
-    for step in STEPS {
-        let setting = Setting {
-            step,
-            words: "rvc run Inc.cal",
-            ..inc()
-        };
-        let ran = run_setting(&rt, rt.alloc(), &setting)?;
-        assert_eq!(rt; ran.status.code(), 1);
+    let rows = [
+        ("rvc", b"usage words\n".as_slice()),
+        ("rvc go Inc.cal", b"usage verb\n".as_slice()),
+        ("rvc run Inc.txt --trace t", b"usage top\n".as_slice()),
+        (
+            "rvc run Inc.cal --workers 65 --trace t",
+            b"usage number\n".as_slice(),
+        ),
+        (
+            "rvc run Inc.cal --round x --trace t",
+            b"usage round\n".as_slice(),
+        ),
+        ("rvc run Inc.cal In --trace t", b"usage port\n".as_slice()),
+        ("rvc run Inc.cal", b"usage trace\n".as_slice()),
+    ];
+    for (words, line) in rows {
+        for step in STEPS {
+            let setting = Setting {
+                step,
+                words,
+                ..inc()
+            };
+            let ran = run_setting(&rt, rt.alloc(), &setting)?;
+            assert_eq!(rt; ran.status.code(), 1);
+            assert_eq!(rt; ran.drains.held(1).len(), 0);
+            assert!(rt; ran.drains.held(0).starts_with(line));
+            assert!(rt; ran.drains.held(0).ends_with(USAGE));
+        }
+    }
+    Ok(())
+}
+
+#[test]
+fn a_job_that_is_not_built_is_refused(rt: HostRuntime) -> Result<(), Fail> {
+    let rows = [
+        "rvc check Inc.cal",
+        "rvc gen 1 --trace t",
+        "rvc run Inc.xdf In=in Out=out --trace t",
+        "rvc run Inc.cal In=in Out=out --trace t --workers 2",
+        "rvc run Inc.cal In=in Out=out --trace t --round turn",
+        "rvc run Inc.cal In=in Out=out --trace t --burst 63",
+        "rvc run Inc.cal In=in --trace t",
+        "rvc run Inc.cal Out=out In=in --trace t",
+        "rvc run Inc.cal In=in Out=out In=in --trace t",
+    ];
+    for words in rows {
+        let ran = run_setting(&rt, rt.alloc(), &Setting { words, ..inc() })?;
+        assert_eq!(rt; ran.status.code(), 4);
         assert_eq!(rt; ran.drains.held(1).len(), 0);
-        assert!(rt; ran.drains.held(0).starts_with(b"usage words\n"));
+        assert_eq!(rt; ran.drains.held(0), b"refused Y1 words 0\n".as_slice());
+    }
+    Ok(())
+}
+
+#[test]
+fn options_stand_in_any_order(rt: HostRuntime) -> Result<(), Fail> {
+    let rows = [
+        "rvc --trace t run Inc.cal In=in Out=out",
+        "rvc run --budget=3 Inc.cal In=in --trace=t Out=out --workers 1 --burst 64 --round all",
+    ];
+    for words in rows {
+        let ran = run_setting(&rt, rt.alloc(), &Setting { words, ..inc() })?;
+        assert_eq!(rt; ran.status, Status::Quiet);
+        assert_eq!(rt; ran.drains.held(1), INC_TRACE);
+        assert_eq!(rt; ran.drains.held(0), INC_REPORT);
     }
     Ok(())
 }

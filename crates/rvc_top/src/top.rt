@@ -1,38 +1,42 @@
 //! The top call.
 
-ghost use Rattle.std.specs.Prelude.{◌≡◌, ◌≢◌, ◌≤◌, ◌++◌, ◌⊎◌, ℕ, Bool, true, false, List, [], Option, Some, None, IsSome, string_bytes};
+ghost use Rattle.std.specs.Prelude.{◌≡◌, ◌≢◌, ◌≤◌, ◌++◌, ◌⊎◌, ℕ, Bool, true, false, List, [], Option, Some, None, Ok, Err, IsOk, string_bytes};
 ghost use Rattle.rvc_io.specs.Count.{HasRisen};
 ghost use Rattle.rvc_io.specs.Told.{Told, Holding};
 ghost use Rattle.rvc_io.specs.Elsewhere.{SameElsewhere};
 ghost use Rattle.rvc_base.specs.declared.refusal.Refusal.{Refusal as Denial};
 ghost use Rattle.cal_model.specs.Form.{form_of};
-ghost use Rattle.rvc_words.specs.Words.{JobText, job, job_text, texts};
+ghost use Rattle.rvc_words.specs.Words.{JobText, job, texts};
+ghost use Rattle.rvc_top.specs.Plain.{PlainText, built, plain_text};
 ghost use Rattle.rvc_words.specs.declared.fault.UsageCause.{UsageCause};
 ghost use Rattle.rvc_top.specs.Status.{IsBeforeAll, IsOfJob};
-ghost use Rattle.rvc_top.specs.Report.{IsReported, IsReportedPlainly};
-ghost use Rattle.rvc_top.specs.Refused.{IsRefusal};
+ghost use Rattle.rvc_top.specs.Report.{IsReported, IsReportedPlainly, not_built_here, not_built_text, usage_text};
+ghost use Rattle.rvc_top.specs.Refused.{IsDenial, IsRefusal};
 ghost use Rattle.rvc_top.specs.Planned.{IsReady, IsPerformed, HasCause, IsCaused};
 ghost use Rattle.rvc_top.specs.Run.{Leaves};
-ghost use Rattle.rvc_top.specs.Outside.{KeepsAll, Answers};
+ghost use Rattle.rvc_top.specs.Outside.{KeepsAll, Answers, Reported};
 ghost use Rattle.first_form.specs.Spelling.{Spells};
 ghost use Rattle.first_runner.specs.Leaves.{Leaves as HasLeft};
 ghost use Rattle.first_runner.specs.Source.{network_of};
 ghost use Rattle.net_model.specs.Trace.{head_text};
 
 use crate::opening::open_all;
+use crate::plain::{PlainRun, plain_run};
 use crate::preparing::{Plan, prepare};
-use crate::reporting::{REPORT_CHANNEL, report, report_memory, report_run, report_usage};
+use crate::reporting::{
+    REPORT_CHANNEL, report, report_memory, report_not_built, report_run, report_usage,
+};
 use crate::status::{ReadAt, Status};
 use cal_model::ast::Actor;
 use channel_writer::put_all;
 use first_runner::{MAX_BUDGET, Outcome, RunEnd, TRACE_CHANNEL};
 use rvc_io::{Drains, Feeds, Gate, Library};
-use rvc_words::{Job, WordFault, read_words};
+use rvc_words::{WordFault, read_words};
 use std::alloc::Global;
 use std::thread::Threads;
 
 /// Runs what is planned, and reports it.
-fn perform<F: Feeds, D: Drains>(plan: Plan, job: &Job, feeds: &mut F, drains: &mut D) -> Status
+fn perform<F: Feeds, D: Drains>(plan: Plan, job: &PlainRun, feeds: &mut F, drains: &mut D) -> Status
     requires feed_closed { F.is_open feeds.old 1 ≡ false }
     requires trace_closed { D.is_open drains.old 1 ≡ false }
     requires output_closed { D.is_open drains.old 2 ≡ false }
@@ -40,9 +44,9 @@ fn perform<F: Feeds, D: Drains>(plan: Plan, job: &Job, feeds: &mut F, drains: &m
     requires planned { IsReady (form_of plan.actor) plan.runner plan.head.items }
     requires bounded { job.now.budget ≤ MAX_BUDGET }
     ensures leaves { (source input : List ℕ) → Spells source (form_of plan.actor) → F.under feeds.old (string_bytes job.now.input.file) ≡ Some input → D.tells drains.old ≡ true
-        → Leaves (job_text job.now) source input result (D.held drains.old) (D.held drains.new) (D.is_open drains.new) job.now.budget }
+        → Leaves (plain_text job.now) source input result (D.held drains.old) (D.held drains.new) (D.is_open drains.new) job.now.budget }
     ensures performed { IsPerformed (F.faults feeds.old) (F.faults feeds.new) (D.faults drains.old) (D.faults drains.new) result }
-    ensures reported { D.tells drains.old ≡ true → IsReported (job_text job.now) result (D.held drains.old 0) (D.held drains.new 0) }
+    ensures reported { D.tells drains.old ≡ true → IsReported (plain_text job.now) result (D.held drains.old 0) (D.held drains.new 0) }
 {
     let Plan {
         actor,
@@ -63,15 +67,15 @@ fn perform<F: Feeds, D: Drains>(plan: Plan, job: &Job, feeds: &mut F, drains: &m
 }
 
 /// Reports how a run ended.
-fn conclude<D: Drains>(outcome: &Outcome, job: &Job, actor: &Actor, drains: &mut D) -> Status
+fn conclude<D: Drains>(outcome: &Outcome, job: &PlainRun, actor: &Actor, drains: &mut D) -> Status
     requires { D.is_open drains.old REPORT_CHANNEL ≡ true }
     ensures leaves { (source input : List ℕ) (held_first : ℕ → List ℕ) → Spells source (form_of actor.now) → D.tells drains.old ≡ true
         → held_first 0 ≡ D.held drains.old 0
         → HasLeft (form_of actor.now) input outcome.now.end outcome.now.counts (head_text (network_of (form_of actor.now))) (D.held drains.old 1) [] (D.held drains.old 2)
         → (outcome.now.end ≡ RunEnd.Budget → outcome.now.counts.firings ≡ job.now.budget)
-        → Leaves (job_text job.now) source input result held_first (D.held drains.new) (D.is_open drains.new) job.now.budget }
+        → Leaves (plain_text job.now) source input result held_first (D.held drains.new) (D.is_open drains.new) job.now.budget }
     ensures answers { Answers outcome.now.end result (D.faults drains.old) (D.faults drains.new) }
-    ensures reported { D.tells drains.old ≡ true → IsReported (job_text job.now) result (D.held drains.old 0) (D.held drains.new 0) }
+    ensures reported { D.tells drains.old ≡ true → IsReported (plain_text job.now) result (D.held drains.old 0) (D.held drains.new 0) }
     ensures keeps { KeepsAll (D.tells drains.old) (D.tells drains.new) (D.held drains.old) (D.held drains.new) (D.is_open drains.old) (D.is_open drains.new) (D.faults drains.old) (D.faults drains.new) }
 {
     let counts = &outcome.counts;
@@ -91,7 +95,7 @@ fn conclude<D: Drains>(outcome: &Outcome, job: &Job, actor: &Actor, drains: &mut
 /// Does a job.
 fn run_job<L: Library, F: Feeds, D: Drains>(
     alloc: Global,
-    job: &Job,
+    job: &PlainRun,
     library: &mut L,
     feeds: &mut F,
     drains: &mut D,
@@ -102,10 +106,10 @@ fn run_job<L: Library, F: Feeds, D: Drains>(
     requires report_open { D.is_open drains.old 0 ≡ true }
     requires bounded { job.now.budget ≤ MAX_BUDGET }
     ensures leaves { (source input : List ℕ) → L.file library.old (string_bytes job.now.top) ≡ Holding source → F.under feeds.old (string_bytes job.now.input.file) ≡ Some input → D.tells drains.old ≡ true
-        → Leaves (job_text job.now) source input result (D.held drains.old) (D.held drains.new) (D.is_open drains.new) job.now.budget }
-    ensures refused { (refusal : Denial) → result ≡ Status.Refused refusal → IsRefusal (job_text job.now) (L.file library.old (string_bytes job.now.top)) (L.misses library.old) (L.misses library.new) refusal }
+        → Leaves (plain_text job.now) source input result (D.held drains.old) (D.held drains.new) (D.is_open drains.new) job.now.budget }
+    ensures refused { (refusal : Denial) → result ≡ Status.Refused refusal → IsRefusal (plain_text job.now) (L.file library.old (string_bytes job.now.top)) (L.misses library.old) (L.misses library.new) refusal }
     ensures faults { HasCause (L.faults library.old) (L.faults library.new) (F.faults feeds.old) (F.faults feeds.new) (D.faults drains.old) (D.faults drains.new) result }
-    ensures reported { D.tells drains.old ≡ true → IsReported (job_text job.now) result (D.held drains.old 0) (D.held drains.new 0) }
+    ensures reported { D.tells drains.old ≡ true → IsReported (plain_text job.now) result (D.held drains.old 0) (D.held drains.new 0) }
     ensures nothing_else { IsBeforeAll result → D.tells drains.old ≡ true → SameElsewhere (D.held drains.old) (D.held drains.new) 0 }
     ensures nothing_opened { IsBeforeAll result → (other : ℕ) → D.is_open drains.new other ≡ D.is_open drains.old other }
 {
@@ -115,7 +119,8 @@ fn run_job<L: Library, F: Feeds, D: Drains>(
     }
 }
 
-/// Runs what the words ask for: `run TOP NAME=FILE NAME=FILE --trace FILE`, perhaps with `--budget N` behind it.
+/// Runs what the words ask for, where that is built: `run` of a source of the first form, its input's word first
+/// and its output's second, by one worker, all instances in each round, in bursts of 64 firings.
 ///
 /// The words are read, the program's name first; then the source, which is checked against the form that is
 /// built; then the input and the trace and the output are opened, the rounds go, and the report is written last.
@@ -124,8 +129,10 @@ fn run_job<L: Library, F: Feeds, D: Drains>(
 ///   is the text of a run of the source's network over the input, the output is the bytes of that run, the answer
 ///   is true of its end, and the report counts it. After a fault on the way, where the trace was opened, the trace
 ///   and the output are those of a part of a run, or fronts of them.
-/// - `refused`: the rule is broken at its place, as far as the source is told.
-/// - `usage`: `Usage` comes only of words that are no job.
+/// - `refused`: the job isn't built, or the rule is broken at its place, as far as the source is told.
+/// - `not_built`: a job that isn't built is refused, unless memory lacks or the report couldn't be written.
+/// - `usage`: `Usage` comes only of words that are no job, and names the first cause.
+/// - `no_job`: words that are no job are answered so, unless memory lacks or the report couldn't be written.
 /// - `planned`: `Quiet`, `Budget`, `Refused` and `ReadFault` come only of words that are a job.
 /// - `faults`: a fault comes only where the count of faults of what it names rose in this call.
 /// - `report` and `plain_report`: where no run ended, channel 0 got exactly the report, unless that couldn't be
@@ -144,20 +151,25 @@ pub fn rvc<R: Threads + Sync, L: Library, F: Feeds, D: Drains, G: Gate>(
     requires feeds_closed { (other : ℕ) → F.is_open feeds.old other ≡ false }
     requires report_open { D.is_open drains.old 0 ≡ true }
     requires others_closed { (other : ℕ) → other ≢ 0 → D.is_open drains.old other ≡ false }
-    ensures run { (j : JobText) (source input : List ℕ) → job (texts words.now) ≡ Some j → L.file library.old j.top ≡ Holding source → F.under feeds.old j.input.file ≡ Some input → D.tells drains.old ≡ true
-        → Leaves j source input result (D.held drains.old) (D.held drains.new) (D.is_open drains.new) j.budget }
-    ensures refused { (j : JobText) (refusal : Denial) → job (texts words.now) ≡ Some j → result ≡ Status.Refused refusal → IsRefusal j (L.file library.old j.top) (L.misses library.old) (L.misses library.new) refusal }
-    ensures usage { (cause : UsageCause) → result ≡ Status.Usage cause → job (texts words.now) ≡ None }
-    ensures planned { IsOfJob result → IsSome (job (texts words.now)) }
+    ensures run { (j : JobText) (r : PlainText) (source input : List ℕ) → job (texts words.now) ≡ Ok j → built j ≡ Some r → L.file library.old r.top ≡ Holding source → F.under feeds.old r.input.file ≡ Some input → D.tells drains.old ≡ true
+        → Leaves r source input result (D.held drains.old) (D.held drains.new) (D.is_open drains.new) r.budget }
+    ensures refused { (j : JobText) (refusal : Denial) → job (texts words.now) ≡ Ok j → result ≡ Status.Refused refusal → IsDenial j (L.file library.old) (L.misses library.old) (L.misses library.new) refusal }
+    ensures not_built { (j : JobText) → job (texts words.now) ≡ Ok j → built j ≡ None → (result ≡ Status.OutOfMemory) ⊎ Reported (Status.Refused not_built_here) result (D.tells drains.old) (D.faults drains.old) (D.faults drains.new) (D.held drains.old 0) (D.held drains.new 0) not_built_text }
+    ensures usage { (cause : UsageCause) → result ≡ Status.Usage cause → job (texts words.now) ≡ Err cause }
+    ensures no_job { (cause : UsageCause) → job (texts words.now) ≡ Err cause → (result ≡ Status.OutOfMemory) ⊎ Reported (Status.Usage cause) result (D.tells drains.old) (D.faults drains.old) (D.faults drains.new) (D.held drains.old 0) (D.held drains.new 0) (usage_text cause) }
+    ensures planned { IsOfJob result → IsOk (job (texts words.now)) }
     ensures faults { IsCaused (L.faults library.old) (L.faults library.new) (F.faults feeds.old) (F.faults feeds.new) (D.faults drains.old) (D.faults drains.new) result }
-    ensures report { (j : JobText) → job (texts words.now) ≡ Some j → D.tells drains.old ≡ true → IsReported j result (D.held drains.old 0) (D.held drains.new 0) }
+    ensures report { (j : JobText) (r : PlainText) → job (texts words.now) ≡ Ok j → built j ≡ Some r → D.tells drains.old ≡ true → IsReported r result (D.held drains.old 0) (D.held drains.new 0) }
     ensures plain_report { D.tells drains.old ≡ true → IsReportedPlainly result (D.held drains.old 0) (D.held drains.new 0) }
     ensures nothing_else { IsBeforeAll result → D.tells drains.old ≡ true → SameElsewhere (D.held drains.old) (D.held drains.new) 0 }
     ensures nothing_opened { IsBeforeAll result → (other : ℕ) → D.is_open drains.new other ≡ D.is_open drains.old other }
 {
     match read_words(alloc, words) {
         Err(WordFault::Memory) => report_memory(drains),
-        Err(WordFault::Usage(_)) => report_usage(drains),
-        Ok(job) => run_job(alloc, &job, library, feeds, drains),
+        Err(WordFault::Usage(cause)) => report_usage(cause, drains),
+        Ok(job) => match plain_run(job) {
+            Some(run) => run_job(alloc, &run, library, feeds, drains),
+            None => report_not_built(drains),
+        },
     }
 }

@@ -1,1 +1,4 @@
-pub mod Words
+mod Asking
+mod Matching
+mod Numerals
+mod Rows

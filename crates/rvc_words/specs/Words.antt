@@ -1,91 +1,88 @@
 -- What the words of the command line ask for.
-use Rattle.std.specs.Prelude.{ℕ, Bool, ◌&&◌, ◌||◌, not, nat_le, ◌==◌, if◌then◌else◌, List, [], ◌∷◌, map, length, codes, string_bytes, Option, None, Some, option_and_then}
-use Rattle.std.specs.List.{before_first, after_first, list_all}
-use Rattle.std.specs.Str.{bytes_eq}
-use Rattle.std.specs.Str.Parse.{digits_value}
-use Rattle.std.specs.declared.alloc.Global.{Global}
-use Rattle.std.specs.declared.string.String.{String}
+use Rattle.std.specs.Prelude.{ℕ, ◌≤◌, Bool, true, false, not, if◌then◌else◌, List, map, string_bytes, Result, Ok, Err, ok_or}
+use Rattle.std.specs.List.{list_all}
+use Rattle.rvc_base.specs.declared.round_kind.RoundKind.{RoundKind}
+use Rattle.rvc_base.specs.declared.round_kind.RoundKind.TheVariants.{All}
+use Rattle.rvc_words.specs.declared.fault.UsageCause.{UsageCause}
+use Rattle.rvc_words.specs.declared.fault.UsageCause.TheVariants.{Words, Verb as VerbCause, Top, Number, Round, Port, Trace}
 use Rattle.rvc_words.specs.declared.job.Job.{Job}
 use Rattle.rvc_words.specs.declared.job.PortWord.{PortWord}
-
--- the budget where the words name none, in firings
-abbrev pub default_budget : ℕ
-default_budget = 100000000
-
--- the greatest budget
-abbrev pub max_budget : ℕ
-max_budget = 1000000000000
-
--- the most digits of a budget
-abbrev pub max_budget_digits : ℕ
-max_budget_digits = 20
+use Rattle.rvc_words.specs.declared.job.Verb.{Verb}
+pub use Rattle.rvc_words.specs.Texts.{texts}
+use Rattle.rvc_words.specs.Command.{Parts, matches, parts_of, refuses}
+use Rattle.rvc_words.specs.Forms.{front_of, given_or, is_port, is_top, lacks_trace, number, rest_of, round_of, verb_of}
+use Rattle.rvc_words.specs.Limits.{default_budget, default_burst, default_workers, max_budget, max_burst, max_workers}
 
 -- a port and the file that it is read from or written to
 pub record PortText : Type 0 where
   pub name : List ℕ
   pub file : List ℕ
 
--- what is to be run
+-- what is to be done
 pub record JobText : Type 0 where
+  pub verb : Verb
   pub top : List ℕ
-  pub input : PortText
-  pub output : PortText
+  pub ports : List PortText
   pub trace : List ℕ
+  pub workers : ℕ
+  pub round : RoundKind
+  pub burst : ℕ
   pub budget : ℕ
 
-abbrev pub is_empty : List ℕ → Bool
-is_empty text = length text == 0
+abbrev pub port : List ℕ → PortText
+port word = record { name = front_of 61 word; file = rest_of 61 word }
 
--- `NAME=FILE`, cut at its first `=`, neither side empty
-unfoldable pub port : List ℕ → Option PortText
-port word =
-    let name = before_first (λ b. b == 61) word in
-    let file = after_first (λ b. b == 61) word in
-    if is_empty name || is_empty file then None else Some (record { name = name; file = file })
+-- what holds, or the cause that is named where it doesn't
+abbrev pub kept : {A : Type 0} → Bool → A → UsageCause → Result A UsageCause
+kept true value cause = Ok value
+kept false value cause = Err cause
 
-abbrev pub is_digit : ℕ → Bool
-is_digit b = nat_le 48 b && nat_le b 57
-
--- a budget: 1 to max_budget_digits decimal digits, and a number from 1 to max_budget
-unfoldable pub budget : List ℕ → Option ℕ
-budget word =
-    let number = digits_value 10 word in
-    if not (is_empty word) && nat_le (length word) max_budget_digits && list_all is_digit word && nat_le 1 number && nat_le number max_budget
-    then Some number else None
+abbrev pub and_then : {A B : Type 0} → Result A UsageCause → (A → Result B UsageCause) → Result B UsageCause
+and_then (Ok value) next = next value
+and_then (Err cause) next = Err cause
 
 infixl 10 ◌>>=◌
-abbrev pub ◌>>=◌ : {A B : Type 0} → Option A → (A → Option B) → Option B
-o >>= f = option_and_then f o
+abbrev pub ◌>>=◌ : {A B : Type 0} → Result A UsageCause → (A → Result B UsageCause) → Result B UsageCause
+r >>= next = and_then r next
 
--- the words that stand in every job
-abbrev pub is_run : List ℕ → List ℕ → List ℕ → Bool
-is_run verb option trace = bytes_eq verb (codes "run") && bytes_eq option (codes "--trace") && not (is_empty trace)
+-- what the parts of a command ask for, or the first of them that isn't of its form
+unfoldable pub asked : Parts → Result JobText UsageCause
+asked p = do
+  verb ← ok_or (verb_of p.verb) VerbCause
+  top ← kept (is_top verb p.top) p.top Top
+  workers ← ok_or (given_or default_workers (number 1 max_workers) p.workers) Number
+  burst ← ok_or (given_or default_burst (number 1 max_burst) p.burst) Number
+  budget ← ok_or (given_or default_budget (number 1 max_budget) p.budget) Number
+  round ← ok_or (given_or All round_of p.round) Round
+  ports ← kept (list_all is_port p.ports) (map port p.ports) Port
+  trace ← kept (not (lacks_trace verb p.trace)) p.trace Trace
+  Ok (record { verb = verb; top = top; ports = ports; trace = trace; workers = workers; round = round; burst = burst; budget = budget })
 
--- `run TOP INPUT OUTPUT --trace FILE`, with a budget
-unfoldable pub run_job : List ℕ → List ℕ → List ℕ → List ℕ → List ℕ → List ℕ → Option ℕ → Option JobText
-run_job verb top in_word out_word option trace limit =
-    if is_run verb option trace then (do
-      in_port ← port in_word
-      out_port ← port out_word
-      firings ← limit
-      Some (record { top = top; input = in_port; output = out_port; trace = trace; budget = firings }))
-    else None
-
--- what the words ask for: the program's name, `run`, TOP, two ports, `--trace` FILE and perhaps `--budget` and a
--- number, in this order and no other
-abbrev pub job : List (List ℕ) → Option JobText
-job (program ∷ verb ∷ top ∷ in_word ∷ out_word ∷ option ∷ trace ∷ []) = run_job verb top in_word out_word option trace (Some default_budget)
-job (program ∷ verb ∷ top ∷ in_word ∷ out_word ∷ option ∷ trace ∷ limit_option ∷ limit ∷ []) =
-    if bytes_eq limit_option (codes "--budget") then run_job verb top in_word out_word option trace (budget limit) else None
-job _ = None
-
--- the words' texts
-abbrev pub texts : List (String Global) → List (List ℕ)
-texts words = map (λ word. string_bytes word) words
+-- what the words ask for, the program's name first, or why they are no job
+unfoldable pub job : List (List ℕ) → Result JobText UsageCause
+job words = if refuses words then Err Words else asked (parts_of (matches words))
 
 abbrev pub port_text : PortWord → PortText
 port_text p = record { name = string_bytes p.name; file = string_bytes p.file }
 
 -- what a job says
 abbrev pub job_text : Job → JobText
-job_text j = record { top = string_bytes j.top; input = port_text j.input; output = port_text j.output; trace = string_bytes j.trace; budget = j.budget }
+job_text j = record {
+  verb = j.verb;
+  top = string_bytes j.top;
+  ports = map port_text j.ports.items;
+  trace = string_bytes j.trace;
+  workers = j.workers;
+  round = j.round;
+  burst = j.burst;
+  budget = j.budget;
+}
+
+-- the numbers of a job lie within their limits
+pub record IsWithin (j : JobText) : Type 0 where
+  pub workers_least : 1 ≤ j.workers
+  pub workers_most : j.workers ≤ max_workers
+  pub burst_least : 1 ≤ j.burst
+  pub burst_most : j.burst ≤ max_burst
+  pub budget_least : 1 ≤ j.budget
+  pub budget_most : j.budget ≤ max_budget

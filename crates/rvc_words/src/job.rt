@@ -1,23 +1,44 @@
 //! What the words ask for.
 
+use rvc_base::RoundKind;
+
+/// The number of workers where the words name none.
+pub const DEFAULT_WORKERS: u64 = 1;
+
+/// The greatest number of workers.
+pub const MAX_WORKERS: u64 = 64;
+
+/// The burst where the words name none, in firings of an instance.
+pub const DEFAULT_BURST: u64 = 64;
+
+/// The greatest burst, in firings of an instance.
+pub const MAX_BURST: u64 = 65_536;
+
 /// The budget where the words name none, in firings.
 pub const DEFAULT_BUDGET: u64 = 100_000_000;
 
 /// The greatest budget that the words can name, in firings.
 pub const MAX_BUDGET: u64 = 1_000_000_000_000;
 
-/// The most digits of a budget; leading zeros count.
-pub const MAX_BUDGET_DIGITS: usize = 20;
+/// The greatest number of a generated network.
+pub const MAX_GENERATED: u64 = 1_000;
 
-/// What is to be run, on which files, and for how long.
+/// What is to be done, with which files, and how.
 #[derive(Drop)]
 pub struct Job {
-    /// The source file of the actor.
+    pub verb: Verb,
+    /// The file of the top; for [`Verb::Gen`] a number in decimal digits.
     pub top: String,
-    pub input: PortWord,
-    pub output: PortWord,
-    /// The file that the trace is written to.
+    /// The port words, as they stand.
+    pub ports: Vec<PortWord>,
+    /// The file of the trace; empty where none is named.
     pub trace: String,
+    /// How many workers there are.
+    pub workers: u32,
+    /// Which instances a round picks.
+    pub round: RoundKind,
+    /// The most firings of an instance in one round.
+    pub burst: u32,
     /// The most firings of the run.
     pub budget: u64,
 }
@@ -27,4 +48,21 @@ pub struct Job {
 pub struct PortWord {
     pub name: String,
     pub file: String,
+}
+
+/// What is done with the top.
+#[derive(Clone, Copy, Debug, PartialEq, Eq)]
+pub enum Verb {
+    /// It is run.
+    Run,
+    /// It is checked.
+    Check,
+    /// It is certified to be determinate.
+    Certify,
+    /// A trace of it is replayed.
+    Replay,
+    /// Its text is printed in canonical form.
+    Fmt,
+    /// A network is generated, and run.
+    Gen,
 }

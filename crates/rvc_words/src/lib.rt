@@ -1,12 +1,21 @@
-//! The words of the command line: `run TOP NAME=FILE NAME=FILE --trace FILE [--budget N]`.
+//! The words of the command line: `rvc VERB TOP [PORT=FILE ..]` and its options, in any order.
 #![tactic(auto)]
 
+mod command;
 mod fault;
+mod forms;
 mod job;
+mod names;
+mod numbers;
+mod parts;
 mod reader;
 #[cfg(test)]
 mod tests;
 
 pub use fault::{UsageCause, WordFault};
-pub use job::{DEFAULT_BUDGET, Job, MAX_BUDGET, MAX_BUDGET_DIGITS, PortWord};
+pub use job::{
+    DEFAULT_BUDGET, DEFAULT_BURST, DEFAULT_WORKERS, Job, MAX_BUDGET, MAX_BURST, MAX_GENERATED,
+    MAX_WORKERS, PortWord, Verb,
+};
 pub use reader::read_words;
+pub use rvc_base::RoundKind;

@@ -1,187 +1,117 @@
-//! The reader of words.
+//! The reader of the words.
 
-ghost use Rattle.std.specs.Prelude.{◌≡◌, ◌↔◌, ◌||◌, ◌==◌, Bool, Err, IfOk, MatchOption, None, Option, Some, codes, option_map, string_bytes, length};
+ghost use Rattle.std.specs.Prelude.{◌≡◌, Err, IfOk, Ok, map};
 ghost use Rattle.std.specs.List.{list_all};
-ghost use Rattle.std.specs.Str.{bytes_eq};
-ghost use Rattle.rvc_words.specs.Words.{budget, is_digit, is_run, job, job_text, port, port_text, run_job, texts};
-ghost use Rattle.rvc_words.specs.Parts.{given_port, given_text};
-ghost use Rattle.rvc_words.specs.declared.fault.UsageCause.TheVariants.{Words};
+ghost use Rattle.clap.specs.Walk.{texts as texts_behind};
+ghost use Rattle.rvc_words.specs.Forms.{is_port};
+ghost use Rattle.rvc_words.specs.Given.{parts_text, words_of};
+ghost use Rattle.rvc_words.specs.Words.{IsWithin, asked, job, job_text, port, port_text, texts};
+ghost use Rattle.rvc_words.specs.declared.fault.UsageCause.{UsageCause as Cause};
 ghost use Rattle.rvc_words.specs.declared.fault.WordFault.TheVariants.{Usage};
 
+use crate::command::matches;
 use crate::fault::{UsageCause, WordFault};
-use crate::job::{DEFAULT_BUDGET, Job, MAX_BUDGET, MAX_BUDGET_DIGITS, PortWord};
+use crate::forms::{is_port, is_top, lacks_trace, round_or_all, verb_of};
+use crate::job::{
+    DEFAULT_BUDGET, DEFAULT_BURST, DEFAULT_WORKERS, Job, MAX_BUDGET, MAX_BURST, MAX_WORKERS,
+    PortWord,
+};
+use crate::names::cut;
+use crate::numbers::number_or;
+use crate::parts::{Parts, parts_of};
 use std::alloc::{AllocError, Global};
-
-/// A port's word, cut in two.
-#[derive(Clone, Copy)]
-struct Port<'a> {
-    name: &'a str,
-    file: &'a str,
-}
-
-/// A job whose texts are the words'.
-#[derive(Clone, Copy)]
-struct Given<'a> {
-    top: &'a str,
-    input: Port<'a>,
-    output: Port<'a>,
-    trace: &'a str,
-    budget: u64,
-}
 
 /// Reads the words of the command line, the program's name first.
 ///
 /// # Errors
 ///
-/// `Usage(Words)` exactly where the words aren't `run TOP NAME=FILE NAME=FILE --trace FILE`, perhaps with
-/// `--budget N` behind it; `Memory` where an allocation was refused.
+/// `Usage` with the first cause why the words are no job, where they are none: `Words` where they don't fit the
+/// command, and then, in the order of the variants, each where its part isn't of its form. `Memory` where an
+/// allocation was refused.
+#[tactic(auto, unfolding(crate::specs::Words::job))]
 pub fn read_words(alloc: Global, words: &[String]) -> Result<Job, WordFault>
-    ensures read { IfOk result (λ given. job (texts words.now) ≡ Some (job_text given)) }
-    ensures usage { (result ≡ Err (Usage Words)) ↔ (job (texts words.now) ≡ None) }
+    ensures read { IfOk result (λ given. job (texts words.now) ≡ Ok (job_text given)) }
+    ensures usage { (cause : Cause) → result ≡ Err (Usage cause) → job (texts words.now) ≡ Err cause }
+    ensures within { IfOk result (λ given. IsWithin (job_text given)) }
 {
-    match read_given(words) {
-        Some(given) => Ok(owned(alloc, given)?),
-        None => Err(WordFault::Usage(UsageCause::Words)),
-    }
+    let found = matches(alloc, words)?;
+    asked(alloc, parts_of(&found))
 }
 
-/// What the words ask for.
-fn read_given(words: &[String]) -> Option<Given<'_>>
-    ensures { option_map given_text result ≡ job (texts words.now) }
+/// What the parts of a command ask for.
+fn asked(alloc: Global, parts: Parts<'_, '_>) -> Result<Job, WordFault>
+    ensures read { IfOk result (λ given. asked (parts_text parts.entry) ≡ Ok (job_text given)) }
+    ensures usage { (cause : Cause) → result ≡ Err (Usage cause) → asked (parts_text parts.entry) ≡ Err cause }
+    ensures within { IfOk result (λ given. IsWithin (job_text given)) }
+{
+    let verb = verb_of(parts.verb).ok_or(UsageCause::Verb)?;
+    if !is_top(verb, parts.top) {
+        return Err(WordFault::Usage(UsageCause::Top));
+    }
+    let workers = number_or(parts.workers, DEFAULT_WORKERS, MAX_WORKERS).ok_or(UsageCause::Number)?;
+    let burst = number_or(parts.burst, DEFAULT_BURST, MAX_BURST).ok_or(UsageCause::Number)?;
+    let budget = number_or(parts.budget, DEFAULT_BUDGET, MAX_BUDGET).ok_or(UsageCause::Number)?;
+    let round = round_or_all(parts.round).ok_or(UsageCause::Round)?;
+    if !are_ports(parts.ports) {
+        return Err(WordFault::Usage(UsageCause::Port));
+    }
+    if lacks_trace(verb, parts.trace) {
+        return Err(WordFault::Usage(UsageCause::Trace));
+    }
+    Ok(Job {
+        verb,
+        top: String::from_str(alloc, parts.top)?,
+        ports: port_words(alloc, parts.ports)?,
+        trace: String::from_str(alloc, parts.trace)?,
+        workers: workers as u32,
+        round,
+        burst: burst as u32,
+        budget,
+    })
+}
+
+/// Whether each word is `NAME=FILE`.
+fn are_ports(words: Option<&[&str]>) -> bool
+    ensures { result ≡ list_all is_port (words_of words.entry) }
 {
     match words {
-        [_, verb, top, input, output, option, trace] => read_run(
-            verb.as_str(),
-            top.as_str(),
-            input.as_str(),
-            output.as_str(),
-            option.as_str(),
-            trace.as_str(),
-            Some(DEFAULT_BUDGET),
-        ),
-        [
-            _,
-            verb,
-            top,
-            input,
-            output,
-            option,
-            trace,
-            limit_option,
-            limit,
-        ] => {
-            if limit_option.as_str() != "--budget" {
-                return None;
-            }
-            read_run(
-                verb.as_str(),
-                top.as_str(),
-                input.as_str(),
-                output.as_str(),
-                option.as_str(),
-                trace.as_str(),
-                read_budget(limit.as_str()),
-            )
-        }
-        _ => None,
+        Some(words) => all_are_ports(words),
+        None => true,
     }
 }
 
-/// Whether the words that stand in every job are there.
-fn is_run(verb: &str, option: &str, trace: &str) -> bool
-    ensures { result ≡ is_run verb.now option.now trace.now }
+fn all_are_ports(words: &[&str]) -> bool
+    ensures { result ≡ list_all is_port (texts_behind words.now) }
 {
-    verb == "run" && option == "--trace" && !trace.is_empty()
+    words.iter().all(|word| is_port(word))
 }
 
-/// What `run` with these words asks for.
-#[tactic(auto, unfolding(crate::specs::Words::run_job))]
-fn read_run<'a>(
-    verb: &str,
-    top: &'a str,
-    input: &'a str,
-    output: &'a str,
-    option: &str,
-    trace: &'a str,
-    budget: Option<u64>,
-) -> Option<Given<'a>>
-    ensures { option_map given_text result ≡ run_job verb.now top.now input.now output.now option.now trace.now budget }
+/// The words, each cut at its first `=`.
+fn port_words(alloc: Global, words: Option<&[&str]>) -> Result<Vec<PortWord>, AllocError>
+    ensures { IfOk result (λ ports. map port_text ports.items ≡ map port (words_of words.entry)) }
 {
-    if !is_run(verb, option, trace) {
-        return None;
+    match words {
+        Some(words) => all_port_words(alloc, words),
+        None => Ok(Vec::new(alloc)),
     }
-    Some(Given {
-        top,
-        input: cut_port(input)?,
-        output: cut_port(output)?,
-        trace,
-        budget: budget?,
-    })
 }
 
-/// A word of the form `NAME=FILE`, cut at its first `=`.
-fn cut_port(word: &str) -> Option<Port<'_>>
-    ensures { option_map given_port result ≡ port word.now }
+fn all_port_words(alloc: Global, words: &[&str]) -> Result<Vec<PortWord>, AllocError>
+    ensures { IfOk result (λ ports. map port_text ports.items ≡ map port (texts_behind words.now)) }
 {
-    let (name, file) = word.split_once('=')?;
-    if name.is_empty() {
-        return None;
+    let mut ports = Vec::new(alloc);
+    for word in words {
+        ports.push(port_word(alloc, word)?)?;
     }
-    if file.is_empty() {
-        return None;
-    }
-    Some(Port { name, file })
+    Ok(ports)
 }
 
-/// Whether a word is decimal digits.
-fn is_digits(word: &str) -> bool
-    ensures { result ≡ list_all is_digit word.now }
+fn port_word(alloc: Global, word: &str) -> Result<PortWord, AllocError>
+    ensures { IfOk result (λ owned. port_text owned ≡ port word.now) }
 {
-    word.as_bytes()
-        .iter()
-        .all(|byte| b'0' <= *byte && *byte <= b'9')
-}
-
-/// The budget that a word names.
-fn read_budget(word: &str) -> Option<u64>
-    ensures { result ≡ budget word.now }
-{
-    if MAX_BUDGET_DIGITS < word.len() {
-        return None;
-    }
-    if !is_digits(word) {
-        return None;
-    }
-    let Ok(number) = word.parse::<u64>() else {
-        return None;
-    };
-    if number == 0 {
-        return None;
-    }
-    if MAX_BUDGET < number {
-        return None;
-    }
-    Some(number)
-}
-
-/// The job with texts of its own.
-fn owned(alloc: Global, given: Given<'_>) -> Result<Job, AllocError>
-    ensures { IfOk result (λ owned. job_text owned ≡ given_text given.entry) }
-{
-    Ok(Job {
-        top: String::from_str(alloc, given.top)?,
-        input: port_word(alloc, given.input)?,
-        output: port_word(alloc, given.output)?,
-        trace: String::from_str(alloc, given.trace)?,
-        budget: given.budget,
-    })
-}
-
-fn port_word(alloc: Global, port: Port<'_>) -> Result<PortWord, AllocError>
-    ensures { IfOk result (λ owned. port_text owned ≡ given_port port.entry) }
-{
+    let parts = cut(word, '=');
     Ok(PortWord {
-        name: String::from_str(alloc, port.name)?,
-        file: String::from_str(alloc, port.file)?,
+        name: String::from_str(alloc, parts.front)?,
+        file: String::from_str(alloc, parts.rest)?,
     })
 }

@@ -1,6 +1,6 @@
 use Rattle.std.proofs.Common.{◌≡◌, sym, ap, subst, ◌∙◌, [], ◌++◌}
 use Rattle.cal_model.specs.Form.{form_of}
-use Rattle.rvc_words.specs.Words.{job_text}
+use Rattle.rvc_top.specs.Plain.{plain_text}
 use Rattle.first_runner.specs.Leaves.{Leaves as HasLeft}
 use Rattle.first_runner.specs.Source.{network_of}
 use Rattle.net_model.specs.Trace.{head_text}
@@ -12,7 +12,7 @@ use Rattle.rvc_top.proofs.top.perform.Goals as goal
 
 pub returns-in-Err-clause-leaves : goal.returns-in-Err-clause-leaves
 returns-in-Err-clause-leaves g c = λ source input spelled input_is told.
-    opening-failed (job_text c.args.job.now) source input (form_of c.args.plan.actor) spelled _ _ _ _ _ _ _ (g.D.Drains.is_open c.open_all.new.drains 1) c.args.job.now.budget (g.D.Drains.held c.args.drains.now) (g.D.Drains.held c.report.new.drains) (g.D.Drains.held c.open_all.new.drains 0) (g.D.Drains.held c.report.new.drains 0) (last_line (job_text c.args.job.now) c.in-Err.status) (g.D.Drains.is_open c.report.new.drains) c.in-Err.status c.report.result
+    opening-failed (plain_text c.args.job.now) source input (form_of c.args.plan.actor) spelled _ _ _ _ _ _ _ (g.D.Drains.is_open c.open_all.new.drains 1) c.args.job.now.budget (g.D.Drains.held c.args.drains.now) (g.D.Drains.held c.report.new.drains) (g.D.Drains.held c.open_all.new.drains 0) (g.D.Drains.held c.report.new.drains 0) (last_line (plain_text c.args.job.now) c.in-Err.status) (g.D.Drains.is_open c.report.new.drains) c.in-Err.status c.report.result
     c.in-Err.ensures.faults c.report.ensures.reported (c.report.ensures.keeps.same_open 1)
     (λ opened. c.report.ensures.keeps.same_held (c.in-Err.ensures.same_telling ∙ told) 1 trace≢report ∙ c.in-Err.ensures.trace_empty told (sym (c.report.ensures.keeps.same_open 1) ∙ opened))
     (λ opened. c.report.ensures.keeps.same_held (c.in-Err.ensures.same_telling ∙ told) 2 output≢report ∙ c.in-Err.ensures.output_empty told (sym (c.report.ensures.keeps.same_open 2) ∙ opened))
@@ -21,7 +21,7 @@ pub returns-in_default-put_all-clause-leaves : goal.returns-in_default-put_all-c
 returns-in_default-put_all-clause-leaves g c = λ source input spelled input_is told.
     let told_1 = c.in_default.ensures.same_telling ∙ told in
     let told_2 = c.in_default-put_all.ensures.same_telling ∙ c.in_default.ensures.same_telling ∙ told in
-    head-failed (job_text c.args.job.now) source input (form_of c.args.plan.actor) spelled _ _ _ c.args.job.now.budget (g.D.Drains.held c.args.drains.now) (g.D.Drains.held c.report-in_default-put_all.new.drains) (g.D.Drains.held c.put_all.new.drains 0) (g.D.Drains.held c.report-in_default-put_all.new.drains 0) (last_line (job_text c.args.job.now) (WriteFault 1)) c.as_slice.result.now (g.D.Drains.held c.open_all.new.drains 1) (g.D.Drains.held c.put_all.new.drains 1) (g.D.Drains.is_open c.report-in_default-put_all.new.drains) c.report-in_default-put_all.result
+    head-failed (plain_text c.args.job.now) source input (form_of c.args.plan.actor) spelled _ _ _ c.args.job.now.budget (g.D.Drains.held c.args.drains.now) (g.D.Drains.held c.report-in_default-put_all.new.drains) (g.D.Drains.held c.put_all.new.drains 0) (g.D.Drains.held c.report-in_default-put_all.new.drains 0) (last_line (plain_text c.args.job.now) (WriteFault 1)) c.as_slice.result.now (g.D.Drains.held c.open_all.new.drains 1) (g.D.Drains.held c.put_all.new.drains 1) (g.D.Drains.is_open c.report-in_default-put_all.new.drains) c.report-in_default-put_all.result
     c.report-in_default-put_all.ensures.reported (c.as_slice.ensures.value ∙ c.requires.planned.head_is) (c.in_default.ensures.trace_empty told c.in_default.ensures.trace_open)
     (c.in_default-put_all.ensures.front told_1) (c.report-in_default-put_all.ensures.keeps.same_held told_2 1 trace≢report)
     (λ opened. c.report-in_default-put_all.ensures.keeps.same_held told_2 2 output≢report ∙ c.in_default-put_all.ensures.same_held told_1 2 output≢trace ∙ c.in_default.ensures.output_empty told c.in_default.ensures.output_open)
@@ -44,13 +44,13 @@ returns-clause-leaves g c = λ source input spelled input_is told.
 
 pub returns-in-Err-clause-reported : goal.returns-in-Err-clause-reported
 returns-in-Err-clause-reported g c = λ told.
-    by-last-line (job_text c.args.job.now) c.in-Err.status c.report.result _ _ _ (g.D.Drains.held c.args.drains.now 0) (g.D.Drains.held c.open_all.new.drains 0) (g.D.Drains.held c.report.new.drains 0)
+    by-last-line (plain_text c.args.job.now) c.in-Err.status c.report.result _ _ _ (g.D.Drains.held c.args.drains.now 0) (g.D.Drains.held c.open_all.new.drains 0) (g.D.Drains.held c.report.new.drains 0)
     c.report.ensures.reported (c.in-Err.ensures.same_telling ∙ told) (c.in-Err.ensures.same_held told 0 report≢trace report≢output)
 
 pub returns-in_default-put_all-clause-reported : goal.returns-in_default-put_all-clause-reported
 returns-in_default-put_all-clause-reported g c = λ told.
     let told_1 = c.in_default.ensures.same_telling ∙ told in
-    by-last-line (job_text c.args.job.now) (WriteFault 1) c.report-in_default-put_all.result _ _ _ (g.D.Drains.held c.args.drains.now 0) (g.D.Drains.held c.put_all.new.drains 0) (g.D.Drains.held c.report-in_default-put_all.new.drains 0)
+    by-last-line (plain_text c.args.job.now) (WriteFault 1) c.report-in_default-put_all.result _ _ _ (g.D.Drains.held c.args.drains.now 0) (g.D.Drains.held c.put_all.new.drains 0) (g.D.Drains.held c.report-in_default-put_all.new.drains 0)
     c.report-in_default-put_all.ensures.reported (c.in_default-put_all.ensures.same_telling ∙ told_1)
     (c.in_default-put_all.ensures.same_held told_1 0 report≢trace ∙ c.in_default.ensures.same_held told 0 report≢trace report≢output)
 
@@ -59,6 +59,6 @@ returns-clause-reported g c = λ told.
     let told_1 = c.in_default.ensures.same_telling ∙ told in
     let told_2 = c.in-Ok.ensures.same_telling ∙ told_1 in
     let told_3 = c.run-outcome.ensures.others.same_telling ∙ told_2 in
-    subst (λ h. IsReported (job_text c.args.job.now) c.conclude.result h (g.D.Drains.held c.conclude.new.drains 0))
+    subst (λ h. IsReported (plain_text c.args.job.now) c.conclude.result h (g.D.Drains.held c.conclude.new.drains 0))
     (c.run-outcome.ensures.others.same_held told_2 0 report≢trace report≢output ∙ c.in-Ok.ensures.same_held told_1 0 report≢trace ∙ c.in_default.ensures.same_held told 0 report≢trace report≢output)
     (c.conclude.ensures.reported told_3)
