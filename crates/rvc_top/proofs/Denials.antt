@@ -7,10 +7,11 @@ use Rattle.rvc_io.specs.Told.{Told, Untold, Lacking, Holding, IsTold}
 use Rattle.rvc_io.specs.Library.{max_file_bytes, IsTooLong}
 use Rattle.rvc_base.specs.declared.refusal.Refusal.{Refusal}
 use Rattle.rvc_top.specs.Plain.{PlainText, built}
-use Rattle.first_form.specs.Spelling.{Spells, DepartsAt}
+use Rattle.first_form.specs.Spelling.{Spells, Breaks, IsRightly}
+use Rattle.rvc_base.specs.declared.refusal.Front.TheVariants as front
 use Rattle.rvc_top.specs.declared.status.Status.{Status}
 use Rattle.rvc_top.specs.declared.status.Status.TheVariants.{Refused, WriteFault}
-use Rattle.rvc_top.specs.Refused.{source_departs, other_ports, IsRefusal, not_built, IsActorRefusal, departs, others, IsDenial, unbuilt, refused_run}
+use Rattle.rvc_top.specs.Refused.{source_breaks, other_ports, IsRefusal, not_built, IsActorRefusal, breaks, others, IsDenial, unbuilt, refused_run}
 use Rattle.rvc_words.specs.declared.fault.UsageCause.{UsageCause}
 use Rattle.rvc_words.specs.Words.{JobText, job}
 use Rattle.rvc_top.specs.Outside.{Reported}
@@ -22,11 +23,15 @@ denied P s stated refusal is_stated answered holds = let e : stated ≡ refusal 
 
 -- a refusal of a source that was read is one of the job's
 pub actor-refusal : (j : PlainText) (told : Told) (source : List ℕ) (misses_old misses_new : ℕ) (refusal : Refusal) → IsTold told source → IsActorRefusal j source refusal → IsRefusal j told misses_old misses_new refusal
-actor-refusal j Untold source misses_old misses_new _ is_told (departs at h) = not_built 1 at (source_departs at tt)
-actor-refusal j Untold source misses_old misses_new _ is_told (others f spelled not_named) = not_built 0 0 (other_ports tt)
+actor-refusal j Untold source misses_old misses_new _ is_told (breaks rule at h) = source_breaks rule at (source, h)
+actor-refusal j Untold source misses_old misses_new _ is_told (others f spelled not_named) = not_built (other_ports tt)
 actor-refusal j Lacking source misses_old misses_new _ is_told h = absurd is_told
-actor-refusal j (Holding told) source misses_old misses_new _ is_told (departs at h) = not_built 1 at (source_departs at (subst (λ s. DepartsAt s at) is_told h))
-actor-refusal j (Holding told) source misses_old misses_new _ is_told (others f spelled not_named) = not_built 0 0 (other_ports (f, subst (λ s. Spells s f) is_told spelled, not_named))
+actor-refusal j (Holding told) source misses_old misses_new _ is_told (breaks rule at h) = source_breaks rule at (subst (λ s. Breaks s rule at) is_told h)
+actor-refusal j (Holding told) source misses_old misses_new _ is_told (others f spelled not_named) = not_built (other_ports (f, subst (λ s. Spells s f) is_told spelled, not_named))
+
+-- a refusal of the source, by what its reader says of it
+pub reader-refusal : (j : PlainText) (source : List ℕ) (refusal : Refusal) → IsRightly 1 source (front.Refused refusal) → IsActorRefusal j source refusal
+reader-refusal j source refusal h = subst (λ file. IsActorRefusal j source (record { rule = refusal.rule; place = record { file = file; offset = refusal.place.offset } })) (sym h.0) (breaks refusal.rule refusal.place.offset h.1)
 
 -- a file that was found is longer than the limit
 pub found-too_long : (told : Told) (source : List ℕ) → IsTold told source → Rattle.std.proofs.Common.◌<◌ max_file_bytes (Rattle.std.proofs.Common.length source) → IsTooLong told

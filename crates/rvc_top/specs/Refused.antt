@@ -1,20 +1,21 @@
 -- What refuses a job: a rule is broken at its place.
-use Rattle.std.specs.Prelude.{◌≡◌, ℕ, List, ◌++◌, codes, true, None, Some}
+use Rattle.std.specs.Prelude.{◌≡◌, ◌==◌, ℕ, List, ◌++◌, codes, not, true, None, Some}
+use Rattle.std.specs.List.{list_all}
 use Rattle.rvc_io.specs.Told.{Told, Untold, Lacking, Holding, IsLacking}
 use Rattle.rvc_io.specs.Library.{max_file_bytes, IsTooLong}
 use Rattle.rvc_io.specs.Count.{HasRisen}
 use Rattle.rvc_base.specs.declared.refusal.Refusal.{Refusal}
+use Rattle.rvc_base.specs.declared.refusal.Rule.{Rule}
 use Rattle.rvc_words.specs.Words.{JobText}
 use Rattle.rvc_top.specs.Plain.{PlainText, built}
 use Rattle.rvc_top.specs.Report.{not_built_here}
-use Rattle.first_form.specs.Lexis.{is_name}
-use Rattle.first_form.specs.Spelling.{Spells, DepartsAt}
+use Rattle.first_form.specs.Spelling.{Spells, Breaks}
 use Rattle.cal_model.specs.Form.{Form}
 
--- the top is a name followed by `.cal`
+-- the top is one name, with no `/`, followed by `.cal`
 pub record IsTop (top : List ℕ) : Type 0 where
   pub name : List ℕ
-  pub is_name_of : is_name name ≡ true
+  pub is_single : list_all (λ b. not (b == 47)) name ≡ true
   pub top_is : top ≡ name ++ codes ".cal"
 
 -- the words name the input port first and the output port second
@@ -22,11 +23,12 @@ pub record NamesPorts (j : PlainText) (f : Form) : Type 0 where
   pub input : j.input.name ≡ f.input
   pub output : j.output.name ≡ f.output
 
--- The source departs from the form at the place, as far as it is told.
-abbrev pub DepartsThere : Told → ℕ → Type 0
-DepartsThere Untold at = Unit {0}
-DepartsThere Lacking at = ⊥
-DepartsThere (Holding source) at = DepartsAt source at
+-- The source breaks the rule at the place: of the lexis, of the grammar, or that what isn't of the form isn't built.
+-- Where the source isn't told some text does.
+abbrev pub BreaksThere : Told → Rule → ℕ → Type 0
+BreaksThere Untold rule at = (source : List ℕ) × Breaks source rule at
+BreaksThere Lacking rule at = ⊥
+BreaksThere (Holding source) rule at = Breaks source rule at
 
 -- The source is an actor whose ports the words don't name, as far as it is told.
 abbrev pub NamesOthers : PlainText → Told → Type 0
@@ -34,22 +36,22 @@ NamesOthers j Untold = Unit {0}
 NamesOthers j Lacking = ⊥
 NamesOthers j (Holding source) = (f : Form) × Spells source f × (NamesPorts j f → ⊥)
 
--- A form that isn't built: the source's, from the first token or byte that departs; the words' else.
-pub data IsNotBuilt (j : PlainText) (source : Told) : ℕ → ℕ → Type 0 where
-  top_no_name : (IsTop j.top → ⊥) → IsNotBuilt j source 0 0
-  source_departs : (at : ℕ) → DepartsThere source at → IsNotBuilt j source 1 at
-  other_ports : NamesOthers j source → IsNotBuilt j source 0 0
+-- Words that aren't built: their top is no name, or they name other ports than the source's.
+pub data IsNotBuilt (j : PlainText) (source : Told) : Type 0 where
+  top_no_name : (IsTop j.top → ⊥) → IsNotBuilt j source
+  other_ports : NamesOthers j source → IsNotBuilt j source
 
--- the three refusals, by rule, file and offset
+-- the refusals of a run, by rule, file and offset
 pub data IsRefusal (j : PlainText) (source : Told) (misses_old misses_new : ℕ) : Refusal → Type 0 where
-  not_built : (file offset : ℕ) → IsNotBuilt j source file offset → IsRefusal j source misses_old misses_new (record { rule = record { 0 = 1 }; place = record { file = file; offset = offset } })
+  not_built : IsNotBuilt j source → IsRefusal j source misses_old misses_new not_built_here
+  source_breaks : (rule : Rule) (at : ℕ) → BreaksThere source rule at → IsRefusal j source misses_old misses_new (record { rule = rule; place = record { file = 1; offset = at } })
   no_file : HasRisen misses_old misses_new → IsLacking source → IsRefusal j source misses_old misses_new (record { rule = record { 0 = 801 }; place = record { file = 0; offset = 0 } })
   too_long : IsTooLong source → IsRefusal j source misses_old misses_new (record { rule = record { 0 = 601 }; place = record { file = 1; offset = max_file_bytes } })
 
 -- the refusals of a source that was read
 pub data IsActorRefusal (j : PlainText) (source : List ℕ) : Refusal → Type 0 where
-  departs : (at : ℕ) → DepartsAt source at → IsActorRefusal j source (record { rule = record { 0 = 1 }; place = record { file = 1; offset = at } })
-  others : (f : Form) → Spells source f → (NamesPorts j f → ⊥) → IsActorRefusal j source (record { rule = record { 0 = 1 }; place = record { file = 0; offset = 0 } })
+  breaks : (rule : Rule) (at : ℕ) → Breaks source rule at → IsActorRefusal j source (record { rule = rule; place = record { file = 1; offset = at } })
+  others : (f : Form) → Spells source f → (NamesPorts j f → ⊥) → IsActorRefusal j source not_built_here
 
 -- What refuses a job: it isn't built, or the run that it asks for is refused.
 pub data IsDenial (j : JobText) (file : List ℕ → Told) (misses_old misses_new : ℕ) : Refusal → Type 0 where

@@ -1,29 +1,33 @@
 //! What is done before anything but the report is written: the source is read, and memory is taken.
 
-ghost use Rattle.std.specs.Prelude.{◌≡◌, ◌≤◌, ◌^◌, ◌<◌, ◌↔◌, ℕ, Bool, true, List, Option, Some, None, Err, IfOk, IfErr, IsTrue, OnOk, OnErr, string_bytes, length, MatchResult};
+ghost use Rattle.std.specs.Prelude.{◌≡◌, ◌==◌, not, ◌≤◌, ◌^◌, ◌<◌, ◌↔◌, ℕ, Bool, true, List, Option, Some, None, Err, IfOk, IfErr, IsTrue, OnOk, OnErr, string_bytes, length, MatchResult};
 ghost use Rattle.rvc_io.specs.Count.{HasRisen};
 ghost use Rattle.rvc_io.specs.Told.{IsTold};
 ghost use Rattle.cal_model.specs.Form.{form_of};
 ghost use Rattle.net_model.specs.Trace.{head_text};
 ghost use Rattle.first_runner.specs.Source.{network_of};
-ghost use Rattle.first_form.specs.Spelling.{Spells, DepartsAt};
+ghost use Rattle.first_form.specs.Spelling.{Spells};
 ghost use Rattle.rvc_top.specs.Plain.{plain_text};
 ghost use Rattle.rvc_top.specs.Refused.{IsTop, IsRefusal, IsActorRefusal, NamesPorts};
 ghost use Rattle.rvc_top.specs.Planned.{IsPlanned, IsPreparing, IsActorFault};
 ghost use Rattle.rvc_base.specs.declared.refusal.Refusal.{Refusal as Denial};
 ghost use Rattle.rvc_top.specs.declared.status.ReadAt.{ReadAt as Where};
+ghost use Rattle.std.specs.List.{list_all};
 ghost use Rattle.std.specs.Result.{IsErrOf};
 
 use crate::plain::PlainRun;
 use crate::status::{ReadAt, Status};
 use arrayvec::ArrayVec;
 use cal_model::ast::Actor;
-use first_form::{FormFault, is_name, read_form};
+use first_form::read_form;
 use first_runner::Runner;
-use rvc_base::{Memory, Place, Refusal, Rule};
+use rvc_base::{Front, Memory, Place, Refusal, Rule};
 use rvc_io::{Library, MAX_FILE_BYTES, ReadAnswer};
 use std::alloc::Global;
 use trace_text::{Line, write_front, write_line};
+
+/// The number of the source file.
+const SOURCE_FILE: u32 = 1;
 
 /// What is ready to run.
 #[derive(Drop)]
@@ -50,16 +54,26 @@ fn refused_source(rule: Rule, offset: u32) -> Status
 {
     Status::Refused(Refusal {
         rule,
-        place: Place { file: 1, offset },
+        place: Place {
+            file: SOURCE_FILE,
+            offset,
+        },
     })
 }
 
-/// Whether the top is a name followed by `.cal`.
+/// Whether a text has no `/`.
+fn is_single(name: &str) -> bool
+    ensures { result ≡ list_all (λ b. not (b == 47)) name.now }
+{
+    name.as_bytes().iter().all(|byte| *byte != b'/')
+}
+
+/// Whether the top is one name followed by `.cal`.
 fn is_top(top: &str) -> bool
     ensures { IsTrue result ↔ IsTop top.now }
 {
     match top.strip_suffix(".cal") {
-        Some(name) => is_name(name.as_bytes()),
+        Some(name) => is_single(name),
         None => false,
     }
 }
@@ -87,7 +101,7 @@ fn source_of<L: Library>(alloc: Global, job: &PlainRun, library: &mut L) -> Resu
             }
         }
         ReadAnswer::Missing => Err(refused_words(Rule::NO_FILE)),
-        ReadAnswer::Failed => Err(Status::ReadFault(ReadAt::File(1))),
+        ReadAnswer::Failed => Err(Status::ReadFault(ReadAt::File(SOURCE_FILE))),
         ReadAnswer::TooLong => Err(refused_source(Rule::FILE_TOO_LONG, MAX_FILE_BYTES as u32)),
         ReadAnswer::Memory => Err(Status::OutOfMemory),
     }
@@ -109,10 +123,10 @@ fn actor_of(alloc: Global, job: &PlainRun, source: &[u8]) -> Result<Actor, Statu
     ensures refused { (refusal : Denial) → IsErrOf result (Status.Refused refusal) → IsActorRefusal (plain_text job.now) source.now refusal }
     ensures only { IfErr result IsActorFault }
 {
-    let actor = match read_form(alloc, source) {
+    let actor = match read_form(alloc, SOURCE_FILE, source) {
         Ok(actor) => actor,
-        Err(FormFault::Departs { at }) => return Err(refused_source(Rule::NOT_BUILT, at)),
-        Err(FormFault::Memory) => return Err(Status::OutOfMemory),
+        Err(Front::Refused(refusal)) => return Err(Status::Refused(refusal)),
+        Err(Front::Memory) => return Err(Status::OutOfMemory),
     };
     if !names_ports(job, &actor) {
         return Err(refused_words(Rule::NOT_BUILT));

@@ -229,17 +229,33 @@ fn a_file_that_lacks_is_refused(rt: HostRuntime) -> Result<(), Fail> {
 }
 
 #[test]
-fn a_source_is_refused_where_it_departs(rt: HostRuntime) -> Result<(), Fail> {
-    for step in STEPS {
-        let setting = Setting {
-            step,
-            source: b"actor B() uint(size=8) In ==> ",
-            ..inc()
-        };
-        let ran = run_setting(&rt, rt.alloc(), &setting)?;
-        assert_eq!(rt; ran.status.code(), 4);
-        assert_eq!(rt; ran.drains.held(1).len(), 0);
-        assert_eq!(rt; ran.drains.held(0), b"refused Y1 Inc.cal 30\n".as_slice());
+fn a_source_is_refused_at_its_place(rt: HostRuntime) -> Result<(), Fail> {
+    let rows = [
+        (
+            b"actor B() \"".as_slice(),
+            b"refused L5 Inc.cal 10\n".as_slice(),
+        ),
+        (
+            b"actor B() uint(size=8) In ==> ".as_slice(),
+            b"refused G1 Inc.cal 30\n".as_slice(),
+        ),
+        (
+            b" unit U : end".as_slice(),
+            b"refused Y1 Inc.cal 1\n".as_slice(),
+        ),
+    ];
+    for (source, line) in rows {
+        for step in STEPS {
+            let setting = Setting {
+                step,
+                source,
+                ..inc()
+            };
+            let ran = run_setting(&rt, rt.alloc(), &setting)?;
+            assert_eq!(rt; ran.status.code(), 4);
+            assert_eq!(rt; ran.drains.held(1).len(), 0);
+            assert_eq!(rt; ran.drains.held(0), line);
+        }
     }
     Ok(())
 }

@@ -9,7 +9,7 @@ use Rattle.rvc_top.proofs.preparing.source_of.Goals as goal
 pub returns-then-not-is_top-clause-refused : goal.returns-then-not-is_top-clause-refused
 returns-then-not-is_top-clause-refused g c = λ refusal answered.
     denied (IsRefusal (plain_text c.args.job.now) (g.L.Library.file c.args.library.now (string_bytes c.args.job.now.top)) (g.L.Library.misses c.args.library.now) (g.L.Library.misses c.args.library.now))
-    c.refused_words.result _ refusal c.refused_words.ensures answered (not_built 0 0 (top_no_name (λ top. refuted c.is_top.result (IsTop c.as_str.result.now) c.is_top.ensures c.if-not-is_top.true (subst IsTop (sym c.as_str.ensures.value) top))))
+    c.refused_words.result _ refusal c.refused_words.ensures answered (not_built (top_no_name (λ top. refuted c.is_top.result (IsTop c.as_str.result.now) c.is_top.ensures c.if-not-is_top.true (subst IsTop (sym c.as_str.ensures.value) top))))
 
 pub returns-then-len-gt-MAX_FILE_BYTES-clause-refused : goal.returns-then-len-gt-MAX_FILE_BYTES-clause-refused
 returns-then-len-gt-MAX_FILE_BYTES-clause-refused g c = λ refusal answered.
