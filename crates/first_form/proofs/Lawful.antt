@@ -6,7 +6,6 @@ use Rattle.cal_lexer.specs.Lexeme.{Placed}
 use Rattle.cal_lexer.specs.Lexes.{lexes}
 use Rattle.cal_parser.specs.Spells.{spells}
 use Rattle.cal_model.specs.Form.{Form}
-use Rattle.first_form.specs.FormTree.{form_tree}
 use Rattle.first_form.specs.Departing.{departs}
 use Rattle.first_form.specs.Spelling.{IsSource, Spells, DepartsAt}
 use Rattle.first_form.proofs.Staying.{stays, same_form, plain_form}

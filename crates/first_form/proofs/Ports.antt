@@ -1,5 +1,5 @@
 -- The one port of a direction.
-use Rattle.std.proofs.Common.{◌≡◌, ℕ, Bool, true, false, List, [], ◌∷◌, Option, None, Some, refl, ap}
+use Rattle.std.proofs.Common.{◌≡◌, ℕ, Bool, true, false, List, [], ◌∷◌, None, refl, ap}
 use Rattle.std.specs.List.{slice_get}
 use Rattle.cal_ast.specs.Tree.{Tree, port, ident}
 use Rattle.first_form.specs.FormTree.{one}

@@ -1,13 +1,12 @@
 -- Why a source is refused, from what its layers say.
-use Rattle.std.proofs.Common.{◌≡◌, ℕ, List, length, Result, Ok, Err, IfErr, IfOk, refl}
+use Rattle.std.proofs.Common.{ℕ, List, length, Result, Ok, Err, IfErr, IfOk}
 use Rattle.rvc_base.specs.declared.refusal.Front.{Front as Answer}
 use Rattle.rvc_base.specs.declared.refusal.Front.TheVariants.{Refused, Memory}
 use Rattle.cal_ast.specs.Tree.{Tree}
 use Rattle.cal_lexer.specs.Lexeme.{Placed}
 use Rattle.cal_lexer.specs.Lexes as lexis
 use Rattle.cal_parser.specs.Refusals as grammar
-use Rattle.cal_parser.specs.Spells.{spells}
-use Rattle.cal_model.specs.Form.{Form, form_of}
+use Rattle.cal_model.specs.Form.{form_of}
 use Rattle.cal_model.specs.declared.ast.Actor.{Actor}
 use Rattle.first_form.specs.Spelling.{IsSource, IsActor, IsRightly, Spells, in_lexis, in_grammar, in_form}
 

@@ -1,8 +1,8 @@
 -- What the parts of an actor are, for each part by itself: what it is made to, or where it departs.
-use Rattle.std.specs.Prelude.{◌≡◌, ◌<◌, ◌^◌, ℕ, List, Bool, true, false, Option, None, Some, Result, Ok, Err}
+use Rattle.std.specs.Prelude.{◌≡◌, ℕ, List, true, false, Option, None, Some, Result, Ok, Err}
 use Rattle.cal_ast.specs.declared.expr.BinOp.{BinOp}
 use Rattle.cal_ast.specs.declared.expr.BinOp.TheVariants as ops
-use Rattle.cal_ast.specs.Tree.{Tree, absent, present, nil, cons, ident, file, actor, action, pattern, output, binary}
+use Rattle.cal_ast.specs.Tree.{Tree, absent, present, nil, ident, action, pattern, output, binary}
 use Rattle.cal_ast.specs.Apart.{IsEqualApart}
 use Rattle.cal_model.specs.declared.ast.Operand.{Operand}
 use Rattle.cal_model.specs.declared.ast.Operator.{Operator}

@@ -10,7 +10,7 @@ use Rattle.rvc_top.specs.Plain.{PlainText, built}
 use Rattle.first_form.specs.Spelling.{Spells, Breaks, IsRightly}
 use Rattle.rvc_base.specs.declared.refusal.Front.TheVariants as front
 use Rattle.rvc_top.specs.declared.status.Status.{Status}
-use Rattle.rvc_top.specs.declared.status.Status.TheVariants.{Refused, WriteFault}
+use Rattle.rvc_top.specs.declared.status.Status.TheVariants.{Refused}
 use Rattle.rvc_top.specs.Refused.{source_breaks, other_ports, IsRefusal, not_built, IsActorRefusal, breaks, others, IsDenial, unbuilt, refused_run}
 use Rattle.rvc_words.specs.declared.fault.UsageCause.{UsageCause}
 use Rattle.rvc_words.specs.Words.{JobText, job}

@@ -1,7 +1,5 @@
-use Rattle.std.proofs.Common.{length, ap}
 use Rattle.cal_ast.specs.View.{file_tree}
 use Rattle.cal_lexer.specs.Lexeme.{plain_tokens}
-use Rattle.cal_parser.specs.Refusals as grammar
 use Rattle.first_form.proofs.Reasons.{of_grammar, of_form}
 use Rattle.first_form.proofs.reader.read_tokens.Goals as goal
 

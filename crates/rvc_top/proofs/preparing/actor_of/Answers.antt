@@ -1,5 +1,4 @@
 use Rattle.std.proofs.Common.{◌≡◌, subst, rules}
-use Rattle.std.specs.Prelude.{Err}
 use Rattle.rvc_base.specs.declared.refusal.Front.TheVariants as front
 use Rattle.first_form.specs.Spelling.{IsRightly}
 use Rattle.rvc_top.specs.Plain.{plain_text}
