@@ -9,7 +9,7 @@ use Rattle.rvc_base.specs.declared.refusal.Refusal.{Refusal}
 use Rattle.rvc_top.specs.Plain.{PlainText, built}
 use Rattle.first_form.specs.Spelling.{Spells, DepartsAt}
 use Rattle.rvc_top.specs.declared.status.Status.{Status}
-use Rattle.rvc_top.specs.declared.status.Status.TheVariants.{Refused, WriteFault}
+use Rattle.rvc_top.specs.declared.status.Status.TheVariants.{Refused}
 use Rattle.rvc_top.specs.Refused.{source_departs, other_ports, IsRefusal, not_built, IsActorRefusal, departs, others, IsDenial, unbuilt, refused_run}
 use Rattle.rvc_words.specs.declared.fault.UsageCause.{UsageCause}
 use Rattle.rvc_words.specs.Words.{JobText, job}

@@ -1,7 +1,6 @@
 -- The exit statuses.
 use Rattle.std.specs.Prelude.{ℕ}
 use Rattle.rvc_top.specs.declared.status.Status.{Status}
-use Rattle.rvc_top.specs.declared.status.ReadAt.{ReadAt}
 use Rattle.rvc_top.specs.declared.status.ReadAt.TheVariants.{File, Feed}
 use Rattle.rvc_top.specs.declared.status.Status.TheVariants.{Quiet, Usage, ReadFault, WriteFault, Refused, Budget, OutOfMemory}
 
