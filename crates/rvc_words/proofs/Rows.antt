@@ -1,9 +1,9 @@
 -- Worked lines of words, computed by the definitions.
-use Rattle.std.proofs.Common.{◌≡◌, List, ℕ, [], ◌∷◌, Ok, Err, codes, refl}
+use Rattle.std.proofs.Common.{◌≡◌, [], ◌∷◌, Ok, Err, codes, refl}
 use Rattle.clap.proofs.OnLiterals.{clap_on_literals}
-use Rattle.rvc_base.specs.declared.round_kind.RoundKind.TheVariants.{All, Seed}
+use Rattle.rvc_base.specs.declared.round_kind.RoundKind.TheVariants.{Seed}
 use Rattle.rvc_words.specs.declared.fault.UsageCause.TheVariants.{Words, Verb, Top, Number, Round, Port, Trace}
-use Rattle.rvc_words.specs.declared.job.Verb.TheVariants.{Run, Gen}
+use Rattle.rvc_words.specs.declared.job.Verb.TheVariants.{Run}
 use Rattle.rvc_words.specs.Command.{matches, parts_of, refuses, rvc}
 use Rattle.rvc_words.specs.Forms.{is_file, is_name, is_path, is_port, is_reserved, number, round_of, verb_of}
 use Rattle.rvc_words.specs.Words.{asked, job}
