@@ -1,3 +1,4 @@
 pub mod Tree
 pub mod Apart
 pub mod View
+pub mod Places

@@ -1,5 +1,5 @@
 -- The lexis: blanks, comments, names, reserved words, numbers and symbols.
-use Rattle.std.specs.Prelude.{◌≡◌, ℕ, ◌+◌, ◌-◌, ◌*◌, ◌^◌, ◌<◌, ◌≤◌, List, [], ◌∷◌, length, take, drop, Bool, true, false, ◌&&◌, ◌||◌, not, if◌then◌else◌, ◌==◌, nat_lt, nat_le, Option, Some, None, is_some, slice_index, codes, fold}
+use Rattle.std.specs.Prelude.{◌≡◌, ℕ, ◌+◌, ◌-◌, ◌*◌, ◌^◌, ◌<◌, ◌≤◌, List, [], ◌∷◌, length, take, drop, Bool, ◌&&◌, ◌||◌, not, if◌then◌else◌, ◌==◌, nat_lt, nat_le, Option, Some, None, is_some, slice_index, codes, fold}
 use Rattle.std.specs.List.{list_all}
 use Rattle.std.specs.Str.{bytes_eq}
 use Rattle.std.specs.Char.{is_ascii_alphabetic, is_ascii_digit, is_ascii_hexdigit}
@@ -85,6 +85,10 @@ long_ends =
 -- the reserved words
 abbrev pub reserved : List ℕ → Option Lexeme
 reserved text = first_of_both (find text words) (find text long_ends)
+
+-- a letter or `_` followed by letters, digits and `_`, and no reserved word
+unfoldable pub is_name : List ℕ → Bool
+is_name text = begins_name (slice_index text 0) && list_all goes_on_name text && not (is_some (reserved text))
 
 abbrev pub symbols_of_three : List (List ℕ × Lexeme)
 symbols_of_three =

@@ -18,3 +18,4 @@ pub use rules::{
 };
 pub use text::{lex, no_fault_in_a_list, one_first_fault, one_list};
 pub use token::{Token, TokenKind};
+pub use words::is_name;

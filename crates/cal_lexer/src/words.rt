@@ -1,10 +1,34 @@
-//! The reserved words.
+//! Names and the reserved words.
 
-ghost use Rattle.std.specs.Prelude.{◌≡◌, option_map};
+ghost use Rattle.std.specs.Prelude.{◌≡◌, is_some, option_map};
+ghost use Rattle.std.specs.List.{list_all};
 ghost use Rattle.cal_lexer.specs.Lexeme.{lexeme};
-ghost use Rattle.cal_lexer.specs.Lexis.{find, words, long_ends, reserved};
+ghost use Rattle.cal_lexer.specs.Lexis.{find, goes_on_name, is_name, words, long_ends, reserved};
 
+use crate::bytes::{begins_name, byte_at, goes_on_name};
 use crate::token::TokenKind;
+
+/// Whether a text is a name of the language: a letter or `_` followed by letters, digits and `_`, and no reserved
+/// word.
+#[tactic(auto, unfolding(crate::specs::Lexis::is_name))]
+pub fn is_name(text: &str) -> bool
+    ensures { result ≡ is_name text.now }
+{
+    begins_name(byte_at(text.as_bytes(), 0)) && all_go_on(text) && !is_reserved(text)
+}
+
+/// Whether a text is letters, digits and `_`.
+fn all_go_on(text: &str) -> bool
+    ensures { result ≡ list_all goes_on_name text.now }
+{
+    text.as_bytes().iter().all(|byte| goes_on_name(*byte))
+}
+
+fn is_reserved(text: &str) -> bool
+    ensures { result ≡ is_some (reserved text.now) }
+{
+    reserved(text).is_some()
+}
 
 /// The token of a reserved word.
 pub(crate) fn reserved(text: &str) -> Option<TokenKind>

@@ -8,7 +8,8 @@ use Rattle.cal_lexer.specs.Lexeme.{Lexeme, Placed, placed, plain_tokens}
 use Rattle.cal_lexer.specs.declared.token.Token.{Token}
 use Rattle.cal_parser.specs.Cursor.{Took, stands}
 use Rattle.cal_parser.specs.Leading.{HasNoRoom, IsOperator, IsPrefix, TookOperator, TookPrefix, opened}
-use Rattle.cal_parser.specs.Operators.{binary_of, height, is_prefix, place, prefix_of}
+use Rattle.cal_ast.specs.Places.{begins}
+use Rattle.cal_parser.specs.Operators.{binary_of, height, is_prefix, prefix_of}
 use Rattle.cal_parser.specs.Rules.{Step, at_level, chain, expect, part, places, read}
 use Rattle.cal_parser.specs.Spells.{a_postfix, a_primary, an_expr, level}
 use Rattle.cal_parser.specs.Steps.{climbs, closing_step, does, index_step}
@@ -25,10 +26,10 @@ use Rattle.cal_parser.proofs.Reading.{read_is}
 -- operations of one level
 
 chain_takes : ℕ → Tree → Placed → Step
-chain_takes n x t = enter (part (level n)) (λ y. jump (chain n (binary (binary_of (kind_of t)) x y (place x))))
+chain_takes n x t = enter (part (level n)) (λ y. jump (chain n (binary (binary_of (kind_of t)) x y (begins x))))
 
 abbrev chain_on : ℕ → ℕ → Tree → BinOp → Next
-chain_on m n x op y left = read m (chain n (binary op x y (place x))) left
+chain_on m n x op y left = read m (chain n (binary op x y (begins x))) left
 
 chain_goes : (m n : ℕ) (x : Tree) (op : BinOp) (now mid : List Token) → IsOperator n op now mid → height x < m → read m (chain n x) (plain_tokens now) ≡ after (read (m - 1) (part (level n)) (plain_tokens mid)) (chain_on m n x op)
 chain_goes m n x op now mid o low =
@@ -74,12 +75,12 @@ module _ (m top : ℕ) (x : Tree) (start : List Token) (n : ℕ) (y : Tree) (now
         far = far_on less ∙ ap (λ o. after o (λ z left. climbs m (suc n) (i.more - 1) z left)) (chain_none m n y now none) ∙ ap (λ j. climbs m j (i.more - 1) y (plain_tokens now)) next;
       }
 
-  pub climbed_more : (op : BinOp) (mid new : List Token) (z y' : Tree) → n < top → IsOperator n op now mid → height y < m → read (m - 1) (part (level n)) (plain_tokens mid) ≡ Gave z (plain_tokens new) → y' ≡ binary op y z (place y) → IsClimbed m top x start n y' new
+  pub climbed_more : (op : BinOp) (mid new : List Token) (z y' : Tree) → n < top → IsOperator n op now mid → height y < m → read (m - 1) (part (level n)) (plain_tokens mid) ≡ Gave z (plain_tokens new) → y' ≡ binary op y z (begins y) → IsClimbed m top x start n y' new
   climbed_more op mid new z y' less o low right is =
       let sum : n + i.more ≡ top = i.sum in
       let e : i.more ≡ suc (i.more - 1) = omega arith in
       let f : Next = λ v left. climbs m (suc n) (i.more - 1) v left in
-      let one : read m (chain n y) (plain_tokens now) ≡ read m (chain n (binary op y z (place y))) (plain_tokens new) = gave_on (read m (chain n y) (plain_tokens now)) (read (m - 1) (part (level n)) (plain_tokens mid)) (chain_on m n y op) z (plain_tokens new) (chain_goes m n y op now mid o low) right in
+      let one : read m (chain n y) (plain_tokens now) ≡ read m (chain n (binary op y z (begins y))) (plain_tokens new) = gave_on (read m (chain n y) (plain_tokens now)) (read (m - 1) (part (level n)) (plain_tokens mid)) (chain_on m n y op) z (plain_tokens new) (chain_goes m n y op now mid o low) right in
       record {
         more = i.more;
         sum = i.sum;
@@ -107,7 +108,7 @@ module _ (m top : ℕ) (x : Tree) (start : List Token) (n : ℕ) (y : Tree) (now
 -- indexes
 
 abbrev places_step : Tree → Tree → Step
-places_step x i = expect Lexeme.RightBracket (jump (places (index x i (place x))))
+places_step x i = expect Lexeme.RightBracket (jump (places (index x i (begins x))))
 
 places_takes : Tree → Placed → Step
 places_takes x t = enter (part an_expr) (λ i. places_step x i)
@@ -162,7 +163,7 @@ module _ (m : ℕ) (x : Tree) (start : List Token) (y : Tree) (now : List Token)
     inside : (at : Tree) (left : List Token) → read (m - 1) (part an_expr) (plain_tokens mid) ≡ Gave at (plain_tokens left) → read m (places x) (plain_tokens start) ≡ after (does m (index_step y at) (plain_tokens left)) (λ z l. read m (places z) l)
     inside at left e =
         gave_on (read m (places x) (plain_tokens start)) (read (m - 1) (part an_expr) (plain_tokens mid)) (places_on m y) at (plain_tokens left) index_on e
-        ∙ jump_behind m Lexeme.RightBracket (index y at (place y)) (plain_tokens left)
+        ∙ jump_behind m Lexeme.RightBracket (index y at (begins y)) (plain_tokens left)
 
     pub indexed_open : (at : Tree) (left : List Token) (fault : Fault) (new : List Token) → read (m - 1) (part an_expr) (plain_tokens mid) ≡ Gave at (plain_tokens left) → TellsFault fault new (does m (index_step y at) (plain_tokens left)) → TellsFault fault new (read m (places x) (plain_tokens start))
     indexed_open at left fault new e h = fault_on (read m (places x) (plain_tokens start)) (does m (index_step y at) (plain_tokens left)) (λ z l. read m (places z) l) fault new (inside at left e) h

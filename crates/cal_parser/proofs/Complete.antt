@@ -4,7 +4,8 @@ use Rattle.look_ahead.specs.Program.{Outcome, give, fail, ask, take, check, invo
 use Rattle.cal_ast.specs.Tree.{Tree, absent, present, nil, cons, ident, actor, unit, param, function, procedure, action, schedule, priority, while_stmt, foreach_stmt, block, if_expr, list, comp, index, binary}
 use Rattle.cal_lexer.specs.Lexeme.{Lexeme, Placed, placed}
 use Rattle.cal_parser.specs.Token.{here, same_word}
-use Rattle.cal_parser.specs.Operators.{level_of, binary_of, is_prefix, ends, place, group, onto, height}
+use Rattle.cal_ast.specs.Places.{begins}
+use Rattle.cal_parser.specs.Operators.{level_of, binary_of, is_prefix, ends, group, onto, height}
 use Rattle.cal_parser.specs.Spells.{Mark, comma, dot, mark, Part, Spells, separated, rest, any, repeated, level, a_postfix, a_primary, a_gen, a_type, a_type_arg, a_var, some_vars, a_param, a_port, a_name, a_tag, a_place, a_stmt, otherwise, a_function, a_procedure, some_guards, some_repeat, a_body, an_in, an_out, an_action, a_move, a_schedule, a_chain, a_priority, a_member, members, a_unit_member, a_path, an_import, an_actor, a_unit, some_imports, a_file, an_expr, the_separated, the_last, the_more, the_none, the_some, the_end, the_again, the_binary, the_tighter, the_prefix, the_postfix, the_index, the_primary, the_number, the_true, the_false, the_variable, the_call, the_pair, the_if, the_list, the_comp, the_gen, the_type, the_type_with, the_shape_arg, the_value_arg, the_var, the_var_changing, the_var_constant, the_no_vars, the_vars, the_param, the_param_default, the_port, the_name, the_tag, the_place, the_assign, the_call_stmt, the_if_stmt, the_while, the_foreach, the_block, the_block_with, the_if_end, the_else, the_elsif, the_function, the_procedure, the_no_guards, the_guards, the_no_repeat, the_repeat, the_no_body, the_body, the_in, the_in_at, the_out, the_out_at, the_action, the_initialize, the_unlabelled, the_labelled, the_move, the_schedule, the_chain, the_priority, the_var_member, the_function_member, the_procedure_member, the_action_member, the_priority_member, the_no_members, the_member, the_schedule_member, the_unit_var, the_unit_function, the_path_name, the_path_all, the_path_on, the_import, the_actor, the_unit, the_actor_file, the_unit_file, the_file, the_package_file}
 use Rattle.cal_parser.specs.Rules.{part, chain, places, type_tail, var_tail, starts, on, expect, finish}
 use Rattle.cal_parser.proofs.Costs.{height-group_any, height-inside, height-with_tag, height-onto, height-import_at, height-with_package}
@@ -14,7 +15,7 @@ use Rattle.look_ahead.specs.Program.{exec, after}
 use Rattle.cal_parser.specs.Rules.{read, at_level, goes_on_tag, goes_on_type, starts_member, starts_stmt}
 use Rattle.cal_parser.proofs.Follow
 use Rattle.cal_parser.proofs.Reading.{read_is}
-use Rattle.cal_parser.proofs.Follow.{seen, may_follow, left, right, untrue, unseen, closed_follows, end_has, operator_follows, no_paren, no_equal, begins, postfix_begins, rest_has, vars_has, guards_has, repeat_has, body_has, otherwise_has, same_mark, path_begins, var_begins, name_is_member}
+use Rattle.cal_parser.proofs.Follow.{seen, may_follow, left, right, untrue, unseen, closed_follows, end_has, operator_follows, no_paren, no_equal, begins_with, postfix_begins, rest_has, vars_has, guards_has, repeat_has, body_has, otherwise_has, same_mark, path_begins, var_begins, name_is_member}
 use Rattle.cal_parser.proofs.Claims.{Claim, closes}
 
 -- a height of at least 1 fits
@@ -55,7 +56,7 @@ none_claim m v p a = record {
 some_claim : (m : ℕ) (v : Mark) (p : Part) (a b : List Placed) (xs : Tree) → Spells (separated v p) a b xs → Claim (separated v p) m a b xs → Claim (any v p) m a b xs
 some_claim m v p a b xs spelled hs = record {
   it = λ f.
-      let one : here (starts p) (ahead a) ≡ true = begins spelled (left _ _ f) in
+      let one : here (starts p) (ahead a) ≡ true = begins_with spelled (left _ _ f) in
       let s1 : read m (part (separated v p)) a ≡ Gave xs b = closes hs (right _ _ (right _ _ f)) in
       rw (read_is m (part (any v p)) a, one, s1, exec) refl;
 }
@@ -70,7 +71,7 @@ end_claim m p a = record {
 again_claim : (m : ℕ) (p : Part) (a b c : List Placed) (x xs : Tree) → Spells p a b x → Claim p m a b x → Claim (repeated p) m b c xs → Claim (repeated p) m a c (cons x xs)
 again_claim m p a b c x xs spelled hx hs = record {
   it = λ f.
-      let one : here (starts p) (ahead a) ≡ true = begins spelled (left _ _ f) in
+      let one : here (starts p) (ahead a) ≡ true = begins_with spelled (left _ _ f) in
       let s1 : read m (part p) a ≡ Gave x b = closes hx (closed_follows p (seen (ahead b)) (right _ _ (right _ _ f))) in
       let s2 : read m (part (repeated p)) b ≡ Gave xs c = closes hs f in
       rw (read_is m (part (repeated p)) a, one, s1, s2, exec) refl;
@@ -78,7 +79,7 @@ again_claim m p a b c x xs spelled hx hs = record {
 
 -- expressions
 
-binary_claim : (m n q : ℕ) (w : Lexeme) (a b c : List Placed) (x y : Tree) → suc (height x) ≤ m → Claim (level (suc n)) m a (placed w q ∷ b) x → level_of w ≡ suc n → Claim (level n) (m - 1) b c y → Claim (level (suc n)) m a c (binary (binary_of w) x y (place x))
+binary_claim : (m n q : ℕ) (w : Lexeme) (a b c : List Placed) (x y : Tree) → suc (height x) ≤ m → Claim (level (suc n)) m a (placed w q ∷ b) x → level_of w ≡ suc n → Claim (level n) (m - 1) b c y → Claim (level (suc n)) m a c (binary (binary_of w) x y (begins x))
 binary_claim m n q w a b c x y low hx e hy = record {
   it = λ f.
       let start : read m (part (level (suc n))) a ≡ read m (chain n x) (placed w q ∷ b) = hx.it (operator_follows w n e) in
@@ -88,7 +89,7 @@ binary_claim m n q w a b c x y low hx e hy = record {
       start ∙ rw (read_is m (chain n x) (placed w q ∷ b), here_is, low_is, s1, exec) refl;
 }
 
-index_claim : (m q r : ℕ) (a b c : List Placed) (x i : Tree) → suc (height x) ≤ m → Claim a_postfix m a (placed Lexeme.LeftBracket q ∷ b) x → Claim an_expr (m - 1) b (placed Lexeme.RightBracket r ∷ c) i → Claim a_postfix m a c (index x i (place x))
+index_claim : (m q r : ℕ) (a b c : List Placed) (x i : Tree) → suc (height x) ≤ m → Claim a_postfix m a (placed Lexeme.LeftBracket q ∷ b) x → Claim an_expr (m - 1) b (placed Lexeme.RightBracket r ∷ c) i → Claim a_postfix m a c (index x i (begins x))
 index_claim m q r a b c x i low hx hi = record {
   it = λ f.
       let start : read m (part a_postfix) a ≡ read m (places x) (placed Lexeme.LeftBracket q ∷ b) = hx.it refl in
@@ -117,12 +118,12 @@ body_follow : (k : Lexeme) → not (starts_stmt k) ≡ true → may_follow (repe
 body_follow k e = let none : starts_stmt k ≡ false = untrue _ e in rw none refl
 
 member_begins : {a b : List Placed} {x : Tree} → Spells a_member a b x → here starts_member (ahead a) ≡ true
-member_begins (the_var_member h) = name_is_member _ (begins h refl)
+member_begins (the_var_member h) = name_is_member _ (begins_with h refl)
 member_begins (the_function_member (the_function h i j k e)) = refl
 member_begins (the_procedure_member (the_procedure h i j e)) = refl
 member_begins (the_action_member (the_unlabelled (the_action h i j k l e))) = refl
 member_begins (the_action_member (the_unlabelled (the_initialize i j k l e))) = refl
-member_begins (the_action_member (the_labelled h i)) = name_is_member _ (begins h refl)
+member_begins (the_action_member (the_labelled h i)) = name_is_member _ (begins_with h refl)
 member_begins (the_priority_member (the_priority h e)) = refl
 
 no_members_claim : (m : ℕ) (k : Bool) (a : List Placed) → Claim (members k) m a a nil
@@ -350,7 +351,7 @@ complete (the_param {s = s} {q = q} {a = a} {b = b} {shape = shape} h1) m low = 
   it = λ f.
       let s1 = closes (complete h1 m (omega arith)) refl in
       let no_equals : here (same_word Lexeme.Equal) (ahead b) ≡ false = unseen (same_word Lexeme.Equal) (ahead b) (no_equal (seen (ahead b)) f) in
-      rw (read_is m (part a_param) a, s1, exec) (let last : exec read m (on Lexeme.Equal (invoke (part an_expr) (λ y. give (param shape (ident s q) (present y) (place shape)))) (give (param shape (ident s q) absent (place shape)))) b ≡ Gave (param shape (ident s q) absent (place shape)) b = rw (no_equals, exec) refl in last);
+      rw (read_is m (part a_param) a, s1, exec) (let last : exec read m (on Lexeme.Equal (invoke (part an_expr) (λ y. give (param shape (ident s q) (present y) (begins shape)))) (give (param shape (ident s q) absent (begins shape)))) b ≡ Gave (param shape (ident s q) absent (begins shape)) b = rw (no_equals, exec) refl in last);
 }
 complete (the_param_default {s = s} {q = q} {r = r} {a = a} {b = b} {c = c} {shape = shape} {x = x} h1 h2) m low = record {
   it = λ f.

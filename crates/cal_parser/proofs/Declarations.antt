@@ -1,6 +1,7 @@
 -- Declarations: what the functions that read them do, exit by exit.
 use Rattle.std.proofs.Common.{◌≡◌, ℕ, true, false, List, [], map, Vec, Global, string_bytes, Result, Ok, Err, sym, ap, ◌∙◌}
 use Rattle.look_ahead.specs.Program.{Gave, give, jump, exec}
+use Rattle.cal_ast.specs.Places.{begins}
 use Rattle.cal_ast.specs.Tree.{Tree, nil, present, absent, listed, var, param, port}
 use Rattle.cal_ast.specs.View.{expr_tree, ident_tree, var_tree}
 use Rattle.cal_ast.specs.declared.expr.Expr.{Expr}
@@ -9,7 +10,6 @@ use Rattle.cal_ast.specs.declared.member.VarDecl.{VarDecl}
 use Rattle.cal_lexer.specs.Lexeme.{Lexeme, Placed, placed, plain_tokens}
 use Rattle.cal_lexer.specs.declared.token.Token.{Token}
 use Rattle.cal_parser.specs.Cursor.{Took, TookName, stands}
-use Rattle.cal_parser.specs.Operators.{place}
 use Rattle.cal_parser.specs.Pieces.{Does, value_then}
 use Rattle.cal_parser.specs.Rules.{Rule, part, var_tail, read, Step, on, named, ident_of}
 use Rattle.cal_parser.specs.Spells.{comma, separated, a_type, a_var, a_param, a_port, some_vars, an_expr}
@@ -27,10 +27,10 @@ tells_jump view m r n old mid new (Err fault) e h = fault_on fault new _ _ e h
 -- a variable behind its type
 
 abbrev var_equal : Tree → Tree → Step
-var_equal shape i = on Lexeme.Equal (value_then (λ x. var shape i (present x) false (place shape))) (give (var shape i absent true (place shape)))
+var_equal shape i = on Lexeme.Equal (value_then (λ x. var shape i (present x) false (begins shape))) (give (var shape i absent true (begins shape)))
 
 abbrev var_next : Tree → Placed → Step
-var_next shape t = on Lexeme.Assign (value_then (λ x. var shape (ident_of t) (present x) true (place shape))) (var_equal shape (ident_of t))
+var_next shape t = on Lexeme.Assign (value_then (λ x. var shape (ident_of t) (present x) true (begins shape))) (var_equal shape (ident_of t))
 
 pub var_no_name : (m : ℕ) (shape : Tree) (old new : List Token) (fault : Fault) → TookName (Err fault) old new → TellsFault fault new (read m (var_tail shape) (plain_tokens old))
 var_no_name m shape old new fault h = fault_on fault new _ _ (read_is m (var_tail shape) (plain_tokens old)) (named_fails m (var_next shape) old new fault h)
@@ -39,18 +39,18 @@ module _ (m : ℕ) (shape : Tree) (i : Ident) (old a : List Token) (got_name : T
   var_at : read m (var_tail shape) (plain_tokens old) ≡ exec read m (var_next shape (placed (Lexeme.Name (string_bytes i.text)) i.at)) (plain_tokens a)
   var_at = read_is m (var_tail shape) (plain_tokens old) ∙ named_yes m (var_next shape) i old a got_name
 
-  pub var_assign : (q : ℕ) (b : List Token) → stands (same_word Lexeme.Assign) a ≡ true → Took Lexeme.Assign q a b → read m (var_tail shape) (plain_tokens old) ≡ exec read m (value_then (λ x. var shape (ident_tree i) (present x) true (place shape))) (plain_tokens b)
-  var_assign q b some took = var_at ∙ on_yes m Lexeme.Assign (value_then (λ x. var shape (ident_tree i) (present x) true (place shape))) (var_equal shape (ident_tree i)) a b q some took
+  pub var_assign : (q : ℕ) (b : List Token) → stands (same_word Lexeme.Assign) a ≡ true → Took Lexeme.Assign q a b → read m (var_tail shape) (plain_tokens old) ≡ exec read m (value_then (λ x. var shape (ident_tree i) (present x) true (begins shape))) (plain_tokens b)
+  var_assign q b some took = var_at ∙ on_yes m Lexeme.Assign (value_then (λ x. var shape (ident_tree i) (present x) true (begins shape))) (var_equal shape (ident_tree i)) a b q some took
 
   module _ (no_assign : stands (same_word Lexeme.Assign) a ≡ false) where
     at_equal : read m (var_tail shape) (plain_tokens old) ≡ exec read m (var_equal shape (ident_tree i)) (plain_tokens a)
-    at_equal = var_at ∙ on_no m Lexeme.Assign (value_then (λ x. var shape (ident_tree i) (present x) true (place shape))) (var_equal shape (ident_tree i)) a no_assign
+    at_equal = var_at ∙ on_no m Lexeme.Assign (value_then (λ x. var shape (ident_tree i) (present x) true (begins shape))) (var_equal shape (ident_tree i)) a no_assign
 
-    pub var_plain : stands (same_word Lexeme.Equal) a ≡ false → read m (var_tail shape) (plain_tokens old) ≡ Gave (var shape (ident_tree i) absent true (place shape)) (plain_tokens a)
-    var_plain none = at_equal ∙ on_no m Lexeme.Equal (value_then (λ x. var shape (ident_tree i) (present x) false (place shape))) (give (var shape (ident_tree i) absent true (place shape))) a none
+    pub var_plain : stands (same_word Lexeme.Equal) a ≡ false → read m (var_tail shape) (plain_tokens old) ≡ Gave (var shape (ident_tree i) absent true (begins shape)) (plain_tokens a)
+    var_plain none = at_equal ∙ on_no m Lexeme.Equal (value_then (λ x. var shape (ident_tree i) (present x) false (begins shape))) (give (var shape (ident_tree i) absent true (begins shape))) a none
 
-    pub var_constant : (q : ℕ) (b : List Token) → stands (same_word Lexeme.Equal) a ≡ true → Took Lexeme.Equal q a b → read m (var_tail shape) (plain_tokens old) ≡ exec read m (value_then (λ x. var shape (ident_tree i) (present x) false (place shape))) (plain_tokens b)
-    var_constant q b some took = at_equal ∙ on_yes m Lexeme.Equal (value_then (λ x. var shape (ident_tree i) (present x) false (place shape))) (give (var shape (ident_tree i) absent true (place shape))) a b q some took
+    pub var_constant : (q : ℕ) (b : List Token) → stands (same_word Lexeme.Equal) a ≡ true → Took Lexeme.Equal q a b → read m (var_tail shape) (plain_tokens old) ≡ exec read m (value_then (λ x. var shape (ident_tree i) (present x) false (begins shape))) (plain_tokens b)
+    var_constant q b some took = at_equal ∙ on_yes m Lexeme.Equal (value_then (λ x. var shape (ident_tree i) (present x) false (begins shape))) (give (var shape (ident_tree i) absent true (begins shape))) a b q some took
 
 -- a first value
 
@@ -87,7 +87,7 @@ some_vars_at m q old mid some took = read_is m (part some_vars) (plain_tokens ol
 -- a parameter
 
 abbrev param_next : Tree → Placed → Step
-param_next shape t = on Lexeme.Equal (value_then (λ x. param shape (ident_of t) (present x) (place shape))) (give (param shape (ident_of t) absent (place shape)))
+param_next shape t = on Lexeme.Equal (value_then (λ x. param shape (ident_of t) (present x) (begins shape))) (give (param shape (ident_of t) absent (begins shape)))
 
 abbrev param_named : Tree → Step
 param_named shape = named (param_next shape)
@@ -106,23 +106,23 @@ module _ (m : ℕ) (shape : Tree) (old a : List Token) (got_type : read m (part 
     param_behind : read m (part a_param) (plain_tokens old) ≡ exec read m (param_next shape (placed (Lexeme.Name (string_bytes i.text)) i.at)) (plain_tokens b)
     param_behind = param_at ∙ named_yes m (param_next shape) i a b got_name
 
-    pub param_plain : stands (same_word Lexeme.Equal) b ≡ false → read m (part a_param) (plain_tokens old) ≡ Gave (param shape (ident_tree i) absent (place shape)) (plain_tokens b)
-    param_plain none = param_behind ∙ on_no m Lexeme.Equal (value_then (λ x. param shape (ident_tree i) (present x) (place shape))) (give (param shape (ident_tree i) absent (place shape))) b none
+    pub param_plain : stands (same_word Lexeme.Equal) b ≡ false → read m (part a_param) (plain_tokens old) ≡ Gave (param shape (ident_tree i) absent (begins shape)) (plain_tokens b)
+    param_plain none = param_behind ∙ on_no m Lexeme.Equal (value_then (λ x. param shape (ident_tree i) (present x) (begins shape))) (give (param shape (ident_tree i) absent (begins shape))) b none
 
     module _ (q : ℕ) (c : List Token) (some : stands (same_word Lexeme.Equal) b ≡ true) (took : Took Lexeme.Equal q b c) where
-      param_start : read m (part a_param) (plain_tokens old) ≡ exec read m (value_then (λ x. param shape (ident_tree i) (present x) (place shape))) (plain_tokens c)
-      param_start = param_behind ∙ on_yes m Lexeme.Equal (value_then (λ x. param shape (ident_tree i) (present x) (place shape))) (give (param shape (ident_tree i) absent (place shape))) b c q some took
+      param_start : read m (part a_param) (plain_tokens old) ≡ exec read m (value_then (λ x. param shape (ident_tree i) (present x) (begins shape))) (plain_tokens c)
+      param_start = param_behind ∙ on_yes m Lexeme.Equal (value_then (λ x. param shape (ident_tree i) (present x) (begins shape))) (give (param shape (ident_tree i) absent (begins shape))) b c q some took
 
       pub param_no_start : (new : List Token) (fault : Fault) → Tells expr_tree m (part an_expr) (Err fault) c new → TellsFault fault new (read m (part a_param) (plain_tokens old))
-      param_no_start new fault h = fault_on fault new _ _ param_start (invoke_fails m (part an_expr) (λ x. give (param shape (ident_tree i) (present x) (place shape))) c new fault h)
+      param_no_start new fault h = fault_on fault new _ _ param_start (invoke_fails m (part an_expr) (λ x. give (param shape (ident_tree i) (present x) (begins shape))) c new fault h)
 
-      pub param_default : (x : Expr) (new : List Token) → Tells expr_tree m (part an_expr) (Ok x) c new → read m (part a_param) (plain_tokens old) ≡ Gave (param shape (ident_tree i) (present (expr_tree x)) (place shape)) (plain_tokens new)
-      param_default x new h = param_start ∙ invoke_yes m (part an_expr) (λ y. give (param shape (ident_tree i) (present y) (place shape))) (expr_tree x) c new h
+      pub param_default : (x : Expr) (new : List Token) → Tells expr_tree m (part an_expr) (Ok x) c new → read m (part a_param) (plain_tokens old) ≡ Gave (param shape (ident_tree i) (present (expr_tree x)) (begins shape)) (plain_tokens new)
+      param_default x new h = param_start ∙ invoke_yes m (part an_expr) (λ y. give (param shape (ident_tree i) (present y) (begins shape))) (expr_tree x) c new h
 
 -- a port
 
 abbrev port_next : Tree → Placed → Step
-port_next shape t = give (port shape (ident_of t) (place shape))
+port_next shape t = give (port shape (ident_of t) (begins shape))
 
 abbrev port_named : Tree → Step
 port_named shape = named (port_next shape)
@@ -137,5 +137,5 @@ module _ (m : ℕ) (shape : Tree) (old a : List Token) (got_type : read m (part 
   pub port_no_name : (new : List Token) (fault : Fault) → TookName (Err fault) a new → TellsFault fault new (read m (part a_port) (plain_tokens old))
   port_no_name new fault h = fault_on fault new _ _ port_at (named_fails m (port_next shape) a new fault h)
 
-  pub port_read : (i : Ident) (new : List Token) → Took (Lexeme.Name (string_bytes i.text)) i.at a new → read m (part a_port) (plain_tokens old) ≡ Gave (port shape (ident_tree i) (place shape)) (plain_tokens new)
+  pub port_read : (i : Ident) (new : List Token) → Took (Lexeme.Name (string_bytes i.text)) i.at a new → read m (part a_port) (plain_tokens old) ≡ Gave (port shape (ident_tree i) (begins shape)) (plain_tokens new)
   port_read i new h = port_at ∙ named_yes m (port_next shape) i a new h

@@ -1,5 +1,6 @@
 -- Operators, ends, and what a tree drops.
 use Rattle.std.specs.Prelude.{ℕ, suc, max, Bool, true, false, ◌||◌}
+use Rattle.cal_ast.specs.Places.{begins}
 use Rattle.cal_ast.specs.declared.expr.PrefixOp.{PrefixOp}
 use Rattle.cal_ast.specs.declared.expr.PrefixOp.TheVariants as prefixes
 use Rattle.cal_ast.specs.declared.expr.BinOp.{BinOp}
@@ -93,28 +94,6 @@ long_end _ = Lexeme.End
 abbrev pub ends : Lexeme → Lexeme → Bool
 ends v w = same_word Lexeme.End w || same_word (long_end v) w
 
--- the offset of an expression, a type, a name, or the first of several parts
-abbrev pub place : Tree → ℕ
-place (cons x xs) = place x
-place (ident text at) = at
-place (tag parts at) = at
-place (import_part path last at) = at
-place (actor nm params ins outs members at) = at
-place (unit nm members at) = at
-place (type_of nm args at) = at
-place (number value at) = at
-place (truth value at) = at
-place (variable text at) = at
-place (call nm args at) = at
-place (paren inner at) = at
-place (if_expr test first other at) = at
-place (list items at) = at
-place (comp item gens at) = at
-place (index base i at) = at
-place (prefix op operand at) = at
-place (binary op left right at) = at
-place _ = 0
-
 -- A pair of parentheses at an offset, round an expression: it is dropped round a binary or prefix operation and round
 -- an `if`, which then have its offset.
 abbrev pub group : ℕ → Tree → Tree
@@ -125,7 +104,7 @@ group q x = paren x q
 
 -- an action under a tag, which its offset is then
 abbrev pub with_tag : Tree → Tree → Tree
-with_tag t (action none initialize patterns outputs guards vars body at) = action (present t) initialize patterns outputs guards vars body (place t)
+with_tag t (action none initialize patterns outputs guards vars body at) = action (present t) initialize patterns outputs guards vars body (begins t)
 with_tag t x = x
 
 -- the dotted path of an import, with one name more at its front
@@ -145,8 +124,8 @@ with_package q t x = x
 
 -- the offset of the first of several imports, or of what comes after them
 abbrev pub first_place : Tree → Tree → ℕ
-first_place nil x = place x
-first_place imports x = place imports
+first_place nil x = begins x
+first_place imports x = begins imports
 
 -- The height: how deep expressions, statements, types and pairs of parentheses nest, dropped pairs apart.
 abbrev pub height : Tree → ℕ

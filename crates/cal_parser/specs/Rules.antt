@@ -4,7 +4,8 @@ use Rattle.look_ahead.specs.Program.{Program, Outcome, give, fail, ask, take, ch
 use Rattle.cal_ast.specs.Tree.{Tree, absent, present, nil, cons, ident, tag, import_part, file, actor, unit, param, port, var, function, procedure, action, pattern, output, schedule, move, priority, type_of, shape_arg, value_arg, assign, call_stmt, if_stmt, while_stmt, foreach_stmt, block, number, truth, variable, call, if_expr, list, comp, gen, index, prefix, binary}
 use Rattle.cal_lexer.specs.Lexeme.{Lexeme, Placed}
 use Rattle.cal_parser.specs.Token.{here, names, counts, same_word, kind_of, offset, text_of, value_of}
-use Rattle.cal_parser.specs.Operators.{level_of, binary_of, is_prefix, prefix_of, ends, place, group, with_tag, onto, import_at, with_package, first_place, height}
+use Rattle.cal_ast.specs.Places.{begins}
+use Rattle.cal_parser.specs.Operators.{level_of, binary_of, is_prefix, prefix_of, ends, group, with_tag, onto, import_at, with_package, first_place, height}
 use Rattle.cal_parser.specs.Spells.{Part, separated, rest, any, repeated, level, a_postfix, a_primary, a_gen, a_type, a_type_arg, a_var, some_vars, a_param, a_port, a_name, a_tag, a_place, a_stmt, otherwise, a_function, a_procedure, some_guards, some_repeat, a_body, an_in, an_out, an_action, a_labelled, a_move, a_schedule, a_chain, a_priority, a_member, members, a_unit_member, a_path, an_import, an_actor, a_unit, some_imports, a_file, an_expr, comma, dot, greater, mark}
 
 pub data Rule : Type 0 where
@@ -125,10 +126,10 @@ abbrev pub at_level : ℕ → Lexeme → Bool
 at_level n k = nat_eq (level_of k) (suc n)
 
 abbrev pub chain_body : ℕ → Tree → Step
-chain_body n x = ask (here (at_level n)) (check (suc (height x)) (take (λ t. enter (part (level n)) (λ y. jump (chain n (binary (binary_of (kind_of t)) x y (place x))))))) (give x)
+chain_body n x = ask (here (at_level n)) (check (suc (height x)) (take (λ t. enter (part (level n)) (λ y. jump (chain n (binary (binary_of (kind_of t)) x y (begins x))))))) (give x)
 
 abbrev pub places_body : Tree → Step
-places_body x = ask (here (same_word Lexeme.LeftBracket)) (check (suc (height x)) (take (λ t. enter (part an_expr) (λ i. expect Lexeme.RightBracket (jump (places (index x i (place x)))))))) (give x)
+places_body x = ask (here (same_word Lexeme.LeftBracket)) (check (suc (height x)) (take (λ t. enter (part an_expr) (λ i. expect Lexeme.RightBracket (jump (places (index x i (begins x)))))))) (give x)
 
 abbrev pub name_body : Placed → Step
 name_body t = on Lexeme.LeftParen (enter (part (any comma an_expr)) (λ xs. expect Lexeme.RightParen (give (call (text_of t) xs (offset t))))) (give (variable (text_of t) (offset t)))
@@ -162,10 +163,10 @@ abbrev pub type_arg_body : Step
 type_arg_body = named (λ t. on Lexeme.Colon (invoke (part a_type) (λ x. give (shape_arg (ident_of t) x))) (expect Lexeme.Equal (invoke (part an_expr) (λ x. give (value_arg (ident_of t) x)))))
 
 abbrev pub var_tail_body : Tree → Step
-var_tail_body shape = named (λ t. on Lexeme.Assign (invoke (part an_expr) (λ x. give (var shape (ident_of t) (present x) true (place shape)))) (on Lexeme.Equal (invoke (part an_expr) (λ x. give (var shape (ident_of t) (present x) false (place shape)))) (give (var shape (ident_of t) absent true (place shape)))))
+var_tail_body shape = named (λ t. on Lexeme.Assign (invoke (part an_expr) (λ x. give (var shape (ident_of t) (present x) true (begins shape)))) (on Lexeme.Equal (invoke (part an_expr) (λ x. give (var shape (ident_of t) (present x) false (begins shape)))) (give (var shape (ident_of t) absent true (begins shape)))))
 
 abbrev pub param_body : Step
-param_body = invoke (part a_type) (λ shape. named (λ t. on Lexeme.Equal (invoke (part an_expr) (λ x. give (param shape (ident_of t) (present x) (place shape)))) (give (param shape (ident_of t) absent (place shape)))))
+param_body = invoke (part a_type) (λ shape. named (λ t. on Lexeme.Equal (invoke (part an_expr) (λ x. give (param shape (ident_of t) (present x) (begins shape)))) (give (param shape (ident_of t) absent (begins shape)))))
 
 -- statements
 
@@ -317,9 +318,9 @@ part_body a_type_arg = type_arg_body
 part_body a_var = invoke (part a_type) (λ shape. jump (var_tail shape))
 part_body some_vars = on Lexeme.Var (jump (part (separated comma a_var))) (give nil)
 part_body a_param = param_body
-part_body a_port = invoke (part a_type) (λ shape. named (λ t. give (port shape (ident_of t) (place shape))))
+part_body a_port = invoke (part a_type) (λ shape. named (λ t. give (port shape (ident_of t) (begins shape))))
 part_body a_name = named (λ t. give (ident_of t))
-part_body a_tag = invoke (part (separated dot a_name)) (λ xs. give (tag xs (place xs)))
+part_body a_tag = invoke (part (separated dot a_name)) (λ xs. give (tag xs (begins xs)))
 part_body a_place = expect Lexeme.LeftBracket (invoke (part an_expr) (λ x. expect Lexeme.RightBracket (give x)))
 part_body a_stmt = stmt_body
 part_body otherwise = otherwise_body

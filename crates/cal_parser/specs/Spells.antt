@@ -5,7 +5,8 @@
 use Rattle.std.specs.Prelude.{◌≡◌, ℕ, suc, Bool, true, false, List, [], ◌∷◌}
 use Rattle.cal_ast.specs.Tree.{Tree, absent, present, nil, cons, ident, tag, import_part, file, actor, unit, param, port, var, function, procedure, action, pattern, output, schedule, move, priority, type_of, shape_arg, value_arg, assign, call_stmt, if_stmt, while_stmt, foreach_stmt, block, number, truth, variable, call, if_expr, list, comp, gen, index, prefix, binary}
 use Rattle.cal_lexer.specs.Lexeme.{Lexeme, Placed, placed}
-use Rattle.cal_parser.specs.Operators.{level_of, loosest, binary_of, is_prefix, prefix_of, ends, place, group, with_tag, onto, import_at, with_package, first_place}
+use Rattle.cal_ast.specs.Places.{begins}
+use Rattle.cal_parser.specs.Operators.{level_of, loosest, binary_of, is_prefix, prefix_of, ends, group, with_tag, onto, import_at, with_package, first_place}
 
 -- what stands between parts
 pub data Mark : Type 0 where
@@ -81,11 +82,11 @@ pub data Spells : Part → List Placed → List Placed → Tree → Type 0 where
   the_end : {p : Part} {a : List Placed} → Spells (repeated p) a a nil
   the_again : {p : Part} {a b c : List Placed} {x xs : Tree} → Spells p a b x → Spells (repeated p) b c xs → Spells (repeated p) a c (cons x xs)
   -- expressions
-  the_binary : {n q : ℕ} {w : Lexeme} {a b c : List Placed} {x y : Tree} → Spells (level (suc n)) a (placed w q ∷ b) x → level_of w ≡ suc n → Spells (level n) b c y → Spells (level (suc n)) a c (binary (binary_of w) x y (place x))
+  the_binary : {n q : ℕ} {w : Lexeme} {a b c : List Placed} {x y : Tree} → Spells (level (suc n)) a (placed w q ∷ b) x → level_of w ≡ suc n → Spells (level n) b c y → Spells (level (suc n)) a c (binary (binary_of w) x y (begins x))
   the_tighter : {n : ℕ} {a b : List Placed} {x : Tree} → Spells (level n) a b x → Spells (level (suc n)) a b x
   the_prefix : {q : ℕ} {w : Lexeme} {a b : List Placed} {x : Tree} → is_prefix w ≡ true → Spells (level 0) a b x → Spells (level 0) (placed w q ∷ a) b (prefix (prefix_of w) x q)
   the_postfix : {a b : List Placed} {x : Tree} → Spells a_postfix a b x → Spells (level 0) a b x
-  the_index : {q r : ℕ} {a b c : List Placed} {x i : Tree} → Spells a_postfix a (placed Lexeme.LeftBracket q ∷ b) x → Spells an_expr b (placed Lexeme.RightBracket r ∷ c) i → Spells a_postfix a c (index x i (place x))
+  the_index : {q r : ℕ} {a b c : List Placed} {x i : Tree} → Spells a_postfix a (placed Lexeme.LeftBracket q ∷ b) x → Spells an_expr b (placed Lexeme.RightBracket r ∷ c) i → Spells a_postfix a c (index x i (begins x))
   the_primary : {a b : List Placed} {x : Tree} → Spells a_primary a b x → Spells a_postfix a b x
   the_number : {v q : ℕ} {a : List Placed} → Spells a_primary (placed (Lexeme.Number v) q ∷ a) a (number v q)
   the_true : {q : ℕ} {a : List Placed} → Spells a_primary (placed Lexeme.True q ∷ a) a (truth true q)
@@ -102,16 +103,16 @@ pub data Spells : Part → List Placed → List Placed → Tree → Type 0 where
   the_type_with : {s : List ℕ} {q r t : ℕ} {a b : List Placed} {xs : Tree} → Spells (separated comma a_type_arg) a (placed Lexeme.RightParen t ∷ b) xs → Spells a_type (placed (Lexeme.Name s) q ∷ placed Lexeme.LeftParen r ∷ a) b (type_of (ident s q) xs q)
   the_shape_arg : {s : List ℕ} {q r : ℕ} {a b : List Placed} {x : Tree} → Spells a_type a b x → Spells a_type_arg (placed (Lexeme.Name s) q ∷ placed Lexeme.Colon r ∷ a) b (shape_arg (ident s q) x)
   the_value_arg : {s : List ℕ} {q r : ℕ} {a b : List Placed} {x : Tree} → Spells an_expr a b x → Spells a_type_arg (placed (Lexeme.Name s) q ∷ placed Lexeme.Equal r ∷ a) b (value_arg (ident s q) x)
-  the_var : {s : List ℕ} {q : ℕ} {a b : List Placed} {shape : Tree} → Spells a_type a (placed (Lexeme.Name s) q ∷ b) shape → Spells a_var a b (var shape (ident s q) absent true (place shape))
-  the_var_changing : {s : List ℕ} {q r : ℕ} {a b c : List Placed} {shape x : Tree} → Spells a_type a (placed (Lexeme.Name s) q ∷ placed Lexeme.Assign r ∷ b) shape → Spells an_expr b c x → Spells a_var a c (var shape (ident s q) (present x) true (place shape))
-  the_var_constant : {s : List ℕ} {q r : ℕ} {a b c : List Placed} {shape x : Tree} → Spells a_type a (placed (Lexeme.Name s) q ∷ placed Lexeme.Equal r ∷ b) shape → Spells an_expr b c x → Spells a_var a c (var shape (ident s q) (present x) false (place shape))
+  the_var : {s : List ℕ} {q : ℕ} {a b : List Placed} {shape : Tree} → Spells a_type a (placed (Lexeme.Name s) q ∷ b) shape → Spells a_var a b (var shape (ident s q) absent true (begins shape))
+  the_var_changing : {s : List ℕ} {q r : ℕ} {a b c : List Placed} {shape x : Tree} → Spells a_type a (placed (Lexeme.Name s) q ∷ placed Lexeme.Assign r ∷ b) shape → Spells an_expr b c x → Spells a_var a c (var shape (ident s q) (present x) true (begins shape))
+  the_var_constant : {s : List ℕ} {q r : ℕ} {a b c : List Placed} {shape x : Tree} → Spells a_type a (placed (Lexeme.Name s) q ∷ placed Lexeme.Equal r ∷ b) shape → Spells an_expr b c x → Spells a_var a c (var shape (ident s q) (present x) false (begins shape))
   the_no_vars : {a : List Placed} → Spells some_vars a a nil
   the_vars : {q : ℕ} {a b : List Placed} {xs : Tree} → Spells (separated comma a_var) a b xs → Spells some_vars (placed Lexeme.Var q ∷ a) b xs
-  the_param : {s : List ℕ} {q : ℕ} {a b : List Placed} {shape : Tree} → Spells a_type a (placed (Lexeme.Name s) q ∷ b) shape → Spells a_param a b (param shape (ident s q) absent (place shape))
-  the_param_default : {s : List ℕ} {q r : ℕ} {a b c : List Placed} {shape x : Tree} → Spells a_type a (placed (Lexeme.Name s) q ∷ placed Lexeme.Equal r ∷ b) shape → Spells an_expr b c x → Spells a_param a c (param shape (ident s q) (present x) (place shape))
-  the_port : {s : List ℕ} {q : ℕ} {a b : List Placed} {shape : Tree} → Spells a_type a (placed (Lexeme.Name s) q ∷ b) shape → Spells a_port a b (port shape (ident s q) (place shape))
+  the_param : {s : List ℕ} {q : ℕ} {a b : List Placed} {shape : Tree} → Spells a_type a (placed (Lexeme.Name s) q ∷ b) shape → Spells a_param a b (param shape (ident s q) absent (begins shape))
+  the_param_default : {s : List ℕ} {q r : ℕ} {a b c : List Placed} {shape x : Tree} → Spells a_type a (placed (Lexeme.Name s) q ∷ placed Lexeme.Equal r ∷ b) shape → Spells an_expr b c x → Spells a_param a c (param shape (ident s q) (present x) (begins shape))
+  the_port : {s : List ℕ} {q : ℕ} {a b : List Placed} {shape : Tree} → Spells a_type a (placed (Lexeme.Name s) q ∷ b) shape → Spells a_port a b (port shape (ident s q) (begins shape))
   the_name : {s : List ℕ} {q : ℕ} {a : List Placed} → Spells a_name (placed (Lexeme.Name s) q ∷ a) a (ident s q)
-  the_tag : {a b : List Placed} {xs : Tree} → Spells (separated dot a_name) a b xs → Spells a_tag a b (tag xs (place xs))
+  the_tag : {a b : List Placed} {xs : Tree} → Spells (separated dot a_name) a b xs → Spells a_tag a b (tag xs (begins xs))
   -- statements
   the_place : {q r : ℕ} {a b : List Placed} {x : Tree} → Spells an_expr a (placed Lexeme.RightBracket r ∷ b) x → Spells a_place (placed Lexeme.LeftBracket q ∷ a) b x
   the_assign : {s : List ℕ} {q r t : ℕ} {a b c : List Placed} {xs x : Tree} → Spells (repeated a_place) a (placed Lexeme.Assign r ∷ b) xs → Spells an_expr b (placed Lexeme.Semicolon t ∷ c) x → Spells a_stmt (placed (Lexeme.Name s) q ∷ a) c (assign (ident s q) xs x q)

@@ -13,7 +13,8 @@ use Rattle.cal_parser.specs.declared.tall.TallGens.{TallGens}
 use Rattle.cal_parser.specs.declared.tall.TallType.{TallType}
 use Rattle.cal_parser.specs.declared.tall.TallTypeArg.{TallTypeArg}
 use Rattle.cal_parser.specs.declared.tall.TallTypeArgs.{TallTypeArgs}
-use Rattle.cal_parser.specs.Operators.{group, height, place}
+use Rattle.cal_ast.specs.Places.{begins}
+use Rattle.cal_parser.specs.Operators.{group, height}
 use Rattle.cal_parser.specs.Rules.{Rule, Step, chain, expect, finish, read}
 use Rattle.cal_parser.specs.Tells.{TellsFault}
 use Rattle.cal_parser.specs.Token.{here, offset, same_word, value_of}
@@ -83,7 +84,7 @@ abbrev pub closing_step : ℕ → Tree → Step
 closing_step q x = ask (here (same_word Lexeme.RightParen)) (check (height (group 0 x)) (take (λ u. give (group q x)))) fail
 
 abbrev pub index_step : Tree → Tree → Step
-index_step x i = expect Lexeme.RightBracket (give (index x i (place x)))
+index_step x i = expect Lexeme.RightBracket (give (index x i (begins x)))
 
 abbrev pub call_step : List ℕ → ℕ → Tree → Step
 call_step s q xs = expect Lexeme.RightParen (give (call s xs q))

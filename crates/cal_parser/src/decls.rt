@@ -1,10 +1,10 @@
 //! What is declared: variables, parameters and ports.
 
 ghost use Rattle.std.specs.Prelude.{◌≡◌};
+ghost use Rattle.cal_ast.specs.Places.{begins};
 ghost use Rattle.cal_ast.specs.Tree as tree;
 ghost use Rattle.cal_ast.specs.Tree.{present};
 ghost use Rattle.cal_ast.specs.View.{ident_tree, param_tree, port_tree, type_tree, var_tree};
-ghost use Rattle.cal_parser.specs.Operators.{place};
 ghost use Rattle.cal_parser.specs.Pieces.{Does, value_then};
 ghost use Rattle.cal_parser.specs.Rules.{part, var_tail};
 ghost use Rattle.cal_parser.specs.Spells.{a_param, a_port, a_var, any, comma, some_vars as some_vars_part};
@@ -65,7 +65,7 @@ fn var_with_start(
     name: Ident,
     changes: bool,
 ) -> Result<VarDecl, Fault>
-    ensures { Does var_tree room (value_then (λ x. tree.var (type_tree shape) (ident_tree name) (present x) changes (place (type_tree shape)))) result tokens.old.now tokens.new.now }
+    ensures { Does var_tree room (value_then (λ x. tree.var (type_tree shape) (ident_tree name) (present x) changes (begins (type_tree shape)))) result tokens.old.now tokens.new.now }
 {
     let start = expr(alloc, tokens, room)?;
     let at = place_of(&shape);
@@ -80,7 +80,7 @@ fn var_with_start(
 
 /// The offset of a type.
 fn place_of(shape: &TypeExpr) -> u32
-    ensures { result ≡ place (type_tree shape.now) }
+    ensures { result ≡ begins (type_tree shape.now) }
 {
     shape.at
 }

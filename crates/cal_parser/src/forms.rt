@@ -1,9 +1,9 @@
 //! Expressions that are made of others.
 
 ghost use Rattle.std.specs.Prelude.{◌≡◌, ◌≤◌, ◌<◌, ◌++◌, ◌∷◌, [], IfOk, map, max, string_bytes};
+ghost use Rattle.cal_ast.specs.Places.{begins};
 ghost use Rattle.cal_ast.specs.Tree.{binary, prefix};
 ghost use Rattle.cal_ast.specs.View.{expr_tree};
-ghost use Rattle.cal_parser.specs.Operators.{place};
 ghost use Rattle.cal_parser.specs.Steps.{Does, each_expr, each_gen, call_step, comp_step, if_step, index_step, list_step, tall_tree};
 
 use crate::cursor::{expect, finish};
@@ -50,7 +50,7 @@ pub fn operation(
 ) -> Result<TallExpr, AllocError>
     requires left_fits { left.high < room }
     requires right_fits { right.high < room }
-    ensures is { IfOk result (λ x. expr_tree x.expr ≡ binary op (expr_tree left.expr) (expr_tree right.expr) (place (expr_tree left.expr))) }
+    ensures is { IfOk result (λ x. expr_tree x.expr ≡ binary op (expr_tree left.expr) (expr_tree right.expr) (begins (expr_tree left.expr))) }
     ensures low { IfOk result (λ x. x.high ≤ room) }
 {
     let high = left.high.max(right.high) + 1;

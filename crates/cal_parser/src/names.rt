@@ -1,9 +1,9 @@
 //! Names with dots or commas between them.
 
 ghost use Rattle.std.specs.Prelude.{◌≡◌, map};
+ghost use Rattle.cal_ast.specs.Places.{begins};
 ghost use Rattle.cal_ast.specs.Tree.{listed};
 ghost use Rattle.cal_ast.specs.View.{ident_tree};
-ghost use Rattle.cal_parser.specs.Operators.{place};
 ghost use Rattle.cal_parser.specs.Separator.{mark_of};
 ghost use Rattle.cal_parser.specs.Tells.{TellsNames, TellsTag};
 
@@ -58,7 +58,7 @@ pub fn names(alloc: Global, tokens: &mut &[Token], between: Separator) -> Result
 
 /// The offset of the first of several names, or 0.
 fn first_offset(names: &[Ident]) -> u32
-    ensures { result ≡ place (listed (map ident_tree names.now)) }
+    ensures { result ≡ begins (listed (map ident_tree names.now)) }
 {
     match names.first() {
         None => 0,

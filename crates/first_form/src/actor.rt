@@ -4,7 +4,8 @@ ghost use Rattle.std.specs.Prelude.{◌≡◌, IfOk, [], map, MatchOption, Match
 ghost use Rattle.cal_ast.specs.Tree.{listed};
 ghost use Rattle.cal_ast.specs.Apart.{IsEqualApart};
 ghost use Rattle.cal_ast.specs.View.{ident_tree, type_tree, type_arg_tree, port_tree, pattern_tree, output_tree, action_tree, member_tree, actor_tree, file_tree, optional, expr_tree, var_tree, body_tree};
-ghost use Rattle.first_form.specs.Departing.{begins, departs, departs_actor, departs_action, departs_behind, departs_pattern, departs_output, departs_port, is_8, is_byte_type, is_named, is_size_8, alone};
+ghost use Rattle.cal_ast.specs.Places.{begins};
+ghost use Rattle.first_form.specs.Departing.{departs, departs_actor, departs_action, departs_behind, departs_pattern, departs_output, departs_port, is_8, is_byte_type, is_named, is_size_8, alone};
 ghost use Rattle.first_form.specs.FormTree.{actor_of, form_tree, HasShortNumbers, IsOperand};
 ghost use Rattle.cal_model.specs.Form.{form_of};
 ghost use Rattle.first_form.specs.Parts.{given_form};

@@ -2,7 +2,8 @@
 
 ghost use Rattle.std.specs.Prelude.{◌≡◌, MatchResult, Some, None, Option, option_map, string_bytes};
 ghost use Rattle.cal_ast.specs.View.{expr_tree};
-ghost use Rattle.first_form.specs.Departing.{departs_value, is_operand, begins};
+ghost use Rattle.first_form.specs.Departing.{departs_value, is_operand};
+ghost use Rattle.cal_ast.specs.Places.{begins};
 ghost use Rattle.first_form.specs.Formed.{IsOperandOf, IsValueOf, operator_of};
 
 use cal_ast::{BinOp, Expr, ExprForm};

@@ -1,5 +1,5 @@
 -- How the firings that are left of a budget are shared by the picked instances.
-use Rattle.std.specs.Prelude.{ℕ, ◌+◌, ◌/◌, ◌%◌, List, map, min, nat_lt, sum, if◌then◌else◌}
+use Rattle.std.specs.Prelude.{ℕ, ◌+◌, ◌/◌, ◌%◌, map, min, nat_lt, sum, if◌then◌else◌}
 use Rattle.std.specs.List.{range_with_len}
 
 -- the share of the k-th picked instance, counted from 0

@@ -1,5 +1,5 @@
 -- The width of numbers: every bound that follows from it, by name.
-use Rattle.std.specs.Prelude.{ℕ, Bool, ℤ, pos, negsuc, neg_ℤ, ◌-ℤ◌, ◌≤ℤ◌, ◌^◌, FitsSigned, nat_lt}
+use Rattle.std.specs.Prelude.{ℕ, Bool, ℤ, pos, negsuc, ◌-◌, ◌^◌, FitsSigned, nat_lt}
 use Rattle.std.specs.Int.{Width, w64}
 
 -- the width of a number of the language
@@ -14,6 +14,13 @@ IsNum z = FitsSigned num_width z
 abbrev pub is_num : ℤ → Bool
 is_num (pos n) = nat_lt n (2 ^ 63)
 is_num (negsuc n) = nat_lt n (2 ^ 63)
+
+-- the least and the greatest number
+abbrev pub least_num : ℤ
+least_num = negsuc (2 ^ 63 - 1)
+
+abbrev pub greatest_num : ℤ
+greatest_num = pos (2 ^ 63 - 1)
 
 -- the greatest size of a number type, in bits
 abbrev pub max_size : ℕ

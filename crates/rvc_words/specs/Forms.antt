@@ -1,9 +1,9 @@
 -- The forms of the words.
-use Rattle.std.specs.Prelude.{ℕ, Bool, true, false, ◌||◌, ◌&&◌, not, nat_le, ◌==◌, if◌then◌else◌, List, length, codes, Option, None, Some, is_some, option_map, slice_index}
+use Rattle.std.specs.Prelude.{ℕ, Bool, true, false, ◌||◌, ◌&&◌, not, nat_le, ◌==◌, if◌then◌else◌, List, length, codes, Option, None, Some, is_some, option_map}
 use Rattle.std.specs.List.{before_first, after_first, list_all, slice_split}
 use Rattle.std.specs.Str.{bytes_eq}
 use Rattle.std.specs.Str.Parse.{digits_value}
-use Rattle.cal_lexer.specs.Lexis.{begins_name, find, goes_on_name, long_ends, words}
+use Rattle.cal_lexer.specs.Lexis.{is_name}
 use Rattle.rvc_base.specs.declared.round_kind.RoundKind.{RoundKind}
 use Rattle.rvc_base.specs.declared.round_kind.RoundKind.TheVariants.{All, Turn, Seed}
 use Rattle.rvc_words.specs.declared.job.Verb.{Verb}
@@ -38,14 +38,6 @@ given_or default read None = Some default
 given_or default read (Some word) = read word
 
 -- Names and files.
-
--- a reserved word of the language
-unfoldable pub is_reserved : List ℕ → Bool
-is_reserved text = is_some (find text words) || is_some (find text long_ends)
-
--- a letter or `_` followed by letters, digits and `_`, and no reserved word
-unfoldable pub is_name : List ℕ → Bool
-is_name text = begins_name (slice_index text 0) && list_all goes_on_name text && not (is_reserved text)
 
 -- names joined by `/`
 unfoldable pub is_path : List ℕ → Bool

@@ -1,4 +1,4 @@
-use Rattle.std.proofs.Common.{length, drop, ap, ◌∙◌, arith}
+use Rattle.std.proofs.Common.{drop, ap, ◌∙◌, arith}
 use Rattle.std.proofs.lemmas.List.{take_all, length-drop}
 use Rattle.cal_lexer.specs.Lexes.{no_token}
 use Rattle.cal_lexer.specs.Lexis.{before, at_close}

@@ -1,4 +1,4 @@
-use Rattle.std.proofs.Common.{◌≡◌, true, false, sym, ◌∙◌, subst}
+use Rattle.std.proofs.Common.{◌≡◌, true, sym, ◌∙◌, subst}
 use Rattle.std.specs.Prelude.{slice_index}
 use borrow.Author.Tests.{ne_eqb}
 use Rattle.cal_lexer.specs.Lexes.{no_token}

@@ -1,10 +1,10 @@
 use Rattle.std.proofs.Common.{◌≡◌, true, false, Err, rules, sym, ap, ◌∙◌}
 use Rattle.look_ahead.specs.Program.{Gave}
+use Rattle.cal_ast.specs.Places.{begins}
 use Rattle.cal_ast.specs.Tree as tree
 use Rattle.cal_ast.specs.Tree.{present, absent}
 use Rattle.cal_ast.specs.View.{ident_tree, type_tree, var_tree}
 use Rattle.cal_lexer.specs.Lexeme.{plain_tokens}
-use Rattle.cal_parser.specs.Operators.{place}
 use Rattle.cal_parser.specs.Pieces.{value_then}
 use Rattle.cal_parser.specs.Rules.{var_tail}
 use Rattle.cal_parser.proofs.Declarations.{tells_rest, var_no_name, var_assign, var_plain, var_constant}
@@ -17,13 +17,13 @@ returns-in_err-name c =
 
 pub returns-then-is_word : goal.returns-then-is_word
 returns-then-is_word c =
-    tells_rest var_tree c.args.room (var_tail (type_tree c.args.shape)) (value_then (λ x. tree.var (type_tree c.args.shape) (ident_tree c.in_ok-name.name) (present x) true (place (type_tree c.args.shape)))) c.args.tokens.now.now c.take_word.new.tokens.now c.var_with_start.new.tokens.now c.var_with_start.result
+    tells_rest var_tree c.args.room (var_tail (type_tree c.args.shape)) (value_then (λ x. tree.var (type_tree c.args.shape) (ident_tree c.in_ok-name.name) (present x) true (begins (type_tree c.args.shape)))) c.args.tokens.now.now c.take_word.new.tokens.now c.var_with_start.new.tokens.now c.var_with_start.result
     (var_assign c.args.room (type_tree c.args.shape) c.in_ok-name.name c.args.tokens.now.now c.name.new.tokens.now c.in_ok-name.ensures c.take_word.result c.take_word.new.tokens.now (sym c.is_word.ensures ∙ c.if-is_word.true) c.take_word.ensures)
     c.var_with_start.ensures
 
 pub returns-then-is_word-2 : goal.returns-then-is_word-2
 returns-then-is_word-2 c =
-    tells_rest var_tree c.args.room (var_tail (type_tree c.args.shape)) (value_then (λ x. tree.var (type_tree c.args.shape) (ident_tree c.in_ok-name.name) (present x) false (place (type_tree c.args.shape)))) c.args.tokens.now.now c.take_word-then-is_word-2.new.tokens.now c.var_with_start-then-is_word-2.new.tokens.now c.var_with_start-then-is_word-2.result
+    tells_rest var_tree c.args.room (var_tail (type_tree c.args.shape)) (value_then (λ x. tree.var (type_tree c.args.shape) (ident_tree c.in_ok-name.name) (present x) false (begins (type_tree c.args.shape)))) c.args.tokens.now.now c.take_word-then-is_word-2.new.tokens.now c.var_with_start-then-is_word-2.new.tokens.now c.var_with_start-then-is_word-2.result
     (var_constant c.args.room (type_tree c.args.shape) c.in_ok-name.name c.args.tokens.now.now c.name.new.tokens.now c.in_ok-name.ensures (sym c.is_word.ensures ∙ c.if-is_word.false) c.take_word-then-is_word-2.result c.take_word-then-is_word-2.new.tokens.now (sym c.is_word-2.ensures ∙ c.if-is_word-2.true) c.take_word-then-is_word-2.ensures)
     c.var_with_start-then-is_word-2.ensures
 

@@ -1,9 +1,9 @@
 use Rattle.std.proofs.Common.{◌≡◌, None, true, false, ◌+◌, ◌-◌, ◌<◌, ◌≤◌, [], ◌∷◌, ◌++◌, length, map, string_bytes, vec_len, refl, sym, ap, ◌∙◌, subst, arith, rules}
 use Rattle.look_ahead.specs.Program.{Gave, check, take}
+use Rattle.cal_ast.specs.Places.{begins}
 use Rattle.cal_ast.specs.Tree.{index, listed, prefix}
 use Rattle.cal_ast.specs.View.{expr_tree, gen_tree, type_arg_tree}
 use Rattle.cal_lexer.specs.Lexeme.{Lexeme, plain_tokens}
-use Rattle.cal_parser.specs.Operators.{place}
 use Rattle.cal_parser.specs.Rules.{if_body, list_body, name_body, part, places, read}
 use Rattle.cal_parser.specs.Spells.{a_gen, a_primary, a_type, a_type_arg, an_expr, any, comma, level, separated}
 use Rattle.cal_parser.specs.Steps.{climbs, does, each_expr, each_gen, each_type_arg, number_step, tall_gen, tall_tree, tall_type, tall_type_arg, truth_step}
@@ -106,7 +106,7 @@ pub indexes-places-smaller : goal.indexes-places-smaller
 indexes-places-smaller t c =
     let taken : length c.take_word.new.tokens.now < length c.places.tokens.now = took_less Lexeme.LeftBracket c.take_word.result c.places.tokens.now c.take_word.new.tokens.now c.take_word.ensures in
     let less : length c.level_expr.new.tokens.now < length c.take_word.new.tokens.now = read_less (c.args.room - 1) an_expr c.take_word.new.tokens.now c.level_expr.new.tokens.now (tall_tree c.in_ok-place.place) c.in_ok-place.ensures.told refl in
-    let closed : length c.indexed.new.tokens.now ≤ length c.level_expr.new.tokens.now = word_less c.args.room Lexeme.RightBracket (index (tall_tree c.places.base) (tall_tree c.in_ok-place.place) (place (tall_tree c.places.base))) c.level_expr.new.tokens.now (tall_tree c.in_ok-next.next) c.indexed.new.tokens.now c.in_ok-next.ensures.told in
+    let closed : length c.indexed.new.tokens.now ≤ length c.level_expr.new.tokens.now = word_less c.args.room Lexeme.RightBracket (index (tall_tree c.places.base) (tall_tree c.in_ok-place.place) (begins (tall_tree c.places.base))) c.level_expr.new.tokens.now (tall_tree c.in_ok-next.next) c.indexed.new.tokens.now c.in_ok-next.ensures.told in
     omega arith
 
 pub operand-returns-in_err-operator-clause-told : goal.operand-returns-in_err-operator-clause-told

@@ -1,7 +1,7 @@
 use Rattle.std.proofs.Common.{◌≡◌, map, Err, rules, ap, ◌∙◌}
+use Rattle.cal_ast.specs.Places.{begins}
 use Rattle.cal_ast.specs.Tree.{listed}
 use Rattle.cal_ast.specs.View.{ident_tree}
-use Rattle.cal_parser.specs.Operators.{place}
 use Rattle.cal_parser.proofs.Tags.{tag_read, tag_fails}
 use Rattle.cal_parser.proofs.names.tag.Goals as goal
 
@@ -12,4 +12,4 @@ returns-in_err-parts c =
 
 pub returns : goal.returns
 returns c =
-    tag_read c.args.tokens.now.now c.names.new.tokens.now (record { parts = c.in_ok-parts.parts; at = c.first_offset-at.result }) c.in_ok-parts.ensures (c.first_offset-at.ensures ∙ ap (λ l. place (listed (map ident_tree l))) c.deref.ensures.value)
+    tag_read c.args.tokens.now.now c.names.new.tokens.now (record { parts = c.in_ok-parts.parts; at = c.first_offset-at.result }) c.in_ok-parts.ensures (c.first_offset-at.ensures ∙ ap (λ l. begins (listed (map ident_tree l))) c.deref.ensures.value)

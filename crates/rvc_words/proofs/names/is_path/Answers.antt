@@ -1,7 +1,8 @@
 use Rattle.std.proofs.Common.{lit<, rules, tests}
 use Rattle.std.proofs.lemmas.Iterator.Search.{all_from_yields_List}
 use Rattle.std.proofs.lemmas.Iterator.Splits.{YieldsList-from_str_split}
-use Rattle.rvc_words.specs.Forms.{is_name, is_path}
+use Rattle.cal_lexer.specs.Lexis.{is_name}
+use Rattle.rvc_words.specs.Forms.{is_path}
 use Rattle.rvc_words.proofs.names.is_path.Goals as goal
 
 pub returns : goal.returns
