@@ -29,6 +29,9 @@ tails x y xs ys h = cc
 pub heads : {A : Type 0} (x y : A) (xs ys : List A) → x ∷ xs ≡ y ∷ ys → x ≡ y
 heads x y xs ys h = cc
 
+pub consed : {A : Type 0} (x y : A) (xs ys : List A) → x ≡ y → xs ≡ ys → x ∷ xs ≡ y ∷ ys
+consed x y xs ys e d = cc
+
 record Parted (xs ys : List ℕ) (c d : ℕ) (r s : List ℕ) : Type 0 where
   same : xs ≡ ys
   next : c ≡ d
@@ -47,13 +50,13 @@ parted (x ∷ xs) (y ∷ ys) c d r s all those low low' h =
     let others : Parted xs ys c d r s = parted xs ys c d r s all.1 those.1 low low' (tails x y _ _ h) in
     record { same = rw (first, others.same); next = others.next; rest = others.rest }
 
-record SameNumber (i j c d : ℕ) (r s : List ℕ) : Type 0 where
-  same : i ≡ j
-  next : c ≡ d
-  rest : r ≡ s
+pub record SameNumber (i j c d : ℕ) (r s : List ℕ) : Type 0 where
+  pub same : i ≡ j
+  pub next : c ≡ d
+  pub rest : r ≡ s
 
 -- a number up to what is no digit
-number_tells : (i j c d : ℕ) (r s : List ℕ) → i < number_bound → j < number_bound → c < 48 → d < 48
+pub number_tells : (i j c d : ℕ) (r s : List ℕ) → i < number_bound → j < number_bound → c < 48 → d < 48
     → decimal i ++ (c ∷ r) ≡ decimal j ++ (d ∷ s) → SameNumber i j c d r s
 number_tells i j c d r s low low' nc nd h =
     let parts : Parted (decimal i) (decimal j) c d r s =
@@ -87,9 +90,9 @@ abbrev first : List ℕ → ℕ
 first [] = 0
 first (x ∷ xs) = x
 
-record SameLine (this that : Line) (xs ys : List ℕ) : Type 0 where
-  line : this ≡ that
-  rest : xs ≡ ys
+pub record SameLine (this that : Line) (xs ys : List ℕ) : Type 0 where
+  pub line : this ≡ that
+  pub rest : xs ≡ ys
 
 record SameName (c d : TrapName) (xs ys : List ℕ) : Type 0 where
   name : c ≡ d
@@ -140,7 +143,7 @@ stall_tells i a l j b m xs ys w v h =
     let three = number_tells l m 10 10 xs ys w.2 v.2 (omega arith) (omega arith) two.rest in
     record { line = rw (one.same, two.same, three.same); rest = three.rest }
 
-line_tells : (this that : Line) (xs ys : List ℕ) → IsWritten this → IsWritten that
+pub line_tells : (this that : Line) (xs ys : List ℕ) → IsWritten this → IsWritten that
     → spread this xs ≡ spread that ys → SameLine this that xs ys
 line_tells (Header n l) (Header m k) xs ys w v h = header_tells n l m k xs ys w v h
 line_tells (Header n l) Deliver xs ys w v h = let e : ◌≡◌ {A = ℕ} 118 10 = ap (λ u. first (drop 1 u)) h in absurd (omega arith)

@@ -4,10 +4,7 @@ use Rattle.std.specs.Prelude.{decimal, length, slice_index_or as get_or}
 use Rattle.std.proofs.lemmas.List.{append-nil}
 use Rattle.std.proofs.lemmas.Fmt.{decimal_by_steps, decimal_injective, decimal_step, decimal_digit, decimal_nonempty, first_decimal}
 use Rattle.trace_text.specs.Waiting.{IsDigit, IsNumber, Numbers, digits_so_far}
-use Rattle.trace_text.proofs.Decoding.{AreDigits, decimal_digits, heads, tails}
-
-both : (x y : ℕ) (xs ys : List ℕ) → x ≡ y → xs ≡ ys → x ∷ xs ≡ y ∷ ys
-both x y xs ys e d = cc
+use Rattle.trace_text.proofs.Decoding.{consed, AreDigits, decimal_digits, heads, tails}
 
 -- what begins with no digit
 abbrev pub Stops : List ℕ → Type 0
@@ -30,7 +27,7 @@ split (x ∷ xs) [] r (d ∷ s) all those here there h =
 split (x ∷ xs) (y ∷ ys) r s all those here there h =
     let first : x ≡ y = heads x y (xs ++ r) (ys ++ s) h in
     let others : Split xs ys r s = split xs ys r s all.1 those.1 here there (tails x y _ _ h) in
-    record { same = both x y xs ys first others.same; rest = others.rest }
+    record { same = consed x y xs ys first others.same; rest = others.rest }
 
 -- digits that begin digits
 begun : (xs ys r s : List ℕ) → AreDigits xs → Stops s → xs ++ r ≡ ys ++ s → (ds : List ℕ) × (xs ++ ds ≡ ys)
@@ -41,7 +38,7 @@ begun (x ∷ xs) [] r (d ∷ s) all there h =
 begun (x ∷ xs) (y ∷ ys) r s all there h =
     let first : x ≡ y = heads x y (xs ++ r) (ys ++ s) h in
     let others = begun xs ys r s all.1 there (tails x y _ _ h) in
-    (others.0, both x y (xs ++ others.0) ys first others.1)
+    (others.0, consed x y (xs ++ others.0) ys first others.1)
 
 -- a front of a list with one more is all of it, or a front of the list
 shorter : (us bs xs : List ℕ) (l : ℕ) → us ++ bs ≡ xs ++ (l ∷ [])
@@ -53,8 +50,8 @@ shorter (a ∷ b ∷ us) bs [] l h = absurd (let e : b ∷ (us ++ bs) ≡ [] = t
 shorter (a ∷ us) bs (x ∷ xs) l h =
     let first : a ≡ x = heads a x (us ++ bs) (xs ++ (l ∷ [])) h in
     elim (shorter us bs xs l (tails a x _ _ h)) [
-      | inl e ↦ inl (both a x us (xs ++ (l ∷ [])) first e)
-      | inr e ↦ inr (e.0, both a x (us ++ e.0) xs first e.1)
+      | inl e ↦ inl (consed a x us (xs ++ (l ∷ [])) first e)
+      | inr e ↦ inr (e.0, consed a x (us ++ e.0) xs first e.1)
     ]
 
 abbrev NoneGreater : ℕ → List ℕ → Type 0

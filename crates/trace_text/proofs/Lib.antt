@@ -5,3 +5,7 @@ mod Numbering
 mod Starting
 mod Advancing
 mod Reading
+mod LineEnds
+mod Telling
+mod Cutting
+mod Only

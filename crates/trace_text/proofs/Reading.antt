@@ -13,13 +13,14 @@ use Rattle.trace_text.specs.declared.reader.Step2.TheVariants.{More, Line as The
 use Rattle.trace_text.specs.Spelling.{Spells, Begins, IsFront}
 use Rattle.trace_text.specs.Waiting.{Behind, Ends, InField, Waits, IsAlive, Leads, bound_of}
 use Rattle.trace_text.specs.HasRead.{HasRead}
+use Rattle.trace_text.specs.ReadBack.{IsAnswer}
 use Rattle.trace_text.specs.Answer.{answer_of}
 use Rattle.trace_text.proofs.Decoding.{starts}
 use Rattle.trace_text.proofs.Digits.{no_end}
 use Rattle.trace_text.proofs.Numbering.{field_stops}
 use Rattle.trace_text.proofs.Starting.{text_spread, inst_spread}
 
-has_line : (line : Line) → Spells line [] → ⊥
+pub has_line : (line : Line) → Spells line [] → ⊥
 has_line (Header n l) w = starts (Header n l) [] (w.1 ∙ text_spread (Header n l))
 has_line (Inst k) w = starts (Inst k) _ (w.1.4 ∙ inst_spread k w.1.0 w.1.1)
 has_line (Fire i a) w = starts (Fire i a) [] (w.1 ∙ text_spread (Fire i a))
@@ -106,3 +107,8 @@ says_bad place text h e = absurd (cc)
 pub bad_is_said : (place : Place) (text : List ℕ) → Stands place text → ¬ Begins text → answer_of place ≡ Bad
 bad_is_said Lost text h none = refl
 bad_is_said place text h none = absurd (none (h.alive.0, h.alive.1, h.back h.alive.0 h.alive.1 h.alive.2))
+
+pub is_answer : (place : Place) (text : List ℕ) → Stands place text → IsAnswer text (answer_of place)
+is_answer (Ended this) text h = says_line (Ended this) text h this refl
+is_answer Lost text h = says_bad Lost text h refl
+is_answer place text h = says_more place text h refl

@@ -5,3 +5,6 @@ pub mod Spelling
 pub mod Waiting
 pub mod HasRead
 pub mod Answer
+pub mod ReadBack
+pub mod HasTold
+pub mod Laws

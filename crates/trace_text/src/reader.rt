@@ -3,6 +3,8 @@
 ghost use Rattle.std.specs.Prelude.{◌≡◌, ◌↔◌, ◌++◌, ◌∷◌, [], ℕ, List};
 ghost use Rattle.trace_text.specs.Spelling.{Spells, Begins, IsFront, since_line_feed};
 ghost use Rattle.trace_text.specs.HasRead.{HasRead};
+ghost use Rattle.trace_text.specs.HasTold.{HasTold, TellsOn};
+ghost use Rattle.trace_text.specs.ReadBack.{IsAnswer};
 ghost use Rattle.trace_text.specs.Answer.{answer_of};
 ghost use Rattle.trace_text.specs.declared.line.Line.{Line as TheLine};
 
@@ -30,7 +32,8 @@ pub enum Step2 {
 impl LineReader {
     /// A reader that has read nothing.
     pub fn new() -> LineReader
-        ensures { HasRead result [] }
+        ensures read { HasRead result [] }
+        ensures told { HasTold result [] [] }
     {
         LineReader {
             place: Place::Start,
@@ -41,11 +44,16 @@ impl LineReader {
     ///
     /// After `Bad` each byte up to the next line feed is `Bad`, and that line feed too. Behind each line feed
     /// a new line begins, whatever stood before it.
+    ///
+    /// Where none of the bytes since the reader was made was bad, they are the lines that it told, one after
+    /// another, and a front of one more (`told`).
     pub fn next(&mut self, byte: u8) -> Step2
         ensures line { (read : List ℕ) (line : TheLine) → HasRead self.old read → (result ≡ Step2.Line line) ↔ Spells line (read ++ byte ∷ []) }
         ensures more { (read : List ℕ) → HasRead self.old read → (result ≡ Step2.More) ↔ IsFront (read ++ byte ∷ []) }
         ensures bad { (read : List ℕ) → HasRead self.old read → (result ≡ Step2.Bad) ↔ ¬ Begins (read ++ byte ∷ []) }
         ensures read { (read : List ℕ) → HasRead self.old read → HasRead self.new (since_line_feed read byte) }
+        ensures answer { (read : List ℕ) → HasRead self.old read → IsAnswer (read ++ byte ∷ []) result }
+        ensures told { (lines : List TheLine) (text : List ℕ) → HasTold self.old lines text → TellsOn self.new lines (text ++ byte ∷ []) result }
     {
         let place = advance(self.place, byte);
         self.place = if byte == b'\n' { Place::Start } else { place };

@@ -1,8 +1,10 @@
 //! Lines as text.
 
-ghost use Rattle.std.specs.Prelude.{◌≡◌, ◌≤◌, ◌+◌, ◌++◌, [], length, decimal, codes};
+ghost use Rattle.std.specs.Prelude.{◌≡◌, ◌≤◌, ◌+◌, ◌++◌, [], ℕ, List, length, decimal, codes};
 ghost use Rattle.arrayvec.specs.ArrayVec.{array_vec_len};
-ghost use Rattle.trace_text.specs.Text.{line_text, then_number, IsWhole};
+ghost use Rattle.trace_text.specs.Text.{line_text, line_feed, then_number, IsWhole};
+ghost use Rattle.trace_text.specs.Names.{IsPath, IsClass};
+ghost use Rattle.trace_text.specs.Spelling.{Spells};
 ghost use Rattle.trace_text.specs.declared.line.Line.TheVariants.{Inst};
 
 use crate::line::Line;
@@ -13,10 +15,13 @@ use itoa::Buffer;
 pub const MAX_LINE_BYTES: usize = 64;
 
 /// Writes a line into `out`, which is empty. The line of an instance is written in parts elsewhere.
+///
+/// What is written spells the line, so that a reader reads it back.
 pub fn write_line(line: &Line, out: &mut ArrayVec<u8, 64>)
     requires empty { out.old.items ≡ [] }
     requires whole { IsWhole line.now }
-    ensures { out.new.items ≡ line_text line.now }
+    ensures text { out.new.items ≡ line_text line.now }
+    ensures spelled { Spells line.now out.new.items }
 {
     match line {
         Line::Header { instances, links } => {
@@ -52,10 +57,11 @@ pub fn write_line(line: &Line, out: &mut ArrayVec<u8, 64>)
 
 /// Writes what stands before the path in the line of an instance into `out`, which is empty.
 ///
-/// The path, a blank, the class and one LF follow.
+/// The path, a blank, the class and one LF follow, and spell the line with it.
 pub fn write_front(inst: u32, out: &mut ArrayVec<u8, 64>)
     requires empty { out.old.items ≡ [] }
-    ensures { out.new.items ≡ line_text (Inst inst) }
+    ensures text { out.new.items ≡ line_text (Inst inst) }
+    ensures spelled { (path class : List ℕ) → IsPath path → IsClass class → Spells (Inst inst) (out.new.items ++ path ++ codes " " ++ class ++ line_feed) }
 {
     push_text(b"i", out);
     push_number(inst, out);

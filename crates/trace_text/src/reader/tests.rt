@@ -1,7 +1,5 @@
-ghost use Rattle.trace_text.specs.Text.{IsWhole};
-
 use super::*;
-use crate::write::write_line;
+use crate::write::{write_front, write_line};
 use arrayvec::ArrayVec;
 use rvc_base::Trap;
 
@@ -208,44 +206,85 @@ fn behind_each_line_feed_a_line_begins(rt: HostRuntime) {
     }
 }
 
-/// Whether a line that was written is read back.
-fn comes_back(line: Line) -> bool
-    requires { IsWhole line }
-{
+/// A line of each kind, with each trap.
+fn lines_with(inst: u32, action: u16, link: u32) -> [Line; 12] {
+    [
+        header(inst, link),
+        Line::Inst { inst },
+        Line::Deliver,
+        fire(inst, action),
+        trap(inst, action, Trap::Overflow),
+        trap(inst, action, Trap::DivideByZero),
+        trap(inst, action, Trap::IndexRange),
+        trap(inst, action, Trap::ShiftRange),
+        trap(inst, action, Trap::TurnLimit),
+        stall(inst, action, link),
+        Line::Quiet,
+        Line::Budget,
+    ]
+}
+
+/// Writes a line, that of an instance with a path and a class. False where there is no room.
+fn write_whole(line: Line, text: &mut ArrayVec<u8, 1024>) -> bool {
     let mut out = ArrayVec::new();
-    write_line(&line, &mut out);
-    is_line(out.as_slice(), line)
+    let mut names: &[u8] = b"";
+    match line {
+        Line::Inst { inst } => {
+            write_front(inst, &mut out);
+            names = b"top/Z_9/_a p.q.Azaz09\n";
+        }
+        _ => write_line(&line, &mut out),
+    }
+    text.try_extend_from_slice(out.as_slice()).is_ok() && text.try_extend_from_slice(names).is_ok()
+}
+
+/// Whether a line that was written is read back.
+fn comes_back(line: Line) -> bool {
+    let mut text = ArrayVec::new();
+    write_whole(line, &mut text) && is_line(text.as_slice(), line)
+}
+
+/// Whether a reader tells just these lines of a text, and nothing is bad.
+fn tells(text: &[u8], lines: &[Line]) -> bool {
+    let mut reader = LineReader::new();
+    let mut told = 0;
+    for byte in text {
+        match reader.next(*byte) {
+            Step2::More => {}
+            Step2::Line(line) => {
+                if told >= lines.len() || lines[told] != line {
+                    return false;
+                }
+                told += 1;
+            }
+            Step2::Bad => return false,
+        }
+    }
+    told == lines.len()
+}
+
+/// Whether lines that were written one after another are read back.
+fn come_back(lines: &[Line]) -> bool {
+    let mut text = ArrayVec::new();
+    for line in lines {
+        if !write_whole(*line, &mut text) {
+            return false;
+        }
+    }
+    tells(text.as_slice(), lines)
 }
 
 #[test]
 fn written_lines_come_back(rt: HostRuntime) {
-    assert!(rt;
-        comes_back(Line::Header {
-            instances: 1,
-            links: 2
-        })
-    );
-    assert!(rt;
-        comes_back(Line::Fire {
-            inst: 10,
-            action: 65535
-        })
-    );
-    assert!(rt; comes_back(Line::Deliver));
-    assert!(rt; comes_back(Line::Quiet));
-    assert!(rt;
-        comes_back(Line::Trap {
-            inst: 0,
-            action: 10,
-            trap: Trap::IndexRange
-        })
-    );
-    assert!(rt;
-        comes_back(Line::Stall {
-            inst: 4294967295,
-            action: 0,
-            link: 100
-        })
-    );
-    assert!(rt; comes_back(Line::Budget));
+    let numbers = [0, 1, 9, 10, 99, 4294967289, 4294967294, 4294967295];
+    let actions = [0, 1, 9, 10, 99, 65529, 65534, 65535];
+    for (inst, link) in numbers.iter().zip(numbers.iter().rev()) {
+        for action in actions.iter() {
+            let lines = lines_with(*inst, *action, *link);
+            for line in lines.iter() {
+                assert!(rt; comes_back(*line), "{line:?}");
+            }
+            assert!(rt; come_back(lines.as_slice()), "{inst} {action} {link}");
+        }
+    }
 }
