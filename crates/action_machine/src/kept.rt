@@ -1,6 +1,8 @@
 //! The cells of running code, with the room that its runs need.
 
 ghost use Rattle.std.specs.Prelude.{◌≡◌, ◌<◌, length, slice_get, slice_set, Some};
+ghost use Rattle.code_ir.specs.Code.{Code};
+ghost use Rattle.action_machine.specs.Kept.{IsMadeFor};
 
 use rvc_base::Num;
 use std::marker::Model;
@@ -23,6 +25,14 @@ impl Model for Cells {
 }
 
 impl Cells {
+    /// How many cells there are.
+    #[inline]
+    pub fn count(&self) -> usize
+        ensures { result ≡ length self.now.numbers }
+    {
+        self.numbers.len()
+    }
+
     /// The number in cell `c`.
     #[inline]
     pub fn get(&self, c: u32) -> Num
@@ -39,6 +49,7 @@ impl Cells {
         ensures number { self.new.numbers ≡ slice_set self.old.numbers c v }
         ensures operands { self.new.operands ≡ self.old.operands }
         ensures calls { self.new.calls ≡ self.old.calls }
+        ensures made { (code : Code) → IsMadeFor code self.old → IsMadeFor code self.new }
     {
         self.numbers[c as usize] = v;
     }

@@ -15,6 +15,8 @@ mod registers;
 mod run;
 mod stack;
 mod step;
+#[cfg(test)]
+mod tests;
 
 pub use kept::Cells;
 pub use making::cells;

@@ -7,3 +7,5 @@ pub mod Safety
 pub mod Ends
 pub mod Marks
 pub mod Rows
+pub mod Lacking
+pub mod Each

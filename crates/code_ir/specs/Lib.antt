@@ -1,6 +1,7 @@
 pub mod Code
 pub mod Effect
 pub mod Running
+pub mod Reading
 pub mod Typing
 pub mod Standing
 pub mod Tables

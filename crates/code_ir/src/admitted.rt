@@ -1,9 +1,11 @@
 //! Code that meets the typing lines.
 
 ghost use Rattle.std.specs.Prelude.{◌≡◌, ◌≤◌, ℕ};
+ghost use Rattle.code_ir.specs.Code.{is_among};
 ghost use Rattle.code_ir.specs.Typing.{AllSized, IsAdmitted, Way};
 
 use crate::instr::{ActorCode, Instr, Routine};
+use crate::places::is_among;
 use std::marker::Model;
 
 /// Why code isn't admitted.
@@ -60,6 +62,13 @@ impl Admitted {
         ensures { result.now ≡ self.now.entries }
     {
         &self.code.entries
+    }
+
+    /// Whether a run may start at this place.
+    pub fn is_entry(&self, place: u32) -> bool
+        ensures { result ≡ is_among place self.now.entries }
+    {
+        is_among(place, &self.code.entries)
     }
 
     /// How many cells the code has.

@@ -9,10 +9,14 @@ pub mod laws;
 mod lines;
 mod outcome;
 mod places;
+mod reading;
+mod sizes;
 mod tokens;
 
 pub use admission::admit;
 pub use admitted::{Admitted, CodeFault};
 pub use instr::{ActorCode, Instr, Routine};
 pub use outcome::Outcome;
+pub use reading::has_tokens;
+pub use sizes::are_sized;
 pub use tokens::Tokens;

@@ -1,0 +1,372 @@
+//! The same loop as that of the driver, on a stack machine of the same design in plain Rust: instructions in one
+//! list, fetched by their place, one stack that was made before, one `match`.
+
+use std::hint::black_box;
+use std::time::Instant;
+
+type Num = i64;
+
+#[derive(Clone, Copy)]
+#[allow(dead_code)]
+enum Scalar {
+    Bool,
+    Int(u8),
+    Uint(u8),
+}
+
+fn conv(t: Scalar, v: Num) -> Num {
+    match t {
+        Scalar::Bool => (v != 0) as Num,
+        Scalar::Int(size) => {
+            let low = v as u64 & ((1u64 << size) - 1);
+            if low < 1u64 << (size - 1) {
+                low as i64
+            } else {
+                low as i64 - (1i64 << size)
+            }
+        }
+        Scalar::Uint(size) => (v as u64 & ((1u64 << size) - 1)) as i64,
+    }
+}
+
+fn stored(t: Option<Scalar>, v: Num) -> Num {
+    match t {
+        None => v,
+        Some(t) => conv(t, v),
+    }
+}
+
+#[derive(Clone, Copy)]
+#[allow(dead_code)]
+enum Trap {
+    Overflow,
+    DivideByZero,
+    ShiftRange,
+    IndexRange,
+    TurnLimit,
+}
+
+#[allow(dead_code)]
+enum Outcome {
+    Done,
+    True,
+    False,
+    Trap(Trap),
+}
+
+#[derive(Clone, Copy)]
+#[allow(dead_code)]
+enum Instr {
+    Const(Num),
+    Load(u32),
+    Store(u32, Option<Scalar>),
+    Index(u32, u32),
+    LoadAt(u32, u32),
+    StoreAt(u32, u32, Option<Scalar>),
+    Copy(u32, u32, u32, Option<Scalar>),
+    CopyTo(u32, u32, u32, u32, Option<Scalar>),
+    CopyFrom(u32, u32, u32, u32),
+    Token(u32, u32),
+    TokenAt(u32, u32, u32, u32),
+    TokenList(u32, u32, u32, u32, u32),
+    Zero(u32, u32),
+    Neg,
+    BitNot,
+    Not,
+    Add,
+    Sub,
+    Mul,
+    Div,
+    Mod,
+    Shl,
+    Shr,
+    And,
+    Or,
+    Xor,
+    Eq,
+    Ne,
+    Lt,
+    Le,
+    Gt,
+    Ge,
+    Jump(u32),
+    JumpIfNot(u32),
+    Turn,
+    Call(u32),
+    Return,
+    Drop,
+    Answer,
+    Done,
+}
+
+struct Code {
+    instrs: Vec<Instr>,
+    routines: Vec<u32>,
+}
+
+/// What a run works on: made once, and never grown.
+struct Cells {
+    numbers: Vec<Num>,
+    stack: Vec<Num>,
+    frames: Vec<usize>,
+}
+
+struct Operands<'a> {
+    stack: &'a mut [Num],
+    top: usize,
+}
+
+impl Operands<'_> {
+    #[inline(always)]
+    fn pop(&mut self) -> Num {
+        self.top -= 1;
+        self.stack[self.top]
+    }
+
+    #[inline(always)]
+    fn push(&mut self, v: Num) {
+        self.stack[self.top] = v;
+        self.top += 1;
+    }
+
+    #[inline(always)]
+    fn two(&mut self, f: impl Fn(Num, Num) -> Result<Num, Trap>) -> Result<(), Trap> {
+        let b = self.pop();
+        let a = self.pop();
+        self.push(f(a, b)?);
+        Ok(())
+    }
+
+    #[inline(always)]
+    fn compare(&mut self, f: impl Fn(Num, Num) -> bool) {
+        let b = self.pop();
+        let a = self.pop();
+        self.push(f(a, b) as Num);
+    }
+}
+
+#[inline(always)]
+fn offset(o: Num, m: u32, n: u32) -> Result<usize, Trap> {
+    if o < 0 || o > Num::from(n) - Num::from(m) {
+        return Err(Trap::IndexRange);
+    }
+    Ok(o as usize)
+}
+
+fn whole(v: Option<Num>) -> Result<Num, Trap> {
+    v.ok_or(Trap::Overflow)
+}
+
+fn copy_cells(d: usize, s: usize, n: u32, t: Option<Scalar>, cells: &mut [Num]) {
+    for k in 0..n as usize {
+        cells[d + k] = stored(t, cells[s + k]);
+    }
+}
+
+fn shift(b: Num) -> Result<u32, Trap> {
+    if (0..=63).contains(&b) {
+        Ok(b as u32)
+    } else {
+        Err(Trap::ShiftRange)
+    }
+}
+
+impl Code {
+    fn run(&self, entry: u32, cells: &mut Cells, tokens: &[Vec<Num>]) -> Outcome {
+        match self.steps(entry, cells, tokens) {
+            Ok(outcome) => outcome,
+            Err(trap) => Outcome::Trap(trap),
+        }
+    }
+
+    fn steps(&self, entry: u32, cells: &mut Cells, tokens: &[Vec<Num>]) -> Result<Outcome, Trap> {
+        let numbers = &mut cells.numbers[..];
+        let frames = &mut cells.frames[..];
+        let mut stack = Operands {
+            stack: &mut cells.stack[..],
+            top: 0,
+        };
+        let mut place = entry as usize;
+        let mut depth = 0;
+        let mut left = 1_048_576u32;
+        loop {
+            match self.instrs[place] {
+                Instr::Const(v) => stack.push(v),
+                Instr::Load(c) => stack.push(numbers[c as usize]),
+                Instr::Store(c, t) => numbers[c as usize] = stored(t, stack.pop()),
+                Instr::Index(n, m) => {
+                    let i = stack.pop();
+                    let o = stack.pop();
+                    let k = offset(i, 1, n)? as i128 * i128::from(m);
+                    let v = i128::from(o) + k;
+                    stack.push(whole(Num::try_from(v).ok())?);
+                }
+                Instr::LoadAt(c, n) => {
+                    let o = offset(stack.pop(), 1, n)?;
+                    stack.push(numbers[c as usize + o]);
+                }
+                Instr::StoreAt(c, n, t) => {
+                    let v = stack.pop();
+                    let o = offset(stack.pop(), 1, n)?;
+                    numbers[c as usize + o] = stored(t, v);
+                }
+                Instr::Copy(d, s, n, t) => copy_cells(d as usize, s as usize, n, t, numbers),
+                Instr::CopyTo(d, n, s, m, t) => {
+                    let o = offset(stack.pop(), m, n)?;
+                    copy_cells(d as usize + o, s as usize, m, t, numbers);
+                }
+                Instr::CopyFrom(d, s, n, m) => {
+                    let o = offset(stack.pop(), m, n)?;
+                    copy_cells(d as usize, s as usize + o, m, None, numbers);
+                }
+                Instr::Token(p, k) => stack.push(tokens[p as usize][k as usize]),
+                Instr::TokenAt(p, k, m, n) => {
+                    let i = offset(stack.pop(), 1, n)?;
+                    stack.push(tokens[p as usize][k as usize + i * m as usize]);
+                }
+                Instr::TokenList(d, p, k, m, n) => {
+                    for i in 0..n as usize {
+                        let token = tokens[p as usize][k as usize + i * m as usize];
+                        numbers[d as usize + i] = token;
+                    }
+                }
+                Instr::Zero(c, n) => numbers[c as usize..c as usize + n as usize].fill(0),
+                Instr::Neg => {
+                    let a = stack.pop();
+                    stack.push(whole(a.checked_neg())?);
+                }
+                Instr::BitNot => {
+                    let a = stack.pop();
+                    stack.push(!a);
+                }
+                Instr::Not => {
+                    let a = stack.pop();
+                    stack.push((a == 0) as Num);
+                }
+                Instr::Add => stack.two(|a, b| whole(a.checked_add(b)))?,
+                Instr::Sub => stack.two(|a, b| whole(a.checked_sub(b)))?,
+                Instr::Mul => stack.two(|a, b| whole(a.checked_mul(b)))?,
+                Instr::Div => stack.two(|a, b| {
+                    if b == 0 {
+                        return Err(Trap::DivideByZero);
+                    }
+                    whole(a.checked_div(b))
+                })?,
+                Instr::Mod => stack.two(|a, b| match b {
+                    0 => Err(Trap::DivideByZero),
+                    -1 => Ok(0),
+                    b => Ok(a % b),
+                })?,
+                Instr::Shl => stack.two(|a, b| {
+                    let v = i128::from(a) << shift(b)?;
+                    whole(Num::try_from(v).ok())
+                })?,
+                Instr::Shr => stack.two(|a, b| Ok(a >> shift(b)?))?,
+                Instr::And => stack.two(|a, b| Ok(a & b))?,
+                Instr::Or => stack.two(|a, b| Ok(a | b))?,
+                Instr::Xor => stack.two(|a, b| Ok(a ^ b))?,
+                Instr::Eq => stack.compare(|a, b| a == b),
+                Instr::Ne => stack.compare(|a, b| a != b),
+                Instr::Lt => stack.compare(|a, b| a < b),
+                Instr::Le => stack.compare(|a, b| a <= b),
+                Instr::Gt => stack.compare(|a, b| a > b),
+                Instr::Ge => stack.compare(|a, b| a >= b),
+                Instr::Jump(t) => {
+                    place = t as usize;
+                    continue;
+                }
+                Instr::JumpIfNot(t) => {
+                    if stack.pop() == 0 {
+                        place = t as usize;
+                        continue;
+                    }
+                }
+                Instr::Turn => {
+                    if left == 0 {
+                        return Err(Trap::TurnLimit);
+                    }
+                    left -= 1;
+                }
+                Instr::Call(r) => {
+                    frames[depth] = place + 1;
+                    depth += 1;
+                    place = self.routines[r as usize] as usize;
+                    continue;
+                }
+                Instr::Return => {
+                    depth -= 1;
+                    place = frames[depth];
+                    continue;
+                }
+                Instr::Drop => {
+                    stack.pop();
+                }
+                Instr::Answer => {
+                    let v = stack.pop();
+                    return Ok(if v == 0 { Outcome::False } else { Outcome::True });
+                }
+                Instr::Done => return Ok(Outcome::Done),
+            }
+            place += 1;
+        }
+    }
+}
+
+const TURNS: Num = 1_000_000;
+const RUNS: u32 = 5;
+const EACH: u64 = 22;
+
+/// Cell 0 counts down, cell 1 is a sum, and 64 cells from 2 on are read and written in turn.
+fn code() -> Code {
+    Code {
+        instrs: vec![
+            Instr::Const(TURNS),
+            Instr::Store(0, None),
+            Instr::Turn,
+            Instr::Load(0),
+            Instr::Const(1),
+            Instr::Sub,
+            Instr::Store(0, None),
+            Instr::Load(0),
+            Instr::Const(63),
+            Instr::And,
+            Instr::Load(1),
+            Instr::Load(0),
+            Instr::Const(63),
+            Instr::And,
+            Instr::LoadAt(2, 64),
+            Instr::Add,
+            Instr::StoreAt(2, 64, Some(Scalar::Int(32))),
+            Instr::Load(1),
+            Instr::Const(3),
+            Instr::Add,
+            Instr::Store(1, Some(Scalar::Int(32))),
+            Instr::Load(0),
+            Instr::JumpIfNot(24),
+            Instr::Jump(2),
+            Instr::Done,
+        ],
+        routines: Vec::new(),
+    }
+}
+
+fn main() {
+    let code = black_box(code());
+    let start = Instant::now();
+    let mut seen = (0, 0);
+    for _ in 0..RUNS {
+        let mut cells = Cells {
+            numbers: vec![0; 66],
+            stack: vec![0; 8],
+            frames: Vec::new(),
+        };
+        match black_box(&code).run(0, &mut cells, &[]) {
+            Outcome::Done => seen = (cells.numbers[1], cells.numbers[2]),
+            Outcome::True | Outcome::False => panic!("no guard"),
+            Outcome::Trap(_) => panic!("no trap"),
+        }
+    }
+    let nanos = start.elapsed().as_nanos();
+    let count = u64::from(RUNS) * TURNS as u64 * EACH;
+    println!("{nanos} {count} {} {}", seen.0, seen.1);
+}
