@@ -9,3 +9,14 @@ mod Needs
 mod Parts
 mod FirstForm
 mod RangeRows
+mod Agreement
+mod Numbers
+mod KindValues
+mod KindOperators
+mod KindTypes
+mod KindNames
+mod KindKept
+mod KindCalls
+mod KindLaws
+mod KeptRows
+mod LoneAction

@@ -1,12 +1,12 @@
 -- The certification rule: actors of which more tokens never change what they do (Kahn 1974, for each firing; the
 -- rule itself is this profile's).
-use Rattle.std.specs.Prelude.{◌≡◌, ◌≢◌, ℕ, suc, ◌-◌, ◌<◌, ◌≤◌, ◌^◌, ◌⊎◌, Bool, true, false, ◌&&◌, List, [], ◌∷◌, ◌++◌, length, ℤ, pos, negsuc, ◌+ℤ◌, ◌-ℤ◌, ◌*ℤ◌, ◌≤ℤ◌, ◌<ℤ◌, neg_ℤ, int_lt, int_le, if◌then◌else◌, Option, None, Some, slice_get}
+use Rattle.std.specs.Prelude.{◌≡◌, ◌≢◌, ℕ, suc, ◌-◌, ◌<◌, ◌≤◌, ◌^◌, ◌⊎◌, Bool, true, false, ◌&&◌, List, [], ◌∷◌, ◌++◌, length, ℤ, pos, ◌+ℤ◌, ◌-ℤ◌, ◌*ℤ◌, ◌≤ℤ◌, ◌<ℤ◌, neg_ℤ, int_lt, int_le, if◌then◌else◌, Option, None, Some, slice_get}
 use Rattle.std.specs.Str.{bytes_eq}
 use Rattle.std.specs.Int.{int_min, int_max}
 use Rattle.rvc_base.specs.declared.scalar.Scalar.{Scalar}
 use Rattle.rvc_base.specs.declared.scalar.Scalar.TheVariants as scalar
 use Rattle.rvc_base.specs.Arithmetic.{truth}
-use Rattle.rvc_base.specs.Width.{is_num, max_shift}
+use Rattle.rvc_base.specs.Width.{is_num, least_num, greatest_num, max_shift}
 use Rattle.cal_ast.specs.declared.expr.PrefixOp.{PrefixOp}
 use Rattle.cal_ast.specs.declared.expr.PrefixOp.TheVariants.{Not, Neg, BitNot}
 use Rattle.cal_ast.specs.declared.expr.BinOp.{BinOp}
@@ -36,9 +36,9 @@ between a b = record { low = a; high = b }
 abbrev pub hull : Interval → Interval → Interval
 hull i j = between (int_min i.low j.low) (int_max i.high j.high)
 
--- all numbers of the language: a shift goes by as many bits as a number has beside its sign, at most
+-- all numbers of the language
 abbrev pub all_numbers : Interval
-all_numbers = between (negsuc (2 ^ max_shift - 1)) (pos (2 ^ max_shift - 1))
+all_numbers = between least_num greatest_num
 
 abbrev pub truths : Interval
 truths = between (pos 0) (pos 1)

@@ -13,6 +13,7 @@ use Rattle.cal_ast.specs.declared.expr.PrefixOp.{PrefixOp}
 use Rattle.cal_ast.specs.declared.expr.PrefixOp.TheVariants.{Not, Neg, BitNot}
 use Rattle.cal_ast.specs.declared.expr.BinOp.{BinOp}
 use Rattle.cal_ast.specs.declared.expr.BinOp.TheVariants.{Or, And, Eq, Ne, Lt, Le, Gt, Ge}
+use Rattle.cal_ast.specs.Places.{begins}
 use Rattle.cal_ast.specs.Tree as tree
 use Rattle.cal_ast.specs.Tree.{Tree}
 use Rattle.cal_model.specs.Value.{Kind, NumKind, BoolKind, ListKind, Shape, Single, Many, Value, Num, kind_of_scalar, kind_of_type, scalars_of_kind, scalars_of_type, max_list_scalars}
@@ -111,22 +112,6 @@ constant e names = eval e (constant_calls names) (record { globals = constants (
 
 -- ---- places
 
--- the offset of an expression or a type
-abbrev pub place_of : Tree → ℕ
-place_of (tree.number n at) = at
-place_of (tree.truth b at) = at
-place_of (tree.variable name at) = at
-place_of (tree.call name args at) = at
-place_of (tree.paren e at) = at
-place_of (tree.if_expr test first other at) = at
-place_of (tree.list items at) = at
-place_of (tree.comp item gens at) = at
-place_of (tree.index base place at) = at
-place_of (tree.prefix op e at) = at
-place_of (tree.binary op l r at) = at
-place_of (tree.type_of name args at) = at
-place_of other = 0
-
 -- the number that a constant expression of some kind gives
 abbrev pub number_given : Out Value → ℕ → Judged ℤ
 number_given (Gives (Num z) left) at = Fine z
@@ -134,9 +119,9 @@ number_given (Traps c) at = Broken constant_traps at
 number_given other at = Broken not_constant at
 
 abbrev pub constant_number : Judged Kind → Tree → Names → Judged ℤ
-constant_number (Fine NumKind) e names = number_given (constant e names) (place_of e)
-constant_number (Fine BoolKind) e names = Broken wrong_kind (place_of e)
-constant_number (Fine (ListKind n k)) e names = Broken wrong_kind (place_of e)
+constant_number (Fine NumKind) e names = number_given (constant e names) (begins e)
+constant_number (Fine BoolKind) e names = Broken wrong_kind (begins e)
+constant_number (Fine (ListKind n k)) e names = Broken wrong_kind (begins e)
 constant_number (Broken rule at) e names = Broken rule at
 
 -- ---- kinds side by side
@@ -306,7 +291,7 @@ abbrev mutual
   arguments_fit tree.nil (f ∷ fs) names = Fine false
   arguments_fit (tree.cons e es) [] names = and_so (kind e names) (λ k. and_so (arguments_fit es [] names) (λ as_many. Fine false))
   arguments_fit (tree.cons e es) (f ∷ fs) names =
-      and_so (kind e names) (λ k. and_so (one_kind (kind_of_type f.shape) k (place_of e)) (λ l. arguments_fit es fs names))
+      and_so (kind e names) (λ k. and_so (one_kind (kind_of_type f.shape) k (begins e)) (λ l. arguments_fit es fs names))
   arguments_fit other fs names = Broken wrong_kind 0
 
   -- how many elements generators make
@@ -314,7 +299,7 @@ abbrev mutual
   elements_in tree.nil names = Fine 1
   elements_in (tree.cons (tree.gen shape (tree.ident name place) from to at) gens) names =
       and_so (type_judged shape names) (λ t.
-      and_so (counts t (place_of shape)) (λ s.
+      and_so (counts t (begins shape)) (λ s.
       and_so (constant_number (kind from names) from names) (λ a.
       and_so (constant_number (kind to names) to names) (λ b.
       and_so (elements_in gens (with_known (counter name) names)) (λ n. Fine (span a b * n))))))

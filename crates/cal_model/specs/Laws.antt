@@ -1,5 +1,5 @@
 -- What holds of all values, expressions and actors, as statements.
-use Rattle.std.specs.Prelude.{◌≡◌, ℕ, ◌+◌, ◌<◌, ◌↔◌, ◌⊎◌, List, [], ◌∷◌, ℤ, None, Some}
+use Rattle.std.specs.Prelude.{◌≡◌, ℕ, ◌+◌, ◌<◌, ◌↔◌, ◌⊎◌, true, false, List, [], ◌∷◌, ℤ, None, Some}
 use Rattle.rvc_base.specs.declared.trap.Trap.{Trap}
 use Rattle.rvc_base.specs.declared.trap.Trap.TheVariants.{TurnLimit}
 use Rattle.rvc_base.specs.Behaviour.{Fires, TrapsInGuard, TrapsInBody, Waits, Picks, Faults}
@@ -14,12 +14,16 @@ use Rattle.cal_model.specs.declared.ast.Operator.TheVariants as operator
 use Rattle.cal_model.specs.declared.ast.Binary.{Binary}
 use Rattle.cal_model.specs.Eval as form
 use Rattle.cal_model.specs.Meaning.{IsFirstForm}
-use Rattle.cal_model.specs.Value.{Shape, Value, Num, HasKind, IsOf, IsType, kind_of_type, stored, zero_of}
+use Rattle.cal_model.specs.Value.{Kind, Shape, Value, Num, Values, HasKind, IsOf, IsType, kind_of_scalar, kind_of_type, stored, zero_of}
 use Rattle.cal_model.specs.Outcome.{Out, Gives, Traps}
-use Rattle.cal_model.specs.Expression.{Calls, eval}
-use Rattle.cal_model.specs.Env.{Env}
+use Rattle.cal_model.specs.Expression.{Calls, eval, eval_all, elements, type_meant, args_given}
+use Rattle.cal_model.specs.Env.{Var, Env, variable, with_local}
 use Rattle.cal_model.specs.Statement.{for_loop}
-use Rattle.cal_model.specs.Actor.{Actor}
+use Rattle.cal_model.specs.Actor.{Local, Fun, Actor}
+use Rattle.cal_model.specs.Call.{calls_of, fun_named, on_call, declared}
+use Rattle.cal_model.specs.Kinding.{Fine, Names, Argument, counter, with_known, counts, with_counters, kind, kinds, arguments_fit, elements_in, type_judged, type_arguments}
+use Rattle.cal_model.specs.Sound.{Each, FunsNeverReturn, with_locals, names_of, IsSound}
+use Rattle.cal_model.specs.Keeping.{GivesOnly, LacksNothing, AreOfKinds, AreMany, AreArguments, given_by, StandFor, IsEnvOf, HasAllOf, outside, StartsAreOf, IsOfItsKinds, answer}
 use Rattle.cal_model.specs.Rates.{need}
 use Rattle.cal_model.specs.Selection.{State, Priorities, AreFalse, AreTrapping, readiness, IsEnabled, IsExposed, choice}
 use Rattle.cal_model.specs.Firing.{IsFiring, IsTrapping, effect}
@@ -84,6 +88,91 @@ LoopsCountTurns = (n left : ℕ) (i : ℤ) (env : Env) → for_loop n i (λ at n
 -- .. and is one turn too many where fewer are left
 abbrev pub LoopsEndByTurns : Type 0
 LoopsEndByTurns = (n left : ℕ) (i : ℤ) (env : Env) → left < n → for_loop n i (λ at now k. Gives now k) env left ≡ Traps TurnLimit
+
+-- ---- kinds
+
+-- an expression that has a kind gives a value of that kind, or traps; where the environment lacks names, it may lack one ..
+abbrev pub KindIsKept : Type 0
+KindIsKept = (names : Names) (env : Env) (e : Tree) (k : Kind) (left : ℕ)
+    → Each (IsOfItsKinds names) names.funs → IsEnvOf names env → kind e names ≡ Fine k
+    → GivesOnly (HasKind k) left (eval e (calls_of names.funs) env left)
+
+-- .. and lacks none where the environment has all, and no function calls itself, directly or round about
+abbrev pub NothingIsLacking : Type 0
+NothingIsLacking = (names : Names) (env : Env) (e : Tree) (k : Kind) (left : ℕ)
+    → Each (IsOfItsKinds names) names.funs → FunsNeverReturn names.funs → IsEnvOf names env → HasAllOf names env → kind e names ≡ Fine k
+    → LacksNothing (eval e (calls_of names.funs) env left)
+
+-- the same for expressions in order, ..
+abbrev pub KindsAreKept : Type 0
+KindsAreKept = (names : Names) (env : Env) (es : Tree) (ks : List Kind) (left : ℕ)
+    → Each (IsOfItsKinds names) names.funs → IsEnvOf names env → kinds es names ≡ Fine ks
+    → GivesOnly (AreOfKinds ks) left (eval_all es (calls_of names.funs) env left)
+
+-- .. for arguments, ..
+abbrev pub ArgumentsAreKept : Type 0
+ArgumentsAreKept = (names : Names) (env : Env) (args : Tree) (formals : List Local) (left : ℕ)
+    → Each (IsOfItsKinds names) names.funs → IsEnvOf names env → arguments_fit args formals names ≡ Fine true
+    → GivesOnly (AreArguments formals) left (eval_all args (calls_of names.funs) env left)
+
+-- .. for the elements that generators make, ..
+abbrev pub ElementsAreKept : Type 0
+ElementsAreKept = (names : Names) (env : Env) (gens : Tree) (n : ℕ) (k : Kind) (item : Env → ℕ → Out Value) (left : ℕ)
+    → Each (IsOfItsKinds names) names.funs → IsEnvOf names env → elements_in gens names ≡ Fine n
+    → ((inner : Env) (m : ℕ) → IsEnvOf (with_counters gens names) inner → GivesOnly (HasKind k) m (item inner m))
+    → GivesOnly (AreMany n k) left (elements gens item (calls_of names.funs) env left)
+
+-- .. and for a call
+abbrev pub CallIsKept : Type 0
+CallIsKept = (names : Names) (globals : List Var) (name : List ℕ) (f : Fun) (args : Values) (left : ℕ)
+    → Each (IsOfItsKinds names) names.funs → StandFor names.globals globals → fun_named name names.funs ≡ Some f → AreArguments f.formals args
+    → GivesOnly (HasKind (kind_of_scalar f.result)) left (calls_of names.funs globals name args left)
+
+-- Where no function calls itself, directly or round about, what one gives is what its body gives over all functions: the
+-- bound on open calls never shows.
+abbrev pub CallIsAnswered : Type 0
+CallIsAnswered = (funs : List Fun) (globals : List Var) (name : List ℕ) (args : Values) (left : ℕ)
+    → FunsNeverReturn funs → calls_of funs globals name args left ≡ answer funs globals args left (fun_named name funs)
+
+-- the functions of a sound actor are of their kinds
+abbrev pub SoundFunsAreOfKinds : Type 0
+SoundFunsAreOfKinds = (actor : Actor) → IsSound actor → Each (IsOfItsKinds (names_of actor)) actor.funs
+
+-- a type that is judged over the constants is the one that is meant, with as many turns left, ..
+abbrev pub TypeIsKept : Type 0
+TypeIsKept = (names : Names) (env : Env) (shape : Tree) (t : Shape) (left : ℕ)
+    → Each (IsOfItsKinds names) names.funs → IsEnvOf names env → type_judged shape names ≡ Fine t
+    → GivesOnly (λ meant. meant ≡ t) left (type_meant shape (calls_of names.funs) env left)
+
+-- .. and so are its arguments
+abbrev pub TypeArgumentsAreKept : Type 0
+TypeArgumentsAreKept = (names : Names) (env : Env) (args : Tree) (judged : List Argument) (left : ℕ)
+    → Each (IsOfItsKinds names) names.funs → IsEnvOf names env → type_arguments args names ≡ Fine judged
+    → GivesOnly (λ given. given ≡ given_by judged) left (args_given args (calls_of names.funs) env left)
+
+-- its sizes are allowed
+abbrev pub JudgedIsType : Type 0
+JudgedIsType = (names : Names) (shape : Tree) (t : Shape) → type_judged shape names ≡ Fine t → IsType t
+
+-- ---- environments of names
+
+-- the variable of a generator or a loop keeps an environment to its names, ..
+abbrev pub CounterIsKept : Type 0
+CounterIsKept = (names : Names) (env : Env) (name : List ℕ) (t : Shape) (at : ℕ) (i : ℤ)
+    → IsEnvOf names env → IsType t → counts t at ≡ Fine t
+    → IsEnvOf (with_known (counter name) names) (with_local (variable name t false (stored t (Num i))) env)
+
+-- .. and so do the arguments of a function ..
+abbrev pub EntryIsKept : Type 0
+EntryIsKept = (names : Names) (globals : List Var) (f : Fun) (args : Values) (left : ℕ)
+    → IsOfItsKinds names f → StandFor names.globals globals → AreArguments f.formals args
+    → GivesOnly (IsEnvOf (with_locals f.formals (outside names))) left (on_call globals f.formals args left)
+
+-- .. and its locals
+abbrev pub LocalsAreKept : Type 0
+LocalsAreKept = (names : Names) (env : Env) (locals : List Local) (left : ℕ)
+    → Each (IsOfItsKinds names) names.funs → IsEnvOf names env → StartsAreOf locals names
+    → GivesOnly (IsEnvOf (with_locals locals names)) left (declared locals (calls_of names.funs) env left)
 
 -- ---- the first form
 

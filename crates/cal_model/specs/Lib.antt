@@ -15,5 +15,6 @@ pub mod Firing
 pub mod View
 pub mod Kinding
 pub mod Sound
+pub mod Keeping
 pub mod Laws
 pub mod Certified

@@ -3,7 +3,7 @@ use Rattle.std.specs.Prelude.{◌≡◌, ℕ, zero, suc, List, [], ◌∷◌, �
 use Rattle.rvc_base.specs.declared.scalar.Scalar.{Scalar}
 use Rattle.rvc_base.specs.declared.scalar.Scalar.TheVariants.{Uint}
 use Rattle.rvc_base.specs.Storing.{conv}
-use Rattle.rvc_base.specs.Behaviour.{Behaviour, Effect, Fires, TrapsInGuard, TrapsInBody, Choice, Waits, Picks, Faults}
+use Rattle.rvc_base.specs.Behaviour.{Behaviour, Effect, Fires, TrapsInBody, Choice, Waits, Picks}
 use Rattle.cal_model.specs.declared.ast.Binary.{Binary}
 use Rattle.cal_model.specs.declared.ast.Operand.{Operand}
 use Rattle.cal_model.specs.declared.ast.Operand.TheVariants.{Token, Number}

@@ -3,6 +3,7 @@ use Rattle.std.specs.Prelude.{◌≡◌, ◌≢◌, ℕ, ◌+◌, ◌<◌, ◌�
 use Rattle.rvc_base.specs.declared.scalar.Scalar.{Scalar}
 use Rattle.rvc_base.specs.Storing.{IsSize}
 use Rattle.cal_ast.specs.declared.expr.PrefixOp.TheVariants.{Neg}
+use Rattle.cal_ast.specs.Places.{begins}
 use Rattle.cal_ast.specs.Tree as tree
 use Rattle.cal_ast.specs.Tree.{Tree}
 use Rattle.cal_model.specs.Value.{Kind, NumKind, BoolKind, ListKind, Shape, Single, kind_of_scalar, kind_of_type, scalars_of_type, IsOf, IsType}
@@ -10,7 +11,7 @@ use Rattle.cal_model.specs.Actor.{Held, Local, Fun, Proc, Pattern, Output, Actio
 use Rattle.cal_model.specs.Rates.{need, give}
 use Rattle.cal_model.specs.Selection.{Above, kind_of_port}
 use Rattle.cal_model.specs.Statement.{proc_named}
-use Rattle.cal_model.specs.Kinding.{Judged, Fine, Known, Names, meant_by, with_known, counter, kind, kinds, arguments_fit, type_judged, counts, place_of}
+use Rattle.cal_model.specs.Kinding.{Judged, Fine, Known, Names, meant_by, with_known, counter, kind, kinds, arguments_fit, type_judged, counts}
 
 -- ---- limits
 
@@ -214,7 +215,7 @@ abbrev mutual
       (kind test names ≡ Fine BoolKind) × AreStatements first procs names × AreStatements other procs names
   IsStatement (tree.while_stmt test body at) procs names = (kind test names ≡ Fine BoolKind) × AreStatements body procs names
   IsStatement (tree.foreach_stmt shape (tree.ident name place) from to body at) procs names =
-      (t : Shape) × (type_judged shape names ≡ Fine t) × (counts t (place_of shape) ≡ Fine t)
+      (t : Shape) × (type_judged shape names ≡ Fine t) × (counts t (begins shape) ≡ Fine t)
       × (kind from names ≡ Fine NumKind) × (kind to names ≡ Fine NumKind) × AreStatements body procs (with_known (counter name) names)
   IsStatement (tree.block vars body at) procs names =
       AreVars vars names × AreDistinct (names_of_vars vars) × AreStatements body procs (with_vars_known vars names)

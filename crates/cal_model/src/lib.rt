@@ -21,8 +21,8 @@ pub use bound::{
 pub use evaluate::sent_for;
 pub use kind::{Kind, Shape, kind_of_type};
 pub use laws::{
-    behaviour_is_the_firing_rule, first_form_is_a_case, loops_count_turns, one_effect, selection,
-    stored_values_are_in_their_type,
+    behaviour_is_the_firing_rule, environments_are_kept, first_form_is_a_case, kinds_are_kept,
+    loops_count_turns, one_effect, selection, stored_values_are_in_their_type, types_are_kept,
 };
 pub use rates::{give, need};
 pub use value::{Value, Values};
