@@ -1,0 +1,77 @@
+-- Lists of values, one value after another.
+use Rattle.std.proofs.Common.{◌≡◌, ℕ, zero, suc, ◌+◌, List, [], ◌∷◌, ◌++◌, map, length, get_or, ◌<◌, ◌≤◌, refl, sym, ap, ◌∙◌, add-one, arith}
+use Rattle.std.proofs.Common.{ℤ, pos, negsuc, false, subst, take, to_z, of_z, w64, SFits}
+use Rattle.std.specs.Prelude.{None, Some, int_lt, unsigned_abs}
+use Rattle.std.proofs.lemmas.Int.{to_z-of_z}
+use Rattle.rvc_base.specs.declared.trap.Trap.TheVariants.{IndexRange}
+use Rattle.cal_model.specs.Outcome.{Gives, Traps}
+use Rattle.cal_model.specs.Env.{item_at}
+use Rattle.std.proofs.lemmas.List.{map-append, take_all}
+use Rattle.cal_model.specs.Value.{Shape, Value, Values, Nil, Cons, one, joined, repeated, stored, stored_each, value_at}
+use Rattle.cal_model.specs.View.{in_order, value_view}
+use Rattle.cal_model.specs.declared.value.Value.{Value as Declared}
+
+pub one_more : (vs : List Value) (v : Value) → in_order (vs ++ v ∷ []) ≡ joined (in_order vs) (one v)
+one_more [] v = refl
+one_more (w ∷ vs) v = ap (Cons w) (one_more vs v)
+
+pub in_order_joined : (vs ws : List Value) → in_order (vs ++ ws) ≡ joined (in_order vs) (in_order ws)
+in_order_joined [] ws = refl
+in_order_joined (v ∷ vs) ws = ap (Cons v) (in_order_joined vs ws)
+
+pub joined_nil : (vs : Values) → joined vs Nil ≡ vs
+joined_nil Nil = refl
+joined_nil (Cons v vs) = ap (Cons v) (joined_nil vs)
+
+pub joined_joined : (us vs ws : Values) → joined (joined us vs) ws ≡ joined us (joined vs ws)
+joined_joined Nil vs ws = refl
+joined_joined (Cons u us) vs ws = ap (Cons u) (joined_joined us vs ws)
+
+pub repeated_more : (n : ℕ) (v : Value) → joined (repeated n v) (one v) ≡ repeated (suc n) v
+repeated_more zero v = refl
+repeated_more (suc n) v = ap (Cons v) (repeated_more n v)
+
+pub each_stored : (t : Shape) (vs : List Declared) → in_order (map (λ v. stored t (value_view v)) vs) ≡ stored_each t (in_order (map value_view vs))
+each_stored t [] = refl
+each_stored t (v ∷ vs) = ap (Cons (stored t (value_view v))) (each_stored t vs)
+
+pub zeros_more : (xs : List Declared) (x : Declared) (n : ℕ) (v : Value) → in_order (map value_view xs) ≡ repeated n v → value_view x ≡ v → in_order (map value_view (xs ++ x ∷ [])) ≡ repeated (n + 1) v
+zeros_more xs x n v e f =
+    ap in_order (map-append value_view xs (x ∷ [])) ∙ one_more (map value_view xs) (value_view x)
+    ∙ ap (λ w. joined (in_order (map value_view xs)) (one w)) f ∙ ap (λ ws. joined ws (one v)) e ∙ repeated_more n v ∙ ap (λ k. repeated k v) (sym (add-one n))
+
+pub value_in : (vs : List Declared) (n : ℕ) (d : Declared) → n < length vs → value_at (in_order (map value_view vs)) n ≡ Some (value_view (get_or vs n d))
+value_in [] n d h = absurd (omega arith)
+value_in (v ∷ vs) zero d h = refl
+value_in (v ∷ vs) (suc n) d h = value_in vs n d (omega arith)
+
+pub value_out : (vs : List Declared) (n : ℕ) → length vs ≤ n → value_at (in_order (map value_view vs)) n ≡ None
+value_out [] n h = refl
+value_out (v ∷ vs) zero h = absurd (omega arith)
+value_out (v ∷ vs) (suc n) h = value_out vs n (omega arith)
+
+pub stored_list : (t : Shape) (vs ks : List Declared) (n : ℕ) → length vs ≤ n → map value_view ks ≡ map (λ v. stored t (value_view v)) (take n vs) → in_order (map value_view ks) ≡ stored_each t (in_order (map value_view vs))
+stored_list t vs ks n h e = ap in_order e ∙ ap (λ ws. in_order (map (λ v. stored t (value_view v)) ws)) (take_all n vs h) ∙ each_stored t vs
+
+-- the item at a number that isn't below 0 and is a place of the list
+pub item_found : (z : ℤ) (vs : List Declared) (d : Declared) (left : ℕ) → SFits w64 z → int_lt (to_z w64 (of_z w64 z)) (pos 0) ≡ false → unsigned_abs (to_z w64 (of_z w64 z)) < length vs
+    → item_at (in_order (map value_view vs)) z left ≡ Gives (value_view (get_or vs (unsigned_abs (to_z w64 (of_z w64 z))) d)) left
+item_found (pos n) vs d left f e h =
+    let is : to_z w64 (of_z w64 (pos n)) ≡ pos n = to_z-of_z w64 (pos n) f in
+    let l : n < length vs = subst (λ x. unsigned_abs x < length vs) is h in
+    ap (λ o. elim o [ None ↦ Traps IndexRange | Some v ↦ Gives v left ]) (value_in vs n d l) ∙ ap (λ x. Gives (value_view (get_or vs (unsigned_abs x) d)) left) (sym is)
+item_found (negsuc n) vs d left f e h =
+    let is : to_z w64 (of_z w64 (negsuc n)) ≡ negsuc n = to_z-of_z w64 (negsuc n) f in
+    let g : int_lt (negsuc n) (pos 0) ≡ false = subst (λ x. int_lt x (pos 0) ≡ false) is e in
+    cc
+
+pub item_missing : (z : ℤ) (vs : List Declared) (left : ℕ) → SFits w64 z → int_lt (to_z w64 (of_z w64 z)) (pos 0) ≡ false → length vs ≤ unsigned_abs (to_z w64 (of_z w64 z))
+    → item_at (in_order (map value_view vs)) z left ≡ Traps IndexRange
+item_missing (pos n) vs left f e h =
+    let is : to_z w64 (of_z w64 (pos n)) ≡ pos n = to_z-of_z w64 (pos n) f in
+    let l : length vs ≤ n = subst (λ x. length vs ≤ unsigned_abs x) is h in
+    ap (λ o. elim o [ None ↦ Traps IndexRange | Some v ↦ Gives v left ]) (value_out vs n l)
+item_missing (negsuc n) vs left f e h =
+    let is : to_z w64 (of_z w64 (negsuc n)) ≡ negsuc n = to_z-of_z w64 (negsuc n) f in
+    let g : int_lt (negsuc n) (pos 0) ≡ false = subst (λ x. int_lt x (pos 0) ≡ false) is e in
+    cc

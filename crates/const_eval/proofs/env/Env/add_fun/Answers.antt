@@ -1,0 +1,6 @@
+use Rattle.std.specs.Result.{is_ok}
+use Rattle.const_eval.proofs.Tested.{kept_sized}
+use Rattle.const_eval.proofs.env.Env.add_fun.Goals as goal
+
+pub invariant_of-self : goal.invariant_of-self
+invariant_of-self c = record { sized = kept_sized (is_ok c.push.result) c.push.new.self.items c.args.self.now.funs.items c.args.fun c.push.ensures.items c.args.self.now.sized c.requires.sized }

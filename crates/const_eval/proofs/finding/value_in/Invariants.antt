@@ -1,0 +1,10 @@
+use Rattle.std.proofs.Common.{◌≡◌, map, length}
+use Rattle.const_eval.specs.Constants.{constant_named}
+use Rattle.const_eval.specs.Held.{constant_view}
+use Rattle.const_eval.proofs.finding.value_in.Given as goal
+
+abbrev pub invariant-names : goal.invariant-names
+invariant-names l = constant_named l.name (map constant_view l.rest) ≡ constant_named l.name (map constant_view l.initial.rest)
+
+abbrev pub decreases-names : goal.decreases-names
+decreases-names l = length l.rest

@@ -1,0 +1,9 @@
+pub mod Computing
+pub mod Outcome
+pub mod Sizes
+pub mod Constants
+pub mod Held
+pub mod Deciding
+pub mod Scoping
+pub mod Meant
+pub mod Evaluable
