@@ -1,0 +1,6 @@
+pub mod Spelling
+pub mod Canon
+pub mod Printable
+pub mod ReadBack
+pub mod Words
+pub mod Inputs

@@ -1,0 +1,132 @@
+//! Files: the package, the imports, and an actor or a unit.
+
+ghost use Rattle.std.specs.Prelude.{◌≡◌, ◌++◌, IfOk, map, option_map};
+ghost use Rattle.cal_ast.specs.Tree.{listed};
+ghost use Rattle.cal_ast.specs.View.{actor_tree, file_body_tree, file_tree, ident_tree, import_tree, optional, tag_tree, unit_tree};
+ghost use Rattle.cal_print.specs.Canon.{canon, words, dotted, last_name, packaged};
+ghost use Rattle.cal_print.specs.Spelling.{text_of};
+
+use crate::member::print_members;
+use crate::name::{print_ident, print_tag};
+use crate::part::{Part, print_each, print_joined};
+use crate::word::Word;
+use crate::writer::Writer;
+use cal_ast::{Actor, Body, File, Ident, Import, Tag, UnitFile};
+use rvc_base::Memory;
+use std::alloc::Global;
+
+/// The canonical text of a file.
+///
+/// Its tokens are those of the tree in order, with no comment and no blank but these: LF behind each `;` and each
+/// `end`, and one space behind every other token. Each end is written `end`, an `elsif` as an `if` in its `else` with
+/// an `end` of its own, and `or`, `and` and `/` in place of their second spellings. Numbers are decimal. A pair of
+/// parentheses stands where the tree holds one, round each operand of an operation that is itself an operation or an
+/// `if`, and round such a base of an index.
+///
+/// # Errors
+///
+/// [`Memory`] where memory for the text is lacking.
+pub fn print_file(alloc: Global, file: &File) -> Result<Vec<u8>, Memory>
+    ensures { IfOk result (λ text. text.items ≡ canon (file_tree file.now)) }
+{
+    let mut out = Writer::new(alloc);
+    print_whole(file, &mut out)?;
+    Ok(out.into_bytes())
+}
+
+/// Prints a file.
+fn print_whole(file: &File, out: &mut Writer) -> Result<(), Memory>
+    ensures { IfOk result (λ _. out.new ≡ out.old ++ text_of (words (file_tree file.now))) }
+{
+    print_package(&file.package, out)?;
+    print_each(&file.imports, out)?;
+    print_body(&file.body, out)?;
+    Ok(())
+}
+
+/// Prints `package tag ;`, or nothing where the file has no package.
+fn print_package(named: &Option<Tag>, out: &mut Writer) -> Result<(), Memory>
+    ensures { IfOk result (λ _. out.new ≡ out.old ++ text_of (packaged (optional (option_map tag_tree named.now)))) }
+{
+    match named {
+        Some(tag) => {
+            out.put(Word::Package)?;
+            print_tag(tag, out)?;
+            out.put(Word::Semicolon)
+        }
+        None => Ok(()),
+    }
+}
+
+impl Part for Import {
+    ghost tree = { import_tree };
+
+    fn print(&self, out: &mut Writer) -> Result<(), Memory> {
+        out.put(Word::Import)?;
+        print_path(&self.path, out)?;
+        print_last(&self.last, out)?;
+        out.put(Word::Semicolon)?;
+        Ok(())
+    }
+}
+
+/// Prints names, each with a dot behind it.
+fn print_path(path: &[Ident], out: &mut Writer) -> Result<(), Memory>
+    ensures { IfOk result (λ _. out.new ≡ out.old ++ text_of (dotted (listed (map ident_tree path.now)))) }
+{
+    for name in path {
+        print_ident(name, out)?;
+        out.put(Word::Dot)?;
+    }
+    Ok(())
+}
+
+/// Prints the last name of an import, or `*`.
+fn print_last(last: &Option<Ident>, out: &mut Writer) -> Result<(), Memory>
+    ensures { IfOk result (λ _. out.new ≡ out.old ++ text_of (last_name (optional (option_map ident_tree last.now)))) }
+{
+    match last {
+        Some(name) => print_ident(name, out),
+        None => out.put(Word::Star),
+    }
+}
+
+/// Prints an actor or a unit.
+fn print_body(body: &Body, out: &mut Writer) -> Result<(), Memory>
+    ensures { IfOk result (λ _. out.new ≡ out.old ++ text_of (words (file_body_tree body.now))) }
+{
+    match body {
+        Body::Actor(a) => print_actor(a, out),
+        Body::Unit(u) => print_unit(u, out),
+    }
+}
+
+/// Prints an actor.
+fn print_actor(actor: &Actor, out: &mut Writer) -> Result<(), Memory>
+    ensures { IfOk result (λ _. out.new ≡ out.old ++ text_of (words (actor_tree actor.now))) }
+{
+    out.put(Word::Actor)?;
+    print_ident(&actor.name, out)?;
+    out.put(Word::LeftParen)?;
+    print_joined(&actor.params, Word::Comma, out)?;
+    out.put(Word::RightParen)?;
+    print_joined(&actor.ins, Word::Comma, out)?;
+    out.put(Word::LongDoubleArrow)?;
+    print_joined(&actor.outs, Word::Comma, out)?;
+    out.put(Word::Colon)?;
+    print_members(&actor.members, out)?;
+    out.put(Word::End)?;
+    Ok(())
+}
+
+/// Prints a unit.
+fn print_unit(unit: &UnitFile, out: &mut Writer) -> Result<(), Memory>
+    ensures { IfOk result (λ _. out.new ≡ out.old ++ text_of (words (unit_tree unit.now))) }
+{
+    out.put(Word::Unit)?;
+    print_ident(&unit.name, out)?;
+    out.put(Word::Colon)?;
+    print_members(&unit.members, out)?;
+    out.put(Word::End)?;
+    Ok(())
+}

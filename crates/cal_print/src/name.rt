@@ -1,0 +1,42 @@
+//! Names and dotted names.
+
+ghost use Rattle.std.specs.Prelude.{◌≡◌, ◌++◌, IfOk};
+ghost use Rattle.cal_ast.specs.View.{ident_tree, tag_tree};
+ghost use Rattle.cal_print.specs.Canon.{words};
+ghost use Rattle.cal_print.specs.Spelling.{text_of};
+
+use crate::part::{Part, print_joined};
+use crate::word::Word;
+use crate::writer::Writer;
+use cal_ast::{Ident, Tag};
+use rvc_base::Memory;
+
+/// Prints a name.
+pub(crate) fn print_ident(name: &Ident, out: &mut Writer) -> Result<(), Memory>
+    ensures { IfOk result (λ _. out.new ≡ out.old ++ text_of (words (ident_tree name.now))) }
+{
+    out.put_name(name.text.as_str())
+}
+
+impl Part for Ident {
+    ghost tree = { ident_tree };
+
+    fn print(&self, out: &mut Writer) -> Result<(), Memory> {
+        print_ident(self, out)
+    }
+}
+
+/// Prints a dotted name.
+pub(crate) fn print_tag(tag: &Tag, out: &mut Writer) -> Result<(), Memory>
+    ensures { IfOk result (λ _. out.new ≡ out.old ++ text_of (words (tag_tree tag.now))) }
+{
+    print_joined(&tag.parts, Word::Dot, out)
+}
+
+impl Part for Tag {
+    ghost tree = { tag_tree };
+
+    fn print(&self, out: &mut Writer) -> Result<(), Memory> {
+        print_tag(self, out)
+    }
+}

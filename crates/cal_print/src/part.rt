@@ -1,0 +1,97 @@
+//! Lists of parts, and parts that may be missing.
+
+ghost use Rattle.std.specs.Prelude.{◌≡◌, ◌++◌, ◌∷◌, IfOk, map, option_map};
+ghost use Rattle.cal_ast.specs.Tree.{listed};
+ghost use Rattle.cal_ast.specs.View.{optional, optional_expr};
+ghost use Rattle.cal_lexer.specs.Lexeme.{Lexeme};
+ghost use Rattle.cal_print.specs.Canon.{words, joined, where_any, label, under};
+ghost use Rattle.cal_print.specs.Spelling.{text_of};
+ghost use Rattle.cal_print.specs.Words.{lexeme_of};
+
+use crate::expr::print_expr;
+use crate::word::Word;
+use crate::writer::Writer;
+use cal_ast::Expr;
+use rvc_base::Memory;
+
+/// A part of a tree, which lists of parts hold.
+pub(crate) trait Part {
+    ghost use Rattle.std.specs.Prelude.{◌≡◌, ◌++◌, IfOk};
+    ghost use Rattle.cal_ast.specs.Tree.{Tree};
+    ghost use Rattle.cal_print.specs.Canon.{words};
+    ghost use Rattle.cal_print.specs.Spelling.{text_of};
+
+    ghost tree: { Self → Tree };
+
+    /// Prints the part.
+    fn print(&self, out: &mut Writer) -> Result<(), Memory>
+        ensures { IfOk result (λ _. out.new ≡ out.old ++ text_of (words (tree self.now))) };
+}
+
+/// Prints parts one behind the other.
+pub(crate) fn print_each<T: Part>(parts: &[T], out: &mut Writer) -> Result<(), Memory>
+    ensures { IfOk result (λ _. out.new ≡ out.old ++ text_of (words (listed (map T.tree parts.now)))) }
+{
+    for part in parts {
+        part.print(out)?;
+    }
+    Ok(())
+}
+
+/// Prints parts with a mark between each two.
+pub(crate) fn print_joined<T: Part>(parts: &[T], mark: Word, out: &mut Writer) -> Result<(), Memory>
+    ensures { IfOk result (λ _. out.new ≡ out.old ++ text_of (joined (lexeme_of mark) (listed (map T.tree parts.now)))) }
+{
+    let Some((first, others)) = parts.split_first() else {
+        return Ok(());
+    };
+    first.print(out)?;
+    for part in others {
+        out.put(mark)?;
+        part.print(out)?;
+    }
+    Ok(())
+}
+
+/// Prints parts behind a word with a comma between each two, or nothing where there are none.
+pub(crate) fn print_introduced<T: Part>(
+    word: Word,
+    parts: &[T],
+    out: &mut Writer,
+) -> Result<(), Memory>
+    ensures { IfOk result (λ _. out.new ≡ out.old ++ text_of (where_any (listed (map T.tree parts.now)) (lexeme_of word ∷ joined Lexeme.Comma (listed (map T.tree parts.now))))) }
+{
+    if parts.is_empty() {
+        return Ok(());
+    }
+    out.put(word)?;
+    print_joined(parts, Word::Comma, out)?;
+    Ok(())
+}
+
+/// Prints a part and a colon, or nothing where it is missing.
+pub(crate) fn print_label<T: Part>(part: &Option<T>, out: &mut Writer) -> Result<(), Memory>
+    ensures { IfOk result (λ _. out.new ≡ out.old ++ text_of (label (optional (option_map T.tree part.now)))) }
+{
+    match part {
+        Some(part) => {
+            part.print(out)?;
+            out.put(Word::Colon)?;
+            Ok(())
+        }
+        None => Ok(()),
+    }
+}
+
+/// Prints an expression behind a word, or nothing where it is missing.
+pub(crate) fn print_under(word: Word, e: &Option<Expr>, out: &mut Writer) -> Result<(), Memory>
+    ensures { IfOk result (λ _. out.new ≡ out.old ++ text_of (under (lexeme_of word) (optional_expr e.now))) }
+{
+    match e {
+        Some(e) => {
+            out.put(word)?;
+            print_expr(e, out)
+        }
+        None => Ok(()),
+    }
+}
