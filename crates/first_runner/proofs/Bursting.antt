@@ -1,27 +1,30 @@
 -- A burst of firings, by what it does to the queues and the trace.
-use Rattle.std.proofs.Common.{◌≡◌, ℕ, suc, ◌+◌, ◌-◌, ◌<◌, ◌≤◌, ◌%◌, ◌++◌, Bool, true, false, List, [], ◌∷◌, length, ℤ, pos, map, take, drop, replicate, refl, sym, ap, subst, ◌∙◌, arith, append_assoc, append-nil, length-append, length-drop}
-use Rattle.std.specs.Prelude.{Option, Some, flat_map}
+use Rattle.std.proofs.Common.{◌≡◌, ℕ, suc, ◌+◌, ◌-◌, ◌<◌, ◌≤◌, ◌%◌, ◌++◌, Bool, List, [], ◌∷◌, length, ℤ, pos, map, take, drop, sym, ap, subst, ◌∙◌, arith, append_assoc, append-nil, length-drop}
+use Rattle.std.specs.Prelude.{Option, flat_map}
 use Rattle.std.proofs.lemmas.Grind.{flat_map-append}
-use Rattle.std.proofs.lemmas.List.{length-map, length-take-le, map-append, drop-drop, drop-append-le, take-append-drop}
+use Rattle.std.proofs.lemmas.List.{length-take-le, drop-drop, drop-append-le, take-append-drop}
 use Rattle.channel_writer.specs.Held.{HoldsFront, Writes}
-use Rattle.channel_writer.proofs.Chains.{writes-then, breaks-then, front-longer}
+use Rattle.channel_writer.proofs.Chains.{writes-then, breaks-then}
 use Rattle.trace_text.specs.declared.line.Line.{Line}
 use Rattle.trace_text.specs.declared.line.Line.TheVariants.{Fire}
 use Rattle.trace_text.specs.Text.{line_text}
 use Rattle.rvc_base.specs.Storing.{conv, low_part}
 use Rattle.net_model.specs.PortFile.{all_encoded, encoded}
 use Rattle.cal_model.specs.Form.{Form}
-use Rattle.cal_model.specs.Eval.{eval, Gives}
+use Rattle.cal_model.specs.Eval.{eval}
 use Rattle.cal_model.specs.Meaning.{byte_type, SendsFor}
 use Rattle.cal_model.specs.declared.ast.Binary.{Binary}
 use Rattle.first_runner.specs.declared.outcome.Counts.{Counts}
 use Rattle.first_runner.specs.declared.outcome.RunEnd.TheVariants as end
 use Rattle.first_runner.specs.Burst.{SendAll, Bursts, BreaksBurst, fire_lines}
 use Rattle.first_runner.specs.Leaves.{Leaves}
+use Rattle.first_runner.specs.Missing.{MayHoldFront, MayWrite}
+use Rattle.first_runner.specs.declared.ends.Ends.{Ends}
 use Rattle.first_runner.specs.SoFar.{toks, outgoing, results, SoFar, Going, Delivered}
+use Rattle.first_runner.proofs.Lacking.{may_front-of, may_front-longer}
 use Rattle.first_runner.proofs.Steps.{results-more}
 use Rattle.first_runner.proofs.SoFar.{so_far-fire}
-use Rattle.first_runner.proofs.Delivering.{broken-off, front-of}
+use Rattle.first_runner.proofs.Delivering.{broken-off}
 
 -- what stands first in a part stands first in the whole
 pub next-of : (ts : List ℤ) (fired arrived : ℕ) (v : ℤ) (rest : List ℤ) → drop fired (take arrived ts) ≡ v ∷ rest → fired ≤ arrived → arrived ≤ length ts → drop fired ts ≡ v ∷ (rest ++ drop arrived ts)
@@ -93,8 +96,8 @@ after-burst f input rounds arrived out arrived_then fired_then (v ∷ vs) rest (
 burst-text : (lines : List Line) (n : ℕ) → flat_map line_text (lines ++ fire_lines n) ≡ flat_map line_text lines ++ flat_map line_text (fire_lines n)
 burst-text lines n = flat_map-append line_text lines (fire_lines n)
 
-module _ (f : Form) (b : Binary) (sum_is : f.sum ≡ b) (input trace_base output_base : List ℕ) (left : Option (List ℕ)) (inbox : List ℕ) (outbox : List ℤ) (at_end : Bool) (firings rounds : ℕ) (tells : Bool) (held : ℕ → List ℕ) (trace_pending output_pending : List ℕ) (ready : Delivered f input trace_base output_base left inbox outbox at_end firings rounds tells held trace_pending output_pending) where
-  the_run : Going f input trace_base output_base left inbox outbox at_end firings rounds tells held trace_pending output_pending
+module _ (f : Form) (ends : Ends) (b : Binary) (sum_is : f.sum ≡ b) (input trace_base output_base : List ℕ) (to_come : Option (List ℕ)) (inbox : List ℕ) (outbox : List ℤ) (firings rounds : ℕ) (tells : Bool) (held : ℕ → List ℕ) (trace_pending output_pending : List ℕ) (ready : Delivered f ends input trace_base output_base to_come inbox outbox firings rounds tells held trace_pending output_pending) where
+  the_run : Going f ends input trace_base output_base to_come inbox outbox firings rounds tells held trace_pending output_pending
   the_run = ready.going
 
   after-of : (taken rest : List ℕ) (sent : List ℤ) → inbox ≡ taken ++ rest → SendAll b taken sent → length taken ≤ 64
@@ -107,7 +110,7 @@ module _ (f : Form) (b : Binary) (sum_is : f.sum ≡ b) (input trace_base output
   pub burst-going : (n : ℕ) (inbox_new : List ℕ) (outbox_new : List ℤ) (tells_new : Bool) (held_new : ℕ → List ℕ) (trace_pending_new : List ℕ)
       → Bursts b n inbox inbox_new outbox outbox_new → n ≤ 64 → tells_new ≡ tells → held_new 2 ≡ held 2
       → Writes (held 1) trace_pending (held_new 1) trace_pending_new (flat_map line_text (fire_lines n))
-      → Going f input trace_base output_base left inbox_new outbox_new at_end (firings + n) rounds tells_new held_new trace_pending_new output_pending
+      → Going f ends input trace_base output_base to_come inbox_new outbox_new (firings + n) rounds tells_new held_new trace_pending_new output_pending
   burst-going n inbox_new outbox_new tells_new held_new trace_pending_new bursts few telling same noted =
       let after = after-of bursts.taken inbox_new bursts.sent bursts.inbox_is bursts.sends (omega (arith, bursts.count_is)) in
       let count : length bursts.taken ≡ n = bursts.count_is in
@@ -121,11 +124,10 @@ module _ (f : Form) (b : Binary) (sum_is : f.sum ≡ b) (input trace_base output
         told = telling ∙ ready.going.told;
         so_far = subst (λ k. SoFar f input (ready.going.lines ++ fire_lines k) rounds ready.going.arrived (firings + k) ready.going.out ready.going.arrived_then ready.going.fired_then) count after.so_far;
         inbox_is = after.inbox_is ∙ ap (λ k. drop (firings + k) (take ready.going.arrived (toks input))) count;
-        left_is = ready.going.left_is;
-        end_is = ready.going.end_is;
+        to_come_is = ready.going.to_come_is;
         trace_is = subst (Writes trace_base [] (held_new 1) trace_pending_new) (sym (burst-text ready.going.lines n))
             (writes-then trace_base [] (held 1) trace_pending (held_new 1) (flat_map line_text ready.going.lines) ready.going.trace_is trace_pending_new (flat_map line_text (fire_lines n)) noted);
-        output_is = subst (λ h. Writes output_base [] h output_pending ready.going.gone) (sym same) ready.going.output_is;
+        output_is = subst (λ h. MayWrite ends.writes output_base [] h output_pending ready.going.gone) (sym same) ready.going.output_is;
         sent_is = ap (λ o. ready.going.gone ++ all_encoded byte_type o) (bursts.outbox_is)
             ∙ ap (λ xs. ready.going.gone ++ xs) (flat_map-append (encoded byte_type) outbox bursts.sent)
             ∙ sym (append_assoc ready.going.gone (all_encoded byte_type outbox) (all_encoded byte_type bursts.sent))
@@ -136,15 +138,15 @@ module _ (f : Form) (b : Binary) (sum_is : f.sum ≡ b) (input trace_base output
   -- a line of it couldn't be written
   pub burst-cut : (counts : Counts) (limit : ℕ) (held_new : ℕ → List ℕ) → limit ≤ 64 → held_new 2 ≡ held 2
       → BreaksBurst b limit inbox (held 1) (held_new 1) trace_pending
-      → Leaves f input (end.WriteFault 1) counts trace_base (held_new 1) output_base (held_new 2)
+      → Leaves f ends.writes input (end.WriteFault 1) counts trace_base (held_new 1) output_base (held_new 2)
   burst-cut counts limit held_new few same broken =
       let after = after-of broken.taken broken.rest broken.sent broken.inbox_is broken.sends (omega (arith, broken.few)) in
-      broken-off f input (ready.going.lines ++ fire_lines (length broken.taken)) rounds ready.going.arrived (firings + length broken.taken) ready.going.out ready.going.arrived_then ready.going.fired_then after.so_far
+      broken-off f ends.writes input (ready.going.lines ++ fire_lines (length broken.taken)) rounds ready.going.arrived (firings + length broken.taken) ready.going.out ready.going.arrived_then ready.going.fired_then after.so_far
       counts 1 trace_base (held_new 1) output_base (held_new 2)
       (subst (HoldsFront trace_base (held_new 1)) (sym (burst-text ready.going.lines (length broken.taken)))
       (breaks-then trace_base [] (held 1) trace_pending (held_new 1) (flat_map line_text ready.going.lines) ready.going.trace_is (flat_map line_text (fire_lines (length broken.taken))) broken.front))
-      (subst (HoldsFront output_base (held_new 2)) (sym after.bytes_are)
-      (front-longer output_base (held_new 2) (all_encoded byte_type (results f.sum (toks input) firings)) (all_encoded byte_type broken.sent)
-      (subst (λ h. HoldsFront output_base h (all_encoded byte_type (results f.sum (toks input) firings))) (sym same)
-      (subst (HoldsFront output_base (held 2)) ready.going.sent_is
-      (front-longer output_base (held 2) ready.going.gone (all_encoded byte_type outbox) (front-of output_base (held 2) output_pending ready.going.gone ready.going.output_is))))))
+      (subst (MayHoldFront ends.writes output_base (held_new 2)) (sym after.bytes_are)
+      (may_front-longer ends.writes output_base (held_new 2) (all_encoded byte_type (results f.sum (toks input) firings)) (all_encoded byte_type broken.sent)
+      (subst (λ h. MayHoldFront ends.writes output_base h (all_encoded byte_type (results f.sum (toks input) firings))) (sym same)
+      (subst (MayHoldFront ends.writes output_base (held 2)) ready.going.sent_is
+      (may_front-longer ends.writes output_base (held 2) ready.going.gone (all_encoded byte_type outbox) (may_front-of ends.writes output_base (held 2) output_pending ready.going.gone ready.going.output_is))))))

@@ -1,112 +1,135 @@
 -- How far an inbox is filled.
-use Rattle.std.proofs.Common.{◌≡◌, ℕ, suc, ◌+◌, ◌-◌, ◌<◌, ◌≤◌, min, ◌++◌, Bool, true, false, cond, List, [], ◌∷◌, length, ℤ, pos, map, take, drop, refl, sym, ap, subst, ◌∙◌, arith, append_assoc, append-nil, get_or, length-append, length-drop}
-use Rattle.std.specs.Prelude.{Option, Some}
-use Rattle.std.proofs.lemmas.List.{length-map, length-take-le, map-append, take_all, drop-drop}
+use Rattle.std.proofs.Common.{◌≡◌, ℕ, suc, ◌+◌, ◌-◌, ◌<◌, ◌≤◌, min, ◌++◌, Bool, true, false, List, [], ◌∷◌, length, ℤ, pos, map, take, drop, refl, sym, ap, subst, ◌∙◌, arith, append_assoc, append-nil, length-append, length-drop}
+use Rattle.std.specs.Prelude.{Option, None, Some}
+use Rattle.std.proofs.lemmas.List.{length-map, length-take-le, map-append, drop-drop}
 use Rattle.std.proofs.Math.Seq.{take-add}
-use Rattle.first_runner.specs.Filling.{IsBytes, Takes, Fills}
+use Rattle.rvc_base.specs.declared.scalar.Scalar.{Scalar}
+use Rattle.rvc_base.specs.Storing.{conv}
+use Rattle.net_model.specs.PortFile.{tokens}
+use Rattle.cal_model.specs.Meaning.{byte_type}
+use Rattle.port_files.specs.Coming.{GivesToken, EndsWith}
+use Rattle.first_runner.specs.Missing.{IsToCome}
+use Rattle.first_runner.specs.Filling.{Takes, Fills}
 
--- what the loop keeps: the input so far is in the inbox
-pub record IsFilling (left_old left : Option (List ℕ)) (inbox_old inbox : List ℕ) (capacity : ℕ) (end_old at_end : Bool) (open_old open_now : ℕ → Bool) (faults_old faults : ℕ) : Type 0 where
+-- what the loop keeps: the tokens so far are in the inbox
+pub record IsFilling (kind : Scalar) (to_come_old to_come : Option (List ℕ)) (inbox_old inbox : List ℕ) (capacity : ℕ) (open_old open_now : ℕ → Bool) (faults_old faults : ℕ) : Type 0 where
+  pub of_bytes : kind ≡ byte_type
   pub open_feed : open_now 1 ≡ true
   pub same_open : (other : ℕ) → open_now other ≡ open_old other
   pub faults_stay : faults_old ≤ faults
   pub room : 512 ≤ capacity
   pub fits : length inbox ≤ 512
-  pub took : (input : List ℕ) → left_old ≡ Some input → (end_old ≡ true → input ≡ []) → Takes input inbox_old inbox left at_end
+  pub took : (ts : List ℤ) → IsToCome true to_come_old ts → Takes ts inbox_old inbox to_come
 
-takes-nothing : (input : List ℕ) (inbox : List ℕ) (left : Option (List ℕ)) (at_end : Bool) → left ≡ Some input → (at_end ≡ true → input ≡ []) → Takes input inbox inbox left at_end
-takes-nothing input inbox left at_end left_is end_is = record {
+takes-nothing : (ts : List ℤ) (inbox : List ℕ) (to_come : Option (List ℕ)) → IsToCome true to_come ts → Takes ts inbox inbox to_come
+takes-nothing ts inbox to_come told = record {
   count = 0;
   within = omega arith;
-  are_bytes = tt;
-  inbox_is = sym (append-nil inbox);
-  left_is = left_is;
-  end_is = end_is;
+  inbox_is = sym (append-nil (map pos inbox));
+  to_come_is = told;
 }
 
-pub filling-starts : (left : Option (List ℕ)) (inbox : List ℕ) (capacity : ℕ) (at_end : Bool) (open_now : ℕ → Bool) (faults : ℕ) → open_now 1 ≡ true → 512 ≤ capacity → length inbox ≤ 512
-    → IsFilling left left inbox inbox capacity at_end at_end open_now open_now faults faults
-filling-starts left inbox capacity at_end open_now faults opened room fits = record {
+pub filling-starts : (kind : Scalar) (to_come : Option (List ℕ)) (inbox : List ℕ) (capacity : ℕ) (open_now : ℕ → Bool) (faults : ℕ) → kind ≡ byte_type → open_now 1 ≡ true → 512 ≤ capacity → length inbox ≤ 512
+    → IsFilling kind to_come to_come inbox inbox capacity open_now open_now faults faults
+filling-starts kind to_come inbox capacity open_now faults of_bytes opened room fits = record {
+  of_bytes = of_bytes;
   open_feed = opened;
   same_open = λ other. refl;
   faults_stay = omega arith;
   room = room;
   fits = fits;
-  took = λ input left_is end_is. takes-nothing input inbox left at_end left_is end_is;
+  took = λ ts told. takes-nothing ts inbox to_come told;
 }
 
--- bytes, and bytes behind them
-bytes-append : (xs ys : List ℕ) → IsBytes xs → IsBytes ys → IsBytes (xs ++ ys)
-bytes-append [] ys in_xs in_ys = in_ys
-bytes-append (x ∷ xs) ys in_xs in_ys = (in_xs.0, bytes-append xs ys in_xs.1 in_ys)
+-- the token that was given is the first of those to come
+record First (v : ℤ) (ts : List ℤ) (after : Option (List ℕ)) : Type 0 where
+  pub rest : List ℤ
+  pub is : ts ≡ v ∷ rest
+  pub to_come : IsToCome true after rest
 
-pub bytes-by_index : (xs : List ℕ) → ((i : ℕ) → get_or xs i 0 < 256) → IsBytes xs
-bytes-by_index [] each = tt
-bytes-by_index (x ∷ xs) each = (each 0, bytes-by_index xs (λ i. each (suc i)))
+first-of : (v : ℤ) (before after : Option (List ℕ)) (ts : List ℤ) → GivesToken byte_type v before after → IsToCome true before ts → First v ts after
+first-of v None after ts given told = absurd told
+first-of v (Some before) None ts given told = absurd given
+first-of v (Some before) (Some after) ts given told = record {
+  rest = tokens byte_type after;
+  is = sym told ∙ given.0;
+  to_come = refl;
+}
 
-takes-then : (input : List ℕ) (inbox middle inbox_new : List ℕ) (left left_new : Option (List ℕ)) (at_end end_new : Bool)
-    (first : Takes input inbox middle left at_end) → Takes (drop first.count input) middle inbox_new left_new end_new → Takes input inbox inbox_new left_new end_new
-takes-then input inbox middle inbox_new left left_new at_end end_new first second =
-    let both : take (first.count + second.count) input ≡ take first.count input ++ take second.count (drop first.count input) =
-    take-add first.count second.count input in
+takes-more : (ts : List ℤ) (inbox_old inbox inbox_new : List ℕ) (to_come to_come_new : Option (List ℕ)) (v : ℤ) (b : ℕ) → Takes ts inbox_old inbox to_come
+    → inbox_new ≡ inbox ++ b ∷ [] → pos b ≡ conv byte_type v → GivesToken byte_type v to_come to_come_new → Takes ts inbox_old inbox_new to_come_new
+takes-more ts inbox_old inbox inbox_new to_come to_come_new v b t pushed stored given =
+    let first = first-of v to_come to_come_new (drop t.count ts) given t.to_come_is in
+    let taken : take (t.count + 1) ts ≡ take t.count ts ++ v ∷ [] = take-add t.count 1 ts ∙ ap (λ us. take t.count ts ++ take 1 us) first.is in
+    let some_left : length ts - t.count ≡ suc (length first.rest) = sym (length-drop t.count ts) ∙ ap length first.is in
+    let left : first.rest ≡ drop (t.count + 1) ts = sym (ap (drop 1) first.is) ∙ drop-drop 1 t.count ts in
     record {
-      count = first.count + second.count;
-      within = omega (arith, first.within, second.within, length-drop first.count input);
-      are_bytes = subst IsBytes (sym both) (bytes-append _ _ first.are_bytes second.are_bytes);
-      inbox_is = second.inbox_is ∙ ap (λ xs. xs ++ take second.count (drop first.count input)) first.inbox_is
-          ∙ append_assoc inbox (take first.count input) (take second.count (drop first.count input))
-          ∙ ap (λ xs. inbox ++ xs) (sym both);
-      left_is = second.left_is ∙ ap Some (drop-drop second.count first.count input);
-      end_is = λ e. sym (drop-drop second.count first.count input) ∙ second.end_is e;
+      count = t.count + 1;
+      within = omega arith;
+      inbox_is = ap (map pos) pushed ∙ map-append pos inbox (b ∷ []) ∙ ap (λ xs. xs ++ pos b ∷ []) t.inbox_is
+          ∙ append_assoc (map pos inbox_old) (map (conv byte_type) (take t.count ts)) (pos b ∷ [])
+          ∙ ap (λ x. map pos inbox_old ++ (map (conv byte_type) (take t.count ts) ++ x ∷ [])) stored
+          ∙ ap (λ xs. map pos inbox_old ++ xs) (sym (ap (map (conv byte_type)) taken ∙ map-append (conv byte_type) (take t.count ts) (v ∷ [])));
+      to_come_is = subst (IsToCome true to_come_new) left first.to_come;
     }
 
--- one pull more
-pub filling-more : (left_old left left_new : Option (List ℕ)) (inbox_old inbox inbox_new : List ℕ) (capacity capacity_new : ℕ) (end_old at_end end_new : Bool) (open_old open_now open_new : ℕ → Bool) (faults_old faults faults_new : ℕ)
-    → IsFilling left_old left inbox_old inbox capacity end_old at_end open_old open_now faults_old faults
-    → ((input : List ℕ) → left ≡ Some input → Takes input inbox inbox_new left_new end_new)
-    → ((other : ℕ) → open_new other ≡ open_now other) → faults ≤ faults_new → 512 ≤ capacity_new → length inbox_new ≤ 512
-    → IsFilling left_old left_new inbox_old inbox_new capacity_new end_old end_new open_old open_new faults_old faults_new
-filling-more left_old left left_new inbox_old inbox inbox_new capacity capacity_new end_old at_end end_new open_old open_now open_new faults_old faults faults_new so_far more opened stay room fits = record {
+-- one token more
+pub filling-more : (kind kind_new : Scalar) (to_come_old to_come to_come_new : Option (List ℕ)) (inbox_old inbox inbox_new : List ℕ) (capacity capacity_new : ℕ) (open_old open_now open_new : ℕ → Bool) (faults_old faults faults_new : ℕ)
+    → IsFilling kind to_come_old to_come inbox_old inbox capacity open_old open_now faults_old faults
+    → (v : ℤ) (b : ℕ) → inbox_new ≡ inbox ++ b ∷ [] → pos b ≡ conv byte_type v → GivesToken kind v to_come to_come_new → kind_new ≡ kind
+    → ((other : ℕ) → open_new other ≡ open_now other) → faults ≤ faults_new → 512 ≤ capacity_new → length inbox < 512
+    → IsFilling kind_new to_come_old to_come_new inbox_old inbox_new capacity_new open_old open_new faults_old faults_new
+filling-more kind kind_new to_come_old to_come to_come_new inbox_old inbox inbox_new capacity capacity_new open_old open_now open_new faults_old faults faults_new so_far v b pushed stored given same_kind opened stay room before = record {
+  of_bytes = same_kind ∙ so_far.of_bytes;
   open_feed = opened 1 ∙ so_far.open_feed;
   same_open = λ other. opened other ∙ so_far.same_open other;
   faults_stay = omega (arith, so_far.faults_stay);
   room = room;
-  fits = fits;
-  took = λ input told ended.
-      let first = so_far.took input told ended in
-      takes-then input inbox_old inbox inbox_new left left_new at_end end_new first (more (drop first.count input) first.left_is);
+  fits = let len : length inbox_new ≡ length inbox + 1 = ap length pushed ∙ length-append inbox (b ∷ []) in omega arith;
+  took = λ ts told. takes-more ts inbox_old inbox inbox_new to_come to_come_new v b (so_far.took ts told) pushed stored (subst (λ k. GivesToken k v to_come to_come_new) so_far.of_bytes given);
 }
 
-pub measure-falls : (old new : ℕ) (end_old end_new : Bool) → end_old ≡ false → old < 512 → old ≤ new → (end_new ≡ false → old < new) → (512 - new) + cond end_new 0 1 < (512 - old) + cond end_old 0 1
-measure-falls old new end_old true on before grows moves = rw on (omega arith)
-measure-falls old new end_old false on before grows moves = let more : old < new = moves refl in rw on (omega arith)
+takes-length : (ts : List ℤ) (inbox inbox_new : List ℕ) (to_come : Option (List ℕ)) (t : Takes ts inbox inbox_new to_come) → length inbox_new ≡ length inbox + t.count
+takes-length ts inbox inbox_new to_come t =
+    let old : length (map pos inbox) ≡ length inbox = length-map inbox pos in
+    let new : length (map (conv byte_type) (take t.count ts)) ≡ t.count = length-map (take t.count ts) (conv byte_type) ∙ length-take-le t.count ts t.within in
+    let both : length (map pos inbox_new) ≡ length (map pos inbox) + length (map (conv byte_type) (take t.count ts)) = ap length t.inbox_is ∙ length-append (map pos inbox) (map (conv byte_type) (take t.count ts)) in
+    let now : length (map pos inbox_new) ≡ length inbox_new = length-map inbox_new pos in
+    omega arith
 
-takes-length : (input : List ℕ) (inbox inbox_new : List ℕ) (left : Option (List ℕ)) (at_end : Bool) (t : Takes input inbox inbox_new left at_end) → length inbox_new ≡ length inbox + t.count
-takes-length input inbox inbox_new left at_end t =
-    ap length t.inbox_is ∙ length-append inbox (take t.count input)
-    ∙ ap (λ n. length inbox + n) (length-take-le t.count input t.within)
-
-fills-of : (input : List ℕ) (inbox inbox_new : List ℕ) (left : Option (List ℕ)) (at_end : Bool) (t : Takes input inbox inbox_new left at_end) → t.count ≡ min (512 - length inbox) (length input) → Fills input inbox inbox_new left at_end
-fills-of input inbox inbox_new left at_end t e = record {
+fills-of : (ts : List ℤ) (inbox inbox_new : List ℕ) (to_come : Option (List ℕ)) (t : Takes ts inbox inbox_new to_come) → t.count ≡ min (512 - length inbox) (length ts) → Fills true ts inbox inbox_new to_come
+fills-of ts inbox inbox_new to_come t e = record {
   count = t.count;
   count_is = e;
-  are_bytes = t.are_bytes;
   inbox_is = t.inbox_is;
-  left_is = t.left_is;
-  end_is = t.end_is;
+  to_come_is = t.to_come_is;
 }
 
 -- the inbox is full
-pub fills-full : (input : List ℕ) (inbox inbox_new : List ℕ) (left : Option (List ℕ)) (at_end : Bool) → Takes input inbox inbox_new left at_end → length inbox_new ≤ 512 → 512 ≤ length inbox_new → Fills input inbox inbox_new left at_end
-fills-full input inbox inbox_new left at_end t fits full =
-    let len = takes-length input inbox inbox_new left at_end t in
-    let within : t.count ≤ length input = t.within in
-    fills-of input inbox inbox_new left at_end t (omega arith)
+pub fills-full : (ts : List ℤ) (inbox inbox_new : List ℕ) (to_come : Option (List ℕ)) → Takes ts inbox inbox_new to_come → length inbox_new ≤ 512 → 512 ≤ length inbox_new → Fills true ts inbox inbox_new to_come
+fills-full ts inbox inbox_new to_come t fits full =
+    let len = takes-length ts inbox inbox_new to_come t in
+    let within : t.count ≤ length ts = t.within in
+    fills-of ts inbox inbox_new to_come t (omega arith)
 
--- the input is at its end
-pub fills-at_end : (input : List ℕ) (inbox inbox_new : List ℕ) (left : Option (List ℕ)) (at_end : Bool) → Takes input inbox inbox_new left at_end → length inbox_new ≤ 512 → at_end ≡ true → Fills input inbox inbox_new left at_end
-fills-at_end input inbox inbox_new left at_end t fits ended =
-    let len = takes-length input inbox inbox_new left at_end t in
-    let within : t.count ≤ length input = t.within in
-    let nothing_left : length input - t.count ≡ 0 = sym (length-drop t.count input) ∙ ap length (t.end_is ended) in
-    fills-of input inbox inbox_new left at_end t (omega arith)
+none-left : (rest : ℕ) (to_come : Option (List ℕ)) (ts : List ℤ) → EndsWith byte_type rest to_come → IsToCome true to_come ts → ts ≡ []
+none-left rest None ts ends told = absurd told
+none-left rest (Some bytes) ts ends told = sym told ∙ ends.0
+
+-- no token is left
+pub fills-at_end : (kind : Scalar) (rest : ℕ) (ts : List ℤ) (inbox inbox_new : List ℕ) (to_come to_come_new : Option (List ℕ)) → kind ≡ byte_type → Takes ts inbox inbox_new to_come → length inbox_new ≤ 512
+    → EndsWith kind rest to_come → to_come_new ≡ to_come → Fills true ts inbox inbox_new to_come_new
+fills-at_end kind rest ts inbox inbox_new to_come to_come_new of_bytes t fits ended same =
+    let len = takes-length ts inbox inbox_new to_come t in
+    let within : t.count ≤ length ts = t.within in
+    let nothing_left : length ts - t.count ≡ 0 = sym (length-drop t.count ts) ∙ ap length (none-left rest to_come (drop t.count ts) (subst (λ k. EndsWith k rest to_come) of_bytes ended) t.to_come_is) in
+    subst (Fills true ts inbox inbox_new) (sym same) (fills-of ts inbox inbox_new to_come t (omega arith))
+
+-- without a feed nothing comes
+pub fills-nothing : (ts : List ℤ) (inbox : List ℕ) (to_come : Option (List ℕ)) → ts ≡ [] → Fills false ts inbox inbox to_come
+fills-nothing ts inbox to_come none = record {
+  count = 0;
+  count_is = let empty : length ts ≡ 0 = ap length none in omega arith;
+  inbox_is = sym (append-nil (map pos inbox));
+  to_come_is = none;
+}

@@ -1,4 +1,5 @@
 mod Errors
+mod Lacking
 mod Steps
 mod SoFar
 mod Outbox

@@ -1,6 +1,5 @@
 -- How far an outbox has been written.
-use Rattle.std.proofs.Common.{◌≡◌, ℕ, ◌+◌, ◌≤◌, ◌++◌, Bool, true, List, [], ◌∷◌, length, ℤ, refl, sym, ap, subst, ◌∙◌, arith, append_assoc, append-nil}
-use Rattle.std.specs.Prelude.{flat_map, Result, Ok, Err, OnErr}
+use Rattle.std.proofs.Common.{◌≡◌, ℕ, ◌≤◌, ◌++◌, Bool, true, List, [], ◌∷◌, take, drop, ℤ, refl, sym, ap, subst, ◌∙◌, arith, append_assoc, append-nil}
 use Rattle.std.proofs.lemmas.Grind.{flat_map-append}
 use Rattle.rvc_io.specs.Elsewhere.{SameElsewhere}
 use Rattle.channel_writer.specs.Held.{HoldsFront, Writes}
@@ -69,3 +68,7 @@ module _ (all left rest : List ℤ) (v : ℤ) (byte : List ℕ) (pending_old pen
       (front-longer (held_old 2) (held_new 2) (pending_old ++ (all_encoded byte_type so_far.done ++ byte)) (all_encoded byte_type rest)
       (breaks-then (held_old 2) pending_old (held 2) pending (held_new 2) (all_encoded byte_type so_far.done) (so_far.written told) byte
       (broken (so_far.same_telling ∙ told))))
+
+-- the bytes of one token stand first among those that its coding leaves
+pub token-text : (count : ℕ) (v : ℤ) (bytes old : List ℕ) → count ≡ 1 → bytes ≡ encoded byte_type v ++ drop count old → take count bytes ≡ encoded byte_type v
+token-text count v bytes old one is = ap (take count) is ∙ ap (λ n. take n (encoded byte_type v ++ drop count old)) one

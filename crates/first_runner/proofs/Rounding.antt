@@ -1,6 +1,7 @@
 -- What the rounds keep.
-use Rattle.std.proofs.Common.{◌≡◌, ◌≢◌, ℕ, ◌+◌, ◌-◌, ◌<◌, ◌≤◌, Bool, true, List, refl, ◌∙◌, inl, inr, arith}
+use Rattle.std.proofs.Common.{◌≡◌, ℕ, ◌≤◌, Bool, true, List, refl, ◌∙◌, inl, inr, arith}
 use Rattle.rvc_io.specs.Count.{HasRisen}
+use Rattle.first_runner.specs.declared.ends.Ends.{Ends}
 use Rattle.first_runner.specs.Outside.{KeepsOthers}
 
 -- nothing changed yet
@@ -21,10 +22,10 @@ others-then t0 t1 t2 h0 h1 h2 o0 o1 o2 f0 f1 f2 first second = record {
 }
 
 -- between two rounds
-pub record IsRounding (budget firings rounds : ℕ) (feed_open : Bool) (feed_faults_old feed_faults : ℕ) (tells_old tells : Bool) (held_old held : ℕ → List ℕ) (open_old open_now : ℕ → Bool) (faults_old faults : ℕ) : Type 0 where
+pub record IsRounding (budget firings rounds : ℕ) (ends : Ends) (feed_open : Bool) (feed_faults_old feed_faults : ℕ) (tells_old tells : Bool) (held_old held : ℕ → List ℕ) (open_old open_now : ℕ → Bool) (faults_old faults : ℕ) : Type 0 where
   pub within : firings ≤ budget
   pub few_rounds : rounds ≤ firings
-  pub feed_is_open : feed_open ≡ true
+  pub feed_is_open : ends.reads ≡ true → feed_open ≡ true
   pub feeds_stay : feed_faults_old ≤ feed_faults
   pub others : KeepsOthers tells_old tells held_old held open_old open_now faults_old faults
 

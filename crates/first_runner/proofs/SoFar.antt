@@ -1,20 +1,16 @@
 -- A run so far: lines that play from the start, and the state that they lead to.
-use Rattle.std.proofs.Common.{◌≡◌, ℕ, zero, suc, ◌+◌, ◌-◌, ◌<◌, ◌≤◌, min, Bool, true, false, List, [], ◌∷◌, ◌++◌, length, take, drop, map, ℤ, refl, sym, ap, subst, ◌∙◌, arith, append_assoc, append-nil}
-use Rattle.std.specs.Prelude.{Option, None, Some, flat_map}
-use Rattle.std.proofs.lemmas.Grind.{flat_map-append}
+use Rattle.std.proofs.Common.{◌≡◌, ℕ, ◌+◌, ◌-◌, ◌<◌, min, List, [], ◌∷◌, ◌++◌, length, take, drop, ℤ, refl, sym, ap, subst, ◌∙◌, arith, append_assoc, append-nil}
+use Rattle.std.specs.Prelude.{Option, Some, flat_map}
 use Rattle.trace_text.specs.declared.line.Line.{Line}
-use Rattle.trace_text.specs.declared.line.Line.TheVariants.{Header, Inst, Fire, Deliver, Quiet, Trap, Stall, Budget}
+use Rattle.trace_text.specs.declared.line.Line.TheVariants.{Fire, Deliver, Quiet, Budget}
 use Rattle.trace_text.specs.Text.{line_text}
 use Rattle.net_model.specs.State.{State, start_of}
-use Rattle.net_model.specs.Network.{Network}
 use Rattle.net_model.specs.PortFile.{all_encoded}
-use Rattle.net_model.specs.Trace.{goes, FitFlows, PlaysFrom, KeepsFrom, OnNext, EndIsTrue, TrapFits, opened_by, bytes_out}
+use Rattle.net_model.specs.Trace.{FitFlows, PlaysFrom, KeepsFrom, OnNext}
 use Rattle.cal_model.specs.Form.{Form}
 use Rattle.cal_model.specs.Meaning.{byte_type, SendsFor}
-use Rattle.cal_model.specs.declared.ast.Binary.{Binary}
 use Rattle.first_runner.specs.Source.{network_of}
-use Rattle.first_runner.specs.declared.outcome.Counts.{Counts}
-use Rattle.first_runner.specs.Ran.{fires_in, deliveries_in, AreMoves, Written, Ended, CutOff, BrokenOff, IsFrontOf}
+use Rattle.first_runner.specs.Ran.{fires_in, deliveries_in, AreMoves, Written, Ended}
 use Rattle.first_runner.specs.SoFar.{toks, results, state_at, SoFar}
 use Rattle.first_runner.proofs.Steps.{fire-step, deliver-step, quiet-at, between-at, fits-at, results-length}
 

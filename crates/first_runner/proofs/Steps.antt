@@ -1,22 +1,18 @@
 -- The states of the network of one actor, by how many tokens arrived, were taken, and went out; and its steps.
-use Rattle.std.proofs.Common.{◌≡◌, ◌≢◌, ℕ, zero, suc, ◌+◌, ◌-◌, ◌<◌, ◌≤◌, min, Bool, true, false, cond, List, [], ◌∷◌, ◌++◌, length, take, drop, get_or, map, ℤ, pos, refl, sym, ap, subst, ◌∙◌, inl, inr, arith, length-append, length-drop, append-nil, add-zero, drop-cons}
-use Rattle.std.specs.Prelude.{Option, None, Some, slice_get}
+use Rattle.std.proofs.Common.{◌≡◌, ℕ, zero, suc, ◌+◌, ◌-◌, ◌≤◌, min, false, List, [], ◌∷◌, ◌++◌, length, take, drop, map, ℤ, refl, sym, ap, ◌∙◌, arith, append-nil, add-zero}
+use Rattle.std.specs.Prelude.{Option, None, Some}
 use Rattle.std.proofs.lemmas.List.{length-take-le, map-append, length-map, drop_all, take_all}
 use Rattle.std.proofs.lemmas.Bool.{false≢true}
 use Rattle.std.proofs.Math.Seq.{take-add}
 use Rattle.rvc_base.specs.Storing.{conv}
-use Rattle.rvc_base.specs.Behaviour.{Effect, Fires, TrapsInGuard, TrapsInBody, Choice, Waits, Picks}
-use Rattle.trace_text.specs.declared.line.Line.{Line}
-use Rattle.trace_text.specs.declared.line.Line.TheVariants.{Header, Inst, Fire, Deliver, Quiet, Trap, Stall, Budget}
-use Rattle.net_model.specs.State.{Flow, State, start_of, effect_at, choice_at, untaken}
+use Rattle.trace_text.specs.declared.line.Line.TheVariants.{Deliver}
+use Rattle.net_model.specs.State.{State, start_of, effect_at}
 use Rattle.net_model.specs.Event.{happens}
 use Rattle.net_model.specs.Event as event
-use Rattle.net_model.specs.PortFile.{tokens}
-use Rattle.net_model.specs.Network.{Network}
-use Rattle.net_model.specs.Ends.{IsQuiet, IsSettled, IsStalled, IsBetween, LacksRoom, all_fed}
+use Rattle.net_model.specs.Ends.{IsQuiet, IsSettled, IsBetween, LacksRoom, all_fed}
 use Rattle.net_model.specs.Trace.{goes, FitFlows}
 use Rattle.cal_model.specs.Form.{Form}
-use Rattle.cal_model.specs.Eval.{Out, Gives, Traps, eval}
+use Rattle.cal_model.specs.Eval.{eval}
 use Rattle.cal_model.specs.Meaning.{byte_type, SendsFor, effect, effect_of}
 use Rattle.first_runner.specs.Source.{network_of}
 use Rattle.first_runner.specs.SoFar.{toks, outgoing, results, input_flow, output_flow, state_at}

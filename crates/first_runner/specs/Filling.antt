@@ -1,25 +1,19 @@
 -- What filling an inbox from a feed does.
-use Rattle.std.specs.Prelude.{◌≡◌, ℕ, ◌+◌, ◌-◌, ◌<◌, ◌≤◌, min, Bool, true, List, [], ◌∷◌, ◌++◌, length, take, drop, Option, Some, slice_index}
+use Rattle.std.specs.Prelude.{◌≡◌, ℕ, ◌-◌, ◌≤◌, min, Bool, true, List, ◌++◌, length, take, drop, map, ℤ, pos, Option}
+use Rattle.rvc_base.specs.Storing.{conv}
+use Rattle.cal_model.specs.Meaning.{byte_type}
+use Rattle.first_runner.specs.Missing.{IsToCome}
 
--- numbers that a byte can be
-abbrev pub IsBytes : List ℕ → Type 0
-IsBytes [] = Unit {0}
-IsBytes (b ∷ bytes) = (b < 256) × IsBytes bytes
-
--- some bytes of the input came; none at its end alone
-pub record Takes (input inbox inbox_new : List ℕ) (left : Option (List ℕ)) (at_end : Bool) : Type 0 where
+-- some tokens of those to come are in the inbox, each stored in the reader's type
+pub record Takes (ts : List ℤ) (inbox inbox_new : List ℕ) (to_come : Option (List ℕ)) : Type 0 where
   pub count : ℕ
-  pub within : count ≤ length input
-  pub are_bytes : IsBytes (take count input)
-  pub inbox_is : inbox_new ≡ inbox ++ take count input
-  pub left_is : left ≡ Some (drop count input)
-  pub end_is : at_end ≡ true → drop count input ≡ []
+  pub within : count ≤ length ts
+  pub inbox_is : map pos inbox_new ≡ map pos inbox ++ map (conv byte_type) (take count ts)
+  pub to_come_is : IsToCome true to_come (drop count ts)
 
--- the inbox is full, or the input is at its end
-pub record Fills (input inbox inbox_new : List ℕ) (left : Option (List ℕ)) (at_end : Bool) : Type 0 where
+-- the inbox is full, or no token is left
+pub record Fills (reads : Bool) (ts : List ℤ) (inbox inbox_new : List ℕ) (to_come : Option (List ℕ)) : Type 0 where
   pub count : ℕ
-  pub count_is : count ≡ min (512 - length inbox) (length input)
-  pub are_bytes : IsBytes (take count input)
-  pub inbox_is : inbox_new ≡ inbox ++ take count input
-  pub left_is : left ≡ Some (drop count input)
-  pub end_is : at_end ≡ true → drop count input ≡ []
+  pub count_is : count ≡ min (512 - length inbox) (length ts)
+  pub inbox_is : map pos inbox_new ≡ map pos inbox ++ map (conv byte_type) (take count ts)
+  pub to_come_is : IsToCome reads to_come (drop count ts)

@@ -1,9 +1,10 @@
 -- What a run leaves on its two channels, for each end.
-use Rattle.std.specs.Prelude.{◌≡◌, ℕ, ◌+◌, ◌<◌, List, [], ◌++◌, length}
+use Rattle.std.specs.Prelude.{◌≡◌, ℕ, ◌+◌, ◌<◌, Bool, List, [], ◌++◌, length}
 use Rattle.trace_text.specs.Text.{line_text}
 use Rattle.trace_text.specs.declared.line.Line.TheVariants.{Quiet, Budget}
 use Rattle.cal_model.specs.Form.{Form}
 use Rattle.channel_writer.specs.Held.{Writes}
+use Rattle.first_runner.specs.Missing.{Gets, MayWrite}
 use Rattle.first_runner.specs.declared.outcome.RunEnd.{RunEnd}
 use Rattle.first_runner.specs.declared.outcome.RunEnd.TheVariants as end
 use Rattle.first_runner.specs.Ran.{Ended, CutOff, BrokenOff}
@@ -16,28 +17,29 @@ EndsAs f input end.Budget counts trace output = Ended f input Budget counts trac
 EndsAs f input (end.ReadFault feed) counts trace output = CutOff f input trace output
 EndsAs f input (end.WriteFault channel) counts trace output = BrokenOff f input trace output
 
--- the channels hold what they held, and what belongs to the end
-pub record Leaves (f : Form) (input : List ℕ) (how : RunEnd) (counts : Counts) (trace_old trace_new output_old output_new : List ℕ) : Type 0 where
+-- The channels hold what they held, and what belongs to the end. Where the output isn't written its channel holds
+-- what it held.
+pub record Leaves (f : Form) (writes : Bool) (input : List ℕ) (how : RunEnd) (counts : Counts) (trace_old trace_new output_old output_new : List ℕ) : Type 0 where
   pub trace : List ℕ
   pub output : List ℕ
   pub trace_is : trace_new ≡ trace_old ++ trace
-  pub output_is : output_new ≡ output_old ++ output
+  pub output_is : Gets writes output_old output_new output
   pub ends : EndsAs f input how counts trace output
 
 -- the same where a part of it is held back
-pub record Pends (f : Form) (input : List ℕ) (how : RunEnd) (counts : Counts) (trace_old trace_new trace_pending output_old output_new output_pending : List ℕ) : Type 0 where
+pub record Pends (f : Form) (writes : Bool) (input : List ℕ) (how : RunEnd) (counts : Counts) (trace_old trace_new trace_pending output_old output_new output_pending : List ℕ) : Type 0 where
   pub trace : List ℕ
   pub output : List ℕ
   pub trace_is : Writes trace_old [] trace_new trace_pending trace
-  pub output_is : Writes output_old [] output_new output_pending output
+  pub output_is : MayWrite writes output_old [] output_new output_pending output
   pub ends : EndsAs f input how counts trace output
 
 -- after a failed write nothing more is put
-abbrev pub Comes : Form → List ℕ → RunEnd → Counts → (trace_old trace_new trace_pending output_old output_new output_pending : List ℕ) → Type 0
-Comes f input end.Quiet counts to tn tp oo on_ op = Pends f input end.Quiet counts to tn tp oo on_ op
-Comes f input end.Budget counts to tn tp oo on_ op = Pends f input end.Budget counts to tn tp oo on_ op
-Comes f input (end.ReadFault feed) counts to tn tp oo on_ op = Pends f input (end.ReadFault feed) counts to tn tp oo on_ op
-Comes f input (end.WriteFault channel) counts to tn tp oo on_ op = Leaves f input (end.WriteFault channel) counts to tn oo on_
+abbrev pub Comes : Form → Bool → List ℕ → RunEnd → Counts → (trace_old trace_new trace_pending output_old output_new output_pending : List ℕ) → Type 0
+Comes f writes input end.Quiet counts to tn tp oo on_ op = Pends f writes input end.Quiet counts to tn tp oo on_ op
+Comes f writes input end.Budget counts to tn tp oo on_ op = Pends f writes input end.Budget counts to tn tp oo on_ op
+Comes f writes input (end.ReadFault feed) counts to tn tp oo on_ op = Pends f writes input (end.ReadFault feed) counts to tn tp oo on_ op
+Comes f writes input (end.WriteFault channel) counts to tn tp oo on_ op = Leaves f writes input (end.WriteFault channel) counts to tn oo on_
 
 -- a read or a write failed
 abbrev pub IsFault : RunEnd → Type 0

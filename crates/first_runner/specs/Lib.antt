@@ -1,4 +1,5 @@
 pub mod Source
+pub mod Missing
 pub mod Filling
 pub mod Burst
 pub mod Ran

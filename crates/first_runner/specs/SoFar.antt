@@ -1,5 +1,5 @@
 -- A run so far: lines that play from the start, and the state that they lead to, by a few numbers.
-use Rattle.std.specs.Prelude.{◌≡◌, ℕ, ◌+◌, ◌≤◌, Bool, true, false, List, [], ◌∷◌, ◌++◌, length, take, drop, map, ℤ, pos, Option, Some, flat_map}
+use Rattle.std.specs.Prelude.{◌≡◌, ℕ, ◌+◌, ◌≤◌, Bool, true, false, List, [], ◌∷◌, ◌++◌, length, take, drop, map, ℤ, pos, Option, flat_map}
 use Rattle.rvc_base.specs.Storing.{conv}
 use Rattle.trace_text.specs.declared.line.Line.{Line}
 use Rattle.trace_text.specs.Text.{line_text}
@@ -12,6 +12,8 @@ use Rattle.cal_model.specs.Eval.{Out, Gives, Traps, eval}
 use Rattle.cal_model.specs.Meaning.{byte_type}
 use Rattle.cal_model.specs.declared.ast.Binary.{Binary}
 use Rattle.first_runner.specs.Source.{network_of}
+use Rattle.first_runner.specs.Missing.{IsToCome, MayWrite}
+use Rattle.first_runner.specs.declared.ends.Ends.{Ends}
 use Rattle.first_runner.specs.Ran.{fires_in, deliveries_in, AreMoves}
 
 -- the tokens of the input
@@ -61,7 +63,7 @@ pub record SoFar (f : Form) (input : List ℕ) (lines : List Line) (rounds arriv
 
 -- A run on its way, by what the queues hold and what was written. `trace_base` and `output_base` are what the
 -- channels held when it began.
-pub record Going (f : Form) (input trace_base output_base : List ℕ) (left : Option (List ℕ)) (inbox : List ℕ) (outbox : List ℤ) (at_end : Bool) (firings rounds : ℕ) (tells : Bool) (held : ℕ → List ℕ) (trace_pending output_pending : List ℕ) : Type 0 where
+pub record Going (f : Form) (ends : Ends) (input trace_base output_base : List ℕ) (to_come : Option (List ℕ)) (inbox : List ℕ) (outbox : List ℤ) (firings rounds : ℕ) (tells : Bool) (held : ℕ → List ℕ) (trace_pending output_pending : List ℕ) : Type 0 where
   pub lines : List Line
   pub arrived : ℕ
   pub out : ℕ
@@ -71,15 +73,14 @@ pub record Going (f : Form) (input trace_base output_base : List ℕ) (left : Op
   pub told : tells ≡ true
   pub so_far : SoFar f input lines rounds arrived firings out arrived_then fired_then
   pub inbox_is : map pos inbox ≡ drop firings (take arrived (toks input))
-  pub left_is : left ≡ Some (drop arrived input)
-  pub end_is : at_end ≡ true → drop arrived input ≡ []
+  pub to_come_is : IsToCome ends.reads to_come (drop arrived (tokens byte_type input))
   pub trace_is : Writes trace_base [] (held 1) trace_pending (flat_map line_text lines)
-  pub output_is : Writes output_base [] (held 2) output_pending gone
+  pub output_is : MayWrite ends.writes output_base [] (held 2) output_pending gone
   pub sent_is : gone ++ all_encoded byte_type outbox ≡ all_encoded byte_type (results f.sum (toks input) firings)
 
 -- the same right after a delivery
-pub record Delivered (f : Form) (input trace_base output_base : List ℕ) (left : Option (List ℕ)) (inbox : List ℕ) (outbox : List ℤ) (at_end : Bool) (firings rounds : ℕ) (tells : Bool) (held : ℕ → List ℕ) (trace_pending output_pending : List ℕ) : Type 0 where
-  pub going : Going f input trace_base output_base left inbox outbox at_end firings rounds tells held trace_pending output_pending
+pub record Delivered (f : Form) (ends : Ends) (input trace_base output_base : List ℕ) (to_come : Option (List ℕ)) (inbox : List ℕ) (outbox : List ℤ) (firings rounds : ℕ) (tells : Bool) (held : ℕ → List ℕ) (trace_pending output_pending : List ℕ) : Type 0 where
+  pub going : Going f ends input trace_base output_base to_come inbox outbox firings rounds tells held trace_pending output_pending
   pub all_out : going.out ≡ firings
   pub opened : going.fired_then ≡ firings
   pub outbox_is : outbox ≡ []

@@ -1,9 +1,9 @@
 -- The source network of an actor of the first form: the actor is the one leaf of a network with its ports.
-use Rattle.std.specs.Prelude.{ℕ, List, [], ◌∷◌}
+use Rattle.std.specs.Prelude.{ℕ, [], ◌∷◌}
 use Rattle.net_model.specs.declared.wiring.End.{End}
 use Rattle.net_model.specs.declared.wiring.End.TheVariants.{Leaf as AtLeaf, Net as AtNet}
 use Rattle.net_model.specs.declared.wiring.Link.{Link}
-use Rattle.net_model.specs.Network.{Leaf, Network}
+use Rattle.net_model.specs.Network.{Network}
 use Rattle.cal_model.specs.Form.{Form}
 use Rattle.cal_model.specs.Meaning.{behaviour, byte_type}
 

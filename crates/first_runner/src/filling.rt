@@ -1,78 +1,87 @@
 //! The input link is filled from its feed.
 
-ghost use Rattle.std.specs.Prelude.{◌≡◌, ◌≤◌, ◌<◌, ◌+◌, ◌++◌, ℕ, Bool, true, false, List, [], Option, Some, OnOk, OnErr, length};
+ghost use Rattle.std.specs.Prelude.{◌≡◌, ◌≤◌, ◌<◌, ◌+◌, ℕ, ℤ, Bool, true, List, OnOk, OnErr, pos};
+ghost use Rattle.rvc_base.specs.Storing.{conv};
 ghost use Rattle.rvc_io.specs.Count.{HasRisen};
 ghost use Rattle.std.specs.VecDeque.{deque_capacity, deque_len};
-ghost use Rattle.first_runner.specs.Filling.{IsBytes, Fills, Takes};
+ghost use Rattle.cal_model.specs.Meaning.{byte_type};
+ghost use Rattle.port_files.specs.Coming.{coming, EndIsTrue};
+ghost use Rattle.first_runner.specs.Missing.{IsToCome};
+ghost use Rattle.first_runner.specs.Filling.{Fills};
 
 use crate::{CAPACITY, INPUT_FEED};
+use port_files::{Next, TokenFeed};
+use rvc_base::Num;
 use rvc_io::{Failed, Feeds};
 use std::collections::VecDeque;
 
-/// Fills the inbox from the feed, up to the link's capacity or to the end of input. A token is a byte.
+/// Fills the inbox from the feed, up to the link's capacity or to the end of input. Where the port isn't
+/// read nothing comes.
 ///
 /// At the end of input nothing more is pulled.
 pub fn fill<F: Feeds>(
-    feeds: &mut F,
+    reads: bool,
+    tokens: &mut TokenFeed,
     inbox: &mut VecDeque<u8>,
-    at_end: &mut bool,
+    feeds: &mut F,
 ) -> Result<(), Failed>
-    requires open { F.is_open feeds.old INPUT_FEED ≡ true }
+    requires open { reads ≡ true → F.is_open feeds.old INPUT_FEED ≡ true }
+    requires bytes { tokens.old.kind ≡ byte_type }
+    requires same_feed { EndIsTrue tokens.old (F.left feeds.old INPUT_FEED) }
     requires room { CAPACITY ≤ deque_capacity inbox.old }
     requires fits { deque_len inbox.old ≤ CAPACITY }
-    ensures filled { OnOk result ((input : List ℕ) → F.left feeds.old INPUT_FEED ≡ Some input → (at_end.old ≡ true → input ≡ [])
-        → Fills input inbox.old.items inbox.new.items (F.left feeds.new INPUT_FEED) at_end.new) }
+    ensures filled { OnOk result ((ts : List ℤ) → IsToCome reads (coming tokens.old.pulled (F.left feeds.old INPUT_FEED)) ts
+        → Fills reads ts inbox.old.items inbox.new.items (coming tokens.new.pulled (F.left feeds.new INPUT_FEED))) }
     ensures failed { OnErr result (HasRisen (F.faults feeds.old) (F.faults feeds.new)) }
+    ensures failed_read { OnErr result (reads ≡ true) }
+    ensures kind { tokens.new.kind ≡ tokens.old.kind }
+    ensures still_same_feed { EndIsTrue tokens.new (F.left feeds.new INPUT_FEED) }
     ensures same_open { (other : ℕ) → F.is_open feeds.new other ≡ F.is_open feeds.old other }
     ensures faults_stay { F.faults feeds.old ≤ F.faults feeds.new }
     ensures still_room { CAPACITY ≤ deque_capacity inbox.new }
     ensures still_fits { deque_len inbox.new ≤ CAPACITY }
 {
-    while !*at_end && inbox.len() < CAPACITY {
-        pull_once(feeds, inbox, at_end)?;
+    if reads {
+        fill_from_feed(tokens, inbox, feeds)
+    } else {
+        Ok(())
     }
-    Ok(())
 }
 
-/// Pulls once, and appends what came to the inbox. Nothing comes at the end of input alone.
-fn pull_once<F: Feeds>(
-    feeds: &mut F,
+/// Fills the inbox from the feed, which is open.
+fn fill_from_feed<F: Feeds>(
+    tokens: &mut TokenFeed,
     inbox: &mut VecDeque<u8>,
-    at_end: &mut bool,
+    feeds: &mut F,
 ) -> Result<(), Failed>
     requires open { F.is_open feeds.old INPUT_FEED ≡ true }
+    requires bytes { tokens.old.kind ≡ byte_type }
+    requires same_feed { EndIsTrue tokens.old (F.left feeds.old INPUT_FEED) }
     requires room { CAPACITY ≤ deque_capacity inbox.old }
-    requires fits { deque_len inbox.old < CAPACITY }
-    requires before_end { at_end.old ≡ false }
-    ensures took { OnOk result ((input : List ℕ) → F.left feeds.old INPUT_FEED ≡ Some input
-        → Takes input inbox.old.items inbox.new.items (F.left feeds.new INPUT_FEED) at_end.new) }
-    ensures grows { OnOk result (deque_len inbox.old ≤ deque_len inbox.new) }
-    ensures moves { OnOk result (at_end.new ≡ false → deque_len inbox.old < deque_len inbox.new) }
+    requires fits { deque_len inbox.old ≤ CAPACITY }
+    ensures filled { OnOk result ((ts : List ℤ) → IsToCome true (coming tokens.old.pulled (F.left feeds.old INPUT_FEED)) ts
+        → Fills true ts inbox.old.items inbox.new.items (coming tokens.new.pulled (F.left feeds.new INPUT_FEED))) }
     ensures failed { OnErr result (HasRisen (F.faults feeds.old) (F.faults feeds.new)) }
+    ensures kind { tokens.new.kind ≡ tokens.old.kind }
+    ensures still_same_feed { EndIsTrue tokens.new (F.left feeds.new INPUT_FEED) }
     ensures same_open { (other : ℕ) → F.is_open feeds.new other ≡ F.is_open feeds.old other }
     ensures faults_stay { F.faults feeds.old ≤ F.faults feeds.new }
     ensures still_room { CAPACITY ≤ deque_capacity inbox.new }
     ensures still_fits { deque_len inbox.new ≤ CAPACITY }
 {
-    let mut piece = [0u8; CAPACITY];
-    let room = CAPACITY - inbox.len();
-    let count = feeds.pull(INPUT_FEED, &mut piece[..room])?;
-    if count == 0 {
-        *at_end = true;
-    } else {
-        append(inbox, &piece[..count]);
+    while inbox.len() < CAPACITY {
+        match tokens.next(INPUT_FEED, feeds) {
+            Next::Token(token) => inbox.push_back_reserved(stored(token)),
+            Next::End { rest: _ } => return Ok(()),
+            Next::Failed => return Err(Failed),
+        }
     }
     Ok(())
 }
 
-/// Appends bytes for which there is room.
-fn append(inbox: &mut VecDeque<u8>, bytes: &[u8])
-    requires { deque_len inbox.old + length bytes.now ≤ deque_capacity inbox.old }
-    ensures items { inbox.new.items ≡ inbox.old.items ++ bytes.now }
-    ensures are_bytes { IsBytes bytes.now }
-    ensures capacity { deque_capacity inbox.new ≡ deque_capacity inbox.old }
+/// What the input link holds for a token: the token, stored in the type of the reader's port.
+fn stored(token: Num) -> u8
+    ensures { pos result ≡ conv byte_type token }
 {
-    for byte in bytes {
-        inbox.push_back_reserved(*byte);
-    }
+    token.rem_euclid(256) as u8
 }

@@ -2,6 +2,7 @@
 #![tactic(auto)]
 
 mod burst;
+mod ends;
 mod filling;
 mod outcome;
 mod progress;
@@ -10,6 +11,7 @@ mod runner;
 mod sending;
 mod trace_writer;
 
+pub use ends::Ends;
 pub use outcome::{Counts, Outcome, RunEnd};
 pub use runner::Runner;
 

@@ -1,21 +1,25 @@
 //! A run of one actor, from its start to its end.
 
-ghost use Rattle.std.specs.Prelude.{◌≡◌, ◌≤◌, ◌⊎◌, ℕ, Bool, true, List, Some, IfOk, length};
+ghost use Rattle.std.specs.Prelude.{◌≡◌, ◌≤◌, ◌⊎◌, ℕ, Bool, true, List, OnOk, OnErr, IfOk, length};
 ghost use Rattle.rvc_io.specs.Count.{HasRisen};
+ghost use Rattle.rvc_io.specs.Elsewhere.{SameElsewhere};
 ghost use Rattle.cal_model.specs.Meaning.{IsFirstForm};
 ghost use Rattle.cal_model.specs.Form.{Form};
 ghost use Rattle.first_runner.specs.Outside.{KeepsOthers};
+ghost use Rattle.first_runner.specs.Missing.{Gets, HasInput, IsWritten, MayHoldFront};
 ghost use Rattle.first_runner.specs.Leaves.{Leaves, Comes, numbers};
 ghost use Rattle.first_runner.specs.declared.outcome.Counts.{Counts as Numbers};
 
+use crate::ends::Ends;
 use crate::outcome::{Counts, Outcome, RunEnd};
 use crate::progress::Progress;
 use crate::rounds::make_rounds;
 use crate::{BURST, CAPACITY, INPUT_FEED, MAX_BUDGET, OUTPUT_CHANNEL, TRACE_CHANNEL};
 use cal_model::ast::Binary;
 use channel_writer::ChannelWriter;
-use rvc_base::{Memory, Num};
-use rvc_io::{Drains, Feeds};
+use port_files::TokenFeed;
+use rvc_base::{Memory, Num, Scalar};
+use rvc_io::{Drains, Failed, Feeds};
 use std::alloc::Global;
 use std::collections::VecDeque;
 use std::marker::Model;
@@ -26,6 +30,7 @@ use std::marker::Model;
 #[derive(Drop)]
 pub struct Runner {
     sum: Binary,
+    tokens: TokenFeed,
     inbox: VecDeque<u8>,
     outbox: VecDeque<Num>,
     trace: ChannelWriter,
@@ -33,7 +38,8 @@ pub struct Runner {
 }
 
 impl Model for Runner {
-    ghost use Rattle.std.specs.Prelude.{◌≡◌, ◌≤◌, []};
+    ghost use Rattle.std.specs.Prelude.{◌≡◌, ◌≤◌, [], false};
+    ghost use Rattle.cal_model.specs.Meaning.{byte_type};
     ghost use Rattle.std.specs.VecDeque.{deque_capacity, deque_len};
     ghost use Rattle.cal_model.specs.declared.ast.Binary.{Binary as Expression};
     ghost use Rattle.first_runner.specs.declared.TheConstants.{CAPACITY, BURST};
@@ -42,7 +48,7 @@ impl Model for Runner {
 
     ghost view = { λ r. r.sum };
 
-    ghost invariant = { λ r. (r.inbox.items ≡ []) × (r.outbox.items ≡ []) × (r.trace ≡ []) × (r.output ≡ []) × (CAPACITY ≤ deque_capacity r.inbox) × (BURST ≤ deque_capacity r.outbox) };
+    ghost invariant = { λ r. (r.tokens.kind ≡ byte_type) × (r.tokens.pulled ≡ []) × (r.tokens.ended ≡ false) × (r.inbox.items ≡ []) × (r.outbox.items ≡ []) × (r.trace ≡ []) × (r.output ≡ []) × (CAPACITY ≤ deque_capacity r.inbox) × (BURST ≤ deque_capacity r.outbox) };
 }
 
 impl Runner {
@@ -50,12 +56,14 @@ impl Runner {
     pub fn new(alloc: Global, sum: Binary) -> Result<Runner, Memory>
         ensures { IfOk result (λ r. r ≡ sum) }
     {
+        let tokens = TokenFeed::new(alloc, Scalar::Uint(8))?;
         let inbox = VecDeque::with_capacity(alloc, CAPACITY)?;
         let outbox = VecDeque::with_capacity(alloc, BURST as usize)?;
         let trace = ChannelWriter::new(alloc)?;
         let output = ChannelWriter::new(alloc)?;
         Ok(Runner {
             sum,
+            tokens,
             inbox,
             outbox,
             trace,
@@ -65,42 +73,54 @@ impl Runner {
 
     /// Runs the actor on its feed, with at most `budget` firings, and writes its event lines and its
     /// output to their channels.
-    pub fn run<F: Feeds, D: Drains>(self, budget: u64, feeds: &mut F, drains: &mut D) -> Outcome
+    ///
+    /// Without a feed the input has no tokens. Without a channel the output's tokens are counted and
+    /// not written.
+    pub fn run<F: Feeds, D: Drains>(
+        self,
+        ends: Ends,
+        budget: u64,
+        feeds: &mut F,
+        drains: &mut D,
+    ) -> Outcome
         requires first_form { IsFirstForm self }
-        requires feed_open { F.is_open feeds.old INPUT_FEED ≡ true }
+        requires feed_open { ends.reads ≡ true → F.is_open feeds.old INPUT_FEED ≡ true }
         requires trace_open { D.is_open drains.old TRACE_CHANNEL ≡ true }
-        requires output_open { D.is_open drains.old OUTPUT_CHANNEL ≡ true }
+        requires output_open { ends.writes ≡ true → D.is_open drains.old OUTPUT_CHANNEL ≡ true }
         requires budget { budget ≤ MAX_BUDGET }
 
         // What the run leaves is told by its end.
-        ensures leaves { (f : Form) (input : List ℕ) → f.sum ≡ self → F.left feeds.old INPUT_FEED ≡ Some input → D.tells drains.old ≡ true
-            → Leaves f input result.end result.counts (D.held drains.old TRACE_CHANNEL) (D.held drains.new TRACE_CHANNEL) (D.held drains.old OUTPUT_CHANNEL) (D.held drains.new OUTPUT_CHANNEL) }
+        ensures leaves { (f : Form) (input : List ℕ) → f.sum ≡ self → HasInput ends.reads (F.left feeds.old INPUT_FEED) input → D.tells drains.old ≡ true
+            → Leaves f ends.writes input result.end result.counts (D.held drains.old TRACE_CHANNEL) (D.held drains.new TRACE_CHANNEL) (D.held drains.old OUTPUT_CHANNEL) (D.held drains.new OUTPUT_CHANNEL) }
         ensures spent { result.end ≡ RunEnd.Budget → result.counts.firings ≡ budget }
         ensures most { result.counts.firings ≤ budget }
         ensures read_fault { (feed : ℕ) → result.end ≡ RunEnd.ReadFault feed → (feed ≡ INPUT_FEED) × HasRisen (F.faults feeds.old) (F.faults feeds.new) }
         ensures write_fault { (channel : ℕ) → result.end ≡ RunEnd.WriteFault channel → HasRisen (D.faults drains.old) (D.faults drains.new) }
+        ensures reads_it { (feed : ℕ) → result.end ≡ RunEnd.ReadFault feed → ends.reads ≡ true }
+        ensures writes_it { (channel : ℕ) → result.end ≡ RunEnd.WriteFault channel → IsWritten ends channel }
         ensures feeds_stay { F.faults feeds.old ≤ F.faults feeds.new }
         ensures others { KeepsOthers (D.tells drains.old) (D.tells drains.new) (D.held drains.old) (D.held drains.new) (D.is_open drains.old) (D.is_open drains.new) (D.faults drains.old) (D.faults drains.new) }
     {
         let Runner {
             sum,
+            tokens,
             inbox,
             outbox,
             trace,
             output,
         } = self;
         let mut run = Progress {
+            tokens,
             inbox,
             outbox,
-            at_end: false,
             trace,
             output,
             firings: 0,
             rounds: 0,
         };
-        let end = make_rounds(&sum, budget, &mut run, feeds, drains);
+        let end = make_rounds(&sum, budget, ends, &mut run, feeds, drains);
         let counts = counts_of(&run);
-        let end = finish(end, &mut run, drains);
+        let end = finish(end, ends, &mut run, drains);
         Outcome { end, counts }
     }
 }
@@ -119,19 +139,19 @@ fn counts_of(run: &Progress) -> Counts
 }
 
 /// Puts what is held back, unless a write failed.
-fn finish<D: Drains>(end: RunEnd, run: &mut Progress, drains: &mut D) -> RunEnd
+fn finish<D: Drains>(end: RunEnd, ends: Ends, run: &mut Progress, drains: &mut D) -> RunEnd
     requires trace_open { D.is_open drains.old TRACE_CHANNEL ≡ true }
-    requires output_open { D.is_open drains.old OUTPUT_CHANNEL ≡ true }
+    requires output_open { ends.writes ≡ true → D.is_open drains.old OUTPUT_CHANNEL ≡ true }
     ensures leaves { (f : Form) (input trace_base output_base : List ℕ) (counts : Numbers) → D.tells drains.old ≡ true
-        → Comes f input end counts trace_base (D.held drains.old 1) run.old.trace output_base (D.held drains.old 2) run.old.output
-        → Leaves f input result counts trace_base (D.held drains.new 1) output_base (D.held drains.new 2) }
-    ensures ends { (result ≡ end) ⊎ ((channel : ℕ) × (result ≡ RunEnd.WriteFault channel) × HasRisen (D.faults drains.old) (D.faults drains.new)) }
+        → Comes f ends.writes input end counts trace_base (D.held drains.old 1) run.old.trace output_base (D.held drains.old 2) run.old.output
+        → Leaves f ends.writes input result counts trace_base (D.held drains.new 1) output_base (D.held drains.new 2) }
+    ensures ended { (result ≡ end) ⊎ ((channel : ℕ) × (result ≡ RunEnd.WriteFault channel) × IsWritten ends channel × HasRisen (D.faults drains.old) (D.faults drains.new)) }
     ensures others { KeepsOthers (D.tells drains.old) (D.tells drains.new) (D.held drains.old) (D.held drains.new) (D.is_open drains.old) (D.is_open drains.new) (D.faults drains.old) (D.faults drains.new) }
 {
     if let RunEnd::WriteFault { channel: _ } = end {
         return end;
     }
-    let Ok(()) = run.output.flush(drains, OUTPUT_CHANNEL) else {
+    let Ok(()) = put_rest(ends.writes, &mut run.output, drains) else {
         return RunEnd::WriteFault {
             channel: OUTPUT_CHANNEL,
         };
@@ -142,4 +162,27 @@ fn finish<D: Drains>(end: RunEnd, run: &mut Progress, drains: &mut D) -> RunEnd
         };
     };
     end
+}
+
+/// Puts what is held back of the output, where it has a channel.
+fn put_rest<D: Drains>(
+    writes: bool,
+    output: &mut ChannelWriter,
+    drains: &mut D,
+) -> Result<(), Failed>
+    requires { writes ≡ true → D.is_open drains.old OUTPUT_CHANNEL ≡ true }
+    ensures all { OnOk result (D.tells drains.old ≡ true → Gets writes (D.held drains.old OUTPUT_CHANNEL) (D.held drains.new OUTPUT_CHANNEL) output.old) }
+    ensures front { OnErr result (D.tells drains.old ≡ true → MayHoldFront writes (D.held drains.old OUTPUT_CHANNEL) (D.held drains.new OUTPUT_CHANNEL) output.old) }
+    ensures failed { OnErr result (HasRisen (D.faults drains.old) (D.faults drains.new)) }
+    ensures failed_write { OnErr result (writes ≡ true) }
+    ensures same_telling { D.tells drains.new ≡ D.tells drains.old }
+    ensures same_held { D.tells drains.old ≡ true → SameElsewhere (D.held drains.old) (D.held drains.new) OUTPUT_CHANNEL }
+    ensures same_open { (other : ℕ) → D.is_open drains.new other ≡ D.is_open drains.old other }
+    ensures faults_stay { D.faults drains.old ≤ D.faults drains.new }
+{
+    if writes {
+        output.flush(drains, OUTPUT_CHANNEL)
+    } else {
+        Ok(())
+    }
 }

@@ -1,7 +1,6 @@
-use Rattle.std.proofs.Common.{◌∷◌, []}
 use Rattle.std.specs.VecDeque.{deque_capacity}
 use Rattle.first_runner.proofs.Errors.{on_err}
-use Rattle.first_runner.proofs.Firing.{firing-starts, firing-more, firing-breaks}
+use Rattle.first_runner.proofs.Firing.{firing-more, firing-breaks}
 use Rattle.first_runner.proofs.burst.fire_burst.Goals as goal
 
 pub returns-in_err-fire_one-clause-broken : goal.returns-in_err-fire_one-clause-broken

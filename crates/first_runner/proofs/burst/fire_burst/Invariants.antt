@@ -1,5 +1,4 @@
-use Rattle.std.proofs.Common.{◌≡◌, ℕ, true}
-use Rattle.std.specs.VecDeque.{deque_capacity, deque_len}
+use Rattle.std.specs.VecDeque.{deque_capacity}
 use Rattle.first_runner.proofs.Firing.{IsFiring}
 use Rattle.first_runner.proofs.burst.fire_burst.Given as goal
 

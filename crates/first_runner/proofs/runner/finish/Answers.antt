@@ -1,51 +1,52 @@
-use Rattle.std.proofs.Common.{◌≡◌, ◌++◌, ap, sym, subst, ◌∙◌, refl, inl, inr, arith}
+use Rattle.std.proofs.Common.{◌++◌, ap, sym, subst, ◌∙◌, refl, inl, inr, arith}
+use Rattle.first_runner.specs.Missing.{Gets}
 use Rattle.first_runner.proofs.Rounding.{risen-later}
 use Rattle.first_runner.proofs.Errors.{trace≢output, output≢trace}
 use Rattle.first_runner.proofs.Closing.{comes-pends, finishing-leaves, finishing-output_cut, finishing-trace_cut}
 use Rattle.first_runner.proofs.runner.finish.Goals as goal
 
-pub returns-in_default-flush : goal.returns-in_default-flush
-returns-in_default-flush g c = record {
+pub returns-in_default-put_rest : goal.returns-in_default-put_rest
+returns-in_default-put_rest g c = record {
   leaves = λ f input trace_base output_base counts told comes.
-      finishing-output_cut f input c.args.end counts trace_base (g.D.Drains.held c.args.drains.now 1) c.args.run.now.trace output_base (g.D.Drains.held c.args.drains.now 2) c.args.run.now.output
-      (g.D.Drains.held c.flush.new.drains 1) (g.D.Drains.held c.flush.new.drains 2)
-      (comes-pends f input c.args.end counts trace_base _ _ output_base _ _ c.in_default.not-WriteFault comes)
-      (c.in_default-flush.ensures.same_held told 1 trace≢output) (c.in_default-flush.ensures.front told);
-  ends = inr (2, refl, c.in_default-flush.ensures.failed);
+      finishing-output_cut f c.args.ends.writes input c.args.end counts trace_base (g.D.Drains.held c.args.drains.now 1) c.args.run.now.trace output_base (g.D.Drains.held c.args.drains.now 2) c.args.run.now.output
+      (g.D.Drains.held c.put_rest.new.drains 1) (g.D.Drains.held c.put_rest.new.drains 2)
+      (comes-pends f c.args.ends.writes input c.args.end counts trace_base _ _ output_base _ _ c.in_default.not-WriteFault comes)
+      (c.in_default-put_rest.ensures.same_held told 1 trace≢output) (c.in_default-put_rest.ensures.front told);
+  ended = inr (2, refl, inr (refl, c.in_default-put_rest.ensures.failed_write), c.in_default-put_rest.ensures.failed);
   others = record {
-    same_telling = c.in_default-flush.ensures.same_telling;
-    same_held = λ told other a b. c.in_default-flush.ensures.same_held told other b;
-    same_open = c.in_default-flush.ensures.same_open;
-    faults_stay = c.in_default-flush.ensures.faults_stay;
+    same_telling = c.in_default-put_rest.ensures.same_telling;
+    same_held = λ told other a b. c.in_default-put_rest.ensures.same_held told other b;
+    same_open = c.in_default-put_rest.ensures.same_open;
+    faults_stay = c.in_default-put_rest.ensures.faults_stay;
   };
 }
 
-pub returns-in_default-flush-2 : goal.returns-in_default-flush-2
-returns-in_default-flush-2 g c = record {
+pub returns-in_default-flush : goal.returns-in_default-flush
+returns-in_default-flush g c = record {
   leaves = λ f input trace_base output_base counts told comes.
-      finishing-trace_cut f input c.args.end counts trace_base (g.D.Drains.held c.args.drains.now 1) c.args.run.now.trace output_base (g.D.Drains.held c.args.drains.now 2) c.args.run.now.output
-      (g.D.Drains.held c.flush-2.new.drains 1) (g.D.Drains.held c.flush-2.new.drains 2)
-      (comes-pends f input c.args.end counts trace_base _ _ output_base _ _ c.in_default.not-WriteFault comes)
-      (c.in_default-flush-2.ensures.same_held (c.in-Ok.ensures.same_telling ∙ told) 2 output≢trace ∙ c.in-Ok.ensures.all told)
-      (subst (λ h. Rattle.channel_writer.specs.Held.HoldsFront h (g.D.Drains.held c.flush-2.new.drains 1) c.args.run.now.trace) (c.in-Ok.ensures.same_held told 1 trace≢output) (c.in_default-flush-2.ensures.front (c.in-Ok.ensures.same_telling ∙ told)));
-  ends = inr (1, refl, risen-later _ _ _ c.in-Ok.ensures.faults_stay c.in_default-flush-2.ensures.failed);
+      finishing-trace_cut f c.args.ends.writes input c.args.end counts trace_base (g.D.Drains.held c.args.drains.now 1) c.args.run.now.trace output_base (g.D.Drains.held c.args.drains.now 2) c.args.run.now.output
+      (g.D.Drains.held c.flush.new.drains 1) (g.D.Drains.held c.flush.new.drains 2)
+      (comes-pends f c.args.ends.writes input c.args.end counts trace_base _ _ output_base _ _ c.in_default.not-WriteFault comes)
+      (subst (λ h. Gets c.args.ends.writes (g.D.Drains.held c.args.drains.now 2) h c.args.run.now.output) (sym (c.in_default-flush.ensures.same_held (c.in-Ok.ensures.same_telling ∙ told) 2 output≢trace)) (c.in-Ok.ensures.all told))
+      (subst (λ h. Rattle.channel_writer.specs.Held.HoldsFront h (g.D.Drains.held c.flush.new.drains 1) c.args.run.now.trace) (c.in-Ok.ensures.same_held told 1 trace≢output) (c.in_default-flush.ensures.front (c.in-Ok.ensures.same_telling ∙ told)));
+  ended = inr (1, refl, inl refl, risen-later _ _ _ c.in-Ok.ensures.faults_stay c.in_default-flush.ensures.failed);
   others = record {
-    same_telling = c.in_default-flush-2.ensures.same_telling ∙ c.in-Ok.ensures.same_telling;
-    same_held = λ told other a b. c.in_default-flush-2.ensures.same_held (c.in-Ok.ensures.same_telling ∙ told) other a ∙ c.in-Ok.ensures.same_held told other b;
-    same_open = λ other. c.in_default-flush-2.ensures.same_open other ∙ c.in-Ok.ensures.same_open other;
-    faults_stay = omega (arith, c.in_default-flush-2.ensures.faults_stay, c.in-Ok.ensures.faults_stay);
+    same_telling = c.in_default-flush.ensures.same_telling ∙ c.in-Ok.ensures.same_telling;
+    same_held = λ told other a b. c.in_default-flush.ensures.same_held (c.in-Ok.ensures.same_telling ∙ told) other a ∙ c.in-Ok.ensures.same_held told other b;
+    same_open = λ other. c.in_default-flush.ensures.same_open other ∙ c.in-Ok.ensures.same_open other;
+    faults_stay = omega (arith, c.in_default-flush.ensures.faults_stay, c.in-Ok.ensures.faults_stay);
   };
 }
 
 pub returns : goal.returns
 returns g c = record {
   leaves = λ f input trace_base output_base counts told comes.
-      finishing-leaves f input c.args.end counts trace_base (g.D.Drains.held c.args.drains.now 1) c.args.run.now.trace output_base (g.D.Drains.held c.args.drains.now 2) c.args.run.now.output
-      (g.D.Drains.held c.flush-2.new.drains 1) (g.D.Drains.held c.flush-2.new.drains 2)
-      (comes-pends f input c.args.end counts trace_base _ _ output_base _ _ c.in_default.not-WriteFault comes)
-      (c.in-Ok-flush.ensures.same_held (c.in-Ok.ensures.same_telling ∙ told) 2 output≢trace ∙ c.in-Ok.ensures.all told)
+      finishing-leaves f c.args.ends.writes input c.args.end counts trace_base (g.D.Drains.held c.args.drains.now 1) c.args.run.now.trace output_base (g.D.Drains.held c.args.drains.now 2) c.args.run.now.output
+      (g.D.Drains.held c.flush.new.drains 1) (g.D.Drains.held c.flush.new.drains 2)
+      (comes-pends f c.args.ends.writes input c.args.end counts trace_base _ _ output_base _ _ c.in_default.not-WriteFault comes)
+      (subst (λ h. Gets c.args.ends.writes (g.D.Drains.held c.args.drains.now 2) h c.args.run.now.output) (sym (c.in-Ok-flush.ensures.same_held (c.in-Ok.ensures.same_telling ∙ told) 2 output≢trace)) (c.in-Ok.ensures.all told))
       (c.in-Ok-flush.ensures.all (c.in-Ok.ensures.same_telling ∙ told) ∙ ap (λ h. h ++ c.args.run.now.trace) (c.in-Ok.ensures.same_held told 1 trace≢output));
-  ends = inl refl;
+  ended = inl refl;
   others = record {
     same_telling = c.in-Ok-flush.ensures.same_telling ∙ c.in-Ok.ensures.same_telling;
     same_held = λ told other a b. c.in-Ok-flush.ensures.same_held (c.in-Ok.ensures.same_telling ∙ told) other a ∙ c.in-Ok.ensures.same_held told other b;

@@ -1,7 +1,7 @@
-use Rattle.std.proofs.Common.{◌≡◌, ℕ, length}
+use Rattle.std.proofs.Common.{◌≡◌, length}
 use Rattle.std.specs.VecDeque.{deque_capacity}
 use Rattle.first_runner.proofs.Outbox.{IsSending}
-use Rattle.first_runner.proofs.sending.send_out.Given as goal
+use Rattle.first_runner.proofs.sending.write_all.Given as goal
 
 abbrev pub invariant-loop-token : goal.invariant-loop-token
 invariant-loop-token g l = IsSending
