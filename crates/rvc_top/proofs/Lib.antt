@@ -1,3 +1,7 @@
 mod Denials
 mod Ending
+mod Formats
+mod Printing
 mod Reports
+pub mod Seats
+pub mod PortWords

@@ -1,12 +1,13 @@
 -- What may fail where the feed and the channels are opened.
-use Rattle.std.specs.Prelude.{◌≡◌, ℕ, Bool, false}
+use Rattle.std.specs.Prelude.{◌≡◌, ℕ, Bool, true, false}
 use Rattle.rvc_io.specs.Count.{HasRisen}
 use Rattle.rvc_top.specs.declared.status.Status.{Status}
-use Rattle.rvc_top.specs.declared.status.Status.TheVariants.{Quiet, Usage, ReadFault, WriteFault, Refused, Budget, OutOfMemory}
+use Rattle.rvc_top.specs.declared.status.Status.TheVariants.{Quiet, Done, Usage, ReadFault, WriteFault, Refused, Budget, OutOfMemory}
 use Rattle.rvc_top.specs.declared.status.ReadAt.TheVariants.{File, Feed}
 
 abbrev pub IsOpening : (feed_faults_old feed_faults faults_old faults : ℕ) → (trace_open : Bool) → Status → Type 0
 IsOpening ffo ff fo fn trace_open Quiet = ⊥
+IsOpening ffo ff fo fn trace_open Done = ⊥
 IsOpening ffo ff fo fn trace_open (Usage cause) = ⊥
 IsOpening ffo ff fo fn trace_open (ReadFault (File file)) = ⊥
 IsOpening ffo ff fo fn trace_open (ReadFault (Feed feed)) = HasRisen ffo ff × (trace_open ≡ false)
@@ -14,3 +15,8 @@ IsOpening ffo ff fo fn trace_open (WriteFault channel) = HasRisen fo fn
 IsOpening ffo ff fo fn trace_open (Refused refusal) = ⊥
 IsOpening ffo ff fo fn trace_open (Budget firings) = ⊥
 IsOpening ffo ff fo fn trace_open OutOfMemory = ⊥
+
+-- a feed is opened only where the input has a file
+abbrev pub NamesItsInput : (has_file : Bool) → Status → Type 0
+NamesItsInput has_file (ReadFault (Feed feed)) = has_file ≡ true
+NamesItsInput has_file _ = Unit {0}

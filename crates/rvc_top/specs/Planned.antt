@@ -9,14 +9,15 @@ use Rattle.cal_model.specs.declared.ast.Binary.{Binary}
 use Rattle.first_form.specs.Spelling.{Spells}
 use Rattle.net_model.specs.Trace.{head_text}
 use Rattle.first_runner.specs.Source.{network_of}
-use Rattle.rvc_top.specs.Refused.{NamesPorts}
+use Rattle.rvc_top.specs.Matching.{AreMatched, ports_of}
 use Rattle.rvc_top.specs.declared.status.Status.{Status}
-use Rattle.rvc_top.specs.declared.status.Status.TheVariants.{Quiet, Usage, ReadFault, WriteFault, Refused, Budget, OutOfMemory}
+use Rattle.rvc_top.specs.declared.status.Status.TheVariants.{Quiet, Done, Usage, ReadFault, WriteFault, Refused, Budget, OutOfMemory}
 use Rattle.rvc_top.specs.declared.status.ReadAt.TheVariants.{File, Feed}
 
 -- an answer before the run begins
 abbrev pub IsPreparing : Status → Type 0
 IsPreparing Quiet = ⊥
+IsPreparing Done = ⊥
 IsPreparing (Usage cause) = ⊥
 IsPreparing (ReadFault (File file)) = file ≡ 1
 IsPreparing (ReadFault (Feed feed)) = ⊥
@@ -28,6 +29,7 @@ IsPreparing OutOfMemory = Unit {0}
 -- an answer of a source that was read
 abbrev pub IsActorFault : Status → Type 0
 IsActorFault Quiet = ⊥
+IsActorFault Done = ⊥
 IsActorFault (Usage cause) = ⊥
 IsActorFault (ReadFault place) = ⊥
 IsActorFault (WriteFault channel) = ⊥
@@ -35,12 +37,12 @@ IsActorFault (Refused refusal) = Unit {0}
 IsActorFault (Budget firings) = ⊥
 IsActorFault OutOfMemory = Unit {0}
 
--- the source spells the actor whose run is ready, and the words name its ports
+-- the source spells the actor whose run is ready, and the words match its ports
 pub record IsPlanned (source : Told) (j : PlainText) (f : Form) (sum : Binary) (head : List ℕ) : Type 0 where
   pub text : List ℕ
   pub is_told : IsTold source text
   pub spelled : Spells text f
-  pub named : NamesPorts j f
+  pub matched : AreMatched (ports_of f) j.ports
   pub sum_is : f.sum ≡ sum
   pub head_is : head ≡ head_text (network_of f)
 
@@ -53,6 +55,7 @@ pub record IsReady (f : Form) (sum : Binary) (head : List ℕ) : Type 0 where
 -- the answers of a run, each fault with the count that rose
 abbrev pub IsPerformed : (feed_faults_old feed_faults faults_old faults : ℕ) → Status → Type 0
 IsPerformed ffo ff fo fn Quiet = Unit {0}
+IsPerformed ffo ff fo fn Done = ⊥
 IsPerformed ffo ff fo fn (Usage cause) = ⊥
 IsPerformed ffo ff fo fn (ReadFault (File file)) = ⊥
 IsPerformed ffo ff fo fn (ReadFault (Feed feed)) = HasRisen ffo ff
@@ -61,9 +64,10 @@ IsPerformed ffo ff fo fn (Refused refusal) = ⊥
 IsPerformed ffo ff fo fn (Budget firings) = Unit {0}
 IsPerformed ffo ff fo fn OutOfMemory = ⊥
 
--- Each fault with the count that rose. Words that are a job aren't answered by how the program is used.
+-- Each fault with the count that rose. A run isn't answered by how the program is used, nor as another verb's work.
 abbrev pub HasCause : (file_faults_old file_faults feed_faults_old feed_faults faults_old faults : ℕ) → Status → Type 0
 HasCause lo ln ffo ff fo fn Quiet = Unit {0}
+HasCause lo ln ffo ff fo fn Done = ⊥
 HasCause lo ln ffo ff fo fn (Usage cause) = ⊥
 HasCause lo ln ffo ff fo fn (ReadFault (File file)) = HasRisen lo ln
 HasCause lo ln ffo ff fo fn (ReadFault (Feed feed)) = HasRisen ffo ff
@@ -75,6 +79,7 @@ HasCause lo ln ffo ff fo fn OutOfMemory = Unit {0}
 -- Each fault with the count that rose.
 abbrev pub IsCaused : (file_faults_old file_faults feed_faults_old feed_faults faults_old faults : ℕ) → Status → Type 0
 IsCaused lo ln ffo ff fo fn Quiet = Unit {0}
+IsCaused lo ln ffo ff fo fn Done = Unit {0}
 IsCaused lo ln ffo ff fo fn (Usage cause) = Unit {0}
 IsCaused lo ln ffo ff fo fn (ReadFault (File file)) = HasRisen lo ln
 IsCaused lo ln ffo ff fo fn (ReadFault (Feed feed)) = HasRisen ffo ff

@@ -1,15 +1,19 @@
 -- The report.
-use Rattle.std.specs.Prelude.{ℕ, ◌≡◌, ◌≢◌, List, ◌++◌, codes, decimal, ◌==◌, if◌then◌else◌}
+use Rattle.std.specs.Prelude.{ℕ, ◌≡◌, ◌≢◌, List, ◌++◌, codes, decimal, ◌==◌, if◌then◌else◌, [], Option, None, Some}
+use Rattle.rvc_io.specs.Told.{Told, Untold, Lacking, Holding}
 use Rattle.rvc_base.specs.Refusal.{rule_text}
 use Rattle.rvc_base.specs.declared.refusal.Refusal.{Refusal}
 use Rattle.rvc_words.specs.Causes.{cause_name}
 use Rattle.rvc_words.specs.declared.fault.UsageCause.{UsageCause}
-use Rattle.rvc_top.specs.Plain.{PlainText}
 use Rattle.cal_model.specs.Form.{Form}
+use Rattle.first_form.specs.Spelling.{Spells}
+use Rattle.rvc_words.specs.Words.{PortText}
+use Rattle.rvc_top.specs.Plain.{PlainText}
+use Rattle.rvc_top.specs.Matching.{file_of}
 use Rattle.trace_text.specs.Text.{line_feed}
 use Rattle.first_runner.specs.declared.outcome.Counts.{Counts}
 use Rattle.rvc_top.specs.declared.status.Status.{Status}
-use Rattle.rvc_top.specs.declared.status.Status.TheVariants.{Quiet, Usage, ReadFault, WriteFault, Refused, Budget, OutOfMemory}
+use Rattle.rvc_top.specs.declared.status.Status.TheVariants.{Quiet, Done, Usage, ReadFault, WriteFault, Refused, Budget, OutOfMemory}
 use Rattle.rvc_top.specs.declared.status.ReadAt.{ReadAt}
 use Rattle.rvc_top.specs.declared.status.ReadAt.TheVariants.{File, Feed}
 
@@ -26,15 +30,32 @@ output_line f c = codes "out " ++ f.output ++ (codes " tokens " ++ decimal c.sen
 abbrev pub run_lines : Form → Counts → List ℕ
 run_lines f c = counts_lines c ++ input_line f c ++ output_line f c
 
+-- what a report names: the source's file and the input's
+pub record Named : Type 0 where
+  pub top : List ℕ
+  pub input : List ℕ
+
+-- a name that may be missing
+abbrev pub text_or_none : Option (List ℕ) → List ℕ
+text_or_none None = []
+text_or_none (Some text) = text
+
+abbrev pub naming : PlainText → List ℕ → Named
+naming j input = record { top = j.top; input = input }
+
+-- a report that names a file alone
+abbrev pub naming_top : List ℕ → Named
+naming_top top = record { top = top; input = [] }
+
 -- a file's name, where file 0 is the command line
-abbrev pub file_name : PlainText → ℕ → List ℕ
+abbrev pub file_name : Named → ℕ → List ℕ
 file_name j file = if file == 0 then codes "words" else j.top
 
-abbrev pub fault_name : PlainText → ReadAt → List ℕ
+abbrev pub fault_name : Named → ReadAt → List ℕ
 fault_name j (File file) = j.top
-fault_name j (Feed feed) = j.input.file
+fault_name j (Feed feed) = j.input
 
-abbrev pub refusal_line : PlainText → Refusal → List ℕ
+abbrev pub refusal_line : Named → Refusal → List ℕ
 refusal_line j r = codes "refused " ++ rule_text r.rule ++ codes " " ++ file_name j r.place.file ++ codes " " ++ decimal r.place.offset ++ line_feed
 
 abbrev pub usage_line : List ℕ
@@ -55,8 +76,9 @@ abbrev pub memory_text : List ℕ
 memory_text = codes "out of memory\n"
 
 -- the last line; after words that are no job another one shows how the program is used
-abbrev pub last_line : PlainText → Status → List ℕ
+abbrev pub last_line : Named → Status → List ℕ
 last_line j Quiet = codes "quiet\n"
+last_line j Done = codes "done\n"
 last_line j (Usage cause) = usage_text cause
 last_line j (ReadFault place) = codes "read fault " ++ fault_name j place ++ line_feed
 last_line j (WriteFault channel) = codes "write fault " ++ decimal channel ++ line_feed
@@ -65,9 +87,11 @@ last_line j (Budget firings) = codes "budget " ++ decimal firings ++ line_feed
 last_line j OutOfMemory = memory_text
 
 -- Channel 0 got exactly the report, where no run ended. Nothing is said where the report itself couldn't be
--- written, which is a write fault on channel 0; what a run's end reports stands with what it leaves.
-abbrev pub IsReported : PlainText → Status → (held_old held : List ℕ) → Type 0
+-- written, which is a write fault on channel 0; what a run's end reports stands with what it leaves, and what another
+-- verb's work writes stands with that.
+abbrev pub IsReported : Named → Status → (held_old held : List ℕ) → Type 0
 IsReported j Quiet held_old held = Unit {0}
+IsReported j Done held_old held = Unit {0}
 IsReported j (Usage cause) held_old held = held ≡ held_old ++ usage_text cause
 IsReported j (ReadFault place) held_old held = held ≡ held_old ++ last_line j (ReadFault place)
 IsReported j (WriteFault channel) held_old held = channel ≢ 0 → held ≡ held_old ++ last_line j (WriteFault channel)
@@ -78,9 +102,27 @@ IsReported j OutOfMemory held_old held = held ≡ held_old ++ memory_text
 -- the reports that come without a job too
 abbrev pub IsReportedPlainly : Status → (held_old held : List ℕ) → Type 0
 IsReportedPlainly Quiet held_old held = Unit {0}
+IsReportedPlainly Done held_old held = Unit {0}
 IsReportedPlainly (Usage cause) held_old held = held ≡ held_old ++ usage_text cause
 IsReportedPlainly (ReadFault place) held_old held = Unit {0}
 IsReportedPlainly (WriteFault channel) held_old held = Unit {0}
 IsReportedPlainly (Refused refusal) held_old held = Unit {0}
 IsReportedPlainly (Budget firings) held_old held = Unit {0}
 IsReportedPlainly OutOfMemory held_old held = held ≡ held_old ++ memory_text
+
+-- a file that a word gives the input's port, as far as the source is told
+abbrev pub IsInputFile : Told → List PortText → List ℕ → Type 0
+IsInputFile Untold ports file = Unit {0}
+IsInputFile Lacking ports file = ⊥
+IsInputFile (Holding source) ports file = (f : Form) × Spells source f × (file_of f.input ports ≡ Some file)
+
+-- a feed that couldn't be read has this input's file
+abbrev pub NamesInput : Told → List PortText → List ℕ → Status → Type 0
+NamesInput source ports file (ReadFault (Feed feed)) = IsInputFile source ports file
+NamesInput source ports file _ = Unit {0}
+
+-- The report of a run, which names its source and, where its feed couldn't be read, the file of its input.
+pub record IsReportedOf (j : PlainText) (source : Told) (status : Status) (held_old held : List ℕ) : Type 0 where
+  pub input : List ℕ
+  pub is_input : NamesInput source j.ports input status
+  pub reported : IsReported (naming j input) status held_old held

@@ -1,6 +1,8 @@
 //! The top call: from words to files read, a network run, its trace and outputs written, and a report.
 #![tactic(auto)]
 
+mod formatting;
+mod matching;
 mod opening;
 mod plain;
 mod preparing;

@@ -1,19 +1,18 @@
-//! What is built of a job: one actor, run from one file to one file.
+//! What is built of a job: one actor that is run.
 
-ghost use Rattle.std.specs.Prelude.{◌≡◌, IfSome, map, option_map};
-ghost use Rattle.rvc_words.specs.Words.{job_text, port_text};
-ghost use Rattle.rvc_top.specs.Plain.{built, is_all, is_plain, is_run, plain_text, two, two_texts};
+ghost use Rattle.std.specs.Prelude.{◌≡◌, IfSome, option_map};
+ghost use Rattle.rvc_words.specs.Words.{job_text};
+ghost use Rattle.rvc_top.specs.Plain.{built, is_all, is_plain, is_run, plain_text};
 
 use rvc_words::{Job, PortWord, RoundKind, Verb};
 
-/// A run of an actor over one input and one output, by one worker, all instances in each round, in bursts of 64
-/// firings.
+/// A run of an actor by one worker, all instances in each round, in bursts of 64 firings.
 #[derive(Drop)]
 pub struct PlainRun {
     /// The source file of the actor.
     pub top: String,
-    pub input: PortWord,
-    pub output: PortWord,
+    /// The words that give the actor's ports files.
+    pub ports: Vec<PortWord>,
     /// The file that the trace is written to.
     pub trace: String,
     /// The most firings of the run.
@@ -39,11 +38,9 @@ pub fn plain_run(job: Job) -> Option<PlainRun>
         burst: _,
         budget,
     } = job;
-    let (input, output) = two(ports)?;
     Some(PlainRun {
         top,
-        input,
-        output,
+        ports,
         trace,
         budget,
     })
@@ -73,17 +70,4 @@ fn is_all(round: RoundKind) -> bool
         RoundKind::Turn => false,
         RoundKind::Seed(_) => false,
     }
-}
-
-/// The two port words, where there are two.
-fn two(ports: Vec<PortWord>) -> Option<(PortWord, PortWord)>
-    ensures { option_map two_texts result ≡ two (map port_text ports.items) }
-{
-    let mut ports = ports;
-    if ports.len() != 2 {
-        return None;
-    }
-    let output = ports.pop()?;
-    let input = ports.pop()?;
-    Some((input, output))
 }

@@ -3,13 +3,12 @@
 ghost use Rattle.std.specs.Prelude.{◌≡◌, ◌≢◌, ◌≤◌, ◌+◌, ◌++◌, ◌⊎◌, ℕ, Bool, true, List, Option, Some, None, OnOk, OnErr, decimal, string_bytes, length};
 ghost use Rattle.rvc_io.specs.Count.{HasRisen};
 ghost use Rattle.rvc_io.specs.Elsewhere.{SameElsewhere};
-ghost use Rattle.rvc_top.specs.Plain.{plain_text};
+ghost use Rattle.rvc_top.specs.Naming.{names_text};
 ghost use Rattle.rvc_top.specs.Report.{run_lines, counts_lines, input_line, output_line, last_line, refusal_line, file_name, usage_text, memory_text, not_built_here, not_built_text};
 ghost use Rattle.trace_text.specs.Text.{line_feed};
 ghost use Rattle.cal_model.specs.Form.{form_of};
 ghost use Rattle.rvc_top.specs.Outside.{KeepsAll, Reported};
 
-use crate::plain::PlainRun;
 use crate::status::{ReadAt, Status};
 use cal_model::ast::Actor;
 use channel_writer::put_all;
@@ -21,6 +20,13 @@ use rvc_words::UsageCause;
 
 /// The channel of the report.
 pub const REPORT_CHANNEL: u32 = 0;
+
+/// What a report names: the source's file, and the input's, or nothing where no word names the input's port.
+#[derive(Clone, Copy)]
+pub struct Names<'a> {
+    pub top: &'a str,
+    pub input: &'a str,
+}
 
 /// Puts a text behind the report so far.
 fn put<D: Drains>(text: &[u8], drains: &mut D) -> Result<(), Failed>
@@ -121,48 +127,61 @@ fn put_named<D: Drains>(before: &[u8], name: &[u8], drains: &mut D) -> Result<()
     put(b"\n", drains)
 }
 
-fn put_refusal<D: Drains>(refusal: &Refusal, job: &PlainRun, drains: &mut D) -> Result<(), Failed>
+fn put_refusal<D: Drains>(
+    refusal: &Refusal,
+    names: &Names<'_>,
+    drains: &mut D,
+) -> Result<(), Failed>
     requires { D.is_open drains.old REPORT_CHANNEL ≡ true }
-    ensures reported { OnOk result (D.tells drains.old ≡ true → D.held drains.new REPORT_CHANNEL ≡ D.held drains.old REPORT_CHANNEL ++ refusal_line (plain_text job.now) refusal.now) }
+    ensures reported { OnOk result (D.tells drains.old ≡ true → D.held drains.new REPORT_CHANNEL ≡ D.held drains.old REPORT_CHANNEL ++ refusal_line (names_text names.now) refusal.now) }
     ensures failed { OnErr result (HasRisen (D.faults drains.old) (D.faults drains.new)) }
     ensures keeps { KeepsAll (D.tells drains.old) (D.tells drains.new) (D.held drains.old) (D.held drains.new) (D.is_open drains.old) (D.is_open drains.new) (D.faults drains.old) (D.faults drains.new) }
 {
     put(b"refused ", drains)?;
     put(refusal.rule.letter().as_bytes(), drains)?;
     put_numbered(b"", u64::from(refusal.rule.number()), b" ", drains)?;
-    put(file_name(job, refusal.place.file), drains)?;
+    put(file_name(names, refusal.place.file), drains)?;
     put_numbered(b" ", u64::from(refusal.place.offset), b"\n", drains)
 }
 
 /// The name of a file, where file 0 is the command line.
-fn file_name(job: &PlainRun, file: u32) -> &[u8]
-    ensures { result.now ≡ file_name (plain_text job.now) file }
+fn file_name<'a>(names: &Names<'a>, file: u32) -> &'a [u8]
+    ensures { result.now ≡ file_name (names_text names.now) file }
 {
     if file == 0 {
         b"words"
     } else {
-        job.top.as_bytes()
+        names.top.as_bytes()
     }
 }
 
 /// Puts the last line of a job's report.
-fn put_last_line<D: Drains>(job: &PlainRun, status: &Status, drains: &mut D) -> Result<(), Failed>
+fn put_last_line<D: Drains>(
+    names: &Names<'_>,
+    status: &Status,
+    drains: &mut D,
+) -> Result<(), Failed>
     requires { D.is_open drains.old REPORT_CHANNEL ≡ true }
-    ensures reported { OnOk result (D.tells drains.old ≡ true → D.held drains.new REPORT_CHANNEL ≡ D.held drains.old REPORT_CHANNEL ++ last_line (plain_text job.now) status.now) }
+    ensures reported { OnOk result (D.tells drains.old ≡ true → D.held drains.new REPORT_CHANNEL ≡ D.held drains.old REPORT_CHANNEL ++ last_line (names_text names.now) status.now) }
     ensures failed { OnErr result (HasRisen (D.faults drains.old) (D.faults drains.new)) }
     ensures keeps { KeepsAll (D.tells drains.old) (D.tells drains.new) (D.held drains.old) (D.held drains.new) (D.is_open drains.old) (D.is_open drains.new) (D.faults drains.old) (D.faults drains.new) }
 {
     match status {
         Status::Quiet => put(b"quiet\n", drains),
+        Status::Done => put(b"done\n", drains),
         Status::Usage(cause) => put_usage(*cause, drains),
-        Status::ReadFault(ReadAt::File(_)) => put_named(b"read fault ", job.top.as_bytes(), drains),
+        Status::ReadFault(ReadAt::File(_)) => put_named(
+            b"read fault ",
+            names.top.as_bytes(),
+            drains,
+        ),
         Status::ReadFault(ReadAt::Feed(_)) => {
-            put_named(b"read fault ", job.input.file.as_bytes(), drains)
+            put_named(b"read fault ", names.input.as_bytes(), drains)
         }
         Status::WriteFault { channel } => {
             put_numbered(b"write fault ", u64::from(*channel), b"\n", drains)
         }
-        Status::Refused(refusal) => put_refusal(refusal, job, drains),
+        Status::Refused(refusal) => put_refusal(refusal, names, drains),
         Status::Budget { firings } => put_numbered(b"budget ", *firings, b"\n", drains),
         Status::OutOfMemory => put(b"out of memory\n", drains),
     }
@@ -185,12 +204,12 @@ const USAGE: &[u8] =
     b"\nrvc VERB TOP [PORT=FILE ..] [--trace FILE] [--workers N] [--round P] [--burst N] [--budget N]\n";
 
 /// Reports a status that isn't a run's: its last line alone.
-pub fn report<D: Drains>(status: Status, job: &PlainRun, drains: &mut D) -> Status
+pub fn report<D: Drains>(status: Status, names: &Names<'_>, drains: &mut D) -> Status
     requires { D.is_open drains.old REPORT_CHANNEL ≡ true }
-    ensures reported { Reported status result (D.tells drains.old) (D.faults drains.old) (D.faults drains.new) (D.held drains.old REPORT_CHANNEL) (D.held drains.new REPORT_CHANNEL) (last_line (plain_text job.now) status) }
+    ensures reported { Reported status result (D.tells drains.old) (D.faults drains.old) (D.faults drains.new) (D.held drains.old REPORT_CHANNEL) (D.held drains.new REPORT_CHANNEL) (last_line (names_text names.now) status) }
     ensures keeps { KeepsAll (D.tells drains.old) (D.tells drains.new) (D.held drains.old) (D.held drains.new) (D.is_open drains.old) (D.is_open drains.new) (D.faults drains.old) (D.faults drains.new) }
 {
-    match put_last_line(job, &status, drains) {
+    match put_last_line(names, &status, drains) {
         Ok(()) => status,
         Err(Failed) => Status::WriteFault {
             channel: REPORT_CHANNEL,
@@ -201,13 +220,13 @@ pub fn report<D: Drains>(status: Status, job: &PlainRun, drains: &mut D) -> Stat
 /// Reports a run that ended.
 pub fn report_run<D: Drains>(
     status: Status,
-    job: &PlainRun,
+    names: &Names<'_>,
     actor: &Actor,
     counts: &Counts,
     drains: &mut D,
 ) -> Status
     requires { D.is_open drains.old REPORT_CHANNEL ≡ true }
-    ensures reported { Reported status result (D.tells drains.old) (D.faults drains.old) (D.faults drains.new) (D.held drains.old REPORT_CHANNEL) (D.held drains.new REPORT_CHANNEL) (run_lines (form_of actor.now) counts.now ++ last_line (plain_text job.now) status) }
+    ensures reported { Reported status result (D.tells drains.old) (D.faults drains.old) (D.faults drains.new) (D.held drains.old REPORT_CHANNEL) (D.held drains.new REPORT_CHANNEL) (run_lines (form_of actor.now) counts.now ++ last_line (names_text names.now) status) }
     ensures keeps { KeepsAll (D.tells drains.old) (D.tells drains.new) (D.held drains.old) (D.held drains.new) (D.is_open drains.old) (D.is_open drains.new) (D.faults drains.old) (D.faults drains.new) }
 {
     let Ok(()) = put_run_lines(actor, counts, drains) else {
@@ -215,7 +234,7 @@ pub fn report_run<D: Drains>(
             channel: REPORT_CHANNEL,
         };
     };
-    let Ok(()) = put_last_line(job, &status, drains) else {
+    let Ok(()) = put_last_line(names, &status, drains) else {
         return Status::WriteFault {
             channel: REPORT_CHANNEL,
         };

@@ -18,6 +18,8 @@ pub enum ReadAt {
 pub enum Status {
     /// The run is quiet: nothing is left to do.
     Quiet,
+    /// A verb that runs nothing did its work.
+    Done,
     /// The words aren't a job.
     Usage(UsageCause),
     /// A file or a feed couldn't be read.
@@ -38,7 +40,7 @@ impl Status {
         ensures { result ≡ code_of self.now }
     {
         match self {
-            Status::Quiet => 0,
+            Status::Quiet | Status::Done => 0,
             Status::Usage(_) => 1,
             Status::ReadFault(_) => 2,
             Status::WriteFault { channel: _ } => 3,

@@ -32,6 +32,8 @@ struct Setting<'a> {
     input: &'a [u8],
     /// The most bytes that a call moves.
     step: u32,
+    /// The read of a file that fails, counted from 1; 0 for none.
+    failing_read: u64,
     /// The call to the feeds that fails, counted from 1; 0 for none.
     failing_feed: u64,
     /// The call to the channels that fails, counted from 1; 0 for none.
@@ -45,6 +47,7 @@ fn inc() -> Setting<'static> {
         source: INC,
         input: &[0, 1, 255],
         step: 1000,
+        failing_read: 0,
         failing_feed: 0,
         failing_drain: 0,
     }
@@ -90,7 +93,8 @@ fn run_setting<R: Abort + Threads + Sync>(
     assert!(rt; names_are_distinct(&sources));
     assert!(rt; names_are_distinct(&inputs));
     assert!(rt; setting.step > 0);
-    let mut library = MemLibrary::new(sources, Vec::new(alloc));
+    let reads = vec![in alloc; setting.failing_read]?;
+    let mut library = MemLibrary::new(sources, reads);
     let pulls = vec![in alloc; setting.failing_feed]?;
     let puts = vec![in alloc; setting.failing_drain]?;
     let mut feeds = MemFeeds::new(alloc, inputs, pulls, setting.step, 2)?;
@@ -303,15 +307,113 @@ fn a_job_that_is_not_built_is_refused(rt: HostRuntime) -> Result<(), Fail> {
         "rvc run Inc.cal In=in Out=out --trace t --workers 2",
         "rvc run Inc.cal In=in Out=out --trace t --round turn",
         "rvc run Inc.cal In=in Out=out --trace t --burst 63",
-        "rvc run Inc.cal In=in --trace t",
-        "rvc run Inc.cal Out=out In=in --trace t",
-        "rvc run Inc.cal In=in Out=out In=in --trace t",
     ];
     for words in rows {
         let ran = run_setting(&rt, rt.alloc(), &Setting { words, ..inc() })?;
         assert_eq!(rt; ran.status.code(), 4);
         assert_eq!(rt; ran.drains.held(1).len(), 0);
         assert_eq!(rt; ran.drains.held(0), b"refused Y1 words 0\n".as_slice());
+    }
+    Ok(())
+}
+
+#[test]
+fn port_words_stand_in_any_order(rt: HostRuntime) -> Result<(), Fail> {
+    for step in STEPS {
+        let setting = Setting {
+            step,
+            words: "rvc run Inc.cal Out=out In=in --trace t",
+            ..inc()
+        };
+        let ran = run_setting(&rt, rt.alloc(), &setting)?;
+        assert_eq!(rt; ran.status, Status::Quiet);
+        assert_eq!(rt; ran.drains.held(2), [1, 2, 0].as_slice());
+        assert_eq!(rt; ran.drains.held(1), INC_TRACE);
+        assert_eq!(rt; ran.drains.held(0), INC_REPORT);
+    }
+    Ok(())
+}
+
+#[test]
+fn an_output_that_no_word_names_is_counted(rt: HostRuntime) -> Result<(), Fail> {
+    for step in STEPS {
+        let setting = Setting {
+            step,
+            words: "rvc run Inc.cal In=in --trace t",
+            ..inc()
+        };
+        let ran = run_setting(&rt, rt.alloc(), &setting)?;
+        assert_eq!(rt; ran.status, Status::Quiet);
+        assert_eq!(rt; ran.drains.held(2).len(), 0);
+        assert_eq!(rt; ran.drains.held(1), INC_TRACE);
+        assert_eq!(rt; ran.drains.held(0), INC_REPORT);
+    }
+    Ok(())
+}
+
+#[test]
+fn an_input_that_no_word_names_has_no_tokens(rt: HostRuntime) -> Result<(), Fail> {
+    for words in [
+        "rvc run Inc.cal Out=out --trace t",
+        "rvc run Inc.cal --trace t",
+    ] {
+        let setting = Setting {
+            words,
+            failing_feed: 1,
+            ..inc()
+        };
+        let ran = run_setting(&rt, rt.alloc(), &setting)?;
+        assert_eq!(rt; ran.status, Status::Quiet);
+        assert_eq!(rt; ran.drains.held(2).len(), 0);
+        assert_eq!(rt;
+            ran.drains.held(1),
+            b"rvc-trace 1 1 2\ni 0 Inc Inc\nr\nq\n".as_slice()
+        );
+        assert_eq!(rt;
+            ran.drains.held(0),
+            b"instances 1\nlinks 2\nfirings 0\nrounds 1\nin In 0 tokens 0 rest 0\nout Out tokens 0\nquiet\n".as_slice()
+        );
+    }
+    Ok(())
+}
+
+#[test]
+fn a_port_word_that_does_not_fit_is_refused(rt: HostRuntime) -> Result<(), Fail> {
+    let rows = [
+        (
+            "rvc run Inc.cal Inn=in --trace t",
+            b"refused P1 words 0\n".as_slice(),
+        ),
+        (
+            "rvc run Inc.cal In=in Inn=in --trace t",
+            b"refused P1 words 1\n".as_slice(),
+        ),
+        (
+            "rvc run Inc.cal X=in X=in --trace t",
+            b"refused P1 words 0\n".as_slice(),
+        ),
+        (
+            "rvc run Inc.cal In=in In=in --trace t",
+            b"refused P2 words 1\n".as_slice(),
+        ),
+        (
+            "rvc run Inc.cal In=in In=in X=in --trace t",
+            b"refused P2 words 1\n".as_slice(),
+        ),
+        (
+            "rvc run Inc.cal In=in Out=out In=in --trace t",
+            b"refused P2 words 2\n".as_slice(),
+        ),
+        (
+            "rvc run Inc.cal Out=o In=in X=in --trace t",
+            b"refused P1 words 2\n".as_slice(),
+        ),
+    ];
+    for (words, line) in rows {
+        let ran = run_setting(&rt, rt.alloc(), &Setting { words, ..inc() })?;
+        assert_eq!(rt; ran.status.code(), 4);
+        assert_eq!(rt; ran.drains.held(1).len(), 0);
+        assert_eq!(rt; ran.drains.held(0), line);
     }
     Ok(())
 }
@@ -327,6 +429,116 @@ fn options_stand_in_any_order(rt: HostRuntime) -> Result<(), Fail> {
         assert_eq!(rt; ran.status, Status::Quiet);
         assert_eq!(rt; ran.drains.held(1), INC_TRACE);
         assert_eq!(rt; ran.drains.held(0), INC_REPORT);
+    }
+    Ok(())
+}
+
+/// A `fmt` of this text under the name `Inc.cal`.
+fn fmt(words: &'static str, source: &'static [u8], step: u32) -> Setting<'static> {
+    Setting {
+        words,
+        source,
+        step,
+        ..inc()
+    }
+}
+
+const SPREAD: &[u8] =
+    b"actor Inc() uint(size=8) In ==> uint(size=8) Out : action In:[a] ==> Out:[a+1] endaction endactor";
+
+const PRINTED: &[u8] =
+    b"actor Inc ( ) uint ( size = 8 ) In ==> uint ( size = 8 ) Out : action In : [ a ] ==> Out : [ a + 1 ] end\nend\n";
+
+#[test]
+fn fmt_prints_the_canonical_text(rt: HostRuntime) -> Result<(), Fail> {
+    let rows = [
+        "rvc fmt Inc.cal",
+        "rvc fmt Inc.cal --trace t --workers 2 --round turn --burst 63 --budget 1",
+    ];
+    for words in rows {
+        for source in [SPREAD, PRINTED] {
+            for step in STEPS {
+                let ran = run_setting(&rt, rt.alloc(), &fmt(words, source, step))?;
+                assert_eq!(rt; ran.status, Status::Done);
+                assert_eq!(rt; ran.status.code(), 0);
+                assert_eq!(rt; ran.drains.held(0), PRINTED);
+                assert_eq!(rt; ran.drains.held(1).len(), 0);
+            }
+        }
+    }
+    Ok(())
+}
+
+#[test]
+fn fmt_refuses_at_its_place(rt: HostRuntime) -> Result<(), Fail> {
+    let rows = [
+        (
+            "rvc fmt Inc.cal",
+            b"".as_slice(),
+            b"refused G1 Inc.cal 0\n".as_slice(),
+        ),
+        (
+            "rvc fmt Inc.cal",
+            b"actor B() \"".as_slice(),
+            b"refused L5 Inc.cal 10\n".as_slice(),
+        ),
+        ("rvc fmt No.cal", SPREAD, b"refused N1 words 0\n".as_slice()),
+        (
+            "rvc fmt a/Inc.cal",
+            SPREAD,
+            b"refused N1 words 0\n".as_slice(),
+        ),
+        (
+            "rvc fmt Inc.cal In=in",
+            SPREAD,
+            b"refused P1 words 0\n".as_slice(),
+        ),
+        (
+            "rvc fmt Inc.cal Out=out In=in",
+            SPREAD,
+            b"refused P1 words 0\n".as_slice(),
+        ),
+        (
+            "rvc fmt Inc.cal In=in",
+            b"".as_slice(),
+            b"refused G1 Inc.cal 0\n".as_slice(),
+        ),
+    ];
+    for (words, source, line) in rows {
+        for step in STEPS {
+            let ran = run_setting(&rt, rt.alloc(), &fmt(words, source, step))?;
+            assert_eq!(rt; ran.status.code(), 4);
+            assert_eq!(rt; ran.drains.held(0), line);
+        }
+    }
+    Ok(())
+}
+
+#[test]
+fn a_file_that_cannot_be_read_is_a_read_fault(rt: HostRuntime) -> Result<(), Fail> {
+    for words in ["rvc fmt Inc.cal", "rvc fmt Inc.cal In=in"] {
+        let setting = Setting {
+            failing_read: 1,
+            ..fmt(words, SPREAD, 1000)
+        };
+        let ran = run_setting(&rt, rt.alloc(), &setting)?;
+        assert_eq!(rt; ran.status, Status::ReadFault(ReadAt::File(1)));
+        assert_eq!(rt; ran.drains.held(0), b"read fault Inc.cal\n".as_slice());
+    }
+    Ok(())
+}
+
+#[test]
+fn a_text_that_cannot_be_put_is_a_write_fault(rt: HostRuntime) -> Result<(), Fail> {
+    for (step, failing_drain, put) in [(1, 4, 3), (3, 1, 0), (1000, 1, 0)] {
+        let setting = Setting {
+            failing_drain,
+            ..fmt("rvc fmt Inc.cal", SPREAD, step)
+        };
+        let ran = run_setting(&rt, rt.alloc(), &setting)?;
+        assert_eq!(rt; ran.status, Status::WriteFault { channel: 0 });
+        assert!(rt; ran.drains.held(0).len() == put);
+        assert!(rt; PRINTED.starts_with(ran.drains.held(0)));
     }
     Ok(())
 }
