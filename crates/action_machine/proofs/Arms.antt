@@ -8,7 +8,7 @@ use Rattle.rvc_base.specs.declared.trap.Trap.TheVariants.{IndexRange}
 use Rattle.rvc_base.specs.Arithmetic.{Computed}
 use Rattle.code_ir.specs.Effect.{Effect, Fails, with_offset, with_cells, pop, push_computed, on_top, on_two}
 use Rattle.std.proofs.lemmas.Bool.Decides.{nat_tests}
-use Rattle.action_machine.specs.Computing.{computed_of}
+use Rattle.rvc_base.specs.Computing.{computed_of}
 use Rattle.action_machine.specs.declared.stack.Acted.{Acted}
 use Rattle.action_machine.specs.Acting.{effect_of}
 

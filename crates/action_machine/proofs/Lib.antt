@@ -1,6 +1,5 @@
 pub mod Tops
 pub mod Arms
-pub mod Shifts
 pub mod Zeros
 pub mod Room
 pub mod Ready

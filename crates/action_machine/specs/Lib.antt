@@ -1,4 +1,3 @@
-pub mod Computing
 pub mod Stacks
 pub mod Acting
 pub mod Kept

@@ -1,20 +1,11 @@
-//! Arithmetic on numbers of the language.
+//! Arithmetic of instructions that push a number for each of their operands.
 
 ghost use Rattle.std.specs.Prelude.{◌≡◌, ◌*◌, ◌+ℤ◌, pos, not};
-ghost use Rattle.rvc_base.specs.Arithmetic.{Gives, whole, sum, difference, product, opposite, quotient, rest, left_shift, right_shift, bits_of_both, bits_of_either, bits_of_one, other_bits, truth, is_equal, is_below, is_true};
-ghost use Rattle.action_machine.specs.Computing.{computed_of};
+ghost use Rattle.rvc_base.specs.Arithmetic.{Gives, whole, bits_of_both, bits_of_either, bits_of_one, other_bits, truth, is_equal, is_below, is_true};
+ghost use Rattle.rvc_base.specs.Computing.{computed_of};
 
-use rvc_base::{MAX_SHIFT, Num, Trap};
-
-#[inline]
-pub(crate) fn sum(a: Num, b: Num) -> Result<Num, Trap>
-    ensures { computed_of result ≡ sum a b }
-{
-    match a.checked_add(b) {
-        Some(v) => Ok(v),
-        None => Err(Trap::Overflow),
-    }
-}
+use rvc_base::arithmetic::sum;
+use rvc_base::{Num, Trap};
 
 /// The offset after `k` elements of `m` numbers each. Their count may be above the greatest number, so it is
 /// added in halves.
@@ -28,91 +19,6 @@ pub(crate) fn stepped(o: Num, k: u32, m: u32) -> Result<Num, Trap>
         Some(v) => sum(v, (count - half) as Num),
         None => Err(Trap::Overflow),
     }
-}
-
-#[inline]
-pub(crate) fn difference(a: Num, b: Num) -> Result<Num, Trap>
-    ensures { computed_of result ≡ difference a b }
-{
-    match a.checked_sub(b) {
-        Some(v) => Ok(v),
-        None => Err(Trap::Overflow),
-    }
-}
-
-#[inline]
-pub(crate) fn product(a: Num, b: Num) -> Result<Num, Trap>
-    ensures { computed_of result ≡ product a b }
-{
-    match a.checked_mul(b) {
-        Some(v) => Ok(v),
-        None => Err(Trap::Overflow),
-    }
-}
-
-#[inline]
-pub(crate) fn opposite(a: Num) -> Result<Num, Trap>
-    ensures { computed_of result ≡ opposite a }
-{
-    match a.checked_neg() {
-        Some(v) => Ok(v),
-        None => Err(Trap::Overflow),
-    }
-}
-
-/// Rounds towards 0.
-#[inline]
-pub(crate) fn quotient(a: Num, b: Num) -> Result<Num, Trap>
-    ensures { computed_of result ≡ quotient a b }
-{
-    if b == 0 {
-        return Err(Trap::DivideByZero);
-    }
-    match a.checked_div(b) {
-        Some(v) => Ok(v),
-        None => Err(Trap::Overflow),
-    }
-}
-
-/// What the quotient leaves.
-#[inline]
-pub(crate) fn rest(a: Num, b: Num) -> Result<Num, Trap>
-    ensures { computed_of result ≡ rest a b }
-{
-    if b == 0 {
-        return Err(Trap::DivideByZero);
-    }
-    if b == -1 {
-        return Ok(0);
-    }
-    Ok(a % b)
-}
-
-#[inline]
-pub(crate) fn left_shift(a: Num, b: Num) -> Result<Num, Trap>
-    ensures { computed_of result ≡ left_shift a b }
-{
-    if b < 0 || b > Num::from(MAX_SHIFT) {
-        return Err(Trap::ShiftRange);
-    }
-    if b < Num::from(MAX_SHIFT) {
-        return product(a, 1 << b);
-    }
-    match opposite(a) {
-        Ok(n) => product(n, Num::MIN),
-        Err(trap) => Err(trap),
-    }
-}
-
-/// Rounds towards the lower number.
-#[inline]
-pub(crate) fn right_shift(a: Num, b: Num) -> Result<Num, Trap>
-    ensures { computed_of result ≡ right_shift a b }
-{
-    if b < 0 || b > Num::from(MAX_SHIFT) {
-        return Err(Trap::ShiftRange);
-    }
-    Ok(a >> b)
 }
 
 /// The bits of both, in two's complement.

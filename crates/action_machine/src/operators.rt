@@ -7,12 +7,14 @@ ghost use Rattle.action_machine.specs.Stacks.{top_first};
 ghost use Rattle.action_machine.specs.Acting.{effect_of};
 
 use crate::arithmetic::{
-    at_least, at_most, both_bits, difference, either_bits, equal, greater, left_shift, less,
-    one_bits, opposite, opposite_truth, other_bits, product, quotient, rest, right_shift, sum,
-    unequal,
+    at_least, at_most, both_bits, either_bits, equal, greater, less, one_bits, opposite_truth,
+    other_bits, unequal,
 };
 use crate::stack::{Acted, pop, push_result};
 use rvc_base::Num;
+use rvc_base::arithmetic::{
+    difference, left_shift, opposite, product, quotient, rest, right_shift, sum,
+};
 
 #[inline]
 pub(crate) fn add(top: &mut usize, stack: &mut [Num]) -> Acted

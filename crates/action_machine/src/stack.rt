@@ -3,7 +3,7 @@
 ghost use Rattle.std.specs.Prelude.{◌≡◌, ◌+◌, ◌≤◌, ◌<◌, ℤ, List, ◌∷◌, pos, length};
 ghost use Rattle.code_ir.specs.Effect.{push_computed};
 ghost use Rattle.action_machine.specs.Stacks.{top_first};
-ghost use Rattle.action_machine.specs.Computing.{computed_of};
+ghost use Rattle.rvc_base.specs.Computing.{computed_of};
 ghost use Rattle.action_machine.specs.Acting.{effect_of};
 
 use rvc_base::{Num, Trap};

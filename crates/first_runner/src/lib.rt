@@ -29,6 +29,3 @@ pub const CAPACITY: usize = 512;
 
 /// How often the actor may fire in a round.
 pub const BURST: u64 = 64;
-
-/// The most firings that a run may make.
-pub const MAX_BUDGET: u64 = 1_000_000_000_000;

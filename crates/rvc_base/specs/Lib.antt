@@ -9,3 +9,4 @@ pub mod Chain
 pub mod Line
 pub mod Arithmetic
 pub mod Turns
+pub mod Computing

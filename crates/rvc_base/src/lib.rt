@@ -3,7 +3,9 @@
 //! Each bound that follows from the width of numbers stands once, by name, in `width`.
 #![tactic(auto)]
 
+pub mod arithmetic;
 mod ids;
+mod limits;
 mod memory;
 mod refusal;
 mod round_kind;
@@ -13,6 +15,7 @@ mod turns;
 mod width;
 
 pub use ids::{ActId, InstId, LinkId};
+pub use limits::MAX_BUDGET;
 pub use memory::Memory;
 pub use refusal::{Front, Place, Refusal, Rule};
 pub use round_kind::RoundKind;

@@ -35,7 +35,8 @@ use crate::reporting::{
 use crate::status::{ReadAt, Status};
 use cal_model::ast::Actor;
 use channel_writer::put_all;
-use first_runner::{Ends, MAX_BUDGET, Outcome, RunEnd, TRACE_CHANNEL};
+use first_runner::{Ends, Outcome, RunEnd, TRACE_CHANNEL};
+use rvc_base::MAX_BUDGET;
 use rvc_io::{Drains, Feeds, Gate, Library};
 use rvc_words::{WordFault, read_words};
 use std::alloc::Global;

@@ -17,9 +17,6 @@ pub const MAX_BURST: u64 = 65_536;
 /// The budget where the words name none, in firings.
 pub const DEFAULT_BUDGET: u64 = 100_000_000;
 
-/// The greatest budget that the words can name, in firings.
-pub const MAX_BUDGET: u64 = 1_000_000_000_000;
-
 /// The greatest number of a generated network.
 pub const MAX_GENERATED: u64 = 1_000;
 

@@ -13,12 +13,12 @@ use crate::command::matches;
 use crate::fault::{UsageCause, WordFault};
 use crate::forms::{is_port, is_top, lacks_trace, round_or_all, verb_of};
 use crate::job::{
-    DEFAULT_BUDGET, DEFAULT_BURST, DEFAULT_WORKERS, Job, MAX_BUDGET, MAX_BURST, MAX_WORKERS,
-    PortWord,
+    DEFAULT_BUDGET, DEFAULT_BURST, DEFAULT_WORKERS, Job, MAX_BURST, MAX_WORKERS, PortWord,
 };
 use crate::names::cut;
 use crate::numbers::number_or;
 use crate::parts::{Parts, parts_of};
+use rvc_base::MAX_BUDGET;
 use std::alloc::{AllocError, Global};
 
 /// Reads the words of the command line, the program's name first.

@@ -1,6 +1,6 @@
-use Rattle.action_machine.specs.Computing.{computed_of}
-use Rattle.action_machine.proofs.Shifts.{shifted}
-use Rattle.action_machine.proofs.arithmetic.left_shift.Goals as goal
+use Rattle.rvc_base.specs.Computing.{computed_of}
+use Rattle.rvc_base.proofs.Shifts.{shifted}
+use Rattle.rvc_base.proofs.arithmetic.left_shift.Goals as goal
 
 pub returns-then-b-from-2 : goal.returns-then-b-from-2
 returns-then-b-from-2 c =

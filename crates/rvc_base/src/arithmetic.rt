@@ -1,0 +1,110 @@
+//! Arithmetic on numbers of the language (ISO/IEC 23001-4, RVC-CAL: operators on numbers).
+
+ghost use Rattle.std.specs.Prelude.{◌≡◌};
+ghost use Rattle.rvc_base.specs.Arithmetic.{sum, difference, product, opposite, quotient, rest, left_shift, right_shift};
+ghost use Rattle.rvc_base.specs.Computing.{computed_of};
+
+use crate::trap::Trap;
+use crate::width::{MAX_SHIFT, Num};
+
+/// The sum, where it is a number of the language; else Overflow.
+#[inline]
+pub fn sum(a: Num, b: Num) -> Result<Num, Trap>
+    ensures { computed_of result ≡ sum a b }
+{
+    match a.checked_add(b) {
+        Some(v) => Ok(v),
+        None => Err(Trap::Overflow),
+    }
+}
+
+/// The difference, where it is a number of the language; else Overflow.
+#[inline]
+pub fn difference(a: Num, b: Num) -> Result<Num, Trap>
+    ensures { computed_of result ≡ difference a b }
+{
+    match a.checked_sub(b) {
+        Some(v) => Ok(v),
+        None => Err(Trap::Overflow),
+    }
+}
+
+/// The product, where it is a number of the language; else Overflow.
+#[inline]
+pub fn product(a: Num, b: Num) -> Result<Num, Trap>
+    ensures { computed_of result ≡ product a b }
+{
+    match a.checked_mul(b) {
+        Some(v) => Ok(v),
+        None => Err(Trap::Overflow),
+    }
+}
+
+/// The number with the other sign, where it is a number of the language; else Overflow.
+#[inline]
+pub fn opposite(a: Num) -> Result<Num, Trap>
+    ensures { computed_of result ≡ opposite a }
+{
+    match a.checked_neg() {
+        Some(v) => Ok(v),
+        None => Err(Trap::Overflow),
+    }
+}
+
+/// The quotient rounded towards 0. A divisor of 0 is DivideByZero, and the one quotient that is no number is Overflow.
+#[inline]
+pub fn quotient(a: Num, b: Num) -> Result<Num, Trap>
+    ensures { computed_of result ≡ quotient a b }
+{
+    if b == 0 {
+        return Err(Trap::DivideByZero);
+    }
+    match a.checked_div(b) {
+        Some(v) => Ok(v),
+        None => Err(Trap::Overflow),
+    }
+}
+
+/// What the quotient leaves, with the sign of `a`; 0 where `b` is -1. A divisor of 0 is DivideByZero.
+#[inline]
+pub fn rest(a: Num, b: Num) -> Result<Num, Trap>
+    ensures { computed_of result ≡ rest a b }
+{
+    if b == 0 {
+        return Err(Trap::DivideByZero);
+    }
+    if b == -1 {
+        return Ok(0);
+    }
+    Ok(a % b)
+}
+
+/// The number times 2 to the power `b`, where it is a number of the language; else Overflow. A count outside 0 to [`MAX_SHIFT`] is
+/// ShiftRange.
+#[inline]
+pub fn left_shift(a: Num, b: Num) -> Result<Num, Trap>
+    ensures { computed_of result ≡ left_shift a b }
+{
+    if b < 0 || b > Num::from(MAX_SHIFT) {
+        return Err(Trap::ShiftRange);
+    }
+    if b < Num::from(MAX_SHIFT) {
+        return product(a, 1 << b);
+    }
+    match opposite(a) {
+        Ok(n) => product(n, Num::MIN),
+        Err(trap) => Err(trap),
+    }
+}
+
+/// The number divided by 2 to the power `b`, rounded towards the lower number. A count outside 0 to [`MAX_SHIFT`] is
+/// ShiftRange.
+#[inline]
+pub fn right_shift(a: Num, b: Num) -> Result<Num, Trap>
+    ensures { computed_of result ≡ right_shift a b }
+{
+    if b < 0 || b > Num::from(MAX_SHIFT) {
+        return Err(Trap::ShiftRange);
+    }
+    Ok(a >> b)
+}
