@@ -9,29 +9,31 @@ use Rattle.rvc_base.specs.Turns.{max_turns}
 use Rattle.cal_ast.specs.Tree as tree
 use Rattle.cal_ast.specs.Tree.{Tree, listed}
 use Rattle.cal_ast.specs.declared.expr.BinOp.TheVariants.{Eq, Ne, Lt, Ge, Gt, Add, Div}
-use Rattle.cal_model.specs.Value.{Single, Num}
+use Rattle.cal_model.specs.Value.{BoolKind, Single, Num}
 use Rattle.cal_model.specs.Outcome.{Out, Gives, Traps}
 use Rattle.cal_model.specs.Env.{Var, variable}
 use Rattle.cal_model.specs.Actor.{Port, Held, Pattern, Output, Action, Move, Actor}
 use Rattle.cal_model.specs.Selection.{start_of, choice_among}
 use Rattle.cal_model.specs.Firing.{Fired, body}
 use Rattle.cal_model.specs.Rates.{need, give}
+use Rattle.cal_model.specs.Kinding.{Fine, kind}
+use Rattle.cal_model.specs.Sound.{names_of, with_patterns}
 use Rattle.cal_model.proofs.Rows.{n_, two, name_}
 
-abbrev byte : Scalar
+abbrev pub byte : Scalar
 byte = scalar.Uint 8
 
-abbrev port_ : List ℕ → Port
+abbrev pub port_ : List ℕ → Port
 port_ name = record { name = name; kind = byte }
 
-abbrev takes_ : ℕ → List (List ℕ) → Pattern
+abbrev pub takes_ : ℕ → List (List ℕ) → Pattern
 takes_ port names = record { port = port; names = names; repeat = None }
 
-abbrev sends_ : Tree → Output
+abbrev pub sends_ : Tree → Output
 sends_ e = record { port = 0; values = listed (e ∷ []); repeat = None }
 
 -- an action with these patterns, guards and statements, which sends one value
-abbrev acts_ : List (List ℕ) → List Pattern → List Tree → List Tree → Tree → Action
+abbrev pub acts_ : List (List ℕ) → List Pattern → List Tree → List Tree → Tree → Action
 acts_ tag patterns guards statements e = record {
   tag = tag;
   patterns = patterns;
@@ -42,7 +44,7 @@ acts_ tag patterns guards statements e = record {
   initialize = false;
 }
 
-abbrev actor_ : List Port → List Held → List Action → List (List ℕ) → List Move → List (ℕ × ℕ) → Actor
+abbrev pub actor_ : List Port → List Held → List Action → List (List ℕ) → List Move → List (ℕ × ℕ) → Actor
 actor_ ins vars actions states moves pairs = record {
   class = codes "Example";
   ins = ins;
@@ -68,7 +70,7 @@ sent_in at vars z = Gives (record { state = record { at = at; vars = vars }; sen
 
 -- ---- Peek: a guard looks at the second token
 
-abbrev peek : Actor
+abbrev pub peek : Actor
 peek = actor_ (port_ (codes "In") ∷ []) []
     (acts_ [] (takes_ 0 (codes "a" ∷ codes "b" ∷ []) ∷ []) (two Gt (name_ (codes "b")) (n_ 100) ∷ []) [] (name_ (codes "a")) ∷ []) [] [] []
 
@@ -89,10 +91,14 @@ peek_takes_two = refl
 
 -- ---- Two: the higher action needs more tokens
 
-abbrev hi_lo : Actor
-hi_lo = actor_ (port_ (codes "In") ∷ []) []
-    (acts_ (codes "hi" ∷ []) (takes_ 0 (codes "a" ∷ codes "b" ∷ []) ∷ []) [] [] (two Add (name_ (codes "a")) (name_ (codes "b")))
-    ∷ acts_ (codes "lo" ∷ []) (takes_ 0 (codes "a" ∷ []) ∷ []) [] [] (name_ (codes "a")) ∷ []) [] [] ((0, 1) ∷ [])
+abbrev pub hi : Action
+hi = acts_ (codes "hi" ∷ []) (takes_ 0 (codes "a" ∷ codes "b" ∷ []) ∷ []) [] [] (two Add (name_ (codes "a")) (name_ (codes "b")))
+
+abbrev pub lo : Action
+lo = acts_ (codes "lo" ∷ []) (takes_ 0 (codes "a" ∷ []) ∷ []) [] [] (name_ (codes "a"))
+
+abbrev pub hi_lo : Actor
+hi_lo = actor_ (port_ (codes "In") ∷ []) [] (hi ∷ lo ∷ []) [] [] ((0, 1) ∷ [])
 
 high_where_there_are_two : chooses hi_lo (0 ∷ 1 ∷ []) ((pos 1 ∷ pos 2 ∷ pos 3 ∷ []) ∷ []) ≡ Picks 0
 high_where_there_are_two = refl
@@ -105,18 +111,23 @@ low_where_there_is_one = refl
 
 -- ---- Alt: its state says which port comes next
 
-abbrev s_ : ℤ → Var
+abbrev pub s_ : ℤ → Var
 s_ z = variable (codes "s") (Single (scalar.Uint 1)) true (Num z)
 
-abbrev set_s : Tree → Tree
+abbrev pub set_s : Tree → Tree
 set_s e = tree.assign (tree.ident (codes "s") 0) tree.nil e 0
 
-abbrev alt : Actor
-alt = actor_ (port_ (codes "A") ∷ port_ (codes "B") ∷ []) (record { name = codes "s"; shape = Single (scalar.Uint 1); value = Num (pos 0); changes = true } ∷ [])
-    (acts_ (codes "ta" ∷ []) (takes_ 0 (codes "x" ∷ []) ∷ []) (two Eq (name_ (codes "s")) (n_ 0) ∷ []) (set_s (n_ 1) ∷ []) (name_ (codes "x"))
-    ∷ acts_ (codes "tb" ∷ []) (takes_ 1 (codes "x" ∷ []) ∷ []) (two Ne (name_ (codes "s")) (n_ 0) ∷ []) (set_s (n_ 0) ∷ []) (name_ (codes "x")) ∷ []) [] [] []
+abbrev pub ta : Action
+ta = acts_ (codes "ta" ∷ []) (takes_ 0 (codes "x" ∷ []) ∷ []) (two Eq (name_ (codes "s")) (n_ 0) ∷ []) (set_s (n_ 1) ∷ []) (name_ (codes "x"))
 
-abbrev alt_tokens : List (List ℤ)
+abbrev pub tb : Action
+tb = acts_ (codes "tb" ∷ []) (takes_ 1 (codes "x" ∷ []) ∷ []) (two Ne (name_ (codes "s")) (n_ 0) ∷ []) (set_s (n_ 0) ∷ []) (name_ (codes "x"))
+
+abbrev pub alt : Actor
+alt = actor_ (port_ (codes "A") ∷ port_ (codes "B") ∷ []) (record { name = codes "s"; shape = Single (scalar.Uint 1); value = Num (pos 0); changes = true } ∷ [])
+    (ta ∷ tb ∷ []) [] [] []
+
+abbrev pub alt_tokens : List (List ℤ)
 alt_tokens = (pos 1 ∷ pos 2 ∷ []) ∷ (pos 10 ∷ []) ∷ []
 
 alt_begins_with_A : chooses alt (0 ∷ 1 ∷ []) alt_tokens ≡ Picks 0
@@ -133,7 +144,7 @@ alt_sends_from_B = refl
 
 -- ---- Fsm: a schedule, of which one action stands in no transition
 
-abbrev fsm : Actor
+abbrev pub fsm : Actor
 fsm = actor_ (port_ (codes "In") ∷ []) []
     (acts_ (codes "a" ∷ codes "x" ∷ []) (takes_ 0 (codes "v" ∷ []) ∷ []) (two Lt (name_ (codes "v")) (n_ 10) ∷ []) [] (n_ 1)
     ∷ acts_ (codes "a" ∷ codes "y" ∷ []) (takes_ 0 (codes "v" ∷ []) ∷ []) (two Ge (name_ (codes "v")) (n_ 10) ∷ two Lt (name_ (codes "v")) (n_ 20) ∷ []) [] (n_ 2)
@@ -175,7 +186,7 @@ fsm_12_sends_2 = refl
 
 -- ---- Div: the body traps, and not the guards
 
-abbrev divides : Actor
+abbrev pub divides : Actor
 divides = actor_ (port_ (codes "In") ∷ []) []
     (acts_ [] (takes_ 0 (codes "a" ∷ codes "b" ∷ []) ∷ []) [] [] (two Div (name_ (codes "a")) (name_ (codes "b"))) ∷ []) [] [] []
 
@@ -190,7 +201,7 @@ seven_by_none_traps = refl
 
 -- ---- repeated patterns and outputs: `In:[a, b] repeat 2 ==> Out:[b, a] repeat 2` swaps neighbours
 
-abbrev swaps : Actor
+abbrev pub swaps : Actor
 swaps = actor_ (port_ (codes "In") ∷ []) [] (record {
   tag = [];
   patterns = record { port = 0; names = codes "a" ∷ codes "b" ∷ []; repeat = Some 2 } ∷ [];
@@ -216,7 +227,10 @@ three_are_too_few = refl
 
 -- ---- an `initialize` action fires first, and alone; then a guard traps
 
-abbrev begins : Actor
+abbrev pub divides_6 : Action
+divides_6 = acts_ [] (takes_ 0 (codes "a" ∷ []) ∷ []) (two Eq (two Div (n_ 6) (name_ (codes "a"))) (n_ 3) ∷ []) [] (n_ 1)
+
+abbrev pub begins : Actor
 begins = actor_ (port_ (codes "In") ∷ []) [] (record {
   tag = [];
   patterns = [];
@@ -225,7 +239,7 @@ begins = actor_ (port_ (codes "In") ∷ []) [] (record {
   locals = [];
   body = tree.nil;
   initialize = true;
-} ∷ acts_ [] (takes_ 0 (codes "a" ∷ []) ∷ []) (two Eq (two Div (n_ 6) (name_ (codes "a"))) (n_ 3) ∷ []) [] (n_ 1) ∷ []) [] [] []
+} ∷ divides_6 ∷ []) [] [] []
 
 begins_fresh : chooses begins (0 ∷ 1 ∷ []) ((pos 2 ∷ []) ∷ []) ≡ Picks 0
 begins_fresh = refl
@@ -242,3 +256,23 @@ guard_is_false = refl
 
 guard_traps : choice_among begins (record { at = 0; vars = [] }) ((pos 0 ∷ []) ∷ []) (0 ∷ 1 ∷ []) ≡ Faults 1 DivideByZero
 guard_traps = refl
+
+-- ---- Twice: two pattern variables of one name, of which the later one is meant
+
+-- In:[a], Flag:[a] ==> Out:[if a then 1 else 0 end]
+abbrev twice_a : List Pattern
+twice_a = takes_ 0 (codes "a" ∷ []) ∷ takes_ 1 (codes "a" ∷ []) ∷ []
+
+abbrev twice : Actor
+twice =
+    actor_ (port_ (codes "In") ∷ record { name = codes "Flag"; kind = scalar.Bool } ∷ []) [] (acts_ [] twice_a [] [] (tree.if_expr (name_ (codes "a")) (n_ 1) (n_ 0) 0) ∷ []) [] [] []
+
+twice_is_of_the_flag : kind (name_ (codes "a")) (with_patterns twice twice_a (names_of twice)) ≡ Fine BoolKind
+twice_is_of_the_flag = refl
+
+twice_sends_by_the_flag : after twice ((pos 0 ∷ []) ∷ (pos 1 ∷ []) ∷ []) 0 ≡ sent_in 0 [] (pos 1)
+twice_sends_by_the_flag = refl
+
+-- In:[a, a] ==> Out:[a]
+twice_in_a_pattern : after (actor_ (port_ (codes "In") ∷ []) [] (acts_ [] (takes_ 0 (codes "a" ∷ codes "a" ∷ []) ∷ []) [] [] (name_ (codes "a")) ∷ []) [] [] []) ((pos 5 ∷ pos 6 ∷ []) ∷ []) 0 ≡ sent_in 0 [] (pos 6)
+twice_in_a_pattern = refl

@@ -16,6 +16,7 @@ use Rattle.cal_model.specs.Expression.{Calls, eval, eval_all, elements, type_mea
 use Rattle.cal_model.specs.Actor.{Local, Fun}
 use Rattle.cal_model.specs.Call.{first_value, declared, arguments, answered, fun_named, calls_within, calls_of}
 use Rattle.cal_model.specs.Keeping.{answer}
+use Rattle.cal_model.specs.Kinding.{Known, constant_calls, constants, constant}
 use Rattle.cal_model.specs.Sound.{Each, EachCall, StartCalls, FunCallsBelow, FunsNeverReturn}
 
 -- ---- all calls
@@ -398,3 +399,14 @@ calls-are-answered funs globals name args left never = go (length funs) refl
     go : (n : ℕ) → length funs ≡ n → calls_within n funs globals name args left ≡ answer_by (calls_within n funs) globals args left (fun_named name funs)
     go zero h = ap (λ o. answer_by (calls_within zero funs) globals args left o) (sym (none-named name funs h))
     go (suc n) h = one-less n funs globals name args left never h (fun_named name funs) refl
+
+-- ---- constants
+
+-- functions see the constants alone, which are all that is seen where no name is declared inside
+pub constant-is-value : (globals : List Known) (funs : List Fun) (e : Tree)
+    → constant e (record { globals = globals; locals = []; funs = funs }) ≡ eval e (calls_of funs) (record { globals = constants globals; locals = [] }) max_turns
+constant-is-value globals funs e =
+    let env : Env = record { globals = constants globals; locals = [] } in
+    agree-is (eval e (constant_calls (record { globals = globals; locals = []; funs = funs })) env max_turns) (eval e (calls_of funs) env max_turns)
+    (eval-agrees ⊥ any_name any_name (constant_calls (record { globals = globals; locals = []; funs = funs })) (calls_of funs) e env env max_turns
+    (record { names = λ name. match-same (look_up name env); calls = λ name p args left. agree-same ⊥ (calls_of funs (constants globals) name args left) }) (any-call e))

@@ -7,7 +7,7 @@ use Rattle.cal_ast.specs.declared.expr.BinOp.TheVariants.{Add}
 use Rattle.cal_ast.specs.Tree as tree
 use Rattle.cal_ast.specs.Tree.{Tree, listed}
 use Rattle.cal_model.specs.Value.{NumKind, BoolKind, ListKind, Single, Num, Truth, Items, Nil, Cons}
-use Rattle.cal_model.specs.Outcome.{Gives, Lacks, Clashes}
+use Rattle.cal_model.specs.Outcome.{Gives, Lacks}
 use Rattle.cal_model.specs.Env.{Env}
 use Rattle.cal_model.specs.Expression.{eval}
 use Rattle.cal_model.specs.Actor.{Fun}
@@ -43,7 +43,7 @@ one_and_two = refl
 without_n : eval up_to_n (calls_of []) c_alone 5 ≡ Lacks
 without_n = refl
 
--- two formals of one name: names mean the last, and arguments the first, so a function must not have such
+-- two formals of one name: the later one hides the earlier, in kinds and in calls
 abbrev twice : Fun
 twice = record {
   name = codes "f";
@@ -59,8 +59,8 @@ call_twice = tree.call (codes "f") (listed (n_ 7 ∷ t_ ∷ [])) 0
 call_has_kind : kind call_twice (record { globals = []; locals = []; funs = twice ∷ [] }) ≡ Fine BoolKind
 call_has_kind = refl
 
-call_clashes : eval call_twice (calls_of (twice ∷ [])) (record { globals = []; locals = [] }) 5 ≡ Clashes
-call_clashes = refl
+call_gives : eval call_twice (calls_of (twice ∷ [])) (record { globals = []; locals = [] }) 5 ≡ Gives (Truth false) 4
+call_gives = refl
 
 -- a function that calls itself: it has a kind, and the bound on open calls shows as a name that is lacked
 abbrev round : Fun

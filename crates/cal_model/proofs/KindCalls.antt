@@ -1,7 +1,6 @@
 -- Functions give values of the kinds that they declare.
-use Rattle.std.proofs.Common.{◌≡◌, ℕ, zero, suc, ◌<◌, ◌≤◌, Bool, true, false, List, [], ◌∷◌, ◌++◌, map, length, refl, sym, ap, subst, ◌∙◌, arith, Option, None, Some}
-use Rattle.std.specs.Prelude.{if◌then◌else◌, Contains, option_map}
-use Rattle.std.specs.Str.{bytes_eq}
+use Rattle.std.proofs.Common.{◌≡◌, ℕ, zero, suc, ◌<◌, ◌≤◌, List, [], ◌∷◌, ◌++◌, map, length, refl, sym, ap, subst, arith, Option, None, Some}
+use Rattle.std.specs.Prelude.{option_map}
 use Rattle.cal_ast.specs.Tree.{Tree}
 use Rattle.cal_model.specs.Value.{Shape, Single, Value, Values, Nil, Cons, kind_of_type, kind_of_scalar, stored, HasKind, IsType}
 use Rattle.cal_model.specs.Outcome.{Out, Gives, Lacks, and_then, needed}
@@ -9,47 +8,17 @@ use Rattle.cal_model.specs.Env.{Var, Env, variable, with_local}
 use Rattle.cal_model.specs.Expression.{Calls, eval}
 use Rattle.cal_model.specs.Actor.{Local, Fun}
 use Rattle.cal_model.specs.Call.{first_value, declared, arguments, answered, fun_named, calls_within}
-use Rattle.cal_model.specs.Kinding.{Known, Names, known_as, with_known, constants}
-use Rattle.cal_model.specs.Sound.{Each, AreDistinct, EachCall, StartCalls, known_local, with_locals, FunCallsBelow, FunsNeverReturn}
+use Rattle.cal_model.specs.Kinding.{Known, Names, with_known, constants}
+use Rattle.cal_model.specs.Sound.{Each, EachCall, StartCalls, known_local, with_locals, FunCallsBelow, FunsNeverReturn}
 use Rattle.cal_model.specs.Keeping.{StandsFor, AreArguments, outside, StartIsOf, StartsAreOf, IsOfItsKinds}
 use Rattle.cal_model.proofs.Agreement.{StartCallsIn, any-call, any-starts, named-one, calls-agree}
 use Rattle.cal_model.proofs.KindValues.{stored-has-kind, zero-has-kind}
 use Rattle.cal_model.proofs.KindOperators.{Comes, comes-then}
-use Rattle.cal_model.proofs.KindNames.{Stand, Fits, fits-local, stand-more, stand-match, same-text}
+use Rattle.cal_model.proofs.KindNames.{Stand, Fits, fits-local, stand-more, stand-match}
 use Rattle.cal_model.proofs.KindKept.{kept}
+use Rattle.cal_model.proofs.KindOrder.{onto, onto-behind, one-behind, with-locals-is}
 
 -- ---- formals
-
--- the locals of names with formals
-abbrev locals_with : List Local → List Known → List Known
-locals_with [] known = known
-locals_with (x ∷ xs) known = locals_with xs (known_local x ∷ known)
-
-with-locals-is : (xs : List Local) (names : Names) → with_locals xs names ≡ record names { locals = locals_with xs names.locals }
-with-locals-is [] names = refl
-with-locals-is (x ∷ xs) names = with-locals-is xs (with_known (known_local x) names)
-
--- a name that isn't among those before it is found in front of them as well
-behind : (k : Known) (ys : List Local) (zs : List Known) (name : List ℕ) → ¬ Contains (map (λ x. x.name) ys) k.name
-    → known_as name (map known_local ys ++ (k ∷ zs)) ≡ known_as name (k ∷ (map known_local ys ++ zs))
-behind k [] zs name h = refl
-behind k (y ∷ ys) zs name h = go (bytes_eq y.name name) (bytes_eq k.name name) refl refl (behind k ys zs name (λ c. h (suc c.0, (let e : c.0 < length (map (λ x. x.name) ys) = c.1 in omega arith), c.2)))
-  where
-    go : (b c : Bool) → bytes_eq y.name name ≡ b → bytes_eq k.name name ≡ c
-        → known_as name (map known_local ys ++ (k ∷ zs)) ≡ (if bytes_eq k.name name then Some k else known_as name (map known_local ys ++ zs))
-        → (if b then Some (known_local y) else known_as name (map known_local ys ++ (k ∷ zs))) ≡ (if c then Some k else if b then Some (known_local y) else known_as name (map known_local ys ++ zs))
-    go true true e f ih =
-        let same : y.name ≡ k.name = same-text y.name name e ∙ sym (same-text k.name name f) in
-        absurd (h (0, omega arith, same))
-    go true false e f ih = refl
-    go false true e f ih = ih ∙ ap (λ b. if b then Some k else known_as name (map known_local ys ++ zs)) f
-    go false false e f ih = ih ∙ ap (λ b. if b then Some k else known_as name (map known_local ys ++ zs)) f
-
--- so the order of formals, whose names are distinct, doesn't count
-in-order : (xs : List Local) (ls zs : List Known) (name : List ℕ) → AreDistinct (map (λ x. x.name) xs)
-    → known_as name (locals_with xs ls ++ zs) ≡ known_as name (map known_local xs ++ (ls ++ zs))
-in-order [] ls zs name h = refl
-in-order (x ∷ xs) ls zs name h = in-order xs (known_local x ∷ ls) zs name h.1 ∙ behind (known_local x) xs (ls ++ zs) name h.0
 
 no-constant : (w : Value) → None ≡ Some w → ⊥
 no-constant w h = cc
@@ -59,16 +28,17 @@ local-stands x v h = record { kind = h; constant = λ w e. absurd (no-constant w
 
 -- the arguments stand for the formals
 pub arguments-stand : (L : Type 0) (xs : List Local) (args : Values) (zs : List Known) (vars : List Var) → AreArguments xs args → Each (λ x. IsType x.shape) xs → Stand L zs vars
-    → (entry : List Var) × (arguments xs args ≡ Some entry) × Stand L (map known_local xs ++ zs) (entry ++ vars)
+    → (entry : List Var) × (arguments xs args ≡ Some entry) × Stand L (onto (map known_local xs) zs) (entry ++ vars)
 arguments-stand L [] Nil zs vars a t h = ([], refl, h)
 arguments-stand L [] (Cons v vs) zs vars a t h = absurd a
 arguments-stand L (x ∷ xs) Nil zs vars a t h = absurd a
 arguments-stand L (x ∷ xs) (Cons v vs) zs vars a t h =
-    let rest = arguments-stand L xs vs zs vars a.1 t.1 h in
-    let first : Var = variable x.name x.shape x.changes (stored x.shape v) in (
-      first ∷ rest.0,
-      ap (λ o. option_map (λ entry. first ∷ entry) o) rest.1,
-      stand-more L (known_local x) first (map known_local xs ++ zs) (rest.0 ++ vars) refl (local-stands x (stored x.shape v) (stored-has-kind x.shape v t.0 a.0)) rest.2,
+    let first : Var = variable x.name x.shape x.changes (stored x.shape v) in
+    let rest = arguments-stand L xs vs (known_local x ∷ zs) (first ∷ vars) a.1 t.1
+    (stand-more L (known_local x) first zs vars refl (local-stands x (stored x.shape v) (stored-has-kind x.shape v t.0 a.0)) h) in (
+      rest.0 ++ first ∷ [],
+      ap (λ o. option_map (λ entry. entry ++ first ∷ []) o) rest.1,
+      subst (λ entry. Stand L (onto (map known_local xs) (known_local x ∷ zs)) entry) (sym (one-behind first rest.0 vars)) rest.2,
     )
 
 -- ---- a function
@@ -91,13 +61,13 @@ module _ (L : Type 0) (P Q : List ℕ → Type 0) (calls : Calls) where
       (fits-local L P calls names env (known_local x) (variable x.name x.shape x.changes v) refl (local-stands x v p) fit) h.2 c.1)
 
   -- what a function sees at first is of its names
-  pub entry-fits : (xs : List Local) (names : Names) (globals vars : List Var) → AreDistinct (map (λ x. x.name) xs) → Fits L P calls (outside names) (record { globals = globals; locals = [] })
-      → Stand L (map known_local xs ++ names.globals) (vars ++ globals) → Fits L P calls (with_locals xs (outside names)) (record { globals = globals; locals = vars })
-  entry-fits xs names globals vars d fit h =
+  pub entry-fits : (xs : List Local) (names : Names) (globals vars : List Var) → Fits L P calls (outside names) (record { globals = globals; locals = [] })
+      → Stand L (onto (map known_local xs) names.globals) (vars ++ globals) → Fits L P calls (with_locals xs (outside names)) (record { globals = globals; locals = vars })
+  entry-fits xs names globals vars fit h =
       let inner : Env = record { globals = globals; locals = vars } in
-      let fits : Fits L P calls (record (outside names) { locals = locals_with xs [] }) inner = record {
+      let fits : Fits L P calls (record (outside names) { locals = onto (map known_local xs) [] }) inner = record {
         globals = fit.globals;
-        all = λ name y e. h name y (sym (in-order xs [] names.globals name d) ∙ e);
+        all = subst (λ known. Stand L known (vars ++ globals)) (sym (onto-behind (map known_local xs) [] names.globals)) h;
         give = fit.give;
         agree = fit.agree;
       } in
@@ -115,7 +85,7 @@ module _ (L : Type 0) (P Q : List ℕ → Type 0) (calls : Calls) where
   answered-kept f names globals args left is starts body fit a =
       let entry = arguments-stand L f.formals args names.globals globals a is.formals fit.globals in
       let inner : Env = record { globals = globals; locals = entry.0 } in
-      let fits = entry-fits f.formals names globals entry.0 is.distinct fit entry.2 in
+      let fits = entry-fits f.formals names globals entry.0 fit entry.2 in
       subst (λ o. Comes L (HasKind (kind_of_scalar f.result)) left (answered_by f globals o left)) (sym entry.1)
       (comes-then L (λ env. Fits L P calls (with_locals f.locals (with_locals f.formals (outside names))) env) (HasKind (kind_of_scalar f.result)) (declared f.locals calls inner left) _ left
       (declared-kept f.locals (with_locals f.formals (outside names)) inner left fits is.locals starts) (λ env m p.

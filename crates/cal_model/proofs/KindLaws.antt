@@ -1,6 +1,5 @@
 -- Kinds are kept, as the laws say it.
-use Rattle.std.proofs.Common.{◌≡◌, ℕ, zero, suc, ◌<◌, ◌≤◌, ℤ, true, false, List, [], ◌∷◌, ◌++◌, map, length, refl, sym, subst, arith, Option, None, Some}
-use Rattle.std.specs.Prelude.{Contains}
+use Rattle.std.proofs.Common.{◌≡◌, ℕ, ◌<◌, ◌≤◌, ℤ, true, false, List, [], ◌∷◌, ◌++◌, length, refl, sym, subst, arith, Option, None, Some}
 use Rattle.cal_ast.specs.Tree as tree
 use Rattle.cal_ast.specs.Tree.{Tree}
 use Rattle.cal_model.specs.Value.{Kind, Shape, Value, Num, Values, kind_of_scalar, stored, HasKind, IsType, kind_of_type}
@@ -10,7 +9,7 @@ use Rattle.cal_model.specs.Expression.{Calls, eval, eval_all, elements, type_mea
 use Rattle.cal_model.specs.Actor.{Local, Fun, Actor}
 use Rattle.cal_model.specs.Call.{fun_named, calls_of, on_call, declared}
 use Rattle.cal_model.specs.Kinding.{Fine, Known, Names, Argument, OfShape, OfSize, counter, with_known, counts, with_counters, constants, constant_number, is_word, kind, kinds, arguments_fit, elements_in, type_judged, type_arguments}
-use Rattle.cal_model.specs.Sound.{Each, FunsNeverReturn, with_locals, AreDistinct, AreLocals, StartHasKind, IsFormal, IsFun, IsSound, known_local, names_of}
+use Rattle.cal_model.specs.Sound.{Each, FunsNeverReturn, with_locals, AreLocals, StartHasKind, IsFormal, IsFun, IsSound, known_local, names_of}
 use Rattle.cal_model.specs.Keeping.{GivesOnly, LacksNothing, AreOfKinds, AreMany, AreArguments, given_by, StandFor, HasEach, IsEnvOf, HasAllOf, outside, StartIsOf, StartsAreOf, IsOfItsKinds}
 use Rattle.cal_model.proofs.Agreement.{any_name, any-call, any-starts, named-one, agree-lacks, calls-agree}
 use Rattle.cal_model.proofs.KindValues.{not-fine, fine-is, split, tested}
@@ -187,7 +186,7 @@ entry-kept names globals f args left fine h a =
     let entry = arguments-stand (Unit {0}) f.formals args names.globals globals a fine.formals (stand-some names.globals globals h) in
     let inner : Env = record { globals = globals; locals = entry.0 } in
     subst (λ o. GivesOnly (IsEnvOf (with_locals f.formals (outside names))) left (and_then (needed o left) (λ vars k. Gives (record { globals = globals; locals = vars }) k))) (sym entry.1) (
-      fits-env (Unit {0}) (λ name. ⊥) idle (with_locals f.formals (outside names)) inner (entry-fits (Unit {0}) (λ name. ⊥) (λ name. ⊥) idle f.formals names globals entry.0 fine.distinct (idle-fits names globals h) entry.2),
+      fits-env (Unit {0}) (λ name. ⊥) idle (with_locals f.formals (outside names)) inner (entry-fits (Unit {0}) (λ name. ⊥) (λ name. ⊥) idle f.formals names globals entry.0 (idle-fits names globals h) entry.2),
       let s : left ≤ left = omega arith in s,
     )
 
@@ -201,7 +200,7 @@ locals-kept names env locals left fine is h =
 
 -- ---- sound actors
 
-starts-are-of : (xs : List Local) (names : Names) → AreLocals xs names → StartsAreOf xs names
+pub starts-are-of : (xs : List Local) (names : Names) → AreLocals xs names → StartsAreOf xs names
 starts-are-of [] names h = tt
 starts-are-of (x ∷ xs) names h = (h.0, go x.start h.1, starts-are-of xs (with_known (known_local x) names) h.2)
   where
@@ -209,27 +208,13 @@ starts-are-of (x ∷ xs) names h = (h.0, go x.start h.1, starts-are-of xs (with_
     go None s = tt
     go (Some e) s = s.0
 
-formals-are-types : (xs : List Local) → Each IsFormal xs → Each (λ x. IsType x.shape) xs
+pub formals-are-types : (xs : List Local) → Each IsFormal xs → Each (λ x. IsType x.shape) xs
 formals-are-types [] h = tt
 formals-are-types (x ∷ xs) h = (subst (λ t. IsType t) (sym h.0.single) h.0.size, formals-are-types xs h.1)
-
-further : (name : List ℕ) (x : Local) (xs : List Local) → Contains (map (λ y. y.name) xs) name → Contains (map (λ y. y.name) (x ∷ xs)) name
-further name x xs c = (suc c.0, (let e : c.0 < length (map (λ y. y.name) xs) = c.1 in omega arith), c.2)
-
-among : (name : List ℕ) (xs ys : List Local) → Contains (map (λ x. x.name) xs) name → Contains (map (λ x. x.name) (xs ++ ys)) name
-among name [] ys c = absurd (omega (arith, c.1))
-among name (x ∷ xs) ys (zero, h, e) = (0, omega arith, e)
-among name (x ∷ xs) ys (suc i, h, e) = further name x (xs ++ ys) (among name xs ys (i, omega arith, e))
-
--- what is distinct is so at its front
-front-distinct : (xs ys : List Local) → AreDistinct (map (λ x. x.name) (xs ++ ys)) → AreDistinct (map (λ x. x.name) xs)
-front-distinct [] ys h = tt
-front-distinct (x ∷ xs) ys h = ((λ c. h.0 (among x.name xs ys c)), front-distinct xs ys h.1)
 
 fun-of-kinds : (names : Names) (f : Fun) → IsFun names f → names ≡ outside names → IsOfItsKinds names f
 fun-of-kinds names f is e = record {
   formals = formals-are-types f.formals is.formals;
-  distinct = front-distinct f.formals f.locals is.distinct;
   locals = subst (λ n. StartsAreOf f.locals (with_locals f.formals n)) e (starts-are-of f.locals (with_locals f.formals names) is.locals);
   result = is.result;
   body = subst (λ n. kind f.body (with_locals f.locals (with_locals f.formals n)) ≡ Fine (kind_of_scalar f.result)) e is.body;

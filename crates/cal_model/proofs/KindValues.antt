@@ -62,7 +62,7 @@ pub one-kind : (k l j : Kind) (at : ℕ) → one_kind k l at ≡ Fine j → (k �
 one-kind k l j at h = let i = one-of (is_same_kind k l) (is_like k l) k j at _ _ h in (same-kind k l i.0, i.1)
 
 pub list-of-kind : (n : ℕ) (k j : Kind) (at : ℕ) → list_of_kind n k at ≡ Fine j → ListKind n k ≡ j
-list-of-kind n k j at h = fine-is (ListKind n k) j (tested (nat_le (n * scalars_of_kind k) max_list_scalars) (Fine (ListKind n k)) _ at j h).1
+list-of-kind n k j at h = fine-is (ListKind n k) j (tested (nat_le n max_list_scalars && nat_le (n * scalars_of_kind k) max_list_scalars) (Fine (ListKind n k)) _ at j h).1
 
 -- ---- storing
 

@@ -43,14 +43,14 @@ lone class inlet outlet name = record {
   pairs = [];
 }
 
-nothing-in : {A : Type 0} (x : A) → ¬ Contains [] x
+pub nothing-in : {A : Type 0} (x : A) → ¬ Contains [] x
 nothing-in x c = let h : c.0 < 0 = c.1 in absurd (omega arith)
 
-in-one : {A : Type 0} (x y : A) → Contains (y ∷ []) x → y ≡ x
+pub in-one : {A : Type 0} (x y : A) → Contains (y ∷ []) x → y ≡ x
 in-one x y (zero, h, e) = e
 in-one x y (suc k, h, e) = absurd (omega arith)
 
-if-few : (b : Bool) (n : ℕ) → n ≤ 4096 → (if b then n else 0) ≤ 4096
+pub if-few : (b : Bool) (n : ℕ) → n ≤ 4096 → (if b then n else 0) ≤ 4096
 if-few true n h = h
 if-few false n h = omega arith
 
@@ -81,7 +81,7 @@ no-initialize : (name : List ℕ) (a : ℕ) (other : Action) → slice_get (act 
 no-initialize name zero other e h = let same : act name ≡ other = cc in let f : false ≡ true = ap (λ x. x.initialize) same ∙ h in grind arith
 no-initialize name (suc a) other e h = let no : None ≡ Some other = e in grind arith
 
-no-chain : (a b : ℕ) (through : List ℕ) → ChainLeads [] a through b → ⊥
+pub no-chain : (a b : ℕ) (through : List ℕ) → ChainLeads [] a through b → ⊥
 no-chain a b [] h = nothing-in (a, b) h
 no-chain a b (x ∷ through) h = nothing-in (a, x) h.0
 
@@ -95,6 +95,7 @@ lone-is-sound class inlet outlet name apart = record {
   procs = tt;
   funs_end = record { rank = λ n. 0; in_range = tt; calls = tt };
   procs_end = record { rank = λ n. 0; in_range = tt; calls = tt };
+  calls = record { funs = tt; procs = tt; actions = (record { guards = tt; locals = tt; body = tt; outputs = ((tt, (tt, tt)), tt) }, tt) };
   actions = (lone-action class inlet outlet name, tt);
   one_initialize = λ a b x y e f h i. absurd (no-initialize name a x e h);
   takes = needs-few class inlet outlet name;

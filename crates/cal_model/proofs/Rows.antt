@@ -12,14 +12,14 @@ use Rattle.cal_model.specs.Outcome.{Out, Gives, Traps, Lacks}
 use Rattle.cal_model.specs.Env.{Env}
 use Rattle.cal_model.specs.Expression.{Calls, eval}
 
-abbrev no_calls : Calls
+abbrev pub no_calls : Calls
 no_calls globals name args left = Lacks
 
 abbrev pub nothing : Env
 nothing = record { globals = []; locals = [] }
 
 -- what an expression without names gives, where so many turns are left
-abbrev plain : Tree → ℕ → Out Value
+abbrev pub plain : Tree → ℕ → Out Value
 plain e left = eval e no_calls nothing left
 
 abbrev pub n_ : ℕ → Tree
@@ -28,7 +28,7 @@ n_ n = tree.number n 0
 abbrev pub t_ : Tree
 t_ = tree.truth true 0
 
-abbrev f_ : Tree
+abbrev pub f_ : Tree
 f_ = tree.truth false 0
 
 abbrev pub two : BinOp → Tree → Tree → Tree

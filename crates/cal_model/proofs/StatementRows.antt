@@ -15,31 +15,31 @@ use Rattle.cal_model.specs.Call.{calls_of}
 use Rattle.cal_model.specs.Statement.{exec, runs_of}
 use Rattle.cal_model.proofs.Rows.{n_, two, minus, name_, int_type, nothing}
 
-abbrev int_ : Shape
+abbrev pub int_ : Shape
 int_ = Single (scalar.Int 32)
 
 -- x is a variable of type uint(size=8), y a list of two lists of two numbers
-abbrev globals_ : ℤ → Values → List Var
+abbrev pub globals_ : ℤ → Values → List Var
 globals_ x y = variable (codes "x") (Single (scalar.Uint 8)) true (Num x)
     ∷ variable (codes "y") (Many 2 (Many 2 int_)) true (Items y) ∷ []
 
-abbrev both : Value → Value → Value
+abbrev pub both : Value → Value → Value
 both v w = Items (Cons v (Cons w Nil))
 
 abbrev pair_of : ℤ → ℤ → Value
 pair_of a b = both (Num (pos 0)) (Num (pos 0))
 
-abbrev table : ℤ → ℤ → ℤ → ℤ → Values
+abbrev pub table : ℤ → ℤ → ℤ → ℤ → Values
 table a b c d = Cons (both (Num a) (Num b)) (Cons (both (Num c) (Num d)) Nil)
 
-abbrev zeros : Values
+abbrev pub zeros : Values
 zeros = table (pos 0) (pos 0) (pos 0) (pos 0)
 
-abbrev at_ : ℤ → Values → Env
+abbrev pub at_ : ℤ → Values → Env
 at_ x y = record { globals = globals_ x y; locals = [] }
 
 -- x := x + 1 twice over: p ( n ) adds n to x
-abbrev add_ : Proc
+abbrev pub add_ : Proc
 add_ = record {
   name = codes "p";
   formals = record { name = codes "n"; shape = int_; start = None; changes = true } ∷ [];
@@ -48,7 +48,7 @@ add_ = record {
 }
 
 -- function f ( int x ) --> int : x + 1 end
-abbrev f_ : Fun
+abbrev pub f_ : Fun
 f_ = record {
   name = codes "f";
   formals = record { name = codes "x"; shape = int_; start = None; changes = true } ∷ [];
@@ -57,16 +57,16 @@ f_ = record {
   body = two Add (name_ (codes "x")) (n_ 1);
 }
 
-abbrev calls_ : Calls
+abbrev pub calls_ : Calls
 calls_ = calls_of (f_ ∷ [])
 
-abbrev does : Tree → Env → ℕ → Out Env
+abbrev pub does : Tree → Env → ℕ → Out Env
 does s env left = exec s calls_ (runs_of (add_ ∷ []) calls_) env left
 
-abbrev set_x : Tree → Tree
+abbrev pub set_x : Tree → Tree
 set_x e = tree.assign (tree.ident (codes "x") 0) tree.nil e 0
 
-abbrev set_y : Tree → Tree → Tree → Tree
+abbrev pub set_y : Tree → Tree → Tree → Tree
 set_y i j e = tree.assign (tree.ident (codes "y") 0) (listed (i ∷ j ∷ [])) e 0
 
 wraps : does (set_x (two Add (name_ (codes "x")) (n_ 1))) (at_ (pos 255) zeros) 9 ≡ Gives (at_ (pos 0) zeros) 9
@@ -89,7 +89,7 @@ outside = refl
 below_0 : does (set_y (minus (n_ 1)) (n_ 0) (n_ 7)) (at_ (pos 0) zeros) 9 ≡ Traps IndexRange
 below_0 = refl
 
-abbrev each_ : Tree → Tree → Tree → Tree
+abbrev pub each_ : Tree → Tree → Tree → Tree
 each_ a b body = tree.foreach_stmt int_type (tree.ident (codes "i") 0) a b (listed (body ∷ [])) 0
 
 -- foreach int i in 3 .. 5 do x := x * 10 + i end
@@ -104,7 +104,7 @@ goes_nowhere = refl
 bounds_once : does (each_ (n_ 1) (name_ (codes "x")) (set_x (n_ 9))) (at_ (pos 2) zeros) 9 ≡ Gives (at_ (pos 9) zeros) 7
 bounds_once = refl
 
-abbrev while_ : Tree
+abbrev pub while_ : Tree
 while_ = tree.while_stmt (two Lt (name_ (codes "x")) (n_ 3)) (listed (set_x (two Add (name_ (codes "x")) (n_ 1)) ∷ [])) 0
 
 three_turns : does while_ (at_ (pos 0) zeros) 3 ≡ Gives (at_ (pos 3) zeros) 0

@@ -107,6 +107,16 @@ stays-signed n (pos a) s h =
 stays-signed n (negsuc a) s h =
     below-zero a (2 ^ (n - 1)) (2 ^ n) (nat_lt (2 ^ n - 1 - a % 2 ^ n) (2 ^ (n - 1))) refl (halves n s) (omega (arith, ints))
 
+stays-truth : (v : ℤ) → InRange scalar.Bool v → conv scalar.Bool v ≡ v
+stays-truth v (inl h) = rw h refl
+stays-truth v (inr h) = rw h refl
+
+-- a number of a type's range stays as it is when it is stored
+pub conv-stays : (t : Scalar) (v : ℤ) → IsSize t → InRange t v → conv t v ≡ v
+conv-stays scalar.Bool v s h = stays-truth v h
+conv-stays (scalar.Int n) v s h = stays-signed n v s.0 h
+conv-stays (scalar.Uint n) v s h = stays-unsigned n v h
+
 mutual
   pub stored-stays : (v : Value) (t : Shape) → IsType t → IsOf t v → stored t v ≡ v
   stored-stays (Num z) (Single scalar.Bool) h k = absurd k

@@ -1,5 +1,5 @@
 -- Calls of functions and procedures (ISO/IEC 23001-4, RVC-CAL: functions and procedures).
-use Rattle.std.specs.Prelude.{ℕ, zero, suc, List, [], ◌∷◌, length, if◌then◌else◌, Option, None, Some, option_map}
+use Rattle.std.specs.Prelude.{ℕ, zero, suc, List, [], ◌∷◌, ◌++◌, length, if◌then◌else◌, Option, None, Some, option_map}
 use Rattle.std.specs.Str.{bytes_eq}
 use Rattle.cal_ast.specs.Tree.{Tree}
 use Rattle.cal_model.specs.Value.{Shape, Single, Value, Values, Nil, Cons, stored, zero_of}
@@ -19,10 +19,11 @@ declared [] calls env left = Gives env left
 declared (x ∷ xs) calls env left =
     and_then (first_value x.shape x.start calls env left) (λ v m. declared xs calls (with_local (variable x.name x.shape x.changes v) env) m)
 
--- the arguments by the names of the formals, each stored in its type; none where they aren't as many
+-- The arguments by the names of the formals, each stored in its type; none where they aren't as many. Later ones stand
+-- in front, as later locals do.
 abbrev pub arguments : List Local → Values → Option (List Var)
 arguments [] Nil = Some []
-arguments (x ∷ xs) (Cons v vs) = option_map (λ vars. variable x.name x.shape x.changes (stored x.shape v) ∷ vars) (arguments xs vs)
+arguments (x ∷ xs) (Cons v vs) = option_map (λ vars. vars ++ variable x.name x.shape x.changes (stored x.shape v) ∷ []) (arguments xs vs)
 arguments xs vs = None
 
 -- what a function sees at first: the globals and its arguments

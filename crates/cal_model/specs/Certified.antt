@@ -1,6 +1,6 @@
 -- The certification rule: actors of which more tokens never change what they do (Kahn 1974, for each firing; the
 -- rule itself is this profile's).
-use Rattle.std.specs.Prelude.{◌≡◌, ◌≢◌, ℕ, suc, ◌-◌, ◌<◌, ◌≤◌, ◌^◌, ◌⊎◌, Bool, true, false, ◌&&◌, List, [], ◌∷◌, ◌++◌, length, ℤ, pos, ◌+ℤ◌, ◌-ℤ◌, ◌*ℤ◌, ◌≤ℤ◌, ◌<ℤ◌, neg_ℤ, int_lt, int_le, if◌then◌else◌, Option, None, Some, slice_get}
+use Rattle.std.specs.Prelude.{◌≡◌, ◌≢◌, ℕ, zero, suc, ◌+◌, ◌-◌, ◌≤◌, ◌^◌, ◌⊎◌, Bool, true, false, ◌&&◌, List, [], ◌∷◌, ◌++◌, length, ℤ, pos, ◌+ℤ◌, ◌-ℤ◌, ◌*ℤ◌, ◌≤ℤ◌, ◌<ℤ◌, neg_ℤ, int_lt, int_le, if◌then◌else◌, Option, None, Some, slice_get}
 use Rattle.std.specs.Str.{bytes_eq}
 use Rattle.std.specs.Int.{int_min, int_max}
 use Rattle.rvc_base.specs.declared.scalar.Scalar.{Scalar}
@@ -17,7 +17,7 @@ use Rattle.cal_ast.specs.Apart.{IsEqualApart}
 use Rattle.cal_model.specs.Value.{Shape, Single, Many, Value, Num, Truth, Items, Values, Nil, Cons}
 use Rattle.cal_model.specs.Actor.{Held, Pattern, Action, Actor}
 use Rattle.cal_model.specs.Rates.{need}
-use Rattle.cal_model.specs.Eligible.{states_of, fresh, has_initialize, eligible}
+use Rattle.cal_model.specs.Eligible.{IsStateOf, eligible}
 use Rattle.cal_model.specs.Selection.{Above, kind_of_port}
 use Rattle.cal_model.specs.Sound.{Each}
 
@@ -194,10 +194,16 @@ all_conjuncts (g ∷ gs) = conjuncts g ++ all_conjuncts gs
 
 -- ---- pattern variables by their tokens
 
--- A text that is no name, for the tokens of a port at these places.
+-- so many places, from this one on, each so far behind the one before it
+abbrev pub places_from : ℕ → ℕ → ℕ → List ℕ
+places_from zero k far = []
+places_from (suc n) k far = k ∷ places_from n (k + far) far
+
+-- A text that is no name, for the token of a port at a place, or for the list of those at the places that a repeated
+-- name holds. It begins with 0, and then tells a token and a list apart.
 abbrev pub seat : ℕ → Option ℕ → ℕ → ℕ → List ℕ
-seat port None names k = 0 ∷ port ∷ k ∷ []
-seat port (Some n) names k = 0 ∷ port ∷ k ∷ names ∷ n ∷ []
+seat port None names k = 0 ∷ 0 ∷ port ∷ k ∷ []
+seat port (Some n) names k = 0 ∷ 1 ∷ port ∷ places_from n k names
 
 abbrev pub seat_among : List ℕ → Pattern → ℕ → List (List ℕ) → Option (List ℕ)
 seat_among name q k [] = None
@@ -298,10 +304,6 @@ pub record IsModest (actor : Actor) (a b : ℕ) : Type 0 where
 -- the guards hold no call and no comprehension, and have a range
 abbrev pub HasTameGuards : Actor → Action → Type 0
 HasTameGuards actor act = Each (λ g. IsBare g × ((i : Interval) × (range g (guard_names actor act) ≡ Some i))) act.guards
-
--- a state of the schedule, or that of a fresh instance
-abbrev pub IsStateOf : Actor → ℕ → Type 0
-IsStateOf actor s = (s < states_of actor) ⊎ ((has_initialize actor.actions ≡ true) × (s ≡ fresh actor))
 
 -- In each state: the guards of each eligible action are tame, and of each two eligible actions one is above the
 -- other without needing more, or their guards exclude each other.

@@ -1,6 +1,6 @@
 -- Eligibility: which actions the schedule lets fire in a state, and where they lead (CAL Language Report,
 -- action schedules).
-use Rattle.std.specs.Prelude.{ℕ, max, Bool, true, false, ◌||◌, ◌&&◌, List, [], ◌∷◌, length, ◌==◌, if◌then◌else◌, Option, None, Some, is_some, slice_get}
+use Rattle.std.specs.Prelude.{◌≡◌, ℕ, max, ◌<◌, ◌⊎◌, Bool, true, false, ◌||◌, ◌&&◌, List, [], ◌∷◌, length, ◌==◌, if◌then◌else◌, Option, None, Some, is_some, slice_get}
 use Rattle.cal_model.specs.Actor.{Action, Move, Actor}
 
 -- there are as many states as the schedule names, and state 0 alone where there is no schedule
@@ -14,6 +14,10 @@ fresh = states_of
 abbrev pub has_initialize : List Action → Bool
 has_initialize [] = false
 has_initialize (act ∷ acts) = act.initialize || has_initialize acts
+
+-- a state of the schedule, or the fresh one where there is an `initialize`
+abbrev pub IsStateOf : Actor → ℕ → Type 0
+IsStateOf actor s = (s < states_of actor) ⊎ ((has_initialize actor.actions ≡ true) × (s ≡ fresh actor))
 
 -- where an instance begins
 abbrev pub start_state : Actor → ℕ

@@ -4,7 +4,7 @@ use Rattle.std.specs.List.{range_with_len}
 use Rattle.rvc_base.specs.declared.trap.Trap.{Trap}
 use Rattle.rvc_base.specs.Storing.{conv}
 use Rattle.rvc_base.specs.Arithmetic.{truth}
-use Rattle.rvc_base.specs.Behaviour.{Behaviour, Effect, Fires, TrapsInGuard, TrapsInBody}
+use Rattle.rvc_base.specs.Behaviour.{Behaviour, Effect, Fires, TrapsInGuard, TrapsInBody, Waits}
 use Rattle.rvc_base.specs.Turns.{max_turns}
 use Rattle.cal_model.specs.Value.{Value, Num, Truth, Items, Values, Nil, Cons, value_at}
 use Rattle.cal_model.specs.Outcome.{Out, Gives, Traps, Lacks, Clashes, and_then}
@@ -16,6 +16,7 @@ use Rattle.cal_model.specs.Statement.{runs_of, exec_all}
 use Rattle.cal_model.specs.Rates.{need, give}
 use Rattle.cal_model.specs.Eligible.{next}
 use Rattle.cal_model.specs.Selection.{State, start_of, Priorities, kind_of_port, seen_by, Guards, AreTrue, AreFalse, AreTrapping, readiness, IsEnabled, IsExposed, is_exposed, choice}
+use Rattle.cal_model.specs.ActorState.{is_actor_state, kept_tokens}
 
 -- ---- outputs
 
@@ -116,7 +117,7 @@ effect_of_exposed actor x u a (AreTrapping c) = Some (TrapsInGuard c)
 abbrev pub effect : (actor : Actor) → Priorities actor → State → List (List ℤ) → ℕ → Option (Effect State)
 effect actor p x u a = if is_exposed actor p x u a then effect_of_exposed actor x u a (readiness actor x u a) else None
 
--- what the actor does, as networks see it
+-- What the actor does, as networks see it: nothing but in its own states, and on tokens as its ports store them.
 abbrev pub behaviour : (actor : Actor) → Priorities actor → Behaviour State
 behaviour actor p = record {
   start = start_of actor;
@@ -124,6 +125,6 @@ behaviour actor p = record {
   outs = length actor.outs;
   need = need actor;
   give = give actor;
-  effect = effect actor p;
-  choice = choice actor p;
+  effect = λ x u a. if is_actor_state actor x then effect actor p x (kept_tokens actor u) a else None;
+  choice = λ x u. if is_actor_state actor x then choice actor p x (kept_tokens actor u) else Waits;
 }

@@ -1,16 +1,17 @@
 -- What it means that values keep to the kinds of their names: environments that are of names, functions that are of
 -- their kinds, and outcomes that give such values alone.
-use Rattle.std.specs.Prelude.{◌≡◌, ℕ, ◌≤◌, List, [], ◌∷◌, ◌++◌, map, Option, None, Some}
+use Rattle.std.specs.Prelude.{◌≡◌, ℕ, ◌≤◌, List, [], ◌∷◌, ◌++◌, Option, None, Some}
 use Rattle.rvc_base.specs.Storing.{IsSize}
 use Rattle.cal_ast.specs.Tree.{Tree}
 use Rattle.cal_model.specs.Value.{Kind, Value, Num, Values, Nil, Cons, count, kind_of_scalar, kind_of_type, HasKind, HaveKind, IsType}
 use Rattle.cal_model.specs.Outcome.{Out, Gives, Traps, Lacks, Clashes}
 use Rattle.cal_model.specs.Env.{Var, Env, find}
-use Rattle.cal_model.specs.Expression.{Given, nothing_given, size_of_value}
-use Rattle.cal_model.specs.Actor.{Local, Fun}
+use Rattle.cal_model.specs.Expression.{Calls, Given, nothing_given, size_of_value}
+use Rattle.cal_model.specs.Actor.{Local, Fun, Proc}
 use Rattle.cal_model.specs.Call.{answered, calls_of}
+use Rattle.cal_model.specs.Statement.{Runs, performed, runs_of}
 use Rattle.cal_model.specs.Kinding.{Fine, Known, Names, Argument, OfShape, OfSize, known_as, kind, with_known}
-use Rattle.cal_model.specs.Sound.{Each, AreDistinct, known_local, with_locals}
+use Rattle.cal_model.specs.Sound.{Each, known_local, with_locals}
 
 -- ---- outcomes
 
@@ -27,6 +28,21 @@ LacksNothing (Gives a m) = Unit {0}
 LacksNothing (Traps c) = Unit {0}
 LacksNothing Lacks = ⊥
 LacksNothing Clashes = Unit {0}
+
+-- it leaves no more turns than these
+abbrev pub LeavesNoMore : {A : Type 0} → ℕ → Out A → Type 0
+LeavesNoMore left (Gives a m) = m ≤ left
+LeavesNoMore left (Traps c) = Unit {0}
+LeavesNoMore left Lacks = Unit {0}
+LeavesNoMore left Clashes = Unit {0}
+
+-- functions that leave no more turns than they get, ..
+abbrev pub CallsTakeTurns : Calls → Type 0
+CallsTakeTurns calls = (globals : List Var) (name : List ℕ) (args : Values) (left : ℕ) → LeavesNoMore left (calls globals name args left)
+
+-- .. and procedures
+abbrev pub RunsTakeTurns : Runs → Type 0
+RunsTakeTurns runs = (globals : List Var) (name : List ℕ) (args : Values) (left : ℕ) → LeavesNoMore left (runs globals name args left)
 
 -- ---- values
 
@@ -95,7 +111,6 @@ StartsAreOf (x ∷ xs) names = IsType x.shape × StartIsOf (kind_of_type x.shape
 -- a function whose body and starts have the kinds that it declares for them
 pub record IsOfItsKinds (names : Names) (f : Fun) : Type 0 where
   pub formals : Each (λ x. IsType x.shape) f.formals
-  pub distinct : AreDistinct (map (λ x. x.name) f.formals)
   pub locals : StartsAreOf f.locals (with_locals f.formals (outside names))
   pub result : IsSize f.result
   pub body : kind f.body (with_locals f.locals (with_locals f.formals (outside names))) ≡ Fine (kind_of_scalar f.result)
@@ -104,3 +119,8 @@ pub record IsOfItsKinds (names : Names) (f : Fun) : Type 0 where
 abbrev pub answer : List Fun → List Var → Values → ℕ → Option Fun → Out Value
 answer funs globals args left None = Lacks
 answer funs globals args left (Some f) = answered f (calls_of funs) globals args left
+
+-- what the procedure that is named makes of the globals over all procedures, or nothing where there is none
+abbrev pub made : List Proc → Calls → List Var → Values → ℕ → Option Proc → Out (List Var)
+made procs calls globals args left None = Lacks
+made procs calls globals args left (Some p) = performed p calls (runs_of procs calls) globals args left

@@ -151,9 +151,10 @@ abbrev pub all_same : Kind → List Kind → Bool
 all_same k [] = true
 all_same k (l ∷ ls) = is_same_kind k l && all_same k ls
 
--- a list of n items of a kind
+-- A list of n items of a kind. Neither its scalars nor its items, which may be empty lists, are too many.
 abbrev pub list_of_kind : ℕ → Kind → ℕ → Judged Kind
-list_of_kind n k at = if nat_le (n * scalars_of_kind k) max_list_scalars then Fine (ListKind n k) else Broken list_too_long at
+list_of_kind n k at =
+    if nat_le n max_list_scalars && nat_le (n * scalars_of_kind k) max_list_scalars then Fine (ListKind n k) else Broken list_too_long at
 
 -- a list of items of these kinds, which are one
 abbrev pub list_kind : List Kind → ℕ → Judged Kind

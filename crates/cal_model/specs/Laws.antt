@@ -1,7 +1,8 @@
 -- What holds of all values, expressions and actors, as statements.
-use Rattle.std.specs.Prelude.{◌≡◌, ℕ, ◌+◌, ◌<◌, ◌↔◌, ◌⊎◌, true, false, List, [], ◌∷◌, ℤ, None, Some}
+use Rattle.std.specs.Prelude.{◌≡◌, ℕ, ◌+◌, ◌<◌, ◌↔◌, ◌⊎◌, Contains, slice_get, true, false, List, [], ◌∷◌, length, ℤ, pos, ◌+ℤ◌, int_lt, if◌then◌else◌, None, Some}
 use Rattle.rvc_base.specs.declared.trap.Trap.{Trap}
 use Rattle.rvc_base.specs.declared.trap.Trap.TheVariants.{TurnLimit}
+use Rattle.rvc_base.specs.Turns.{max_turns}
 use Rattle.rvc_base.specs.Behaviour.{Fires, TrapsInGuard, TrapsInBody, Waits, Picks, Faults}
 use Rattle.cal_ast.specs.declared.expr.BinOp.{BinOp}
 use Rattle.cal_ast.specs.declared.expr.BinOp.TheVariants.{Add, Sub, Mul}
@@ -15,18 +16,20 @@ use Rattle.cal_model.specs.declared.ast.Binary.{Binary}
 use Rattle.cal_model.specs.Eval as form
 use Rattle.cal_model.specs.Meaning.{IsFirstForm}
 use Rattle.cal_model.specs.Value.{Kind, Shape, Value, Num, Values, HasKind, IsOf, IsType, kind_of_scalar, kind_of_type, stored, zero_of}
-use Rattle.cal_model.specs.Outcome.{Out, Gives, Traps}
-use Rattle.cal_model.specs.Expression.{Calls, eval, eval_all, elements, type_meant, args_given}
+use Rattle.cal_model.specs.Outcome.{Out, Gives, Traps, and_then, turn}
+use Rattle.cal_model.specs.Expression.{Calls, eval, eval_all, elements, chosen, span, type_meant, args_given}
 use Rattle.cal_model.specs.Env.{Var, Env, variable, with_local}
-use Rattle.cal_model.specs.Statement.{for_loop}
-use Rattle.cal_model.specs.Actor.{Local, Fun, Actor}
+use Rattle.cal_model.specs.Statement.{Runs, for_loop, exec, exec_all, runs_of, proc_named}
+use Rattle.cal_model.specs.Actor.{Local, Fun, Proc, Move, Actor}
 use Rattle.cal_model.specs.Call.{calls_of, fun_named, on_call, declared}
-use Rattle.cal_model.specs.Kinding.{Fine, Names, Argument, counter, with_known, counts, with_counters, kind, kinds, arguments_fit, elements_in, type_judged, type_arguments}
-use Rattle.cal_model.specs.Sound.{Each, FunsNeverReturn, with_locals, names_of, IsSound}
-use Rattle.cal_model.specs.Keeping.{GivesOnly, LacksNothing, AreOfKinds, AreMany, AreArguments, given_by, StandFor, IsEnvOf, HasAllOf, outside, StartsAreOf, IsOfItsKinds, answer}
+use Rattle.cal_model.specs.Kinding.{Fine, Known, Names, Argument, counter, constants, constant, with_known, counts, with_counters, kind, kinds, arguments_fit, elements_in, type_judged, type_arguments}
+use Rattle.cal_model.specs.Sound.{Each, FunsNeverReturn, with_locals, names_of, IsSound, ProcsNeverReturn}
+use Rattle.cal_model.specs.Keeping.{GivesOnly, LacksNothing, CallsTakeTurns, RunsTakeTurns, AreOfKinds, AreMany, AreArguments, given_by, StandFor, IsEnvOf, HasAllOf, outside, StartsAreOf, IsOfItsKinds, answer, made}
+use Rattle.cal_model.specs.Tags.{stands_for, IsMeant, Transition, moves_of, IsMoveOf, pairs_of, IsPairOf}
 use Rattle.cal_model.specs.Rates.{need}
-use Rattle.cal_model.specs.Selection.{State, Priorities, AreFalse, AreTrapping, readiness, IsEnabled, IsExposed, choice}
-use Rattle.cal_model.specs.Firing.{IsFiring, IsTrapping, effect}
+use Rattle.cal_model.specs.Selection.{State, start_of, Priorities, tokens_on, AreFalse, AreTrapping, readiness, IsEnabled, IsExposed, choice}
+use Rattle.cal_model.specs.ActorState.{IsActorState, is_actor_state, AreTokensOf, kept_tokens}
+use Rattle.cal_model.specs.Firing.{IsFiring, IsTrapping, effect, behaviour}
 
 -- a value of a type's kind, once stored, is in the type
 abbrev pub StoredIsOfType : Type 0
@@ -71,7 +74,7 @@ abbrev pub WaitingIsIdle : Type 0
 WaitingIsIdle = (actor : Actor) (p : Priorities actor) (x : State) (u : List (List ℤ))
     → choice actor p x u ≡ Waits → (a : ℕ) → readiness actor x u a ≡ AreFalse
 
--- the effects of the behaviour are the firings ..
+-- the effects are the firings ..
 abbrev pub EffectsAreFirings : Type 0
 EffectsAreFirings = (actor : Actor) (p : Priorities actor) (x y : State) (u sent : List (List ℤ)) (a : ℕ)
     → (effect actor p x u a ≡ Some (Fires y sent)) ↔ IsFiring actor x u a y (need actor a) sent
@@ -81,6 +84,91 @@ abbrev pub EffectsAreTraps : Type 0
 EffectsAreTraps = (actor : Actor) (p : Priorities actor) (x : State) (u : List (List ℤ)) (a : ℕ) (c : Trap)
     → ((effect actor p x u a ≡ Some (TrapsInGuard c)) ⊎ (effect actor p x u a ≡ Some (TrapsInBody c))) ↔ IsTrapping actor x u a c
 
+-- in the actor's states and over tokens of its ports the behaviour has these effects, and makes this choice ..
+abbrev pub BehaviourIsEffect : Type 0
+BehaviourIsEffect = (actor : Actor) (p : Priorities actor) (x : State) (u : List (List ℤ)) → IsSound actor → IsActorState actor x → AreTokensOf actor u
+    → ((a : ℕ) → (behaviour actor p).effect x u a ≡ effect actor p x u a) × ((behaviour actor p).choice x u ≡ choice actor p x u)
+
+-- .. over others it has those that it has over the tokens as they are stored ..
+abbrev pub BehaviourStoresTokens : Type 0
+BehaviourStoresTokens = (actor : Actor) (p : Priorities actor) (x : State) (u : List (List ℤ)) → IsActorState actor x
+    → ((a : ℕ) → (behaviour actor p).effect x u a ≡ effect actor p x (kept_tokens actor u) a)
+    × ((behaviour actor p).choice x u ≡ choice actor p x (kept_tokens actor u))
+
+-- .. and in other states it does nothing
+abbrev pub BehaviourIsIdle : Type 0
+BehaviourIsIdle = (actor : Actor) (p : Priorities actor) (x : State) (u : List (List ℤ)) → ¬ IsActorState actor x
+    → ((a : ℕ) → (behaviour actor p).effect x u a ≡ None) × ((behaviour actor p).choice x u ≡ Waits)
+
+-- which action is above which is determined by the actor, ..
+abbrev pub AboveIsOne : Type 0
+AboveIsOne = (actor : Actor) (p q : Priorities actor) (a b : ℕ) → p.above a b ≡ q.above a b
+
+-- .. and so are the line of the actions, ..
+abbrev pub LineIsOne : Type 0
+LineIsOne = (actor : Actor) (p q : Priorities actor) → p.line ≡ q.line
+
+-- .. what is chosen, ..
+abbrev pub ChoiceIsOne : Type 0
+ChoiceIsOne = (actor : Actor) (p q : Priorities actor) (x : State) (u : List (List ℤ)) → choice actor p x u ≡ choice actor q x u
+
+-- .. the effect of each action ..
+abbrev pub EffectIsOne : Type 0
+EffectIsOne = (actor : Actor) (p q : Priorities actor) (x : State) (u : List (List ℤ)) (a : ℕ) → effect actor p x u a ≡ effect actor q x u a
+
+-- .. and the whole behaviour
+abbrev pub BehaviourIsOne : Type 0
+BehaviourIsOne = (actor : Actor) (p q : Priorities actor) → behaviour actor p ≡ behaviour actor q
+
+-- ---- tags
+
+-- a tag stands for the actions whose tags begin with its components, an `initialize` excepted
+abbrev pub TagsStandFor : Type 0
+TagsStandFor = (actor : Actor) (tag : List (List ℕ)) (a : ℕ) → Contains (stands_for tag actor) a ↔ IsMeant tag (slice_get actor.actions a)
+
+-- a transition leads from its one state to the other, by each action that one of its tags stands for
+abbrev pub TransitionsLead : Type 0
+TransitionsLead = (actor : Actor) (t : Transition) (m : Move) → Contains (moves_of actor t) m ↔ IsMoveOf actor t m
+
+-- a chain puts an action above another where a tag stands for the one and the next tag for the other
+abbrev pub ChainsPutAbove : Type 0
+ChainsPutAbove = (actor : Actor) (tags : List (List (List ℕ))) (a b : ℕ) → Contains (pairs_of actor tags) (a, b) ↔ IsPairOf actor tags a b
+
+-- ---- states and tokens
+
+-- the test of states says what `IsActorState` does
+abbrev pub StatesAreTested : Type 0
+StatesAreTested = (actor : Actor) (x : State) → (is_actor_state actor x ≡ true) ↔ IsActorState actor x
+
+-- a sound actor begins in one of its states
+abbrev pub StartIsState : Type 0
+StartIsState = (actor : Actor) → IsSound actor → IsActorState actor (start_of actor)
+
+-- a firing leaves a sound actor in one of its states ..
+abbrev pub FiringsKeepStates : Type 0
+FiringsKeepStates = (actor : Actor) (x y : State) (u sent : List (List ℤ)) (a : ℕ) (taken : ℕ → ℕ)
+    → IsSound actor → IsActorState actor x → AreTokensOf actor u → IsFiring actor x u a y taken sent → IsActorState actor y
+
+-- .. and so does its behaviour, in any state and over any tokens
+abbrev pub BehaviourKeepsStates : Type 0
+BehaviourKeepsStates = (actor : Actor) (p : Priorities actor) (x y : State) (u sent : List (List ℤ)) (a : ℕ)
+    → IsSound actor → (behaviour actor p).effect x u a ≡ Some (Fires y sent) → IsActorState actor y
+
+-- tokens as they are stored are tokens of the ports ..
+abbrev pub KeptAreTokens : Type 0
+KeptAreTokens = (actor : Actor) (u : List (List ℤ)) → IsSound actor → AreTokensOf actor (kept_tokens actor u)
+
+-- .. which stay as they are, ..
+abbrev pub TokensStay : Type 0
+TokensStay = (actor : Actor) (u : List (List ℤ)) → IsSound actor → AreTokensOf actor u → kept_tokens actor u ≡ u
+
+-- .. and there are as many on each port
+abbrev pub AsManyAreKept : Type 0
+AsManyAreKept = (actor : Actor) (u : List (List ℤ)) (port : ℕ) → port < length actor.ins
+    → length (tokens_on (kept_tokens actor u) port) ≡ length (tokens_on u port)
+
+-- ---- loops
+
 -- a loop over n numbers makes n turns where its body makes none ..
 abbrev pub LoopsCountTurns : Type 0
 LoopsCountTurns = (n left : ℕ) (i : ℤ) (env : Env) → for_loop n i (λ at now k. Gives now k) env (n + left) ≡ Gives env left
@@ -88,6 +176,30 @@ LoopsCountTurns = (n left : ℕ) (i : ℤ) (env : Env) → for_loop n i (λ at n
 -- .. and is one turn too many where fewer are left
 abbrev pub LoopsEndByTurns : Type 0
 LoopsEndByTurns = (n left : ℕ) (i : ℤ) (env : Env) → left < n → for_loop n i (λ at now k. Gives now k) env left ≡ Traps TurnLimit
+
+-- A `while` evaluates its condition; where it is true, a turn and the body follow, and then the same `while`. The bound
+-- that its definition is started with never shows.
+abbrev pub WhileUnfolds : Type 0
+WhileUnfolds = (test body : Tree) (at : ℕ) (calls : Calls) (runs : Runs) (env : Env) (left : ℕ) → CallsTakeTurns calls → RunsTakeTurns runs
+    → exec (tree.while_stmt test body at) calls runs env left
+    ≡ and_then (eval test calls env left) (λ v m.
+    chosen v (λ k. turn k (λ j. and_then (exec_all body calls runs env j) (λ next i. exec (tree.while_stmt test body at) calls runs next i))) (λ k. Gives env k) m)
+
+-- a loop over the numbers from low to high does nothing where there are none; else a turn and the body at the first
+-- follow, and then the loop from the next one
+abbrev pub NumbersUnfold : Type 0
+NumbersUnfold = (low high : ℤ) (body : ℤ → Env → ℕ → Out Env) (env : Env) (left : ℕ)
+    → for_loop (span low high) low body env left
+    ≡ (if int_lt high low then Gives env left
+    else turn left (λ m. and_then (body low env m) (λ next k. for_loop (span (low +ℤ pos 1) high) (low +ℤ pos 1) body next k)))
+
+-- functions leave no more turns than they get ..
+abbrev pub FunctionsTakeTurns : Type 0
+FunctionsTakeTurns = (funs : List Fun) → CallsTakeTurns (calls_of funs)
+
+-- .. and neither do procedures
+abbrev pub ProceduresTakeTurns : Type 0
+ProceduresTakeTurns = (procs : List Proc) (calls : Calls) → CallsTakeTurns calls → RunsTakeTurns (runs_of procs calls)
 
 -- ---- kinds
 
@@ -102,6 +214,11 @@ abbrev pub NothingIsLacking : Type 0
 NothingIsLacking = (names : Names) (env : Env) (e : Tree) (k : Kind) (left : ℕ)
     → Each (IsOfItsKinds names) names.funs → FunsNeverReturn names.funs → IsEnvOf names env → HasAllOf names env → kind e names ≡ Fine k
     → LacksNothing (eval e (calls_of names.funs) env left)
+
+-- where no name is declared inside, what an expression gives as a constant is what it gives over the constants
+abbrev pub ConstantIsValue : Type 0
+ConstantIsValue = (globals : List Known) (funs : List Fun) (e : Tree)
+    → constant e (record { globals = globals; locals = []; funs = funs }) ≡ eval e (calls_of funs) (record { globals = constants globals; locals = [] }) max_turns
 
 -- the same for expressions in order, ..
 abbrev pub KindsAreKept : Type 0
@@ -133,6 +250,12 @@ CallIsKept = (names : Names) (globals : List Var) (name : List ℕ) (f : Fun) (a
 abbrev pub CallIsAnswered : Type 0
 CallIsAnswered = (funs : List Fun) (globals : List Var) (name : List ℕ) (args : Values) (left : ℕ)
     → FunsNeverReturn funs → calls_of funs globals name args left ≡ answer funs globals args left (fun_named name funs)
+
+-- The same of procedures: what one makes of the globals is what its arguments, its locals and its body make of them over
+-- all procedures.
+abbrev pub RunIsPerformed : Type 0
+RunIsPerformed = (procs : List Proc) (calls : Calls) (globals : List Var) (name : List ℕ) (args : Values) (left : ℕ)
+    → ProcsNeverReturn procs → runs_of procs calls globals name args left ≡ made procs calls globals args left (proc_named name procs)
 
 -- the functions of a sound actor are of their kinds
 abbrev pub SoundFunsAreOfKinds : Type 0

@@ -10,7 +10,9 @@ pub mod Call
 pub mod Statement
 pub mod Rates
 pub mod Eligible
+pub mod Tags
 pub mod Selection
+pub mod ActorState
 pub mod Firing
 pub mod View
 pub mod Kinding

@@ -74,17 +74,20 @@ abbrev pub pattern_value : Scalar → List ℤ → Option ℕ → ℕ → ℕ �
 pattern_value t us None names k = token t us k
 pattern_value t us (Some n) names k = Items (tokens_from t us n k names)
 
--- the names of a pattern from place k on
+-- the name at place k of a pattern, which is a constant
+abbrev pub pattern_var : Scalar → List ℤ → Pattern → ℕ → List ℕ → Var
+pattern_var t us q k name = record { name = name; value = pattern_value t us q.repeat (length q.names) k; kept = None }
+
+-- the names of a pattern from place k on, the later ones in front
 abbrev pub pattern_vars_from : Scalar → List ℤ → Pattern → ℕ → List (List ℕ) → List Var
 pattern_vars_from t us q k [] = []
-pattern_vars_from t us q k (name ∷ names) =
-    record { name = name; value = pattern_value t us q.repeat (length q.names) k; kept = None } ∷ pattern_vars_from t us q (suc k) names
+pattern_vars_from t us q k (name ∷ names) = pattern_vars_from t us q (suc k) names ++ pattern_var t us q k name ∷ []
 
--- the pattern variables of an action, which are constants
+-- the pattern variables of an action, those of later patterns in front
 abbrev pub pattern_vars : Actor → List (List ℤ) → List Pattern → List Var
 pattern_vars actor u [] = []
 pattern_vars actor u (q ∷ qs) =
-    pattern_vars_from (kind_of_port actor.ins q.port) (tokens_on u q.port) q 0 q.names ++ pattern_vars actor u qs
+    pattern_vars actor u qs ++ pattern_vars_from (kind_of_port actor.ins q.port) (tokens_on u q.port) q 0 q.names
 
 -- what an action sees: the actor's variables and its pattern variables
 abbrev pub seen_by : Actor → State → List (List ℤ) → Action → Env

@@ -11,7 +11,7 @@ use Rattle.cal_model.specs.Actor.{Held, Local, Fun, Proc, Pattern, Output, Actio
 use Rattle.cal_model.specs.Rates.{need, give}
 use Rattle.cal_model.specs.Selection.{Above, kind_of_port}
 use Rattle.cal_model.specs.Statement.{proc_named}
-use Rattle.cal_model.specs.Kinding.{Judged, Fine, Known, Names, meant_by, with_known, counter, kind, kinds, arguments_fit, type_judged, counts}
+use Rattle.cal_model.specs.Kinding.{Judged, Fine, Known, Names, known_as, meant_by, with_known, with_counters, counter, kind, kinds, arguments_fit, type_judged, counts}
 
 -- ---- limits
 
@@ -313,6 +313,81 @@ pub record IsAction (actor : Actor) (act : Action) : Type 0 where
   pub takes_nothing : act.initialize ≡ true → act.patterns ≡ []
   pub unguarded : act.initialize ≡ true → act.guards ≡ []
 
+-- ---- calls that are hidden
+
+-- the name isn't declared inside
+abbrev pub IsNotInside : List ℕ → Names → Type 0
+IsNotInside name names = known_as name names.locals ≡ None
+
+abbrev mutual
+  -- No name that is declared inside is that of a function or a procedure which an expression or a statement calls at
+  -- that place: such a name would hide it.
+  pub HidesNoCall : Tree → Names → Type 0
+  HidesNoCall (tree.cons t ts) names = HidesNoCall t names × HidesNoCall ts names
+  HidesNoCall (tree.present t) names = HidesNoCall t names
+  HidesNoCall (tree.call name args at) names = IsNotInside name names × HidesNoCall args names
+  HidesNoCall (tree.paren e at) names = HidesNoCall e names
+  HidesNoCall (tree.if_expr test first other at) names = HidesNoCall test names × HidesNoCall first names × HidesNoCall other names
+  HidesNoCall (tree.list items at) names = HidesNoCall items names
+  HidesNoCall (tree.comp item gens at) names = HidesNoCall item (with_counters gens names) × GensHideNoCall gens names
+  HidesNoCall (tree.index base place at) names = HidesNoCall base names × HidesNoCall place names
+  HidesNoCall (tree.prefix op e at) names = HidesNoCall e names
+  HidesNoCall (tree.binary op l r at) names = HidesNoCall l names × HidesNoCall r names
+  HidesNoCall (tree.type_of name args at) names = HidesNoCall args names
+  HidesNoCall (tree.shape_arg name shape) names = HidesNoCall shape names
+  HidesNoCall (tree.value_arg name value) names = HidesNoCall value names
+  HidesNoCall (tree.assign name places value at) names = HidesNoCall places names × HidesNoCall value names
+  HidesNoCall (tree.call_stmt (tree.ident name place) args at) names = IsNotInside name names × HidesNoCall args names
+  HidesNoCall (tree.if_stmt test first other at) names = HidesNoCall test names × HidesNoCall first names × HidesNoCall other names
+  HidesNoCall (tree.while_stmt test body at) names = HidesNoCall test names × HidesNoCall body names
+  HidesNoCall (tree.foreach_stmt shape (tree.ident name place) from to body at) names =
+      HidesNoCall shape names × HidesNoCall from names × HidesNoCall to names × HidesNoCall body (with_known (counter name) names)
+  HidesNoCall (tree.block vars body at) names = VarsHideNoCall vars names × HidesNoCall body (with_vars_known vars names)
+  HidesNoCall other names = Unit {0}
+
+  -- each generator sees the variables of those before it
+  pub GensHideNoCall : Tree → Names → Type 0
+  GensHideNoCall (tree.cons (tree.gen shape (tree.ident name place) from to at) gens) names =
+      HidesNoCall shape names × HidesNoCall from names × HidesNoCall to names × GensHideNoCall gens (with_known (counter name) names)
+  GensHideNoCall other names = Unit {0}
+
+  -- each variable of a block sees those before it
+  pub VarsHideNoCall : Tree → Names → Type 0
+  VarsHideNoCall (tree.cons (tree.var shape (tree.ident name place) start changes at) vars) names =
+      HidesNoCall shape names × HidesNoCall start names
+      × VarsHideNoCall vars (with_known (record { name = name; kind = kind_of_judged (type_judged shape names); value = None; changes = changes }) names)
+  VarsHideNoCall other names = Unit {0}
+
+-- in no start of a local, each of which sees the locals before it
+abbrev pub LocalsHideNoCall : List Local → Names → Type 0
+LocalsHideNoCall [] names = Unit {0}
+LocalsHideNoCall (x ∷ xs) names =
+    elim x.start [ None ↦ Unit {0} | Some e ↦ HidesNoCall e names ] × LocalsHideNoCall xs (with_known (known_local x) names)
+
+-- nowhere in a function ..
+pub record FunHidesNoCall (names : Names) (f : Fun) : Type 0 where
+  pub locals : LocalsHideNoCall f.locals (with_locals f.formals names)
+  pub body : HidesNoCall f.body (with_locals f.locals (with_locals f.formals names))
+
+-- .. or a procedure: formals stand inside the globals, and locals inside these
+pub record ProcHidesNoCall (names : Names) (p : Proc) : Type 0 where
+  pub locals : LocalsHideNoCall p.locals (with_locals p.formals names)
+  pub body : HidesNoCall p.body (with_locals p.locals (with_locals p.formals names))
+
+-- nowhere in an action: guards see the pattern variables, and the rest the action's locals too
+pub record ActionHidesNoCall (actor : Actor) (act : Action) : Type 0 where
+  pub guards : Each (λ g. HidesNoCall g (with_patterns actor act.patterns (names_of actor))) act.guards
+  pub locals : LocalsHideNoCall act.locals (with_patterns actor act.patterns (names_of actor))
+  pub body : HidesNoCall act.body (with_locals act.locals (with_patterns actor act.patterns (names_of actor)))
+  pub outputs : Each (λ o. HidesNoCall o.values (with_locals act.locals (with_patterns actor act.patterns (names_of actor)))) act.outputs
+
+-- Nowhere in an actor does a formal, a local, a pattern variable or the variable of a block, a loop or a generator have
+-- the name of a function or a procedure that is called there.
+pub record NoCallIsHidden (actor : Actor) : Type 0 where
+  pub funs : Each (FunHidesNoCall (names_of actor)) actor.funs
+  pub procs : Each (ProcHidesNoCall (names_of actor)) actor.procs
+  pub actions : Each (ActionHidesNoCall actor) actor.actions
+
 -- ---- schedules and priorities
 
 abbrev pub IsTagged : Option Action → Type 0
@@ -348,6 +423,7 @@ pub record IsSound (actor : Actor) : Type 0 where
   pub procs : Each (IsProc actor.procs (names_of actor)) actor.procs
   pub funs_end : FunsNeverReturn actor.funs
   pub procs_end : ProcsNeverReturn actor.procs
+  pub calls : NoCallIsHidden actor
   -- actions; at most one is an `initialize`
   pub actions : Each (IsAction actor) actor.actions
   pub one_initialize : (a b : ℕ) (act other : Action) → slice_get actor.actions a ≡ Some act → slice_get actor.actions b ≡ Some other

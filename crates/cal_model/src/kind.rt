@@ -7,6 +7,9 @@ ghost use Rattle.cal_model.specs.View.{kind_view, shape_view};
 use rvc_base::{Memory, Scalar};
 use std::alloc::Global;
 
+/// The most scalars of a list, and the most items.
+pub const MAX_LIST_SCALARS: u32 = 16_384;
+
 /// What an expression can be: a number, a truth value, or a list of so many values of one kind.
 #[derive(Debug, Drop)]
 pub enum Kind {

@@ -2,7 +2,7 @@
 //!
 //! Each law is the contract of a function that does nothing: it is proved with the crate, and can be cited.
 
-ghost use Rattle.cal_model.specs.Laws.{ArgumentsAreKept, CallIsAnswered, CallIsKept, ChosenIsEnabled, ChosenTraps, CounterIsKept, EffectsAreFirings, EffectsAreTraps, ElementsAreKept, EntryIsKept, FirstFormIsCase, JudgedIsType, KindIsKept, KindsAreKept, LocalsAreKept, LoopsCountTurns, LoopsEndByTurns, NeverBoth, NothingIsLacking, OneFiring, OneTrap, SoundFunsAreOfKinds, StoredIsOfType, StoringStays, TypeArgumentsAreKept, TypeIsKept, WaitingIsIdle, ZeroIsOfType};
+ghost use Rattle.cal_model.specs.Laws.{AboveIsOne, ArgumentsAreKept, AsManyAreKept, BehaviourIsEffect, BehaviourIsIdle, BehaviourIsOne, BehaviourKeepsStates, BehaviourStoresTokens, CallIsAnswered, CallIsKept, ChainsPutAbove, ChoiceIsOne, ChosenIsEnabled, ChosenTraps, ConstantIsValue, CounterIsKept, EffectIsOne, EffectsAreFirings, EffectsAreTraps, ElementsAreKept, EntryIsKept, FiringsKeepStates, FirstFormIsCase, FunctionsTakeTurns, JudgedIsType, KeptAreTokens, KindIsKept, KindsAreKept, LineIsOne, LocalsAreKept, LoopsCountTurns, LoopsEndByTurns, NeverBoth, NothingIsLacking, NumbersUnfold, OneFiring, OneTrap, ProceduresTakeTurns, RunIsPerformed, SoundFunsAreOfKinds, StartIsState, StatesAreTested, StoredIsOfType, StoringStays, TagsStandFor, TokensStay, TransitionsLead, TypeArgumentsAreKept, TypeIsKept, WaitingIsIdle, WhileUnfolds, ZeroIsOfType};
 
 /// A value of a type's kind is in the type once it is stored, and then stays when it is stored again. What a
 /// variable without value holds is in the type too.
@@ -27,10 +27,49 @@ pub fn selection()
     ensures waits { WaitingIsIdle }
 {}
 
-/// What the behaviour of an actor does is exactly what the firing rule says.
+/// What the behaviour of an actor does is exactly what the firing rule says, in the states that the actor can be in and
+/// over tokens of its ports' types. Other tokens count as what the ports would store, and in other states it does
+/// nothing.
 pub fn behaviour_is_the_firing_rule()
     ensures firings { EffectsAreFirings }
     ensures traps { EffectsAreTraps }
+    ensures in_states { BehaviourIsEffect }
+    ensures stored { BehaviourStoresTokens }
+    ensures elsewhere { BehaviourIsIdle }
+{}
+
+/// What tags mean: a tag stands for the actions whose tags begin with its components, an `initialize` excepted; a
+/// transition leads by the actions that its tags stand for; and a chain puts those of each tag above those of the next.
+pub fn tags_stand_for_actions()
+    ensures tag { TagsStandFor }
+    ensures transition { TransitionsLead }
+    ensures chain { ChainsPutAbove }
+{}
+
+/// A sound actor begins in one of its states, and each firing leaves it in one. The test of states says what they are.
+pub fn actors_stay_in_their_states()
+    ensures tested { StatesAreTested }
+    ensures start { StartIsState }
+    ensures firing { FiringsKeepStates }
+    ensures behaviour { BehaviourKeepsStates }
+{}
+
+/// Tokens as ports store them are in the types of the ports, as many as before, and those that were in the types stay
+/// as they are.
+pub fn ports_keep_tokens()
+    ensures in_type { KeptAreTokens }
+    ensures stay { TokensStay }
+    ensures as_many { AsManyAreKept }
+{}
+
+/// There is one line of an actor's actions: which stands above which, and with it the line, the choice, each effect and
+/// the whole behaviour, are determined by the actor.
+pub fn one_line()
+    ensures above { AboveIsOne }
+    ensures line { LineIsOne }
+    ensures choice { ChoiceIsOne }
+    ensures effect { EffectIsOne }
+    ensures behaviour { BehaviourIsOne }
 {}
 
 /// A loop over n numbers whose body is empty makes n turns: it ends where so many are left, and is one turn too
@@ -38,6 +77,15 @@ pub fn behaviour_is_the_firing_rule()
 pub fn loops_count_turns()
     ensures end { LoopsCountTurns }
     ensures too_many { LoopsEndByTurns }
+{}
+
+/// A loop is a turn and its body, and then the same loop, however many turns are left: over functions and procedures
+/// that leave no more turns than they get, as those of an actor do.
+pub fn loops_go_on()
+    ensures while_true { WhileUnfolds }
+    ensures each_number { NumbersUnfold }
+    ensures functions { FunctionsTakeTurns }
+    ensures procedures { ProceduresTakeTurns }
 {}
 
 /// Evaluation of an expression that has a kind gives a value of that kind, or a trap: over an environment of its
@@ -54,11 +102,22 @@ pub fn kinds_are_kept()
     ensures sound { SoundFunsAreOfKinds }
 {}
 
+/// What a procedure makes of the globals is what its arguments, its locals and its body make of them over all
+/// procedures, where none calls itself, directly or round about: the bound on open calls never shows.
+pub fn procedures_are_performed()
+    ensures { RunIsPerformed }
+{}
+
 /// A type that is judged over the constants of names is the type that is meant at run time, and its sizes are allowed.
 pub fn types_are_kept()
     ensures meant { TypeIsKept }
     ensures arguments { TypeArgumentsAreKept }
     ensures allowed { JudgedIsType }
+{}
+
+/// What a constant expression gives while kinds are sought is what evaluation gives over the constants.
+pub fn constants_are_values()
+    ensures { ConstantIsValue }
 {}
 
 /// The variables of generators and loops, the arguments of a function and its locals keep an environment to its
