@@ -1,7 +1,8 @@
 -- What a call gives, and how much less is left once it is opened.
-use Rattle.std.proofs.Common.{◌≡◌, ℕ, zero, suc, ◌+◌, ◌*◌, ◌-◌, ◌<◌, ◌≤◌, Bool, true, false, List, [], ◌∷◌, map, sym, ap, ◌∙◌, subst, arith}
+use Rattle.std.proofs.Common.{◌≡◌, ℕ, zero, suc, ◌+◌, ◌*◌, ◌-◌, ◌<◌, ◌≤◌, Bool, true, false, List, [], ◌∷◌, map, refl, sym, ap, ◌∙◌, subst, arith}
 use Rattle.std.proofs.Math.Nat.{suc-mul}
 use Rattle.std.specs.Prelude.{Option, None, Some, if◌then◌else◌}
+use Rattle.std.specs.Borrow.{Bor}
 use Rattle.std.specs.Str.{bytes_eq}
 use Rattle.cal_model.specs.Value.{Single, Value, Values, stored}
 use Rattle.cal_model.specs.Outcome.{Out, Gives, Lacks, and_then, needed}
@@ -14,9 +15,15 @@ use Rattle.cal_model.specs.declared.bound.BoundFun.{BoundFun}
 use Rattle.cal_model.specs.declared.bound.BoundLocal.{BoundLocal}
 use Rattle.cal_model.specs.declared.value.Value.{Value as Declared}
 use Rattle.cal_ast.specs.View.{expr_tree}
+use Rattle.const_eval.specs.Constants.{var_of}
+use Rattle.const_eval.specs.Counting.{counted_names, hide}
 use Rattle.const_eval.specs.Held.{held}
-use Rattle.const_eval.specs.Scoping.{frame}
+use Rattle.const_eval.specs.Scoping.{calls, frame, seen}
+use Rattle.const_eval.specs.declared.counters.Counters.{Counters}
 use Rattle.const_eval.specs.declared.scope.Scope.{Scope}
+use Rattle.const_eval.specs.Outcome.{Stops}
+use Rattle.const_eval.specs.declared.stop.Stop.{Stop}
+use Rattle.const_eval.proofs.Going.{stops_on}
 use Rattle.const_eval.proofs.Weights.{fun_size, locals_size, room, size, weight}
 
 -- ---- how much is left
@@ -93,3 +100,33 @@ called_falls name scope inner fun locals l found ls d e =
     let same : room inner ≡ (scope.depth - 1) * weight (held scope.env.now).funs = ap (λ k. k * weight (held inner.env.now).funs) d ∙ ap (λ h. (scope.depth - 1) * weight h.funs) e in
     let parts : locals_size (map local_view locals) ≡ locals_size (fun_view fun).locals = ap (λ xs. locals_size (map local_view xs)) ls in
     omega arith
+
+-- ---- what functions see
+
+abbrev given_calls : Option (Bor Counters) → ℕ → List Fun → List Var → Calls
+given_calls hidden n funs vars = elim hidden [ None ↦ calls_within n funs | Some x ↦ (λ globals. calls_within n funs vars) ]
+
+calls-by : (hidden : Option (Bor Counters)) (n : ℕ) (funs : List Fun) (vars : List Var) → given_calls hidden n funs vars (hide (counted_names hidden) vars) ≡ calls_within n funs vars
+calls-by None n funs vars = refl
+calls-by (Some x) n funs vars = refl
+
+-- functions see all constants, also where generators hide some
+pub calls_see : (s : Scope) → calls s (seen s).globals ≡ calls_within s.depth (held s.env.now).funs (map var_of (held s.env.now).values)
+calls_see s = calls-by s.hidden s.depth (held s.env.now).funs (map var_of (held s.env.now).values)
+
+-- .. none where no function has the name
+pub called_lacks : (depth : ℕ) (name : List ℕ) (funs : List Fun) (globals : List Var) (args : Values) (left : ℕ) → None ≡ fun_named name funs → calls_within depth funs globals name args left ≡ Lacks
+called_lacks zero name funs globals args left e = refl
+called_lacks (suc n) name funs globals args left e = ap (λ o. elim o [ None ↦ Lacks | Some f ↦ answered f (calls_within n funs) globals args left ]) (sym e)
+
+-- .. and no more than the arguments where these end it
+pub called_stops : (depth : ℕ) (name : List ℕ) (funs : List Fun) (fun : BoundFun) (globals : List Var) (args : Values) (left : ℕ) (formals : List BoundLocal) (s : Stop)
+    → 0 < depth → Some (fun_view fun) ≡ fun_named name funs → formals ≡ fun.formals.items → Stops s (needed (arguments (map local_view formals) args) left) → Stops s (calls_within depth funs globals name args left)
+called_stops zero name funs fun globals args left formals s l e f h = absurd (omega arith)
+called_stops (suc n) name funs fun globals args left formals s l e f h =
+    let g : Fun = fun_view fun in
+    let given : Stops s (needed (arguments g.formals args) left) = subst (λ xs. Stops s (needed (arguments (map local_view xs) args) left)) f h in
+    subst (λ o. Stops s (elim o [ None ↦ Lacks | Some k ↦ answered k (calls_within n funs) globals args left ])) e
+    (stops_on s (and_then (needed (arguments g.formals args) left) (λ vars k. Gives (record { globals = globals; locals = vars }) k))
+    (λ entry k. and_then (declared g.locals (calls_within n funs) entry k) (λ env m. and_then (eval g.body (calls_within n funs) env m) (λ v j. Gives (stored (Single g.result) v) j)))
+    (stops_on s (needed (arguments g.formals args) left) (λ vars k. Gives (record { globals = globals; locals = vars }) k) given))

@@ -1,4 +1,3 @@
-mod Shifts
 mod Lists
 mod Entries
 mod Tested
@@ -14,3 +13,9 @@ mod EachNumber
 mod Asked
 mod Rights
 mod Expressions
+mod Capped
+mod Judged
+mod Counted
+mod Named
+mod Steps
+mod GenSteps

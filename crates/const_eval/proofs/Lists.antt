@@ -1,14 +1,15 @@
 -- Lists of values, one value after another.
 use Rattle.std.proofs.Common.{◌≡◌, ℕ, zero, suc, ◌+◌, List, [], ◌∷◌, ◌++◌, map, length, get_or, ◌<◌, ◌≤◌, refl, sym, ap, ◌∙◌, add-one, arith}
 use Rattle.std.proofs.Common.{ℤ, pos, negsuc, false, subst, take, to_z, of_z, w64, SFits}
-use Rattle.std.specs.Prelude.{None, Some, int_lt, unsigned_abs}
+use Rattle.std.specs.Prelude.{None, Some, int_lt, slice_get, unsigned_abs}
 use Rattle.std.proofs.lemmas.Int.{to_z-of_z}
 use Rattle.rvc_base.specs.declared.trap.Trap.TheVariants.{IndexRange}
 use Rattle.cal_model.specs.Outcome.{Gives, Traps}
 use Rattle.cal_model.specs.Env.{item_at}
 use Rattle.std.proofs.lemmas.List.{map-append, take_all}
-use Rattle.cal_model.specs.Value.{Shape, Value, Values, Nil, Cons, one, joined, repeated, stored, stored_each, value_at}
+use Rattle.cal_model.specs.Value.{ListKind, Shape, Value, Items, Values, Nil, Cons, count, one, joined, repeated, stored, stored_each, value_at}
 use Rattle.cal_model.specs.View.{in_order, value_view}
+use Rattle.const_eval.specs.Constants.{kind_of_value}
 use Rattle.cal_model.specs.declared.value.Value.{Value as Declared}
 
 pub one_more : (vs : List Value) (v : Value) → in_order (vs ++ v ∷ []) ≡ joined (in_order vs) (one v)
@@ -75,3 +76,14 @@ item_missing (negsuc n) vs left f e h =
     let is : to_z w64 (of_z w64 (negsuc n)) ≡ negsuc n = to_z-of_z w64 (negsuc n) f in
     let g : int_lt (negsuc n) (pos 0) ≡ false = subst (λ x. int_lt x (pos 0) ≡ false) is e in
     cc
+
+-- the kind of a list is told by its first value
+pub first_kind : (vs : List Declared) (v : Declared) → slice_get vs 0 ≡ Some v → kind_of_value (Items (in_order (map value_view vs))) ≡ ListKind (length vs) (kind_of_value (value_view v))
+first_kind [] v e = cc
+first_kind (w ∷ vs) v e =
+    let same : w ≡ v = cc in
+    ap (λ n. ListKind (suc n) (kind_of_value (value_view w))) (counted vs) ∙ ap (λ x. ListKind (suc (length vs)) (kind_of_value (value_view x))) same
+  where
+    counted : (xs : List Declared) → count (in_order (map value_view xs)) ≡ length xs
+    counted [] = refl
+    counted (x ∷ xs) = ap suc (counted xs)

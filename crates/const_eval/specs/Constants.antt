@@ -36,6 +36,10 @@ kind_of_value (Items (Cons v vs)) = ListKind (suc (count vs)) (kind_of_value v)
 abbrev pub known_of : Constant → Known
 known_of x = record { name = x.name; kind = kind_of_value x.value; value = Some x.value; changes = false }
 
--- .. and as a variable that isn't assigned
+-- the constants and the functions as names with their kinds
+abbrev pub names_of : Constants → Names
+names_of env = record { globals = map known_of env.values; locals = []; funs = env.funs }
+
+-- a constant as a variable that isn't assigned
 abbrev pub var_of : Constant → Var
 var_of x = record { name = x.name; value = x.value; kept = None }

@@ -1,5 +1,5 @@
 -- What a constant expression gives, and which expressions may be evaluated over constants.
-use Rattle.std.specs.Prelude.{◌≡◌, List, [], ◌++◌, map, None}
+use Rattle.std.specs.Prelude.{◌≡◌, List, [], ◌++◌, map}
 use Rattle.rvc_base.specs.Turns.{max_turns}
 use Rattle.cal_ast.specs.Tree.{Tree}
 use Rattle.cal_model.specs.Value.{Kind, Value, HasKind}
@@ -44,5 +44,3 @@ pub record IsEvaluable (env : Constants) (e : Tree) : Type 0 where
   pub values : Each IsOfOneKind env.values
   pub funs : Each (IsOfItsKinds (names_with lacking env)) env.funs
   pub ends : FunsNeverReturn env.funs
-  -- what lacks has no value
-  pub without_values : Each (λ x. x.value ≡ None) lacking

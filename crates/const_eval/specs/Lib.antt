@@ -1,4 +1,3 @@
-pub mod Computing
 pub mod Outcome
 pub mod Sizes
 pub mod Constants
@@ -7,3 +6,7 @@ pub mod Deciding
 pub mod Scoping
 pub mod Meant
 pub mod Evaluable
+pub mod Counting
+pub mod Judging
+pub mod Fitting
+pub mod Shaping

@@ -11,6 +11,7 @@ use Rattle.cal_model.specs.View.{local_view, value_view}
 use Rattle.cal_model.specs.declared.bound.BoundLocal.{BoundLocal}
 use Rattle.cal_model.specs.declared.value.Value.{Value as DeclaredValue}
 use Rattle.const_eval.specs.Constants.{var_of}
+use Rattle.const_eval.specs.Counting.{counted_names, hide}
 use Rattle.const_eval.specs.Held.{held}
 use Rattle.const_eval.specs.declared.scope.Scope.{Scope}
 use Rattle.const_eval.specs.declared.scope.Declared.{Declared}
@@ -47,20 +48,24 @@ abbrev pub chain : Option (Bor Local) → List Var
 chain None = []
 chain (Some x) = local_vars x.now
 
--- arguments by the names of their formals
+-- arguments by the names of their formals; later ones stand in front
 abbrev pub frame : List BoundLocal → List DeclaredValue → List Var
 frame [] vs = []
 frame (x ∷ xs) [] = []
-frame (x ∷ xs) (v ∷ vs) = bound_var (local_view x) (value_view v) ∷ frame xs vs
+frame (x ∷ xs) (v ∷ vs) = frame xs vs ++ bound_var (local_view x) (value_view v) ∷ []
 
 -- ---- what is seen
 
+-- The generators round a constant expression hide constants.
 abbrev pub seen : Scope → Env
 seen s = record {
-  globals = map var_of (held s.env.now).values;
+  globals = hide (counted_names s.hidden) (map var_of (held s.env.now).values);
   locals = chain s.innermost ++ frame s.formals.now s.arguments.now;
 }
 
--- what functions give, where so many calls may still be open
+-- What functions give, where so many calls may still be open. What generators hide functions see all the same.
 abbrev pub calls : Scope → Calls
-calls s = calls_within s.depth (held s.env.now).funs
+calls s = elim s.hidden [
+  | None ↦ calls_within s.depth (held s.env.now).funs
+  | Some x ↦ (λ globals. calls_within s.depth (held s.env.now).funs (map var_of (held s.env.now).values))
+]

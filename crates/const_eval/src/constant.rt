@@ -1,22 +1,27 @@
-//! The values of constant expressions.
+//! The values and the kinds of constant expressions.
 
 ghost use Rattle.std.specs.Prelude.{◌≡◌, ℕ, IfOk, IsErrOf};
+ghost use Rattle.rvc_base.specs.declared.refusal.Rule.{Rule};
 ghost use Rattle.rvc_base.specs.declared.trap.Trap.{Trap};
 ghost use Rattle.cal_ast.specs.Tree.{Tree};
 ghost use Rattle.cal_ast.specs.View.{expr_tree};
+ghost use Rattle.cal_model.specs.Kinding.{Broken, Fine, kind};
 ghost use Rattle.cal_model.specs.Outcome.{Clashes, Gives, Lacks, Traps};
-ghost use Rattle.cal_model.specs.View.{value_view};
-ghost use Rattle.const_eval.specs.Constants.{Constants};
+ghost use Rattle.cal_model.specs.View.{kind_view, value_view};
+ghost use Rattle.const_eval.specs.Constants.{Constants, names_of};
 ghost use Rattle.const_eval.specs.Evaluable.{HasNoValue, IsEvaluable, value_of};
 ghost use Rattle.const_eval.specs.Held.{held};
 
 use crate::entry::all_turns;
 use crate::env::Env;
 use crate::evaluate::eval;
+use crate::fault::KindFault;
+use crate::judging::kind;
+use crate::names::Names;
 use crate::scope::Scope;
 use crate::stop::Stop;
 use cal_ast::Expr;
-use cal_model::{Value, kinds_are_kept};
+use cal_model::{Kind, Value, kinds_are_kept};
 use rvc_base::Trap;
 use std::alloc::Global;
 
@@ -36,7 +41,9 @@ pub enum ConstFault {
 ///
 /// It answers [`ConstFault::NotConstant`] exactly where evaluation reaches a name that the environment lacks, provided
 /// that some kinds can be given to the names that it lacks such that the expression has a kind and each function is of
-/// the kinds that it declares, and that no function calls itself, directly or round about.
+/// the kinds that it declares, that the items of each list among the constants are of one kind, and that no function
+/// calls itself, directly or round about. Where that doesn't hold, it also answers so where a part is of another kind
+/// than its form asks.
 pub fn eval_const(alloc: Global, env: &Env, e: &Expr) -> Result<Value, ConstFault>
     ensures value { IfOk result (λ value. (left : ℕ) × (value_of (expr_tree e.now) (held env.now) ≡ Gives (value_view value) left)) }
     ensures trap { (c : Trap) → IsErrOf result (ConstFault.Trap c) → value_of (expr_tree e.now) (held env.now) ≡ Traps c }
@@ -54,6 +61,24 @@ pub fn eval_const(alloc: Global, env: &Env, e: &Expr) -> Result<Value, ConstFaul
         Err(Stop::Clashes) => Err(ConstFault::NotConstant),
         Err(Stop::Memory) => Err(ConstFault::Memory),
     }
+}
+
+/// The kind of an expression over the kinds and the values of the constants, and the functions, of the environment
+/// (ISO/IEC 23001-4, RVC-CAL: expressions and types).
+///
+/// [`KindFault::Broken`] names the first rule that the expression breaks, parts before wholes and from left to right,
+/// and its place: S1 for a name or a type that is unknown, T1, T2, T3, T5, T6 and Z4 as their rules say, T7 and T9 for
+/// the bound of a generator or the size of a type that traps or isn't constant.
+pub fn kind_const(alloc: Global, env: &Env, e: &Expr) -> Result<Kind, KindFault>
+    ensures kind { IfOk result (λ found. kind (expr_tree e.now) (names_of (held env.now)) ≡ Fine (kind_view found)) }
+    ensures broken { (rule : Rule) (at : ℕ) → IsErrOf result (KindFault.Broken rule at) → kind (expr_tree e.now) (names_of (held env.now)) ≡ Broken rule.0 at }
+{
+    let names = Names {
+        alloc,
+        env,
+        counters: None,
+    };
+    kind(&names, e)
 }
 
 /// Nothing clashes where an expression may be evaluated.

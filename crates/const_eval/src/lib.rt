@@ -1,21 +1,31 @@
-//! Constant expressions: their values over constants and functions.
+//! Constant expressions: their values and their kinds, over constants and functions.
 //!
-//! `evaluate` is a plain program of the meaning of expressions, one small function a form.
+//! `evaluate` is a plain program of the meaning of expressions, `judging` one of their kinds: one small function a
+//! form.
 #![tactic(auto)]
 
-mod arithmetic;
 mod constant;
+mod counters;
 mod entry;
 mod env;
 mod evaluate;
+mod fault;
+mod filled;
 mod finding;
+mod judging;
+#[cfg(test)]
+mod kind_tests;
+mod kinds;
+mod names;
 mod operators;
 mod scope;
+mod shapes;
 mod stop;
 #[cfg(test)]
 mod tests;
 mod types;
 mod value;
 
-pub use constant::{ConstFault, eval_const};
+pub use constant::{ConstFault, eval_const, kind_const};
 pub use env::Env;
+pub use fault::KindFault;

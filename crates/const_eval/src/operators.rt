@@ -5,16 +5,16 @@ ghost use Rattle.rvc_base.specs.Arithmetic.{whole};
 ghost use Rattle.cal_model.specs.Env.{item_at};
 ghost use Rattle.cal_model.specs.Expression.{applied, computed, indexed, of_numbers, of_truths, prefixed};
 ghost use Rattle.cal_model.specs.View.{in_order, value_view};
-ghost use Rattle.const_eval.specs.Computing.{computed_of};
+ghost use Rattle.rvc_base.specs.Computing.{computed_of};
 ghost use Rattle.const_eval.specs.Deciding.{decides};
 ghost use Rattle.const_eval.specs.Outcome.{Evaluates};
 
-use crate::arithmetic::{
-    difference, left_shift, opposite, product, quotient, rest, right_shift, sum,
-};
 use crate::stop::Stop;
 use cal_ast::{BinOp, PrefixOp};
 use cal_model::{Value, Values};
+use rvc_base::arithmetic::{
+    difference, left_shift, opposite, product, quotient, rest, right_shift, sum,
+};
 use rvc_base::{Num, Trap};
 
 /// A number as it is written.

@@ -1,8 +1,9 @@
 //! What an expression sees while it is evaluated.
 
-ghost use Rattle.std.specs.Prelude.{◌≡◌, ◌-◌, ◌<◌, ℕ, None, map, option_map};
+ghost use Rattle.std.specs.Prelude.{◌≡◌, ◌-◌, ◌<◌, ℕ, None, [], length, map, option_map};
 ghost use Rattle.cal_model.specs.Call.{calls_of, calls_within};
 ghost use Rattle.const_eval.specs.Constants.{var_of};
+ghost use Rattle.const_eval.specs.Counting.{all_names, hide};
 ghost use Rattle.const_eval.specs.Evaluable.{env_of};
 ghost use Rattle.const_eval.specs.Held.{held};
 ghost use Rattle.cal_model.specs.Env.{find, look_up, with_local};
@@ -11,6 +12,7 @@ ghost use Rattle.cal_model.specs.View.{value_view};
 ghost use Rattle.const_eval.specs.Outcome.{Evaluates};
 ghost use Rattle.const_eval.specs.Scoping.{calls, chain, declared_name, frame, local_var, seen};
 
+use crate::counters::{Counters, is_counter};
 use crate::env::Env;
 use crate::stop::Stop;
 use crate::value::copy;
@@ -30,6 +32,8 @@ pub(crate) struct Scope<'a> {
     /// Its arguments, each stored in its formal's type.
     pub arguments: &'a [Value],
     pub innermost: Option<&'a Local<'a>>,
+    /// The generators round a constant expression, which hide constants.
+    pub hidden: Option<&'a Counters<'a>>,
 }
 
 /// A local with its value, and those outside it.
@@ -75,6 +79,23 @@ impl<'a> Scope<'a> {
             formals: &[],
             arguments: &[],
             innermost: None,
+            hidden: None,
+        }
+    }
+
+    /// What a constant expression sees that stands inside generators.
+    pub fn among(alloc: Global, env: &'a Env, counters: &'a Counters<'a>) -> Scope<'a>
+        ensures seen { seen result ≡ record { globals = hide (all_names counters.now) (map var_of (held env.now).values); locals = [] } }
+        ensures calls { calls result ≡ (λ globals. calls_of (held env.now).funs (map var_of (held env.now).values)) }
+    {
+        Scope {
+            alloc,
+            env,
+            depth: env.fun_count(),
+            formals: &[],
+            arguments: &[],
+            innermost: None,
+            hidden: Some(counters),
         }
     }
 
@@ -95,6 +116,7 @@ impl<'a> Scope<'a> {
             formals: self.formals,
             arguments: self.arguments,
             innermost: Some(local),
+            hidden: self.hidden,
         }
     }
 
@@ -115,6 +137,7 @@ impl<'a> Scope<'a> {
             formals: &fun.formals,
             arguments,
             innermost: None,
+            hidden: None,
         }
     }
 
@@ -129,7 +152,7 @@ impl<'a> Scope<'a> {
     }
 
     /// What a name means: inner names hide outer ones.
-    #[tactic(auto, using(crate::proofs::Found::seen_local, crate::proofs::Found::seen_argument, crate::proofs::Found::seen_constant))]
+    #[tactic(auto, using(crate::proofs::Found::seen_local, crate::proofs::Found::seen_argument, crate::proofs::Found::seen_constant, crate::proofs::Found::seen_hidden))]
     fn value(&self, name: &str) -> Option<&Value>
         ensures { option_map (λ v. value_view v.now) result ≡ look_up name.now (seen self.now) }
     {
@@ -138,6 +161,9 @@ impl<'a> Scope<'a> {
         }
         if let Some(value) = argument(name, self.formals, self.arguments) {
             return Some(value);
+        }
+        if is_counter(name, self.hidden) {
+            return None;
         }
         self.env.value(name)
     }
@@ -157,18 +183,16 @@ fn local_value<'a>(name: &str, innermost: Option<&'a Local<'a>>) -> Option<&'a V
     None
 }
 
-/// The argument of the name.
+/// The argument of the name. A later formal hides an earlier one of its name.
 fn argument<'a>(name: &str, formals: &'a [BoundLocal], arguments: &'a [Value]) -> Option<&'a Value>
     ensures { option_map (λ v. value_view v.now) result ≡ find name.now (frame formals.now arguments.now) }
 {
-    let Some((formal, formals)) = formals.split_first() else {
-        return None;
-    };
-    let Some((value, arguments)) = arguments.split_first() else {
-        return None;
-    };
-    if formal.name.as_str() == name {
-        return Some(value);
+    let mut place = formals.len().min(arguments.len());
+    'backwards: while place > 0 {
+        place -= 1;
+        if formals[place].name.as_str() == name {
+            return Some(&arguments[place]);
+        }
     }
-    argument(name, formals, arguments)
+    None
 }

@@ -1,20 +1,22 @@
-use Rattle.std.proofs.Common.{◌≡◌, ap, sym, subst, ◌∙◌, map, get_or, true, Err, arith, rules}
+use Rattle.std.proofs.Common.{◌≡◌, ap, sym, subst, ◌∙◌, map, get_or, true, Err, None, arith, rules}
 use Rattle.std.proofs.lemmas.Int.{ints}
 use Rattle.rvc_base.specs.Turns.{max_turns, max_turns_is}
 use Rattle.cal_ast.specs.Tree.{listed}
 use Rattle.cal_ast.specs.View.{expr_tree, gen_tree, type_arg_tree, type_tree}
+use Rattle.cal_model.specs.Call.{fun_named}
 use Rattle.cal_model.specs.Expression.{args_given, elements, eval, eval_all, size_of_value, span, type_meant}
 use Rattle.cal_model.specs.Outcome.{Gives, and_then}
 use Rattle.cal_model.specs.Value.{joined}
 use Rattle.cal_model.specs.View.{fun_view, in_order, local_view, value_view}
 use Rattle.cal_model.specs.Env.{with_local}
+use Rattle.const_eval.specs.Constants.{var_of}
 use Rattle.const_eval.specs.Held.{held}
 use Rattle.const_eval.specs.declared.scope.Local as locals
 use Rattle.const_eval.specs.Meant.{counter_var, given_view, name_of, number_in}
-use Rattle.const_eval.specs.Outcome.{Evaluates}
+use Rattle.const_eval.specs.Outcome.{Evaluates, Stops}
 use Rattle.const_eval.specs.Scoping.{calls, seen}
 use Rattle.const_eval.specs.Sizes.{are_sized}
-use Rattle.const_eval.proofs.Calling.{called_falls, called_gives}
+use Rattle.const_eval.proofs.Calling.{called_falls, called_gives, called_lacks, called_stops, calls_see}
 use Rattle.const_eval.proofs.EachNumber.{adds, element_of, no_numbers, numbers_end, numbers_next, numbers_stop}
 use Rattle.const_eval.proofs.Gens.{gens_clash, gens_range, gens_stop_high, gens_stop_low, gens_stop_type, high_no_number, is_number, low_no_number, no_number}
 use Rattle.const_eval.proofs.Tested.{sized_parts}
@@ -46,7 +48,7 @@ pub called-answer-requires : goal.called-answer-requires
 called-answer-requires t c = let falls = called_falls c.args.name.now c.args.scope.now c.entered-inner.result c.in-Some.fun.now c.deref-3.result.now (omega (arith, c.if-scope-eq0.false)) c.in-Some.ensures.is c.deref-3.ensures.value c.entered-inner.ensures.depth c.entered-inner.ensures.env in let parts = sized_parts (fun_view c.in-Some.fun.now) c.in-Some.ensures.sized in (omega (arith, c.requires), (parts.2, subst (λ xs. are_sized (map local_view xs) ≡ true) (sym c.deref-3.ensures.value) parts.1))
 
 pub called-returns : goal.called-returns
-called-returns t c = subst (λ o. Evaluates value_view c.answer.result c.answer.new.left o) (called_gives c.args.scope.now.depth c.args.name.now (held c.args.scope.now.env.now).funs c.in-Some.fun.now (seen c.args.scope.now).globals (in_order (map value_view c.args.args.now)) c.args.left.now c.deref.result.now c.deref-3.result.now c.in_ok-arguments.arguments.items c.deref-2.result.now (calls c.entered-inner.result) (seen c.entered-inner.result) (omega (arith, c.if-scope-eq0.false)) c.in-Some.ensures.is c.deref.ensures.value (c.in_ok-arguments.ensures c.args.left.now) c.deref-2.ensures.value c.deref-3.ensures.value c.entered-inner.ensures.calls c.entered-inner.ensures.seen) c.answer.ensures
+called-returns t c = subst (λ o. Evaluates value_view c.answer.result c.answer.new.left o) (called_gives c.args.scope.now.depth c.args.name.now (held c.args.scope.now.env.now).funs c.in-Some.fun.now (map var_of (held c.args.scope.now.env.now).values) (in_order (map value_view c.args.args.now)) c.args.left.now c.deref.result.now c.deref-3.result.now c.in_ok-arguments.arguments.items c.deref-2.result.now (calls c.entered-inner.result) (seen c.entered-inner.result) (omega (arith, c.if-scope-eq0.false)) c.in-Some.ensures.is c.deref.ensures.value (c.in_ok-arguments.ensures c.args.left.now) c.deref-2.ensures.value c.deref-3.ensures.value c.entered-inner.ensures.calls c.entered-inner.ensures.seen ∙ sym (ap (λ f. f c.args.name.now (in_order (map value_view c.args.args.now)) c.args.left.now) (calls_see c.args.scope.now))) c.answer.ensures
 
 pub constant-returns : goal.constant-returns
 constant-returns t c = λ left. alone_evaluates c.eval.result c.eval.new.left (eval (expr_tree c.args.e.now) (calls c.args.scope.now) (seen c.args.scope.now) max_turns) left (subst (λ n. Evaluates value_view c.eval.result c.eval.new.left (eval (expr_tree c.args.e.now) (calls c.args.scope.now) (seen c.args.scope.now) n)) max_turns_is c.eval.ensures)
@@ -110,3 +112,17 @@ eval_binary-returns t c =
     subst (λ o. Evaluates value_view c.applied.result c.eval-2.new.left o)
     (sym (binary_goes c.args.op (eval (expr_tree c.args.first.now) (calls c.args.scope.now) (seen c.args.scope.now) c.args.left.now) (λ h. eval (expr_tree c.args.second.now) (calls c.args.scope.now) (seen c.args.scope.now) h) (value_view c.in_ok-first.first) (value_view c.in_ok-second.second) c.eval.new.left c.eval-2.new.left (sym c.decides.ensures ∙ c.if-decides.false) c.in_ok-first.ensures c.in_ok-second.ensures))
     (c.applied.ensures c.eval-2.new.left)
+
+pub called-returns-in_default : goal.called-returns-in_default
+called-returns-in_default t c =
+    let missing : None ≡ fun_named c.args.name.now (held c.args.scope.now.env.now).funs = search rules in
+    ap (λ f. f c.args.name.now (in_order (map value_view c.args.args.now)) c.args.left.now) (calls_see c.args.scope.now)
+    ∙ called_lacks c.args.scope.now.depth c.args.name.now (held c.args.scope.now.env.now).funs (map var_of (held c.args.scope.now.env.now).values) (in_order (map value_view c.args.args.now)) c.args.left.now missing
+
+pub called-returns-in_err-arguments : goal.called-returns-in_err-arguments
+called-returns-in_err-arguments t c =
+    let same : c.from_residual.result ≡ Err c.in_err-arguments.field-0.0 = search rules in
+    let seen_calls = ap (λ f. f c.args.name.now (in_order (map value_view c.args.args.now)) c.args.left.now) (calls_see c.args.scope.now) in
+    let stopped = called_stops c.args.scope.now.depth c.args.name.now (held c.args.scope.now.env.now).funs c.in-Some.fun.now (map var_of (held c.args.scope.now.env.now).values) (in_order (map value_view c.args.args.now)) c.args.left.now c.deref.result.now c.in_err-arguments.field-0.0 (omega (arith, c.if-scope-eq0.false)) c.in-Some.ensures.is c.deref.ensures.value (c.in_err-arguments.ensures c.args.left.now) in
+    subst (λ r. Evaluates value_view r c.args.left.now (calls c.args.scope.now (seen c.args.scope.now).globals c.args.name.now (in_order (map value_view c.args.args.now)) c.args.left.now)) (sym same)
+    (subst (λ o. Stops c.in_err-arguments.field-0.0 o) (sym seen_calls) stopped)
