@@ -15,50 +15,50 @@ pub data Computed : Type 0 where
 abbrev pub whole : ℤ → Computed
 whole z = if is_num z then Gives z else Traps Overflow
 
-abbrev pub sum : ℤ → ℤ → Computed
-sum a b = whole (a +ℤ b)
+abbrev pub add : ℤ → ℤ → Computed
+add a b = whole (a +ℤ b)
 
-abbrev pub difference : ℤ → ℤ → Computed
-difference a b = whole (a -ℤ b)
+abbrev pub sub : ℤ → ℤ → Computed
+sub a b = whole (a -ℤ b)
 
-abbrev pub product : ℤ → ℤ → Computed
-product a b = whole (a *ℤ b)
+abbrev pub mul : ℤ → ℤ → Computed
+mul a b = whole (a *ℤ b)
 
-abbrev pub opposite : ℤ → Computed
-opposite a = whole (neg_ℤ a)
+abbrev pub neg : ℤ → Computed
+neg a = whole (neg_ℤ a)
 
 -- rounded towards zero
-abbrev pub quotient : ℤ → ℤ → Computed
-quotient a b = if unsigned_abs b == 0 then Traps DivideByZero else whole (int_div a b)
+abbrev pub div : ℤ → ℤ → Computed
+div a b = if unsigned_abs b == 0 then Traps DivideByZero else whole (int_div a b)
 
 -- what that quotient leaves
-abbrev pub rest : ℤ → ℤ → Computed
-rest a b = if unsigned_abs b == 0 then Traps DivideByZero else Gives (int_rem a b)
+abbrev pub rem : ℤ → ℤ → Computed
+rem a b = if unsigned_abs b == 0 then Traps DivideByZero else Gives (int_rem a b)
 
 -- an operation by a count of a shift, which is neither below 0 nor above the greatest count
 abbrev pub by_count : ℤ → (ℕ → Computed) → Computed
 by_count (pos n) f = if nat_le n max_shift then f n else Traps ShiftRange
 by_count (negsuc n) f = Traps ShiftRange
 
-abbrev pub left_shift : ℤ → ℤ → Computed
-left_shift a b = by_count b (λ n. whole (a *ℤ pos (2 ^ n)))
+abbrev pub shl : ℤ → ℤ → Computed
+shl a b = by_count b (λ n. whole (a *ℤ pos (2 ^ n)))
 
 -- rounded towards the lower number
-abbrev pub right_shift : ℤ → ℤ → Computed
-right_shift a b = by_count b (λ n. Gives (int_shr a n))
+abbrev pub shr : ℤ → ℤ → Computed
+shr a b = by_count b (λ n. Gives (int_shr a n))
 
 -- bit by bit, in two's complement
-abbrev pub bits_of_both : ℤ → ℤ → ℤ
-bits_of_both a b = int_bit_and num_width a b
+abbrev pub bit_and : ℤ → ℤ → ℤ
+bit_and a b = int_bit_and num_width a b
 
-abbrev pub bits_of_either : ℤ → ℤ → ℤ
-bits_of_either a b = int_bit_or num_width a b
+abbrev pub bit_or : ℤ → ℤ → ℤ
+bit_or a b = int_bit_or num_width a b
 
-abbrev pub bits_of_one : ℤ → ℤ → ℤ
-bits_of_one a b = int_bit_xor num_width a b
+abbrev pub bit_xor : ℤ → ℤ → ℤ
+bit_xor a b = int_bit_xor num_width a b
 
-abbrev pub other_bits : ℤ → ℤ
-other_bits a = int_bit_not num_width a
+abbrev pub bit_not : ℤ → ℤ
+bit_not a = int_bit_not num_width a
 
 -- a truth value as a number
 abbrev pub truth : Bool → ℤ

@@ -23,6 +23,8 @@ pub record Behaviour (X : Type 0) : Type 0 where
   -- how many input and output ports it has
   pub ins : ℕ
   pub outs : ℕ
+  -- how many actions it has; beyond them nothing is needed, given or done
+  pub actions : ℕ
   -- how many tokens an action takes from an input port, and gives on an output port
   pub need : ℕ → ℕ → ℕ
   pub give : ℕ → ℕ → ℕ

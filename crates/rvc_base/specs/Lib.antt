@@ -2,6 +2,7 @@ pub mod Width
 pub mod Trap
 pub mod Behaviour
 pub mod Refusal
+pub mod Rules
 pub mod Storing
 pub mod Picks
 pub mod Shares

@@ -1,7 +1,7 @@
 //! Arithmetic on numbers of the language (ISO/IEC 23001-4, RVC-CAL: operators on numbers).
 
 ghost use Rattle.std.specs.Prelude.{◌≡◌};
-ghost use Rattle.rvc_base.specs.Arithmetic.{sum, difference, product, opposite, quotient, rest, left_shift, right_shift};
+ghost use Rattle.rvc_base.specs.Arithmetic.{add, sub, mul, neg, div, rem, shl, shr};
 ghost use Rattle.rvc_base.specs.Computing.{computed_of};
 
 use crate::trap::Trap;
@@ -9,8 +9,8 @@ use crate::width::{MAX_SHIFT, Num};
 
 /// The sum, where it is a number of the language; else Overflow.
 #[inline]
-pub fn sum(a: Num, b: Num) -> Result<Num, Trap>
-    ensures { computed_of result ≡ sum a b }
+pub fn add(a: Num, b: Num) -> Result<Num, Trap>
+    ensures { computed_of result ≡ add a b }
 {
     match a.checked_add(b) {
         Some(v) => Ok(v),
@@ -20,8 +20,8 @@ pub fn sum(a: Num, b: Num) -> Result<Num, Trap>
 
 /// The difference, where it is a number of the language; else Overflow.
 #[inline]
-pub fn difference(a: Num, b: Num) -> Result<Num, Trap>
-    ensures { computed_of result ≡ difference a b }
+pub fn sub(a: Num, b: Num) -> Result<Num, Trap>
+    ensures { computed_of result ≡ sub a b }
 {
     match a.checked_sub(b) {
         Some(v) => Ok(v),
@@ -31,8 +31,8 @@ pub fn difference(a: Num, b: Num) -> Result<Num, Trap>
 
 /// The product, where it is a number of the language; else Overflow.
 #[inline]
-pub fn product(a: Num, b: Num) -> Result<Num, Trap>
-    ensures { computed_of result ≡ product a b }
+pub fn mul(a: Num, b: Num) -> Result<Num, Trap>
+    ensures { computed_of result ≡ mul a b }
 {
     match a.checked_mul(b) {
         Some(v) => Ok(v),
@@ -42,8 +42,8 @@ pub fn product(a: Num, b: Num) -> Result<Num, Trap>
 
 /// The number with the other sign, where it is a number of the language; else Overflow.
 #[inline]
-pub fn opposite(a: Num) -> Result<Num, Trap>
-    ensures { computed_of result ≡ opposite a }
+pub fn neg(a: Num) -> Result<Num, Trap>
+    ensures { computed_of result ≡ neg a }
 {
     match a.checked_neg() {
         Some(v) => Ok(v),
@@ -53,8 +53,8 @@ pub fn opposite(a: Num) -> Result<Num, Trap>
 
 /// The quotient rounded towards 0. A divisor of 0 is DivideByZero, and the one quotient that is no number is Overflow.
 #[inline]
-pub fn quotient(a: Num, b: Num) -> Result<Num, Trap>
-    ensures { computed_of result ≡ quotient a b }
+pub fn div(a: Num, b: Num) -> Result<Num, Trap>
+    ensures { computed_of result ≡ div a b }
 {
     if b == 0 {
         return Err(Trap::DivideByZero);
@@ -67,8 +67,8 @@ pub fn quotient(a: Num, b: Num) -> Result<Num, Trap>
 
 /// What the quotient leaves, with the sign of `a`; 0 where `b` is -1. A divisor of 0 is DivideByZero.
 #[inline]
-pub fn rest(a: Num, b: Num) -> Result<Num, Trap>
-    ensures { computed_of result ≡ rest a b }
+pub fn rem(a: Num, b: Num) -> Result<Num, Trap>
+    ensures { computed_of result ≡ rem a b }
 {
     if b == 0 {
         return Err(Trap::DivideByZero);
@@ -82,17 +82,17 @@ pub fn rest(a: Num, b: Num) -> Result<Num, Trap>
 /// The number times 2 to the power `b`, where it is a number of the language; else Overflow. A count outside 0 to [`MAX_SHIFT`] is
 /// ShiftRange.
 #[inline]
-pub fn left_shift(a: Num, b: Num) -> Result<Num, Trap>
-    ensures { computed_of result ≡ left_shift a b }
+pub fn shl(a: Num, b: Num) -> Result<Num, Trap>
+    ensures { computed_of result ≡ shl a b }
 {
     if b < 0 || b > Num::from(MAX_SHIFT) {
         return Err(Trap::ShiftRange);
     }
     if b < Num::from(MAX_SHIFT) {
-        return product(a, 1 << b);
+        return mul(a, 1 << b);
     }
-    match opposite(a) {
-        Ok(n) => product(n, Num::MIN),
+    match neg(a) {
+        Ok(n) => mul(n, Num::MIN),
         Err(trap) => Err(trap),
     }
 }
@@ -100,8 +100,8 @@ pub fn left_shift(a: Num, b: Num) -> Result<Num, Trap>
 /// The number divided by 2 to the power `b`, rounded towards the lower number. A count outside 0 to [`MAX_SHIFT`] is
 /// ShiftRange.
 #[inline]
-pub fn right_shift(a: Num, b: Num) -> Result<Num, Trap>
-    ensures { computed_of result ≡ right_shift a b }
+pub fn shr(a: Num, b: Num) -> Result<Num, Trap>
+    ensures { computed_of result ≡ shr a b }
 {
     if b < 0 || b > Num::from(MAX_SHIFT) {
         return Err(Trap::ShiftRange);

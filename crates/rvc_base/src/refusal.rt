@@ -8,18 +8,12 @@ use thiserror::Error;
 
 /// The number of a rule: its group's hundred plus its own number.
 ///
-/// It prints as the letter of its group and its own number, as `Y1` or `Z11`.
+/// It prints as the letter of its group and its own number, as `Y1` or `Z11`. Each rule has its name as a
+/// constant of this type.
 #[derive(Clone, Copy, Debug, PartialEq, Eq)]
 pub struct Rule(pub u16);
 
 impl Rule {
-    /// A form isn't built yet.
-    pub const NOT_BUILT: Rule = Rule(1);
-    /// A file is longer than its limit.
-    pub const FILE_TOO_LONG: Rule = Rule(601);
-    /// A class has no file.
-    pub const NO_FILE: Rule = Rule(801);
-
     /// The letter of the rule's group.
     pub fn letter(self) -> &'static str
         ensures { result.now ≡ letter_of_group (self.0 / 100) }

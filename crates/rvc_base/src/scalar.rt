@@ -4,7 +4,7 @@ ghost use Rattle.std.specs.Prelude.{◌≡◌, ◌≤◌};
 ghost use Rattle.rvc_base.specs.Storing.{IsSize, conv, low_part};
 ghost use Rattle.rvc_base.specs.Width.{max_size};
 
-use crate::width::Num;
+use crate::width::{Bits, Num};
 
 /// The type of a single value: `bool`, `int(size=n)` or `uint(size=n)`.
 ///
@@ -34,11 +34,11 @@ pub fn conv(t: Scalar, v: Num) -> Num
 }
 
 /// The low bits of `v` in two's complement, as many as `size`.
-fn low_bits(v: Num, size: u8) -> u64
+fn low_bits(v: Num, size: u8) -> Bits
     requires small { size ≤ max_size }
     ensures { result ≡ low_part size v }
 {
-    v.cast_unsigned() & ((1u64 << size) - 1)
+    v.cast_unsigned() & ((1 << size) - 1)
 }
 
 /// What an unsigned type of this size holds of `v`.
@@ -55,9 +55,9 @@ fn signed_part(v: Num, size: u8) -> Num
     ensures { result ≡ conv (Scalar.Int size) v }
 {
     let low = low_bits(v, size);
-    if low < 1u64 << (size - 1) {
+    if low < 1 << (size - 1) {
         low.cast_signed()
     } else {
-        low.cast_signed() - (1i64 << size)
+        low.cast_signed() - (1 << size)
     }
 }
