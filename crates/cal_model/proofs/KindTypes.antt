@@ -6,7 +6,7 @@ use Rattle.std.proofs.lemmas.Bool.{leb-true}
 use Rattle.rvc_base.specs.declared.scalar.Scalar.{Scalar}
 use Rattle.rvc_base.specs.declared.scalar.Scalar.TheVariants as scalar
 use Rattle.rvc_base.specs.Storing.{IsSize}
-use Rattle.rvc_base.specs.Width.{max_size}
+use Rattle.rvc_base.specs.Width.{default_size, max_size}
 use Rattle.cal_model.specs.Value.{Shape, Single, Many, Num, IsType, scalars_of_type, max_list_scalars}
 use Rattle.cal_model.specs.Expression.{bits, list_of, type_named, size_of_value}
 use Rattle.cal_model.specs.Kinding.{Fine, Broken, Argument, OfShape, OfSize, bits_of, number_type, truth_type, list_type_of, list_type, type_with}
@@ -39,8 +39,8 @@ bits-meant (negsuc n) f at t h sized = absurd (not-fine _ at t h)
 number-meant : (args : List Argument) (f : ℕ → Scalar) (at : ℕ) (t : Shape) → number_type args f at ≡ Fine t → ((m : ℕ) → 1 ≤ m → m ≤ max_size → IsSize (f m))
     → IsMeant (bits (given_by args).size (λ n. Single (f n))) t
 number-meant [] f at t h sized =
-    let same = fine-is (Single (f max_size)) t h in
-    (ap Some same, subst IsType same (sized max_size (omega arith) (omega arith)))
+    let same = fine-is (Single (f default_size)) t h in
+    (ap Some same, subst IsType same (sized default_size (omega arith) (omega arith)))
 number-meant (OfSize name z ∷ []) f at t h sized = bits-meant z f at t (tested (bytes_eq name (codes "size")) (bits_of z f at) _ at t h).1 sized
 number-meant (OfSize name z ∷ a ∷ args) f at t h sized = absurd (not-fine _ at t h)
 number-meant (OfShape name u ∷ args) f at t h sized = absurd (not-fine _ at t h)

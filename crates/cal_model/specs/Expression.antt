@@ -7,7 +7,7 @@ use Rattle.rvc_base.specs.declared.scalar.Scalar.TheVariants as scalar
 use Rattle.rvc_base.specs.Arithmetic.{Computed, whole, sum, difference, product, opposite, quotient, rest, left_shift, right_shift, bits_of_both, bits_of_either, bits_of_one, other_bits, is_equal, is_below}
 use Rattle.rvc_base.specs.Arithmetic as arithmetic
 use Rattle.rvc_base.specs.Turns.{max_turns}
-use Rattle.rvc_base.specs.Width.{max_size}
+use Rattle.rvc_base.specs.Width.{default_size, max_size}
 use Rattle.cal_ast.specs.declared.expr.PrefixOp.{PrefixOp}
 use Rattle.cal_ast.specs.declared.expr.PrefixOp.TheVariants.{Not, Neg, BitNot}
 use Rattle.cal_ast.specs.declared.expr.BinOp.{BinOp}
@@ -115,7 +115,7 @@ nothing_given = record { items = None; size = None }
 
 -- a size of bits, or 32 where none is given
 abbrev pub bits : Option ℕ → (ℕ → Shape) → Option Shape
-bits None f = Some (f max_size)
+bits None f = Some (f default_size)
 bits (Some n) f = if nat_le 1 n && nat_le n max_size then Some (f n) else None
 
 abbrev pub list_of : Given → Option Shape

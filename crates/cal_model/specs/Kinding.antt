@@ -8,7 +8,7 @@ use Rattle.std.specs.Str.{bytes_eq}
 use Rattle.rvc_base.specs.declared.scalar.Scalar.{Scalar}
 use Rattle.rvc_base.specs.declared.scalar.Scalar.TheVariants as scalar
 use Rattle.rvc_base.specs.Turns.{max_turns}
-use Rattle.rvc_base.specs.Width.{max_size}
+use Rattle.rvc_base.specs.Width.{default_size, max_size}
 use Rattle.cal_ast.specs.declared.expr.PrefixOp.{PrefixOp}
 use Rattle.cal_ast.specs.declared.expr.PrefixOp.TheVariants.{Not, Neg, BitNot}
 use Rattle.cal_ast.specs.declared.expr.BinOp.{BinOp}
@@ -219,7 +219,7 @@ bits_of (negsuc n) f at = Broken wrong_type_argument at
 
 -- a number type, whose one argument may be its size
 abbrev pub number_type : List Argument → (ℕ → Scalar) → ℕ → Judged Shape
-number_type [] f at = Fine (Single (f max_size))
+number_type [] f at = Fine (Single (f default_size))
 number_type (OfSize name z ∷ []) f at = if bytes_eq name (codes "size") then bits_of z f at else Broken wrong_type_argument at
 number_type args f at = Broken wrong_type_argument at
 

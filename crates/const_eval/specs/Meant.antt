@@ -1,7 +1,7 @@
 -- Types, as what a number is stored in.
 use Rattle.std.specs.Prelude.{ℕ, Bool, true, false, List, ℤ, Option, None, Some, string_bytes, codes, if◌then◌else◌, ◌&&◌, nat_le}
 use Rattle.std.specs.Str.{bytes_eq}
-use Rattle.rvc_base.specs.Width.{max_size}
+use Rattle.rvc_base.specs.Width.{default_size, max_size}
 use Rattle.rvc_base.specs.Storing.{conv, IsSize}
 use Rattle.rvc_base.specs.declared.scalar.Scalar.{Scalar}
 use Rattle.rvc_base.specs.declared.scalar.Scalar.TheVariants as scalar
@@ -56,7 +56,7 @@ given_view given = record { has_items = given.has_items; size = given.size }
 -- ---- types by their names
 
 abbrev pub kept_bits : Option ℕ → (ℕ → Scalar) → Option (Option Scalar)
-kept_bits None f = Some (Some (f max_size))
+kept_bits None f = Some (Some (f default_size))
 kept_bits (Some n) f = if nat_le 1 n && nat_le n max_size then Some (Some (f n)) else None
 
 abbrev pub kept_list : Erased → Option (Option Scalar)

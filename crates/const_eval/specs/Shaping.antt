@@ -1,7 +1,7 @@
 -- Arguments of types, one by one.
 use Rattle.std.specs.Prelude.{ℕ, ◌&&◌, List, [], ◌∷◌, ℤ, pos, negsuc, codes, nat_le, if◌then◌else◌, string_bytes}
 use Rattle.std.specs.Str.{bytes_eq}
-use Rattle.rvc_base.specs.Width.{max_size}
+use Rattle.rvc_base.specs.Width.{default_size, max_size}
 use Rattle.cal_ast.specs.Tree as tree
 use Rattle.cal_ast.specs.Tree.{Tree}
 use Rattle.cal_model.specs.Kinding.{Judged, Fine, Broken, and_so, Names, Argument, OfShape, OfSize, type_judged, constant_number, kind, wrong_kind, wrong_type_argument}
@@ -26,6 +26,6 @@ bits_judged (negsuc n) at = Broken wrong_type_argument at
 
 -- the size of a number type, whose one argument may be its size
 abbrev pub size_judged : List Argument → ℕ → Judged ℕ
-size_judged [] at = Fine max_size
+size_judged [] at = Fine default_size
 size_judged (OfSize name z ∷ []) at = if bytes_eq name (codes "size") then bits_judged z at else Broken wrong_type_argument at
 size_judged args at = Broken wrong_type_argument at

@@ -15,7 +15,7 @@ use crate::kinds::{product, wrong_kind};
 use cal_ast::Ident;
 use cal_model::rules::{LIST_TOO_LONG, UNSUPPORTED_TYPE, WRONG_TYPE_ARGUMENT};
 use cal_model::{MAX_LIST_SCALARS, Shape};
-use rvc_base::{MAX_SIZE, Num, Scalar};
+use rvc_base::{DEFAULT_SIZE, MAX_SIZE, Num, Scalar};
 use std::alloc::Global;
 
 /// An argument of a type, by its name.
@@ -94,7 +94,7 @@ fn size_of(given: &[Argument<'_>], at: u32) -> Result<u8, KindFault>
     ensures { Judges (λ n. n) result (size_judged (map argument_view given.now) at) }
 {
     let Some((first, others)) = given.split_first() else {
-        return Ok(MAX_SIZE);
+        return Ok(DEFAULT_SIZE);
     };
     if !others.is_empty() {
         return Err(wrong_argument(at));

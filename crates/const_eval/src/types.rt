@@ -10,7 +10,7 @@ ghost use Rattle.const_eval.specs.Outcome.{Evaluates};
 use crate::stop::Stop;
 use crate::value::of_number;
 use cal_model::Value;
-use rvc_base::{MAX_SIZE, Num, Scalar, conv};
+use rvc_base::{DEFAULT_SIZE, MAX_SIZE, Num, Scalar, conv};
 
 /// The range of a generator, and the type in which its numbers are stored: None for a list.
 #[derive(Clone, Copy)]
@@ -138,7 +138,7 @@ fn signed(size: Option<u64>) -> Result<Option<Scalar>, Stop>
     ensures sized { IfOk result IsKept }
 {
     let Some(size) = size else {
-        return Ok(Some(Scalar::Int(MAX_SIZE)));
+        return Ok(Some(Scalar::Int(DEFAULT_SIZE)));
     };
     if size < 1 || size > u64::from(MAX_SIZE) {
         return Err(Stop::Clashes);
@@ -152,7 +152,7 @@ fn unsigned(size: Option<u64>) -> Result<Option<Scalar>, Stop>
     ensures sized { IfOk result IsKept }
 {
     let Some(size) = size else {
-        return Ok(Some(Scalar::Uint(MAX_SIZE)));
+        return Ok(Some(Scalar::Uint(DEFAULT_SIZE)));
     };
     if size < 1 || size > u64::from(MAX_SIZE) {
         return Err(Stop::Clashes);
