@@ -1,10 +1,11 @@
 -- The lexis: blanks, comments, names, reserved words, numbers and symbols.
-use Rattle.std.specs.Prelude.{◌≡◌, ℕ, ◌+◌, ◌-◌, ◌*◌, ◌^◌, ◌<◌, ◌≤◌, List, [], ◌∷◌, length, take, drop, Bool, ◌&&◌, ◌||◌, not, if◌then◌else◌, ◌==◌, nat_lt, nat_le, Option, Some, None, is_some, slice_index, codes, fold}
+use Rattle.std.specs.Prelude.{◌≡◌, ℕ, ◌+◌, ◌-◌, ◌*◌, ◌^◌, ◌<◌, ◌≤◌, List, [], ◌∷◌, length, take, drop, Bool, ◌&&◌, ◌||◌, not, if◌then◌else◌, ◌==◌, nat_lt, nat_le, Option, Some, None, is_some, slice_index, fold}
 use Rattle.std.specs.List.{list_all}
 use Rattle.std.specs.Str.{bytes_eq}
 use Rattle.std.specs.Char.{is_ascii_alphabetic, is_ascii_digit, is_ascii_hexdigit}
 use Rattle.rvc_base.specs.declared.refusal.Rule.{Rule}
 use Rattle.cal_lexer.specs.Rules.{foreign_byte, open_comment, number_too_big, number_runs_on, string_literal, leading_zero, name_too_long, max_name}
+use Rattle.cal_lexer.specs.Words.{spelled}
 use Rattle.cal_lexer.specs.Lexeme.{Lexeme, Name, Number, Actor, Unit, Package, Import, Action, Initialize, Function, Procedure, Guard, Var, Do, Begin, End, If, Then, Elsif, Else, While, Foreach, For, In, Repeat, Schedule, Fsm, Priority, True, False, Not, And, Or, Div, Mod, EndActor, EndUnit, EndAction, EndInitialize, EndFunction, EndProcedure, EndIf, EndWhile, EndForeach, EndBegin, EndSchedule, EndPriority, LongDoubleArrow, LongArrow, Assign, DotDot, LessEqual, GreaterEqual, NotEqual, ShiftLeft, ShiftRight, AndAnd, OrOr, LeftParen, RightParen, LeftBracket, RightBracket, Comma, Semicolon, Colon, Dot, Plus, Minus, Star, Slash, Equal, Less, Greater, Ampersand, Bar, Caret, Tilde}
 
 -- Bytes. The byte at a place past the end is 0, which nothing of the lexis has.
@@ -34,53 +35,14 @@ first_of_both (Some kind) other = Some kind
 
 abbrev pub words : List (List ℕ × Lexeme)
 words =
-    (codes "actor", Actor) ∷
-    (codes "unit", Unit) ∷
-    (codes "package", Package) ∷
-    (codes "import", Import) ∷
-    (codes "action", Action) ∷
-    (codes "initialize", Initialize) ∷
-    (codes "function", Function) ∷
-    (codes "procedure", Procedure) ∷
-    (codes "guard", Guard) ∷
-    (codes "var", Var) ∷
-    (codes "do", Do) ∷
-    (codes "begin", Begin) ∷
-    (codes "end", End) ∷
-    (codes "if", If) ∷
-    (codes "then", Then) ∷
-    (codes "elsif", Elsif) ∷
-    (codes "else", Else) ∷
-    (codes "while", While) ∷
-    (codes "foreach", Foreach) ∷
-    (codes "for", For) ∷
-    (codes "in", In) ∷
-    (codes "repeat", Repeat) ∷
-    (codes "schedule", Schedule) ∷
-    (codes "fsm", Fsm) ∷
-    (codes "priority", Priority) ∷
-    (codes "true", True) ∷
-    (codes "false", False) ∷
-    (codes "not", Not) ∷
-    (codes "and", And) ∷
-    (codes "or", Or) ∷
-    (codes "div", Div) ∷
-    (codes "mod", Mod) ∷ []
+    spelled (Actor ∷ Unit ∷ Package ∷ Import ∷ Action ∷ Initialize ∷ Function ∷ Procedure ∷ Guard ∷
+    Var ∷ Do ∷ Begin ∷ End ∷ If ∷ Then ∷ Elsif ∷ Else ∷ While ∷ Foreach ∷ For ∷ In ∷ Repeat ∷
+    Schedule ∷ Fsm ∷ Priority ∷ True ∷ False ∷ Not ∷ And ∷ Or ∷ Div ∷ Mod ∷ [])
 
 abbrev pub long_ends : List (List ℕ × Lexeme)
 long_ends =
-    (codes "endactor", EndActor) ∷
-    (codes "endunit", EndUnit) ∷
-    (codes "endaction", EndAction) ∷
-    (codes "endinitialize", EndInitialize) ∷
-    (codes "endfunction", EndFunction) ∷
-    (codes "endprocedure", EndProcedure) ∷
-    (codes "endif", EndIf) ∷
-    (codes "endwhile", EndWhile) ∷
-    (codes "endforeach", EndForeach) ∷
-    (codes "endbegin", EndBegin) ∷
-    (codes "endschedule", EndSchedule) ∷
-    (codes "endpriority", EndPriority) ∷ []
+    spelled (EndActor ∷ EndUnit ∷ EndAction ∷ EndInitialize ∷ EndFunction ∷ EndProcedure ∷ EndIf ∷
+    EndWhile ∷ EndForeach ∷ EndBegin ∷ EndSchedule ∷ EndPriority ∷ [])
 
 -- the reserved words
 abbrev pub reserved : List ℕ → Option Lexeme
@@ -92,42 +54,17 @@ is_name text = begins_name (slice_index text 0) && list_all goes_on_name text &&
 
 abbrev pub symbols_of_three : List (List ℕ × Lexeme)
 symbols_of_three =
-    (codes "==>", LongDoubleArrow) ∷
-    (codes "-->", LongArrow) ∷ []
+    spelled (LongDoubleArrow ∷ LongArrow ∷ [])
 
 abbrev pub symbols_of_two : List (List ℕ × Lexeme)
 symbols_of_two =
-    (codes ":=", Assign) ∷
-    (codes "..", DotDot) ∷
-    (codes "<=", LessEqual) ∷
-    (codes ">=", GreaterEqual) ∷
-    (codes "!=", NotEqual) ∷
-    (codes "<<", ShiftLeft) ∷
-    (codes ">>", ShiftRight) ∷
-    (codes "&&", AndAnd) ∷
-    (codes "||", OrOr) ∷ []
+    spelled (Assign ∷ DotDot ∷ LessEqual ∷ GreaterEqual ∷ NotEqual ∷ ShiftLeft ∷ ShiftRight ∷
+    AndAnd ∷ OrOr ∷ [])
 
 abbrev pub symbols_of_one : List (List ℕ × Lexeme)
 symbols_of_one =
-    (codes "(", LeftParen) ∷
-    (codes ")", RightParen) ∷
-    (codes "[", LeftBracket) ∷
-    (codes "]", RightBracket) ∷
-    (codes ",", Comma) ∷
-    (codes ";", Semicolon) ∷
-    (codes ":", Colon) ∷
-    (codes ".", Dot) ∷
-    (codes "+", Plus) ∷
-    (codes "-", Minus) ∷
-    (codes "*", Star) ∷
-    (codes "/", Slash) ∷
-    (codes "=", Equal) ∷
-    (codes "<", Less) ∷
-    (codes ">", Greater) ∷
-    (codes "&", Ampersand) ∷
-    (codes "|", Bar) ∷
-    (codes "^", Caret) ∷
-    (codes "~", Tilde) ∷ []
+    spelled (LeftParen ∷ RightParen ∷ LeftBracket ∷ RightBracket ∷ Comma ∷ Semicolon ∷ Colon ∷ Dot ∷
+    Plus ∷ Minus ∷ Star ∷ Slash ∷ Equal ∷ Less ∷ Greater ∷ Ampersand ∷ Bar ∷ Caret ∷ Tilde ∷ [])
 
 abbrev pub symbol : List ℕ → Option Lexeme
 symbol text = first_of_both (find text symbols_of_three) (first_of_both (find text symbols_of_two) (find text symbols_of_one))

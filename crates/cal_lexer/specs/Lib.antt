@@ -1,5 +1,6 @@
 pub mod Rules
 pub mod Lexeme
+pub mod Words
 pub mod Lexis
 pub mod Lexes
 pub mod Pieces

@@ -10,6 +10,7 @@ mod symbols;
 mod tests;
 mod text;
 mod token;
+mod word;
 mod words;
 
 pub use rules::{
@@ -18,4 +19,5 @@ pub use rules::{
 };
 pub use text::{lex, no_fault_in_a_list, one_first_fault, one_list};
 pub use token::{Token, TokenKind};
+pub use word::Word;
 pub use words::is_name;

@@ -86,7 +86,7 @@ fn token(alloc: Global, text: &[u8]) -> Result<Piece, Memory>
         return Ok(number(text));
     }
     match longest_symbol(text) {
-        Some(Symbol { kind, size }) => Ok(Piece::Token(kind, size)),
+        Some(Symbol { word, size }) => Ok(Piece::Token(word.kind(), size)),
         None => unreachable!(),
     }
 }
@@ -101,8 +101,8 @@ fn word(alloc: Global, text: &[u8]) -> Result<Piece, Memory>
     let Ok(name) = str::from_utf8(&text[..size]) else {
         unreachable!()
     };
-    if let Some(kind) = reserved(name) {
-        return Ok(Piece::Token(kind, size));
+    if let Some(word) = reserved(name) {
+        return Ok(Piece::Token(word.kind(), size));
     }
     if size > MAX_NAME {
         return Ok(Piece::Fault(NAME_TOO_LONG));

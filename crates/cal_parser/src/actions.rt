@@ -14,9 +14,8 @@ use crate::fault::Fault;
 use crate::lists::{Read, any};
 use crate::names::{Separator, names};
 use crate::stmts::stmts;
-use crate::word::Word;
 use cal_ast::{Action, Expr, Ident, Output, Pattern, Stmt};
-use cal_lexer::Token;
+use cal_lexer::{Token, Word};
 use std::alloc::Global;
 
 /// The guards of an action.
@@ -211,11 +210,11 @@ fn read_start(alloc: Global, tokens: &mut &[Token], room: u32) -> Result<Start, 
 impl Start {
     ghost use Rattle.std.specs.Prelude.{◌≡◌};
     ghost use Rattle.cal_parser.specs.Bodies.{opener};
-    ghost use Rattle.cal_parser.specs.Word.{asked};
+    ghost use Rattle.cal_lexer.specs.Words.{lexeme_of};
 
     /// The word that it begins with.
     fn opener(&self) -> Word
-        ensures { asked result ≡ opener self.now.initialize }
+        ensures { lexeme_of result ≡ opener self.now.initialize }
     {
         if self.initialize {
             Word::Initialize

@@ -1,28 +1,35 @@
 //! Where the parser stands: the tokens that are left.
 
 ghost use Rattle.std.specs.Prelude.{◌≡◌, ◌<◌, true, false, length, MatchResult, string_bytes, IsTrue};
-ghost use Rattle.cal_lexer.specs.Lexeme.{Name};
+ghost use Rattle.cal_lexer.specs.Lexeme.{Name, lexeme};
 ghost use Rattle.cal_parser.specs.Cursor.{Finished, Took, TookName, TookWord, stands};
 ghost use Rattle.cal_parser.specs.Operators.{ends};
 ghost use Rattle.cal_parser.specs.Token.{counts, names, same_word};
-ghost use Rattle.cal_parser.specs.Word.{asked};
+ghost use Rattle.cal_lexer.specs.Words.{lexeme_of};
 
+use crate::ends::long_end;
 use crate::fault::Fault;
-use crate::word::{Word, number_of};
 use cal_ast::Ident;
-use cal_lexer::{Token, TokenKind};
+use cal_lexer::{Token, TokenKind, Word};
 use std::alloc::Global;
 
 /// Whether this word is at the front.
 pub fn is_word(tokens: &[Token], word: Word) -> bool
-    ensures { result ≡ stands (same_word (asked word)) tokens.now }
+    ensures { result ≡ stands (same_word (lexeme_of word)) tokens.now }
 {
     match tokens.first() {
         None => false,
-        Some(token) => {
-            let number = number_of(&token.kind);
-            number != 0 && number == word.number()
-        }
+        Some(token) => is_same(&token.kind, word),
+    }
+}
+
+/// Whether a token is this word.
+fn is_same(kind: &TokenKind, word: Word) -> bool
+    ensures { result ≡ same_word (lexeme_of word) (lexeme kind.now) }
+{
+    match kind.word() {
+        None => false,
+        Some(found) => found.number() == word.number(),
     }
 }
 
@@ -54,8 +61,8 @@ pub fn is_number(tokens: &[Token]) -> bool
 
 /// Takes the word at the front, and says where it stands.
 pub fn take_word(tokens: &mut &[Token], word: Word) -> u32
-    requires { stands (same_word (asked word)) tokens.old.now ≡ true }
-    ensures { Took (asked word) result tokens.old.now tokens.new.now }
+    requires { stands (same_word (lexeme_of word)) tokens.old.now ≡ true }
+    ensures { Took (lexeme_of word) result tokens.old.now tokens.new.now }
 {
     let all = *tokens;
     let Some((token, rest)) = all.split_first() else {
@@ -67,7 +74,7 @@ pub fn take_word(tokens: &mut &[Token], word: Word) -> u32
 
 /// Takes this word, which must be at the front, and says where it stands.
 pub fn expect(tokens: &mut &[Token], word: Word) -> Result<u32, Fault>
-    ensures { TookWord (asked word) result tokens.old.now tokens.new.now }
+    ensures { TookWord (lexeme_of word) result tokens.old.now tokens.new.now }
 {
     if is_word(tokens, word) {
         Ok(take_word(tokens, word))
@@ -94,9 +101,9 @@ pub fn name(alloc: Global, tokens: &mut &[Token]) -> Result<Ident, Fault>
 
 /// Takes the end of what begins with this word, and says whether it is there: `end`, or its long end.
 pub fn finish(tokens: &mut &[Token], opener: Word) -> bool
-    ensures { Finished (asked opener) result tokens.old.now tokens.new.now }
+    ensures { Finished (lexeme_of opener) result tokens.old.now tokens.new.now }
 {
-    let long = opener.long_end();
+    let long = long_end(opener);
     if is_word(tokens, Word::End) {
         take_word(tokens, Word::End);
         return true;

@@ -15,9 +15,8 @@ use crate::expr::{expr, type_expr};
 use crate::fault::Fault;
 use crate::lists::{Read, any, separated};
 use crate::names::Separator;
-use crate::word::Word;
 use cal_ast::{Ident, Param, PortDecl, TypeExpr, VarDecl};
-use cal_lexer::Token;
+use cal_lexer::{Token, Word};
 use std::alloc::Global;
 
 /// A variable.

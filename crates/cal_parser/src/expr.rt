@@ -29,9 +29,8 @@ use crate::types::{
     bare_type, closed_type, generated, no_gens, no_type_args, shape_arg, value_arg, with_gen,
     with_type_arg,
 };
-use crate::word::Word;
 use cal_ast::{Expr, Ident, TypeExpr};
-use cal_lexer::Token;
+use cal_lexer::{Token, Word};
 use std::alloc::Global;
 
 /// An expression.

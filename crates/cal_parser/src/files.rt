@@ -17,9 +17,8 @@ use crate::fault::Fault;
 use crate::lists::{Read, repeated};
 use crate::members::members;
 use crate::names::tag;
-use crate::word::Word;
 use cal_ast::{Actor, Body, File, Ident, Import, Member, UnitFile};
-use cal_lexer::Token;
+use cal_lexer::{Token, Word};
 use std::alloc::Global;
 
 /// What follows the first name of an import.

@@ -10,9 +10,8 @@ use crate::cursor::{expect, finish};
 use crate::fault::Fault;
 use crate::operators::Prefix;
 use crate::tall::{TallExpr, TallExprs, TallGens};
-use crate::word::Word;
 use cal_ast::{BinOp, Expr, ExprForm, Ident};
-use cal_lexer::Token;
+use cal_lexer::{Token, Word};
 use std::alloc::{AllocError, Global};
 
 /// A prefix and its operand.

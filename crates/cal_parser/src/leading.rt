@@ -5,13 +5,12 @@ ghost use Rattle.cal_parser.specs.Cursor.{stands};
 ghost use Rattle.cal_parser.specs.Leading.{LedByName, LedByWord};
 ghost use Rattle.cal_parser.specs.Rules.{starts_expr as starts};
 ghost use Rattle.cal_parser.specs.Token.{names, same_word};
-ghost use Rattle.cal_parser.specs.Word.{asked};
+ghost use Rattle.cal_lexer.specs.Words.{lexeme_of};
 
 use crate::cursor::{name, take_word};
 use crate::fault::Fault;
-use crate::word::Word;
 use cal_ast::Ident;
-use cal_lexer::{Token, TokenKind};
+use cal_lexer::{Token, TokenKind, Word};
 use std::alloc::Global;
 
 /// Takes the name at the front, which begins a part.
@@ -27,8 +26,8 @@ pub fn leading_name(alloc: Global, tokens: &mut &[Token], room: u32) -> Result<I
 
 /// Takes the word at the front, which begins a part, and says where it stands.
 pub fn leading_word(tokens: &mut &[Token], room: u32, word: Word) -> Result<u32, Fault>
-    requires { stands (same_word (asked word)) tokens.old.now ≡ true }
-    ensures { LedByWord room (asked word) result tokens.old.now tokens.new.now }
+    requires { stands (same_word (lexeme_of word)) tokens.old.now ≡ true }
+    ensures { LedByWord room (lexeme_of word) result tokens.old.now tokens.new.now }
 {
     if room == 0 {
         return Err(Fault::TooHigh);

@@ -7,15 +7,14 @@ ghost use Rattle.cal_parser.specs.Cursor.{stands};
 ghost use Rattle.cal_parser.specs.Steps.{number_step, truth_step};
 ghost use Rattle.cal_parser.specs.Steps.{Does, tall_tree, truth_word};
 ghost use Rattle.cal_parser.specs.Token.{counts, same_word};
-ghost use Rattle.cal_parser.specs.Word.{asked};
+ghost use Rattle.cal_lexer.specs.Words.{lexeme_of};
 
 use crate::cursor::take_word;
 use crate::fault::Fault;
 use crate::leading::leading_word;
 use crate::tall::TallExpr;
-use crate::word::Word;
 use cal_ast::{Expr, ExprForm, Ident};
-use cal_lexer::{Token, TokenKind};
+use cal_lexer::{Token, TokenKind, Word};
 
 /// The number at the front.
 pub fn number(tokens: &mut &[Token], room: u32) -> Result<TallExpr, Fault>
@@ -45,7 +44,7 @@ pub fn number(tokens: &mut &[Token], room: u32) -> Result<TallExpr, Fault>
 
 /// The word of a truth value.
 fn word_of(value: bool) -> Word
-    ensures { asked result ≡ truth_word value }
+    ensures { lexeme_of result ≡ truth_word value }
 {
     match value {
         true => Word::True,

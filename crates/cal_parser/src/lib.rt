@@ -8,6 +8,7 @@
 mod actions;
 mod cursor;
 mod decls;
+mod ends;
 mod expr;
 #[cfg(test)]
 mod expr_tests;
@@ -30,7 +31,6 @@ mod schedules;
 mod stmts;
 mod tall;
 mod types;
-mod word;
 
 pub use laws::one_tree;
 pub use parse::parse_file;

@@ -17,9 +17,8 @@ use crate::lists::Read;
 use crate::names::{Separator, names};
 use crate::schedules::{priority, schedule};
 use crate::stmts::stmts;
-use crate::word::Word;
 use cal_ast::{Action, Function, Ident, Member, Procedure, Tag, VarDecl};
-use cal_lexer::{Token, TokenKind};
+use cal_lexer::{Token, TokenKind, Word};
 use std::alloc::Global;
 
 /// A function.

@@ -9,9 +9,8 @@ ghost use Rattle.cal_parser.specs.Tells.{TellsNames, TellsTag};
 
 use crate::cursor::{is_word, name, take_word};
 use crate::fault::Fault;
-use crate::word::Word;
 use cal_ast::{Ident, Tag};
-use cal_lexer::Token;
+use cal_lexer::{Token, Word};
 use std::alloc::Global;
 
 /// What stands between the parts of a list.
@@ -26,11 +25,11 @@ impl Separator {
     ghost use Rattle.std.specs.Prelude.{◌≡◌};
     ghost use Rattle.cal_parser.specs.Separator.{mark_of};
     ghost use Rattle.cal_parser.specs.Spells.{mark};
-    ghost use Rattle.cal_parser.specs.Word.{asked};
+    ghost use Rattle.cal_lexer.specs.Words.{lexeme_of};
 
     /// The word that it is.
     pub fn word(self) -> Word
-        ensures { asked result ≡ mark (mark_of self) }
+        ensures { lexeme_of result ≡ mark (mark_of self) }
     {
         match self {
             Separator::Comma => Word::Comma,

@@ -9,9 +9,8 @@ ghost use Rattle.cal_parser.specs.Steps.{Does, closing_step, drops, tall_tree};
 use crate::cursor::{is_word, take_word};
 use crate::fault::Fault;
 use crate::tall::TallExpr;
-use crate::word::Word;
 use cal_ast::{Expr, ExprForm};
-use cal_lexer::Token;
+use cal_lexer::{Token, Word};
 use std::alloc::{AllocError, Global};
 
 /// Takes the opening parentheses at the front, and says where they stand.

@@ -9,9 +9,8 @@ use crate::cursor::{expect, finish, is_name, name};
 use crate::fault::Fault;
 use crate::lists::{Read, repeated, separated};
 use crate::names::{Separator, tag};
-use crate::word::Word;
 use cal_ast::{Move, Priority, Schedule, Tag};
-use cal_lexer::Token;
+use cal_lexer::{Token, Word};
 use std::alloc::Global;
 
 /// A transition of a schedule.

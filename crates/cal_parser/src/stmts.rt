@@ -10,16 +10,15 @@ ghost use Rattle.cal_parser.specs.Rules.{block_body, foreach_body, named, named_
 ghost use Rattle.cal_parser.specs.Spells as spells;
 ghost use Rattle.cal_parser.specs.Spells.{a_place, a_stmt, repeated};
 ghost use Rattle.cal_parser.specs.Tells.{Tells, each};
-ghost use Rattle.cal_parser.specs.Word.{asked};
+ghost use Rattle.cal_lexer.specs.Words.{lexeme_of};
 
 use crate::cursor::{expect, finish, is_name, is_word, name, take_word};
 use crate::expr::{args, expr, type_expr};
 use crate::fault::Fault;
 use crate::lists::separated;
 use crate::names::Separator;
-use crate::word::Word;
 use cal_ast::{Expr, Ident, Stmt, StmtForm, TypeExpr, VarDecl};
-use cal_lexer::Token;
+use cal_lexer::{Token, Word};
 use std::alloc::Global;
 
 /// What a `foreach` runs over: `shape name in from .. to`.
@@ -195,7 +194,7 @@ fn body_before(
     opener: Word,
 ) -> Result<Vec<Stmt>, Fault>
     requires { 1 ≤ room }
-    ensures { Leads (each stmt_tree) room (pieces.body_then (asked opener)) result tokens.old.now tokens.new.now }
+    ensures { Leads (each stmt_tree) room (pieces.body_then (lexeme_of opener)) result tokens.old.now tokens.new.now }
 {
     let found = stmts(alloc, tokens, room - 1)?;
     if !finish(tokens, opener) {
@@ -207,7 +206,7 @@ fn body_before(
 /// An expression inside a statement, and the word behind it.
 fn expr_before(alloc: Global, tokens: &mut &[Token], room: u32, word: Word) -> Result<Expr, Fault>
     requires { 1 ≤ room }
-    ensures { Leads expr_tree room (pieces.expr_then (asked word)) result tokens.old.now tokens.new.now }
+    ensures { Leads expr_tree room (pieces.expr_then (lexeme_of word)) result tokens.old.now tokens.new.now }
 {
     let found = expr(alloc, tokens, room - 1)?;
     if !is_word(tokens, word) {

@@ -8,9 +8,8 @@ ghost use Rattle.cal_parser.specs.Steps.{Does, each_type_arg, tall_type, type_st
 use crate::cursor::expect;
 use crate::fault::Fault;
 use crate::tall::{TallExpr, TallGen, TallGens, TallType, TallTypeArg, TallTypeArgs};
-use crate::word::Word;
 use cal_ast::{Gen, Ident, TypeArg, TypeExpr};
-use cal_lexer::Token;
+use cal_lexer::{Token, Word};
 use std::alloc::{AllocError, Global};
 
 /// A type without arguments.

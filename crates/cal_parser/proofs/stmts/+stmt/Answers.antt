@@ -5,7 +5,7 @@ use Rattle.cal_lexer.specs.Lexeme.{Lexeme, placed, plain_tokens}
 use Rattle.cal_parser.specs.Pieces.{else_rest}
 use Rattle.cal_parser.specs.Rules.{named, named_stmt_body, if_stmt_body, while_body, foreach_body, block_body}
 use Rattle.cal_parser.specs.Spells.{a_stmt, otherwise}
-use Rattle.cal_parser.specs.Word.{asked}
+use Rattle.cal_lexer.specs.Words.{lexeme_of}
 use Rattle.cal_parser.specs.declared.fault.Fault.TheVariants as faults
 use Rattle.cal_parser.proofs.Loops.{again_more, again_none, again_fail, read_shorter}
 use Rattle.cal_parser.proofs.Statements.{body_fails, body_unfinished, body_read, tells_on, does_if, stmt_high, stmt_named, stmt_if, stmt_while, stmt_foreach, stmt_block, stmt_none, if_no_test, if_no_first, if_no_other, if_read, other_none, behind_else, no_elsif, elsif_high, elsif_fails, elsif_read, else_fails, else_unfinished, else_read, while_no_test, while_no_body, while_read, foreach_no_range, foreach_no_body, foreach_read, block_no_vars, block_no_body, block_read}
@@ -179,10 +179,10 @@ block_rest-returns t c =
 pub body_before-returns-in_err-found : goal.body_before-returns-in_err-found
 body_before-returns-in_err-found t c =
     let same : c.from_residual.result ≡ Err c.in_err-found.field-0.0 = search rules in
-    rw same (body_fails c.args.room (asked c.args.opener) c.args.tokens.now.now c.stmts.new.tokens.now c.in_err-found.field-0.0 c.in_err-found.ensures)
+    rw same (body_fails c.args.room (lexeme_of c.args.opener) c.args.tokens.now.now c.stmts.new.tokens.now c.in_err-found.field-0.0 c.in_err-found.ensures)
 
 pub body_before-returns-then-not-finish : goal.body_before-returns-then-not-finish
-body_before-returns-then-not-finish t c = body_unfinished c.args.room (asked c.args.opener) c.in_ok-found.found c.args.tokens.now.now c.stmts.new.tokens.now c.finish.new.tokens.now c.in_ok-found.ensures (none_stood (asked c.args.opener) c.finish.result c.stmts.new.tokens.now c.finish.new.tokens.now c.finish.ensures c.if-not-finish.true)
+body_before-returns-then-not-finish t c = body_unfinished c.args.room (lexeme_of c.args.opener) c.in_ok-found.found c.args.tokens.now.now c.stmts.new.tokens.now c.finish.new.tokens.now c.in_ok-found.ensures (none_stood (lexeme_of c.args.opener) c.finish.result c.stmts.new.tokens.now c.finish.new.tokens.now c.finish.ensures c.if-not-finish.true)
 
 pub body_before-returns : goal.body_before-returns
-body_before-returns t c = body_read c.args.room (asked c.args.opener) c.in_ok-found.found c.args.tokens.now.now c.stmts.new.tokens.now c.finish.new.tokens.now c.in_ok-found.ensures (end_stood (asked c.args.opener) c.finish.result c.stmts.new.tokens.now c.finish.new.tokens.now c.finish.ensures c.if-not-finish.false)
+body_before-returns t c = body_read c.args.room (lexeme_of c.args.opener) c.in_ok-found.found c.args.tokens.now.now c.stmts.new.tokens.now c.finish.new.tokens.now c.in_ok-found.ensures (end_stood (lexeme_of c.args.opener) c.finish.result c.stmts.new.tokens.now c.finish.new.tokens.now c.finish.ensures c.if-not-finish.false)
