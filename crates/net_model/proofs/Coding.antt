@@ -28,7 +28,7 @@ three_bits = refl
 of_three_bits : all_encoded (Int 3) (pos 3 ∷ negsuc 3 ∷ []) ≡ 3 ∷ 252 ∷ []
 of_three_bits = refl
 
--- up to 16 bits take two bytes, the low one first, and a rest of one byte is no token
+-- up to 16 bits take two bytes, the low one first, and a remainder of one byte is no token
 pairs : tokens (Uint 9) (1 ∷ 1 ∷ 255 ∷ 255 ∷ 5 ∷ []) ≡ pos 257 ∷ pos 511 ∷ []
 pairs = refl
 
@@ -41,7 +41,7 @@ signed_pairs = refl
 of_signed_pairs : all_encoded (Int 16) (pos 5 ∷ negsuc 127 ∷ negsuc 32767 ∷ []) ≡ 5 ∷ 0 ∷ 128 ∷ 255 ∷ 0 ∷ 128 ∷ []
 of_signed_pairs = refl
 
--- more take four
+-- up to 32 bits take four
 fours : tokens (Uint 17) (1 ∷ 2 ∷ 1 ∷ 0 ∷ 9 ∷ 9 ∷ 9 ∷ []) ≡ pos 66049 ∷ []
 fours = refl
 
@@ -56,3 +56,26 @@ of_signed_fours = refl
 
 of_fours : all_encoded (Uint 32) (pos 4294967295 ∷ pos 1 ∷ []) ≡ 255 ∷ 255 ∷ 255 ∷ 255 ∷ 1 ∷ 0 ∷ 0 ∷ 0 ∷ []
 of_fours = refl
+
+-- more take eight: the first token is one more than 2 ^ 32, and a remainder of three bytes is no token
+eights : tokens (Uint 33) (1 ∷ 0 ∷ 0 ∷ 0 ∷ 1 ∷ 0 ∷ 0 ∷ 0 ∷ 9 ∷ 9 ∷ 9 ∷ []) ≡ pos 4294967297 ∷ []
+eights = refl
+
+rest_of_eights : rest_of (Uint 33) (1 ∷ 0 ∷ 0 ∷ 0 ∷ 1 ∷ 0 ∷ 0 ∷ 0 ∷ 9 ∷ 9 ∷ 9 ∷ []) ≡ 3
+rest_of_eights = refl
+
+signed_eights : tokens (Int 64) (254 ∷ 255 ∷ 255 ∷ 255 ∷ 255 ∷ 255 ∷ 255 ∷ 255 ∷ []) ≡ negsuc 1 ∷ []
+signed_eights = refl
+
+least_of_eights : tokens (Int 64) (0 ∷ 0 ∷ 0 ∷ 0 ∷ 0 ∷ 0 ∷ 0 ∷ 128 ∷ []) ≡ negsuc 9223372036854775807 ∷ []
+least_of_eights = refl
+
+of_signed_eights : all_encoded (Int 64) (negsuc 1 ∷ []) ≡ 254 ∷ 255 ∷ 255 ∷ 255 ∷ 255 ∷ 255 ∷ 255 ∷ 255 ∷ []
+of_signed_eights = refl
+
+of_eights : all_encoded (Uint 64) (pos 18446744073709551615 ∷ []) ≡ 255 ∷ 255 ∷ 255 ∷ 255 ∷ 255 ∷ 255 ∷ 255 ∷ 255 ∷ []
+of_eights = refl
+
+-- a type of fewer bits than its bytes have keeps the low bits
+forty_bits : tokens (Uint 40) (1 ∷ 2 ∷ 3 ∷ 4 ∷ 5 ∷ 6 ∷ 7 ∷ 8 ∷ []) ≡ pos 21542142465 ∷ []
+forty_bits = refl

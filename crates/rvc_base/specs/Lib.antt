@@ -1,6 +1,7 @@
 pub mod Width
 pub mod Trap
 pub mod Behaviour
+pub mod Lawful
 pub mod Refusal
 pub mod Rules
 pub mod Storing
