@@ -59,7 +59,7 @@ abbrev pub refusal_line : Named → Refusal → List ℕ
 refusal_line j r = codes "refused " ++ rule_text r.rule ++ codes " " ++ file_name j r.place.file ++ codes " " ++ decimal r.place.offset ++ line_feed
 
 abbrev pub usage_line : List ℕ
-usage_line = codes "\nrvc VERB TOP [PORT=FILE ..] [--trace FILE] [--workers N] [--round P] [--burst N] [--budget N]\n"
+usage_line = codes "\nrvc VERB TOP [PORT=FILE ..] [--trace FILE] [--workers N] [--round P] [--burst N] [--budget N] [--grow N]\n"
 
 -- the cause, and how the program is used
 abbrev pub usage_text : UsageCause → List ℕ

@@ -201,7 +201,7 @@ fn put_usage<D: Drains>(cause: UsageCause, drains: &mut D) -> Result<(), Failed>
 
 /// How the program is used, behind the cause.
 const USAGE: &[u8] =
-    b"\nrvc VERB TOP [PORT=FILE ..] [--trace FILE] [--workers N] [--round P] [--burst N] [--budget N]\n";
+    b"\nrvc VERB TOP [PORT=FILE ..] [--trace FILE] [--workers N] [--round P] [--burst N] [--budget N] [--grow N]\n";
 
 /// Reports a status that isn't a run's: its last line alone.
 pub fn report<D: Drains>(status: Status, names: &Names<'_>, drains: &mut D) -> Status

@@ -20,7 +20,7 @@ const INC_REPORT: &[u8] =
     b"instances 1\nlinks 2\nfirings 3\nrounds 2\nin In 0 tokens 3 rest 0\nout Out tokens 3\nquiet\n";
 
 const USAGE: &[u8] =
-    b"\nrvc VERB TOP [PORT=FILE ..] [--trace FILE] [--workers N] [--round P] [--burst N] [--budget N]\n";
+    b"\nrvc VERB TOP [PORT=FILE ..] [--trace FILE] [--workers N] [--round P] [--burst N] [--budget N] [--grow N]\n";
 
 const HEAD: &[u8] = b"rvc-trace 1 1 2\ni 0 Inc Inc\n";
 
@@ -307,6 +307,7 @@ fn a_job_that_is_not_built_is_refused(rt: HostRuntime) -> Result<(), Fail> {
         "rvc run Inc.cal In=in Out=out --trace t --workers 2",
         "rvc run Inc.cal In=in Out=out --trace t --round turn",
         "rvc run Inc.cal In=in Out=out --trace t --burst 63",
+        "rvc run Inc.cal In=in Out=out --trace t --grow 1",
     ];
     for words in rows {
         let ran = run_setting(&rt, rt.alloc(), &Setting { words, ..inc() })?;
