@@ -21,7 +21,7 @@ of_grammar file text tokens Memory lexed h = tt
 pub of_form : (file : ℕ) (text : List ℕ) (tree : Tree) (r : Result Actor Answer) → IsSource text tree → IsActor file tree r → IfErr r (IsRightly file text)
 of_form file text tree (Ok actor) source h = tt
 of_form file text tree (Err (Refused r)) source h =
-    (h.0, rw h.1 (in_form r.place.offset (record { tree = tree; source = source; departs_there = h.2 })))
+    (h.0, rw h.1 (in_form r.place.offset (record { tree = tree; source = source; is_first = h.2 })))
 of_form file text tree (Err Memory) source h = tt
 
 pub of_actor : (file : ℕ) (text : List ℕ) (tree : Tree) (r : Result Actor Answer) → IsSource text tree → IsActor file tree r → IfOk r (λ actor. Spells text (form_of actor))

@@ -1,5 +1,5 @@
 pub mod FormTree
-pub mod Departing
+pub mod Mismatch
 pub mod Formed
 pub mod Parts
 pub mod Spelling

@@ -1,6 +1,6 @@
--- Where a tree departs from the first form: at the first part, in the order of the text, that isn't of it.
+-- The first mismatch of a tree with the first form: where the first part begins, in the order of the text, that isn't of it.
 --
--- A part that is there once too often departs where it begins. Where a part is lacking, what should hold it departs.
+-- A part that is there once too often is a mismatch where it begins. If a part is lacking, what should hold it is one.
 use Rattle.std.specs.Prelude.{ℕ, ◌^◌, nat_lt, nat_eq, Bool, true, false, not, ◌&&◌, List, Option, None, Some, codes}
 use Rattle.std.specs.Str.{bytes_eq}
 use Rattle.cal_ast.specs.declared.expr.BinOp.{BinOp}
@@ -15,7 +15,7 @@ abbrev pub ◌or_else◌ : Option ℕ → Option ℕ → Option ℕ
 None or_else q = q
 Some at or_else q = Some at
 
--- it departs there, unless this holds
+-- a mismatch there, unless this holds
 abbrev pub unless : Bool → ℕ → Option ℕ
 unless true at = None
 unless false at = Some at
@@ -52,9 +52,9 @@ abbrev pub is_byte_type : Tree → Bool
 is_byte_type (type_of (ident name q) args at) = bytes_eq name (codes "uint") && is_alone_8 args
 is_byte_type _ = false
 
-abbrev pub departs_port : Tree → Option ℕ
-departs_port (port shape name at) = unless (is_byte_type shape) at
-departs_port x = Some (begins x)
+abbrev pub port_mismatch : Tree → Option ℕ
+port_mismatch (port shape name at) = unless (is_byte_type shape) at
+port_mismatch x = Some (begins x)
 
 -- what a part is named
 abbrev pub name_of : Tree → List ℕ
@@ -71,9 +71,9 @@ is_named name (present (ident text at)) = bytes_eq text name
 is_named name _ = false
 
 -- a pattern of one name at the port `name`
-abbrev pub departs_pattern : List ℕ → Tree → Option ℕ
-departs_pattern name (pattern from names repeat at) = unless (is_named name from) at or_else alone at (λ x. None) names or_else none repeat
-departs_pattern name x = Some (begins x)
+abbrev pub pattern_mismatch : List ℕ → Tree → Option ℕ
+pattern_mismatch name (pattern from names repeat at) = unless (is_named name from) at or_else alone at (λ x. None) names or_else none repeat
+pattern_mismatch name x = Some (begins x)
 
 -- the token, under the name that the action gives it, or a number of at most MAX_DIGITS digits
 abbrev pub is_operand : List ℕ → Tree → Bool
@@ -88,47 +88,47 @@ is_operator ops.Mul = true
 is_operator _ = false
 
 -- an operation on two operands
-abbrev pub departs_value : List ℕ → Tree → Option ℕ
-departs_value token (binary op left right at) = unless (is_operator op) at or_else unless (is_operand token left) (begins left) or_else unless (is_operand token right) (begins right)
-departs_value token x = Some (begins x)
+abbrev pub value_mismatch : List ℕ → Tree → Option ℕ
+value_mismatch token (binary op left right at) = unless (is_operator op) at or_else unless (is_operand token left) (begins left) or_else unless (is_operand token right) (begins right)
+value_mismatch token x = Some (begins x)
 
 -- an output of one value at the port `name`
-abbrev pub departs_output : List ℕ → List ℕ → Tree → Option ℕ
-departs_output name token (output to values repeat at) = unless (is_named name to) at or_else alone at (departs_value token) values or_else none repeat
-departs_output name token x = Some (begins x)
+abbrev pub output_mismatch : List ℕ → List ℕ → Tree → Option ℕ
+output_mismatch name token (output to values repeat at) = unless (is_named name to) at or_else alone at (value_mismatch token) values or_else none repeat
+output_mismatch name token x = Some (begins x)
 
 abbrev pub is_absent : Tree → Bool
 is_absent absent = true
 is_absent _ = false
 
--- there must be no body; one without statements begins nowhere, so its action departs
+-- there must be no body; one without statements begins nowhere, so its action is the mismatch
 abbrev pub no_body : ℕ → Tree → Option ℕ
 no_body at absent = None
 no_body at (present (cons x xs)) = Some (begins x)
 no_body at _ = Some at
 
 -- what may stand behind the outputs of an action: nothing
-abbrev pub departs_behind : ℕ → Tree → Tree → Tree → Option ℕ
-departs_behind at guards vars body = none guards or_else none vars or_else no_body at body
+abbrev pub behind_mismatch : ℕ → Tree → Tree → Tree → Option ℕ
+behind_mismatch at guards vars body = none guards or_else none vars or_else no_body at body
 
 -- an action without a tag that takes a token from one port and sends one to the other, and does no more
-abbrev pub departs_action : List ℕ → List ℕ → Tree → Option ℕ
-departs_action in_port out_port (action t initialize patterns outputs guards vars body at) =
+abbrev pub action_mismatch : List ℕ → List ℕ → Tree → Option ℕ
+action_mismatch in_port out_port (action t initialize patterns outputs guards vars body at) =
     unless (is_absent t && not initialize) at
-    or_else alone at (departs_pattern in_port) patterns
-    or_else alone at (departs_output out_port (name_of patterns)) outputs
-    or_else departs_behind at guards vars body
-departs_action in_port out_port x = Some (begins x)
+    or_else alone at (pattern_mismatch in_port) patterns
+    or_else alone at (output_mismatch out_port (name_of patterns)) outputs
+    or_else behind_mismatch at guards vars body
+action_mismatch in_port out_port x = Some (begins x)
 
-abbrev pub departs_actor : Tree → Option ℕ
-departs_actor (actor name params ins outs members at) =
+abbrev pub actor_mismatch : Tree → Option ℕ
+actor_mismatch (actor name params ins outs members at) =
     none params
-    or_else alone at departs_port ins
-    or_else alone at departs_port outs
-    or_else alone at (departs_action (name_of ins) (name_of outs)) members
-departs_actor x = Some (begins x)
+    or_else alone at port_mismatch ins
+    or_else alone at port_mismatch outs
+    or_else alone at (action_mismatch (name_of ins) (name_of outs)) members
+actor_mismatch x = Some (begins x)
 
 -- a file that is an actor of the form
-abbrev pub departs : Tree → Option ℕ
-departs (file in_package imports body at) = unless (is_absent in_package) at or_else none imports or_else departs_actor body
-departs x = Some (begins x)
+abbrev pub first_mismatch : Tree → Option ℕ
+first_mismatch (file in_package imports body at) = unless (is_absent in_package) at or_else none imports or_else actor_mismatch body
+first_mismatch x = Some (begins x)
