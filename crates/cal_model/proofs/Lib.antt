@@ -38,4 +38,6 @@ mod KeptByStatements
 mod KeptByFirings
 mod SoundRows
 mod OneLine
+mod Written
+mod Ranks
 mod Procedures

@@ -2,7 +2,7 @@
 use Rattle.std.proofs.Common.{◌≡◌, ℕ, zero, suc, ◌-◌, ◌%◌, ◌/◌, ◌^◌, ◌<◌, ◌≤◌, ℤ, pos, negsuc, true, w64, of_z, arith}
 use Rattle.std.specs.Prelude.{unsigned_abs, int_rem, neg_ℤ}
 use Rattle.std.specs.Int.{int_bit_and, int_bit_or, int_bit_xor, int_bit_not, int_shr}
-use Rattle.std.proofs.lemmas.Bool.{ltb-true}
+use Rattle.std.proofs.lemmas.Bool.{ltb-true, lt-ltb}
 use Rattle.std.proofs.lemmas.Int.{ints}
 use Rattle.std.proofs.lemmas.Nat.{shr_le}
 use Rattle.std.proofs.Math.Nat.{mod-le}
@@ -12,6 +12,10 @@ use Rattle.rvc_base.specs.Width.{IsNum, is_num}
 pub is-num : (z : ℤ) → is_num z ≡ true → IsNum z
 is-num (pos n) h = let e : n < 2 ^ 63 = ltb-true n (2 ^ 63) h in omega (arith, ints)
 is-num (negsuc n) h = let e : n < 2 ^ 63 = ltb-true n (2 ^ 63) h in omega (arith, ints)
+
+pub num-is : (z : ℤ) → IsNum z → is_num z ≡ true
+num-is (pos n) h = lt-ltb n (2 ^ 63) (omega (arith, ints))
+num-is (negsuc n) h = lt-ltb n (2 ^ 63) (omega (arith, ints))
 
 negated : (r a : ℕ) → r ≤ suc a → IsNum (negsuc a) → IsNum (neg_ℤ (pos r))
 negated zero a h k = omega (arith, ints)
