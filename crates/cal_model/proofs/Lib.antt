@@ -19,6 +19,7 @@ mod FiringRows
 mod StoringRows
 mod CertifiedRows
 mod EdgeRows
+mod WideRows
 mod TagRows
 mod TagLaws
 mod Agreement

@@ -10,7 +10,6 @@ mod evaluate;
 mod kind;
 mod laws;
 mod rates;
-pub mod rules;
 #[cfg(test)]
 mod tests;
 mod value;
