@@ -5,7 +5,7 @@ use Rattle.std.specs.Str.{bytes_eq}
 use Rattle.std.proofs.lemmas.Bool.{lt-ltb}
 use Rattle.std.proofs.lemmas.Slice.Eq.{bytes_eq-Decides}
 use Rattle.rvc_base.specs.declared.trap.Trap.TheVariants.{Overflow}
-use Rattle.rvc_base.specs.Width.{is_num}
+use Rattle.rvc_base.specs.Width.{is_num, num_bound}
 use Rattle.rvc_base.specs.Arithmetic as arithmetic
 use Rattle.cal_ast.specs.declared.expr.BinOp.TheVariants.{Add, Sub, Mul}
 use Rattle.cal_model.specs.declared.ast.Operand.{Operand}
@@ -32,7 +32,7 @@ whole-number z left = go (is_num z)
 
 small-number : (n left : ℕ) → n < 1000000000 → computed (arithmetic.whole (pos n)) left ≡ Gives (Num (pos n)) left
 small-number n left h =
-    let e : nat_lt n (2 ^ 63) ≡ true = lt-ltb n (2 ^ 63) (omega arith) in
+    let e : nat_lt n num_bound ≡ true = lt-ltb n num_bound (omega arith) in
     ap (λ b. computed (if b then arithmetic.Gives (pos n) else arithmetic.Traps Overflow) left) e
 
 operand-value : (calls : Calls) (name : List ℕ) (v : ℤ) (o : Operand) (left : ℕ) → IsShort o

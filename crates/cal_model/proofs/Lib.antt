@@ -19,6 +19,7 @@ mod FiringRows
 mod StoringRows
 mod CertifiedRows
 mod EdgeRows
+mod WideRows
 mod TagRows
 mod TagLaws
 mod Agreement
@@ -38,4 +39,6 @@ mod KeptByStatements
 mod KeptByFirings
 mod SoundRows
 mod OneLine
+mod Written
+mod Ranks
 mod Procedures

@@ -3,6 +3,7 @@ use Rattle.std.specs.Prelude.{◌≡◌, ℕ, ◌+◌, ◌<◌, ◌↔◌, ◌�
 use Rattle.rvc_base.specs.declared.trap.Trap.{Trap}
 use Rattle.rvc_base.specs.declared.trap.Trap.TheVariants.{TurnLimit}
 use Rattle.rvc_base.specs.Turns.{max_turns}
+use Rattle.rvc_base.specs.Width.{IsNum}
 use Rattle.rvc_base.specs.Behaviour.{Fires, TrapsInGuard, TrapsInBody, Waits, Picks, Faults}
 use Rattle.cal_ast.specs.declared.expr.BinOp.{BinOp}
 use Rattle.cal_ast.specs.declared.expr.BinOp.TheVariants.{Add, Sub, Mul}
@@ -23,7 +24,7 @@ use Rattle.cal_model.specs.Statement.{Runs, for_loop, exec, exec_all, runs_of, p
 use Rattle.cal_model.specs.Actor.{Local, Fun, Proc, Move, Actor}
 use Rattle.cal_model.specs.Call.{calls_of, fun_named, on_call, declared}
 use Rattle.cal_model.specs.Kinding.{Fine, Known, Names, Argument, counter, constants, constant, with_known, counts, with_counters, kind, kinds, arguments_fit, elements_in, type_judged, type_arguments}
-use Rattle.cal_model.specs.Sound.{Each, FunsNeverReturn, with_locals, names_of, IsSound, ProcsNeverReturn}
+use Rattle.cal_model.specs.Sound.{Each, IsWrittenOut, FunsNeverReturn, with_locals, names_of, IsSound, ProcsNeverReturn}
 use Rattle.cal_model.specs.Keeping.{GivesOnly, LacksNothing, CallsTakeTurns, RunsTakeTurns, AreOfKinds, AreMany, AreArguments, given_by, StandFor, IsEnvOf, HasAllOf, outside, StartsAreOf, IsOfItsKinds, answer, made}
 use Rattle.cal_model.specs.Tags.{stands_for, IsMeant, Transition, moves_of, IsMoveOf, pairs_of, IsPairOf}
 use Rattle.cal_model.specs.Rates.{need}
@@ -38,6 +39,16 @@ StoredIsOfType = (t : Shape) (v : Value) → IsType t → HasKind (kind_of_type 
 -- storing it again changes nothing
 abbrev pub StoringStays : Type 0
 StoringStays = (t : Shape) (v : Value) → IsType t → IsOf t v → stored t v ≡ v
+
+-- a tree of numbers and `-` alone whose value is this number, wherever it is evaluated
+pub record IsWrittenAs (z : ℤ) : Type 0 where
+  pub written : Tree
+  pub plain : IsWrittenOut written
+  pub value : (calls : Calls) (env : Env) (left : ℕ) → eval written calls env left ≡ Gives (Num z) left
+
+-- each number of the language can be written so
+abbrev pub NumbersAreWritten : Type 0
+NumbersAreWritten = (z : ℤ) → IsNum z → IsWrittenAs z
 
 -- what a variable without value holds is in its type
 abbrev pub ZeroIsOfType : Type 0
@@ -100,9 +111,14 @@ abbrev pub BehaviourIsIdle : Type 0
 BehaviourIsIdle = (actor : Actor) (p : Priorities actor) (x : State) (u : List (List ℤ)) → ¬ IsActorState actor x
     → ((a : ℕ) → (behaviour actor p).effect x u a ≡ None) × ((behaviour actor p).choice x u ≡ Waits)
 
--- which action is above which is determined by the actor, ..
+-- a sound actor has priorities, ..
+abbrev pub SoundHavePriorities : Type 0
+SoundHavePriorities = (actor : Actor) → IsSound actor → Priorities actor
+
+-- .. which action is above which is determined by the actor, ..
 abbrev pub AboveIsOne : Type 0
-AboveIsOne = (actor : Actor) (p q : Priorities actor) (a b : ℕ) → p.above a b ≡ q.above a b
+AboveIsOne = (actor : Actor) (p q : Priorities actor) (a b : ℕ) → a < length actor.actions → b < length actor.actions
+    → p.above a b ≡ q.above a b
 
 -- .. and so are the line of the actions, ..
 abbrev pub LineIsOne : Type 0

@@ -41,6 +41,7 @@ behaviour b = record {
   start = tt;
   ins = 1;
   outs = 1;
+  actions = 1;
   need = rate;
   give = rate;
   effect = λ x. effect b;

@@ -2,7 +2,7 @@
 //!
 //! Each law is the contract of a function that does nothing: it is proved with the crate, and can be cited.
 
-ghost use Rattle.cal_model.specs.Laws.{AboveIsOne, ArgumentsAreKept, AsManyAreKept, BehaviourIsEffect, BehaviourIsIdle, BehaviourIsOne, BehaviourKeepsStates, BehaviourStoresTokens, CallIsAnswered, CallIsKept, ChainsPutAbove, ChoiceIsOne, ChosenIsEnabled, ChosenTraps, ConstantIsValue, CounterIsKept, EffectIsOne, EffectsAreFirings, EffectsAreTraps, ElementsAreKept, EntryIsKept, FiringsKeepStates, FirstFormIsCase, FunctionsTakeTurns, JudgedIsType, KeptAreTokens, KindIsKept, KindsAreKept, LineIsOne, LocalsAreKept, LoopsCountTurns, LoopsEndByTurns, NeverBoth, NothingIsLacking, NumbersUnfold, OneFiring, OneTrap, ProceduresTakeTurns, RunIsPerformed, SoundFunsAreOfKinds, StartIsState, StatesAreTested, StoredIsOfType, StoringStays, TagsStandFor, TokensStay, TransitionsLead, TypeArgumentsAreKept, TypeIsKept, WaitingIsIdle, WhileUnfolds, ZeroIsOfType};
+ghost use Rattle.cal_model.specs.Laws.{AboveIsOne, ArgumentsAreKept, AsManyAreKept, BehaviourIsEffect, BehaviourIsIdle, BehaviourIsOne, BehaviourKeepsStates, BehaviourStoresTokens, CallIsAnswered, CallIsKept, ChainsPutAbove, ChoiceIsOne, ChosenIsEnabled, ChosenTraps, ConstantIsValue, CounterIsKept, EffectIsOne, EffectsAreFirings, EffectsAreTraps, ElementsAreKept, EntryIsKept, FiringsKeepStates, FirstFormIsCase, FunctionsTakeTurns, JudgedIsType, KeptAreTokens, KindIsKept, KindsAreKept, LineIsOne, LocalsAreKept, LoopsCountTurns, LoopsEndByTurns, NeverBoth, NothingIsLacking, NumbersAreWritten, NumbersUnfold, OneFiring, OneTrap, ProceduresTakeTurns, RunIsPerformed, SoundFunsAreOfKinds, SoundHavePriorities, StartIsState, StatesAreTested, StoredIsOfType, StoringStays, TagsStandFor, TokensStay, TransitionsLead, TypeArgumentsAreKept, TypeIsKept, WaitingIsIdle, WhileUnfolds, ZeroIsOfType};
 
 /// A value of a type's kind is in the type once it is stored, and then stays when it is stored again. What a
 /// variable without value holds is in the type too.
@@ -60,6 +60,16 @@ pub fn ports_keep_tokens()
     ensures in_type { KeptAreTokens }
     ensures stay { TokensStay }
     ensures as_many { AsManyAreKept }
+{}
+
+/// Each number of the language, the least one too, is the value of an expression of numbers and `-` alone.
+pub fn numbers_are_written_out()
+    ensures { NumbersAreWritten }
+{}
+
+/// A sound actor has priorities: which action is above which, and a line of the actions.
+pub fn sound_actors_have_priorities()
+    ensures { SoundHavePriorities }
 {}
 
 /// There is one line of an actor's actions: which stands above which, and with it the line, the choice, each effect and

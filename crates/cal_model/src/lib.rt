@@ -10,7 +10,6 @@ mod evaluate;
 mod kind;
 mod laws;
 mod rates;
-pub mod rules;
 #[cfg(test)]
 mod tests;
 mod value;
@@ -24,8 +23,9 @@ pub use kind::{Kind, MAX_LIST_SCALARS, Shape, kind_of_type};
 pub use laws::{
     actors_stay_in_their_states, behaviour_is_the_firing_rule, constants_are_values,
     environments_are_kept, first_form_is_a_case, kinds_are_kept, loops_count_turns, loops_go_on,
-    one_effect, one_line, ports_keep_tokens, procedures_are_performed, selection,
-    stored_values_are_in_their_type, tags_stand_for_actions, types_are_kept,
+    numbers_are_written_out, one_effect, one_line, ports_keep_tokens, procedures_are_performed,
+    selection, sound_actors_have_priorities, stored_values_are_in_their_type,
+    tags_stand_for_actions, types_are_kept,
 };
 pub use rates::{give, need};
 pub use value::{Value, Values};
