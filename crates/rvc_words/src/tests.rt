@@ -10,27 +10,27 @@ use std::test::Fail;
 const JOBS: &[(&str, &str)] = &[
     (
         "rvc run Inc.cal In=a=b.bin Out=o.bin --trace t.txt",
-        "Run Inc.cal [In a=b.bin][Out o.bin] t.txt 1 All 64 100000000 0",
+        "Run Inc.cal [In a=b.bin][Out o.bin] (t.txt) 1 All 64 100000000 0",
     ),
     (
         "rvc --workers=64 replay --round seed:18446744073709551615 a/_b/C.xdf A=x --burst 65536 B=y --trace=t --budget 00000000000000000001 C=z --grow 1048576",
-        "Replay a/_b/C.xdf [A x][B y][C z] t 64 Seed(18446744073709551615) 65536 1 1048576",
+        "Replay a/_b/C.xdf [A x][B y][C z] (t) 64 Seed(18446744073709551615) 65536 1 1048576",
     ),
     (
         "rvc check A.xdf",
-        "Check A.xdf  1 All 64 100000000 0",
+        "Check A.xdf () 1 All 64 100000000 0",
     ),
     (
         "rvc certify A.cal --round turn --grow=1",
-        "Certify A.cal  1 Turn 64 100000000 1",
+        "Certify A.cal () 1 Turn 64 100000000 1",
     ),
     (
         "rvc fmt a/b/A1.cal",
-        "Fmt a/b/A1.cal  1 All 64 100000000 0",
+        "Fmt a/b/A1.cal () 1 All 64 100000000 0",
     ),
     (
         "rvc gen 1000 --trace t --budget 1000000000000",
-        "Gen 1000 t 1 All 64 1000000000000 0",
+        "Gen 1000 (t) 1 All 64 1000000000000 0",
     ),
 ];
 
@@ -112,7 +112,7 @@ fn words(alloc: Global, line: &str) -> Result<Vec<String>, AllocError> {
 fn ports_text(alloc: Global, ports: &[PortWord]) -> Result<String, AllocError> {
     let mut text = String::new(alloc);
     for port in ports {
-        text.push_str("[")?;
+        text.push_str(" [")?;
         text.push_str(&port.name)?;
         text.push_str(" ")?;
         text.push_str(&port.file)?;
@@ -125,7 +125,7 @@ fn ports_text(alloc: Global, ports: &[PortWord]) -> Result<String, AllocError> {
 fn job_text(alloc: Global, job: &Job) -> Result<String, Fail> {
     let ports = ports_text(alloc, &job.ports)?;
     Ok(format!(in alloc;
-        "{:?} {} {ports} {} {} {:?} {} {} {}",
+        "{:?} {}{ports} ({}) {} {:?} {} {} {}",
         job.verb, job.top, job.trace, job.workers, job.round, job.burst, job.budget, job.grow
     )?)
 }
