@@ -6,8 +6,8 @@ use Rattle.cal_ast.specs.Tree.{Tree}
 use Rattle.cal_lexer.specs.Lexeme.{Placed}
 use Rattle.cal_lexer.specs.Lexes as lexis
 use Rattle.cal_parser.specs.Refusals as grammar
-use Rattle.cal_model.specs.Form.{form_of}
-use Rattle.cal_model.specs.declared.ast.Actor.{Actor}
+use Rattle.first_form.specs.Form.{form_of}
+use Rattle.first_form.specs.declared.ast.Actor.{Actor}
 use Rattle.first_form.specs.Spelling.{IsSource, IsActor, IsRightly, Spells, in_lexis, in_grammar, in_form}
 
 pub of_lexis : (file : ℕ) (text : List ℕ) (e : Answer) → lexis.IsRightly file text e → IsRightly file text e

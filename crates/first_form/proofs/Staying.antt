@@ -5,13 +5,13 @@ use Rattle.std.proofs.lemmas.Bool.{lt-ltb}
 use Rattle.cal_ast.specs.Tree.{Tree, absent, present, nil, cons, ident, port, pattern, output, action, actor, file, number, variable, binary}
 use Rattle.cal_ast.specs.Apart.{unplaced}
 use Rattle.cal_ast.specs.declared.expr.BinOp.{BinOp}
-use Rattle.cal_model.specs.Form.{Form}
-use Rattle.cal_model.specs.declared.ast.TheConstants.{MAX_DIGITS}
-use Rattle.cal_model.specs.declared.ast.Operand.{Operand}
-use Rattle.cal_model.specs.declared.ast.Operand.TheVariants.{Token, Number}
-use Rattle.cal_model.specs.declared.ast.Operator.{Operator}
-use Rattle.cal_model.specs.declared.ast.Operator.TheVariants.{Add, Sub, Mul}
-use Rattle.cal_model.specs.declared.ast.Binary.{Binary}
+use Rattle.first_form.specs.Form.{Form}
+use Rattle.first_form.specs.declared.ast.TheConstants.{MAX_DIGITS}
+use Rattle.first_form.specs.declared.ast.Operand.{Operand}
+use Rattle.first_form.specs.declared.ast.Operand.TheVariants.{Token, Number}
+use Rattle.first_form.specs.declared.ast.Operator.{Operator}
+use Rattle.first_form.specs.declared.ast.Operator.TheVariants.{Add, Sub, Mul}
+use Rattle.first_form.specs.declared.ast.Binary.{Binary}
 use Rattle.first_form.specs.FormTree.{one, byte_type, port_tree, operand_tree, op_of, IsOperand, HasShortNumbers, actor_of, form_tree}
 use Rattle.first_form.specs.Mismatch.{◌or_else◌, unless, none, alone, is_byte_type, is_named, is_operand, is_operator, is_absent, name_of, no_body, port_mismatch, pattern_mismatch, value_mismatch, output_mismatch, behind_mismatch, action_mismatch, actor_mismatch, first_mismatch}
 use Rattle.first_form.specs.Formed.{value_tree, pattern_of, output_of, action_of}

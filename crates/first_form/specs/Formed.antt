@@ -4,10 +4,10 @@ use Rattle.cal_ast.specs.declared.expr.BinOp.{BinOp}
 use Rattle.cal_ast.specs.declared.expr.BinOp.TheVariants as ops
 use Rattle.cal_ast.specs.Tree.{Tree, absent, present, nil, ident, action, pattern, output, binary}
 use Rattle.cal_ast.specs.Apart.{IsEqualApart}
-use Rattle.cal_model.specs.declared.ast.Operand.{Operand}
-use Rattle.cal_model.specs.declared.ast.Operator.{Operator}
-use Rattle.cal_model.specs.declared.ast.Operator.TheVariants.{Add, Sub, Mul}
-use Rattle.cal_model.specs.declared.ast.Binary.{Binary}
+use Rattle.first_form.specs.declared.ast.Operand.{Operand}
+use Rattle.first_form.specs.declared.ast.Operator.{Operator}
+use Rattle.first_form.specs.declared.ast.Operator.TheVariants.{Add, Sub, Mul}
+use Rattle.first_form.specs.declared.ast.Binary.{Binary}
 use Rattle.first_form.specs.FormTree.{one, port_tree, operand_tree, op_of, IsOperand}
 use Rattle.first_form.specs.Mismatch.{is_operand, value_mismatch, port_mismatch, pattern_mismatch, output_mismatch, action_mismatch, alone, name_of}
 

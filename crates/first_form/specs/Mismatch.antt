@@ -7,7 +7,7 @@ use Rattle.cal_ast.specs.declared.expr.BinOp.{BinOp}
 use Rattle.cal_ast.specs.declared.expr.BinOp.TheVariants as ops
 use Rattle.cal_ast.specs.Tree.{Tree, absent, present, nil, cons, ident, tag, import_part, file, actor, unit, param, port, var, function, procedure, action, pattern, output, schedule, move, priority, type_of, value_arg, assign, call_stmt, if_stmt, while_stmt, foreach_stmt, block, number, truth, variable, call, paren, if_expr, list, comp, index, prefix, binary}
 use Rattle.cal_ast.specs.Places.{begins}
-use Rattle.cal_model.specs.declared.ast.TheConstants.{MAX_DIGITS}
+use Rattle.first_form.specs.declared.ast.TheConstants.{MAX_DIGITS}
 
 -- the first of two places
 infixr 5 ◌or_else◌

@@ -10,8 +10,8 @@ use Rattle.cal_lexer.specs.Lexeme.{Placed}
 use Rattle.cal_lexer.specs.Lexes.{lexes, faults}
 use Rattle.cal_parser.specs.Refusals as grammar
 use Rattle.cal_parser.specs.Spells.{spells}
-use Rattle.cal_model.specs.Form.{Form, form_of}
-use Rattle.cal_model.specs.declared.ast.Actor.{Actor}
+use Rattle.first_form.specs.Form.{Form, form_of}
+use Rattle.first_form.specs.declared.ast.Actor.{Actor}
 use Rattle.first_form.specs.FormTree.{form_tree, HasShortNumbers}
 use Rattle.first_form.specs.Mismatch.{first_mismatch}
 

@@ -7,7 +7,7 @@ ghost use Rattle.cal_ast.specs.View.{ident_tree, type_tree, type_arg_tree, port_
 ghost use Rattle.cal_ast.specs.Places.{begins};
 ghost use Rattle.first_form.specs.Mismatch.{first_mismatch, actor_mismatch, action_mismatch, behind_mismatch, pattern_mismatch, output_mismatch, port_mismatch, is_8, is_byte_type, is_named, is_size_8, alone};
 ghost use Rattle.first_form.specs.FormTree.{actor_of, form_tree, HasShortNumbers, IsOperand};
-ghost use Rattle.cal_model.specs.Form.{form_of};
+ghost use Rattle.first_form.specs.Form.{form_of};
 ghost use Rattle.first_form.specs.Parts.{given_form};
 ghost use Rattle.first_form.specs.Formed.{IsPort, IsPattern, IsOutput, IsAction, action_of};
 
@@ -16,7 +16,7 @@ use cal_ast::{
     Action, Actor as ActorTree, Body, Expr, ExprForm, File, Ident, Member, Output, Pattern,
     PortDecl, TypeArg, TypeExpr,
 };
-use cal_model::ast::{Actor, Binary};
+use crate::ast::{Actor, Binary};
 use std::alloc::{AllocError, Global};
 
 /// An actor whose texts are the tree's.

@@ -1,7 +1,8 @@
 //! Laws of the form.
 
 ghost use Rattle.std.specs.Prelude.{◌≡◌, ℕ, List};
-ghost use Rattle.cal_model.specs.Form.{Form};
+ghost use Rattle.first_form.specs.Case.{FirstFormIsCase};
+ghost use Rattle.first_form.specs.Form.{Form};
 ghost use Rattle.first_form.specs.Spelling.{HasMismatchAt, Spells};
 
 /// A text spells at most one actor of the form.
@@ -19,3 +20,9 @@ pub fn never_both()
     cal_lexer::one_list();
     cal_parser::one_tree();
 }
+
+/// The value of an expression of the first form, over the token that the action takes, is what the whole language
+/// says.
+pub fn first_form_is_a_case()
+    ensures { FirstFormIsCase }
+{}

@@ -1,7 +1,7 @@
 //! Sources with the actor that they spell, or the rule that they break and where.
 
 use crate::read_form;
-use cal_model::ast::{Actor, Operand, Operator};
+use crate::ast::{Actor, Operand, Operator};
 use rvc_base::Front;
 use std::alloc::{AllocError, Global};
 use std::process::Abort;

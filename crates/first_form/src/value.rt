@@ -7,7 +7,7 @@ ghost use Rattle.cal_ast.specs.Places.{begins};
 ghost use Rattle.first_form.specs.Formed.{IsOperandOf, IsValueOf, operator_of};
 
 use cal_ast::{BinOp, Expr, ExprForm};
-use cal_model::ast::{Binary, Operand, Operator};
+use crate::ast::{Binary, Operand, Operator};
 
 /// The least number that has too many digits.
 const TOO_GREAT: u128 = 1_000_000_000;

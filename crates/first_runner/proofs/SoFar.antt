@@ -7,8 +7,8 @@ use Rattle.trace_text.specs.Text.{line_text}
 use Rattle.net_model.specs.State.{State, start_of}
 use Rattle.net_model.specs.PortFile.{all_encoded}
 use Rattle.net_model.specs.Trace.{FitFlows, PlaysFrom, KeepsFrom, OnNext}
-use Rattle.cal_model.specs.Form.{Form}
-use Rattle.cal_model.specs.Meaning.{byte_type, SendsFor}
+use Rattle.first_form.specs.Form.{Form}
+use Rattle.first_form.specs.Meaning.{byte_type, SendsFor}
 use Rattle.first_runner.specs.Source.{network_of}
 use Rattle.first_runner.specs.Ran.{fires_in, deliveries_in, AreMoves, Written, Ended}
 use Rattle.first_runner.specs.SoFar.{toks, results, state_at, SoFar}

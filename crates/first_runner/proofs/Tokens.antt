@@ -3,7 +3,7 @@ use Rattle.std.proofs.Common.{◌≡◌, ℕ, List, length, map, take, drop, ap,
 use Rattle.std.proofs.lemmas.List.{length-map, take-map, drop-map}
 use Rattle.rvc_base.specs.Storing.{conv}
 use Rattle.net_model.specs.PortFile.{tokens}
-use Rattle.cal_model.specs.Meaning.{byte_type}
+use Rattle.first_form.specs.Meaning.{byte_type}
 use Rattle.first_runner.specs.SoFar.{toks}
 
 -- one for each token of the file

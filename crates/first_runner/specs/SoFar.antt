@@ -7,10 +7,10 @@ use Rattle.channel_writer.specs.Held.{Writes}
 use Rattle.net_model.specs.State.{Flow, State, start_of}
 use Rattle.net_model.specs.PortFile.{tokens, all_encoded}
 use Rattle.net_model.specs.Trace.{PlaysFrom, KeepsFrom}
-use Rattle.cal_model.specs.Form.{Form}
-use Rattle.cal_model.specs.Eval.{Out, Gives, Traps, eval}
-use Rattle.cal_model.specs.Meaning.{byte_type}
-use Rattle.cal_model.specs.declared.ast.Binary.{Binary}
+use Rattle.first_form.specs.Form.{Form}
+use Rattle.first_form.specs.Eval.{Out, Gives, Traps, eval}
+use Rattle.first_form.specs.Meaning.{byte_type}
+use Rattle.first_form.specs.declared.ast.Binary.{Binary}
 use Rattle.first_runner.specs.Source.{network_of}
 use Rattle.first_runner.specs.Missing.{IsToCome, MayWrite}
 use Rattle.first_runner.specs.declared.ends.Ends.{Ends}

@@ -2,8 +2,8 @@
 
 ghost use Rattle.std.specs.Prelude.{◌≡◌, ◌≤◌, ◌<◌, ◌+◌, ◌^◌, ◌⊎◌, ℕ, Bool, true, List, [], Option, Some, OnOk, OnErr, IfOk, IfErr, MatchResult, Err, length};
 ghost use Rattle.rvc_io.specs.Count.{HasRisen};
-ghost use Rattle.cal_model.specs.Meaning.{IsFirstForm};
-ghost use Rattle.cal_model.specs.Form.{Form};
+ghost use Rattle.first_form.specs.Meaning.{IsFirstForm};
+ghost use Rattle.first_form.specs.Form.{Form};
 ghost use Rattle.port_files.specs.Coming.{coming, EndIsTrue};
 ghost use Rattle.first_runner.specs.Outside.{KeepsOthers};
 ghost use Rattle.first_runner.specs.Missing.{IsWritten};
@@ -21,7 +21,7 @@ use crate::progress::Progress;
 use crate::sending::send_out;
 use crate::trace_writer::note;
 use crate::{BURST, INPUT_FEED, OUTPUT_CHANNEL, TRACE_CHANNEL};
-use cal_model::ast::Binary;
+use first_form::ast::Binary;
 use rvc_base::MAX_BUDGET;
 use rvc_io::{Drains, Feeds};
 use trace_text::Line;

@@ -5,7 +5,7 @@ use Rattle.rvc_base.specs.Refusal.{rule_text}
 use Rattle.rvc_base.specs.declared.refusal.Refusal.{Refusal}
 use Rattle.rvc_words.specs.Causes.{cause_name}
 use Rattle.rvc_words.specs.declared.fault.UsageCause.{UsageCause}
-use Rattle.cal_model.specs.Form.{Form}
+use Rattle.first_form.specs.Form.{Form}
 use Rattle.first_form.specs.Spelling.{Spells}
 use Rattle.rvc_words.specs.Words.{PortText}
 use Rattle.rvc_top.specs.Plain.{PlainText}

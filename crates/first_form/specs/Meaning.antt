@@ -4,10 +4,10 @@ use Rattle.rvc_base.specs.declared.scalar.Scalar.{Scalar}
 use Rattle.rvc_base.specs.declared.scalar.Scalar.TheVariants.{Uint}
 use Rattle.rvc_base.specs.Storing.{conv}
 use Rattle.rvc_base.specs.Behaviour.{Behaviour, Effect, Fires, TrapsInBody, Choice, Waits, Picks}
-use Rattle.cal_model.specs.declared.ast.Binary.{Binary}
-use Rattle.cal_model.specs.declared.ast.Operand.{Operand}
-use Rattle.cal_model.specs.declared.ast.Operand.TheVariants.{Token, Number}
-use Rattle.cal_model.specs.Eval.{Out, Gives, Traps, eval}
+use Rattle.first_form.specs.declared.ast.Binary.{Binary}
+use Rattle.first_form.specs.declared.ast.Operand.{Operand}
+use Rattle.first_form.specs.declared.ast.Operand.TheVariants.{Token, Number}
+use Rattle.first_form.specs.Eval.{Out, Gives, Traps, eval}
 
 -- the type of both ports
 abbrev pub byte_type : Scalar

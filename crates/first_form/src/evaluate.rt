@@ -2,8 +2,8 @@
 
 ghost use Rattle.std.specs.Prelude.{◌≡◌, ◌<ℤ◌, ◌≤ℤ◌, pos, ℤ};
 ghost use Rattle.rvc_base.specs.Storing.{conv};
-ghost use Rattle.cal_model.specs.Eval.{applied, operand, Gives};
-ghost use Rattle.cal_model.specs.Meaning.{IsFirstForm, IsShort, byte_type, SendsFor};
+ghost use Rattle.first_form.specs.Eval.{applied, operand, Gives};
+ghost use Rattle.first_form.specs.Meaning.{IsFirstForm, IsShort, byte_type, SendsFor};
 
 use crate::ast::{Binary, Operand, Operator};
 use rvc_base::{Num, Scalar, conv};

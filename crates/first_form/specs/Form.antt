@@ -1,7 +1,7 @@
 -- The tree of an actor of the first form, without where its texts lie in memory.
 use Rattle.std.specs.Prelude.{ℕ, List, string_bytes}
-use Rattle.cal_model.specs.declared.ast.Actor.{Actor}
-use Rattle.cal_model.specs.declared.ast.Binary.{Binary}
+use Rattle.first_form.specs.declared.ast.Actor.{Actor}
+use Rattle.first_form.specs.declared.ast.Binary.{Binary}
 
 pub record Form : Type 0 where
   pub name : List ℕ

@@ -3,11 +3,11 @@ use Rattle.std.specs.Prelude.{ℤ, pos, ◌+ℤ◌, ◌-ℤ◌, ◌*ℤ◌, if�
 use Rattle.rvc_base.specs.Width.{is_num}
 use Rattle.rvc_base.specs.declared.trap.Trap.{Trap}
 use Rattle.rvc_base.specs.declared.trap.Trap.TheVariants.{Overflow}
-use Rattle.cal_model.specs.declared.ast.Operand.{Operand}
-use Rattle.cal_model.specs.declared.ast.Operand.TheVariants.{Token, Number}
-use Rattle.cal_model.specs.declared.ast.Operator.{Operator}
-use Rattle.cal_model.specs.declared.ast.Operator.TheVariants.{Add, Sub, Mul}
-use Rattle.cal_model.specs.declared.ast.Binary.{Binary}
+use Rattle.first_form.specs.declared.ast.Operand.{Operand}
+use Rattle.first_form.specs.declared.ast.Operand.TheVariants.{Token, Number}
+use Rattle.first_form.specs.declared.ast.Operator.{Operator}
+use Rattle.first_form.specs.declared.ast.Operator.TheVariants.{Add, Sub, Mul}
+use Rattle.first_form.specs.declared.ast.Binary.{Binary}
 
 pub data Out : Type 0 where
   Gives : ℤ → Out
