@@ -7,3 +7,4 @@ mod Premises
 mod Ending
 pub mod Commuting
 mod Arriving
+mod Bare
