@@ -9,10 +9,7 @@ ghost use Rattle.action_machine.specs.Machine.{IsPlain, rises};
 
 use crate::indexed::{copy_from, copy_to, index, load_at, store_at};
 use crate::loads::{constant, drop_top, load, store};
-use crate::operators::{
-    add, and, deny, divide, invert, is_at_least, is_at_most, is_equal, is_greater, is_less,
-    is_unequal, leave_rest, multiply, negate, or, shift_left, shift_right, subtract, xor,
-};
+use crate::operators;
 use crate::ranges::{copy, zero};
 use crate::reads::{token, token_at, token_list};
 use crate::stack::Acted;
@@ -52,25 +49,25 @@ pub(crate) fn carry_out<T: Tokens>(
         Instr::TokenAt(p, k, m, n) => token_at(p, k, m, n, top, stack, tokens),
         Instr::TokenList(d, p, k, m, n) => token_list(d, p, k, m, n, cells, tokens),
         Instr::Zero(c, n) => zero(c, n, cells),
-        Instr::Neg => negate(top, stack),
-        Instr::BitNot => invert(top, stack),
-        Instr::Not => deny(top, stack),
-        Instr::Add => add(top, stack),
-        Instr::Sub => subtract(top, stack),
-        Instr::Mul => multiply(top, stack),
-        Instr::Div => divide(top, stack),
-        Instr::Mod => leave_rest(top, stack),
-        Instr::Shl => shift_left(top, stack),
-        Instr::Shr => shift_right(top, stack),
-        Instr::And => and(top, stack),
-        Instr::Or => or(top, stack),
-        Instr::Xor => xor(top, stack),
-        Instr::Eq => is_equal(top, stack),
-        Instr::Ne => is_unequal(top, stack),
-        Instr::Lt => is_less(top, stack),
-        Instr::Le => is_at_most(top, stack),
-        Instr::Gt => is_greater(top, stack),
-        Instr::Ge => is_at_least(top, stack),
+        Instr::Neg => operators::neg(top, stack),
+        Instr::BitNot => operators::bit_not(top, stack),
+        Instr::Not => operators::not(top, stack),
+        Instr::Add => operators::add(top, stack),
+        Instr::Sub => operators::sub(top, stack),
+        Instr::Mul => operators::mul(top, stack),
+        Instr::Div => operators::div(top, stack),
+        Instr::Mod => operators::rem(top, stack),
+        Instr::Shl => operators::shl(top, stack),
+        Instr::Shr => operators::shr(top, stack),
+        Instr::And => operators::bit_and(top, stack),
+        Instr::Or => operators::bit_or(top, stack),
+        Instr::Xor => operators::bit_xor(top, stack),
+        Instr::Eq => operators::eq(top, stack),
+        Instr::Ne => operators::ne(top, stack),
+        Instr::Lt => operators::lt(top, stack),
+        Instr::Le => operators::le(top, stack),
+        Instr::Gt => operators::gt(top, stack),
+        Instr::Ge => operators::ge(top, stack),
         Instr::Drop => drop_top(top, stack),
         Instr::Jump(_)
         | Instr::JumpIfNot(_)

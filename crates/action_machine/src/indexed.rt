@@ -7,11 +7,11 @@ ghost use Rattle.code_ir.specs.Typing.{IsSized};
 ghost use Rattle.action_machine.specs.Stacks.{top_first};
 ghost use Rattle.action_machine.specs.Acting.{OnFails, effect_of};
 
-use crate::arithmetic::stepped;
 use crate::loads::{load, stored};
 use crate::offset::offset;
 use crate::ranges::copy_cells;
 use crate::stack::{Acted, pop, push_result};
+use crate::stepping::stepped;
 use rvc_base::{Num, Scalar, Trap};
 
 /// Pops an index i, then an offset o, and pushes `o + i * m`.

@@ -1,5 +1,6 @@
-use Rattle.std.proofs.Common.{rules, ◌≡◌, ◌+◌, ◌*◌, ◌<◌, ℕ, ℤ, List, pos, [], length, arith, ◌∙◌, w64, SFits}
+use Rattle.std.proofs.Common.{rules, ◌≡◌, ◌+◌, ◌*◌, ◌<◌, ℕ, ℤ, List, pos, [], length, arith, ◌∙◌, SFits}
 use Rattle.std.specs.Prelude.{slice_get}
+use Rattle.rvc_base.specs.Width.{num_width}
 use Rattle.code_ir.specs.Effect.{Effect, pop, push_token, with_offset}
 use Rattle.action_machine.specs.Stacks.{top_first}
 use Rattle.action_machine.proofs.Arms.{popped, offset-some}
@@ -10,7 +11,7 @@ pub at-requires : goal.at-requires
 at-requires g c =
     let xs : List ℤ = g.T.Tokens.tokens c.args.tokens.now c.args.p in
     let rest : List ℤ = top_first (pos 0) c.pop-i.new.top c.args.stack.now in
-    let f : SFits w64 c.pop-i.result = search rules in
+    let f : SFits num_width c.pop-i.result = search rules in
     let next : ℕ → Effect = λ j. push_token (slice_get xs (c.args.k + j * c.args.m)) rest [] in
     let same : pop (top_first (pos 0) c.args.top.now c.args.stack.now) (λ i s. with_offset i 1 c.args.n (λ j. push_token (slice_get xs (c.args.k + j * c.args.m)) s [])) ≡ next c.in-Some.j =
     popped _ _ c.pop-i.result _ _ c.pop-i.ensures.operands (offset-some c.pop-i.result 1 c.args.n c.in-Some.j next f c.in-Some.ensures.effect) in
