@@ -6,12 +6,13 @@ use Rattle.std.specs.declared.result.Result.{Result}
 use Rattle.rvc_base.specs.declared.trap.Trap.{Trap}
 use Rattle.rvc_base.specs.declared.trap.Trap.TheVariants.{IndexRange}
 use Rattle.rvc_base.specs.Arithmetic.{Computed}
-use Rattle.code_ir.specs.Effect.{Effect, Fails, with_offset, with_cells, pop, push_computed, on_top, on_two}
+use Rattle.code_ir.specs.declared.instr.Instr.{Instr}
+use Rattle.code_ir.specs.Effect.{Effect, effect, Fails, with_offset, with_cells, pop, push_computed, on_top, on_two}
 use Rattle.std.proofs.lemmas.Bool.Decides.{nat_tests}
 use Rattle.rvc_base.specs.Width.{num_width}
 use Rattle.rvc_base.specs.Computing.{computed_of}
 use Rattle.action_machine.specs.declared.stack.Acted.{Acted}
-use Rattle.action_machine.specs.Acting.{effect_of}
+use Rattle.action_machine.specs.Acting.{Moves, effect_of}
 
 pub two : (f : ℤ → ℤ → Computed) (a b : ℤ) (v : Result ℤ Trap) (r : Acted) (all rest after : List ℤ) → SFits num_width a → SFits num_width b → all ≡ b ∷ a ∷ rest → computed_of v ≡ f (to_z num_width (of_z num_width a)) (to_z num_width (of_z num_width b)) → ((cells : List ℤ) → push_computed (computed_of v) rest cells ≡ effect_of r after cells) → (cells : List ℤ) → on_two f all cells ≡ effect_of r after cells
 two f a b v r all rest after fa fb e g h cells =
@@ -37,3 +38,7 @@ offset-none o m n next fits h = subst (λ x. with_offset x m n next ≡ Fails In
 
 pub offset-some : (o : ℤ) (m n k : ℕ) (next : ℕ → Effect) → SFits num_width o → ((g : ℕ → Effect) → with_offset (to_z num_width (of_z num_width o)) m n g ≡ g k) → with_offset o m n next ≡ next k
 offset-some o m n k next fits h = subst (λ x. with_offset x m n next ≡ next k) (to_z-of_z num_width o fits) (h next)
+
+-- the instruction that stands there is this one
+pub moved : {i j : Instr} (tokens : ℕ → List ℤ) (operands cells : List ℤ) (left : Effect) → i ≡ j → Moves j operands cells left → effect tokens i operands cells ≡ left
+moved tokens operands cells left same moves = rw same (moves tokens)

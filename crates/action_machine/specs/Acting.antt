@@ -14,7 +14,14 @@ abbrev pub OnFails : Acted → Type 0 → Type 0
 OnFails acted.On P = Unit {0}
 OnFails (acted.Fails trap) P = P
 
--- whatever the tokens and the cells are, the instruction comes to this on these operands: others, and the same
--- cells, or a trap
+-- whatever the tokens are, the instruction comes to this on these operands and cells
+abbrev pub Moves : Instr → List ℤ → List ℤ → Effect → Type 0
+Moves instr operands cells left = (tokens : ℕ → List ℤ) → effect tokens instr operands cells ≡ left
+
+-- whatever the tokens and the cells are, it comes to this on these operands: others, and the same cells, or a trap
 abbrev pub Computes : Instr → List ℤ → Acted → List ℤ → Type 0
-Computes instr operands acted left = (tokens : ℕ → List ℤ) (cells : List ℤ) → effect tokens instr operands cells ≡ effect_of acted left cells
+Computes instr operands acted left = (cells : List ℤ) → Moves instr operands cells (effect_of acted left cells)
+
+-- whatever the operands are, it comes to this on these cells: the same operands, and other cells
+abbrev pub Rewrites : Instr → List ℤ → Acted → List ℤ → Type 0
+Rewrites instr cells acted left = (operands : List ℤ) → Moves instr operands cells (effect_of acted operands left)

@@ -7,7 +7,7 @@ use Rattle.action_machine.proofs.Arms.{cells-there}
 use Rattle.action_machine.proofs.loads.load.Goals as goal
 
 pub returns : goal.returns
-returns c =
-    let fits : SFits num_width (cell c.args.cells.now c.args.c) = search rules in
-    cells-there c.args.cells.now c.args.c 1 _ _ c.requires.inside
-    (ap (λ s. Leaves s c.args.cells.now) (sym (c.push.ensures.operands ∙ ap (λ x. x ∷ top_first (pos 0) c.args.top.now c.args.stack.now) (to_z-of_z num_width (cell c.args.cells.now c.args.c) fits))))
+returns c = λ tokens.
+    let fits : SFits num_width (cell c.args.cells.now c.args.cell) = search rules in
+    cells-there c.args.cells.now c.args.cell 1 _ _ c.requires.inside
+    (ap (λ s. Leaves s c.args.cells.now) (sym (c.push.ensures.operands ∙ ap (λ x. x ∷ top_first (pos 0) c.args.top.now c.args.stack.now) (to_z-of_z num_width (cell c.args.cells.now c.args.cell) fits))))

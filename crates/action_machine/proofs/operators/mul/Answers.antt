@@ -5,7 +5,7 @@ use Rattle.action_machine.proofs.Arms.{two}
 use Rattle.action_machine.proofs.operators.mul.Goals as goal
 
 pub returns : goal.returns
-returns c = λ tokens.
+returns c = λ cells tokens.
     let fa : SFits num_width c.pop-a.result = search rules in
     let fb : SFits num_width c.pop-b.result = search rules in
-    two mul c.pop-a.result c.pop-b.result c.mul.result c.push_result.result _ _ _ fa fb (c.pop-b.ensures.operands ∙ ap (λ s. c.pop-b.result ∷ s) c.pop-a.ensures.operands) c.mul.ensures c.push_result.ensures
+    two mul c.pop-a.result c.pop-b.result c.mul.result c.push_result.result _ _ _ fa fb (c.pop-b.ensures.operands ∙ ap (λ s. c.pop-b.result ∷ s) c.pop-a.ensures.operands) c.mul.ensures c.push_result.ensures cells

@@ -5,6 +5,6 @@ use Rattle.action_machine.proofs.Arms.{one}
 use Rattle.action_machine.proofs.operators.neg.Goals as goal
 
 pub returns : goal.returns
-returns c = λ tokens.
+returns c = λ cells tokens.
     let fa : SFits num_width c.pop-a.result = search rules in
-    one neg c.pop-a.result c.neg.result c.push_result.result _ _ _ fa c.pop-a.ensures.operands c.neg.ensures c.push_result.ensures
+    one neg c.pop-a.result c.neg.result c.push_result.result _ _ _ fa c.pop-a.ensures.operands c.neg.ensures c.push_result.ensures cells

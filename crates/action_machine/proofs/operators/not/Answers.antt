@@ -5,6 +5,6 @@ use Rattle.action_machine.proofs.Arms.{one}
 use Rattle.action_machine.proofs.operators.not.Goals as goal
 
 pub returns : goal.returns
-returns c = λ tokens.
+returns c = λ cells tokens.
     let fa : SFits num_width c.pop-a.result = search rules in
-    one (λ a. Gives (truth (not (is_true a)))) c.pop-a.result c.not.result c.push_result.result _ _ _ fa c.pop-a.ensures.operands c.not.ensures c.push_result.ensures
+    one (λ a. Gives (truth (not (is_true a)))) c.pop-a.result c.not.result c.push_result.result _ _ _ fa c.pop-a.ensures.operands c.not.ensures c.push_result.ensures cells
