@@ -228,7 +228,7 @@ unless_ordered : {X : Type 0} (t : State X) (trapped : Bool) (o : Option (State 
 unless_ordered t true o p h = cc
 unless_ordered t false o p h = p h
 
-happens_ordered : {X : Type 0} (net : Network X) (s t : State X) (event : Event) → IsWired net → AreLawful net → AreOrdered s
+pub happens_ordered : {X : Type 0} (net : Network X) (s t : State X) (event : Event) → IsWired net → AreLawful net → AreOrdered s
     → happens net s event ≡ Some t → AreOrdered t
 happens_ordered net s t event wired lawful ordered h =
     unless_ordered t s.trapped _ (permitted_ordered net s t event wired lawful ordered) h

@@ -67,7 +67,7 @@ inboxes_stay : (i j ins : ℕ) (needs : ℕ → ℕ) (sent : List (List ℤ)) �
 inboxes_stay i j ins needs sent differ links flows fits =
     map_same _ _ (λ p. inbox_stays i j p needs sent differ links flows fits) (range_with_len 0 ins)
 
-effect_stays : {X : Type 0} (i j a : ℕ) (needs : ℕ → ℕ) (sent : List (List ℤ)) → i ≢ j → (links : List Link) (flows : List Flow)
+pub effect_stays : {X : Type 0} (i j a : ℕ) (needs : ℕ → ℕ) (sent : List (List ℤ)) → i ≢ j → (links : List Link) (flows : List Flow)
     → ((l : ℕ) (flow : Flow) → slice_get flows l ≡ Some flow → flow.arrived ≤ length flow.sent)
     → (leaf : Option (Leaf X)) (x : Option X)
     → effect_of links (each_flow (after_firing j needs sent) links flows) i a leaf x ≡ effect_of links flows i a leaf x

@@ -54,7 +54,7 @@ step_then : {X : Type 0} (o : Option (State X)) (f g : State X → Option (State
 step_then None f g t u h p = cc
 step_then (Some v) f g t u h p = p v h
 
-run_then : {X : Type 0} (net : Network X) (s t u : State X) (es fs : List Event)
+pub run_then : {X : Type 0} (net : Network X) (s t u : State X) (es fs : List Event)
     → run net s es ≡ Some t → run net t fs ≡ Some u → run net s (es ++ fs) ≡ Some u
 run_then net s t u [] fs p q = let same : s ≡ t = cc in subst (λ w. run net w fs ≡ Some u) (sym same) q
 run_then net s t u (e ∷ es) fs p q =
@@ -87,7 +87,7 @@ flow_same : (flow : Flow) (arrived taken : ℕ) → arrived ≡ flow.arrived →
 flow_same flow arrived taken a t = rw (a, t)
 
 -- where none arrives the flow stays
-after_none : (link : Link) (flow : Flow) → after_arrival 0 link flow ≡ flow
+pub after_none : (link : Link) (flow : Flow) → after_arrival 0 link flow ≡ flow
 after_none link flow =
     let same : flow.taken + 0 ≡ flow.taken = omega arith in
     flow_same flow _ _ (omega arith) (rw same (chosen (is_output link) flow.taken))
