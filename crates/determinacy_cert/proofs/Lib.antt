@@ -3,3 +3,4 @@ mod Confluence
 mod Trapping
 mod Feeding
 mod Theorems
+mod Intervals
