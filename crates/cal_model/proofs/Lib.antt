@@ -22,15 +22,15 @@ mod WideRows
 mod TagRows
 mod TagLaws
 mod Agreement
-mod Numbers
+pub mod Numbers
 mod KindValues
 mod KindOperators
 mod KindTypes
-mod KindNames
+pub mod KindNames
 mod KindKept
 mod KindOrder
 mod KindCalls
-mod KindLaws
+pub mod KindLaws
 mod KeptRows
 mod LoneAction
 mod KeptTypes

@@ -4,3 +4,5 @@ mod Trapping
 mod Feeding
 mod Theorems
 mod Intervals
+mod Ranges
+mod RangeLaw
