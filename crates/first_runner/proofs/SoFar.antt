@@ -9,7 +9,7 @@ use Rattle.net_model.specs.PortFile.{all_encoded}
 use Rattle.net_model.specs.Trace.{FitFlows, PlaysFrom, KeepsFrom, OnNext}
 use Rattle.cal_model.specs.Form.{Form}
 use Rattle.cal_model.specs.Meaning.{byte_type, SendsFor}
-use Rattle.first_runner.specs.Source.{network_of}
+use Rattle.first_runner.specs.Source.{default_capacity, network_of}
 use Rattle.first_runner.specs.Ran.{fires_in, deliveries_in, AreMoves, Written, Ended}
 use Rattle.first_runner.specs.SoFar.{toks, results, state_at, SoFar}
 use Rattle.first_runner.proofs.Steps.{fire-step, deliver-step, quiet-at, between-at, fits-at, results-length}
@@ -41,8 +41,8 @@ module _ (f : Form) (input : List ℕ) (lines : List Line) (rounds arrived fired
 
   -- a delivery
   pub so_far-deliver : SoFar f input (lines ++ Deliver ∷ []) (rounds + 1)
-      (arrived + min (512 - (arrived - fired)) (length (toks input) - arrived)) fired fired
-      (arrived + min (512 - (arrived - fired)) (length (toks input) - arrived)) fired
+      (arrived + min (default_capacity - (arrived - fired)) (length (toks input) - arrived)) fired fired
+      (arrived + min (default_capacity - (arrived - fired)) (length (toks input) - arrived)) fired
   so_far-deliver =
       let step = deliver-step f (toks input) arrived fired out so_far.out_behind (omega (arith, so_far.fired_behind, so_far.within)) in
       record {
@@ -62,7 +62,7 @@ module _ (f : Form) (input : List ℕ) (lines : List Line) (rounds arrived fired
 
   -- a firing, which takes the next token
   pub so_far-fire : (v w : ℤ) (rest more : List ℤ) → drop fired (take arrived (toks input)) ≡ v ∷ rest → drop fired (toks input) ≡ v ∷ more
-      → fired < arrived → fired < fired_then + 512 → SendsFor f.sum v w
+      → fired < arrived → fired < fired_then + default_capacity → SendsFor f.sum v w
       → SoFar f input (lines ++ Fire 0 0 ∷ []) rounds arrived (fired + 1) out arrived_then fired_then
   so_far-fire v w rest more there next before few sends =
       let step = fire-step f (toks input) arrived fired out v w rest more there next sends in

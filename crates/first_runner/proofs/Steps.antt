@@ -14,7 +14,7 @@ use Rattle.net_model.specs.Trace.{goes, FitFlows}
 use Rattle.cal_model.specs.Form.{Form}
 use Rattle.cal_model.specs.Eval.{eval}
 use Rattle.cal_model.specs.Meaning.{byte_type, SendsFor, effect, effect_of}
-use Rattle.first_runner.specs.Source.{network_of}
+use Rattle.first_runner.specs.Source.{default_capacity, network_of}
 use Rattle.first_runner.specs.SoFar.{toks, outgoing, results, input_flow, output_flow, state_at}
 use Rattle.cal_model.specs.declared.ast.Binary.{Binary}
 
@@ -57,13 +57,13 @@ fire-step f ts arrived fired out v w rest more waits_there next sends =
     same_state = rw (append-nil {A = ℤ}, add-zero, results-more f.sum ts fired v more next, sends.is_value) refl
 
 -- a delivery fills the input link up to its capacity, and takes everything out that was sent
-pub deliver-step : (f : Form) (ts : List ℤ) (arrived fired out : ℕ) → out ≤ fired → fired ≤ length ts → goes (network_of f) (state_at f.sum ts arrived fired out) Deliver ≡ Some (state_at f.sum ts (arrived + min (512 - (arrived - fired)) (length ts - arrived)) fired fired)
+pub deliver-step : (f : Form) (ts : List ℤ) (arrived fired out : ℕ) → out ≤ fired → fired ≤ length ts → goes (network_of f) (state_at f.sum ts arrived fired out) Deliver ≡ Some (state_at f.sum ts (arrived + min (default_capacity - (arrived - fired)) (length ts - arrived)) fired fired)
 deliver-step f ts arrived fired out behind within =
     let sent : length (results f.sum ts fired) ≡ fired = results-length f.sum ts fired within in
     let all_out : out + (length (results f.sum ts fired) - out) ≡ fired = omega arith in
     ap (λ n. Some (record {
       actors = tt ∷ [];
-      flows = input_flow ts (arrived + min (512 - (arrived - fired)) (length ts - arrived)) fired
+      flows = input_flow ts (arrived + min (default_capacity - (arrived - fired)) (length ts - arrived)) fired
           ∷ output_flow (results f.sum ts fired) n ∷ [];
       trapped = false;
     })) all_out
@@ -117,7 +117,7 @@ between-at f ts arrived fired v more next within = record {
     effect_there = ap (λ us. effect f.sum (us ∷ []) 0) (left-of ts fired v more next)
 
 -- since the delivery before it a firing leaves the output within its capacity
-pub fits-at : (f : Form) (ts : List ℤ) (arrived_then fired_then arrived fired out : ℕ) → fired_then ≤ fired → fired ≤ fired_then + 512 → fired ≤ length ts → FitFlows (network_of f).links (state_at f.sum ts arrived_then fired_then fired_then).flows (state_at f.sum ts arrived fired out).flows
+pub fits-at : (f : Form) (ts : List ℤ) (arrived_then fired_then arrived fired out : ℕ) → fired_then ≤ fired → fired ≤ fired_then + default_capacity → fired ≤ length ts → FitFlows (network_of f).links (state_at f.sum ts arrived_then fired_then fired_then).flows (state_at f.sum ts arrived fired out).flows
 fits-at f ts arrived_then fired_then arrived fired out later few within =
     let now : length (results f.sum ts fired) ≡ fired = results-length f.sum ts fired within in
     let then_ : length (results f.sum ts fired_then) ≡ fired_then = results-length f.sum ts fired_then (omega arith) in

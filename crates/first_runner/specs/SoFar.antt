@@ -11,9 +11,11 @@ use Rattle.cal_model.specs.Form.{Form}
 use Rattle.cal_model.specs.Eval.{Out, Gives, Traps, eval}
 use Rattle.cal_model.specs.Meaning.{byte_type}
 use Rattle.cal_model.specs.declared.ast.Binary.{Binary}
-use Rattle.first_runner.specs.Source.{network_of}
+use Rattle.first_runner.specs.Source.{default_capacity, network_of}
 use Rattle.first_runner.specs.Missing.{IsToCome, MayWrite}
 use Rattle.first_runner.specs.declared.ends.Ends.{Ends}
+use Rattle.first_runner.specs.declared.progress.Progress.{Progress}
+use Rattle.rvc_io.specs.Channels.{Channels}
 use Rattle.first_runner.specs.Ran.{fires_in, deliveries_in, AreMoves}
 
 -- the tokens of the input
@@ -59,7 +61,7 @@ pub record SoFar (f : Form) (input : List ℕ) (lines : List Line) (rounds arriv
   pub fired_behind : fired ≤ arrived
   pub within : arrived ≤ length (toks input)
   pub later : fired_then ≤ fired
-  pub few : fired ≤ fired_then + 512
+  pub few : fired ≤ fired_then + default_capacity
 
 -- A run on its way, by what the queues hold and what was written. `trace_base` and `output_base` are what the
 -- channels held when it began.
@@ -85,3 +87,14 @@ pub record Delivered (f : Form) (ends : Ends) (input trace_base output_base : Li
   pub opened : going.fired_then ≡ firings
   pub outbox_is : outbox ≡ []
   pub all_taken : inbox ≡ [] → firings ≡ length (toks input)
+
+-- the two of what the code holds
+abbrev pub GoesOn : Form → Ends → (input trace_base output_base : List ℕ) → (to_come : Option (List ℕ)) → Progress → Channels → Type 0
+GoesOn f ends input trace_base output_base to_come run channels =
+    Going f ends input trace_base output_base to_come run.inbox.items run.outbox.items run.firings run.rounds
+    channels.tells channels.held run.trace run.output
+
+abbrev pub HasDelivered : Form → Ends → (input trace_base output_base : List ℕ) → (to_come : Option (List ℕ)) → Progress → Channels → Type 0
+HasDelivered f ends input trace_base output_base to_come run channels =
+    Delivered f ends input trace_base output_base to_come run.inbox.items run.outbox.items run.firings run.rounds
+    channels.tells channels.held run.trace run.output

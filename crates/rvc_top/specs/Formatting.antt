@@ -4,6 +4,7 @@ use Rattle.rvc_base.specs.declared.refusal.Refusal.{Refusal}
 use Rattle.rvc_base.specs.declared.refusal.Rule.{Rule}
 use Rattle.rvc_base.specs.declared.refusal.Front.{Front as Answer}
 use Rattle.rvc_base.specs.declared.refusal.Front.TheVariants.{Refused as Denied, Memory}
+use Rattle.rvc_io.specs.Channels.{Channels}
 use Rattle.rvc_io.specs.Count.{HasRisen}
 use Rattle.rvc_io.specs.Library.{max_file_bytes, IsTooLong}
 use Rattle.rvc_io.specs.Told.{Told, Holding, IsLacking, IsTold}
@@ -44,6 +45,10 @@ pub record IsPrinted (source : Told) (ports : List PortText) (tells : Bool) (hel
   pub printed : List ℕ
   pub is_canonical : IsCanonical source ports printed
   pub put : tells ≡ true → held ≡ held_old ++ printed
+
+-- the same by what is known of the channels
+abbrev pub PrintsFile : Told → List PortText → Channels → Channels → Type 0
+PrintsFile source ports old new = IsPrinted source ports old.tells (old.held 0) (new.held 0)
 
 -- the file is told to hold a text that is printed
 pub record HasFile (source : Told) (ports : List PortText) (tree : Tree) : Type 0 where

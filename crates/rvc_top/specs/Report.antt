@@ -1,5 +1,6 @@
 -- The report.
-use Rattle.std.specs.Prelude.{ℕ, ◌≡◌, ◌≢◌, List, ◌++◌, codes, decimal, ◌==◌, if◌then◌else◌, [], Option, None, Some}
+use Rattle.std.specs.Prelude.{ℕ, ◌≡◌, ◌≢◌, List, ◌++◌, codes, decimal, ◌==◌, true, if◌then◌else◌, [], Option, None, Some}
+use Rattle.rvc_io.specs.Channels.{Channels}
 use Rattle.rvc_io.specs.Told.{Told, Untold, Lacking, Holding}
 use Rattle.rvc_base.specs.Refusal.{rule_text}
 use Rattle.rvc_base.specs.declared.refusal.Refusal.{Refusal}
@@ -126,3 +127,13 @@ pub record IsReportedOf (j : PlainText) (source : Told) (status : Status) (held_
   pub input : List ℕ
   pub is_input : NamesInput source j.ports input status
   pub reported : IsReported (naming j input) status held_old held
+
+-- the three by what is known of the channels
+abbrev pub ReportIs : Named → Status → Channels → Channels → Type 0
+ReportIs j status old new = old.tells ≡ true → IsReported j status (old.held 0) (new.held 0)
+
+abbrev pub PlainReportIs : Status → Channels → Channels → Type 0
+PlainReportIs status old new = old.tells ≡ true → IsReportedPlainly status (old.held 0) (new.held 0)
+
+abbrev pub RunReportIs : PlainText → Told → Status → Channels → Channels → Type 0
+RunReportIs j source status old new = old.tells ≡ true → IsReportedOf j source status (old.held 0) (new.held 0)

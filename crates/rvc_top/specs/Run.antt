@@ -1,5 +1,6 @@
 -- What a run of the top call leaves.
 use Rattle.std.specs.Prelude.{◌≡◌, ℕ, Bool, true, false, List, [], ◌∷◌, ◌++◌, Option, None, Some}
+use Rattle.rvc_io.specs.Channels.{Channels}
 use Rattle.trace_text.specs.declared.line.Line.{Line}
 use Rattle.trace_text.specs.declared.line.Line.TheVariants.{Quiet as QuietLine, Budget as BudgetLine}
 use Rattle.net_model.specs.State.{State}
@@ -96,3 +97,7 @@ Leaves j source input Done held_old held is_open limit = Unit {0}
 Leaves j source input (Usage cause) held_old held is_open limit = Unit {0}
 Leaves j source input (Refused refusal) held_old held is_open limit = Unit {0}
 Leaves j source input OutOfMemory held_old held is_open limit = Unit {0}
+
+-- the same by what is known of the channels
+abbrev pub LeavesOn : PlainText → (source : List ℕ) → (input : Form → List ℕ) → Status → Channels → Channels → ℕ → Type 0
+LeavesOn j source input status old new limit = Leaves j source input status old.held new.held new.is_open limit

@@ -25,10 +25,14 @@ pub struct Files<'a> {
 /// The files that words give an actor's ports. An error names the first word that names no port, or a port that a
 /// word before it names.
 pub fn match_words<'a>(words: &'a [PortWord], actor: &Actor) -> Result<Files<'a>, Refusal>
-    ensures matched { OnOk result (AreMatched (ports_of (form_of actor.now)) (map port_text words.now)) }
-    ensures input { IfOk result (λ files. option_map (λ file. file.now) files.input ≡ file_of (string_bytes actor.now.input) (map port_text words.now)) }
-    ensures output { IfOk result (λ files. option_map (λ file. file.now) files.output ≡ file_of (string_bytes actor.now.output) (map port_text words.now)) }
-    ensures wrong { IfErr result (IsWrongWord (ports_of (form_of actor.now)) (map port_text words.now)) }
+    ensures matched { OnOk result (AreMatched (ports_of (form_of actor.now))
+        (map port_text words.now)) }
+    ensures input { IfOk result (λ files. option_map (λ file. file.now) files.input
+        ≡ file_of (string_bytes actor.now.input) (map port_text words.now)) }
+    ensures output { IfOk result (λ files. option_map (λ file. file.now) files.output
+        ≡ file_of (string_bytes actor.now.output) (map port_text words.now)) }
+    ensures wrong { IfErr result (IsWrongWord (ports_of (form_of actor.now))
+        (map port_text words.now)) }
 {
     check_words(words, actor)?;
     Ok(Files {
@@ -39,8 +43,10 @@ pub fn match_words<'a>(words: &'a [PortWord], actor: &Actor) -> Result<Files<'a>
 
 /// An error names the first word that names no port, or a port that a word before it names.
 fn check_words(words: &[PortWord], actor: &Actor) -> Result<(), Refusal>
-    ensures matched { OnOk result (AreMatched (ports_of (form_of actor.now)) (map port_text words.now)) }
-    ensures wrong { IfErr result (IsWrongWord (ports_of (form_of actor.now)) (map port_text words.now)) }
+    ensures matched { OnOk result (AreMatched (ports_of (form_of actor.now))
+        (map port_text words.now)) }
+    ensures wrong { IfErr result (IsWrongWord (ports_of (form_of actor.now))
+        (map port_text words.now)) }
 {
     for (number, word) in words.iter().enumerate() {
         if !is_port(word.name.as_str(), actor) {
