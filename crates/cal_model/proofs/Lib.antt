@@ -11,7 +11,6 @@ mod TurnsTaken
 mod Loops
 mod Needs
 mod Parts
-mod FirstForm
 mod RangeRows
 mod ExcludeRows
 mod PriorityRows

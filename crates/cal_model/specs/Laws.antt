@@ -1,21 +1,12 @@
 -- What holds of all values, expressions and actors, as statements.
-use Rattle.std.specs.Prelude.{◌≡◌, ℕ, ◌+◌, ◌<◌, ◌↔◌, ◌⊎◌, Contains, slice_get, true, false, List, [], ◌∷◌, length, ℤ, pos, ◌+ℤ◌, int_lt, if◌then◌else◌, None, Some}
+use Rattle.std.specs.Prelude.{◌≡◌, ℕ, ◌+◌, ◌<◌, ◌↔◌, ◌⊎◌, Contains, slice_get, true, false, List, [], length, ℤ, pos, ◌+ℤ◌, int_lt, if◌then◌else◌, None, Some}
 use Rattle.rvc_base.specs.declared.trap.Trap.{Trap}
 use Rattle.rvc_base.specs.declared.trap.Trap.TheVariants.{TurnLimit}
 use Rattle.rvc_base.specs.Turns.{max_turns}
 use Rattle.rvc_base.specs.Width.{IsNum}
 use Rattle.rvc_base.specs.Behaviour.{Fires, TrapsInGuard, TrapsInBody, Waits, Picks, Faults}
-use Rattle.cal_ast.specs.declared.expr.BinOp.{BinOp}
-use Rattle.cal_ast.specs.declared.expr.BinOp.TheVariants.{Add, Sub, Mul}
 use Rattle.cal_ast.specs.Tree as tree
 use Rattle.cal_ast.specs.Tree.{Tree}
-use Rattle.cal_model.specs.declared.ast.Operand.{Operand}
-use Rattle.cal_model.specs.declared.ast.Operand.TheVariants.{Token, Number}
-use Rattle.cal_model.specs.declared.ast.Operator.{Operator}
-use Rattle.cal_model.specs.declared.ast.Operator.TheVariants as operator
-use Rattle.cal_model.specs.declared.ast.Binary.{Binary}
-use Rattle.cal_model.specs.Eval as form
-use Rattle.cal_model.specs.Meaning.{IsFirstForm}
 use Rattle.cal_model.specs.Value.{Kind, Shape, Value, Num, Values, HasKind, IsOf, IsType, kind_of_scalar, kind_of_type, stored, zero_of}
 use Rattle.cal_model.specs.Outcome.{Out, Gives, Traps, and_then, turn}
 use Rattle.cal_model.specs.Expression.{Calls, eval, eval_all, elements, chosen, span, type_meant, args_given}
@@ -312,32 +303,3 @@ abbrev pub LocalsAreKept : Type 0
 LocalsAreKept = (names : Names) (env : Env) (locals : List Local) (left : ℕ)
     → Each (IsOfItsKinds names) names.funs → IsEnvOf names env → StartsAreOf locals names
     → GivesOnly (IsEnvOf (with_locals locals names)) left (declared locals (calls_of names.funs) env left)
-
--- ---- the first form
-
--- an expression of the first form as it is written, where the action's token has this name
-abbrev pub tree_of_operand : List ℕ → Operand → Tree
-tree_of_operand name Token = tree.variable name 0
-tree_of_operand name (Number n) = tree.number n 0
-
-abbrev pub operator_of : Operator → BinOp
-operator_of operator.Add = Add
-operator_of operator.Sub = Sub
-operator_of operator.Mul = Mul
-
-abbrev pub tree_of : List ℕ → Binary → Tree
-tree_of name b = tree.binary (operator_of b.op) (tree_of_operand name b.left) (tree_of_operand name b.right) 0
-
--- its value or its trap, with so many turns left
-abbrev pub as_outcome : form.Out → ℕ → Out Value
-as_outcome (form.Gives z) left = Gives (Num z) left
-as_outcome (form.Traps c) left = Traps c
-
--- the action's token as a name
-abbrev pub token_named : List ℕ → ℤ → Env
-token_named name v = record { globals = []; locals = record { name = name; value = Num v; kept = None } ∷ [] }
-
--- the value of an expression of the first form is what the whole language says
-abbrev pub FirstFormIsCase : Type 0
-FirstFormIsCase = (calls : Calls) (name : List ℕ) (v : ℤ) (b : Binary) (left : ℕ)
-    → IsFirstForm b → eval (tree_of name b) calls (token_named name v) left ≡ as_outcome (form.eval v b) left

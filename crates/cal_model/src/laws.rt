@@ -2,7 +2,7 @@
 //!
 //! Each law is the contract of a function that does nothing: it is proved with the crate, and can be cited.
 
-ghost use Rattle.cal_model.specs.Laws.{AboveIsOne, ArgumentsAreKept, AsManyAreKept, BehaviourIsEffect, BehaviourIsIdle, BehaviourIsOne, BehaviourKeepsStates, BehaviourStoresTokens, CallIsAnswered, CallIsKept, ChainsPutAbove, ChoiceIsOne, ChosenIsEnabled, ChosenTraps, ConstantIsValue, CounterIsKept, EffectIsOne, EffectsAreFirings, EffectsAreTraps, ElementsAreKept, EntryIsKept, FiringsKeepStates, FirstFormIsCase, FunctionsTakeTurns, JudgedIsType, KeptAreTokens, KindIsKept, KindsAreKept, LineIsOne, LocalsAreKept, LoopsCountTurns, LoopsEndByTurns, NeverBoth, NothingIsLacking, NumbersAreWritten, NumbersUnfold, OneFiring, OneTrap, ProceduresTakeTurns, RunIsPerformed, SoundFunsAreOfKinds, SoundHavePriorities, StartIsState, StatesAreTested, StoredIsOfType, StoringStays, TagsStandFor, TokensStay, TransitionsLead, TypeArgumentsAreKept, TypeIsKept, WaitingIsIdle, WhileUnfolds, ZeroIsOfType};
+ghost use Rattle.cal_model.specs.Laws.{AboveIsOne, ArgumentsAreKept, AsManyAreKept, BehaviourIsEffect, BehaviourIsIdle, BehaviourIsOne, BehaviourKeepsStates, BehaviourStoresTokens, CallIsAnswered, CallIsKept, ChainsPutAbove, ChoiceIsOne, ChosenIsEnabled, ChosenTraps, ConstantIsValue, CounterIsKept, EffectIsOne, EffectsAreFirings, EffectsAreTraps, ElementsAreKept, EntryIsKept, FiringsKeepStates, FunctionsTakeTurns, JudgedIsType, KeptAreTokens, KindIsKept, KindsAreKept, LineIsOne, LocalsAreKept, LoopsCountTurns, LoopsEndByTurns, NeverBoth, NothingIsLacking, NumbersAreWritten, NumbersUnfold, OneFiring, OneTrap, ProceduresTakeTurns, RunIsPerformed, SoundFunsAreOfKinds, SoundHavePriorities, StartIsState, StatesAreTested, StoredIsOfType, StoringStays, TagsStandFor, TokensStay, TransitionsLead, TypeArgumentsAreKept, TypeIsKept, WaitingIsIdle, WhileUnfolds, ZeroIsOfType};
 
 /// A value of a type's kind is in the type once it is stored, and then stays when it is stored again. What a
 /// variable without value holds is in the type too.
@@ -136,10 +136,4 @@ pub fn environments_are_kept()
     ensures counter { CounterIsKept }
     ensures entry { EntryIsKept }
     ensures locals { LocalsAreKept }
-{}
-
-/// The value of an expression of the first form, over the token that the action takes, is what the whole language
-/// says.
-pub fn first_form_is_a_case()
-    ensures { FirstFormIsCase }
 {}

@@ -10,10 +10,10 @@ use Rattle.trace_text.specs.declared.line.Line.TheVariants.{Fire}
 use Rattle.trace_text.specs.Text.{line_text}
 use Rattle.rvc_base.specs.Storing.{conv, low_part}
 use Rattle.net_model.specs.PortFile.{all_encoded, encoded}
-use Rattle.cal_model.specs.Form.{Form}
-use Rattle.cal_model.specs.Eval.{eval}
-use Rattle.cal_model.specs.Meaning.{byte_type, SendsFor}
-use Rattle.cal_model.specs.declared.ast.Binary.{Binary}
+use Rattle.first_form.specs.Form.{Form}
+use Rattle.first_form.specs.Eval.{eval}
+use Rattle.first_form.specs.Meaning.{byte_type, SendsFor}
+use Rattle.first_form.specs.declared.ast.Binary.{Binary}
 use Rattle.first_runner.specs.declared.outcome.Counts.{Counts}
 use Rattle.first_runner.specs.declared.outcome.RunEnd.TheVariants as end
 use Rattle.first_runner.specs.Burst.{SendAll, Bursts, BreaksBurst, fire_lines}

@@ -6,7 +6,7 @@ use Rattle.std.proofs.Math.Seq.{take-add}
 use Rattle.rvc_base.specs.declared.scalar.Scalar.{Scalar}
 use Rattle.rvc_base.specs.Storing.{conv}
 use Rattle.net_model.specs.PortFile.{tokens}
-use Rattle.cal_model.specs.Meaning.{byte_type}
+use Rattle.first_form.specs.Meaning.{byte_type}
 use Rattle.port_files.specs.Coming.{GivesToken, EndsWith}
 use Rattle.first_runner.specs.Missing.{IsToCome}
 use Rattle.first_runner.specs.Filling.{Takes, Fills}

@@ -16,7 +16,7 @@ use Rattle.cal_model.specs.Eval.{eval}
 use Rattle.cal_model.specs.Meaning.{byte_type, SendsFor, effect, effect_of}
 use Rattle.first_runner.specs.Source.{default_capacity, network_of}
 use Rattle.first_runner.specs.SoFar.{toks, outgoing, results, input_flow, output_flow, state_at}
-use Rattle.cal_model.specs.declared.ast.Binary.{Binary}
+use Rattle.first_form.specs.declared.ast.Binary.{Binary}
 
 pub start_is : (f : Form) (input : List ℕ) → start_of (network_of f) (input ∷ []) ≡ state_at f.sum (toks input) 0 0 0
 start_is f input = refl

@@ -1,7 +1,7 @@
 -- What filling an inbox from a feed does.
 use Rattle.std.specs.Prelude.{◌≡◌, ℕ, ◌-◌, ◌≤◌, min, Bool, true, List, ◌++◌, length, take, drop, map, ℤ, pos, Option}
 use Rattle.rvc_base.specs.Storing.{conv}
-use Rattle.cal_model.specs.Meaning.{byte_type}
+use Rattle.first_form.specs.Meaning.{byte_type}
 use Rattle.first_runner.specs.Missing.{IsToCome}
 use Rattle.first_runner.specs.Source.{default_capacity}
 

@@ -2,7 +2,7 @@
 use Rattle.std.specs.Prelude.{◌≡◌, ℕ, ◌+◌, ◌<◌, Bool, List, [], ◌++◌, length}
 use Rattle.trace_text.specs.Text.{line_text}
 use Rattle.trace_text.specs.declared.line.Line.TheVariants.{Quiet, Budget}
-use Rattle.cal_model.specs.Form.{Form}
+use Rattle.first_form.specs.Form.{Form}
 use Rattle.channel_writer.specs.Held.{Writes}
 use Rattle.first_runner.specs.Missing.{Gets, MayWrite}
 use Rattle.rvc_io.specs.Channels.{Channels}

@@ -5,7 +5,7 @@ use Rattle.trace_text.specs.declared.line.Line.TheVariants.{Header, Inst, Fire, 
 use Rattle.trace_text.specs.Text.{line_text}
 use Rattle.net_model.specs.State.{Flow, State}
 use Rattle.net_model.specs.Trace.{Plays, KeepsCapacities, bytes_out}
-use Rattle.cal_model.specs.Form.{Form}
+use Rattle.first_form.specs.Form.{Form}
 use Rattle.first_runner.specs.declared.outcome.Counts.{Counts}
 use Rattle.first_runner.specs.Source.{network_of}
 

@@ -4,14 +4,14 @@ ghost use Rattle.std.specs.Prelude.{◌≡◌, ◌≤◌, ◌<◌, ◌+◌, ◌+
 ghost use Rattle.rvc_io.specs.Channels.{WriteFails, WritesOnly};
 ghost use Rattle.channel_writer.specs.Held.{AppendsFront, WritesOn};
 ghost use Rattle.trace_text.specs.Text.{line_text};
-ghost use Rattle.cal_model.specs.Meaning.{IsFirstForm, SendsFor};
+ghost use Rattle.first_form.specs.Meaning.{IsFirstForm, SendsFor};
 ghost use Rattle.std.specs.VecDeque.{deque_capacity, deque_len};
 ghost use Rattle.first_runner.specs.Burst.{Bursts, BreaksBurst, fire_lines, SendsOne};
 
 use crate::TRACE_CHANNEL;
 use crate::trace_writer::note;
-use cal_model::ast::Binary;
-use cal_model::sent_for;
+use first_form::ast::Binary;
+use first_form::sent_for;
 use channel_writer::ChannelWriter;
 use rvc_base::Num;
 use rvc_io::{Drains, Failed};

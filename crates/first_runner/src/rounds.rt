@@ -22,7 +22,7 @@ use crate::progress::Progress;
 use crate::sending::send_out;
 use crate::trace_writer::note;
 use crate::{BURST, INPUT_FEED, OUTPUT_CHANNEL, TRACE_CHANNEL};
-use cal_model::ast::Binary;
+use first_form::ast::Binary;
 use rvc_base::MAX_BUDGET;
 use rvc_io::{Drains, Feeds};
 use trace_text::Line;

@@ -15,7 +15,7 @@ use crate::outcome::{Counts, Outcome, RunEnd};
 use crate::progress::Progress;
 use crate::rounds::make_rounds;
 use crate::{BURST, CAPACITY, INPUT_FEED, OUTPUT_CHANNEL, TRACE_CHANNEL};
-use cal_model::ast::Binary;
+use first_form::ast::Binary;
 use channel_writer::ChannelWriter;
 use port_files::TokenFeed;
 use rvc_base::{MAX_BUDGET, Memory, Num, Scalar};
@@ -39,9 +39,9 @@ pub struct Runner {
 
 impl Model for Runner {
     ghost use Rattle.std.specs.Prelude.{◌≡◌, ◌≤◌, [], false};
-    ghost use Rattle.cal_model.specs.Meaning.{byte_type};
+    ghost use Rattle.first_form.specs.Meaning.{byte_type};
     ghost use Rattle.std.specs.VecDeque.{deque_capacity, deque_len};
-    ghost use Rattle.cal_model.specs.declared.ast.Binary.{Binary as Expression};
+    ghost use Rattle.first_form.specs.declared.ast.Binary.{Binary as Expression};
     ghost use Rattle.first_runner.specs.declared.TheConstants.{CAPACITY, BURST};
 
     ghost Value = { Expression };

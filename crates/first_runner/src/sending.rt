@@ -4,7 +4,7 @@ ghost use Rattle.std.specs.Prelude.{◌≡◌, ◌≤◌, ◌++◌, ℕ, Bool, t
 ghost use Rattle.rvc_io.specs.Channels.{WriteFails, WritesOnly};
 ghost use Rattle.channel_writer.specs.Held.{AppendsFront, WritesOn};
 ghost use Rattle.net_model.specs.PortFile.{all_encoded, encoded};
-ghost use Rattle.cal_model.specs.Meaning.{byte_type};
+ghost use Rattle.first_form.specs.Meaning.{byte_type};
 ghost use Rattle.first_runner.specs.Missing.{MayHoldFront, MayWrite};
 ghost use Rattle.std.specs.VecDeque.{deque_capacity};
 

@@ -4,7 +4,7 @@ pub mod State
 pub mod Event
 pub mod Ends
 pub mod Trace
-pub mod Lawful
+pub mod Limits
 pub mod Wired
 pub mod Stable
 pub mod Laws

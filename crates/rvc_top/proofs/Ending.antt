@@ -5,7 +5,7 @@ use Rattle.trace_text.specs.declared.line.Line.TheVariants.{Quiet as QuietLine, 
 use Rattle.channel_writer.specs.Held.{HoldsFront}
 use Rattle.net_model.specs.State.{start_of}
 use Rattle.net_model.specs.Trace.{head_text}
-use Rattle.cal_model.specs.Form.{Form}
+use Rattle.first_form.specs.Form.{Form}
 use Rattle.first_form.specs.Spelling.{Spells}
 use Rattle.first_runner.specs.declared.outcome.Counts.{Counts}
 use Rattle.first_runner.specs.Source.{network_of}

@@ -2,10 +2,10 @@
 use Rattle.std.specs.Prelude.{◌≡◌, ℕ, List}
 use Rattle.rvc_io.specs.Told.{Told, IsTold}
 use Rattle.rvc_io.specs.Count.{HasRisen}
-use Rattle.cal_model.specs.Meaning.{IsFirstForm}
+use Rattle.first_form.specs.Meaning.{IsFirstForm}
 use Rattle.rvc_top.specs.Plain.{PlainText}
-use Rattle.cal_model.specs.Form.{Form}
-use Rattle.cal_model.specs.declared.ast.Binary.{Binary}
+use Rattle.first_form.specs.Form.{Form}
+use Rattle.first_form.specs.declared.ast.Binary.{Binary}
 use Rattle.first_form.specs.Spelling.{Spells}
 use Rattle.net_model.specs.Trace.{head_text}
 use Rattle.first_runner.specs.Source.{network_of}

@@ -12,7 +12,7 @@ use Rattle.rvc_top.specs.Matching.{IsWrongWord, ports_of}
 use Rattle.rvc_top.specs.Formatting.{IsUnprinted}
 use Rattle.rvc_top.specs.Report.{not_built_here}
 use Rattle.first_form.specs.Spelling.{Spells, Breaks}
-use Rattle.cal_model.specs.Form.{Form}
+use Rattle.first_form.specs.Form.{Form}
 
 -- the top is one name, with no `/`, followed by `.cal`
 pub record IsTop (top : List ℕ) : Type 0 where

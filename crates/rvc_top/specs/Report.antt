@@ -6,7 +6,7 @@ use Rattle.rvc_base.specs.Refusal.{rule_text}
 use Rattle.rvc_base.specs.declared.refusal.Refusal.{Refusal}
 use Rattle.rvc_words.specs.Causes.{cause_name}
 use Rattle.rvc_words.specs.declared.fault.UsageCause.{UsageCause}
-use Rattle.cal_model.specs.Form.{Form}
+use Rattle.first_form.specs.Form.{Form}
 use Rattle.first_form.specs.Spelling.{Spells}
 use Rattle.rvc_words.specs.Words.{PortText}
 use Rattle.rvc_top.specs.Plain.{PlainText}
@@ -60,7 +60,7 @@ abbrev pub refusal_line : Named → Refusal → List ℕ
 refusal_line j r = codes "refused " ++ rule_text r.rule ++ codes " " ++ file_name j r.place.file ++ codes " " ++ decimal r.place.offset ++ line_feed
 
 abbrev pub usage_line : List ℕ
-usage_line = codes "\nrvc VERB TOP [PORT=FILE ..] [--trace FILE] [--workers N] [--round P] [--burst N] [--budget N]\n"
+usage_line = codes "\nrvc VERB TOP [PORT=FILE ..] [--trace FILE] [--workers N] [--round P] [--burst N] [--budget N] [--grow N]\n"
 
 -- the cause, and how the program is used
 abbrev pub usage_text : UsageCause → List ℕ

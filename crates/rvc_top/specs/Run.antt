@@ -8,7 +8,7 @@ use Rattle.net_model.specs.Trace.{Plays, KeepsCapacities, text, bytes_out}
 use Rattle.rvc_words.specs.Words.{PortText}
 use Rattle.rvc_top.specs.Plain.{PlainText}
 use Rattle.rvc_top.specs.Matching.{AreMatched, file_of, ports_of}
-use Rattle.cal_model.specs.Form.{Form}
+use Rattle.first_form.specs.Form.{Form}
 use Rattle.first_form.specs.Spelling.{Spells}
 use Rattle.first_runner.specs.declared.outcome.Counts.{Counts}
 use Rattle.first_runner.specs.Source.{network_of}

@@ -1,11 +1,11 @@
 //! Which ports the port words name.
 
 ghost use Rattle.std.specs.Prelude.{◌≡◌, ◌<◌, ◌≤◌, ℕ, IfOk, IfErr, OnOk, map, length, take, option_map, string_bytes};
-ghost use Rattle.cal_model.specs.Form.{form_of};
+ghost use Rattle.first_form.specs.Form.{form_of};
 ghost use Rattle.rvc_words.specs.Words.{port_text};
 ghost use Rattle.rvc_top.specs.Matching.{AreMatched, Fits, IsWrongWord, file_of, is_named, is_port, ports_of};
 
-use cal_model::ast::Actor;
+use first_form::ast::Actor;
 use rvc_base::{Place, Refusal, Rule};
 use rvc_words::PortWord;
 

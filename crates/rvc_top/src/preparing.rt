@@ -3,7 +3,7 @@
 ghost use Rattle.std.specs.Prelude.{◌≡◌, ◌==◌, not, ◌≤◌, ◌^◌, ◌<◌, ◌↔◌, ℕ, Bool, true, List, Option, Some, None, Err, IfOk, IfErr, IsTrue, OnOk, OnErr, string_bytes, length, map, option_map, MatchResult};
 ghost use Rattle.rvc_io.specs.Count.{HasRisen};
 ghost use Rattle.rvc_io.specs.Told.{IsTold};
-ghost use Rattle.cal_model.specs.Form.{form_of};
+ghost use Rattle.first_form.specs.Form.{form_of};
 ghost use Rattle.net_model.specs.Trace.{head_text};
 ghost use Rattle.first_runner.specs.Source.{network_of};
 ghost use Rattle.first_form.specs.Spelling.{Spells};
@@ -22,7 +22,7 @@ use crate::matching::{Files, match_words};
 use crate::plain::PlainRun;
 use crate::status::{ReadAt, Status};
 use arrayvec::ArrayVec;
-use cal_model::ast::Actor;
+use first_form::ast::Actor;
 use first_form::read_form;
 use first_runner::Runner;
 use rvc_base::{Front, Memory, Place, Refusal, Rule};

@@ -9,7 +9,7 @@ ghost use Rattle.cal_model.specs.Form.{form_of};
 ghost use Rattle.rvc_top.specs.Outside.{Reports};
 
 use crate::status::{ReadAt, Status};
-use cal_model::ast::Actor;
+use first_form::ast::Actor;
 use channel_writer::put_all;
 use first_runner::Counts;
 use itoa::Buffer;
@@ -211,7 +211,7 @@ fn put_usage<D: Drains>(cause: UsageCause, drains: &mut D) -> Result<(), Failed>
 
 /// How the program is used, behind the cause.
 const USAGE: &[u8] =
-    b"\nrvc VERB TOP [PORT=FILE ..] [--trace FILE] [--workers N] [--round P] [--burst N] [--budget N]\n";
+    b"\nrvc VERB TOP [PORT=FILE ..] [--trace FILE] [--workers N] [--round P] [--burst N] [--budget N] [--grow N]\n";
 
 /// Reports a status that isn't a run's: its last line alone.
 pub fn report<D: Drains>(status: Status, names: &Names<'_>, drains: &mut D) -> Status

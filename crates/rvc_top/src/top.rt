@@ -6,7 +6,7 @@ ghost use Rattle.rvc_io.specs.Count.{HasRisen};
 ghost use Rattle.rvc_io.specs.Told.{Told, Holding};
 ghost use Rattle.rvc_io.specs.Elsewhere.{SameElsewhere};
 ghost use Rattle.rvc_base.specs.declared.refusal.Refusal.{Refusal as Denial};
-ghost use Rattle.cal_model.specs.Form.{Form, form_of};
+ghost use Rattle.first_form.specs.Form.{Form, form_of};
 ghost use Rattle.rvc_words.specs.Words.{JobText, job, texts};
 ghost use Rattle.rvc_top.specs.Plain.{FormatText, PlainText, built, formats, plain_text};
 ghost use Rattle.cal_ast.specs.Tree.{Tree};
@@ -34,7 +34,7 @@ use crate::reporting::{
     Names, REPORT_CHANNEL, report, report_memory, report_not_built, report_run, report_usage,
 };
 use crate::status::{ReadAt, Status};
-use cal_model::ast::Actor;
+use first_form::ast::Actor;
 use channel_writer::put_all;
 use first_runner::{Ends, Outcome, RunEnd, TRACE_CHANNEL};
 use rvc_base::MAX_BUDGET;

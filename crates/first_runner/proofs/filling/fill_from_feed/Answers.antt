@@ -3,7 +3,7 @@ use Rattle.rvc_base.specs.Width.{num_width}
 use Rattle.std.specs.VecDeque.{deque_capacity}
 use Rattle.std.proofs.lemmas.Int.{to_z-of_z}
 use Rattle.rvc_base.specs.Storing.{conv}
-use Rattle.cal_model.specs.Meaning.{byte_type}
+use Rattle.first_form.specs.Meaning.{byte_type}
 use Rattle.port_files.specs.Coming.{coming}
 use Rattle.first_runner.proofs.Inbox.{filling-more, fills-at_end}
 use Rattle.first_runner.proofs.filling.fill_from_feed.Goals as goal

@@ -2,7 +2,7 @@ use Rattle.std.proofs.Common.{◌∙◌, refl, sym, ap, rules, FitsSigned}
 use Rattle.rvc_base.specs.Width.{num_width}
 use Rattle.std.proofs.lemmas.Int.{to_z-of_z}
 use Rattle.net_model.specs.PortFile.{encoded}
-use Rattle.cal_model.specs.Meaning.{byte_type}
+use Rattle.first_form.specs.Meaning.{byte_type}
 use Rattle.first_runner.proofs.Errors.{on_err}
 use Rattle.first_runner.proofs.Outbox.{sending-more, sending-breaks, sending-starts}
 use Rattle.first_runner.proofs.sending.write_all.Goals as goal

@@ -1,4 +1,4 @@
-use Rattle.cal_model.specs.Form.{form_of}
+use Rattle.first_form.specs.Form.{form_of}
 use Rattle.first_runner.specs.declared.outcome.RunEnd.TheVariants as end
 use Rattle.rvc_top.proofs.Ending.{concluded-quiet, concluded-budget, concluded-read_fault, concluded-write_fault, left-as, trace≢report, output≢report}
 use Rattle.rvc_top.proofs.top.conclude.Goals as goal

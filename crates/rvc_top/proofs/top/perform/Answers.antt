@@ -1,6 +1,6 @@
 use Rattle.std.proofs.Common.{◌≡◌, true, sym, ap, subst, ◌∙◌, [], ◌++◌, rules}
 use Rattle.std.specs.Prelude.{is_some}
-use Rattle.cal_model.specs.Form.{form_of}
+use Rattle.first_form.specs.Form.{form_of}
 use Rattle.rvc_top.specs.Plain.{plain_text}
 use Rattle.rvc_top.specs.Matching.{file_of}
 use Rattle.rvc_top.specs.Run.{Writes}
