@@ -11,9 +11,9 @@ use Rattle.net_model.specs.Event.{happens}
 use Rattle.net_model.specs.Event as event
 use Rattle.net_model.specs.Ends.{IsQuiet, IsSettled, IsBetween, LacksRoom, all_fed}
 use Rattle.net_model.specs.Trace.{goes, FitFlows}
-use Rattle.cal_model.specs.Form.{Form}
-use Rattle.cal_model.specs.Eval.{eval}
-use Rattle.cal_model.specs.Meaning.{byte_type, SendsFor, effect, effect_of}
+use Rattle.first_form.specs.Form.{Form}
+use Rattle.first_form.specs.Eval.{eval}
+use Rattle.first_form.specs.Meaning.{byte_type, SendsFor, effect, effect_of}
 use Rattle.first_runner.specs.Source.{default_capacity, network_of}
 use Rattle.first_runner.specs.SoFar.{toks, outgoing, results, input_flow, output_flow, state_at}
 use Rattle.first_form.specs.declared.ast.Binary.{Binary}
@@ -35,8 +35,8 @@ results-length b ts n within = simp length-map (length-take-le n ts within)
 abbrev fired_state : Binary → List ℤ → ℕ → ℕ → ℕ → List ℤ → ℕ → List ℤ → State (Unit {0})
 fired_state b ts arrived fired out nothing no_more sent = record {
   actors = tt ∷ [];
-  flows = record { sent = ts ++ nothing; arrived = arrived; taken = fired + 1 }
-      ∷ record { sent = results b ts fired ++ sent; arrived = out; taken = out + no_more } ∷ [];
+  flows = record { sent = ts ++ nothing; arrived = arrived; taken = fired + 1; capacity = default_capacity }
+      ∷ record { sent = results b ts fired ++ sent; arrived = out; taken = out + no_more; capacity = default_capacity } ∷ [];
   trapped = false;
 }
 
@@ -106,11 +106,11 @@ room-at f ts arrived fired (suc i) a (suc zero) lacks = absurd (omega (arith, la
 room-at f ts arrived fired i a (suc (suc l)) lacks = lacks
 
 -- a token is left: the run is neither quiet nor stalled
-pub between-at : (f : Form) (ts : List ℤ) (arrived fired : ℕ) (v : ℤ) (more : List ℤ) → drop fired ts ≡ v ∷ more → fired ≤ length ts → IsBetween (network_of f) (state_at f.sum ts arrived fired fired)
+pub between-at : (f : Form) (ts : List ℤ) (arrived fired : ℕ) (v : ℤ) (more : List ℤ) → drop fired ts ≡ v ∷ more → fired ≤ length ts → IsBetween (network_of f) 0 (state_at f.sum ts arrived fired fired)
 between-at f ts arrived fired v more next within = record {
   settled = settled-at f ts arrived fired within;
   not_quiet = λ quiet. some≢none (effect_of (eval v f.sum)) _ effect_there (quiet.nothing 0 0);
-  not_stalled = λ i a l stalled. room-at f ts arrived fired i a l stalled.lacks;
+  not_stuck = λ i a l stuck. room-at f ts arrived fired i a l stuck.stalled.lacks;
 }
   where
     effect_there : effect_at (network_of f) (all_fed (network_of f) (state_at f.sum ts arrived fired fired)) 0 0 ≡ Some (effect_of (eval v f.sum))

@@ -4,7 +4,7 @@ use Rattle.std.proofs.Math.Nat.{mod-eq_of_lt}
 use Rattle.std.proofs.lemmas.List.{length-map, take-map, drop-map}
 use Rattle.rvc_base.specs.Storing.{conv, low_part}
 use Rattle.net_model.specs.PortFile.{encoded, to_little_endian, tokens}
-use Rattle.cal_model.specs.Meaning.{byte_type}
+use Rattle.first_form.specs.Meaning.{byte_type}
 use Rattle.first_runner.specs.SoFar.{toks}
 
 -- one for each token of the file

@@ -6,11 +6,11 @@ use Rattle.trace_text.specs.Text.{line_text}
 use Rattle.channel_writer.specs.Held.{Writes}
 use Rattle.net_model.specs.State.{Flow, State, start_of}
 use Rattle.net_model.specs.PortFile.{tokens, all_encoded}
-use Rattle.net_model.specs.Trace.{PlaysFrom, KeepsFrom}
-use Rattle.cal_model.specs.Form.{Form}
-use Rattle.cal_model.specs.Eval.{Out, Gives, Traps, eval}
-use Rattle.cal_model.specs.Meaning.{byte_type}
-use Rattle.cal_model.specs.declared.ast.Binary.{Binary}
+use Rattle.net_model.specs.Trace.{PlaysFrom, KeepsSince}
+use Rattle.first_form.specs.Form.{Form}
+use Rattle.first_form.specs.Eval.{Out, Gives, Traps, eval}
+use Rattle.first_form.specs.Meaning.{byte_type}
+use Rattle.first_form.specs.declared.ast.Binary.{Binary}
 use Rattle.first_runner.specs.Source.{default_capacity, network_of}
 use Rattle.first_runner.specs.Missing.{IsToCome, MayWrite}
 use Rattle.first_runner.specs.declared.ends.Ends.{Ends}
@@ -32,10 +32,10 @@ abbrev pub results : Binary → List ℤ → ℕ → List ℤ
 results b ts n = map (λ v. outgoing (eval v b)) (take n ts)
 
 abbrev pub input_flow : List ℤ → ℕ → ℕ → Flow
-input_flow ts arrived fired = record { sent = ts; arrived = arrived; taken = fired }
+input_flow ts arrived fired = record { sent = ts; arrived = arrived; taken = fired; capacity = default_capacity }
 
 abbrev pub output_flow : List ℤ → ℕ → Flow
-output_flow sent out = record { sent = sent; arrived = out; taken = out }
+output_flow sent out = record { sent = sent; arrived = out; taken = out; capacity = default_capacity }
 
 -- so many tokens have arrived, were taken, and went out of the network
 abbrev pub state_at : Binary → List ℤ → ℕ → ℕ → ℕ → State (Unit {0})
@@ -49,11 +49,11 @@ state_at b ts arrived fired out = record {
 -- What is said of all that may follow needs no induction where one line is added.
 pub record SoFar (f : Form) (input : List ℕ) (lines : List Line) (rounds arrived fired out arrived_then fired_then : ℕ) : Type 0 where
   pub plays : (after : List Line) (last : State (Unit {0}))
-      → PlaysFrom (network_of f) (state_at f.sum (toks input) arrived fired out) after last
-      → PlaysFrom (network_of f) (start_of (network_of f) (input ∷ [])) (lines ++ after) last
+      → PlaysFrom (network_of f) 0 (state_at f.sum (toks input) arrived fired out) after last
+      → PlaysFrom (network_of f) 0 (start_of (network_of f) (input ∷ [])) (lines ++ after) last
   pub keeps : (after : List Line)
-      → KeepsFrom (network_of f) (state_at f.sum (toks input) arrived_then fired_then fired_then) (state_at f.sum (toks input) arrived fired out) after
-      → KeepsFrom (network_of f) (start_of (network_of f) (input ∷ [])) (start_of (network_of f) (input ∷ [])) (lines ++ after)
+      → KeepsSince (network_of f) (state_at f.sum (toks input) arrived_then fired_then fired_then) (state_at f.sum (toks input) arrived fired out) after
+      → KeepsSince (network_of f) (start_of (network_of f) (input ∷ [])) (start_of (network_of f) (input ∷ [])) (lines ++ after)
   pub moves : (after : List Line) → AreMoves after → AreMoves (lines ++ after)
   pub fires : (after : List Line) → fires_in (lines ++ after) ≡ fired + fires_in after
   pub deliveries : (after : List Line) → deliveries_in (lines ++ after) ≡ rounds + deliveries_in after

@@ -4,7 +4,7 @@ ghost use Rattle.std.specs.Prelude.{◌≡◌, ◌≤◌, ◌<◌, ◌+◌, ℕ,
 ghost use Rattle.rvc_base.specs.Storing.{conv};
 ghost use Rattle.rvc_io.specs.Feeds.{ReadFails};
 ghost use Rattle.std.specs.VecDeque.{deque_capacity, deque_len};
-ghost use Rattle.cal_model.specs.Meaning.{byte_type};
+ghost use Rattle.first_form.specs.Meaning.{byte_type};
 ghost use Rattle.port_files.specs.Coming.{coming_on, EndIsTrue};
 ghost use Rattle.first_runner.specs.Missing.{IsToCome};
 ghost use Rattle.first_runner.specs.Filling.{Fills};

@@ -3,8 +3,8 @@
 ghost use Rattle.std.specs.Prelude.{◌≡◌, ◌≤◌, ◌<◌, ◌+◌, ◌^◌, ◌⊎◌, ℕ, Bool, true, List, [], Option, Some, OnOk, OnErr, IfOk, IfErr, MatchResult, Err, length};
 ghost use Rattle.rvc_io.specs.Channels.{WriteFails};
 ghost use Rattle.rvc_io.specs.Feeds.{ReadFails};
-ghost use Rattle.cal_model.specs.Meaning.{IsFirstForm};
-ghost use Rattle.cal_model.specs.Form.{Form};
+ghost use Rattle.first_form.specs.Meaning.{IsFirstForm};
+ghost use Rattle.first_form.specs.Form.{Form};
 ghost use Rattle.port_files.specs.Coming.{coming_on, EndIsTrue};
 ghost use Rattle.first_runner.specs.Outside.{KeepsOthers};
 ghost use Rattle.first_runner.specs.Missing.{IsWritten};

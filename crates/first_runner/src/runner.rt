@@ -3,8 +3,8 @@
 ghost use Rattle.std.specs.Prelude.{◌≡◌, ◌≤◌, ◌⊎◌, ℕ, Bool, true, List, OnOk, OnErr, IfOk, length};
 ghost use Rattle.rvc_io.specs.Channels.{WriteFails, WritesOnly};
 ghost use Rattle.rvc_io.specs.Feeds.{ReadFails};
-ghost use Rattle.cal_model.specs.Meaning.{IsFirstForm};
-ghost use Rattle.cal_model.specs.Form.{Form};
+ghost use Rattle.first_form.specs.Meaning.{IsFirstForm};
+ghost use Rattle.first_form.specs.Form.{Form};
 ghost use Rattle.first_runner.specs.Outside.{KeepsOthers};
 ghost use Rattle.first_runner.specs.Missing.{Gets, HasInput, IsWritten, MayHoldFront};
 ghost use Rattle.first_runner.specs.Leaves.{HasCome, Leaves, numbers};

@@ -2,6 +2,7 @@
 use Rattle.std.specs.Prelude.{◌≡◌, ◌≤◌, ◌⊎◌, ℕ, Bool, true, List, [], ◌++◌, length}
 use Rattle.rvc_base.specs.declared.refusal.Refusal.{Refusal}
 use Rattle.rvc_base.specs.declared.refusal.Rule.{Rule}
+use Rattle.rvc_base.specs.Rules.{file_too_long, no_file}
 use Rattle.rvc_base.specs.declared.refusal.Front.{Front as Answer}
 use Rattle.rvc_base.specs.declared.refusal.Front.TheVariants.{Refused as Denied, Memory}
 use Rattle.rvc_io.specs.Channels.{Channels}
@@ -70,8 +71,8 @@ IsRightly number text Memory = Unit {0}
 
 -- the top can't be read: there is no such file, or it passes the limit
 pub data IsUnread (source : Told) (misses_old misses_new : ℕ) : Refusal → Type 0 where
-  lacks : HasRisen misses_old misses_new → IsLacking source → IsUnread source misses_old misses_new (record { rule = record { 0 = 801 }; place = record { file = 0; offset = 0 } })
-  passes : IsTooLong source → IsUnread source misses_old misses_new (record { rule = record { 0 = 601 }; place = record { file = 1; offset = max_file_bytes } })
+  lacks : HasRisen misses_old misses_new → IsLacking source → IsUnread source misses_old misses_new (record { rule = no_file; place = record { file = 0; offset = 0 } })
+  passes : IsTooLong source → IsUnread source misses_old misses_new (record { rule = file_too_long; place = record { file = 1; offset = max_file_bytes } })
 
 -- the refusals of a printing: the top can't be read, its text breaks a rule, or a word names a port, of which there is none
 pub data IsUnprinted (ports : List PortText) (source : Told) (misses_old misses_new : ℕ) : Refusal → Type 0 where

@@ -3,6 +3,7 @@ use Rattle.std.specs.Prelude.{ℕ, ◌≡◌, ◌≢◌, List, ◌++◌, codes, 
 use Rattle.rvc_io.specs.Channels.{Channels}
 use Rattle.rvc_io.specs.Told.{Told, Untold, Lacking, Holding}
 use Rattle.rvc_base.specs.Refusal.{rule_text}
+use Rattle.rvc_base.specs.Rules.{not_built}
 use Rattle.rvc_base.specs.declared.refusal.Refusal.{Refusal}
 use Rattle.rvc_words.specs.Causes.{cause_name}
 use Rattle.rvc_words.specs.declared.fault.UsageCause.{UsageCause}
@@ -68,7 +69,7 @@ usage_text cause = codes "usage " ++ cause_name cause ++ usage_line
 
 -- the refusal of what isn't built, at the command line
 abbrev pub not_built_here : Refusal
-not_built_here = record { rule = record { 0 = 1 }; place = record { file = 0; offset = 0 } }
+not_built_here = record { rule = not_built; place = record { file = 0; offset = 0 } }
 
 abbrev pub not_built_text : List ℕ
 not_built_text = codes "refused Y1 words 0\n"

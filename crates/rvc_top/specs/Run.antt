@@ -45,9 +45,9 @@ pub record IsRun (ports : List PortText) (source input : List ℕ) (end : Line) 
   pub matched : AreMatched (ports_of form) ports
   pub moves : List Line
   pub last : State (Unit {0})
-  pub plays : Plays (network_of form) (input ∷ []) (moves ++ end ∷ []) last
+  pub plays : Plays (network_of form) 0 (input ∷ []) (moves ++ end ∷ []) last
   pub keeps : KeepsCapacities (network_of form) (input ∷ []) (moves ++ end ∷ [])
-  pub trace_is : trace ≡ text (network_of form) (moves ++ end ∷ [])
+  pub trace_is : trace ≡ text (network_of form) 0 (moves ++ end ∷ [])
   pub output_is : IsWritten (file_of form.output ports) output_open output (bytes_out (network_of form) last 0)
   pub counted : Counted counts (moves ++ end ∷ []) last
 
@@ -67,9 +67,9 @@ pub record IsCutRun (ports : List PortText) (source : List ℕ) (input : Form �
   pub moves : List Line
   pub are_moves : AreMoves moves
   pub last : State (Unit {0})
-  pub plays : Plays (network_of form) (input form ∷ []) moves last
+  pub plays : Plays (network_of form) 0 (input form ∷ []) moves last
   pub keeps : KeepsCapacities (network_of form) (input form ∷ []) moves
-  pub trace_is : trace ≡ text (network_of form) moves
+  pub trace_is : trace ≡ text (network_of form) 0 moves
   pub output_is : IsWritten (file_of form.output ports) output_open output (bytes_out (network_of form) last 0)
 
 -- fronts of what belongs to lines that play, with or without an end
@@ -79,9 +79,9 @@ pub record IsBrokenRun (ports : List PortText) (source : List ℕ) (input : Form
   pub matched : AreMatched (ports_of form) ports
   pub lines : List Line
   pub last : State (Unit {0})
-  pub plays : Plays (network_of form) (input form ∷ []) lines last
+  pub plays : Plays (network_of form) 0 (input form ∷ []) lines last
   pub keeps : KeepsCapacities (network_of form) (input form ∷ []) lines
-  pub trace_front : IsFrontOf trace (text (network_of form) lines)
+  pub trace_front : IsFrontOf trace (text (network_of form) 0 lines)
   pub output_front : output_open ≡ true → IsFrontOf output (bytes_out (network_of form) last 0)
 
 -- What the top call leaves, where the source and the channels are told, and for each actor that the source may be its

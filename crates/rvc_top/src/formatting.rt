@@ -20,7 +20,6 @@ ghost use Rattle.rvc_top.specs.Planned.{IsActorFault, IsPreparing};
 ghost use Rattle.rvc_top.specs.Report.{ReportIs, naming_top};
 ghost use Rattle.rvc_top.specs.declared.status.ReadAt.{ReadAt as Where};
 
-use crate::matching::UNKNOWN_PORT;
 use crate::preparing::{SOURCE_FILE, read_top};
 use crate::reporting::{Names, REPORT_CHANNEL, report};
 use crate::status::Status;
@@ -29,7 +28,7 @@ use cal_lexer::{Token, lex};
 use cal_parser::parse_file;
 use cal_print::print_file;
 use channel_writer::put_all;
-use rvc_base::{Front, Memory, Place, Refusal};
+use rvc_base::{Front, Memory, Place, Refusal, Rule};
 use rvc_io::{Drains, Failed, Library, MAX_FILE_BYTES};
 use rvc_words::{Job, PortWord, Verb};
 use std::alloc::Global;
@@ -85,7 +84,7 @@ fn check_no_words(words: &[PortWord]) -> Result<(), Refusal>
         return Ok(());
     }
     Err(Refusal {
-        rule: UNKNOWN_PORT,
+        rule: Rule::UNKNOWN_PORT,
         place: Place { file: 0, offset: 0 },
     })
 }

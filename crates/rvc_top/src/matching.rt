@@ -9,12 +9,6 @@ use first_form::ast::Actor;
 use rvc_base::{Place, Refusal, Rule};
 use rvc_words::PortWord;
 
-/// A port word names no port that the command opens.
-pub const UNKNOWN_PORT: Rule = Rule(901);
-
-/// A port word names a port that an earlier one names.
-pub const PORT_TWICE: Rule = Rule(902);
-
 /// The files of an actor's ports, as far as port words name them.
 #[derive(Clone, Copy)]
 pub struct Files<'a> {
@@ -50,10 +44,10 @@ fn check_words(words: &[PortWord], actor: &Actor) -> Result<(), Refusal>
 {
     for (number, word) in words.iter().enumerate() {
         if !is_port(word.name.as_str(), actor) {
-            return Err(wrong(UNKNOWN_PORT, number as u32));
+            return Err(wrong(Rule::UNKNOWN_PORT, number as u32));
         }
         if is_named(word.name.as_str(), &words[..number]) {
-            return Err(wrong(PORT_TWICE, number as u32));
+            return Err(wrong(Rule::PORT_TWICE, number as u32));
         }
     }
     Ok(())

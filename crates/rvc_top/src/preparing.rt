@@ -180,13 +180,14 @@ fn files_of<'a>(words: &'a [PortWord], actor: &Actor) -> Result<Files<'a>, Statu
 
 /// The text of an actor's trace before its first event.
 fn head_of(alloc: Global, actor: &Actor) -> Result<Vec<u8>, Memory>
-    ensures { IfOk result (λ head. head.items ≡ head_text (network_of (form_of actor.now))) }
+    ensures { IfOk result (λ head. head.items ≡ head_text (network_of (form_of actor.now)) 0) }
 {
     let mut first = ArrayVec::<u8, 64>::new();
     write_line(
         &Line::Header {
             instances: 1,
             links: 2,
+            grow: 0,
         },
         &mut first,
     );

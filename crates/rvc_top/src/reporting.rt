@@ -5,12 +5,12 @@ ghost use Rattle.rvc_io.specs.Channels.{Appends, WriteFails, WritesOnly};
 ghost use Rattle.rvc_top.specs.Naming.{names_text};
 ghost use Rattle.rvc_top.specs.Report.{run_lines, counts_lines, input_line, output_line, last_line, refusal_line, file_name, usage_text, memory_text, not_built_here, not_built_text};
 ghost use Rattle.trace_text.specs.Text.{line_feed};
-ghost use Rattle.cal_model.specs.Form.{form_of};
+ghost use Rattle.first_form.specs.Form.{form_of};
 ghost use Rattle.rvc_top.specs.Outside.{Reports};
 
 use crate::status::{ReadAt, Status};
-use first_form::ast::Actor;
 use channel_writer::put_all;
+use first_form::ast::Actor;
 use first_runner::Counts;
 use itoa::Buffer;
 use rvc_base::{Place, Refusal, Rule};

@@ -213,6 +213,11 @@ const REFUSALS: &[(&str, &str, &str)] = &[
         "refused Y1 words 0\n",
     ),
     (
+        "rvc run Inc.cal In=in Out=out --trace t --grow 1",
+        INC,
+        "refused Y1 words 0\n",
+    ),
+    (
         "rvc run Inc.cal Inn=in --trace t",
         INC,
         "refused P1 words 0\n",
@@ -264,31 +269,31 @@ const REFUSALS: &[(&str, &str, &str)] = &[
 const USAGES: &[(&str, &str)] = &[
     (
         "rvc",
-        "usage words\nrvc VERB TOP [PORT=FILE ..] [--trace FILE] [--workers N] [--round P] [--burst N] [--budget N]\n",
+        "usage words\nrvc VERB TOP [PORT=FILE ..] [--trace FILE] [--workers N] [--round P] [--burst N] [--budget N] [--grow N]\n",
     ),
     (
         "rvc go Inc.cal",
-        "usage verb\nrvc VERB TOP [PORT=FILE ..] [--trace FILE] [--workers N] [--round P] [--burst N] [--budget N]\n",
+        "usage verb\nrvc VERB TOP [PORT=FILE ..] [--trace FILE] [--workers N] [--round P] [--burst N] [--budget N] [--grow N]\n",
     ),
     (
         "rvc run Inc.txt --trace t",
-        "usage top\nrvc VERB TOP [PORT=FILE ..] [--trace FILE] [--workers N] [--round P] [--burst N] [--budget N]\n",
+        "usage top\nrvc VERB TOP [PORT=FILE ..] [--trace FILE] [--workers N] [--round P] [--burst N] [--budget N] [--grow N]\n",
     ),
     (
         "rvc run Inc.cal --workers 65 --trace t",
-        "usage number\nrvc VERB TOP [PORT=FILE ..] [--trace FILE] [--workers N] [--round P] [--burst N] [--budget N]\n",
+        "usage number\nrvc VERB TOP [PORT=FILE ..] [--trace FILE] [--workers N] [--round P] [--burst N] [--budget N] [--grow N]\n",
     ),
     (
         "rvc run Inc.cal --round x --trace t",
-        "usage round\nrvc VERB TOP [PORT=FILE ..] [--trace FILE] [--workers N] [--round P] [--burst N] [--budget N]\n",
+        "usage round\nrvc VERB TOP [PORT=FILE ..] [--trace FILE] [--workers N] [--round P] [--burst N] [--budget N] [--grow N]\n",
     ),
     (
         "rvc run Inc.cal In --trace t",
-        "usage port\nrvc VERB TOP [PORT=FILE ..] [--trace FILE] [--workers N] [--round P] [--burst N] [--budget N]\n",
+        "usage port\nrvc VERB TOP [PORT=FILE ..] [--trace FILE] [--workers N] [--round P] [--burst N] [--budget N] [--grow N]\n",
     ),
     (
         "rvc run Inc.cal",
-        "usage trace\nrvc VERB TOP [PORT=FILE ..] [--trace FILE] [--workers N] [--round P] [--burst N] [--budget N]\n",
+        "usage trace\nrvc VERB TOP [PORT=FILE ..] [--trace FILE] [--workers N] [--round P] [--burst N] [--budget N] [--grow N]\n",
     ),
 ];
 

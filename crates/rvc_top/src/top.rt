@@ -34,8 +34,8 @@ use crate::reporting::{
     Names, REPORT_CHANNEL, report, report_memory, report_not_built, report_run, report_usage,
 };
 use crate::status::{ReadAt, Status};
-use first_form::ast::Actor;
 use channel_writer::put_all;
+use first_form::ast::Actor;
 use first_runner::{Ends, Outcome, RunEnd, TRACE_CHANNEL};
 use rvc_base::MAX_BUDGET;
 use rvc_io::{Drains, Feeds, Gate, Library};
@@ -116,7 +116,7 @@ fn conclude<D: Drains>(
         ((D.channels drains.old).is_open 2)
         → (writes ≡ true → output_old ≡ [])
         → HasLeft (form_of actor.now) writes (input (form_of actor.now)) outcome.now.end
-        outcome.now.counts (head_text (network_of (form_of actor.now)))
+        outcome.now.counts (head_text (network_of (form_of actor.now)) 0)
         ((D.channels drains.old).held 1) output_old ((D.channels drains.old).held 2)
         → (outcome.now.end ≡ RunEnd.Budget → outcome.now.counts.firings ≡ limit)
         → Leaves j source input result held_first (D.channels drains.new).held

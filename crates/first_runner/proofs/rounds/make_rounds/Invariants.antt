@@ -1,5 +1,5 @@
 use Rattle.std.proofs.Common.{◌≡◌, ℕ, ◌-◌, List}
-use Rattle.cal_model.specs.Form.{Form}
+use Rattle.first_form.specs.Form.{Form}
 use Rattle.port_files.specs.Coming.{coming_on, EndIsTrue}
 use Rattle.first_runner.specs.SoFar.{GoesOn}
 use Rattle.first_runner.proofs.Rounding.{IsRounding}

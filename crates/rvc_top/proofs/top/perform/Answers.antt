@@ -39,7 +39,7 @@ returns-clause-leaves g c = λ source input spelled input_is told.
     let told_3 = c.run-outcome.ensures.others.same_telling ∙ told_2 in
     let reads : c.is_some.result ≡ is_some c.args.plan.files.input = search rules in
     let writes : c.is_some-2.result ≡ is_some c.args.plan.files.output = search rules in
-    let head_there : (g.D.Drains.channels c.put_all.new.drains).held 1 ≡ head_text (network_of (form_of c.args.plan.actor)) =
+    let head_there : (g.D.Drains.channels c.put_all.new.drains).held 1 ≡ head_text (network_of (form_of c.args.plan.actor)) 0 =
     c.in-Ok.ensures.all told_1 ∙ ap (λ h. h ++ c.as_slice.result.now) (c.in_default.ensures.trace_empty told c.in_default.ensures.trace_open) ∙ c.as_slice.ensures.value ∙ c.requires.planned.head_is in
     let output_empty : c.is_some-2.result ≡ true → (g.D.Drains.channels c.put_all.new.drains).held 2 ≡ [] =
     λ written. c.in-Ok.ensures.elsewhere.same_held told_1 2 output≢trace ∙ c.in_default.ensures.output_empty told (c.in_default.ensures.output_open (sym writes ∙ written)) in
