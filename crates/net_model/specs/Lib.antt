@@ -4,6 +4,7 @@ pub mod State
 pub mod Event
 pub mod Ends
 pub mod Trace
+pub mod Cell
 pub mod Limits
 pub mod Wired
 pub mod Stable
