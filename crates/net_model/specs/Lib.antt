@@ -9,3 +9,5 @@ pub mod Limits
 pub mod Wired
 pub mod Stable
 pub mod Laws
+pub mod Paced
+pub mod Counted
