@@ -40,4 +40,6 @@ mod SoundRows
 mod OneLine
 mod Written
 mod Ranks
+mod PrefixSeen
+mod LawfulActors
 mod Procedures

@@ -202,10 +202,9 @@ fn item(values: Values, place: &Value) -> Result<Value, Stop>
 fn item_at(mut items: Vec<Value>, number: Num) -> Result<Value, Stop>
     ensures { (left : ℕ) → Evaluates value_view result left (item_at (in_order (map value_view items.items)) number left) }
 {
-    if number < 0 {
+    let Ok(place) = usize::try_from(number) else {
         return Err(Stop::Trap(Trap::IndexRange));
-    }
-    let place = number as usize;
+    };
     if place >= items.len() {
         return Err(Stop::Trap(Trap::IndexRange));
     }
