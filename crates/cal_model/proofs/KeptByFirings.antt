@@ -13,7 +13,7 @@ use Rattle.cal_ast.specs.Tree.{Tree}
 use Rattle.rvc_base.specs.Behaviour.{Effect, Fires}
 use Rattle.rvc_base.specs.Turns.{max_turns}
 use Rattle.cal_model.specs.Value.{Kind, BoolKind, Shape, Single, Value, Values, Nil, Cons, count, of_number, kind_of_scalar, HasKind, HaveKind, IsOf, IsType}
-use Rattle.cal_model.specs.Outcome.{Out, Clashes}
+use Rattle.cal_model.specs.Outcome.{Clashes}
 use Rattle.cal_model.specs.Env.{Var, Env}
 use Rattle.cal_model.specs.Actor.{Port, Held, Pattern, Output, Action, Move, Actor}
 use Rattle.cal_model.specs.Call.{calls_of, declared}

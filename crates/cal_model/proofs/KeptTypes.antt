@@ -7,7 +7,7 @@ use Rattle.rvc_base.specs.declared.scalar.Scalar.{Scalar}
 use Rattle.rvc_base.specs.declared.scalar.Scalar.TheVariants as scalar
 use Rattle.rvc_base.specs.declared.trap.Trap.TheVariants.{IndexRange}
 use Rattle.cal_model.specs.Value.{Kind, NumKind, BoolKind, ListKind, Shape, Single, Many, Value, Num, Truth, Items, Values, Nil, Cons, count, value_at, with_value, kind_of_type, kind_of_scalar, HasKind, IsOf, AreOf, IsType}
-use Rattle.cal_model.specs.Outcome.{Out, Gives, Traps, Lacks, Clashes, and_then, turn, needed}
+use Rattle.cal_model.specs.Outcome.{Out, Gives, Traps, Lacks, Clashes, and_then, turn}
 use Rattle.cal_model.specs.Env.{Var, Env, find, with_local, back_to, item_at, with_item, put, assigned_to, assigned, is_among, assign}
 use Rattle.cal_model.specs.Expression.{chosen, range_of}
 use Rattle.cal_model.specs.Actor.{Held, Fun}

@@ -1,22 +1,19 @@
 -- The behaviour of a sound actor is lawful.
-use Rattle.std.proofs.Common.{◌≡◌, ◌≢◌, ℕ, zero, suc, ◌+◌, ◌<◌, ◌≤◌, ◌⊎◌, inl, inr, ℤ, Bool, true, false, ◌&&◌, not, List, [], ◌∷◌, length, take, refl, sym, ap, subst, ◌∙◌, arith, Contains, Option, None, Some}
+use Rattle.std.proofs.Common.{◌≡◌, ◌≢◌, ℕ, zero, suc, ◌+◌, ◌<◌, ◌≤◌, ◌⊎◌, inl, inr, ℤ, Bool, true, false, ◌&&◌, List, [], ◌∷◌, length, take, refl, ap, subst, ◌∙◌, arith, Option, None, Some}
 use Rattle.std.specs.Prelude.{if◌then◌else◌, nat_le, slice_get, slice_index_or}
 use Rattle.std.specs.List.{range_with_len}
-use Rattle.std.proofs.lemmas.Bool.{true≢false}
 use Rattle.std.proofs.lemmas.Option.{slice_get_past}
 use Rattle.rvc_base.specs.declared.trap.Trap.{Trap}
-use Rattle.rvc_base.specs.Behaviour.{Choice, Waits, Picks, Faults, Effect, Fires, TrapsInGuard, TrapsInBody}
+use Rattle.rvc_base.specs.Behaviour.{Waits, Picks, Faults, Effect, Fires, TrapsInGuard, TrapsInBody}
 use Rattle.rvc_base.specs.Lawful.{IsLawful}
-use Rattle.rvc_base.specs.Turns.{max_turns}
 use Rattle.cal_ast.specs.Tree.{Tree}
 use Rattle.cal_model.specs.Value.{BoolKind, HasKind}
 use Rattle.cal_model.specs.Outcome.{Out, Gives, Traps, Lacks, Clashes}
 use Rattle.cal_model.specs.Expression.{eval}
 use Rattle.cal_model.specs.Actor.{Action, Actor}
 use Rattle.cal_model.specs.Call.{calls_of}
-use Rattle.cal_model.specs.Eligible.{leads}
 use Rattle.cal_model.specs.Rates.{need, give, taken_on, given_on}
-use Rattle.cal_model.specs.Selection.{State, Priorities, tokens_on, has_its_tokens_on, has_its_tokens, seen_by, Guards, AreTrue, AreFalse, AreTrapping, readiness, IsEnabled, IsExposed, is_exposed, outranked, choice}
+use Rattle.cal_model.specs.Selection.{State, Priorities, tokens_on, has_its_tokens_on, seen_by, Guards, AreFalse, readiness, IsEnabled, IsExposed, is_exposed, choice}
 use Rattle.cal_model.specs.ActorState.{IsActorState, is_actor_state, AreTokensOf, kept_tokens}
 use Rattle.cal_model.specs.Firing.{Fired, body, IsFiring, IsTrapping, effect_of_body, effect_of_exposed, effect, behaviour}
 use Rattle.cal_model.specs.Keeping.{GivesOrTraps}
@@ -25,7 +22,7 @@ use Rattle.cal_model.specs.Sound.{Each, IsPlain, names_of, with_patterns, IsSoun
 use Rattle.cal_model.proofs.ActorStates.{states-decide, kept-are-tokens, as-many-are-kept}
 use Rattle.cal_model.proofs.Choosing.{is-exposed, exposed-is, ready-past, chosen-is-enabled, chosen-traps, waiting-is-idle, effects-are-firings}
 use Rattle.cal_model.proofs.KeptByFirings.{IsMade, action-at, guard-says, eligible-makes}
-use Rattle.cal_model.proofs.PrefixSeen.{Agree, kept-agree, effect-same, choice-same}
+use Rattle.cal_model.proofs.PrefixSeen.{kept-agree, effect-same, choice-same}
 
 -- ---- guards and bodies
 

@@ -2,9 +2,9 @@ mod Rows
 mod StatementRows
 mod ActorRows
 mod KindRows
-mod Stored
-mod Choosing
-mod ActorStates
+pub mod Stored
+pub mod Choosing
+pub mod ActorStates
 mod StateRows
 mod Turns
 mod TurnsTaken
@@ -23,7 +23,7 @@ mod TagRows
 mod TagLaws
 mod Agreement
 pub mod Numbers
-mod KindValues
+pub mod KindValues
 mod KindOperators
 mod KindTypes
 pub mod KindNames
@@ -33,13 +33,13 @@ mod KindCalls
 pub mod KindLaws
 mod KeptRows
 mod LoneAction
-mod KeptTypes
+pub mod KeptTypes
 mod KeptByStatements
-mod KeptByFirings
+pub mod KeptByFirings
 mod SoundRows
 mod OneLine
 mod Written
 mod Ranks
-mod PrefixSeen
+pub mod PrefixSeen
 mod LawfulActors
 mod Procedures

@@ -2,13 +2,12 @@
 use Rattle.std.proofs.Common.{◌≡◌, ℕ, zero, suc, ◌+◌, ◌*◌, ◌<◌, ◌≤◌, ℤ, pos, Bool, true, false, ◌&&◌, ◌||◌, not, List, [], ◌∷◌, ◌++◌, map, length, take, min, refl, sym, ap, subst, ◌∙◌, arith, Contains, Option, None, Some}
 use Rattle.std.specs.Prelude.{if◌then◌else◌, ◌==◌, nat_le, slice_get, slice_index_or}
 use Rattle.std.specs.List.{range_with_len}
-use Rattle.std.proofs.lemmas.Bool.{true≢false}
 use Rattle.std.proofs.lemmas.List.{get_or-take, length-take}
 use Rattle.rvc_base.specs.declared.scalar.Scalar.{Scalar}
 use Rattle.rvc_base.specs.Storing.{conv}
-use Rattle.rvc_base.specs.Behaviour.{Waits, Picks, Faults, Choice}
-use Rattle.cal_model.specs.Value.{Value, Items, Values, Nil, Cons, of_number}
-use Rattle.cal_model.specs.Env.{Var, Env}
+use Rattle.rvc_base.specs.Behaviour.{Picks, Faults}
+use Rattle.cal_model.specs.Value.{Items, Cons, of_number}
+use Rattle.cal_model.specs.Env.{Env}
 use Rattle.cal_model.specs.Outcome.{Out, Gives, Clashes, and_then}
 use Rattle.cal_model.specs.Actor.{Port, Pattern, Action, Actor}
 use Rattle.cal_model.specs.Call.{calls_of, declared}
@@ -19,7 +18,7 @@ use Rattle.cal_model.specs.Rates.{parts_times, taken_on, need}
 use Rattle.cal_model.specs.Selection.{State, Priorities, kind_of_port, tokens_on, has_its_tokens_on, has_its_tokens, token, tokens_from, pattern_value, pattern_vars_from, pattern_vars, seen_by, Guards, AreTrue, AreFalse, AreTrapping, guards_say, readiness, are_true, outranked, is_exposed, choice_among, choice}
 use Rattle.cal_model.specs.ActorState.{kept_on, kept_tokens}
 use Rattle.cal_model.specs.Firing.{Fired, outputs, sent_by_port, body_of, body, effect_of_body, effect_of_exposed, effect}
-use Rattle.cal_model.specs.Sound.{Each, AreDistinct, IsPattern, IsAction, IsSound}
+use Rattle.cal_model.specs.Sound.{Each, AreDistinct, IsPattern, IsSound}
 use Rattle.cal_model.proofs.KeptByFirings.{action-at}
 
 -- ---- tokens as they are stored
@@ -136,25 +135,26 @@ module _ (actor : Actor) (n : ℕ → ℕ) (u v : List (List ℤ)) (agree : Agre
       ap (λ xs. xs ++ pattern_vars_from t (tokens_on u q.port) q 0 q.names) (patterns-same qs h.1 few.1)
       ∙ ap (λ xs. pattern_vars actor v qs ++ xs) (vars-same t (tokens_on u q.port) (tokens_on v q.port) q 0 q.names here (let e : 0 + length q.names ≡ length q.names = omega arith in e))
 
-  module _ (sound : IsSound actor) (needed : (a p : ℕ) → need actor a p ≤ n p) where
-    tokens-on-same : (a k s : ℕ) → s + k ≤ length actor.ins → has_its_tokens_on actor u a (range_with_len s k) ≡ has_its_tokens_on actor v a (range_with_len s k)
-    tokens-on-same a zero s h = refl
-    tokens-on-same a (suc k) s h =
+  -- what one action sees, where as many tokens agree as it needs
+  module _ (sound : IsSound actor) (a : ℕ) (few : (p : ℕ) → need actor a p ≤ n p) where
+    tokens-on-same : (k s : ℕ) → s + k ≤ length actor.ins → has_its_tokens_on actor u a (range_with_len s k) ≡ has_its_tokens_on actor v a (range_with_len s k)
+    tokens-on-same zero s h = refl
+    tokens-on-same (suc k) s h =
         let here : s < length actor.ins = omega arith in
-        ap (λ b. b && has_its_tokens_on actor u a (range_with_len (s + 1) k)) (enough-same (n s) (need actor a s) (tokens_on u s) (tokens_on v s) (agree s here) (needed a s))
-        ∙ ap (λ b. nat_le (need actor a s) (length (tokens_on v s)) && b) (tokens-on-same a k (s + 1) (omega arith))
+        ap (λ b. b && has_its_tokens_on actor u a (range_with_len (s + 1) k)) (enough-same (n s) (need actor a s) (tokens_on u s) (tokens_on v s) (agree s here) (few s))
+        ∙ ap (λ b. nat_le (need actor a s) (length (tokens_on v s)) && b) (tokens-on-same k (s + 1) (omega arith))
 
-    has-same : (a : ℕ) → has_its_tokens actor u a ≡ has_its_tokens actor v a
-    has-same a = tokens-on-same a (length actor.ins) 0 (omega arith)
+    pub has-same : has_its_tokens actor u a ≡ has_its_tokens actor v a
+    has-same = tokens-on-same (length actor.ins) 0 (omega arith)
 
-    seen-same : (x : State) (a : ℕ) (act : Action) → slice_get actor.actions a ≡ Some act → seen_by actor x u act ≡ seen_by actor x v act
-    seen-same x a act e =
+    pub seen-same : (x : State) (act : Action) → slice_get actor.actions a ≡ Some act → seen_by actor x u act ≡ seen_by actor x v act
+    seen-same x act e =
         let good = action-at actor actor.actions a act sound.actions e in
-        let few = each-taken n act.patterns good.ports_in (λ port. subst (λ o. elim o [ None ↦ 0 | Some one ↦ taken_on port one.patterns ] ≤ n port) e (needed a port)) in
-        ap (λ xs. record { globals = x.vars; locals = xs }) (patterns-same act.patterns good.patterns few)
+        let each = each-taken n act.patterns good.ports_in (λ port. subst (λ o. elim o [ None ↦ 0 | Some one ↦ taken_on port one.patterns ] ≤ n port) e (few port)) in
+        ap (λ xs. record { globals = x.vars; locals = xs }) (patterns-same act.patterns good.patterns each)
 
-    pub ready-same : (x : State) (a : ℕ) → readiness actor x u a ≡ readiness actor x v a
-    ready-same x a = go (slice_get actor.actions a) refl
+    pub ready-same : (x : State) → readiness actor x u a ≡ readiness actor x v a
+    ready-same x = go (slice_get actor.actions a) refl
       where
         go : (o : Option Action) → slice_get actor.actions a ≡ o
             → ◌≡◌ {A = Guards}
@@ -162,22 +162,11 @@ module _ (actor : Actor) (n : ℕ → ℕ) (u v : List (List ℤ)) (agree : Agre
             (elim o [ None ↦ AreFalse | Some act ↦ if eligible actor x.at a && has_its_tokens actor v a then guards_say act.guards (calls_of actor.funs) (seen_by actor x v act) else AreFalse ])
         go None e = refl
         go (Some act) e =
-            ap (λ b. if eligible actor x.at a && b then guards_say act.guards (calls_of actor.funs) (seen_by actor x u act) else AreFalse) (has-same a)
-            ∙ ap (λ env. if eligible actor x.at a && has_its_tokens actor v a then guards_say act.guards (calls_of actor.funs) env else AreFalse) (seen-same x a act e)
+            ap (λ b. if eligible actor x.at a && b then guards_say act.guards (calls_of actor.funs) (seen_by actor x u act) else AreFalse) has-same
+            ∙ ap (λ env. if eligible actor x.at a && has_its_tokens actor v a then guards_say act.guards (calls_of actor.funs) env else AreFalse) (seen-same x act e)
 
-    outranked-same : (above : ℕ → ℕ → Bool) (x : State) (a : ℕ) (line : List ℕ) → outranked actor above x u a line ≡ outranked actor above x v a line
-    outranked-same above x a [] = refl
-    outranked-same above x a (b ∷ line) =
-        ap (λ g. (above b a && are_true g) || outranked actor above x u a line) (ready-same x b)
-        ∙ ap (λ rest. (above b a && are_true (readiness actor x v b)) || rest) (outranked-same above x a line)
-
-    exposed-same : (p : Priorities actor) (x : State) (a : ℕ) → is_exposed actor p x u a ≡ is_exposed actor p x v a
-    exposed-same p x a =
-        ap (λ b. eligible actor x.at a && b && not (outranked actor p.above x u a p.line)) (has-same a)
-        ∙ ap (λ b. eligible actor x.at a && has_its_tokens actor v a && not b) (outranked-same p.above x a p.line)
-
-    body-same : (x : State) (a : ℕ) → body actor x u a ≡ body actor x v a
-    body-same x a = go (slice_get actor.actions a) refl (next actor x.at a)
+    pub body-same : (x : State) → body actor x u a ≡ body actor x v a
+    body-same x = go (slice_get actor.actions a) refl (next actor x.at a)
       where
         go : (o : Option Action) → slice_get actor.actions a ≡ o → (to : Option ℕ)
             → ◌≡◌ {A = Out Fired}
@@ -185,23 +174,36 @@ module _ (actor : Actor) (n : ℕ → ℕ) (u v : List (List ℤ)) (agree : Agre
             (elim o [ None ↦ Clashes | Some act ↦ elim to [ None ↦ Clashes | Some s ↦ body_of actor x v s act ] ])
         go None e to = refl
         go (Some act) e None = refl
-        go (Some act) e (Some s) = ap (λ env. body_from actor x s act env) (seen-same x a act e)
+        go (Some act) e (Some s) = ap (λ env. body_from actor x s act env) (seen-same x act e)
+
+  -- .. and what all see
+  module _ (sound : IsSound actor) (needed : (a p : ℕ) → need actor a p ≤ n p) where
+    outranked-same : (above : ℕ → ℕ → Bool) (x : State) (a : ℕ) (line : List ℕ) → outranked actor above x u a line ≡ outranked actor above x v a line
+    outranked-same above x a [] = refl
+    outranked-same above x a (b ∷ line) =
+        ap (λ g. (above b a && are_true g) || outranked actor above x u a line) (ready-same sound b (needed b) x)
+        ∙ ap (λ rest. (above b a && are_true (readiness actor x v b)) || rest) (outranked-same above x a line)
+
+    exposed-same : (p : Priorities actor) (x : State) (a : ℕ) → is_exposed actor p x u a ≡ is_exposed actor p x v a
+    exposed-same p x a =
+        ap (λ b. eligible actor x.at a && b && not (outranked actor p.above x u a p.line)) (has-same sound a (needed a))
+        ∙ ap (λ b. eligible actor x.at a && has_its_tokens actor v a && not b) (outranked-same p.above x a p.line)
 
     pub effect-same : (p : Priorities actor) (x : State) (a : ℕ) → effect actor p x u a ≡ effect actor p x v a
     effect-same p x a =
         ap (λ b. if b then effect_of_exposed actor x u a (readiness actor x u a) else None) (exposed-same p x a)
-        ∙ ap (λ g. if is_exposed actor p x v a then effect_of_exposed actor x u a g else None) (ready-same x a)
+        ∙ ap (λ g. if is_exposed actor p x v a then effect_of_exposed actor x u a g else None) (ready-same sound a (needed a) x)
         ∙ ap (λ e. if is_exposed actor p x v a then e else None) (exposed-effect-same (readiness actor x v a))
       where
         exposed-effect-same : (g : Guards) → effect_of_exposed actor x u a g ≡ effect_of_exposed actor x v a g
-        exposed-effect-same AreTrue = ap effect_of_body (body-same x a)
+        exposed-effect-same AreTrue = ap effect_of_body (body-same sound a (needed a) x)
         exposed-effect-same AreFalse = refl
         exposed-effect-same (AreTrapping c) = refl
 
     among-same : (x : State) (line : List ℕ) → choice_among actor x u line ≡ choice_among actor x v line
     among-same x [] = refl
     among-same x (a ∷ line) =
-        ap (λ g. elim g [ AreTrue ↦ Picks a | AreFalse ↦ choice_among actor x u line | AreTrapping c ↦ Faults a c ]) (ready-same x a)
+        ap (λ g. elim g [ AreTrue ↦ Picks a | AreFalse ↦ choice_among actor x u line | AreTrapping c ↦ Faults a c ]) (ready-same sound a (needed a) x)
         ∙ ap (λ rest. elim (readiness actor x v a) [ AreTrue ↦ Picks a | AreFalse ↦ rest | AreTrapping c ↦ Faults a c ]) (among-same x line)
 
     pub choice-same : (p : Priorities actor) (x : State) → choice actor p x u ≡ choice actor p x v

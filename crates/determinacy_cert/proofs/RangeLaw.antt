@@ -124,7 +124,7 @@ item_ranged_is i x y (Single t) shape h =
     (let no : None ≡ Some y = subst (λ s. elim s [ Single t ↦ None | Many n items ↦ if lies_within i (pos 0) (pos n -ℤ pos 1) then Some (record x { shape = items }) else None ] ≡ Some y) shape h in cc)
 item_ranged_is i x y (Many n items) shape h =
     let taken = ranged_if (lies_within i (pos 0) (pos n -ℤ pos 1)) x y items
-        (subst (λ s. elim s [ Single t ↦ None | Many n items ↦ if lies_within i (pos 0) (pos n -ℤ pos 1) then Some (record x { shape = items }) else None ] ≡ Some y) shape h) in
+    (subst (λ s. elim s [ Single t ↦ None | Many n items ↦ if lies_within i (pos 0) (pos n -ℤ pos 1) then Some (record x { shape = items }) else None ] ≡ Some y) shape h) in
     let ends = two_true (int_le (pos 0) i.low) (int_le i.high (pos n -ℤ pos 1)) taken.0 in
     (n, items, shape, record { is = taken.1; low = at_least (pos 0) i.low ends.0; high = at_least i.high (pos n -ℤ pos 1) ends.1 })
 
