@@ -3,8 +3,8 @@
 ghost use Rattle.std.specs.Prelude.{◌≡◌};
 ghost use Rattle.cal_ast.specs.View.{action_tree, body_tree, expr_tree, optional_expr, output_tree, pattern_tree};
 ghost use Rattle.cal_parser.specs.Bodies.{TellsOpening, TellsStart, TellsStep, after_arrow, after_opening};
-ghost use Rattle.cal_parser.specs.Rules.{in_body, out_body, part};
-ghost use Rattle.cal_parser.specs.Spells.{a_body, an_action, an_in, an_out, some_guards, some_repeat};
+ghost use Rattle.cal_grammar.specs.Rules.{in_body, out_body, part};
+ghost use Rattle.cal_grammar.specs.Spells.{a_body, an_action, an_in, an_out, some_guards, some_repeat};
 ghost use Rattle.cal_parser.specs.Tells.{Tells, each};
 
 use crate::cursor::{expect, finish, is_name, is_word, name, take_word};
@@ -112,7 +112,7 @@ fn pattern(alloc: Global, tokens: &mut &[Token], room: u32) -> Result<Pattern, F
 
 impl Read for Pattern {
     ghost use Rattle.cal_ast.specs.View.{pattern_tree};
-    ghost use Rattle.cal_parser.specs.Spells.{an_in};
+    ghost use Rattle.cal_grammar.specs.Spells.{an_in};
 
     ghost part = { an_in };
 
@@ -158,7 +158,7 @@ fn output(alloc: Global, tokens: &mut &[Token], room: u32) -> Result<Output, Fau
 
 impl Read for Output {
     ghost use Rattle.cal_ast.specs.View.{output_tree};
-    ghost use Rattle.cal_parser.specs.Spells.{an_out};
+    ghost use Rattle.cal_grammar.specs.Spells.{an_out};
 
     ghost part = { an_out };
 

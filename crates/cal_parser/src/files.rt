@@ -4,11 +4,11 @@ ghost use Rattle.std.specs.Prelude.{◌≡◌, map};
 ghost use Rattle.look_ahead.specs.Program.{ahead};
 ghost use Rattle.cal_ast.specs.Tree.{listed};
 ghost use Rattle.cal_ast.specs.View.{actor_tree, file_body_tree, file_tree, import_tree, unit_tree};
-ghost use Rattle.cal_parser.specs.Operators.{first_place};
+ghost use Rattle.cal_grammar.specs.Operators.{first_place};
 ghost use Rattle.cal_lexer.specs.Lexeme.{plain_tokens};
 ghost use Rattle.cal_parser.specs.ImportPath.{body_part, path_tree};
-ghost use Rattle.cal_parser.specs.Rules.{at_end, part, whole as a_whole_file};
-ghost use Rattle.cal_parser.specs.Spells.{a_file, a_path, a_unit, an_actor, an_import, some_imports};
+ghost use Rattle.cal_grammar.specs.Rules.{at_end, part, whole as a_whole_file};
+ghost use Rattle.cal_grammar.specs.Spells.{a_file, a_path, a_unit, an_actor, an_import, some_imports};
 ghost use Rattle.cal_parser.specs.Tells.{Tells};
 
 use crate::cursor::{expect, finish, is_word, name, take_word};
@@ -71,7 +71,7 @@ fn import(alloc: Global, tokens: &mut &[Token], room: u32) -> Result<Import, Fau
 
 impl Read for Import {
     ghost use Rattle.cal_ast.specs.View.{import_tree};
-    ghost use Rattle.cal_parser.specs.Spells.{an_import};
+    ghost use Rattle.cal_grammar.specs.Spells.{an_import};
 
     ghost part = { an_import };
 

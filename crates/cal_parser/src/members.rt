@@ -4,8 +4,8 @@ ghost use Rattle.std.specs.Prelude.{◌≡◌, true};
 ghost use Rattle.cal_ast.specs.View.{action_tree, function_tree, ident_tree, member_tree, procedure_tree, var_tree};
 ghost use Rattle.cal_parser.specs.Bodies.{TellsStep, after_label, after_type};
 ghost use Rattle.cal_parser.specs.Cursor.{stands};
-ghost use Rattle.cal_parser.specs.Rules.{named, named_member_body, part, starts_member as starts_a_member};
-ghost use Rattle.cal_parser.specs.Spells.{a_function, a_member, a_name, a_procedure, a_unit_member, dot, members as members_of, rest};
+ghost use Rattle.cal_grammar.specs.Rules.{named, named_member_body, part, starts_member as starts_a_member};
+ghost use Rattle.cal_grammar.specs.Spells.{a_function, a_member, a_name, a_procedure, a_unit_member, dot, members as members_of, rest};
 ghost use Rattle.cal_parser.specs.Tells.{Tells, each};
 
 use crate::actions::action;
@@ -218,7 +218,7 @@ fn unit_member(alloc: Global, tokens: &mut &[Token], room: u32) -> Result<Member
 /// As a member of a unit.
 impl Read for Member {
     ghost use Rattle.cal_ast.specs.View.{member_tree};
-    ghost use Rattle.cal_parser.specs.Spells.{a_unit_member};
+    ghost use Rattle.cal_grammar.specs.Spells.{a_unit_member};
 
     ghost part = { a_unit_member };
 

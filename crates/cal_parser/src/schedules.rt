@@ -1,8 +1,8 @@
 //! Schedules and priorities.
 
 ghost use Rattle.cal_ast.specs.View.{chain_tree, move_tree, priority_tree, schedule_tree};
-ghost use Rattle.cal_parser.specs.Rules.{part};
-ghost use Rattle.cal_parser.specs.Spells.{a_chain, a_move, a_priority, a_schedule};
+ghost use Rattle.cal_grammar.specs.Rules.{part};
+ghost use Rattle.cal_grammar.specs.Spells.{a_chain, a_move, a_priority, a_schedule};
 ghost use Rattle.cal_parser.specs.Tells.{Tells};
 
 use crate::cursor::{expect, finish, is_name, name};
@@ -31,7 +31,7 @@ fn transition(alloc: Global, tokens: &mut &[Token], room: u32) -> Result<Move, F
 
 impl Read for Tag {
     ghost use Rattle.cal_ast.specs.View.{tag_tree};
-    ghost use Rattle.cal_parser.specs.Spells.{a_tag};
+    ghost use Rattle.cal_grammar.specs.Spells.{a_tag};
 
     ghost part = { a_tag };
 
@@ -48,7 +48,7 @@ impl Read for Tag {
 
 impl Read for Move {
     ghost use Rattle.cal_ast.specs.View.{move_tree};
-    ghost use Rattle.cal_parser.specs.Spells.{a_move};
+    ghost use Rattle.cal_grammar.specs.Spells.{a_move};
 
     ghost part = { a_move };
 
@@ -94,7 +94,7 @@ fn chain(alloc: Global, tokens: &mut &[Token], room: u32) -> Result<Vec<Tag>, Fa
 
 impl Read for Vec<Tag> {
     ghost use Rattle.cal_ast.specs.View.{chain_tree};
-    ghost use Rattle.cal_parser.specs.Spells.{a_chain};
+    ghost use Rattle.cal_grammar.specs.Spells.{a_chain};
 
     ghost part = { a_chain };
 

@@ -3,15 +3,15 @@ use Rattle.std.proofs.Common.{◌≡◌, ℕ, suc, true, false, List, refl, ◌�
 use Rattle.look_ahead.specs.Program.{Gave, ahead}
 use Rattle.cal_ast.specs.Tree.{Tree}
 use Rattle.cal_lexer.specs.Lexeme.{Lexeme, Placed}
-use Rattle.cal_parser.specs.Token.{here, same_word}
-use Rattle.cal_parser.specs.Spells.{Part, level, a_postfix, a_primary, a_labelled, a_member}
-use Rattle.cal_parser.specs.Rules
-use Rattle.cal_parser.specs.Rules.{Rule, part, chain, places, type_tail, var_tail, whole, Step, size, rule_rank, rank, starts, on, expect, named, finish, ident_of, part_body, body}
+use Rattle.cal_grammar.specs.Token.{here, same_word}
+use Rattle.cal_grammar.specs.Spells.{Part, level, a_postfix, a_primary, a_labelled, a_member}
+use Rattle.cal_grammar.specs.Rules
+use Rattle.cal_grammar.specs.Rules.{Rule, part, chain, places, type_tail, var_tail, whole, Step, size, rule_rank, rank, starts, on, expect, named, finish, ident_of, part_body, body}
 use Rattle.look_ahead.specs.Program.{exec}
-use Rattle.cal_parser.specs.Rules.{read}
-use Rattle.cal_parser.proofs.Reading.{read_is}
-use Rattle.cal_parser.proofs.Follow
-use Rattle.cal_parser.proofs.Follow.{seen, may_follow, unseen, no_operator, lower_follows, no_bracket}
+use Rattle.cal_grammar.specs.Rules.{read}
+use Rattle.cal_grammar.proofs.Reading.{read_is}
+use Rattle.cal_grammar.proofs.Follow
+use Rattle.cal_grammar.proofs.Follow.{seen, may_follow, unseen, no_operator, lower_follows, no_bracket}
 
 -- What is claimed of the reading of a part. A left side is claimed before the operators or indices that may come.
 abbrev pub Reads : Part → ℕ → List Placed → List Placed → Tree → Type 0

@@ -1,13 +1,13 @@
 -- Statements: what their rules keep to.
 use Rattle.std.proofs.Common.{◌≡◌, ℕ, suc, ◌≤◌, List, ◌∷◌, length, arith}
 use Rattle.cal_lexer.specs.Lexeme.{Lexeme, Placed, placed}
-use Rattle.cal_parser.specs.Token.{names}
-use Rattle.cal_parser.specs.Operators.{ends}
-use Rattle.cal_parser.specs.Spells.{comma, Spells, separated, any, repeated, a_type, a_var, a_place, a_stmt, otherwise, an_expr, the_place, the_assign, the_call_stmt, the_if_stmt, the_while, the_foreach, the_block, the_block_with, the_if_end, the_else, the_elsif}
-use Rattle.cal_parser.specs.Rules.{part, size}
-use Rattle.cal_parser.proofs.Meets.{Meets, Shows, gives, fails, asks, checks, word_or, first_or, takes_kind, takes_name, invokes, enters, expects, names_next, finishes, some_left}
-use Rattle.cal_parser.specs.Rules.{named_stmt_body, if_stmt_body, while_body, foreach_body, block_body}
-use Rattle.cal_parser.proofs.Sound.{Kept}
+use Rattle.cal_grammar.specs.Token.{names}
+use Rattle.cal_grammar.specs.Operators.{ends}
+use Rattle.cal_grammar.specs.Spells.{comma, Spells, separated, any, repeated, a_type, a_var, a_place, a_stmt, otherwise, an_expr, the_place, the_assign, the_call_stmt, the_if_stmt, the_while, the_foreach, the_block, the_block_with, the_if_end, the_else, the_elsif}
+use Rattle.cal_grammar.specs.Rules.{part, size}
+use Rattle.cal_grammar.proofs.Meets.{Meets, Shows, gives, fails, asks, checks, word_or, first_or, takes_kind, takes_name, invokes, enters, expects, names_next, finishes, some_left}
+use Rattle.cal_grammar.specs.Rules.{named_stmt_body, if_stmt_body, while_body, foreach_body, block_body}
+use Rattle.cal_grammar.proofs.Sound.{Kept}
 
 pub place_kept : (m : ℕ) (a : List Placed) → Kept a_place m a
 place_kept m a =

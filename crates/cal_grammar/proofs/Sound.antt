@@ -4,13 +4,13 @@ use Rattle.std.proofs.lemmas.Bool.{eqb-true}
 use Rattle.look_ahead.specs.Program.{ahead}
 use Rattle.cal_ast.specs.Tree.{Tree}
 use Rattle.cal_lexer.specs.Lexeme.{Lexeme, Placed, placed}
-use Rattle.cal_parser.specs.Token.{here, names, counts, same_word}
-use Rattle.cal_parser.specs.Operators.{level_of, is_prefix, height}
-use Rattle.cal_parser.specs.Spells.{Mark, comma, dot, mark, Part, Spells, separated, rest, any, repeated, level, a_postfix, a_primary, a_gen, a_type, a_type_arg, a_var, some_vars, a_param, a_port, a_name, a_tag, a_place, a_stmt, an_in, an_out, a_move, a_chain, a_member, a_unit_member, an_import, an_expr, the_separated, the_last, the_more, the_none, the_some, the_end, the_again, the_binary, the_tighter, the_prefix, the_postfix, the_index, the_primary, the_number, the_true, the_false, the_variable, the_call, the_pair, the_if, the_list, the_comp, the_gen, the_type, the_type_with, the_shape_arg, the_value_arg, the_var, the_var_changing, the_var_constant, the_no_vars, the_vars, the_param, the_param_default, the_port, the_name, the_tag}
-use Rattle.cal_parser.specs.Rules.{part, chain, places, type_tail, var_tail, size, starts, part_body}
-use Rattle.cal_parser.proofs.Meets.{Meets, Keeps, Shows, gives, fails, asks, checks, jumps, word_or, name_or, first_or, takes_kind, takes_word, takes_name, takes_number, invoked, entered, invokes, enters, expects, names_next, finishes, some_left, turns}
-use Rattle.cal_parser.proofs.Costs.{costs, takes, height-group, height-group_any}
-use Rattle.cal_parser.specs.Rules.{at_level, chain_body, places_body, type_tail_body, var_tail_body}
+use Rattle.cal_grammar.specs.Token.{here, names, counts, same_word}
+use Rattle.cal_grammar.specs.Operators.{level_of, is_prefix, height}
+use Rattle.cal_grammar.specs.Spells.{Mark, comma, dot, mark, Part, Spells, separated, rest, any, repeated, level, a_postfix, a_primary, a_gen, a_type, a_type_arg, a_var, some_vars, a_param, a_port, a_name, a_tag, a_place, a_stmt, an_in, an_out, a_move, a_chain, a_member, a_unit_member, an_import, an_expr, the_separated, the_last, the_more, the_none, the_some, the_end, the_again, the_binary, the_tighter, the_prefix, the_postfix, the_index, the_primary, the_number, the_true, the_false, the_variable, the_call, the_pair, the_if, the_list, the_comp, the_gen, the_type, the_type_with, the_shape_arg, the_value_arg, the_var, the_var_changing, the_var_constant, the_no_vars, the_vars, the_param, the_param_default, the_port, the_name, the_tag}
+use Rattle.cal_grammar.specs.Rules.{part, chain, places, type_tail, var_tail, size, starts, part_body}
+use Rattle.cal_grammar.proofs.Meets.{Meets, Keeps, Shows, gives, fails, asks, checks, jumps, word_or, name_or, first_or, takes_kind, takes_word, takes_name, takes_number, invoked, entered, invokes, enters, expects, names_next, finishes, some_left, turns}
+use Rattle.cal_grammar.proofs.Costs.{costs, takes, height-group, height-group_any}
+use Rattle.cal_grammar.specs.Rules.{at_level, chain_body, places_body, type_tail_body, var_tail_body}
 
 abbrev pub Kept : Part → ℕ → List Placed → Type 0
 Kept p m a = Shows (size (part p) a) m (part_body p) a (Meets p m a)

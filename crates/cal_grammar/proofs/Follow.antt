@@ -4,13 +4,13 @@ use Rattle.std.proofs.lemmas.Bool.{eqb-true}
 use Rattle.look_ahead.specs.Program.{ahead}
 use Rattle.cal_ast.specs.Tree.{Tree}
 use Rattle.cal_lexer.specs.Lexeme.{Lexeme, Placed, placed}
-use Rattle.cal_parser.specs.Token.{here, names, same_word, kind_of}
-use Rattle.cal_parser.specs.Operators.{level_of, is_prefix, long_end, ends}
-use Rattle.cal_parser.specs.Spells.{Mark, comma, dot, greater, mark, Part, Spells, separated, rest, any, repeated, level, a_postfix, a_primary, a_gen, a_type, a_type_arg, a_var, some_vars, a_param, a_port, a_name, a_tag, a_place, a_stmt, otherwise, some_guards, some_repeat, a_body, an_in, an_out, a_labelled, a_move, a_chain, members, a_unit_member, a_path, an_import, the_separated, the_last, the_more, the_binary, the_tighter, the_prefix, the_postfix, the_index, the_primary, the_number, the_true, the_false, the_variable, the_call, the_pair, the_if, the_list, the_comp, the_type, the_type_with, the_shape_arg, the_value_arg, the_var, the_var_changing, the_var_constant, the_no_vars, the_vars, the_param, the_param_default, the_port, the_name, the_tag, the_place, the_assign, the_call_stmt, the_if_stmt, the_while, the_foreach, the_block, the_block_with, the_if_end, the_else, the_elsif, the_function, the_no_guards, the_guards, the_no_repeat, the_repeat, the_no_body, the_body, the_in, the_in_at, the_out, the_out_at, the_move, the_chain, the_unit_var, the_unit_function, the_path_name, the_path_all, the_path_on, the_import}
-use Rattle.cal_parser.specs.Rules.{starts}
+use Rattle.cal_grammar.specs.Token.{here, names, same_word, kind_of}
+use Rattle.cal_grammar.specs.Operators.{level_of, is_prefix, long_end, ends}
+use Rattle.cal_grammar.specs.Spells.{Mark, comma, dot, greater, mark, Part, Spells, separated, rest, any, repeated, level, a_postfix, a_primary, a_gen, a_type, a_type_arg, a_var, some_vars, a_param, a_port, a_name, a_tag, a_place, a_stmt, otherwise, some_guards, some_repeat, a_body, an_in, an_out, a_labelled, a_move, a_chain, members, a_unit_member, a_path, an_import, the_separated, the_last, the_more, the_binary, the_tighter, the_prefix, the_postfix, the_index, the_primary, the_number, the_true, the_false, the_variable, the_call, the_pair, the_if, the_list, the_comp, the_type, the_type_with, the_shape_arg, the_value_arg, the_var, the_var_changing, the_var_constant, the_no_vars, the_vars, the_param, the_param_default, the_port, the_name, the_tag, the_place, the_assign, the_call_stmt, the_if_stmt, the_while, the_foreach, the_block, the_block_with, the_if_end, the_else, the_elsif, the_function, the_no_guards, the_guards, the_no_repeat, the_repeat, the_no_body, the_body, the_in, the_in_at, the_out, the_out_at, the_move, the_chain, the_unit_var, the_unit_function, the_path_name, the_path_all, the_path_on, the_import}
+use Rattle.cal_grammar.specs.Rules.{starts}
 use Rattle.std.proofs.lemmas.Bool.{leb-true, le-leb}
-use Rattle.cal_parser.specs.Rules.{starts_expr, starts_stmt, starts_member, at_level}
-use Rattle.cal_parser.proofs.Words.{same_is}
+use Rattle.cal_grammar.specs.Rules.{starts_expr, starts_stmt, starts_member, at_level}
+use Rattle.cal_grammar.proofs.Words.{same_is}
 
 -- the kind of what stands at the front; the end of the text counts as the end of an actor
 abbrev pub seen : Option Placed → Lexeme

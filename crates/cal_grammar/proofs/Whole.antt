@@ -4,14 +4,14 @@ use Rattle.look_ahead.specs.Program.{Gave, Refused, TooHigh, exec}
 use Rattle.look_ahead.proofs.Refusals as refusals
 use Rattle.cal_ast.specs.Tree.{Tree}
 use Rattle.cal_lexer.specs.Lexeme.{Placed}
-use Rattle.cal_parser.specs.Operators.{height, max_height}
-use Rattle.cal_parser.specs.Spells.{spells, a_file}
-use Rattle.cal_parser.specs.Rules.{part, whole, body, size, read}
-use Rattle.cal_parser.specs.Refusals.{IsNoFile, IsHighFile}
-use Rattle.cal_parser.proofs.Meets.{Keeps, MeetsWhole, IsRead, IsFar, nothing_spent}
-use Rattle.cal_parser.proofs.Reading.{gets, read_is, read_keeps}
-use Rattle.cal_parser.proofs.Claims.{closes}
-use Rattle.cal_parser.proofs.Complete.{complete}
+use Rattle.cal_grammar.specs.Operators.{height, max_height}
+use Rattle.cal_grammar.specs.Spells.{spells, a_file}
+use Rattle.cal_grammar.specs.Rules.{part, whole, body, size, read}
+use Rattle.cal_grammar.specs.Refusals.{IsNoFile, IsHighFile}
+use Rattle.cal_grammar.proofs.Meets.{Keeps, MeetsWhole, IsRead, IsFar, nothing_spent}
+use Rattle.cal_grammar.proofs.Reading.{gets, read_is, read_keeps}
+use Rattle.cal_grammar.proofs.Claims.{closes}
+use Rattle.cal_grammar.proofs.Complete.{complete}
 
 -- whatever is spelled is read
 pub whole_read : (m : ℕ) (ts : List Placed) (x : Tree) → spells ts x → height x ≤ m → read m whole ts ≡ Gave x []

@@ -3,14 +3,14 @@ use Rattle.std.proofs.Common.{◌≡◌, ℕ, suc, ◌+◌, ◌*◌, ◌<◌, �
 use Rattle.look_ahead.specs.Program.{give, invoke, ahead}
 use Rattle.cal_ast.specs.Tree.{Tree, absent, nil, cons, ident, tag, action}
 use Rattle.cal_lexer.specs.Lexeme.{Lexeme, Placed, placed}
-use Rattle.cal_parser.specs.Operators.{ends, onto, height}
-use Rattle.cal_parser.specs.Spells.{comma, dot, greater, Spells, separated, rest, any, repeated, a_type, a_var, some_vars, a_param, a_port, a_name, a_tag, a_stmt, a_function, a_procedure, some_guards, some_repeat, a_body, an_in, an_out, an_action, a_move, a_schedule, a_chain, a_priority, a_member, members, a_unit_member, a_path, an_import, an_actor, a_unit, some_imports, a_file, an_expr, the_separated, the_name, the_tag, the_function, the_procedure, the_no_guards, the_guards, the_no_repeat, the_repeat, the_no_body, the_body, the_in, the_in_at, the_out, the_out_at, the_action, the_initialize, the_unlabelled, the_labelled, the_move, the_schedule, the_chain, the_priority, the_var_member, the_function_member, the_procedure_member, the_action_member, the_priority_member, the_no_members, the_member, the_schedule_member, the_unit_var, the_unit_function, the_path_name, the_path_all, the_path_on, the_import, the_actor, the_unit, the_actor_file, the_unit_file, the_file, the_package_file}
-use Rattle.cal_parser.specs.Rules.{part, var_tail, whole, size, expect}
-use Rattle.cal_parser.proofs.Meets.{IsRead, Meets, Keeps, Shows, gives, fails, asks, checks, jumps, word_or, name_or, invoked, invokes, expects, finishes, some_left, turns}
-use Rattle.cal_parser.proofs.Costs.{costs}
-use Rattle.cal_parser.specs.Rules.{action_rest, goes_on_type, named_member_body, more_members, at_end, whole_body}
-use Rattle.cal_parser.proofs.Sound.{Kept}
-use Rattle.cal_parser.proofs.Costs.{height-with_tag, height-onto, height-import_at, height-with_package}
+use Rattle.cal_grammar.specs.Operators.{ends, onto, height}
+use Rattle.cal_grammar.specs.Spells.{comma, dot, greater, Spells, separated, rest, any, repeated, a_type, a_var, some_vars, a_param, a_port, a_name, a_tag, a_stmt, a_function, a_procedure, some_guards, some_repeat, a_body, an_in, an_out, an_action, a_move, a_schedule, a_chain, a_priority, a_member, members, a_unit_member, a_path, an_import, an_actor, a_unit, some_imports, a_file, an_expr, the_separated, the_name, the_tag, the_function, the_procedure, the_no_guards, the_guards, the_no_repeat, the_repeat, the_no_body, the_body, the_in, the_in_at, the_out, the_out_at, the_action, the_initialize, the_unlabelled, the_labelled, the_move, the_schedule, the_chain, the_priority, the_var_member, the_function_member, the_procedure_member, the_action_member, the_priority_member, the_no_members, the_member, the_schedule_member, the_unit_var, the_unit_function, the_path_name, the_path_all, the_path_on, the_import, the_actor, the_unit, the_actor_file, the_unit_file, the_file, the_package_file}
+use Rattle.cal_grammar.specs.Rules.{part, var_tail, whole, size, expect}
+use Rattle.cal_grammar.proofs.Meets.{IsRead, Meets, Keeps, Shows, gives, fails, asks, checks, jumps, word_or, name_or, invoked, invokes, expects, finishes, some_left, turns}
+use Rattle.cal_grammar.proofs.Costs.{costs}
+use Rattle.cal_grammar.specs.Rules.{action_rest, goes_on_type, named_member_body, more_members, at_end, whole_body}
+use Rattle.cal_grammar.proofs.Sound.{Kept}
+use Rattle.cal_grammar.proofs.Costs.{height-with_tag, height-onto, height-import_at, height-with_package}
 
 pub function_kept : (m : ℕ) (a : List Placed) → Kept a_function m a
 function_kept m a =

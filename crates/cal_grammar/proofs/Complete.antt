@@ -3,20 +3,20 @@ use Rattle.std.proofs.Common.{◌≡◌, ℕ, suc, ◌-◌, ◌≤◌, Bool, tru
 use Rattle.look_ahead.specs.Program.{Outcome, give, fail, ask, take, check, invoke, enter, Gave, Refused, TooHigh, Spent, ahead}
 use Rattle.cal_ast.specs.Tree.{Tree, absent, present, nil, cons, ident, actor, unit, param, function, procedure, action, schedule, priority, while_stmt, foreach_stmt, block, if_expr, list, comp, index, binary}
 use Rattle.cal_lexer.specs.Lexeme.{Lexeme, Placed, placed}
-use Rattle.cal_parser.specs.Token.{here, same_word}
+use Rattle.cal_grammar.specs.Token.{here, same_word}
 use Rattle.cal_ast.specs.Places.{begins}
-use Rattle.cal_parser.specs.Operators.{level_of, binary_of, is_prefix, ends, group, onto, height}
-use Rattle.cal_parser.specs.Spells.{Mark, comma, dot, mark, Part, Spells, separated, rest, any, repeated, level, a_postfix, a_primary, a_gen, a_type, a_type_arg, a_var, some_vars, a_param, a_port, a_name, a_tag, a_place, a_stmt, otherwise, a_function, a_procedure, some_guards, some_repeat, a_body, an_in, an_out, an_action, a_move, a_schedule, a_chain, a_priority, a_member, members, a_unit_member, a_path, an_import, an_actor, a_unit, some_imports, a_file, an_expr, the_separated, the_last, the_more, the_none, the_some, the_end, the_again, the_binary, the_tighter, the_prefix, the_postfix, the_index, the_primary, the_number, the_true, the_false, the_variable, the_call, the_pair, the_if, the_list, the_comp, the_gen, the_type, the_type_with, the_shape_arg, the_value_arg, the_var, the_var_changing, the_var_constant, the_no_vars, the_vars, the_param, the_param_default, the_port, the_name, the_tag, the_place, the_assign, the_call_stmt, the_if_stmt, the_while, the_foreach, the_block, the_block_with, the_if_end, the_else, the_elsif, the_function, the_procedure, the_no_guards, the_guards, the_no_repeat, the_repeat, the_no_body, the_body, the_in, the_in_at, the_out, the_out_at, the_action, the_initialize, the_unlabelled, the_labelled, the_move, the_schedule, the_chain, the_priority, the_var_member, the_function_member, the_procedure_member, the_action_member, the_priority_member, the_no_members, the_member, the_schedule_member, the_unit_var, the_unit_function, the_path_name, the_path_all, the_path_on, the_import, the_actor, the_unit, the_actor_file, the_unit_file, the_file, the_package_file}
-use Rattle.cal_parser.specs.Rules.{part, chain, places, type_tail, var_tail, starts, on, expect, finish}
-use Rattle.cal_parser.proofs.Costs.{height-group_any, height-inside, height-with_tag, height-onto, height-import_at, height-with_package}
+use Rattle.cal_grammar.specs.Operators.{level_of, binary_of, is_prefix, ends, group, onto, height}
+use Rattle.cal_grammar.specs.Spells.{Mark, comma, dot, mark, Part, Spells, separated, rest, any, repeated, level, a_postfix, a_primary, a_gen, a_type, a_type_arg, a_var, some_vars, a_param, a_port, a_name, a_tag, a_place, a_stmt, otherwise, a_function, a_procedure, some_guards, some_repeat, a_body, an_in, an_out, an_action, a_move, a_schedule, a_chain, a_priority, a_member, members, a_unit_member, a_path, an_import, an_actor, a_unit, some_imports, a_file, an_expr, the_separated, the_last, the_more, the_none, the_some, the_end, the_again, the_binary, the_tighter, the_prefix, the_postfix, the_index, the_primary, the_number, the_true, the_false, the_variable, the_call, the_pair, the_if, the_list, the_comp, the_gen, the_type, the_type_with, the_shape_arg, the_value_arg, the_var, the_var_changing, the_var_constant, the_no_vars, the_vars, the_param, the_param_default, the_port, the_name, the_tag, the_place, the_assign, the_call_stmt, the_if_stmt, the_while, the_foreach, the_block, the_block_with, the_if_end, the_else, the_elsif, the_function, the_procedure, the_no_guards, the_guards, the_no_repeat, the_repeat, the_no_body, the_body, the_in, the_in_at, the_out, the_out_at, the_action, the_initialize, the_unlabelled, the_labelled, the_move, the_schedule, the_chain, the_priority, the_var_member, the_function_member, the_procedure_member, the_action_member, the_priority_member, the_no_members, the_member, the_schedule_member, the_unit_var, the_unit_function, the_path_name, the_path_all, the_path_on, the_import, the_actor, the_unit, the_actor_file, the_unit_file, the_file, the_package_file}
+use Rattle.cal_grammar.specs.Rules.{part, chain, places, type_tail, var_tail, starts, on, expect, finish}
+use Rattle.cal_grammar.proofs.Costs.{height-group_any, height-inside, height-with_tag, height-onto, height-import_at, height-with_package}
 use Rattle.std.proofs.Common.{nat_le}
 use Rattle.std.proofs.lemmas.Bool.{le-leb, eq-eqb}
 use Rattle.look_ahead.specs.Program.{exec, after}
-use Rattle.cal_parser.specs.Rules.{read, at_level, goes_on_tag, goes_on_type, starts_member, starts_stmt}
-use Rattle.cal_parser.proofs.Follow
-use Rattle.cal_parser.proofs.Reading.{read_is}
-use Rattle.cal_parser.proofs.Follow.{seen, may_follow, left, right, untrue, unseen, closed_follows, end_has, operator_follows, no_paren, no_equal, begins_with, postfix_begins, rest_has, vars_has, guards_has, repeat_has, body_has, otherwise_has, same_mark, path_begins, var_begins, name_is_member}
-use Rattle.cal_parser.proofs.Claims.{Claim, closes}
+use Rattle.cal_grammar.specs.Rules.{read, at_level, goes_on_tag, goes_on_type, starts_member, starts_stmt}
+use Rattle.cal_grammar.proofs.Follow
+use Rattle.cal_grammar.proofs.Reading.{read_is}
+use Rattle.cal_grammar.proofs.Follow.{seen, may_follow, left, right, untrue, unseen, closed_follows, end_has, operator_follows, no_paren, no_equal, begins_with, postfix_begins, rest_has, vars_has, guards_has, repeat_has, body_has, otherwise_has, same_mark, path_begins, var_begins, name_is_member}
+use Rattle.cal_grammar.proofs.Claims.{Claim, closes}
 
 -- a height of at least 1 fits
 fits : (h m : ℕ) → h ≤ m → nat_le h m ≡ true

@@ -4,9 +4,9 @@ use Rattle.look_ahead.specs.Program.{Outcome, Gave, Refused, TooHigh, Spent, rea
 use Rattle.cal_ast.specs.Tree.{Tree, absent, present, nil, cons, number, variable, paren, binary, if_stmt}
 use Rattle.cal_ast.specs.declared.expr.BinOp.TheVariants as binaries
 use Rattle.cal_lexer.specs.Lexeme.{Lexeme, Placed, placed}
-use Rattle.cal_parser.specs.Operators.{max_height}
-use Rattle.cal_parser.specs.Spells.{an_expr, a_stmt}
-use Rattle.cal_parser.specs.Rules.{part, whole, read}
+use Rattle.cal_grammar.specs.Operators.{max_height}
+use Rattle.cal_grammar.specs.Spells.{an_expr, a_stmt}
+use Rattle.cal_grammar.specs.Rules.{part, whole, read}
 
 -- `unit U : int X = ; end` is refused at 17
 no_value : read max_height whole (placed Lexeme.Unit 0 ∷ placed (Lexeme.Name (codes "U")) 5 ∷ placed Lexeme.Colon 7 ∷ placed (Lexeme.Name (codes "int")) 9 ∷ placed (Lexeme.Name (codes "X")) 13 ∷ placed Lexeme.Equal 15 ∷ placed Lexeme.Semicolon 17 ∷ placed Lexeme.End 19 ∷ []) ≡ Refused (placed Lexeme.Semicolon 17 ∷ placed Lexeme.End 19 ∷ [])

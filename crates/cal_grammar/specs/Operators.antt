@@ -7,7 +7,7 @@ use Rattle.cal_ast.specs.declared.expr.BinOp.{BinOp}
 use Rattle.cal_ast.specs.declared.expr.BinOp.TheVariants as binaries
 use Rattle.cal_ast.specs.Tree.{Tree, absent, present, nil, cons, ident, tag, import_part, file, actor, unit, param, port, var, function, procedure, action, pattern, output, schedule, move, priority, type_of, shape_arg, value_arg, assign, call_stmt, if_stmt, while_stmt, foreach_stmt, block, number, truth, variable, call, paren, if_expr, list, comp, gen, index, prefix, binary}
 use Rattle.cal_lexer.specs.Lexeme.{Lexeme}
-use Rattle.cal_parser.specs.Token.{same_word}
+use Rattle.cal_grammar.specs.Token.{same_word}
 
 -- the level of a binary operator, from 1 for the tightest to 10 for the loosest; 0 for what is none
 abbrev pub level_of : Lexeme → ℕ

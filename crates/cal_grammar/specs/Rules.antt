@@ -3,10 +3,10 @@ use Rattle.std.specs.Prelude.{ℕ, zero, suc, ◌+◌, ◌*◌, Bool, true, fals
 use Rattle.look_ahead.specs.Program.{Program, Outcome, give, fail, ask, take, check, jump, invoke, enter, read as read_rules}
 use Rattle.cal_ast.specs.Tree.{Tree, absent, present, nil, cons, ident, tag, import_part, file, actor, unit, param, port, var, function, procedure, action, pattern, output, schedule, move, priority, type_of, shape_arg, value_arg, assign, call_stmt, if_stmt, while_stmt, foreach_stmt, block, number, truth, variable, call, if_expr, list, comp, gen, index, prefix, binary}
 use Rattle.cal_lexer.specs.Lexeme.{Lexeme, Placed}
-use Rattle.cal_parser.specs.Token.{here, names, counts, same_word, kind_of, offset, text_of, value_of}
+use Rattle.cal_grammar.specs.Token.{here, names, counts, same_word, kind_of, offset, text_of, value_of}
 use Rattle.cal_ast.specs.Places.{begins}
-use Rattle.cal_parser.specs.Operators.{level_of, binary_of, is_prefix, prefix_of, ends, group, with_tag, onto, import_at, with_package, first_place, height}
-use Rattle.cal_parser.specs.Spells.{Part, separated, rest, any, repeated, level, a_postfix, a_primary, a_gen, a_type, a_type_arg, a_var, some_vars, a_param, a_port, a_name, a_tag, a_place, a_stmt, otherwise, a_function, a_procedure, some_guards, some_repeat, a_body, an_in, an_out, an_action, a_labelled, a_move, a_schedule, a_chain, a_priority, a_member, members, a_unit_member, a_path, an_import, an_actor, a_unit, some_imports, a_file, an_expr, comma, dot, greater, mark}
+use Rattle.cal_grammar.specs.Operators.{level_of, binary_of, is_prefix, prefix_of, ends, group, with_tag, onto, import_at, with_package, first_place, height}
+use Rattle.cal_grammar.specs.Spells.{Part, separated, rest, any, repeated, level, a_postfix, a_primary, a_gen, a_type, a_type_arg, a_var, some_vars, a_param, a_port, a_name, a_tag, a_place, a_stmt, otherwise, a_function, a_procedure, some_guards, some_repeat, a_body, an_in, an_out, an_action, a_labelled, a_move, a_schedule, a_chain, a_priority, a_member, members, a_unit_member, a_path, an_import, an_actor, a_unit, some_imports, a_file, an_expr, comma, dot, greater, mark}
 
 pub data Rule : Type 0 where
   part : Part → Rule

@@ -6,11 +6,9 @@ use Rattle.rvc_base.specs.declared.refusal.Front.{Front as Answer}
 use Rattle.rvc_base.specs.declared.refusal.Front.TheVariants.{Refused, Memory}
 use Rattle.look_ahead.specs.Reading.{IsRefused, IsTooHigh}
 use Rattle.cal_lexer.specs.Lexeme.{Placed}
-use Rattle.cal_parser.specs.declared.fault.Fault.{Fault}
-use Rattle.cal_parser.specs.declared.fault.Fault.TheVariants as faults
-use Rattle.cal_parser.specs.Operators.{height, max_height}
-use Rattle.cal_parser.specs.Spells.{spells}
-use Rattle.cal_parser.specs.Token.{offset}
+use Rattle.cal_grammar.specs.Operators.{height, max_height}
+use Rattle.cal_grammar.specs.Spells.{spells}
+use Rattle.cal_grammar.specs.Token.{offset}
 
 -- what is left stands where no file's tokens go on
 abbrev pub IsNoFile : List Placed → List Placed → Type 0
@@ -34,9 +32,3 @@ pub data Breaks (end : ℕ) (ts : List Placed) : Rule → ℕ → Type 0 where
 abbrev pub IsRightly : ℕ → ℕ → List Placed → Answer → Type 0
 IsRightly number end ts (Refused refusal) = (refusal.place.file ≡ number) × Breaks end ts refusal.rule refusal.place.offset
 IsRightly number end ts Memory = Unit {0}
-
--- the answer where a file isn't read, for this reason at this offset
-abbrev pub answer_of : Fault → ℕ → ℕ → Answer
-answer_of faults.Refused number at = Refused (record { rule = spells_no_file; place = record { file = number; offset = at } })
-answer_of faults.TooHigh number at = Refused (record { rule = too_high; place = record { file = number; offset = at } })
-answer_of faults.Memory number at = Memory

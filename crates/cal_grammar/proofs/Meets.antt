@@ -4,12 +4,12 @@ use Rattle.look_ahead.specs.Program.{Outcome, give, fail, ask, take, check, jump
 use Rattle.look_ahead.proofs.Gets.{Gets}
 use Rattle.cal_ast.specs.Tree.{Tree}
 use Rattle.cal_lexer.specs.Lexeme.{Lexeme, Placed, placed}
-use Rattle.cal_parser.specs.Token.{here, names, counts, same_word}
-use Rattle.cal_parser.specs.Operators.{height, ends}
-use Rattle.cal_parser.specs.Spells.{Part, Spells, a_postfix, a_type, a_var, a_file, level}
-use Rattle.cal_parser.specs.Rules.{Rule, part, chain, places, type_tail, var_tail, whole, Step, size, rank, expect, named, finish}
-use Rattle.cal_parser.proofs.Words.{same_is}
-use Rattle.cal_parser.proofs.Costs.{costs, takes}
+use Rattle.cal_grammar.specs.Token.{here, names, counts, same_word}
+use Rattle.cal_grammar.specs.Operators.{height, ends}
+use Rattle.cal_grammar.specs.Spells.{Part, Spells, a_postfix, a_type, a_var, a_file, level}
+use Rattle.cal_grammar.specs.Rules.{Rule, part, chain, places, type_tail, var_tail, whole, Step, size, rank, expect, named, finish}
+use Rattle.cal_grammar.proofs.Words.{same_is}
+use Rattle.cal_grammar.proofs.Costs.{costs, takes}
 
 -- the tokens up to those that are left spell the tree, which fits the room
 pub record IsRead (p : Part) (m : ℕ) (ts left : List Placed) (x : Tree) : Type 0 where

@@ -6,7 +6,7 @@ use Rattle.std.specs.Prelude.{◌≡◌, ℕ, suc, Bool, true, false, List, [], 
 use Rattle.cal_ast.specs.Tree.{Tree, absent, present, nil, cons, ident, tag, import_part, file, actor, unit, param, port, var, function, procedure, action, pattern, output, schedule, move, priority, type_of, shape_arg, value_arg, assign, call_stmt, if_stmt, while_stmt, foreach_stmt, block, number, truth, variable, call, if_expr, list, comp, gen, index, prefix, binary}
 use Rattle.cal_lexer.specs.Lexeme.{Lexeme, Placed, placed}
 use Rattle.cal_ast.specs.Places.{begins}
-use Rattle.cal_parser.specs.Operators.{level_of, loosest, binary_of, is_prefix, prefix_of, ends, group, with_tag, onto, import_at, with_package, first_place}
+use Rattle.cal_grammar.specs.Operators.{level_of, loosest, binary_of, is_prefix, prefix_of, ends, group, with_tag, onto, import_at, with_package, first_place}
 
 -- what stands between parts
 pub data Mark : Type 0 where
