@@ -19,7 +19,7 @@ use cal_lexer::{Token, Word};
 use std::alloc::Global;
 
 /// The guards of an action.
-#[tactic(auto, using(crate::proofs::Reading::read_is))]
+#[tactic(auto, using(cal_grammar::proofs::Reading::read_is))]
 fn guards(alloc: Global, tokens: &mut &[Token], room: u32) -> Result<Vec<Expr>, Fault>
     ensures { Tells (each expr_tree) room (part some_guards) result tokens.old.now tokens.new.now }
 {
@@ -31,7 +31,7 @@ fn guards(alloc: Global, tokens: &mut &[Token], room: u32) -> Result<Vec<Expr>, 
 }
 
 /// How many tokens each name or value of a port stands for, where `repeat` says so.
-#[tactic(auto, using(crate::proofs::Reading::read_is))]
+#[tactic(auto, using(cal_grammar::proofs::Reading::read_is))]
 fn repeat(alloc: Global, tokens: &mut &[Token], room: u32) -> Result<Option<Expr>, Fault>
     ensures { Tells optional_expr room (part some_repeat) result tokens.old.now tokens.new.now }
 {
@@ -43,7 +43,7 @@ fn repeat(alloc: Global, tokens: &mut &[Token], room: u32) -> Result<Option<Expr
 }
 
 /// The statements of an action, behind its `do`.
-#[tactic(auto, using(crate::proofs::Reading::read_is))]
+#[tactic(auto, using(cal_grammar::proofs::Reading::read_is))]
 fn action_body(alloc: Global, tokens: &mut &[Token], room: u32) -> Result<Option<Vec<Stmt>>, Fault>
     ensures { Tells body_tree room (part a_body) result tokens.old.now tokens.new.now }
 {
@@ -82,7 +82,7 @@ fn read_opening(alloc: Global, tokens: &mut &[Token]) -> Result<Opening, Fault>
 }
 
 /// A pattern from its `[` on.
-#[tactic(auto, using(crate::proofs::Reading::read_is))]
+#[tactic(auto, using(cal_grammar::proofs::Reading::read_is))]
 fn pattern_from(
     alloc: Global,
     tokens: &mut &[Token],
@@ -128,7 +128,7 @@ impl Read for Pattern {
 }
 
 /// An output from its `[` on.
-#[tactic(auto, using(crate::proofs::Reading::read_is))]
+#[tactic(auto, using(cal_grammar::proofs::Reading::read_is))]
 fn output_from(
     alloc: Global,
     tokens: &mut &[Token],
@@ -184,7 +184,7 @@ pub struct Start {
 }
 
 /// An action, or an `initialize`, up to its `==>`.
-#[tactic(auto, using(crate::proofs::Reading::read_is))]
+#[tactic(auto, using(cal_grammar::proofs::Reading::read_is))]
 fn read_start(alloc: Global, tokens: &mut &[Token], room: u32) -> Result<Start, Fault>
     ensures { TellsStart room result tokens.old.now tokens.new.now }
 {
@@ -225,7 +225,7 @@ impl Start {
 }
 
 /// An action from its `==>` on.
-#[tactic(auto, using(crate::proofs::Reading::read_is))]
+#[tactic(auto, using(cal_grammar::proofs::Reading::read_is))]
 fn after_start(
     alloc: Global,
     tokens: &mut &[Token],

@@ -14,7 +14,7 @@ use cal_lexer::{Token, Word};
 use std::alloc::Global;
 
 /// A transition of a schedule.
-#[tactic(auto, using(crate::proofs::Reading::read_is))]
+#[tactic(auto, using(cal_grammar::proofs::Reading::read_is))]
 fn transition(alloc: Global, tokens: &mut &[Token], room: u32) -> Result<Move, Fault>
     ensures { Tells move_tree room (part a_move) result tokens.old.now tokens.new.now }
 {
@@ -64,7 +64,7 @@ impl Read for Move {
 }
 
 /// The schedule of an actor.
-#[tactic(auto, using(crate::proofs::Reading::read_is))]
+#[tactic(auto, using(cal_grammar::proofs::Reading::read_is))]
 pub fn schedule(alloc: Global, tokens: &mut &[Token], room: u32) -> Result<Schedule, Fault>
     ensures { Tells schedule_tree room (part a_schedule) result tokens.old.now tokens.new.now }
 {
@@ -80,7 +80,7 @@ pub fn schedule(alloc: Global, tokens: &mut &[Token], room: u32) -> Result<Sched
 }
 
 /// A chain of a priority: tags with `>` between them, two or more.
-#[tactic(auto, using(crate::proofs::Reading::read_is))]
+#[tactic(auto, using(cal_grammar::proofs::Reading::read_is))]
 fn chain(alloc: Global, tokens: &mut &[Token], room: u32) -> Result<Vec<Tag>, Fault>
     ensures { Tells chain_tree room (part a_chain) result tokens.old.now tokens.new.now }
 {
@@ -110,7 +110,7 @@ impl Read for Vec<Tag> {
 }
 
 /// A priority of actions.
-#[tactic(auto, using(crate::proofs::Reading::read_is))]
+#[tactic(auto, using(cal_grammar::proofs::Reading::read_is))]
 pub fn priority(alloc: Global, tokens: &mut &[Token], room: u32) -> Result<Priority, Fault>
     ensures { Tells priority_tree room (part a_priority) result tokens.old.now tokens.new.now }
 {
