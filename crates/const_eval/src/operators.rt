@@ -202,11 +202,11 @@ fn item(values: Values, place: &Value) -> Result<Value, Stop>
 fn item_at(mut items: Vec<Value>, number: Num) -> Result<Value, Stop>
     ensures { (left : ℕ) → Evaluates value_view result left (item_at (in_order (map value_view items.items)) number left) }
 {
-    let Ok(place) = usize::try_from(number) else {
-        return Err(Stop::Trap(Trap::IndexRange));
-    };
-    if place >= items.len() {
+    if number < 0 {
         return Err(Stop::Trap(Trap::IndexRange));
     }
-    Ok(items.swap_remove(place))
+    if number >= items.len() as Num {
+        return Err(Stop::Trap(Trap::IndexRange));
+    }
+    Ok(items.swap_remove(number as usize))
 }
