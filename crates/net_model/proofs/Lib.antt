@@ -8,3 +8,5 @@ mod Ending
 pub mod Commuting
 pub mod Arriving
 mod Bare
+pub mod Bursts
+pub mod TableActor
