@@ -1,6 +1,6 @@
 -- Numbers within intervals: what arithmetic at the ends says of what lies between.
-use Rattle.std.proofs.Common.{◌≡◌, ℕ, zero, suc, ◌+◌, ◌*◌, ◌/◌, ◌≤◌, ◌<◌, ◌^◌, Bool, true, false, ℤ, pos, negsuc, ◌+ℤ◌, ◌-ℤ◌, ◌*ℤ◌, ◌≤ℤ◌, ◌<ℤ◌, refl, sym, ap, ◌∙◌, subst, arith}
-use Rattle.std.specs.Prelude.{neg_ℤ, unsigned_abs, int_div, int_rem, nat_lt, ◌&&◌, if◌then◌else◌, Option, None, Some}
+use Rattle.std.proofs.Common.{◌≡◌, ℕ, suc, ◌*◌, ◌/◌, ◌≤◌, ◌<◌, ◌^◌, Bool, true, false, ℤ, pos, negsuc, ◌+ℤ◌, ◌-ℤ◌, ◌*ℤ◌, ◌≤ℤ◌, refl, sym, ap, ◌∙◌, subst, arith}
+use Rattle.std.specs.Prelude.{neg_ℤ, unsigned_abs, int_div, int_rem, nat_lt, ◌&&◌, if◌then◌else◌, None, Some}
 use Rattle.std.specs.Int.{int_min, int_max, int_shr}
 use Rattle.std.proofs.lemmas.Int.{ints, rem_below, int_min_is, int_max_is}
 use Rattle.std.proofs.lemmas.Bool.{ltb-true, lt-ltb}

@@ -6,3 +6,4 @@ mod Theorems
 mod Intervals
 mod Ranges
 mod RangeLaw
+mod Seen

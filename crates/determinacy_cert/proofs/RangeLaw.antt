@@ -1,6 +1,6 @@
 -- An expression that has a range never traps where its names have values of their types, and gives a number within it.
-use Rattle.std.proofs.Common.{◌≡◌, ℕ, zero, suc, ◌+◌, ◌-◌, ◌≤◌, ◌<◌, ◌^◌, Bool, true, false, ℤ, pos, negsuc, ◌+ℤ◌, ◌-ℤ◌, ◌*ℤ◌, ◌≤ℤ◌, ◌<ℤ◌, List, [], ◌∷◌, refl, sym, ap, ◌∙◌, subst, arith, ⊎_elim}
-use Rattle.std.specs.Prelude.{Option, None, Some, if◌then◌else◌, ◌&&◌, int_le, neg_ℤ, int_div, int_rem, unsigned_abs, nat_le, ◌==◌}
+use Rattle.std.proofs.Common.{◌≡◌, ℕ, zero, suc, ◌-◌, ◌<◌, ◌^◌, Bool, true, false, ℤ, pos, negsuc, ◌+ℤ◌, ◌-ℤ◌, ◌*ℤ◌, ◌≤ℤ◌, ◌<ℤ◌, List, refl, sym, subst, arith}
+use Rattle.std.specs.Prelude.{Option, None, Some, if◌then◌else◌, int_le, neg_ℤ, int_div, int_rem, unsigned_abs, nat_le, ◌==◌}
 use Rattle.std.specs.Int.{int_shr}
 use Rattle.std.proofs.lemmas.Int.{ints}
 use Rattle.rvc_base.specs.declared.scalar.Scalar.{Scalar}
@@ -21,8 +21,8 @@ use Rattle.cal_model.specs.Outcome.{Out, Gives, Traps, Lacks, Clashes, and_then,
 use Rattle.cal_model.specs.Env.{Env, look_up, item_at}
 use Rattle.cal_model.specs.Expression.{Calls, computed, prefixed, of_numbers, of_truths, applied, with_right, chosen, eval}
 use Rattle.cal_model.specs.Expression as expression
-use Rattle.cal_model.specs.Certified.{Interval, between, just, hull, truths, fitting, lies_within, type_range, scalars_range, all_scalars_range, Ranged, ranged, range_of_prefix, range_of_both, range_of_name, item_ranged, on_interval, on_ranged, range, indexed}
-use Rattle.determinacy_cert.proofs.Intervals.{Lies, in_left, in_right, fits}
+use Rattle.cal_model.specs.Certified.{Interval, between, just, hull, truths, fitting, lies_within, type_range, scalars_range, Ranged, ranged, range_of_both, range_of_name, item_ranged, on_interval, on_ranged, range, indexed}
+use Rattle.determinacy_cert.proofs.Intervals.{Lies, in_left, in_right}
 use Rattle.determinacy_cert.proofs.Ranges.{HasNumber, In, Safe, safe_then, fitting_safe, lies_as, at_least, two_true, prefixed_safe, applied_safe, truth_in, just_lies}
 
 -- ---- what a name holds

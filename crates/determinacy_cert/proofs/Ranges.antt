@@ -1,31 +1,25 @@
 -- What has a range never traps, and gives a number within it.
-use Rattle.std.proofs.Common.{◌≡◌, ℕ, zero, suc, ◌+◌, ◌-◌, ◌≤◌, ◌<◌, ◌^◌, Bool, true, false, ℤ, pos, negsuc, ◌+ℤ◌, ◌-ℤ◌, ◌*ℤ◌, ◌≤ℤ◌, ◌<ℤ◌, List, [], ◌∷◌, refl, sym, ap, ◌∙◌, subst, arith}
-use Rattle.std.specs.Prelude.{Option, None, Some, if◌then◌else◌, ◌&&◌, ◌==◌, not, nat_le, nat_lt, neg_ℤ, int_lt, int_le, int_div, int_rem, unsigned_abs}
+use Rattle.std.proofs.Common.{◌≡◌, ℕ, zero, suc, ◌-◌, ◌<◌, Bool, true, false, ℤ, pos, negsuc, ◌+ℤ◌, ◌-ℤ◌, ◌*ℤ◌, ◌≤ℤ◌, ◌<ℤ◌, refl, sym, subst, arith}
+use Rattle.std.specs.Prelude.{Option, None, Some, if◌then◌else◌, ◌&&◌, ◌==◌, not, nat_le, neg_ℤ, int_lt, int_le, int_div, int_rem}
 use Rattle.std.specs.Int.{int_shr}
 use Rattle.std.proofs.lemmas.Int.{ints}
 use Rattle.std.proofs.lemmas.Bool.{le-leb, ne_eqb}
 use Rattle.std.proofs.lemmas.Float.{T_from_true}
 use Rattle.std.specs.Int.Signed.{lt_z_yes, le_z_yes}
 use Rattle.cal_model.proofs.Numbers.{and-is-num, or-is-num, xor-is-num, not-is-num}
-use Rattle.rvc_base.specs.declared.scalar.Scalar.{Scalar}
-use Rattle.rvc_base.specs.declared.scalar.Scalar.TheVariants as scalar
-use Rattle.rvc_base.specs.Width.{is_num, max_shift, IsNum, least_num, greatest_num, num_bound}
+use Rattle.rvc_base.specs.Width.{is_num, max_shift, IsNum, num_bound}
 use Rattle.rvc_base.specs.Arithmetic.{Computed, whole, add, sub, mul, neg, div, rem, by_count, shr, bit_and, bit_or, bit_xor, bit_not, truth}
 use Rattle.rvc_base.specs.Arithmetic as arithmetic
-use Rattle.rvc_base.specs.declared.trap.Trap.TheVariants.{Overflow, DivideByZero, ShiftRange, IndexRange}
+use Rattle.rvc_base.specs.declared.trap.Trap.TheVariants.{Overflow, DivideByZero}
 use Rattle.cal_ast.specs.declared.expr.PrefixOp.{PrefixOp}
 use Rattle.cal_ast.specs.declared.expr.PrefixOp.TheVariants.{Not, Neg, BitNot}
 use Rattle.cal_ast.specs.declared.expr.BinOp.{BinOp}
 use Rattle.cal_ast.specs.declared.expr.BinOp.TheVariants.{Or, And, BitOr, BitXor, BitAnd, Eq, Ne, Lt, Le, Gt, Ge, Shl, Shr, Add, Sub, Mul, Div, Mod}
-use Rattle.cal_ast.specs.Tree as tree
-use Rattle.cal_ast.specs.Tree.{Tree}
-use Rattle.cal_model.specs.Value.{Shape, Single, Many, Value, Num, Truth, Items, Values, Nil, Cons, count, value_at, IsOf, AreOf}
-use Rattle.cal_model.specs.Outcome.{Out, Gives, Traps, Lacks, Clashes, and_then, known}
-use Rattle.cal_model.specs.Env.{Env, look_up, item_at}
-use Rattle.cal_model.specs.Expression.{Calls, computed, prefixed, of_numbers, of_truths, applied, with_right, chosen, eval}
-use Rattle.cal_model.specs.Expression as expression
-use Rattle.cal_model.specs.Certified.{Interval, between, just, hull, truths, all_numbers, fitting, lies_within, at_ends, type_range, scalars_range, all_scalars_range, Ranged, ranged, range_of_prefix, range_of_both, range_of_name, item_ranged, on_interval, on_ranged, range, indexed, IsBare}
-use Rattle.determinacy_cert.proofs.Intervals.{Lies, in_left, in_right, product_lies, sum_lies, difference_lies, negative_lies, towards_zero, quotient_low, quotient_high, shift_low, shift_high, remainder_lies, Fits, fits, num_between}
+use Rattle.cal_model.specs.Value.{Value, Num, Truth, Items}
+use Rattle.cal_model.specs.Outcome.{Out, Gives, Traps, Lacks, Clashes, and_then}
+use Rattle.cal_model.specs.Expression.{computed, prefixed, of_numbers, of_truths, applied}
+use Rattle.cal_model.specs.Certified.{Interval, between, just, hull, truths, all_numbers, fitting, lies_within, range_of_prefix, range_of_both}
+use Rattle.determinacy_cert.proofs.Intervals.{Lies, product_lies, sum_lies, difference_lies, negative_lies, towards_zero, quotient_low, quotient_high, shift_low, shift_high, remainder_lies, Fits, fits, num_between}
 
 -- ---- outcomes
 
