@@ -40,12 +40,7 @@ pub fn cells(alloc: Global, code: &Admitted) -> Result<Cells, Memory>
     ensures made { IfOk result (IsMadeFor code.now) }
 {
     let routines = code.routines().len();
-    let Some(bodies) = routines.checked_add(1) else {
-        return Err(Memory)
-    };
-    let Some(room) = (code.most_operands() as usize).checked_mul(bodies) else {
-        return Err(Memory)
-    };
+    let room = code.most_operands() as usize * (routines + 1);
     let Ok(numbers) = zeros(alloc, code.cells() as usize) else {
         return Err(Memory)
     };
