@@ -25,6 +25,6 @@ abbrev pub network_of : Form → Network (Unit {0})
 network_of f = record {
   leaves = record { path = f.name; class = f.name; behaviour = behaviour f.sum } ∷ [];
   links = input_link ∷ output_link ∷ [];
-  ins = byte_type ∷ [];
-  outs = byte_type ∷ [];
+  ins = record { name = f.input; kind = byte_type } ∷ [];
+  outs = record { name = f.output; kind = byte_type } ∷ [];
 }

@@ -1,0 +1,5 @@
+mod Splitting
+mod Confluence
+mod Trapping
+mod Feeding
+mod Theorems
