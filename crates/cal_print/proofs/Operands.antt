@@ -56,7 +56,7 @@ unplaced-paren q (prefix op operand at) e = absurd cc
 unplaced-paren q (binary op left right at) e = absurd cc
 unplaced-paren q _ e = refl
 
--- a tree that is another one, offsets aside, is as loose
+-- a tree that is another one, ignoring offsets, is as loose
 as_loose : (x y : Tree) → unplaced x ≡ unplaced y → is_loose x ≡ is_loose y
 as_loose x y e = sym (loose-unplaced x) ∙ ap is_loose e ∙ loose-unplaced y
 

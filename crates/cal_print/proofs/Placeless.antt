@@ -205,7 +205,7 @@ height-at (index base i at) = rw (height-at base, height-at i) refl
 height-at (prefix op operand at) = rw (height-at operand) refl
 height-at (binary op left right at) = rw (height-at left, height-at right) refl
 
--- for trees that are equal, offsets aside
+-- for trees that are equal, ignoring offsets
 
 pub same_words : (x y : Tree) → unplaced x ≡ unplaced y → words x ≡ words y
 same_words x y e = sym (words-at x) ∙ ap words e ∙ words-at y

@@ -36,7 +36,7 @@ read_back source tokens x t l s e =
       as_high = same_height back.tree t apart;
     }
 
--- the trees of two texts with the same canonical text are equal, offsets aside
+-- the trees of two texts with the same canonical text are equal, ignoring offsets
 module _ (one_list : (text : List ℕ) (tokens others : List Placed) → lexes text tokens → lexes text others → tokens ≡ others) (one_tree : (ts : List Placed) (x y : Tree) → spells ts x → spells ts y → x ≡ y) where
   same_text : (t u : Tree) → IsReadBack t → IsReadBack u → canon t ≡ canon u → unplaced t ≡ unplaced u
   same_text t u a b e =

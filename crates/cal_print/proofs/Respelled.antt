@@ -1,4 +1,4 @@
--- What is spelled is spelled again by its own words, offsets aside.
+-- What is spelled is spelled again by its own words, ignoring offsets.
 use Rattle.std.proofs.Common.{◌≡◌, ℕ, Bool, true, false, List, [], ◌∷◌, ◌++◌, refl, sym, ap, ◌∙◌}
 use Rattle.std.proofs.lemmas.List.{append_assoc, append-nil}
 use Rattle.cal_ast.specs.Tree.{Tree, absent, present, nil, cons, ident, import_part, file, action, if_stmt, block, number, truth, variable, call, list, comp}
