@@ -62,7 +62,8 @@ fn put_numbered<D: Drains>(
     requires { (D.channels drains.old).is_open REPORT_CHANNEL ≡ true }
     ensures reported { OnOk result ((D.channels drains.old).tells ≡ true
         → (D.channels drains.new).held REPORT_CHANNEL
-        ≡ (D.channels drains.old).held REPORT_CHANNEL ++ (before.now ++ decimal number ++ after.now)) }
+        ≡ (D.channels drains.old).held REPORT_CHANNEL
+        ++ (before.now ++ decimal number ++ after.now)) }
     ensures failed { OnErr result (WriteFails D.channels drains.old drains.new) }
     ensures keeps { WritesOnly D.channels drains.old drains.new 0 }
 {
@@ -106,7 +107,8 @@ fn put_input<D: Drains>(actor: &Actor, counts: &Counts, drains: &mut D) -> Resul
     requires { (D.channels drains.old).is_open REPORT_CHANNEL ≡ true }
     ensures reported { OnOk result ((D.channels drains.old).tells ≡ true
         → (D.channels drains.new).held REPORT_CHANNEL
-        ≡ (D.channels drains.old).held REPORT_CHANNEL ++ input_line (form_of actor.now) counts.now) }
+        ≡ (D.channels drains.old).held REPORT_CHANNEL
+        ++ input_line (form_of actor.now) counts.now) }
     ensures failed { OnErr result (WriteFails D.channels drains.old drains.new) }
     ensures keeps { WritesOnly D.channels drains.old drains.new 0 }
 {
@@ -119,7 +121,8 @@ fn put_output<D: Drains>(actor: &Actor, counts: &Counts, drains: &mut D) -> Resu
     requires { (D.channels drains.old).is_open REPORT_CHANNEL ≡ true }
     ensures reported { OnOk result ((D.channels drains.old).tells ≡ true
         → (D.channels drains.new).held REPORT_CHANNEL
-        ≡ (D.channels drains.old).held REPORT_CHANNEL ++ output_line (form_of actor.now) counts.now) }
+        ≡ (D.channels drains.old).held REPORT_CHANNEL
+        ++ output_line (form_of actor.now) counts.now) }
     ensures failed { OnErr result (WriteFails D.channels drains.old drains.new) }
     ensures keeps { WritesOnly D.channels drains.old drains.new 0 }
 {
@@ -150,7 +153,8 @@ fn put_refusal<D: Drains>(
     requires { (D.channels drains.old).is_open REPORT_CHANNEL ≡ true }
     ensures reported { OnOk result ((D.channels drains.old).tells ≡ true
         → (D.channels drains.new).held REPORT_CHANNEL
-        ≡ (D.channels drains.old).held REPORT_CHANNEL ++ refusal_line (names_text names.now) refusal.now) }
+        ≡ (D.channels drains.old).held REPORT_CHANNEL
+        ++ refusal_line (names_text names.now) refusal.now) }
     ensures failed { OnErr result (WriteFails D.channels drains.old drains.new) }
     ensures keeps { WritesOnly D.channels drains.old drains.new 0 }
 {
@@ -181,7 +185,8 @@ fn put_last_line<D: Drains>(
     requires { (D.channels drains.old).is_open REPORT_CHANNEL ≡ true }
     ensures reported { OnOk result ((D.channels drains.old).tells ≡ true
         → (D.channels drains.new).held REPORT_CHANNEL
-        ≡ (D.channels drains.old).held REPORT_CHANNEL ++ last_line (names_text names.now) status.now) }
+        ≡ (D.channels drains.old).held REPORT_CHANNEL
+        ++ last_line (names_text names.now) status.now) }
     ensures failed { OnErr result (WriteFails D.channels drains.old drains.new) }
     ensures keeps { WritesOnly D.channels drains.old drains.new 0 }
 {
