@@ -20,6 +20,7 @@ mod stepping;
 mod tests;
 mod truth;
 
+pub use code_ir::Outcome;
 pub use kept::Cells;
 pub use making::cells;
 pub use run::Run;

@@ -1,8 +1,6 @@
 //! From tokens to the tree of a file.
 //!
-//! `specs/Spells.antt` is the grammar: which tokens spell which tree. `specs/Rules.antt` writes its rules
-//! as programs that look one token ahead. `proofs/` shows that they read exactly what is spelled, and that the
-//! code does what they do.
+//! The code does what the programs of `cal_grammar` do, and is told by a clause each: see `specs/Tells.antt`.
 #![tactic(auto)]
 
 mod actions;
@@ -17,7 +15,6 @@ mod fault;
 mod file_tests;
 mod files;
 mod forms;
-mod laws;
 mod leading;
 mod leaves;
 mod lists;
@@ -26,12 +23,10 @@ mod names;
 mod operators;
 mod pairs;
 mod parse;
-mod rules;
 mod schedules;
 mod stmts;
 mod tall;
 mod types;
 
-pub use laws::one_tree;
-pub use parse::parse_file;
-pub use rules::{MAX_HEIGHT, SPELLS_NO_FILE, TOO_HIGH};
+pub use cal_grammar::one_tree;
+pub use parse::{MAX_HEIGHT, parse_file};

@@ -8,8 +8,8 @@ use Rattle.cal_ast.specs.declared.expr.PrefixOp.TheVariants as prefixes
 use Rattle.cal_ast.specs.declared.expr.BinOp.{BinOp}
 use Rattle.cal_ast.specs.declared.expr.BinOp.TheVariants as binaries
 use Rattle.cal_lexer.specs.Lexeme.{Lexeme, Placed}
-use Rattle.cal_parser.specs.Operators.{group, level_of, loosest, binary_of, is_prefix, prefix_of}
-use Rattle.cal_parser.specs.Spells.{Part, Spells, level, a_postfix, a_primary, an_expr, the_tighter, the_postfix, the_primary, the_pair}
+use Rattle.cal_grammar.specs.Operators.{group, level_of, loosest, binary_of, is_prefix, prefix_of}
+use Rattle.cal_grammar.specs.Spells.{Part, Spells, level, a_postfix, a_primary, an_expr, the_tighter, the_postfix, the_primary, the_pair}
 use Rattle.cal_print.specs.Printable.{IsPrintable}
 use Rattle.cal_print.specs.Canon.{words, is_loose, paired, word_of_prefix, word_of_binary}
 use Rattle.cal_print.proofs.Phrases.{Respells, IsBack, back, done, word, part, Reads, at_end, a_word, a_part, respells}
@@ -56,7 +56,7 @@ unplaced-paren q (prefix op operand at) e = absurd cc
 unplaced-paren q (binary op left right at) e = absurd cc
 unplaced-paren q _ e = refl
 
--- a tree that is another one, offsets aside, is as loose
+-- a tree that is another one, ignoring offsets, is as loose
 as_loose : (x y : Tree) → unplaced x ≡ unplaced y → is_loose x ≡ is_loose y
 as_loose x y e = sym (loose-unplaced x) ∙ ap is_loose e ∙ loose-unplaced y
 

@@ -3,7 +3,7 @@ use Rattle.std.proofs.Common.{◌≡◌, ℕ, List, [], ◌∷◌, ◌++◌}
 use Rattle.cal_ast.specs.Tree.{Tree}
 use Rattle.cal_ast.specs.Apart.{unplaced}
 use Rattle.cal_lexer.specs.Lexeme.{Lexeme, Placed, placed}
-use Rattle.cal_parser.specs.Spells.{Mark, comma, dot, greater, mark, Part, Spells}
+use Rattle.cal_grammar.specs.Spells.{Mark, comma, dot, greater, mark, Part, Spells}
 use Rattle.cal_print.specs.Printable.{IsPrintable, ArePrintable, kinds}
 
 -- the tokens of a up to those of b are of these kinds
@@ -25,7 +25,7 @@ pub all_of : (us : List Placed) → Front (kinds us) us []
 all_of [] = here
 all_of (placed w q ∷ us) = goes_on (all_of us)
 
--- a tree that is this one, offsets aside, is spelled there
+-- a tree that is this one, ignoring offsets, is spelled there
 pub record IsBack (p : Part) (a b : List Placed) (y : Tree) : Type 0 where
   pub tree : Tree
   pub spelled : Spells p a b tree
@@ -34,7 +34,7 @@ pub record IsBack (p : Part) (a b : List Placed) (y : Tree) : Type 0 where
 pub back : {p : Part} {a b : List Placed} {x y : Tree} → Spells p a b x → unplaced x ≡ y → IsBack p a b y
 back {x = x} h e = record { tree = x; spelled = h; same = e }
 
--- wherever these words stand, they spell this tree, offsets aside; and a text can have them
+-- wherever these words stand, they spell this tree, ignoring offsets; and a text can have them
 pub record Respells (p : Part) (ws : List Lexeme) (y : Tree) : Type 0 where
   pub gives : (a b : List Placed) → Front ws a b → IsBack p a b y
   pub printable : ArePrintable ws

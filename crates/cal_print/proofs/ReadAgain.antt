@@ -4,7 +4,7 @@ use Rattle.cal_ast.specs.Tree.{Tree}
 use Rattle.cal_ast.specs.Apart.{unplaced}
 use Rattle.cal_lexer.specs.Lexeme.{Placed}
 use Rattle.cal_lexer.specs.Lexes.{lexes}
-use Rattle.cal_parser.specs.Spells.{a_file, spells}
+use Rattle.cal_grammar.specs.Spells.{a_file, spells}
 use Rattle.cal_print.specs.Spelling.{text_of}
 use Rattle.cal_print.specs.Canon.{words, canon}
 use Rattle.cal_print.specs.Printable.{ArePrintable, kinds}
@@ -36,7 +36,7 @@ read_back source tokens x t l s e =
       as_high = same_height back.tree t apart;
     }
 
--- the trees of two texts with the same canonical text are equal, offsets aside
+-- the trees of two texts with the same canonical text are equal, ignoring offsets
 module _ (one_list : (text : List ℕ) (tokens others : List Placed) → lexes text tokens → lexes text others → tokens ≡ others) (one_tree : (ts : List Placed) (x y : Tree) → spells ts x → spells ts y → x ≡ y) where
   same_text : (t u : Tree) → IsReadBack t → IsReadBack u → canon t ≡ canon u → unplaced t ≡ unplaced u
   same_text t u a b e =

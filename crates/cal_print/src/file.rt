@@ -15,17 +15,17 @@ use cal_lexer::Word;
 use rvc_base::Memory;
 use std::alloc::Global;
 
-/// The canonical text of a file.
+/// The canonical text of a file, as bytes of ASCII.
 ///
-/// Its tokens are those of the tree in order, with no comment and no blank but these: LF behind each `;` and each
-/// `end`, and one space behind every other token. Each end is written `end`, an `elsif` as an `if` in its `else` with
-/// an `end` of its own, and `or`, `and` and `/` in place of their second spellings. Numbers are decimal. A pair of
-/// parentheses stands where the tree holds one, round each operand of an operation that is itself an operation or an
-/// `if`, and round such a base of an index.
+/// Its tokens are those of the tree in order (the CAL Language Report, the grammar), with no comment and no blank but
+/// these: LF behind each `;` and each `end`, and one space behind every other token. Each end is written `end`, an
+/// `elsif` as an `if` in its `else` with an `end` of its own, and `or`, `and` and `/` in place of their second
+/// spellings. Numbers are decimal. A pair of parentheses stands where the tree holds one, round each operand of an
+/// operation that is itself an operation or an `if`, and round such a base of an index.
 ///
 /// # Errors
 ///
-/// [`Memory`] where memory for the text is lacking.
+/// [`Memory`] if an allocation for the text is refused.
 pub fn print_file(alloc: Global, file: &File) -> Result<Vec<u8>, Memory>
     ensures { IfOk result (λ text. text.items ≡ canon (file_tree file.now)) }
 {

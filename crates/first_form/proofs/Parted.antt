@@ -16,7 +16,7 @@ both false b e = absurd cc
 pub joined : (a b : Bool) → a ≡ true → b ≡ true → (a && b) ≡ true
 joined a b e f = rw (e, f) refl
 
--- an identifier, offsets aside
+-- an identifier, ignoring offsets
 pub data IsIdent (text : List ℕ) : Tree → Type 0 where
   at : (q : ℕ) → IsIdent text (ident text q)
 

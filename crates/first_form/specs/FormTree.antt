@@ -1,4 +1,4 @@
--- The tree of an actor of the first form, offsets aside.
+-- The tree of an actor of the first form, ignoring offsets.
 use Rattle.std.specs.Prelude.{◌<◌, ◌^◌, ℕ, false, List, codes}
 use Rattle.cal_ast.specs.declared.expr.BinOp.{BinOp}
 use Rattle.cal_ast.specs.declared.expr.BinOp.TheVariants as ops

@@ -8,8 +8,8 @@ use Rattle.cal_ast.specs.Tree.{Tree}
 use Rattle.cal_ast.specs.Apart.{IsEqualApart}
 use Rattle.cal_lexer.specs.Lexeme.{Placed}
 use Rattle.cal_lexer.specs.Lexes.{lexes, faults}
-use Rattle.cal_parser.specs.Refusals as grammar
-use Rattle.cal_parser.specs.Spells.{spells}
+use Rattle.cal_grammar.specs.Refusals as grammar
+use Rattle.cal_grammar.specs.Spells.{spells}
 use Rattle.first_form.specs.Form.{Form, form_of}
 use Rattle.first_form.specs.declared.ast.Actor.{Actor}
 use Rattle.first_form.specs.FormTree.{form_tree, HasShortNumbers}
@@ -21,7 +21,7 @@ pub record IsSource (text : List ℕ) (tree : Tree) : Type 0 where
   pub lexed : lexes text tokens
   pub spelled : spells tokens tree
 
--- the text spells the actor: its tree is that of the form, offsets aside
+-- the text spells the actor: its tree is that of the form, ignoring offsets
 pub record Spells (text : List ℕ) (f : Form) : Type 0 where
   pub tree : Tree
   pub source : IsSource text tree
@@ -41,7 +41,7 @@ pub data Breaks (text : List ℕ) : Rule → ℕ → Type 0 where
   in_grammar : (tokens : List Placed) (rule : Rule) (at : ℕ) → lexes text tokens → grammar.Breaks (length text) tokens rule at → Breaks text rule at
   in_form : (at : ℕ) → HasMismatchAt text at → Breaks text not_built at
 
--- a refusal names this file, and what its source breaks; want of memory says nothing of it
+-- a refusal names this file, and what its source breaks; out of memory says nothing of it
 abbrev pub IsRightly : ℕ → List ℕ → Answer → Type 0
 IsRightly number text (Refused refusal) = (refusal.place.file ≡ number) × Breaks text refusal.rule refusal.place.offset
 IsRightly number text Memory = Unit {0}

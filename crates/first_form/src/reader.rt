@@ -15,12 +15,14 @@ use cal_parser::parse_file;
 use rvc_base::{Front, Place, Refusal, Rule};
 use std::alloc::Global;
 
-/// Reads the source of an actor of the first form. The text is the file of this number.
+/// Reads the source of an actor of the first form (a part of the CAL Language Report's grammar, see the crate). The
+/// text is the file of this number, and shorter than 4 GiB.
 ///
 /// # Errors
 ///
-/// `Refused` with the first fault of the lexis; with a rule of the grammar, at its place; with Y1 where the text
-/// spells a file of another form, at the first part that isn't of it. And `Memory`.
+/// [`Front::Refused`] with the rule that the text breaks, and its place in this file: the first fault of the lexis;
+/// a rule of the grammar; or [`Rule::NOT_BUILT`] if the text spells a file of another form, at the first part that
+/// isn't of it. [`Front::Memory`] if an allocation is refused.
 pub fn read_form(alloc: Global, file: u32, text: &[u8]) -> Result<Actor, Front>
     requires { HasOffsets text.now }
     ensures read { IfOk result (λ actor. Spells text.now (form_of actor)) }

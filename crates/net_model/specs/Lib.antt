@@ -4,7 +4,12 @@ pub mod State
 pub mod Event
 pub mod Ends
 pub mod Trace
+pub mod Cell
+pub mod Ready
+pub mod TableActor
 pub mod Limits
 pub mod Wired
 pub mod Stable
 pub mod Laws
+pub mod Paced
+pub mod Counted

@@ -21,13 +21,14 @@ use crate::parts::{Parts, parts_of};
 use rvc_base::MAX_BUDGET;
 use std::alloc::{AllocError, Global};
 
-/// Reads the words of the command line, the program's name first.
+/// Reads the words of the command line, the program's name first: `rvc VERB TOP [PORT=FILE ..]` and its options, in
+/// any order.
 ///
 /// # Errors
 ///
-/// `Usage` with the first cause why the words are no job, where they are none: `Words` where they don't fit the
-/// command, and then, in the order of the variants, each where its part isn't of its form. `Memory` where an
-/// allocation was refused.
+/// [`WordFault::Usage`] with the first cause why the words are no job: [`UsageCause::Words`] if they don't fit the
+/// command, and then, in the order of the variants, the first whose part isn't of its form. [`WordFault::Memory`] if
+/// an allocation is refused.
 #[tactic(auto, unfolding(crate::specs::Words::job))]
 pub fn read_words(alloc: Global, words: &[String]) -> Result<Job, WordFault>
     ensures read { IfOk result (λ given. job (texts words.now) ≡ Ok (job_text given)) }
