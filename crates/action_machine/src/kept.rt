@@ -33,24 +33,25 @@ impl Cells {
         self.numbers.len()
     }
 
-    /// The number in cell `c`.
+    /// The number in a cell.
     #[inline]
-    pub fn get(&self, c: u32) -> Num
-        requires { c < length self.now.numbers }
-        ensures { slice_get self.now.numbers c ≡ Some result }
+    pub fn get(&self, cell: u32) -> Num
+        requires { cell < length self.now.numbers }
+        ensures { slice_get self.now.numbers cell ≡ Some result }
     {
-        self.numbers[c as usize]
+        self.numbers[cell as usize]
     }
 
-    /// Puts a number in cell `c`.
+    /// Puts a number in a cell.
     #[inline]
-    pub fn set(&mut self, c: u32, v: Num)
-        requires { c < length self.old.numbers }
-        ensures number { self.new.numbers ≡ slice_set self.old.numbers c v }
+    pub fn set(&mut self, cell: u32, v: Num)
+        requires { cell < length self.old.numbers }
+        ensures number { self.new.numbers ≡ slice_set self.old.numbers cell v }
         ensures operands { self.new.operands ≡ self.old.operands }
         ensures calls { self.new.calls ≡ self.old.calls }
         ensures made { (code : Code) → IsMadeFor code self.old → IsMadeFor code self.new }
     {
-        self.numbers[c as usize] = v;
+        let place = cell as usize;
+        self.numbers[place] = v;
     }
 }

@@ -1,6 +1,6 @@
 //! Cells for code.
 
-ghost use Rattle.std.specs.Prelude.{◌≡◌, IfOk, length};
+ghost use Rattle.std.specs.Prelude.{◌≡◌, ◌+◌, ◌*◌, ◌^◌, ◌<◌, IfOk, length};
 ghost use Rattle.action_machine.specs.Kept.{AreZeros, IsMadeFor};
 
 use crate::kept::Cells;
@@ -30,6 +30,14 @@ fn no_calls(alloc: Global, n: usize) -> Result<Vec<usize>, AllocError>
     Ok(frames)
 }
 
+/// Room for the operands of the body of an entry, and of each routine.
+fn room(most: u32, routines: usize) -> usize
+    requires { routines < 2 ^ 32 }
+    ensures { result ≡ most * (routines + 1) }
+{
+    most as usize * (routines + 1)
+}
+
 /// Cells for this code, each of which holds 0.
 ///
 /// # Errors
@@ -40,12 +48,7 @@ pub fn cells(alloc: Global, code: &Admitted) -> Result<Cells, Memory>
     ensures made { IfOk result (IsMadeFor code.now) }
 {
     let routines = code.routines().len();
-    let Some(bodies) = routines.checked_add(1) else {
-        return Err(Memory)
-    };
-    let Some(room) = (code.most_operands() as usize).checked_mul(bodies) else {
-        return Err(Memory)
-    };
+    let room = room(code.most_operands(), routines);
     let Ok(numbers) = zeros(alloc, code.cells() as usize) else {
         return Err(Memory)
     };

@@ -1,6 +1,6 @@
 //! Expressions, and the types whose arguments hold expressions.
 
-ghost use Rattle.std.specs.Prelude.{◌≡◌, ℕ, IfOk, map};
+ghost use Rattle.std.specs.Prelude.{◌≡◌, ℕ, IfOk, Ok, map};
 ghost use Rattle.cal_ast.specs.View.{expr_tree, form_tree, gen_tree, type_tree, type_arg_tree};
 
 use crate::ident::Ident;
@@ -148,6 +148,25 @@ pub enum BinOp {
     Div,
     /// `mod`
     Mod,
+}
+
+impl PrefixOp {
+    /// An equal operator, which takes no memory.
+    pub fn copy(&self, _alloc: Global) -> Result<PrefixOp, AllocError>
+        ensures { result ≡ Ok self.now }
+    {
+        Ok(*self)
+    }
+}
+
+impl BinOp {
+    /// An equal operator, which takes no memory.
+    pub fn copy(&self, _alloc: Global) -> Result<BinOp, AllocError>
+        ensures { result ≡ Ok self.now }
+    {
+        let op = *self;
+        Ok(op)
+    }
 }
 
 impl TypeExpr {

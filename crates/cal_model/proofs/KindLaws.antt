@@ -71,7 +71,7 @@ env-fits names env fine is =
       agree = calls-agree (length names.funs) (length names.funs) names.funs (constants names.globals) env.globals (stand-match (Unit {0}) names.globals env.globals globals);
     }
 
-env-fits-all : (names : Names) (env : Env) → Each (IsOfItsKinds names) names.funs → FunsNeverReturn names.funs → IsEnvOf names env → HasAllOf names env
+pub env-fits-all : (names : Names) (env : Env) → Each (IsOfItsKinds names) names.funs → FunsNeverReturn names.funs → IsEnvOf names env → HasAllOf names env
     → Fits ⊥ any_name (calls_of names.funs) names env
 env-fits-all names env fine never is has =
     let globals = stand-all names.globals env.globals is.globals has.globals in

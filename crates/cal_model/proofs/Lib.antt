@@ -2,9 +2,9 @@ mod Rows
 mod StatementRows
 mod ActorRows
 mod KindRows
-mod Stored
-mod Choosing
-mod ActorStates
+pub mod Stored
+pub mod Choosing
+pub mod ActorStates
 mod StateRows
 mod Turns
 mod TurnsTaken
@@ -22,22 +22,24 @@ mod WideRows
 mod TagRows
 mod TagLaws
 mod Agreement
-mod Numbers
-mod KindValues
+pub mod Numbers
+pub mod KindValues
 mod KindOperators
 mod KindTypes
-mod KindNames
+pub mod KindNames
 mod KindKept
 mod KindOrder
 mod KindCalls
-mod KindLaws
+pub mod KindLaws
 mod KeptRows
 mod LoneAction
-mod KeptTypes
+pub mod KeptTypes
 mod KeptByStatements
-mod KeptByFirings
+pub mod KeptByFirings
 mod SoundRows
 mod OneLine
 mod Written
 mod Ranks
+pub mod PrefixSeen
+mod LawfulActors
 mod Procedures

@@ -1,17 +1,17 @@
 -- Worked examples of wide numbers: an actor that squares tokens of 64 bits, by the firing rule and the certification rule.
-use Rattle.std.proofs.Common.{◌≡◌, ℕ, refl, ℤ, pos, negsuc, List, [], ◌∷◌, codes, arith, inl}
+use Rattle.std.proofs.Common.{◌≡◌, ℕ, refl, pos, negsuc, List, [], ◌∷◌, codes, arith, inl}
 use Rattle.std.specs.Prelude.{Option, Some, None}
 use Rattle.rvc_base.specs.declared.scalar.Scalar.TheVariants as scalar
 use Rattle.rvc_base.specs.declared.trap.Trap.TheVariants.{Overflow}
 use Rattle.rvc_base.specs.Behaviour.{Picks, Fires, TrapsInBody}
 use Rattle.cal_ast.specs.Tree.{Tree}
-use Rattle.cal_ast.specs.declared.expr.BinOp.TheVariants.{Gt, Mul, Shr, Div, Mod, BitAnd}
+use Rattle.cal_ast.specs.declared.expr.BinOp.TheVariants.{Gt, Mul, Shr, BitAnd}
 use Rattle.cal_model.specs.Value.{Single}
 use Rattle.cal_model.specs.Actor.{Port, Action, Actor}
 use Rattle.cal_model.specs.Selection.{start_of, Priorities, choice}
 use Rattle.cal_model.specs.Firing.{effect}
-use Rattle.cal_model.specs.Certified.{Interval, Ranged, between, all_numbers, guard_names, range, HasTameGuards, IsCertified}
-use Rattle.cal_model.proofs.Rows.{n_, two, minus, name_}
+use Rattle.cal_model.specs.Certified.{Interval, Ranged, between, all_numbers, range, HasTameGuards, IsCertified}
+use Rattle.cal_model.proofs.Rows.{n_, two, name_}
 use Rattle.cal_model.proofs.ActorRows.{takes_, acts_, actor_}
 use Rattle.cal_model.proofs.PriorityRows.{unranked}
 

@@ -1,9 +1,8 @@
 -- Each number of the language is written out by numbers and `-` alone.
-use Rattle.std.proofs.Common.{◌≡◌, ℕ, zero, suc, ◌-◌, ◌<◌, ℤ, pos, negsuc, ◌-ℤ◌, Bool, true, false, refl, sym, ap, subst, ◌∙◌, arith}
+use Rattle.std.proofs.Common.{◌≡◌, ℕ, zero, suc, ℤ, pos, negsuc, ◌-ℤ◌, refl, ap, ◌∙◌, arith}
 use Rattle.std.specs.Prelude.{if◌then◌else◌, neg_ℤ}
-use Rattle.std.proofs.lemmas.Bool.{lt-ltb}
 use Rattle.std.proofs.lemmas.Int.{ints}
-use Rattle.rvc_base.specs.Width.{IsNum, is_num}
+use Rattle.rvc_base.specs.Width.{IsNum}
 use Rattle.rvc_base.specs.Arithmetic.{Computed, whole}
 use Rattle.rvc_base.specs.Arithmetic as arithmetic
 use Rattle.rvc_base.specs.declared.trap.Trap.TheVariants.{Overflow}
@@ -11,8 +10,8 @@ use Rattle.cal_ast.specs.declared.expr.PrefixOp.TheVariants.{Neg}
 use Rattle.cal_ast.specs.declared.expr.BinOp.TheVariants.{Sub}
 use Rattle.cal_ast.specs.Tree as tree
 use Rattle.cal_ast.specs.Tree.{Tree}
-use Rattle.cal_model.specs.Value.{Value, Num}
-use Rattle.cal_model.specs.Outcome.{Out, Gives, and_then}
+use Rattle.cal_model.specs.Value.{Num}
+use Rattle.cal_model.specs.Outcome.{Gives, and_then}
 use Rattle.cal_model.specs.Env.{Env}
 use Rattle.cal_model.specs.Expression.{Calls, computed, prefixed, with_right, eval}
 use Rattle.cal_model.specs.Laws.{IsWrittenAs}

@@ -201,11 +201,11 @@ abbrev pub places_from : ℕ → ℕ → ℕ → List ℕ
 places_from zero k far = []
 places_from (suc n) k far = k ∷ places_from n (k + far) far
 
--- A text that is no name, for the token of a port at a place, or for the list of those at the places that a repeated
--- name holds. It begins with 0, and then tells a token and a list apart.
+-- A text for the token of a port at a place, or for the list of those at the places that a repeated name holds. It
+-- tells a token and a list apart.
 abbrev pub token_key : ℕ → Option ℕ → ℕ → ℕ → List ℕ
-token_key port None names k = 0 ∷ 0 ∷ port ∷ k ∷ []
-token_key port (Some n) names k = 0 ∷ 1 ∷ port ∷ places_from n k names
+token_key port None names k = 0 ∷ port ∷ k ∷ []
+token_key port (Some n) names k = 1 ∷ port ∷ places_from n k names
 
 -- the tokens of a name among those of a pattern from place k on, of which a later one hides an earlier one
 abbrev pub key_among : List ℕ → Pattern → ℕ → List (List ℕ) → Option (List ℕ)
@@ -220,13 +220,14 @@ abbrev pub key_in : List ℕ → List Pattern → Option (List ℕ)
 key_in name [] = None
 key_in name (q ∷ qs) = elim (key_in name qs) [ Some key ↦ Some key | None ↦ key_among name q 0 q.names ]
 
--- the tokens that a name stands for, or the name itself
-abbrev pub key_of : List ℕ → List Pattern → List ℕ
-key_of name qs = elim (key_in name qs) [ Some key ↦ key | None ↦ name ]
+-- A name as what it stands for: a pattern variable is its tokens. These stand as an identifier, which no expression is,
+-- so that no variable can be taken for them.
+abbrev pub keyed_name : List ℕ → ℕ → List Pattern → Tree
+keyed_name name at qs = elim (key_in name qs) [ Some key ↦ tree.ident key at | None ↦ tree.variable name at ]
 
 -- a conjunct with the tokens in place of the pattern variables
 abbrev pub keyed : Tree → List Pattern → Tree
-keyed (tree.variable name at) qs = tree.variable (key_of name qs) at
+keyed (tree.variable name at) qs = keyed_name name at qs
 keyed (tree.paren e at) qs = tree.paren (keyed e qs) at
 keyed (tree.if_expr test first other at) qs = tree.if_expr (keyed test qs) (keyed first qs) (keyed other qs) at
 keyed (tree.list items at) qs = tree.list (keyed items qs) at

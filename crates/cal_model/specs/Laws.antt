@@ -2,26 +2,28 @@
 use Rattle.std.specs.Prelude.{◌≡◌, ℕ, ◌+◌, ◌<◌, ◌↔◌, ◌⊎◌, Contains, slice_get, true, false, List, [], length, ℤ, pos, ◌+ℤ◌, int_lt, if◌then◌else◌, None, Some}
 use Rattle.rvc_base.specs.declared.trap.Trap.{Trap}
 use Rattle.rvc_base.specs.declared.trap.Trap.TheVariants.{TurnLimit}
+use Rattle.rvc_base.specs.Lawful.{IsLawful}
 use Rattle.rvc_base.specs.Turns.{max_turns}
 use Rattle.rvc_base.specs.Width.{IsNum}
 use Rattle.rvc_base.specs.Behaviour.{Fires, TrapsInGuard, TrapsInBody, Waits, Picks, Faults}
 use Rattle.cal_ast.specs.Tree as tree
 use Rattle.cal_ast.specs.Tree.{Tree}
-use Rattle.cal_model.specs.Value.{Kind, Shape, Value, Num, Values, HasKind, IsOf, IsType, kind_of_scalar, kind_of_type, stored, zero_of}
+use Rattle.cal_model.specs.Value.{Kind, BoolKind, Shape, Value, Num, Values, HasKind, IsOf, IsType, kind_of_scalar, kind_of_type, stored, zero_of}
 use Rattle.cal_model.specs.Outcome.{Out, Gives, Traps, and_then, turn}
 use Rattle.cal_model.specs.Expression.{Calls, eval, eval_all, elements, chosen, span, type_meant, args_given}
 use Rattle.cal_model.specs.Env.{Var, Env, variable, with_local}
 use Rattle.cal_model.specs.Statement.{Runs, for_loop, exec, exec_all, runs_of, proc_named}
-use Rattle.cal_model.specs.Actor.{Local, Fun, Proc, Move, Actor}
+use Rattle.cal_model.specs.Actor.{Local, Fun, Proc, Action, Move, Actor}
 use Rattle.cal_model.specs.Call.{calls_of, fun_named, on_call, declared}
 use Rattle.cal_model.specs.Kinding.{Fine, Known, Names, Argument, counter, constants, constant, with_known, counts, with_counters, kind, kinds, arguments_fit, elements_in, type_judged, type_arguments}
 use Rattle.cal_model.specs.Sound.{Each, IsWrittenOut, FunsNeverReturn, with_locals, names_of, IsSound, ProcsNeverReturn}
-use Rattle.cal_model.specs.Keeping.{GivesOnly, LacksNothing, CallsTakeTurns, RunsTakeTurns, AreOfKinds, AreMany, AreArguments, given_by, StandFor, IsEnvOf, HasAllOf, outside, StartsAreOf, IsOfItsKinds, answer, made}
+use Rattle.cal_model.specs.Keeping.{GivesOnly, GivesOrTraps, LacksNothing, CallsTakeTurns, RunsTakeTurns, AreOfKinds, AreMany, AreArguments, given_by, StandFor, IsEnvOf, HasAllOf, outside, StartsAreOf, IsOfItsKinds, answer, made}
 use Rattle.cal_model.specs.Tags.{stands_for, IsMeant, Transition, moves_of, IsMoveOf, pairs_of, IsPairOf}
+use Rattle.cal_model.specs.Eligible.{eligible}
 use Rattle.cal_model.specs.Rates.{need}
-use Rattle.cal_model.specs.Selection.{State, start_of, Priorities, tokens_on, AreFalse, AreTrapping, readiness, IsEnabled, IsExposed, choice}
+use Rattle.cal_model.specs.Selection.{State, start_of, Priorities, tokens_on, seen_by, AreFalse, AreTrapping, readiness, IsEnabled, IsExposed, choice}
 use Rattle.cal_model.specs.ActorState.{IsActorState, is_actor_state, AreTokensOf, kept_tokens}
-use Rattle.cal_model.specs.Firing.{IsFiring, IsTrapping, effect, behaviour}
+use Rattle.cal_model.specs.Firing.{IsFiring, IsTrapping, body, effect, behaviour}
 
 -- a value of a type's kind, once stored, is in the type
 abbrev pub StoredIsOfType : Type 0
@@ -160,6 +162,28 @@ FiringsKeepStates = (actor : Actor) (x y : State) (u sent : List (List ℤ)) (a 
 abbrev pub BehaviourKeepsStates : Type 0
 BehaviourKeepsStates = (actor : Actor) (p : Priorities actor) (x y : State) (u sent : List (List ℤ)) (a : ℕ)
     → IsSound actor → (behaviour actor p).effect x u a ≡ Some (Fires y sent) → IsActorState actor y
+
+-- In a sound actor's state and over tokens of its ports, each guard of an action is a truth value or traps, ..
+abbrev pub GuardsAreTruths : Type 0
+GuardsAreTruths = (actor : Actor) (x : State) (u : List (List ℤ)) (a k left : ℕ) (act : Action) (g : Tree)
+    → IsSound actor → IsActorState actor x → AreTokensOf actor u → slice_get actor.actions a ≡ Some act → slice_get act.guards k ≡ Some g
+    → GivesOrTraps (HasKind BoolKind) (eval g (calls_of actor.funs) (seen_by actor x u act) left)
+
+-- .. the body of an action that is eligible leaves one of the actor's states or traps, ..
+abbrev pub BodiesGiveOrTrap : Type 0
+BodiesGiveOrTrap = (actor : Actor) (x : State) (u : List (List ℤ)) (a : ℕ)
+    → IsSound actor → IsActorState actor x → AreTokensOf actor u → eligible actor x.at a ≡ true
+    → GivesOrTraps (λ f. IsActorState actor f.state) (body actor x u a)
+
+-- .. and so an action that is exposed and enabled fires or traps
+abbrev pub EnabledFiresOrTraps : Type 0
+EnabledFiresOrTraps = (actor : Actor) (x : State) (u : List (List ℤ)) (a : ℕ)
+    → IsSound actor → IsActorState actor x → AreTokensOf actor u → IsExposed actor x u a → IsEnabled actor x u a
+    → ((y : State) × (sent : List (List ℤ)) × IsFiring actor x u a y (need actor a) sent) ⊎ ((c : Trap) × IsTrapping actor x u a c)
+
+-- the behaviour of a sound actor is lawful, whatever the states and the tokens
+abbrev pub BehaviourIsLawful : Type 0
+BehaviourIsLawful = (actor : Actor) (p : Priorities actor) → IsSound actor → IsLawful (behaviour actor p)
 
 -- tokens as they are stored are tokens of the ports ..
 abbrev pub KeptAreTokens : Type 0

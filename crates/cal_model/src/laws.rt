@@ -2,7 +2,7 @@
 //!
 //! Each law is the contract of a function that does nothing: it is proved with the crate, and can be cited.
 
-ghost use Rattle.cal_model.specs.Laws.{AboveIsOne, ArgumentsAreKept, AsManyAreKept, BehaviourIsEffect, BehaviourIsIdle, BehaviourIsOne, BehaviourKeepsStates, BehaviourStoresTokens, CallIsAnswered, CallIsKept, ChainsPutAbove, ChoiceIsOne, ChosenIsEnabled, ChosenTraps, ConstantIsValue, CounterIsKept, EffectIsOne, EffectsAreFirings, EffectsAreTraps, ElementsAreKept, EntryIsKept, FiringsKeepStates, FunctionsTakeTurns, JudgedIsType, KeptAreTokens, KindIsKept, KindsAreKept, LineIsOne, LocalsAreKept, LoopsCountTurns, LoopsEndByTurns, NeverBoth, NothingIsLacking, NumbersAreWritten, NumbersUnfold, OneFiring, OneTrap, ProceduresTakeTurns, RunIsPerformed, SoundFunsAreOfKinds, SoundHavePriorities, StartIsState, StatesAreTested, StoredIsOfType, StoringStays, TagsStandFor, TokensStay, TransitionsLead, TypeArgumentsAreKept, TypeIsKept, WaitingIsIdle, WhileUnfolds, ZeroIsOfType};
+ghost use Rattle.cal_model.specs.Laws.{AboveIsOne, ArgumentsAreKept, AsManyAreKept, BehaviourIsEffect, BehaviourIsIdle, BehaviourIsLawful, BehaviourIsOne, BehaviourKeepsStates, BehaviourStoresTokens, BodiesGiveOrTrap, CallIsAnswered, CallIsKept, ChainsPutAbove, ChoiceIsOne, ChosenIsEnabled, ChosenTraps, ConstantIsValue, CounterIsKept, EffectIsOne, EffectsAreFirings, EffectsAreTraps, ElementsAreKept, EnabledFiresOrTraps, EntryIsKept, FiringsKeepStates, FunctionsTakeTurns, GuardsAreTruths, JudgedIsType, KeptAreTokens, KindIsKept, KindsAreKept, LineIsOne, LocalsAreKept, LoopsCountTurns, LoopsEndByTurns, NeverBoth, NothingIsLacking, NumbersAreWritten, NumbersUnfold, OneFiring, OneTrap, ProceduresTakeTurns, RunIsPerformed, SoundFunsAreOfKinds, SoundHavePriorities, StartIsState, StatesAreTested, StoredIsOfType, StoringStays, TagsStandFor, TokensStay, TransitionsLead, TypeArgumentsAreKept, TypeIsKept, WaitingIsIdle, WhileUnfolds, ZeroIsOfType};
 
 /// A value of a type's kind is in the type once it is stored, and then stays when it is stored again. What a
 /// variable without value holds is in the type too.
@@ -52,6 +52,22 @@ pub fn actors_stay_in_their_states()
     ensures start { StartIsState }
     ensures firing { FiringsKeepStates }
     ensures behaviour { BehaviourKeepsStates }
+{}
+
+/// In the states of a sound actor and over tokens of its ports nothing lacks a name and no kinds clash: each guard is a
+/// truth value or traps, the body of an eligible action leaves one of the states or traps, and an action that is
+/// exposed and enabled fires or traps.
+pub fn actions_fire_or_trap()
+    ensures guards { GuardsAreTruths }
+    ensures bodies { BodiesGiveOrTrap }
+    ensures enabled { EnabledFiresOrTraps }
+{}
+
+/// The behaviour of a sound actor is lawful: what has an effect has its tokens, a firing sends what its action gives,
+/// on each port nothing depends on tokens after the greatest need of any action there, the choice is an enabled action
+/// or one whose guards trap, and beyond the actions there is nothing.
+pub fn sound_actors_are_lawful()
+    ensures { BehaviourIsLawful }
 {}
 
 /// Tokens as ports store them are in the types of the ports, as many as before, and those that were in the types stay

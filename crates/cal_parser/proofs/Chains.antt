@@ -9,19 +9,19 @@ use Rattle.cal_lexer.specs.declared.token.Token.{Token}
 use Rattle.cal_parser.specs.Cursor.{Took, stands}
 use Rattle.cal_parser.specs.Leading.{HasNoRoom, IsOperator, IsPrefix, TookOperator, TookPrefix, opened}
 use Rattle.cal_ast.specs.Places.{begins}
-use Rattle.cal_parser.specs.Operators.{binary_of, height, is_prefix, prefix_of}
-use Rattle.cal_parser.specs.Rules.{Step, at_level, chain, expect, part, places, read}
-use Rattle.cal_parser.specs.Spells.{a_postfix, a_primary, an_expr, level}
+use Rattle.cal_grammar.specs.Operators.{binary_of, height, is_prefix, prefix_of}
+use Rattle.cal_grammar.specs.Rules.{Step, at_level, chain, expect, part, places, read}
+use Rattle.cal_grammar.specs.Spells.{a_postfix, a_primary, an_expr, level}
 use Rattle.cal_parser.specs.Steps.{climbs, closing_step, does, index_step}
 use Rattle.cal_parser.specs.Tells.{TellsFault}
-use Rattle.cal_parser.specs.Token.{here, kind_of, offset, same_word}
+use Rattle.cal_grammar.specs.Token.{here, kind_of, offset, same_word}
 use Rattle.cal_parser.specs.declared.fault.Fault.{Fault}
 use Rattle.cal_parser.specs.declared.fault.Fault.TheVariants as faults
 use Rattle.cal_parser.specs.declared.operators.Prefix.{Prefix}
 use Rattle.cal_parser.proofs.Climbing.{Next, climbs_more, climbs_none, fault_after, fault_same, level_climbs}
 use Rattle.cal_parser.proofs.Going.{fault_on, gave_on, high_on, yes_on}
 use Rattle.cal_parser.proofs.Nesting.{closes, fault_nests, leaves, nests, nests_last, opened_is, postfix_is}
-use Rattle.cal_parser.proofs.Reading.{read_is}
+use Rattle.cal_grammar.proofs.Reading.{read_is}
 
 -- operations of one level
 

@@ -4,13 +4,13 @@ use Rattle.look_ahead.specs.Program.{Outcome, Gave, Refused, TooHigh, Spent, aft
 use Rattle.cal_ast.specs.Tree.{Tree}
 use Rattle.cal_lexer.specs.Lexeme.{Placed}
 use Rattle.cal_lexer.specs.declared.token.Token.{Token}
-use Rattle.cal_parser.specs.Spells.{level}
-use Rattle.cal_parser.specs.Rules.{part, chain, read}
+use Rattle.cal_grammar.specs.Spells.{level}
+use Rattle.cal_grammar.specs.Rules.{part, chain, read}
 use Rattle.cal_parser.specs.Steps.{climbs}
 use Rattle.cal_parser.specs.Tells.{TellsFault}
 use Rattle.cal_parser.specs.declared.fault.Fault.{Fault}
 use Rattle.cal_parser.specs.declared.fault.Fault.TheVariants as faults
-use Rattle.cal_parser.proofs.Reading.{read_is}
+use Rattle.cal_grammar.proofs.Reading.{read_is}
 
 abbrev pub Next : Type 0
 Next = Tree → List Placed → Outcome Placed Tree

@@ -6,11 +6,11 @@ use Rattle.cal_lexer.specs.Lexeme.{Lexeme, Placed, plain_tokens}
 use Rattle.cal_lexer.specs.declared.token.Token.{Token}
 use Rattle.cal_parser.specs.Cursor.{Took, TookName, TookWord, stands}
 use Rattle.cal_parser.specs.Leading.{LedByName, LedByWord, TookOpens}
-use Rattle.cal_parser.specs.Rules.{expect, ident_of, if_body, list_body, name_body, part, read, type_tail}
-use Rattle.cal_parser.specs.Spells.{a_gen, a_type, a_type_arg, an_expr, any, comma, separated}
+use Rattle.cal_grammar.specs.Rules.{expect, ident_of, if_body, list_body, name_body, part, read, type_tail}
+use Rattle.cal_grammar.specs.Spells.{a_gen, a_type, a_type_arg, an_expr, any, comma, separated}
 use Rattle.cal_parser.specs.Steps.{Answers, call_step, comp_step, does, if_step, list_step, type_step}
 use Rattle.cal_parser.specs.Tells.{TellsFault}
-use Rattle.cal_parser.specs.Token.{kind_of, same_word}
+use Rattle.cal_grammar.specs.Token.{kind_of, same_word}
 use Rattle.cal_parser.specs.declared.fault.Fault.{Fault}
 use Rattle.cal_parser.specs.declared.fault.Fault.TheVariants as faults
 use Rattle.cal_parser.proofs.Climbing.{fault_same}

@@ -6,17 +6,18 @@ use Rattle.look_ahead.specs.Program.{Gave, Refused, TooHigh}
 use Rattle.cal_ast.specs.Tree.{Tree}
 use Rattle.cal_lexer.specs.Lexeme.{Placed, plain_tokens}
 use Rattle.cal_lexer.specs.declared.token.Token.{Token}
-use Rattle.cal_parser.specs.Operators.{height, max_height}
+use Rattle.cal_grammar.specs.Operators.{height, max_height}
 use Rattle.rvc_base.specs.Rules.{spells_no_file, too_high}
-use Rattle.cal_parser.specs.Refusals.{Breaks, breaks_off, grows_high, IsRightly, answer_of, place_in}
+use Rattle.cal_grammar.specs.Refusals.{Breaks, breaks_off, grows_high, IsRightly, place_in}
+use Rattle.cal_parser.specs.Answers.{answer_of}
 use Rattle.cal_parser.specs.Tells.{TellsFault}
 use Rattle.cal_parser.specs.declared.fault.Fault.{Fault}
 use Rattle.cal_parser.specs.declared.fault.Fault.TheVariants as faults
-use Rattle.cal_parser.specs.Rules.{whole, read}
-use Rattle.cal_parser.specs.Spells.{spells}
-use Rattle.cal_parser.proofs.Meets.{MeetsWhole, IsFar}
-use Rattle.cal_parser.proofs.Reading.{read_keeps}
-use Rattle.cal_parser.proofs.Whole.{read_spelled, whole_read, whole_refused, whole_too_high}
+use Rattle.cal_grammar.specs.Rules.{whole, read}
+use Rattle.cal_grammar.specs.Spells.{spells}
+use Rattle.cal_grammar.proofs.Meets.{MeetsWhole, IsFar}
+use Rattle.cal_grammar.proofs.Reading.{read_keeps}
+use Rattle.cal_grammar.proofs.Whole.{read_spelled, whole_read, whole_refused, whole_too_high}
 
 module _ (ts left : List Placed) where
   pub given_spelled : (f : Tree) → read max_height whole ts ≡ Gave f left → spells ts f

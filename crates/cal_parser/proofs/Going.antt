@@ -7,18 +7,18 @@ use Rattle.cal_lexer.specs.Lexeme.{Lexeme, Placed, placed, plain_tokens}
 use Rattle.cal_lexer.specs.declared.token.Token.{Token}
 use Rattle.cal_parser.specs.Cursor.{Stays, Took, TookName, TookWord, stands}
 use Rattle.cal_parser.specs.Leading.{HasNoRoom, LedByName, LedByWord}
-use Rattle.cal_parser.specs.Rules.{Rule, Step, expect, named, part, read}
-use Rattle.cal_parser.specs.Spells.{Part}
+use Rattle.cal_grammar.specs.Rules.{Rule, Step, expect, named, part, read}
+use Rattle.cal_grammar.specs.Spells.{Part}
 use Rattle.cal_parser.specs.Steps.{Answers, does}
 use Rattle.cal_parser.specs.Tells.{Tells, TellsFault}
-use Rattle.cal_parser.specs.Token.{here, names, same_word}
+use Rattle.cal_grammar.specs.Token.{here, names, same_word}
 use Rattle.cal_parser.specs.declared.fault.Fault.{Fault}
 use Rattle.cal_parser.specs.declared.fault.Fault.TheVariants as faults
 use Rattle.cal_parser.proofs.Climbing.{Next, fault_after, fault_same}
-use Rattle.cal_parser.proofs.Costs.{Cost, costs, takes}
-use Rattle.cal_parser.proofs.Meets.{IsRead, Meets}
+use Rattle.cal_grammar.proofs.Costs.{Cost, costs, takes}
+use Rattle.cal_grammar.proofs.Meets.{IsRead, Meets}
 use Rattle.cal_parser.proofs.NameLists.{length-plain}
-use Rattle.cal_parser.proofs.Reading.{read_keeps}
+use Rattle.cal_grammar.proofs.Reading.{read_keeps}
 
 pub answers_same : {A : Type 0} (view : A → Tree) (result : Result A Fault) (new : List Token) (o o' : Outcome Placed Tree) → o ≡ o' → Answers view o' result new → Answers view o result new
 answers_same view (Ok x) new o o' e h = e ∙ h

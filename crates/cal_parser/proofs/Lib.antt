@@ -1,14 +1,3 @@
-mod Words
-mod Costs
-mod Meets
-mod Sound
-mod SoundStatements
-mod SoundMembers
-mod Reading
-mod Follow
-mod Claims
-mod Complete
-mod Whole
 mod Taking
 mod ListSteps
 mod NameLists
@@ -22,7 +11,6 @@ mod FileAnswers
 mod ImportPaths
 mod MemberLists
 mod Openings
-mod Rows
 mod Climbing
 mod Nesting
 mod Going

@@ -3,12 +3,12 @@ use Rattle.std.proofs.Common.{◌≡◌, ℕ, false, List, [], ◌∷◌, ◌++�
 use Rattle.look_ahead.specs.Program.{Outcome, Gave, Refused, TooHigh, Spent, ahead, exec, after}
 use Rattle.cal_ast.specs.Tree.{Tree, cons, nil, listed}
 use Rattle.cal_lexer.specs.Lexeme.{Placed, placed}
-use Rattle.cal_parser.specs.Token.{here, same_word}
-use Rattle.cal_parser.specs.Spells.{Mark, mark, Part, separated, rest}
-use Rattle.cal_parser.specs.Rules.{part, read}
+use Rattle.cal_grammar.specs.Token.{here, same_word}
+use Rattle.cal_grammar.specs.Spells.{Mark, mark, Part, separated, rest}
+use Rattle.cal_grammar.specs.Rules.{part, read}
 use Rattle.cal_parser.specs.Tells.{joined, before}
-use Rattle.cal_parser.proofs.Reading.{read_is}
-use Rattle.cal_parser.proofs.Follow.{same_mark}
+use Rattle.cal_grammar.proofs.Reading.{read_is}
+use Rattle.cal_grammar.proofs.Follow.{same_mark}
 
 pub joined-listed : (xs : List Tree) (x : Tree) → joined xs (cons x nil) ≡ listed (xs ++ x ∷ [])
 joined-listed [] x = refl

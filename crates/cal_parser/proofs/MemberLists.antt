@@ -9,17 +9,17 @@ use Rattle.cal_lexer.specs.Lexeme.{Lexeme, Placed, plain_tokens}
 use Rattle.cal_lexer.specs.declared.token.Token.{Token}
 use Rattle.cal_parser.specs.Cursor.{stands}
 use Rattle.cal_parser.specs.MembersSoFar.{IsMembersSoFar}
-use Rattle.cal_parser.specs.Spells.{Part, a_member, a_schedule, members}
-use Rattle.cal_parser.specs.Token.{here, same_word}
-use Rattle.cal_parser.specs.Rules.{part, read, starts_member}
+use Rattle.cal_grammar.specs.Spells.{Part, a_member, a_schedule, members}
+use Rattle.cal_grammar.specs.Token.{here, same_word}
+use Rattle.cal_grammar.specs.Rules.{part, read, starts_member}
 use Rattle.cal_parser.specs.Tells.{before, TellsFault}
 use Rattle.cal_parser.specs.declared.fault.Fault.{Fault}
 use Rattle.cal_parser.specs.declared.fault.Fault.TheVariants as faults
-use Rattle.cal_parser.proofs.Costs.{costs, takes}
+use Rattle.cal_grammar.proofs.Costs.{costs, takes}
 use Rattle.cal_parser.proofs.ListSteps
-use Rattle.cal_parser.proofs.Meets.{Meets}
+use Rattle.cal_grammar.proofs.Meets.{Meets}
 use Rattle.cal_parser.proofs.NameLists.{length-plain}
-use Rattle.cal_parser.proofs.Reading.{read_is, read_keeps}
+use Rattle.cal_grammar.proofs.Reading.{read_is, read_keeps}
 
 -- what is read of a part that can't be empty is gone
 shorter : (m : ℕ) (p : Part) (x : Tree) (old new : List Token) → takes p ≡ 1 → read m (part p) (plain_tokens old) ≡ Gave x (plain_tokens new) → length new < length old

@@ -8,14 +8,14 @@ use Rattle.cal_lexer.specs.Lexeme.{Lexeme, placed, plain_tokens}
 use Rattle.cal_lexer.specs.declared.token.Token.{Token}
 use Rattle.cal_parser.specs.Cursor.{Took, TookName, Stays, stands}
 use Rattle.cal_parser.specs.SoFar.{IsSoFar}
-use Rattle.cal_parser.specs.Spells.{Mark, mark, separated, a_name}
-use Rattle.cal_parser.specs.Token.{here, names, same_word}
-use Rattle.cal_parser.specs.Rules.{part, read}
+use Rattle.cal_grammar.specs.Spells.{Mark, mark, separated, a_name}
+use Rattle.cal_grammar.specs.Token.{here, names, same_word}
+use Rattle.cal_grammar.specs.Rules.{part, read}
 use Rattle.cal_parser.specs.Tells.{before, TellsNames}
 use Rattle.cal_parser.specs.declared.fault.Fault.{Fault}
 use Rattle.cal_parser.specs.declared.fault.Fault.TheVariants as faults
 use Rattle.cal_parser.proofs.ListSteps
-use Rattle.cal_parser.proofs.Reading.{read_is}
+use Rattle.cal_grammar.proofs.Reading.{read_is}
 
 pub length-plain : (ts : List Token) → length (plain_tokens ts) ≡ length ts
 length-plain [] = refl

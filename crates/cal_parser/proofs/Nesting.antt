@@ -4,13 +4,13 @@ use Rattle.look_ahead.specs.Program.{Outcome, after}
 use Rattle.cal_ast.specs.Tree.{Tree}
 use Rattle.cal_lexer.specs.Lexeme.{Lexeme, Placed, placed}
 use Rattle.cal_lexer.specs.declared.token.Token.{Token}
-use Rattle.cal_parser.specs.Spells.{a_postfix, a_primary, an_expr, level}
-use Rattle.cal_parser.specs.Rules.{part, places, read}
+use Rattle.cal_grammar.specs.Spells.{a_postfix, a_primary, an_expr, level}
+use Rattle.cal_grammar.specs.Rules.{part, places, read}
 use Rattle.cal_parser.specs.Leading.{opened}
 use Rattle.cal_parser.specs.Steps.{closing_step, climbs, does}
 use Rattle.cal_parser.specs.Tells.{TellsFault}
 use Rattle.cal_parser.specs.declared.fault.Fault.{Fault}
-use Rattle.cal_parser.proofs.Reading.{read_is}
+use Rattle.cal_grammar.proofs.Reading.{read_is}
 use Rattle.cal_parser.proofs.Climbing.{Next, after_after, fault_after, level_climbs}
 
 -- the end of a pair, behind the expression inside

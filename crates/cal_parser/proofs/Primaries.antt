@@ -7,17 +7,17 @@ use Rattle.cal_lexer.specs.Lexeme.{Lexeme, Placed, placed, plain_tokens}
 use Rattle.cal_lexer.specs.declared.token.Token.{Token}
 use Rattle.cal_parser.specs.Cursor.{Took, TookName, TookWord, stands}
 use Rattle.cal_parser.specs.Leading.{LedByName}
-use Rattle.cal_parser.specs.Rules.{Step, expect, ident_of, if_body, list_body, name_body, named, on, part, read, starts, starts_expr, type_tail}
-use Rattle.cal_parser.specs.Spells.{Part, a_gen, a_primary, a_type, a_type_arg, an_expr, any, comma, rest, separated}
+use Rattle.cal_grammar.specs.Rules.{Step, expect, ident_of, if_body, list_body, name_body, named, on, part, read, starts, starts_expr, type_tail}
+use Rattle.cal_grammar.specs.Spells.{Part, a_gen, a_primary, a_type, a_type_arg, an_expr, any, comma, rest, separated}
 use Rattle.cal_parser.specs.Steps.{call_step, comp_step, does, if_step, list_step, number_step, truth_step, type_step}
 use Rattle.cal_parser.specs.Tells.{TellsFault, before}
-use Rattle.cal_parser.specs.Token.{counts, here, names, offset, same_word, text_of}
+use Rattle.cal_grammar.specs.Token.{counts, here, names, offset, same_word, text_of}
 use Rattle.cal_parser.specs.declared.fault.Fault.{Fault}
 use Rattle.cal_parser.specs.declared.fault.Fault.TheVariants as faults
 use Rattle.cal_parser.proofs.Climbing.{Next}
 use Rattle.cal_parser.proofs.Going.{begin_on, check_low, name_led, named_on, yes_on}
 use Rattle.cal_parser.proofs.ListSteps
-use Rattle.cal_parser.proofs.Reading.{read_is}
+use Rattle.cal_grammar.proofs.Reading.{read_is}
 
 -- which primary it is
 

@@ -3,10 +3,10 @@ use Rattle.std.proofs.Common.{◌≡◌, ℕ, Bool, true, false, ◌||◌, List,
 use Rattle.look_ahead.specs.Program.{ahead}
 use Rattle.cal_lexer.specs.Lexeme.{Lexeme, Placed, placed, plain, plain_tokens, lexeme}
 use Rattle.cal_lexer.specs.declared.token.Token.{Token}
-use Rattle.cal_parser.specs.Token.{here, same_word, kind_of}
-use Rattle.cal_parser.specs.Operators.{ends, long_end}
+use Rattle.cal_grammar.specs.Token.{here, same_word, kind_of}
+use Rattle.cal_grammar.specs.Operators.{ends, long_end}
 use Rattle.cal_parser.specs.Cursor.{stands, Took, TookEnd, Stays, Finished}
-use Rattle.cal_parser.proofs.Words.{same_is}
+use Rattle.cal_grammar.proofs.Words.{same_is}
 
 pub word_taken : (w : Lexeme) (t : Token) (ts rest : List Token) → ts ≡ t ∷ rest → stands (same_word w) ts ≡ true → Took w t.at ts rest
 word_taken w t ts rest e h =

@@ -6,8 +6,8 @@ use Rattle.cal_parser.specs.declared.fault.Fault.TheVariants as faults
 use Rattle.look_ahead.specs.Program.{ahead}
 use Rattle.cal_lexer.specs.Lexeme.{Lexeme, placed, plain_tokens}
 use Rattle.cal_lexer.specs.declared.token.Token.{Token}
-use Rattle.cal_parser.specs.Operators.{ends}
-use Rattle.cal_parser.specs.Token.{here, names, same_word}
+use Rattle.cal_grammar.specs.Operators.{ends}
+use Rattle.cal_grammar.specs.Token.{here, names, same_word}
 
 -- whether there is a token of such a kind at the front
 abbrev pub stands : (Lexeme → Bool) → List Token → Bool

@@ -7,10 +7,10 @@ use Rattle.cal_lexer.specs.Lexeme.{Lexeme, Placed, plain_tokens}
 use Rattle.cal_lexer.specs.declared.token.Token.{Token}
 use Rattle.cal_parser.specs.declared.files.Path.{Path}
 use Rattle.cal_parser.specs.Cursor.{stands}
-use Rattle.cal_parser.specs.Operators.{onto}
-use Rattle.cal_parser.specs.Rules.{part, read}
-use Rattle.cal_parser.specs.Spells.{Part, a_path, an_actor, a_unit}
-use Rattle.cal_parser.specs.Token.{same_word}
+use Rattle.cal_grammar.specs.Operators.{onto}
+use Rattle.cal_grammar.specs.Rules.{part, read}
+use Rattle.cal_grammar.specs.Spells.{Part, a_path, an_actor, a_unit}
+use Rattle.cal_grammar.specs.Token.{same_word}
 
 -- the tree of what follows the first name of an import; the import has an offset, and this has none
 abbrev pub path_tree : Path → Tree

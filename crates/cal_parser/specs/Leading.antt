@@ -9,9 +9,9 @@ use Rattle.cal_parser.specs.declared.fault.Fault.{Fault}
 use Rattle.cal_parser.specs.declared.fault.Fault.TheVariants as faults
 use Rattle.cal_parser.specs.declared.operators.Prefix.{Prefix}
 use Rattle.cal_parser.specs.Cursor.{Took, stands}
-use Rattle.cal_parser.specs.Operators.{binary_of, is_prefix, prefix_of}
-use Rattle.cal_parser.specs.Rules.{at_level}
-use Rattle.cal_parser.specs.Token.{same_word}
+use Rattle.cal_grammar.specs.Operators.{binary_of, is_prefix, prefix_of}
+use Rattle.cal_grammar.specs.Rules.{at_level}
+use Rattle.cal_grammar.specs.Token.{same_word}
 
 -- nothing was taken, since a part of this height doesn't fit
 abbrev pub HasNoRoom : ℕ → ℕ → List Token → List Token → Type 0

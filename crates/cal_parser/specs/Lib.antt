@@ -1,4 +1,3 @@
-pub mod Token
 pub mod Cursor
 pub mod Tells
 pub mod Separator
@@ -6,10 +5,7 @@ pub mod SoFar
 pub mod ImportPath
 pub mod MembersSoFar
 pub mod Bodies
-pub mod Operators
-pub mod Spells
-pub mod Rules
 pub mod Pieces
-pub mod Refusals
 pub mod Leading
 pub mod Steps
+pub mod Answers

@@ -3,8 +3,8 @@ use Rattle.std.specs.Prelude.{◌≡◌, ℕ, Bool, true, List}
 use Rattle.cal_ast.specs.Tree.{Tree}
 use Rattle.cal_lexer.specs.Lexeme.{plain_tokens}
 use Rattle.cal_lexer.specs.declared.token.Token.{Token}
-use Rattle.cal_parser.specs.Spells.{members}
-use Rattle.cal_parser.specs.Rules.{part, read}
+use Rattle.cal_grammar.specs.Spells.{members}
+use Rattle.cal_grammar.specs.Rules.{part, read}
 use Rattle.cal_parser.specs.Tells.{before}
 
 -- these members are read from `start` on, and the others from `now` on; `k` says whether a schedule may still come

@@ -8,8 +8,8 @@ use Rattle.cal_lexer.specs.Lexeme.{Lexeme, placed, plain_tokens}
 use Rattle.cal_lexer.specs.declared.token.Token.{Token}
 use Rattle.cal_parser.specs.declared.fault.Fault.{Fault}
 use Rattle.cal_parser.specs.declared.stmts.Bounds.{Bounds}
-use Rattle.cal_parser.specs.Spells.{comma, separated, any, repeated, a_type, a_var, a_place, a_stmt, an_expr}
-use Rattle.cal_parser.specs.Rules.{part, Step, read, on, expect, named, finish, ident_of, if_stmt_body}
+use Rattle.cal_grammar.specs.Spells.{comma, separated, any, repeated, a_type, a_var, a_place, a_stmt, an_expr}
+use Rattle.cal_grammar.specs.Rules.{part, Step, read, on, expect, named, finish, ident_of, if_stmt_body}
 use Rattle.cal_parser.specs.Tells.{TellsFault}
 
 -- an expression, and what is made of it

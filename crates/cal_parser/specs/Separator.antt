@@ -1,7 +1,7 @@
 -- What stands between the parts of a list, as the code has it.
 use Rattle.cal_parser.specs.declared.names.Separator.{Separator}
 use Rattle.cal_parser.specs.declared.names.Separator.TheVariants as separators
-use Rattle.cal_parser.specs.Spells.{Mark, comma, dot, greater}
+use Rattle.cal_grammar.specs.Spells.{Mark, comma, dot, greater}
 
 abbrev pub mark_of : Separator → Mark
 mark_of separators.Comma = comma

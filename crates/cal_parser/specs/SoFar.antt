@@ -3,8 +3,8 @@ use Rattle.std.specs.Prelude.{◌≡◌, ℕ, List}
 use Rattle.cal_ast.specs.Tree.{Tree}
 use Rattle.cal_lexer.specs.Lexeme.{Lexeme, plain_tokens}
 use Rattle.cal_lexer.specs.declared.token.Token.{Token}
-use Rattle.cal_parser.specs.Spells.{Mark, mark, Part, separated}
-use Rattle.cal_parser.specs.Rules.{Rule, part, read}
+use Rattle.cal_grammar.specs.Spells.{Mark, mark, Part, separated}
+use Rattle.cal_grammar.specs.Rules.{Rule, part, read}
 use Rattle.cal_parser.specs.Tells.{before}
 
 -- these trees are read from `start` on, with a mark behind each, and the rest is read from `now` on

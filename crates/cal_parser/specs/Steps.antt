@@ -14,10 +14,10 @@ use Rattle.cal_parser.specs.declared.tall.TallType.{TallType}
 use Rattle.cal_parser.specs.declared.tall.TallTypeArg.{TallTypeArg}
 use Rattle.cal_parser.specs.declared.tall.TallTypeArgs.{TallTypeArgs}
 use Rattle.cal_ast.specs.Places.{begins}
-use Rattle.cal_parser.specs.Operators.{group, height}
-use Rattle.cal_parser.specs.Rules.{Rule, Step, chain, expect, finish, read}
+use Rattle.cal_grammar.specs.Operators.{group, height}
+use Rattle.cal_grammar.specs.Rules.{Rule, Step, chain, expect, finish, read}
 use Rattle.cal_parser.specs.Tells.{TellsFault}
-use Rattle.cal_parser.specs.Token.{here, offset, same_word, value_of}
+use Rattle.cal_grammar.specs.Token.{here, offset, same_word, value_of}
 
 -- what a step does in a room
 abbrev pub does : ℕ → Step → List Placed → Outcome Placed Tree

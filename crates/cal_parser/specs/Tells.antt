@@ -10,8 +10,8 @@ use Rattle.cal_lexer.specs.Lexeme.{Placed, plain_tokens}
 use Rattle.cal_lexer.specs.declared.token.Token.{Token}
 use Rattle.cal_parser.specs.declared.fault.Fault.{Fault}
 use Rattle.cal_parser.specs.declared.fault.Fault.TheVariants as faults
-use Rattle.cal_parser.specs.Spells.{separated, a_name, a_tag, Mark}
-use Rattle.cal_parser.specs.Rules.{Rule, part, read}
+use Rattle.cal_grammar.specs.Spells.{separated, a_name, a_tag, Mark}
+use Rattle.cal_grammar.specs.Rules.{Rule, part, read}
 
 abbrev pub TellsFault : Fault → List Token → Outcome Placed Tree → Type 0
 TellsFault faults.Refused new o = o ≡ Refused (plain_tokens new)

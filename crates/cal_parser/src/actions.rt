@@ -3,8 +3,8 @@
 ghost use Rattle.std.specs.Prelude.{◌≡◌};
 ghost use Rattle.cal_ast.specs.View.{action_tree, body_tree, expr_tree, optional_expr, output_tree, pattern_tree};
 ghost use Rattle.cal_parser.specs.Bodies.{TellsOpening, TellsStart, TellsStep, after_arrow, after_opening};
-ghost use Rattle.cal_parser.specs.Rules.{in_body, out_body, part};
-ghost use Rattle.cal_parser.specs.Spells.{a_body, an_action, an_in, an_out, some_guards, some_repeat};
+ghost use Rattle.cal_grammar.specs.Rules.{in_body, out_body, part};
+ghost use Rattle.cal_grammar.specs.Spells.{a_body, an_action, an_in, an_out, some_guards, some_repeat};
 ghost use Rattle.cal_parser.specs.Tells.{Tells, each};
 
 use crate::cursor::{expect, finish, is_name, is_word, name, take_word};
@@ -19,7 +19,7 @@ use cal_lexer::{Token, Word};
 use std::alloc::Global;
 
 /// The guards of an action.
-#[tactic(auto, using(crate::proofs::Reading::read_is))]
+#[tactic(auto, using(cal_grammar::proofs::Reading::read_is))]
 fn guards(alloc: Global, tokens: &mut &[Token], room: u32) -> Result<Vec<Expr>, Fault>
     ensures { Tells (each expr_tree) room (part some_guards) result tokens.old.now tokens.new.now }
 {
@@ -31,7 +31,7 @@ fn guards(alloc: Global, tokens: &mut &[Token], room: u32) -> Result<Vec<Expr>, 
 }
 
 /// How many tokens each name or value of a port stands for, where `repeat` says so.
-#[tactic(auto, using(crate::proofs::Reading::read_is))]
+#[tactic(auto, using(cal_grammar::proofs::Reading::read_is))]
 fn repeat(alloc: Global, tokens: &mut &[Token], room: u32) -> Result<Option<Expr>, Fault>
     ensures { Tells optional_expr room (part some_repeat) result tokens.old.now tokens.new.now }
 {
@@ -43,7 +43,7 @@ fn repeat(alloc: Global, tokens: &mut &[Token], room: u32) -> Result<Option<Expr
 }
 
 /// The statements of an action, behind its `do`.
-#[tactic(auto, using(crate::proofs::Reading::read_is))]
+#[tactic(auto, using(cal_grammar::proofs::Reading::read_is))]
 fn action_body(alloc: Global, tokens: &mut &[Token], room: u32) -> Result<Option<Vec<Stmt>>, Fault>
     ensures { Tells body_tree room (part a_body) result tokens.old.now tokens.new.now }
 {
@@ -82,7 +82,7 @@ fn read_opening(alloc: Global, tokens: &mut &[Token]) -> Result<Opening, Fault>
 }
 
 /// A pattern from its `[` on.
-#[tactic(auto, using(crate::proofs::Reading::read_is))]
+#[tactic(auto, using(cal_grammar::proofs::Reading::read_is))]
 fn pattern_from(
     alloc: Global,
     tokens: &mut &[Token],
@@ -112,7 +112,7 @@ fn pattern(alloc: Global, tokens: &mut &[Token], room: u32) -> Result<Pattern, F
 
 impl Read for Pattern {
     ghost use Rattle.cal_ast.specs.View.{pattern_tree};
-    ghost use Rattle.cal_parser.specs.Spells.{an_in};
+    ghost use Rattle.cal_grammar.specs.Spells.{an_in};
 
     ghost part = { an_in };
 
@@ -128,7 +128,7 @@ impl Read for Pattern {
 }
 
 /// An output from its `[` on.
-#[tactic(auto, using(crate::proofs::Reading::read_is))]
+#[tactic(auto, using(cal_grammar::proofs::Reading::read_is))]
 fn output_from(
     alloc: Global,
     tokens: &mut &[Token],
@@ -158,7 +158,7 @@ fn output(alloc: Global, tokens: &mut &[Token], room: u32) -> Result<Output, Fau
 
 impl Read for Output {
     ghost use Rattle.cal_ast.specs.View.{output_tree};
-    ghost use Rattle.cal_parser.specs.Spells.{an_out};
+    ghost use Rattle.cal_grammar.specs.Spells.{an_out};
 
     ghost part = { an_out };
 
@@ -184,7 +184,7 @@ pub struct Start {
 }
 
 /// An action, or an `initialize`, up to its `==>`.
-#[tactic(auto, using(crate::proofs::Reading::read_is))]
+#[tactic(auto, using(cal_grammar::proofs::Reading::read_is))]
 fn read_start(alloc: Global, tokens: &mut &[Token], room: u32) -> Result<Start, Fault>
     ensures { TellsStart room result tokens.old.now tokens.new.now }
 {
@@ -225,7 +225,7 @@ impl Start {
 }
 
 /// An action from its `==>` on.
-#[tactic(auto, using(crate::proofs::Reading::read_is))]
+#[tactic(auto, using(cal_grammar::proofs::Reading::read_is))]
 fn after_start(
     alloc: Global,
     tokens: &mut &[Token],

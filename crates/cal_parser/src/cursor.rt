@@ -3,8 +3,8 @@
 ghost use Rattle.std.specs.Prelude.{◌≡◌, ◌<◌, true, false, length, MatchResult, string_bytes, IsTrue};
 ghost use Rattle.cal_lexer.specs.Lexeme.{Name, lexeme};
 ghost use Rattle.cal_parser.specs.Cursor.{Finished, Took, TookName, TookWord, stands};
-ghost use Rattle.cal_parser.specs.Operators.{ends};
-ghost use Rattle.cal_parser.specs.Token.{counts, names, same_word};
+ghost use Rattle.cal_grammar.specs.Operators.{ends};
+ghost use Rattle.cal_grammar.specs.Token.{counts, names, same_word};
 ghost use Rattle.cal_lexer.specs.Words.{lexeme_of};
 
 use crate::ends::long_end;

@@ -6,8 +6,8 @@ ghost use Rattle.cal_ast.specs.Tree as tree;
 ghost use Rattle.cal_ast.specs.Tree.{present};
 ghost use Rattle.cal_ast.specs.View.{ident_tree, param_tree, port_tree, type_tree, var_tree};
 ghost use Rattle.cal_parser.specs.Pieces.{Does, value_then};
-ghost use Rattle.cal_parser.specs.Rules.{part, var_tail};
-ghost use Rattle.cal_parser.specs.Spells.{a_param, a_port, a_var, any, comma, some_vars as some_vars_part};
+ghost use Rattle.cal_grammar.specs.Rules.{part, var_tail};
+ghost use Rattle.cal_grammar.specs.Spells.{a_param, a_port, a_var, any, comma, some_vars as some_vars_part};
 ghost use Rattle.cal_parser.specs.Tells.{Tells, each};
 
 use crate::cursor::{is_name, is_word, name, take_word};
@@ -86,7 +86,7 @@ fn place_of(shape: &TypeExpr) -> u32
 
 impl Read for VarDecl {
     ghost use Rattle.cal_ast.specs.View.{var_tree};
-    ghost use Rattle.cal_parser.specs.Spells.{a_var};
+    ghost use Rattle.cal_grammar.specs.Spells.{a_var};
 
     ghost part = { a_var };
 
@@ -139,7 +139,7 @@ pub fn param(alloc: Global, tokens: &mut &[Token], room: u32) -> Result<Param, F
 
 impl Read for Param {
     ghost use Rattle.cal_ast.specs.View.{param_tree};
-    ghost use Rattle.cal_parser.specs.Spells.{a_param};
+    ghost use Rattle.cal_grammar.specs.Spells.{a_param};
 
     ghost part = { a_param };
 
@@ -173,7 +173,7 @@ pub fn port(alloc: Global, tokens: &mut &[Token], room: u32) -> Result<PortDecl,
 
 impl Read for PortDecl {
     ghost use Rattle.cal_ast.specs.View.{port_tree};
-    ghost use Rattle.cal_parser.specs.Spells.{a_port};
+    ghost use Rattle.cal_grammar.specs.Spells.{a_port};
 
     ghost part = { a_port };
 

@@ -2,7 +2,7 @@
 
 ghost use Rattle.std.specs.Prelude.{◌≡◌};
 ghost use Rattle.cal_lexer.specs.Words.{lexeme_of};
-ghost use Rattle.cal_parser.specs.Operators.{long_end};
+ghost use Rattle.cal_grammar.specs.Operators.{long_end};
 
 use cal_lexer::Word;
 

@@ -8,11 +8,11 @@ ghost use Rattle.cal_ast.specs.View.{expr_tree, type_tree};
 ghost use Rattle.cal_lexer.specs.Lexeme.{If, LeftBracket, LeftParen, plain_tokens};
 ghost use Rattle.look_ahead.specs.Program.{check, take};
 ghost use Rattle.cal_parser.specs.Cursor.{stands};
-ghost use Rattle.cal_parser.specs.Rules.{if_body, list_body, name_body, part, places, type_tail};
-ghost use Rattle.cal_parser.specs.Spells.{a_gen, a_primary, a_type, a_type_arg, an_expr, any, comma, level, separated};
+ghost use Rattle.cal_grammar.specs.Rules.{if_body, list_body, name_body, part, places, type_tail};
+ghost use Rattle.cal_grammar.specs.Spells.{a_gen, a_primary, a_type, a_type_arg, an_expr, any, comma, level, separated};
 ghost use Rattle.cal_parser.specs.Steps.{Answers, Does, Reads, climbs, each_expr, each_gen, each_type_arg, tall_gen, tall_tree, tall_type, tall_type_arg};
 ghost use Rattle.cal_parser.specs.Tells.{Tells, each};
-ghost use Rattle.cal_parser.specs.Token.{names, same_word};
+ghost use Rattle.cal_grammar.specs.Token.{names, same_word};
 
 use crate::cursor::{expect, is_name, is_number, is_word, name, take_word};
 use crate::fault::Fault;

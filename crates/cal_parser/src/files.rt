@@ -4,11 +4,11 @@ ghost use Rattle.std.specs.Prelude.{◌≡◌, map};
 ghost use Rattle.look_ahead.specs.Program.{ahead};
 ghost use Rattle.cal_ast.specs.Tree.{listed};
 ghost use Rattle.cal_ast.specs.View.{actor_tree, file_body_tree, file_tree, import_tree, unit_tree};
-ghost use Rattle.cal_parser.specs.Operators.{first_place};
+ghost use Rattle.cal_grammar.specs.Operators.{first_place};
 ghost use Rattle.cal_lexer.specs.Lexeme.{plain_tokens};
 ghost use Rattle.cal_parser.specs.ImportPath.{body_part, path_tree};
-ghost use Rattle.cal_parser.specs.Rules.{at_end, part, whole as a_whole_file};
-ghost use Rattle.cal_parser.specs.Spells.{a_file, a_path, a_unit, an_actor, an_import, some_imports};
+ghost use Rattle.cal_grammar.specs.Rules.{at_end, part, whole as a_whole_file};
+ghost use Rattle.cal_grammar.specs.Spells.{a_file, a_path, a_unit, an_actor, an_import, some_imports};
 ghost use Rattle.cal_parser.specs.Tells.{Tells};
 
 use crate::cursor::{expect, finish, is_word, name, take_word};
@@ -52,7 +52,7 @@ fn read_path(alloc: Global, tokens: &mut &[Token], room: u32) -> Result<Path, Fa
 }
 
 /// An import.
-#[tactic(auto, using(crate::proofs::Reading::read_is))]
+#[tactic(auto, using(cal_grammar::proofs::Reading::read_is))]
 fn import(alloc: Global, tokens: &mut &[Token], room: u32) -> Result<Import, Fault>
     ensures { Tells import_tree room (part an_import) result tokens.old.now tokens.new.now }
 {
@@ -71,7 +71,7 @@ fn import(alloc: Global, tokens: &mut &[Token], room: u32) -> Result<Import, Fau
 
 impl Read for Import {
     ghost use Rattle.cal_ast.specs.View.{import_tree};
-    ghost use Rattle.cal_parser.specs.Spells.{an_import};
+    ghost use Rattle.cal_grammar.specs.Spells.{an_import};
 
     ghost part = { an_import };
 
@@ -87,7 +87,7 @@ impl Read for Import {
 }
 
 /// An actor.
-#[tactic(auto, using(crate::proofs::Reading::read_is))]
+#[tactic(auto, using(cal_grammar::proofs::Reading::read_is))]
 fn actor(alloc: Global, tokens: &mut &[Token], room: u32) -> Result<Actor, Fault>
     ensures { Tells actor_tree room (part an_actor) result tokens.old.now tokens.new.now }
 {
@@ -115,7 +115,7 @@ fn actor(alloc: Global, tokens: &mut &[Token], room: u32) -> Result<Actor, Fault
 }
 
 /// A unit.
-#[tactic(auto, using(crate::proofs::Reading::read_is))]
+#[tactic(auto, using(cal_grammar::proofs::Reading::read_is))]
 fn unit(alloc: Global, tokens: &mut &[Token], room: u32) -> Result<UnitFile, Fault>
     ensures { Tells unit_tree room (part a_unit) result tokens.old.now tokens.new.now }
 {
@@ -154,7 +154,7 @@ fn first_offset(imports: &[Import], body: &Body) -> u32
 }
 
 /// The imports of a file, and its body.
-#[tactic(auto, using(crate::proofs::Reading::read_is))]
+#[tactic(auto, using(cal_grammar::proofs::Reading::read_is))]
 fn imports_and_body(alloc: Global, tokens: &mut &[Token], room: u32) -> Result<File, Fault>
     ensures { Tells file_tree room (part some_imports) result tokens.old.now tokens.new.now }
 {
@@ -170,7 +170,7 @@ fn imports_and_body(alloc: Global, tokens: &mut &[Token], room: u32) -> Result<F
 }
 
 /// A file.
-#[tactic(auto, using(crate::proofs::Reading::read_is))]
+#[tactic(auto, using(cal_grammar::proofs::Reading::read_is))]
 fn file(alloc: Global, tokens: &mut &[Token], room: u32) -> Result<File, Fault>
     ensures { Tells file_tree room (part a_file) result tokens.old.now tokens.new.now }
 {
@@ -200,7 +200,7 @@ fn is_at_end(tokens: &[Token]) -> bool
 }
 
 /// A file, and nothing behind it.
-#[tactic(auto, using(crate::proofs::Reading::read_is))]
+#[tactic(auto, using(cal_grammar::proofs::Reading::read_is))]
 pub fn whole(alloc: Global, tokens: &mut &[Token], room: u32) -> Result<File, Fault>
     ensures { Tells file_tree room a_whole_file result tokens.old.now tokens.new.now }
 {

@@ -3,8 +3,8 @@
 ghost use Rattle.std.specs.Prelude.{◌≡◌, true};
 ghost use Rattle.cal_parser.specs.Cursor.{stands};
 ghost use Rattle.cal_parser.specs.Leading.{LedByName, LedByWord};
-ghost use Rattle.cal_parser.specs.Rules.{starts_expr as starts};
-ghost use Rattle.cal_parser.specs.Token.{names, same_word};
+ghost use Rattle.cal_grammar.specs.Rules.{starts_expr as starts};
+ghost use Rattle.cal_grammar.specs.Token.{names, same_word};
 ghost use Rattle.cal_lexer.specs.Words.{lexeme_of};
 
 use crate::cursor::{name, take_word};

@@ -6,7 +6,7 @@ ghost use Rattle.cal_ast.specs.View.{expr_tree};
 ghost use Rattle.cal_parser.specs.Cursor.{stands};
 ghost use Rattle.cal_parser.specs.Steps.{number_step, truth_step};
 ghost use Rattle.cal_parser.specs.Steps.{Does, tall_tree, truth_word};
-ghost use Rattle.cal_parser.specs.Token.{counts, same_word};
+ghost use Rattle.cal_grammar.specs.Token.{counts, same_word};
 ghost use Rattle.cal_lexer.specs.Words.{lexeme_of};
 
 use crate::cursor::take_word;

@@ -1,8 +1,6 @@
 //! From tokens to the tree of a file.
 //!
-//! `specs/Spells.antt` is the grammar: which tokens spell which tree. `specs/Rules.antt` writes its rules
-//! as programs that look one token ahead. `proofs/` shows that they read exactly what is spelled, and that the
-//! code does what they do.
+//! The code does what the programs of `cal_grammar` do, and is told by a clause each: see `specs/Tells.antt`.
 #![tactic(auto)]
 
 mod actions;
@@ -17,7 +15,6 @@ mod fault;
 mod file_tests;
 mod files;
 mod forms;
-mod laws;
 mod leading;
 mod leaves;
 mod lists;
@@ -31,5 +28,5 @@ mod stmts;
 mod tall;
 mod types;
 
-pub use laws::one_tree;
+pub use cal_grammar::one_tree;
 pub use parse::{MAX_HEIGHT, parse_file};

@@ -1,9 +1,9 @@
 //! Lists of parts, of any kind that reads itself.
 
 ghost use Rattle.std.specs.Prelude.{◌≡◌};
-ghost use Rattle.cal_parser.specs.Rules.{part};
+ghost use Rattle.cal_grammar.specs.Rules.{part};
 ghost use Rattle.cal_parser.specs.Separator.{mark_of};
-ghost use Rattle.cal_parser.specs.Spells.{comma, separated, any, repeated};
+ghost use Rattle.cal_grammar.specs.Spells.{comma, separated, any, repeated};
 ghost use Rattle.cal_parser.specs.Tells.{Tells, each};
 
 use crate::cursor::{is_word, take_word};
@@ -16,8 +16,8 @@ use std::alloc::Global;
 pub trait Read: Drop {
     ghost use Rattle.cal_ast.specs.Tree.{Tree};
     ghost use Rattle.cal_parser.specs.Cursor.{stands};
-    ghost use Rattle.cal_parser.specs.Rules as rules;
-    ghost use Rattle.cal_parser.specs.Spells.{Part};
+    ghost use Rattle.cal_grammar.specs.Rules as rules;
+    ghost use Rattle.cal_grammar.specs.Spells.{Part};
     ghost use Rattle.cal_parser.specs.Tells.{Tells};
 
     /// Which part it is.

@@ -4,8 +4,8 @@ ghost use Rattle.std.specs.Prelude.{◌≡◌, true};
 ghost use Rattle.cal_ast.specs.View.{action_tree, function_tree, ident_tree, member_tree, procedure_tree, var_tree};
 ghost use Rattle.cal_parser.specs.Bodies.{TellsStep, after_label, after_type};
 ghost use Rattle.cal_parser.specs.Cursor.{stands};
-ghost use Rattle.cal_parser.specs.Rules.{named, named_member_body, part, starts_member as starts_a_member};
-ghost use Rattle.cal_parser.specs.Spells.{a_function, a_member, a_name, a_procedure, a_unit_member, dot, members as members_of, rest};
+ghost use Rattle.cal_grammar.specs.Rules.{named, named_member_body, part, starts_member as starts_a_member};
+ghost use Rattle.cal_grammar.specs.Spells.{a_function, a_member, a_name, a_procedure, a_unit_member, dot, members as members_of, rest};
 ghost use Rattle.cal_parser.specs.Tells.{Tells, each};
 
 use crate::actions::action;
@@ -22,7 +22,7 @@ use cal_lexer::{Token, TokenKind, Word};
 use std::alloc::Global;
 
 /// A function.
-#[tactic(auto, using(crate::proofs::Reading::read_is))]
+#[tactic(auto, using(cal_grammar::proofs::Reading::read_is))]
 fn function(alloc: Global, tokens: &mut &[Token], room: u32) -> Result<Function, Fault>
     ensures { Tells function_tree room (part a_function) result tokens.old.now tokens.new.now }
 {
@@ -50,7 +50,7 @@ fn function(alloc: Global, tokens: &mut &[Token], room: u32) -> Result<Function,
 }
 
 /// A procedure.
-#[tactic(auto, using(crate::proofs::Reading::read_is))]
+#[tactic(auto, using(cal_grammar::proofs::Reading::read_is))]
 fn procedure(alloc: Global, tokens: &mut &[Token], room: u32) -> Result<Procedure, Fault>
     ensures { Tells procedure_tree room (part a_procedure) result tokens.old.now tokens.new.now }
 {
@@ -75,7 +75,7 @@ fn procedure(alloc: Global, tokens: &mut &[Token], room: u32) -> Result<Procedur
 }
 
 /// What follows the first name of a tag.
-#[tactic(auto, using(crate::proofs::Reading::read_is))]
+#[tactic(auto, using(cal_grammar::proofs::Reading::read_is))]
 fn more_names(alloc: Global, tokens: &mut &[Token], room: u32) -> Result<Vec<Ident>, Fault>
     ensures { Tells (each ident_tree) room (part (rest dot a_name)) result tokens.old.now tokens.new.now }
 {
@@ -87,7 +87,7 @@ fn more_names(alloc: Global, tokens: &mut &[Token], room: u32) -> Result<Vec<Ide
 }
 
 /// An action behind the first name of its tag.
-#[tactic(auto, using(crate::proofs::Reading::read_is))]
+#[tactic(auto, using(cal_grammar::proofs::Reading::read_is))]
 fn labelled_action(
     alloc: Global,
     tokens: &mut &[Token],
@@ -114,7 +114,7 @@ fn labelled_action(
 }
 
 /// A variable behind the name of its type.
-#[tactic(auto, using(crate::proofs::Reading::read_is))]
+#[tactic(auto, using(cal_grammar::proofs::Reading::read_is))]
 fn variable(alloc: Global, tokens: &mut &[Token], room: u32, first: Ident) -> Result<VarDecl, Fault>
     ensures { TellsStep var_tree room (after_type first) result tokens.old.now tokens.new.now }
 {
@@ -125,7 +125,7 @@ fn variable(alloc: Global, tokens: &mut &[Token], room: u32, first: Ident) -> Re
 }
 
 /// A member that begins with a name: a variable, or an action under a tag.
-#[tactic(auto, using(crate::proofs::Reading::read_is))]
+#[tactic(auto, using(cal_grammar::proofs::Reading::read_is))]
 fn named_member(alloc: Global, tokens: &mut &[Token], room: u32) -> Result<Member, Fault>
     ensures { TellsStep member_tree room (named named_member_body) result tokens.old.now tokens.new.now }
 {
@@ -161,7 +161,7 @@ fn starts_member(tokens: &[Token]) -> bool
 }
 
 /// A member of an actor, but for its schedule.
-#[tactic(auto, using(crate::proofs::Reading::read_is))]
+#[tactic(auto, using(cal_grammar::proofs::Reading::read_is))]
 fn member(alloc: Global, tokens: &mut &[Token], room: u32) -> Result<Member, Fault>
     ensures { Tells member_tree room (part a_member) result tokens.old.now tokens.new.now }
 {
@@ -203,7 +203,7 @@ pub fn members(alloc: Global, tokens: &mut &[Token], room: u32) -> Result<Vec<Me
 }
 
 /// A member of a unit: a variable or a function.
-#[tactic(auto, using(crate::proofs::Reading::read_is))]
+#[tactic(auto, using(cal_grammar::proofs::Reading::read_is))]
 fn unit_member(alloc: Global, tokens: &mut &[Token], room: u32) -> Result<Member, Fault>
     ensures { Tells member_tree room (part a_unit_member) result tokens.old.now tokens.new.now }
 {
@@ -218,7 +218,7 @@ fn unit_member(alloc: Global, tokens: &mut &[Token], room: u32) -> Result<Member
 /// As a member of a unit.
 impl Read for Member {
     ghost use Rattle.cal_ast.specs.View.{member_tree};
-    ghost use Rattle.cal_parser.specs.Spells.{a_unit_member};
+    ghost use Rattle.cal_grammar.specs.Spells.{a_unit_member};
 
     ghost part = { a_unit_member };
 

@@ -24,7 +24,7 @@ pub enum Separator {
 impl Separator {
     ghost use Rattle.std.specs.Prelude.{◌≡◌};
     ghost use Rattle.cal_parser.specs.Separator.{mark_of};
-    ghost use Rattle.cal_parser.specs.Spells.{mark};
+    ghost use Rattle.cal_grammar.specs.Spells.{mark};
     ghost use Rattle.cal_lexer.specs.Words.{lexeme_of};
 
     /// The word that it is.

@@ -4,8 +4,8 @@ ghost use Rattle.std.specs.Prelude.{◌≡◌, true};
 ghost use Rattle.cal_lexer.specs.Lexeme.{lexeme};
 ghost use Rattle.cal_parser.specs.Cursor.{stands};
 ghost use Rattle.cal_parser.specs.Leading.{TookOperator, TookPrefix};
-ghost use Rattle.cal_parser.specs.Operators.{binary_of, is_prefix as makes_prefix, level_of as level_in, prefix_of as prefix_in};
-ghost use Rattle.cal_parser.specs.Rules.{at_level};
+ghost use Rattle.cal_grammar.specs.Operators.{binary_of, is_prefix as makes_prefix, level_of as level_in, prefix_of as prefix_in};
+ghost use Rattle.cal_grammar.specs.Rules.{at_level};
 
 use crate::fault::Fault;
 use cal_ast::{BinOp, PrefixOp};

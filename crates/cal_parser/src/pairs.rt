@@ -3,7 +3,7 @@
 ghost use Rattle.std.specs.Prelude.{◌≡◌, ◌≤◌, IfOk, nat_le};
 ghost use Rattle.cal_ast.specs.View.{expr_tree};
 ghost use Rattle.cal_parser.specs.Leading.{TookOpens};
-ghost use Rattle.cal_parser.specs.Operators.{group, height};
+ghost use Rattle.cal_grammar.specs.Operators.{group, height};
 ghost use Rattle.cal_parser.specs.Steps.{Does, closing_step, drops, tall_tree};
 
 use crate::cursor::{is_word, take_word};

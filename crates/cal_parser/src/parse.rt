@@ -4,9 +4,10 @@ ghost use Rattle.std.specs.Prelude.{◌≡◌, ◌≤◌, IfOk, IfErr, MatchResu
 ghost use Rattle.cal_ast.specs.Tree.{Tree};
 ghost use Rattle.cal_ast.specs.View.{file_tree};
 ghost use Rattle.cal_lexer.specs.Lexeme.{plain_tokens};
-ghost use Rattle.cal_parser.specs.Operators.{height, max_height};
-ghost use Rattle.cal_parser.specs.Refusals.{IsRightly, answer_of, place_in};
-ghost use Rattle.cal_parser.specs.Spells.{spells};
+ghost use Rattle.cal_grammar.specs.Operators.{height, max_height};
+ghost use Rattle.cal_grammar.specs.Refusals.{IsRightly, place_in};
+ghost use Rattle.cal_parser.specs.Answers.{answer_of};
+ghost use Rattle.cal_grammar.specs.Spells.{spells};
 
 use crate::fault::Fault;
 use crate::files::whole;

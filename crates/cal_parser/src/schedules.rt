@@ -1,8 +1,8 @@
 //! Schedules and priorities.
 
 ghost use Rattle.cal_ast.specs.View.{chain_tree, move_tree, priority_tree, schedule_tree};
-ghost use Rattle.cal_parser.specs.Rules.{part};
-ghost use Rattle.cal_parser.specs.Spells.{a_chain, a_move, a_priority, a_schedule};
+ghost use Rattle.cal_grammar.specs.Rules.{part};
+ghost use Rattle.cal_grammar.specs.Spells.{a_chain, a_move, a_priority, a_schedule};
 ghost use Rattle.cal_parser.specs.Tells.{Tells};
 
 use crate::cursor::{expect, finish, is_name, name};
@@ -14,7 +14,7 @@ use cal_lexer::{Token, Word};
 use std::alloc::Global;
 
 /// A transition of a schedule.
-#[tactic(auto, using(crate::proofs::Reading::read_is))]
+#[tactic(auto, using(cal_grammar::proofs::Reading::read_is))]
 fn transition(alloc: Global, tokens: &mut &[Token], room: u32) -> Result<Move, Fault>
     ensures { Tells move_tree room (part a_move) result tokens.old.now tokens.new.now }
 {
@@ -31,7 +31,7 @@ fn transition(alloc: Global, tokens: &mut &[Token], room: u32) -> Result<Move, F
 
 impl Read for Tag {
     ghost use Rattle.cal_ast.specs.View.{tag_tree};
-    ghost use Rattle.cal_parser.specs.Spells.{a_tag};
+    ghost use Rattle.cal_grammar.specs.Spells.{a_tag};
 
     ghost part = { a_tag };
 
@@ -48,7 +48,7 @@ impl Read for Tag {
 
 impl Read for Move {
     ghost use Rattle.cal_ast.specs.View.{move_tree};
-    ghost use Rattle.cal_parser.specs.Spells.{a_move};
+    ghost use Rattle.cal_grammar.specs.Spells.{a_move};
 
     ghost part = { a_move };
 
@@ -64,7 +64,7 @@ impl Read for Move {
 }
 
 /// The schedule of an actor.
-#[tactic(auto, using(crate::proofs::Reading::read_is))]
+#[tactic(auto, using(cal_grammar::proofs::Reading::read_is))]
 pub fn schedule(alloc: Global, tokens: &mut &[Token], room: u32) -> Result<Schedule, Fault>
     ensures { Tells schedule_tree room (part a_schedule) result tokens.old.now tokens.new.now }
 {
@@ -80,7 +80,7 @@ pub fn schedule(alloc: Global, tokens: &mut &[Token], room: u32) -> Result<Sched
 }
 
 /// A chain of a priority: tags with `>` between them, two or more.
-#[tactic(auto, using(crate::proofs::Reading::read_is))]
+#[tactic(auto, using(cal_grammar::proofs::Reading::read_is))]
 fn chain(alloc: Global, tokens: &mut &[Token], room: u32) -> Result<Vec<Tag>, Fault>
     ensures { Tells chain_tree room (part a_chain) result tokens.old.now tokens.new.now }
 {
@@ -94,7 +94,7 @@ fn chain(alloc: Global, tokens: &mut &[Token], room: u32) -> Result<Vec<Tag>, Fa
 
 impl Read for Vec<Tag> {
     ghost use Rattle.cal_ast.specs.View.{chain_tree};
-    ghost use Rattle.cal_parser.specs.Spells.{a_chain};
+    ghost use Rattle.cal_grammar.specs.Spells.{a_chain};
 
     ghost part = { a_chain };
 
@@ -110,7 +110,7 @@ impl Read for Vec<Tag> {
 }
 
 /// A priority of actions.
-#[tactic(auto, using(crate::proofs::Reading::read_is))]
+#[tactic(auto, using(cal_grammar::proofs::Reading::read_is))]
 pub fn priority(alloc: Global, tokens: &mut &[Token], room: u32) -> Result<Priority, Fault>
     ensures { Tells priority_tree room (part a_priority) result tokens.old.now tokens.new.now }
 {

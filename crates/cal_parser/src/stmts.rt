@@ -6,9 +6,9 @@ ghost use Rattle.cal_lexer.specs.Lexeme.{Lexeme, placed};
 ghost use Rattle.cal_parser.specs.Cursor.{stands};
 ghost use Rattle.cal_parser.specs.Pieces as pieces;
 ghost use Rattle.cal_parser.specs.Pieces.{Does, DoesIf, Leads, LeadsRange};
-ghost use Rattle.cal_parser.specs.Rules.{block_body, foreach_body, named, named_stmt_body, part, starts_stmt, while_body};
-ghost use Rattle.cal_parser.specs.Spells as spells;
-ghost use Rattle.cal_parser.specs.Spells.{a_place, a_stmt, repeated};
+ghost use Rattle.cal_grammar.specs.Rules.{block_body, foreach_body, named, named_stmt_body, part, starts_stmt, while_body};
+ghost use Rattle.cal_grammar.specs.Spells as spells;
+ghost use Rattle.cal_grammar.specs.Spells.{a_place, a_stmt, repeated};
 ghost use Rattle.cal_parser.specs.Tells.{Tells, each};
 ghost use Rattle.cal_lexer.specs.Words.{lexeme_of};
 

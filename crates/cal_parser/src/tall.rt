@@ -3,7 +3,7 @@
 ghost use Rattle.std.specs.Prelude.{◌≡◌, map};
 ghost use Rattle.cal_ast.specs.Tree.{listed};
 ghost use Rattle.cal_ast.specs.View.{expr_tree, gen_tree, type_arg_tree, type_tree};
-ghost use Rattle.cal_parser.specs.Operators.{height};
+ghost use Rattle.cal_grammar.specs.Operators.{height};
 
 use cal_ast::{Expr, Gen, TypeArg, TypeExpr};
 

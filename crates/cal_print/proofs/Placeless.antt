@@ -3,7 +3,7 @@ use Rattle.std.proofs.Common.{◌≡◌, true, false, List, [], ◌∷◌, ◌++
 use Rattle.cal_ast.specs.Tree.{Tree, absent, present, nil, cons, ident, tag, import_part, file, actor, unit, param, port, var, function, procedure, action, pattern, output, schedule, move, priority, type_of, shape_arg, value_arg, assign, call_stmt, if_stmt, while_stmt, foreach_stmt, block, number, truth, variable, call, paren, if_expr, list, comp, gen, index, prefix, binary}
 use Rattle.cal_ast.specs.Apart.{unplaced}
 use Rattle.cal_lexer.specs.Lexeme.{Lexeme}
-use Rattle.cal_parser.specs.Operators.{height}
+use Rattle.cal_grammar.specs.Operators.{height}
 use Rattle.cal_print.specs.Canon.{word_of_prefix, word_of_binary, is_loose, paired, where_any, words, joined, following, each_place, each_chain, each_member, dotted, last_name, packaged, label, start_words, under}
 
 -- what is computed of a tree without offsets is what is computed of the tree

@@ -4,7 +4,7 @@ use Rattle.cal_ast.specs.Tree.{Tree}
 use Rattle.cal_ast.specs.Apart.{unplaced}
 use Rattle.cal_lexer.specs.Lexeme.{Placed}
 use Rattle.cal_lexer.specs.Lexes.{lexes}
-use Rattle.cal_parser.specs.Spells.{a_file, spells}
+use Rattle.cal_grammar.specs.Spells.{a_file, spells}
 use Rattle.cal_print.specs.Spelling.{text_of}
 use Rattle.cal_print.specs.Canon.{words, canon}
 use Rattle.cal_print.specs.Printable.{ArePrintable, kinds}

@@ -3,8 +3,8 @@ use Rattle.std.proofs.Common.{◌≡◌, ℕ, Bool, true, false, List, [], ◌�
 use Rattle.cal_ast.specs.Tree.{Tree, absent, present, nil, cons, ident, function, procedure, action, pattern, output, schedule, move, priority}
 use Rattle.cal_ast.specs.Apart.{unplaced}
 use Rattle.cal_lexer.specs.Lexeme.{Lexeme, Placed}
-use Rattle.cal_parser.specs.Operators.{with_tag}
-use Rattle.cal_parser.specs.Spells.{separated, any, repeated, a_type, a_var, some_vars, a_port, a_name, a_tag, a_stmt, a_function, a_procedure, some_guards, some_repeat, a_body, an_in, an_out, an_action, a_labelled, a_move, a_schedule, a_chain, a_priority, a_member, members, a_unit_member, an_expr, comma, greater, the_function, the_procedure, the_no_guards, the_guards, the_no_repeat, the_repeat, the_no_body, the_body, the_in, the_in_at, the_out, the_out_at, the_action, the_initialize, the_labelled, the_move, the_schedule, the_chain, the_priority, the_var_member, the_unit_var, the_no_members, the_member, the_schedule_member}
+use Rattle.cal_grammar.specs.Operators.{with_tag}
+use Rattle.cal_grammar.specs.Spells.{separated, any, repeated, a_type, a_var, some_vars, a_port, a_name, a_tag, a_stmt, a_function, a_procedure, some_guards, some_repeat, a_body, an_in, an_out, an_action, a_labelled, a_move, a_schedule, a_chain, a_priority, a_member, members, a_unit_member, an_expr, comma, greater, the_function, the_procedure, the_no_guards, the_guards, the_no_repeat, the_repeat, the_no_body, the_body, the_in, the_in_at, the_out, the_out_at, the_action, the_initialize, the_labelled, the_move, the_schedule, the_chain, the_priority, the_var_member, the_unit_var, the_no_members, the_member, the_schedule_member}
 use Rattle.cal_print.specs.Printable.{IsPrintable}
 use Rattle.cal_print.proofs.Phrases.{Respells, IsBack, back, done, word, part, last, Reads, at_end, a_word, a_part, at_last, respells}
 

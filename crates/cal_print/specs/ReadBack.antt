@@ -4,8 +4,8 @@ use Rattle.cal_ast.specs.Apart.{IsEqualApart}
 use Rattle.cal_ast.specs.Tree.{Tree}
 use Rattle.cal_lexer.specs.Lexeme.{Placed}
 use Rattle.cal_lexer.specs.Lexes.{lexes}
-use Rattle.cal_parser.specs.Operators.{height}
-use Rattle.cal_parser.specs.Spells.{spells}
+use Rattle.cal_grammar.specs.Operators.{height}
+use Rattle.cal_grammar.specs.Spells.{spells}
 use Rattle.cal_print.specs.Canon.{canon}
 
 -- the canonical text of a file's tree has tokens, and these spell the same tree again, ignoring offsets, of the same height

@@ -5,7 +5,7 @@ ghost use Rattle.cal_ast.specs.Apart.{IsEqualApart};
 ghost use Rattle.cal_ast.specs.Tree.{Tree};
 ghost use Rattle.cal_lexer.specs.Lexeme.{Placed};
 ghost use Rattle.cal_lexer.specs.Lexes.{lexes};
-ghost use Rattle.cal_parser.specs.Spells.{spells};
+ghost use Rattle.cal_grammar.specs.Spells.{spells};
 ghost use Rattle.cal_print.specs.Canon.{canon};
 ghost use Rattle.cal_print.specs.ReadBack.{IsReadBack};
 

@@ -6,11 +6,9 @@ ghost use Rattle.claim_board.specs.Seen.{IsPassOf};
 
 use crate::{Board, Pass, Piece};
 use std::alloc::{AllocError, Global};
-use std::snapshot::Snapshot;
-use std::sync::Wait;
-use std::test::Fail;
+use std::process::Abort;
 use std::thread;
-use std::thread::{Promise, Threads};
+use std::thread::Threads;
 
 /// A piece that holds a number and doubles it.
 #[derive(Drop)]
@@ -60,59 +58,83 @@ fn turn(board: &Board<Doubling>, pass: &mut Pass<Doubling>) -> Option<u32>
     Some(place)
 }
 
-#[test]
-fn one_piece_is_worked_and_the_others_are_as_put(rt: HostRuntime) -> Result<(), Fail> {
-    let pieces = doublings(rt.alloc(), 3)?;
-    let Ok((board, mut passes)) = Board::open(rt.alloc(), pieces, 1) else {
-        panic!(rt; "no memory")
+/// Asserts what turns of one pass draw.
+fn hold_turns<R: Abort>(
+    rt: &R,
+    board: &Board<Doubling>,
+    pass: &mut Pass<Doubling>,
+    turns: &[Option<u32>],
+)
+    requires own { IsPassOf board.now pass.old }
+    requires free { pass.old.held ≡ None }
+    ensures own { IsPassOf board.now pass.new }
+    ensures free { pass.new.held ≡ None }
+{
+    for &place in turns {
+        assert!(rt; turn(board, pass) == place);
+    }
+}
+
+/// The pieces, of three, when the board is closed after turns of one pass.
+fn after_turns<R: Abort>(rt: &R, alloc: Global, turns: &[Option<u32>]) -> Option<Vec<Doubling>> {
+    let Ok(pieces) = doublings(alloc, 3) else {
+        return None
+    };
+    let Ok((board, mut passes)) = Board::open(alloc, pieces, 1) else {
+        return None
     };
     let Some(mut pass) = passes.pop() else {
         unreachable!()
     };
-    let first = turn(&board, &mut pass);
-    passes.push(pass)?;
-    let closed = board.close(passes);
-    assert!(rt; first == Some(0));
-    assert!(rt; closed[0].number == 2 && closed[0].worked);
-    assert!(rt; closed[1].number == 2 && !closed[1].worked);
-    assert!(rt; closed[2].number == 3 && !closed[2].worked);
-    Ok(())
+    hold_turns(rt, &board, &mut pass, turns);
+    let Ok(()) = passes.push(pass) else {
+        return None
+    };
+    Some(board.close(passes))
+}
+
+/// Asserts the numbers and marks of pieces.
+fn hold_pieces<R: Abort>(rt: &R, closed: &[Doubling], pieces: &[(u64, bool)]) {
+    assert!(rt; closed.len() == pieces.len());
+    for k in 0..closed.len() {
+        let (number, worked) = pieces[k];
+        assert!(rt;
+            closed[k].number == number && closed[k].worked == worked,
+            "piece {k}"
+        );
+    }
+}
+
+/// Asserts what turns of one pass draw, and what the pieces are then.
+fn hold<R: Abort>(rt: &R, alloc: Global, turns: &[Option<u32>], pieces: &[(u64, bool)]) {
+    let Some(closed) = after_turns(rt, alloc, turns) else {
+        panic!(rt; "no memory")
+    };
+    hold_pieces(rt, &closed, pieces);
 }
 
 #[test]
-fn a_pass_that_draws_to_the_end_works_all(rt: HostRuntime) -> Result<(), Fail> {
-    let pieces = doublings(rt.alloc(), 3)?;
-    let Ok((board, mut passes)) = Board::open(rt.alloc(), pieces, 1) else {
-        panic!(rt; "no memory")
-    };
-    let Some(mut pass) = passes.pop() else {
-        unreachable!()
-    };
-    let first = turn(&board, &mut pass);
-    let second = turn(&board, &mut pass);
-    let third = turn(&board, &mut pass);
-    let fourth = turn(&board, &mut pass);
-    let fifth = turn(&board, &mut pass);
-    passes.push(pass)?;
-    let closed = board.close(passes);
-    assert!(rt; first == Some(0) && second == Some(1) && third == Some(2));
-    assert!(rt; fourth.is_none() && fifth.is_none());
-    assert!(rt; closed[0].number == 2 && closed[0].worked);
-    assert!(rt; closed[1].number == 4 && closed[1].worked);
-    assert!(rt; closed[2].number == 6 && closed[2].worked);
-    Ok(())
+fn a_drawn_piece_is_worked_and_the_others_are_as_put(rt: HostRuntime) {
+    hold(
+        &rt,
+        rt.alloc(),
+        &[Some(0)],
+        &[(2, true), (2, false), (3, false)],
+    );
+}
+
+#[test]
+fn a_pass_that_draws_to_the_end_works_all(rt: HostRuntime) {
+    hold(
+        &rt,
+        rt.alloc(),
+        &[Some(0), Some(1), Some(2), None, None],
+        &[(2, true), (4, true), (6, true)],
+    );
 }
 
 /// How many pieces the two threads share.
 const PIECES: u32 = 1000;
-
-/// The pass that a thread returns is one of this board, and holds no piece.
-#[derive(Drop)]
-struct Returns(Snapshot<Board<Doubling>>);
-
-impl Promise<Pass<Doubling>> for Returns {
-    ghost kept_by = { λ p pass. IsPassOf p.0.value pass × (pass.held ≡ None) };
-}
 
 /// Draws, works and gives back until no piece is left.
 fn draw_all(board: &Board<Doubling>, mut pass: Pass<Doubling>) -> Pass<Doubling>
@@ -129,8 +151,8 @@ fn draw_all(board: &Board<Doubling>, mut pass: Pass<Doubling>) -> Pass<Doubling>
     pass
 }
 
-/// Two threads draw from one board. Where a thread can't be started, its part is done here.
-fn draw_in_two_threads<R: Threads + Wait + Sync>(
+/// Two workers draw from one board, each in a thread.
+fn draw_in_two_threads<R: Threads>(
     rt: &R,
     board: &Board<Doubling>,
     first: Pass<Doubling>,
@@ -141,45 +163,26 @@ fn draw_in_two_threads<R: Threads + Wait + Sync>(
     ensures own { IsPassOf board.now result.0 × IsPassOf board.now result.1 }
     ensures free { (result.0.held ≡ None) × (result.1.held ≡ None) }
 {
-    thread::scope(
-        thread::scope_env(),
+    thread::join(
         rt,
-        |scope| -> (Pass<Doubling>, Pass<Doubling>)
-            requires { (IsPassOf board.now first × IsPassOf board.now second) × ((first.held ≡ None) × (second.held ≡ None)) }
-            ensures { (IsPassOf board.entry.now result.0 × IsPassOf board.entry.now result.1) × ((result.0.held ≡ None) × (result.1.held ≡ None)) }
-        {
-            let one = scope.spawn_with(
-                Returns(Snapshot::of(board)),
-                move || -> Pass<Doubling>
-                    requires { IsPassOf board.now first × (first.held ≡ None) }
-                    ensures { IsPassOf board.entry.now result × (result.held ≡ None) }
-                { draw_all(board, first) },
-            );
-            let two = scope.spawn_with(
-                Returns(Snapshot::of(board)),
-                move || -> Pass<Doubling>
-                    requires { IsPassOf board.now second × (second.held ≡ None) }
-                    ensures { IsPassOf board.entry.now result × (result.held ≡ None) }
-                { draw_all(board, second) },
-            );
-            let first = match one {
-                Ok(handle) => handle.join(rt),
-                Err(failed) => (failed.value)(),
-            };
-            let second = match two {
-                Ok(handle) => handle.join(rt),
-                Err(failed) => (failed.value)(),
-            };
-            (first, second)
-        },
+        move || -> Pass<Doubling>
+            requires { IsPassOf board.now first × (first.held ≡ None) }
+            ensures { IsPassOf board.entry.now result × (result.held ≡ None) }
+        { draw_all(board, first) },
+        move || -> Pass<Doubling>
+            requires { IsPassOf board.now second × (second.held ≡ None) }
+            ensures { IsPassOf board.entry.now result × (result.held ≡ None) }
+        { draw_all(board, second) },
     )
 }
 
-#[test]
-fn two_threads_double_each_number_once(rt: HostRuntime) -> Result<(), Fail> {
-    let pieces = doublings(rt.alloc(), PIECES)?;
-    let Ok((board, mut passes)) = Board::open(rt.alloc(), pieces, 2) else {
-        panic!(rt; "no memory")
+/// The pieces when two threads have drawn all.
+fn after_two_threads<R: Threads>(rt: &R, alloc: Global) -> Option<Vec<Doubling>> {
+    let Ok(pieces) = doublings(alloc, PIECES) else {
+        return None
+    };
+    let Ok((board, mut passes)) = Board::open(alloc, pieces, 2) else {
+        return None
     };
     let Some(second) = passes.pop() else {
         unreachable!()
@@ -187,13 +190,28 @@ fn two_threads_double_each_number_once(rt: HostRuntime) -> Result<(), Fail> {
     let Some(first) = passes.pop() else {
         unreachable!()
     };
-    let (first, second) = draw_in_two_threads(&rt, &board, first, second);
-    passes.push(first)?;
-    passes.push(second)?;
-    let closed = board.close(passes);
+    let (first, second) = draw_in_two_threads(rt, &board, first, second);
+    let Ok(()) = passes.push(first) else {
+        return None
+    };
+    let Ok(()) = passes.push(second) else {
+        return None
+    };
+    Some(board.close(passes))
+}
+
+/// Asserts that each number is doubled.
+fn hold_doubled<R: Abort>(rt: &R, closed: &[Doubling]) {
+    assert!(rt; closed.len() == PIECES as usize);
     for k in 0..closed.len() {
         assert!(rt; closed[k].worked && closed[k].number == 2 * (k as u64 + 1));
     }
-    assert!(rt; closed.len() == PIECES as usize);
-    Ok(())
+}
+
+#[test]
+fn two_threads_double_each_number_once(rt: HostRuntime) {
+    let Some(closed) = after_two_threads(&rt, rt.alloc()) else {
+        panic!(rt; "no memory")
+    };
+    hold_doubled(&rt, &closed);
 }

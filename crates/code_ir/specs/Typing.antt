@@ -1,5 +1,5 @@
 -- The lines that code must meet before it runs.
-use Rattle.std.specs.Prelude.{◌≡◌, ℕ, ◌+◌, ◌-◌, ◌<◌, ◌≤◌, Bool, true, false, List, [], ◌∷◌, length, Option, None, Some, slice_get, take, ◌⊎◌}
+use Rattle.std.specs.Prelude.{◌≡◌, ℕ, ◌+◌, ◌-◌, ◌^◌, ◌<◌, ◌≤◌, Bool, true, false, List, [], ◌∷◌, length, Option, None, Some, slice_get, take, ◌⊎◌}
 use Rattle.rvc_base.specs.declared.scalar.Scalar.{Scalar}
 use Rattle.rvc_base.specs.Storing.{IsSize}
 use Rattle.code_ir.specs.declared.instr.Instr.{Instr}
@@ -179,6 +179,11 @@ HasSizes instr = Unit {0}
 
 abbrev pub AllSized : List Instr → Type 0
 AllSized instrs = (p : ℕ) (i : Instr) → slice_get instrs p ≡ Some i → HasSizes i
+
+-- a number of 32 bits counts the instructions, and the routines
+pub record AreFew (code : Code) : Type 0 where
+  pub instrs : length code.instrs < 2 ^ 32
+  pub routines : length code.routines < 2 ^ 32
 
 -- ---- admitted code
 

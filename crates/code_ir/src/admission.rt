@@ -1,8 +1,8 @@
 //! The test that code must pass before it runs.
 
-ghost use Rattle.std.specs.Prelude.{◌≡◌, ◌<◌, ◌≤◌, ℕ, true, [], ◌∷◌, IfOk, OnOk, IfErr};
+ghost use Rattle.std.specs.Prelude.{◌≡◌, ◌<◌, ◌≤◌, ℕ, true, IfOk, OnOk, IfErr};
 ghost use Rattle.code_ir.specs.Code.{begins, code_of, is_among};
-ghost use Rattle.code_ir.specs.Typing.{AllSized, AreDistinct, HasSizes, IsAdmitted, IsCause, PlacesStand, Way};
+ghost use Rattle.code_ir.specs.Typing.{AllSized, AreDistinct, AreFew, IsAdmitted, IsCause, PlacesStand, Way};
 ghost use Rattle.code_ir.specs.Marked.{IsPlaceFault};
 
 use crate::admitted::{Admitted, CodeFault};
@@ -21,10 +21,10 @@ use std::alloc::Global;
 /// # Errors
 ///
 /// `Bad` where a line is broken. It names the first place that may not begin a body, or 0 where no body begins
-/// there; else an instruction that breaks a line. `Memory` where an allocation was refused. More than
-/// `u32::MAX` instructions are refused in the same way, since their places have no names.
+/// there; else an instruction that breaks a line. `Memory` where an allocation was refused.
 pub fn admit(alloc: Global, code: ActorCode) -> Result<Admitted, CodeFault>
     requires sized { AllSized code.instrs.items }
+    requires few { AreFew (code_of code) }
     ensures ok { IfOk result (λ admitted. admitted ≡ code_of code) }
     ensures admitted { IfOk result IsAdmitted }
     ensures bad { IfErr result (IsCause (code_of code)) }
@@ -38,6 +38,7 @@ pub fn admit(alloc: Global, code: ActorCode) -> Result<Admitted, CodeFault>
 
 /// Checks each line. The greatest height comes back.
 fn check(alloc: Global, code: &ActorCode) -> Result<u32, CodeFault>
+    requires few { AreFew (code_of code.now) }
     ensures admitted { OnOk result (IsAdmitted (code_of code.now)) }
     ensures most { IfOk result (λ most. (p h : ℕ) → Way (code_of code.now) p h → h ≤ most) }
     ensures bad { IfErr result (IsCause (code_of code.now)) }
@@ -71,13 +72,11 @@ fn check_places(places: &[u32], size: usize) -> Result<(), CodeFault>
 fn check_instrs(alloc: Global, code: &ActorCode, places: &[u32]) -> Result<u32, CodeFault>
     requires places { places.now ≡ begins (code_of code.now) }
     requires stand { PlacesStand (code_of code.now) }
+    requires few { AreFew (code_of code.now) }
     ensures admitted { OnOk result (IsAdmitted (code_of code.now)) }
     ensures most { IfOk result (λ most. (p h : ℕ) → Way (code_of code.now) p h → h ≤ most) }
     ensures bad { IfErr result (IsCause (code_of code.now)) }
 {
-    if code.instrs.len() > u32::MAX as usize {
-        return Err(CodeFault::Memory);
-    }
     let Ok(bodies) = bodies(alloc, code, places) else {
         return Err(CodeFault::Memory)
     };
@@ -97,58 +96,59 @@ fn check_instrs(alloc: Global, code: &ActorCode, places: &[u32]) -> Result<u32, 
 mod tests {
     use super::*;
     use crate::instr::Instr;
+    use crate::sizes::{are_few, are_sized};
     use std::alloc::AllocError;
-    use std::test::Fail;
+    use std::process::Abort;
+
+    /// What code comes to.
+    #[derive(Clone, Copy, PartialEq, Eq)]
+    enum Found {
+        IsAdmitted,
+        BadAt(u32),
+        NotAsked,
+    }
 
     /// One instruction, with an entry at it.
-    fn single(alloc: Global, instr: Instr) -> Result<ActorCode, AllocError>
-        ensures { IfOk result (λ code. code.instrs.items ≡ instr ∷ []) }
-    {
-        let mut instrs = Vec::new(alloc);
-        instrs.push(instr)?;
-        let mut entries = Vec::new(alloc);
-        entries.push(0)?;
+    fn single(alloc: Global, instr: Instr) -> Result<ActorCode, AllocError> {
         Ok(ActorCode {
-            instrs,
+            instrs: [instr].to_vec(alloc)?,
             routines: Vec::new(alloc),
-            entries,
+            entries: [0].to_vec(alloc)?,
             cells: 0,
         })
     }
 
-    fn admit_single(alloc: Global, instr: Instr) -> Result<Result<Admitted, CodeFault>, AllocError>
-        requires { HasSizes instr }
-    {
-        Ok(admit(alloc, single(alloc, instr)?))
+    fn admit_single(alloc: Global, instr: Instr) -> Found {
+        let Ok(code) = single(alloc, instr) else {
+            return Found::NotAsked
+        };
+        if !are_sized(&code.instrs) || !are_few(&code) {
+            return Found::NotAsked;
+        }
+        match admit(alloc, code) {
+            Ok(_admitted) => Found::IsAdmitted,
+            Err(CodeFault::Bad { at }) => Found::BadAt(at),
+            Err(CodeFault::Memory) => Found::NotAsked,
+        }
+    }
+
+    fn hold<R: Abort>(rt: &R, alloc: Global, rows: &[(Instr, Found)]) {
+        for &(instr, want) in rows {
+            assert!(rt; admit_single(alloc, instr) == want, "{instr:?}");
+        }
     }
 
     #[test]
-    fn names_what_breaks_a_line(rt: HostRuntime) -> Result<(), Fail> {
-        assert!(rt;
-            matches!(
-                admit_single(rt.alloc(), Instr::Jump(9))?,
-                Err(CodeFault::Bad { at: 0 })
-            )
+    fn names_what_breaks_a_line_and_admits_a_firing_without_effect(rt: HostRuntime) {
+        hold(
+            &rt,
+            rt.alloc(),
+            &[
+                (Instr::Jump(9), Found::BadAt(0)),
+                (Instr::Jump(0), Found::BadAt(0)),
+                (Instr::Return, Found::BadAt(0)),
+                (Instr::Done, Found::IsAdmitted),
+            ],
         );
-        assert!(rt;
-            matches!(
-                admit_single(rt.alloc(), Instr::Jump(0))?,
-                Err(CodeFault::Bad { at: 0 })
-            )
-        );
-        assert!(rt;
-            matches!(
-                admit_single(rt.alloc(), Instr::Return)?,
-                Err(CodeFault::Bad { at: 0 })
-            )
-        );
-        Ok(())
-    }
-
-    #[test]
-    fn admits_a_firing_without_effect(rt: HostRuntime) -> Result<(), Fail> {
-        let admitted = admit_single(rt.alloc(), Instr::Done)?;
-        assert!(rt; admitted.is_ok());
-        Ok(())
     }
 }

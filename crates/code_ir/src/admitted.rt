@@ -2,7 +2,7 @@
 
 ghost use Rattle.std.specs.Prelude.{◌≡◌, ◌≤◌, ℕ};
 ghost use Rattle.code_ir.specs.Code.{is_among};
-ghost use Rattle.code_ir.specs.Typing.{AllSized, IsAdmitted, Way};
+ghost use Rattle.code_ir.specs.Typing.{AllSized, AreFew, IsAdmitted, Way};
 
 use crate::instr::{ActorCode, Instr, Routine};
 use crate::places::is_among;
@@ -32,11 +32,12 @@ impl Model for Admitted {
     ghost Value = { Code };
 
     ghost use Rattle.code_ir.specs.Code.{code_of};
-    ghost use Rattle.code_ir.specs.Typing.{AllSized, IsAdmitted, Way};
+    ghost use Rattle.code_ir.specs.Typing.{AllSized, AreFew, IsAdmitted, Way};
 
     ghost view = { λ a. code_of a.code };
 
-    ghost invariant = { λ a. IsAdmitted (code_of a.code) × AllSized a.code.instrs.items × ((p h : ℕ) → Way (code_of a.code) p h → h ≤ a.most) };
+    ghost invariant = { λ a. IsAdmitted (code_of a.code) × AllSized a.code.instrs.items
+        × ((p h : ℕ) → Way (code_of a.code) p h → h ≤ a.most) × AreFew (code_of a.code) };
 }
 
 impl Admitted {
@@ -84,6 +85,7 @@ impl Admitted {
         ensures most { (p h : ℕ) → Way self.now p h → h ≤ result }
         ensures admitted { IsAdmitted self.now }
         ensures sized { AllSized self.now.instrs }
+        ensures few { AreFew self.now }
     {
         self.most
     }

@@ -18,5 +18,5 @@ pub use admitted::{Admitted, CodeFault};
 pub use instr::{ActorCode, Instr, Routine};
 pub use outcome::Outcome;
 pub use reading::has_tokens;
-pub use sizes::are_sized;
+pub use sizes::{are_few, are_sized};
 pub use tokens::Tokens;

@@ -1,10 +1,11 @@
-//! The sizes of the types in which numbers are stored.
+//! What to ask of code before it is admitted: the sizes of its types, and how many instructions it has.
 
 ghost use Rattle.std.specs.Bool.{MatchBool};
 ghost use Rattle.rvc_base.specs.Storing.{IsSize};
-ghost use Rattle.code_ir.specs.Typing.{AllSized, HasSizes, IsSized};
+ghost use Rattle.code_ir.specs.Code.{code_of};
+ghost use Rattle.code_ir.specs.Typing.{AllSized, AreFew, HasSizes, IsSized};
 
-use crate::instr::Instr;
+use crate::instr::{ActorCode, Instr};
 use rvc_base::{MAX_SIZE, Scalar};
 
 /// Whether a type has a size that a type may have.
@@ -51,4 +52,12 @@ pub fn are_sized(instrs: &[Instr]) -> bool
         }
     }
     true
+}
+
+/// Whether a `u32` counts the instructions of the code, and its routines.
+pub fn are_few(code: &ActorCode) -> bool
+    ensures { MatchBool result (AreFew (code_of code.now)) (¬ AreFew (code_of code.now)) }
+{
+    let most = u32::MAX as usize;
+    code.instrs.len() <= most && code.routines.len() <= most
 }

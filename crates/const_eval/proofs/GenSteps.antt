@@ -2,6 +2,7 @@
 use Rattle.std.proofs.Common.{◌≡◌, ℕ, zero, suc, ◌+◌, ◌*◌, ◌<◌, ◌≤◌, ℤ, List, [], ◌∷◌, map, length, drop, take, get_or, refl, sym, ap, subst, ◌∙◌, add-one, arith}
 use Rattle.std.proofs.Math.Seq.{drop-cons}
 use Rattle.std.proofs.lemmas.List.{drop_all}
+use Rattle.rvc_base.specs.declared.refusal.Rule.{Rule}
 use Rattle.cal_ast.specs.Tree as tree
 use Rattle.cal_ast.specs.Tree.{Tree, listed}
 use Rattle.cal_ast.specs.Places.{begins}
@@ -66,7 +67,7 @@ module _ (rest : Judged ℕ) where
       go (Fine u) (Fine low) (Broken rule at) f = cc
       go (Fine u) (Fine low) (Fine high) f = let same : capped (span low high) ≡ m = cc in so-many rest (span low high) m k same
 
-  pub gen-breaks : (t : Judged Shape) (c : Shape → Judged Shape) (a b : Judged ℤ) (rule at : ℕ) → numbers t c a b ≡ Broken rule at → makes t c a b ≡ Broken rule at
+  pub gen-breaks : (t : Judged Shape) (c : Shape → Judged Shape) (a b : Judged ℤ) (rule : Rule) (at : ℕ) → numbers t c a b ≡ Broken rule at → makes t c a b ≡ Broken rule at
   gen-breaks (Broken rule at) c a b r l e = cc
   gen-breaks (Fine s) c a b r l e = go (c s) a b e
     where
@@ -125,7 +126,7 @@ elements-broken : (gs : List Gen) (n : ℕ) (d : Gen) (outer : List (List ℕ)) 
     → Breaks f (numbers_judged (gen_tree (get_or gs n d)) (inside (named_by (take n gs) outer) names)) → Breaks f (elements_from n gs outer names)
 elements-broken gs n d outer names (fault.Broken rule at) h b =
     elements-open gs n d outer names h
-    ∙ gen-breaks (elements_from (n + 1) gs outer names) (shape_of (get_or gs n d) (inside (named_by (take n gs) outer) names)) (counts_of (get_or gs n d)) (low_of (get_or gs n d) (inside (named_by (take n gs) outer) names)) (high_of (get_or gs n d) (inside (named_by (take n gs) outer) names)) rule.0 at (sym (numbers-open (get_or gs n d) (elements_from (n + 1) gs outer names) (inside (named_by (take n gs) outer) names)) ∙ b)
+    ∙ gen-breaks (elements_from (n + 1) gs outer names) (shape_of (get_or gs n d) (inside (named_by (take n gs) outer) names)) (counts_of (get_or gs n d)) (low_of (get_or gs n d) (inside (named_by (take n gs) outer) names)) (high_of (get_or gs n d) (inside (named_by (take n gs) outer) names)) rule at (sym (numbers-open (get_or gs n d) (elements_from (n + 1) gs outer names) (inside (named_by (take n gs) outer) names)) ∙ b)
 elements-broken gs n d outer names fault.Memory h b = tt
 
 pub elements_break : (gs : List Gen) (n : ℕ) (d : Gen) (outer : List (List ℕ)) (names : Names) (k : ℕ) (whole : Judged ℕ) (f : KindFault) → n < length gs
@@ -160,9 +161,9 @@ comp_goes (Broken rule place) m k at e = cc
 pub comp_breaks : (o : Judged ℕ) (f : KindFault) (k : Kind) (at : ℕ) → Breaks f (and_so o (λ n. Fine (capped n))) → Breaks f (and_so o (λ n. list_of_kind n k at))
 comp_breaks (Fine n) (fault.Broken rule place) k at b = cc
 comp_breaks (Broken r l) (fault.Broken rule place) k at b =
-    let same : r ≡ rule.0 = cc in
+    let same : r ≡ rule = cc in
     let there : l ≡ place = cc in
-    ap (λ x. Broken x l) same ∙ ap (λ x. Broken rule.0 x) there
+    ap (λ x. Broken x l) same ∙ ap (λ x. Broken rule x) there
 comp_breaks o fault.Memory k at b = tt
 
 -- ---- sizes

@@ -1,8 +1,8 @@
 -- Lists of values, one value after another.
 use Rattle.std.proofs.Common.{◌≡◌, ℕ, zero, suc, ◌+◌, List, [], ◌∷◌, ◌++◌, map, length, get_or, ◌<◌, ◌≤◌, refl, sym, ap, ◌∙◌, add-one, arith}
-use Rattle.std.proofs.Common.{ℤ, pos, negsuc, false, subst, take, to_z, of_z, SFits}
-use Rattle.std.specs.Prelude.{None, Some, int_lt, slice_get, unsigned_abs}
-use Rattle.std.proofs.lemmas.Int.{to_z-of_z}
+use Rattle.std.proofs.Common.{ℤ, pos, negsuc, true, false, subst, take, to_z, of_z, SFits}
+use Rattle.std.specs.Prelude.{None, Some, int_le, int_lt, slice_get, unsigned_abs}
+use Rattle.std.proofs.lemmas.Int.{ints, to_z-of_z}
 use Rattle.rvc_base.specs.declared.trap.Trap.TheVariants.{IndexRange}
 use Rattle.rvc_base.specs.Width.{num_width}
 use Rattle.cal_model.specs.Outcome.{Gives, Traps}
@@ -77,6 +77,32 @@ item_missing (negsuc n) vs left f e h =
     let is : to_z num_width (of_z num_width (negsuc n)) ≡ negsuc n = to_z-of_z num_width (negsuc n) f in
     let g : int_lt (negsuc n) (pos 0) ≡ false = subst (λ x. int_lt x (pos 0) ≡ false) is e in
     cc
+
+-- .. and the same with the length of the list as a number
+to_pos : (n : ℕ) → n < 18446744073709551616 → to_z num_width n ≡ pos n
+to_pos n h = omega (arith, ints)
+
+inside_by : (z : ℤ) (len n : ℕ) → int_lt z (pos 0) ≡ false → int_le (pos len) z ≡ false → len ≡ n → unsigned_abs z < n
+inside_by (pos k) len n p q e = omega (arith, ints)
+inside_by (negsuc k) len n p q e = omega (arith, ints)
+
+outside_by : (z : ℤ) (len n : ℕ) → int_lt z (pos 0) ≡ false → int_le (pos len) z ≡ true → len ≡ n → n ≤ unsigned_abs z
+outside_by (pos k) len n p q e = omega (arith, ints)
+outside_by (negsuc k) len n p q e = omega (arith, ints)
+
+pub item_here : (z : ℤ) (vs : List Declared) (d : Declared) (left len : ℕ) → SFits num_width z → len ≡ length vs → len < 18446744073709551616
+    → int_lt (to_z num_width (of_z num_width z)) (pos 0) ≡ false → int_le (to_z num_width len) (to_z num_width (of_z num_width z)) ≡ false
+    → item_at (in_order (map value_view vs)) z left ≡ Gives (value_view (get_or vs (unsigned_abs (to_z num_width (of_z num_width z))) d)) left
+item_here z vs d left len f e s p q =
+    let l : int_le (pos len) (to_z num_width (of_z num_width z)) ≡ false = subst (λ x. int_le x (to_z num_width (of_z num_width z)) ≡ false) (to_pos len s) q in
+    item_found z vs d left f p (inside_by (to_z num_width (of_z num_width z)) len (length vs) p l e)
+
+pub item_gone : (z : ℤ) (vs : List Declared) (left len : ℕ) → SFits num_width z → len ≡ length vs → len < 18446744073709551616
+    → int_lt (to_z num_width (of_z num_width z)) (pos 0) ≡ false → int_le (to_z num_width len) (to_z num_width (of_z num_width z)) ≡ true
+    → item_at (in_order (map value_view vs)) z left ≡ Traps IndexRange
+item_gone z vs left len f e s p q =
+    let l : int_le (pos len) (to_z num_width (of_z num_width z)) ≡ true = subst (λ x. int_le x (to_z num_width (of_z num_width z)) ≡ true) (to_pos len s) q in
+    item_missing z vs left f p (outside_by (to_z num_width (of_z num_width z)) len (length vs) p l e)
 
 -- the kind of a list is told by its first value
 pub first_kind : (vs : List Declared) (v : Declared) → slice_get vs 0 ≡ Some v → kind_of_value (Items (in_order (map value_view vs))) ≡ ListKind (length vs) (kind_of_value (value_view v))

@@ -245,11 +245,13 @@ fn span(low: Num, high: Num) -> u32
     if high < low {
         return 0;
     }
-    let steps = high.abs_diff(low);
-    if steps >= u64::from(MAX_LIST_SCALARS) {
+    let Ok(steps) = u32::try_from(high.abs_diff(low)) else {
+        return MAX_LIST_SCALARS + 1;
+    };
+    if steps >= MAX_LIST_SCALARS {
         return MAX_LIST_SCALARS + 1;
     }
-    steps as u32 + 1
+    steps + 1
 }
 
 // ---- constants

@@ -13,8 +13,6 @@ mod fault;
 mod filled;
 mod finding;
 mod judging;
-#[cfg(test)]
-mod kind_tests;
 mod kinds;
 mod names;
 mod operators;

@@ -18,8 +18,8 @@ use crate::kinds::kind_of_value;
 use crate::scope::Scope;
 use crate::stop::Stop;
 use cal_ast::Expr;
-use rvc_base::Rule;
 use cal_model::{Kind, Value, constants_are_values};
+use rvc_base::Rule;
 use std::alloc::Global;
 
 /// The constants and functions, and the generators that stand round an expression.

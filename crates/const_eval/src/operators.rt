@@ -205,9 +205,8 @@ fn item_at(mut items: Vec<Value>, number: Num) -> Result<Value, Stop>
     if number < 0 {
         return Err(Stop::Trap(Trap::IndexRange));
     }
-    let place = number as usize;
-    if place >= items.len() {
+    if number >= items.len() as Num {
         return Err(Stop::Trap(Trap::IndexRange));
     }
-    Ok(items.swap_remove(place))
+    Ok(items.swap_remove(number as usize))
 }

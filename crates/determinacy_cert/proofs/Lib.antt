@@ -3,3 +3,7 @@ mod Confluence
 mod Trapping
 mod Feeding
 mod Theorems
+mod Intervals
+mod Ranges
+mod RangeLaw
+mod Seen

@@ -4,7 +4,7 @@ use Rattle.cal_ast.specs.Tree.{Tree}
 use Rattle.cal_ast.specs.Apart.{unplaced}
 use Rattle.cal_lexer.specs.Lexeme.{Placed}
 use Rattle.cal_lexer.specs.Lexes.{lexes}
-use Rattle.cal_parser.specs.Spells.{spells}
+use Rattle.cal_grammar.specs.Spells.{spells}
 use Rattle.first_form.specs.Form.{Form}
 use Rattle.first_form.specs.Mismatch.{first_mismatch}
 use Rattle.first_form.specs.Spelling.{IsSource, Spells, HasMismatchAt}

@@ -5,7 +5,7 @@ use Rattle.rvc_base.specs.declared.refusal.Front.TheVariants.{Refused, Memory}
 use Rattle.cal_ast.specs.Tree.{Tree}
 use Rattle.cal_lexer.specs.Lexeme.{Placed}
 use Rattle.cal_lexer.specs.Lexes as lexis
-use Rattle.cal_parser.specs.Refusals as grammar
+use Rattle.cal_grammar.specs.Refusals as grammar
 use Rattle.first_form.specs.Form.{form_of}
 use Rattle.first_form.specs.declared.ast.Actor.{Actor}
 use Rattle.first_form.specs.Spelling.{IsSource, IsActor, IsRightly, Spells, in_lexis, in_grammar, in_form}

@@ -8,8 +8,8 @@ use Rattle.cal_ast.specs.Tree.{Tree}
 use Rattle.cal_ast.specs.Apart.{IsEqualApart}
 use Rattle.cal_lexer.specs.Lexeme.{Placed}
 use Rattle.cal_lexer.specs.Lexes.{lexes, faults}
-use Rattle.cal_parser.specs.Refusals as grammar
-use Rattle.cal_parser.specs.Spells.{spells}
+use Rattle.cal_grammar.specs.Refusals as grammar
+use Rattle.cal_grammar.specs.Spells.{spells}
 use Rattle.first_form.specs.Form.{Form, form_of}
 use Rattle.first_form.specs.declared.ast.Actor.{Actor}
 use Rattle.first_form.specs.FormTree.{form_tree, HasShortNumbers}

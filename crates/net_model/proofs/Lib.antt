@@ -8,3 +8,6 @@ mod Ending
 pub mod Commuting
 pub mod Arriving
 mod Bare
+mod MoreRows
+pub mod Bursts
+pub mod TableActor

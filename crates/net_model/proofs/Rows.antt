@@ -25,7 +25,7 @@ byte_port name = record { name = name; kind = Uint 8 }
 abbrev pub leaf_port : ℕ → ℕ → End
 leaf_port i p = AtLeaf (record { 0 = i }) p
 
-abbrev rate : List ℕ → ℕ → ℕ → ℕ
+abbrev pub rate : List ℕ → ℕ → ℕ → ℕ
 rate [] a p = 0
 rate (n ∷ ns) zero zero = n
 rate (n ∷ ns) zero (suc p) = rate ns zero p
@@ -44,7 +44,7 @@ abbrev at_zero : {A : Type 0} → Option A → ℕ → Option A
 at_zero o zero = o
 at_zero o (suc a) = None
 
-abbrev simple : List ℕ → (List (List ℤ) → Option (List ℤ)) → Behaviour (Unit {0})
+abbrev pub simple : List ℕ → (List (List ℤ) → Option (List ℤ)) → Behaviour (Unit {0})
 simple needs f = record {
   start = tt;
   ins = length needs;
@@ -62,10 +62,10 @@ next_byte ((v ∷ vs) ∷ us) = Some (conv (Uint 8) (v +ℤ pos 1) ∷ [])
 next_byte ([] ∷ us) = None
 next_byte [] = None
 
-abbrev inc : Behaviour (Unit {0})
+abbrev pub inc : Behaviour (Unit {0})
 inc = simple (1 ∷ []) next_byte
 
-abbrev inc_net : Network (Unit {0})
+abbrev pub inc_net : Network (Unit {0})
 inc_net = record {
   leaves = record { path = codes "Inc"; class = codes "Inc"; behaviour = inc } ∷ [];
   links = link (AtNet 0) (leaf_port 0 0) 512 ∷ link (leaf_port 0 0) (AtNet 0) 512 ∷ [];
@@ -139,7 +139,7 @@ sum_of_two ([] ∷ us) = None
 sum_of_two [] = None
 
 -- the sum of a byte of each of two ports
-abbrev sum_of_each : List (List ℤ) → Option (List ℤ)
+abbrev pub sum_of_each : List (List ℤ) → Option (List ℤ)
 sum_of_each ((v ∷ vs) ∷ (w ∷ ws) ∷ us) = Some (conv (Uint 8) (v +ℤ w) ∷ [])
 sum_of_each ((v ∷ vs) ∷ [] ∷ us) = None
 sum_of_each ((v ∷ vs) ∷ []) = None
@@ -156,7 +156,7 @@ abbrev join : Behaviour (Unit {0})
 join = simple (1 ∷ 1 ∷ []) sum_of_each
 
 -- A copy of each byte goes to a sum of two and, by a link that holds one token, to what joins both.
-abbrev pair_net : Network (Unit {0})
+abbrev pub pair_net : Network (Unit {0})
 pair_net = record {
   leaves = record { path = codes "c"; class = codes "Copy"; behaviour = copy }
       ∷ record { path = codes "s"; class = codes "Sum"; behaviour = sum }
@@ -170,13 +170,13 @@ pair_net = record {
   outs = byte_port (codes "Out") ∷ [];
 }
 
-abbrev pair_in : List (List ℕ)
+abbrev pub pair_in : List (List ℕ)
 pair_in = (1 ∷ 2 ∷ 3 ∷ 4 ∷ []) ∷ []
 
 abbrev pair_lines : List Line
 pair_lines = Deliver ∷ Fire 0 0 ∷ Deliver ∷ Stall 0 0 3 ∷ []
 
-abbrev pair_last : State (Unit {0})
+abbrev pub pair_last : State (Unit {0})
 pair_last = record {
   actors = tt ∷ tt ∷ tt ∷ [];
   flows = record { sent = pos 1 ∷ pos 2 ∷ pos 3 ∷ pos 4 ∷ []; arrived = 4; taken = 1; capacity = 512 }
@@ -207,7 +207,7 @@ pair_lower (suc zero) low lacks = omega arith
 pair_lower (suc (suc zero)) low lacks = omega arith
 pair_lower (suc (suc (suc m))) low lacks = omega arith
 
-pair_stalls : IsStalled pair_net pair_last 0 0 3
+pub pair_stalls : IsStalled pair_net pair_last 0 0 3
 pair_stalls = record {
   settled = record { untrapped = refl; arrived = ((λ e. refl), ((λ e. refl), ((λ e. refl), ((λ e. refl), ((λ e. refl), tt))))) };
   each = pair_each;

@@ -124,7 +124,7 @@ pub record FiresChoice {X : Type 0} (rooms : List ℕ) (old : Cell X) (a : ℕ) 
 
 -- selected firings one after another
 abbrev pub FireInTurn : {X : Type 0} → List ℕ → Cell X → List ℕ → Cell X → Type 0
-FireInTurn rooms old [] last = IsSame old last
+FireInTurn rooms old [] last = old ≡ last
 FireInTurn {X} rooms old (a ∷ actions) last =
     (next : Cell X) × FiresChoice rooms old a next × FireInTurn rooms next actions last
 

@@ -5,6 +5,8 @@ pub mod Event
 pub mod Ends
 pub mod Trace
 pub mod Cell
+pub mod Ready
+pub mod TableActor
 pub mod Limits
 pub mod Wired
 pub mod Stable

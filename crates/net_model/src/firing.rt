@@ -117,3 +117,6 @@ pub trait Firing: Drop {
         ensures lawful { IsLawful (cell self.now).actor }
         ensures fits { FitsQueues (cell self.now) };
 }
+
+#[cfg(test)]
+mod tests;

@@ -12,15 +12,13 @@ use crate::cycle::cycle_from;
 use crate::order::Order;
 use crate::table::{above_itself, closed};
 use std::alloc::{AllocError, Global};
-use thiserror::Error;
 
 /// Why declared pairs make no order.
-#[derive(Debug, Drop, Error)]
+#[derive(Debug, Drop)]
 pub enum OrderFault {
     /// Distinct numbers, the least first, each declared above the next and the last above the first.
-    #[error("a number is above itself")]
     Cycle { actions: Vec<u16> },
-    #[error("out of memory")]
+    /// An allocation was refused.
     Memory,
 }
 

@@ -1,11 +1,63 @@
 //! Arithmetic on numbers of the language (ISO/IEC 23001-4, RVC-CAL: operators on numbers).
 
-ghost use Rattle.std.specs.Prelude.{◌≡◌};
+ghost use Rattle.std.specs.Prelude.{◌≡◌, ◌*ℤ◌, IfSome};
 ghost use Rattle.rvc_base.specs.Arithmetic.{add, sub, mul, neg, div, rem, shl, shr};
 ghost use Rattle.rvc_base.specs.Computing.{computed_of};
 
 use crate::trap::Trap;
-use crate::width::{MAX_SHIFT, Num};
+use crate::width::{Half, MAX_SHIFT, Num};
+
+/// The number in half the width, if it fits. Most numbers are small, and arithmetic on halves is faster.
+#[inline]
+fn half(a: Num) -> Option<Half>
+    ensures { IfSome result (λ h. h ≡ a) }
+{
+    Half::try_from(a).ok()
+}
+
+/// The product of halves, which is always a number.
+#[inline]
+fn mul_halves(a: Half, b: Half) -> Num
+    ensures { result ≡ a *ℤ b }
+{
+    Num::from(a) * Num::from(b)
+}
+
+/// The product by the whole width.
+fn mul_whole(a: Num, b: Num) -> Result<Num, Trap>
+    ensures { computed_of result ≡ mul a b }
+{
+    match a.checked_mul(b) {
+        Some(v) => Ok(v),
+        None => Err(Trap::Overflow),
+    }
+}
+
+/// The quotient by the whole width.
+fn div_whole(a: Num, b: Num) -> Result<Num, Trap>
+    ensures { computed_of result ≡ div a b }
+{
+    if b == 0 {
+        return Err(Trap::DivideByZero);
+    }
+    match a.checked_div(b) {
+        Some(v) => Ok(v),
+        None => Err(Trap::Overflow),
+    }
+}
+
+/// What the quotient leaves, by the whole width.
+fn rem_whole(a: Num, b: Num) -> Result<Num, Trap>
+    ensures { computed_of result ≡ rem a b }
+{
+    if b == 0 {
+        return Err(Trap::DivideByZero);
+    }
+    if b == -1 {
+        return Ok(0);
+    }
+    Ok(a % b)
+}
 
 /// The sum, where it is a number of the language; else Overflow.
 #[inline]
@@ -34,10 +86,13 @@ pub fn sub(a: Num, b: Num) -> Result<Num, Trap>
 pub fn mul(a: Num, b: Num) -> Result<Num, Trap>
     ensures { computed_of result ≡ mul a b }
 {
-    match a.checked_mul(b) {
-        Some(v) => Ok(v),
-        None => Err(Trap::Overflow),
-    }
+    let Some(x) = half(a) else {
+        return mul_whole(a, b)
+    };
+    let Some(y) = half(b) else {
+        return mul_whole(a, b)
+    };
+    Ok(mul_halves(x, y))
 }
 
 /// The number with the other sign, where it is a number of the language; else Overflow.
@@ -56,12 +111,15 @@ pub fn neg(a: Num) -> Result<Num, Trap>
 pub fn div(a: Num, b: Num) -> Result<Num, Trap>
     ensures { computed_of result ≡ div a b }
 {
-    if b == 0 {
-        return Err(Trap::DivideByZero);
-    }
-    match a.checked_div(b) {
-        Some(v) => Ok(v),
-        None => Err(Trap::Overflow),
+    let Some(x) = half(a) else {
+        return div_whole(a, b)
+    };
+    let Some(y) = half(b) else {
+        return div_whole(a, b)
+    };
+    match x.checked_div(y) {
+        Some(v) => Ok(Num::from(v)),
+        None => div_whole(a, b),
     }
 }
 
@@ -70,13 +128,16 @@ pub fn div(a: Num, b: Num) -> Result<Num, Trap>
 pub fn rem(a: Num, b: Num) -> Result<Num, Trap>
     ensures { computed_of result ≡ rem a b }
 {
-    if b == 0 {
-        return Err(Trap::DivideByZero);
+    let Some(x) = half(a) else {
+        return rem_whole(a, b)
+    };
+    let Some(y) = half(b) else {
+        return rem_whole(a, b)
+    };
+    match x.checked_rem(y) {
+        Some(v) => Ok(Num::from(v)),
+        None => rem_whole(a, b),
     }
-    if b == -1 {
-        return Ok(0);
-    }
-    Ok(a % b)
 }
 
 /// The number times 2 to the power `b`, where it is a number of the language; else Overflow. A count outside 0 to [`MAX_SHIFT`] is

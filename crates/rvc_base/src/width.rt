@@ -8,6 +8,9 @@ pub type Num = i128;
 /// The low bits of a number, without a sign.
 pub(crate) type Bits = u128;
 
+/// A number of half the width, in which arithmetic is faster.
+pub(crate) type Half = i64;
+
 /// The greatest `size` of the types `int` and `uint`, in bits.
 pub const MAX_SIZE: u8 = 64;
 

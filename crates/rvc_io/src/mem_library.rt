@@ -64,7 +64,7 @@ impl Library for MemLibrary {
             → IsTold (told (bytes_of self.old name.now)) out.new.items }
         ensures missing { result ≡ ReadAnswer.Missing
             → HasRisen self.old.misses self.new.misses
-                × IsLacking (told (bytes_of self.old name.now)) }
+            × IsLacking (told (bytes_of self.old name.now)) }
         ensures failed { result ≡ ReadAnswer.Failed
             → HasRisen self.old.calls.faults self.new.calls.faults }
         ensures too_long { result ≡ ReadAnswer.TooLong

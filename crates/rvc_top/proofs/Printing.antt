@@ -9,11 +9,11 @@ use Rattle.rvc_io.specs.Library.{max_file_bytes}
 use Rattle.rvc_io.specs.Told.{Told, Holding}
 use Rattle.cal_ast.specs.Tree.{Tree}
 use Rattle.cal_lexer.proofs.Once.{one_list}
-use Rattle.cal_parser.specs.Operators.{height, max_height}
-use Rattle.cal_parser.specs.Spells.{spells}
+use Rattle.cal_grammar.specs.Operators.{height, max_height}
+use Rattle.cal_grammar.specs.Spells.{spells}
 use Rattle.cal_lexer.specs.Lexeme.{Placed}
 use Rattle.cal_lexer.specs.Lexes as lexis
-use Rattle.cal_parser.specs.Refusals as grammar
+use Rattle.cal_grammar.specs.Refusals as grammar
 use Rattle.rvc_words.specs.Words.{PortText, port_text}
 use Rattle.rvc_words.specs.declared.job.PortWord.{PortWord}
 use Rattle.rvc_top.specs.Formatting.{IsRightly, IsText, IsUnread, lacks, passes, IsUnprinted, breaks_rules, IsDoneOrMemory, HasFile, IsFile, in_lexis, in_grammar}

@@ -13,8 +13,8 @@ use Rattle.rvc_words.specs.Words.{PortText}
 use Rattle.cal_ast.specs.Tree.{Tree}
 use Rattle.cal_lexer.specs.Lexeme.{Placed}
 use Rattle.cal_lexer.specs.Lexes.{lexes, faults}
-use Rattle.cal_parser.specs.Operators.{height, max_height}
-use Rattle.cal_parser.specs.Refusals as grammar
+use Rattle.cal_grammar.specs.Operators.{height, max_height}
+use Rattle.cal_grammar.specs.Refusals as grammar
 use Rattle.cal_print.specs.Canon.{canon}
 use Rattle.first_form.specs.Spelling.{IsSource}
 use Rattle.rvc_top.specs.Matching.{IsWrongWord}

@@ -8,7 +8,6 @@ ghost use Rattle.schedule_fsm.specs.Fault.{IsCause, IsTaken};
 use crate::table::free_moves;
 use std::alloc::{AllocError, Global};
 use std::marker::Model;
-use thiserror::Error;
 
 /// A step of the schedule: in state `from`, `action` leads to state `to`.
 #[derive(Clone, Copy, Debug, PartialEq, Eq)]
@@ -19,12 +18,11 @@ pub struct Step {
 }
 
 /// Why steps make no automaton.
-#[derive(Clone, Copy, Debug, PartialEq, Eq, Error)]
+#[derive(Clone, Copy, Debug, PartialEq, Eq)]
 pub enum FsmFault {
     /// Steps lead from the state by the action to two states.
-    #[error("an action leads from a state to two states")]
     Ambiguous { state: u16, action: u16 },
-    #[error("out of memory")]
+    /// An allocation was refused.
     Memory,
 }
 

@@ -4,7 +4,7 @@
 use std::hint::black_box;
 use std::time::Instant;
 
-type Num = i64;
+type Num = i128;
 
 #[derive(Clone, Copy)]
 #[allow(dead_code)]
@@ -18,14 +18,14 @@ fn conv(t: Scalar, v: Num) -> Num {
     match t {
         Scalar::Bool => (v != 0) as Num,
         Scalar::Int(size) => {
-            let low = v as u64 & ((1u64 << size) - 1);
-            if low < 1u64 << (size - 1) {
-                low as i64
+            let low = v as u128 & ((1 << size) - 1);
+            if low < 1 << (size - 1) {
+                low as Num
             } else {
-                low as i64 - (1i64 << size)
+                low as Num - (1 << size)
             }
         }
-        Scalar::Uint(size) => (v as u64 & ((1u64 << size) - 1)) as i64,
+        Scalar::Uint(size) => (v as u128 & ((1 << size) - 1)) as Num,
     }
 }
 
@@ -164,7 +164,7 @@ fn copy_cells(d: usize, s: usize, n: u32, t: Option<Scalar>, cells: &mut [Num]) 
 }
 
 fn shift(b: Num) -> Result<u32, Trap> {
-    if (0..=63).contains(&b) {
+    if (0..=127).contains(&b) {
         Ok(b as u32)
     } else {
         Err(Trap::ShiftRange)
@@ -197,9 +197,8 @@ impl Code {
                 Instr::Index(n, m) => {
                     let i = stack.pop();
                     let o = stack.pop();
-                    let k = offset(i, 1, n)? as i128 * i128::from(m);
-                    let v = i128::from(o) + k;
-                    stack.push(whole(Num::try_from(v).ok())?);
+                    let k = offset(i, 1, n)? as Num * Num::from(m);
+                    stack.push(whole(o.checked_add(k))?);
                 }
                 Instr::LoadAt(c, n) => {
                     let o = offset(stack.pop(), 1, n)?;
@@ -258,8 +257,9 @@ impl Code {
                     b => Ok(a % b),
                 })?,
                 Instr::Shl => stack.two(|a, b| {
-                    let v = i128::from(a) << shift(b)?;
-                    whole(Num::try_from(v).ok())
+                    let count = shift(b)?;
+                    let v = a << count;
+                    whole(if v >> count == a { Some(v) } else { None })
                 })?,
                 Instr::Shr => stack.two(|a, b| Ok(a >> shift(b)?))?,
                 Instr::And => stack.two(|a, b| Ok(a & b))?,

@@ -2,7 +2,7 @@
 
 use super::programs::PORTS;
 use crate::{Cells, Run, cells};
-use code_ir::{ActorCode, Admitted, Instr, admit, are_sized, has_tokens};
+use code_ir::{ActorCode, Admitted, Instr, admit, are_few, are_sized, has_tokens};
 use rvc_base::{Num, Scalar};
 use std::alloc::{AllocError, Global};
 use std::process::Abort;
@@ -47,7 +47,7 @@ fn seen(alloc: Global) -> Option<[Option<[Num; 3]>; 3]> {
     let Ok(code) = copying(alloc) else {
         return None
     };
-    if !are_sized(&code.instrs) {
+    if !are_sized(&code.instrs) || !are_few(&code) {
         return None;
     }
     let Ok(code) = admit(alloc, code) else {

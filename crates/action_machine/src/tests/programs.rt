@@ -4,7 +4,7 @@ ghost use Rattle.std.specs.Prelude.{ℕ, ℤ, List, [], if◌then◌else◌, ◌
 
 use crate::{Cells, Outcome, Run, cells};
 use code_ir::{
-    ActorCode, Admitted, CodeFault, Instr, Routine, Tokens, admit, are_sized, has_tokens,
+    ActorCode, Admitted, CodeFault, Instr, Routine, Tokens, admit, are_few, are_sized, has_tokens,
 };
 use rvc_base::{Num, Trap};
 use std::alloc::{AllocError, Global};
@@ -87,7 +87,7 @@ fn run_admitted(alloc: Global, code: &Admitted, entry: u32) -> Found {
 
 /// Admits code, and runs it from an entry.
 fn run_code(alloc: Global, code: ActorCode, entry: u32) -> Found {
-    if !are_sized(&code.instrs) {
+    if !are_sized(&code.instrs) || !are_few(&code) {
         return Found::Unfit;
     }
     match admit(alloc, code) {

@@ -1,10 +1,10 @@
 use Rattle.std.proofs.Common.{◌≡◌, Err, rules}
 use Rattle.cal_ast.specs.View.{output_tree}
 use Rattle.cal_lexer.specs.Lexeme.{plain_tokens}
-use Rattle.cal_parser.specs.Rules.{part, out_body}
-use Rattle.cal_parser.specs.Spells.{an_out}
+use Rattle.cal_grammar.specs.Rules.{part, out_body}
+use Rattle.cal_grammar.specs.Spells.{an_out}
 use Rattle.cal_parser.proofs.Openings.{opening_fails, opening_goes_on}
-use Rattle.cal_parser.proofs.Reading.{read_is}
+use Rattle.cal_grammar.proofs.Reading.{read_is}
 use Rattle.cal_parser.proofs.actions.output.Goals as goal
 
 pub returns-in_err-to : goal.returns-in_err-to

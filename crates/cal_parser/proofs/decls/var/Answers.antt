@@ -1,7 +1,7 @@
 use Rattle.std.proofs.Common.{◌≡◌, Err, rules}
 use Rattle.cal_ast.specs.View.{type_tree, var_tree}
-use Rattle.cal_parser.specs.Rules.{part, var_tail}
-use Rattle.cal_parser.specs.Spells.{a_var}
+use Rattle.cal_grammar.specs.Rules.{part, var_tail}
+use Rattle.cal_grammar.specs.Spells.{a_var}
 use Rattle.cal_parser.proofs.Declarations.{tells_jump, var_no_type, var_tailed}
 use Rattle.cal_parser.proofs.decls.var.Goals as goal
 

@@ -6,7 +6,7 @@ use Rattle.cal_ast.specs.Tree.{present, absent}
 use Rattle.cal_ast.specs.View.{ident_tree, type_tree, var_tree}
 use Rattle.cal_lexer.specs.Lexeme.{plain_tokens}
 use Rattle.cal_parser.specs.Pieces.{value_then}
-use Rattle.cal_parser.specs.Rules.{var_tail}
+use Rattle.cal_grammar.specs.Rules.{var_tail}
 use Rattle.cal_parser.proofs.Declarations.{tells_rest, var_no_name, var_assign, var_plain, var_constant}
 use Rattle.cal_parser.proofs.decls.var_after.Goals as goal
 

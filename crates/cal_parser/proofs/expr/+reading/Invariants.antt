@@ -1,6 +1,6 @@
 use Rattle.std.proofs.Common.{◌+◌, ◌*◌, ◌-◌, ◌≤◌, length, map}
 use Rattle.cal_ast.specs.View.{expr_tree, gen_tree, type_arg_tree}
-use Rattle.cal_parser.specs.Spells.{a_gen, a_type_arg, an_expr}
+use Rattle.cal_grammar.specs.Spells.{a_gen, a_type_arg, an_expr}
 use Rattle.cal_parser.specs.Steps.{tall_tree}
 use Rattle.cal_parser.proofs.Chains.{IsClimbed, IsIndexed, IsNested}
 use Rattle.cal_parser.proofs.Primaries.{IsListed}

@@ -2,8 +2,8 @@ use Rattle.std.proofs.Common.{◌≡◌, ◌-◌, Ok, Err, string_bytes, refl, s
 use Rattle.look_ahead.specs.Program.{Gave}
 use Rattle.cal_ast.specs.View.{type_tree}
 use Rattle.cal_lexer.specs.Lexeme.{plain_tokens}
-use Rattle.cal_parser.specs.Rules.{part, read, type_tail}
-use Rattle.cal_parser.specs.Spells.{a_type_arg, comma, separated}
+use Rattle.cal_grammar.specs.Rules.{part, read, type_tail}
+use Rattle.cal_grammar.specs.Spells.{a_type_arg, comma, separated}
 use Rattle.cal_parser.specs.Steps.{each_type_arg, tall_type}
 use Rattle.cal_parser.specs.Tells.{TellsFault}
 use Rattle.cal_parser.proofs.Exits.{fault_answers, type_alone, type_ends, type_fault}

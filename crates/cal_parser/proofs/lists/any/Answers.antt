@@ -2,8 +2,8 @@ use Rattle.std.proofs.Common.{sym, ap, map, ◌∙◌}
 use Rattle.look_ahead.specs.Program.{Gave}
 use Rattle.cal_ast.specs.Tree.{listed}
 use Rattle.cal_lexer.specs.Lexeme.{plain_tokens}
-use Rattle.cal_parser.specs.Rules.{part}
-use Rattle.cal_parser.specs.Spells.{comma, any, separated}
+use Rattle.cal_grammar.specs.Rules.{part}
+use Rattle.cal_grammar.specs.Spells.{comma, any, separated}
 use Rattle.cal_parser.specs.Tells.{each}
 use Rattle.cal_parser.proofs.Declarations.{tells_jump}
 use Rattle.cal_parser.proofs.Loops.{any_none, any_some}

@@ -1,7 +1,7 @@
 use Rattle.std.proofs.Common.{map, length}
-use Rattle.cal_parser.specs.Rules.{part}
+use Rattle.cal_grammar.specs.Rules.{part}
 use Rattle.cal_parser.specs.SoFar.{HasRead}
-use Rattle.cal_parser.specs.Spells.{repeated}
+use Rattle.cal_grammar.specs.Spells.{repeated}
 use Rattle.cal_parser.proofs.lists.repeated.Given as goal
 
 abbrev pub invariant-parts : goal.invariant-parts

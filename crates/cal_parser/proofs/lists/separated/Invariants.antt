@@ -1,8 +1,8 @@
 use Rattle.std.proofs.Common.{map, length}
-use Rattle.cal_parser.specs.Rules.{part}
+use Rattle.cal_grammar.specs.Rules.{part}
 use Rattle.cal_parser.specs.Separator.{mark_of}
 use Rattle.cal_parser.specs.SoFar.{HasRead}
-use Rattle.cal_parser.specs.Spells.{separated}
+use Rattle.cal_grammar.specs.Spells.{separated}
 use Rattle.cal_parser.proofs.lists.separated.Given as goal
 
 abbrev pub invariant-parts : goal.invariant-parts

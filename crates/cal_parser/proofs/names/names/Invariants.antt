@@ -2,7 +2,7 @@ use Rattle.std.proofs.Common.{map, length}
 use Rattle.cal_ast.specs.View.{ident_tree}
 use Rattle.cal_parser.specs.Separator.{mark_of}
 use Rattle.cal_parser.specs.SoFar.{IsSoFar}
-use Rattle.cal_parser.specs.Spells.{a_name}
+use Rattle.cal_grammar.specs.Spells.{a_name}
 use Rattle.cal_lexer.specs.Words.{lexeme_of}
 use Rattle.cal_parser.proofs.names.names.Given as goal
 

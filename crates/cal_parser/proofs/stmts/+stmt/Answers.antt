@@ -3,8 +3,8 @@ use Rattle.look_ahead.specs.Program.{Gave}
 use Rattle.cal_ast.specs.View.{body_tree, stmt_tree}
 use Rattle.cal_lexer.specs.Lexeme.{Lexeme, placed, plain_tokens}
 use Rattle.cal_parser.specs.Pieces.{else_rest}
-use Rattle.cal_parser.specs.Rules.{named, named_stmt_body, if_stmt_body, while_body, foreach_body, block_body}
-use Rattle.cal_parser.specs.Spells.{a_stmt, otherwise}
+use Rattle.cal_grammar.specs.Rules.{named, named_stmt_body, if_stmt_body, while_body, foreach_body, block_body}
+use Rattle.cal_grammar.specs.Spells.{a_stmt, otherwise}
 use Rattle.cal_lexer.specs.Words.{lexeme_of}
 use Rattle.cal_parser.specs.declared.fault.Fault.TheVariants as faults
 use Rattle.cal_parser.proofs.Loops.{again_more, again_none, again_fail, read_shorter}

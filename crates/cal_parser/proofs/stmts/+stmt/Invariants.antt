@@ -1,8 +1,8 @@
 use Rattle.std.proofs.Common.{◌+◌, ◌*◌, map, length}
 use Rattle.cal_ast.specs.View.{stmt_tree}
-use Rattle.cal_parser.specs.Rules.{part}
+use Rattle.cal_grammar.specs.Rules.{part}
 use Rattle.cal_parser.specs.SoFar.{HasRead}
-use Rattle.cal_parser.specs.Spells.{repeated, a_stmt}
+use Rattle.cal_grammar.specs.Spells.{repeated, a_stmt}
 use Rattle.cal_parser.proofs.stmts.+stmt.Given as goal
 
 abbrev pub invariant-stmts-all : goal.invariant-stmts-all

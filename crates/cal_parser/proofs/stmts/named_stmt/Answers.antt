@@ -1,7 +1,7 @@
 use Rattle.std.proofs.Common.{◌≡◌, Err, rules, sym, ◌∙◌}
 use Rattle.cal_ast.specs.View.{ident_tree, stmt_tree}
 use Rattle.cal_parser.specs.Pieces.{call_rest, assign_rest}
-use Rattle.cal_parser.specs.Rules.{named, named_stmt_body}
+use Rattle.cal_grammar.specs.Rules.{named, named_stmt_body}
 use Rattle.cal_parser.proofs.Statements.{named_call, named_assign, does_on}
 use Rattle.cal_parser.proofs.Steps.{named_fails}
 use Rattle.cal_parser.proofs.stmts.named_stmt.Goals as goal

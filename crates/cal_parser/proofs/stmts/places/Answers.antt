@@ -1,6 +1,6 @@
 use Rattle.std.proofs.Common.{◌≡◌, Err, rules, sym, ◌∙◌}
 use Rattle.cal_ast.specs.View.{expr_tree}
-use Rattle.cal_parser.specs.Spells.{a_place}
+use Rattle.cal_grammar.specs.Spells.{a_place}
 use Rattle.cal_parser.proofs.Loops.{again_more, again_none, again_fail, read_shorter}
 use Rattle.cal_parser.proofs.stmts.places.Goals as goal
 

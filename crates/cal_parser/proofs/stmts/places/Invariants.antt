@@ -1,8 +1,8 @@
 use Rattle.std.proofs.Common.{map, length}
 use Rattle.cal_ast.specs.View.{expr_tree}
-use Rattle.cal_parser.specs.Rules.{part}
+use Rattle.cal_grammar.specs.Rules.{part}
 use Rattle.cal_parser.specs.SoFar.{HasRead}
-use Rattle.cal_parser.specs.Spells.{repeated, a_place}
+use Rattle.cal_grammar.specs.Spells.{repeated, a_place}
 use Rattle.cal_parser.proofs.stmts.places.Given as goal
 
 abbrev pub invariant-places : goal.invariant-places

@@ -1,0 +1,12 @@
+pub mod Words
+pub mod Costs
+pub mod Meets
+pub mod Sound
+pub mod SoundStatements
+pub mod SoundMembers
+pub mod Reading
+pub mod Follow
+pub mod Claims
+pub mod Complete
+pub mod Whole
+pub mod Rows

@@ -1,0 +1,5 @@
+pub mod Token
+pub mod Operators
+pub mod Spells
+pub mod Rules
+pub mod Refusals
