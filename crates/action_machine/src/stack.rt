@@ -1,8 +1,8 @@
 //! The stack of operands, in a slice of fixed length.
 
-ghost use Rattle.std.specs.Prelude.{◌≡◌, ◌+◌, ◌≤◌, ◌<◌, ℤ, List, ◌∷◌, pos, length};
+ghost use Rattle.std.specs.Prelude.{◌≡◌, ◌+◌, ◌≤◌, ◌<◌, ℤ, List, ◌∷◌, length};
 ghost use Rattle.code_ir.specs.Effect.{push_computed};
-ghost use Rattle.action_machine.specs.Stacks.{top_first};
+ghost use Rattle.action_machine.specs.Stacks.{operands};
 ghost use Rattle.rvc_base.specs.Computing.{computed_of};
 ghost use Rattle.action_machine.specs.Acting.{effect_of};
 
@@ -20,7 +20,7 @@ pub(crate) enum Acted {
 pub(crate) fn pop(top: &mut usize, stack: &[Num]) -> Num
     requires some { 0 < top.old }
     requires inside { top.old ≤ length stack.now }
-    ensures operands { top_first (pos 0) top.old stack.now ≡ result ∷ top_first (pos 0) top.new stack.now }
+    ensures operands { operands top.old stack.now ≡ result ∷ operands top.new stack.now }
     ensures fewer { top.new + 1 ≡ top.old }
 {
     *top -= 1;
@@ -31,7 +31,7 @@ pub(crate) fn pop(top: &mut usize, stack: &[Num]) -> Num
 #[inline]
 pub(crate) fn push(top: &mut usize, stack: &mut [Num], v: Num)
     requires { top.old < length stack.old }
-    ensures operands { top_first (pos 0) top.new stack.new ≡ v ∷ top_first (pos 0) top.old stack.old }
+    ensures operands { operands top.new stack.new ≡ v ∷ operands top.old stack.old }
     ensures more { top.new ≡ top.old + 1 }
 {
     stack[*top] = v;
@@ -42,7 +42,9 @@ pub(crate) fn push(top: &mut usize, stack: &mut [Num], v: Num)
 #[inline]
 pub(crate) fn push_result(top: &mut usize, stack: &mut [Num], v: Result<Num, Trap>) -> Acted
     requires { top.old < length stack.old }
-    ensures { (cells : List ℤ) → push_computed (computed_of v) (top_first (pos 0) top.old stack.old) cells ≡ effect_of result (top_first (pos 0) top.new stack.new) cells }
+    ensures { (cells : List ℤ) →
+        push_computed (computed_of v) (operands top.old stack.old) cells
+        ≡ effect_of result (operands top.new stack.new) cells }
 {
     match v {
         Ok(v) => {

@@ -1,10 +1,10 @@
 //! One step of the machine.
 
-ghost use Rattle.std.specs.Prelude.{◌≡◌, ◌+◌, ◌^◌, ◌≤◌, ◌<◌, ℕ, ℤ, List, pos, length};
+ghost use Rattle.std.specs.Prelude.{◌≡◌, ◌+◌, ◌^◌, ◌≤◌, ◌<◌, ℕ, ℤ, List, length};
 ghost use Rattle.code_ir.specs.Code.{Code};
 ghost use Rattle.code_ir.specs.Running.{State, step, go_on, jump_if_not, turn, call, return, answer};
 ghost use Rattle.action_machine.specs.Acting.{OnFails, effect_of};
-ghost use Rattle.action_machine.specs.Stacks.{top_first};
+ghost use Rattle.action_machine.specs.Stacks.{operands, top_first};
 ghost use Rattle.action_machine.specs.Machine.{IsReady, next_of, state_of};
 
 use crate::carrying::carry_out;
@@ -19,7 +19,9 @@ fn jump_if_not(t: u32, at: &mut Registers, stack: &[Num])
     requires some { 0 < at.old.top }
     requires below { at.old.top ≤ length stack.now }
     requires small { at.old.place + 1 < 2 ^ 64 }
-    ensures { (frames : List ℕ) (cells : List ℤ) → jump_if_not t (state_of at.old stack.now frames cells) (top_first (pos 0) at.old.top stack.now) ≡ next_of None (state_of at.new stack.now frames cells) }
+    ensures { (frames : List ℕ) (cells : List ℤ) →
+        jump_if_not t (state_of at.old stack.now frames cells) (operands at.old.top stack.now)
+        ≡ next_of None (state_of at.new stack.now frames cells) }
 {
     let v = pop(&mut at.top, stack);
     at.place = if v == 0 { t as usize } else { at.place + 1 };
@@ -29,7 +31,9 @@ fn jump_if_not(t: u32, at: &mut Registers, stack: &[Num])
 #[inline]
 fn turn(at: &mut Registers) -> Option<Outcome>
     requires small { at.old.place + 1 < 2 ^ 64 }
-    ensures { (stack cells : List ℤ) (frames : List ℕ) → turn (state_of at.old stack frames cells) at.old.left ≡ next_of result (state_of at.new stack frames cells) }
+    ensures { (stack cells : List ℤ) (frames : List ℕ) →
+        turn (state_of at.old stack frames cells) at.old.left
+        ≡ next_of result (state_of at.new stack frames cells) }
 {
     if at.left == 0 {
         return Some(Outcome::Trap(Trap::TurnLimit));
@@ -45,7 +49,9 @@ fn call(r: u32, routines: &[Routine], at: &mut Registers, frames: &mut [usize])
     requires there { r < length routines.now }
     requires room { at.old.depth < length frames.old }
     requires small { at.old.place + 1 < 2 ^ 64 }
-    ensures { (code : Code) (stack cells : List ℤ) → code.routines ≡ routines.now → call code r (state_of at.old stack frames.old cells) ≡ next_of None (state_of at.new stack frames.new cells) }
+    ensures { (code : Code) (stack cells : List ℤ) → code.routines ≡ routines.now →
+        call code r (state_of at.old stack frames.old cells)
+        ≡ next_of None (state_of at.new stack frames.new cells) }
 {
     frames[at.depth] = at.place + 1;
     at.depth += 1;
@@ -58,7 +64,9 @@ fn call(r: u32, routines: &[Routine], at: &mut Registers, frames: &mut [usize])
 fn come_back(at: &mut Registers, frames: &[usize])
     requires some { 0 < at.old.depth }
     requires below { at.old.depth ≤ length frames.now }
-    ensures { (stack cells : List ℤ) → return (state_of at.old stack frames.now cells) (top_first 0 at.old.depth frames.now) ≡ next_of None (state_of at.new stack frames.now cells) }
+    ensures { (stack cells : List ℤ) →
+        return (state_of at.old stack frames.now cells) (top_first 0 at.old.depth frames.now)
+        ≡ next_of None (state_of at.new stack frames.now cells) }
 {
     at.depth -= 1;
     at.place = frames[at.depth];
@@ -69,7 +77,9 @@ fn come_back(at: &mut Registers, frames: &[usize])
 fn answer(at: &mut Registers, stack: &[Num]) -> Outcome
     requires some { 0 < at.old.top }
     requires below { at.old.top ≤ length stack.now }
-    ensures { (frames : List ℕ) (cells : List ℤ) → answer (state_of at.old stack.now frames cells) (top_first (pos 0) at.old.top stack.now) ≡ next_of (Some result) (state_of at.new stack.now frames cells) }
+    ensures { (frames : List ℕ) (cells : List ℤ) →
+        answer (state_of at.old stack.now frames cells) (operands at.old.top stack.now)
+        ≡ next_of (Some result) (state_of at.new stack.now frames cells) }
 {
     let v = pop(&mut at.top, stack);
     if v == 0 {
@@ -83,7 +93,11 @@ fn answer(at: &mut Registers, stack: &[Num]) -> Outcome
 #[inline]
 fn go_on(at: &mut Registers, acted: Acted) -> Option<Outcome>
     requires small { at.old.place + 1 < 2 ^ 64 }
-    ensures { (s : State) (stack cells : List ℤ) (frames : List ℕ) → s.place ≡ at.old.place → s.left ≡ at.old.left → s.frames ≡ top_first 0 at.old.depth frames → OnFails acted (cells ≡ s.cells) → go_on s (effect_of acted (top_first (pos 0) at.old.top stack) cells) ≡ next_of result (state_of at.new stack frames cells) }
+    ensures { (s : State) (stack cells : List ℤ) (frames : List ℕ) →
+        s.place ≡ at.old.place → s.left ≡ at.old.left → s.frames ≡ top_first 0 at.old.depth frames →
+        OnFails acted (cells ≡ s.cells) →
+        go_on s (effect_of acted (operands at.old.top stack) cells)
+        ≡ next_of result (state_of at.new stack frames cells) }
 {
     match acted {
         Acted::On => {
@@ -104,8 +118,10 @@ pub(crate) fn step<T: Tokens>(
     cells: &mut [Num],
     tokens: &T,
 ) -> Option<Outcome>
-    requires { IsReady code.now (T.tokens tokens.now) (state_of at.old stack.old frames.old cells.old) (length stack.old) (length frames.old) }
-    ensures { step code.now (T.tokens tokens.now) (state_of at.old stack.old frames.old cells.old) ≡ next_of result (state_of at.new stack.new frames.new cells.new) }
+    requires { IsReady code.now (T.tokens tokens.now)
+        (state_of at.old stack.old frames.old cells.old) (length stack.old) (length frames.old) }
+    ensures { step code.now (T.tokens tokens.now) (state_of at.old stack.old frames.old cells.old)
+        ≡ next_of result (state_of at.new stack.new frames.new cells.new) }
 {
     let instr = &code.instrs()[at.place];
     match *instr {

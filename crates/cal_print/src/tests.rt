@@ -10,6 +10,7 @@ use std::process::Abort;
 use std::test::Fail;
 
 /// What stands before and behind the text of a row, in the source and in its canonical text.
+#[derive(Clone, Copy)]
 struct Frame {
     before: &'static str,
     behind: &'static str,

@@ -9,5 +9,7 @@ pub mod Commuting
 pub mod Arriving
 mod Bare
 mod MoreRows
+pub mod Rounds
+mod Budgets
 pub mod Bursts
 pub mod TableActor

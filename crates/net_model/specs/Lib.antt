@@ -12,4 +12,5 @@ pub mod Wired
 pub mod Stable
 pub mod Laws
 pub mod Paced
+pub mod PacingLaws
 pub mod Counted

@@ -1,6 +1,6 @@
 -- Pacing: which lines the rounds of a run write, by its policy, burst and budget. The number of workers isn't
 -- among what they depend on.
-use Rattle.std.specs.Prelude.{◌≡◌, ℕ, zero, suc, ◌+◌, ◌-◌, ◌<◌, ◌⊎◌, ◌==◌, ◌||◌, ◌&&◌, nat_le, Bool, true, false, List, [], ◌∷◌, ◌++◌, length, map, flat_map, sum, min, slice_get, Option, None, Some, if◌then◌else◌, MatchBool}
+use Rattle.std.specs.Prelude.{◌≡◌, ℕ, zero, suc, ◌+◌, ◌-◌, ◌<◌, ◌⊎◌, ◌==◌, ◌||◌, ◌&&◌, nat_le, Bool, true, false, List, [], ◌∷◌, ◌++◌, length, map, flat_map, min, slice_get, Option, None, Some, if◌then◌else◌, MatchBool}
 use Rattle.std.specs.List.{range_with_len}
 use Rattle.rvc_base.specs.declared.trap.Trap.{Trap as TrapName}
 use Rattle.rvc_base.specs.declared.round_kind.RoundKind.{RoundKind}
@@ -68,7 +68,8 @@ lines_of block = DeliverLine ∷ fire_lines 0 block.bursts ++ close_lines block.
 
 -- how many firings a round has
 abbrev pub count_of : List (List ℕ) → ℕ
-count_of bursts = sum (map length bursts)
+count_of [] = 0
+count_of (actions ∷ bursts) = length actions + count_of bursts
 
 -- Which leaves are picked.
 

@@ -6,6 +6,7 @@
 
 mod firing;
 mod laws;
+mod pacing;
 mod wiring;
 
 pub use firing::{BurstEnd, Firing, Look, Tried};
@@ -14,4 +15,5 @@ pub use laws::{
     lines_lead_to_one_state, quiet_is_waiting, sent_lists_only_grow, stalled_in_one_place,
     taken_have_arrived,
 };
+pub use pacing::{paced_lines_are_one, paced_lines_keep_the_budget, paced_lines_play};
 pub use wiring::{Counts, End, Link, Port, Wiring};

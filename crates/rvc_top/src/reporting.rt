@@ -1,7 +1,7 @@
 //! The report.
 
 ghost use Rattle.std.specs.Prelude.{◌≡◌, ◌≢◌, ◌≤◌, ◌+◌, ◌++◌, ◌⊎◌, ℕ, Bool, true, List, Option, Some, None, OnOk, OnErr, decimal, string_bytes, length};
-ghost use Rattle.rvc_io.specs.Channels.{Appends, WriteFails, WritesOnly};
+ghost use Rattle.rvc_io.specs.Channels.{WriteFails, WritesOnly};
 ghost use Rattle.rvc_top.specs.Naming.{names_text};
 ghost use Rattle.rvc_top.specs.Report.{run_lines, counts_lines, input_line, output_line, last_line, refusal_line, file_name, usage_text, memory_text, not_built_here, not_built_text};
 ghost use Rattle.trace_text.specs.Text.{line_feed};
@@ -30,8 +30,9 @@ pub struct Names<'a> {
 /// Puts a text behind the report so far.
 fn put<D: Drains>(text: &[u8], drains: &mut D) -> Result<(), Failed>
     requires { (D.channels drains.old).is_open REPORT_CHANNEL ≡ true }
-    ensures reported { OnOk result (Appends REPORT_CHANNEL (D.channels drains.old)
-        (D.channels drains.new) text.now) }
+    ensures reported { OnOk result ((D.channels drains.old).tells ≡ true
+        → (D.channels drains.new).held REPORT_CHANNEL
+        ≡ (D.channels drains.old).held REPORT_CHANNEL ++ text.now) }
     ensures failed { OnErr result (WriteFails D.channels drains.old drains.new) }
     ensures keeps { WritesOnly D.channels drains.old drains.new 0 }
 {
@@ -41,8 +42,9 @@ fn put<D: Drains>(text: &[u8], drains: &mut D) -> Result<(), Failed>
 /// Puts a number behind the report so far.
 fn put_number<D: Drains>(number: u64, drains: &mut D) -> Result<(), Failed>
     requires { (D.channels drains.old).is_open REPORT_CHANNEL ≡ true }
-    ensures reported { OnOk result (Appends REPORT_CHANNEL (D.channels drains.old)
-        (D.channels drains.new) (decimal number)) }
+    ensures reported { OnOk result ((D.channels drains.old).tells ≡ true
+        → (D.channels drains.new).held REPORT_CHANNEL
+        ≡ (D.channels drains.old).held REPORT_CHANNEL ++ decimal number) }
     ensures failed { OnErr result (WriteFails D.channels drains.old drains.new) }
     ensures keeps { WritesOnly D.channels drains.old drains.new 0 }
 {
@@ -58,8 +60,10 @@ fn put_numbered<D: Drains>(
     drains: &mut D,
 ) -> Result<(), Failed>
     requires { (D.channels drains.old).is_open REPORT_CHANNEL ≡ true }
-    ensures reported { OnOk result (Appends REPORT_CHANNEL (D.channels drains.old)
-        (D.channels drains.new) (before.now ++ decimal number ++ after.now)) }
+    ensures reported { OnOk result ((D.channels drains.old).tells ≡ true
+        → (D.channels drains.new).held REPORT_CHANNEL
+        ≡ (D.channels drains.old).held REPORT_CHANNEL
+        ++ (before.now ++ decimal number ++ after.now)) }
     ensures failed { OnErr result (WriteFails D.channels drains.old drains.new) }
     ensures keeps { WritesOnly D.channels drains.old drains.new 0 }
 {
@@ -71,8 +75,9 @@ fn put_numbered<D: Drains>(
 /// Puts the lines of a run, but for the last one.
 fn put_run_lines<D: Drains>(actor: &Actor, counts: &Counts, drains: &mut D) -> Result<(), Failed>
     requires { (D.channels drains.old).is_open REPORT_CHANNEL ≡ true }
-    ensures reported { OnOk result (Appends REPORT_CHANNEL (D.channels drains.old)
-        (D.channels drains.new) (run_lines (form_of actor.now) counts.now)) }
+    ensures reported { OnOk result ((D.channels drains.old).tells ≡ true
+        → (D.channels drains.new).held REPORT_CHANNEL
+        ≡ (D.channels drains.old).held REPORT_CHANNEL ++ run_lines (form_of actor.now) counts.now) }
     ensures failed { OnErr result (WriteFails D.channels drains.old drains.new) }
     ensures keeps { WritesOnly D.channels drains.old drains.new 0 }
 {
@@ -83,8 +88,9 @@ fn put_run_lines<D: Drains>(actor: &Actor, counts: &Counts, drains: &mut D) -> R
 
 fn put_counts<D: Drains>(counts: &Counts, drains: &mut D) -> Result<(), Failed>
     requires { (D.channels drains.old).is_open REPORT_CHANNEL ≡ true }
-    ensures reported { OnOk result (Appends REPORT_CHANNEL (D.channels drains.old)
-        (D.channels drains.new) (counts_lines counts.now)) }
+    ensures reported { OnOk result ((D.channels drains.old).tells ≡ true
+        → (D.channels drains.new).held REPORT_CHANNEL
+        ≡ (D.channels drains.old).held REPORT_CHANNEL ++ counts_lines counts.now) }
     ensures failed { OnErr result (WriteFails D.channels drains.old drains.new) }
     ensures keeps { WritesOnly D.channels drains.old drains.new 0 }
 {
@@ -99,8 +105,10 @@ fn put_counts<D: Drains>(counts: &Counts, drains: &mut D) -> Result<(), Failed>
 
 fn put_input<D: Drains>(actor: &Actor, counts: &Counts, drains: &mut D) -> Result<(), Failed>
     requires { (D.channels drains.old).is_open REPORT_CHANNEL ≡ true }
-    ensures reported { OnOk result (Appends REPORT_CHANNEL (D.channels drains.old)
-        (D.channels drains.new) (input_line (form_of actor.now) counts.now)) }
+    ensures reported { OnOk result ((D.channels drains.old).tells ≡ true
+        → (D.channels drains.new).held REPORT_CHANNEL
+        ≡ (D.channels drains.old).held REPORT_CHANNEL
+        ++ input_line (form_of actor.now) counts.now) }
     ensures failed { OnErr result (WriteFails D.channels drains.old drains.new) }
     ensures keeps { WritesOnly D.channels drains.old drains.new 0 }
 {
@@ -111,8 +119,10 @@ fn put_input<D: Drains>(actor: &Actor, counts: &Counts, drains: &mut D) -> Resul
 
 fn put_output<D: Drains>(actor: &Actor, counts: &Counts, drains: &mut D) -> Result<(), Failed>
     requires { (D.channels drains.old).is_open REPORT_CHANNEL ≡ true }
-    ensures reported { OnOk result (Appends REPORT_CHANNEL (D.channels drains.old)
-        (D.channels drains.new) (output_line (form_of actor.now) counts.now)) }
+    ensures reported { OnOk result ((D.channels drains.old).tells ≡ true
+        → (D.channels drains.new).held REPORT_CHANNEL
+        ≡ (D.channels drains.old).held REPORT_CHANNEL
+        ++ output_line (form_of actor.now) counts.now) }
     ensures failed { OnErr result (WriteFails D.channels drains.old drains.new) }
     ensures keeps { WritesOnly D.channels drains.old drains.new 0 }
 {
@@ -124,8 +134,9 @@ fn put_output<D: Drains>(actor: &Actor, counts: &Counts, drains: &mut D) -> Resu
 /// Puts a text, a name and the end of the line.
 fn put_named<D: Drains>(before: &[u8], name: &[u8], drains: &mut D) -> Result<(), Failed>
     requires { (D.channels drains.old).is_open REPORT_CHANNEL ≡ true }
-    ensures reported { OnOk result (Appends REPORT_CHANNEL (D.channels drains.old)
-        (D.channels drains.new) (before.now ++ name.now ++ line_feed)) }
+    ensures reported { OnOk result ((D.channels drains.old).tells ≡ true
+        → (D.channels drains.new).held REPORT_CHANNEL
+        ≡ (D.channels drains.old).held REPORT_CHANNEL ++ (before.now ++ name.now ++ line_feed)) }
     ensures failed { OnErr result (WriteFails D.channels drains.old drains.new) }
     ensures keeps { WritesOnly D.channels drains.old drains.new 0 }
 {
@@ -140,8 +151,10 @@ fn put_refusal<D: Drains>(
     drains: &mut D,
 ) -> Result<(), Failed>
     requires { (D.channels drains.old).is_open REPORT_CHANNEL ≡ true }
-    ensures reported { OnOk result (Appends REPORT_CHANNEL (D.channels drains.old)
-        (D.channels drains.new) (refusal_line (names_text names.now) refusal.now)) }
+    ensures reported { OnOk result ((D.channels drains.old).tells ≡ true
+        → (D.channels drains.new).held REPORT_CHANNEL
+        ≡ (D.channels drains.old).held REPORT_CHANNEL
+        ++ refusal_line (names_text names.now) refusal.now) }
     ensures failed { OnErr result (WriteFails D.channels drains.old drains.new) }
     ensures keeps { WritesOnly D.channels drains.old drains.new 0 }
 {
@@ -170,8 +183,10 @@ fn put_last_line<D: Drains>(
     drains: &mut D,
 ) -> Result<(), Failed>
     requires { (D.channels drains.old).is_open REPORT_CHANNEL ≡ true }
-    ensures reported { OnOk result (Appends REPORT_CHANNEL (D.channels drains.old)
-        (D.channels drains.new) (last_line (names_text names.now) status.now)) }
+    ensures reported { OnOk result ((D.channels drains.old).tells ≡ true
+        → (D.channels drains.new).held REPORT_CHANNEL
+        ≡ (D.channels drains.old).held REPORT_CHANNEL
+        ++ last_line (names_text names.now) status.now) }
     ensures failed { OnErr result (WriteFails D.channels drains.old drains.new) }
     ensures keeps { WritesOnly D.channels drains.old drains.new 0 }
 {
@@ -199,8 +214,9 @@ fn put_last_line<D: Drains>(
 /// Puts the cause why words are no job, and how the program is used.
 fn put_usage<D: Drains>(cause: UsageCause, drains: &mut D) -> Result<(), Failed>
     requires { (D.channels drains.old).is_open REPORT_CHANNEL ≡ true }
-    ensures reported { OnOk result (Appends REPORT_CHANNEL (D.channels drains.old)
-        (D.channels drains.new) (usage_text cause)) }
+    ensures reported { OnOk result ((D.channels drains.old).tells ≡ true
+        → (D.channels drains.new).held REPORT_CHANNEL
+        ≡ (D.channels drains.old).held REPORT_CHANNEL ++ usage_text cause) }
     ensures failed { OnErr result (WriteFails D.channels drains.old drains.new) }
     ensures keeps { WritesOnly D.channels drains.old drains.new 0 }
 {

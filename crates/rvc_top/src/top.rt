@@ -19,7 +19,7 @@ ghost use Rattle.rvc_top.specs.Opened.{NamesItsInput};
 ghost use Rattle.rvc_top.specs.Matching.{AreMatched, file_of, ports_of};
 ghost use Rattle.rvc_top.specs.Refused.{IsDenial, IsRefusal};
 ghost use Rattle.rvc_top.specs.Planned.{IsReady, IsPerformed, HasCause, IsCaused};
-ghost use Rattle.rvc_top.specs.Run.{HasInputs, IsInput, LeavesOn, Writes};
+ghost use Rattle.rvc_top.specs.Run.{HasInputs, IsInput, Leaves, LeavesOn, Writes};
 ghost use Rattle.rvc_top.specs.Outside.{Answers, Reports};
 ghost use Rattle.first_form.specs.Spelling.{Spells};
 ghost use Rattle.first_runner.specs.Leaves.{Leaves as HasLeft};
