@@ -3,16 +3,13 @@
 ghost use Rattle.std.specs.Prelude.{◌≡◌, ◌≢◌, ◌+◌, ◌≤◌, pos, length};
 ghost use Rattle.code_ir.specs.Effect.{effect, LacksToken};
 ghost use Rattle.code_ir.specs.Typing.{HasSizes, NamesCells, pops};
-ghost use Rattle.action_machine.specs.Stacks.{top_first};
+ghost use Rattle.action_machine.specs.Stacks.{operands};
 ghost use Rattle.action_machine.specs.Acting.{OnFails, effect_of};
 ghost use Rattle.action_machine.specs.Machine.{IsPlain, rises};
 
 use crate::indexed::{copy_from, copy_to, index, load_at, store_at};
 use crate::loads::{constant, drop_top, load, store};
-use crate::operators::{
-    add, and, deny, divide, invert, is_at_least, is_at_most, is_equal, is_greater, is_less,
-    is_unequal, leave_rest, multiply, negate, or, shift_left, shift_right, subtract, xor,
-};
+use crate::operators;
 use crate::ranges::{copy, zero};
 use crate::reads::{token, token_at, token_list};
 use crate::stack::Acted;
@@ -34,43 +31,53 @@ pub(crate) fn carry_out<T: Tokens>(
     requires cells { NamesCells (length cells.old) instr.now }
     requires small { length cells.old ≤ 4294967295 }
     requires sized { HasSizes instr.now }
-    requires tokens { effect (T.tokens tokens.now) instr.now (top_first (pos 0) top.old stack.old) cells.old ≢ LacksToken }
-    ensures effect { effect (T.tokens tokens.now) instr.now (top_first (pos 0) top.old stack.old) cells.old ≡ effect_of result (top_first (pos 0) top.new stack.new) cells.new }
+    requires tokens { effect (T.tokens tokens.now) instr.now (operands top.old stack.old) cells.old
+        ≢ LacksToken }
+    ensures effect { effect (T.tokens tokens.now) instr.now (operands top.old stack.old) cells.old
+        ≡ effect_of result (operands top.new stack.new) cells.new }
     ensures kept { OnFails result (cells.new ≡ cells.old) }
 {
     match *instr {
         Instr::Const(v) => constant(v, top, stack),
-        Instr::Load(c) => load(c, top, stack, cells),
-        Instr::Store(c, t) => store(c, t, top, stack, cells),
-        Instr::Index(n, m) => index(n, m, top, stack),
-        Instr::LoadAt(c, n) => load_at(c, n, top, stack, cells),
-        Instr::StoreAt(c, n, t) => store_at(c, n, t, top, stack, cells),
-        Instr::Copy(d, s, n, t) => copy(d, s, n, t, cells),
-        Instr::CopyTo(d, n, s, m, t) => copy_to(d, n, s, m, t, top, stack, cells),
-        Instr::CopyFrom(d, s, n, m) => copy_from(d, s, n, m, top, stack, cells),
-        Instr::Token(p, k) => token(p, k, top, stack, tokens),
-        Instr::TokenAt(p, k, m, n) => token_at(p, k, m, n, top, stack, tokens),
-        Instr::TokenList(d, p, k, m, n) => token_list(d, p, k, m, n, cells, tokens),
-        Instr::Zero(c, n) => zero(c, n, cells),
-        Instr::Neg => negate(top, stack),
-        Instr::BitNot => invert(top, stack),
-        Instr::Not => deny(top, stack),
-        Instr::Add => add(top, stack),
-        Instr::Sub => subtract(top, stack),
-        Instr::Mul => multiply(top, stack),
-        Instr::Div => divide(top, stack),
-        Instr::Mod => leave_rest(top, stack),
-        Instr::Shl => shift_left(top, stack),
-        Instr::Shr => shift_right(top, stack),
-        Instr::And => and(top, stack),
-        Instr::Or => or(top, stack),
-        Instr::Xor => xor(top, stack),
-        Instr::Eq => is_equal(top, stack),
-        Instr::Ne => is_unequal(top, stack),
-        Instr::Lt => is_less(top, stack),
-        Instr::Le => is_at_most(top, stack),
-        Instr::Gt => is_greater(top, stack),
-        Instr::Ge => is_at_least(top, stack),
+        Instr::Load(cell) => load(cell, top, stack, cells),
+        Instr::Store(cell, t) => store(cell, t, top, stack, cells),
+        Instr::Index(len, step) => index(len, step, top, stack),
+        Instr::LoadAt(source, len) => load_at(source, len, top, stack, cells),
+        Instr::StoreAt(target, len, t) => store_at(target, len, t, top, stack, cells),
+        Instr::Copy(target, source, count, t) => copy(target, source, count, t, cells),
+        Instr::CopyTo(target, len, source, count, t) => {
+            copy_to(target, len, source, count, t, top, stack, cells)
+        }
+        Instr::CopyFrom(target, source, len, count) => {
+            copy_from(target, source, len, count, top, stack, cells)
+        }
+        Instr::Token(port, place) => token(port, place, top, stack, tokens),
+        Instr::TokenAt(port, first, step, len) => {
+            token_at(port, first, step, len, top, stack, tokens)
+        }
+        Instr::TokenList(target, port, first, step, count) => {
+            token_list(target, port, first, step, count, cells, tokens)
+        }
+        Instr::Zero(target, count) => zero(target, count, cells),
+        Instr::Neg => operators::neg(top, stack),
+        Instr::BitNot => operators::bit_not(top, stack),
+        Instr::Not => operators::not(top, stack),
+        Instr::Add => operators::add(top, stack),
+        Instr::Sub => operators::sub(top, stack),
+        Instr::Mul => operators::mul(top, stack),
+        Instr::Div => operators::div(top, stack),
+        Instr::Mod => operators::rem(top, stack),
+        Instr::Shl => operators::shl(top, stack),
+        Instr::Shr => operators::shr(top, stack),
+        Instr::And => operators::bit_and(top, stack),
+        Instr::Or => operators::bit_or(top, stack),
+        Instr::Xor => operators::bit_xor(top, stack),
+        Instr::Eq => operators::eq(top, stack),
+        Instr::Ne => operators::ne(top, stack),
+        Instr::Lt => operators::lt(top, stack),
+        Instr::Le => operators::le(top, stack),
+        Instr::Gt => operators::gt(top, stack),
+        Instr::Ge => operators::ge(top, stack),
         Instr::Drop => drop_top(top, stack),
         Instr::Jump(_)
         | Instr::JumpIfNot(_)

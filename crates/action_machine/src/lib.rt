@@ -1,7 +1,7 @@
 //! The machine that runs admitted code.
 #![tactic(auto)]
 
-mod arithmetic;
+mod bits;
 mod carrying;
 mod indexed;
 mod kept;
@@ -15,9 +15,12 @@ mod registers;
 mod run;
 mod stack;
 mod step;
+mod stepping;
 #[cfg(test)]
 mod tests;
+mod truth;
 
+pub use code_ir::Outcome;
 pub use kept::Cells;
 pub use making::cells;
 pub use run::Run;

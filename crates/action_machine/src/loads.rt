@@ -1,10 +1,11 @@
 //! The instructions that move numbers between the stack and cells whose places are fixed.
 
-ghost use Rattle.std.specs.Prelude.{◌≡◌, ◌+◌, ◌≤◌, ◌<◌, ℤ, List, ◌∷◌, pos, length, slice_set};
-ghost use Rattle.code_ir.specs.Effect.{Leaves, cell, pop, stored, with_cells};
+ghost use Rattle.std.specs.Prelude.{◌≡◌, ◌+◌, ◌≤◌, ◌<◌, length};
+ghost use Rattle.code_ir.specs.declared.instr.Instr.TheVariants as op;
+ghost use Rattle.code_ir.specs.Effect.{stored};
 ghost use Rattle.code_ir.specs.Typing.{IsSized};
-ghost use Rattle.action_machine.specs.Stacks.{top_first};
-ghost use Rattle.action_machine.specs.Acting.{effect_of};
+ghost use Rattle.action_machine.specs.Stacks.{operands};
+ghost use Rattle.action_machine.specs.Acting.{Computes, Moves, OnFails, effect_of};
 
 use crate::stack::{Acted, pop, push};
 use rvc_base::{Num, Scalar, conv};
@@ -25,27 +26,29 @@ pub(crate) fn stored(t: Option<Scalar>, v: Num) -> Num
 #[inline]
 pub(crate) fn constant(v: Num, top: &mut usize, stack: &mut [Num]) -> Acted
     requires { top.old < length stack.old }
-    ensures { (cells : List ℤ) → Leaves (v ∷ top_first (pos 0) top.old stack.old) cells ≡ effect_of result (top_first (pos 0) top.new stack.new) cells }
+    ensures { Computes (op.Const v) (operands top.old stack.old)
+        result (operands top.new stack.new) }
 {
     push(top, stack, v);
     Acted::On
 }
 
-/// Pushes cell `c`.
+/// Pushes a cell.
 #[inline]
-pub(crate) fn load(c: u32, top: &mut usize, stack: &mut [Num], cells: &[Num]) -> Acted
+pub(crate) fn load(cell: u32, top: &mut usize, stack: &mut [Num], cells: &[Num]) -> Acted
     requires room { top.old < length stack.old }
-    requires inside { c + 1 ≤ length cells.now }
-    ensures { with_cells cells.now c 1 (Leaves (cell cells.now c ∷ top_first (pos 0) top.old stack.old) cells.now) ≡ effect_of result (top_first (pos 0) top.new stack.new) cells.now }
+    requires inside { cell + 1 ≤ length cells.now }
+    ensures { Moves (op.Load cell) (operands top.old stack.old) cells.now
+        (effect_of result (operands top.new stack.new) cells.now) }
 {
-    push(top, stack, cells[c as usize]);
+    push(top, stack, cells[cell as usize]);
     Acted::On
 }
 
-/// Pops a number into cell `c`.
+/// Pops a number into a cell.
 #[inline]
 pub(crate) fn store(
-    c: u32,
+    cell: u32,
     t: Option<Scalar>,
     top: &mut usize,
     stack: &[Num],
@@ -53,12 +56,14 @@ pub(crate) fn store(
 ) -> Acted
     requires some { 0 < top.old }
     requires below { top.old ≤ length stack.now }
-    requires inside { c + 1 ≤ length cells.old }
+    requires inside { cell + 1 ≤ length cells.old }
     requires sized { IsSized t }
-    ensures { pop (top_first (pos 0) top.old stack.now) (λ v s. with_cells cells.old c 1 (Leaves s (slice_set cells.old c (stored t v)))) ≡ effect_of result (top_first (pos 0) top.new stack.now) cells.new }
+    ensures effect { Moves (op.Store cell t) (operands top.old stack.now) cells.old
+        (effect_of result (operands top.new stack.now) cells.new) }
+    ensures kept { OnFails result (cells.new ≡ cells.old) }
 {
     let v = pop(top, stack);
-    cells[c as usize] = stored(t, v);
+    cells[cell as usize] = stored(t, v);
     Acted::On
 }
 
@@ -67,7 +72,7 @@ pub(crate) fn store(
 pub(crate) fn drop_top(top: &mut usize, stack: &[Num]) -> Acted
     requires some { 0 < top.old }
     requires below { top.old ≤ length stack.now }
-    ensures { (cells : List ℤ) → pop (top_first (pos 0) top.old stack.now) (λ a s. Leaves s cells) ≡ effect_of result (top_first (pos 0) top.new stack.now) cells }
+    ensures { Computes op.Drop (operands top.old stack.now) result (operands top.new stack.now) }
 {
     let _v = pop(top, stack);
     Acted::On

@@ -1,223 +1,216 @@
 //! The instructions that pop two numbers, or one, and push what an operation gives.
 
-ghost use Rattle.std.specs.Prelude.{◌≡◌, ◌+◌, ◌≤◌, ◌<◌, ℤ, List, ◌∷◌, pos, length, not};
-ghost use Rattle.rvc_base.specs.Arithmetic.{Gives, sum, difference, product, opposite, quotient, rest, left_shift, right_shift, bits_of_both, bits_of_either, bits_of_one, other_bits, truth, is_equal, is_below, is_true};
-ghost use Rattle.code_ir.specs.Effect.{on_top, on_two};
-ghost use Rattle.action_machine.specs.Stacks.{top_first};
-ghost use Rattle.action_machine.specs.Acting.{effect_of};
+ghost use Rattle.std.specs.Prelude.{◌≤◌, length};
+ghost use Rattle.code_ir.specs.declared.instr.Instr.TheVariants as op;
+ghost use Rattle.action_machine.specs.Stacks.{operands};
+ghost use Rattle.action_machine.specs.Acting.{Computes};
 
-use crate::arithmetic::{
-    at_least, at_most, both_bits, either_bits, equal, greater, less, one_bits, opposite_truth,
-    other_bits, unequal,
-};
 use crate::stack::{Acted, pop, push_result};
-use rvc_base::Num;
-use rvc_base::arithmetic::{
-    difference, left_shift, opposite, product, quotient, rest, right_shift, sum,
-};
+use crate::{bits, truth};
+use rvc_base::{Num, arithmetic};
 
 #[inline]
 pub(crate) fn add(top: &mut usize, stack: &mut [Num]) -> Acted
     requires enough { 2 ≤ top.old }
     requires inside { top.old ≤ length stack.old }
-    ensures { (cells : List ℤ) → on_two sum (top_first (pos 0) top.old stack.old) cells ≡ effect_of result (top_first (pos 0) top.new stack.new) cells }
+    ensures { Computes op.Add (operands top.old stack.old) result (operands top.new stack.new) }
 {
     let b = pop(top, stack);
     let a = pop(top, stack);
-    push_result(top, stack, sum(a, b))
+    push_result(top, stack, arithmetic::add(a, b))
 }
 
 #[inline]
-pub(crate) fn subtract(top: &mut usize, stack: &mut [Num]) -> Acted
+pub(crate) fn sub(top: &mut usize, stack: &mut [Num]) -> Acted
     requires enough { 2 ≤ top.old }
     requires inside { top.old ≤ length stack.old }
-    ensures { (cells : List ℤ) → on_two difference (top_first (pos 0) top.old stack.old) cells ≡ effect_of result (top_first (pos 0) top.new stack.new) cells }
+    ensures { Computes op.Sub (operands top.old stack.old) result (operands top.new stack.new) }
 {
     let b = pop(top, stack);
     let a = pop(top, stack);
-    push_result(top, stack, difference(a, b))
+    push_result(top, stack, arithmetic::sub(a, b))
 }
 
 #[inline]
-pub(crate) fn multiply(top: &mut usize, stack: &mut [Num]) -> Acted
+pub(crate) fn mul(top: &mut usize, stack: &mut [Num]) -> Acted
     requires enough { 2 ≤ top.old }
     requires inside { top.old ≤ length stack.old }
-    ensures { (cells : List ℤ) → on_two product (top_first (pos 0) top.old stack.old) cells ≡ effect_of result (top_first (pos 0) top.new stack.new) cells }
+    ensures { Computes op.Mul (operands top.old stack.old) result (operands top.new stack.new) }
 {
     let b = pop(top, stack);
     let a = pop(top, stack);
-    push_result(top, stack, product(a, b))
+    push_result(top, stack, arithmetic::mul(a, b))
 }
 
 #[inline]
-pub(crate) fn divide(top: &mut usize, stack: &mut [Num]) -> Acted
+pub(crate) fn div(top: &mut usize, stack: &mut [Num]) -> Acted
     requires enough { 2 ≤ top.old }
     requires inside { top.old ≤ length stack.old }
-    ensures { (cells : List ℤ) → on_two quotient (top_first (pos 0) top.old stack.old) cells ≡ effect_of result (top_first (pos 0) top.new stack.new) cells }
+    ensures { Computes op.Div (operands top.old stack.old) result (operands top.new stack.new) }
 {
     let b = pop(top, stack);
     let a = pop(top, stack);
-    push_result(top, stack, quotient(a, b))
+    push_result(top, stack, arithmetic::div(a, b))
 }
 
 #[inline]
-pub(crate) fn leave_rest(top: &mut usize, stack: &mut [Num]) -> Acted
+pub(crate) fn rem(top: &mut usize, stack: &mut [Num]) -> Acted
     requires enough { 2 ≤ top.old }
     requires inside { top.old ≤ length stack.old }
-    ensures { (cells : List ℤ) → on_two rest (top_first (pos 0) top.old stack.old) cells ≡ effect_of result (top_first (pos 0) top.new stack.new) cells }
+    ensures { Computes op.Mod (operands top.old stack.old) result (operands top.new stack.new) }
 {
     let b = pop(top, stack);
     let a = pop(top, stack);
-    push_result(top, stack, rest(a, b))
+    push_result(top, stack, arithmetic::rem(a, b))
 }
 
 #[inline]
-pub(crate) fn shift_left(top: &mut usize, stack: &mut [Num]) -> Acted
+pub(crate) fn shl(top: &mut usize, stack: &mut [Num]) -> Acted
     requires enough { 2 ≤ top.old }
     requires inside { top.old ≤ length stack.old }
-    ensures { (cells : List ℤ) → on_two left_shift (top_first (pos 0) top.old stack.old) cells ≡ effect_of result (top_first (pos 0) top.new stack.new) cells }
+    ensures { Computes op.Shl (operands top.old stack.old) result (operands top.new stack.new) }
 {
     let b = pop(top, stack);
     let a = pop(top, stack);
-    push_result(top, stack, left_shift(a, b))
+    push_result(top, stack, arithmetic::shl(a, b))
 }
 
 #[inline]
-pub(crate) fn shift_right(top: &mut usize, stack: &mut [Num]) -> Acted
+pub(crate) fn shr(top: &mut usize, stack: &mut [Num]) -> Acted
     requires enough { 2 ≤ top.old }
     requires inside { top.old ≤ length stack.old }
-    ensures { (cells : List ℤ) → on_two right_shift (top_first (pos 0) top.old stack.old) cells ≡ effect_of result (top_first (pos 0) top.new stack.new) cells }
+    ensures { Computes op.Shr (operands top.old stack.old) result (operands top.new stack.new) }
 {
     let b = pop(top, stack);
     let a = pop(top, stack);
-    push_result(top, stack, right_shift(a, b))
+    push_result(top, stack, arithmetic::shr(a, b))
 }
 
 #[inline]
-pub(crate) fn and(top: &mut usize, stack: &mut [Num]) -> Acted
+pub(crate) fn bit_and(top: &mut usize, stack: &mut [Num]) -> Acted
     requires enough { 2 ≤ top.old }
     requires inside { top.old ≤ length stack.old }
-    ensures { (cells : List ℤ) → on_two (λ a b. Gives (bits_of_both a b)) (top_first (pos 0) top.old stack.old) cells ≡ effect_of result (top_first (pos 0) top.new stack.new) cells }
+    ensures { Computes op.And (operands top.old stack.old) result (operands top.new stack.new) }
 {
     let b = pop(top, stack);
     let a = pop(top, stack);
-    push_result(top, stack, both_bits(a, b))
+    push_result(top, stack, bits::bit_and(a, b))
 }
 
 #[inline]
-pub(crate) fn or(top: &mut usize, stack: &mut [Num]) -> Acted
+pub(crate) fn bit_or(top: &mut usize, stack: &mut [Num]) -> Acted
     requires enough { 2 ≤ top.old }
     requires inside { top.old ≤ length stack.old }
-    ensures { (cells : List ℤ) → on_two (λ a b. Gives (bits_of_either a b)) (top_first (pos 0) top.old stack.old) cells ≡ effect_of result (top_first (pos 0) top.new stack.new) cells }
+    ensures { Computes op.Or (operands top.old stack.old) result (operands top.new stack.new) }
 {
     let b = pop(top, stack);
     let a = pop(top, stack);
-    push_result(top, stack, either_bits(a, b))
+    push_result(top, stack, bits::bit_or(a, b))
 }
 
 #[inline]
-pub(crate) fn xor(top: &mut usize, stack: &mut [Num]) -> Acted
+pub(crate) fn bit_xor(top: &mut usize, stack: &mut [Num]) -> Acted
     requires enough { 2 ≤ top.old }
     requires inside { top.old ≤ length stack.old }
-    ensures { (cells : List ℤ) → on_two (λ a b. Gives (bits_of_one a b)) (top_first (pos 0) top.old stack.old) cells ≡ effect_of result (top_first (pos 0) top.new stack.new) cells }
+    ensures { Computes op.Xor (operands top.old stack.old) result (operands top.new stack.new) }
 {
     let b = pop(top, stack);
     let a = pop(top, stack);
-    push_result(top, stack, one_bits(a, b))
+    push_result(top, stack, bits::bit_xor(a, b))
 }
 
 #[inline]
-pub(crate) fn is_equal(top: &mut usize, stack: &mut [Num]) -> Acted
+pub(crate) fn eq(top: &mut usize, stack: &mut [Num]) -> Acted
     requires enough { 2 ≤ top.old }
     requires inside { top.old ≤ length stack.old }
-    ensures { (cells : List ℤ) → on_two (λ a b. Gives (truth (is_equal a b))) (top_first (pos 0) top.old stack.old) cells ≡ effect_of result (top_first (pos 0) top.new stack.new) cells }
+    ensures { Computes op.Eq (operands top.old stack.old) result (operands top.new stack.new) }
 {
     let b = pop(top, stack);
     let a = pop(top, stack);
-    push_result(top, stack, equal(a, b))
+    push_result(top, stack, truth::eq(a, b))
 }
 
 #[inline]
-pub(crate) fn is_unequal(top: &mut usize, stack: &mut [Num]) -> Acted
+pub(crate) fn ne(top: &mut usize, stack: &mut [Num]) -> Acted
     requires enough { 2 ≤ top.old }
     requires inside { top.old ≤ length stack.old }
-    ensures { (cells : List ℤ) → on_two (λ a b. Gives (truth (not (is_equal a b)))) (top_first (pos 0) top.old stack.old) cells ≡ effect_of result (top_first (pos 0) top.new stack.new) cells }
+    ensures { Computes op.Ne (operands top.old stack.old) result (operands top.new stack.new) }
 {
     let b = pop(top, stack);
     let a = pop(top, stack);
-    push_result(top, stack, unequal(a, b))
+    push_result(top, stack, truth::ne(a, b))
 }
 
 #[inline]
-pub(crate) fn is_less(top: &mut usize, stack: &mut [Num]) -> Acted
+pub(crate) fn lt(top: &mut usize, stack: &mut [Num]) -> Acted
     requires enough { 2 ≤ top.old }
     requires inside { top.old ≤ length stack.old }
-    ensures { (cells : List ℤ) → on_two (λ a b. Gives (truth (is_below a b))) (top_first (pos 0) top.old stack.old) cells ≡ effect_of result (top_first (pos 0) top.new stack.new) cells }
+    ensures { Computes op.Lt (operands top.old stack.old) result (operands top.new stack.new) }
 {
     let b = pop(top, stack);
     let a = pop(top, stack);
-    push_result(top, stack, less(a, b))
+    push_result(top, stack, truth::lt(a, b))
 }
 
 #[inline]
-pub(crate) fn is_at_most(top: &mut usize, stack: &mut [Num]) -> Acted
+pub(crate) fn le(top: &mut usize, stack: &mut [Num]) -> Acted
     requires enough { 2 ≤ top.old }
     requires inside { top.old ≤ length stack.old }
-    ensures { (cells : List ℤ) → on_two (λ a b. Gives (truth (not (is_below b a)))) (top_first (pos 0) top.old stack.old) cells ≡ effect_of result (top_first (pos 0) top.new stack.new) cells }
+    ensures { Computes op.Le (operands top.old stack.old) result (operands top.new stack.new) }
 {
     let b = pop(top, stack);
     let a = pop(top, stack);
-    push_result(top, stack, at_most(a, b))
+    push_result(top, stack, truth::le(a, b))
 }
 
 #[inline]
-pub(crate) fn is_greater(top: &mut usize, stack: &mut [Num]) -> Acted
+pub(crate) fn gt(top: &mut usize, stack: &mut [Num]) -> Acted
     requires enough { 2 ≤ top.old }
     requires inside { top.old ≤ length stack.old }
-    ensures { (cells : List ℤ) → on_two (λ a b. Gives (truth (is_below b a))) (top_first (pos 0) top.old stack.old) cells ≡ effect_of result (top_first (pos 0) top.new stack.new) cells }
+    ensures { Computes op.Gt (operands top.old stack.old) result (operands top.new stack.new) }
 {
     let b = pop(top, stack);
     let a = pop(top, stack);
-    push_result(top, stack, greater(a, b))
+    push_result(top, stack, truth::gt(a, b))
 }
 
 #[inline]
-pub(crate) fn is_at_least(top: &mut usize, stack: &mut [Num]) -> Acted
+pub(crate) fn ge(top: &mut usize, stack: &mut [Num]) -> Acted
     requires enough { 2 ≤ top.old }
     requires inside { top.old ≤ length stack.old }
-    ensures { (cells : List ℤ) → on_two (λ a b. Gives (truth (not (is_below a b)))) (top_first (pos 0) top.old stack.old) cells ≡ effect_of result (top_first (pos 0) top.new stack.new) cells }
+    ensures { Computes op.Ge (operands top.old stack.old) result (operands top.new stack.new) }
 {
     let b = pop(top, stack);
     let a = pop(top, stack);
-    push_result(top, stack, at_least(a, b))
+    push_result(top, stack, truth::ge(a, b))
 }
 
 #[inline]
-pub(crate) fn negate(top: &mut usize, stack: &mut [Num]) -> Acted
+pub(crate) fn neg(top: &mut usize, stack: &mut [Num]) -> Acted
     requires enough { 1 ≤ top.old }
     requires inside { top.old ≤ length stack.old }
-    ensures { (cells : List ℤ) → on_top opposite (top_first (pos 0) top.old stack.old) cells ≡ effect_of result (top_first (pos 0) top.new stack.new) cells }
+    ensures { Computes op.Neg (operands top.old stack.old) result (operands top.new stack.new) }
 {
     let a = pop(top, stack);
-    push_result(top, stack, opposite(a))
+    push_result(top, stack, arithmetic::neg(a))
 }
 
 #[inline]
-pub(crate) fn invert(top: &mut usize, stack: &mut [Num]) -> Acted
+pub(crate) fn bit_not(top: &mut usize, stack: &mut [Num]) -> Acted
     requires enough { 1 ≤ top.old }
     requires inside { top.old ≤ length stack.old }
-    ensures { (cells : List ℤ) → on_top (λ a. Gives (other_bits a)) (top_first (pos 0) top.old stack.old) cells ≡ effect_of result (top_first (pos 0) top.new stack.new) cells }
+    ensures { Computes op.BitNot (operands top.old stack.old) result (operands top.new stack.new) }
 {
     let a = pop(top, stack);
-    push_result(top, stack, other_bits(a))
+    push_result(top, stack, bits::bit_not(a))
 }
 
 #[inline]
-pub(crate) fn deny(top: &mut usize, stack: &mut [Num]) -> Acted
+pub(crate) fn not(top: &mut usize, stack: &mut [Num]) -> Acted
     requires enough { 1 ≤ top.old }
     requires inside { top.old ≤ length stack.old }
-    ensures { (cells : List ℤ) → on_top (λ a. Gives (truth (not (is_true a)))) (top_first (pos 0) top.old stack.old) cells ≡ effect_of result (top_first (pos 0) top.new stack.new) cells }
+    ensures { Computes op.Not (operands top.old stack.old) result (operands top.new stack.new) }
 {
     let a = pop(top, stack);
-    push_result(top, stack, opposite_truth(a))
+    push_result(top, stack, truth::not(a))
 }

@@ -1,8 +1,9 @@
 //! The instructions that read tokens.
 
-ghost use Rattle.std.specs.Prelude.{◌≡◌, ◌≢◌, ◌+◌, ◌*◌, ◌^◌, ◌≤◌, ◌<◌, ℤ, List, pos, length, slice_get, None, Some};
-ghost use Rattle.code_ir.specs.Effect.{LacksToken, leave_taken, pop, push_token, taken, with_cells, with_offset};
-ghost use Rattle.action_machine.specs.Stacks.{top_first};
+ghost use Rattle.std.specs.Prelude.{◌≡◌, ◌≢◌, ◌+◌, ◌^◌, ◌≤◌, ◌<◌, ℤ, List, pos, length, None, Some};
+ghost use Rattle.code_ir.specs.declared.instr.Instr.TheVariants as op;
+ghost use Rattle.code_ir.specs.Effect.{LacksToken, effect, taken};
+ghost use Rattle.action_machine.specs.Stacks.{operands};
 ghost use Rattle.action_machine.specs.Acting.{effect_of};
 
 use crate::offset::offset;
@@ -10,82 +11,114 @@ use crate::stack::{Acted, pop, push};
 use code_ir::Tokens;
 use rvc_base::{Num, Trap};
 
-/// Pushes token `k` of a port.
+/// Pushes a token of a port.
 #[inline]
 pub(crate) fn token<T: Tokens>(
-    p: u32,
-    k: u32,
+    port: u32,
+    place: u32,
     top: &mut usize,
     stack: &mut [Num],
     tokens: &T,
 ) -> Acted
     requires room { top.old < length stack.old }
-    requires there { (cells : List ℤ) → push_token (slice_get (T.tokens tokens.now p) k) (top_first (pos 0) top.old stack.old) cells ≢ LacksToken }
-    ensures { (cells : List ℤ) → push_token (slice_get (T.tokens tokens.now p) k) (top_first (pos 0) top.old stack.old) cells ≡ effect_of result (top_first (pos 0) top.new stack.new) cells }
+    requires there { (cells : List ℤ) →
+        effect (T.tokens tokens.now) (op.Token port place) (operands top.old stack.old) cells
+        ≢ LacksToken }
+    ensures { (cells : List ℤ) →
+        effect (T.tokens tokens.now) (op.Token port place) (operands top.old stack.old) cells
+        ≡ effect_of result (operands top.new stack.new) cells }
 {
-    push(top, stack, tokens.at(p, k));
+    push(top, stack, tokens.at(port, place));
     Acted::On
 }
 
-/// Pops an index i, and pushes token `k + i * m` of a port.
+/// Pops an index, and pushes the token of a port that is so many steps behind `first`.
 #[inline]
 pub(crate) fn token_at<T: Tokens>(
-    p: u32,
-    k: u32,
-    m: u32,
-    n: u32,
+    port: u32,
+    first: u32,
+    step: u32,
+    len: u32,
     top: &mut usize,
     stack: &mut [Num],
     tokens: &T,
 ) -> Acted
     requires some { 0 < top.old }
     requires below { top.old ≤ length stack.old }
-    requires there { (cells : List ℤ) → pop (top_first (pos 0) top.old stack.old) (λ i s. with_offset i 1 n (λ j. push_token (slice_get (T.tokens tokens.now p) (k + j * m)) s cells)) ≢ LacksToken }
-    ensures { (cells : List ℤ) → pop (top_first (pos 0) top.old stack.old) (λ i s. with_offset i 1 n (λ j. push_token (slice_get (T.tokens tokens.now p) (k + j * m)) s cells)) ≡ effect_of result (top_first (pos 0) top.new stack.new) cells }
+    requires there { (cells : List ℤ) →
+        effect (T.tokens tokens.now) (op.TokenAt port first step len)
+        (operands top.old stack.old) cells
+        ≢ LacksToken }
+    ensures { (cells : List ℤ) →
+        effect (T.tokens tokens.now) (op.TokenAt port first step len)
+        (operands top.old stack.old) cells
+        ≡ effect_of result (operands top.new stack.new) cells }
 {
     let i = pop(top, stack);
-    match offset(i, 1, n) {
+    match offset(i, 1, len) {
         None => Acted::Fails(Trap::IndexRange),
         Some(j) => {
-            let _count = tokens.count(p);
-            let at = u64::from(k) + u64::from(j) * u64::from(m);
-            push(top, stack, tokens.at(p, at as u32));
+            let _count = tokens.count(port);
+            let place = u64::from(first) + u64::from(j) * u64::from(step);
+            push(top, stack, tokens.at(port, place as u32));
             Acted::On
         }
     }
 }
 
-/// Puts the tokens `k`, `k + m` and so on, `n` of them, into the cells from `d`.
+/// Puts `count` tokens of a port, from `first` in steps, into the cells from `target`.
 #[inline]
 pub(crate) fn token_list<T: Tokens>(
-    d: u32,
-    p: u32,
-    k: u32,
-    m: u32,
-    n: u32,
+    target: u32,
+    port: u32,
+    first: u32,
+    step: u32,
+    count: u32,
     cells: &mut [Num],
     tokens: &T,
 ) -> Acted
-    requires inside { d + n ≤ length cells.old }
-    requires there { (stack : List ℤ) → with_cells cells.old d n (leave_taken stack (taken (T.tokens tokens.now p) d k m n cells.old)) ≢ LacksToken }
-    ensures { (stack : List ℤ) → with_cells cells.old d n (leave_taken stack (taken (T.tokens tokens.now p) d k m n cells.old)) ≡ effect_of result stack cells.new }
+    requires inside { target + count ≤ length cells.old }
+    requires there { (stack : List ℤ) →
+        effect (T.tokens tokens.now) (op.TokenList target port first step count) stack cells.old
+        ≢ LacksToken }
+    ensures { (stack : List ℤ) →
+        effect (T.tokens tokens.now) (op.TokenList target port first step count) stack cells.old
+        ≡ effect_of result stack cells.new }
 {
-    take_tokens(d as usize, p, u64::from(k), u64::from(m), n, cells, tokens);
+    let first = u64::from(first);
+    take_tokens(
+        target as usize,
+        port,
+        first,
+        u64::from(step),
+        count,
+        cells,
+        tokens,
+    );
     Acted::On
 }
 
-/// Puts the tokens `k`, `k + m` and so on, `n` of them, into the cells from `d`.
+/// Puts `count` tokens of a port, from `first` in steps, into the cells from `target`.
 #[inline]
-fn take_tokens<T: Tokens>(d: usize, p: u32, k: u64, m: u64, n: u32, cells: &mut [Num], tokens: &T)
-    requires inside { d + n ≤ length cells.old }
-    requires start { k < 2 ^ 32 }
-    requires step { m < 2 ^ 32 }
-    requires there { taken (T.tokens tokens.now p) d k m n cells.old ≢ None }
-    ensures { taken (T.tokens tokens.now p) d k m n cells.old ≡ Some cells.new }
+fn take_tokens<T: Tokens>(
+    target: usize,
+    port: u32,
+    first: u64,
+    step: u64,
+    count: u32,
+    cells: &mut [Num],
+    tokens: &T,
+)
+    requires inside { target + count ≤ length cells.old }
+    requires start { first < 2 ^ 32 }
+    requires step { step < 2 ^ 32 }
+    requires there { taken (T.tokens tokens.now port) target first step count cells.old ≢ None }
+    ensures { taken (T.tokens tokens.now port) target first step count cells.old
+        ≡ Some cells.new }
 {
-    let _count = tokens.count(p);
-    for i in 0..n {
-        let at = k + u64::from(i) * m;
-        cells[d + i as usize] = tokens.at(p, at as u32);
+    let _count = tokens.count(port);
+    for i in 0..count {
+        let place = first + u64::from(i) * step;
+        cells[target + i as usize] = tokens.at(port, place as u32);
     }
 }

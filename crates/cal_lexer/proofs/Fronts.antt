@@ -3,7 +3,7 @@ use Rattle.std.proofs.Common.{◌≡◌, ℕ, suc, ◌+◌, ◌-◌, ◌<◌, �
 use Rattle.std.proofs.lemmas.List.{length-drop}
 use Rattle.std.specs.Prelude.{◌&&◌, ◌||◌, ◌==◌, not, is_some, if◌then◌else◌, slice_index}
 use borrow.Author.Tests.{le-ltb}
-use Rattle.cal_lexer.specs.Rules.{foreign_byte, open_comment, string_literal}
+use Rattle.rvc_base.specs.Rules.{foreign_byte, open_comment, string_literal}
 use Rattle.cal_lexer.specs.Lexis.{front, Front, Gap, Fault, Token, before, at_line_end, at_close, comment, is_blank, begins_name, is_foreign, in_alphabet, find, symbols_of_one, symbols_of_two}
 use Rattle.std.specs.Char.{is_ascii_digit}
 use Rattle.cal_lexer.specs.Pieces.{IsGap}

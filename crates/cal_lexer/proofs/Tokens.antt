@@ -8,9 +8,9 @@ use Rattle.std.specs.Prelude.{◌&&◌, ◌==◌, MatchOption, if◌then◌else�
 use Rattle.std.specs.List.{list_all}
 use Rattle.std.specs.Char.{is_ascii_digit, is_ascii_hexdigit}
 use borrow.Author.Tests.{le-ltb, le-leb, lt-leb, ltb-true}
-use Rattle.cal_lexer.specs.Rules.{number_too_big, number_runs_on, leading_zero, name_too_long, max_name}
+use Rattle.rvc_base.specs.Rules.{number_too_big, number_runs_on, leading_zero, name_too_long}
 use Rattle.cal_lexer.specs.Lexeme.{Lexeme, Name, Number}
-use Rattle.cal_lexer.specs.Lexis.{front, Token, IsNext, flaw, token_of, word, number, hexadecimal, decimal_number, value_of, symbol, begins_name, goes_on_name, reserved, first_of_both, find, words, long_ends, symbols_of_one, symbols_of_two, symbols_of_three, runs_on, has_leading_zero}
+use Rattle.cal_lexer.specs.Lexis.{max_name, front, Token, IsNext, flaw, token_of, word, number, hexadecimal, decimal_number, value_of, symbol, begins_name, goes_on_name, reserved, first_of_both, find, words, long_ends, symbols_of_one, symbols_of_two, symbols_of_three, runs_on, has_leading_zero}
 use Rattle.cal_lexer.specs.Lexes.{FaultsFrom, flawed}
 use Rattle.cal_lexer.specs.Pieces.{IsLongestSymbol, IsRun, IsToken, IsTooBig, IsNumber}
 use Rattle.cal_lexer.proofs.Fronts.{both, token_some}

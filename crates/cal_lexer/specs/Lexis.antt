@@ -4,7 +4,7 @@ use Rattle.std.specs.List.{list_all}
 use Rattle.std.specs.Str.{bytes_eq}
 use Rattle.std.specs.Char.{is_ascii_alphabetic, is_ascii_digit, is_ascii_hexdigit}
 use Rattle.rvc_base.specs.declared.refusal.Rule.{Rule}
-use Rattle.cal_lexer.specs.Rules.{foreign_byte, open_comment, number_too_big, number_runs_on, string_literal, leading_zero, name_too_long, max_name}
+use Rattle.rvc_base.specs.Rules.{foreign_byte, open_comment, number_too_big, number_runs_on, string_literal, leading_zero, name_too_long}
 use Rattle.cal_lexer.specs.Words.{spelled}
 use Rattle.cal_lexer.specs.Lexeme.{Lexeme, Name, Number, Actor, Unit, Package, Import, Action, Initialize, Function, Procedure, Guard, Var, Do, Begin, End, If, Then, Elsif, Else, While, Foreach, For, In, Repeat, Schedule, Fsm, Priority, True, False, Not, And, Or, Div, Mod, EndActor, EndUnit, EndAction, EndInitialize, EndFunction, EndProcedure, EndIf, EndWhile, EndForeach, EndBegin, EndSchedule, EndPriority, LongDoubleArrow, LongArrow, Assign, DotDot, LessEqual, GreaterEqual, NotEqual, ShiftLeft, ShiftRight, AndAnd, OrOr, LeftParen, RightParen, LeftBracket, RightBracket, Comma, Semicolon, Colon, Dot, Plus, Minus, Star, Slash, Equal, Less, Greater, Ampersand, Bar, Caret, Tilde}
 
@@ -47,6 +47,10 @@ long_ends =
 -- the reserved words
 abbrev pub reserved : List ℕ → Option Lexeme
 reserved text = first_of_both (find text words) (find text long_ends)
+
+-- the most bytes that a name may have
+abbrev pub max_name : ℕ
+max_name = 255
 
 -- a letter or `_` followed by letters, digits and `_`, and no reserved word
 unfoldable pub is_name : List ℕ → Bool

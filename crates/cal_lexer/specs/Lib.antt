@@ -1,4 +1,3 @@
-pub mod Rules
 pub mod Lexeme
 pub mod Words
 pub mod Lexis

@@ -8,8 +8,8 @@ ghost use Rattle.cal_lexer.specs.Pieces.{IsNumber, IsPiece, IsTooBig};
 
 use crate::bytes::{begins_name, byte_at, digits_len, hex_len};
 use crate::piece::Piece;
-use crate::rules::{LEADING_ZERO, NUMBER_RUNS_ON, NUMBER_TOO_BIG};
 use crate::token::TokenKind;
+use rvc_base::Rule;
 
 /// The number that a text begins with.
 pub(crate) fn number(text: &[u8]) -> Piece
@@ -40,12 +40,12 @@ fn numeral(text: &[u8], size: usize, value: Option<u128>) -> Piece
     ensures { IsPiece text.now result }
 {
     match value {
-        None => Piece::Fault(NUMBER_TOO_BIG),
+        None => Piece::Fault(Rule::NUMBER_TOO_BIG),
         Some(value) => {
             if runs_on(&text[size..]) {
-                Piece::Fault(NUMBER_RUNS_ON)
+                Piece::Fault(Rule::NUMBER_RUNS_ON)
             } else if has_leading_zero(&text[..size]) {
-                Piece::Fault(LEADING_ZERO)
+                Piece::Fault(Rule::LEADING_ZERO)
             } else {
                 Piece::Token(TokenKind::Number(value), size)
             }

@@ -9,10 +9,9 @@ use crate::bytes::{
     begins_name, byte_at, is_blank, is_foreign, is_slash_and, line_len, name_len, until_close,
 };
 use crate::number::number;
-use crate::rules::{FOREIGN_BYTE, MAX_NAME, NAME_TOO_LONG, OPEN_COMMENT, STRING_LITERAL};
 use crate::symbols::{Symbol, longest_symbol};
 use crate::token::TokenKind;
-use crate::words::reserved;
+use crate::words::{MAX_NAME, reserved};
 use rvc_base::{Memory, Rule};
 use std::alloc::Global;
 use std::str;
@@ -47,11 +46,11 @@ pub(crate) fn next_piece(alloc: Global, text: &[u8]) -> Result<Piece, Memory>
         return Ok(comment(text));
     }
     if first == b'"' {
-        return Ok(Piece::Fault(STRING_LITERAL));
+        return Ok(Piece::Fault(Rule::STRING_LITERAL));
     }
     let foreign = is_foreign(first, second);
     if foreign {
-        return Ok(Piece::Fault(FOREIGN_BYTE));
+        return Ok(Piece::Fault(Rule::FOREIGN_BYTE));
     }
     token(alloc, text)
 }
@@ -66,7 +65,7 @@ fn comment(text: &[u8]) -> Piece
     if inside < text.len() - 2 {
         Piece::Gap(inside + 4)
     } else {
-        Piece::Fault(OPEN_COMMENT)
+        Piece::Fault(Rule::OPEN_COMMENT)
     }
 }
 
@@ -105,7 +104,7 @@ fn word(alloc: Global, text: &[u8]) -> Result<Piece, Memory>
         return Ok(Piece::Token(word.kind(), size));
     }
     if size > MAX_NAME {
-        return Ok(Piece::Fault(NAME_TOO_LONG));
+        return Ok(Piece::Fault(Rule::NAME_TOO_LONG));
     }
     Ok(Piece::Token(TokenKind::Name(String::from_str(alloc, name)?), size))
 }

@@ -8,6 +8,9 @@ ghost use Rattle.cal_lexer.specs.Lexis.{goes_on_name, is_name, reserved};
 use crate::bytes::{begins_name, byte_at, goes_on_name};
 use crate::word::{Word, long_end, plain_word};
 
+/// The most bytes that a name may have.
+pub const MAX_NAME: usize = 255;
+
 /// Whether a text is a name of the language: a letter or `_` followed by letters, digits and `_`, and no reserved
 /// word.
 #[tactic(auto, unfolding(crate::specs::Lexis::is_name))]

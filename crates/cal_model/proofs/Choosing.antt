@@ -1,12 +1,12 @@
 -- What is chosen is exposed, and what the behaviour does is what the firing rule says.
 use Rattle.std.proofs.Common.{◌≡◌, ◌≢◌, ℕ, zero, suc, ◌<◌, ◌≤◌, ◌⊎◌, ◌↔◌, inl, inr, ℤ, Bool, true, false, not, ◌&&◌, ◌||◌, List, [], ◌∷◌, length, take, refl, sym, ap, subst, ◌∙◌, arith, Option, None, Some}
-use Rattle.std.specs.Prelude.{Contains, slice_get, slice_index, if◌then◌else◌}
+use Rattle.std.specs.Prelude.{Contains, slice_get, slice_index, if◌then◌else◌, is_some}
 use Rattle.std.proofs.lemmas.Option.{slice_get_past}
 use Rattle.rvc_base.specs.declared.trap.Trap.{Trap}
 use Rattle.rvc_base.specs.Behaviour.{Choice, Waits, Picks, Faults, Effect, Fires, TrapsInGuard, TrapsInBody}
 use Rattle.cal_model.specs.Outcome.{Out, Gives, Traps, Lacks, Clashes}
 use Rattle.cal_model.specs.Actor.{Action, Actor}
-use Rattle.cal_model.specs.Eligible.{eligible}
+use Rattle.cal_model.specs.Eligible.{leads, eligible}
 use Rattle.cal_model.specs.Call.{calls_of}
 use Rattle.cal_model.specs.Rates.{need}
 use Rattle.cal_model.specs.Selection.{State, Priorities, Above, Guards, AreTrue, AreFalse, AreTrapping, readiness, has_its_tokens, guards_say, seen_by, IsEnabled, IsExposed, is_exposed, outranked, are_true, choice_among, choice}
@@ -32,10 +32,23 @@ ready-parts : (actor : Actor) (x : State) (u : List (List ℤ)) (a : ℕ) → re
     → (eligible actor x.at a ≡ true) × (has_its_tokens actor u a ≡ true)
 ready-parts actor x u a h = both-true (eligible actor x.at a) (has_its_tokens actor u a) (ready-by-true (slice_get actor.actions a) (eligible actor x.at a && has_its_tokens actor u a) _ h)
 
+false-or-past : (n b : ℕ) → (b < n) ⊎ (n ≤ b)
+false-or-past n b = grind arith
+
 -- there is no other action
-ready-past : (actor : Actor) (x : State) (u : List (List ℤ)) (a : ℕ) → length actor.actions ≤ a → readiness actor x u a ≡ AreFalse
+pub ready-past : (actor : Actor) (x : State) (u : List (List ℤ)) (a : ℕ) → length actor.actions ≤ a → readiness actor x u a ≡ AreFalse
 ready-past actor x u a h =
     ap (λ o. ready_by o (eligible actor x.at a && has_its_tokens actor u a) (λ act. guards_say act.guards (calls_of actor.funs) (seen_by actor x u act))) (slice_get_past actor.actions a h)
+
+-- an action that is eligible is one of the actor's
+pub eligible-within : (actor : Actor) (s a : ℕ) → eligible actor s a ≡ true → a < length actor.actions
+eligible-within actor s a e = go (false-or-past (length actor.actions) a)
+  where
+    go : (a < length actor.actions) ⊎ (length actor.actions ≤ a) → a < length actor.actions
+    go (inl h) = h
+    go (inr h) =
+        let none : eligible actor s a ≡ false = ap (λ o. is_some (elim o [ None ↦ None | Some act ↦ leads actor s a act ])) (slice_get_past actor.actions a h) in
+        let no : true ≡ false = sym e ∙ none in absurd (grind arith)
 
 -- ---- the choice in a line
 
@@ -108,9 +121,6 @@ waits-all actor x u (c ∷ cs) h b m = go (readiness actor x u c) refl h (waits-
     go (AreTrapping s) e f ih k = absurd (grind arith)
 
 -- ---- what is chosen is exposed
-
-false-or-past : (n b : ℕ) → (b < n) ⊎ (n ≤ b)
-false-or-past n b = grind arith
 
 made-exposed : (actor : Actor) (p : Priorities actor) (x : State) (u : List (List ℤ)) (a : ℕ) (g : Guards) → g ≢ AreFalse → IsMadeAt actor x u p.line a g → IsExposed actor x u a
 made-exposed actor p x u a g other made =
@@ -222,27 +232,31 @@ not-true true h = absurd (grind arith)
 not-true false h = refl
 
 -- the test says what `IsExposed` does
-is-exposed : (actor : Actor) (p : Priorities actor) (x : State) (u : List (List ℤ)) (a : ℕ) → is_exposed actor p x u a ≡ true → IsExposed actor x u a
+pub is-exposed : (actor : Actor) (p : Priorities actor) (x : State) (u : List (List ℤ)) (a : ℕ) → is_exposed actor p x u a ≡ true → IsExposed actor x u a
 is-exposed actor p x u a h =
     let halves = both-true (eligible actor x.at a && has_its_tokens actor u a) (not (outranked actor p.above x u a p.line)) h in
     let parts = both-true (eligible actor x.at a) (has_its_tokens actor u a) halves.0 in
     record {
       is_eligible = parts.0;
       has_tokens = parts.1;
-      none_above = λ b above enabled. go b above enabled (not-true _ halves.1) (false-or-past (length actor.actions) b);
+      none_above = λ b above enabled. go b (eligible-within actor x.at a parts.0) above enabled (not-true _ halves.1) (false-or-past (length actor.actions) b);
     }
   where
-    go : (b : ℕ) → Above actor b a → IsEnabled actor x u b → outranked actor p.above x u a p.line ≡ false → (b < length actor.actions) ⊎ (length actor.actions ≤ b) → ⊥
-    go b above enabled none (inl h) =
-        let e : true ≡ false = sym (outranks actor p.above x u a b p.line ((p.is_above b a).1 above) enabled (p.is_line.each b h)) ∙ none in
+    go : (b : ℕ) → a < length actor.actions → Above actor b a → IsEnabled actor x u b → outranked actor p.above x u a p.line ≡ false → (b < length actor.actions) ⊎ (length actor.actions ≤ b) → ⊥
+    go b a_in above enabled none (inl h) =
+        let e : true ≡ false = sym (outranks actor p.above x u a b p.line ((p.is_above b a h a_in).1 above) enabled (p.is_line.each b h)) ∙ none in
         absurd (grind arith)
-    go b above enabled none (inr h) = let e : AreTrue ≡ AreFalse = sym enabled ∙ ready-past actor x u b h in absurd (grind arith)
+    go b a_in above enabled none (inr h) = let e : AreTrue ≡ AreFalse = sym enabled ∙ ready-past actor x u b h in absurd (grind arith)
 
-exposed-is : (actor : Actor) (p : Priorities actor) (x : State) (u : List (List ℤ)) (a : ℕ) → IsExposed actor x u a → is_exposed actor p x u a ≡ true
+pub exposed-is : (actor : Actor) (p : Priorities actor) (x : State) (u : List (List ℤ)) (a : ℕ) → IsExposed actor x u a → is_exposed actor p x u a ≡ true
 exposed-is actor p x u a h =
-    let none = outranks-not actor p.above x u a p.line (λ b above enabled. h.none_above b ((p.is_above b a).0 above) enabled) in
+    let none = outranks-not actor p.above x u a p.line (λ b above enabled. go b above enabled (false-or-past (length actor.actions) b)) in
     ap (λ v. v && has_its_tokens actor u a && not (outranked actor p.above x u a p.line)) h.is_eligible
     ∙ ap (λ v. v && not (outranked actor p.above x u a p.line)) h.has_tokens ∙ ap not none
+  where
+    go : (b : ℕ) → p.above b a ≡ true → readiness actor x u b ≡ AreTrue → (b < length actor.actions) ⊎ (length actor.actions ≤ b) → ⊥
+    go b above enabled (inl b_in) = h.none_above b ((p.is_above b a b_in (eligible-within actor x.at a h.is_eligible)).0 above) enabled
+    go b above enabled (inr past) = let e : AreTrue ≡ AreFalse = sym enabled ∙ ready-past actor x u b past in absurd (grind arith)
 
 abbrev exposed_effect : Bool → Actor → State → List (List ℤ) → ℕ → Guards → Option (Effect State)
 exposed_effect b actor x u a g = if b then effect_of_exposed actor x u a g else None

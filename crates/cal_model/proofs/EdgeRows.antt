@@ -20,19 +20,19 @@ use Rattle.cal_model.proofs.StatementRows.{int_, both, zeros, at_, does, set_x, 
 -- ---- numbers at both ends
 
 abbrev greatest : Tree
-greatest = n_ 9223372036854775807
+greatest = n_ 170141183460469231731687303715884105727
 
 abbrev least : Tree
 least = two Sub (minus greatest) (n_ 1)
 
-least_is : plain least 9 ≡ Gives (Num (negsuc 9223372036854775807)) 9
+least_is : plain least 9 ≡ Gives (Num (negsuc 170141183460469231731687303715884105727)) 9
 least_is = refl
 
-no_such_literal : plain (n_ 9223372036854775808) 9 ≡ Traps Overflow
+no_such_literal : plain (n_ 170141183460469231731687303715884105728) 9 ≡ Traps Overflow
 no_such_literal = refl
 
 -- the literal is evaluated before the sign
-nor_below_0 : plain (minus (n_ 9223372036854775808)) 9 ≡ Traps Overflow
+nor_below_0 : plain (minus (n_ 170141183460469231731687303715884105728)) 9 ≡ Traps Overflow
 nor_below_0 = refl
 
 below_the_least : plain (two Sub least (n_ 1)) 9 ≡ Traps Overflow
@@ -41,8 +41,8 @@ below_the_least = refl
 above_the_greatest : plain (two Add greatest (n_ 1)) 9 ≡ Traps Overflow
 above_the_greatest = refl
 
-opposite_of_the_least : plain (minus least) 9 ≡ Traps Overflow
-opposite_of_the_least = refl
+neg_of_the_least : plain (minus least) 9 ≡ Traps Overflow
+neg_of_the_least = refl
 
 least_by_minus_1 : plain (two Div least (minus (n_ 1))) 9 ≡ Traps Overflow
 least_by_minus_1 = refl
@@ -51,7 +51,7 @@ least_by_minus_1 = refl
 least_mod_minus_1 : plain (two Mod least (minus (n_ 1))) 9 ≡ Gives (Num (pos 0)) 9
 least_mod_minus_1 = refl
 
-least_by_1 : plain (two Div least (n_ 1)) 9 ≡ Gives (Num (negsuc 9223372036854775807)) 9
+least_by_1 : plain (two Div least (n_ 1)) 9 ≡ Gives (Num (negsuc 170141183460469231731687303715884105727)) 9
 least_by_1 = refl
 
 seven_mod_0 : plain (two Mod (n_ 7) (n_ 0)) 9 ≡ Traps DivideByZero
@@ -75,20 +75,20 @@ down_by_minus_1 : plain (two Shr (n_ 1) (minus (n_ 1))) 9 ≡ Traps ShiftRange
 down_by_minus_1 = refl
 
 -- also where the result would be 0 whatever the count
-none_up_by_64 : plain (two Shl (n_ 0) (n_ 64)) 9 ≡ Traps ShiftRange
-none_up_by_64 = refl
+none_up_by_128 : plain (two Shl (n_ 0) (n_ 128)) 9 ≡ Traps ShiftRange
+none_up_by_128 = refl
 
-down_by_64 : plain (two Shr (n_ 1) (n_ 64)) 9 ≡ Traps ShiftRange
-down_by_64 = refl
+down_by_128 : plain (two Shr (n_ 1) (n_ 128)) 9 ≡ Traps ShiftRange
+down_by_128 = refl
 
-minus_1_up_by_63 : plain (two Shl (minus (n_ 1)) (n_ 63)) 9 ≡ Gives (Num (negsuc 9223372036854775807)) 9
-minus_1_up_by_63 = refl
+minus_1_up_by_127 : plain (two Shl (minus (n_ 1)) (n_ 127)) 9 ≡ Gives (Num (negsuc 170141183460469231731687303715884105727)) 9
+minus_1_up_by_127 = refl
 
-one_down_by_63 : plain (two Shr (n_ 1) (n_ 63)) 9 ≡ Gives (Num (pos 0)) 9
-one_down_by_63 = refl
+one_down_by_127 : plain (two Shr (n_ 1) (n_ 127)) 9 ≡ Gives (Num (pos 0)) 9
+one_down_by_127 = refl
 
-minus_1_down_by_63 : plain (two Shr (minus (n_ 1)) (n_ 63)) 9 ≡ Gives (Num (negsuc 0)) 9
-minus_1_down_by_63 = refl
+minus_1_down_by_127 : plain (two Shr (minus (n_ 1)) (n_ 127)) 9 ≡ Gives (Num (negsuc 0)) 9
+minus_1_down_by_127 = refl
 
 -- ---- lists and places in them
 
@@ -117,7 +117,7 @@ outside_before_the_next_place = refl
 place_before_the_next_one : plain (at_place (at_place two_lists by_0) (n_ 2)) 9 ≡ Traps DivideByZero
 place_before_the_next_one = refl
 
-list_before_the_place : plain (at_place (pair_ (n_ 1) (two Shl (n_ 1) (n_ 64))) by_0) 9 ≡ Traps ShiftRange
+list_before_the_place : plain (at_place (pair_ (n_ 1) (two Shl (n_ 1) (n_ 128))) by_0) 9 ≡ Traps ShiftRange
 list_before_the_place = refl
 
 item_below_0 : plain (at_place (at_place two_lists (n_ 0)) (minus (n_ 1))) 9 ≡ Traps IndexRange

@@ -4,7 +4,7 @@ use Rattle.cal_ast.specs.Tree as tree
 use Rattle.cal_ast.specs.Tree.{Tree}
 use Rattle.cal_ast.specs.declared.expr.BinOp.TheVariants.{Eq}
 use Rattle.cal_model.specs.Actor.{Pattern, Action}
-use Rattle.cal_model.specs.Certified.{seat_of, seated, CompareApart, GuardsExclude}
+use Rattle.cal_model.specs.Certified.{key_in, keyed, CompareApart, GuardsExclude}
 use Rattle.cal_model.proofs.Rows.{n_, two, name_}
 
 -- the pattern In:[..] of the first port
@@ -27,29 +27,29 @@ abbrev two_lists : Pattern
 two_lists = takes_ (codes "a" ∷ codes "b" ∷ []) (Some 1)
 
 -- `a` is the list of the first token in both
-same_seat : seat_of (codes "a") (one_list ∷ []) ≡ seat_of (codes "a") (two_lists ∷ [])
-same_seat = refl
+same_key : key_in (codes "a") (one_list ∷ []) ≡ key_in (codes "a") (two_lists ∷ [])
+same_key = refl
 
 -- a list of one token isn't that token
-list_of_one : seat_of (codes "a") (takes_ (codes "a" ∷ []) None ∷ []) ≢ seat_of (codes "a") (one_list ∷ [])
+list_of_one : key_in (codes "a") (takes_ (codes "a" ∷ []) None ∷ []) ≢ key_in (codes "a") (one_list ∷ [])
 list_of_one h = grind arith
 
 -- In:[a, b] repeat 2 and In:[c, b] repeat 2: `b` is the list of the second and the fourth token, whatever stands beside it
-second_and_fourth : seat_of (codes "b") (takes_ (codes "a" ∷ codes "b" ∷ []) (Some 2) ∷ []) ≡ 0 ∷ 1 ∷ 0 ∷ 1 ∷ 3 ∷ []
+second_and_fourth : key_in (codes "b") (takes_ (codes "a" ∷ codes "b" ∷ []) (Some 2) ∷ []) ≡ Some (1 ∷ 0 ∷ 1 ∷ 3 ∷ [])
 second_and_fourth = refl
 
 -- In:[a] repeat 2 has other tokens in `a` than In:[a, b] repeat 2
-other_tokens : seat_of (codes "a") (takes_ (codes "a" ∷ []) (Some 2) ∷ []) ≢ seat_of (codes "a") (takes_ (codes "a" ∷ codes "b" ∷ []) (Some 2) ∷ [])
+other_tokens : key_in (codes "a") (takes_ (codes "a" ∷ []) (Some 2) ∷ []) ≢ key_in (codes "a") (takes_ (codes "a" ∷ codes "b" ∷ []) (Some 2) ∷ [])
 other_tokens h = grind arith
 
 one-or-two : (z : ℤ) → z ≡ pos 1 → z ≡ pos 2 → ⊥
 one-or-two z h k = let e : pos 1 ≡ pos 2 = sym h ∙ k in grind arith
 
 -- `a[0] = 1` and `a[0] = 2` exclude each other
-compare_apart : CompareApart (seated (first_is 1) (one_list ∷ [])) (seated (first_is 2) (two_lists ∷ []))
+compare_apart : CompareApart (keyed (first_is 1) (one_list ∷ [])) (keyed (first_is 2) (two_lists ∷ []))
 compare_apart = record {
-  left = tree.index (name_ (seat_of (codes "a") (one_list ∷ []))) (n_ 0) 0;
-  other = tree.index (name_ (seat_of (codes "a") (two_lists ∷ []))) (n_ 0) 0;
+  left = tree.index (keyed (name_ (codes "a")) (one_list ∷ [])) (n_ 0) 0;
+  other = tree.index (keyed (name_ (codes "a")) (two_lists ∷ [])) (n_ 0) 0;
   one_op = Eq;
   other_op = Eq;
   n = pos 1;

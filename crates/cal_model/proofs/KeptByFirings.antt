@@ -1,32 +1,40 @@
 -- A firing leaves an actor in one of its states.
-use Rattle.std.proofs.Common.{◌≡◌, ℕ, zero, suc, ◌+◌, ◌<◌, ℤ, Bool, true, false, ◌&&◌, List, [], ◌∷◌, ◌++◌, map, length, refl, sym, ap, subst, ◌∙◌, arith, inl, Option, None, Some}
-use Rattle.std.proofs.lemmas.List.{append-nil, append_assoc}
-use Rattle.std.specs.Prelude.{if◌then◌else◌, ◌==◌, slice_get}
+use Rattle.std.proofs.Common.{◌≡◌, ℕ, zero, suc, ◌+◌, ◌*◌, ◌<◌, ℤ, Bool, true, false, ◌&&◌, List, [], ◌∷◌, ◌++◌, map, length, refl, sym, ap, subst, ◌∙◌, arith, inl, Option, None, Some, length-append}
+use Rattle.std.proofs.lemmas.Bool.{true≢false}
+use Rattle.std.proofs.lemmas.List.{append-nil, append_assoc, length-map}
+use Rattle.std.proofs.lemmas.List.FromFn.{get_or-map-range_with_len}
+use Rattle.std.specs.Prelude.{if◌then◌else◌, ◌==◌, is_some, slice_get, slice_index_or}
 use Rattle.rvc_base.specs.declared.scalar.Scalar.{Scalar}
 use Rattle.rvc_base.specs.declared.scalar.Scalar.TheVariants as scalar
-use Rattle.rvc_base.specs.Storing.{IsSize, InRange}
+use Rattle.rvc_base.specs.Rules.{wrong_kind}
+use Rattle.rvc_base.specs.Storing.{conv, IsSize, InRange}
+use Rattle.cal_ast.specs.Tree as tree
+use Rattle.cal_ast.specs.Tree.{Tree}
 use Rattle.rvc_base.specs.Behaviour.{Effect, Fires}
 use Rattle.rvc_base.specs.Turns.{max_turns}
-use Rattle.cal_model.specs.Value.{Kind, Shape, Single, Value, count, of_number, kind_of_scalar, HasKind, HaveKind, IsOf, IsType}
-use Rattle.cal_model.specs.Outcome.{Out, Clashes}
-use Rattle.cal_model.specs.Env.{Var}
-use Rattle.cal_model.specs.Actor.{Port, Held, Pattern, Action, Move, Actor}
+use Rattle.cal_model.specs.Value.{Kind, BoolKind, Shape, Single, Value, Values, Nil, Cons, count, of_number, kind_of_scalar, HasKind, HaveKind, IsOf, IsType}
+use Rattle.cal_model.specs.Outcome.{Clashes}
+use Rattle.cal_model.specs.Env.{Var, Env}
+use Rattle.cal_model.specs.Actor.{Port, Held, Pattern, Output, Action, Move, Actor}
 use Rattle.cal_model.specs.Call.{calls_of, declared}
 use Rattle.cal_model.specs.Statement.{exec_all, runs_of}
-use Rattle.cal_model.specs.Eligible.{fresh, is_empty, target, leads, IsStateOf}
+use Rattle.cal_model.specs.Eligible.{fresh, is_empty, target, leads, eligible, IsStateOf}
 use Rattle.cal_model.specs.Selection.{State, Priorities, kind_of_port, tokens_on, token, tokens_from, pattern_value, pattern_var, pattern_vars_from, pattern_vars, seen_by}
 use Rattle.cal_model.specs.ActorState.{AreVarsOf, IsActorState, is_actor_state, kept_tokens, AreTokensOn, AreTokensOf}
-use Rattle.cal_model.specs.Rates.{need}
-use Rattle.cal_model.specs.Firing.{Fired, IsFiring, effect, behaviour, body, body_of, outputs}
-use Rattle.cal_model.specs.Kinding.{Known, Names, with_known}
-use Rattle.cal_model.specs.Sound.{Each, known_local, names_of, with_locals, kind_of_tokens, with_pattern, with_patterns, IsAction, IsMove, IsSound}
-use Rattle.cal_model.proofs.KindValues.{single-is-num, zero-has-kind}
+use Rattle.cal_model.specs.Rates.{parts, parts_times, given_on, need, give}
+use Rattle.cal_model.specs.Firing.{Fired, IsFiring, effect, behaviour, body, body_of, outputs, numbers_of, one_of_each, interleaved, sent_numbers, sent_to_port, sent_by_port}
+use Rattle.cal_model.specs.Expression.{eval, eval_all}
+use Rattle.cal_model.specs.Keeping.{GivesOrTraps, AreOfKinds}
+use Rattle.cal_model.specs.Kinding.{Fine, Known, Names, with_known, kind, kinds}
+use Rattle.cal_model.specs.Sound.{Each, known_local, names_of, with_locals, kind_of_tokens, with_pattern, with_patterns, IsOutput, IsAction, IsMove, IsSound}
+use Rattle.cal_model.proofs.KindValues.{not-fine, fine-is, split, single-is-num, zero-has-kind}
 use Rattle.cal_model.proofs.KindLaws.{sound-funs, starts-are-of}
 use Rattle.cal_model.proofs.ActorStates.{Sized, first-sized, states-decide, kept-are-tokens}
 use Rattle.cal_model.proofs.Choosing.{effects-are-firings}
 use Rattle.cal_model.proofs.KindOrder.{onto, one-behind}
-use Rattle.cal_model.proofs.KeptTypes.{IfGives, gives-as, any-gives, then-if, Stays, AllStay, Typed, Good, Fixed, fixed-more}
-use Rattle.cal_model.proofs.KeptByStatements.{plain_known, RunsKeep, locals-fixed, locals-funs, declared-good, all-good, procedures-keep}
+use Rattle.cal_model.proofs.Agreement.{any_name, any-call}
+use Rattle.cal_model.proofs.KeptTypes.{gives-as, then-if, Stays, AllStay, Typed, Good, Fixed, fixed-more}
+use Rattle.cal_model.proofs.KeptByStatements.{plain_known, RunsKeep, eval-if, all-if, locals-fixed, locals-funs, declared-good, all-good, procedures-keep}
 
 -- ---- tokens
 
@@ -113,6 +121,7 @@ names-stay t us q k (name ∷ ts) ns xs s h rest =
       name = refl;
       stands = record { kind = pattern-has-kind t us q.repeat (length q.names) k s h; constant = λ w e. absurd (no-constant w e) };
       kept = λ u e. absurd (no-shape u e);
+      may = λ c. absurd (true≢false (sym c));
     } in
     subst (λ vars. AllStay (onto (names_known (kind_of_tokens t q.repeat) ts) (n ∷ ns)) vars) (sym (one-behind x (pattern_vars_from t us q (suc k) ts) xs))
     (names-stay t us q (suc k) ts (n ∷ ns) (x ∷ xs) s h (stays, rest))
@@ -160,84 +169,189 @@ leads-to-state actor s a to act moves is e = go (s == fresh actor) act.initializ
     go false false false true f = same-there f
     go false false false false f = let less : to < length actor.states = target-there actor actor.moves s a to moves f in inl (grind arith)
 
+-- ---- outputs
+
+count-kinds : (ks : List Kind) (vs : Values) → AreOfKinds ks vs → count vs ≡ length ks
+count-kinds [] Nil h = refl
+count-kinds [] (Cons v vs) h = absurd h
+count-kinds (k ∷ ks) Nil h = absurd h
+count-kinds (k ∷ ks) (Cons v vs) h = ap suc (count-kinds ks vs h.1)
+
+kinds-parts : (es : Tree) (names : Names) (ks : List Kind) → kinds es names ≡ Fine ks → length ks ≡ parts es
+kinds-parts tree.nil names ks h = ap length (sym (fine-is [] ks h))
+kinds-parts (tree.cons e es) names ks h =
+    let x = split (kind e names) _ ks h in
+    let y = split (kinds es names) _ ks x.2 in
+    ap length (sym (fine-is (x.0 ∷ y.0) ks y.2)) ∙ ap suc (kinds-parts es names y.0 y.1)
+kinds-parts other names ks h = absurd (not-fine wrong_kind 0 ks h)
+
+many-numbers : (vs : Values) → length (numbers_of vs) ≡ count vs
+many-numbers Nil = refl
+many-numbers (Cons v vs) = ap suc (many-numbers vs)
+
+many-of-each : (vs : Values) (k : ℕ) → length (one_of_each vs k) ≡ count vs
+many-of-each Nil k = refl
+many-of-each (Cons v vs) k = ap suc (many-of-each vs k)
+
+many-interleaved : (n k : ℕ) (vs : Values) → length (interleaved n k vs) ≡ n * count vs
+many-interleaved zero k vs = omega arith
+many-interleaved (suc n) k vs =
+    length-append (one_of_each vs k) (interleaved n (suc k) vs)
+    ∙ ap (λ m. m + length (interleaved n (suc k) vs)) (many-of-each vs k) ∙ ap (λ m. count vs + m) (many-interleaved n (suc k) vs)
+    ∙ (let e : count vs + n * count vs ≡ suc n * count vs = omega arith in e)
+
+mul-comm : (n m : ℕ) → n * m ≡ m * n
+mul-comm n m = omega arith
+
+many-sent : (repeat : Option ℕ) (vs : Values) → length (sent_numbers repeat vs) ≡ parts_times (count vs) repeat
+many-sent None vs = many-numbers vs ∙ (let e : count vs ≡ count vs * 1 = omega arith in e)
+many-sent (Some n) vs = many-interleaved n 0 vs ∙ mul-comm n (count vs)
+
+-- on each port as many tokens are sent as the outputs give there
+abbrev AreGiven : List Output → List (ℕ × List ℤ) → Type 0
+AreGiven os sent = (port : ℕ) → length (sent_to_port sent port) ≡ given_on port os
+
+module _ (hs : List Held) (ts : Typed hs) where
+  outputs-give : (actor : Actor) (names : Names) (ns : List Known) (env : Env) (os : List Output) (left : ℕ) → Fixed hs ns names → Good hs ns env → Each (IsOutput actor names) os
+      → GivesOrTraps (AreGiven os) (outputs actor.outs os (calls_of names.funs) env left)
+  outputs-give actor names ns env [] left f g h = λ port. refl
+  outputs-give actor names ns env (o ∷ os) left f g h =
+      then-if (AreOfKinds h.0.found) (AreGiven (o ∷ os)) (eval_all o.values (calls_of names.funs) env left) _ (all-if hs ts names ns env o.values h.0.found left f g h.0.kinds) (λ vs m are.
+      then-if (AreGiven os) (AreGiven (o ∷ os)) (outputs actor.outs os (calls_of names.funs) env m) _ (outputs-give actor names ns env os m f g h.1) (λ rest k given port.
+      one-more vs rest port (count-kinds h.0.found vs are ∙ kinds-parts o.values names h.0.found h.0.kinds) (given port)))
+    where
+      one-more : (vs : Values) (rest : List (ℕ × List ℤ)) (port : ℕ) → count vs ≡ parts o.values → length (sent_to_port rest port) ≡ given_on port os
+          → length (sent_to_port ((o.port, map (conv (kind_of_port actor.outs o.port)) (sent_numbers o.repeat vs)) ∷ rest) port) ≡ given_on port (o ∷ os)
+      one-more vs rest port e i = go (o.port == port)
+        where
+          go : (b : Bool) → length (if b then map (conv (kind_of_port actor.outs o.port)) (sent_numbers o.repeat vs) else sent_to_port rest port)
+              ≡ (if b then parts_times (parts o.values) o.repeat else given_on port os)
+          go true = length-map (sent_numbers o.repeat vs) (conv (kind_of_port actor.outs o.port)) ∙ many-sent o.repeat vs ∙ ap (λ n. parts_times n o.repeat) e
+          go false = i
+
 -- ---- firings
 
-abbrev IsLeft : Actor → ℕ → Fired → Type 0
-IsLeft actor to f = (f.state.at ≡ to) × AreVarsOf actor.vars f.state.vars
+-- the state that a firing of an action leaves, and how much it sends on each port
+record IsLeft (actor : Actor) (to : ℕ) (act : Action) (f : Fired) : Type 0 where
+  at : f.state.at ≡ to
+  vars : AreVarsOf actor.vars f.state.vars
+  given : (port : ℕ) → port < length actor.outs → length (slice_index_or f.sent port []) ≡ given_on port act.outputs
 
 types-of : (hs : List Held) → Each (λ h. IsType h.shape × IsOf h.shape h.value) hs → Typed hs
 types-of [] h = tt
 types-of (x ∷ xs) h = (h.0.0, types-of xs h.1)
 
 names-fixed : (actor : Actor) → IsSound actor → Fixed actor.vars [] (names_of actor)
-names-fixed actor sound = record { funs = sound-funs actor sound; globals = refl; locals = refl }
+names-fixed actor sound = record { funs = sound-funs actor sound; ends = sound.funs_end; globals = refl; locals = refl }
 
-body-leaves : (actor : Actor) (x : State) (u : List (List ℤ)) (to : ℕ) (act : Action) → IsSound actor → IsActorState actor x → AreTokensOf actor u → IsAction actor act → IfGives (IsLeft actor to) (body_of actor x u to act)
-body-leaves actor x u to act sound is tokens good =
-    then-if (Good actor.vars inner) (IsLeft actor to) (declared act.locals (calls_of actor.funs) (seen_by actor x u act) max_turns) _
-    (subst (λ fs. IfGives (Good actor.vars inner) (declared act.locals (calls_of fs) (seen_by actor x u act) max_turns)) funs
-    (declared-good actor.vars types act.locals seen known (seen_by actor x u act) max_turns fixed entry (starts-are-of act.locals seen good.locals))) (λ env m now.
-    then-if (Good actor.vars inner) (IsLeft actor to) (exec_all act.body (calls_of actor.funs) (runs_of actor.procs (calls_of actor.funs)) env m) _
-    (subst (λ fs. IfGives (Good actor.vars inner) (exec_all act.body (calls_of fs) (runs_of actor.procs (calls_of actor.funs)) env m)) (locals-funs act.locals seen ∙ funs)
-    (all-good actor.vars types actor.procs (runs_of actor.procs (calls_of actor.funs)) runs act.body (with_locals act.locals seen) inner env m (locals-fixed actor.vars act.locals seen known fixed) now good.body)) (λ last k done.
-    then-if (λ sent. Unit {0}) (IsLeft actor to) (outputs actor.outs act.outputs (calls_of actor.funs) last k) _ (any-gives (outputs actor.outs act.outputs (calls_of actor.funs) last k)) (λ sent j w. (refl, done.globals))))
-  where
-    types : Typed actor.vars
-    types = types-of actor.vars sound.vars
+sent-at : (ports : List Port) (sent : List (ℕ × List ℤ)) (port : ℕ) → port < length ports → slice_index_or (sent_by_port ports sent) port [] ≡ sent_to_port sent port
+sent-at ports sent port h = get_or-map-range_with_len (sent_to_port sent) 0 (length ports) port port [] h (omega arith)
 
-    seen : Names
-    seen = with_patterns actor act.patterns (names_of actor)
+module _ (actor : Actor) (x : State) (u : List (List ℤ)) (sound : IsSound actor) (is : IsActorState actor x) (tokens : AreTokensOf actor u) where
+  types : Typed actor.vars
+  types = types-of actor.vars sound.vars
 
-    known : List Known
-    known = patterns_onto actor act.patterns []
+  seen : Action → Names
+  seen act = with_patterns actor act.patterns (names_of actor)
 
-    inner : List Known
-    inner = onto (map known_local act.locals) known
+  known : Action → List Known
+  known act = patterns_onto actor act.patterns []
 
-    funs : seen.funs ≡ actor.funs
-    funs = patterns-funs actor act.patterns (names_of actor)
+  fixed : (act : Action) → Fixed actor.vars (patterns_onto actor act.patterns []) (with_patterns actor act.patterns (names_of actor))
+  fixed act = patterns-fixed actor.vars actor act.patterns (names_of actor) [] (names-fixed actor sound)
 
-    fixed : Fixed actor.vars known seen
-    fixed = patterns-fixed actor.vars actor act.patterns (names_of actor) [] (names-fixed actor sound)
+  entry : (act : Action) → Good actor.vars (patterns_onto actor act.patterns []) (seen_by actor x u act)
+  entry act = record {
+    globals = is.vars;
+    locals = subst (λ vars. AllStay (patterns_onto actor act.patterns []) vars) (append-nil (pattern_vars actor u act.patterns))
+        (patterns-stay actor u act.patterns [] [] (first-sized actor.ins actor.outs sound.port_sizes) tokens tt);
+  }
 
-    entry : Good actor.vars known (seen_by actor x u act)
-    entry = record {
-      globals = is.vars;
-      locals = subst (λ vars. AllStay known vars) (append-nil (pattern_vars actor u act.patterns))
-          (patterns-stay actor u act.patterns [] [] (first-sized actor.ins actor.outs sound.port_sizes) tokens tt);
-    }
+  -- a guard is a truth value, or traps
+  pub guard-says : (act : Action) (g : Tree) (left : ℕ) → kind g (with_patterns actor act.patterns (names_of actor)) ≡ Fine BoolKind
+      → GivesOrTraps (HasKind BoolKind) (eval g (calls_of actor.funs) (seen_by actor x u act) left)
+  guard-says act g left h =
+      subst (λ fs. GivesOrTraps (HasKind BoolKind) (eval g (calls_of fs) (seen_by actor x u act) left)) (patterns-funs actor act.patterns (names_of actor))
+      (eval-if actor.vars types (with_patterns actor act.patterns (names_of actor)) (patterns_onto actor act.patterns []) (seen_by actor x u act) g BoolKind left (fixed act) (entry act) h)
 
-    runs : RunsKeep actor.vars actor.procs (runs_of actor.procs (calls_of actor.funs))
-    runs = procedures-keep actor.vars types actor.procs (names_of actor) (names-fixed actor sound) sound.procs
+  body-leaves : (to : ℕ) (act : Action) → IsAction actor act → GivesOrTraps (IsLeft actor to act) (body_of actor x u to act)
+  body-leaves to act good =
+      then-if (Good actor.vars inner) (IsLeft actor to act) (declared act.locals (calls_of actor.funs) (seen_by actor x u act) max_turns) _
+      (subst (λ fs. GivesOrTraps (Good actor.vars inner) (declared act.locals (calls_of fs) (seen_by actor x u act) max_turns)) funs
+      (declared-good actor.vars types act.locals outer before (seen_by actor x u act) max_turns (fixed act) (entry act) (starts-are-of act.locals outer good.locals))) (λ env m now.
+      then-if (Good actor.vars inner) (IsLeft actor to act) (exec_all act.body (calls_of actor.funs) (runs_of actor.procs (calls_of actor.funs)) env m) _
+      (subst (λ fs. GivesOrTraps (Good actor.vars inner) (exec_all act.body (calls_of fs) (runs_of actor.procs (calls_of actor.funs)) env m)) more
+      (all-good actor.vars types actor.procs (runs_of actor.procs (calls_of actor.funs)) any_name runs act.body (with_locals act.locals outer) inner env m within now (any-call act.body) good.body)) (λ last k done.
+      then-if (AreGiven act.outputs) (IsLeft actor to act) (outputs actor.outs act.outputs (calls_of actor.funs) last k) _
+      (subst (λ fs. GivesOrTraps (AreGiven act.outputs) (outputs actor.outs act.outputs (calls_of fs) last k)) more
+      (outputs-give actor.vars types actor (with_locals act.locals outer) inner last act.outputs k within done good.outputs)) (λ sent j given.
+      record { at = refl; vars = done.globals; given = λ port h. ap length (sent-at actor.outs sent port h) ∙ given port })))
+    where
+      outer : Names
+      outer = with_patterns actor act.patterns (names_of actor)
 
-action-at : (actor : Actor) (acts : List Action) (a : ℕ) (act : Action) → Each (IsAction actor) acts → slice_get acts a ≡ Some act → IsAction actor act
+      before : List Known
+      before = patterns_onto actor act.patterns []
+
+      inner : List Known
+      inner = onto (map known_local act.locals) before
+
+      funs : outer.funs ≡ actor.funs
+      funs = patterns-funs actor act.patterns (names_of actor)
+
+      more : (with_locals act.locals outer).funs ≡ actor.funs
+      more = locals-funs act.locals outer ∙ funs
+
+      within : Fixed actor.vars inner (with_locals act.locals outer)
+      within = locals-fixed actor.vars act.locals outer before (fixed act)
+
+      runs : RunsKeep actor.vars actor.procs any_name (runs_of actor.procs (calls_of actor.funs))
+      runs = procedures-keep actor.vars types actor.procs (names_of actor) (names-fixed actor sound) sound.procs sound.procs_end
+
+pub action-at : (actor : Actor) (acts : List Action) (a : ℕ) (act : Action) → Each (IsAction actor) acts → slice_get acts a ≡ Some act → IsAction actor act
 action-at actor [] a act h e = let no : None ≡ Some act = e in absurd (grind arith)
 action-at actor (b ∷ acts) zero act h e = let same : b ≡ act = cc in subst (λ c. IsAction actor c) same h.0
 action-at actor (b ∷ acts) (suc a) act h e = action-at actor acts a act h.1 e
 
-firing-leaves : (actor : Actor) (x : State) (u : List (List ℤ)) (a : ℕ) → IsSound actor → IsActorState actor x → AreTokensOf actor u → IfGives (λ f. IsActorState actor f.state) (body actor x u a)
-firing-leaves actor x u a sound is tokens = go (slice_get actor.actions a) refl
-  where
-    there : (act : Action) → slice_get actor.actions a ≡ Some act → (o : Option ℕ) → leads actor x.at a act ≡ o
-        → IfGives (λ f. IsActorState actor f.state) (elim o [ None ↦ Clashes | Some to ↦ body_of actor x u to act ])
-    there act e None h = tt
-    there act e (Some to) h = left (body_of actor x u to act) (body-leaves actor x u to act sound is tokens (action-at actor actor.actions a act sound.actions e))
-      where
-        left : (o : Out Fired) → IfGives (IsLeft actor to) o → IfGives (λ f. IsActorState actor f.state) o
-        left o i = gives-as (IsLeft actor to) (λ f. IsActorState actor f.state) o
-            (λ f k. record { at = subst (λ n. IsStateOf actor n) (sym k.0) (leads-to-state actor x.at a to act sound.moves is.at h); vars = k.1 }) i
+-- what a firing leaves: a state of the actor, and as many tokens sent as the action gives
+pub record IsMade (actor : Actor) (a : ℕ) (f : Fired) : Type 0 where
+  pub state : IsActorState actor f.state
+  pub given : (port : ℕ) → port < length actor.outs → length (slice_index_or f.sent port []) ≡ give actor a port
 
-    of-action : (o : Option Action) → Option ℕ
+-- the body of an action that is eligible gives such a firing, or traps
+pub eligible-makes : (actor : Actor) (x : State) (u : List (List ℤ)) (a : ℕ) → IsSound actor → IsActorState actor x → AreTokensOf actor u → eligible actor x.at a ≡ true
+    → GivesOrTraps (IsMade actor a) (body actor x u a)
+eligible-makes actor x u a sound is tokens el = go (slice_get actor.actions a) refl
+  where
+    of-action : Option Action → Option ℕ
     of-action o = elim o [ None ↦ None | Some act ↦ leads actor x.at a act ]
 
+    there : (act : Action) → slice_get actor.actions a ≡ Some act → (o : Option ℕ) → leads actor x.at a act ≡ o
+        → GivesOrTraps (IsMade actor a) (elim o [ None ↦ Clashes | Some to ↦ body_of actor x u to act ])
+    there act e None h =
+        let no : eligible actor x.at a ≡ false = ap (λ o. is_some (elim o [ None ↦ None | Some act ↦ leads actor x.at a act ])) e ∙ ap is_some h in
+        absurd (true≢false (sym el ∙ no))
+    there act e (Some to) h =
+        gives-as (IsLeft actor to act) (IsMade actor a) (body_of actor x u to act) (λ f left. record {
+          state = record { at = subst (λ n. IsStateOf actor n) (sym left.at) (leads-to-state actor x.at a to act sound.moves is.at h); vars = left.vars };
+          given = λ port p. left.given port p ∙ ap (λ o. elim o [ None ↦ 0 | Some act ↦ given_on port act.outputs ]) (sym e);
+        }) (body-leaves actor x u sound is tokens to act (action-at actor actor.actions a act sound.actions e))
+
     go : (o : Option Action) → slice_get actor.actions a ≡ o
-        → IfGives (λ f. IsActorState actor f.state) (elim o [ None ↦ Clashes | Some act ↦ elim (of-action (slice_get actor.actions a)) [ None ↦ Clashes | Some to ↦ body_of actor x u to act ] ])
-    go None e = tt
+        → GivesOrTraps (IsMade actor a) (elim o [ None ↦ Clashes | Some act ↦ elim (of-action (slice_get actor.actions a)) [ None ↦ Clashes | Some to ↦ body_of actor x u to act ] ])
+    go None e =
+        let no : eligible actor x.at a ≡ false = ap (λ o. is_some (elim o [ None ↦ None | Some act ↦ leads actor x.at a act ])) e in
+        absurd (true≢false (sym el ∙ no))
     go (Some act) e = there act e (of-action (slice_get actor.actions a)) (ap of-action (sym e))
+
+pub bodies-make : (actor : Actor) (x : State) (u : List (List ℤ)) (a : ℕ) → IsSound actor → IsActorState actor x → AreTokensOf actor u → eligible actor x.at a ≡ true
+    → GivesOrTraps (λ f. IsActorState actor f.state) (body actor x u a)
+bodies-make actor x u a sound is tokens el =
+    gives-as (IsMade actor a) (λ f. IsActorState actor f.state) (body actor x u a) (λ f m. m.state) (eligible-makes actor x u a sound is tokens el)
 
 pub firings-keep-states : (actor : Actor) (x y : State) (u sent : List (List ℤ)) (a : ℕ) (taken : ℕ → ℕ) → IsSound actor → IsActorState actor x → AreTokensOf actor u → IsFiring actor x u a y taken sent → IsActorState actor y
 firings-keep-states actor x y u sent a taken sound is tokens f =
-    subst (λ o. IfGives (λ g. IsActorState actor g.state) o) f.gives (firing-leaves actor x u a sound is tokens)
+    subst (λ o. GivesOrTraps (λ g. IsActorState actor g.state) o) f.gives (bodies-make actor x u a sound is tokens f.exposed.is_eligible)
 
 -- ---- the behaviour
 

@@ -3,6 +3,7 @@ use Rattle.std.proofs.Common.{◌≡◌, ℕ, ◌*◌, ◌≤◌, ℤ, pos, true
 use Rattle.rvc_base.specs.declared.scalar.Scalar.TheVariants as scalar
 use Rattle.rvc_base.specs.Storing.{conv}
 use Rattle.rvc_base.specs.Turns.{max_turns}
+use Rattle.rvc_base.specs.Rules.{constant_traps, not_constant, unknown_name, wrong_kind}
 use Rattle.cal_ast.specs.Places.{begins}
 use Rattle.cal_ast.specs.Tree as tree
 use Rattle.cal_ast.specs.Tree.{Tree}
@@ -24,16 +25,16 @@ use Rattle.cal_model.proofs.KindNames.{Found, Fits, fits-local, alike-constants,
 
 -- ---- names and calls
 
-known-kind : (o : Option Known) (j : Kind) (at : ℕ) → elim o [ None ↦ Broken 301 at | Some x ↦ Fine x.kind ] ≡ Fine j → (x : Known) × (o ≡ Some x) × (x.kind ≡ j)
-known-kind None j at h = absurd (not-fine 301 at j h)
+known-kind : (o : Option Known) (j : Kind) (at : ℕ) → elim o [ None ↦ Broken unknown_name at | Some x ↦ Fine x.kind ] ≡ Fine j → (x : Known) × (o ≡ Some x) × (x.kind ≡ j)
+known-kind None j at h = absurd (not-fine unknown_name at j h)
 known-kind (Some x) j at h = (x, refl, fine-is x.kind j h)
 
 found-comes : (L : Type 0) (x : Known) (o : Option Value) (left : ℕ) → Found L x o → Comes L (HasKind x.kind) left (known o left)
 found-comes L x None left h = h
 found-comes L x (Some v) left h = (h.kind, let e : left ≤ left = omega arith in e)
 
-called : (o : Option Fun) (f : Fun → Judged Kind) (j : Kind) (at : ℕ) → elim o [ None ↦ Broken 301 at | Some x ↦ f x ] ≡ Fine j → (x : Fun) × (o ≡ Some x) × (f x ≡ Fine j)
-called None f j at h = absurd (not-fine 301 at j h)
+called : (o : Option Fun) (f : Fun → Judged Kind) (j : Kind) (at : ℕ) → elim o [ None ↦ Broken unknown_name at | Some x ↦ f x ] ≡ Fine j → (x : Fun) × (o ≡ Some x) × (f x ≡ Fine j)
+called None f j at h = absurd (not-fine unknown_name at j h)
 called (Some x) f j at h = (x, refl, h)
 
 -- ---- constants in types and generators
@@ -47,17 +48,17 @@ with_size v given = record given { size = size_of_value v }
 -- a number is constant where it has this kind, and is given over the constants
 number-parts : (o : Judged Kind) (e : Tree) (names : Names) (a : ℤ) → constant_number o e names ≡ Fine a → (o ≡ Fine NumKind) × (number_given (constant e names) (begins e) ≡ Fine a)
 number-parts (Fine NumKind) e names a h = (refl, h)
-number-parts (Fine BoolKind) e names a h = absurd (not-fine 401 (begins e) a h)
-number-parts (Fine (ListKind n k)) e names a h = absurd (not-fine 401 (begins e) a h)
+number-parts (Fine BoolKind) e names a h = absurd (not-fine wrong_kind (begins e) a h)
+number-parts (Fine (ListKind n k)) e names a h = absurd (not-fine wrong_kind (begins e) a h)
 number-parts (Broken rule at) e names a h = absurd (not-fine rule at a h)
 
 given-parts : (o : Out Value) (at : ℕ) (a : ℤ) → number_given o at ≡ Fine a → (m : ℕ) × (o ≡ Gives (Num a) m)
 given-parts (Gives (Num z) m) at a h = (m, ap (λ b. Gives (Num b) m) (fine-is z a h))
-given-parts (Gives (Truth b) m) at a h = absurd (not-fine 409 at a h)
-given-parts (Gives (Items vs) m) at a h = absurd (not-fine 409 at a h)
-given-parts (Traps c) at a h = absurd (not-fine 407 at a h)
-given-parts Lacks at a h = absurd (not-fine 409 at a h)
-given-parts Clashes at a h = absurd (not-fine 409 at a h)
+given-parts (Gives (Truth b) m) at a h = absurd (not-fine not_constant at a h)
+given-parts (Gives (Items vs) m) at a h = absurd (not-fine not_constant at a h)
+given-parts (Traps c) at a h = absurd (not-fine constant_traps at a h)
+given-parts Lacks at a h = absurd (not-fine not_constant at a h)
+given-parts Clashes at a h = absurd (not-fine not_constant at a h)
 
 gives-same : (v w : Value) (k m : ℕ) → Gives v k ≡ Gives w m → w ≡ v
 gives-same v w k m h = cc
@@ -77,10 +78,10 @@ needed-comes : (L : Type 0) (o : Option Shape) (t : Shape) (left : ℕ) → (o �
 needed-comes L o t left h = subst (λ p. Comes L (λ u. (u ≡ t) × IsType t) left (needed p left)) (sym h.0) ((refl, h.1), let s : left ≤ left = omega arith in s)
 
 counter-kind : (t s : Shape) (at : ℕ) (i : ℤ) → IsType t → counts t at ≡ Fine s → HasKind NumKind (stored t (Num i))
-counter-kind (Single scalar.Bool) s at i h c = absurd (not-fine 401 at s c)
+counter-kind (Single scalar.Bool) s at i h c = absurd (not-fine wrong_kind at s c)
 counter-kind (Single (scalar.Int n)) s at i h c = single-is-num (scalar.Int n) (conv (scalar.Int n) i) h (conv-in-range (scalar.Int n) i h)
 counter-kind (Single (scalar.Uint n)) s at i h c = single-is-num (scalar.Uint n) (conv (scalar.Uint n) i) h (conv-in-range (scalar.Uint n) i h)
-counter-kind (Many n t) s at i h c = absurd (not-fine 401 at s c)
+counter-kind (Many n t) s at i h c = absurd (not-fine wrong_kind at s c)
 
 no-value : (w : Value) → None ≡ Some w → ⊥
 no-value w h = cc
@@ -149,7 +150,7 @@ module _ (L : Type 0) (P Q : List ℕ → Type 0) (calls : Calls) where
         let y = split (kind r names) _ j x.2 in
         comes-then L (HasKind x.0) (HasKind j) (eval l calls env left) _ left (kept l names env left x.0 fit c.0 x.1) (λ v m p.
         right-comes L op x.0 y.0 j at v _ m y.2 p (λ n. kept r names env n y.0 fit c.1 y.1))
-    kept other names env left j fit c h = absurd (not-fine 401 0 j h)
+    kept other names env left j fit c h = absurd (not-fine wrong_kind 0 j h)
 
     pub all-kept : (es : Tree) (names : Names) (env : Env) (left : ℕ) (ks : List Kind) → Fits L P calls names env → EachCall P Q es → kinds es names ≡ Fine ks
         → Comes L (AreOfKinds ks) left (eval_all es calls env left)
@@ -160,7 +161,7 @@ module _ (L : Type 0) (P Q : List ℕ → Type 0) (calls : Calls) where
         comes-then L (HasKind x.0) (AreOfKinds ks) (eval e calls env left) _ left (kept e names env left x.0 fit c.0 x.1) (λ v m p.
         comes-then L (AreOfKinds y.0) (AreOfKinds ks) (eval_all es calls env m) _ m (all-kept es names env m y.0 fit c.1 y.1) (λ vs k q.
         (subst (λ l. AreOfKinds l (Cons v vs)) (fine-is (x.0 ∷ y.0) ks y.2) (p, q), let s : k ≤ k = omega arith in s)))
-    all-kept other names env left ks fit c h = absurd (not-fine 401 0 ks h)
+    all-kept other names env left ks fit c h = absurd (not-fine wrong_kind 0 ks h)
 
     pub arguments-kept : (es : Tree) (names : Names) (env : Env) (left : ℕ) (fs : List Local) → Fits L P calls names env → EachCall P Q es → arguments_fit es fs names ≡ Fine true
         → Comes L (AreArguments fs) left (eval_all es calls env left)
@@ -177,7 +178,7 @@ module _ (L : Type 0) (P Q : List ℕ → Type 0) (calls : Calls) where
         comes-then L (HasKind x.0) (AreArguments (f ∷ fs)) (eval e calls env left) _ left (kept e names env left x.0 fit c.0 x.1) (λ v m p.
         comes-then L (AreArguments fs) (AreArguments (f ∷ fs)) (eval_all es calls env m) _ m (arguments-kept es names env m fs fit c.1 y.2) (λ vs k q.
         ((subst (λ l. HasKind l v) (sym same.0) p, q), let s : k ≤ k = omega arith in s)))
-    arguments-kept other names env left fs fit c h = absurd (not-fine 401 0 true h)
+    arguments-kept other names env left fs fit c h = absurd (not-fine wrong_kind 0 true h)
 
     pub elements-kept : (gens : Tree) (names : Names) (env : Env) (left : ℕ) (n : ℕ) (k : Kind) (item : Env → ℕ → Out Value) → Fits L P calls names env → EachCall P Q gens → elements_in gens names ≡ Fine n
         → ((inner : Env) (m : ℕ) → Fits L P calls (with_counters gens names) inner → Comes L (HasKind k) m (item inner m))
@@ -200,7 +201,7 @@ module _ (L : Type 0) (P Q : List ℕ → Type 0) (calls : Calls) where
         (each-comes L k (span a.0 b.0) rest.0 a.0 _ r (λ x y.
         elements-kept gens (with_known (counter name) names) (with_local (variable name u false (stored u (Num x))) env) y rest.0 k item
         (fits-local L P calls names env (counter name) (variable name u false (stored u (Num x))) refl (counter-stands name t.0 u s.0 (begins shape) x p.0 p.1 s.1) fit) c.1 rest.1 i))))))
-    elements-kept other names env left n k item fit c h i = absurd (not-fine 401 0 n h)
+    elements-kept other names env left n k item fit c h i = absurd (not-fine wrong_kind 0 n h)
 
     pub type-kept : (shape : Tree) (names : Names) (env : Env) (left : ℕ) (t : Shape) → Fits L P calls names env → EachCall P Q shape → type_judged shape names ≡ Fine t
         → Comes L (λ u. (u ≡ t) × IsType t) left (type_meant shape calls env left)
@@ -209,7 +210,7 @@ module _ (L : Type 0) (P Q : List ℕ → Type 0) (calls : Calls) where
         let g = split (type_arguments args names) _ t w.1 in
         comes-then L (λ given. (given ≡ given_by g.0) × AreTypesIn g.0) (λ u. (u ≡ t) × IsType t) (args_given args calls env left) _ left (args-kept args names env left g.0 fit c g.1) (λ given m p.
         subst (λ x. Comes L (λ u. (u ≡ t) × IsType t) m (needed (type_named name x) m)) (sym p.0) (needed-comes L (type_named name (given_by g.0)) t m (type-meant name g.0 at t g.2 p.1)))
-    type-kept other names env left t fit c h = absurd (not-fine 401 0 t h)
+    type-kept other names env left t fit c h = absurd (not-fine wrong_kind 0 t h)
 
     pub args-kept : (args : Tree) (names : Names) (env : Env) (left : ℕ) (g : List Argument) → Fits L P calls names env → EachCall P Q args → type_arguments args names ≡ Fine g
         → Comes L (λ given. (given ≡ given_by g) × AreTypesIn g) left (args_given args calls env left)
@@ -232,4 +233,4 @@ module _ (L : Type 0) (P Q : List ℕ → Type 0) (calls : Calls) where
               (ap (λ v. with_size v given) p ∙ ap (with_size (Num z.0)) q.0, q.1),
           let s : k ≤ k = omega arith in s,
         )))
-    args-kept other names env left g fit c h = absurd (not-fine 401 0 g h)
+    args-kept other names env left g fit c h = absurd (not-fine wrong_kind 0 g h)

@@ -1,5 +1,6 @@
 -- Kinds are kept, as the laws say it.
 use Rattle.std.proofs.Common.{◌≡◌, ℕ, ◌<◌, ◌≤◌, ℤ, true, false, List, [], ◌∷◌, ◌++◌, length, refl, sym, subst, arith, Option, None, Some}
+use Rattle.rvc_base.specs.Rules.{wrong_kind}
 use Rattle.cal_ast.specs.Tree as tree
 use Rattle.cal_ast.specs.Tree.{Tree}
 use Rattle.cal_model.specs.Value.{Kind, Shape, Value, Num, Values, kind_of_scalar, stored, HasKind, IsType, kind_of_type}
@@ -70,7 +71,7 @@ env-fits names env fine is =
       agree = calls-agree (length names.funs) (length names.funs) names.funs (constants names.globals) env.globals (stand-match (Unit {0}) names.globals env.globals globals);
     }
 
-env-fits-all : (names : Names) (env : Env) → Each (IsOfItsKinds names) names.funs → FunsNeverReturn names.funs → IsEnvOf names env → HasAllOf names env
+pub env-fits-all : (names : Names) (env : Env) → Each (IsOfItsKinds names) names.funs → FunsNeverReturn names.funs → IsEnvOf names env → HasAllOf names env
     → Fits ⊥ any_name (calls_of names.funs) names env
 env-fits-all names env fine never is has =
     let globals = stand-all names.globals env.globals is.globals has.globals in
@@ -141,7 +142,7 @@ mutual
       let w = tested (is_word name) _ _ place t h in
       let g = split (type_arguments args names) _ t w.1 in
       (type-meant name g.0 at t g.2 (judged-types args names g.0 g.1)).1
-  judged-type other names t h = absurd (not-fine 401 0 t h)
+  judged-type other names t h = absurd (not-fine wrong_kind 0 t h)
 
   judged-types : (args : Tree) (names : Names) (g : List Argument) → type_arguments args names ≡ Fine g → AreTypesIn g
   judged-types tree.nil names g h = subst (λ x. AreTypesIn x) (fine-is [] g h) tt
@@ -153,7 +154,7 @@ mutual
       let z = split (constant_number (kind value names) value names) _ g h in
       let others = split (type_arguments args names) _ g z.2 in
       subst (λ x. AreTypesIn x) (fine-is (OfSize name z.0 ∷ others.0) g others.2) (judged-types args names others.0 others.1)
-  judged-types other names g h = absurd (not-fine 401 0 g h)
+  judged-types other names g h = absurd (not-fine wrong_kind 0 g h)
 
 -- ---- environments of names
 

@@ -4,7 +4,7 @@ use Rattle.std.specs.Prelude.{if◌then◌else◌, nat_le, ◌==◌, unsigned_ab
 use Rattle.std.specs.Int.{int_shr}
 use Rattle.rvc_base.specs.declared.trap.Trap.TheVariants.{Overflow, DivideByZero, ShiftRange, IndexRange}
 use Rattle.rvc_base.specs.Width.{IsNum, is_num, max_shift}
-use Rattle.rvc_base.specs.Arithmetic.{Computed, whole, sum, difference, product, opposite, quotient, rest, by_count, left_shift, right_shift, bits_of_both, bits_of_either, bits_of_one, other_bits, is_equal, is_below}
+use Rattle.rvc_base.specs.Arithmetic.{Computed, whole, add, sub, mul, neg, div, rem, by_count, shl, shr, bit_and, bit_or, bit_xor, bit_not, is_equal, is_below}
 use Rattle.rvc_base.specs.Arithmetic as arithmetic
 use Rattle.cal_ast.specs.declared.expr.PrefixOp.{PrefixOp}
 use Rattle.cal_ast.specs.declared.expr.PrefixOp.TheVariants.{Not, Neg, BitNot}

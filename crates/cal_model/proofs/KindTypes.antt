@@ -7,6 +7,7 @@ use Rattle.rvc_base.specs.declared.scalar.Scalar.{Scalar}
 use Rattle.rvc_base.specs.declared.scalar.Scalar.TheVariants as scalar
 use Rattle.rvc_base.specs.Storing.{IsSize}
 use Rattle.rvc_base.specs.Width.{default_size, max_size}
+use Rattle.rvc_base.specs.Rules.{unsupported_type, wrong_type_argument}
 use Rattle.cal_model.specs.Value.{Shape, Single, Many, Num, IsType, scalars_of_type, max_list_scalars}
 use Rattle.cal_model.specs.Expression.{bits, list_of, type_named, size_of_value}
 use Rattle.cal_model.specs.Kinding.{Fine, Broken, Argument, OfShape, OfSize, bits_of, number_type, truth_type, list_type_of, list_type, type_with}
@@ -23,13 +24,13 @@ AreTypesIn (OfSize name z ∷ args) = AreTypesIn args
 abbrev IsMeant : Option Shape → Shape → Type 0
 IsMeant o t = (o ≡ Some t) × IsType t
 
-within-bits : (b : Bool) (f : ℕ → Scalar) (n at : ℕ) (t : Shape) → (nat_le 1 n && nat_le n max_size) ≡ b → (if b then Fine (Single (f n)) else Broken 402 at) ≡ Fine t
+within-bits : (b : Bool) (f : ℕ → Scalar) (n at : ℕ) (t : Shape) → (nat_le 1 n && nat_le n max_size) ≡ b → (if b then Fine (Single (f n)) else Broken wrong_type_argument at) ≡ Fine t
     → ((m : ℕ) → 1 ≤ m → m ≤ max_size → IsSize (f m)) → IsMeant (if b then Some (Single (f n)) else None) t
 within-bits true f n at t e h sized =
     let parts = both (nat_le 1 n) (nat_le n max_size) e in
     let same = fine-is (Single (f n)) t h in
     (ap Some same, subst IsType same (sized n (leb-true 1 n parts.0) (leb-true n max_size parts.1)))
-within-bits false f n at t e h sized = absurd (not-fine 402 at t h)
+within-bits false f n at t e h sized = absurd (not-fine wrong_type_argument at t h)
 
 bits-meant : (z : ℤ) (f : ℕ → Scalar) (at : ℕ) (t : Shape) → bits_of z f at ≡ Fine t → ((m : ℕ) → 1 ≤ m → m ≤ max_size → IsSize (f m))
     → IsMeant (bits (size_of_value (Num z)) (λ n. Single (f n))) t
@@ -66,7 +67,7 @@ list-meant (OfSize other z ∷ OfShape name u ∷ []) at t h i =
 list-meant args at t h i = absurd (not-fine _ at t h)
 
 named : (b c d e : Bool) (args : List Argument) (at : ℕ) (t : Shape)
-    → (if b then truth_type args at else if c then number_type args (λ n. scalar.Int n) at else if d then number_type args (λ n. scalar.Uint n) at else if e then list_type args at else Broken 403 at) ≡ Fine t
+    → (if b then truth_type args at else if c then number_type args (λ n. scalar.Int n) at else if d then number_type args (λ n. scalar.Uint n) at else if e then list_type args at else Broken unsupported_type at) ≡ Fine t
     → AreTypesIn args
     → IsMeant (if b then Some (Single scalar.Bool) else if c then bits (given_by args).size (λ n. Single (scalar.Int n)) else if d then bits (given_by args).size (λ n. Single (scalar.Uint n)) else if e then list_of (given_by args) else None) t
 named true c d e args at t h i = truth-meant args at t h

@@ -5,6 +5,8 @@ use Rattle.std.proofs.lemmas.Int.{ints}
 use Rattle.rvc_base.specs.declared.scalar.Scalar.{Scalar}
 use Rattle.rvc_base.specs.declared.scalar.Scalar.TheVariants as scalar
 use Rattle.rvc_base.specs.Storing.{IsSize}
+use Rattle.rvc_base.specs.declared.refusal.Rule.{Rule}
+use Rattle.rvc_base.specs.Width.{max_size}
 use Rattle.cal_model.specs.Value.{Kind, NumKind, BoolKind, ListKind, Shape, Single, Many, Value, Num, Truth, Items, Values, Nil, Cons, count, joined, kind_of_type, kind_of_scalar, scalars_of_kind, max_list_scalars, stored, zero_of, HasKind, HaveKind, IsOf, AreOf, IsType}
 use Rattle.cal_model.specs.Kinding.{Judged, Fine, Broken, and_so, is_same_kind, is_like, one_kind, all_like, all_same, list_of_kind, list_kind}
 use Rattle.cal_model.specs.Keeping.{AreOfKinds}
@@ -12,7 +14,7 @@ use Rattle.cal_model.proofs.Stored.{stored-is-of, zero-is-of}
 
 -- ---- judgements
 
-pub not-fine : {A : Type 0} (rule at : ℕ) (a : A) → Broken rule at ≡ Fine a → ⊥
+pub not-fine : {A : Type 0} (rule : Rule) (at : ℕ) (a : A) → Broken rule at ≡ Fine a → ⊥
 not-fine rule at a h = cc
 
 pub fine-is : {A : Type 0} (a b : A) → Fine a ≡ Fine b → a ≡ b
@@ -24,7 +26,7 @@ split (Fine a) f b h = (a, refl, h)
 split (Broken rule at) f b h = absurd (not-fine rule at b h)
 
 -- .. and so is one that depends on a test where it holds and what follows is fine
-pub tested : {A : Type 0} (b : Bool) (o : Judged A) (rule at : ℕ) (a : A) → (if b then o else Broken rule at) ≡ Fine a → (b ≡ true) × (o ≡ Fine a)
+pub tested : {A : Type 0} (b : Bool) (o : Judged A) (rule : Rule) (at : ℕ) (a : A) → (if b then o else Broken rule at) ≡ Fine a → (b ≡ true) × (o ≡ Fine a)
 tested true o rule at a h = (refl, h)
 tested false o rule at a h = absurd (not-fine rule at a h)
 
@@ -53,7 +55,7 @@ same-kind BoolKind (ListKind m l) h = absurd (grind arith)
 same-kind (ListKind n k) NumKind h = absurd (grind arith)
 same-kind (ListKind n k) BoolKind h = absurd (grind arith)
 
-one-of : (b c : Bool) (k j : Kind) (at : ℕ) (r s : ℕ) → (if b then Fine k else if c then Broken r at else Broken s at) ≡ Fine j → (b ≡ true) × (k ≡ j)
+one-of : (b c : Bool) (k j : Kind) (at : ℕ) (r s : Rule) → (if b then Fine k else if c then Broken r at else Broken s at) ≡ Fine j → (b ≡ true) × (k ≡ j)
 one-of true c k j at r s h = (refl, fine-is k j h)
 one-of false true k j at r s h = absurd (not-fine r at j h)
 one-of false false k j at r s h = absurd (not-fine s at j h)
@@ -66,13 +68,13 @@ list-of-kind n k j at h = fine-is (ListKind n k) j (tested (nat_le n max_list_sc
 
 -- ---- storing
 
-power-is-num : (n : ℕ) → n ≤ 32 → 2 ^ n ≤ 2 ^ 32
+power-is-num : (n : ℕ) → n ≤ max_size → 2 ^ n ≤ 2 ^ max_size
 power-is-num n h = pow_mono h
 
 pub single-is-num : (t : Scalar) (z : ℤ) → IsSize t → IsOf (Single t) (Num z) → HasKind (kind_of_scalar t) (Num z)
 single-is-num scalar.Bool z h k = absurd k
-single-is-num (scalar.Int n) z h k = let e : 2 ^ (n - 1) ≤ 2 ^ 32 = power-is-num (n - 1) (omega arith) in omega (arith, ints)
-single-is-num (scalar.Uint n) z h k = let e : 2 ^ n ≤ 2 ^ 32 = power-is-num n (omega arith) in omega (arith, ints)
+single-is-num (scalar.Int n) z h k = let e : 2 ^ (n - 1) ≤ 2 ^ max_size = power-is-num (n - 1) (omega arith) in omega (arith, ints)
+single-is-num (scalar.Uint n) z h k = let e : 2 ^ n ≤ 2 ^ max_size = power-is-num n (omega arith) in omega (arith, ints)
 
 mutual
   pub of-type : (v : Value) (t : Shape) → IsType t → IsOf t v → HasKind (kind_of_type t) v
@@ -114,7 +116,7 @@ all-one k (l ∷ ls) (Cons v vs) e h =
     let rest = all-one k ls vs parts.1 h.1 in
     (ap suc rest.0, (subst (λ j. HasKind j v) (sym (same-kind k l parts.0)) h.0, rest.1))
 
-list-parts : (a b : Bool) (o : Judged Kind) (at r s : ℕ) (j : Kind) → (if not a then Broken r at else if not b then Broken s at else o) ≡ Fine j → (b ≡ true) × (o ≡ Fine j)
+list-parts : (a b : Bool) (o : Judged Kind) (at : ℕ) (r s : Rule) (j : Kind) → (if not a then Broken r at else if not b then Broken s at else o) ≡ Fine j → (b ≡ true) × (o ≡ Fine j)
 list-parts true true o at r s j h = (refl, h)
 list-parts true false o at r s j h = absurd (not-fine s at j h)
 list-parts false b o at r s j h = absurd (not-fine r at j h)

@@ -2,16 +2,15 @@ mod Rows
 mod StatementRows
 mod ActorRows
 mod KindRows
-mod Stored
-mod Choosing
-mod ActorStates
+pub mod Stored
+pub mod Choosing
+pub mod ActorStates
 mod StateRows
 mod Turns
 mod TurnsTaken
 mod Loops
 mod Needs
 mod Parts
-mod FirstForm
 mod RangeRows
 mod ExcludeRows
 mod PriorityRows
@@ -19,23 +18,28 @@ mod FiringRows
 mod StoringRows
 mod CertifiedRows
 mod EdgeRows
+mod WideRows
 mod TagRows
 mod TagLaws
 mod Agreement
-mod Numbers
-mod KindValues
+pub mod Numbers
+pub mod KindValues
 mod KindOperators
 mod KindTypes
-mod KindNames
+pub mod KindNames
 mod KindKept
 mod KindOrder
 mod KindCalls
-mod KindLaws
+pub mod KindLaws
 mod KeptRows
 mod LoneAction
-mod KeptTypes
+pub mod KeptTypes
 mod KeptByStatements
-mod KeptByFirings
+pub mod KeptByFirings
 mod SoundRows
 mod OneLine
+mod Written
+mod Ranks
+pub mod PrefixSeen
+mod LawfulActors
 mod Procedures

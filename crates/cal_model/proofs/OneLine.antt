@@ -1,14 +1,15 @@
 -- Priorities are determined by the actor: there is one line, and so one choice, one effect and one behaviour.
 use Rattle.std.proofs.Common.{◌≡◌, ℕ, zero, suc, ◌+◌, ◌<◌, ◌≤◌, Bool, true, false, ℤ, List, [], ◌∷◌, ◌++◌, length, get_or, take, refl, sym, ap, subst, ◌∙◌, arith, ⊎_elim}
-use Rattle.std.specs.Prelude.{IsTrue, ◌&&◌, ◌||◌, not, if◌then◌else◌, Contains, None}
+use Rattle.std.specs.Prelude.{IsTrue, ◌&&◌, ◌||◌, not, if◌then◌else◌, Contains, None, Some, is_some}
 use Rattle.std.proofs.Math.Path.{fun_ext}
 use Rattle.std.proofs.lemmas.Bool.{cases_lt}
-use Rattle.std.proofs.lemmas.List.{take_more, take_all}
+use Rattle.std.proofs.lemmas.List.{take_more, take_all, get_or_default}
+use Rattle.std.proofs.lemmas.Option.{slice_get_past}
 use Rattle.rvc_base.specs.Behaviour.{Waits}
 use Rattle.rvc_base.specs.Line.{IsNext, IsLine}
 use Rattle.cal_model.specs.Actor.{Actor}
-use Rattle.cal_model.specs.Eligible.{eligible}
-use Rattle.cal_model.specs.Selection.{State, Priorities, readiness, are_true, outranked, is_exposed, has_its_tokens, choice_among, choice}
+use Rattle.cal_model.specs.Eligible.{leads, eligible}
+use Rattle.cal_model.specs.Selection.{State, Priorities, Above, readiness, are_true, outranked, is_exposed, has_its_tokens, choice_among, choice}
 use Rattle.cal_model.specs.ActorState.{is_actor_state, kept_tokens}
 use Rattle.cal_model.specs.Firing.{effect_of_exposed, effect, behaviour}
 
@@ -53,10 +54,10 @@ true-same true false f g = sym (f refl)
 true-same false true f g = g refl
 true-same false false f g = refl
 
-pub above-same : (actor : Actor) (p q : Priorities actor) (a b : ℕ) → p.above a b ≡ q.above a b
-above-same actor p q a b =
-    let one = p.is_above a b in
-    let other = q.is_above a b in
+pub above-same : (actor : Actor) (p q : Priorities actor) (a b : ℕ) → a < length actor.actions → b < length actor.actions → p.above a b ≡ q.above a b
+above-same actor p q a b i j =
+    let one = p.is_above a b i j in
+    let other = q.is_above a b i j in
     true-same (p.above a b) (q.above a b) (λ h. other.1 (one.0 h)) (λ h. one.1 (other.0 h))
 
 pub one-line : (actor : Actor) (p q : Priorities actor) → p.line ≡ q.line
@@ -65,17 +66,33 @@ one-line actor p q = line-same _ _ p.line q.line p.is_line q.is_line
 pub one-choice : (actor : Actor) (p q : Priorities actor) (x : State) (u : List (List ℤ)) → choice actor p x u ≡ choice actor q x u
 one-choice actor p q x u = ap (choice_among actor x u) (one-line actor p q)
 
-outranked-same : (actor : Actor) (above other : ℕ → ℕ → Bool) (x : State) (u : List (List ℤ)) (a : ℕ) (line : List ℕ) → ((b c : ℕ) → above b c ≡ other b c)
+-- a number of a line is one of those that it lines up
+in-line : (n : ℕ) (A : ℕ → ℕ → Type 0) (line : List ℕ) (b : ℕ) → IsLine n A line → Contains line b → b < n
+in-line n A line b h (k, within, is) = let e : get_or line k 0 < n = (h.next k within).may.in_range in subst (λ c. c < n) (get_or_default line k 0 b within ∙ is) e
+
+in-rest : (b c : ℕ) (xs : List ℕ) → Contains xs b → Contains (c ∷ xs) b
+in-rest b c xs (k, h, e) = (suc k, (let i : suc k < suc (length xs) = omega arith in i), e)
+
+outranked-same : (actor : Actor) (above other : ℕ → ℕ → Bool) (x : State) (u : List (List ℤ)) (a : ℕ) (line : List ℕ) → ((b : ℕ) → Contains line b → above b a ≡ other b a)
     → outranked actor above x u a line ≡ outranked actor other x u a line
 outranked-same actor above other x u a [] h = refl
 outranked-same actor above other x u a (b ∷ line) h =
-    ap (λ over. (over && are_true (readiness actor x u b)) || outranked actor above x u a line) (h b a)
-    ∙ ap (λ rest. (other b a && are_true (readiness actor x u b)) || rest) (outranked-same actor above other x u a line h)
+    ap (λ over. (over && are_true (readiness actor x u b)) || outranked actor above x u a line) (h b (0, (let i : 0 < suc (length line) = omega arith in i), refl))
+    ∙ ap (λ rest. (other b a && are_true (readiness actor x u b)) || rest) (outranked-same actor above other x u a line (λ c m. h c (in-rest c b line m)))
+
+past-eligible : (actor : Actor) (s a : ℕ) → length actor.actions ≤ a → eligible actor s a ≡ false
+past-eligible actor s a h = ap (λ o. is_some (elim o [ None ↦ None | Some act ↦ leads actor s a act ])) (slice_get_past actor.actions a h)
 
 exposed-same : (actor : Actor) (p q : Priorities actor) (x : State) (u : List (List ℤ)) (a : ℕ) → is_exposed actor p x u a ≡ is_exposed actor q x u a
 exposed-same actor p q x u a =
+    ⊎_elim (λ (i : a < length actor.actions).
     ap (λ over. eligible actor x.at a && has_its_tokens actor u a && not over)
-    (outranked-same actor p.above q.above x u a p.line (above-same actor p q) ∙ ap (outranked actor q.above x u a) (one-line actor p q))
+    (outranked-same actor p.above q.above x u a p.line (λ b m. above-same actor p q b a (in-line (length actor.actions) (Above actor) p.line b p.is_line m) i)
+    ∙ ap (outranked actor q.above x u a) (one-line actor p q)))
+    (λ (past : length actor.actions ≤ a).
+    ap (λ e. e && has_its_tokens actor u a && not (outranked actor p.above x u a p.line)) (past-eligible actor x.at a past)
+    ∙ ap (λ e. e && has_its_tokens actor u a && not (outranked actor q.above x u a q.line)) (sym (past-eligible actor x.at a past)))
+    (cases_lt a (length actor.actions))
 
 pub one-effect-each : (actor : Actor) (p q : Priorities actor) (x : State) (u : List (List ℤ)) (a : ℕ) → effect actor p x u a ≡ effect actor q x u a
 one-effect-each actor p q x u a = ap (λ b. if b then effect_of_exposed actor x u a (readiness actor x u a) else None) (exposed-same actor p q x u a)

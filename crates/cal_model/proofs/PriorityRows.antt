@@ -68,7 +68,7 @@ abbrev pub unranked : (actor : Actor) → actor.pairs ≡ [] → Priorities acto
 unranked actor none = record {
   above = λ a b. false;
   line = range_with_len 0 (length actor.actions);
-  is_above = unranked-above actor none;
+  is_above = λ a b i j. unranked-above actor none a b;
   is_line = unranked-line actor none;
 }
 
@@ -129,6 +129,6 @@ abbrev pub ranked : (actor : Actor) (p q : ℕ) → actor.pairs ≡ (p, q) ∷ [
 ranked actor p q one less = record {
   above = λ a b. a == p && b == q;
   line = range_with_len 0 (length actor.actions);
-  is_above = ranked-above actor p q one less;
+  is_above = λ a b i j. ranked-above actor p q one less a b;
   is_line = ranked-line actor p q one less;
 }

@@ -102,7 +102,7 @@ abbrev any_name : List ℕ → Type 0
 any_name name = Unit {0}
 
 -- what holds of each procedure holds of the one that is named, which has the name
-named-proc : (F : Proc → Type 0) (name : List ℕ) (ps : List Proc) (p : Proc) → Each F ps → proc_named name ps ≡ Some p → F p × (p.name ≡ name)
+pub named-proc : (F : Proc → Type 0) (name : List ℕ) (ps : List Proc) (p : Proc) → Each F ps → proc_named name ps ≡ Some p → F p × (p.name ≡ name)
 named-proc F name [] p h e = let no : None ≡ Some p = e in absurd (grind arith)
 named-proc F name (q ∷ qs) p h e = go (bytes_eq q.name name) refl e (named-proc F name qs p h.1)
   where

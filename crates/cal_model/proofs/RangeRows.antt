@@ -51,7 +51,7 @@ shifts_up : range (two Shl (n_ 1) (n_ 1)) names_ ≡ None
 shifts_up = refl
 
 -- an end outside the numbers
-too_great : range (two Add v_ (n_ 9223372036854775800)) names_ ≡ None
+too_great : range (two Add v_ (n_ 170141183460469231731687303715884105700)) names_ ≡ None
 too_great = refl
 
 parts_between_and : conjuncts (two And (two And (two Lt v_ (n_ 1)) (two Lt v_ (n_ 2))) (two Lt v_ (n_ 3))) ≡ two Lt v_ (n_ 1) ∷ two Lt v_ (n_ 2) ∷ two Lt v_ (n_ 3) ∷ []

@@ -49,14 +49,34 @@ shifts_down = refl
 stores_wrapped : stored (Single (scalar.Int 8)) (Num (pos 200)) ≡ Num (negsuc 55)
 stores_wrapped = refl
 
-greatest_power : plain (two Shl (n_ 1) (n_ 62)) 9 ≡ Gives (Num (pos 4611686018427387904)) 9
+-- what fits 64 bits, and what fits a number of the language
+power_of_62 : plain (two Shl (n_ 1) (n_ 62)) 9 ≡ Gives (Num (pos 4611686018427387904)) 9
+power_of_62 = refl
+
+power_of_63 : plain (two Shl (n_ 1) (n_ 63)) 9 ≡ Gives (Num (pos 9223372036854775808)) 9
+power_of_63 = refl
+
+power_of_64 : plain (two Shl (n_ 1) (n_ 64)) 9 ≡ Gives (Num (pos 18446744073709551616)) 9
+power_of_64 = refl
+
+greatest_power : plain (two Shl (n_ 1) (n_ 126)) 9 ≡ Gives (Num (pos 85070591730234615865843651857942052864)) 9
 greatest_power = refl
 
-too_great_a_power : plain (two Shl (n_ 1) (n_ 63)) 9 ≡ Traps Overflow
+too_great_a_power : plain (two Shl (n_ 1) (n_ 127)) 9 ≡ Traps Overflow
 too_great_a_power = refl
 
-too_far : plain (two Shl (n_ 1) (n_ 64)) 9 ≡ Traps ShiftRange
+too_far : plain (two Shl (n_ 1) (n_ 128)) 9 ≡ Traps ShiftRange
 too_far = refl
+
+-- 2 ^ 63 * 2 ^ 63 and 2 ^ 63 * 2 ^ 64, with either sign
+great_product : plain (two Mul (n_ 9223372036854775808) (n_ 9223372036854775808)) 9 ≡ Gives (Num (pos 85070591730234615865843651857942052864)) 9
+great_product = refl
+
+too_great_a_product : plain (two Mul (n_ 9223372036854775808) (n_ 18446744073709551616)) 9 ≡ Traps Overflow
+too_great_a_product = refl
+
+least_product : plain (two Mul (minus (n_ 9223372036854775808)) (n_ 18446744073709551616)) 9 ≡ Gives (Num (negsuc 170141183460469231731687303715884105727)) 9
+least_product = refl
 
 -- the right side would trap
 and_ends_early : plain (two And f_ (two Eq (two Div (n_ 1) (n_ 0)) (n_ 1))) 9 ≡ Gives (Truth false) 9

@@ -80,7 +80,7 @@ value_before_the_test : does (set_y (n_ 5) (n_ 0) (two Div (n_ 1) (n_ 0))) (at_ 
 value_before_the_test = refl
 
 -- .. and after they are evaluated
-indices_before_the_value : does (set_y (n_ 5) (two Add (n_ 9223372036854775807) (n_ 1)) (two Div (n_ 1) (n_ 0))) (at_ (pos 0) zeros) 9 ≡ Traps Overflow
+indices_before_the_value : does (set_y (n_ 5) (two Add (n_ 170141183460469231731687303715884105727) (n_ 1)) (two Div (n_ 1) (n_ 0))) (at_ (pos 0) zeros) 9 ≡ Traps Overflow
 indices_before_the_value = refl
 
 outside : does (set_y (n_ 1) (n_ 2) (n_ 7)) (at_ (pos 0) zeros) 9 ≡ Traps IndexRange

@@ -105,16 +105,64 @@ below_uint_32 = refl
 above_uint_32 : kept_in (scalar.Uint 32) (pos 4294967296) ≡ Num (pos 0)
 above_uint_32 = refl
 
+-- ---- int ( size = 33 ) and uint ( size = 33 )
+
+least_of_int_33 : kept_in (scalar.Int 33) (negsuc 4294967295) ≡ Num (negsuc 4294967295)
+least_of_int_33 = refl
+
+above_int_33 : kept_in (scalar.Int 33) (pos 4294967296) ≡ Num (negsuc 4294967295)
+above_int_33 = refl
+
+above_uint_33 : kept_in (scalar.Uint 33) (pos 8589934592) ≡ Num (pos 0)
+above_uint_33 = refl
+
+-- ---- int ( size = 63 ) and uint ( size = 63 )
+
+greatest_of_int_63 : kept_in (scalar.Int 63) (pos 4611686018427387903) ≡ Num (pos 4611686018427387903)
+greatest_of_int_63 = refl
+
+above_int_63 : kept_in (scalar.Int 63) (pos 4611686018427387904) ≡ Num (negsuc 4611686018427387903)
+above_int_63 = refl
+
+below_uint_63 : kept_in (scalar.Uint 63) (negsuc 0) ≡ Num (pos 9223372036854775807)
+below_uint_63 = refl
+
+-- ---- int ( size = 64 ) and uint ( size = 64 )
+
+least_of_int_64 : kept_in (scalar.Int 64) (negsuc 9223372036854775807) ≡ Num (negsuc 9223372036854775807)
+least_of_int_64 = refl
+
+below_int_64 : kept_in (scalar.Int 64) (negsuc 9223372036854775808) ≡ Num (pos 9223372036854775807)
+below_int_64 = refl
+
+above_int_64 : kept_in (scalar.Int 64) (pos 9223372036854775808) ≡ Num (negsuc 9223372036854775807)
+above_int_64 = refl
+
+greatest_of_uint_64 : kept_in (scalar.Uint 64) (pos 18446744073709551615) ≡ Num (pos 18446744073709551615)
+greatest_of_uint_64 = refl
+
+below_uint_64 : kept_in (scalar.Uint 64) (negsuc 0) ≡ Num (pos 18446744073709551615)
+below_uint_64 = refl
+
+above_uint_64 : kept_in (scalar.Uint 64) (pos 18446744073709551616) ≡ Num (pos 0)
+above_uint_64 = refl
+
 -- ---- the ends of all numbers
 
-least_number_in_a_byte : kept_in (scalar.Uint 8) (negsuc 9223372036854775807) ≡ Num (pos 0)
+least_number_in_a_byte : kept_in (scalar.Uint 8) (negsuc 170141183460469231731687303715884105727) ≡ Num (pos 0)
 least_number_in_a_byte = refl
 
-greatest_number_in_a_byte : kept_in (scalar.Uint 8) (pos 9223372036854775807) ≡ Num (pos 255)
+greatest_number_in_a_byte : kept_in (scalar.Uint 8) (pos 170141183460469231731687303715884105727) ≡ Num (pos 255)
 greatest_number_in_a_byte = refl
 
-greatest_number_in_int_32 : kept_in (scalar.Int 32) (pos 9223372036854775807) ≡ Num (negsuc 0)
+greatest_number_in_int_32 : kept_in (scalar.Int 32) (pos 170141183460469231731687303715884105727) ≡ Num (negsuc 0)
 greatest_number_in_int_32 = refl
+
+least_number_in_int_64 : kept_in (scalar.Int 64) (negsuc 170141183460469231731687303715884105727) ≡ Num (pos 0)
+least_number_in_int_64 = refl
+
+greatest_number_in_uint_64 : kept_in (scalar.Uint 64) (pos 170141183460469231731687303715884105727) ≡ Num (pos 18446744073709551615)
+greatest_number_in_uint_64 = refl
 
 -- ---- bool: 0 is false, and each other number is true
 

@@ -2,7 +2,7 @@
 use Rattle.std.proofs.Common.{ℕ, zero, suc, ◌≤◌, ℤ, pos, negsuc, ◌+ℤ◌, Bool, true, false, List, [], ◌∷◌, length, arith, Option, None, Some}
 use Rattle.std.specs.Prelude.{if◌then◌else◌}
 use Rattle.std.specs.Str.{bytes_eq}
-use Rattle.rvc_base.specs.Arithmetic.{Computed, sum, difference, product, opposite, quotient, rest, left_shift, right_shift, whole}
+use Rattle.rvc_base.specs.Arithmetic.{Computed, add, sub, mul, neg, div, rem, shl, shr, whole}
 use Rattle.rvc_base.specs.Arithmetic as arithmetic
 use Rattle.rvc_base.specs.declared.trap.Trap.TheVariants.{IndexRange}
 use Rattle.rvc_base.specs.Turns.{max_turns}
@@ -78,18 +78,18 @@ computed-takes (arithmetic.Traps c) left = tt
 
 prefixed-takes : (op : PrefixOp) (v : Value) (left : ℕ) → LeavesNoMore left (prefixed op v left)
 prefixed-takes Not (Truth b) left = as-many left
-prefixed-takes Neg (Num a) left = computed-takes (opposite a) left
+prefixed-takes Neg (Num a) left = computed-takes (neg a) left
 prefixed-takes BitNot (Num a) left = as-many left
 prefixed-takes op v left = tt
 
 of-numbers-takes : (op : BinOp) (a b : ℤ) (left : ℕ) → LeavesNoMore left (of_numbers op a b left)
-of-numbers-takes Add a b left = computed-takes (sum a b) left
-of-numbers-takes Sub a b left = computed-takes (difference a b) left
-of-numbers-takes Mul a b left = computed-takes (product a b) left
-of-numbers-takes Div a b left = computed-takes (quotient a b) left
-of-numbers-takes Mod a b left = computed-takes (rest a b) left
-of-numbers-takes Shl a b left = computed-takes (left_shift a b) left
-of-numbers-takes Shr a b left = computed-takes (right_shift a b) left
+of-numbers-takes Add a b left = computed-takes (add a b) left
+of-numbers-takes Sub a b left = computed-takes (sub a b) left
+of-numbers-takes Mul a b left = computed-takes (mul a b) left
+of-numbers-takes Div a b left = computed-takes (div a b) left
+of-numbers-takes Mod a b left = computed-takes (rem a b) left
+of-numbers-takes Shl a b left = computed-takes (shl a b) left
+of-numbers-takes Shr a b left = computed-takes (shr a b) left
 of-numbers-takes BitAnd a b left = as-many left
 of-numbers-takes BitOr a b left = as-many left
 of-numbers-takes BitXor a b left = as-many left

@@ -94,13 +94,15 @@ abbrev pub shape_of_tokens : Scalar → Option ℕ → Shape
 shape_of_tokens t None = Single t
 shape_of_tokens t (Some n) = Many n (Single t)
 
+-- the names of a pattern, the later ones in front
 abbrev pub ranged_names : Shape → List (List ℕ) → List Ranged
 ranged_names t [] = []
-ranged_names t (name ∷ names) = record { name = name; shape = t; value = None } ∷ ranged_names t names
+ranged_names t (name ∷ names) = ranged_names t names ++ record { name = name; shape = t; value = None } ∷ []
 
+-- the pattern variables of an action, those of later patterns in front
 abbrev pub ranged_patterns : Actor → List Pattern → List Ranged
 ranged_patterns actor [] = []
-ranged_patterns actor (q ∷ qs) = ranged_names (shape_of_tokens (kind_of_port actor.ins q.port) q.repeat) q.names ++ ranged_patterns actor qs
+ranged_patterns actor (q ∷ qs) = ranged_patterns actor qs ++ ranged_names (shape_of_tokens (kind_of_port actor.ins q.port) q.repeat) q.names
 
 -- the names that the guards of an action see
 abbrev pub guard_names : Actor → Action → List Ranged
@@ -199,32 +201,41 @@ abbrev pub places_from : ℕ → ℕ → ℕ → List ℕ
 places_from zero k far = []
 places_from (suc n) k far = k ∷ places_from n (k + far) far
 
--- A text that is no name, for the token of a port at a place, or for the list of those at the places that a repeated
--- name holds. It begins with 0, and then tells a token and a list apart.
-abbrev pub seat : ℕ → Option ℕ → ℕ → ℕ → List ℕ
-seat port None names k = 0 ∷ 0 ∷ port ∷ k ∷ []
-seat port (Some n) names k = 0 ∷ 1 ∷ port ∷ places_from n k names
+-- A text for the token of a port at a place, or for the list of those at the places that a repeated name holds. It
+-- tells a token and a list apart.
+abbrev pub token_key : ℕ → Option ℕ → ℕ → ℕ → List ℕ
+token_key port None names k = 0 ∷ port ∷ k ∷ []
+token_key port (Some n) names k = 1 ∷ port ∷ places_from n k names
 
-abbrev pub seat_among : List ℕ → Pattern → ℕ → List (List ℕ) → Option (List ℕ)
-seat_among name q k [] = None
-seat_among name q k (other ∷ names) = if bytes_eq other name then Some (seat q.port q.repeat (length q.names) k) else seat_among name q (suc k) names
+-- the tokens of a name among those of a pattern from place k on, of which a later one hides an earlier one
+abbrev pub key_among : List ℕ → Pattern → ℕ → List (List ℕ) → Option (List ℕ)
+key_among name q k [] = None
+key_among name q k (other ∷ names) = elim (key_among name q (suc k) names) [
+  | Some key ↦ Some key
+  | None ↦ if bytes_eq other name then Some (token_key q.port q.repeat (length q.names) k) else None
+]
 
--- the tokens that a name stands for, or the name itself
-abbrev pub seat_of : List ℕ → List Pattern → List ℕ
-seat_of name [] = name
-seat_of name (q ∷ qs) = elim (seat_among name q 0 q.names) [ None ↦ seat_of name qs | Some tokens ↦ tokens ]
+-- .. and among those of patterns, as evaluation finds them
+abbrev pub key_in : List ℕ → List Pattern → Option (List ℕ)
+key_in name [] = None
+key_in name (q ∷ qs) = elim (key_in name qs) [ Some key ↦ Some key | None ↦ key_among name q 0 q.names ]
+
+-- A name as what it stands for: a pattern variable is its tokens. These stand as an identifier, which no expression is,
+-- so that no variable can be taken for them.
+abbrev pub keyed_name : List ℕ → ℕ → List Pattern → Tree
+keyed_name name at qs = elim (key_in name qs) [ Some key ↦ tree.ident key at | None ↦ tree.variable name at ]
 
 -- a conjunct with the tokens in place of the pattern variables
-abbrev pub seated : Tree → List Pattern → Tree
-seated (tree.variable name at) qs = tree.variable (seat_of name qs) at
-seated (tree.paren e at) qs = tree.paren (seated e qs) at
-seated (tree.if_expr test first other at) qs = tree.if_expr (seated test qs) (seated first qs) (seated other qs) at
-seated (tree.list items at) qs = tree.list (seated items qs) at
-seated (tree.cons e es) qs = tree.cons (seated e qs) (seated es qs)
-seated (tree.index base place at) qs = tree.index (seated base qs) (seated place qs) at
-seated (tree.prefix op e at) qs = tree.prefix op (seated e qs) at
-seated (tree.binary op l r at) qs = tree.binary op (seated l qs) (seated r qs) at
-seated other qs = other
+abbrev pub keyed : Tree → List Pattern → Tree
+keyed (tree.variable name at) qs = keyed_name name at qs
+keyed (tree.paren e at) qs = tree.paren (keyed e qs) at
+keyed (tree.if_expr test first other at) qs = tree.if_expr (keyed test qs) (keyed first qs) (keyed other qs) at
+keyed (tree.list items at) qs = tree.list (keyed items qs) at
+keyed (tree.cons e es) qs = tree.cons (keyed e qs) (keyed es qs)
+keyed (tree.index base place at) qs = tree.index (keyed base qs) (keyed place qs) at
+keyed (tree.prefix op e at) qs = tree.prefix op (keyed e qs) at
+keyed (tree.binary op l r at) qs = tree.binary op (keyed l qs) (keyed r qs) at
+keyed other qs = other
 
 -- ---- conjuncts that exclude each other
 
@@ -292,7 +303,7 @@ AnyOf P (x ∷ xs) = P x ⊎ AnyOf P xs
 -- a conjunct of the one's guards and one of the other's exclude each other
 abbrev pub GuardsExclude : Action → Action → Type 0
 GuardsExclude one two =
-    AnyOf (λ c. AnyOf (λ d. Exclude (seated c one.patterns) (seated d two.patterns)) (all_conjuncts two.guards)) (all_conjuncts one.guards)
+    AnyOf (λ c. AnyOf (λ d. Exclude (keyed c one.patterns) (keyed d two.patterns)) (all_conjuncts two.guards)) (all_conjuncts one.guards)
 
 -- ---- the rule
 

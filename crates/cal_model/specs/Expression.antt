@@ -4,7 +4,7 @@
 use Rattle.std.specs.Prelude.{ℕ, zero, suc, Bool, true, false, not, ◌&&◌, ◌||◌, nat_le, List, codes, ℤ, pos, ◌+ℤ◌, ◌-ℤ◌, int_lt, unsigned_abs, if◌then◌else◌, Option, None, Some}
 use Rattle.std.specs.Str.{bytes_eq}
 use Rattle.rvc_base.specs.declared.scalar.Scalar.TheVariants as scalar
-use Rattle.rvc_base.specs.Arithmetic.{Computed, whole, sum, difference, product, opposite, quotient, rest, left_shift, right_shift, bits_of_both, bits_of_either, bits_of_one, other_bits, is_equal, is_below}
+use Rattle.rvc_base.specs.Arithmetic.{Computed, whole, add, sub, mul, neg, div, rem, shl, shr, bit_and, bit_or, bit_xor, bit_not, is_equal, is_below}
 use Rattle.rvc_base.specs.Arithmetic as arithmetic
 use Rattle.rvc_base.specs.Turns.{max_turns}
 use Rattle.rvc_base.specs.Width.{default_size, max_size}
@@ -30,21 +30,21 @@ computed (arithmetic.Traps c) left = Traps c
 
 abbrev pub prefixed : PrefixOp → Value → ℕ → Out Value
 prefixed Not (Truth b) left = Gives (Truth (not b)) left
-prefixed Neg (Num a) left = computed (opposite a) left
-prefixed BitNot (Num a) left = Gives (Num (other_bits a)) left
+prefixed Neg (Num a) left = computed (neg a) left
+prefixed BitNot (Num a) left = Gives (Num (bit_not a)) left
 prefixed op v left = Clashes
 
 abbrev pub of_numbers : BinOp → ℤ → ℤ → ℕ → Out Value
-of_numbers Add a b left = computed (sum a b) left
-of_numbers Sub a b left = computed (difference a b) left
-of_numbers Mul a b left = computed (product a b) left
-of_numbers Div a b left = computed (quotient a b) left
-of_numbers Mod a b left = computed (rest a b) left
-of_numbers Shl a b left = computed (left_shift a b) left
-of_numbers Shr a b left = computed (right_shift a b) left
-of_numbers BitAnd a b left = Gives (Num (bits_of_both a b)) left
-of_numbers BitOr a b left = Gives (Num (bits_of_either a b)) left
-of_numbers BitXor a b left = Gives (Num (bits_of_one a b)) left
+of_numbers Add a b left = computed (add a b) left
+of_numbers Sub a b left = computed (sub a b) left
+of_numbers Mul a b left = computed (mul a b) left
+of_numbers Div a b left = computed (div a b) left
+of_numbers Mod a b left = computed (rem a b) left
+of_numbers Shl a b left = computed (shl a b) left
+of_numbers Shr a b left = computed (shr a b) left
+of_numbers BitAnd a b left = Gives (Num (bit_and a b)) left
+of_numbers BitOr a b left = Gives (Num (bit_or a b)) left
+of_numbers BitXor a b left = Gives (Num (bit_xor a b)) left
 of_numbers Eq a b left = Gives (Truth (is_equal a b)) left
 of_numbers Ne a b left = Gives (Truth (not (is_equal a b))) left
 of_numbers Lt a b left = Gives (Truth (is_below a b)) left

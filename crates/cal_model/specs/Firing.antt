@@ -123,6 +123,7 @@ behaviour actor p = record {
   start = start_of actor;
   ins = length actor.ins;
   outs = length actor.outs;
+  actions = length actor.actions;
   need = need actor;
   give = give actor;
   effect = λ x u a. if is_actor_state actor x then effect actor p x (kept_tokens actor u) a else None;

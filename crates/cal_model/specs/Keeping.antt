@@ -29,6 +29,13 @@ LacksNothing (Traps c) = Unit {0}
 LacksNothing Lacks = ⊥
 LacksNothing Clashes = Unit {0}
 
+-- what it gives is such, or it traps
+abbrev pub GivesOrTraps : {A : Type 0} → (A → Type 0) → Out A → Type 0
+GivesOrTraps P (Gives a m) = P a
+GivesOrTraps P (Traps c) = Unit {0}
+GivesOrTraps P Lacks = ⊥
+GivesOrTraps P Clashes = ⊥
+
 -- it leaves no more turns than these
 abbrev pub LeavesNoMore : {A : Type 0} → ℕ → Out A → Type 0
 LeavesNoMore left (Gives a m) = m ≤ left

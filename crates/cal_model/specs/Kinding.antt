@@ -7,7 +7,9 @@ use Rattle.std.specs.Prelude.{ℕ, zero, suc, ◌*◌, Bool, true, false, not, �
 use Rattle.std.specs.Str.{bytes_eq}
 use Rattle.rvc_base.specs.declared.scalar.Scalar.{Scalar}
 use Rattle.rvc_base.specs.declared.scalar.Scalar.TheVariants as scalar
+use Rattle.rvc_base.specs.Rules.{unknown_name, wrong_kind, wrong_type_argument, unsupported_type, wrong_length, wrong_number_of_arguments, constant_traps, not_constant, list_too_long}
 use Rattle.rvc_base.specs.Turns.{max_turns}
+use Rattle.rvc_base.specs.declared.refusal.Rule.{Rule}
 use Rattle.rvc_base.specs.Width.{default_size, max_size}
 use Rattle.cal_ast.specs.declared.expr.PrefixOp.{PrefixOp}
 use Rattle.cal_ast.specs.declared.expr.PrefixOp.TheVariants.{Not, Neg, BitNot}
@@ -28,39 +30,11 @@ use Rattle.cal_model.specs.Call.{calls_of, fun_named}
 -- what is found, or the first rule that is broken, with its place
 pub data Judged (A : Type 0) : Type 0 where
   Fine : A → Judged A
-  Broken : (rule at : ℕ) → Judged A
+  Broken : (rule : Rule) (at : ℕ) → Judged A
 
 abbrev pub and_so : {A B : Type 0} → Judged A → (A → Judged B) → Judged B
 and_so (Fine a) f = f a
 and_so (Broken rule at) f = Broken rule at
-
--- the numbers of the rules
-abbrev pub unknown_name : ℕ
-unknown_name = 301
-
-abbrev pub wrong_kind : ℕ
-wrong_kind = 401
-
-abbrev pub wrong_type_argument : ℕ
-wrong_type_argument = 402
-
-abbrev pub unsupported_type : ℕ
-unsupported_type = 403
-
-abbrev pub wrong_length : ℕ
-wrong_length = 405
-
-abbrev pub wrong_number_of_arguments : ℕ
-wrong_number_of_arguments = 406
-
-abbrev pub constant_traps : ℕ
-constant_traps = 407
-
-abbrev pub not_constant : ℕ
-not_constant = 409
-
-abbrev pub list_too_long : ℕ
-list_too_long = 604
 
 -- ---- names
 

@@ -1,35 +1,29 @@
 -- What holds of all values, expressions and actors, as statements.
-use Rattle.std.specs.Prelude.{◌≡◌, ℕ, ◌+◌, ◌<◌, ◌↔◌, ◌⊎◌, Contains, slice_get, true, false, List, [], ◌∷◌, length, ℤ, pos, ◌+ℤ◌, int_lt, if◌then◌else◌, None, Some}
+use Rattle.std.specs.Prelude.{◌≡◌, ℕ, ◌+◌, ◌<◌, ◌↔◌, ◌⊎◌, Contains, slice_get, true, false, List, [], length, ℤ, pos, ◌+ℤ◌, int_lt, if◌then◌else◌, None, Some}
 use Rattle.rvc_base.specs.declared.trap.Trap.{Trap}
 use Rattle.rvc_base.specs.declared.trap.Trap.TheVariants.{TurnLimit}
+use Rattle.rvc_base.specs.Lawful.{IsLawful}
 use Rattle.rvc_base.specs.Turns.{max_turns}
+use Rattle.rvc_base.specs.Width.{IsNum}
 use Rattle.rvc_base.specs.Behaviour.{Fires, TrapsInGuard, TrapsInBody, Waits, Picks, Faults}
-use Rattle.cal_ast.specs.declared.expr.BinOp.{BinOp}
-use Rattle.cal_ast.specs.declared.expr.BinOp.TheVariants.{Add, Sub, Mul}
 use Rattle.cal_ast.specs.Tree as tree
 use Rattle.cal_ast.specs.Tree.{Tree}
-use Rattle.cal_model.specs.declared.ast.Operand.{Operand}
-use Rattle.cal_model.specs.declared.ast.Operand.TheVariants.{Token, Number}
-use Rattle.cal_model.specs.declared.ast.Operator.{Operator}
-use Rattle.cal_model.specs.declared.ast.Operator.TheVariants as operator
-use Rattle.cal_model.specs.declared.ast.Binary.{Binary}
-use Rattle.cal_model.specs.Eval as form
-use Rattle.cal_model.specs.Meaning.{IsFirstForm}
-use Rattle.cal_model.specs.Value.{Kind, Shape, Value, Num, Values, HasKind, IsOf, IsType, kind_of_scalar, kind_of_type, stored, zero_of}
+use Rattle.cal_model.specs.Value.{Kind, BoolKind, Shape, Value, Num, Values, HasKind, IsOf, IsType, kind_of_scalar, kind_of_type, stored, zero_of}
 use Rattle.cal_model.specs.Outcome.{Out, Gives, Traps, and_then, turn}
 use Rattle.cal_model.specs.Expression.{Calls, eval, eval_all, elements, chosen, span, type_meant, args_given}
 use Rattle.cal_model.specs.Env.{Var, Env, variable, with_local}
 use Rattle.cal_model.specs.Statement.{Runs, for_loop, exec, exec_all, runs_of, proc_named}
-use Rattle.cal_model.specs.Actor.{Local, Fun, Proc, Move, Actor}
+use Rattle.cal_model.specs.Actor.{Local, Fun, Proc, Action, Move, Actor}
 use Rattle.cal_model.specs.Call.{calls_of, fun_named, on_call, declared}
 use Rattle.cal_model.specs.Kinding.{Fine, Known, Names, Argument, counter, constants, constant, with_known, counts, with_counters, kind, kinds, arguments_fit, elements_in, type_judged, type_arguments}
-use Rattle.cal_model.specs.Sound.{Each, FunsNeverReturn, with_locals, names_of, IsSound, ProcsNeverReturn}
-use Rattle.cal_model.specs.Keeping.{GivesOnly, LacksNothing, CallsTakeTurns, RunsTakeTurns, AreOfKinds, AreMany, AreArguments, given_by, StandFor, IsEnvOf, HasAllOf, outside, StartsAreOf, IsOfItsKinds, answer, made}
+use Rattle.cal_model.specs.Sound.{Each, IsWrittenOut, FunsNeverReturn, with_locals, names_of, IsSound, ProcsNeverReturn}
+use Rattle.cal_model.specs.Keeping.{GivesOnly, GivesOrTraps, LacksNothing, CallsTakeTurns, RunsTakeTurns, AreOfKinds, AreMany, AreArguments, given_by, StandFor, IsEnvOf, HasAllOf, outside, StartsAreOf, IsOfItsKinds, answer, made}
 use Rattle.cal_model.specs.Tags.{stands_for, IsMeant, Transition, moves_of, IsMoveOf, pairs_of, IsPairOf}
+use Rattle.cal_model.specs.Eligible.{eligible}
 use Rattle.cal_model.specs.Rates.{need}
-use Rattle.cal_model.specs.Selection.{State, start_of, Priorities, tokens_on, AreFalse, AreTrapping, readiness, IsEnabled, IsExposed, choice}
+use Rattle.cal_model.specs.Selection.{State, start_of, Priorities, tokens_on, seen_by, AreFalse, AreTrapping, readiness, IsEnabled, IsExposed, choice}
 use Rattle.cal_model.specs.ActorState.{IsActorState, is_actor_state, AreTokensOf, kept_tokens}
-use Rattle.cal_model.specs.Firing.{IsFiring, IsTrapping, effect, behaviour}
+use Rattle.cal_model.specs.Firing.{IsFiring, IsTrapping, body, effect, behaviour}
 
 -- a value of a type's kind, once stored, is in the type
 abbrev pub StoredIsOfType : Type 0
@@ -38,6 +32,16 @@ StoredIsOfType = (t : Shape) (v : Value) → IsType t → HasKind (kind_of_type 
 -- storing it again changes nothing
 abbrev pub StoringStays : Type 0
 StoringStays = (t : Shape) (v : Value) → IsType t → IsOf t v → stored t v ≡ v
+
+-- a tree of numbers and `-` alone whose value is this number, wherever it is evaluated
+pub record IsWrittenAs (z : ℤ) : Type 0 where
+  pub written : Tree
+  pub plain : IsWrittenOut written
+  pub value : (calls : Calls) (env : Env) (left : ℕ) → eval written calls env left ≡ Gives (Num z) left
+
+-- each number of the language can be written so
+abbrev pub NumbersAreWritten : Type 0
+NumbersAreWritten = (z : ℤ) → IsNum z → IsWrittenAs z
 
 -- what a variable without value holds is in its type
 abbrev pub ZeroIsOfType : Type 0
@@ -100,9 +104,14 @@ abbrev pub BehaviourIsIdle : Type 0
 BehaviourIsIdle = (actor : Actor) (p : Priorities actor) (x : State) (u : List (List ℤ)) → ¬ IsActorState actor x
     → ((a : ℕ) → (behaviour actor p).effect x u a ≡ None) × ((behaviour actor p).choice x u ≡ Waits)
 
--- which action is above which is determined by the actor, ..
+-- a sound actor has priorities, ..
+abbrev pub SoundHavePriorities : Type 0
+SoundHavePriorities = (actor : Actor) → IsSound actor → Priorities actor
+
+-- .. which action is above which is determined by the actor, ..
 abbrev pub AboveIsOne : Type 0
-AboveIsOne = (actor : Actor) (p q : Priorities actor) (a b : ℕ) → p.above a b ≡ q.above a b
+AboveIsOne = (actor : Actor) (p q : Priorities actor) (a b : ℕ) → a < length actor.actions → b < length actor.actions
+    → p.above a b ≡ q.above a b
 
 -- .. and so are the line of the actions, ..
 abbrev pub LineIsOne : Type 0
@@ -153,6 +162,28 @@ FiringsKeepStates = (actor : Actor) (x y : State) (u sent : List (List ℤ)) (a 
 abbrev pub BehaviourKeepsStates : Type 0
 BehaviourKeepsStates = (actor : Actor) (p : Priorities actor) (x y : State) (u sent : List (List ℤ)) (a : ℕ)
     → IsSound actor → (behaviour actor p).effect x u a ≡ Some (Fires y sent) → IsActorState actor y
+
+-- In a sound actor's state and over tokens of its ports, each guard of an action is a truth value or traps, ..
+abbrev pub GuardsAreTruths : Type 0
+GuardsAreTruths = (actor : Actor) (x : State) (u : List (List ℤ)) (a k left : ℕ) (act : Action) (g : Tree)
+    → IsSound actor → IsActorState actor x → AreTokensOf actor u → slice_get actor.actions a ≡ Some act → slice_get act.guards k ≡ Some g
+    → GivesOrTraps (HasKind BoolKind) (eval g (calls_of actor.funs) (seen_by actor x u act) left)
+
+-- .. the body of an action that is eligible leaves one of the actor's states or traps, ..
+abbrev pub BodiesGiveOrTrap : Type 0
+BodiesGiveOrTrap = (actor : Actor) (x : State) (u : List (List ℤ)) (a : ℕ)
+    → IsSound actor → IsActorState actor x → AreTokensOf actor u → eligible actor x.at a ≡ true
+    → GivesOrTraps (λ f. IsActorState actor f.state) (body actor x u a)
+
+-- .. and so an action that is exposed and enabled fires or traps
+abbrev pub EnabledFiresOrTraps : Type 0
+EnabledFiresOrTraps = (actor : Actor) (x : State) (u : List (List ℤ)) (a : ℕ)
+    → IsSound actor → IsActorState actor x → AreTokensOf actor u → IsExposed actor x u a → IsEnabled actor x u a
+    → ((y : State) × (sent : List (List ℤ)) × IsFiring actor x u a y (need actor a) sent) ⊎ ((c : Trap) × IsTrapping actor x u a c)
+
+-- the behaviour of a sound actor is lawful, whatever the states and the tokens
+abbrev pub BehaviourIsLawful : Type 0
+BehaviourIsLawful = (actor : Actor) (p : Priorities actor) → IsSound actor → IsLawful (behaviour actor p)
 
 -- tokens as they are stored are tokens of the ports ..
 abbrev pub KeptAreTokens : Type 0
@@ -296,32 +327,3 @@ abbrev pub LocalsAreKept : Type 0
 LocalsAreKept = (names : Names) (env : Env) (locals : List Local) (left : ℕ)
     → Each (IsOfItsKinds names) names.funs → IsEnvOf names env → StartsAreOf locals names
     → GivesOnly (IsEnvOf (with_locals locals names)) left (declared locals (calls_of names.funs) env left)
-
--- ---- the first form
-
--- an expression of the first form as it is written, where the action's token has this name
-abbrev pub tree_of_operand : List ℕ → Operand → Tree
-tree_of_operand name Token = tree.variable name 0
-tree_of_operand name (Number n) = tree.number n 0
-
-abbrev pub operator_of : Operator → BinOp
-operator_of operator.Add = Add
-operator_of operator.Sub = Sub
-operator_of operator.Mul = Mul
-
-abbrev pub tree_of : List ℕ → Binary → Tree
-tree_of name b = tree.binary (operator_of b.op) (tree_of_operand name b.left) (tree_of_operand name b.right) 0
-
--- its value or its trap, with so many turns left
-abbrev pub as_outcome : form.Out → ℕ → Out Value
-as_outcome (form.Gives z) left = Gives (Num z) left
-as_outcome (form.Traps c) left = Traps c
-
--- the action's token as a name
-abbrev pub token_named : List ℕ → ℤ → Env
-token_named name v = record { globals = []; locals = record { name = name; value = Num v; kept = None } ∷ [] }
-
--- the value of an expression of the first form is what the whole language says
-abbrev pub FirstFormIsCase : Type 0
-FirstFormIsCase = (calls : Calls) (name : List ℕ) (v : ℤ) (b : Binary) (left : ℕ)
-    → IsFirstForm b → eval (tree_of name b) calls (token_named name v) left ≡ as_outcome (form.eval v b) left

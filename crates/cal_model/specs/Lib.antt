@@ -1,6 +1,3 @@
-pub mod Form
-pub mod Eval
-pub mod Meaning
 pub mod Value
 pub mod Outcome
 pub mod Env

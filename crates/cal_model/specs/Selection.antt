@@ -1,5 +1,5 @@
 -- Selection: which action is to fire (CAL Language Report, guards, priorities and the choice of an action).
-use Rattle.std.specs.Prelude.{◌≡◌, ℕ, zero, suc, ◌+◌, Bool, true, false, not, ◌&&◌, ◌||◌, ◌↔◌, IsTrue, List, [], ◌∷◌, ◌++◌, map, length, nat_le, ℤ, pos, if◌then◌else◌, Option, None, Some, slice_get, slice_index_or}
+use Rattle.std.specs.Prelude.{◌≡◌, ℕ, zero, suc, ◌+◌, ◌<◌, Bool, true, false, not, ◌&&◌, ◌||◌, ◌↔◌, IsTrue, List, [], ◌∷◌, ◌++◌, map, length, nat_le, ℤ, pos, if◌then◌else◌, Option, None, Some, slice_get, slice_index_or}
 use Rattle.std.specs.List.{range_with_len}
 use Rattle.rvc_base.specs.declared.scalar.Scalar.{Scalar}
 use Rattle.rvc_base.specs.declared.scalar.Scalar.TheVariants as scalar
@@ -35,11 +35,11 @@ start_of actor = record { at = start_state actor; vars = first_vars actor.vars }
 abbrev pub Above : Actor → ℕ → ℕ → Type 0
 Above actor a b = IsAbove actor.pairs a b
 
--- which action is above which, and the line of the actions
+-- which action is above which, of those that the actor has, and the line of the actions
 pub record Priorities (actor : Actor) : Type 0 where
   pub above : ℕ → ℕ → Bool
   pub line : List ℕ
-  pub is_above : (a b : ℕ) → IsTrue (above a b) ↔ Above actor a b
+  pub is_above : (a b : ℕ) → a < length actor.actions → b < length actor.actions → IsTrue (above a b) ↔ Above actor a b
   pub is_line : IsLine (length actor.actions) (Above actor) line
 
 -- ---- tokens

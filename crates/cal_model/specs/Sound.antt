@@ -3,6 +3,7 @@ use Rattle.std.specs.Prelude.{◌≡◌, ◌≢◌, ℕ, ◌+◌, ◌<◌, ◌�
 use Rattle.rvc_base.specs.declared.scalar.Scalar.{Scalar}
 use Rattle.rvc_base.specs.Storing.{IsSize}
 use Rattle.cal_ast.specs.declared.expr.PrefixOp.TheVariants.{Neg}
+use Rattle.cal_ast.specs.declared.expr.BinOp.TheVariants.{Sub}
 use Rattle.cal_ast.specs.Places.{begins}
 use Rattle.cal_ast.specs.Tree as tree
 use Rattle.cal_ast.specs.Tree.{Tree}
@@ -46,11 +47,12 @@ AreDistinct (x ∷ xs) = ¬ Contains xs x × AreDistinct xs
 
 -- ---- numbers that are written out
 
--- an expression of numbers and `-` alone
+-- an expression of numbers and `-` alone: parentheses, and `-` before one part or between two
 abbrev pub IsWrittenOut : Tree → Type 0
 IsWrittenOut (tree.number n at) = Unit {0}
 IsWrittenOut (tree.paren e at) = IsWrittenOut e
 IsWrittenOut (tree.prefix Neg e at) = IsWrittenOut e
+IsWrittenOut (tree.binary Sub l r at) = IsWrittenOut l × IsWrittenOut r
 IsWrittenOut other = ⊥
 
 -- each size of a type and each bound of a comprehension, in what an expression or a statement is made of
@@ -282,16 +284,16 @@ pub record IsPattern (actor : Actor) (q : Pattern) : Type 0 where
   pub port : q.port < length actor.ins
   pub repeat : IsRepeat q.repeat
 
--- each value is of the kind that the port takes
-abbrev pub HaveKind : Kind → List Kind → Type 0
-HaveKind k ks = Each (λ l. l ≡ k) ks
+-- each of these kinds is this one
+abbrev pub AreAll : Kind → List Kind → Type 0
+AreAll k ks = Each (λ l. l ≡ k) ks
 
 pub record IsOutput (actor : Actor) (names : Names) (o : Output) : Type 0 where
   pub port : o.port < length actor.outs
   pub repeat : IsRepeat o.repeat
   pub found : List Kind
   pub kinds : kinds o.values names ≡ Fine found
-  pub each : HaveKind (kind_of_tokens (kind_of_port actor.outs o.port) o.repeat) found
+  pub each : AreAll (kind_of_tokens (kind_of_port actor.outs o.port) o.repeat) found
   pub plain : IsPlain o.values
 
 abbrev pub names_in_patterns : List Pattern → List (List ℕ)

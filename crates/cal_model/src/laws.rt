@@ -2,7 +2,7 @@
 //!
 //! Each law is the contract of a function that does nothing: it is proved with the crate, and can be cited.
 
-ghost use Rattle.cal_model.specs.Laws.{AboveIsOne, ArgumentsAreKept, AsManyAreKept, BehaviourIsEffect, BehaviourIsIdle, BehaviourIsOne, BehaviourKeepsStates, BehaviourStoresTokens, CallIsAnswered, CallIsKept, ChainsPutAbove, ChoiceIsOne, ChosenIsEnabled, ChosenTraps, ConstantIsValue, CounterIsKept, EffectIsOne, EffectsAreFirings, EffectsAreTraps, ElementsAreKept, EntryIsKept, FiringsKeepStates, FirstFormIsCase, FunctionsTakeTurns, JudgedIsType, KeptAreTokens, KindIsKept, KindsAreKept, LineIsOne, LocalsAreKept, LoopsCountTurns, LoopsEndByTurns, NeverBoth, NothingIsLacking, NumbersUnfold, OneFiring, OneTrap, ProceduresTakeTurns, RunIsPerformed, SoundFunsAreOfKinds, StartIsState, StatesAreTested, StoredIsOfType, StoringStays, TagsStandFor, TokensStay, TransitionsLead, TypeArgumentsAreKept, TypeIsKept, WaitingIsIdle, WhileUnfolds, ZeroIsOfType};
+ghost use Rattle.cal_model.specs.Laws.{AboveIsOne, ArgumentsAreKept, AsManyAreKept, BehaviourIsEffect, BehaviourIsIdle, BehaviourIsLawful, BehaviourIsOne, BehaviourKeepsStates, BehaviourStoresTokens, BodiesGiveOrTrap, CallIsAnswered, CallIsKept, ChainsPutAbove, ChoiceIsOne, ChosenIsEnabled, ChosenTraps, ConstantIsValue, CounterIsKept, EffectIsOne, EffectsAreFirings, EffectsAreTraps, ElementsAreKept, EnabledFiresOrTraps, EntryIsKept, FiringsKeepStates, FunctionsTakeTurns, GuardsAreTruths, JudgedIsType, KeptAreTokens, KindIsKept, KindsAreKept, LineIsOne, LocalsAreKept, LoopsCountTurns, LoopsEndByTurns, NeverBoth, NothingIsLacking, NumbersAreWritten, NumbersUnfold, OneFiring, OneTrap, ProceduresTakeTurns, RunIsPerformed, SoundFunsAreOfKinds, SoundHavePriorities, StartIsState, StatesAreTested, StoredIsOfType, StoringStays, TagsStandFor, TokensStay, TransitionsLead, TypeArgumentsAreKept, TypeIsKept, WaitingIsIdle, WhileUnfolds, ZeroIsOfType};
 
 /// A value of a type's kind is in the type once it is stored, and then stays when it is stored again. What a
 /// variable without value holds is in the type too.
@@ -54,12 +54,38 @@ pub fn actors_stay_in_their_states()
     ensures behaviour { BehaviourKeepsStates }
 {}
 
+/// In the states of a sound actor and over tokens of its ports nothing lacks a name and no kinds clash: each guard is a
+/// truth value or traps, the body of an eligible action leaves one of the states or traps, and an action that is
+/// exposed and enabled fires or traps.
+pub fn actions_fire_or_trap()
+    ensures guards { GuardsAreTruths }
+    ensures bodies { BodiesGiveOrTrap }
+    ensures enabled { EnabledFiresOrTraps }
+{}
+
+/// The behaviour of a sound actor is lawful: what has an effect has its tokens, a firing sends what its action gives,
+/// on each port nothing depends on tokens after the greatest need of any action there, the choice is an enabled action
+/// or one whose guards trap, and beyond the actions there is nothing.
+pub fn sound_actors_are_lawful()
+    ensures { BehaviourIsLawful }
+{}
+
 /// Tokens as ports store them are in the types of the ports, as many as before, and those that were in the types stay
 /// as they are.
 pub fn ports_keep_tokens()
     ensures in_type { KeptAreTokens }
     ensures stay { TokensStay }
     ensures as_many { AsManyAreKept }
+{}
+
+/// Each number of the language, the least one too, is the value of an expression of numbers and `-` alone.
+pub fn numbers_are_written_out()
+    ensures { NumbersAreWritten }
+{}
+
+/// A sound actor has priorities: which action is above which, and a line of the actions.
+pub fn sound_actors_have_priorities()
+    ensures { SoundHavePriorities }
 {}
 
 /// There is one line of an actor's actions: which stands above which, and with it the line, the choice, each effect and
@@ -126,10 +152,4 @@ pub fn environments_are_kept()
     ensures counter { CounterIsKept }
     ensures entry { EntryIsKept }
     ensures locals { LocalsAreKept }
-{}
-
-/// The value of an expression of the first form, over the token that the action takes, is what the whole language
-/// says.
-pub fn first_form_is_a_case()
-    ensures { FirstFormIsCase }
 {}

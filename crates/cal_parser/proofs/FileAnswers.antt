@@ -7,7 +7,8 @@ use Rattle.cal_ast.specs.Tree.{Tree}
 use Rattle.cal_lexer.specs.Lexeme.{Placed, plain_tokens}
 use Rattle.cal_lexer.specs.declared.token.Token.{Token}
 use Rattle.cal_parser.specs.Operators.{height, max_height}
-use Rattle.cal_parser.specs.Refusals.{Breaks, breaks_off, grows_high, IsRightly, answer_of, place_in, spells_no_file, too_high}
+use Rattle.rvc_base.specs.Rules.{spells_no_file, too_high}
+use Rattle.cal_parser.specs.Refusals.{Breaks, breaks_off, grows_high, IsRightly, answer_of, place_in}
 use Rattle.cal_parser.specs.Tells.{TellsFault}
 use Rattle.cal_parser.specs.declared.fault.Fault.{Fault}
 use Rattle.cal_parser.specs.declared.fault.Fault.TheVariants as faults

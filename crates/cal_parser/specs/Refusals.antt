@@ -1,5 +1,6 @@
 -- What is promised of the reading of a file.
 use Rattle.std.specs.Prelude.{◌≡◌, ℕ, List, [], ◌∷◌}
+use Rattle.rvc_base.specs.Rules.{spells_no_file, too_high}
 use Rattle.rvc_base.specs.declared.refusal.Rule.{Rule}
 use Rattle.rvc_base.specs.declared.refusal.Front.{Front as Answer}
 use Rattle.rvc_base.specs.declared.refusal.Front.TheVariants.{Refused, Memory}
@@ -18,14 +19,6 @@ IsNoFile ts left = IsRefused spells ts left
 -- what is left stands where no file of a height that is read goes on
 abbrev pub IsHighFile : List Placed → List Placed → Type 0
 IsHighFile ts left = IsTooHigh spells height max_height ts left
-
--- the tokens spell no file
-abbrev pub spells_no_file : Rule
-spells_no_file = record { 0 = 201 }
-
--- the tokens spell no file of a height that is read
-abbrev pub too_high : Rule
-too_high = record { 0 = 202 }
 
 -- the offset of the first of these tokens; where there is none, the end of the text
 abbrev pub place_in : ℕ → List Placed → ℕ

@@ -1,69 +1,98 @@
 //! Texts with the trees that they spell, or the place where they break the grammar.
 
-use crate::{SPELLS_NO_FILE, TOO_HIGH, parse_file};
+use crate::parse_file;
 use cal_ast::{Body, File};
 use cal_lexer::lex;
-use rvc_base::{Front, Place, Refusal, Rule};
+use rvc_base::Front;
 use std::alloc::Global;
 use std::process::Abort;
 use std::test::Fail;
 
+/// What is asked of the file that a text spells.
+#[derive(Clone, Copy)]
+enum Asked {
+    File,
+    Members,
+    /// Whether it is read.
+    Outcome,
+}
+
 /// What reading a text gives.
-fn parsed(rt: &impl Abort, alloc: Global, text: &[u8]) -> Result<File, Front> {
-    assert!(rt; text.len() < 1 << 32);
+fn parsed(alloc: Global, text: &[u8]) -> Result<File, Front> {
+    if text.len() >= 1 << 32 {
+        return Err(Front::Memory);
+    }
     let tokens = lex(alloc, 7, text)?;
     parse_file(alloc, 7, &tokens, text.len() as u32)
 }
 
-/// Stops unless the text is refused by this rule at this place.
-fn refused(rt: &impl Abort, alloc: Global, text: &[u8], rule: Rule, offset: u32) {
-    match parsed(rt, alloc, text) {
+/// What is asked of a text, or the rule that it breaks and the place.
+fn answer(alloc: Global, asked: Asked, text: &[u8]) -> Result<String, Fail> {
+    match parsed(alloc, text) {
+        Ok(file) => shown(alloc, asked, &file),
         Err(Front::Refused(refusal)) => {
-            let place = Place { file: 7, offset };
-            assert_eq!(rt; refusal, Refusal { rule, place });
+            let rule = refusal.rule;
+            let at = refusal.place.offset;
+            Ok(format!(in alloc; "{rule} at {at}")?)
         }
-        Err(Front::Memory) => panic!(rt; "out of memory"),
-        Ok(_) => panic!(rt; "not refused"),
+        Err(Front::Memory) => Err(Front::Memory.into()),
     }
 }
 
-/// Stops unless the members of the actor in the text are these.
-fn has_members(rt: &impl Abort, alloc: Global, text: &[u8], expected: &str) -> Result<(), Fail> {
-    let file = parsed(rt, alloc, text)?;
-    match &file.body {
-        Body::Actor(actor) => {
-            let members = &actor.members;
-            assert_eq!(rt; format!(in alloc; "{members:?}")?.as_str(), expected);
-        }
-        Body::Unit(_) => panic!(rt; "a unit"),
+/// What is asked of a file, as `Debug` prints it.
+fn shown(alloc: Global, asked: Asked, file: &File) -> Result<String, Fail> {
+    match asked {
+        Asked::File => Ok(format!(in alloc; "{file:?}")?),
+        Asked::Members => match &file.body {
+            Body::Actor(actor) => {
+                let members = &actor.members;
+                Ok(format!(in alloc; "{members:?}")?)
+            }
+            Body::Unit(_) => Ok(String::from_str(alloc, "a unit")?),
+        },
+        Asked::Outcome => Ok(String::from_str(alloc, "read")?),
+    }
+}
+
+/// Stops unless a text has its answer.
+fn holds(
+    rt: &impl Abort,
+    alloc: Global,
+    asked: Asked,
+    text: &[u8],
+    expected: &str,
+) -> Result<(), Fail> {
+    let found = answer(alloc, asked, text)?;
+    assert_eq!(rt; found.as_str(), expected);
+    Ok(())
+}
+
+/// Stops unless each text has its answer.
+fn hold(rt: &impl Abort, alloc: Global, asked: Asked, rows: &[(&[u8], &str)]) -> Result<(), Fail> {
+    for &(text, expected) in rows {
+        holds(rt, alloc, asked, text, expected)?;
     }
     Ok(())
 }
 
-/// The actor that adds 1 to each token.
-const INC: &[u8] =
-    b"actor Inc() uint(size=8) In ==> uint(size=8) Out : action In:[a] ==> Out:[a + 1] end end";
-
 #[test]
 fn files(rt: HostRuntime) -> Result<(), Fail> {
-    let a = rt.alloc();
-    let unit = parsed(&rt, a, b"package a.b; import c.*; import d.e; unit U : end")?;
-    assert_eq!(rt;
-        format!(in a; "{unit:?}")?.as_str(),
+    hold(&rt, rt.alloc(), Asked::File, FILES)
+}
+
+/// Packages, imports, parameters and ports, and where a file begins.
+const FILES: &[(&[u8], &str)] = &[
+    (
+        b"package a.b; import c.*; import d.e; unit U : end",
         "File { package: Some(Tag { parts: [Ident { text: \"a\", at: 8 }, \
              Ident { text: \"b\", at: 10 }], at: 8 }), \
              imports: [Import { path: [Ident { text: \"c\", at: 20 }], last: None, at: 13 }, \
              Import { path: [Ident { text: \"d\", at: 32 }], \
              last: Some(Ident { text: \"e\", at: 34 }), at: 25 }], \
-             body: Unit(UnitFile { name: Ident { text: \"U\", at: 42 }, members: [], at: 37 }), at: 0 }"
-    );
-    let actor = parsed(
-        &rt,
-        a,
+             body: Unit(UnitFile { name: Ident { text: \"U\", at: 42 }, members: [], at: 37 }), at: 0 }",
+    ),
+    (
         b"import a.b.c.d; actor A(int K = 1, bool b) int X ==> int Y : end",
-    )?;
-    assert_eq!(rt;
-        format!(in a; "{actor:?}")?.as_str(),
         "File { package: None, imports: [Import { path: [Ident { text: \"a\", at: 7 }, \
              Ident { text: \"b\", at: 9 }, Ident { text: \"c\", at: 11 }], \
              last: Some(Ident { text: \"d\", at: 13 }), at: 0 }], \
@@ -75,61 +104,52 @@ fn files(rt: HostRuntime) -> Result<(), Fail> {
              ins: [PortDecl { shape: TypeExpr { name: Ident { text: \"int\", at: 43 }, args: [], at: 43 }, \
              name: Ident { text: \"X\", at: 47 }, at: 43 }], \
              outs: [PortDecl { shape: TypeExpr { name: Ident { text: \"int\", at: 53 }, args: [], at: 53 }, \
-             name: Ident { text: \"Y\", at: 57 }, at: 53 }], members: [], at: 16 }), at: 0 }"
-    );
-    let behind = parsed(&rt, a, b"  actor A() ==> : endactor")?;
-    assert_eq!(rt; behind.at, 2);
-    Ok(())
-}
+             name: Ident { text: \"Y\", at: 57 }, at: 53 }], members: [], at: 16 }), at: 0 }",
+    ),
+    (
+        b"  actor A() ==> : endactor",
+        "File { package: None, imports: [], body: Actor(Actor { name: Ident { text: \"A\", at: 8 }, \
+             params: [], ins: [], outs: [], members: [], at: 2 }), at: 2 }",
+    ),
+];
 
 #[test]
-fn variables_functions_and_procedures(rt: HostRuntime) -> Result<(), Fail> {
-    let a = rt.alloc();
-    has_members(
-        &rt,
-        a,
+fn members(rt: HostRuntime) -> Result<(), Fail> {
+    hold(&rt, rt.alloc(), Asked::Members, MEMBERS)
+}
+
+/// Variables, functions, procedures, actions, schedules and priorities.
+const MEMBERS: &[(&[u8], &str)] = &[
+    (
         b"actor A() ==> : int s := 0; end",
         "[Var(VarDecl { shape: TypeExpr { name: Ident { text: \"int\", at: 16 }, args: [], at: 16 }, \
              name: Ident { text: \"s\", at: 20 }, start: Some(Expr { form: Number(0), at: 25 }), \
              changes: true, at: 16 })]",
-    )?;
-    has_members(
-        &rt,
-        a,
+    ),
+    (
         b"actor A() ==> : int(size=8) K = 1; end",
         "[Var(VarDecl { shape: TypeExpr { name: Ident { text: \"int\", at: 16 }, \
              args: [Value { name: Ident { text: \"size\", at: 20 }, \
              value: Expr { form: Number(8), at: 25 } }], at: 16 }, name: Ident { text: \"K\", at: 28 }, \
              start: Some(Expr { form: Number(1), at: 32 }), changes: false, at: 16 })]",
-    )?;
-    has_members(
-        &rt,
-        a,
+    ),
+    (
         b"actor A() ==> : function f(int x) --> int : x end end",
         "[Function(Function { name: Ident { text: \"f\", at: 25 }, \
              formals: [PortDecl { shape: TypeExpr { name: Ident { text: \"int\", at: 27 }, args: [], at: 27 }, \
              name: Ident { text: \"x\", at: 31 }, at: 27 }], \
              result: TypeExpr { name: Ident { text: \"int\", at: 38 }, args: [], at: 38 }, vars: [], \
              body: Expr { form: Name(\"x\"), at: 44 }, at: 16 })]",
-    )?;
-    has_members(
-        &rt,
-        a,
+    ),
+    (
         b"actor A() ==> : procedure p() var int y begin y := 1; endprocedure end",
         "[Procedure(Procedure { name: Ident { text: \"p\", at: 26 }, formals: [], \
              vars: [VarDecl { shape: TypeExpr { name: Ident { text: \"int\", at: 34 }, args: [], at: 34 }, \
              name: Ident { text: \"y\", at: 38 }, start: None, changes: true, at: 34 }], \
              body: [Stmt { form: Assign { name: Ident { text: \"y\", at: 46 }, places: [], \
              value: Expr { form: Number(1), at: 51 } }, at: 46 }], at: 16 })]",
-    )
-}
-
-#[test]
-fn actions_schedules_and_priorities(rt: HostRuntime) -> Result<(), Fail> {
-    let a = rt.alloc();
-    has_members(
-        &rt,
-        a,
+    ),
+    (
         b"actor A() ==> : a.b: action In:[x] repeat 2, [y] ==> guard true do end end",
         "[Action(Action { tag: Some(Tag { parts: [Ident { text: \"a\", at: 16 }, \
              Ident { text: \"b\", at: 18 }], at: 16 }), initialize: false, \
@@ -137,92 +157,72 @@ fn actions_schedules_and_priorities(rt: HostRuntime) -> Result<(), Fail> {
              names: [Ident { text: \"x\", at: 32 }], repeat: Some(Expr { form: Number(2), at: 42 }), at: 28 }, \
              Pattern { port: None, names: [Ident { text: \"y\", at: 46 }], repeat: None, at: 45 }], \
              outputs: [], guards: [Expr { form: Bool(true), at: 59 }], vars: [], body: Some([]), at: 16 })]",
-    )?;
-    has_members(
-        &rt,
-        a,
+    ),
+    (
         b"actor A() ==> : initialize ==> Out:[1, 2] end end",
         "[Action(Action { tag: None, initialize: true, patterns: [], \
              outputs: [Output { port: Some(Ident { text: \"Out\", at: 31 }), \
              values: [Expr { form: Number(1), at: 36 }, Expr { form: Number(2), at: 39 }], \
              repeat: None, at: 31 }], guards: [], vars: [], body: None, at: 16 })]",
-    )?;
-    has_members(
-        &rt,
-        a,
+    ),
+    (
         b"actor A() ==> : schedule fsm s : s (a.x, b) --> t; end end",
         "[Schedule(Schedule { start: Ident { text: \"s\", at: 29 }, \
              moves: [Move { from: Ident { text: \"s\", at: 33 }, \
              tags: [Tag { parts: [Ident { text: \"a\", at: 36 }, Ident { text: \"x\", at: 38 }], at: 36 }, \
              Tag { parts: [Ident { text: \"b\", at: 41 }], at: 41 }], \
              to: Ident { text: \"t\", at: 48 }, at: 33 }], at: 16 })]",
-    )?;
-    has_members(
-        &rt,
-        a,
+    ),
+    (
         b"actor A() ==> : priority a > b.c > d; end end",
         "[Priority(Priority { chains: [[Tag { parts: [Ident { text: \"a\", at: 25 }], at: 25 }, \
              Tag { parts: [Ident { text: \"b\", at: 29 }, Ident { text: \"c\", at: 31 }], at: 29 }, \
              Tag { parts: [Ident { text: \"d\", at: 35 }], at: 35 }]], at: 16 })]",
-    )
-}
+    ),
+];
 
 #[test]
-fn what_cannot_follow(rt: HostRuntime) {
-    let a = rt.alloc();
-    refused(&rt, a, b"", SPELLS_NO_FILE, 0);
-    refused(&rt, a, b"unit U : int X = ; end", SPELLS_NO_FILE, 17);
-    refused(&rt, a, b"unit U : ", SPELLS_NO_FILE, 9);
-    refused(&rt, a, b"unit U : end unit", SPELLS_NO_FILE, 13);
-    refused(&rt, a, b"unit U : endactor", SPELLS_NO_FILE, 9);
-    refused(&rt, a, b"import a; unit U : end", SPELLS_NO_FILE, 8);
-    refused(&rt, a, b"import a.*.b; unit U : end", SPELLS_NO_FILE, 10);
-    refused(
-        &rt,
-        a,
-        b"actor A() ==> : priority a; end end",
-        SPELLS_NO_FILE,
-        26,
-    );
-    refused(
-        &rt,
-        a,
+fn what_cannot_follow(rt: HostRuntime) -> Result<(), Fail> {
+    hold(&rt, rt.alloc(), Asked::Outcome, REFUSED)
+}
+
+/// Where no file goes on.
+const REFUSED: &[(&[u8], &str)] = &[
+    (b"", "G1 at 0"),
+    (b"unit U : int X = ; end", "G1 at 17"),
+    (b"unit U : ", "G1 at 9"),
+    (b"unit U : end unit", "G1 at 13"),
+    (b"unit U : endactor", "G1 at 9"),
+    (b"import a; unit U : end", "G1 at 8"),
+    (b"import a.*.b; unit U : end", "G1 at 10"),
+    (b"actor A() ==> : priority a; end end", "G1 at 26"),
+    (
         b"actor A() ==> : schedule fsm s : end schedule fsm t : end end",
-        SPELLS_NO_FILE,
-        37,
-    );
-    refused(
-        &rt,
-        a,
+        "G1 at 37",
+    ),
+    (
         b"unit U : function f() --> int : 1 endprocedure end",
-        SPELLS_NO_FILE,
-        34,
-    );
-}
+        "G1 at 34",
+    ),
+];
 
-/// Whether the text breaks the grammar.
-fn breaks_off(rt: &impl Abort, alloc: Global, text: &[u8]) -> bool {
-    match parsed(rt, alloc, text) {
-        Err(Front::Refused(refusal)) => refusal.rule == SPELLS_NO_FILE,
-        Err(Front::Memory) => panic!(rt; "out of memory"),
-        Ok(_) => false,
+/// The actor that adds 1 to each token.
+const INC: &[u8] =
+    b"actor Inc() uint(size=8) In ==> uint(size=8) Out : action In:[a] ==> Out:[a + 1] end end";
+
+/// How many fronts of a text break the grammar, one after another from the empty one.
+fn broken_fronts(alloc: Global, text: &[u8]) -> Result<usize, Fail> {
+    for size in 0..text.len() {
+        if !answer(alloc, Asked::Outcome, &text[..size])?.starts_with("G1 at ") {
+            return Ok(size);
+        }
     }
+    Ok(text.len())
 }
 
 #[test]
-fn each_front_of_a_file_breaks_off(rt: HostRuntime) {
-    let a = rt.alloc();
-    for size in 0..INC.len() {
-        assert!(rt; breaks_off(&rt, a, &INC[..size]), "at {size}");
-    }
-    assert!(rt; !breaks_off(&rt, a, INC));
-}
-
-/// Puts a piece at the end of a text, this many times.
-fn append(text: &mut Vec<u8>, piece: &[u8], times: usize) -> Result<(), Fail> {
-    for _ in 0..times {
-        text.extend_from_slice(piece)?;
-    }
+fn each_front_of_a_file_breaks_off(rt: HostRuntime) -> Result<(), Fail> {
+    assert_eq!(rt; broken_fronts(rt.alloc(), INC)?, INC.len());
     Ok(())
 }
 
@@ -239,45 +239,52 @@ fn in_pairs(alloc: Global, inner: &[u8], pairs: usize) -> Result<Vec<u8>, Fail> 
     Ok(text)
 }
 
-#[test]
-fn pairs_of_parentheses(rt: HostRuntime) -> Result<(), Fail> {
-    let a = rt.alloc();
-    let low = in_pairs(a, b"1", 255)?;
-    assert!(rt; parsed(&rt, a, &low).is_ok());
-    let high = in_pairs(a, b"1", 256)?;
-    refused(&rt, a, &high, TOO_HIGH, 529);
-    Ok(())
+/// Stops unless a constant that stands in so many pairs of parentheses has this answer.
+fn holds_in_pairs(
+    rt: &impl Abort,
+    alloc: Global,
+    inner: &[u8],
+    pairs: usize,
+    expected: &str,
+) -> Result<(), Fail> {
+    let text = in_pairs(alloc, inner, pairs)?;
+    holds(rt, alloc, Asked::Outcome, &text, expected)
 }
 
 #[test]
-fn half_a_million_dropped_pairs(rt: HostRuntime) -> Result<(), Fail> {
-    let a = rt.alloc();
-    let text = in_pairs(a, b"a+b", 500000)?;
-    assert!(rt; parsed(&rt, a, &text).is_ok());
-    Ok(())
+fn pairs_of_parentheses(rt: HostRuntime) -> Result<(), Fail> {
+    holds_in_pairs(&rt, rt.alloc(), b"1", 255, "read")?;
+    holds_in_pairs(&rt, rt.alloc(), b"1", 256, "G2 at 529")?;
+    holds_in_pairs(&rt, rt.alloc(), b"a+b", 500000, "read")
 }
 
 #[test]
 fn a_long_sum_and_what_cannot_follow_it(rt: HostRuntime) -> Result<(), Fail> {
-    let a = rt.alloc();
-    let mut text = Vec::new(a);
-    append(&mut text, b"unit U : int X = 1", 1)?;
-    append(&mut text, b" + 1", 200)?;
-    append(&mut text, b" ; ; end", 1)?;
-    refused(&rt, a, &text, SPELLS_NO_FILE, 821);
-    Ok(())
+    let text = long_sum(rt.alloc())?;
+    holds(&rt, rt.alloc(), Asked::Outcome, &text, "G1 at 821")
+}
+
+/// A unit with a sum of 201 numbers, and a semicolon too many.
+fn long_sum(alloc: Global) -> Result<Vec<u8>, Fail> {
+    let mut text = Vec::new(alloc);
+    text.extend_from_slice(b"unit U : int X = 1")?;
+    for _ in 0..200 {
+        text.extend_from_slice(b" + 1")?;
+    }
+    text.extend_from_slice(b" ; ; end")?;
+    Ok(text)
 }
 
 #[test]
-fn whole_sources(rt: HostRuntime) {
-    let a = rt.alloc();
+fn whole_sources(rt: HostRuntime) -> Result<(), Fail> {
     for text in SOURCES {
-        assert!(rt; parsed(&rt, a, text).is_ok());
+        holds(&rt, rt.alloc(), Asked::Outcome, text, "read")?;
     }
+    Ok(())
 }
 
 /// Actors of every kind.
-const SOURCES: [&[u8]; 21] = [
+const SOURCES: &[&[u8]] = &[
     INC,
     b"actor Peek() uint(size=8) In ==> uint(size=8) Out : action In:[a, b] ==> Out:[a] guard b > 100 end end",
     b"actor Two() uint(size=8) In ==> uint(size=8) Out : hi: action In:[a, b] ==> Out:[a + b] end lo: action In:[a] ==> Out:[a] end priority hi > lo; end end",

@@ -26,12 +26,10 @@ mod names;
 mod operators;
 mod pairs;
 mod parse;
-mod rules;
 mod schedules;
 mod stmts;
 mod tall;
 mod types;
 
 pub use laws::one_tree;
-pub use parse::parse_file;
-pub use rules::{MAX_HEIGHT, SPELLS_NO_FILE, TOO_HIGH};
+pub use parse::{MAX_HEIGHT, parse_file};

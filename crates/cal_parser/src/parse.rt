@@ -10,11 +10,13 @@ ghost use Rattle.cal_parser.specs.Spells.{spells};
 
 use crate::fault::Fault;
 use crate::files::whole;
-use crate::rules::{MAX_HEIGHT, SPELLS_NO_FILE, TOO_HIGH};
 use cal_ast::File;
 use cal_lexer::Token;
-use rvc_base::{Front, Place, Refusal};
+use rvc_base::{Front, Place, Refusal, Rule};
 use std::alloc::Global;
+
+/// The greatest height that is read: how deep expressions, statements, types and pairs of parentheses may nest.
+pub const MAX_HEIGHT: u32 = 256;
 
 /// The file that the tokens of a text spell. The text is the file of this number, and `end` is its length.
 ///
@@ -23,8 +25,8 @@ use std::alloc::Global;
 ///
 /// # Errors
 ///
-/// `Refused` with [`SPELLS_NO_FILE`] at a token such that no file's tokens begin with those up to and including
-/// it, or at `end` where all the tokens together spell none; with [`TOO_HIGH`] at a token such that no file of a
+/// `Refused` with [`Rule::SPELLS_NO_FILE`] at a token such that no file's tokens begin with those up to and including
+/// it, or at `end` where all the tokens together spell none; with [`Rule::TOO_HIGH`] at a token such that no file of a
 /// height of at most [`MAX_HEIGHT`] has tokens that begin with those up to and including it. And `Memory`.
 pub fn parse_file(alloc: Global, file: u32, tokens: &[Token], end: u32) -> Result<File, Front>
     ensures spelled { IfOk result (λ f. spells (plain_tokens tokens.now) (file_tree f)) }
@@ -56,11 +58,11 @@ fn answer(fault: Fault, file: u32, offset: u32) -> Front
     let place = Place { file, offset };
     match fault {
         Fault::Refused => Front::Refused(Refusal {
-            rule: SPELLS_NO_FILE,
+            rule: Rule::SPELLS_NO_FILE,
             place,
         }),
         Fault::TooHigh => Front::Refused(Refusal {
-            rule: TOO_HIGH,
+            rule: Rule::TOO_HIGH,
             place,
         }),
         Fault::Memory => Front::Memory,

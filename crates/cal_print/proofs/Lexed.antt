@@ -6,9 +6,9 @@ use Rattle.std.specs.Char.{is_ascii_digit}
 use Rattle.std.specs.Str.{bytes_eq}
 use Rattle.std.proofs.lemmas.Bool.{ltb-false, leb-false}
 use Rattle.rvc_base.specs.declared.refusal.Rule.{Rule}
-use Rattle.cal_lexer.specs.Rules.{max_name, name_too_long, number_too_big}
+use Rattle.rvc_base.specs.Rules.{name_too_long, number_too_big}
 use Rattle.cal_lexer.specs.Lexeme.{Lexeme, Placed}
-use Rattle.cal_lexer.specs.Lexis.{flaw, begins_name, goes_on_name, is_name, find, first_of_both, words, long_ends, reserved, symbols_of_one, symbols_of_two, symbols_of_three, symbol, word, hexadecimal, decimal_number, number, token_of}
+use Rattle.cal_lexer.specs.Lexis.{max_name, flaw, begins_name, goes_on_name, is_name, find, first_of_both, words, long_ends, reserved, symbols_of_one, symbols_of_two, symbols_of_three, symbol, word, hexadecimal, decimal_number, number, token_of}
 use Rattle.cal_lexer.specs.Lexes.{LexesFrom, ends, after_gap, after_token}
 use Rattle.cal_print.specs.Printable.{IsPrintable, ArePrintable, kinds}
 

@@ -7,12 +7,12 @@ use Rattle.std.proofs.lemmas.Bool.{and_parts, not-true, lt-leb}
 use Rattle.std.proofs.lemmas.Bool.Decides.{nat_tests}
 use Rattle.std.proofs.lemmas.List.{length-append}
 use Rattle.std.proofs.Math.Seq.{take-append_seam, drop-append_seam, take-append-add}
-use Rattle.cal_lexer.specs.Rules.{max_name}
 use Rattle.cal_lexer.specs.Lexeme.{Lexeme, Placed, placed}
-use Rattle.cal_lexer.specs.Lexis.{front, Token, Gap, IsNext, flaw, is_blank, begins_name, goes_on_name, is_name, reserved, token_of}
+use Rattle.cal_lexer.specs.Lexis.{max_name, front, Token, Gap, IsNext, flaw, is_blank, begins_name, goes_on_name, is_name, reserved, token_of}
 use Rattle.cal_lexer.specs.Lexes.{LexesFrom, ends, after_gap, after_token}
 use Rattle.cal_lexer.proofs.Fronts.{front_other}
-use Rattle.cal_print.specs.Spelling.{spelling, gap_behind, text_of}
+use Rattle.cal_lexer.specs.Words.{spelling}
+use Rattle.cal_print.specs.Spelling.{gap_behind, text_of}
 use Rattle.cal_print.specs.Printable.{IsPrintable, ArePrintable, kinds}
 use Rattle.cal_print.proofs.Blanks.{blank_in}
 use Rattle.cal_print.proofs.Digits.{AreDigitsOf, decimal_digits, no_leading_zero}

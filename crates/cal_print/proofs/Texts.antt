@@ -3,7 +3,8 @@ use Rattle.std.proofs.Common.{◌≡◌, ℕ, List, [], ◌∷◌, ◌++◌, ref
 use Rattle.cal_ast.specs.Tree.{Tree}
 use Rattle.cal_lexer.specs.Lexeme.{Lexeme}
 use Rattle.cal_print.specs.Canon.{words}
-use Rattle.cal_print.specs.Spelling.{text_of, spelling, gap_behind}
+use Rattle.cal_lexer.specs.Words.{spelling}
+use Rattle.cal_print.specs.Spelling.{text_of, gap_behind}
 
 pub text_of_append : (a b : List Lexeme) → text_of (a ++ b) ≡ text_of a ++ text_of b
 text_of_append [] b = refl

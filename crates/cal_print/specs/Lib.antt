@@ -2,5 +2,4 @@ pub mod Spelling
 pub mod Canon
 pub mod Printable
 pub mod ReadBack
-pub mod Words
 pub mod Inputs

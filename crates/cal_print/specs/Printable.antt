@@ -1,8 +1,7 @@
 -- The tokens that a text can have.
 use Rattle.std.specs.Prelude.{◌≡◌, ◌^◌, ◌<◌, ◌≤◌, List, [], ◌∷◌, true, length, map}
 use Rattle.cal_lexer.specs.Lexeme.{Lexeme, Placed}
-use Rattle.cal_lexer.specs.Lexis.{is_name}
-use Rattle.cal_lexer.specs.Rules.{max_name}
+use Rattle.cal_lexer.specs.Lexis.{is_name, max_name}
 use Rattle.cal_parser.specs.Token.{kind_of}
 
 -- a name that is one and isn't too long, a number of at most 128 bits, or any word or symbol

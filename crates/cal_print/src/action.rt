@@ -11,9 +11,9 @@ use crate::expr::print_listed;
 use crate::name::print_ident;
 use crate::part::{Part, print_each, print_introduced, print_joined, print_label, print_under};
 use crate::stmt::print_body;
-use crate::word::Word;
 use crate::writer::Writer;
 use cal_ast::{Action, Move, Output, Pattern, Priority, Schedule, Tag};
+use cal_lexer::Word;
 use rvc_base::Memory;
 
 /// Prints an action or an `initialize`.

@@ -6,14 +6,14 @@ ghost use Rattle.cal_ast.specs.View.{expr_tree, gen_tree, type_tree, type_arg_tr
 ghost use Rattle.cal_lexer.specs.Lexeme.{Lexeme};
 ghost use Rattle.cal_print.specs.Canon.{words, joined, is_loose, paired, where_any};
 ghost use Rattle.cal_print.specs.Spelling.{text_of};
-ghost use Rattle.cal_print.specs.Words.{lexeme_of};
+ghost use Rattle.cal_lexer.specs.Words.{lexeme_of};
 
 use crate::name::print_ident;
 use crate::operators::{binary_word, prefix_word, stands_in_parens};
 use crate::part::Part;
-use crate::word::Word;
 use crate::writer::Writer;
 use cal_ast::{Expr, ExprForm, Gen, TypeArg, TypeExpr};
+use cal_lexer::Word;
 use rvc_base::Memory;
 
 /// Prints an expression.

@@ -9,9 +9,9 @@ ghost use Rattle.cal_print.specs.Spelling.{text_of};
 use crate::member::print_members;
 use crate::name::{print_ident, print_tag};
 use crate::part::{Part, print_each, print_joined};
-use crate::word::Word;
 use crate::writer::Writer;
 use cal_ast::{Actor, Body, File, Ident, Import, Tag, UnitFile};
+use cal_lexer::Word;
 use rvc_base::Memory;
 use std::alloc::Global;
 

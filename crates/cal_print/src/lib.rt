@@ -12,7 +12,6 @@ mod part;
 mod stmt;
 #[cfg(test)]
 mod tests;
-mod word;
 mod writer;
 
 pub use file::print_file;

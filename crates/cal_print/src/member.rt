@@ -6,16 +6,16 @@ ghost use Rattle.cal_ast.specs.View.{function_tree, member_tree, param_tree, por
 ghost use Rattle.cal_lexer.specs.Lexeme.{Lexeme};
 ghost use Rattle.cal_print.specs.Canon.{words, each_member};
 ghost use Rattle.cal_print.specs.Spelling.{text_of};
-ghost use Rattle.cal_print.specs.Words.{lexeme_of};
+ghost use Rattle.cal_lexer.specs.Words.{lexeme_of};
 
 use crate::action::{print_action, print_priority, print_schedule};
 use crate::expr::{print_expr, print_type};
 use crate::name::print_ident;
 use crate::part::{Part, print_introduced, print_joined, print_under};
 use crate::stmt::print_stmts;
-use crate::word::Word;
 use crate::writer::Writer;
 use cal_ast::{Function, Member, Param, PortDecl, Procedure, VarDecl};
+use cal_lexer::Word;
 use rvc_base::Memory;
 
 impl Part for Param {

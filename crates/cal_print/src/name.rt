@@ -6,9 +6,9 @@ ghost use Rattle.cal_print.specs.Canon.{words};
 ghost use Rattle.cal_print.specs.Spelling.{text_of};
 
 use crate::part::{Part, print_joined};
-use crate::word::Word;
 use crate::writer::Writer;
 use cal_ast::{Ident, Tag};
+use cal_lexer::Word;
 use rvc_base::Memory;
 
 /// Prints a name.

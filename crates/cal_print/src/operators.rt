@@ -3,10 +3,10 @@
 ghost use Rattle.std.specs.Prelude.{◌≡◌};
 ghost use Rattle.cal_ast.specs.View.{expr_tree};
 ghost use Rattle.cal_print.specs.Canon.{is_loose, word_of_binary, word_of_prefix};
-ghost use Rattle.cal_print.specs.Words.{lexeme_of};
+ghost use Rattle.cal_lexer.specs.Words.{lexeme_of};
 
-use crate::word::Word;
 use cal_ast::{BinOp, Expr, ExprForm, PrefixOp};
+use cal_lexer::Word;
 
 /// The first spelling of an operator between two operands.
 pub(crate) fn binary_word(op: BinOp) -> Word

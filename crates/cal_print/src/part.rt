@@ -6,12 +6,12 @@ ghost use Rattle.cal_ast.specs.View.{optional, optional_expr};
 ghost use Rattle.cal_lexer.specs.Lexeme.{Lexeme};
 ghost use Rattle.cal_print.specs.Canon.{words, joined, where_any, label, under};
 ghost use Rattle.cal_print.specs.Spelling.{text_of};
-ghost use Rattle.cal_print.specs.Words.{lexeme_of};
+ghost use Rattle.cal_lexer.specs.Words.{lexeme_of};
 
 use crate::expr::print_expr;
-use crate::word::Word;
 use crate::writer::Writer;
 use cal_ast::Expr;
+use cal_lexer::Word;
 use rvc_base::Memory;
 
 /// A part of a tree, which lists of parts hold.

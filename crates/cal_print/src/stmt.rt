@@ -6,14 +6,14 @@ ghost use Rattle.cal_ast.specs.View.{body_tree, expr_tree, ident_tree, stmt_tree
 ghost use Rattle.cal_lexer.specs.Lexeme.{Lexeme};
 ghost use Rattle.cal_print.specs.Canon.{words, joined, each_place, under, where_any};
 ghost use Rattle.cal_print.specs.Spelling.{text_of};
-ghost use Rattle.cal_print.specs.Words.{lexeme_of};
+ghost use Rattle.cal_lexer.specs.Words.{lexeme_of};
 
 use crate::expr::{print_between, print_expr, print_listed, print_type};
 use crate::name::print_ident;
 use crate::part::print_joined;
-use crate::word::Word;
 use crate::writer::Writer;
 use cal_ast::{Expr, Ident, Stmt, StmtForm, TypeExpr, VarDecl};
+use cal_lexer::Word;
 use rvc_base::Memory;
 
 /// Prints a statement.

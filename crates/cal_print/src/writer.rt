@@ -2,10 +2,10 @@
 
 ghost use Rattle.std.specs.Prelude.{◌≡◌, ◌++◌, ◌∷◌, [], List, ℕ, IfOk};
 ghost use Rattle.cal_lexer.specs.Lexeme.{Lexeme};
-ghost use Rattle.cal_print.specs.Spelling.{text_of};
-ghost use Rattle.cal_print.specs.Words.{lexeme_of};
+ghost use Rattle.cal_lexer.specs.Words.{lexeme_of};
+ghost use Rattle.cal_print.specs.Spelling.{gap_behind, text_of};
 
-use crate::word::Word;
+use cal_lexer::Word;
 use itoa::Buffer;
 use rvc_base::Memory;
 use std::alloc::Global;
@@ -45,6 +45,7 @@ impl Writer {
         ensures { IfOk result (λ _. self.new ≡ self.old ++ text_of (lexeme_of word ∷ [])) }
     {
         self.text.extend_from_slice(word.text().as_bytes())?;
+        self.text.push(gap_behind(word))?;
         Ok(())
     }
 
@@ -66,5 +67,15 @@ impl Writer {
             .extend_from_slice(buffer.format(value).as_bytes())?;
         self.text.push(b' ')?;
         Ok(())
+    }
+}
+
+/// What stands behind a word: LF behind `;` and `end`, else a space.
+fn gap_behind(word: Word) -> u8
+    ensures { result ≡ gap_behind (lexeme_of word) }
+{
+    match word {
+        Word::Semicolon | Word::End => b'\n',
+        _ => b' ',
     }
 }

@@ -1,5 +1,6 @@
 -- What a channel holds once a text was written to it, of which a part may be held back.
-use Rattle.std.specs.Prelude.{◌≡◌, ℕ, List, ◌++◌}
+use Rattle.std.specs.Prelude.{◌≡◌, ℕ, true, List, ◌++◌}
+use Rattle.rvc_io.specs.Channels.{Channels}
 
 -- the channel got a front of the text
 pub record HoldsFront (old new text : List ℕ) : Type 0 where
@@ -13,3 +14,11 @@ pub record Writes (held pending held_new pending_new text : List ℕ) : Type 0 w
   pub put : List ℕ
   pub new_is : held_new ≡ held ++ put
   pub text_is : pending ++ text ≡ put ++ pending_new
+
+-- the same of a channel, as far as its bytes are told
+abbrev pub AppendsFront : ℕ → Channels → Channels → List ℕ → Type 0
+AppendsFront channel old new text = old.tells ≡ true → HoldsFront (old.held channel) (new.held channel) text
+
+abbrev pub WritesOn : ℕ → Channels → Channels → (pending pending_new text : List ℕ) → Type 0
+WritesOn channel old new pending pending_new text =
+    old.tells ≡ true → Writes (old.held channel) pending (new.held channel) pending_new text

@@ -1,9 +1,8 @@
-//! Bytes that are held back and put in large pieces.
+//! Bytes that are buffered and put in large pieces.
 
 ghost use Rattle.std.specs.Prelude.{◌≡◌, ◌≤◌, ◌+◌, ◌++◌, ℕ, Bool, true, List, [], OnOk, OnErr, IfOk, length, vec_capacity, vec_len};
-ghost use Rattle.rvc_io.specs.Count.{HasRisen};
-ghost use Rattle.rvc_io.specs.Elsewhere.{SameElsewhere};
-ghost use Rattle.channel_writer.specs.Held.{HoldsFront, Writes};
+ghost use Rattle.rvc_io.specs.Channels.{Appends, WriteFails, WritesOnly};
+ghost use Rattle.channel_writer.specs.Held.{AppendsFront, WritesOn};
 ghost use Rattle.channel_writer.specs.declared.writer.TheConstants.{PIECE_BYTES};
 
 use crate::whole::put_all;
@@ -15,9 +14,9 @@ use std::marker::Model;
 /// How many bytes are put at a time.
 pub const PIECE_BYTES: usize = 65_536;
 
-/// Bytes for one channel that are held back until there are enough of them.
+/// Bytes for one channel that are buffered until there are enough of them.
 ///
-/// Contracts see the bytes that are held back. All memory is taken by [`ChannelWriter::new`].
+/// Contracts see the bytes that are buffered. All memory is taken by [`ChannelWriter::new`].
 #[derive(Drop)]
 pub struct ChannelWriter {
     pending: Vec<u8>,
@@ -32,7 +31,7 @@ impl Model for ChannelWriter {
 }
 
 impl ChannelWriter {
-    /// A writer that holds nothing back.
+    /// A writer that buffers nothing.
     pub fn new(alloc: Global) -> Result<ChannelWriter, Memory>
         ensures { IfOk result (λ w. w ≡ []) }
     {
@@ -41,21 +40,27 @@ impl ChannelWriter {
     }
 
     /// Writes a text behind what was written to `channel` so far.
+    ///
+    /// # Errors
+    ///
+    /// - `front`: after a failure the channel got a prefix of what was buffered and of the text.
+    /// - `still_pending`: what was buffered still is, also what the channel got of it, and the text isn't.
+    /// - `failed`: the failure was counted.
     pub fn write<D: Drains>(
         &mut self,
         drains: &mut D,
         channel: u32,
         text: &[u8],
     ) -> Result<(), Failed>
-        requires open { D.is_open drains.old channel ≡ true }
+        requires open { (D.channels drains.old).is_open channel ≡ true }
         requires short { length text.now ≤ PIECE_BYTES }
-        ensures written { OnOk result (D.tells drains.old ≡ true → Writes (D.held drains.old channel) self.old (D.held drains.new channel) self.new text.now) }
-        ensures front { OnErr result (D.tells drains.old ≡ true → HoldsFront (D.held drains.old channel) (D.held drains.new channel) (self.old ++ text.now)) }
-        ensures failed { OnErr result (HasRisen (D.faults drains.old) (D.faults drains.new)) }
-        ensures same_telling { D.tells drains.new ≡ D.tells drains.old }
-        ensures same_held { D.tells drains.old ≡ true → SameElsewhere (D.held drains.old) (D.held drains.new) channel }
-        ensures same_open { (other : ℕ) → D.is_open drains.new other ≡ D.is_open drains.old other }
-        ensures faults_stay { D.faults drains.old ≤ D.faults drains.new }
+        ensures written { OnOk result (WritesOn channel (D.channels drains.old)
+            (D.channels drains.new) self.old self.new text.now) }
+        ensures front { OnErr result (AppendsFront channel (D.channels drains.old)
+            (D.channels drains.new) (self.old ++ text.now)) }
+        ensures still_pending { OnErr result (self.new ≡ self.old) }
+        ensures failed { OnErr result (WriteFails D.channels drains.old drains.new) }
+        ensures elsewhere { WritesOnly D.channels drains.old drains.new channel }
     {
         if text.len() > PIECE_BYTES - self.pending.len() {
             self.flush(drains, channel)?;
@@ -64,17 +69,23 @@ impl ChannelWriter {
         Ok(())
     }
 
-    /// Puts everything that is held back on `channel`.
+    /// Puts everything that is buffered on `channel`.
+    ///
+    /// # Errors
+    ///
+    /// - `front`: after a failure the channel got a prefix of what was buffered.
+    /// - `still_pending`: what was buffered still is, also what the channel got of it.
+    /// - `failed`: the failure was counted.
     pub fn flush<D: Drains>(&mut self, drains: &mut D, channel: u32) -> Result<(), Failed>
-        requires { D.is_open drains.old channel ≡ true }
-        ensures all { OnOk result (D.tells drains.old ≡ true → D.held drains.new channel ≡ D.held drains.old channel ++ self.old) }
+        requires { (D.channels drains.old).is_open channel ≡ true }
+        ensures all { OnOk result (Appends channel (D.channels drains.old) (D.channels drains.new)
+            self.old) }
         ensures nothing_left { OnOk result (self.new ≡ []) }
-        ensures front { OnErr result (D.tells drains.old ≡ true → HoldsFront (D.held drains.old channel) (D.held drains.new channel) self.old) }
-        ensures failed { OnErr result (HasRisen (D.faults drains.old) (D.faults drains.new)) }
-        ensures same_telling { D.tells drains.new ≡ D.tells drains.old }
-        ensures same_held { D.tells drains.old ≡ true → SameElsewhere (D.held drains.old) (D.held drains.new) channel }
-        ensures same_open { (other : ℕ) → D.is_open drains.new other ≡ D.is_open drains.old other }
-        ensures faults_stay { D.faults drains.old ≤ D.faults drains.new }
+        ensures front { OnErr result (AppendsFront channel (D.channels drains.old)
+            (D.channels drains.new) self.old) }
+        ensures still_pending { OnErr result (self.new ≡ self.old) }
+        ensures failed { OnErr result (WriteFails D.channels drains.old drains.new) }
+        ensures elsewhere { WritesOnly D.channels drains.old drains.new channel }
     {
         put_all(drains, channel, self.pending.as_slice())?;
         self.pending.clear();

@@ -6,7 +6,7 @@ use Rattle.std.proofs.lemmas.List.{length-set}
 use Rattle.std.proofs.lemmas.Bool.Decides.{nat_tests}
 use Rattle.rvc_base.specs.declared.scalar.Scalar.{Scalar}
 use Rattle.rvc_base.specs.declared.trap.Trap.TheVariants.{IndexRange}
-use Rattle.rvc_base.specs.Arithmetic.{Computed, Gives, Traps, sum, difference, product, opposite, quotient, rest, left_shift, right_shift, bits_of_both, bits_of_either, bits_of_one, other_bits, truth, is_equal, is_below, is_true}
+use Rattle.rvc_base.specs.Arithmetic.{Computed, Gives, Traps, add, sub, mul, neg, div, rem, shl, shr, bit_and, bit_or, bit_xor, bit_not, truth, is_equal, is_below, is_true}
 use Rattle.code_ir.specs.declared.instr.Instr.{Instr}
 use Rattle.code_ir.specs.declared.instr.Instr.TheVariants as op
 use Rattle.code_ir.specs.Code.{Code}
@@ -126,19 +126,19 @@ effect-good code tokens (op.TokenAt p k m n) stack cells s q c =
 effect-good code tokens (op.TokenList d p k m n) stack cells s q inside =
     with_cells-good _ _ cells d n _ inside (taken-good _ _ stack (tokens p) d k m n cells (omega arith) refl)
 effect-good code tokens (op.Zero c n) stack cells s q inside = with_cells-good _ _ cells c n _ inside (omega arith, zeroed-length c n cells)
-effect-good code tokens op.Neg stack cells s p c = on_top-good opposite stack cells p
-effect-good code tokens op.BitNot stack cells s p c = on_top-good (λ a. Gives (other_bits a)) stack cells p
+effect-good code tokens op.Neg stack cells s p c = on_top-good neg stack cells p
+effect-good code tokens op.BitNot stack cells s p c = on_top-good (λ a. Gives (bit_not a)) stack cells p
 effect-good code tokens op.Not stack cells s p c = on_top-good (λ a. Gives (truth (not (is_true a)))) stack cells p
-effect-good code tokens op.Add stack cells s p c = on_two-good sum stack cells p
-effect-good code tokens op.Sub stack cells s p c = on_two-good difference stack cells p
-effect-good code tokens op.Mul stack cells s p c = on_two-good product stack cells p
-effect-good code tokens op.Div stack cells s p c = on_two-good quotient stack cells p
-effect-good code tokens op.Mod stack cells s p c = on_two-good rest stack cells p
-effect-good code tokens op.Shl stack cells s p c = on_two-good left_shift stack cells p
-effect-good code tokens op.Shr stack cells s p c = on_two-good right_shift stack cells p
-effect-good code tokens op.And stack cells s p c = on_two-good (λ a b. Gives (bits_of_both a b)) stack cells p
-effect-good code tokens op.Or stack cells s p c = on_two-good (λ a b. Gives (bits_of_either a b)) stack cells p
-effect-good code tokens op.Xor stack cells s p c = on_two-good (λ a b. Gives (bits_of_one a b)) stack cells p
+effect-good code tokens op.Add stack cells s p c = on_two-good add stack cells p
+effect-good code tokens op.Sub stack cells s p c = on_two-good sub stack cells p
+effect-good code tokens op.Mul stack cells s p c = on_two-good mul stack cells p
+effect-good code tokens op.Div stack cells s p c = on_two-good div stack cells p
+effect-good code tokens op.Mod stack cells s p c = on_two-good rem stack cells p
+effect-good code tokens op.Shl stack cells s p c = on_two-good shl stack cells p
+effect-good code tokens op.Shr stack cells s p c = on_two-good shr stack cells p
+effect-good code tokens op.And stack cells s p c = on_two-good (λ a b. Gives (bit_and a b)) stack cells p
+effect-good code tokens op.Or stack cells s p c = on_two-good (λ a b. Gives (bit_or a b)) stack cells p
+effect-good code tokens op.Xor stack cells s p c = on_two-good (λ a b. Gives (bit_xor a b)) stack cells p
 effect-good code tokens op.Eq stack cells s p c = on_two-good (λ a b. Gives (truth (is_equal a b))) stack cells p
 effect-good code tokens op.Ne stack cells s p c = on_two-good (λ a b. Gives (truth (not (is_equal a b)))) stack cells p
 effect-good code tokens op.Lt stack cells s p c = on_two-good (λ a b. Gives (truth (is_below a b))) stack cells p

@@ -2,7 +2,7 @@
 use Rattle.std.proofs.Common.{◌≡◌, ◌≢◌, ℕ, zero, suc, ◌+◌, ◌*◌, ◌<◌, ◌≤◌, refl, sym, subst, ℤ, pos, negsuc, not, leb, List, [], ◌∷◌, length, set, arith}
 use Rattle.std.specs.Prelude.{Option, None, Some, slice_get}
 use Rattle.rvc_base.specs.declared.trap.Trap.TheVariants.{IndexRange}
-use Rattle.rvc_base.specs.Arithmetic.{Computed, Gives, Traps, sum, difference, product, opposite, quotient, rest, left_shift, right_shift, bits_of_both, bits_of_either, bits_of_one, other_bits, truth, is_equal, is_below, is_true}
+use Rattle.rvc_base.specs.Arithmetic.{Computed, Gives, Traps, add, sub, mul, neg, div, rem, shl, shr, bit_and, bit_or, bit_xor, bit_not, truth, is_equal, is_below, is_true}
 use Rattle.code_ir.specs.declared.instr.Instr.{Instr}
 use Rattle.code_ir.specs.declared.instr.Instr.TheVariants as op
 use Rattle.code_ir.specs.declared.instr.Routine.{Routine}
@@ -81,19 +81,19 @@ effect-there tokens (op.TokenAt p k m c) stack cells n =
 effect-there tokens (op.TokenList d p k m c) stack cells n =
     with_cells-there cells d c _ (taken-there stack (tokens p) d k m c cells n)
 effect-there tokens (op.Zero c k) stack cells n = with_cells-there cells c k _ tt
-effect-there tokens op.Neg stack cells n = on_top-there opposite stack cells
-effect-there tokens op.BitNot stack cells n = on_top-there (λ a. Gives (other_bits a)) stack cells
+effect-there tokens op.Neg stack cells n = on_top-there neg stack cells
+effect-there tokens op.BitNot stack cells n = on_top-there (λ a. Gives (bit_not a)) stack cells
 effect-there tokens op.Not stack cells n = on_top-there (λ a. Gives (truth (not (is_true a)))) stack cells
-effect-there tokens op.Add stack cells n = on_two-there sum stack cells
-effect-there tokens op.Sub stack cells n = on_two-there difference stack cells
-effect-there tokens op.Mul stack cells n = on_two-there product stack cells
-effect-there tokens op.Div stack cells n = on_two-there quotient stack cells
-effect-there tokens op.Mod stack cells n = on_two-there rest stack cells
-effect-there tokens op.Shl stack cells n = on_two-there left_shift stack cells
-effect-there tokens op.Shr stack cells n = on_two-there right_shift stack cells
-effect-there tokens op.And stack cells n = on_two-there (λ a b. Gives (bits_of_both a b)) stack cells
-effect-there tokens op.Or stack cells n = on_two-there (λ a b. Gives (bits_of_either a b)) stack cells
-effect-there tokens op.Xor stack cells n = on_two-there (λ a b. Gives (bits_of_one a b)) stack cells
+effect-there tokens op.Add stack cells n = on_two-there add stack cells
+effect-there tokens op.Sub stack cells n = on_two-there sub stack cells
+effect-there tokens op.Mul stack cells n = on_two-there mul stack cells
+effect-there tokens op.Div stack cells n = on_two-there div stack cells
+effect-there tokens op.Mod stack cells n = on_two-there rem stack cells
+effect-there tokens op.Shl stack cells n = on_two-there shl stack cells
+effect-there tokens op.Shr stack cells n = on_two-there shr stack cells
+effect-there tokens op.And stack cells n = on_two-there (λ a b. Gives (bit_and a b)) stack cells
+effect-there tokens op.Or stack cells n = on_two-there (λ a b. Gives (bit_or a b)) stack cells
+effect-there tokens op.Xor stack cells n = on_two-there (λ a b. Gives (bit_xor a b)) stack cells
 effect-there tokens op.Eq stack cells n = on_two-there (λ a b. Gives (truth (is_equal a b))) stack cells
 effect-there tokens op.Ne stack cells n = on_two-there (λ a b. Gives (truth (not (is_equal a b)))) stack cells
 effect-there tokens op.Lt stack cells n = on_two-there (λ a b. Gives (truth (is_below a b))) stack cells

@@ -1,9 +1,10 @@
 -- Worked rows, computed by the definition of running code.
-use Rattle.std.proofs.Common.{ℕ, zero, suc, refl, ℤ, pos, negsuc, List, [], ◌∷◌}
+use Rattle.std.proofs.Common.{ℕ, zero, suc, ◌+◌, refl, ℤ, pos, negsuc, List, [], ◌∷◌}
 use Rattle.std.specs.Prelude.{Some, None}
 use Rattle.rvc_base.specs.declared.scalar.Scalar.TheVariants.{Uint}
 use Rattle.rvc_base.specs.declared.trap.Trap.TheVariants.{DivideByZero, Overflow, IndexRange, ShiftRange, TurnLimit}
 use Rattle.rvc_base.specs.Turns.{max_turns}
+use Rattle.rvc_base.specs.Width.{least_num, greatest_num, max_shift}
 use Rattle.code_ir.specs.declared.instr.Instr.{Instr}
 use Rattle.code_ir.specs.declared.instr.Instr.TheVariants as op
 use Rattle.code_ir.specs.declared.outcome.Outcome.TheVariants.{True, False, Trap, Done}
@@ -20,7 +21,7 @@ one_body instrs cells = record { instrs = instrs; routines = []; entries = 0 ∷
 divided_by_zero : runs (one_body (op.Const (pos 7) ∷ op.Const (pos 0) ∷ op.Div ∷ op.Answer ∷ []) 0) 0 [] no_tokens (Trap DivideByZero) []
 divided_by_zero = go refl (go refl (stop refl))
 
-too_great : runs (one_body (op.Const (pos 9223372036854775807) ∷ op.Const (pos 1) ∷ op.Add ∷ op.Answer ∷ []) 0) 0 [] no_tokens (Trap Overflow) []
+too_great : runs (one_body (op.Const greatest_num ∷ op.Const (pos 1) ∷ op.Add ∷ op.Answer ∷ []) 0) 0 [] no_tokens (Trap Overflow) []
 too_great = go refl (go refl (stop refl))
 
 -- however many turns are left
@@ -40,8 +41,15 @@ rounds_towards_zero : runs (one_body (op.Const (negsuc 6) ∷ op.Const (pos 2) �
 rounds_towards_zero = go refl (go refl (go refl (go refl (go refl (go refl (go refl (go refl (go refl (go refl (go refl (go refl (stop refl))))))))))))
 
 -- the count of a shift is one too many
-shifts_too_far : runs (one_body (op.Const (pos 1) ∷ op.Const (pos 64) ∷ op.Shl ∷ op.Answer ∷ []) 0) 0 [] no_tokens (Trap ShiftRange) []
+shifts_too_far : runs (one_body (op.Const (pos 1) ∷ op.Const (pos (max_shift + 1)) ∷ op.Shl ∷ op.Answer ∷ []) 0) 0 [] no_tokens (Trap ShiftRange) []
 shifts_too_far = go refl (go refl (stop refl))
+
+-- by the greatest count 1 gets too great, and -1 gets the least number
+shifts_too_great : runs (one_body (op.Const (pos 1) ∷ op.Const (pos max_shift) ∷ op.Shl ∷ op.Answer ∷ []) 0) 0 [] no_tokens (Trap Overflow) []
+shifts_too_great = go refl (go refl (stop refl))
+
+shifts_to_the_least : runs (one_body (op.Const (negsuc 0) ∷ op.Const (pos max_shift) ∷ op.Shl ∷ op.Store 0 None ∷ op.Done ∷ []) 1) 0 (pos 0 ∷ []) no_tokens Done (least_num ∷ [])
+shifts_to_the_least = go refl (go refl (go refl (go refl (stop refl))))
 
 -- the index is one too many
 index_too_great : runs (one_body (op.Const (pos 2) ∷ op.LoadAt 0 2 ∷ op.Answer ∷ []) 2) 0 (pos 5 ∷ pos 6 ∷ []) no_tokens (Trap IndexRange) (pos 5 ∷ pos 6 ∷ [])

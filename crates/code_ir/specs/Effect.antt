@@ -4,7 +4,7 @@ use Rattle.rvc_base.specs.declared.scalar.Scalar.{Scalar}
 use Rattle.rvc_base.specs.declared.trap.Trap.{Trap}
 use Rattle.rvc_base.specs.declared.trap.Trap.TheVariants.{IndexRange}
 use Rattle.rvc_base.specs.Storing.{conv}
-use Rattle.rvc_base.specs.Arithmetic.{Computed, Gives, Traps, whole, sum, difference, product, opposite, quotient, rest, left_shift, right_shift, bits_of_both, bits_of_either, bits_of_one, other_bits, truth, is_equal, is_below, is_true}
+use Rattle.rvc_base.specs.Arithmetic.{Computed, Gives, Traps, whole, add, sub, mul, neg, div, rem, shl, shr, bit_and, bit_or, bit_xor, bit_not, truth, is_equal, is_below, is_true}
 use Rattle.code_ir.specs.declared.instr.Instr.{Instr}
 use Rattle.code_ir.specs.declared.instr.Instr.TheVariants as op
 
@@ -99,19 +99,19 @@ effect tokens (op.Token p k) stack cells = push_token (slice_get (tokens p) k) s
 effect tokens (op.TokenAt p k m n) stack cells = pop stack (λ i s. with_offset i 1 n (λ j. push_token (slice_get (tokens p) (k + j * m)) s cells))
 effect tokens (op.TokenList d p k m n) stack cells = with_cells cells d n (leave_taken stack (taken (tokens p) d k m n cells))
 effect tokens (op.Zero c n) stack cells = with_cells cells c n (Leaves stack (zeroed c n cells))
-effect tokens op.Neg stack cells = on_top opposite stack cells
-effect tokens op.BitNot stack cells = on_top (λ a. Gives (other_bits a)) stack cells
+effect tokens op.Neg stack cells = on_top neg stack cells
+effect tokens op.BitNot stack cells = on_top (λ a. Gives (bit_not a)) stack cells
 effect tokens op.Not stack cells = on_top (λ a. Gives (truth (not (is_true a)))) stack cells
-effect tokens op.Add stack cells = on_two sum stack cells
-effect tokens op.Sub stack cells = on_two difference stack cells
-effect tokens op.Mul stack cells = on_two product stack cells
-effect tokens op.Div stack cells = on_two quotient stack cells
-effect tokens op.Mod stack cells = on_two rest stack cells
-effect tokens op.Shl stack cells = on_two left_shift stack cells
-effect tokens op.Shr stack cells = on_two right_shift stack cells
-effect tokens op.And stack cells = on_two (λ a b. Gives (bits_of_both a b)) stack cells
-effect tokens op.Or stack cells = on_two (λ a b. Gives (bits_of_either a b)) stack cells
-effect tokens op.Xor stack cells = on_two (λ a b. Gives (bits_of_one a b)) stack cells
+effect tokens op.Add stack cells = on_two add stack cells
+effect tokens op.Sub stack cells = on_two sub stack cells
+effect tokens op.Mul stack cells = on_two mul stack cells
+effect tokens op.Div stack cells = on_two div stack cells
+effect tokens op.Mod stack cells = on_two rem stack cells
+effect tokens op.Shl stack cells = on_two shl stack cells
+effect tokens op.Shr stack cells = on_two shr stack cells
+effect tokens op.And stack cells = on_two (λ a b. Gives (bit_and a b)) stack cells
+effect tokens op.Or stack cells = on_two (λ a b. Gives (bit_or a b)) stack cells
+effect tokens op.Xor stack cells = on_two (λ a b. Gives (bit_xor a b)) stack cells
 effect tokens op.Eq stack cells = on_two (λ a b. Gives (truth (is_equal a b))) stack cells
 effect tokens op.Ne stack cells = on_two (λ a b. Gives (truth (not (is_equal a b)))) stack cells
 effect tokens op.Lt stack cells = on_two (λ a b. Gives (truth (is_below a b))) stack cells

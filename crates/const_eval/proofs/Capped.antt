@@ -4,7 +4,8 @@ use Rattle.std.proofs.Math.Nat.{suc-mul, mul_assoc, mul_comm}
 use Rattle.std.specs.Prelude.{nat_le, ◌&&◌, if◌then◌else◌}
 use Rattle.std.proofs.lemmas.Bool.Decides.{nat_tests}
 use Rattle.cal_model.specs.Value.{Kind, ListKind, scalars_of_kind}
-use Rattle.cal_model.specs.Kinding.{Fine, Broken, list_of_kind, list_too_long}
+use Rattle.cal_model.specs.Kinding.{Fine, Broken, list_of_kind}
+use Rattle.rvc_base.specs.Rules.{list_too_long}
 use Rattle.const_eval.specs.Fitting.{capped}
 
 below : (n : ℕ) → nat_le n 16384 ≡ true → n ≤ 16384

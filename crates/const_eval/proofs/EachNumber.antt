@@ -1,10 +1,11 @@
 -- The elements for each number of a range, one number after another.
-use Rattle.std.proofs.Common.{◌≡◌, ◌≢◌, ℕ, zero, ℤ, pos, ◌+ℤ◌, ◌-ℤ◌, ◌≤ℤ◌, List, true, refl, sym, ap, ◌∙◌, subst, to_z, of_z, w64, Fits, SFits, arith}
+use Rattle.std.proofs.Common.{◌≡◌, ◌≢◌, ℕ, zero, ℤ, pos, ◌+ℤ◌, ◌-ℤ◌, ◌≤ℤ◌, List, true, refl, sym, ap, ◌∙◌, subst, to_z, of_z, Fits, SFits, arith}
 use Rattle.std.specs.Prelude.{Option, int_lt, unsigned_abs}
 use Rattle.std.proofs.lemmas.Int.{ints, of_z-to_z, to_z-of_z}
 use Rattle.rvc_base.specs.declared.scalar.Scalar.{Scalar}
 use Rattle.cal_ast.specs.Tree.{Tree}
 use Rattle.cal_model.specs.Value.{Value, Values, joined}
+use Rattle.rvc_base.specs.Width.{num_width}
 use Rattle.cal_model.specs.Outcome.{Out, Gives, and_then}
 use Rattle.cal_model.specs.Env.{Env, with_local}
 use Rattle.cal_model.specs.Expression.{Calls, each_from, elements, eval, span}
@@ -44,9 +45,9 @@ done_stops low number high f left now whole s h d =
     subst (Stops s) (ap (λ n. adds n number f left now) (sym (span_some number high d.1)) ∙ d.2) (each_stops (unsigned_abs (high -ℤ number)) number f left now s h)
 
 -- a range without numbers
-pub no_numbers : (low high : ℤ) (f : ℤ → ℕ → Out Values) (left : ℕ) (now : Values) → SFits w64 low → SFits w64 high → int_lt (to_z w64 (of_z w64 high)) (to_z w64 (of_z w64 low)) ≡ true → adds (span low high) low f left now ≡ Gives now left
+pub no_numbers : (low high : ℤ) (f : ℤ → ℕ → Out Values) (left : ℕ) (now : Values) → SFits num_width low → SFits num_width high → int_lt (to_z num_width (of_z num_width high)) (to_z num_width (of_z num_width low)) ≡ true → adds (span low high) low f left now ≡ Gives now left
 no_numbers low high f left now l h e =
-    let below : int_lt high low ≡ true = ap (λ x. int_lt x low) (sym (to_z-of_z w64 high h)) ∙ ap (int_lt (to_z w64 (of_z w64 high))) (sym (to_z-of_z w64 low l)) ∙ e in
+    let below : int_lt high low ≡ true = ap (λ x. int_lt x low) (sym (to_z-of_z num_width high h)) ∙ ap (int_lt (to_z num_width (of_z num_width high))) (sym (to_z-of_z num_width low l)) ∙ e in
     ap (λ n. adds n low f left now) (span_none low high below) ∙ each_done low f left now
 
 -- ---- over the elements of generators inside
@@ -63,48 +64,48 @@ seen_inside P gens item calls inside env inner name v w left e f g h =
     (subst (λ x. P (elements gens (λ e k. eval item calls e k) calls x left)) f
     (subst (λ c. P (elements gens (λ e k. eval item c e k) c inner left)) e h))
 
-not_last : (n : ℕ) (high : ℤ) → Fits w64 n → (n ≡ of_z w64 high → ⊥) → to_z w64 n ≢ high
-not_last n high f h e = h (sym (of_z-to_z w64 n f.fits) ∙ ap (of_z w64) e)
+not_last : (n : ℕ) (high : ℤ) → Fits num_width n → (n ≡ of_z num_width high → ⊥) → to_z num_width n ≢ high
+not_last n high f h e = h (sym (of_z-to_z num_width n f.fits) ∙ ap (of_z num_width) e)
 
-is_last : (n : ℕ) (high : ℤ) → SFits w64 high → n ≡ of_z w64 high → to_z w64 n ≡ high
-is_last n high f h = ap (to_z w64) h ∙ to_z-of_z w64 high f
+is_last : (n : ℕ) (high : ℤ) → SFits num_width high → n ≡ of_z num_width high → to_z num_width n ≡ high
+is_last n high f h = ap (to_z num_width) h ∙ to_z-of_z num_width high f
 
-next_is : (i high : ℤ) → SFits w64 high → (n : ℕ) → i ≡ to_z w64 n → (i +ℤ pos 1) ≤ℤ high → to_z w64 (of_z w64 (i +ℤ pos 1)) ≡ i +ℤ pos 1
+next_is : (i high : ℤ) → SFits num_width high → (n : ℕ) → i ≡ to_z num_width n → (i +ℤ pos 1) ≤ℤ high → to_z num_width (of_z num_width (i +ℤ pos 1)) ≡ i +ℤ pos 1
 next_is i high f n e h =
     let least = read_below n in
-    let fits : SFits w64 (i +ℤ pos 1) = fits_between i high f (subst (λ x. SFits w64 x) (sym e) least) h in
-    to_z-of_z w64 (i +ℤ pos 1) fits
+    let fits : SFits num_width (i +ℤ pos 1) = fits_between i high f (subst (λ x. SFits num_width x) (sym e) least) h in
+    to_z-of_z num_width (i +ℤ pos 1) fits
   where
-    read_below : (n : ℕ) → SFits w64 (to_z w64 n)
+    read_below : (n : ℕ) → SFits num_width (to_z num_width n)
     read_below n = omega (arith, ints)
 
-    fits_between : (i high : ℤ) → SFits w64 high → SFits w64 i → (i +ℤ pos 1) ≤ℤ high → SFits w64 (i +ℤ pos 1)
+    fits_between : (i high : ℤ) → SFits num_width high → SFits num_width i → (i +ℤ pos 1) ≤ℤ high → SFits num_width (i +ℤ pos 1)
     fits_between i high f g h = omega (arith, ints)
 
 pub numbers_next : (gens item : Tree) (calls inside : Calls) (env inner : Env) (name : List ℕ) (t : Option Scalar) (v : Value) (n : ℕ) (low high : ℤ) (left m : ℕ) (now news : Values) (whole : Out Values)
-    → Fits w64 n → SFits w64 high → (n ≡ of_z w64 high → ⊥) → inside ≡ calls → inner ≡ with_local (counter_var name v) env → v ≡ counted t (to_z w64 n)
+    → Fits num_width n → SFits num_width high → (n ≡ of_z num_width high → ⊥) → inside ≡ calls → inner ≡ with_local (counter_var name v) env → v ≡ counted t (to_z num_width n)
     → and_then (elements gens (λ e k. eval item inside e k) inside inner left) (λ vs k. Gives (joined now vs) k) ≡ Gives news m
-    → AreDone low (to_z w64 n) high (element_of gens item calls env name t) left now whole
-    → AreDone low (to_z w64 (of_z w64 (to_z w64 n +ℤ pos 1))) high (element_of gens item calls env name t) m news whole
+    → AreDone low (to_z num_width n) high (element_of gens item calls env name t) left now whole
+    → AreDone low (to_z num_width (of_z num_width (to_z num_width n +ℤ pos 1))) high (element_of gens item calls env name t) m news whole
 numbers_next gens item calls inside env inner name t v n low high left m now news whole fits most differs e f g h d =
-    let apart : to_z w64 n ≢ high = not_last n high fits differs in
-    let is = next_is (to_z w64 n) high most n refl (next_fits (to_z w64 n) high d.1 apart) in
+    let apart : to_z num_width n ≢ high = not_last n high fits differs in
+    let is = next_is (to_z num_width n) high most n refl (next_fits (to_z num_width n) high d.1 apart) in
     subst (λ i. AreDone low i high (element_of gens item calls env name t) m news whole) (sym is)
-    (done_next low (to_z w64 n) high (element_of gens item calls env name t) left m now news whole apart
-    (seen_inside (λ o. and_then o (λ vs k. Gives (joined now vs) k) ≡ Gives news m) gens item calls inside env inner name v (counted t (to_z w64 n)) left e f g h) d)
+    (done_next low (to_z num_width n) high (element_of gens item calls env name t) left m now news whole apart
+    (seen_inside (λ o. and_then o (λ vs k. Gives (joined now vs) k) ≡ Gives news m) gens item calls inside env inner name v (counted t (to_z num_width n)) left e f g h) d)
 
 pub numbers_end : (gens item : Tree) (calls inside : Calls) (env inner : Env) (name : List ℕ) (t : Option Scalar) (v : Value) (n : ℕ) (low high : ℤ) (left m : ℕ) (now news : Values) (whole : Out Values)
-    → SFits w64 high → n ≡ of_z w64 high → inside ≡ calls → inner ≡ with_local (counter_var name v) env → v ≡ counted t (to_z w64 n)
+    → SFits num_width high → n ≡ of_z num_width high → inside ≡ calls → inner ≡ with_local (counter_var name v) env → v ≡ counted t (to_z num_width n)
     → and_then (elements gens (λ e k. eval item inside e k) inside inner left) (λ vs k. Gives (joined now vs) k) ≡ Gives news m
-    → AreDone low (to_z w64 n) high (element_of gens item calls env name t) left now whole → whole ≡ Gives news m
+    → AreDone low (to_z num_width n) high (element_of gens item calls env name t) left now whole → whole ≡ Gives news m
 numbers_end gens item calls inside env inner name t v n low high left m now news whole most same e f g h d =
-    done_last low (to_z w64 n) high (element_of gens item calls env name t) left m now news whole (is_last n high most same)
-    (seen_inside (λ o. and_then o (λ vs k. Gives (joined now vs) k) ≡ Gives news m) gens item calls inside env inner name v (counted t (to_z w64 n)) left e f g h) d
+    done_last low (to_z num_width n) high (element_of gens item calls env name t) left m now news whole (is_last n high most same)
+    (seen_inside (λ o. and_then o (λ vs k. Gives (joined now vs) k) ≡ Gives news m) gens item calls inside env inner name v (counted t (to_z num_width n)) left e f g h) d
 
 pub numbers_stop : (gens item : Tree) (calls inside : Calls) (env inner : Env) (name : List ℕ) (t : Option Scalar) (v : Value) (n : ℕ) (low high : ℤ) (left : ℕ) (now : Values) (whole : Out Values) (s : Stop)
-    → inside ≡ calls → inner ≡ with_local (counter_var name v) env → v ≡ counted t (to_z w64 n)
+    → inside ≡ calls → inner ≡ with_local (counter_var name v) env → v ≡ counted t (to_z num_width n)
     → Stops s (and_then (elements gens (λ e k. eval item inside e k) inside inner left) (λ vs k. Gives (joined now vs) k))
-    → AreDone low (to_z w64 n) high (element_of gens item calls env name t) left now whole → Stops s whole
+    → AreDone low (to_z num_width n) high (element_of gens item calls env name t) left now whole → Stops s whole
 numbers_stop gens item calls inside env inner name t v n low high left now whole s e f g h d =
-    done_stops low (to_z w64 n) high (element_of gens item calls env name t) left now whole s
-    (seen_inside (λ o. Stops s (and_then o (λ vs k. Gives (joined now vs) k))) gens item calls inside env inner name v (counted t (to_z w64 n)) left e f g h) d
+    done_stops low (to_z num_width n) high (element_of gens item calls env name t) left now whole s
+    (seen_inside (λ o. Stops s (and_then o (λ vs k. Gives (joined now vs) k))) gens item calls inside env inner name v (counted t (to_z num_width n)) left e f g h) d

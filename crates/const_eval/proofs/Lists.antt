@@ -1,9 +1,10 @@
 -- Lists of values, one value after another.
 use Rattle.std.proofs.Common.{◌≡◌, ℕ, zero, suc, ◌+◌, List, [], ◌∷◌, ◌++◌, map, length, get_or, ◌<◌, ◌≤◌, refl, sym, ap, ◌∙◌, add-one, arith}
-use Rattle.std.proofs.Common.{ℤ, pos, negsuc, false, subst, take, to_z, of_z, w64, SFits}
+use Rattle.std.proofs.Common.{ℤ, pos, negsuc, false, subst, take, to_z, of_z, SFits}
 use Rattle.std.specs.Prelude.{None, Some, int_lt, slice_get, unsigned_abs}
 use Rattle.std.proofs.lemmas.Int.{to_z-of_z}
 use Rattle.rvc_base.specs.declared.trap.Trap.TheVariants.{IndexRange}
+use Rattle.rvc_base.specs.Width.{num_width}
 use Rattle.cal_model.specs.Outcome.{Gives, Traps}
 use Rattle.cal_model.specs.Env.{item_at}
 use Rattle.std.proofs.lemmas.List.{map-append, take_all}
@@ -55,25 +56,25 @@ pub stored_list : (t : Shape) (vs ks : List Declared) (n : ℕ) → length vs �
 stored_list t vs ks n h e = ap in_order e ∙ ap (λ ws. in_order (map (λ v. stored t (value_view v)) ws)) (take_all n vs h) ∙ each_stored t vs
 
 -- the item at a number that isn't below 0 and is a place of the list
-pub item_found : (z : ℤ) (vs : List Declared) (d : Declared) (left : ℕ) → SFits w64 z → int_lt (to_z w64 (of_z w64 z)) (pos 0) ≡ false → unsigned_abs (to_z w64 (of_z w64 z)) < length vs
-    → item_at (in_order (map value_view vs)) z left ≡ Gives (value_view (get_or vs (unsigned_abs (to_z w64 (of_z w64 z))) d)) left
+pub item_found : (z : ℤ) (vs : List Declared) (d : Declared) (left : ℕ) → SFits num_width z → int_lt (to_z num_width (of_z num_width z)) (pos 0) ≡ false → unsigned_abs (to_z num_width (of_z num_width z)) < length vs
+    → item_at (in_order (map value_view vs)) z left ≡ Gives (value_view (get_or vs (unsigned_abs (to_z num_width (of_z num_width z))) d)) left
 item_found (pos n) vs d left f e h =
-    let is : to_z w64 (of_z w64 (pos n)) ≡ pos n = to_z-of_z w64 (pos n) f in
+    let is : to_z num_width (of_z num_width (pos n)) ≡ pos n = to_z-of_z num_width (pos n) f in
     let l : n < length vs = subst (λ x. unsigned_abs x < length vs) is h in
     ap (λ o. elim o [ None ↦ Traps IndexRange | Some v ↦ Gives v left ]) (value_in vs n d l) ∙ ap (λ x. Gives (value_view (get_or vs (unsigned_abs x) d)) left) (sym is)
 item_found (negsuc n) vs d left f e h =
-    let is : to_z w64 (of_z w64 (negsuc n)) ≡ negsuc n = to_z-of_z w64 (negsuc n) f in
+    let is : to_z num_width (of_z num_width (negsuc n)) ≡ negsuc n = to_z-of_z num_width (negsuc n) f in
     let g : int_lt (negsuc n) (pos 0) ≡ false = subst (λ x. int_lt x (pos 0) ≡ false) is e in
     cc
 
-pub item_missing : (z : ℤ) (vs : List Declared) (left : ℕ) → SFits w64 z → int_lt (to_z w64 (of_z w64 z)) (pos 0) ≡ false → length vs ≤ unsigned_abs (to_z w64 (of_z w64 z))
+pub item_missing : (z : ℤ) (vs : List Declared) (left : ℕ) → SFits num_width z → int_lt (to_z num_width (of_z num_width z)) (pos 0) ≡ false → length vs ≤ unsigned_abs (to_z num_width (of_z num_width z))
     → item_at (in_order (map value_view vs)) z left ≡ Traps IndexRange
 item_missing (pos n) vs left f e h =
-    let is : to_z w64 (of_z w64 (pos n)) ≡ pos n = to_z-of_z w64 (pos n) f in
+    let is : to_z num_width (of_z num_width (pos n)) ≡ pos n = to_z-of_z num_width (pos n) f in
     let l : length vs ≤ n = subst (λ x. length vs ≤ unsigned_abs x) is h in
     ap (λ o. elim o [ None ↦ Traps IndexRange | Some v ↦ Gives v left ]) (value_out vs n l)
 item_missing (negsuc n) vs left f e h =
-    let is : to_z w64 (of_z w64 (negsuc n)) ≡ negsuc n = to_z-of_z w64 (negsuc n) f in
+    let is : to_z num_width (of_z num_width (negsuc n)) ≡ negsuc n = to_z-of_z num_width (negsuc n) f in
     let g : int_lt (negsuc n) (pos 0) ≡ false = subst (λ x. int_lt x (pos 0) ≡ false) is e in
     cc
 

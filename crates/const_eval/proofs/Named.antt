@@ -3,7 +3,8 @@ use Rattle.std.proofs.Common.{◌≡◌, ℕ, Bool, true, false, ◌||◌, List,
 use Rattle.std.specs.Prelude.{Option, None, Some, if◌then◌else◌}
 use Rattle.std.specs.Str.{bytes_eq}
 use Rattle.cal_model.specs.Value.{Kind, NumKind, Value}
-use Rattle.cal_model.specs.Kinding.{Judged, Fine, Broken, Known, counter, known_as, constants, without, unknown_name}
+use Rattle.cal_model.specs.Kinding.{Judged, Fine, Broken, Known, counter, known_as, constants, without}
+use Rattle.rvc_base.specs.Rules.{unknown_name}
 use Rattle.const_eval.specs.Constants.{Constant, constant_named, kind_of_value, known_of, var_of}
 use Rattle.const_eval.specs.Counting.{hide, is_among}
 

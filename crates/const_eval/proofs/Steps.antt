@@ -15,7 +15,8 @@ use Rattle.cal_model.specs.Actor.{Local}
 use Rattle.cal_model.specs.View.{local_view}
 use Rattle.cal_model.specs.declared.bound.BoundLocal.{BoundLocal}
 use Rattle.cal_model.specs.Value.{Kind, kind_of_type}
-use Rattle.cal_model.specs.Kinding.{Judged, Fine, Broken, and_so, Names, Argument, OfShape, OfSize, all_like, all_same, arguments_fit, constant_number, is_like, is_same_kind, kind, kinds, list_kind, list_of_kind, one_kind, type_arguments, type_judged, wrong_kind, wrong_length}
+use Rattle.cal_model.specs.Kinding.{Judged, Fine, Broken, and_so, Names, Argument, OfShape, OfSize, all_like, all_same, arguments_fit, constant_number, is_like, is_same_kind, kind, kinds, list_kind, list_of_kind, one_kind, type_arguments, type_judged}
+use Rattle.rvc_base.specs.Rules.{wrong_kind, wrong_length}
 use Rattle.const_eval.specs.Fitting.{both_fit, fit_of, formal_fits}
 use Rattle.const_eval.specs.Judging.{Breaks}
 use Rattle.const_eval.specs.Shaping.{argument_judged}

@@ -8,7 +8,8 @@ use Rattle.cal_model.specs.Env.{Var}
 use Rattle.cal_ast.specs.Tree as tree
 use Rattle.cal_ast.specs.Tree.{Tree}
 use Rattle.cal_model.specs.Expression.{span}
-use Rattle.cal_model.specs.Kinding.{Judged, Fine, Broken, and_so, Names, counter, without, kind, constant_number, counts, type_judged, wrong_kind}
+use Rattle.cal_model.specs.Kinding.{Judged, Fine, Broken, and_so, Names, counter, without, kind, constant_number, counts, type_judged}
+use Rattle.rvc_base.specs.Rules.{wrong_kind}
 use Rattle.const_eval.specs.Constants.{known_of}
 use Rattle.const_eval.specs.Held.{held}
 use Rattle.const_eval.specs.Fitting.{capped}

@@ -8,7 +8,7 @@ use Rattle.const_eval.specs.declared.fault.KindFault.TheVariants as fault
 
 -- the first rule that is broken, with its place; want of memory says nothing
 abbrev pub Breaks : {B : Type 0} → KindFault → Judged B → Type 0
-Breaks (fault.Broken rule at) judged = judged ≡ Broken rule.0 at
+Breaks (fault.Broken rule at) judged = judged ≡ Broken rule at
 Breaks fault.Memory judged = Unit {0}
 
 -- a call's answer is the judgement

@@ -4,7 +4,8 @@ use Rattle.std.specs.Str.{bytes_eq}
 use Rattle.rvc_base.specs.Width.{default_size, max_size}
 use Rattle.cal_ast.specs.Tree as tree
 use Rattle.cal_ast.specs.Tree.{Tree}
-use Rattle.cal_model.specs.Kinding.{Judged, Fine, Broken, and_so, Names, Argument, OfShape, OfSize, type_judged, constant_number, kind, wrong_kind, wrong_type_argument}
+use Rattle.cal_model.specs.Kinding.{Judged, Fine, Broken, and_so, Names, Argument, OfShape, OfSize, type_judged, constant_number, kind}
+use Rattle.rvc_base.specs.Rules.{wrong_kind, wrong_type_argument}
 use Rattle.cal_model.specs.View.{shape_view}
 use Rattle.const_eval.specs.declared.shapes.Argument.{Argument as Declared}
 use Rattle.const_eval.specs.declared.shapes.Argument.TheVariants as declared

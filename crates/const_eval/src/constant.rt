@@ -71,7 +71,7 @@ pub fn eval_const(alloc: Global, env: &Env, e: &Expr) -> Result<Value, ConstFaul
 /// the bound of a generator or the size of a type that traps or isn't constant.
 pub fn kind_const(alloc: Global, env: &Env, e: &Expr) -> Result<Kind, KindFault>
     ensures kind { IfOk result (λ found. kind (expr_tree e.now) (names_of (held env.now)) ≡ Fine (kind_view found)) }
-    ensures broken { (rule : Rule) (at : ℕ) → IsErrOf result (KindFault.Broken rule at) → kind (expr_tree e.now) (names_of (held env.now)) ≡ Broken rule.0 at }
+    ensures broken { (rule : Rule) (at : ℕ) → IsErrOf result (KindFault.Broken rule at) → kind (expr_tree e.now) (names_of (held env.now)) ≡ Broken rule at }
 {
     let names = Names {
         alloc,

@@ -27,11 +27,8 @@ use crate::names::Names;
 use crate::shapes::{Argument, counts, is_word, type_with};
 use crate::stop::Stop;
 use cal_ast::{BinOp, Expr, ExprForm, Gen, TypeArg, TypeExpr};
-use cal_model::rules::{
-    CONSTANT_TRAPS, NOT_CONSTANT, UNKNOWN_NAME, WRONG_LENGTH, WRONG_NUMBER_OF_ARGUMENTS,
-};
 use cal_model::{BoundLocal, Kind, MAX_LIST_SCALARS, Shape, Value, kind_of_type};
-use rvc_base::Num;
+use rvc_base::{Num, Rule};
 
 /// The kind of an expression.
 #[cycle(kind)]
@@ -102,7 +99,7 @@ fn kind_of_call(names: &Names, name: &str, args: &[Expr], at: u32) -> Result<Kin
 {
     let Some(fun) = names.env.fun(name) else {
         return Err(KindFault::Broken {
-            rule: UNKNOWN_NAME,
+            rule: Rule::UNKNOWN_NAME,
             at,
         });
     };
@@ -110,7 +107,7 @@ fn kind_of_call(names: &Names, name: &str, args: &[Expr], at: u32) -> Result<Kin
         return Ok(kind_of_scalar(fun.result));
     }
     Err(KindFault::Broken {
-        rule: WRONG_NUMBER_OF_ARGUMENTS,
+        rule: Rule::WRONG_NUMBER_OF_ARGUMENTS,
         at,
     })
 }
@@ -176,7 +173,7 @@ fn kind_of_list(names: &Names, items: &[Expr], at: u32) -> Result<Kind, KindFaul
     }
     if !fit.same {
         return Err(KindFault::Broken {
-            rule: WRONG_LENGTH,
+            rule: Rule::WRONG_LENGTH,
             at,
         });
     }
@@ -248,11 +245,13 @@ fn span(low: Num, high: Num) -> u32
     if high < low {
         return 0;
     }
-    let steps = high.abs_diff(low);
-    if steps >= u64::from(MAX_LIST_SCALARS) {
+    let Ok(steps) = u32::try_from(high.abs_diff(low)) else {
+        return MAX_LIST_SCALARS + 1;
+    };
+    if steps >= MAX_LIST_SCALARS {
         return MAX_LIST_SCALARS + 1;
     }
-    steps as u32 + 1
+    steps + 1
 }
 
 // ---- constants
@@ -274,7 +273,7 @@ fn number_given(names: &Names, e: &Expr) -> Result<Num, KindFault>
     ensures { Judges (λ z. z) result (number_given (constant (expr_tree e.now) (names_view names.now)) (out-Expr e.now).at) }
 {
     let not_constant = KindFault::Broken {
-        rule: NOT_CONSTANT,
+        rule: Rule::NOT_CONSTANT,
         at: e.at,
     };
     match names.value_of(e) {
@@ -282,7 +281,7 @@ fn number_given(names: &Names, e: &Expr) -> Result<Num, KindFault>
         Ok(Value::Bool(_)) => Err(not_constant),
         Ok(Value::List(_)) => Err(not_constant),
         Err(Stop::Trap(_)) => Err(KindFault::Broken {
-            rule: CONSTANT_TRAPS,
+            rule: Rule::CONSTANT_TRAPS,
             at: e.at,
         }),
         Err(Stop::Lacks) => Err(not_constant),
@@ -302,7 +301,7 @@ fn type_judged(names: &Names, t: &TypeExpr) -> Result<Shape, KindFault>
     let name = t.name.text.as_str();
     if !is_word(name) {
         return Err(KindFault::Broken {
-            rule: UNKNOWN_NAME,
+            rule: Rule::UNKNOWN_NAME,
             at: t.name.at,
         });
     }

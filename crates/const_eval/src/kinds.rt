@@ -1,7 +1,8 @@
 //! Kinds side by side, and the kinds that operations give.
 
 ghost use Rattle.std.specs.Prelude.{◌≡◌, ◌*◌, IfOk, true};
-ghost use Rattle.cal_model.specs.Kinding.{binary_kind, branch_kind, is_like, is_same_kind, item_kind, kind_over_numbers, kind_over_truths, list_of_kind, one_kind, prefix_kind, wrong_kind};
+ghost use Rattle.cal_model.specs.Kinding.{binary_kind, branch_kind, is_like, is_same_kind, item_kind, kind_over_numbers, kind_over_truths, list_of_kind, one_kind, prefix_kind};
+ghost use Rattle.rvc_base.specs.Rules.{wrong_kind};
 ghost use Rattle.cal_model.specs.Value.{BoolKind, kind_of_scalar, scalars_of_kind};
 ghost use Rattle.cal_model.specs.View.{kind_view, value_view, values_view};
 ghost use Rattle.const_eval.specs.Constants.{kind_of_value};
@@ -11,17 +12,16 @@ ghost use Rattle.cal_model.specs.Value.{Items};
 
 use crate::fault::KindFault;
 use cal_ast::{BinOp, PrefixOp};
-use cal_model::rules::{LIST_TOO_LONG, WRONG_KIND, WRONG_LENGTH};
 use cal_model::{Kind, MAX_LIST_SCALARS, Value, Values};
-use rvc_base::{Memory, Scalar};
+use rvc_base::{Memory, Rule, Scalar};
 use std::alloc::Global;
 
 /// Kinds don't match.
 pub(crate) fn wrong_kind(at: u32) -> KindFault
-    ensures { result ≡ KindFault.Broken (record { 0 = wrong_kind }) at }
+    ensures { result ≡ KindFault.Broken wrong_kind at }
 {
     KindFault::Broken {
-        rule: WRONG_KIND,
+        rule: Rule::WRONG_KIND,
         at,
     }
 }
@@ -107,7 +107,7 @@ pub(crate) fn one_kind(k: &Kind, l: &Kind, at: u32) -> Result<(), KindFault>
     }
     if is_like(k, l) {
         return Err(KindFault::Broken {
-            rule: WRONG_LENGTH,
+            rule: Rule::WRONG_LENGTH,
             at,
         });
     }
@@ -176,7 +176,7 @@ pub(crate) fn list_of_kind(alloc: Global, size: usize, k: Kind, at: u32) -> Resu
     ensures { Judges kind_view result (list_of_kind size (kind_view k) at) }
 {
     let too_long = KindFault::Broken {
-        rule: LIST_TOO_LONG,
+        rule: Rule::LIST_TOO_LONG,
         at,
     };
     if size > MAX_LIST_SCALARS as usize {

@@ -18,7 +18,7 @@ use crate::kinds::kind_of_value;
 use crate::scope::Scope;
 use crate::stop::Stop;
 use cal_ast::Expr;
-use cal_model::rules::UNKNOWN_NAME;
+use rvc_base::Rule;
 use cal_model::{Kind, Value, constants_are_values};
 use std::alloc::Global;
 
@@ -69,7 +69,7 @@ impl<'a> Names<'a> {
         match self.env.value(name) {
             Some(value) => Ok(kind_of_value(self.alloc, value)?),
             None => Err(KindFault::Broken {
-                rule: UNKNOWN_NAME,
+                rule: Rule::UNKNOWN_NAME,
                 at,
             }),
         }

@@ -12,9 +12,7 @@ ghost use Rattle.const_eval.specs.Outcome.{Evaluates};
 use crate::stop::Stop;
 use cal_ast::{BinOp, PrefixOp};
 use cal_model::{Value, Values};
-use rvc_base::arithmetic::{
-    difference, left_shift, opposite, product, quotient, rest, right_shift, sum,
-};
+use rvc_base::arithmetic::{add, div, mul, neg, rem, shl, shr, sub};
 use rvc_base::{Num, Trap};
 
 /// A number as it is written.
@@ -64,7 +62,7 @@ fn negated(value: &Value) -> Result<Value, Stop>
     ensures { (left : ℕ) → Evaluates value_view result left (prefixed PrefixOp.Neg (value_view value.now) left) }
 {
     match value {
-        Value::Num(number) => computed(opposite(*number)),
+        Value::Num(number) => computed(neg(*number)),
         Value::Bool(_) => Err(Stop::Clashes),
         Value::List(_) => Err(Stop::Clashes),
     }
@@ -131,13 +129,13 @@ fn of_numbers(op: BinOp, a: Num, b: Num) -> Result<Value, Stop>
     ensures { (left : ℕ) → Evaluates value_view result left (of_numbers op a b left) }
 {
     match op {
-        BinOp::Add => computed(sum(a, b)),
-        BinOp::Sub => computed(difference(a, b)),
-        BinOp::Mul => computed(product(a, b)),
-        BinOp::Div => computed(quotient(a, b)),
-        BinOp::Mod => computed(rest(a, b)),
-        BinOp::Shl => computed(left_shift(a, b)),
-        BinOp::Shr => computed(right_shift(a, b)),
+        BinOp::Add => computed(add(a, b)),
+        BinOp::Sub => computed(sub(a, b)),
+        BinOp::Mul => computed(mul(a, b)),
+        BinOp::Div => computed(div(a, b)),
+        BinOp::Mod => computed(rem(a, b)),
+        BinOp::Shl => computed(shl(a, b)),
+        BinOp::Shr => computed(shr(a, b)),
         BinOp::BitAnd => Ok(Value::Num(a & b)),
         BinOp::BitOr => Ok(Value::Num(a | b)),
         BinOp::BitXor => Ok(Value::Num(a ^ b)),
@@ -204,10 +202,9 @@ fn item(values: Values, place: &Value) -> Result<Value, Stop>
 fn item_at(mut items: Vec<Value>, number: Num) -> Result<Value, Stop>
     ensures { (left : ℕ) → Evaluates value_view result left (item_at (in_order (map value_view items.items)) number left) }
 {
-    if number < 0 {
+    let Ok(place) = usize::try_from(number) else {
         return Err(Stop::Trap(Trap::IndexRange));
-    }
-    let place = number as usize;
+    };
     if place >= items.len() {
         return Err(Stop::Trap(Trap::IndexRange));
     }

@@ -2,7 +2,8 @@
 
 ghost use Rattle.std.specs.Prelude.{◌≡◌, ◌≤◌, ◌&&◌, IfOk, codes, if◌then◌else◌, map, string_bytes};
 ghost use Rattle.std.specs.Str.{bytes_eq};
-ghost use Rattle.cal_model.specs.Kinding.{Broken, counts, is_word, list_type, list_type_of, truth_type, type_with, wrong_type_argument};
+ghost use Rattle.cal_model.specs.Kinding.{Broken, counts, is_word, list_type, list_type_of, truth_type, type_with};
+ghost use Rattle.rvc_base.specs.Rules.{wrong_type_argument};
 ghost use Rattle.cal_model.specs.Value.{scalars_of_type};
 ghost use Rattle.cal_model.specs.View.{shape_view};
 ghost use Rattle.const_eval.specs.Fitting.{capped};
@@ -13,9 +14,8 @@ use crate::fault::KindFault;
 use crate::filled::Filled;
 use crate::kinds::{product, wrong_kind};
 use cal_ast::Ident;
-use cal_model::rules::{LIST_TOO_LONG, UNSUPPORTED_TYPE, WRONG_TYPE_ARGUMENT};
 use cal_model::{MAX_LIST_SCALARS, Shape};
-use rvc_base::{DEFAULT_SIZE, MAX_SIZE, Num, Scalar};
+use rvc_base::{DEFAULT_SIZE, MAX_SIZE, Num, Rule, Scalar};
 use std::alloc::Global;
 
 /// An argument of a type, by its name.
@@ -27,10 +27,10 @@ pub(crate) enum Argument<'a> {
 
 /// An argument of a type is missing, unknown or outside its range.
 fn wrong_argument(at: u32) -> KindFault
-    ensures { result ≡ KindFault.Broken (record { 0 = wrong_type_argument }) at }
+    ensures { result ≡ KindFault.Broken wrong_type_argument at }
 {
     KindFault::Broken {
-        rule: WRONG_TYPE_ARGUMENT,
+        rule: Rule::WRONG_TYPE_ARGUMENT,
         at,
     }
 }
@@ -73,7 +73,7 @@ pub(crate) fn type_with(
         return list_type(alloc, given, at);
     }
     Err(KindFault::Broken {
-        rule: UNSUPPORTED_TYPE,
+        rule: Rule::UNSUPPORTED_TYPE,
         at,
     })
 }
@@ -174,7 +174,7 @@ fn list_of_items(alloc: Global, items: Filled, size: Num, at: u32) -> Result<Sha
         return Err(wrong_argument(at));
     }
     let too_long = KindFault::Broken {
-        rule: LIST_TOO_LONG,
+        rule: Rule::LIST_TOO_LONG,
         at,
     };
     if size > Num::from(MAX_LIST_SCALARS) {

@@ -36,7 +36,7 @@ impl Counting {
 pub(crate) struct Given {
     /// Whether it is given the type of its items.
     pub has_items: bool,
-    pub size: Option<u64>,
+    pub size: Option<u128>,
 }
 
 impl Given {
@@ -74,7 +74,7 @@ impl Given {
 }
 
 /// A number that isn't below 0.
-fn size_of(value: &Value) -> Option<u64>
+fn size_of(value: &Value) -> Option<u128>
     ensures { result ≡ size_of_value (value_view value.now) }
 {
     match value {
@@ -82,7 +82,7 @@ fn size_of(value: &Value) -> Option<u64>
             if *number < 0 {
                 None
             } else {
-                Some(*number as u64)
+                Some(*number as u128)
             }
         }
         Value::Bool(_) => None,
@@ -133,28 +133,28 @@ pub(crate) fn type_named(name: &str, given: Given) -> Result<Option<Scalar>, Sto
 }
 
 /// A signed type, whose size is the greatest where none is given.
-fn signed(size: Option<u64>) -> Result<Option<Scalar>, Stop>
+fn signed(size: Option<u128>) -> Result<Option<Scalar>, Stop>
     ensures kept { (left : ℕ) → Evaluates (λ kept. kept) result left (needed (kept_bits size (λ n. Scalar.Int n)) left) }
     ensures sized { IfOk result IsKept }
 {
     let Some(size) = size else {
         return Ok(Some(Scalar::Int(DEFAULT_SIZE)));
     };
-    if size < 1 || size > u64::from(MAX_SIZE) {
+    if size < 1 || size > u128::from(MAX_SIZE) {
         return Err(Stop::Clashes);
     }
     Ok(Some(Scalar::Int(size as u8)))
 }
 
 /// An unsigned type, whose size is the greatest where none is given.
-fn unsigned(size: Option<u64>) -> Result<Option<Scalar>, Stop>
+fn unsigned(size: Option<u128>) -> Result<Option<Scalar>, Stop>
     ensures kept { (left : ℕ) → Evaluates (λ kept. kept) result left (needed (kept_bits size (λ n. Scalar.Uint n)) left) }
     ensures sized { IfOk result IsKept }
 {
     let Some(size) = size else {
         return Ok(Some(Scalar::Uint(DEFAULT_SIZE)));
     };
-    if size < 1 || size > u64::from(MAX_SIZE) {
+    if size < 1 || size > u128::from(MAX_SIZE) {
         return Err(Stop::Clashes);
     }
     Ok(Some(Scalar::Uint(size as u8)))

@@ -3,3 +3,4 @@ pub mod Parted
 pub mod Staying
 pub mod Ports
 pub mod Lawful
+mod FirstForm

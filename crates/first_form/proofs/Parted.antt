@@ -6,7 +6,7 @@ use Rattle.std.proofs.lemmas.Bool.{eqb-true, eq-eqb}
 use Rattle.cal_ast.specs.Tree.{Tree, nil, cons, ident, type_of, value_arg, number}
 use Rattle.cal_ast.specs.Apart.{unplaced}
 use Rattle.first_form.specs.FormTree.{one, byte_type}
-use Rattle.first_form.specs.Departing.{is_8, is_size_8, is_nil, is_alone_8, is_byte_type}
+use Rattle.first_form.specs.Mismatch.{is_8, is_size_8, is_nil, is_alone_8, is_byte_type}
 
 pub both : (a b : Bool) → (a && b) ≡ true → (a ≡ true) × (b ≡ true)
 both true true e = (refl, refl)

@@ -3,7 +3,7 @@ use Rattle.std.proofs.Common.{◌≡◌, ℕ, Bool, true, false, List, [], ◌�
 use Rattle.std.specs.List.{slice_get}
 use Rattle.cal_ast.specs.Tree.{Tree, port, ident}
 use Rattle.first_form.specs.FormTree.{one}
-use Rattle.first_form.specs.Departing.{◌or_else◌, unless, is_byte_type}
+use Rattle.first_form.specs.Mismatch.{◌or_else◌, unless, is_byte_type}
 use Rattle.first_form.specs.Formed.{IsPort}
 use Rattle.first_form.proofs.Parted.{byte_type_tree}
 

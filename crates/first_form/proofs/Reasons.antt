@@ -6,8 +6,8 @@ use Rattle.cal_ast.specs.Tree.{Tree}
 use Rattle.cal_lexer.specs.Lexeme.{Placed}
 use Rattle.cal_lexer.specs.Lexes as lexis
 use Rattle.cal_parser.specs.Refusals as grammar
-use Rattle.cal_model.specs.Form.{form_of}
-use Rattle.cal_model.specs.declared.ast.Actor.{Actor}
+use Rattle.first_form.specs.Form.{form_of}
+use Rattle.first_form.specs.declared.ast.Actor.{Actor}
 use Rattle.first_form.specs.Spelling.{IsSource, IsActor, IsRightly, Spells, in_lexis, in_grammar, in_form}
 
 pub of_lexis : (file : ℕ) (text : List ℕ) (e : Answer) → lexis.IsRightly file text e → IsRightly file text e
@@ -21,7 +21,7 @@ of_grammar file text tokens Memory lexed h = tt
 pub of_form : (file : ℕ) (text : List ℕ) (tree : Tree) (r : Result Actor Answer) → IsSource text tree → IsActor file tree r → IfErr r (IsRightly file text)
 of_form file text tree (Ok actor) source h = tt
 of_form file text tree (Err (Refused r)) source h =
-    (h.0, rw h.1 (in_form r.place.offset (record { tree = tree; source = source; departs_there = h.2 })))
+    (h.0, rw h.1 (in_form r.place.offset (record { tree = tree; source = source; is_first = h.2 })))
 of_form file text tree (Err Memory) source h = tt
 
 pub of_actor : (file : ℕ) (text : List ℕ) (tree : Tree) (r : Result Actor Answer) → IsSource text tree → IsActor file tree r → IfOk r (λ actor. Spells text (form_of actor))

@@ -1,19 +1,19 @@
--- A tree of the form departs nowhere from it, and it is the tree of one form.
+-- A tree of the form has no mismatch, and it is the tree of one form.
 use Rattle.std.proofs.Common.{◌≡◌, ℕ, ◌^◌, ◌<◌, Bool, true, false, ◌&&◌, not, List, Option, None, Some, refl, sym, ap, ◌∙◌}
 use Rattle.std.proofs.lemmas.Slice.Eq.{bytes_eq-Decides}
 use Rattle.std.proofs.lemmas.Bool.{lt-ltb}
 use Rattle.cal_ast.specs.Tree.{Tree, absent, present, nil, cons, ident, port, pattern, output, action, actor, file, number, variable, binary}
 use Rattle.cal_ast.specs.Apart.{unplaced}
 use Rattle.cal_ast.specs.declared.expr.BinOp.{BinOp}
-use Rattle.cal_model.specs.Form.{Form}
-use Rattle.cal_model.specs.declared.ast.TheConstants.{MAX_DIGITS}
-use Rattle.cal_model.specs.declared.ast.Operand.{Operand}
-use Rattle.cal_model.specs.declared.ast.Operand.TheVariants.{Token, Number}
-use Rattle.cal_model.specs.declared.ast.Operator.{Operator}
-use Rattle.cal_model.specs.declared.ast.Operator.TheVariants.{Add, Sub, Mul}
-use Rattle.cal_model.specs.declared.ast.Binary.{Binary}
+use Rattle.first_form.specs.Form.{Form}
+use Rattle.first_form.specs.declared.ast.TheConstants.{MAX_DIGITS}
+use Rattle.first_form.specs.declared.ast.Operand.{Operand}
+use Rattle.first_form.specs.declared.ast.Operand.TheVariants.{Token, Number}
+use Rattle.first_form.specs.declared.ast.Operator.{Operator}
+use Rattle.first_form.specs.declared.ast.Operator.TheVariants.{Add, Sub, Mul}
+use Rattle.first_form.specs.declared.ast.Binary.{Binary}
 use Rattle.first_form.specs.FormTree.{one, byte_type, port_tree, operand_tree, op_of, IsOperand, HasShortNumbers, actor_of, form_tree}
-use Rattle.first_form.specs.Departing.{◌or_else◌, unless, none, alone, is_byte_type, is_named, is_operand, is_operator, is_absent, name_of, no_body, departs_port, departs_pattern, departs_value, departs_output, departs_behind, departs_action, departs_actor, departs}
+use Rattle.first_form.specs.Mismatch.{◌or_else◌, unless, none, alone, is_byte_type, is_named, is_operand, is_operator, is_absent, name_of, no_body, port_mismatch, pattern_mismatch, value_mismatch, output_mismatch, behind_mismatch, action_mismatch, actor_mismatch, first_mismatch}
 use Rattle.first_form.specs.Formed.{value_tree, pattern_of, output_of, action_of}
 use Rattle.first_form.proofs.Parted.{joined, tree_byte_type}
 
@@ -50,19 +50,19 @@ named (present (ident text q)) s e = let same : text ≡ s = cc in (bytes_eq-Dec
 named _ s e = absurd cc
 
 -- a part by itself, where the lists that hold it are those of the form
-port_stays : (t : Tree) (name : List ℕ) → unplaced t ≡ port_tree name → (departs_port t ≡ None) × (name_of t ≡ name)
+port_stays : (t : Tree) (name : List ℕ) → unplaced t ≡ port_tree name → (port_mismatch t ≡ None) × (name_of t ≡ name)
 port_stays (port shape nm q) name e =
     let shaped : unplaced shape ≡ byte_type = cc in
     let called : unplaced nm ≡ ident name 0 = cc in
     (met (is_byte_type shape) q (tree_byte_type shape shaped), text_is nm name called)
 port_stays _ name e = absurd cc
 
-pub ports_stay : (t : Tree) (name : List ℕ) (at : ℕ) → unplaced t ≡ one (port_tree name) → (alone at departs_port t ≡ None) × (name_of t ≡ name)
+pub ports_stay : (t : Tree) (name : List ℕ) (at : ℕ) → unplaced t ≡ one (port_tree name) → (alone at port_mismatch t ≡ None) × (name_of t ≡ name)
 ports_stay (cons x xs) name at e =
     let first : unplaced x ≡ port_tree name = cc in
     let rest : unplaced xs ≡ nil = cc in
-    let h : (departs_port x ≡ None) × (name_of x ≡ name) = port_stays x name first in
-    (neither (departs_port x) (none xs) h.0 (none_nil xs rest), h.1)
+    let h : (port_mismatch x ≡ None) × (name_of x ≡ name) = port_stays x name first in
+    (neither (port_mismatch x) (none xs) h.0 (none_nil xs rest), h.1)
 ports_stay _ name at e = absurd cc
 
 names_stay : (t : Tree) (s : List ℕ) (at : ℕ) → unplaced t ≡ one (ident s 0) → (alone at (λ x. None) t ≡ None) × (name_of t ≡ s)
@@ -72,7 +72,7 @@ names_stay (cons x xs) s at e =
     (neither None (none xs) refl (none_nil xs rest), text_is x s first)
 names_stay _ s at e = absurd cc
 
-pattern_stays : (t : Tree) (in_port token : List ℕ) → unplaced t ≡ pattern_of in_port token → (departs_pattern in_port t ≡ None) × (name_of t ≡ token)
+pattern_stays : (t : Tree) (in_port token : List ℕ) → unplaced t ≡ pattern_of in_port token → (pattern_mismatch in_port t ≡ None) × (name_of t ≡ token)
 pattern_stays (pattern from names repeat q) in_port token e =
     let called : unplaced from ≡ present (ident in_port 0) = cc in
     let listed : unplaced names ≡ one (ident token 0) = cc in
@@ -81,12 +81,12 @@ pattern_stays (pattern from names repeat q) in_port token e =
     (neither (unless (is_named in_port from) q) (alone q (λ x. None) names or_else none repeat) (met (is_named in_port from) q (named from in_port called)) (neither (alone q (λ x. None) names) (none repeat) h.0 (none_absent repeat once)), h.1)
 pattern_stays _ in_port token e = absurd cc
 
-pub patterns_stay : (t : Tree) (in_port token : List ℕ) (at : ℕ) → unplaced t ≡ one (pattern_of in_port token) → (alone at (departs_pattern in_port) t ≡ None) × (name_of t ≡ token)
+pub patterns_stay : (t : Tree) (in_port token : List ℕ) (at : ℕ) → unplaced t ≡ one (pattern_of in_port token) → (alone at (pattern_mismatch in_port) t ≡ None) × (name_of t ≡ token)
 patterns_stay (cons x xs) in_port token at e =
     let first : unplaced x ≡ pattern_of in_port token = cc in
     let rest : unplaced xs ≡ nil = cc in
-    let h : (departs_pattern in_port x ≡ None) × (name_of x ≡ token) = pattern_stays x in_port token first in
-    (neither (departs_pattern in_port x) (none xs) h.0 (none_nil xs rest), h.1)
+    let h : (pattern_mismatch in_port x ≡ None) × (name_of x ≡ token) = pattern_stays x in_port token first in
+    (neither (pattern_mismatch in_port x) (none xs) h.0 (none_nil xs rest), h.1)
 patterns_stay _ in_port token at e = absurd cc
 
 operand_stays : (t : Tree) (token : List ℕ) (o : Operand) → unplaced t ≡ operand_tree token o → IsOperand o → is_operand token t ≡ true
@@ -103,7 +103,7 @@ operator_stays op Add e = ap is_operator e
 operator_stays op Sub e = ap is_operator e
 operator_stays op Mul e = ap is_operator e
 
-value_stays : (t : Tree) (token : List ℕ) (b : Binary) → unplaced t ≡ value_tree token b → IsOperand b.left → IsOperand b.right → departs_value token t ≡ None
+value_stays : (t : Tree) (token : List ℕ) (b : Binary) → unplaced t ≡ value_tree token b → IsOperand b.left → IsOperand b.right → value_mismatch token t ≡ None
 value_stays (binary op l r q) token b e left right =
     let done : op ≡ op_of b.op = cc in
     let first : unplaced l ≡ operand_tree token b.left = cc in
@@ -112,29 +112,29 @@ value_stays (binary op l r q) token b e left right =
     (neither (unless (is_operand token l) _) _ (met (is_operand token l) _ (operand_stays l token b.left first left)) (met (is_operand token r) _ (operand_stays r token b.right second right)))
 value_stays _ token b e left right = absurd cc
 
-values_stay : (t : Tree) (token : List ℕ) (b : Binary) (at : ℕ) → unplaced t ≡ one (value_tree token b) → IsOperand b.left → IsOperand b.right → alone at (departs_value token) t ≡ None
+values_stay : (t : Tree) (token : List ℕ) (b : Binary) (at : ℕ) → unplaced t ≡ one (value_tree token b) → IsOperand b.left → IsOperand b.right → alone at (value_mismatch token) t ≡ None
 values_stay (cons x xs) token b at e left right =
     let first : unplaced x ≡ value_tree token b = cc in
     let rest : unplaced xs ≡ nil = cc in
-    neither (departs_value token x) (none xs) (value_stays x token b first left right) (none_nil xs rest)
+    neither (value_mismatch token x) (none xs) (value_stays x token b first left right) (none_nil xs rest)
 values_stay _ token b at e left right = absurd cc
 
-output_stays : (t : Tree) (out_port token : List ℕ) (b : Binary) → unplaced t ≡ output_of out_port token b → IsOperand b.left → IsOperand b.right → departs_output out_port token t ≡ None
+output_stays : (t : Tree) (out_port token : List ℕ) (b : Binary) → unplaced t ≡ output_of out_port token b → IsOperand b.left → IsOperand b.right → output_mismatch out_port token t ≡ None
 output_stays (output to values repeat q) out_port token b e left right =
     let called : unplaced to ≡ present (ident out_port 0) = cc in
     let once : unplaced repeat ≡ absent = cc in
     let sends : unplaced values ≡ one (value_tree token b) = cc in
-    neither (unless (is_named out_port to) q) _ (met (is_named out_port to) q (named to out_port called)) (neither (alone q (departs_value token) values) _ (values_stay values token b q sends left right) (none_absent repeat once))
+    neither (unless (is_named out_port to) q) _ (met (is_named out_port to) q (named to out_port called)) (neither (alone q (value_mismatch token) values) _ (values_stay values token b q sends left right) (none_absent repeat once))
 output_stays _ out_port token b e left right = absurd cc
 
-outputs_stay : (t : Tree) (out_port token : List ℕ) (b : Binary) (at : ℕ) → unplaced t ≡ one (output_of out_port token b) → IsOperand b.left → IsOperand b.right → alone at (departs_output out_port token) t ≡ None
+outputs_stay : (t : Tree) (out_port token : List ℕ) (b : Binary) (at : ℕ) → unplaced t ≡ one (output_of out_port token b) → IsOperand b.left → IsOperand b.right → alone at (output_mismatch out_port token) t ≡ None
 outputs_stay (cons x xs) out_port token b at e left right =
     let first : unplaced x ≡ output_of out_port token b = cc in
     let rest : unplaced xs ≡ nil = cc in
-    neither (departs_output out_port token x) (none xs) (output_stays x out_port token b first left right) (none_nil xs rest)
+    neither (output_mismatch out_port token x) (none xs) (output_stays x out_port token b first left right) (none_nil xs rest)
 outputs_stay _ out_port token b at e left right = absurd cc
 
-action_stays : (t : Tree) (in_port out_port token : List ℕ) (b : Binary) → unplaced t ≡ action_of in_port out_port token b → IsOperand b.left → IsOperand b.right → departs_action in_port out_port t ≡ None
+action_stays : (t : Tree) (in_port out_port token : List ℕ) (b : Binary) → unplaced t ≡ action_of in_port out_port token b → IsOperand b.left → IsOperand b.right → action_mismatch in_port out_port t ≡ None
 action_stays (action g initialize patterns outputs guards vars body q) in_port out_port token b e left right =
     let untagged : unplaced g ≡ absent = cc in
     let plain : initialize ≡ false = cc in
@@ -143,34 +143,34 @@ action_stays (action g initialize patterns outputs guards vars body q) in_port o
     let unguarded : unplaced guards ≡ nil = cc in
     let local : unplaced vars ≡ nil = cc in
     let bare : unplaced body ≡ absent = cc in
-    let h : (alone q (departs_pattern in_port) patterns ≡ None) × (name_of patterns ≡ token) = patterns_stay patterns in_port token q takes in
-    let sent : alone q (departs_output out_port (name_of patterns)) outputs ≡ None = ap (λ s. alone q (departs_output out_port s) outputs) h.1 ∙ outputs_stay outputs out_port token b q sends left right in
-    let behind : departs_behind q guards vars body ≡ None = neither (none guards) _ (none_nil guards unguarded) (neither (none vars) _ (none_nil vars local) (body_absent body q bare)) in
+    let h : (alone q (pattern_mismatch in_port) patterns ≡ None) × (name_of patterns ≡ token) = patterns_stay patterns in_port token q takes in
+    let sent : alone q (output_mismatch out_port (name_of patterns)) outputs ≡ None = ap (λ s. alone q (output_mismatch out_port s) outputs) h.1 ∙ outputs_stay outputs out_port token b q sends left right in
+    let behind : behind_mismatch q guards vars body ≡ None = neither (none guards) _ (none_nil guards unguarded) (neither (none vars) _ (none_nil vars local) (body_absent body q bare)) in
     neither (unless (is_absent g && not initialize) q) _ (met (is_absent g && not initialize) q (joined (is_absent g) (not initialize) (absent_is g untagged) (ap not plain)))
-    (neither (alone q (departs_pattern in_port) patterns) _ h.0 (neither (alone q (departs_output out_port (name_of patterns)) outputs) _ sent behind))
+    (neither (alone q (pattern_mismatch in_port) patterns) _ h.0 (neither (alone q (output_mismatch out_port (name_of patterns)) outputs) _ sent behind))
 action_stays _ in_port out_port token b e left right = absurd cc
 
-actions_stay : (t : Tree) (in_port out_port token : List ℕ) (b : Binary) (at : ℕ) → unplaced t ≡ one (action_of in_port out_port token b) → IsOperand b.left → IsOperand b.right → alone at (departs_action in_port out_port) t ≡ None
+actions_stay : (t : Tree) (in_port out_port token : List ℕ) (b : Binary) (at : ℕ) → unplaced t ≡ one (action_of in_port out_port token b) → IsOperand b.left → IsOperand b.right → alone at (action_mismatch in_port out_port) t ≡ None
 actions_stay (cons x xs) in_port out_port token b at e left right =
     let first : unplaced x ≡ action_of in_port out_port token b = cc in
     let rest : unplaced xs ≡ nil = cc in
-    neither (departs_action in_port out_port x) (none xs) (action_stays x in_port out_port token b first left right) (none_nil xs rest)
+    neither (action_mismatch in_port out_port x) (none xs) (action_stays x in_port out_port token b first left right) (none_nil xs rest)
 actions_stay _ in_port out_port token b at e left right = absurd cc
 
-actor_stays : (t : Tree) (f : Form) → unplaced t ≡ actor_of f → HasShortNumbers f → departs_actor t ≡ None
+actor_stays : (t : Tree) (f : Form) → unplaced t ≡ actor_of f → HasShortNumbers f → actor_mismatch t ≡ None
 actor_stays (actor name params ins outs members q) f e short =
     let bare : unplaced params ≡ nil = cc in
     let into : unplaced ins ≡ one (port_tree f.input) = cc in
     let out : unplaced outs ≡ one (port_tree f.output) = cc in
     let acts : unplaced members ≡ one (action_of f.input f.output f.variable f.sum) = cc in
-    let i : (alone q departs_port ins ≡ None) × (name_of ins ≡ f.input) = ports_stay ins f.input q into in
-    let o : (alone q departs_port outs ≡ None) × (name_of outs ≡ f.output) = ports_stay outs f.output q out in
-    let done : alone q (departs_action (name_of ins) (name_of outs)) members ≡ None =
-    ap (λ s. alone q (departs_action s (name_of outs)) members) i.1 ∙ ap (λ s. alone q (departs_action f.input s) members) o.1 ∙ actions_stay members f.input f.output f.variable f.sum q acts short.left short.right in
-    neither (none params) _ (none_nil params bare) (neither (alone q departs_port ins) _ i.0 (neither (alone q departs_port outs) _ o.0 done))
+    let i : (alone q port_mismatch ins ≡ None) × (name_of ins ≡ f.input) = ports_stay ins f.input q into in
+    let o : (alone q port_mismatch outs ≡ None) × (name_of outs ≡ f.output) = ports_stay outs f.output q out in
+    let done : alone q (action_mismatch (name_of ins) (name_of outs)) members ≡ None =
+    ap (λ s. alone q (action_mismatch s (name_of outs)) members) i.1 ∙ ap (λ s. alone q (action_mismatch f.input s) members) o.1 ∙ actions_stay members f.input f.output f.variable f.sum q acts short.left short.right in
+    neither (none params) _ (none_nil params bare) (neither (alone q port_mismatch ins) _ i.0 (neither (alone q port_mismatch outs) _ o.0 done))
 actor_stays _ f e short = absurd cc
 
-pub stays : (t : Tree) (f : Form) → unplaced t ≡ form_tree f → HasShortNumbers f → departs t ≡ None
+pub stays : (t : Tree) (f : Form) → unplaced t ≡ form_tree f → HasShortNumbers f → first_mismatch t ≡ None
 stays (file in_package imports body q) f e short =
     let alone_is : unplaced in_package ≡ absent = cc in
     let bare : unplaced imports ≡ nil = cc in

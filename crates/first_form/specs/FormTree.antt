@@ -3,12 +3,12 @@ use Rattle.std.specs.Prelude.{◌<◌, ◌^◌, ℕ, false, List, codes}
 use Rattle.cal_ast.specs.declared.expr.BinOp.{BinOp}
 use Rattle.cal_ast.specs.declared.expr.BinOp.TheVariants as ops
 use Rattle.cal_ast.specs.Tree.{Tree, absent, present, nil, cons, ident, file, actor, port, action, pattern, output, type_of, value_arg, number, variable as variable_, binary}
-use Rattle.cal_model.specs.Form.{Form}
-use Rattle.cal_model.specs.declared.ast.Operand.{Operand}
-use Rattle.cal_model.specs.declared.ast.Operand.TheVariants.{Token, Number}
-use Rattle.cal_model.specs.declared.ast.Operator.{Operator}
-use Rattle.cal_model.specs.declared.ast.Operator.TheVariants.{Add, Sub, Mul}
-use Rattle.cal_model.specs.declared.ast.TheConstants.{MAX_DIGITS}
+use Rattle.first_form.specs.Form.{Form}
+use Rattle.first_form.specs.declared.ast.Operand.{Operand}
+use Rattle.first_form.specs.declared.ast.Operand.TheVariants.{Token, Number}
+use Rattle.first_form.specs.declared.ast.Operator.{Operator}
+use Rattle.first_form.specs.declared.ast.Operator.TheVariants.{Add, Sub, Mul}
+use Rattle.first_form.specs.declared.ast.TheConstants.{MAX_DIGITS}
 
 abbrev pub one : Tree → Tree
 one x = cons x nil

@@ -1,5 +1,9 @@
+pub mod Form
+pub mod Eval
+pub mod Meaning
 pub mod FormTree
-pub mod Departing
+pub mod Mismatch
 pub mod Formed
 pub mod Parts
 pub mod Spelling
+pub mod Case

@@ -1,13 +1,13 @@
-//! The actor that a tree is, or where it departs from the form.
+//! The actor that a tree is, or its first mismatch with the form.
 
 ghost use Rattle.std.specs.Prelude.{◌≡◌, IfOk, [], map, MatchOption, MatchResult, Option, Some, None, option_map, codes};
 ghost use Rattle.cal_ast.specs.Tree.{listed};
 ghost use Rattle.cal_ast.specs.Apart.{IsEqualApart};
 ghost use Rattle.cal_ast.specs.View.{ident_tree, type_tree, type_arg_tree, port_tree, pattern_tree, output_tree, action_tree, member_tree, actor_tree, file_tree, optional, expr_tree, var_tree, body_tree};
 ghost use Rattle.cal_ast.specs.Places.{begins};
-ghost use Rattle.first_form.specs.Departing.{departs, departs_actor, departs_action, departs_behind, departs_pattern, departs_output, departs_port, is_8, is_byte_type, is_named, is_size_8, alone};
+ghost use Rattle.first_form.specs.Mismatch.{first_mismatch, actor_mismatch, action_mismatch, behind_mismatch, pattern_mismatch, output_mismatch, port_mismatch, is_8, is_byte_type, is_named, is_size_8, alone};
 ghost use Rattle.first_form.specs.FormTree.{actor_of, form_tree, HasShortNumbers, IsOperand};
-ghost use Rattle.cal_model.specs.Form.{form_of};
+ghost use Rattle.first_form.specs.Form.{form_of};
 ghost use Rattle.first_form.specs.Parts.{given_form};
 ghost use Rattle.first_form.specs.Formed.{IsPort, IsPattern, IsOutput, IsAction, action_of};
 
@@ -16,7 +16,7 @@ use cal_ast::{
     Action, Actor as ActorTree, Body, Expr, ExprForm, File, Ident, Member, Output, Pattern,
     PortDecl, TypeArg, TypeExpr,
 };
-use cal_model::ast::{Actor, Binary};
+use crate::ast::{Actor, Binary};
 use std::alloc::{AllocError, Global};
 
 /// An actor whose texts are the tree's.
@@ -65,9 +65,9 @@ fn is_byte_type(shape: &TypeExpr) -> bool
     }
 }
 
-/// The name of the one port of a direction; an error is where the ports depart. `at` is where the actor begins.
+/// The name of the one port of a direction; an error is their first mismatch. `at` is where the actor begins.
 fn port_name(ports: &[PortDecl], at: u32) -> Result<&str, u32>
-    ensures { MatchResult result (λ name. IsPort at (listed (map port_tree ports.now)) name.now) (λ place. alone at departs_port (listed (map port_tree ports.now)) ≡ Some place) }
+    ensures { MatchResult result (λ name. IsPort at (listed (map port_tree ports.now)) name.now) (λ place. alone at port_mismatch (listed (map port_tree ports.now)) ≡ Some place) }
 {
     let Some((port, others)) = ports.split_first() else {
         return Err(at);
@@ -91,10 +91,10 @@ fn is_named(port: &Option<Ident>, name: &str) -> bool
     }
 }
 
-/// The name that the one pattern of an action gives its token; an error is where the patterns depart. `at` is where
+/// The name that the one pattern of an action gives its token; an error is their first mismatch. `at` is where
 /// the action begins.
 fn variable<'a>(patterns: &'a [Pattern], input: &str, at: u32) -> Result<&'a str, u32>
-    ensures { MatchResult result (λ name. IsPattern at input.now (listed (map pattern_tree patterns.now)) name.now) (λ place. alone at (departs_pattern input.now) (listed (map pattern_tree patterns.now)) ≡ Some place) }
+    ensures { MatchResult result (λ name. IsPattern at input.now (listed (map pattern_tree patterns.now)) name.now) (λ place. alone at (pattern_mismatch input.now) (listed (map pattern_tree patterns.now)) ≡ Some place) }
 {
     let Some((pattern, others)) = patterns.split_first() else {
         return Err(at);
@@ -117,9 +117,9 @@ fn variable<'a>(patterns: &'a [Pattern], input: &str, at: u32) -> Result<&'a str
     }
 }
 
-/// What the one output of an action sends; an error is where the outputs depart. `at` is where the action begins.
+/// What the one output of an action sends; an error is their first mismatch. `at` is where the action begins.
 fn sent(outputs: &[Output], output: &str, token: &str, at: u32) -> Result<Binary, u32>
-    ensures { MatchResult result (λ sum. IsOutput at output.now token.now (listed (map output_tree outputs.now)) sum) (λ place. alone at (departs_output output.now token.now) (listed (map output_tree outputs.now)) ≡ Some place) }
+    ensures { MatchResult result (λ sum. IsOutput at output.now token.now (listed (map output_tree outputs.now)) sum) (λ place. alone at (output_mismatch output.now token.now) (listed (map output_tree outputs.now)) ≡ Some place) }
 {
     let Some((first, others)) = outputs.split_first() else {
         return Err(at);
@@ -147,7 +147,7 @@ fn sent(outputs: &[Output], output: &str, token: &str, at: u32) -> Result<Binary
 fn behind(action: &Action) -> Option<u32>
     ensures { MatchOption result
         ((action.now.guards.items ≡ []) × (action.now.vars.items ≡ []) × (action.now.body ≡ None))
-        (λ place. departs_behind action.now.at (listed (map expr_tree action.now.guards.items)) (listed (map var_tree action.now.vars.items)) (body_tree action.now.body) ≡ Some place) }
+        (λ place. behind_mismatch action.now.at (listed (map expr_tree action.now.guards.items)) (listed (map var_tree action.now.vars.items)) (body_tree action.now.body) ≡ Some place) }
 {
     if let Some(guard) = action.guards.first() {
         return Some(guard.at);
@@ -171,11 +171,11 @@ struct Sending<'a> {
     sum: Binary,
 }
 
-/// What an action takes from one port and sends to the other; an error is where it departs.
+/// What an action takes from one port and sends to the other; an error is its first mismatch.
 fn one_firing<'a>(action: &'a Action, input: &str, output: &str) -> Result<Sending<'a>, u32>
     ensures { MatchResult result
-        (λ s. IsEqualApart (action_tree action.now) (action_of input.now output.now s.variable.now s.sum) × IsOperand s.sum.left × IsOperand s.sum.right × (departs_action input.now output.now (action_tree action.now) ≡ None))
-        (λ place. departs_action input.now output.now (action_tree action.now) ≡ Some place) }
+        (λ s. IsEqualApart (action_tree action.now) (action_of input.now output.now s.variable.now s.sum) × IsOperand s.sum.left × IsOperand s.sum.right × (action_mismatch input.now output.now (action_tree action.now) ≡ None))
+        (λ place. action_mismatch input.now output.now (action_tree action.now) ≡ Some place) }
 {
     if let Some(_tag) = &action.tag {
         return Err(action.at);
@@ -205,7 +205,7 @@ fn begins(member: &Member) -> u32
     }
 }
 
-/// What the one action of an actor takes and sends; an error is where the members depart. `at` is where the actor
+/// What the one action of an actor takes and sends; an error is their first mismatch. `at` is where the actor
 /// begins.
 fn one_action<'a>(
     members: &'a [Member],
@@ -213,7 +213,7 @@ fn one_action<'a>(
     output: &str,
     at: u32,
 ) -> Result<Sending<'a>, u32>
-    ensures { MatchResult result (λ s. IsAction at input.now output.now (listed (map member_tree members.now)) s.variable.now s.sum) (λ place. alone at (departs_action input.now output.now) (listed (map member_tree members.now)) ≡ Some place) }
+    ensures { MatchResult result (λ s. IsAction at input.now output.now (listed (map member_tree members.now)) s.variable.now s.sum) (λ place. alone at (action_mismatch input.now output.now) (listed (map member_tree members.now)) ≡ Some place) }
 {
     let Some((first, others)) = members.split_first() else {
         return Err(at);
@@ -228,11 +228,11 @@ fn one_action<'a>(
     }
 }
 
-/// What an actor says; an error is where it departs.
+/// What an actor says; an error is its first mismatch.
 fn given_actor(actor: &ActorTree) -> Result<Given<'_>, u32>
     ensures { MatchResult result
         (λ g. IsEqualApart (actor_tree actor.now) (actor_of (given_form g)) × HasShortNumbers (given_form g))
-        (λ place. departs_actor (actor_tree actor.now) ≡ Some place) }
+        (λ place. actor_mismatch (actor_tree actor.now) ≡ Some place) }
 {
     if let Some(param) = actor.params.first() {
         return Err(param.at);
@@ -249,11 +249,11 @@ fn given_actor(actor: &ActorTree) -> Result<Given<'_>, u32>
     })
 }
 
-/// What a file says that is an actor of the form; an error is where it departs.
+/// What a file says that is an actor of the form; an error is its first mismatch.
 pub fn given_file(file: &File) -> Result<Given<'_>, u32>
     ensures { MatchResult result
         (λ g. IsEqualApart (file_tree file.now) (form_tree (given_form g)) × HasShortNumbers (given_form g))
-        (λ place. departs (file_tree file.now) ≡ Some place) }
+        (λ place. first_mismatch (file_tree file.now) ≡ Some place) }
 {
     if file.package.is_some() {
         return Err(file.at);

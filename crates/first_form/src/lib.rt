@@ -8,11 +8,14 @@
 #![tactic(auto)]
 
 mod actor;
+pub mod ast;
+mod evaluate;
 mod laws;
 mod reader;
 #[cfg(test)]
 mod tests;
 mod value;
 
-pub use laws::{never_both, one_form};
+pub use evaluate::sent_for;
+pub use laws::{first_form_is_a_case, never_both, one_form};
 pub use reader::read_form;

@@ -1,7 +1,7 @@
 //! The reader.
 
 ghost use Rattle.std.specs.Prelude.{IfOk, IfErr};
-ghost use Rattle.cal_model.specs.Form.{form_of};
+ghost use Rattle.first_form.specs.Form.{form_of};
 ghost use Rattle.cal_ast.specs.View.{file_tree};
 ghost use Rattle.cal_lexer.specs.Lexeme.{plain_tokens};
 ghost use Rattle.cal_lexer.specs.Lexes.{lexes};
@@ -10,7 +10,7 @@ ghost use Rattle.first_form.specs.Spelling.{HasOffsets, IsActor, IsRightly, Spel
 use crate::actor::{given_file, owned};
 use cal_ast::File;
 use cal_lexer::{Token, lex};
-use cal_model::ast::Actor;
+use crate::ast::Actor;
 use cal_parser::parse_file;
 use rvc_base::{Front, Place, Refusal, Rule};
 use std::alloc::Global;

@@ -2,12 +2,12 @@
 
 ghost use Rattle.std.specs.Prelude.{◌≡◌, MatchResult, Some, None, Option, option_map, string_bytes};
 ghost use Rattle.cal_ast.specs.View.{expr_tree};
-ghost use Rattle.first_form.specs.Departing.{departs_value, is_operand};
+ghost use Rattle.first_form.specs.Mismatch.{value_mismatch, is_operand};
 ghost use Rattle.cal_ast.specs.Places.{begins};
 ghost use Rattle.first_form.specs.Formed.{IsOperandOf, IsValueOf, operator_of};
 
 use cal_ast::{BinOp, Expr, ExprForm};
-use cal_model::ast::{Binary, Operand, Operator};
+use crate::ast::{Binary, Operand, Operator};
 
 /// The least number that has too many digits.
 const TOO_GREAT: u128 = 1_000_000_000;
@@ -47,7 +47,7 @@ fn operator(op: BinOp) -> Option<Operator>
     }
 }
 
-/// The operation that an expression is, where the action's token has this name; an error is where it departs.
+/// The operation that an expression is, where the action's token has this name; an error is its first mismatch.
 pub fn value(token: &str, e: &Expr) -> Result<Binary, u32>
     ensures { IsValueOf token.now (expr_tree e.now) result }
 {

@@ -10,10 +10,10 @@ use Rattle.trace_text.specs.declared.line.Line.TheVariants.{Fire}
 use Rattle.trace_text.specs.Text.{line_text}
 use Rattle.rvc_base.specs.Storing.{conv, low_part}
 use Rattle.net_model.specs.PortFile.{all_encoded, encoded}
-use Rattle.cal_model.specs.Form.{Form}
-use Rattle.cal_model.specs.Eval.{eval}
-use Rattle.cal_model.specs.Meaning.{byte_type, SendsFor}
-use Rattle.cal_model.specs.declared.ast.Binary.{Binary}
+use Rattle.first_form.specs.Form.{Form}
+use Rattle.first_form.specs.Eval.{eval}
+use Rattle.first_form.specs.Meaning.{byte_type, SendsFor}
+use Rattle.first_form.specs.declared.ast.Binary.{Binary}
 use Rattle.first_runner.specs.declared.outcome.Counts.{Counts}
 use Rattle.first_runner.specs.declared.outcome.RunEnd.TheVariants as end
 use Rattle.first_runner.specs.Burst.{SendAll, Bursts, BreaksBurst, fire_lines}
@@ -25,6 +25,7 @@ use Rattle.first_runner.proofs.Lacking.{may_front-of, may_front-longer}
 use Rattle.first_runner.proofs.Steps.{results-more}
 use Rattle.first_runner.proofs.SoFar.{so_far-fire}
 use Rattle.first_runner.proofs.Delivering.{broken-off}
+use Rattle.first_runner.specs.Source.{default_capacity}
 
 -- what stands first in a part stands first in the whole
 pub next-of : (ts : List ℤ) (fired arrived : ℕ) (v : ℤ) (rest : List ℤ) → drop fired (take arrived ts) ≡ v ∷ rest → fired ≤ arrived → arrived ≤ length ts → drop fired ts ≡ v ∷ (rest ++ drop arrived ts)
@@ -61,7 +62,7 @@ pub record After (f : Form) (input : List ℕ) (lines : List Line) (rounds arriv
 
 after-burst : (f : Form) (input : List ℕ) (rounds arrived out arrived_then fired_then : ℕ) (taken rest : List ℕ) (sent : List ℤ) (lines : List Line) (fired : ℕ)
     → SoFar f input lines rounds arrived fired out arrived_then fired_then
-    → map pos (taken ++ rest) ≡ drop fired (take arrived (toks input)) → SendAll f.sum taken sent → fired + length taken ≤ fired_then + 512
+    → map pos (taken ++ rest) ≡ drop fired (take arrived (toks input)) → SendAll f.sum taken sent → fired + length taken ≤ fired_then + default_capacity
     → After f input lines rounds arrived fired out arrived_then fired_then rest sent (length taken)
 after-burst f input rounds arrived out arrived_then fired_then [] rest [] lines fired so_far there sends few = record {
   so_far = subst (λ ls. SoFar f input ls rounds arrived (fired + 0) out arrived_then fired_then) (sym (append-nil lines))

@@ -7,8 +7,8 @@ use Rattle.trace_text.specs.declared.line.Line.{Line}
 use Rattle.trace_text.specs.declared.line.Line.TheVariants.{Quiet, Budget}
 use Rattle.trace_text.specs.Text.{line_text}
 use Rattle.net_model.specs.PortFile.{all_encoded}
-use Rattle.cal_model.specs.Form.{Form}
-use Rattle.cal_model.specs.Meaning.{byte_type}
+use Rattle.first_form.specs.Form.{Form}
+use Rattle.first_form.specs.Meaning.{byte_type}
 use Rattle.first_runner.specs.declared.outcome.Counts.{Counts}
 use Rattle.first_runner.specs.declared.outcome.RunEnd.{RunEnd}
 use Rattle.first_runner.specs.declared.outcome.RunEnd.TheVariants as end

@@ -11,8 +11,8 @@ use Rattle.trace_text.specs.declared.line.Line.TheVariants.{Deliver}
 use Rattle.trace_text.specs.Text.{line_text}
 use Rattle.net_model.specs.PortFile.{all_encoded, tokens}
 use Rattle.rvc_base.specs.Storing.{conv}
-use Rattle.cal_model.specs.Form.{Form}
-use Rattle.cal_model.specs.Meaning.{byte_type}
+use Rattle.first_form.specs.Form.{Form}
+use Rattle.first_form.specs.Meaning.{byte_type}
 use Rattle.first_runner.specs.declared.outcome.Counts.{Counts}
 use Rattle.first_runner.specs.declared.outcome.RunEnd.TheVariants as end
 use Rattle.first_runner.specs.Filling.{Fills}
@@ -23,6 +23,7 @@ use Rattle.first_runner.specs.SoFar.{toks, results, state_at, SoFar, Going, Deli
 use Rattle.first_runner.proofs.Lacking.{got-front, may_front-of, may_write-then, may_break-then}
 use Rattle.first_runner.proofs.SoFar.{so_far-deliver, written_so_far, moves_so_far}
 use Rattle.first_runner.proofs.Tokens.{toks-part, toks-length}
+use Rattle.first_runner.specs.Source.{default_capacity}
 
 -- what was written is a front of it
 pub front-of : (base held pending text : List ℕ) → Writes base [] held pending text → HoldsFront base held text
@@ -99,7 +100,7 @@ module _ (f : Form) (ends : Ends) (input trace_base output_base : List ℕ) (to_
     -- everything went well
     module _ (inbox_new : List ℕ) (to_come_new : Option (List ℕ)) (fills : Fills ends.reads (drop going.arrived (tokens byte_type input)) inbox inbox_new to_come_new) where
       arrived_new : ℕ
-      arrived_new = going.arrived + min (512 - (going.arrived - firings)) (length (toks input) - going.arrived)
+      arrived_new = going.arrived + min (default_capacity - (going.arrived - firings)) (length (toks input) - going.arrived)
 
       waiting-length : length inbox ≡ going.arrived - firings
       waiting-length =
@@ -110,8 +111,8 @@ module _ (f : Form) (ends : Ends) (input trace_base output_base : List ℕ) (to_
       left-length : length (drop going.arrived (tokens byte_type input)) ≡ length (toks input) - going.arrived
       left-length = length-drop going.arrived (tokens byte_type input) ∙ ap (λ n. n - going.arrived) (sym (toks-length input))
 
-      arrived-is : going.arrived + fills.count ≡ going.arrived + min (512 - (going.arrived - firings)) (length (toks input) - going.arrived)
-      arrived-is = ap (λ n. going.arrived + n) (fills.count_is ∙ ap (λ n. min (512 - n) (length (drop going.arrived (tokens byte_type input)))) waiting-length ∙ ap (λ n. min (512 - (going.arrived - firings)) n) left-length)
+      arrived-is : going.arrived + fills.count ≡ going.arrived + min (default_capacity - (going.arrived - firings)) (length (toks input) - going.arrived)
+      arrived-is = ap (λ n. going.arrived + n) (fills.count_is ∙ ap (λ n. min (default_capacity - n) (length (drop going.arrived (tokens byte_type input)))) waiting-length ∙ ap (λ n. min (default_capacity - (going.arrived - firings)) n) left-length)
 
       inbox-is : map pos inbox_new ≡ drop firings (take (going.arrived + fills.count) (toks input))
       inbox-is =
@@ -129,9 +130,9 @@ module _ (f : Form) (ends : Ends) (input trace_base output_base : List ℕ) (to_
       delivered held_last trace_pending_new tells_last outbox_new telling same_output no_outbox noted = record {
         going = record {
           lines = going.lines ++ Deliver ∷ [];
-          arrived = going.arrived + min (512 - (going.arrived - firings)) (length (toks input) - going.arrived);
+          arrived = going.arrived + min (default_capacity - (going.arrived - firings)) (length (toks input) - going.arrived);
           out = firings;
-          arrived_then = going.arrived + min (512 - (going.arrived - firings)) (length (toks input) - going.arrived);
+          arrived_then = going.arrived + min (default_capacity - (going.arrived - firings)) (length (toks input) - going.arrived);
           fired_then = firings;
           gone = all_encoded byte_type (results f.sum (toks input) firings);
           told = telling ∙ going.told;

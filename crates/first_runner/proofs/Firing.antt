@@ -8,8 +8,8 @@ use Rattle.channel_writer.specs.Held.{HoldsFront, Writes}
 use Rattle.channel_writer.proofs.Chains.{writes-nothing, writes-then, breaks-then}
 use Rattle.trace_text.specs.Text.{line_text}
 use Rattle.trace_text.specs.declared.line.Line.TheVariants.{Fire}
-use Rattle.cal_model.specs.Meaning.{SendsFor}
-use Rattle.cal_model.specs.declared.ast.Binary.{Binary}
+use Rattle.first_form.specs.Meaning.{SendsFor}
+use Rattle.first_form.specs.declared.ast.Binary.{Binary}
 use Rattle.first_runner.specs.Burst.{SendAll, SendsOne, Bursts, BreaksBurst, fire_lines}
 
 pub record IsFiring (b : Binary) (n : ℕ) (inbox_old inbox : List ℕ) (outbox_old outbox : List ℤ) (in_old in_now out_old out_now : ℕ) (pending_old pending : List ℕ) (tells_old tells : Bool) (held_old held : ℕ → List ℕ) (open_old open_now : ℕ → Bool) (faults_old faults : ℕ) : Type 0 where

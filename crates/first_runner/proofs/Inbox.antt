@@ -6,10 +6,11 @@ use Rattle.std.proofs.Math.Seq.{take-add}
 use Rattle.rvc_base.specs.declared.scalar.Scalar.{Scalar}
 use Rattle.rvc_base.specs.Storing.{conv}
 use Rattle.net_model.specs.PortFile.{tokens}
-use Rattle.cal_model.specs.Meaning.{byte_type}
+use Rattle.first_form.specs.Meaning.{byte_type}
 use Rattle.port_files.specs.Coming.{GivesToken, EndsWith}
 use Rattle.first_runner.specs.Missing.{IsToCome}
 use Rattle.first_runner.specs.Filling.{Takes, Fills}
+use Rattle.first_runner.specs.Source.{default_capacity}
 
 -- what the loop keeps: the tokens so far are in the inbox
 pub record IsFilling (kind : Scalar) (to_come_old to_come : Option (List ℕ)) (inbox_old inbox : List ℕ) (capacity : ℕ) (open_old open_now : ℕ → Bool) (faults_old faults : ℕ) : Type 0 where
@@ -17,8 +18,8 @@ pub record IsFilling (kind : Scalar) (to_come_old to_come : Option (List ℕ)) (
   pub open_feed : open_now 1 ≡ true
   pub same_open : (other : ℕ) → open_now other ≡ open_old other
   pub faults_stay : faults_old ≤ faults
-  pub room : 512 ≤ capacity
-  pub fits : length inbox ≤ 512
+  pub room : default_capacity ≤ capacity
+  pub fits : length inbox ≤ default_capacity
   pub took : (ts : List ℤ) → IsToCome true to_come_old ts → Takes ts inbox_old inbox to_come
 
 takes-nothing : (ts : List ℤ) (inbox : List ℕ) (to_come : Option (List ℕ)) → IsToCome true to_come ts → Takes ts inbox inbox to_come
@@ -29,7 +30,7 @@ takes-nothing ts inbox to_come told = record {
   to_come_is = told;
 }
 
-pub filling-starts : (kind : Scalar) (to_come : Option (List ℕ)) (inbox : List ℕ) (capacity : ℕ) (open_now : ℕ → Bool) (faults : ℕ) → kind ≡ byte_type → open_now 1 ≡ true → 512 ≤ capacity → length inbox ≤ 512
+pub filling-starts : (kind : Scalar) (to_come : Option (List ℕ)) (inbox : List ℕ) (capacity : ℕ) (open_now : ℕ → Bool) (faults : ℕ) → kind ≡ byte_type → open_now 1 ≡ true → default_capacity ≤ capacity → length inbox ≤ default_capacity
     → IsFilling kind to_come to_come inbox inbox capacity open_now open_now faults faults
 filling-starts kind to_come inbox capacity open_now faults of_bytes opened room fits = record {
   of_bytes = of_bytes;
@@ -77,7 +78,7 @@ takes-more ts inbox_old inbox inbox_new to_come to_come_new v b t pushed stored 
 pub filling-more : (kind kind_new : Scalar) (to_come_old to_come to_come_new : Option (List ℕ)) (inbox_old inbox inbox_new : List ℕ) (capacity capacity_new : ℕ) (open_old open_now open_new : ℕ → Bool) (faults_old faults faults_new : ℕ)
     → IsFilling kind to_come_old to_come inbox_old inbox capacity open_old open_now faults_old faults
     → (v : ℤ) (b : ℕ) → inbox_new ≡ inbox ++ b ∷ [] → pos b ≡ conv byte_type v → GivesToken kind v to_come to_come_new → kind_new ≡ kind
-    → ((other : ℕ) → open_new other ≡ open_now other) → faults ≤ faults_new → 512 ≤ capacity_new → length inbox < 512
+    → ((other : ℕ) → open_new other ≡ open_now other) → faults ≤ faults_new → default_capacity ≤ capacity_new → length inbox < default_capacity
     → IsFilling kind_new to_come_old to_come_new inbox_old inbox_new capacity_new open_old open_new faults_old faults_new
 filling-more kind kind_new to_come_old to_come to_come_new inbox_old inbox inbox_new capacity capacity_new open_old open_now open_new faults_old faults faults_new so_far v b pushed stored given same_kind opened stay room before = record {
   of_bytes = same_kind ∙ so_far.of_bytes;
@@ -97,7 +98,7 @@ takes-length ts inbox inbox_new to_come t =
     let now : length (map pos inbox_new) ≡ length inbox_new = length-map inbox_new pos in
     omega arith
 
-fills-of : (ts : List ℤ) (inbox inbox_new : List ℕ) (to_come : Option (List ℕ)) (t : Takes ts inbox inbox_new to_come) → t.count ≡ min (512 - length inbox) (length ts) → Fills true ts inbox inbox_new to_come
+fills-of : (ts : List ℤ) (inbox inbox_new : List ℕ) (to_come : Option (List ℕ)) (t : Takes ts inbox inbox_new to_come) → t.count ≡ min (default_capacity - length inbox) (length ts) → Fills true ts inbox inbox_new to_come
 fills-of ts inbox inbox_new to_come t e = record {
   count = t.count;
   count_is = e;
@@ -106,7 +107,7 @@ fills-of ts inbox inbox_new to_come t e = record {
 }
 
 -- the inbox is full
-pub fills-full : (ts : List ℤ) (inbox inbox_new : List ℕ) (to_come : Option (List ℕ)) → Takes ts inbox inbox_new to_come → length inbox_new ≤ 512 → 512 ≤ length inbox_new → Fills true ts inbox inbox_new to_come
+pub fills-full : (ts : List ℤ) (inbox inbox_new : List ℕ) (to_come : Option (List ℕ)) → Takes ts inbox inbox_new to_come → length inbox_new ≤ default_capacity → default_capacity ≤ length inbox_new → Fills true ts inbox inbox_new to_come
 fills-full ts inbox inbox_new to_come t fits full =
     let len = takes-length ts inbox inbox_new to_come t in
     let within : t.count ≤ length ts = t.within in
@@ -117,7 +118,7 @@ none-left rest None ts ends told = absurd told
 none-left rest (Some bytes) ts ends told = sym told ∙ ends.0
 
 -- no token is left
-pub fills-at_end : (kind : Scalar) (rest : ℕ) (ts : List ℤ) (inbox inbox_new : List ℕ) (to_come to_come_new : Option (List ℕ)) → kind ≡ byte_type → Takes ts inbox inbox_new to_come → length inbox_new ≤ 512
+pub fills-at_end : (kind : Scalar) (rest : ℕ) (ts : List ℤ) (inbox inbox_new : List ℕ) (to_come to_come_new : Option (List ℕ)) → kind ≡ byte_type → Takes ts inbox inbox_new to_come → length inbox_new ≤ default_capacity
     → EndsWith kind rest to_come → to_come_new ≡ to_come → Fills true ts inbox inbox_new to_come_new
 fills-at_end kind rest ts inbox inbox_new to_come to_come_new of_bytes t fits ended same =
     let len = takes-length ts inbox inbox_new to_come t in

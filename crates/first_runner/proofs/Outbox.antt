@@ -5,7 +5,7 @@ use Rattle.rvc_io.specs.Elsewhere.{SameElsewhere}
 use Rattle.channel_writer.specs.Held.{HoldsFront, Writes}
 use Rattle.channel_writer.proofs.Chains.{writes-nothing, writes-then, breaks-then, front-longer}
 use Rattle.net_model.specs.PortFile.{all_encoded, encoded}
-use Rattle.cal_model.specs.Meaning.{byte_type}
+use Rattle.first_form.specs.Meaning.{byte_type}
 
 -- some tokens were written, and the others are left
 pub record IsSending (all left : List ℤ) (pending_old pending : List ℕ) (tells_old tells : Bool) (held_old held : ℕ → List ℕ) (open_old open_now : ℕ → Bool) (faults_old faults : ℕ) : Type 0 where

@@ -6,10 +6,10 @@ use Rattle.trace_text.specs.declared.line.Line.TheVariants.{Fire, Deliver, Quiet
 use Rattle.trace_text.specs.Text.{line_text}
 use Rattle.net_model.specs.State.{State, start_of}
 use Rattle.net_model.specs.PortFile.{all_encoded}
-use Rattle.net_model.specs.Trace.{FitFlows, PlaysFrom, KeepsFrom, OnNext}
-use Rattle.cal_model.specs.Form.{Form}
-use Rattle.cal_model.specs.Meaning.{byte_type, SendsFor}
-use Rattle.first_runner.specs.Source.{network_of}
+use Rattle.net_model.specs.Trace.{FitFlows, PlaysFrom, KeepsSince, OnNext}
+use Rattle.first_form.specs.Form.{Form}
+use Rattle.first_form.specs.Meaning.{byte_type, SendsFor}
+use Rattle.first_runner.specs.Source.{default_capacity, network_of}
 use Rattle.first_runner.specs.Ran.{fires_in, deliveries_in, AreMoves, Written, Ended}
 use Rattle.first_runner.specs.SoFar.{toks, results, state_at, SoFar}
 use Rattle.first_runner.proofs.Steps.{fire-step, deliver-step, quiet-at, between-at, fits-at, results-length}
@@ -41,15 +41,15 @@ module _ (f : Form) (input : List ℕ) (lines : List Line) (rounds arrived fired
 
   -- a delivery
   pub so_far-deliver : SoFar f input (lines ++ Deliver ∷ []) (rounds + 1)
-      (arrived + min (512 - (arrived - fired)) (length (toks input) - arrived)) fired fired
-      (arrived + min (512 - (arrived - fired)) (length (toks input) - arrived)) fired
+      (arrived + min (default_capacity - (arrived - fired)) (length (toks input) - arrived)) fired fired
+      (arrived + min (default_capacity - (arrived - fired)) (length (toks input) - arrived)) fired
   so_far-deliver =
       let step = deliver-step f (toks input) arrived fired out so_far.out_behind (omega (arith, so_far.fired_behind, so_far.within)) in
       record {
-        plays = λ after last h. subst (λ ls. PlaysFrom (network_of f) (start_of (network_of f) (input ∷ [])) ls last) (sym (one_more Deliver after))
-            (so_far.plays (Deliver ∷ after) last (tt, next-plays (λ next. PlaysFrom (network_of f) next after last) _ _ step h));
-        keeps = λ after h. subst (λ ls. KeepsFrom (network_of f) (start_of (network_of f) (input ∷ [])) (start_of (network_of f) (input ∷ [])) ls) (sym (one_more Deliver after))
-            (so_far.keeps (Deliver ∷ after) (fits_now, tt, next-plays (λ next. KeepsFrom (network_of f) next next after) _ _ step h));
+        plays = λ after last h. subst (λ ls. PlaysFrom (network_of f) 0 (start_of (network_of f) (input ∷ [])) ls last) (sym (one_more Deliver after))
+            (so_far.plays (Deliver ∷ after) last (tt, next-plays (λ next. PlaysFrom (network_of f) 0 next after last) _ _ step h));
+        keeps = λ after h. subst (λ ls. KeepsSince (network_of f) (start_of (network_of f) (input ∷ [])) (start_of (network_of f) (input ∷ [])) ls) (sym (one_more Deliver after))
+            (so_far.keeps (Deliver ∷ after) (fits_now, tt, next-plays (λ next. KeepsSince (network_of f) next next after) _ _ step h));
         moves = λ after h. subst AreMoves (sym (one_more Deliver after)) (so_far.moves (Deliver ∷ after) h);
         fires = λ after. ap fires_in (one_more Deliver after) ∙ so_far.fires (Deliver ∷ after);
         deliveries = λ after. ap deliveries_in (one_more Deliver after) ∙ so_far.deliveries (Deliver ∷ after) ∙ omega arith;
@@ -62,15 +62,15 @@ module _ (f : Form) (input : List ℕ) (lines : List Line) (rounds arrived fired
 
   -- a firing, which takes the next token
   pub so_far-fire : (v w : ℤ) (rest more : List ℤ) → drop fired (take arrived (toks input)) ≡ v ∷ rest → drop fired (toks input) ≡ v ∷ more
-      → fired < arrived → fired < fired_then + 512 → SendsFor f.sum v w
+      → fired < arrived → fired < fired_then + default_capacity → SendsFor f.sum v w
       → SoFar f input (lines ++ Fire 0 0 ∷ []) rounds arrived (fired + 1) out arrived_then fired_then
   so_far-fire v w rest more there next before few sends =
       let step = fire-step f (toks input) arrived fired out v w rest more there next sends in
       record {
-        plays = λ after last h. subst (λ ls. PlaysFrom (network_of f) (start_of (network_of f) (input ∷ [])) ls last) (sym (one_more (Fire 0 0) after))
-            (so_far.plays (Fire 0 0 ∷ after) last (tt, next-plays (λ next. PlaysFrom (network_of f) next after last) _ _ step h));
-        keeps = λ after h. subst (λ ls. KeepsFrom (network_of f) (start_of (network_of f) (input ∷ [])) (start_of (network_of f) (input ∷ [])) ls) (sym (one_more (Fire 0 0) after))
-            (so_far.keeps (Fire 0 0 ∷ after) (fits_now, tt, next-plays (λ next. KeepsFrom (network_of f) (state_at f.sum (toks input) arrived_then fired_then fired_then) next after) _ _ step h));
+        plays = λ after last h. subst (λ ls. PlaysFrom (network_of f) 0 (start_of (network_of f) (input ∷ [])) ls last) (sym (one_more (Fire 0 0) after))
+            (so_far.plays (Fire 0 0 ∷ after) last (tt, next-plays (λ next. PlaysFrom (network_of f) 0 next after last) _ _ step h));
+        keeps = λ after h. subst (λ ls. KeepsSince (network_of f) (start_of (network_of f) (input ∷ [])) (start_of (network_of f) (input ∷ [])) ls) (sym (one_more (Fire 0 0) after))
+            (so_far.keeps (Fire 0 0 ∷ after) (fits_now, tt, next-plays (λ next. KeepsSince (network_of f) (state_at f.sum (toks input) arrived_then fired_then fired_then) next after) _ _ step h));
         moves = λ after h. subst AreMoves (sym (one_more (Fire 0 0) after)) (so_far.moves (Fire 0 0 ∷ after) h);
         fires = λ after. ap fires_in (one_more (Fire 0 0) after) ∙ so_far.fires (Fire 0 0 ∷ after) ∙ omega arith;
         deliveries = λ after. ap deliveries_in (one_more (Fire 0 0) after) ∙ so_far.deliveries (Fire 0 0 ∷ after);
@@ -84,8 +84,8 @@ module _ (f : Form) (input : List ℕ) (lines : List Line) (rounds arrived fired
   -- the lines so far without an end, and what belongs to them
   pub written_so_far : Written f input lines (state_at f.sum (toks input) arrived fired out) (flat_map line_text lines) (all_encoded byte_type (results f.sum (toks input) fired))
   written_so_far = record {
-    plays = subst (λ ls. PlaysFrom (network_of f) (start_of (network_of f) (input ∷ [])) ls (state_at f.sum (toks input) arrived fired out)) (append-nil lines) (so_far.plays [] _ refl);
-    keeps = subst (λ ls. KeepsFrom (network_of f) (start_of (network_of f) (input ∷ [])) (start_of (network_of f) (input ∷ [])) ls) (append-nil lines) (so_far.keeps [] fits_now);
+    plays = subst (λ ls. PlaysFrom (network_of f) 0 (start_of (network_of f) (input ∷ [])) ls (state_at f.sum (toks input) arrived fired out)) (append-nil lines) (so_far.plays [] _ refl);
+    keeps = subst (λ ls. KeepsSince (network_of f) (start_of (network_of f) (input ∷ [])) (start_of (network_of f) (input ∷ [])) ls) (append-nil lines) (so_far.keeps [] fits_now);
     trace_is = refl;
     output_is = refl;
   }
@@ -122,7 +122,7 @@ module _ (f : Form) (input : List ℕ) (lines : List Line) (rounds arrived fired
     moves = lines;
     last = state_at f.sum (toks input) arrived fired out;
     written = record {
-      plays = so_far.plays (Budget ∷ []) _ ((subst (λ n. Rattle.net_model.specs.Ends.IsBetween (network_of f) (state_at f.sum (toks input) arrived fired n)) (sym all_out) (between-at f (toks input) arrived fired v more next (omega (arith, so_far.fired_behind, so_far.within))), refl), refl);
+      plays = so_far.plays (Budget ∷ []) _ ((subst (λ n. Rattle.net_model.specs.Ends.IsBetween (network_of f) 0 (state_at f.sum (toks input) arrived fired n)) (sym all_out) (between-at f (toks input) arrived fired v more next (omega (arith, so_far.fired_behind, so_far.within))), refl), refl);
       keeps = so_far.keeps (Budget ∷ []) (fits_now, tt, fits_now);
       trace_is = refl;
       output_is = refl;

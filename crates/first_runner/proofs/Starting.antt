@@ -5,8 +5,8 @@ use Rattle.channel_writer.specs.Held.{Writes}
 use Rattle.channel_writer.proofs.Chains.{writes-nothing}
 use Rattle.net_model.specs.PortFile.{all_encoded, tokens}
 use Rattle.port_files.specs.Coming.{coming}
-use Rattle.cal_model.specs.Form.{Form}
-use Rattle.cal_model.specs.Meaning.{byte_type}
+use Rattle.first_form.specs.Form.{Form}
+use Rattle.first_form.specs.Meaning.{byte_type}
 use Rattle.first_runner.specs.Missing.{HasInput, IsToCome, MayWrite}
 use Rattle.first_runner.specs.declared.ends.Ends.{Ends}
 use Rattle.first_runner.proofs.Lacking.{may_write-nothing}

@@ -11,12 +11,12 @@ use Rattle.net_model.specs.Event.{happens}
 use Rattle.net_model.specs.Event as event
 use Rattle.net_model.specs.Ends.{IsQuiet, IsSettled, IsBetween, LacksRoom, all_fed}
 use Rattle.net_model.specs.Trace.{goes, FitFlows}
-use Rattle.cal_model.specs.Form.{Form}
-use Rattle.cal_model.specs.Eval.{eval}
-use Rattle.cal_model.specs.Meaning.{byte_type, SendsFor, effect, effect_of}
-use Rattle.first_runner.specs.Source.{network_of}
+use Rattle.first_form.specs.Form.{Form}
+use Rattle.first_form.specs.Eval.{eval}
+use Rattle.first_form.specs.Meaning.{byte_type, SendsFor, effect, effect_of}
+use Rattle.first_runner.specs.Source.{default_capacity, network_of}
 use Rattle.first_runner.specs.SoFar.{toks, outgoing, results, input_flow, output_flow, state_at}
-use Rattle.cal_model.specs.declared.ast.Binary.{Binary}
+use Rattle.first_form.specs.declared.ast.Binary.{Binary}
 
 pub start_is : (f : Form) (input : List ℕ) → start_of (network_of f) (input ∷ []) ≡ state_at f.sum (toks input) 0 0 0
 start_is f input = refl
@@ -35,8 +35,8 @@ results-length b ts n within = simp length-map (length-take-le n ts within)
 abbrev fired_state : Binary → List ℤ → ℕ → ℕ → ℕ → List ℤ → ℕ → List ℤ → State (Unit {0})
 fired_state b ts arrived fired out nothing no_more sent = record {
   actors = tt ∷ [];
-  flows = record { sent = ts ++ nothing; arrived = arrived; taken = fired + 1 }
-      ∷ record { sent = results b ts fired ++ sent; arrived = out; taken = out + no_more } ∷ [];
+  flows = record { sent = ts ++ nothing; arrived = arrived; taken = fired + 1; capacity = default_capacity }
+      ∷ record { sent = results b ts fired ++ sent; arrived = out; taken = out + no_more; capacity = default_capacity } ∷ [];
   trapped = false;
 }
 
@@ -57,13 +57,13 @@ fire-step f ts arrived fired out v w rest more waits_there next sends =
     same_state = rw (append-nil {A = ℤ}, add-zero, results-more f.sum ts fired v more next, sends.is_value) refl
 
 -- a delivery fills the input link up to its capacity, and takes everything out that was sent
-pub deliver-step : (f : Form) (ts : List ℤ) (arrived fired out : ℕ) → out ≤ fired → fired ≤ length ts → goes (network_of f) (state_at f.sum ts arrived fired out) Deliver ≡ Some (state_at f.sum ts (arrived + min (512 - (arrived - fired)) (length ts - arrived)) fired fired)
+pub deliver-step : (f : Form) (ts : List ℤ) (arrived fired out : ℕ) → out ≤ fired → fired ≤ length ts → goes (network_of f) (state_at f.sum ts arrived fired out) Deliver ≡ Some (state_at f.sum ts (arrived + min (default_capacity - (arrived - fired)) (length ts - arrived)) fired fired)
 deliver-step f ts arrived fired out behind within =
     let sent : length (results f.sum ts fired) ≡ fired = results-length f.sum ts fired within in
     let all_out : out + (length (results f.sum ts fired) - out) ≡ fired = omega arith in
     ap (λ n. Some (record {
       actors = tt ∷ [];
-      flows = input_flow ts (arrived + min (512 - (arrived - fired)) (length ts - arrived)) fired
+      flows = input_flow ts (arrived + min (default_capacity - (arrived - fired)) (length ts - arrived)) fired
           ∷ output_flow (results f.sum ts fired) n ∷ [];
       trapped = false;
     })) all_out
@@ -106,18 +106,18 @@ room-at f ts arrived fired (suc i) a (suc zero) lacks = absurd (omega (arith, la
 room-at f ts arrived fired i a (suc (suc l)) lacks = lacks
 
 -- a token is left: the run is neither quiet nor stalled
-pub between-at : (f : Form) (ts : List ℤ) (arrived fired : ℕ) (v : ℤ) (more : List ℤ) → drop fired ts ≡ v ∷ more → fired ≤ length ts → IsBetween (network_of f) (state_at f.sum ts arrived fired fired)
+pub between-at : (f : Form) (ts : List ℤ) (arrived fired : ℕ) (v : ℤ) (more : List ℤ) → drop fired ts ≡ v ∷ more → fired ≤ length ts → IsBetween (network_of f) 0 (state_at f.sum ts arrived fired fired)
 between-at f ts arrived fired v more next within = record {
   settled = settled-at f ts arrived fired within;
   not_quiet = λ quiet. some≢none (effect_of (eval v f.sum)) _ effect_there (quiet.nothing 0 0);
-  not_stalled = λ i a l stalled. room-at f ts arrived fired i a l stalled.lacks;
+  not_stuck = λ i a l stuck. room-at f ts arrived fired i a l stuck.stalled.lacks;
 }
   where
     effect_there : effect_at (network_of f) (all_fed (network_of f) (state_at f.sum ts arrived fired fired)) 0 0 ≡ Some (effect_of (eval v f.sum))
     effect_there = ap (λ us. effect f.sum (us ∷ []) 0) (left-of ts fired v more next)
 
 -- since the delivery before it a firing leaves the output within its capacity
-pub fits-at : (f : Form) (ts : List ℤ) (arrived_then fired_then arrived fired out : ℕ) → fired_then ≤ fired → fired ≤ fired_then + 512 → fired ≤ length ts → FitFlows (network_of f).links (state_at f.sum ts arrived_then fired_then fired_then).flows (state_at f.sum ts arrived fired out).flows
+pub fits-at : (f : Form) (ts : List ℤ) (arrived_then fired_then arrived fired out : ℕ) → fired_then ≤ fired → fired ≤ fired_then + default_capacity → fired ≤ length ts → FitFlows (network_of f).links (state_at f.sum ts arrived_then fired_then fired_then).flows (state_at f.sum ts arrived fired out).flows
 fits-at f ts arrived_then fired_then arrived fired out later few within =
     let now : length (results f.sum ts fired) ≡ fired = results-length f.sum ts fired within in
     let then_ : length (results f.sum ts fired_then) ≡ fired_then = results-length f.sum ts fired_then (omega arith) in

@@ -4,8 +4,8 @@ use Rattle.trace_text.specs.declared.line.Line.{Line}
 use Rattle.trace_text.specs.declared.line.Line.TheVariants.{Fire}
 use Rattle.trace_text.specs.Text.{line_text}
 use Rattle.channel_writer.specs.Held.{HoldsFront}
-use Rattle.cal_model.specs.Meaning.{SendsFor}
-use Rattle.cal_model.specs.declared.ast.Binary.{Binary}
+use Rattle.first_form.specs.Meaning.{SendsFor}
+use Rattle.first_form.specs.declared.ast.Binary.{Binary}
 
 -- each token is taken by a firing that sends the token at its place
 abbrev pub SendAll : Binary → List ℕ → List ℤ → Type 0

@@ -2,9 +2,11 @@
 use Rattle.std.specs.Prelude.{◌≡◌, ℕ, ◌+◌, ◌<◌, Bool, List, [], ◌++◌, length}
 use Rattle.trace_text.specs.Text.{line_text}
 use Rattle.trace_text.specs.declared.line.Line.TheVariants.{Quiet, Budget}
-use Rattle.cal_model.specs.Form.{Form}
+use Rattle.first_form.specs.Form.{Form}
 use Rattle.channel_writer.specs.Held.{Writes}
 use Rattle.first_runner.specs.Missing.{Gets, MayWrite}
+use Rattle.rvc_io.specs.Channels.{Channels}
+use Rattle.first_runner.specs.declared.progress.Progress.{Progress}
 use Rattle.first_runner.specs.declared.outcome.RunEnd.{RunEnd}
 use Rattle.first_runner.specs.declared.outcome.RunEnd.TheVariants as end
 use Rattle.first_runner.specs.Ran.{Ended, CutOff, BrokenOff}
@@ -40,6 +42,11 @@ Comes f writes input end.Quiet counts to tn tp oo on_ op = Pends f writes input 
 Comes f writes input end.Budget counts to tn tp oo on_ op = Pends f writes input end.Budget counts to tn tp oo on_ op
 Comes f writes input (end.ReadFault feed) counts to tn tp oo on_ op = Pends f writes input (end.ReadFault feed) counts to tn tp oo on_ op
 Comes f writes input (end.WriteFault channel) counts to tn tp oo on_ op = Leaves f writes input (end.WriteFault channel) counts to tn oo on_
+
+-- the same of what the code holds
+abbrev pub HasCome : Form → Bool → List ℕ → RunEnd → Counts → (trace_base output_base : List ℕ) → Progress → Channels → Type 0
+HasCome f writes input how counts trace_base output_base run channels =
+    Comes f writes input how counts trace_base (channels.held 1) run.trace output_base (channels.held 2) run.output
 
 -- a read or a write failed
 abbrev pub IsFault : RunEnd → Type 0

@@ -1,7 +1,7 @@
 -- What is said of ports that may lack a feed or a channel.
 use Rattle.std.specs.Prelude.{◌≡◌, ◌⊎◌, ℕ, Bool, true, false, List, [], ◌++◌, ℤ, Option, None, Some}
 use Rattle.net_model.specs.PortFile.{tokens}
-use Rattle.cal_model.specs.Meaning.{byte_type}
+use Rattle.first_form.specs.Meaning.{byte_type}
 use Rattle.first_runner.specs.declared.ends.Ends.{Ends}
 use Rattle.channel_writer.specs.Held.{HoldsFront, Writes}
 

@@ -6,14 +6,16 @@ use Rattle.trace_text.specs.Text.{line_text}
 use Rattle.channel_writer.specs.Held.{Writes}
 use Rattle.net_model.specs.State.{Flow, State, start_of}
 use Rattle.net_model.specs.PortFile.{tokens, all_encoded}
-use Rattle.net_model.specs.Trace.{PlaysFrom, KeepsFrom}
-use Rattle.cal_model.specs.Form.{Form}
-use Rattle.cal_model.specs.Eval.{Out, Gives, Traps, eval}
-use Rattle.cal_model.specs.Meaning.{byte_type}
-use Rattle.cal_model.specs.declared.ast.Binary.{Binary}
-use Rattle.first_runner.specs.Source.{network_of}
+use Rattle.net_model.specs.Trace.{PlaysFrom, KeepsSince}
+use Rattle.first_form.specs.Form.{Form}
+use Rattle.first_form.specs.Eval.{Out, Gives, Traps, eval}
+use Rattle.first_form.specs.Meaning.{byte_type}
+use Rattle.first_form.specs.declared.ast.Binary.{Binary}
+use Rattle.first_runner.specs.Source.{default_capacity, network_of}
 use Rattle.first_runner.specs.Missing.{IsToCome, MayWrite}
 use Rattle.first_runner.specs.declared.ends.Ends.{Ends}
+use Rattle.first_runner.specs.declared.progress.Progress.{Progress}
+use Rattle.rvc_io.specs.Channels.{Channels}
 use Rattle.first_runner.specs.Ran.{fires_in, deliveries_in, AreMoves}
 
 -- the tokens of the input
@@ -30,10 +32,10 @@ abbrev pub results : Binary → List ℤ → ℕ → List ℤ
 results b ts n = map (λ v. outgoing (eval v b)) (take n ts)
 
 abbrev pub input_flow : List ℤ → ℕ → ℕ → Flow
-input_flow ts arrived fired = record { sent = ts; arrived = arrived; taken = fired }
+input_flow ts arrived fired = record { sent = ts; arrived = arrived; taken = fired; capacity = default_capacity }
 
 abbrev pub output_flow : List ℤ → ℕ → Flow
-output_flow sent out = record { sent = sent; arrived = out; taken = out }
+output_flow sent out = record { sent = sent; arrived = out; taken = out; capacity = default_capacity }
 
 -- so many tokens have arrived, were taken, and went out of the network
 abbrev pub state_at : Binary → List ℤ → ℕ → ℕ → ℕ → State (Unit {0})
@@ -47,11 +49,11 @@ state_at b ts arrived fired out = record {
 -- What is said of all that may follow needs no induction where one line is added.
 pub record SoFar (f : Form) (input : List ℕ) (lines : List Line) (rounds arrived fired out arrived_then fired_then : ℕ) : Type 0 where
   pub plays : (after : List Line) (last : State (Unit {0}))
-      → PlaysFrom (network_of f) (state_at f.sum (toks input) arrived fired out) after last
-      → PlaysFrom (network_of f) (start_of (network_of f) (input ∷ [])) (lines ++ after) last
+      → PlaysFrom (network_of f) 0 (state_at f.sum (toks input) arrived fired out) after last
+      → PlaysFrom (network_of f) 0 (start_of (network_of f) (input ∷ [])) (lines ++ after) last
   pub keeps : (after : List Line)
-      → KeepsFrom (network_of f) (state_at f.sum (toks input) arrived_then fired_then fired_then) (state_at f.sum (toks input) arrived fired out) after
-      → KeepsFrom (network_of f) (start_of (network_of f) (input ∷ [])) (start_of (network_of f) (input ∷ [])) (lines ++ after)
+      → KeepsSince (network_of f) (state_at f.sum (toks input) arrived_then fired_then fired_then) (state_at f.sum (toks input) arrived fired out) after
+      → KeepsSince (network_of f) (start_of (network_of f) (input ∷ [])) (start_of (network_of f) (input ∷ [])) (lines ++ after)
   pub moves : (after : List Line) → AreMoves after → AreMoves (lines ++ after)
   pub fires : (after : List Line) → fires_in (lines ++ after) ≡ fired + fires_in after
   pub deliveries : (after : List Line) → deliveries_in (lines ++ after) ≡ rounds + deliveries_in after
@@ -59,7 +61,7 @@ pub record SoFar (f : Form) (input : List ℕ) (lines : List Line) (rounds arriv
   pub fired_behind : fired ≤ arrived
   pub within : arrived ≤ length (toks input)
   pub later : fired_then ≤ fired
-  pub few : fired ≤ fired_then + 512
+  pub few : fired ≤ fired_then + default_capacity
 
 -- A run on its way, by what the queues hold and what was written. `trace_base` and `output_base` are what the
 -- channels held when it began.
@@ -85,3 +87,14 @@ pub record Delivered (f : Form) (ends : Ends) (input trace_base output_base : Li
   pub opened : going.fired_then ≡ firings
   pub outbox_is : outbox ≡ []
   pub all_taken : inbox ≡ [] → firings ≡ length (toks input)
+
+-- the two of what the code holds
+abbrev pub GoesOn : Form → Ends → (input trace_base output_base : List ℕ) → (to_come : Option (List ℕ)) → Progress → Channels → Type 0
+GoesOn f ends input trace_base output_base to_come run channels =
+    Going f ends input trace_base output_base to_come run.inbox.items run.outbox.items run.firings run.rounds
+    channels.tells channels.held run.trace run.output
+
+abbrev pub HasDelivered : Form → Ends → (input trace_base output_base : List ℕ) → (to_come : Option (List ℕ)) → Progress → Channels → Type 0
+HasDelivered f ends input trace_base output_base to_come run channels =
+    Delivered f ends input trace_base output_base to_come run.inbox.items run.outbox.items run.firings run.rounds
+    channels.tells channels.held run.trace run.output

@@ -4,8 +4,8 @@ use Rattle.net_model.specs.declared.wiring.End.{End}
 use Rattle.net_model.specs.declared.wiring.End.TheVariants.{Leaf as AtLeaf, Net as AtNet}
 use Rattle.net_model.specs.declared.wiring.Link.{Link}
 use Rattle.net_model.specs.Network.{Network}
-use Rattle.cal_model.specs.Form.{Form}
-use Rattle.cal_model.specs.Meaning.{behaviour, byte_type}
+use Rattle.first_form.specs.Form.{Form}
+use Rattle.first_form.specs.Meaning.{behaviour, byte_type}
 
 -- the capacity of a link for which no size is given
 abbrev pub default_capacity : ℕ
@@ -25,6 +25,6 @@ abbrev pub network_of : Form → Network (Unit {0})
 network_of f = record {
   leaves = record { path = f.name; class = f.name; behaviour = behaviour f.sum } ∷ [];
   links = input_link ∷ output_link ∷ [];
-  ins = byte_type ∷ [];
-  outs = byte_type ∷ [];
+  ins = record { name = f.input; kind = byte_type } ∷ [];
+  outs = record { name = f.output; kind = byte_type } ∷ [];
 }

@@ -1,18 +1,17 @@
 //! A burst of firings.
 
 ghost use Rattle.std.specs.Prelude.{◌≡◌, ◌≤◌, ◌<◌, ◌+◌, ◌++◌, ◌∷◌, ℕ, Bool, true, List, [], OnOk, OnErr, IfOk, flat_map};
-ghost use Rattle.rvc_io.specs.Count.{HasRisen};
-ghost use Rattle.rvc_io.specs.Elsewhere.{SameElsewhere};
-ghost use Rattle.channel_writer.specs.Held.{HoldsFront, Writes};
+ghost use Rattle.rvc_io.specs.Channels.{WriteFails, WritesOnly};
+ghost use Rattle.channel_writer.specs.Held.{AppendsFront, WritesOn};
 ghost use Rattle.trace_text.specs.Text.{line_text};
-ghost use Rattle.cal_model.specs.Meaning.{IsFirstForm, SendsFor};
+ghost use Rattle.first_form.specs.Meaning.{IsFirstForm, SendsFor};
 ghost use Rattle.std.specs.VecDeque.{deque_capacity, deque_len};
 ghost use Rattle.first_runner.specs.Burst.{Bursts, BreaksBurst, fire_lines, SendsOne};
 
 use crate::TRACE_CHANNEL;
 use crate::trace_writer::note;
-use cal_model::ast::Binary;
-use cal_model::sent_for;
+use first_form::ast::Binary;
+use first_form::sent_for;
 use channel_writer::ChannelWriter;
 use rvc_base::Num;
 use rvc_io::{Drains, Failed};
@@ -32,17 +31,18 @@ pub fn fire_burst<D: Drains>(
 ) -> Result<u64, Failed>
     requires first_form { IsFirstForm sum.now }
     requires room { deque_len outbox.old + limit ≤ deque_capacity outbox.old }
-    requires open { D.is_open drains.old TRACE_CHANNEL ≡ true }
-    ensures burst { IfOk result (λ n. Bursts sum.now n inbox.old.items inbox.new.items outbox.old.items outbox.new.items) }
+    requires open { (D.channels drains.old).is_open TRACE_CHANNEL ≡ true }
+    ensures burst { IfOk result (λ n. Bursts sum.now n inbox.old.items inbox.new.items
+        outbox.old.items outbox.new.items) }
     ensures most { IfOk result (λ n. n ≤ limit) }
     ensures stops { IfOk result (λ n. n < limit → inbox.new.items ≡ []) }
-    ensures written { IfOk result (λ n. D.tells drains.old ≡ true → Writes (D.held drains.old TRACE_CHANNEL) trace.old (D.held drains.new TRACE_CHANNEL) trace.new (flat_map line_text (fire_lines n))) }
-    ensures broken { OnErr result (D.tells drains.old ≡ true → BreaksBurst sum.now limit inbox.old.items (D.held drains.old TRACE_CHANNEL) (D.held drains.new TRACE_CHANNEL) trace.old) }
-    ensures failed { OnErr result (HasRisen (D.faults drains.old) (D.faults drains.new)) }
-    ensures same_telling { D.tells drains.new ≡ D.tells drains.old }
-    ensures same_held { D.tells drains.old ≡ true → SameElsewhere (D.held drains.old) (D.held drains.new) TRACE_CHANNEL }
-    ensures same_open { (other : ℕ) → D.is_open drains.new other ≡ D.is_open drains.old other }
-    ensures faults_stay { D.faults drains.old ≤ D.faults drains.new }
+    ensures written { IfOk result (λ n. WritesOn TRACE_CHANNEL (D.channels drains.old)
+        (D.channels drains.new) trace.old trace.new (flat_map line_text (fire_lines n))) }
+    ensures broken { OnErr result ((D.channels drains.old).tells ≡ true
+        → BreaksBurst sum.now limit inbox.old.items ((D.channels drains.old).held TRACE_CHANNEL)
+        ((D.channels drains.new).held TRACE_CHANNEL) trace.old) }
+    ensures failed { OnErr result (WriteFails D.channels drains.old drains.new) }
+    ensures elsewhere { WritesOnly D.channels drains.old drains.new TRACE_CHANNEL }
     ensures inbox_len { deque_len inbox.new ≤ deque_len inbox.old }
     ensures inbox_capacity { deque_capacity inbox.new ≡ deque_capacity inbox.old }
     ensures outbox_capacity { deque_capacity outbox.new ≡ deque_capacity outbox.old }
@@ -66,15 +66,14 @@ fn fire_one<D: Drains>(
 ) -> Result<(), Failed>
     requires first_form { IsFirstForm sum.now }
     requires room { deque_len outbox.old < deque_capacity outbox.old }
-    requires open { D.is_open drains.old TRACE_CHANNEL ≡ true }
+    requires open { (D.channels drains.old).is_open TRACE_CHANNEL ≡ true }
     ensures sent { SendsOne sum.now token outbox.old.items outbox.new.items }
-    ensures written { OnOk result (D.tells drains.old ≡ true → Writes (D.held drains.old TRACE_CHANNEL) trace.old (D.held drains.new TRACE_CHANNEL) trace.new (flat_map line_text (fire_lines 1))) }
-    ensures front { OnErr result (D.tells drains.old ≡ true → HoldsFront (D.held drains.old TRACE_CHANNEL) (D.held drains.new TRACE_CHANNEL) (trace.old ++ flat_map line_text (fire_lines 1))) }
-    ensures failed { OnErr result (HasRisen (D.faults drains.old) (D.faults drains.new)) }
-    ensures same_telling { D.tells drains.new ≡ D.tells drains.old }
-    ensures same_held { D.tells drains.old ≡ true → SameElsewhere (D.held drains.old) (D.held drains.new) TRACE_CHANNEL }
-    ensures same_open { (other : ℕ) → D.is_open drains.new other ≡ D.is_open drains.old other }
-    ensures faults_stay { D.faults drains.old ≤ D.faults drains.new }
+    ensures written { OnOk result (WritesOn TRACE_CHANNEL (D.channels drains.old)
+        (D.channels drains.new) trace.old trace.new (flat_map line_text (fire_lines 1))) }
+    ensures front { OnErr result (AppendsFront TRACE_CHANNEL (D.channels drains.old)
+        (D.channels drains.new) (trace.old ++ flat_map line_text (fire_lines 1))) }
+    ensures failed { OnErr result (WriteFails D.channels drains.old drains.new) }
+    ensures elsewhere { WritesOnly D.channels drains.old drains.new TRACE_CHANNEL }
     ensures len { deque_len outbox.new ≡ deque_len outbox.old + 1 }
     ensures outbox_capacity { deque_capacity outbox.new ≡ deque_capacity outbox.old }
 {

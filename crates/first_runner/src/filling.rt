@@ -2,10 +2,10 @@
 
 ghost use Rattle.std.specs.Prelude.{◌≡◌, ◌≤◌, ◌<◌, ◌+◌, ℕ, ℤ, Bool, true, List, OnOk, OnErr, pos};
 ghost use Rattle.rvc_base.specs.Storing.{conv};
-ghost use Rattle.rvc_io.specs.Count.{HasRisen};
+ghost use Rattle.rvc_io.specs.Feeds.{ReadFails};
 ghost use Rattle.std.specs.VecDeque.{deque_capacity, deque_len};
-ghost use Rattle.cal_model.specs.Meaning.{byte_type};
-ghost use Rattle.port_files.specs.Coming.{coming, EndIsTrue};
+ghost use Rattle.first_form.specs.Meaning.{byte_type};
+ghost use Rattle.port_files.specs.Coming.{coming_on, EndIsTrue};
 ghost use Rattle.first_runner.specs.Missing.{IsToCome};
 ghost use Rattle.first_runner.specs.Filling.{Fills};
 
@@ -25,19 +25,22 @@ pub fn fill<F: Feeds>(
     inbox: &mut VecDeque<u8>,
     feeds: &mut F,
 ) -> Result<(), Failed>
-    requires open { reads ≡ true → F.is_open feeds.old INPUT_FEED ≡ true }
+    requires open { reads ≡ true → (F.feeds feeds.old).is_open INPUT_FEED ≡ true }
     requires bytes { tokens.old.kind ≡ byte_type }
-    requires same_feed { EndIsTrue tokens.old (F.left feeds.old INPUT_FEED) }
+    requires same_feed { EndIsTrue tokens.old ((F.feeds feeds.old).left INPUT_FEED) }
     requires room { CAPACITY ≤ deque_capacity inbox.old }
     requires fits { deque_len inbox.old ≤ CAPACITY }
-    ensures filled { OnOk result ((ts : List ℤ) → IsToCome reads (coming tokens.old.pulled (F.left feeds.old INPUT_FEED)) ts
-        → Fills reads ts inbox.old.items inbox.new.items (coming tokens.new.pulled (F.left feeds.new INPUT_FEED))) }
-    ensures failed { OnErr result (HasRisen (F.faults feeds.old) (F.faults feeds.new)) }
+    ensures filled { OnOk result ((ts : List ℤ) → IsToCome reads
+        (coming_on tokens.old.pulled (F.feeds feeds.old) INPUT_FEED) ts
+        → Fills reads ts inbox.old.items inbox.new.items
+        (coming_on tokens.new.pulled (F.feeds feeds.new) INPUT_FEED)) }
+    ensures failed { OnErr result (ReadFails F.feeds feeds.old feeds.new) }
     ensures failed_read { OnErr result (reads ≡ true) }
     ensures kind { tokens.new.kind ≡ tokens.old.kind }
-    ensures still_same_feed { EndIsTrue tokens.new (F.left feeds.new INPUT_FEED) }
-    ensures same_open { (other : ℕ) → F.is_open feeds.new other ≡ F.is_open feeds.old other }
-    ensures faults_stay { F.faults feeds.old ≤ F.faults feeds.new }
+    ensures still_same_feed { EndIsTrue tokens.new ((F.feeds feeds.new).left INPUT_FEED) }
+    ensures same_open { (other : ℕ)
+        → (F.feeds feeds.new).is_open other ≡ (F.feeds feeds.old).is_open other }
+    ensures faults_stay { (F.feeds feeds.old).faults ≤ (F.feeds feeds.new).faults }
     ensures still_room { CAPACITY ≤ deque_capacity inbox.new }
     ensures still_fits { deque_len inbox.new ≤ CAPACITY }
 {
@@ -54,18 +57,21 @@ fn fill_from_feed<F: Feeds>(
     inbox: &mut VecDeque<u8>,
     feeds: &mut F,
 ) -> Result<(), Failed>
-    requires open { F.is_open feeds.old INPUT_FEED ≡ true }
+    requires open { (F.feeds feeds.old).is_open INPUT_FEED ≡ true }
     requires bytes { tokens.old.kind ≡ byte_type }
-    requires same_feed { EndIsTrue tokens.old (F.left feeds.old INPUT_FEED) }
+    requires same_feed { EndIsTrue tokens.old ((F.feeds feeds.old).left INPUT_FEED) }
     requires room { CAPACITY ≤ deque_capacity inbox.old }
     requires fits { deque_len inbox.old ≤ CAPACITY }
-    ensures filled { OnOk result ((ts : List ℤ) → IsToCome true (coming tokens.old.pulled (F.left feeds.old INPUT_FEED)) ts
-        → Fills true ts inbox.old.items inbox.new.items (coming tokens.new.pulled (F.left feeds.new INPUT_FEED))) }
-    ensures failed { OnErr result (HasRisen (F.faults feeds.old) (F.faults feeds.new)) }
+    ensures filled { OnOk result ((ts : List ℤ) → IsToCome true
+        (coming_on tokens.old.pulled (F.feeds feeds.old) INPUT_FEED) ts
+        → Fills true ts inbox.old.items inbox.new.items
+        (coming_on tokens.new.pulled (F.feeds feeds.new) INPUT_FEED)) }
+    ensures failed { OnErr result (ReadFails F.feeds feeds.old feeds.new) }
     ensures kind { tokens.new.kind ≡ tokens.old.kind }
-    ensures still_same_feed { EndIsTrue tokens.new (F.left feeds.new INPUT_FEED) }
-    ensures same_open { (other : ℕ) → F.is_open feeds.new other ≡ F.is_open feeds.old other }
-    ensures faults_stay { F.faults feeds.old ≤ F.faults feeds.new }
+    ensures still_same_feed { EndIsTrue tokens.new ((F.feeds feeds.new).left INPUT_FEED) }
+    ensures same_open { (other : ℕ)
+        → (F.feeds feeds.new).is_open other ≡ (F.feeds feeds.old).is_open other }
+    ensures faults_stay { (F.feeds feeds.old).faults ≤ (F.feeds feeds.new).faults }
     ensures still_room { CAPACITY ≤ deque_capacity inbox.new }
     ensures still_fits { deque_len inbox.new ≤ CAPACITY }
 {

@@ -2,7 +2,7 @@
 
 ghost use Rattle.std.specs.Prelude.{◌≡◌, ◌≤◌};
 ghost use Rattle.std.specs.VecDeque.{deque_capacity, deque_len};
-ghost use Rattle.cal_model.specs.Meaning.{byte_type};
+ghost use Rattle.first_form.specs.Meaning.{byte_type};
 ghost use Rattle.first_runner.specs.declared.TheConstants.{CAPACITY, BURST};
 
 use channel_writer::ChannelWriter;

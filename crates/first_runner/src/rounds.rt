@@ -1,15 +1,16 @@
 //! The rounds of one actor: deliver, then fire, until an end.
 
 ghost use Rattle.std.specs.Prelude.{◌≡◌, ◌≤◌, ◌<◌, ◌+◌, ◌^◌, ◌⊎◌, ℕ, Bool, true, List, [], Option, Some, OnOk, OnErr, IfOk, IfErr, MatchResult, Err, length};
-ghost use Rattle.rvc_io.specs.Count.{HasRisen};
-ghost use Rattle.cal_model.specs.Meaning.{IsFirstForm};
-ghost use Rattle.cal_model.specs.Form.{Form};
-ghost use Rattle.port_files.specs.Coming.{coming, EndIsTrue};
+ghost use Rattle.rvc_io.specs.Channels.{WriteFails};
+ghost use Rattle.rvc_io.specs.Feeds.{ReadFails};
+ghost use Rattle.first_form.specs.Meaning.{IsFirstForm};
+ghost use Rattle.first_form.specs.Form.{Form};
+ghost use Rattle.port_files.specs.Coming.{coming_on, EndIsTrue};
 ghost use Rattle.first_runner.specs.Outside.{KeepsOthers};
 ghost use Rattle.first_runner.specs.Missing.{IsWritten};
-ghost use Rattle.first_runner.specs.Leaves.{Comes, IsFault, IsNoFault, EndFits, end_text, numbers};
+ghost use Rattle.first_runner.specs.Leaves.{HasCome, IsFault, IsNoFault, EndFits, end_text, numbers};
 ghost use Rattle.trace_text.specs.Text.{line_text, IsWhole};
-ghost use Rattle.first_runner.specs.SoFar.{Going, Delivered};
+ghost use Rattle.first_runner.specs.SoFar.{GoesOn, HasDelivered};
 ghost use Rattle.first_runner.specs.declared.outcome.Counts.{Counts as Numbers};
 ghost use Rattle.first_runner.specs.declared.ends.Ends.{Ends as OpenEnds};
 
@@ -21,7 +22,7 @@ use crate::progress::Progress;
 use crate::sending::send_out;
 use crate::trace_writer::note;
 use crate::{BURST, INPUT_FEED, OUTPUT_CHANNEL, TRACE_CHANNEL};
-use cal_model::ast::Binary;
+use first_form::ast::Binary;
 use rvc_base::MAX_BUDGET;
 use rvc_io::{Drains, Feeds};
 use trace_text::Line;
@@ -33,32 +34,44 @@ pub fn deliver<F: Feeds, D: Drains>(
     feeds: &mut F,
     drains: &mut D,
 ) -> Result<(), RunEnd>
-    requires feed_open { ends.reads ≡ true → F.is_open feeds.old INPUT_FEED ≡ true }
-    requires trace_open { D.is_open drains.old TRACE_CHANNEL ≡ true }
-    requires output_open { ends.writes ≡ true → D.is_open drains.old OUTPUT_CHANNEL ≡ true }
-    requires same_feed { EndIsTrue run.old.tokens (F.left feeds.old INPUT_FEED) }
+    requires feed_open { ends.reads ≡ true → (F.feeds feeds.old).is_open INPUT_FEED ≡ true }
+    requires trace_open { (D.channels drains.old).is_open TRACE_CHANNEL ≡ true }
+    requires output_open { ends.writes ≡ true
+        → (D.channels drains.old).is_open OUTPUT_CHANNEL ≡ true }
+    requires same_feed { EndIsTrue run.old.tokens ((F.feeds feeds.old).left INPUT_FEED) }
     requires few { run.old.rounds + 1 < 2 ^ 64 }
 
     ensures delivered { (f : Form) (input trace_base output_base : List ℕ)
-        → Going f ends input trace_base output_base (coming run.old.tokens.pulled (F.left feeds.old INPUT_FEED)) run.old.inbox.items run.old.outbox.items run.old.firings run.old.rounds (D.tells drains.old) (D.held drains.old) run.old.trace run.old.output
-        → OnOk result (Delivered f ends input trace_base output_base (coming run.new.tokens.pulled (F.left feeds.new INPUT_FEED)) run.new.inbox.items run.new.outbox.items run.new.firings run.new.rounds (D.tells drains.new) (D.held drains.new) run.new.trace run.new.output) }
+        → GoesOn f ends input trace_base output_base
+            (coming_on run.old.tokens.pulled (F.feeds feeds.old) INPUT_FEED) run.old
+            (D.channels drains.old)
+        → OnOk result (HasDelivered f ends input trace_base output_base
+            (coming_on run.new.tokens.pulled (F.feeds feeds.new) INPUT_FEED) run.new
+            (D.channels drains.new)) }
     ensures cut { (f : Form) (input trace_base output_base : List ℕ) (counts : Numbers)
-        → Going f ends input trace_base output_base (coming run.old.tokens.pulled (F.left feeds.old INPUT_FEED)) run.old.inbox.items run.old.outbox.items run.old.firings run.old.rounds (D.tells drains.old) (D.held drains.old) run.old.trace run.old.output
-        → IfErr result (λ how. Comes f ends.writes input how counts trace_base (D.held drains.new 1) run.new.trace output_base (D.held drains.new 2) run.new.output) }
+        → GoesOn f ends input trace_base output_base
+            (coming_on run.old.tokens.pulled (F.feeds feeds.old) INPUT_FEED) run.old
+            (D.channels drains.old)
+        → IfErr result (λ how. HasCome f ends.writes input how counts trace_base output_base run.new
+            (D.channels drains.new)) }
 
-    ensures read_fault { (feed : ℕ) → result ≡ Err (RunEnd.ReadFault feed) → (feed ≡ INPUT_FEED) × HasRisen (F.faults feeds.old) (F.faults feeds.new) }
-    ensures write_fault { (channel : ℕ) → result ≡ Err (RunEnd.WriteFault channel) → HasRisen (D.faults drains.old) (D.faults drains.new) }
+    ensures read_fault { (feed : ℕ) → result ≡ Err (RunEnd.ReadFault feed)
+        → (feed ≡ INPUT_FEED) × ReadFails F.feeds feeds.old feeds.new }
+    ensures write_fault { (channel : ℕ) → result ≡ Err (RunEnd.WriteFault channel)
+        → WriteFails D.channels drains.old drains.new }
     ensures reads_it { (feed : ℕ) → result ≡ Err (RunEnd.ReadFault feed) → ends.reads ≡ true }
-    ensures writes_it { (channel : ℕ) → result ≡ Err (RunEnd.WriteFault channel) → IsWritten ends channel }
+    ensures writes_it { (channel : ℕ) → result ≡ Err (RunEnd.WriteFault channel)
+        → IsWritten ends channel }
     ensures only_faults { IfErr result IsFault }
     ensures same_firings { run.new.firings ≡ run.old.firings }
     ensures empty { OnOk result (run.new.outbox.items ≡ []) }
-    ensures still_same_feed { EndIsTrue run.new.tokens (F.left feeds.new INPUT_FEED) }
+    ensures still_same_feed { EndIsTrue run.new.tokens ((F.feeds feeds.new).left INPUT_FEED) }
     ensures one_round { OnOk result (run.new.rounds ≡ run.old.rounds + 1) }
 
-    ensures feeds_open { (other : ℕ) → F.is_open feeds.new other ≡ F.is_open feeds.old other }
-    ensures feeds_stay { F.faults feeds.old ≤ F.faults feeds.new }
-    ensures others { KeepsOthers (D.tells drains.old) (D.tells drains.new) (D.held drains.old) (D.held drains.new) (D.is_open drains.old) (D.is_open drains.new) (D.faults drains.old) (D.faults drains.new) }
+    ensures feeds_open { (other : ℕ)
+        → (F.feeds feeds.new).is_open other ≡ (F.feeds feeds.old).is_open other }
+    ensures feeds_stay { (F.feeds feeds.old).faults ≤ (F.feeds feeds.new).faults }
+    ensures others { KeepsOthers D.channels drains.old drains.new }
 {
     let Ok(()) = send_out(ends.writes, &mut run.outbox, &mut run.output, drains) else {
         return Err(RunEnd::WriteFault {
@@ -85,25 +98,32 @@ pub fn fire<D: Drains>(
     drains: &mut D,
 ) -> Result<u64, RunEnd>
     requires first_form { IsFirstForm sum.now }
-    requires trace_open { D.is_open drains.old TRACE_CHANNEL ≡ true }
+    requires trace_open { (D.channels drains.old).is_open TRACE_CHANNEL ≡ true }
     requires burst { limit ≤ BURST }
     requires empty { run.old.outbox.items ≡ [] }
     requires few { run.old.firings + limit < 2 ^ 64 }
 
-    ensures fired { (f : Form) (ends : OpenEnds) (input trace_base output_base : List ℕ) (to_come : Option (List ℕ)) → f.sum ≡ sum.now
-        → Delivered f ends input trace_base output_base to_come run.old.inbox.items run.old.outbox.items run.old.firings run.old.rounds (D.tells drains.old) (D.held drains.old) run.old.trace run.old.output
-        → OnOk result (Going f ends input trace_base output_base to_come run.new.inbox.items run.new.outbox.items run.new.firings run.new.rounds (D.tells drains.new) (D.held drains.new) run.new.trace run.new.output) }
-    ensures cut { (f : Form) (ends : OpenEnds) (input trace_base output_base : List ℕ) (to_come : Option (List ℕ)) (counts : Numbers) → f.sum ≡ sum.now
-        → Delivered f ends input trace_base output_base to_come run.old.inbox.items run.old.outbox.items run.old.firings run.old.rounds (D.tells drains.old) (D.held drains.old) run.old.trace run.old.output
-        → IfErr result (λ how. Comes f ends.writes input how counts trace_base (D.held drains.new 1) run.new.trace output_base (D.held drains.new 2) run.new.output) }
+    ensures fired { (f : Form) (ends : OpenEnds) (input trace_base output_base : List ℕ)
+        (to_come : Option (List ℕ))
+        → f.sum ≡ sum.now
+        → HasDelivered f ends input trace_base output_base to_come run.old (D.channels drains.old)
+        → OnOk result (GoesOn f ends input trace_base output_base to_come run.new
+            (D.channels drains.new)) }
+    ensures cut { (f : Form) (ends : OpenEnds) (input trace_base output_base : List ℕ)
+        (to_come : Option (List ℕ)) (counts : Numbers)
+        → f.sum ≡ sum.now
+        → HasDelivered f ends input trace_base output_base to_come run.old (D.channels drains.old)
+        → IfErr result (λ how. HasCome f ends.writes input how counts trace_base output_base run.new
+            (D.channels drains.new)) }
     ensures same_tokens { run.new.tokens ≡ run.old.tokens }
     ensures counted { IfOk result (λ n. run.new.firings ≡ run.old.firings + n) }
     ensures uncounted { OnErr result (run.new.firings ≡ run.old.firings) }
     ensures most { IfOk result (λ n. n ≤ limit) }
     ensures least { IfOk result (λ n. 0 < length run.old.inbox.items → 0 < limit → 0 < n) }
-    ensures write_fault { IfErr result (λ how. (how ≡ RunEnd.WriteFault TRACE_CHANNEL) × HasRisen (D.faults drains.old) (D.faults drains.new)) }
+    ensures write_fault { IfErr result (λ how. (how ≡ RunEnd.WriteFault TRACE_CHANNEL)
+        × WriteFails D.channels drains.old drains.new) }
     ensures same_rounds { run.new.rounds ≡ run.old.rounds }
-    ensures others { KeepsOthers (D.tells drains.old) (D.tells drains.new) (D.held drains.old) (D.held drains.new) (D.is_open drains.old) (D.is_open drains.new) (D.faults drains.old) (D.faults drains.new) }
+    ensures others { KeepsOthers D.channels drains.old drains.new }
 {
     let Ok(count) = fire_burst(
         sum,
@@ -124,16 +144,19 @@ pub fn fire<D: Drains>(
 /// Writes the line of an end that a look at the inbox gives.
 fn close<D: Drains>(end: RunEnd, run: &mut Progress, drains: &mut D) -> RunEnd
     requires fits { EndFits end run.old.inbox.items }
-    requires trace_open { D.is_open drains.old TRACE_CHANNEL ≡ true }
+    requires trace_open { (D.channels drains.old).is_open TRACE_CHANNEL ≡ true }
 
-    ensures came { (f : Form) (ends : OpenEnds) (input trace_base output_base : List ℕ) (to_come : Option (List ℕ))
-        → Delivered f ends input trace_base output_base to_come run.old.inbox.items run.old.outbox.items run.old.firings run.old.rounds (D.tells drains.old) (D.held drains.old) run.old.trace run.old.output
-        → Comes f ends.writes input result (numbers run.old.firings run.old.rounds (length run.old.inbox.items)) trace_base (D.held drains.new 1) run.new.trace output_base (D.held drains.new 2) run.new.output }
-    ensures ended { (result ≡ end) ⊎ ((result ≡ RunEnd.WriteFault TRACE_CHANNEL) × HasRisen (D.faults drains.old) (D.faults drains.new)) }
+    ensures came { (f : Form) (ends : OpenEnds) (input trace_base output_base : List ℕ)
+        (to_come : Option (List ℕ))
+        → HasDelivered f ends input trace_base output_base to_come run.old (D.channels drains.old)
+        → HasCome f ends.writes input result (numbers run.old.firings run.old.rounds
+            (length run.old.inbox.items)) trace_base output_base run.new (D.channels drains.new) }
+    ensures ended { (result ≡ end) ⊎ ((result ≡ RunEnd.WriteFault TRACE_CHANNEL)
+        × WriteFails D.channels drains.old drains.new) }
     ensures same_inbox { run.new.inbox.items ≡ run.old.inbox.items }
     ensures same_firings { run.new.firings ≡ run.old.firings }
     ensures same_rounds { run.new.rounds ≡ run.old.rounds }
-    ensures others { KeepsOthers (D.tells drains.old) (D.tells drains.new) (D.held drains.old) (D.held drains.new) (D.is_open drains.old) (D.is_open drains.new) (D.faults drains.old) (D.faults drains.new) }
+    ensures others { KeepsOthers D.channels drains.old drains.new }
 {
     let Ok(()) = note(&end_line(end), &mut run.trace, drains) else {
         return RunEnd::WriteFault {
@@ -166,25 +189,32 @@ pub fn make_rounds<F: Feeds, D: Drains>(
     drains: &mut D,
 ) -> RunEnd
     requires first_form { IsFirstForm sum.now }
-    requires feed_open { ends.reads ≡ true → F.is_open feeds.old INPUT_FEED ≡ true }
-    requires trace_open { D.is_open drains.old TRACE_CHANNEL ≡ true }
-    requires output_open { ends.writes ≡ true → D.is_open drains.old OUTPUT_CHANNEL ≡ true }
-    requires same_feed { EndIsTrue run.old.tokens (F.left feeds.old INPUT_FEED) }
+    requires feed_open { ends.reads ≡ true → (F.feeds feeds.old).is_open INPUT_FEED ≡ true }
+    requires trace_open { (D.channels drains.old).is_open TRACE_CHANNEL ≡ true }
+    requires output_open { ends.writes ≡ true
+        → (D.channels drains.old).is_open OUTPUT_CHANNEL ≡ true }
+    requires same_feed { EndIsTrue run.old.tokens ((F.feeds feeds.old).left INPUT_FEED) }
     requires budget { budget ≤ MAX_BUDGET }
     requires no_firings { run.old.firings ≡ 0 }
     requires no_rounds { run.old.rounds ≡ 0 }
 
     ensures came { (f : Form) (input trace_base output_base : List ℕ) → f.sum ≡ sum.now
-        → Going f ends input trace_base output_base (coming run.old.tokens.pulled (F.left feeds.old INPUT_FEED)) run.old.inbox.items run.old.outbox.items run.old.firings run.old.rounds (D.tells drains.old) (D.held drains.old) run.old.trace run.old.output
-        → Comes f ends.writes input result (numbers run.new.firings run.new.rounds (length run.new.inbox.items)) trace_base (D.held drains.new 1) run.new.trace output_base (D.held drains.new 2) run.new.output }
+        → GoesOn f ends input trace_base output_base
+            (coming_on run.old.tokens.pulled (F.feeds feeds.old) INPUT_FEED) run.old
+            (D.channels drains.old)
+        → HasCome f ends.writes input result (numbers run.new.firings run.new.rounds
+            (length run.new.inbox.items)) trace_base output_base run.new (D.channels drains.new) }
     ensures spent { result ≡ RunEnd.Budget → run.new.firings ≡ budget }
     ensures most { run.new.firings ≤ budget }
-    ensures read_fault { (feed : ℕ) → result ≡ RunEnd.ReadFault feed → (feed ≡ INPUT_FEED) × HasRisen (F.faults feeds.old) (F.faults feeds.new) }
-    ensures write_fault { (channel : ℕ) → result ≡ RunEnd.WriteFault channel → HasRisen (D.faults drains.old) (D.faults drains.new) }
+    ensures read_fault { (feed : ℕ) → result ≡ RunEnd.ReadFault feed
+        → (feed ≡ INPUT_FEED) × ReadFails F.feeds feeds.old feeds.new }
+    ensures write_fault { (channel : ℕ) → result ≡ RunEnd.WriteFault channel
+        → WriteFails D.channels drains.old drains.new }
     ensures reads_it { (feed : ℕ) → result ≡ RunEnd.ReadFault feed → ends.reads ≡ true }
-    ensures writes_it { (channel : ℕ) → result ≡ RunEnd.WriteFault channel → IsWritten ends channel }
-    ensures feeds_stay { F.faults feeds.old ≤ F.faults feeds.new }
-    ensures others { KeepsOthers (D.tells drains.old) (D.tells drains.new) (D.held drains.old) (D.held drains.new) (D.is_open drains.old) (D.is_open drains.new) (D.faults drains.old) (D.faults drains.new) }
+    ensures writes_it { (channel : ℕ) → result ≡ RunEnd.WriteFault channel
+        → IsWritten ends channel }
+    ensures feeds_stay { (F.feeds feeds.old).faults ≤ (F.feeds feeds.new).faults }
+    ensures others { KeepsOthers D.channels drains.old drains.new }
 {
     'rounds: loop {
         if let Err(fault) = deliver(ends, run, feeds, drains) {

@@ -1,13 +1,13 @@
 //! A run of one actor, from its start to its end.
 
 ghost use Rattle.std.specs.Prelude.{◌≡◌, ◌≤◌, ◌⊎◌, ℕ, Bool, true, List, OnOk, OnErr, IfOk, length};
-ghost use Rattle.rvc_io.specs.Count.{HasRisen};
-ghost use Rattle.rvc_io.specs.Elsewhere.{SameElsewhere};
-ghost use Rattle.cal_model.specs.Meaning.{IsFirstForm};
-ghost use Rattle.cal_model.specs.Form.{Form};
+ghost use Rattle.rvc_io.specs.Channels.{WriteFails, WritesOnly};
+ghost use Rattle.rvc_io.specs.Feeds.{ReadFails};
+ghost use Rattle.first_form.specs.Meaning.{IsFirstForm};
+ghost use Rattle.first_form.specs.Form.{Form};
 ghost use Rattle.first_runner.specs.Outside.{KeepsOthers};
 ghost use Rattle.first_runner.specs.Missing.{Gets, HasInput, IsWritten, MayHoldFront};
-ghost use Rattle.first_runner.specs.Leaves.{Leaves, Comes, numbers};
+ghost use Rattle.first_runner.specs.Leaves.{HasCome, Leaves, numbers};
 ghost use Rattle.first_runner.specs.declared.outcome.Counts.{Counts as Numbers};
 
 use crate::ends::Ends;
@@ -15,7 +15,7 @@ use crate::outcome::{Counts, Outcome, RunEnd};
 use crate::progress::Progress;
 use crate::rounds::make_rounds;
 use crate::{BURST, CAPACITY, INPUT_FEED, OUTPUT_CHANNEL, TRACE_CHANNEL};
-use cal_model::ast::Binary;
+use first_form::ast::Binary;
 use channel_writer::ChannelWriter;
 use port_files::TokenFeed;
 use rvc_base::{MAX_BUDGET, Memory, Num, Scalar};
@@ -39,9 +39,9 @@ pub struct Runner {
 
 impl Model for Runner {
     ghost use Rattle.std.specs.Prelude.{◌≡◌, ◌≤◌, [], false};
-    ghost use Rattle.cal_model.specs.Meaning.{byte_type};
+    ghost use Rattle.first_form.specs.Meaning.{byte_type};
     ghost use Rattle.std.specs.VecDeque.{deque_capacity, deque_len};
-    ghost use Rattle.cal_model.specs.declared.ast.Binary.{Binary as Expression};
+    ghost use Rattle.first_form.specs.declared.ast.Binary.{Binary as Expression};
     ghost use Rattle.first_runner.specs.declared.TheConstants.{CAPACITY, BURST};
 
     ghost Value = { Expression };
@@ -84,22 +84,32 @@ impl Runner {
         drains: &mut D,
     ) -> Outcome
         requires first_form { IsFirstForm self }
-        requires feed_open { ends.reads ≡ true → F.is_open feeds.old INPUT_FEED ≡ true }
-        requires trace_open { D.is_open drains.old TRACE_CHANNEL ≡ true }
-        requires output_open { ends.writes ≡ true → D.is_open drains.old OUTPUT_CHANNEL ≡ true }
+        requires feed_open { ends.reads ≡ true → (F.feeds feeds.old).is_open INPUT_FEED ≡ true }
+        requires trace_open { (D.channels drains.old).is_open TRACE_CHANNEL ≡ true }
+        requires output_open { ends.writes ≡ true
+            → (D.channels drains.old).is_open OUTPUT_CHANNEL ≡ true }
         requires budget { budget ≤ MAX_BUDGET }
 
         // What the run leaves is told by its end.
-        ensures leaves { (f : Form) (input : List ℕ) → f.sum ≡ self → HasInput ends.reads (F.left feeds.old INPUT_FEED) input → D.tells drains.old ≡ true
-            → Leaves f ends.writes input result.end result.counts (D.held drains.old TRACE_CHANNEL) (D.held drains.new TRACE_CHANNEL) (D.held drains.old OUTPUT_CHANNEL) (D.held drains.new OUTPUT_CHANNEL) }
+        ensures leaves { (f : Form) (input : List ℕ) → f.sum ≡ self
+            → HasInput ends.reads ((F.feeds feeds.old).left INPUT_FEED) input
+            → (D.channels drains.old).tells ≡ true
+            → Leaves f ends.writes input result.end result.counts
+                ((D.channels drains.old).held TRACE_CHANNEL)
+                ((D.channels drains.new).held TRACE_CHANNEL)
+                ((D.channels drains.old).held OUTPUT_CHANNEL)
+                ((D.channels drains.new).held OUTPUT_CHANNEL) }
         ensures spent { result.end ≡ RunEnd.Budget → result.counts.firings ≡ budget }
         ensures most { result.counts.firings ≤ budget }
-        ensures read_fault { (feed : ℕ) → result.end ≡ RunEnd.ReadFault feed → (feed ≡ INPUT_FEED) × HasRisen (F.faults feeds.old) (F.faults feeds.new) }
-        ensures write_fault { (channel : ℕ) → result.end ≡ RunEnd.WriteFault channel → HasRisen (D.faults drains.old) (D.faults drains.new) }
+        ensures read_fault { (feed : ℕ) → result.end ≡ RunEnd.ReadFault feed
+            → (feed ≡ INPUT_FEED) × ReadFails F.feeds feeds.old feeds.new }
+        ensures write_fault { (channel : ℕ) → result.end ≡ RunEnd.WriteFault channel
+            → WriteFails D.channels drains.old drains.new }
         ensures reads_it { (feed : ℕ) → result.end ≡ RunEnd.ReadFault feed → ends.reads ≡ true }
-        ensures writes_it { (channel : ℕ) → result.end ≡ RunEnd.WriteFault channel → IsWritten ends channel }
-        ensures feeds_stay { F.faults feeds.old ≤ F.faults feeds.new }
-        ensures others { KeepsOthers (D.tells drains.old) (D.tells drains.new) (D.held drains.old) (D.held drains.new) (D.is_open drains.old) (D.is_open drains.new) (D.faults drains.old) (D.faults drains.new) }
+        ensures writes_it { (channel : ℕ) → result.end ≡ RunEnd.WriteFault channel
+            → IsWritten ends channel }
+        ensures feeds_stay { (F.feeds feeds.old).faults ≤ (F.feeds feeds.new).faults }
+        ensures others { KeepsOthers D.channels drains.old drains.new }
     {
         let Runner {
             sum,
@@ -140,13 +150,18 @@ fn counts_of(run: &Progress) -> Counts
 
 /// Puts what is held back, unless a write failed.
 fn finish<D: Drains>(end: RunEnd, ends: Ends, run: &mut Progress, drains: &mut D) -> RunEnd
-    requires trace_open { D.is_open drains.old TRACE_CHANNEL ≡ true }
-    requires output_open { ends.writes ≡ true → D.is_open drains.old OUTPUT_CHANNEL ≡ true }
-    ensures leaves { (f : Form) (input trace_base output_base : List ℕ) (counts : Numbers) → D.tells drains.old ≡ true
-        → Comes f ends.writes input end counts trace_base (D.held drains.old 1) run.old.trace output_base (D.held drains.old 2) run.old.output
-        → Leaves f ends.writes input result counts trace_base (D.held drains.new 1) output_base (D.held drains.new 2) }
-    ensures ended { (result ≡ end) ⊎ ((channel : ℕ) × (result ≡ RunEnd.WriteFault channel) × IsWritten ends channel × HasRisen (D.faults drains.old) (D.faults drains.new)) }
-    ensures others { KeepsOthers (D.tells drains.old) (D.tells drains.new) (D.held drains.old) (D.held drains.new) (D.is_open drains.old) (D.is_open drains.new) (D.faults drains.old) (D.faults drains.new) }
+    requires trace_open { (D.channels drains.old).is_open TRACE_CHANNEL ≡ true }
+    requires output_open { ends.writes ≡ true
+        → (D.channels drains.old).is_open OUTPUT_CHANNEL ≡ true }
+    ensures leaves { (f : Form) (input trace_base output_base : List ℕ) (counts : Numbers)
+        → (D.channels drains.old).tells ≡ true
+        → HasCome f ends.writes input end counts trace_base output_base run.old
+            (D.channels drains.old)
+        → Leaves f ends.writes input result counts trace_base ((D.channels drains.new).held 1)
+            output_base ((D.channels drains.new).held 2) }
+    ensures ended { (result ≡ end) ⊎ ((channel : ℕ) × (result ≡ RunEnd.WriteFault channel)
+        × IsWritten ends channel × WriteFails D.channels drains.old drains.new) }
+    ensures others { KeepsOthers D.channels drains.old drains.new }
 {
     if let RunEnd::WriteFault { channel: _ } = end {
         return end;
@@ -170,15 +185,16 @@ fn put_rest<D: Drains>(
     output: &mut ChannelWriter,
     drains: &mut D,
 ) -> Result<(), Failed>
-    requires { writes ≡ true → D.is_open drains.old OUTPUT_CHANNEL ≡ true }
-    ensures all { OnOk result (D.tells drains.old ≡ true → Gets writes (D.held drains.old OUTPUT_CHANNEL) (D.held drains.new OUTPUT_CHANNEL) output.old) }
-    ensures front { OnErr result (D.tells drains.old ≡ true → MayHoldFront writes (D.held drains.old OUTPUT_CHANNEL) (D.held drains.new OUTPUT_CHANNEL) output.old) }
-    ensures failed { OnErr result (HasRisen (D.faults drains.old) (D.faults drains.new)) }
+    requires { writes ≡ true → (D.channels drains.old).is_open OUTPUT_CHANNEL ≡ true }
+    ensures all { OnOk result ((D.channels drains.old).tells ≡ true
+        → Gets writes ((D.channels drains.old).held OUTPUT_CHANNEL)
+        ((D.channels drains.new).held OUTPUT_CHANNEL) output.old) }
+    ensures front { OnErr result ((D.channels drains.old).tells ≡ true
+        → MayHoldFront writes ((D.channels drains.old).held OUTPUT_CHANNEL)
+        ((D.channels drains.new).held OUTPUT_CHANNEL) output.old) }
+    ensures failed { OnErr result (WriteFails D.channels drains.old drains.new) }
     ensures failed_write { OnErr result (writes ≡ true) }
-    ensures same_telling { D.tells drains.new ≡ D.tells drains.old }
-    ensures same_held { D.tells drains.old ≡ true → SameElsewhere (D.held drains.old) (D.held drains.new) OUTPUT_CHANNEL }
-    ensures same_open { (other : ℕ) → D.is_open drains.new other ≡ D.is_open drains.old other }
-    ensures faults_stay { D.faults drains.old ≤ D.faults drains.new }
+    ensures elsewhere { WritesOnly D.channels drains.old drains.new OUTPUT_CHANNEL }
 {
     if writes {
         output.flush(drains, OUTPUT_CHANNEL)

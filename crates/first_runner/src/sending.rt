@@ -1,18 +1,17 @@
 //! Tokens on their way to the output's channel.
 
 ghost use Rattle.std.specs.Prelude.{◌≡◌, ◌≤◌, ◌++◌, ℕ, Bool, true, List, [], OnOk, OnErr};
-ghost use Rattle.rvc_io.specs.Count.{HasRisen};
-ghost use Rattle.rvc_io.specs.Elsewhere.{SameElsewhere};
-ghost use Rattle.channel_writer.specs.Held.{HoldsFront, Writes};
+ghost use Rattle.rvc_io.specs.Channels.{WriteFails, WritesOnly};
+ghost use Rattle.channel_writer.specs.Held.{AppendsFront, WritesOn};
 ghost use Rattle.net_model.specs.PortFile.{all_encoded, encoded};
-ghost use Rattle.cal_model.specs.Meaning.{byte_type};
+ghost use Rattle.first_form.specs.Meaning.{byte_type};
 ghost use Rattle.first_runner.specs.Missing.{MayHoldFront, MayWrite};
 ghost use Rattle.std.specs.VecDeque.{deque_capacity};
 
 use crate::OUTPUT_CHANNEL;
 use channel_writer::ChannelWriter;
 use port_files::encode;
-use rvc_base::{Num, Scalar};
+use rvc_base::{MAX_TOKEN_BYTES, Num, Scalar};
 use rvc_io::{Drains, Failed};
 use std::collections::VecDeque;
 
@@ -23,16 +22,19 @@ pub fn send_out<D: Drains>(
     output: &mut ChannelWriter,
     drains: &mut D,
 ) -> Result<(), Failed>
-    requires { writes ≡ true → D.is_open drains.old OUTPUT_CHANNEL ≡ true }
-    ensures written { OnOk result (D.tells drains.old ≡ true → MayWrite writes (D.held drains.old OUTPUT_CHANNEL) output.old (D.held drains.new OUTPUT_CHANNEL) output.new (all_encoded byte_type outbox.old.items)) }
+    requires { writes ≡ true → (D.channels drains.old).is_open OUTPUT_CHANNEL ≡ true }
+    ensures written { OnOk result ((D.channels drains.old).tells ≡ true
+        → MayWrite writes ((D.channels drains.old).held OUTPUT_CHANNEL) output.old
+        ((D.channels drains.new).held OUTPUT_CHANNEL) output.new
+        (all_encoded byte_type outbox.old.items)) }
     ensures empty { OnOk result (outbox.new.items ≡ []) }
-    ensures front { OnErr result (D.tells drains.old ≡ true → MayHoldFront writes (D.held drains.old OUTPUT_CHANNEL) (D.held drains.new OUTPUT_CHANNEL) (output.old ++ all_encoded byte_type outbox.old.items)) }
-    ensures failed { OnErr result (HasRisen (D.faults drains.old) (D.faults drains.new)) }
+    ensures front { OnErr result ((D.channels drains.old).tells ≡ true
+        → MayHoldFront writes ((D.channels drains.old).held OUTPUT_CHANNEL)
+        ((D.channels drains.new).held OUTPUT_CHANNEL)
+        (output.old ++ all_encoded byte_type outbox.old.items)) }
+    ensures failed { OnErr result (WriteFails D.channels drains.old drains.new) }
     ensures failed_write { OnErr result (writes ≡ true) }
-    ensures same_telling { D.tells drains.new ≡ D.tells drains.old }
-    ensures same_held { D.tells drains.old ≡ true → SameElsewhere (D.held drains.old) (D.held drains.new) OUTPUT_CHANNEL }
-    ensures same_open { (other : ℕ) → D.is_open drains.new other ≡ D.is_open drains.old other }
-    ensures faults_stay { D.faults drains.old ≤ D.faults drains.new }
+    ensures elsewhere { WritesOnly D.channels drains.old drains.new OUTPUT_CHANNEL }
     ensures capacity { deque_capacity outbox.new ≡ deque_capacity outbox.old }
 {
     if writes {
@@ -49,15 +51,14 @@ fn write_all<D: Drains>(
     output: &mut ChannelWriter,
     drains: &mut D,
 ) -> Result<(), Failed>
-    requires { D.is_open drains.old OUTPUT_CHANNEL ≡ true }
-    ensures written { OnOk result (D.tells drains.old ≡ true → Writes (D.held drains.old OUTPUT_CHANNEL) output.old (D.held drains.new OUTPUT_CHANNEL) output.new (all_encoded byte_type outbox.old.items)) }
+    requires { (D.channels drains.old).is_open OUTPUT_CHANNEL ≡ true }
+    ensures written { OnOk result (WritesOn OUTPUT_CHANNEL (D.channels drains.old)
+        (D.channels drains.new) output.old output.new (all_encoded byte_type outbox.old.items)) }
     ensures empty { OnOk result (outbox.new.items ≡ []) }
-    ensures front { OnErr result (D.tells drains.old ≡ true → HoldsFront (D.held drains.old OUTPUT_CHANNEL) (D.held drains.new OUTPUT_CHANNEL) (output.old ++ all_encoded byte_type outbox.old.items)) }
-    ensures failed { OnErr result (HasRisen (D.faults drains.old) (D.faults drains.new)) }
-    ensures same_telling { D.tells drains.new ≡ D.tells drains.old }
-    ensures same_held { D.tells drains.old ≡ true → SameElsewhere (D.held drains.old) (D.held drains.new) OUTPUT_CHANNEL }
-    ensures same_open { (other : ℕ) → D.is_open drains.new other ≡ D.is_open drains.old other }
-    ensures faults_stay { D.faults drains.old ≤ D.faults drains.new }
+    ensures front { OnErr result (AppendsFront OUTPUT_CHANNEL (D.channels drains.old)
+        (D.channels drains.new) (output.old ++ all_encoded byte_type outbox.old.items)) }
+    ensures failed { OnErr result (WriteFails D.channels drains.old drains.new) }
+    ensures elsewhere { WritesOnly D.channels drains.old drains.new OUTPUT_CHANNEL }
     ensures capacity { deque_capacity outbox.new ≡ deque_capacity outbox.old }
 {
     while let Some(token) = outbox.pop_front() {
@@ -67,21 +68,21 @@ fn write_all<D: Drains>(
 }
 
 /// Writes the bytes of one token.
+#[tactic(auto, using(crate::proofs::Tokens::encoded_stored))]
 fn write_token<D: Drains>(
     token: Num,
     output: &mut ChannelWriter,
     drains: &mut D,
 ) -> Result<(), Failed>
-    requires { D.is_open drains.old OUTPUT_CHANNEL ≡ true }
-    ensures written { OnOk result (D.tells drains.old ≡ true → Writes (D.held drains.old OUTPUT_CHANNEL) output.old (D.held drains.new OUTPUT_CHANNEL) output.new (encoded byte_type token)) }
-    ensures front { OnErr result (D.tells drains.old ≡ true → HoldsFront (D.held drains.old OUTPUT_CHANNEL) (D.held drains.new OUTPUT_CHANNEL) (output.old ++ encoded byte_type token)) }
-    ensures failed { OnErr result (HasRisen (D.faults drains.old) (D.faults drains.new)) }
-    ensures same_telling { D.tells drains.new ≡ D.tells drains.old }
-    ensures same_held { D.tells drains.old ≡ true → SameElsewhere (D.held drains.old) (D.held drains.new) OUTPUT_CHANNEL }
-    ensures same_open { (other : ℕ) → D.is_open drains.new other ≡ D.is_open drains.old other }
-    ensures faults_stay { D.faults drains.old ≤ D.faults drains.new }
+    requires { (D.channels drains.old).is_open OUTPUT_CHANNEL ≡ true }
+    ensures written { OnOk result (WritesOn OUTPUT_CHANNEL (D.channels drains.old)
+        (D.channels drains.new) output.old output.new (encoded byte_type token)) }
+    ensures front { OnErr result (AppendsFront OUTPUT_CHANNEL (D.channels drains.old)
+        (D.channels drains.new) (output.old ++ encoded byte_type token)) }
+    ensures failed { OnErr result (WriteFails D.channels drains.old drains.new) }
+    ensures elsewhere { WritesOnly D.channels drains.old drains.new OUTPUT_CHANNEL }
 {
-    let mut bytes = [0u8; 8];
+    let mut bytes = [0u8; MAX_TOKEN_BYTES];
     let count = encode(Scalar::Uint(8), token, &mut bytes);
     output.write(drains, OUTPUT_CHANNEL, &bytes[..usize::from(count)])
 }

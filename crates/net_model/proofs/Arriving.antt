@@ -16,17 +16,17 @@ use Rattle.net_model.specs.Laws.{Meets}
 use Rattle.net_model.proofs.Commuting.{chosen_else, set_both, get_other, Fired, fired, fired_unless, fires_so, from_other}
 
 -- the state after a delivery on a link
-abbrev arrived : {X : Type 0} → State X → ℕ → ℕ → Link → Flow → State X
+abbrev pub arrived : {X : Type 0} → State X → ℕ → ℕ → Link → Flow → State X
 arrived s l k link flow = record s { flows = slice_set s.flows l (after_arrival k link flow) }
 
-record Arrived {X : Type 0} (net : Network X) (s t : State X) (l k : ℕ) : Type 0 where
-  link : Link
-  flow : Flow
-  untrapped : s.trapped ≡ false
-  at_link : slice_get net.links l ≡ Some link
-  at_flow : slice_get s.flows l ≡ Some flow
-  fits : flow.arrived + k ≤ length flow.sent
-  is : arrived s l k link flow ≡ t
+pub record Arrived {X : Type 0} (net : Network X) (s t : State X) (l k : ℕ) : Type 0 where
+  pub link : Link
+  pub flow : Flow
+  pub untrapped : s.trapped ≡ false
+  pub at_link : slice_get net.links l ≡ Some link
+  pub at_flow : slice_get s.flows l ≡ Some flow
+  pub fits : flow.arrived + k ≤ length flow.sent
+  pub is : arrived s l k link flow ≡ t
 
 some_same : {A : Type 0} (x y : A) → Some x ≡ Some y → x ≡ y
 some_same x y h = cc
@@ -52,7 +52,7 @@ arrived_by net s t l k (Some link) (Some flow) untrapped at_link at_flow h =
 arrived_by net s t l k (Some link) None untrapped at_link at_flow h = cc
 arrived_by net s t l k None p untrapped at_link at_flow h = cc
 
-arrived_unless : {X : Type 0} (net : Network X) (s t : State X) (l k : ℕ) (trapped : Bool) → s.trapped ≡ trapped
+pub arrived_unless : {X : Type 0} (net : Network X) (s t : State X) (l k : ℕ) (trapped : Bool) → s.trapped ≡ trapped
     → (if trapped then None else deliver s l k (slice_get net.links l) (slice_get s.flows l)) ≡ Some t → Arrived net s t l k
 arrived_unless net s t l k true is h = cc
 arrived_unless net s t l k false is h = arrived_by net s t l k _ _ is refl refl h
@@ -62,7 +62,7 @@ deliver_so : {X : Type 0} (s : State X) (l k : ℕ) (link : Link) (flow : Flow) 
 deliver_so s l k link flow o p at_link at_flow fits =
     rw (at_link, at_flow, le-leb (flow.arrived + k) (length flow.sent) fits)
 
-arrives_so : {X : Type 0} (net : Network X) (s : State X) (l k : ℕ) (link : Link) (flow : Flow) → s.trapped ≡ false
+pub arrives_so : {X : Type 0} (net : Network X) (s : State X) (l k : ℕ) (link : Link) (flow : Flow) → s.trapped ≡ false
     → slice_get net.links l ≡ Some link → slice_get s.flows l ≡ Some flow → flow.arrived + k ≤ length flow.sent
     → happens net s (Deliver l k) ≡ Some (arrived s l k link flow)
 arrives_so net s l k link flow untrapped at_link at_flow fits =
@@ -88,12 +88,12 @@ deliveries_commute net s t u l k m n differ p q =
           ∙ ap (λ fs. Some (record { actors = s.actors; flows = fs; trapped = s.trapped })) (sym (set_both s.flows l m new other differ)));
     }
 
-get_same : {A : Type 0} (xs : List A) (l : ℕ) (x y : A) → slice_get xs l ≡ Some x → slice_get (slice_set xs l y) l ≡ Some y
+pub get_same : {A : Type 0} (xs : List A) (l : ℕ) (x y : A) → slice_get xs l ≡ Some x → slice_get (slice_set xs l y) l ≡ Some y
 get_same [] l x y h = cc
 get_same (z ∷ xs) zero x y h = refl
 get_same (z ∷ xs) (suc l) x y h = get_same xs l x y h
 
-set_twice : {A : Type 0} (xs : List A) (l : ℕ) (x y : A) → slice_set (slice_set xs l x) l y ≡ slice_set xs l y
+pub set_twice : {A : Type 0} (xs : List A) (l : ℕ) (x y : A) → slice_set (slice_set xs l x) l y ≡ slice_set xs l y
 set_twice [] l x y = refl
 set_twice (z ∷ xs) zero x y = refl
 set_twice (z ∷ xs) (suc l) x y = ap (λ w. z ∷ w) (set_twice xs l x y)
@@ -205,7 +205,7 @@ inboxes_more i ins k links flows l link flow at_link at_flow p low =
     rw (before, after) (inbox_more i p k links flows l link flow at_link at_flow)
 
 -- a stable actor does with more tokens what it does
-effect_keeps : {X : Type 0} (i a k : ℕ) (links : List Link) (flows : List Flow) (l : ℕ) (link : Link) (flow : Flow)
+pub effect_keeps : {X : Type 0} (i a k : ℕ) (links : List Link) (flows : List Flow) (l : ℕ) (link : Link) (flow : Flow)
     (leaf : Option (Leaf X)) (x : Option X) (e : Effect X)
     → slice_get links l ≡ Some link → slice_get flows l ≡ Some flow
     → ((that : Leaf X) → leaf ≡ Some that → IsStable that.behaviour)

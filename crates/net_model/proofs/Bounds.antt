@@ -1,20 +1,19 @@
 -- No more tokens are taken from a link than have arrived there, and no more arrive than were sent.
-use Rattle.std.proofs.Common.{◌≡◌, ℕ, zero, suc, ◌+◌, ◌-◌, ◌<◌, ◌≤◌, Bool, true, false, List, [], ◌∷◌, length, map, refl, sym, ap, ◌∙◌, subst, arith}
+use Rattle.std.proofs.Common.{◌≡◌, ℕ, zero, suc, ◌+◌, ◌-◌, ◌<◌, ◌≤◌, Bool, true, false, List, [], ◌∷◌, length, map, refl, sym, ap, ◌∙◌, subst, ⊎_elim, arith}
 use Rattle.std.specs.Prelude.{Option, None, Some, slice_get, slice_set, slice_index_or, if◌then◌else◌, nat_le, ◌==◌, ◌&&◌}
-use Rattle.std.proofs.lemmas.Bool.{eqb-true, eq-eqb, leb-true}
+use Rattle.std.proofs.lemmas.Bool.{eqb-true, eq-eqb, leb-true, cases_lt}
 use Rattle.std.proofs.lemmas.List.FromFn.{get_or-map-range_with_len}
 use Rattle.std.proofs.lemmas.List.{length-take, length-drop, length-append}
-use Rattle.rvc_base.specs.declared.scalar.Scalar.{Scalar}
 use Rattle.rvc_base.specs.declared.trap.Trap.{Trap as TrapName}
 use Rattle.rvc_base.specs.Behaviour.{Behaviour, Effect, Fires, TrapsInGuard, TrapsInBody}
 use Rattle.net_model.specs.declared.wiring.End.{End}
 use Rattle.net_model.specs.declared.wiring.End.TheVariants.{Leaf as AtLeaf, Net as AtNet}
 use Rattle.net_model.specs.declared.wiring.Link.{Link}
-use Rattle.net_model.specs.Network.{Leaf, Network, is_output, is_leaf_port}
+use Rattle.net_model.specs.Network.{NetPort, Leaf, Network, is_output, is_leaf_port}
 use Rattle.net_model.specs.State.{Flow, State, waiting, inbox, inboxes, first_flow, start_of, effect_of, effect_at, need_of}
 use Rattle.net_model.specs.Event.{Event, Fire, Deliver, Trap, each_flow, taken_from, after_firing, after_arrival, fire, deliver, trap, permitted, happens, and_then, run}
-use Rattle.net_model.specs.Lawful.{IsLawful}
-use Rattle.net_model.specs.Wired.{IsWired, LeadsToPort, HasInput}
+use Rattle.rvc_base.specs.Lawful.{IsLawful}
+use Rattle.net_model.specs.Wired.{IsWired, IsBefore, LeadsToPort, HasInput}
 use Rattle.net_model.specs.Laws.{IsOrdered, AreOrdered, AreLawful}
 
 both_true : (a b : Bool) → (a && b) ≡ true → (a ≡ true) × (b ≡ true)
@@ -100,6 +99,21 @@ need_there : {X : Type 0} (o : Option (Leaf X)) (leaf : Leaf X) (a p : ℕ) → 
 need_there None leaf a p e = cc
 need_there (Some that) leaf a p e = let same : that ≡ leaf = cc in ap (λ k. k.behaviour.need a p) same
 
+-- no place is before itself, so a reading end has one link
+before_none : (end : End) → IsBefore end end → ⊥
+before_none (AtLeaf inst port) before = ⊎_elim (λ low. omega (arith, low)) (λ same. omega (arith, same.1)) before
+before_none (AtNet port) before = omega (arith, before)
+
+one_writer : {X : Type 0} (net : Network X) → IsWired net → (l m : ℕ) (link other : Link) → slice_get net.links l ≡ Some link
+    → slice_get net.links m ≡ Some other → link.to ≡ other.to → l ≡ m
+one_writer net wired l m link other at there same =
+    ⊎_elim
+    (λ low. absurd (before_none other.to (subst (λ e. IsBefore e other.to) same (wired.in_order l m link other low at there))))
+    (λ up. ⊎_elim
+    (λ low. absurd (before_none link.to (subst (λ e. IsBefore e link.to) (sym same) (wired.in_order m l other link low there at))))
+    (λ down. omega arith) (cases_lt m l))
+    (cases_lt l m)
+
 -- a firing takes no more from a link than waits there
 taken_fits : {X : Type 0} (net : Network X) (flows : List Flow) (i a : ℕ) (x : Option X) (e : Effect X)
     → IsWired net → AreLawful net → effect_of net.links flows i a (slice_get net.leaves i) x ≡ Some e
@@ -114,12 +128,12 @@ taken_fits net flows i a x e wired lawful has l link flow at_link at_flow (AtLea
     let to_here : link.to ≡ AtLeaf (record { 0 = i }) port =
     leads ∙ ap (λ k. AtLeaf (record { 0 = k }) port) (sym same) in
     let lawful_here : IsLawful source.that.behaviour = lawful i source.that source.there in
-    let leads_there : LeadsToPort net.leaves (AtLeaf (record { 0 = i }) port) =
-    subst (λ k. LeadsToPort net.leaves k) to_here (wired.to_ports l link at_link) in
+    let leads_there : LeadsToPort net (AtLeaf (record { 0 = i }) port) =
+    subst (λ k. LeadsToPort net k) to_here (wired.joined l link at_link).to_port in
     let low : port < source.that.behaviour.ins = input_there port _ source.that source.there leads_there in
     let waits : source.that.behaviour.need a port ≤ length (inbox i port net.links flows) =
     needs_waiting net.links flows i a source.that.behaviour source.state e lawful_here source.has port low in
-    let only : IsOnly net.links l link = λ m that at same_end. wired.one_writer m l that link at at_link same_end in
+    let only : IsOnly net.links l link = λ m that at same_end. one_writer net wired m l that link at at_link same_end in
     let held : inbox i port net.links flows ≡ waiting flow =
     inbox_of_link i port net.links flows l link flow at_link at_flow to_here only in
     let held_length : length (inbox i port net.links flows) ≡ length (waiting flow) = ap (λ vs. length vs) held in
@@ -214,7 +228,7 @@ unless_ordered : {X : Type 0} (t : State X) (trapped : Bool) (o : Option (State 
 unless_ordered t true o p h = cc
 unless_ordered t false o p h = p h
 
-happens_ordered : {X : Type 0} (net : Network X) (s t : State X) (event : Event) → IsWired net → AreLawful net → AreOrdered s
+pub happens_ordered : {X : Type 0} (net : Network X) (s t : State X) (event : Event) → IsWired net → AreLawful net → AreOrdered s
     → happens net s event ≡ Some t → AreOrdered t
 happens_ordered net s t event wired lawful ordered h =
     unless_ordered t s.trapped _ (permitted_ordered net s t event wired lawful ordered) h
@@ -225,22 +239,17 @@ step_ordered : {X : Type 0} (t : State X) (o : Option (State X)) (f : State X �
 step_ordered t None f p q h = cc
 step_ordered t (Some u) f p q h = q u (p u refl) h
 
-run_ordered : {X : Type 0} (net : Network X) (s t : State X) (events : List Event) → IsWired net → AreLawful net → AreOrdered s
+pub run_ordered : {X : Type 0} (net : Network X) (events : List Event) (s t : State X) → IsWired net → AreLawful net → AreOrdered s
     → run net s events ≡ Some t → AreOrdered t
-run_ordered net s t [] wired lawful ordered h = from_some t s h ordered
-run_ordered net s t (event ∷ events) wired lawful ordered h =
+run_ordered net [] s t wired lawful ordered h = from_some t s h ordered
+run_ordered net (event ∷ events) s t wired lawful ordered h =
     step_ordered t (happens net s event) _ (λ u. happens_ordered net s u event wired lawful ordered)
-    (λ u before. run_ordered net u t events wired lawful before) h
+    (λ u before. run_ordered net events u t wired lawful before) h
 
-first_ordered : (kinds : List Scalar) (inputs : List (List ℕ)) (links : List Link) (l : ℕ) (flow : Flow)
+pub first_ordered : (kinds : List NetPort) (inputs : List (List ℕ)) (links : List Link) (l : ℕ) (flow : Flow)
     → slice_get (map (first_flow kinds inputs) links) l ≡ Some flow → IsOrdered flow
 first_ordered kinds inputs [] l flow at = cc
 first_ordered kinds inputs (link ∷ links) zero flow at =
     let same : first_flow kinds inputs link ≡ flow = cc in
     subst (λ f. IsOrdered f) same (omega arith, omega arith)
 first_ordered kinds inputs (link ∷ links) (suc l) flow at = first_ordered kinds inputs links l flow at
-
-pub started_ordered : {X : Type 0} (net : Network X) (inputs : List (List ℕ)) (events : List Event) (t : State X)
-    → IsWired net → AreLawful net → run net (start_of net inputs) events ≡ Some t → AreOrdered t
-started_ordered net inputs events t wired lawful h =
-    run_ordered net (start_of net inputs) t events wired lawful (first_ordered net.ins inputs net.links) h

@@ -21,7 +21,7 @@ chosen_else false x y h = refl
 apart : {A : Type 0} (i j : ℕ) (x y : A) → i ≢ j → (if i == j then x else y) ≡ y
 apart i j x y differ = chosen_else (i == j) x y (λ same. differ (eqb-true i j same))
 
-map_same : {A B : Type 0} (f g : A → B) → ((x : A) → f x ≡ g x) → (xs : List A) → map f xs ≡ map g xs
+pub map_same : {A B : Type 0} (f g : A → B) → ((x : A) → f x ≡ g x) → (xs : List A) → map f xs ≡ map g xs
 map_same f g same [] = refl
 map_same f g same (x ∷ xs) = rw (same x, map_same f g same xs)
 
@@ -45,7 +45,7 @@ none_taken i j p needs (AtNet port) differ here = refl
 
 -- so what waits there stays
 waiting_stays : (flow : Flow) (sent : List ℤ) (taken : ℕ) → taken ≡ 0 → flow.arrived ≤ length flow.sent
-    → waiting (record { sent = flow.sent ++ sent; arrived = flow.arrived; taken = flow.taken + taken }) ≡ waiting flow
+    → waiting (record { sent = flow.sent ++ sent; arrived = flow.arrived; taken = flow.taken + taken; capacity = flow.capacity }) ≡ waiting flow
 waiting_stays flow sent taken none fits =
     let same : flow.taken + taken ≡ flow.taken = omega arith in
     rw (same, take-append-le flow.arrived flow.sent sent fits)
@@ -67,7 +67,7 @@ inboxes_stay : (i j ins : ℕ) (needs : ℕ → ℕ) (sent : List (List ℤ)) �
 inboxes_stay i j ins needs sent differ links flows fits =
     map_same _ _ (λ p. inbox_stays i j p needs sent differ links flows fits) (range_with_len 0 ins)
 
-effect_stays : {X : Type 0} (i j a : ℕ) (needs : ℕ → ℕ) (sent : List (List ℤ)) → i ≢ j → (links : List Link) (flows : List Flow)
+pub effect_stays : {X : Type 0} (i j a : ℕ) (needs : ℕ → ℕ) (sent : List (List ℤ)) → i ≢ j → (links : List Link) (flows : List Flow)
     → ((l : ℕ) (flow : Flow) → slice_get flows l ≡ Some flow → flow.arrived ≤ length flow.sent)
     → (leaf : Option (Leaf X)) (x : Option X)
     → effect_of links (each_flow (after_firing j needs sent) links flows) i a leaf x ≡ effect_of links flows i a leaf x

@@ -7,7 +7,7 @@ use Rattle.net_model.specs.declared.wiring.Link.{Link}
 use Rattle.net_model.specs.Network.{Leaf, Network}
 use Rattle.net_model.specs.State.{Flow, State, inboxes, effect_of, choice_of, choice_at}
 use Rattle.net_model.specs.Ends.{IsQuiet, IsSettled, IsStalled, LacksRoom, all_fed}
-use Rattle.net_model.specs.Lawful.{IsLawful}
+use Rattle.rvc_base.specs.Lawful.{IsLawful}
 use Rattle.net_model.specs.Laws.{AreLawful, AllWait}
 
 -- an actor that has no effect waits

@@ -4,12 +4,12 @@ use Rattle.std.specs.Prelude.{Option, None, Some, slice_get, slice_set, if◌the
 use Rattle.rvc_base.specs.declared.trap.Trap.{Trap as TrapName}
 use Rattle.rvc_base.specs.Behaviour.{Effect, Fires, TrapsInGuard, TrapsInBody}
 use Rattle.trace_text.specs.declared.line.Line.{Line}
-use Rattle.trace_text.specs.declared.line.Line.TheVariants.{Header, Inst, Fire as FireLine, Deliver as DeliverLine, Quiet, Trap as TrapLine, Stall, Budget}
+use Rattle.trace_text.specs.declared.line.Line.TheVariants.{Header, Inst, Fire as FireLine, Deliver as DeliverLine, Grow, Quiet, Trap as TrapLine, Stall, Budget}
 use Rattle.net_model.specs.declared.wiring.Link.{Link}
 use Rattle.net_model.specs.Network.{Network}
 use Rattle.net_model.specs.State.{Flow, State}
 use Rattle.net_model.specs.Event.{Event, Fire, Deliver, Trap, each_flow, sent_on, after_arrival, fire, deliver, trap, permitted, happens, and_then, run}
-use Rattle.net_model.specs.Trace.{delivered, goes, played}
+use Rattle.net_model.specs.Trace.{delivered, grown, goes, played}
 use Rattle.net_model.specs.Stable.{IsPrefix}
 use Rattle.net_model.specs.Laws.{sent_of, sent_on_link, SentGrows}
 
@@ -113,16 +113,24 @@ run_grows net s t [] h = from_some net s t s h (grows_same net s)
 run_grows net s t (event ∷ events) h =
     step_grows net s t (happens net s event) _ (λ u. happens_grows net s u event) (λ u. run_grows net u t events) h
 
+-- a link that grows keeps its tokens
+grown_grows : {X : Type 0} (net : Network X) (s t : State X) (l capacity : ℕ) (flow : Option Flow)
+    → slice_get s.flows l ≡ flow → grown s l capacity flow ≡ Some t → SentGrows net s t
+grown_grows net s t l capacity (Some flow) here h =
+    from_some net s t _ h (λ m low. set_grows s.flows l flow (record flow { capacity = capacity }) here refl m)
+grown_grows net s t l capacity None here h = cc
+
 goes_grows : {X : Type 0} (net : Network X) (s t : State X) (line : Line) → goes net s line ≡ Some t → SentGrows net s t
 goes_grows net s t (FireLine i a) h = happens_grows net s t (Fire i a) h
 goes_grows net s t DeliverLine h =
     unless_grows net s t s.trapped _
     (λ e. from_some net s t _ e (each_grows delivered (λ link flow. prefix_same flow.sent) net.links s.flows)) h
 goes_grows net s t (TrapLine i a c) h = happens_grows net s t (Trap i a c) h
+goes_grows net s t (Grow l capacity) h = grown_grows net s t l capacity _ refl h
 goes_grows net s t Quiet h = from_some net s t s h (grows_same net s)
 goes_grows net s t (Stall i a l) h = from_some net s t s h (grows_same net s)
 goes_grows net s t Budget h = from_some net s t s h (grows_same net s)
-goes_grows net s t (Header n l) h = cc
+goes_grows net s t (Header n l g) h = cc
 goes_grows net s t (Inst k) h = cc
 
 pub played_grows : {X : Type 0} (net : Network X) (s t : State X) (lines : List Line)

@@ -1,9 +1,10 @@
 pub mod Rows
 mod Coding
-mod Growth
-mod Bounds
-mod Lines
+pub mod Growth
+pub mod Bounds
+pub mod Lines
 mod Premises
 mod Ending
 pub mod Commuting
-mod Arriving
+pub mod Arriving
+mod Bare

@@ -1,6 +1,6 @@
 -- Worked runs, computed by the definitions.
 use Rattle.std.proofs.Common.{◌≡◌, ℕ, zero, suc, ◌<◌, ◌≤◌, ◌⊎◌, false, List, [], ◌∷◌, ℤ, pos, ◌+ℤ◌, refl, inl, inr, arith, rules}
-use Rattle.std.specs.Prelude.{Option, None, Some, codes, ◌==◌, if◌then◌else◌, slice_index_or}
+use Rattle.std.specs.Prelude.{Option, None, Some, codes, ◌==◌, if◌then◌else◌, slice_index_or, length}
 use Rattle.rvc_base.specs.declared.scalar.Scalar.TheVariants.{Uint}
 use Rattle.rvc_base.specs.Storing.{conv}
 use Rattle.rvc_base.specs.Behaviour.{Behaviour, Effect, Fires, Choice, Waits, Picks}
@@ -9,7 +9,7 @@ use Rattle.trace_text.specs.declared.line.Line.TheVariants.{Fire, Deliver, Quiet
 use Rattle.net_model.specs.declared.wiring.End.{End}
 use Rattle.net_model.specs.declared.wiring.End.TheVariants.{Leaf as AtLeaf, Net as AtNet}
 use Rattle.net_model.specs.declared.wiring.Link.{Link}
-use Rattle.net_model.specs.Network.{Network}
+use Rattle.net_model.specs.Network.{NetPort, Network}
 use Rattle.net_model.specs.State.{State, start_of, effect_at, choice_at}
 use Rattle.net_model.specs.Ends.{IsQuiet, IsStalled, LacksRoom, all_fed}
 use Rattle.net_model.specs.Trace.{goes, played, bytes_out, Plays, KeepsCapacities}
@@ -17,6 +17,10 @@ use Rattle.net_model.specs.Trace.{goes, played, bytes_out, Plays, KeepsCapacitie
 -- a link of bytes
 abbrev pub link : End → End → ℕ → Link
 link from to capacity = record { from = from; to = to; capacity = capacity; kind = Uint 8 }
+
+-- a port of the network for bytes
+abbrev pub byte_port : List ℕ → NetPort
+byte_port name = record { name = name; kind = Uint 8 }
 
 abbrev pub leaf_port : ℕ → ℕ → End
 leaf_port i p = AtLeaf (record { 0 = i }) p
@@ -43,8 +47,9 @@ at_zero o (suc a) = None
 abbrev simple : List ℕ → (List (List ℤ) → Option (List ℤ)) → Behaviour (Unit {0})
 simple needs f = record {
   start = tt;
-  ins = Rattle.std.specs.Prelude.length needs;
+  ins = length needs;
   outs = 1;
+  actions = 1;
   need = rate needs;
   give = rate (1 ∷ []);
   effect = λ x u a. at_zero (only (f u)) a;
@@ -64,8 +69,8 @@ abbrev inc_net : Network (Unit {0})
 inc_net = record {
   leaves = record { path = codes "Inc"; class = codes "Inc"; behaviour = inc } ∷ [];
   links = link (AtNet 0) (leaf_port 0 0) 512 ∷ link (leaf_port 0 0) (AtNet 0) 512 ∷ [];
-  ins = Uint 8 ∷ [];
-  outs = Uint 8 ∷ [];
+  ins = byte_port (codes "In") ∷ [];
+  outs = byte_port (codes "Out") ∷ [];
 }
 
 abbrev inc_lines : List Line
@@ -74,8 +79,8 @@ inc_lines = Deliver ∷ Fire 0 0 ∷ Fire 0 0 ∷ Fire 0 0 ∷ Deliver ∷ Quiet
 abbrev inc_last : State (Unit {0})
 inc_last = record {
   actors = tt ∷ [];
-  flows = record { sent = pos 0 ∷ pos 1 ∷ pos 255 ∷ []; arrived = 3; taken = 3 }
-      ∷ record { sent = pos 1 ∷ pos 2 ∷ pos 0 ∷ []; arrived = 3; taken = 3 } ∷ [];
+  flows = record { sent = pos 0 ∷ pos 1 ∷ pos 255 ∷ []; arrived = 3; taken = 3; capacity = 512 }
+      ∷ record { sent = pos 1 ∷ pos 2 ∷ pos 0 ∷ []; arrived = 3; taken = 3; capacity = 512 } ∷ [];
   trapped = false;
 }
 
@@ -90,7 +95,7 @@ inc_nothing zero zero = refl
 inc_nothing zero (suc a) = refl
 inc_nothing (suc i) a = refl
 
-inc_plays : Plays inc_net ((0 ∷ 1 ∷ 255 ∷ []) ∷ []) inc_lines inc_last
+inc_plays : Plays inc_net 0 ((0 ∷ 1 ∷ 255 ∷ []) ∷ []) inc_lines inc_last
 inc_plays = (
   tt,
   (
@@ -161,8 +166,8 @@ pair_net = record {
       ∷ link (leaf_port 1 0) (leaf_port 2 0) 512
       ∷ link (leaf_port 0 0) (leaf_port 2 1) 1
       ∷ link (leaf_port 2 0) (AtNet 0) 512 ∷ [];
-  ins = Uint 8 ∷ [];
-  outs = Uint 8 ∷ [];
+  ins = byte_port (codes "In") ∷ [];
+  outs = byte_port (codes "Out") ∷ [];
 }
 
 abbrev pair_in : List (List ℕ)
@@ -174,11 +179,11 @@ pair_lines = Deliver ∷ Fire 0 0 ∷ Deliver ∷ Stall 0 0 3 ∷ []
 abbrev pair_last : State (Unit {0})
 pair_last = record {
   actors = tt ∷ tt ∷ tt ∷ [];
-  flows = record { sent = pos 1 ∷ pos 2 ∷ pos 3 ∷ pos 4 ∷ []; arrived = 4; taken = 1 }
-      ∷ record { sent = pos 1 ∷ []; arrived = 1; taken = 0 }
-      ∷ record { sent = []; arrived = 0; taken = 0 }
-      ∷ record { sent = pos 1 ∷ []; arrived = 1; taken = 0 }
-      ∷ record { sent = []; arrived = 0; taken = 0 } ∷ [];
+  flows = record { sent = pos 1 ∷ pos 2 ∷ pos 3 ∷ pos 4 ∷ []; arrived = 4; taken = 1; capacity = 512 }
+      ∷ record { sent = pos 1 ∷ []; arrived = 1; taken = 0; capacity = 512 }
+      ∷ record { sent = []; arrived = 0; taken = 0; capacity = 512 }
+      ∷ record { sent = pos 1 ∷ []; arrived = 1; taken = 0; capacity = 1 }
+      ∷ record { sent = []; arrived = 0; taken = 0; capacity = 512 } ∷ [];
   trapped = false;
 }
 
@@ -212,8 +217,8 @@ pair_stalls = record {
   lowest_link = pair_lower;
 }
 
-pair_plays : Plays pair_net pair_in pair_lines pair_last
-pair_plays = (tt, (tt, (tt, ((pair_stalls, refl), refl))))
+pair_plays : Plays pair_net 0 pair_in pair_lines pair_last
+pair_plays = (tt, (tt, (tt, ((record { stalled = pair_stalls; grown = omega arith }, refl), refl))))
 
 pair_keeps : KeepsCapacities pair_net pair_in pair_lines
 pair_keeps = grind arith
@@ -261,6 +266,7 @@ race = record {
   start = 0;
   ins = 1;
   outs = 1;
+  actions = 2;
   need = race_needs;
   give = race_gives;
   effect = λ n u a. race_effect n (slice_index_or u 0 []) a;
@@ -282,8 +288,8 @@ ring_lines = Deliver ∷ Fire 0 1 ∷ Fire 1 1 ∷ Deliver ∷ Quiet ∷ []
 abbrev ring_last : State ℕ
 ring_last = record {
   actors = 1 ∷ 1 ∷ [];
-  flows = record { sent = pos 1 ∷ []; arrived = 1; taken = 0 }
-      ∷ record { sent = pos 1 ∷ []; arrived = 1; taken = 0 } ∷ [];
+  flows = record { sent = pos 1 ∷ []; arrived = 1; taken = 0; capacity = 512 }
+      ∷ record { sent = pos 1 ∷ []; arrived = 1; taken = 0; capacity = 512 } ∷ [];
   trapped = false;
 }
 
@@ -305,7 +311,7 @@ ring_is_quiet = record {
   nothing = ring_nothing;
 }
 
-ring_plays : Plays ring_net [] ring_lines ring_last
+ring_plays : Plays ring_net 0 [] ring_lines ring_last
 ring_plays = (tt, (tt, (tt, (tt, ((ring_is_quiet, refl), refl)))))
 
 ring_keeps : KeepsCapacities ring_net [] ring_lines
@@ -318,8 +324,8 @@ ring_other_lines = Deliver ∷ Fire 0 1 ∷ Deliver ∷ Fire 1 1 ∷ Deliver ∷
 abbrev ring_between : State ℕ
 ring_between = record {
   actors = 1 ∷ 0 ∷ [];
-  flows = record { sent = []; arrived = 0; taken = 0 }
-      ∷ record { sent = pos 1 ∷ []; arrived = 1; taken = 0 } ∷ [];
+  flows = record { sent = []; arrived = 0; taken = 0; capacity = 512 }
+      ∷ record { sent = pos 1 ∷ []; arrived = 1; taken = 0; capacity = 512 } ∷ [];
   trapped = false;
 }
 
@@ -329,5 +335,5 @@ ring_played_between = refl
 ring_not_permitted : goes ring_net ring_between (Fire 1 1) ≡ None
 ring_not_permitted = refl
 
-ring_other_never_plays : (last : State ℕ) → Plays ring_net [] ring_other_lines last → ⊥
+ring_other_never_plays : (last : State ℕ) → Plays ring_net 0 [] ring_other_lines last → ⊥
 ring_other_never_plays last plays = plays.1.1.1.1

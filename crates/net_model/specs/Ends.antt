@@ -1,11 +1,12 @@
--- Ends: where a run is quiet, and where it is stalled.
-use Rattle.std.specs.Prelude.{◌≡◌, ℕ, ◌-◌, ◌<◌, ◌⊎◌, false, List, [], ◌∷◌, length, slice_get, Option, None, Some, if◌then◌else◌}
+-- Ends: where a run is quiet, where it is stalled, and where no link may grow any more.
+-- `grow` is the greatest capacity that a link may grow to at a stall; it is 0 where none may grow.
+use Rattle.std.specs.Prelude.{◌≡◌, ℕ, ◌+◌, ◌*◌, ◌≤◌, ◌<◌, ◌⊎◌, false, List, [], ◌∷◌, length, min, slice_get, Option, None, Some, if◌then◌else◌}
 use Rattle.rvc_base.specs.Behaviour.{Waits, Picks}
 use Rattle.net_model.specs.declared.wiring.End.{End}
 use Rattle.net_model.specs.declared.wiring.End.TheVariants.{Leaf as AtLeaf, Net as AtNet}
 use Rattle.net_model.specs.declared.wiring.Link.{Link}
 use Rattle.net_model.specs.Network.{Network, is_input}
-use Rattle.net_model.specs.State.{Flow, State, untaken, effect_at, choice_at, give_of}
+use Rattle.net_model.specs.State.{Flow, State, untaken, effect_at, choice_at, give_of, capacity_at}
 use Rattle.net_model.specs.Event.{each_flow}
 
 -- everything sent on inner and output links has arrived
@@ -19,15 +20,16 @@ pub record IsSettled {X : Type 0} (net : Network X) (s : State X) : Type 0 where
   pub untrapped : s.trapped ≡ false
   pub arrived : AllArrived net.links s.flows
 
--- an input link with the rest of its feed counted as arrived
+-- an input link with the remainder of its feed counted as arrived
 abbrev pub with_rest : Link → Flow → Flow
 with_rest link flow = record {
   sent = flow.sent;
   arrived = if is_input link then length flow.sent else flow.arrived;
   taken = flow.taken;
+  capacity = flow.capacity;
 }
 
--- the state with the rest of the feeds counted as arrived, which ends judge
+-- the state with the remainder of the feeds counted as arrived, which ends judge
 abbrev pub all_fed : {X : Type 0} → Network X → State X → State X
 all_fed net s = record s { flows = each_flow with_rest net.links s.flows }
 
@@ -36,13 +38,13 @@ pub record IsQuiet {X : Type 0} (net : Network X) (s : State X) : Type 0 where
   pub settled : IsSettled net s
   pub nothing : (i a : ℕ) → effect_at net (all_fed net s) i a ≡ None
 
--- a link leads from port p of leaf i, and has less room than the action gives there
-abbrev pub HasLessRoom : (ℕ → ℕ) → ℕ → Link → Flow → End → Type 0
-HasLessRoom gives i link flow (AtLeaf inst port) = (i ≡ inst.0) × (link.capacity - untaken flow < gives port)
-HasLessRoom gives i link flow (AtNet port) = ⊥
+-- a link leads from port p of leaf i, and what the action gives there passes its room
+abbrev pub HasLessRoom : (ℕ → ℕ) → ℕ → Flow → End → Type 0
+HasLessRoom gives i flow (AtLeaf inst port) = (i ≡ inst.0) × (flow.capacity < untaken flow + gives port)
+HasLessRoom gives i flow (AtNet port) = ⊥
 
 abbrev pub LacksOn : (ℕ → ℕ) → ℕ → Option Link → Option Flow → Type 0
-LacksOn gives i (Some link) (Some flow) = HasLessRoom gives i link flow link.from
+LacksOn gives i (Some link) (Some flow) = HasLessRoom gives i flow link.from
 LacksOn gives i (Some link) None = ⊥
 LacksOn gives i None flow = ⊥
 
@@ -62,8 +64,21 @@ pub record IsStalled {X : Type 0} (net : Network X) (s : State X) (i a l : ℕ) 
   pub lacks : LacksRoom net (all_fed net s) i a l
   pub lowest_link : (m : ℕ) → m < l → LacksRoom net (all_fed net s) i a m → ⊥
 
--- settled, and neither quiet nor stalled anywhere
-pub record IsBetween {X : Type 0} (net : Network X) (s : State X) : Type 0 where
+-- stalled, and the link has grown as far as it may
+pub record IsStuck {X : Type 0} (net : Network X) (grow : ℕ) (s : State X) (i a l : ℕ) : Type 0 where
+  pub stalled : IsStalled net s i a l
+  pub grown : grow ≤ capacity_at s l
+
+-- stalled, and the link may still grow: its capacity is doubled, at most up to the limit
+pub record Grows {X : Type 0} (net : Network X) (grow : ℕ) (s : State X) (l capacity : ℕ) : Type 0 where
+  pub leaf : ℕ
+  pub action : ℕ
+  pub stalled : IsStalled net s leaf action l
+  pub below : capacity_at s l < grow
+  pub doubled : capacity ≡ min (2 * capacity_at s l) grow
+
+-- settled, and neither quiet nor stuck anywhere
+pub record IsBetween {X : Type 0} (net : Network X) (grow : ℕ) (s : State X) : Type 0 where
   pub settled : IsSettled net s
   pub not_quiet : IsQuiet net s → ⊥
-  pub not_stalled : (i a l : ℕ) → IsStalled net s i a l → ⊥
+  pub not_stuck : (i a l : ℕ) → IsStuck net grow s i a l → ⊥

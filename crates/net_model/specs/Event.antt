@@ -39,6 +39,7 @@ after_firing i needs sent link flow = record {
   sent = flow.sent ++ sent_on i sent link link.from;
   arrived = flow.arrived;
   taken = flow.taken + taken_from i needs link.to;
+  capacity = flow.capacity;
 }
 
 abbrev pub fire : {X : Type 0} → Network X → State X → ℕ → ℕ → Option (Effect X) → Option (State X)
@@ -57,6 +58,7 @@ after_arrival k link flow = record {
   sent = flow.sent;
   arrived = flow.arrived + k;
   taken = if is_output link then flow.taken + k else flow.taken;
+  capacity = flow.capacity;
 }
 
 abbrev pub deliver : {X : Type 0} → State X → ℕ → ℕ → Option Link → Option Flow → Option (State X)

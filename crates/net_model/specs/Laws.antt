@@ -1,14 +1,14 @@
 -- What holds of all runs, as statements.
-use Rattle.std.specs.Prelude.{◌≡◌, ◌≢◌, ℕ, ◌+◌, ◌≤◌, ◌<◌, ◌↔◌, List, [], ◌∷◌, ℤ, length, slice_get, Option, None, Some}
+use Rattle.std.specs.Prelude.{◌≡◌, ◌≢◌, ℕ, ◌+◌, ◌≤◌, ◌<◌, ◌↔◌, List, [], ◌∷◌, ℤ, length, map, slice_get, Option, None, Some}
 use Rattle.rvc_base.specs.Behaviour.{Waits}
 use Rattle.trace_text.specs.declared.line.Line.{Line}
-use Rattle.trace_text.specs.declared.line.Line.TheVariants.{Header, Inst, Fire as FireLine, Deliver as DeliverLine, Quiet, Trap as TrapLine, Stall, Budget}
+use Rattle.trace_text.specs.declared.line.Line.TheVariants.{Header, Inst, Fire as FireLine, Deliver as DeliverLine, Grow, Quiet, Trap as TrapLine, Stall, Budget}
 use Rattle.net_model.specs.Network.{Leaf, Network}
 use Rattle.net_model.specs.State.{Flow, State, start_of, choice_at}
 use Rattle.net_model.specs.Event.{Event, Fire, Deliver, Trap, happens, run}
 use Rattle.net_model.specs.Ends.{IsQuiet, IsSettled, IsStalled, all_fed}
-use Rattle.net_model.specs.Trace.{Plays, played}
-use Rattle.net_model.specs.Lawful.{IsLawful}
+use Rattle.net_model.specs.Trace.{PlaysFrom, played}
+use Rattle.rvc_base.specs.Lawful.{IsLawful}
 use Rattle.net_model.specs.Stable.{IsPrefix, AreStable}
 use Rattle.net_model.specs.Wired.{IsWired}
 
@@ -47,18 +47,32 @@ abbrev pub firings_shown : List Line → List (ℕ × ℕ)
 firings_shown [] = []
 firings_shown (FireLine i a ∷ lines) = (i, a) ∷ firings_shown lines
 firings_shown (DeliverLine ∷ lines) = firings_shown lines
+firings_shown (Grow l capacity ∷ lines) = firings_shown lines
 firings_shown (TrapLine i a c ∷ lines) = firings_shown lines
 firings_shown (Quiet ∷ lines) = firings_shown lines
 firings_shown (Stall i a l ∷ lines) = firings_shown lines
 firings_shown (Budget ∷ lines) = firings_shown lines
-firings_shown (Header n l ∷ lines) = firings_shown lines
+firings_shown (Header n l g ∷ lines) = firings_shown lines
 firings_shown (Inst k ∷ lines) = firings_shown lines
 
--- Some events lead from s to t, and the firings among them are these.
+-- a state without the capacities of its links, of which no event knows
+abbrev pub without_capacity : Flow → Flow
+without_capacity flow = record { sent = flow.sent; arrived = flow.arrived; taken = flow.taken; capacity = 0 }
+
+abbrev pub without_capacities : {X : Type 0} → State X → State X
+without_capacities s = record s { flows = map without_capacity s.flows }
+
+-- Some events lead from s to t but for the capacities, and the firings among them are these.
 pub record IsRunOf {X : Type 0} (net : Network X) (s t : State X) (firings : List (ℕ × ℕ)) : Type 0 where
   pub events : List Event
-  pub leads : run net s events ≡ Some t
+  pub reached : State X
+  pub leads : run net s events ≡ Some reached
+  pub same_tokens : without_capacities reached ≡ without_capacities t
   pub same_firings : firings_in events ≡ firings
+
+-- each link has its flow
+abbrev pub HasFlows : {X : Type 0} → Network X → State X → Type 0
+HasFlows net s = length s.flows ≡ length net.links
 
 -- The laws, over states X of actors.
 
@@ -70,20 +84,31 @@ EventsKeepSent X = (net : Network X) (s t : State X) (events : List Event) → r
 abbrev pub LinesKeepSent : (X : Type 0) → Type 0
 LinesKeepSent X = (net : Network X) (s t : State X) (lines : List Line) → played net s lines ≡ Some t → SentGrows net s t
 
--- in every state that a run from the start reaches, no more was taken than has arrived, and no more has arrived than was sent
-abbrev pub RunsAreOrdered : (X : Type 0) → Type 0
-RunsAreOrdered X = (net : Network X) (inputs : List (List ℕ)) (events : List Event) (t : State X)
-    → IsWired net → AreLawful net → run net (start_of net inputs) events ≡ Some t → AreOrdered t
+-- at the start of a run over files each link has its flow, and no more was taken than has arrived ..
+abbrev pub StartsInOrder : (X : Type 0) → Type 0
+StartsInOrder X = (net : Network X) (inputs : List (List ℕ))
+    → HasFlows net (start_of net inputs) × AreOrdered (start_of net inputs)
 
--- lines and inputs lead to one state
+-- .. and so it is in every state that a run reaches from such a state ..
+abbrev pub RunsAreOrdered : (X : Type 0) → Type 0
+RunsAreOrdered X = (net : Network X) (events : List Event) (s t : State X)
+    → IsWired net → AreLawful net → AreOrdered s → run net s events ≡ Some t → AreOrdered t
+
+-- .. and that lines lead to
+abbrev pub LinesAreOrdered : (X : Type 0) → Type 0
+LinesAreOrdered X = (net : Network X) (grow : ℕ) (lines : List Line) (s t : State X)
+    → IsWired net → AreLawful net → HasFlows net s → AreOrdered s → PlaysFrom net grow s lines t
+    → HasFlows net t × AreOrdered t
+
+-- lines lead to one state
 abbrev pub LinesLeadToOne : (X : Type 0) → Type 0
-LinesLeadToOne X = (net : Network X) (inputs : List (List ℕ)) (lines : List Line) (s t : State X)
-    → Plays net inputs lines s → Plays net inputs lines t → s ≡ t
+LinesLeadToOne X = (net : Network X) (grow : ℕ) (lines : List Line) (s t u : State X)
+    → PlaysFrom net grow s lines t → PlaysFrom net grow s lines u → t ≡ u
 
 -- what lines play is a run of events, with the firings that the lines show
 abbrev pub LinesAreRuns : (X : Type 0) → Type 0
-LinesAreRuns X = (net : Network X) (inputs : List (List ℕ)) (lines : List Line) (t : State X)
-    → Plays net inputs lines t → IsRunOf net (start_of net inputs) t (firings_shown lines)
+LinesAreRuns X = (net : Network X) (grow : ℕ) (lines : List Line) (s t : State X) → HasFlows net s
+    → PlaysFrom net grow s lines t → IsRunOf net s t (firings_shown lines)
 
 -- each leaf's choice is to wait, with the rest of the feeds counted as arrived
 abbrev pub AllWait : {X : Type 0} → Network X → State X → Type 0

@@ -1,6 +1,7 @@
 -- Networks: leaves, which are actors, and links between ports.
-use Rattle.std.specs.Prelude.{ℕ, Bool, true, false, ◌&&◌, ◌==◌, List}
+use Rattle.std.specs.Prelude.{ℕ, Bool, true, false, ◌&&◌, ◌==◌, List, [], slice_index_or}
 use Rattle.rvc_base.specs.declared.scalar.Scalar.{Scalar}
+use Rattle.rvc_base.specs.declared.scalar.Scalar.TheVariants.{Bool as Truth}
 use Rattle.rvc_base.specs.Behaviour.{Behaviour}
 use Rattle.net_model.specs.declared.wiring.End.{End}
 use Rattle.net_model.specs.declared.wiring.End.TheVariants.{Leaf as AtLeaf, Net as AtNet}
@@ -14,13 +15,22 @@ pub record Leaf (X : Type 0) : Type 0 where
   pub class : List ℕ
   pub behaviour : Behaviour X
 
--- Leaves in instance order, links by target, and the types of the network's own ports.
+-- a port of the network itself: its name, and the type of its tokens
+pub record NetPort : Type 0 where
+  pub name : List ℕ
+  pub kind : Scalar
+
+-- Leaves in instance order, links by target, and the network's own ports.
 -- Every actor's state is a value of X.
 pub record Network (X : Type 0) : Type 0 where
   pub leaves : List (Leaf X)
   pub links : List Link
-  pub ins : List Scalar
-  pub outs : List Scalar
+  pub ins : List NetPort
+  pub outs : List NetPort
+
+-- the type of port p
+abbrev pub kind_at : List NetPort → ℕ → Scalar
+kind_at ports p = (slice_index_or ports p (record { name = []; kind = Truth })).kind
 
 -- whether an end is this port of this leaf
 abbrev pub is_leaf_port : ℕ → ℕ → End → Bool

@@ -1,21 +1,22 @@
--- The state of a network: its actors' states, and what was sent, has arrived and was taken on each link.
+-- The state of a network: its actors' states, and what was sent, has arrived and was taken on each link, and
+-- how many tokens the link can hold now.
 use Rattle.std.specs.Prelude.{ℕ, ◌-◌, Bool, false, List, [], ◌∷◌, ℤ, map, take, drop, if◌then◌else◌, slice_index_or, slice_get, Option, None, Some}
 use Rattle.std.specs.List.{range_with_len}
-use Rattle.rvc_base.specs.declared.scalar.Scalar.{Scalar}
-use Rattle.rvc_base.specs.declared.scalar.Scalar.TheVariants.{Bool as Truth}
 use Rattle.rvc_base.specs.Storing.{conv}
 use Rattle.rvc_base.specs.Behaviour.{Effect, Choice, Waits}
 use Rattle.net_model.specs.declared.wiring.End.{End}
 use Rattle.net_model.specs.declared.wiring.End.TheVariants.{Leaf as AtLeaf, Net as AtNet}
 use Rattle.net_model.specs.declared.wiring.Link.{Link}
 use Rattle.net_model.specs.PortFile.{tokens}
-use Rattle.net_model.specs.Network.{Leaf, Network, is_leaf_port}
+use Rattle.net_model.specs.Network.{NetPort, Leaf, Network, kind_at, is_leaf_port, is_net_port}
 
--- a link's tokens: all that were sent, how many of them have arrived, and how many were taken
+-- a link's tokens: all that were sent, how many of them have arrived, and how many were taken; and its
+-- present capacity
 pub record Flow : Type 0 where
   pub sent : List ℤ
   pub arrived : ℕ
   pub taken : ℕ
+  pub capacity : ℕ
 
 -- one actor's state a leaf, one flow a link, and whether a firing trapped
 pub record State (X : Type 0) : Type 0 where
@@ -32,15 +33,17 @@ abbrev pub untaken : Flow → ℕ
 untaken flow = flow.arrived - flow.taken
 
 -- the tokens of an input's bytes, stored in the type of the network's port and then in the reader's
-abbrev pub fed_by : List Scalar → List (List ℕ) → Link → End → List ℤ
-fed_by kinds inputs link (AtLeaf inst port) = []
-fed_by kinds inputs link (AtNet port) =
-    map (conv link.kind) (tokens (slice_index_or kinds port Truth) (slice_index_or inputs port []))
+abbrev pub fed_by : List NetPort → List (List ℕ) → Link → End → List ℤ
+fed_by ports inputs link (AtLeaf inst port) = []
+fed_by ports inputs link (AtNet port) =
+    map (conv link.kind) (tokens (kind_at ports port) (slice_index_or inputs port []))
 
-abbrev pub first_flow : List Scalar → List (List ℕ) → Link → Flow
-first_flow kinds inputs link = record { sent = fed_by kinds inputs link link.from; arrived = 0; taken = 0 }
+-- a link's capacity is where its present one starts
+abbrev pub first_flow : List NetPort → List (List ℕ) → Link → Flow
+first_flow ports inputs link =
+    record { sent = fed_by ports inputs link link.from; arrived = 0; taken = 0; capacity = link.capacity }
 
--- The state in which each run begins. `inputs` are the bytes of each network input, in port order.
+-- The state in which each run from files begins. `inputs` are the bytes of each network input, in port order.
 abbrev pub start_of : {X : Type 0} → Network X → List (List ℕ) → State X
 start_of net inputs = record {
   actors = map (λ leaf. leaf.behaviour.start) net.leaves;
@@ -92,4 +95,12 @@ abbrev pub sent_to : ℕ → List Link → List Flow → List ℤ
 sent_to p [] flows = []
 sent_to p (link ∷ links) [] = []
 sent_to p (link ∷ links) (flow ∷ flows) =
-    if Rattle.net_model.specs.Network.is_net_port p link.to then flow.sent else sent_to p links flows
+    if is_net_port p link.to then flow.sent else sent_to p links flows
+
+-- the present capacity of link l
+abbrev pub capacity_of : Option Flow → ℕ
+capacity_of None = 0
+capacity_of (Some flow) = flow.capacity
+
+abbrev pub capacity_at : {X : Type 0} → State X → ℕ → ℕ
+capacity_at s l = capacity_of (slice_get s.flows l)

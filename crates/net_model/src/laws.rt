@@ -2,7 +2,7 @@
 //!
 //! Each law is the contract of a function that does nothing: it is proved with the crate, and can be cited.
 
-ghost use Rattle.net_model.specs.Laws.{DeliveriesAdd, DeliveriesCommute, DeliveriesKeepFirings, EventsKeepSent, FiringsCommute, LinesAreRuns, LinesKeepSent, LinesLeadToOne, QuietIsWaiting, RunsAreOrdered, StalledIsNotQuiet, StallsInOnePlace};
+ghost use Rattle.net_model.specs.Laws.{DeliveriesAdd, DeliveriesCommute, DeliveriesKeepFirings, EventsKeepSent, FiringsCommute, LinesAreOrdered, LinesAreRuns, LinesKeepSent, LinesLeadToOne, QuietIsWaiting, RunsAreOrdered, StartsInOrder, StalledIsNotQuiet, StallsInOnePlace};
 
 /// The states of the actors of a network, as a type that laws can speak of.
 pub trait Meaning {
@@ -15,20 +15,22 @@ pub fn sent_lists_only_grow<M: Meaning>()
     ensures by_lines { LinesKeepSent M.State }
 {}
 
-/// No more tokens are taken from a link than have arrived there, and no more arrive than were sent, in every
-/// state that a run from the start reaches, where the links lead to the leaves' ports and every leaf's
-/// behaviour is lawful.
+/// No more tokens are taken from a link than have arrived there, and no more arrive than were sent: at the
+/// start of a run over files, and in every state that events or lines lead to from such a state, where the
+/// network is wired and every leaf's behaviour is lawful.
 pub fn taken_have_arrived<M: Meaning>()
-    ensures { RunsAreOrdered M.State }
+    ensures start { StartsInOrder M.State }
+    ensures by_events { RunsAreOrdered M.State }
+    ensures by_lines { LinesAreOrdered M.State }
 {}
 
-/// The lines of a trace and the inputs determine the state that the lines lead to.
+/// The lines of a trace and the state before them determine the state that they lead to.
 pub fn lines_lead_to_one_state<M: Meaning>()
     ensures { LinesLeadToOne M.State }
 {}
 
 /// What the lines of a trace play is a run of events, with the firings that the lines show: a delivery is an
-/// event for each link.
+/// event for each link, and the growth of a link is none.
 pub fn lines_are_runs<M: Meaning>()
     ensures { LinesAreRuns M.State }
 {}

@@ -4,12 +4,14 @@
 //! The functions of `laws` carry what holds of all runs.
 #![tactic(auto)]
 
+mod firing;
 mod laws;
 mod wiring;
 
+pub use firing::{BurstEnd, Firing, Look, Tried};
 pub use laws::{
     Meaning, deliveries_commute, deliveries_keep_firings, firings_commute, lines_are_runs,
     lines_lead_to_one_state, quiet_is_waiting, sent_lists_only_grow, stalled_in_one_place,
     taken_have_arrived,
 };
-pub use wiring::{End, Link, Port};
+pub use wiring::{Counts, End, Link, Port, Wiring};

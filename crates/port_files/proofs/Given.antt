@@ -7,6 +7,7 @@ use Rattle.rvc_base.specs.declared.scalar.Scalar.TheVariants.{Bool as Truth, Int
 use Rattle.port_files.specs.declared.feed.Next.{Next}
 use Rattle.port_files.specs.declared.feed.Next.TheVariants.{Token, End, Failed}
 use Rattle.port_files.specs.Answer.{IfToken}
+use Rattle.rvc_base.specs.Width.{max_token_bytes}
 use Rattle.net_model.specs.PortFile.{pieces, token_bytes, token_of}
 use Rattle.port_files.specs.Coming.{coming, GivesToken, EndsWith, NothingLeft}
 
@@ -49,15 +50,16 @@ ends kind pulled (Some left) rest nothing count short =
     let few : length (pulled ++ left) < token_bytes kind = omega arith in
     (ends_told kind (token_bytes kind) (pulled ++ left) few, omega arith, omega arith ∙ sym (mod-eq_of_lt few))
 
-some_of : (a b : Bool) → 0 < (if a then 1 else if b then 2 else 4)
-some_of true b = omega arith
-some_of false true = omega arith
-some_of false false = omega arith
+some_of : (a b c : Bool) → 0 < (if a then 1 else if b then 2 else if c then 4 else max_token_bytes)
+some_of true b c = omega arith
+some_of false true c = omega arith
+some_of false false true = omega arith
+some_of false false false = omega arith
 
 some_bytes : (kind : Scalar) → 0 < token_bytes kind
 some_bytes Truth = omega arith
-some_bytes (Int n) = some_of (nat_le n 8) (nat_le n 16)
-some_bytes (Uint n) = some_of (nat_le n 8) (nat_le n 16)
+some_bytes (Int n) = some_of (nat_le n 8) (nat_le n 16) (nat_le n 32)
+some_bytes (Uint n) = some_of (nat_le n 8) (nat_le n 16) (nat_le n 32)
 
 -- the token that was given of what was pulled is the first of what was to come
 pub given : (next : Next) (kind kind' : Scalar) (before pulled kept : List ℕ) (left_before left : Option (List ℕ)) (ended : Bool) → kind' ≡ kind → coming pulled left ≡ coming before left_before → IfToken next (λ v. (ended ≡ false) × (token_bytes kind' ≤ length pulled) × (v ≡ token_of kind' (take (token_bytes kind') pulled)) × (kept ≡ drop (token_bytes kind') pulled)) → IfToken next (λ v. GivesToken kind v (coming before left_before) (coming kept left))

@@ -1,5 +1,6 @@
 -- The bytes and the tokens that are still to come on a feed.
 use Rattle.std.specs.Prelude.{◌≡◌, ℕ, ◌<◌, Bool, true, ◌&&◌, not, List, [], ◌∷◌, ◌++◌, ℤ, Option, None, Some, length, nat_lt}
+use Rattle.rvc_io.specs.Feeds.{Inputs}
 use Rattle.rvc_base.specs.declared.scalar.Scalar.{Scalar}
 use Rattle.net_model.specs.PortFile.{tokens, rest_of, token_bytes}
 
@@ -14,6 +15,15 @@ pub record Reading : Type 0 where
 abbrev pub coming : List ℕ → Option (List ℕ) → Option (List ℕ)
 coming pulled None = None
 coming pulled (Some left) = Some (pulled ++ left)
+
+-- the bytes still to come on a feed, of which so many were pulled
+abbrev pub coming_on : List ℕ → Inputs → ℕ → Option (List ℕ)
+coming_on pulled feeds feed = coming pulled (feeds.left feed)
+
+-- they stayed the same
+abbrev pub KeepsComing : {S : Type 0} → (S → Inputs) → S → S → ℕ → (pulled_old pulled_new : List ℕ) → Type 0
+KeepsComing feeds old new feed pulled_old pulled_new =
+    coming_on pulled_new (feeds new) feed ≡ coming_on pulled_old (feeds old) feed
 
 -- nothing is left, as far as that is told
 abbrev pub NothingLeft : Option (List ℕ) → Type 0

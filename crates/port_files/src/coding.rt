@@ -1,11 +1,11 @@
 //! One token and its bytes.
 
 ghost use Rattle.std.specs.Prelude.{◌≡◌, ◌≤◌, ◌<◌, ◌+◌, ◌*◌, ◌^◌, ◌++◌, length, drop, pos};
-ghost use Rattle.rvc_base.specs.Storing.{IsSize, low_part};
+ghost use Rattle.rvc_base.specs.Storing.{IsSize, conv, low_part};
 ghost use Rattle.rvc_base.specs.Width.{max_token_bytes};
-ghost use Rattle.net_model.specs.PortFile.{bytes_for, token_bytes, little_endian, to_little_endian, token_of, encoded};
+ghost use Rattle.net_model.specs.PortFile.{byte_bits, bytes_for, token_bytes, little_endian, to_little_endian, token_of, encoded};
 
-use rvc_base::{Num, Scalar, conv};
+use rvc_base::{MAX_TOKEN_BYTES, Num, Scalar, conv};
 
 /// How many bytes hold a token of this type.
 pub(crate) fn token_bytes(kind: Scalar) -> usize
@@ -31,8 +31,10 @@ fn bytes_for(bits: u8) -> usize
         1
     } else if bits <= 16 {
         2
-    } else {
+    } else if bits <= 32 {
         4
+    } else {
+        MAX_TOKEN_BYTES
     }
 }
 
@@ -42,7 +44,7 @@ pub(crate) fn decode(kind: Scalar, piece: &[u8]) -> Num
     requires short { length piece.now ≤ max_token_bytes }
     ensures { result ≡ token_of kind piece.now }
 {
-    conv(kind, little_endian(piece) as Num)
+    conv(kind, Num::from(little_endian(piece)))
 }
 
 /// The number that bytes stand for, the lowest first.
@@ -59,16 +61,27 @@ fn little_endian(bytes: &[u8]) -> u64
 }
 
 /// Writes the bytes of one token to the front of `out`, and says how many.
-pub fn encode(kind: Scalar, v: Num, out: &mut [u8; 8]) -> u8
+///
+/// What is written is `v` as a port of this type holds it: in two's complement over all its bytes,
+/// the lowest first.
+pub fn encode(kind: Scalar, v: Num, out: &mut [u8; MAX_TOKEN_BYTES]) -> u8
     requires { IsSize kind }
     ensures count { result ≡ token_bytes kind }
-    ensures bytes { out.new ≡ encoded kind v ++ drop result out.old }
+    ensures bytes { out.new ≡ encoded kind (conv kind v) ++ drop result out.old }
 {
     let count = token_bytes(kind);
-    let bits = 8 * count as u8;
-    let number = conv(Scalar::Uint(bits), v).cast_unsigned();
+    let number = low_bytes(conv(kind, v), count);
     write_little_endian(number, &mut out[..count]);
     count as u8
+}
+
+/// The lowest bytes of a number in two's complement, as many as `count`, as one number.
+fn low_bytes(v: Num, count: usize) -> u64
+    requires some { 1 ≤ count }
+    requires most { count ≤ max_token_bytes }
+    ensures { result ≡ low_part (byte_bits * count) v }
+{
+    conv(Scalar::Uint(8 * count as u8), v) as u64
 }
 
 /// Fills `out` with the bytes of a number, the lowest first.

@@ -2,10 +2,9 @@
 
 ghost use Rattle.std.specs.Prelude.{◌≡◌, ◌≤◌, ◌<◌, ℕ, true, false, List, [], IfOk, OnOk, OnErr, IsOk, length, take, drop};
 ghost use Rattle.rvc_base.specs.Storing.{IsSize};
-ghost use Rattle.rvc_io.specs.Count.{HasRisen};
-ghost use Rattle.rvc_io.specs.Elsewhere.{SameElsewhere};
+ghost use Rattle.rvc_io.specs.Feeds.{PullsOnly, ReadFails};
 ghost use Rattle.net_model.specs.PortFile.{token_bytes, token_of};
-ghost use Rattle.port_files.specs.Coming.{coming, EndIsTrue, is_short, GivesToken, EndsWith};
+ghost use Rattle.port_files.specs.Coming.{coming_on, EndIsTrue, EndsWith, GivesToken, KeepsComing, is_short};
 
 use crate::coding::{decode, token_bytes};
 use crate::piece::Piece;
@@ -71,21 +70,24 @@ impl TokenFeed {
     /// After an end each further call gives the same end, and pulls nothing. After a failure the
     /// tokens still to come are those that were to come before.
     pub fn next<F: Feeds>(&mut self, feed: u32, feeds: &mut F) -> Next
-        requires open { F.is_open feeds.old feed ≡ true }
-        requires same_feed { EndIsTrue self.old (F.left feeds.old feed) }
-        ensures token { IfToken result (λ v. GivesToken self.old.kind v (coming self.old.pulled (F.left feeds.old feed)) (coming self.new.pulled (F.left feeds.new feed))) }
-        ensures end { IfEnd result (λ rest. EndsWith self.old.kind rest (coming self.old.pulled (F.left feeds.old feed))) }
-        ensures end_again { IfEnd result (λ rest. (self.new.ended ≡ true) × (rest ≡ length self.new.pulled)) }
+        requires open { (F.feeds feeds.old).is_open feed ≡ true }
+        requires same_feed { EndIsTrue self.old ((F.feeds feeds.old).left feed) }
+        ensures token { IfToken result (λ v. GivesToken self.old.kind v
+            (coming_on self.old.pulled (F.feeds feeds.old) feed)
+            (coming_on self.new.pulled (F.feeds feeds.new) feed)) }
+        ensures end { IfEnd result (λ rest. EndsWith self.old.kind rest
+            (coming_on self.old.pulled (F.feeds feeds.old) feed)) }
+        ensures end_again { IfEnd result (λ rest. (self.new.ended ≡ true)
+            × (rest ≡ length self.new.pulled)) }
         ensures end_as_before { self.old.ended ≡ true → result ≡ Next.End (length self.old.pulled) }
-        ensures end_coming { IfEnd result (λ _. coming self.new.pulled (F.left feeds.new feed) ≡ coming self.old.pulled (F.left feeds.old feed)) }
-        ensures failed { OnFailed result (HasRisen (F.faults feeds.old) (F.faults feeds.new)) }
-        ensures failed_coming { OnFailed result (coming self.new.pulled (F.left feeds.new feed) ≡ coming self.old.pulled (F.left feeds.old feed)) }
+        ensures end_coming { IfEnd result (λ _. KeepsComing F.feeds feeds.old feeds.new feed
+            self.old.pulled self.new.pulled) }
+        ensures failed { OnFailed result (ReadFails F.feeds feeds.old feeds.new) }
+        ensures failed_coming { OnFailed result (KeepsComing F.feeds feeds.old feeds.new feed
+            self.old.pulled self.new.pulled) }
         ensures kind { self.new.kind ≡ self.old.kind }
-        ensures still_same_feed { EndIsTrue self.new (F.left feeds.new feed) }
-        ensures same_names { (other : List ℕ) → F.under feeds.new other ≡ F.under feeds.old other }
-        ensures same_left { SameElsewhere (F.left feeds.old) (F.left feeds.new) feed }
-        ensures same_open { (other : ℕ) → F.is_open feeds.new other ≡ F.is_open feeds.old other }
-        ensures faults_stay { F.faults feeds.old ≤ F.faults feeds.new }
+        ensures still_same_feed { EndIsTrue self.new ((F.feeds feeds.new).left feed) }
+        ensures elsewhere { PullsOnly F.feeds feeds.old feeds.new feed }
     {
         let Ok(()) = self.gather(feed, feeds) else {
             return Next::Failed;
@@ -102,18 +104,16 @@ impl TokenFeed {
 
     /// Pulls until a token's bytes or the end were seen.
     fn gather<F: Feeds>(&mut self, feed: u32, feeds: &mut F) -> Result<(), Failed>
-        requires open { F.is_open feeds.old feed ≡ true }
-        requires same_feed { EndIsTrue self.old (F.left feeds.old feed) }
+        requires open { (F.feeds feeds.old).is_open feed ≡ true }
+        requires same_feed { EndIsTrue self.old ((F.feeds feeds.old).left feed) }
         ensures ready { OnOk result (is_short self.new ≡ false) }
         ensures at_end { self.old.ended ≡ true → IsOk result × (self.new ≡ self.old) }
-        ensures coming { coming self.new.pulled (F.left feeds.new feed) ≡ coming self.old.pulled (F.left feeds.old feed) }
-        ensures failed { OnErr result (HasRisen (F.faults feeds.old) (F.faults feeds.new)) }
+        ensures coming { KeepsComing F.feeds feeds.old feeds.new feed self.old.pulled
+            self.new.pulled }
+        ensures failed { OnErr result (ReadFails F.feeds feeds.old feeds.new) }
         ensures kind { self.new.kind ≡ self.old.kind }
-        ensures still_same_feed { EndIsTrue self.new (F.left feeds.new feed) }
-        ensures same_names { (other : List ℕ) → F.under feeds.new other ≡ F.under feeds.old other }
-        ensures same_left { SameElsewhere (F.left feeds.old) (F.left feeds.new) feed }
-        ensures same_open { (other : ℕ) → F.is_open feeds.new other ≡ F.is_open feeds.old other }
-        ensures faults_stay { F.faults feeds.old ≤ F.faults feeds.new }
+        ensures still_same_feed { EndIsTrue self.new ((F.feeds feeds.new).left feed) }
+        ensures elsewhere { PullsOnly F.feeds feeds.old feeds.new feed }
     {
         while self.is_short() {
             let Ok(()) = self.pull_once(feed, feeds) else {
@@ -125,18 +125,17 @@ impl TokenFeed {
 
     /// Pulls once.
     fn pull_once<F: Feeds>(&mut self, feed: u32, feeds: &mut F) -> Result<(), Failed>
-        requires open { F.is_open feeds.old feed ≡ true }
+        requires open { (F.feeds feeds.old).is_open feed ≡ true }
         requires short { is_short self.old ≡ true }
         ensures grows { OnOk result (length self.old.pulled ≤ length self.new.pulled) }
-        ensures nearer { OnOk result (self.new.ended ≡ false → length self.old.pulled < length self.new.pulled) }
-        ensures coming { coming self.new.pulled (F.left feeds.new feed) ≡ coming self.old.pulled (F.left feeds.old feed) }
-        ensures failed { OnErr result (HasRisen (F.faults feeds.old) (F.faults feeds.new)) }
+        ensures nearer { OnOk result (self.new.ended ≡ false
+            → length self.old.pulled < length self.new.pulled) }
+        ensures coming { KeepsComing F.feeds feeds.old feeds.new feed self.old.pulled
+            self.new.pulled }
+        ensures failed { OnErr result (ReadFails F.feeds feeds.old feeds.new) }
         ensures kind { self.new.kind ≡ self.old.kind }
-        ensures still_same_feed { EndIsTrue self.new (F.left feeds.new feed) }
-        ensures same_names { (other : List ℕ) → F.under feeds.new other ≡ F.under feeds.old other }
-        ensures same_left { SameElsewhere (F.left feeds.old) (F.left feeds.new) feed }
-        ensures same_open { (other : ℕ) → F.is_open feeds.new other ≡ F.is_open feeds.old other }
-        ensures faults_stay { F.faults feeds.old ≤ F.faults feeds.new }
+        ensures still_same_feed { EndIsTrue self.new ((F.feeds feeds.new).left feed) }
+        ensures elsewhere { PullsOnly F.feeds feeds.old feeds.new feed }
     {
         let Ok(count) = self.piece.fill(feed, feeds) else {
             return Err(Failed);
@@ -148,8 +147,13 @@ impl TokenFeed {
     /// Gives the first token that was pulled, and where the end was seen the end.
     fn give(&mut self) -> Next
         requires { is_short self.old ≡ false }
-        ensures token { IfToken result (λ v. (self.old.ended ≡ false) × (token_bytes self.old.kind ≤ length self.old.pulled) × (v ≡ token_of self.old.kind (take (token_bytes self.old.kind) self.old.pulled)) × (self.new.pulled ≡ drop (token_bytes self.old.kind) self.old.pulled)) }
-        ensures end { IfEnd result (λ rest. (self.old.ended ≡ true) × (rest ≡ length self.old.pulled) × (rest < token_bytes self.old.kind) × (self.new.pulled ≡ self.old.pulled)) }
+        ensures token { IfToken result (λ v. (self.old.ended ≡ false)
+            × (token_bytes self.old.kind ≤ length self.old.pulled)
+            × (v ≡ token_of self.old.kind (take (token_bytes self.old.kind) self.old.pulled))
+            × (self.new.pulled ≡ drop (token_bytes self.old.kind) self.old.pulled)) }
+        ensures end { IfEnd result (λ rest. (self.old.ended ≡ true)
+            × (rest ≡ length self.old.pulled) × (rest < token_bytes self.old.kind)
+            × (self.new.pulled ≡ self.old.pulled)) }
         ensures not_failed { OnFailed result ⊥ }
         ensures kind { self.new.kind ≡ self.old.kind }
         ensures ended { self.new.ended ≡ self.old.ended }

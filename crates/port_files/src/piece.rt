@@ -1,9 +1,8 @@
 //! The piece of a feed's bytes that was pulled last.
 
 ghost use Rattle.std.specs.Prelude.{◌≡◌, ◌≤◌, ◌<◌, ◌+◌, ◌++◌, ℕ, Bool, true, List, [], IfOk, OnErr, length, take, drop, vec_len};
-ghost use Rattle.rvc_io.specs.Count.{HasRisen};
-ghost use Rattle.rvc_io.specs.Elsewhere.{SameElsewhere};
-ghost use Rattle.port_files.specs.Coming.{coming, NothingLeft};
+ghost use Rattle.rvc_io.specs.Feeds.{PullsOnly, ReadFails};
+ghost use Rattle.port_files.specs.Coming.{KeepsComing, NothingLeft};
 ghost use Rattle.port_files.specs.declared.piece.TheConstants.{PIECE_BYTES};
 
 use rvc_base::Memory;
@@ -73,18 +72,17 @@ impl Piece {
 
     /// Pulls once behind the bytes that are there, and says how many came. 0 is the end of input.
     pub(crate) fn fill<F: Feeds>(&mut self, feed: u32, feeds: &mut F) -> Result<usize, Failed>
-        requires open { F.is_open feeds.old feed ≡ true }
+        requires open { (F.feeds feeds.old).is_open feed ≡ true }
         requires room { length self.old < PIECE_BYTES }
         ensures grows { IfOk result (λ n. length self.new ≡ length self.old + n) }
-        ensures coming { IfOk result (λ _. coming self.new (F.left feeds.new feed) ≡ coming self.old (F.left feeds.old feed)) }
-        ensures at_end { IfOk result (λ n. n ≡ 0 → NothingLeft (F.left feeds.new feed)) }
-        ensures failed { OnErr result (HasRisen (F.faults feeds.old) (F.faults feeds.new)) }
+        ensures coming { IfOk result (λ _. KeepsComing F.feeds feeds.old feeds.new feed self.old
+            self.new) }
+        ensures at_end { IfOk result (λ n. n ≡ 0 → NothingLeft ((F.feeds feeds.new).left feed)) }
+        ensures failed { OnErr result (ReadFails F.feeds feeds.old feeds.new) }
         ensures failed_bytes { OnErr result (self.new ≡ self.old) }
-        ensures failed_left { OnErr result (F.left feeds.new feed ≡ F.left feeds.old feed) }
-        ensures same_names { (other : List ℕ) → F.under feeds.new other ≡ F.under feeds.old other }
-        ensures same_left { SameElsewhere (F.left feeds.old) (F.left feeds.new) feed }
-        ensures same_open { (other : ℕ) → F.is_open feeds.new other ≡ F.is_open feeds.old other }
-        ensures faults_stay { F.faults feeds.old ≤ F.faults feeds.new }
+        ensures failed_left { OnErr result ((F.feeds feeds.new).left feed
+            ≡ (F.feeds feeds.old).left feed) }
+        ensures elsewhere { PullsOnly F.feeds feeds.old feeds.new feed }
     {
         self.bytes.copy_within(self.start..self.end, 0);
         self.end -= self.start;
@@ -102,18 +100,17 @@ fn pull_behind<F: Feeds>(
     feed: u32,
     feeds: &mut F,
 ) -> Result<usize, Failed>
-    requires open { F.is_open feeds.old feed ≡ true }
+    requires open { (F.feeds feeds.old).is_open feed ≡ true }
     requires room { kept < length bytes.old }
     ensures fits { IfOk result (λ n. kept + n ≤ length bytes.old) }
     ensures kept { take kept bytes.new ≡ take kept bytes.old }
-    ensures coming { IfOk result (λ n. coming (take (kept + n) bytes.new) (F.left feeds.new feed) ≡ coming (take kept bytes.old) (F.left feeds.old feed)) }
-    ensures at_end { IfOk result (λ n. n ≡ 0 → NothingLeft (F.left feeds.new feed)) }
-    ensures failed { OnErr result (HasRisen (F.faults feeds.old) (F.faults feeds.new)) }
-    ensures failed_left { OnErr result (F.left feeds.new feed ≡ F.left feeds.old feed) }
-    ensures same_names { (other : List ℕ) → F.under feeds.new other ≡ F.under feeds.old other }
-    ensures same_left { SameElsewhere (F.left feeds.old) (F.left feeds.new) feed }
-    ensures same_open { (other : ℕ) → F.is_open feeds.new other ≡ F.is_open feeds.old other }
-    ensures faults_stay { F.faults feeds.old ≤ F.faults feeds.new }
+    ensures coming { IfOk result (λ n. KeepsComing F.feeds feeds.old feeds.new feed
+        (take kept bytes.old) (take (kept + n) bytes.new)) }
+    ensures at_end { IfOk result (λ n. n ≡ 0 → NothingLeft ((F.feeds feeds.new).left feed)) }
+    ensures failed { OnErr result (ReadFails F.feeds feeds.old feeds.new) }
+    ensures failed_left { OnErr result ((F.feeds feeds.new).left feed
+        ≡ (F.feeds feeds.old).left feed) }
+    ensures elsewhere { PullsOnly F.feeds feeds.old feeds.new feed }
 {
     feeds.pull(feed, &mut bytes[kept..])
 }

@@ -2,6 +2,7 @@ pub mod Told
 pub mod Count
 pub mod Elsewhere
 pub mod Library
+pub mod Channels
 pub mod Feeds
 pub mod Calls
 pub mod Files

@@ -1,6 +1,7 @@
 -- Drains in memory.
-use Rattle.std.specs.Prelude.{◌≡◌, ℕ, ◌≤◌, ◌-◌, Bool, false, ◌||◌, List, [], Option, None, Some, All, map, length, min, nat_le, is_some, unwrap_or, slice_index_or, vec_capacity, if◌then◌else◌}
+use Rattle.std.specs.Prelude.{◌≡◌, ℕ, ◌≤◌, ◌-◌, Bool, true, false, ◌||◌, List, [], Option, None, Some, All, map, length, min, nat_le, is_some, unwrap_or, slice_index_or, vec_capacity, if◌then◌else◌}
 use Rattle.rvc_io.specs.Calls.{CallCount, is_listed}
+use Rattle.rvc_io.specs.Channels.{Channels}
 use Rattle.rvc_io.specs.declared.mem_drains.Channel.{Channel}
 
 -- the most bytes that a call moves, the most that a channel holds, for each channel the bytes that it
@@ -39,6 +40,11 @@ channel_is_open d channel = is_some (held_on d channel)
 -- what a channel holds, which is nothing where it isn't open
 abbrev pub bytes_held : DrainsState → ℕ → List ℕ
 bytes_held d channel = unwrap_or (held_on d channel) []
+
+-- what is known of the channels, which is all
+abbrev pub channels_of : DrainsState → Channels
+channels_of d =
+    record { tells = true; held = bytes_held d; is_open = channel_is_open d; faults = d.calls.faults }
 
 -- an opening of the channel fails: it is listed, or there is no such channel
 abbrev pub opening_fails : DrainsState → ℕ → Bool

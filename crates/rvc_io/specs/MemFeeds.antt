@@ -2,6 +2,7 @@
 use Rattle.std.specs.Prelude.{ℕ, ◌<◌, ◌≤◌, Bool, ◌||◌, List, [], Option, None, Some, All, map, length, drop, min, nat_le, is_some, is_none, unwrap_or, slice_index_or}
 use Rattle.rvc_io.specs.Calls.{CallCount, is_listed}
 use Rattle.rvc_io.specs.Files.{File, under, bytes_at}
+use Rattle.rvc_io.specs.Feeds.{Inputs}
 use Rattle.rvc_io.specs.declared.mem_feeds.Reading.{Reading}
 
 -- the files, the most bytes that a call moves, for each feed the bytes that are left where it is
@@ -44,6 +45,11 @@ bytes_left f feed = unwrap_or (left_on f feed) []
 -- how many these are
 abbrev pub count_left : FeedsState → ℕ → ℕ
 count_left f feed = length (bytes_left f feed)
+
+-- what is known of the feeds, which is all
+abbrev pub inputs_of : FeedsState → Inputs
+inputs_of f =
+    record { under = under f.files; left = left_on f; is_open = feed_is_open f; faults = f.calls.faults }
 
 -- an opening of the feed on this name fails: it is listed, there is no such feed, or no such file
 abbrev pub opening_fails : FeedsState → ℕ → List ℕ → Bool

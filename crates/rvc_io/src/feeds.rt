@@ -1,48 +1,39 @@
 //! Bytes that come in, by feed.
 
-ghost use Rattle.std.specs.Prelude.{◌≡◌, ◌≤◌, ◌<◌, ℕ, Bool, true, false, List, Option, length, OnOk, OnErr, IfOk};
-ghost use Rattle.rvc_io.specs.Count.{HasRisen};
-ghost use Rattle.rvc_io.specs.Elsewhere.{SameElsewhere};
-ghost use Rattle.rvc_io.specs.Feeds.{Moves};
+ghost use Rattle.std.specs.Prelude.{◌≡◌, ◌≤◌, ◌<◌, true, false, length, OnOk, OnErr, IfOk};
+ghost use Rattle.rvc_io.specs.Feeds.{Inputs, FailsOn, Moves, OpensOn, OpensOnly, PullsOnly};
 
 use crate::Failed;
 
 /// Feeds of bytes, by number. Each is opened once, by name, and then pulled to its end.
 pub trait Feeds {
-    /// The bytes under a name, where that is told.
-    ghost under: { Self → List ℕ → Option (List ℕ) };
-    /// The bytes left on an open feed, where that is told.
-    ghost left: { Self → ℕ → Option (List ℕ) };
-    /// Whether a feed is open.
-    ghost is_open: { Self → ℕ → Bool };
-    /// How many calls failed so far.
-    ghost faults: { Self → ℕ };
+    /// What is known of the feeds.
+    ghost feeds: { Self → Inputs };
 
     /// Opens `feed` on the bytes under `name`.
+    ///
+    /// # Errors
+    ///
+    /// - `failed`: the failure is counted, and the feed is as it was.
     fn open(&mut self, feed: u32, name: &str) -> Result<(), Failed>
-        requires { is_open self.old feed ≡ false }
-        ensures opened { OnOk result (is_open self.new feed ≡ true) }
-        ensures whole { OnOk result (left self.new feed ≡ under self.old name.now) }
-        ensures failed { OnErr result (HasRisen (faults self.old) (faults self.new)) }
-        ensures failed_open { OnErr result (is_open self.new feed ≡ is_open self.old feed) }
-        ensures failed_left { OnErr result (left self.new feed ≡ left self.old feed) }
-        ensures same_names { (other : List ℕ) → under self.new other ≡ under self.old other }
-        ensures same_left { SameElsewhere (left self.old) (left self.new) feed }
-        ensures same_open { SameElsewhere (is_open self.old) (is_open self.new) feed }
-        ensures faults_stay { faults self.old ≤ faults self.new };
+        requires { (feeds self.old).is_open feed ≡ false }
+        ensures opened { OnOk result (OpensOn feed name.now (feeds self.old) (feeds self.new)) }
+        ensures failed { OnErr result (FailsOn feed (feeds self.old) (feeds self.new)) }
+        ensures elsewhere { OpensOnly feeds self.old self.new feed };
 
-    /// Moves bytes from the front of what is left on `feed` into the front of `buf`, and says how many.
+    /// Moves a prefix of what is left on `feed` to the front of `buf`, and says how many bytes it has.
     ///
     /// 0 is the end of input.
+    ///
+    /// # Errors
+    ///
+    /// - `failed`: the failure is counted, and the feed is as it was.
     fn pull(&mut self, feed: u32, buf: &mut [u8]) -> Result<usize, Failed>
-        requires open { is_open self.old feed ≡ true }
+        requires open { (feeds self.old).is_open feed ≡ true }
         requires room { 0 < length buf.old }
         ensures moved { IfOk result (λ n. n ≤ length buf.old) }
-        ensures bytes { IfOk result (λ n. Moves n (left self.old feed) buf.old buf.new (left self.new feed)) }
-        ensures failed { OnErr result (HasRisen (faults self.old) (faults self.new)) }
-        ensures failed_left { OnErr result (left self.new feed ≡ left self.old feed) }
-        ensures same_names { (other : List ℕ) → under self.new other ≡ under self.old other }
-        ensures same_left { SameElsewhere (left self.old) (left self.new) feed }
-        ensures same_open { (other : ℕ) → is_open self.new other ≡ is_open self.old other }
-        ensures faults_stay { faults self.old ≤ faults self.new };
+        ensures bytes { IfOk result (λ n. Moves n ((feeds self.old).left feed) buf.old buf.new
+            ((feeds self.new).left feed)) }
+        ensures failed { OnErr result (FailsOn feed (feeds self.old) (feeds self.new)) }
+        ensures elsewhere { PullsOnly feeds self.old self.new feed };
 }

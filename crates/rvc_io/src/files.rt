@@ -5,7 +5,9 @@ ghost use Rattle.rvc_io.specs.Files.{named, under, are_distinct, bytes_at};
 
 /// The place of the file of this name.
 pub(crate) fn place_of(files: &[(String, Vec<u8>)], name: &str) -> Option<usize>
-    ensures { MatchOption result (under (map named files.now) name.now ≡ None) (λ place. (place < length files.now) × (under (map named files.now) name.now ≡ Some (bytes_at (map named files.now) place))) }
+    ensures { MatchOption result (under (map named files.now) name.now ≡ None)
+        (λ place. (place < length files.now) × (under (map named files.now) name.now
+        ≡ Some (bytes_at (map named files.now) place))) }
 {
     for (place, file) in files.iter().enumerate() {
         if file.0.as_str() == name {

@@ -37,7 +37,8 @@ pub trait Library {
     fn read(&mut self, alloc: Global, name: &str, out: &mut Vec<u8>) -> ReadAnswer
         requires { out.old.items ≡ [] }
         ensures found { result ≡ ReadAnswer.Found → IsTold (file self.old name.now) out.new.items }
-        ensures missing { result ≡ ReadAnswer.Missing → HasRisen (misses self.old) (misses self.new) × IsLacking (file self.old name.now) }
+        ensures missing { result ≡ ReadAnswer.Missing
+            → HasRisen (misses self.old) (misses self.new) × IsLacking (file self.old name.now) }
         ensures failed { result ≡ ReadAnswer.Failed → HasRisen (faults self.old) (faults self.new) }
         ensures too_long { result ≡ ReadAnswer.TooLong → IsTooLong (file self.old name.now) }
         ensures nothing_else { result ≢ ReadAnswer.Found → out.new.items ≡ [] }

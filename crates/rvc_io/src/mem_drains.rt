@@ -1,10 +1,9 @@
 //! Drains in memory.
 
 ghost use Rattle.std.specs.Prelude.{◌≡◌, ◌≤◌, ◌<◌, ◌++◌, ◌∷◌, ◌-◌, ℕ, List, [], Bool, IsTrue, true, false, Option, None, Some, IfOk, OnOk, OnErr, is_some, is_err, if◌then◌else◌, length, take, replicate, slice_set, unwrap_or, vec_capacity};
-ghost use Rattle.rvc_io.specs.Count.{HasRisen};
-ghost use Rattle.rvc_io.specs.Elsewhere.{SameElsewhere};
+ghost use Rattle.rvc_io.specs.Channels.{Appends, ChangesOnly, FailsAt, OpensAt, WritesOnly};
 ghost use Rattle.rvc_io.specs.Calls.{CallCount, is_listed, after_call};
-ghost use Rattle.rvc_io.specs.MemDrains.{DrainsState, HasRoom, EachHasRoom, held_by, held_by_each, held_on, channel_is_open, bytes_held, opening_fails, put_fails, taken};
+ghost use Rattle.rvc_io.specs.MemDrains.{DrainsState, HasRoom, EachHasRoom, held_by, held_by_each, held_on, channel_is_open, bytes_held, channels_of, opening_fails, put_fails, taken};
 
 use crate::calls::Calls;
 use crate::{Drains, Failed};
@@ -55,7 +54,8 @@ impl MemDrains {
         ensures step { IfOk result (λ d. d.step ≡ step) }
         ensures room { IfOk result (λ d. d.room ≡ room) }
         ensures first_open { IfOk result (λ d. d.held ≡ Some [] ∷ replicate (channels - 1) None) }
-        ensures calls { IfOk result (λ d. d.calls ≡ record { failing = failing.items; made = 0; faults = 0 }) }
+        ensures calls { IfOk result (λ d. d.calls ≡ record
+            { failing = failing.items; made = 0; faults = 0 }) }
     {
         let channels = empty_channels(alloc, channels, room)?;
         Ok(MemDrains {
@@ -116,7 +116,8 @@ impl MemDrains {
     fn append(&mut self, channel: u32, piece: &[u8])
         requires open { channel_is_open self.old channel ≡ true }
         requires room { length piece.now ≤ self.old.room - length (bytes_held self.old channel) }
-        ensures held { self.new.held ≡ slice_set self.old.held channel (Some (bytes_held self.old channel ++ piece.now)) }
+        ensures held { self.new.held ≡ slice_set self.old.held channel
+            (Some (bytes_held self.old channel ++ piece.now)) }
         ensures step { self.new.step ≡ self.old.step }
         ensures room { self.new.room ≡ self.old.room }
         ensures calls { self.new.calls ≡ self.old.calls }
@@ -131,24 +132,15 @@ impl MemDrains {
 }
 
 impl Drains for MemDrains {
-    ghost tells = { λ _. true };
-
-    ghost held = { bytes_held };
-
-    ghost is_open = { channel_is_open };
-
-    ghost faults = { λ d. d.calls.faults };
+    ghost channels = { channels_of };
 
     fn open(&mut self, channel: u32, _name: &str) -> Result<(), Failed>
         requires { channel_is_open self.old channel ≡ false }
-        ensures opened { OnOk result (channel_is_open self.new channel ≡ true) }
-        ensures empty { OnOk result (bytes_held self.new channel ≡ []) }
-        ensures failed { OnErr result (HasRisen self.old.calls.faults self.new.calls.faults) }
-        ensures failed_open { OnErr result (channel_is_open self.new channel ≡ channel_is_open self.old channel) }
-        ensures failed_held { OnErr result (bytes_held self.new channel ≡ bytes_held self.old channel) }
-        ensures same_held { SameElsewhere (bytes_held self.old) (bytes_held self.new) channel }
-        ensures same_open { SameElsewhere (channel_is_open self.old) (channel_is_open self.new) channel }
-        ensures faults_stay { self.old.calls.faults ≤ self.new.calls.faults }
+        ensures opened { OnOk result (OpensAt channel (channels_of self.old)
+            (channels_of self.new)) }
+        ensures failed { OnErr result (FailsAt channel (channels_of self.old)
+            (channels_of self.new)) }
+        ensures elsewhere { ChangesOnly channels_of self.old self.new channel }
 
         // When it fails, and the whole change.
         ensures fails { is_err result ≡ opening_fails self.old channel }
@@ -172,17 +164,19 @@ impl Drains for MemDrains {
         requires some { 0 < length piece.now }
         ensures least { IfOk result (λ n. 0 < n) }
         ensures most { IfOk result (λ n. n ≤ length piece.now) }
-        ensures bytes { IfOk result (λ n. bytes_held self.new channel ≡ bytes_held self.old channel ++ take n piece.now) }
-        ensures failed { OnErr result (HasRisen self.old.calls.faults self.new.calls.faults) }
-        ensures failed_held { OnErr result (bytes_held self.new channel ≡ bytes_held self.old channel) }
-        ensures same_held { SameElsewhere (bytes_held self.old) (bytes_held self.new) channel }
-        ensures same_open { (other : ℕ) → channel_is_open self.new other ≡ channel_is_open self.old other }
-        ensures faults_stay { self.old.calls.faults ≤ self.new.calls.faults }
+        ensures bytes { IfOk result (λ n. Appends channel (channels_of self.old)
+            (channels_of self.new) (take n piece.now)) }
+        ensures failed { OnErr result (FailsAt channel (channels_of self.old)
+            (channels_of self.new)) }
+        ensures elsewhere { WritesOnly channels_of self.old self.new channel }
 
         // When it fails, how many bytes it takes, and the whole change.
         ensures fails { is_err result ≡ put_fails self.old channel }
-        ensures count { IfOk result (λ n. n ≡ taken self.old (length piece.now) (length (bytes_held self.old channel))) }
-        ensures held { IfOk result (λ n. self.new.held ≡ slice_set self.old.held channel (Some (bytes_held self.old channel ++ take n piece.now))) }
+        ensures count { IfOk result (λ n. n ≡ taken self.old (length piece.now)
+            (length (bytes_held self.old channel))) }
+        ensures held { IfOk result (λ n. self.new.held
+            ≡ slice_set self.old.held channel (Some
+            (bytes_held self.old channel ++ take n piece.now))) }
         ensures failed_all { OnErr result (self.new.held ≡ self.old.held) }
         ensures calls { self.new.calls ≡ after_call (is_err result) self.old.calls }
         ensures step { self.new.step ≡ self.old.step }
@@ -202,7 +196,8 @@ impl Drains for MemDrains {
 /// So many channels, each with memory for `room` bytes; the first is open.
 fn empty_channels(alloc: Global, channels: u32, room: u32) -> Result<Vec<Channel>, Memory>
     requires { 0 < channels }
-    ensures held { IfOk result (λ made. held_by_each made.items ≡ Some [] ∷ replicate (channels - 1) None) }
+    ensures held { IfOk result (λ made. held_by_each made.items
+        ≡ Some [] ∷ replicate (channels - 1) None) }
     ensures room { IfOk result (λ made. EachHasRoom room made.items) }
 {
     let mut made = Vec::with_capacity(alloc, channels as usize)?;

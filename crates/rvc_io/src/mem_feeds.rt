@@ -1,12 +1,10 @@
 //! Feeds in memory.
 
 ghost use Rattle.std.specs.Prelude.{◌≡◌, ◌≤◌, ◌<◌, ◌++◌, ◌+◌, ℕ, List, [], Bool, IsTrue, true, false, Option, None, Some, IfSome, IfOk, OnOk, OnErr, IsSome, is_some, is_none, is_err, map, length, take, drop, replicate, slice_set, unwrap_or};
-ghost use Rattle.rvc_io.specs.Count.{HasRisen};
-ghost use Rattle.rvc_io.specs.Elsewhere.{SameElsewhere};
-ghost use Rattle.rvc_io.specs.Feeds.{Moves};
+ghost use Rattle.rvc_io.specs.Feeds.{FailsOn, Moves, OpensOn, OpensOnly, PullsOnly};
 ghost use Rattle.rvc_io.specs.Calls.{CallCount, is_listed, after_call};
 ghost use Rattle.rvc_io.specs.Files.{named, are_distinct, under, bytes_at};
-ghost use Rattle.rvc_io.specs.MemFeeds.{FeedsState, left_on, feed_is_open, bytes_left, count_left, opening_fails, moved};
+ghost use Rattle.rvc_io.specs.MemFeeds.{FeedsState, left_on, feed_is_open, bytes_left, count_left, inputs_of, opening_fails, moved};
 
 use crate::calls::Calls;
 use crate::files::{bytes_at, place_of};
@@ -61,7 +59,8 @@ impl MemFeeds {
         ensures files { IfOk result (λ f. f.files ≡ map named files.items) }
         ensures step { IfOk result (λ f. f.step ≡ step) }
         ensures none_open { IfOk result (λ f. f.left ≡ replicate feeds None) }
-        ensures calls { IfOk result (λ f. f.calls ≡ record { failing = failing.items; made = 0; faults = 0 }) }
+        ensures calls { IfOk result (λ f. f.calls ≡ record
+            { failing = failing.items; made = 0; faults = 0 }) }
     {
         let readings = no_readings(alloc, feeds)?;
         Ok(MemFeeds {
@@ -77,7 +76,8 @@ impl MemFeeds {
         ensures fails { is_none result ≡ opening_fails self.now feed name.now }
         ensures feed { IsSome result → feed < length self.now.left }
         ensures place { IfSome result (λ place. place < length self.now.files) }
-        ensures bytes { IfSome result (λ place. under self.now.files name.now ≡ Some (bytes_at self.now.files place)) }
+        ensures bytes { IfSome result (λ place. under self.now.files name.now
+            ≡ Some (bytes_at self.now.files place)) }
     {
         if self.calls.is_listed() || feed as usize >= self.readings.len() {
             return None;
@@ -90,7 +90,8 @@ impl MemFeeds {
         requires feed { feed < length self.old.left }
         requires place { reading.place < length self.old.files }
         requires at { reading.at ≤ length (bytes_at self.old.files reading.place) }
-        ensures left { self.new.left ≡ slice_set self.old.left feed (Some (drop reading.at (bytes_at self.old.files reading.place))) }
+        ensures left { self.new.left ≡ slice_set self.old.left feed
+            (Some (drop reading.at (bytes_at self.old.files reading.place))) }
         ensures files { self.new.files ≡ self.old.files }
         ensures step { self.new.step ≡ self.old.step }
         ensures calls { self.new.calls ≡ self.old.calls }
@@ -103,7 +104,8 @@ impl MemFeeds {
         requires { feed_is_open self.now feed ≡ true }
         ensures place { result.place < length self.now.files }
         ensures at { result.at ≤ length (bytes_at self.now.files result.place) }
-        ensures left { left_on self.now feed ≡ Some (drop result.at (bytes_at self.now.files result.place)) }
+        ensures left { left_on self.now feed ≡ Some
+            (drop result.at (bytes_at self.now.files result.place)) }
         ensures feed { feed < length self.now.left }
     {
         let Some(reading) = self.readings[feed as usize] else {
@@ -124,29 +126,19 @@ impl MemFeeds {
 }
 
 impl Feeds for MemFeeds {
-    ghost under = { λ f name. under f.files name };
-
-    ghost left = { left_on };
-
-    ghost is_open = { feed_is_open };
-
-    ghost faults = { λ f. f.calls.faults };
+    ghost feeds = { inputs_of };
 
     fn open(&mut self, feed: u32, name: &str) -> Result<(), Failed>
         requires { feed_is_open self.old feed ≡ false }
-        ensures opened { OnOk result (feed_is_open self.new feed ≡ true) }
-        ensures whole { OnOk result (left_on self.new feed ≡ under self.old.files name.now) }
-        ensures failed { OnErr result (HasRisen self.old.calls.faults self.new.calls.faults) }
-        ensures failed_open { OnErr result (feed_is_open self.new feed ≡ feed_is_open self.old feed) }
-        ensures failed_left { OnErr result (left_on self.new feed ≡ left_on self.old feed) }
-        ensures same_names { (other : List ℕ) → under self.new.files other ≡ under self.old.files other }
-        ensures same_left { SameElsewhere (left_on self.old) (left_on self.new) feed }
-        ensures same_open { SameElsewhere (feed_is_open self.old) (feed_is_open self.new) feed }
-        ensures faults_stay { self.old.calls.faults ≤ self.new.calls.faults }
+        ensures opened { OnOk result (OpensOn feed name.now (inputs_of self.old)
+            (inputs_of self.new)) }
+        ensures failed { OnErr result (FailsOn feed (inputs_of self.old) (inputs_of self.new)) }
+        ensures elsewhere { OpensOnly inputs_of self.old self.new feed }
 
         // When it fails, and the whole change.
         ensures fails { is_err result ≡ opening_fails self.old feed name.now }
-        ensures left { OnOk result (self.new.left ≡ slice_set self.old.left feed (under self.old.files name.now)) }
+        ensures left { OnOk result (self.new.left ≡ slice_set self.old.left feed
+            (under self.old.files name.now)) }
         ensures left_failed { OnErr result (self.new.left ≡ self.old.left) }
         ensures calls { self.new.calls ≡ after_call (is_err result) self.old.calls }
         ensures files { self.new.files ≡ self.old.files }
@@ -165,18 +157,17 @@ impl Feeds for MemFeeds {
         requires open { feed_is_open self.old feed ≡ true }
         requires room { 0 < length buf.old }
         ensures moved { IfOk result (λ n. n ≤ length buf.old) }
-        ensures bytes { IfOk result (λ n. Moves n (left_on self.old feed) buf.old buf.new (left_on self.new feed)) }
-        ensures failed { OnErr result (HasRisen self.old.calls.faults self.new.calls.faults) }
-        ensures failed_left { OnErr result (left_on self.new feed ≡ left_on self.old feed) }
-        ensures same_names { (other : List ℕ) → under self.new.files other ≡ under self.old.files other }
-        ensures same_left { SameElsewhere (left_on self.old) (left_on self.new) feed }
-        ensures same_open { (other : ℕ) → feed_is_open self.new other ≡ feed_is_open self.old other }
-        ensures faults_stay { self.old.calls.faults ≤ self.new.calls.faults }
+        ensures bytes { IfOk result (λ n. Moves n (left_on self.old feed) buf.old buf.new
+            (left_on self.new feed)) }
+        ensures failed { OnErr result (FailsOn feed (inputs_of self.old) (inputs_of self.new)) }
+        ensures elsewhere { PullsOnly inputs_of self.old self.new feed }
 
         // When it fails, how many bytes it moves, and the whole change.
         ensures fails { is_err result ≡ is_listed self.old.calls }
-        ensures count { IfOk result (λ n. n ≡ moved self.old.step (length buf.old) (count_left self.old feed)) }
-        ensures left { IfOk result (λ n. self.new.left ≡ slice_set self.old.left feed (Some (drop n (bytes_left self.old feed)))) }
+        ensures count { IfOk result (λ n. n ≡ moved self.old.step (length buf.old)
+            (count_left self.old feed)) }
+        ensures left { IfOk result (λ n. self.new.left
+            ≡ slice_set self.old.left feed (Some (drop n (bytes_left self.old feed)))) }
         ensures failed_all { OnErr result (self.new.left ≡ self.old.left) }
         ensures failed_buffer { OnErr result (buf.new ≡ buf.old) }
         ensures calls { self.new.calls ≡ after_call (is_err result) self.old.calls }

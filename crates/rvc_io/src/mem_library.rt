@@ -60,20 +60,30 @@ impl Library for MemLibrary {
 
     fn read(&mut self, _alloc: Global, name: &str, out: &mut Vec<u8>) -> ReadAnswer
         requires { out.old.items ≡ [] }
-        ensures found { result ≡ ReadAnswer.Found → IsTold (told (bytes_of self.old name.now)) out.new.items }
-        ensures missing { result ≡ ReadAnswer.Missing → HasRisen self.old.misses self.new.misses × IsLacking (told (bytes_of self.old name.now)) }
-        ensures failed { result ≡ ReadAnswer.Failed → HasRisen self.old.calls.faults self.new.calls.faults }
-        ensures too_long { result ≡ ReadAnswer.TooLong → IsTooLong (told (bytes_of self.old name.now)) }
+        ensures found { result ≡ ReadAnswer.Found
+            → IsTold (told (bytes_of self.old name.now)) out.new.items }
+        ensures missing { result ≡ ReadAnswer.Missing
+            → HasRisen self.old.misses self.new.misses
+                × IsLacking (told (bytes_of self.old name.now)) }
+        ensures failed { result ≡ ReadAnswer.Failed
+            → HasRisen self.old.calls.faults self.new.calls.faults }
+        ensures too_long { result ≡ ReadAnswer.TooLong
+            → IsTooLong (told (bytes_of self.old name.now)) }
         ensures nothing_else { result ≢ ReadAnswer.Found → out.new.items ≡ [] }
-        ensures same_files { (other : List ℕ) → told (bytes_of self.new other) ≡ told (bytes_of self.old other) }
+        ensures same_files { (other : List ℕ)
+            → told (bytes_of self.new other) ≡ told (bytes_of self.old other) }
         ensures faults_stay { self.old.calls.faults ≤ self.new.calls.faults }
         ensures misses_stay { self.old.misses ≤ self.new.misses }
 
         // When each answer comes, want of memory apart.
         ensures failed_exactly { (result ≡ ReadAnswer.Failed) ↔ (is_listed self.old.calls ≡ true) }
-        ensures missing_exactly { (result ≡ ReadAnswer.Missing) ↔ ((is_listed self.old.calls ≡ false) × (bytes_of self.old name.now ≡ None)) }
-        ensures too_long_exactly { (result ≡ ReadAnswer.TooLong) ↔ ((is_listed self.old.calls ≡ false) × IsSomeAnd (bytes_of self.old name.now) (λ bytes. max_file_bytes < length bytes)) }
-        ensures found_exactly { result ≡ ReadAnswer.Found → bytes_of self.old name.now ≡ Some out.new.items }
+        ensures missing_exactly { (result ≡ ReadAnswer.Missing) ↔
+            ((is_listed self.old.calls ≡ false) × (bytes_of self.old name.now ≡ None)) }
+        ensures too_long_exactly { (result ≡ ReadAnswer.TooLong) ↔
+            ((is_listed self.old.calls ≡ false) × IsSomeAnd (bytes_of self.old name.now)
+            (λ bytes. max_file_bytes < length bytes)) }
+        ensures found_exactly { result ≡ ReadAnswer.Found
+            → bytes_of self.old name.now ≡ Some out.new.items }
 
         // What is counted, and what stays.
         ensures calls { self.new.calls ≡ after_call (is_listed self.old.calls) self.old.calls }

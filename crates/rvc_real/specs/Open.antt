@@ -1,5 +1,7 @@
 -- Which of numbered files are open, and what is told of them.
-use Rattle.std.specs.Prelude.{ℕ, List, [], Bool, true, false, ◌||◌, ◌==◌, Option, None, slice_index_or}
+use Rattle.std.specs.Prelude.{ℕ, List, [], Bool, true, false, ◌||◌, ◌==◌, None, slice_index_or}
+use Rattle.rvc_io.specs.Channels.{Channels}
+use Rattle.rvc_io.specs.Feeds.{Inputs}
 
 -- for each number whether its file is open, and how many calls failed
 pub record OpenState : Type 0 where
@@ -18,18 +20,12 @@ feed_is_open f feed = is_open_at f.flags feed
 abbrev pub channel_is_open : OpenState → ℕ → Bool
 channel_is_open d channel = (channel == 0) || is_open_at d.flags channel
 
--- the bytes under a name, which aren't told
-abbrev pub under : OpenState → List ℕ → Option (List ℕ)
-under f name = None
+-- what is known of the feeds: none of their bytes
+abbrev pub inputs_of : OpenState → Inputs
+inputs_of f =
+    record { under = λ name. None; left = λ feed. None; is_open = feed_is_open f; faults = f.faults }
 
--- the bytes left on a feed, which aren't told
-abbrev pub left_on : OpenState → ℕ → Option (List ℕ)
-left_on f feed = None
-
--- whether the bytes of channels are told
-abbrev pub tells : OpenState → Bool
-tells d = false
-
--- the bytes that a channel holds, of which nothing is claimed
-abbrev pub held_on : OpenState → ℕ → List ℕ
-held_on d channel = []
+-- what is known of the channels: none of their bytes
+abbrev pub channels_of : OpenState → Channels
+channels_of d =
+    record { tells = false; held = λ channel. []; is_open = channel_is_open d; faults = d.faults }

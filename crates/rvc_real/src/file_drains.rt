@@ -1,10 +1,10 @@
 //! Channels that are files, and standard output.
 
 ghost use Rattle.std.specs.Prelude.{◌≡◌, ◌≢◌, ◌≤◌, ◌<◌, ◌++◌, ℕ, [], true, false, length, take, OnOk, OnErr, IfOk, is_err};
-ghost use Rattle.rvc_io.specs.Count.{HasRisen};
+ghost use Rattle.rvc_io.specs.Channels.{Appends, ChangesOnly, FailsAt, OpensAt, WritesOnly};
 ghost use Rattle.rvc_io.specs.Elsewhere.{SameElsewhere};
 ghost use Rattle.rvc_real.specs.Counting.{counted};
-ghost use Rattle.rvc_real.specs.Open.{OpenState, channel_is_open, tells, held_on};
+ghost use Rattle.rvc_real.specs.Open.{OpenState, channel_is_open, channels_of};
 
 use crate::open_files::OpenFiles;
 use rvc_io::{Drains, Failed};
@@ -37,7 +37,8 @@ impl<R: Files + Print> FileDrains<R> {
     pub fn new(rt: R, alloc: Global) -> FileDrains<R>
         ensures fresh { result ≡ record { flags = []; faults = 0 } }
         ensures output_open { channel_is_open result 0 ≡ true }
-        ensures others_closed { (channel : ℕ) → channel ≢ 0 → channel_is_open result channel ≡ false }
+        ensures others_closed { (channel : ℕ) → channel ≢ 0
+            → channel_is_open result channel ≡ false }
     {
         FileDrains {
             rt,
@@ -50,8 +51,10 @@ impl<R: Files + Print> FileDrains<R> {
     #[tactic(auto, using(crate::proofs::OpenLemmas::set_here, crate::proofs::OpenLemmas::set_elsewhere))]
     fn create_file(&mut self, channel: u32, name: &str) -> bool
         ensures opened { result ≡ true → channel_is_open self.new channel ≡ true }
-        ensures closed { result ≡ false → channel_is_open self.new channel ≡ channel_is_open self.old channel }
-        ensures same_open { SameElsewhere (channel_is_open self.old) (channel_is_open self.new) channel }
+        ensures closed { result ≡ false
+            → channel_is_open self.new channel ≡ channel_is_open self.old channel }
+        ensures same_open { SameElsewhere (channel_is_open self.old) (channel_is_open self.new)
+            channel }
         ensures faults { self.new.faults ≡ self.old.faults }
     {
         if self.files.make_room(channel).is_err() {
@@ -69,7 +72,8 @@ impl<R: Files + Print> FileDrains<R> {
     fn write_some(&mut self, channel: u32, piece: &[u8]) -> io::Result<usize>
         requires open { channel_is_open self.old channel ≡ true }
         ensures most { IfOk result (λ n. n ≤ length piece.now) }
-        ensures same_open { (other : ℕ) → channel_is_open self.new other ≡ channel_is_open self.old other }
+        ensures same_open { (other : ℕ)
+            → channel_is_open self.new other ≡ channel_is_open self.old other }
         ensures faults { self.new.faults ≡ self.old.faults }
     {
         if channel == 0 {
@@ -83,25 +87,15 @@ impl<R: Files + Print> FileDrains<R> {
 }
 
 impl<R: Files + Print> Drains for FileDrains<R> {
-    ghost tells = { tells };
-
-    ghost held = { held_on };
-
-    ghost is_open = { channel_is_open };
-
-    ghost faults = { λ d. d.faults };
+    ghost channels = { channels_of };
 
     fn open(&mut self, channel: u32, name: &str) -> Result<(), Failed>
         requires { channel_is_open self.old channel ≡ false }
-        ensures opened { OnOk result (channel_is_open self.new channel ≡ true) }
-        ensures empty { OnOk result (tells self.old ≡ true → held_on self.new channel ≡ []) }
-        ensures failed { OnErr result (HasRisen self.old.faults self.new.faults) }
-        ensures failed_open { OnErr result (channel_is_open self.new channel ≡ channel_is_open self.old channel) }
-        ensures failed_held { OnErr result (tells self.old ≡ true → held_on self.new channel ≡ held_on self.old channel) }
-        ensures same_telling { tells self.new ≡ tells self.old }
-        ensures same_held { tells self.old ≡ true → SameElsewhere (held_on self.old) (held_on self.new) channel }
-        ensures same_open { SameElsewhere (channel_is_open self.old) (channel_is_open self.new) channel }
-        ensures faults_stay { self.old.faults ≤ self.new.faults }
+        ensures opened { OnOk result (OpensAt channel (channels_of self.old)
+            (channels_of self.new)) }
+        ensures failed { OnErr result (FailsAt channel (channels_of self.old)
+            (channels_of self.new)) }
+        ensures elsewhere { ChangesOnly channels_of self.old self.new channel }
 
         // Each failure is counted once, and nothing else is.
         ensures counted { self.new.faults ≡ counted (is_err result) self.old.faults }
@@ -119,13 +113,11 @@ impl<R: Files + Print> Drains for FileDrains<R> {
         requires some { 0 < length piece.now }
         ensures least { IfOk result (λ n. 0 < n) }
         ensures most { IfOk result (λ n. n ≤ length piece.now) }
-        ensures bytes { IfOk result (λ n. tells self.old ≡ true → held_on self.new channel ≡ held_on self.old channel ++ take n piece.now) }
-        ensures failed { OnErr result (HasRisen self.old.faults self.new.faults) }
-        ensures failed_held { OnErr result (tells self.old ≡ true → held_on self.new channel ≡ held_on self.old channel) }
-        ensures same_telling { tells self.new ≡ tells self.old }
-        ensures same_held { tells self.old ≡ true → SameElsewhere (held_on self.old) (held_on self.new) channel }
-        ensures same_open { (other : ℕ) → channel_is_open self.new other ≡ channel_is_open self.old other }
-        ensures faults_stay { self.old.faults ≤ self.new.faults }
+        ensures bytes { IfOk result (λ n. Appends channel (channels_of self.old)
+            (channels_of self.new) (take n piece.now)) }
+        ensures failed { OnErr result (FailsAt channel (channels_of self.old)
+            (channels_of self.new)) }
+        ensures elsewhere { WritesOnly channels_of self.old self.new channel }
 
         // Each failure is counted once, and nothing else is.
         ensures counted { self.new.faults ≡ counted (is_err result) self.old.faults }

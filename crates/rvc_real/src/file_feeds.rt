@@ -1,11 +1,10 @@
 //! Feeds that are files.
 
 ghost use Rattle.std.specs.Prelude.{◌≡◌, ◌≤◌, ◌<◌, ℕ, List, [], true, false, length, OnOk, OnErr, IfOk, is_err};
-ghost use Rattle.rvc_io.specs.Count.{HasRisen};
 ghost use Rattle.rvc_io.specs.Elsewhere.{SameElsewhere};
-ghost use Rattle.rvc_io.specs.Feeds.{Moves};
+ghost use Rattle.rvc_io.specs.Feeds.{FailsOn, Moves, OpensOn, OpensOnly, PullsOnly};
 ghost use Rattle.rvc_real.specs.Counting.{counted};
-ghost use Rattle.rvc_real.specs.Open.{OpenState, feed_is_open, under, left_on};
+ghost use Rattle.rvc_real.specs.Open.{OpenState, feed_is_open, inputs_of};
 
 use crate::open_files::OpenFiles;
 use rvc_io::{Failed, Feeds};
@@ -64,25 +63,14 @@ impl<R: Files> FileFeeds<R> {
 }
 
 impl<R: Files> Feeds for FileFeeds<R> {
-    ghost under = { under };
-
-    ghost left = { left_on };
-
-    ghost is_open = { feed_is_open };
-
-    ghost faults = { λ f. f.faults };
+    ghost feeds = { inputs_of };
 
     fn open(&mut self, feed: u32, name: &str) -> Result<(), Failed>
         requires { feed_is_open self.old feed ≡ false }
-        ensures opened { OnOk result (feed_is_open self.new feed ≡ true) }
-        ensures whole { OnOk result (left_on self.new feed ≡ under self.old name.now) }
-        ensures failed { OnErr result (HasRisen self.old.faults self.new.faults) }
-        ensures failed_open { OnErr result (feed_is_open self.new feed ≡ feed_is_open self.old feed) }
-        ensures failed_left { OnErr result (left_on self.new feed ≡ left_on self.old feed) }
-        ensures same_names { (other : List ℕ) → under self.new other ≡ under self.old other }
-        ensures same_left { SameElsewhere (left_on self.old) (left_on self.new) feed }
-        ensures same_open { SameElsewhere (feed_is_open self.old) (feed_is_open self.new) feed }
-        ensures faults_stay { self.old.faults ≤ self.new.faults }
+        ensures opened { OnOk result (OpensOn feed name.now (inputs_of self.old)
+            (inputs_of self.new)) }
+        ensures failed { OnErr result (FailsOn feed (inputs_of self.old) (inputs_of self.new)) }
+        ensures elsewhere { OpensOnly inputs_of self.old self.new feed }
 
         // Each failure is counted once, and nothing else is.
         ensures counted { self.new.faults ≡ counted (is_err result) self.old.faults }
@@ -99,13 +87,10 @@ impl<R: Files> Feeds for FileFeeds<R> {
         requires open { feed_is_open self.old feed ≡ true }
         requires room { 0 < length buf.old }
         ensures moved { IfOk result (λ n. n ≤ length buf.old) }
-        ensures bytes { IfOk result (λ n. Moves n (left_on self.old feed) buf.old buf.new (left_on self.new feed)) }
-        ensures failed { OnErr result (HasRisen self.old.faults self.new.faults) }
-        ensures failed_left { OnErr result (left_on self.new feed ≡ left_on self.old feed) }
-        ensures same_names { (other : List ℕ) → under self.new other ≡ under self.old other }
-        ensures same_left { SameElsewhere (left_on self.old) (left_on self.new) feed }
-        ensures same_open { (other : ℕ) → feed_is_open self.new other ≡ feed_is_open self.old other }
-        ensures faults_stay { self.old.faults ≤ self.new.faults }
+        ensures bytes { IfOk result (λ n. Moves n ((inputs_of self.old).left feed) buf.old buf.new
+            ((inputs_of self.new).left feed)) }
+        ensures failed { OnErr result (FailsOn feed (inputs_of self.old) (inputs_of self.new)) }
+        ensures elsewhere { PullsOnly inputs_of self.old self.new feed }
 
         // Each failure is counted once, and nothing else is.
         ensures counted { self.new.faults ≡ counted (is_err result) self.old.faults }

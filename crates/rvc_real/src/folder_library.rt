@@ -66,12 +66,15 @@ impl<R: Files> Library for FolderLibrary<R> {
     /// A name that leads out of the folder, by a slash at its start or by a part `..`, is missing.
     fn read(&mut self, alloc: Global, name: &str, out: &mut Vec<u8>) -> ReadAnswer
         requires { out.old.items ≡ [] }
-        ensures found { result ≡ ReadAnswer.Found → IsTold (file_told self.old name.now) out.new.items }
-        ensures missing { result ≡ ReadAnswer.Missing → HasRisen self.old.misses self.new.misses × IsLacking (file_told self.old name.now) }
+        ensures found { result ≡ ReadAnswer.Found
+            → IsTold (file_told self.old name.now) out.new.items }
+        ensures missing { result ≡ ReadAnswer.Missing
+            → HasRisen self.old.misses self.new.misses × IsLacking (file_told self.old name.now) }
         ensures failed { result ≡ ReadAnswer.Failed → HasRisen self.old.faults self.new.faults }
         ensures too_long { result ≡ ReadAnswer.TooLong → IsTooLong (file_told self.old name.now) }
         ensures nothing_else { result ≢ ReadAnswer.Found → out.new.items ≡ [] }
-        ensures same_files { (other : List ℕ) → file_told self.new other ≡ file_told self.old other }
+        ensures same_files { (other : List ℕ)
+            → file_told self.new other ≡ file_told self.old other }
         ensures faults_stay { self.old.faults ≤ self.new.faults }
         ensures misses_stay { self.old.misses ≤ self.new.misses }
 

@@ -64,7 +64,9 @@ impl<F: Drop> OpenFiles<F> {
 #[tactic(auto, using(crate::proofs::OpenLemmas::closed_more))]
 fn add_closed<F: Drop>(files: &mut Vec<Option<F>>, count: usize) -> Result<(), AllocError>
     ensures added { OnOk result (length files.new.items ≡ length files.old.items + count) }
-    ensures same_open { (other : ℕ) → is_open_at (map is_some files.new.items) other ≡ is_open_at (map is_some files.old.items) other }
+    ensures same_open { (other : ℕ)
+        → is_open_at (map is_some files.new.items) other
+            ≡ is_open_at (map is_some files.old.items) other }
 {
     for _number in 0..count {
         files.push(None)?;

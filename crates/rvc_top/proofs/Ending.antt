@@ -5,7 +5,7 @@ use Rattle.trace_text.specs.declared.line.Line.TheVariants.{Quiet as QuietLine, 
 use Rattle.channel_writer.specs.Held.{HoldsFront}
 use Rattle.net_model.specs.State.{start_of}
 use Rattle.net_model.specs.Trace.{head_text}
-use Rattle.cal_model.specs.Form.{Form}
+use Rattle.first_form.specs.Form.{Form}
 use Rattle.first_form.specs.Spelling.{Spells}
 use Rattle.first_runner.specs.declared.outcome.Counts.{Counts}
 use Rattle.first_runner.specs.Source.{network_of}
@@ -45,7 +45,7 @@ gets-written : (writes : Bool) (file : Option (List ℕ)) (open_old open_new : B
 gets-written writes None open_old open_new old held held_new text shut none gets same same_open = same_open ∙ shut
 gets-written writes (Some name) open_old open_new old held held_new text writes_it none gets same same_open = same ∙ got writes old held text writes_it none gets
 
-module _ (ports : List PortText) (source : List ℕ) (input : Form → List ℕ) (f : Form) (spelled : Spells source f) (matched : AreMatched (ports_of f) ports) (counts : Counts) (trace output held_trace held_output : List ℕ) (open_output : Bool) (trace_is : held_trace ≡ head_text (network_of f) ++ trace) (output_is : IsWritten (file_of f.output ports) open_output held_output output) where
+module _ (ports : List PortText) (source : List ℕ) (input : Form → List ℕ) (f : Form) (spelled : Spells source f) (matched : AreMatched (ports_of f) ports) (counts : Counts) (trace output held_trace held_output : List ℕ) (open_output : Bool) (trace_is : held_trace ≡ head_text (network_of f) 0 ++ trace) (output_is : IsWritten (file_of f.output ports) open_output held_output output) where
   pub run-of : (end : Line) → Ended f (input f) end counts trace output → IsRun ports source (input f) end f counts held_trace open_output held_output
   run-of end e = record {
     spelled = spelled;
@@ -54,7 +54,7 @@ module _ (ports : List PortText) (source : List ℕ) (input : Form → List ℕ)
     last = e.last;
     plays = e.written.plays;
     keeps = e.written.keeps;
-    trace_is = trace_is ∙ ap (λ t. head_text (network_of f) ++ t) e.written.trace_is;
+    trace_is = trace_is ∙ ap (λ t. head_text (network_of f) 0 ++ t) e.written.trace_is;
     output_is = written-as (file_of f.output ports) open_output held_output output _ output_is e.written.output_is;
     counted = e.counted;
   }
@@ -69,7 +69,7 @@ module _ (ports : List PortText) (source : List ℕ) (input : Form → List ℕ)
     last = e.last;
     plays = e.written.plays;
     keeps = e.written.keeps;
-    trace_is = trace_is ∙ ap (λ t. head_text (network_of f) ++ t) e.written.trace_is;
+    trace_is = trace_is ∙ ap (λ t. head_text (network_of f) 0 ++ t) e.written.trace_is;
     output_is = written-as (file_of f.output ports) open_output held_output output _ output_is e.written.output_is;
   }
 
@@ -84,8 +84,8 @@ module _ (ports : List PortText) (source : List ℕ) (input : Form → List ℕ)
     keeps = e.written.keeps;
     trace_front = record {
       rest = e.trace_front.rest;
-      is = ap (λ t. head_text (network_of f) ++ t) (sym e.written.trace_is ∙ e.trace_front.is)
-          ∙ sym (append_assoc (head_text (network_of f)) trace e.trace_front.rest) ∙ ap (λ h. h ++ e.trace_front.rest) (sym trace_is);
+      is = ap (λ t. head_text (network_of f) 0 ++ t) (sym e.written.trace_is ∙ e.trace_front.is)
+          ∙ sym (append_assoc (head_text (network_of f) 0) trace e.trace_front.rest) ∙ ap (λ h. h ++ e.trace_front.rest) (sym trace_is);
     };
     output_front = λ opened. record {
       rest = e.output_front.rest;
@@ -121,7 +121,7 @@ broken-cut ports source input held_trace held_output open_output r = record {
 }
 
 -- nothing but a front of the head was written
-pub broken-head : (ports : List PortText) (source : List ℕ) (input : Form → List ℕ) (f : Form) (held_trace held_output : List ℕ) (open_output : Bool) → Spells source f → AreMatched (ports_of f) ports → IsFrontOf held_trace (head_text (network_of f)) → (open_output ≡ true → held_output ≡ []) → IsBrokenRun ports source input held_trace open_output held_output
+pub broken-head : (ports : List PortText) (source : List ℕ) (input : Form → List ℕ) (f : Form) (held_trace held_output : List ℕ) (open_output : Bool) → Spells source f → AreMatched (ports_of f) ports → IsFrontOf held_trace (head_text (network_of f) 0) → (open_output ≡ true → held_output ≡ []) → IsBrokenRun ports source input held_trace open_output held_output
 broken-head ports source input f held_trace held_output open_output spelled matched front empty = record {
   form = f;
   spelled = spelled;
@@ -130,20 +130,20 @@ broken-head ports source input f held_trace held_output open_output spelled matc
   last = start_of (network_of f) (input f ∷ []);
   plays = refl;
   keeps = ((λ e. absurd (Rattle.std.proofs.lemmas.Bool.false≢true (sym e))), ((λ e. omega arith), tt));
-  trace_front = record { rest = front.rest; is = append-nil (head_text (network_of f)) ∙ front.is };
+  trace_front = record { rest = front.rest; is = append-nil (head_text (network_of f) 0) ∙ front.is };
   output_front = λ opened. record { rest = []; is = ap (λ o. o ++ []) (sym (empty opened)) };
 }
 
 -- the answer's clause for each end
 module _ (j : PlainText) (source : List ℕ) (input : Form → List ℕ) (f : Form) (spelled : Spells source f) (matched : AreMatched (ports_of f) j.ports) (counts : Counts) (writes : Bool) (output_old : List ℕ) (tells : Bool) (told : tells ≡ true) (faults_old faults : ℕ) (limit : ℕ) (held_first held held_new : ℕ → List ℕ) (open_old open_new : ℕ → Bool) (result : Status) (first : held_first 0 ≡ held 0) (same_trace : held_new 1 ≡ held 1) (same_output : held_new 2 ≡ held 2) (same_open : open_new 2 ≡ open_old 2) (writes_it : Writes writes (file_of f.output j.ports) (open_old 2)) (none : writes ≡ true → output_old ≡ []) where
-  module _ (how : RunEnd) (left : HasLeft f writes (input f) how counts (head_text (network_of f)) (held 1) output_old (held 2)) where
+  module _ (how : RunEnd) (left : HasLeft f writes (input f) how counts (head_text (network_of f) 0) (held 1) output_old (held 2)) where
     output_there : IsWritten (file_of f.output j.ports) (open_new 2) (held_new 2) left.output
     output_there = gets-written writes (file_of f.output j.ports) (open_old 2) (open_new 2) output_old (held 2) (held_new 2) left.output writes_it none left.output_is same_output same_open
 
-    trace_there : held_new 1 ≡ head_text (network_of f) ++ left.trace
+    trace_there : held_new 1 ≡ head_text (network_of f) 0 ++ left.trace
     trace_there = same_trace ∙ left.trace_is
 
-  pub concluded-quiet : HasLeft f writes (input f) end.Quiet counts (head_text (network_of f)) (held 1) output_old (held 2)
+  pub concluded-quiet : HasLeft f writes (input f) end.Quiet counts (head_text (network_of f) 0) (held 1) output_old (held 2)
       → Reported Quiet result tells faults_old faults (held 0) (held_new 0) (run_lines f counts ++ last_line (naming j []) Quiet)
       → Leaves j source input result held_first held_new open_new limit
   concluded-quiet left (inl done) =
@@ -155,7 +155,7 @@ module _ (j : PlainText) (source : List ℕ) (input : Form → List ℕ) (f : Fo
       subst (λ s. Leaves j source input s held_first held_new open_new limit) (sym failed.0)
       (λ opened. broken-run j.ports source input QuietLine f counts (held_new 1) (held_new 2) (open_new 2) run)
 
-  pub concluded-budget : HasLeft f writes (input f) end.Budget counts (head_text (network_of f)) (held 1) output_old (held 2) → counts.firings ≡ limit
+  pub concluded-budget : HasLeft f writes (input f) end.Budget counts (head_text (network_of f) 0) (held 1) output_old (held 2) → counts.firings ≡ limit
       → Reported (Budget counts.firings) result tells faults_old faults (held 0) (held_new 0) (run_lines f counts ++ last_line (naming j []) (Budget counts.firings))
       → Leaves j source input result held_first held_new open_new limit
   concluded-budget left spent (inl done) =
@@ -167,7 +167,7 @@ module _ (j : PlainText) (source : List ℕ) (input : Form → List ℕ) (f : Fo
       subst (λ s. Leaves j source input s held_first held_new open_new limit) (sym failed.0)
       (λ opened. broken-run j.ports source input BudgetLine f counts (held_new 1) (held_new 2) (open_new 2) run)
 
-  pub concluded-read_fault : (feed : ℕ) (line : List ℕ) → HasLeft f writes (input f) (end.ReadFault feed) counts (head_text (network_of f)) (held 1) output_old (held 2)
+  pub concluded-read_fault : (feed : ℕ) (line : List ℕ) → HasLeft f writes (input f) (end.ReadFault feed) counts (head_text (network_of f) 0) (held 1) output_old (held 2)
       → Reported (ReadFault (Feed feed)) result tells faults_old faults (held 0) (held_new 0) line
       → Leaves j source input result held_first held_new open_new limit
   concluded-read_fault feed line left (inl done) =
@@ -177,7 +177,7 @@ module _ (j : PlainText) (source : List ℕ) (input : Form → List ℕ) (f : Fo
       subst (λ s. Leaves j source input s held_first held_new open_new limit) (sym failed.0)
       (λ opened. broken-cut j.ports source input (held_new 1) (held_new 2) (open_new 2) (cut-of j.ports source input f spelled matched counts left.trace left.output (held_new 1) (held_new 2) (open_new 2) (trace_there (end.ReadFault feed) left) (output_there (end.ReadFault feed) left) left.ends))
 
-  pub concluded-write_fault : (channel : ℕ) (line : List ℕ) → HasLeft f writes (input f) (end.WriteFault channel) counts (head_text (network_of f)) (held 1) output_old (held 2)
+  pub concluded-write_fault : (channel : ℕ) (line : List ℕ) → HasLeft f writes (input f) (end.WriteFault channel) counts (head_text (network_of f) 0) (held 1) output_old (held 2)
       → Reported (WriteFault channel) result tells faults_old faults (held 0) (held_new 0) line
       → Leaves j source input result held_first held_new open_new limit
   concluded-write_fault channel line left (inl done) =
@@ -215,10 +215,10 @@ opening-failed j source input f spelled matched tells ffo ff fo fn faults_old fa
     (λ opened. absurd (Rattle.std.proofs.lemmas.Bool.false≢true (sym opening.1 ∙ sym same ∙ opened)))
 opening-failed j source input f spelled matched tells ffo ff fo fn faults_old faults trace_open limit held_first held_new held_zero held_zero_new line open_new (WriteFault channel) result opening (inl done) same no_trace no_output =
     subst (λ s. Leaves j source input s held_first held_new open_new limit) (sym done.0)
-    (λ opened. broken-head j.ports source input f (held_new 1) (held_new 2) (open_new 2) spelled matched (record { rest = head_text (network_of f); is = ap (λ h. h ++ head_text (network_of f)) (sym (no_trace opened)) }) no_output)
+    (λ opened. broken-head j.ports source input f (held_new 1) (held_new 2) (open_new 2) spelled matched (record { rest = head_text (network_of f) 0; is = ap (λ h. h ++ head_text (network_of f) 0) (sym (no_trace opened)) }) no_output)
 opening-failed j source input f spelled matched tells ffo ff fo fn faults_old faults trace_open limit held_first held_new held_zero held_zero_new line open_new status result opening (inr failed) same no_trace no_output =
     subst (λ s. Leaves j source input s held_first held_new open_new limit) (sym failed.0)
-    (λ opened. broken-head j.ports source input f (held_new 1) (held_new 2) (open_new 2) spelled matched (record { rest = head_text (network_of f); is = ap (λ h. h ++ head_text (network_of f)) (sym (no_trace opened)) }) no_output)
+    (λ opened. broken-head j.ports source input f (held_new 1) (held_new 2) (open_new 2) spelled matched (record { rest = head_text (network_of f) 0; is = ap (λ h. h ++ head_text (network_of f) 0) (sym (no_trace opened)) }) no_output)
 opening-failed j source input f spelled matched tells ffo ff fo fn faults_old faults trace_open limit held_first held_new held_zero held_zero_new line open_new (ReadFault (File file)) result opening (inl done) same no_trace no_output = absurd opening
 opening-failed j source input f spelled matched tells ffo ff fo fn faults_old faults trace_open limit held_first held_new held_zero held_zero_new line open_new Quiet result opening (inl done) same no_trace no_output = absurd opening
 opening-failed j source input f spelled matched tells ffo ff fo fn faults_old faults trace_open limit held_first held_new held_zero held_zero_new line open_new Done result opening (inl done) same no_trace no_output = absurd opening
@@ -230,11 +230,11 @@ opening-failed j source input f spelled matched tells ffo ff fo fn faults_old fa
 -- the head of the trace couldn't be written
 pub head-failed : (j : PlainText) (source : List ℕ) (input : Form → List ℕ) (f : Form) → Spells source f → AreMatched (ports_of f) j.ports → (tells : Bool) (faults_old faults : ℕ) (limit : ℕ) (held_first held_new : ℕ → List ℕ) (held_zero held_zero_new line head held_before held_after : List ℕ) (open_new : ℕ → Bool) (result : Status)
     → Reported (WriteFault 1) result tells faults_old faults held_zero held_zero_new line
-    → head ≡ head_text (network_of f) → held_before ≡ [] → HoldsFront held_before held_after head → held_new 1 ≡ held_after → (open_new 2 ≡ true → held_new 2 ≡ [])
+    → head ≡ head_text (network_of f) 0 → held_before ≡ [] → HoldsFront held_before held_after head → held_new 1 ≡ held_after → (open_new 2 ≡ true → held_new 2 ≡ [])
     → Leaves j source input result held_first held_new open_new limit
 head-failed j source input f spelled matched tells faults_old faults limit held_first held_new held_zero held_zero_new line head held_before held_after open_new result reported head_is none front same no_output = answered reported
   where
-    is_front : IsFrontOf (held_new 1) (head_text (network_of f))
+    is_front : IsFrontOf (held_new 1) (head_text (network_of f) 0)
     is_front = record { rest = front.left; is = sym head_is ∙ front.text_is ∙ ap (λ h. h ++ front.left) (sym (same ∙ front.new_is ∙ ap (λ h. h ++ front.put) none)) }
 
     broken : IsBrokenRun j.ports source input (held_new 1) (open_new 2) (held_new 2)

@@ -11,7 +11,8 @@ use Rattle.std.proofs.Math.ListN.{get_or}
 use Rattle.rvc_base.specs.declared.refusal.Refusal.{Refusal}
 use Rattle.rvc_words.specs.declared.job.PortWord.{PortWord}
 use Rattle.rvc_words.specs.Words.{PortText, port_text}
-use Rattle.rvc_top.specs.Matching.{Fits, IsWrongWord, is_named, is_port, port_twice, unknown_port}
+use Rattle.rvc_top.specs.Matching.{Fits, IsWrongWord, is_named, is_port}
+use Rattle.rvc_base.specs.Rules.{port_twice, unknown_port}
 
 -- a test of what a list's items are made into
 pub any-map : {A B : Type 0} (test : B → Bool) (f : A → B) (xs : List A) → list_any (λ x. test (f x)) xs ≡ list_any test (map f xs)

@@ -17,7 +17,8 @@ use Rattle.cal_parser.specs.Refusals as grammar
 use Rattle.rvc_words.specs.Words.{PortText, port_text}
 use Rattle.rvc_words.specs.declared.job.PortWord.{PortWord}
 use Rattle.rvc_top.specs.Formatting.{IsRightly, IsText, IsUnread, lacks, passes, IsUnprinted, breaks_rules, IsDoneOrMemory, HasFile, IsFile, in_lexis, in_grammar}
-use Rattle.rvc_top.specs.Matching.{IsWrong, unknown_port}
+use Rattle.rvc_top.specs.Matching.{IsWrong}
+use Rattle.rvc_base.specs.Rules.{unknown_port}
 use Rattle.rvc_top.specs.Outside.{Reported}
 use Rattle.rvc_top.specs.Plain.{PlainText}
 use Rattle.rvc_top.specs.Planned.{IsPreparing}

@@ -2,7 +2,7 @@
 use Rattle.std.proofs.Common.{◌≡◌, ℕ, Bool, true, false, List, [], Option, Some, None, refl, sym, subst, ◌∙◌, inl, inr}
 use Rattle.std.specs.Prelude.{is_some, option_map}
 use Rattle.rvc_io.specs.Told.{Told, Untold, Lacking, Holding, IsTold}
-use Rattle.cal_model.specs.Form.{Form}
+use Rattle.first_form.specs.Form.{Form}
 use Rattle.first_form.specs.Spelling.{Spells}
 use Rattle.first_runner.specs.Missing.{HasInput}
 use Rattle.first_runner.specs.declared.outcome.RunEnd.{RunEnd}

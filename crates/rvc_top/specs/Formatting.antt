@@ -2,8 +2,10 @@
 use Rattle.std.specs.Prelude.{◌≡◌, ◌≤◌, ◌⊎◌, ℕ, Bool, true, List, [], ◌++◌, length}
 use Rattle.rvc_base.specs.declared.refusal.Refusal.{Refusal}
 use Rattle.rvc_base.specs.declared.refusal.Rule.{Rule}
+use Rattle.rvc_base.specs.Rules.{file_too_long, no_file}
 use Rattle.rvc_base.specs.declared.refusal.Front.{Front as Answer}
 use Rattle.rvc_base.specs.declared.refusal.Front.TheVariants.{Refused as Denied, Memory}
+use Rattle.rvc_io.specs.Channels.{Channels}
 use Rattle.rvc_io.specs.Count.{HasRisen}
 use Rattle.rvc_io.specs.Library.{max_file_bytes, IsTooLong}
 use Rattle.rvc_io.specs.Told.{Told, Holding, IsLacking, IsTold}
@@ -45,6 +47,10 @@ pub record IsPrinted (source : Told) (ports : List PortText) (tells : Bool) (hel
   pub is_canonical : IsCanonical source ports printed
   pub put : tells ≡ true → held ≡ held_old ++ printed
 
+-- the same by what is known of the channels
+abbrev pub PrintsFile : Told → List PortText → Channels → Channels → Type 0
+PrintsFile source ports old new = IsPrinted source ports old.tells (old.held 0) (new.held 0)
+
 -- the file is told to hold a text that is printed
 pub record HasFile (source : Told) (ports : List PortText) (tree : Tree) : Type 0 where
   pub text : List ℕ
@@ -65,8 +71,8 @@ IsRightly number text Memory = Unit {0}
 
 -- the top can't be read: there is no such file, or it passes the limit
 pub data IsUnread (source : Told) (misses_old misses_new : ℕ) : Refusal → Type 0 where
-  lacks : HasRisen misses_old misses_new → IsLacking source → IsUnread source misses_old misses_new (record { rule = record { 0 = 801 }; place = record { file = 0; offset = 0 } })
-  passes : IsTooLong source → IsUnread source misses_old misses_new (record { rule = record { 0 = 601 }; place = record { file = 1; offset = max_file_bytes } })
+  lacks : HasRisen misses_old misses_new → IsLacking source → IsUnread source misses_old misses_new (record { rule = no_file; place = record { file = 0; offset = 0 } })
+  passes : IsTooLong source → IsUnread source misses_old misses_new (record { rule = file_too_long; place = record { file = 1; offset = max_file_bytes } })
 
 -- the refusals of a printing: the top can't be read, its text breaks a rule, or a word names a port, of which there is none
 pub data IsUnprinted (ports : List PortText) (source : Told) (misses_old misses_new : ℕ) : Refusal → Type 0 where

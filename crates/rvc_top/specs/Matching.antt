@@ -5,7 +5,8 @@ use Rattle.std.specs.List.{list_any}
 use Rattle.std.specs.Str.{bytes_eq}
 use Rattle.rvc_base.specs.declared.refusal.Refusal.{Refusal}
 use Rattle.rvc_base.specs.declared.refusal.Rule.{Rule}
-use Rattle.cal_model.specs.Form.{Form}
+use Rattle.rvc_base.specs.Rules.{port_twice, unknown_port}
+use Rattle.first_form.specs.Form.{Form}
 use Rattle.rvc_words.specs.Words.{PortText}
 
 -- the ports of an actor of the first form
@@ -31,12 +32,6 @@ abbrev pub AreMatched : List (List ℕ) → List PortText → Type 0
 AreMatched ports words = (k : ℕ) → k < length words → Fits ports words k
 
 -- the rules of port words: one names no port that the command opens; one names a port that an earlier one names
-abbrev pub unknown_port : Rule
-unknown_port = record { 0 = 901 }
-
-abbrev pub port_twice : Rule
-port_twice = record { 0 = 902 }
-
 abbrev pub BreaksRule : List (List ℕ) → List PortText → PortText → Rule → Type 0
 BreaksRule ports earlier word rule =
     ((rule ≡ unknown_port) × (is_port word.name ports ≡ false))

@@ -1,5 +1,6 @@
 -- What may fail where the feed and the channels are opened.
-use Rattle.std.specs.Prelude.{◌≡◌, ℕ, Bool, true, false}
+use Rattle.std.specs.Prelude.{◌≡◌, ◌≢◌, ◌≤◌, ℕ, Bool, true, false, []}
+use Rattle.rvc_io.specs.Channels.{Channels}
 use Rattle.rvc_io.specs.Count.{HasRisen}
 use Rattle.rvc_top.specs.declared.status.Status.{Status}
 use Rattle.rvc_top.specs.declared.status.Status.TheVariants.{Quiet, Done, Usage, ReadFault, WriteFault, Refused, Budget, OutOfMemory}
@@ -20,3 +21,14 @@ IsOpening ffo ff fo fn trace_open OutOfMemory = ⊥
 abbrev pub NamesItsInput : (has_file : Bool) → Status → Type 0
 NamesItsInput has_file (ReadFault (Feed feed)) = has_file ≡ true
 NamesItsInput has_file _ = Unit {0}
+
+-- no channels but the trace's and the output's were opened, and none were written
+pub record OpensOfRun (old new : Channels) : Type 0 where
+  pub same_telling : new.tells ≡ old.tells
+  pub same_held : old.tells ≡ true → (other : ℕ) → other ≢ 1 → other ≢ 2 → new.held other ≡ old.held other
+  pub same_open : (other : ℕ) → other ≢ 1 → other ≢ 2 → new.is_open other ≡ old.is_open other
+  pub faults_stay : old.faults ≤ new.faults
+
+-- a channel that is open holds nothing
+abbrev pub IsEmptyWhereOpen : ℕ → Channels → Channels → Type 0
+IsEmptyWhereOpen channel old new = old.tells ≡ true → new.is_open channel ≡ true → new.held channel ≡ []

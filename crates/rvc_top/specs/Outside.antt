@@ -1,25 +1,23 @@
 -- What a report changes.
-use Rattle.std.specs.Prelude.{◌≡◌, ◌≤◌, ◌⊎◌, ℕ, Bool, true, List, ◌++◌}
+use Rattle.std.specs.Prelude.{◌≡◌, ◌⊎◌, ℕ, Bool, true, List, ◌++◌}
+use Rattle.rvc_io.specs.Channels.{Channels}
 use Rattle.rvc_io.specs.Count.{HasRisen}
 use Rattle.rvc_top.specs.declared.status.Status.{Status}
 use Rattle.rvc_top.specs.declared.status.Status.TheVariants.{Quiet, Budget, ReadFault, WriteFault}
 use Rattle.rvc_top.specs.declared.status.ReadAt.TheVariants.{Feed}
 use Rattle.first_runner.specs.declared.outcome.RunEnd.{RunEnd}
 use Rattle.first_runner.specs.declared.outcome.RunEnd.TheVariants as end
-use Rattle.rvc_io.specs.Elsewhere.{SameElsewhere}
-
--- nothing but what channel 0 holds
-pub record KeepsAll (tells_old tells : Bool) (held_old held : ℕ → List ℕ) (open_old open_now : ℕ → Bool) (faults_old faults : ℕ) : Type 0 where
-  pub same_telling : tells ≡ tells_old
-  pub same_held : tells_old ≡ true → SameElsewhere held_old held 0
-  pub same_open : (other : ℕ) → open_now other ≡ open_old other
-  pub faults_stay : faults_old ≤ faults
 
 -- the status was reported by this text, or the report couldn't be written
 abbrev pub Reported : Status → Status → Bool → ℕ → ℕ → (held_old held text : List ℕ) → Type 0
 Reported status result tells faults_old faults held_old held text =
     ((result ≡ status) × (tells ≡ true → held ≡ held_old ++ text))
     ⊎ ((result ≡ WriteFault 0) × HasRisen faults_old faults)
+
+-- the same by what is known of the channels
+abbrev pub Reports : Status → Status → Channels → Channels → (text : List ℕ) → Type 0
+Reports status result old new text =
+    Reported status result old.tells old.faults new.faults (old.held 0) (new.held 0) text
 
 -- which status an end of a run becomes; where the report can't be written it is a write fault
 abbrev pub Answers : RunEnd → Status → ℕ → ℕ → Type 0

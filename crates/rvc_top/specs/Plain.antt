@@ -32,9 +32,9 @@ is_all All = true
 is_all Turn = false
 is_all (Seed start) = false
 
--- `run` by one worker, all instances in each round, in bursts of 64 firings
+-- `run` by one worker, all instances in each round, in bursts of 64 firings, without growing links
 abbrev pub is_plain : JobText → Bool
-is_plain j = is_run j.verb && (j.workers == 1 && (is_all j.round && (j.burst == 64)))
+is_plain j = is_run j.verb && (j.workers == 1 && (is_all j.round && (j.burst == 64 && (j.grow == 0))))
 
 abbrev pub plain_of : JobText → PlainText
 plain_of j = record { top = j.top; ports = j.ports; trace = j.trace; budget = j.budget }

@@ -2,10 +2,10 @@
 use Rattle.std.specs.Prelude.{◌≡◌, ℕ, List}
 use Rattle.rvc_io.specs.Told.{Told, IsTold}
 use Rattle.rvc_io.specs.Count.{HasRisen}
-use Rattle.cal_model.specs.Meaning.{IsFirstForm}
+use Rattle.first_form.specs.Meaning.{IsFirstForm}
 use Rattle.rvc_top.specs.Plain.{PlainText}
-use Rattle.cal_model.specs.Form.{Form}
-use Rattle.cal_model.specs.declared.ast.Binary.{Binary}
+use Rattle.first_form.specs.Form.{Form}
+use Rattle.first_form.specs.declared.ast.Binary.{Binary}
 use Rattle.first_form.specs.Spelling.{Spells}
 use Rattle.net_model.specs.Trace.{head_text}
 use Rattle.first_runner.specs.Source.{network_of}
@@ -44,13 +44,13 @@ pub record IsPlanned (source : Told) (j : PlainText) (f : Form) (sum : Binary) (
   pub spelled : Spells text f
   pub matched : AreMatched (ports_of f) j.ports
   pub sum_is : f.sum ≡ sum
-  pub head_is : head ≡ head_text (network_of f)
+  pub head_is : head ≡ head_text (network_of f) 0
 
 -- an actor's run is ready
 pub record IsReady (f : Form) (sum : Binary) (head : List ℕ) : Type 0 where
   pub short : IsFirstForm sum
   pub sum_is : f.sum ≡ sum
-  pub head_is : head ≡ head_text (network_of f)
+  pub head_is : head ≡ head_text (network_of f) 0
 
 -- the answers of a run, each fault with the count that rose
 abbrev pub IsPerformed : (feed_faults_old feed_faults faults_old faults : ℕ) → Status → Type 0

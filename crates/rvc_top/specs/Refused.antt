@@ -6,13 +6,14 @@ use Rattle.rvc_io.specs.Library.{max_file_bytes, IsTooLong}
 use Rattle.rvc_io.specs.Count.{HasRisen}
 use Rattle.rvc_base.specs.declared.refusal.Refusal.{Refusal}
 use Rattle.rvc_base.specs.declared.refusal.Rule.{Rule}
+use Rattle.rvc_base.specs.Rules as rules
 use Rattle.rvc_words.specs.Words.{JobText, PortText}
 use Rattle.rvc_top.specs.Plain.{FormatText, PlainText, built, formats}
 use Rattle.rvc_top.specs.Matching.{IsWrongWord, ports_of}
 use Rattle.rvc_top.specs.Formatting.{IsUnprinted}
 use Rattle.rvc_top.specs.Report.{not_built_here}
 use Rattle.first_form.specs.Spelling.{Spells, Breaks}
-use Rattle.cal_model.specs.Form.{Form}
+use Rattle.first_form.specs.Form.{Form}
 
 -- the top is one name, with no `/`, followed by `.cal`
 pub record IsTop (top : List ℕ) : Type 0 where
@@ -38,8 +39,8 @@ pub data IsRefusal (j : PlainText) (source : Told) (misses_old misses_new : ℕ)
   not_built : (IsTop j.top → ⊥) → IsRefusal j source misses_old misses_new not_built_here
   wrong_word : (refusal : Refusal) → HasWrongWord j.ports source refusal → IsRefusal j source misses_old misses_new refusal
   source_breaks : (rule : Rule) (at : ℕ) → BreaksThere source rule at → IsRefusal j source misses_old misses_new (record { rule = rule; place = record { file = 1; offset = at } })
-  no_file : HasRisen misses_old misses_new → IsLacking source → IsRefusal j source misses_old misses_new (record { rule = record { 0 = 801 }; place = record { file = 0; offset = 0 } })
-  too_long : IsTooLong source → IsRefusal j source misses_old misses_new (record { rule = record { 0 = 601 }; place = record { file = 1; offset = max_file_bytes } })
+  no_file : HasRisen misses_old misses_new → IsLacking source → IsRefusal j source misses_old misses_new (record { rule = rules.no_file; place = record { file = 0; offset = 0 } })
+  too_long : IsTooLong source → IsRefusal j source misses_old misses_new (record { rule = rules.file_too_long; place = record { file = 1; offset = max_file_bytes } })
 
 -- the refusals of a source that was read
 pub data IsActorRefusal (j : PlainText) (source : List ℕ) : Refusal → Type 0 where

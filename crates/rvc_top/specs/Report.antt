@@ -1,11 +1,13 @@
 -- The report.
-use Rattle.std.specs.Prelude.{ℕ, ◌≡◌, ◌≢◌, List, ◌++◌, codes, decimal, ◌==◌, if◌then◌else◌, [], Option, None, Some}
+use Rattle.std.specs.Prelude.{ℕ, ◌≡◌, ◌≢◌, List, ◌++◌, codes, decimal, ◌==◌, true, if◌then◌else◌, [], Option, None, Some}
+use Rattle.rvc_io.specs.Channels.{Channels}
 use Rattle.rvc_io.specs.Told.{Told, Untold, Lacking, Holding}
 use Rattle.rvc_base.specs.Refusal.{rule_text}
+use Rattle.rvc_base.specs.Rules.{not_built}
 use Rattle.rvc_base.specs.declared.refusal.Refusal.{Refusal}
 use Rattle.rvc_words.specs.Causes.{cause_name}
 use Rattle.rvc_words.specs.declared.fault.UsageCause.{UsageCause}
-use Rattle.cal_model.specs.Form.{Form}
+use Rattle.first_form.specs.Form.{Form}
 use Rattle.first_form.specs.Spelling.{Spells}
 use Rattle.rvc_words.specs.Words.{PortText}
 use Rattle.rvc_top.specs.Plain.{PlainText}
@@ -59,7 +61,7 @@ abbrev pub refusal_line : Named → Refusal → List ℕ
 refusal_line j r = codes "refused " ++ rule_text r.rule ++ codes " " ++ file_name j r.place.file ++ codes " " ++ decimal r.place.offset ++ line_feed
 
 abbrev pub usage_line : List ℕ
-usage_line = codes "\nrvc VERB TOP [PORT=FILE ..] [--trace FILE] [--workers N] [--round P] [--burst N] [--budget N]\n"
+usage_line = codes "\nrvc VERB TOP [PORT=FILE ..] [--trace FILE] [--workers N] [--round P] [--burst N] [--budget N] [--grow N]\n"
 
 -- the cause, and how the program is used
 abbrev pub usage_text : UsageCause → List ℕ
@@ -67,7 +69,7 @@ usage_text cause = codes "usage " ++ cause_name cause ++ usage_line
 
 -- the refusal of what isn't built, at the command line
 abbrev pub not_built_here : Refusal
-not_built_here = record { rule = record { 0 = 1 }; place = record { file = 0; offset = 0 } }
+not_built_here = record { rule = not_built; place = record { file = 0; offset = 0 } }
 
 abbrev pub not_built_text : List ℕ
 not_built_text = codes "refused Y1 words 0\n"
@@ -126,3 +128,13 @@ pub record IsReportedOf (j : PlainText) (source : Told) (status : Status) (held_
   pub input : List ℕ
   pub is_input : NamesInput source j.ports input status
   pub reported : IsReported (naming j input) status held_old held
+
+-- the three by what is known of the channels
+abbrev pub ReportIs : Named → Status → Channels → Channels → Type 0
+ReportIs j status old new = old.tells ≡ true → IsReported j status (old.held 0) (new.held 0)
+
+abbrev pub PlainReportIs : Status → Channels → Channels → Type 0
+PlainReportIs status old new = old.tells ≡ true → IsReportedPlainly status (old.held 0) (new.held 0)
+
+abbrev pub RunReportIs : PlainText → Told → Status → Channels → Channels → Type 0
+RunReportIs j source status old new = old.tells ≡ true → IsReportedOf j source status (old.held 0) (new.held 0)

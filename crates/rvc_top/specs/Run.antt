@@ -1,5 +1,6 @@
 -- What a run of the top call leaves.
 use Rattle.std.specs.Prelude.{◌≡◌, ℕ, Bool, true, false, List, [], ◌∷◌, ◌++◌, Option, None, Some}
+use Rattle.rvc_io.specs.Channels.{Channels}
 use Rattle.trace_text.specs.declared.line.Line.{Line}
 use Rattle.trace_text.specs.declared.line.Line.TheVariants.{Quiet as QuietLine, Budget as BudgetLine}
 use Rattle.net_model.specs.State.{State}
@@ -7,7 +8,7 @@ use Rattle.net_model.specs.Trace.{Plays, KeepsCapacities, text, bytes_out}
 use Rattle.rvc_words.specs.Words.{PortText}
 use Rattle.rvc_top.specs.Plain.{PlainText}
 use Rattle.rvc_top.specs.Matching.{AreMatched, file_of, ports_of}
-use Rattle.cal_model.specs.Form.{Form}
+use Rattle.first_form.specs.Form.{Form}
 use Rattle.first_form.specs.Spelling.{Spells}
 use Rattle.first_runner.specs.declared.outcome.Counts.{Counts}
 use Rattle.first_runner.specs.Source.{network_of}
@@ -44,9 +45,9 @@ pub record IsRun (ports : List PortText) (source input : List ℕ) (end : Line) 
   pub matched : AreMatched (ports_of form) ports
   pub moves : List Line
   pub last : State (Unit {0})
-  pub plays : Plays (network_of form) (input ∷ []) (moves ++ end ∷ []) last
+  pub plays : Plays (network_of form) 0 (input ∷ []) (moves ++ end ∷ []) last
   pub keeps : KeepsCapacities (network_of form) (input ∷ []) (moves ++ end ∷ [])
-  pub trace_is : trace ≡ text (network_of form) (moves ++ end ∷ [])
+  pub trace_is : trace ≡ text (network_of form) 0 (moves ++ end ∷ [])
   pub output_is : IsWritten (file_of form.output ports) output_open output (bytes_out (network_of form) last 0)
   pub counted : Counted counts (moves ++ end ∷ []) last
 
@@ -66,9 +67,9 @@ pub record IsCutRun (ports : List PortText) (source : List ℕ) (input : Form �
   pub moves : List Line
   pub are_moves : AreMoves moves
   pub last : State (Unit {0})
-  pub plays : Plays (network_of form) (input form ∷ []) moves last
+  pub plays : Plays (network_of form) 0 (input form ∷ []) moves last
   pub keeps : KeepsCapacities (network_of form) (input form ∷ []) moves
-  pub trace_is : trace ≡ text (network_of form) moves
+  pub trace_is : trace ≡ text (network_of form) 0 moves
   pub output_is : IsWritten (file_of form.output ports) output_open output (bytes_out (network_of form) last 0)
 
 -- fronts of what belongs to lines that play, with or without an end
@@ -78,9 +79,9 @@ pub record IsBrokenRun (ports : List PortText) (source : List ℕ) (input : Form
   pub matched : AreMatched (ports_of form) ports
   pub lines : List Line
   pub last : State (Unit {0})
-  pub plays : Plays (network_of form) (input form ∷ []) lines last
+  pub plays : Plays (network_of form) 0 (input form ∷ []) lines last
   pub keeps : KeepsCapacities (network_of form) (input form ∷ []) lines
-  pub trace_front : IsFrontOf trace (text (network_of form) lines)
+  pub trace_front : IsFrontOf trace (text (network_of form) 0 lines)
   pub output_front : output_open ≡ true → IsFrontOf output (bytes_out (network_of form) last 0)
 
 -- What the top call leaves, where the source and the channels are told, and for each actor that the source may be its
@@ -96,3 +97,7 @@ Leaves j source input Done held_old held is_open limit = Unit {0}
 Leaves j source input (Usage cause) held_old held is_open limit = Unit {0}
 Leaves j source input (Refused refusal) held_old held is_open limit = Unit {0}
 Leaves j source input OutOfMemory held_old held is_open limit = Unit {0}
+
+-- the same by what is known of the channels
+abbrev pub LeavesOn : PlainText → (source : List ℕ) → (input : Form → List ℕ) → Status → Channels → Channels → ℕ → Type 0
+LeavesOn j source input status old new limit = Leaves j source input status old.held new.held new.is_open limit

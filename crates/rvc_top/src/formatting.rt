@@ -3,6 +3,7 @@
 ghost use Rattle.std.specs.Prelude.{◌≡◌, ◌≤◌, ◌++◌, ℕ, Bool, true, false, List, [], None, Some, IfOk, IfErr, IsOk, OnOk, length, map, string_bytes};
 ghost use Rattle.std.specs.Result.{IsErrOf};
 ghost use Rattle.rvc_io.specs.Told.{Told};
+ghost use Rattle.rvc_io.specs.Channels.{WriteFails, WritesOnly};
 ghost use Rattle.rvc_io.specs.Count.{HasRisen};
 ghost use Rattle.rvc_base.specs.declared.refusal.Refusal.{Refusal as Denial};
 ghost use Rattle.cal_ast.specs.Tree.{Tree};
@@ -12,14 +13,13 @@ ghost use Rattle.cal_lexer.specs.Lexes.{lexes};
 ghost use Rattle.cal_print.specs.Canon.{canon};
 ghost use Rattle.rvc_words.specs.Words.{job_text, port_text};
 ghost use Rattle.rvc_top.specs.Plain.{built, formats};
-ghost use Rattle.rvc_top.specs.Formatting.{HasFile, IsCanonical, IsDoneOrMemory, IsFile, IsPrinted, IsPrinting, IsRightly, IsText, IsUnprinted};
+ghost use Rattle.rvc_top.specs.Formatting.{HasFile, IsCanonical, IsDoneOrMemory, IsFile, IsPrinting, IsRightly, IsText, IsUnprinted, PrintsFile};
 ghost use Rattle.rvc_top.specs.Matching.{IsWrongWord};
-ghost use Rattle.rvc_top.specs.Outside.{KeepsAll, Reported};
+ghost use Rattle.rvc_top.specs.Outside.{Reports};
 ghost use Rattle.rvc_top.specs.Planned.{IsActorFault, IsPreparing};
-ghost use Rattle.rvc_top.specs.Report.{IsReported, naming_top};
+ghost use Rattle.rvc_top.specs.Report.{ReportIs, naming_top};
 ghost use Rattle.rvc_top.specs.declared.status.ReadAt.{ReadAt as Where};
 
-use crate::matching::UNKNOWN_PORT;
 use crate::preparing::{SOURCE_FILE, read_top};
 use crate::reporting::{Names, REPORT_CHANNEL, report};
 use crate::status::Status;
@@ -28,7 +28,7 @@ use cal_lexer::{Token, lex};
 use cal_parser::parse_file;
 use cal_print::print_file;
 use channel_writer::put_all;
-use rvc_base::{Front, Memory, Place, Refusal};
+use rvc_base::{Front, Memory, Place, Refusal, Rule};
 use rvc_io::{Drains, Failed, Library, MAX_FILE_BYTES};
 use rvc_words::{Job, PortWord, Verb};
 use std::alloc::Global;
@@ -36,7 +36,9 @@ use std::alloc::Global;
 /// Whether a job asks to print a file.
 #[tactic(auto, unfolding(crate::specs::Plain::built, crate::specs::Plain::formats))]
 pub fn is_format(job: &Job) -> bool
-    ensures format { result ≡ true → formats (job_text job.now) ≡ Some (record { top = string_bytes job.now.top; ports = map port_text job.now.ports.items }) }
+    ensures format { result ≡ true
+        → formats (job_text job.now) ≡ Some (record
+        { top = string_bytes job.now.top; ports = map port_text job.now.ports.items }) }
     ensures other { result ≡ false → formats (job_text job.now) ≡ None }
     ensures no_run { result ≡ true → built (job_text job.now) ≡ None }
 {
@@ -51,7 +53,8 @@ fn file_of(alloc: Global, text: &[u8]) -> Result<File, Front>
     requires { length text.now ≤ MAX_FILE_BYTES }
     ensures spelled { IfOk result (λ file. IsFile text.now (file_tree file)) }
     ensures refused { IfErr result (IsRightly SOURCE_FILE text.now) }
-    ensures read { (tree : Tree) → IsFile text.now tree → IfErr result (λ front. front ≡ Front.Memory) }
+    ensures read { (tree : Tree) → IsFile text.now tree
+        → IfErr result (λ front. front ≡ Front.Memory) }
 {
     match lex(alloc, SOURCE_FILE, text) {
         Ok(tokens) => file_in(alloc, text, tokens.as_slice()),
@@ -65,7 +68,8 @@ fn file_in(alloc: Global, text: &[u8], tokens: &[Token]) -> Result<File, Front>
     requires lexed { lexes text.now (plain_tokens tokens.now) }
     ensures spelled { IfOk result (λ file. IsFile text.now (file_tree file)) }
     ensures refused { IfErr result (IsRightly SOURCE_FILE text.now) }
-    ensures read { (tree : Tree) → IsFile text.now tree → IfErr result (λ front. front ≡ Front.Memory) }
+    ensures read { (tree : Tree) → IsFile text.now tree
+        → IfErr result (λ front. front ≡ Front.Memory) }
 {
     parse_file(alloc, SOURCE_FILE, tokens, text.len() as u32)
 }
@@ -80,7 +84,7 @@ fn check_no_words(words: &[PortWord]) -> Result<(), Refusal>
         return Ok(());
     }
     Err(Refusal {
-        rule: UNKNOWN_PORT,
+        rule: Rule::UNKNOWN_PORT,
         place: Place { file: 0, offset: 0 },
     })
 }
@@ -89,9 +93,11 @@ fn check_no_words(words: &[PortWord]) -> Result<(), Refusal>
 fn print_alone(alloc: Global, file: &File, ports: &[PortWord]) -> Result<Vec<u8>, Status>
     ensures printed { IfOk result (λ printed. printed.items ≡ canon (file_tree file.now)) }
     ensures no_ports { OnOk result (map port_text ports.now ≡ []) }
-    ensures refused { (refusal : Denial) → IsErrOf result (Status.Refused refusal) → IsWrongWord [] (map port_text ports.now) refusal }
+    ensures refused { (refusal : Denial) → IsErrOf result (Status.Refused refusal)
+        → IsWrongWord [] (map port_text ports.now) refusal }
     ensures only { IfErr result IsActorFault }
-    ensures complete { map port_text ports.now ≡ [] → IfErr result (λ status. status ≡ Status.OutOfMemory) }
+    ensures complete { map port_text ports.now ≡ []
+        → IfErr result (λ status. status ≡ Status.OutOfMemory) }
 {
     if let Err(refusal) = check_no_words(ports) {
         return Err(Status::Refused(refusal));
@@ -105,10 +111,14 @@ fn print_alone(alloc: Global, file: &File, ports: &[PortWord]) -> Result<Vec<u8>
 /// The canonical text of the file that a text spells.
 fn canonical_of(alloc: Global, text: &[u8], ports: &[PortWord]) -> Result<Vec<u8>, Status>
     requires { length text.now ≤ MAX_FILE_BYTES }
-    ensures printed { (source : Told) → IsText source text.now → IfOk result (λ printed. IsCanonical source (map port_text ports.now) printed.items) }
-    ensures refused { (source : Told) (misses_old misses_new : ℕ) (refusal : Denial) → IsText source text.now → IsErrOf result (Status.Refused refusal) → IsUnprinted (map port_text ports.now) source misses_old misses_new refusal }
+    ensures printed { (source : Told) → IsText source text.now
+        → IfOk result (λ printed. IsCanonical source (map port_text ports.now) printed.items) }
+    ensures refused { (source : Told) (misses_old misses_new : ℕ) (refusal : Denial)
+        → IsText source text.now → IsErrOf result (Status.Refused refusal)
+        → IsUnprinted (map port_text ports.now) source misses_old misses_new refusal }
     ensures only { IfErr result IsActorFault }
-    ensures complete { (tree : Tree) → IsFile text.now tree → map port_text ports.now ≡ [] → IfErr result (λ status. status ≡ Status.OutOfMemory) }
+    ensures complete { (tree : Tree) → IsFile text.now tree → map port_text ports.now ≡ []
+        → IfErr result (λ status. status ≡ Status.OutOfMemory) }
 {
     match file_of(alloc, text) {
         Ok(file) => print_alone(alloc, &file, ports),
@@ -124,11 +134,18 @@ fn canonical_text<L: Library>(
     ports: &[PortWord],
     library: &mut L,
 ) -> Result<Vec<u8>, Status>
-    ensures printed { IfOk result (λ printed. IsCanonical (L.file library.old top.now) (map port_text ports.now) printed.items) }
-    ensures refused { (refusal : Denial) → IsErrOf result (Status.Refused refusal) → IsUnprinted (map port_text ports.now) (L.file library.old top.now) (L.misses library.old) (L.misses library.new) refusal }
-    ensures fault { (place : Where) → IsErrOf result (Status.ReadFault place) → HasRisen (L.faults library.old) (L.faults library.new) }
+    ensures printed { IfOk result (λ printed. IsCanonical (L.file library.old top.now)
+        (map port_text ports.now) printed.items) }
+    ensures refused { (refusal : Denial) → IsErrOf result (Status.Refused refusal)
+        → IsUnprinted (map port_text ports.now) (L.file library.old top.now) (L.misses library.old)
+        (L.misses library.new) refusal }
+    ensures fault { (place : Where) → IsErrOf result (Status.ReadFault place)
+        → HasRisen (L.faults library.old) (L.faults library.new) }
     ensures only { IfErr result IsPreparing }
-    ensures complete { (tree : Tree) → HasFile (L.file library.old top.now) (map port_text ports.now) tree → (HasRisen (L.faults library.old) (L.faults library.new) → ⊥) → IfErr result (λ status. status ≡ Status.OutOfMemory) }
+    ensures complete { (tree : Tree)
+        → HasFile (L.file library.old top.now) (map port_text ports.now) tree
+        → (HasRisen (L.faults library.old) (L.faults library.new) → ⊥)
+        → IfErr result (λ status. status ≡ Status.OutOfMemory) }
 {
     match read_top(alloc, top, library) {
         Ok(text) => canonical_of(alloc, text.as_slice(), ports),
@@ -138,9 +155,10 @@ fn canonical_text<L: Library>(
 
 /// Puts a text in place of a report.
 fn put_printed<D: Drains>(printed: &[u8], drains: &mut D) -> Status
-    requires { D.is_open drains.old REPORT_CHANNEL ≡ true }
-    ensures reported { Reported Status.Done result (D.tells drains.old) (D.faults drains.old) (D.faults drains.new) (D.held drains.old REPORT_CHANNEL) (D.held drains.new REPORT_CHANNEL) printed.now }
-    ensures keeps { KeepsAll (D.tells drains.old) (D.tells drains.new) (D.held drains.old) (D.held drains.new) (D.is_open drains.old) (D.is_open drains.new) (D.faults drains.old) (D.faults drains.new) }
+    requires { (D.channels drains.old).is_open REPORT_CHANNEL ≡ true }
+    ensures reported { Reports Status.Done result (D.channels drains.old) (D.channels drains.new)
+        printed.now }
+    ensures keeps { WritesOnly D.channels drains.old drains.new 0 }
 {
     match put_all(drains, REPORT_CHANNEL, printed) {
         Ok(()) => Status::Done,
@@ -165,13 +183,22 @@ fn format_file<L: Library, D: Drains>(
     library: &mut L,
     drains: &mut D,
 ) -> Status
-    requires { D.is_open drains.old REPORT_CHANNEL ≡ true }
-    ensures formatted { result ≡ Status.Done → IsPrinted (L.file library.old top.now) (map port_text ports.now) (D.tells drains.old) (D.held drains.old 0) (D.held drains.new 0) }
-    ensures refused { (refusal : Denial) → result ≡ Status.Refused refusal → IsUnprinted (map port_text ports.now) (L.file library.old top.now) (L.misses library.old) (L.misses library.new) refusal }
-    ensures complete { (tree : Tree) → HasFile (L.file library.old top.now) (map port_text ports.now) tree → (HasRisen (L.faults library.old) (L.faults library.new) → ⊥) → (HasRisen (D.faults drains.old) (D.faults drains.new) → ⊥) → IsDoneOrMemory result }
-    ensures faults { IsPrinting (L.faults library.old) (L.faults library.new) (D.faults drains.old) (D.faults drains.new) result }
-    ensures reported { D.tells drains.old ≡ true → IsReported (naming_top top.now) result (D.held drains.old 0) (D.held drains.new 0) }
-    ensures keeps { KeepsAll (D.tells drains.old) (D.tells drains.new) (D.held drains.old) (D.held drains.new) (D.is_open drains.old) (D.is_open drains.new) (D.faults drains.old) (D.faults drains.new) }
+    requires { (D.channels drains.old).is_open REPORT_CHANNEL ≡ true }
+    ensures formatted { result ≡ Status.Done
+        → PrintsFile (L.file library.old top.now) (map port_text ports.now) (D.channels drains.old)
+        (D.channels drains.new) }
+    ensures refused { (refusal : Denial) → result ≡ Status.Refused refusal
+        → IsUnprinted (map port_text ports.now) (L.file library.old top.now) (L.misses library.old)
+        (L.misses library.new) refusal }
+    ensures complete { (tree : Tree)
+        → HasFile (L.file library.old top.now) (map port_text ports.now) tree
+        → (HasRisen (L.faults library.old) (L.faults library.new) → ⊥)
+        → (WriteFails D.channels drains.old drains.new → ⊥) → IsDoneOrMemory result }
+    ensures faults { IsPrinting (L.faults library.old) (L.faults library.new)
+        (D.channels drains.old).faults (D.channels drains.new).faults result }
+    ensures reported { ReportIs (naming_top top.now) result (D.channels drains.old)
+        (D.channels drains.new) }
+    ensures keeps { WritesOnly D.channels drains.old drains.new 0 }
 {
     match canonical_text(alloc, top, ports, library) {
         Ok(printed) => put_printed(printed.as_slice(), drains),
@@ -186,13 +213,24 @@ pub fn format_job<L: Library, D: Drains>(
     library: &mut L,
     drains: &mut D,
 ) -> Status
-    requires { D.is_open drains.old REPORT_CHANNEL ≡ true }
-    ensures formatted { result ≡ Status.Done → IsPrinted (L.file library.old (string_bytes job.now.top)) (map port_text job.now.ports.items) (D.tells drains.old) (D.held drains.old 0) (D.held drains.new 0) }
-    ensures refused { (refusal : Denial) → result ≡ Status.Refused refusal → IsUnprinted (map port_text job.now.ports.items) (L.file library.old (string_bytes job.now.top)) (L.misses library.old) (L.misses library.new) refusal }
-    ensures complete { (tree : Tree) → HasFile (L.file library.old (string_bytes job.now.top)) (map port_text job.now.ports.items) tree → (HasRisen (L.faults library.old) (L.faults library.new) → ⊥) → (HasRisen (D.faults drains.old) (D.faults drains.new) → ⊥) → IsDoneOrMemory result }
-    ensures faults { IsPrinting (L.faults library.old) (L.faults library.new) (D.faults drains.old) (D.faults drains.new) result }
-    ensures reported { D.tells drains.old ≡ true → IsReported (naming_top (string_bytes job.now.top)) result (D.held drains.old 0) (D.held drains.new 0) }
-    ensures keeps { KeepsAll (D.tells drains.old) (D.tells drains.new) (D.held drains.old) (D.held drains.new) (D.is_open drains.old) (D.is_open drains.new) (D.faults drains.old) (D.faults drains.new) }
+    requires { (D.channels drains.old).is_open REPORT_CHANNEL ≡ true }
+    ensures formatted { result ≡ Status.Done
+        → PrintsFile (L.file library.old (string_bytes job.now.top))
+        (map port_text job.now.ports.items) (D.channels drains.old) (D.channels drains.new) }
+    ensures refused { (refusal : Denial) → result ≡ Status.Refused refusal
+        → IsUnprinted (map port_text job.now.ports.items)
+        (L.file library.old (string_bytes job.now.top)) (L.misses library.old)
+        (L.misses library.new) refusal }
+    ensures complete { (tree : Tree)
+        → HasFile (L.file library.old (string_bytes job.now.top))
+        (map port_text job.now.ports.items) tree
+        → (HasRisen (L.faults library.old) (L.faults library.new) → ⊥)
+        → (WriteFails D.channels drains.old drains.new → ⊥) → IsDoneOrMemory result }
+    ensures faults { IsPrinting (L.faults library.old) (L.faults library.new)
+        (D.channels drains.old).faults (D.channels drains.new).faults result }
+    ensures reported { ReportIs (naming_top (string_bytes job.now.top)) result
+        (D.channels drains.old) (D.channels drains.new) }
+    ensures keeps { WritesOnly D.channels drains.old drains.new 0 }
 {
     format_file(
         alloc,

@@ -1,19 +1,13 @@
 //! Which ports the port words name.
 
 ghost use Rattle.std.specs.Prelude.{◌≡◌, ◌<◌, ◌≤◌, ℕ, IfOk, IfErr, OnOk, map, length, take, option_map, string_bytes};
-ghost use Rattle.cal_model.specs.Form.{form_of};
+ghost use Rattle.first_form.specs.Form.{form_of};
 ghost use Rattle.rvc_words.specs.Words.{port_text};
 ghost use Rattle.rvc_top.specs.Matching.{AreMatched, Fits, IsWrongWord, file_of, is_named, is_port, ports_of};
 
-use cal_model::ast::Actor;
+use first_form::ast::Actor;
 use rvc_base::{Place, Refusal, Rule};
 use rvc_words::PortWord;
-
-/// A port word names no port that the command opens.
-pub const UNKNOWN_PORT: Rule = Rule(901);
-
-/// A port word names a port that an earlier one names.
-pub const PORT_TWICE: Rule = Rule(902);
 
 /// The files of an actor's ports, as far as port words name them.
 #[derive(Clone, Copy)]
@@ -25,10 +19,14 @@ pub struct Files<'a> {
 /// The files that words give an actor's ports. An error names the first word that names no port, or a port that a
 /// word before it names.
 pub fn match_words<'a>(words: &'a [PortWord], actor: &Actor) -> Result<Files<'a>, Refusal>
-    ensures matched { OnOk result (AreMatched (ports_of (form_of actor.now)) (map port_text words.now)) }
-    ensures input { IfOk result (λ files. option_map (λ file. file.now) files.input ≡ file_of (string_bytes actor.now.input) (map port_text words.now)) }
-    ensures output { IfOk result (λ files. option_map (λ file. file.now) files.output ≡ file_of (string_bytes actor.now.output) (map port_text words.now)) }
-    ensures wrong { IfErr result (IsWrongWord (ports_of (form_of actor.now)) (map port_text words.now)) }
+    ensures matched { OnOk result (AreMatched (ports_of (form_of actor.now))
+        (map port_text words.now)) }
+    ensures input { IfOk result (λ files. option_map (λ file. file.now) files.input
+        ≡ file_of (string_bytes actor.now.input) (map port_text words.now)) }
+    ensures output { IfOk result (λ files. option_map (λ file. file.now) files.output
+        ≡ file_of (string_bytes actor.now.output) (map port_text words.now)) }
+    ensures wrong { IfErr result (IsWrongWord (ports_of (form_of actor.now))
+        (map port_text words.now)) }
 {
     check_words(words, actor)?;
     Ok(Files {
@@ -39,15 +37,17 @@ pub fn match_words<'a>(words: &'a [PortWord], actor: &Actor) -> Result<Files<'a>
 
 /// An error names the first word that names no port, or a port that a word before it names.
 fn check_words(words: &[PortWord], actor: &Actor) -> Result<(), Refusal>
-    ensures matched { OnOk result (AreMatched (ports_of (form_of actor.now)) (map port_text words.now)) }
-    ensures wrong { IfErr result (IsWrongWord (ports_of (form_of actor.now)) (map port_text words.now)) }
+    ensures matched { OnOk result (AreMatched (ports_of (form_of actor.now))
+        (map port_text words.now)) }
+    ensures wrong { IfErr result (IsWrongWord (ports_of (form_of actor.now))
+        (map port_text words.now)) }
 {
     for (number, word) in words.iter().enumerate() {
         if !is_port(word.name.as_str(), actor) {
-            return Err(wrong(UNKNOWN_PORT, number as u32));
+            return Err(wrong(Rule::UNKNOWN_PORT, number as u32));
         }
         if is_named(word.name.as_str(), &words[..number]) {
-            return Err(wrong(PORT_TWICE, number as u32));
+            return Err(wrong(Rule::PORT_TWICE, number as u32));
         }
     }
     Ok(())

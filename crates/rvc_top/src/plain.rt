@@ -37,6 +37,7 @@ pub fn plain_run(job: Job) -> Option<PlainRun>
         round: _,
         burst: _,
         budget,
+        grow: _,
     } = job;
     Some(PlainRun {
         top,
@@ -46,11 +47,11 @@ pub fn plain_run(job: Job) -> Option<PlainRun>
     })
 }
 
-/// Whether a job is `run` by one worker, all instances in each round, in bursts of 64 firings.
+/// Whether a job is `run` by one worker, all instances in each round, in bursts of 64 firings, without growing links.
 fn is_plain(job: &Job) -> bool
     ensures { result ≡ is_plain (job_text job.now) }
 {
-    is_run(job.verb) && job.workers == 1 && is_all(job.round) && job.burst == 64
+    is_run(job.verb) && job.workers == 1 && is_all(job.round) && job.burst == 64 && job.grow == 0
 }
 
 fn is_run(verb: Verb) -> bool

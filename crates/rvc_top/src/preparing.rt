@@ -3,7 +3,7 @@
 ghost use Rattle.std.specs.Prelude.{◌≡◌, ◌==◌, not, ◌≤◌, ◌^◌, ◌<◌, ◌↔◌, ℕ, Bool, true, List, Option, Some, None, Err, IfOk, IfErr, IsTrue, OnOk, OnErr, string_bytes, length, map, option_map, MatchResult};
 ghost use Rattle.rvc_io.specs.Count.{HasRisen};
 ghost use Rattle.rvc_io.specs.Told.{IsTold};
-ghost use Rattle.cal_model.specs.Form.{form_of};
+ghost use Rattle.first_form.specs.Form.{form_of};
 ghost use Rattle.net_model.specs.Trace.{head_text};
 ghost use Rattle.first_runner.specs.Source.{network_of};
 ghost use Rattle.first_form.specs.Spelling.{Spells};
@@ -22,7 +22,7 @@ use crate::matching::{Files, match_words};
 use crate::plain::PlainRun;
 use crate::status::{ReadAt, Status};
 use arrayvec::ArrayVec;
-use cal_model::ast::Actor;
+use first_form::ast::Actor;
 use first_form::read_form;
 use first_runner::Runner;
 use rvc_base::{Front, Memory, Place, Refusal, Rule};
@@ -47,7 +47,11 @@ pub struct Plan<'a> {
 
 /// A refusal of the command line.
 fn refused_words(rule: Rule) -> Status
-    ensures { result ≡ Status.Refused (record { rule = rule; place = record { file = 0; offset = 0 } }) }
+    ensures { result ≡ Status.Refused (record {
+      rule = rule;
+      place = record
+          { file = 0; offset = 0 };
+    }) }
 {
     Status::Refused(Refusal {
         rule,
@@ -57,7 +61,11 @@ fn refused_words(rule: Rule) -> Status
 
 /// A refusal of the source.
 fn refused_source(rule: Rule, offset: u32) -> Status
-    ensures { result ≡ Status.Refused (record { rule = rule; place = record { file = 1; offset = offset } }) }
+    ensures { result ≡ Status.Refused (record {
+      rule = rule;
+      place = record
+          { file = 1; offset = offset };
+    }) }
 {
     Status::Refused(Refusal {
         rule,
@@ -88,8 +96,11 @@ fn is_top(top: &str) -> bool
 /// Reads the file of this name.
 pub fn read_top<L: Library>(alloc: Global, top: &str, library: &mut L) -> Result<Vec<u8>, Status>
     ensures found { IfOk result (λ source. IsText (L.file library.old top.now) source.items) }
-    ensures refused { (refusal : Denial) → IsErrOf result (Status.Refused refusal) → IsUnread (L.file library.old top.now) (L.misses library.old) (L.misses library.new) refusal }
-    ensures fault { (place : Where) → IsErrOf result (Status.ReadFault place) → HasRisen (L.faults library.old) (L.faults library.new) }
+    ensures refused { (refusal : Denial) → IsErrOf result (Status.Refused refusal)
+        → IsUnread (L.file library.old top.now) (L.misses library.old) (L.misses library.new)
+        refusal }
+    ensures fault { (place : Where) → IsErrOf result (Status.ReadFault place)
+        → HasRisen (L.faults library.old) (L.faults library.new) }
     ensures only { IfErr result IsPreparing }
     ensures misses_stay { L.misses library.old ≤ L.misses library.new }
     ensures faults_stay { L.faults library.old ≤ L.faults library.new }
@@ -112,10 +123,14 @@ pub fn read_top<L: Library>(alloc: Global, top: &str, library: &mut L) -> Result
 
 /// Reads the source of the job's top.
 fn source_of<L: Library>(alloc: Global, job: &PlainRun, library: &mut L) -> Result<Vec<u8>, Status>
-    ensures found { IfOk result (λ source. IsTold (L.file library.old (string_bytes job.now.top)) source.items) }
+    ensures found { IfOk result (λ source. IsTold (L.file library.old (string_bytes job.now.top))
+        source.items) }
     ensures short { IfOk result (λ source. length source.items ≤ MAX_FILE_BYTES) }
-    ensures refused { (refusal : Denial) → IsErrOf result (Status.Refused refusal) → IsRefusal (plain_text job.now) (L.file library.old (string_bytes job.now.top)) (L.misses library.old) (L.misses library.new) refusal }
-    ensures fault { (place : Where) → IsErrOf result (Status.ReadFault place) → HasRisen (L.faults library.old) (L.faults library.new) }
+    ensures refused { (refusal : Denial) → IsErrOf result (Status.Refused refusal)
+        → IsRefusal (plain_text job.now) (L.file library.old (string_bytes job.now.top))
+        (L.misses library.old) (L.misses library.new) refusal }
+    ensures fault { (place : Where) → IsErrOf result (Status.ReadFault place)
+        → HasRisen (L.faults library.old) (L.faults library.new) }
     ensures only { IfErr result IsPreparing }
     ensures misses_stay { L.misses library.old ≤ L.misses library.new }
     ensures faults_stay { L.faults library.old ≤ L.faults library.new }
@@ -134,7 +149,8 @@ fn source_of<L: Library>(alloc: Global, job: &PlainRun, library: &mut L) -> Resu
 fn actor_of(alloc: Global, source: &[u8]) -> Result<Actor, Status>
     requires { length source.now ≤ MAX_FILE_BYTES }
     ensures spelled { IfOk result (λ actor. Spells source.now (form_of actor)) }
-    ensures refused { (j : PlainText) (refusal : Denial) → IsErrOf result (Status.Refused refusal) → IsActorRefusal j source.now refusal }
+    ensures refused { (j : PlainText) (refusal : Denial) → IsErrOf result (Status.Refused refusal)
+        → IsActorRefusal j source.now refusal }
     ensures only { IfErr result IsActorFault }
 {
     match read_form(alloc, SOURCE_FILE, source) {
@@ -146,10 +162,14 @@ fn actor_of(alloc: Global, source: &[u8]) -> Result<Actor, Status>
 
 /// The files that words give an actor's ports.
 fn files_of<'a>(words: &'a [PortWord], actor: &Actor) -> Result<Files<'a>, Status>
-    ensures matched { OnOk result (AreMatched (ports_of (form_of actor.now)) (map port_text words.now)) }
-    ensures input { IfOk result (λ files. option_map (λ file. file.now) files.input ≡ file_of (string_bytes actor.now.input) (map port_text words.now)) }
-    ensures output { IfOk result (λ files. option_map (λ file. file.now) files.output ≡ file_of (string_bytes actor.now.output) (map port_text words.now)) }
-    ensures refused { (refusal : Denial) → IsErrOf result (Status.Refused refusal) → IsWrongWord (ports_of (form_of actor.now)) (map port_text words.now) refusal }
+    ensures matched { OnOk result (AreMatched (ports_of (form_of actor.now))
+        (map port_text words.now)) }
+    ensures input { IfOk result (λ files. option_map (λ file. file.now) files.input
+        ≡ file_of (string_bytes actor.now.input) (map port_text words.now)) }
+    ensures output { IfOk result (λ files. option_map (λ file. file.now) files.output
+        ≡ file_of (string_bytes actor.now.output) (map port_text words.now)) }
+    ensures refused { (refusal : Denial) → IsErrOf result (Status.Refused refusal)
+        → IsWrongWord (ports_of (form_of actor.now)) (map port_text words.now) refusal }
     ensures only { IfErr result IsActorFault }
 {
     match match_words(words, actor) {
@@ -160,13 +180,14 @@ fn files_of<'a>(words: &'a [PortWord], actor: &Actor) -> Result<Files<'a>, Statu
 
 /// The text of an actor's trace before its first event.
 fn head_of(alloc: Global, actor: &Actor) -> Result<Vec<u8>, Memory>
-    ensures { IfOk result (λ head. head.items ≡ head_text (network_of (form_of actor.now))) }
+    ensures { IfOk result (λ head. head.items ≡ head_text (network_of (form_of actor.now)) 0) }
 {
     let mut first = ArrayVec::<u8, 64>::new();
     write_line(
         &Line::Header {
             instances: 1,
             links: 2,
+            grow: 0,
         },
         &mut first,
     );
@@ -187,11 +208,17 @@ pub fn prepare<'a, L: Library>(
     job: &'a PlainRun,
     library: &mut L,
 ) -> Result<Plan<'a>, Status>
-    ensures planned { IfOk result (λ plan. IsPlanned (L.file library.old (string_bytes job.now.top)) (plain_text job.now) (form_of plan.actor) plan.runner plan.head.items) }
-    ensures input { IfOk result (λ plan. option_map (λ file. file.now) plan.files.input ≡ file_of (string_bytes plan.actor.input) (plain_text job.now).ports) }
-    ensures output { IfOk result (λ plan. option_map (λ file. file.now) plan.files.output ≡ file_of (string_bytes plan.actor.output) (plain_text job.now).ports) }
-    ensures refused { (refusal : Denial) → IsErrOf result (Status.Refused refusal) → IsRefusal (plain_text job.now) (L.file library.old (string_bytes job.now.top)) (L.misses library.old) (L.misses library.new) refusal }
-    ensures fault { (place : Where) → IsErrOf result (Status.ReadFault place) → HasRisen (L.faults library.old) (L.faults library.new) }
+    ensures planned { IfOk result (λ plan. IsPlanned (L.file library.old (string_bytes job.now.top))
+        (plain_text job.now) (form_of plan.actor) plan.runner plan.head.items) }
+    ensures input { IfOk result (λ plan. option_map (λ file. file.now) plan.files.input
+        ≡ file_of (string_bytes plan.actor.input) (plain_text job.now).ports) }
+    ensures output { IfOk result (λ plan. option_map (λ file. file.now) plan.files.output
+        ≡ file_of (string_bytes plan.actor.output) (plain_text job.now).ports) }
+    ensures refused { (refusal : Denial) → IsErrOf result (Status.Refused refusal)
+        → IsRefusal (plain_text job.now) (L.file library.old (string_bytes job.now.top))
+        (L.misses library.old) (L.misses library.new) refusal }
+    ensures fault { (place : Where) → IsErrOf result (Status.ReadFault place)
+        → HasRisen (L.faults library.old) (L.faults library.new) }
     ensures only { IfErr result IsPreparing }
 {
     let source = source_of(alloc, job, library)?;

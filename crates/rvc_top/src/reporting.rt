@@ -1,17 +1,16 @@
 //! The report.
 
 ghost use Rattle.std.specs.Prelude.{◌≡◌, ◌≢◌, ◌≤◌, ◌+◌, ◌++◌, ◌⊎◌, ℕ, Bool, true, List, Option, Some, None, OnOk, OnErr, decimal, string_bytes, length};
-ghost use Rattle.rvc_io.specs.Count.{HasRisen};
-ghost use Rattle.rvc_io.specs.Elsewhere.{SameElsewhere};
+ghost use Rattle.rvc_io.specs.Channels.{Appends, WriteFails, WritesOnly};
 ghost use Rattle.rvc_top.specs.Naming.{names_text};
 ghost use Rattle.rvc_top.specs.Report.{run_lines, counts_lines, input_line, output_line, last_line, refusal_line, file_name, usage_text, memory_text, not_built_here, not_built_text};
 ghost use Rattle.trace_text.specs.Text.{line_feed};
-ghost use Rattle.cal_model.specs.Form.{form_of};
-ghost use Rattle.rvc_top.specs.Outside.{KeepsAll, Reported};
+ghost use Rattle.first_form.specs.Form.{form_of};
+ghost use Rattle.rvc_top.specs.Outside.{Reports};
 
 use crate::status::{ReadAt, Status};
-use cal_model::ast::Actor;
 use channel_writer::put_all;
+use first_form::ast::Actor;
 use first_runner::Counts;
 use itoa::Buffer;
 use rvc_base::{Place, Refusal, Rule};
@@ -30,20 +29,22 @@ pub struct Names<'a> {
 
 /// Puts a text behind the report so far.
 fn put<D: Drains>(text: &[u8], drains: &mut D) -> Result<(), Failed>
-    requires { D.is_open drains.old REPORT_CHANNEL ≡ true }
-    ensures reported { OnOk result (D.tells drains.old ≡ true → D.held drains.new REPORT_CHANNEL ≡ D.held drains.old REPORT_CHANNEL ++ text.now) }
-    ensures failed { OnErr result (HasRisen (D.faults drains.old) (D.faults drains.new)) }
-    ensures keeps { KeepsAll (D.tells drains.old) (D.tells drains.new) (D.held drains.old) (D.held drains.new) (D.is_open drains.old) (D.is_open drains.new) (D.faults drains.old) (D.faults drains.new) }
+    requires { (D.channels drains.old).is_open REPORT_CHANNEL ≡ true }
+    ensures reported { OnOk result (Appends REPORT_CHANNEL (D.channels drains.old)
+        (D.channels drains.new) text.now) }
+    ensures failed { OnErr result (WriteFails D.channels drains.old drains.new) }
+    ensures keeps { WritesOnly D.channels drains.old drains.new 0 }
 {
     put_all(drains, REPORT_CHANNEL, text)
 }
 
 /// Puts a number behind the report so far.
 fn put_number<D: Drains>(number: u64, drains: &mut D) -> Result<(), Failed>
-    requires { D.is_open drains.old REPORT_CHANNEL ≡ true }
-    ensures reported { OnOk result (D.tells drains.old ≡ true → D.held drains.new REPORT_CHANNEL ≡ D.held drains.old REPORT_CHANNEL ++ decimal number) }
-    ensures failed { OnErr result (HasRisen (D.faults drains.old) (D.faults drains.new)) }
-    ensures keeps { KeepsAll (D.tells drains.old) (D.tells drains.new) (D.held drains.old) (D.held drains.new) (D.is_open drains.old) (D.is_open drains.new) (D.faults drains.old) (D.faults drains.new) }
+    requires { (D.channels drains.old).is_open REPORT_CHANNEL ≡ true }
+    ensures reported { OnOk result (Appends REPORT_CHANNEL (D.channels drains.old)
+        (D.channels drains.new) (decimal number)) }
+    ensures failed { OnErr result (WriteFails D.channels drains.old drains.new) }
+    ensures keeps { WritesOnly D.channels drains.old drains.new 0 }
 {
     let mut buffer = Buffer::new();
     put(buffer.format(number).as_bytes(), drains)
@@ -56,10 +57,11 @@ fn put_numbered<D: Drains>(
     after: &[u8],
     drains: &mut D,
 ) -> Result<(), Failed>
-    requires { D.is_open drains.old REPORT_CHANNEL ≡ true }
-    ensures reported { OnOk result (D.tells drains.old ≡ true → D.held drains.new REPORT_CHANNEL ≡ D.held drains.old REPORT_CHANNEL ++ (before.now ++ decimal number ++ after.now)) }
-    ensures failed { OnErr result (HasRisen (D.faults drains.old) (D.faults drains.new)) }
-    ensures keeps { KeepsAll (D.tells drains.old) (D.tells drains.new) (D.held drains.old) (D.held drains.new) (D.is_open drains.old) (D.is_open drains.new) (D.faults drains.old) (D.faults drains.new) }
+    requires { (D.channels drains.old).is_open REPORT_CHANNEL ≡ true }
+    ensures reported { OnOk result (Appends REPORT_CHANNEL (D.channels drains.old)
+        (D.channels drains.new) (before.now ++ decimal number ++ after.now)) }
+    ensures failed { OnErr result (WriteFails D.channels drains.old drains.new) }
+    ensures keeps { WritesOnly D.channels drains.old drains.new 0 }
 {
     put(before, drains)?;
     put_number(number, drains)?;
@@ -68,10 +70,11 @@ fn put_numbered<D: Drains>(
 
 /// Puts the lines of a run, but for the last one.
 fn put_run_lines<D: Drains>(actor: &Actor, counts: &Counts, drains: &mut D) -> Result<(), Failed>
-    requires { D.is_open drains.old REPORT_CHANNEL ≡ true }
-    ensures reported { OnOk result (D.tells drains.old ≡ true → D.held drains.new REPORT_CHANNEL ≡ D.held drains.old REPORT_CHANNEL ++ run_lines (form_of actor.now) counts.now) }
-    ensures failed { OnErr result (HasRisen (D.faults drains.old) (D.faults drains.new)) }
-    ensures keeps { KeepsAll (D.tells drains.old) (D.tells drains.new) (D.held drains.old) (D.held drains.new) (D.is_open drains.old) (D.is_open drains.new) (D.faults drains.old) (D.faults drains.new) }
+    requires { (D.channels drains.old).is_open REPORT_CHANNEL ≡ true }
+    ensures reported { OnOk result (Appends REPORT_CHANNEL (D.channels drains.old)
+        (D.channels drains.new) (run_lines (form_of actor.now) counts.now)) }
+    ensures failed { OnErr result (WriteFails D.channels drains.old drains.new) }
+    ensures keeps { WritesOnly D.channels drains.old drains.new 0 }
 {
     put_counts(counts, drains)?;
     put_input(actor, counts, drains)?;
@@ -79,10 +82,11 @@ fn put_run_lines<D: Drains>(actor: &Actor, counts: &Counts, drains: &mut D) -> R
 }
 
 fn put_counts<D: Drains>(counts: &Counts, drains: &mut D) -> Result<(), Failed>
-    requires { D.is_open drains.old REPORT_CHANNEL ≡ true }
-    ensures reported { OnOk result (D.tells drains.old ≡ true → D.held drains.new REPORT_CHANNEL ≡ D.held drains.old REPORT_CHANNEL ++ counts_lines counts.now) }
-    ensures failed { OnErr result (HasRisen (D.faults drains.old) (D.faults drains.new)) }
-    ensures keeps { KeepsAll (D.tells drains.old) (D.tells drains.new) (D.held drains.old) (D.held drains.new) (D.is_open drains.old) (D.is_open drains.new) (D.faults drains.old) (D.faults drains.new) }
+    requires { (D.channels drains.old).is_open REPORT_CHANNEL ≡ true }
+    ensures reported { OnOk result (Appends REPORT_CHANNEL (D.channels drains.old)
+        (D.channels drains.new) (counts_lines counts.now)) }
+    ensures failed { OnErr result (WriteFails D.channels drains.old drains.new) }
+    ensures keeps { WritesOnly D.channels drains.old drains.new 0 }
 {
     put_numbered(
         b"instances 1\nlinks 2\nfirings ",
@@ -94,10 +98,11 @@ fn put_counts<D: Drains>(counts: &Counts, drains: &mut D) -> Result<(), Failed>
 }
 
 fn put_input<D: Drains>(actor: &Actor, counts: &Counts, drains: &mut D) -> Result<(), Failed>
-    requires { D.is_open drains.old REPORT_CHANNEL ≡ true }
-    ensures reported { OnOk result (D.tells drains.old ≡ true → D.held drains.new REPORT_CHANNEL ≡ D.held drains.old REPORT_CHANNEL ++ input_line (form_of actor.now) counts.now) }
-    ensures failed { OnErr result (HasRisen (D.faults drains.old) (D.faults drains.new)) }
-    ensures keeps { KeepsAll (D.tells drains.old) (D.tells drains.new) (D.held drains.old) (D.held drains.new) (D.is_open drains.old) (D.is_open drains.new) (D.faults drains.old) (D.faults drains.new) }
+    requires { (D.channels drains.old).is_open REPORT_CHANNEL ≡ true }
+    ensures reported { OnOk result (Appends REPORT_CHANNEL (D.channels drains.old)
+        (D.channels drains.new) (input_line (form_of actor.now) counts.now)) }
+    ensures failed { OnErr result (WriteFails D.channels drains.old drains.new) }
+    ensures keeps { WritesOnly D.channels drains.old drains.new 0 }
 {
     put(b"in ", drains)?;
     put(actor.input.as_bytes(), drains)?;
@@ -105,10 +110,11 @@ fn put_input<D: Drains>(actor: &Actor, counts: &Counts, drains: &mut D) -> Resul
 }
 
 fn put_output<D: Drains>(actor: &Actor, counts: &Counts, drains: &mut D) -> Result<(), Failed>
-    requires { D.is_open drains.old REPORT_CHANNEL ≡ true }
-    ensures reported { OnOk result (D.tells drains.old ≡ true → D.held drains.new REPORT_CHANNEL ≡ D.held drains.old REPORT_CHANNEL ++ output_line (form_of actor.now) counts.now) }
-    ensures failed { OnErr result (HasRisen (D.faults drains.old) (D.faults drains.new)) }
-    ensures keeps { KeepsAll (D.tells drains.old) (D.tells drains.new) (D.held drains.old) (D.held drains.new) (D.is_open drains.old) (D.is_open drains.new) (D.faults drains.old) (D.faults drains.new) }
+    requires { (D.channels drains.old).is_open REPORT_CHANNEL ≡ true }
+    ensures reported { OnOk result (Appends REPORT_CHANNEL (D.channels drains.old)
+        (D.channels drains.new) (output_line (form_of actor.now) counts.now)) }
+    ensures failed { OnErr result (WriteFails D.channels drains.old drains.new) }
+    ensures keeps { WritesOnly D.channels drains.old drains.new 0 }
 {
     put(b"out ", drains)?;
     put(actor.output.as_bytes(), drains)?;
@@ -117,10 +123,11 @@ fn put_output<D: Drains>(actor: &Actor, counts: &Counts, drains: &mut D) -> Resu
 
 /// Puts a text, a name and the end of the line.
 fn put_named<D: Drains>(before: &[u8], name: &[u8], drains: &mut D) -> Result<(), Failed>
-    requires { D.is_open drains.old REPORT_CHANNEL ≡ true }
-    ensures reported { OnOk result (D.tells drains.old ≡ true → D.held drains.new REPORT_CHANNEL ≡ D.held drains.old REPORT_CHANNEL ++ (before.now ++ name.now ++ line_feed)) }
-    ensures failed { OnErr result (HasRisen (D.faults drains.old) (D.faults drains.new)) }
-    ensures keeps { KeepsAll (D.tells drains.old) (D.tells drains.new) (D.held drains.old) (D.held drains.new) (D.is_open drains.old) (D.is_open drains.new) (D.faults drains.old) (D.faults drains.new) }
+    requires { (D.channels drains.old).is_open REPORT_CHANNEL ≡ true }
+    ensures reported { OnOk result (Appends REPORT_CHANNEL (D.channels drains.old)
+        (D.channels drains.new) (before.now ++ name.now ++ line_feed)) }
+    ensures failed { OnErr result (WriteFails D.channels drains.old drains.new) }
+    ensures keeps { WritesOnly D.channels drains.old drains.new 0 }
 {
     put(before, drains)?;
     put(name, drains)?;
@@ -132,10 +139,11 @@ fn put_refusal<D: Drains>(
     names: &Names<'_>,
     drains: &mut D,
 ) -> Result<(), Failed>
-    requires { D.is_open drains.old REPORT_CHANNEL ≡ true }
-    ensures reported { OnOk result (D.tells drains.old ≡ true → D.held drains.new REPORT_CHANNEL ≡ D.held drains.old REPORT_CHANNEL ++ refusal_line (names_text names.now) refusal.now) }
-    ensures failed { OnErr result (HasRisen (D.faults drains.old) (D.faults drains.new)) }
-    ensures keeps { KeepsAll (D.tells drains.old) (D.tells drains.new) (D.held drains.old) (D.held drains.new) (D.is_open drains.old) (D.is_open drains.new) (D.faults drains.old) (D.faults drains.new) }
+    requires { (D.channels drains.old).is_open REPORT_CHANNEL ≡ true }
+    ensures reported { OnOk result (Appends REPORT_CHANNEL (D.channels drains.old)
+        (D.channels drains.new) (refusal_line (names_text names.now) refusal.now)) }
+    ensures failed { OnErr result (WriteFails D.channels drains.old drains.new) }
+    ensures keeps { WritesOnly D.channels drains.old drains.new 0 }
 {
     put(b"refused ", drains)?;
     put(refusal.rule.letter().as_bytes(), drains)?;
@@ -161,10 +169,11 @@ fn put_last_line<D: Drains>(
     status: &Status,
     drains: &mut D,
 ) -> Result<(), Failed>
-    requires { D.is_open drains.old REPORT_CHANNEL ≡ true }
-    ensures reported { OnOk result (D.tells drains.old ≡ true → D.held drains.new REPORT_CHANNEL ≡ D.held drains.old REPORT_CHANNEL ++ last_line (names_text names.now) status.now) }
-    ensures failed { OnErr result (HasRisen (D.faults drains.old) (D.faults drains.new)) }
-    ensures keeps { KeepsAll (D.tells drains.old) (D.tells drains.new) (D.held drains.old) (D.held drains.new) (D.is_open drains.old) (D.is_open drains.new) (D.faults drains.old) (D.faults drains.new) }
+    requires { (D.channels drains.old).is_open REPORT_CHANNEL ≡ true }
+    ensures reported { OnOk result (Appends REPORT_CHANNEL (D.channels drains.old)
+        (D.channels drains.new) (last_line (names_text names.now) status.now)) }
+    ensures failed { OnErr result (WriteFails D.channels drains.old drains.new) }
+    ensures keeps { WritesOnly D.channels drains.old drains.new 0 }
 {
     match status {
         Status::Quiet => put(b"quiet\n", drains),
@@ -189,10 +198,11 @@ fn put_last_line<D: Drains>(
 
 /// Puts the cause why words are no job, and how the program is used.
 fn put_usage<D: Drains>(cause: UsageCause, drains: &mut D) -> Result<(), Failed>
-    requires { D.is_open drains.old REPORT_CHANNEL ≡ true }
-    ensures reported { OnOk result (D.tells drains.old ≡ true → D.held drains.new REPORT_CHANNEL ≡ D.held drains.old REPORT_CHANNEL ++ usage_text cause) }
-    ensures failed { OnErr result (HasRisen (D.faults drains.old) (D.faults drains.new)) }
-    ensures keeps { KeepsAll (D.tells drains.old) (D.tells drains.new) (D.held drains.old) (D.held drains.new) (D.is_open drains.old) (D.is_open drains.new) (D.faults drains.old) (D.faults drains.new) }
+    requires { (D.channels drains.old).is_open REPORT_CHANNEL ≡ true }
+    ensures reported { OnOk result (Appends REPORT_CHANNEL (D.channels drains.old)
+        (D.channels drains.new) (usage_text cause)) }
+    ensures failed { OnErr result (WriteFails D.channels drains.old drains.new) }
+    ensures keeps { WritesOnly D.channels drains.old drains.new 0 }
 {
     put(b"usage ", drains)?;
     put(cause.name().as_bytes(), drains)?;
@@ -201,13 +211,14 @@ fn put_usage<D: Drains>(cause: UsageCause, drains: &mut D) -> Result<(), Failed>
 
 /// How the program is used, behind the cause.
 const USAGE: &[u8] =
-    b"\nrvc VERB TOP [PORT=FILE ..] [--trace FILE] [--workers N] [--round P] [--burst N] [--budget N]\n";
+    b"\nrvc VERB TOP [PORT=FILE ..] [--trace FILE] [--workers N] [--round P] [--burst N] [--budget N] [--grow N]\n";
 
 /// Reports a status that isn't a run's: its last line alone.
 pub fn report<D: Drains>(status: Status, names: &Names<'_>, drains: &mut D) -> Status
-    requires { D.is_open drains.old REPORT_CHANNEL ≡ true }
-    ensures reported { Reported status result (D.tells drains.old) (D.faults drains.old) (D.faults drains.new) (D.held drains.old REPORT_CHANNEL) (D.held drains.new REPORT_CHANNEL) (last_line (names_text names.now) status) }
-    ensures keeps { KeepsAll (D.tells drains.old) (D.tells drains.new) (D.held drains.old) (D.held drains.new) (D.is_open drains.old) (D.is_open drains.new) (D.faults drains.old) (D.faults drains.new) }
+    requires { (D.channels drains.old).is_open REPORT_CHANNEL ≡ true }
+    ensures reported { Reports status result (D.channels drains.old) (D.channels drains.new)
+        (last_line (names_text names.now) status) }
+    ensures keeps { WritesOnly D.channels drains.old drains.new 0 }
 {
     match put_last_line(names, &status, drains) {
         Ok(()) => status,
@@ -225,9 +236,10 @@ pub fn report_run<D: Drains>(
     counts: &Counts,
     drains: &mut D,
 ) -> Status
-    requires { D.is_open drains.old REPORT_CHANNEL ≡ true }
-    ensures reported { Reported status result (D.tells drains.old) (D.faults drains.old) (D.faults drains.new) (D.held drains.old REPORT_CHANNEL) (D.held drains.new REPORT_CHANNEL) (run_lines (form_of actor.now) counts.now ++ last_line (names_text names.now) status) }
-    ensures keeps { KeepsAll (D.tells drains.old) (D.tells drains.new) (D.held drains.old) (D.held drains.new) (D.is_open drains.old) (D.is_open drains.new) (D.faults drains.old) (D.faults drains.new) }
+    requires { (D.channels drains.old).is_open REPORT_CHANNEL ≡ true }
+    ensures reported { Reports status result (D.channels drains.old) (D.channels drains.new)
+        (run_lines (form_of actor.now) counts.now ++ last_line (names_text names.now) status) }
+    ensures keeps { WritesOnly D.channels drains.old drains.new 0 }
 {
     let Ok(()) = put_run_lines(actor, counts, drains) else {
         return Status::WriteFault {
@@ -244,9 +256,10 @@ pub fn report_run<D: Drains>(
 
 /// Reports words that are no job.
 pub fn report_usage<D: Drains>(cause: UsageCause, drains: &mut D) -> Status
-    requires { D.is_open drains.old REPORT_CHANNEL ≡ true }
-    ensures reported { Reported (Status.Usage cause) result (D.tells drains.old) (D.faults drains.old) (D.faults drains.new) (D.held drains.old REPORT_CHANNEL) (D.held drains.new REPORT_CHANNEL) (usage_text cause) }
-    ensures keeps { KeepsAll (D.tells drains.old) (D.tells drains.new) (D.held drains.old) (D.held drains.new) (D.is_open drains.old) (D.is_open drains.new) (D.faults drains.old) (D.faults drains.new) }
+    requires { (D.channels drains.old).is_open REPORT_CHANNEL ≡ true }
+    ensures reported { Reports (Status.Usage cause) result (D.channels drains.old)
+        (D.channels drains.new) (usage_text cause) }
+    ensures keeps { WritesOnly D.channels drains.old drains.new 0 }
 {
     match put_usage(cause, drains) {
         Ok(()) => Status::Usage(cause),
@@ -258,9 +271,10 @@ pub fn report_usage<D: Drains>(cause: UsageCause, drains: &mut D) -> Status
 
 /// Reports a job that isn't built.
 pub fn report_not_built<D: Drains>(drains: &mut D) -> Status
-    requires { D.is_open drains.old REPORT_CHANNEL ≡ true }
-    ensures reported { Reported (Status.Refused not_built_here) result (D.tells drains.old) (D.faults drains.old) (D.faults drains.new) (D.held drains.old REPORT_CHANNEL) (D.held drains.new REPORT_CHANNEL) not_built_text }
-    ensures keeps { KeepsAll (D.tells drains.old) (D.tells drains.new) (D.held drains.old) (D.held drains.new) (D.is_open drains.old) (D.is_open drains.new) (D.faults drains.old) (D.faults drains.new) }
+    requires { (D.channels drains.old).is_open REPORT_CHANNEL ≡ true }
+    ensures reported { Reports (Status.Refused not_built_here) result (D.channels drains.old)
+        (D.channels drains.new) not_built_text }
+    ensures keeps { WritesOnly D.channels drains.old drains.new 0 }
 {
     match put(b"refused Y1 words 0\n", drains) {
         Ok(()) => Status::Refused(Refusal {
@@ -275,9 +289,10 @@ pub fn report_not_built<D: Drains>(drains: &mut D) -> Status
 
 /// Reports want of memory before the words were read.
 pub fn report_memory<D: Drains>(drains: &mut D) -> Status
-    requires { D.is_open drains.old REPORT_CHANNEL ≡ true }
-    ensures reported { Reported Status.OutOfMemory result (D.tells drains.old) (D.faults drains.old) (D.faults drains.new) (D.held drains.old REPORT_CHANNEL) (D.held drains.new REPORT_CHANNEL) memory_text }
-    ensures keeps { KeepsAll (D.tells drains.old) (D.tells drains.new) (D.held drains.old) (D.held drains.new) (D.is_open drains.old) (D.is_open drains.new) (D.faults drains.old) (D.faults drains.new) }
+    requires { (D.channels drains.old).is_open REPORT_CHANNEL ≡ true }
+    ensures reported { Reports Status.OutOfMemory result (D.channels drains.old)
+        (D.channels drains.new) memory_text }
+    ensures keeps { WritesOnly D.channels drains.old drains.new 0 }
 {
     match put(b"out of memory\n", drains) {
         Ok(()) => Status::OutOfMemory,

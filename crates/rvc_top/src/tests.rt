@@ -1,67 +1,301 @@
 //! Runs over the objects in memory: their outputs, traces, reports and statuses, and what faults leave.
 
-ghost use Rattle.std.specs.Prelude.{◌<◌};
-
-use crate::{ReadAt, Status, rvc};
+use crate::{Status, rvc};
 use rvc_io::{MemDrains, MemFeeds, MemLibrary, OpenGate, names_are_distinct};
 use std::alloc::{AllocError, Global};
 use std::process::Abort;
 use std::test::Fail;
 use std::thread::Threads;
 
-const INC: &[u8] =
-    b"actor Inc() uint(size=8) In ==> uint(size=8) Out : action In:[a] ==> Out:[a + 1] end end";
-
-const INC_WORDS: &str = "rvc run Inc.cal In=in Out=out --trace t";
-
-const INC_TRACE: &[u8] = b"rvc-trace 1 1 2\ni 0 Inc Inc\nr\nf 0 0\nf 0 0\nf 0 0\nr\nq\n";
-
-const INC_REPORT: &[u8] =
-    b"instances 1\nlinks 2\nfirings 3\nrounds 2\nin In 0 tokens 3 rest 0\nout Out tokens 3\nquiet\n";
-
-const USAGE: &[u8] =
-    b"\nrvc VERB TOP [PORT=FILE ..] [--trace FILE] [--workers N] [--round P] [--burst N] [--budget N]\n";
-
-const HEAD: &[u8] = b"rvc-trace 1 1 2\ni 0 Inc Inc\n";
-
-/// What is run: the words, the source under the name `Inc.cal`, and the input under the name `in`.
-#[derive(Drop)]
+/// What is run: the words, the source under the name `Inc.cal`, the input under the name `in`, the
+/// most bytes that a call moves, and the calls that fail.
+#[derive(Clone, Copy)]
 struct Setting<'a> {
     words: &'a str,
-    source: &'a [u8],
+    source: &'a str,
     input: &'a [u8],
-    /// The most bytes that a call moves.
     step: u32,
-    /// The read of a file that fails, counted from 1; 0 for none.
-    failing_read: u64,
-    /// The call to the feeds that fails, counted from 1; 0 for none.
-    failing_feed: u64,
-    /// The call to the channels that fails, counted from 1; 0 for none.
-    failing_drain: u64,
+    failing: Failing,
 }
 
-/// The first example: three bytes, and calls that move many bytes and don't fail.
-fn inc() -> Setting<'static> {
-    Setting {
-        words: INC_WORDS,
-        source: INC,
-        input: &[0, 1, 255],
-        step: 1000,
-        failing_read: 0,
-        failing_feed: 0,
-        failing_drain: 0,
-    }
-}
+/// The read of a file, the call to the feeds and the call to the channels that fails, counted from 1;
+/// 0 for none.
+type Failing = (u64, u64, u64);
 
-/// How many bytes a call moves at most, in each row once: one, a few, and more than a row has.
-const STEPS: [u32; 3] = [1, 3, 1000];
+const NEVER: Failing = (0, 0, 0);
 
-/// How a run ended, and its channels.
-#[derive(Drop)]
-struct Ran {
-    status: Status,
-    drains: MemDrains,
-}
+/// How a run ended: its exit status and the start of its name; and what the channels 0, 1 and 2 hold.
+type Left = (&'static str, &'static str, &'static str, &'static [u8]);
+
+/// How many bytes a call moves at most: one, a few, and more than a row has.
+const STEPS: &[u32] = &[1, 3, 1000];
+
+const INC: &str =
+    "actor Inc() uint(size=8) In ==> uint(size=8) Out : action In:[a] ==> Out:[a + 1] end end";
+
+const RUN: &str = "rvc run Inc.cal In=in Out=out --trace t";
+
+const BYTES: &[u8] = &[0, 1, 255];
+
+const NO_BYTES: &[u8] = &[];
+
+const REPORT: &str =
+    "instances 1\nlinks 2\nfirings 3\nrounds 2\nin In 0 tokens 3 rest 0\nout Out tokens 3\nquiet\n";
+
+const TRACE: &str = "rvc-trace 1 1 2\ni 0 Inc Inc\nr\nf 0 0\nf 0 0\nf 0 0\nr\nq\n";
+
+/// What a run over the three bytes leaves.
+const WHOLE: Left = ("0 Quiet", REPORT, TRACE, &[1, 2, 0]);
+
+/// What a run over no bytes leaves.
+const EMPTY: Left = (
+    "0 Quiet",
+    "instances 1\nlinks 2\nfirings 0\nrounds 1\nin In 0 tokens 0 rest 0\nout Out tokens 0\nquiet\n",
+    "rvc-trace 1 1 2\ni 0 Inc Inc\nr\nq\n",
+    NO_BYTES,
+);
+
+/// What a run with a budget of two firings leaves.
+const CUT: Left = (
+    "7 Budget { firings: 2 }",
+    "instances 1\nlinks 2\nfirings 2\nrounds 2\nin In 0 tokens 3 rest 0\nout Out tokens 2\nbudget 2\n",
+    "rvc-trace 1 1 2\ni 0 Inc Inc\nr\nf 0 0\nf 0 0\nr\nb\n",
+    &[1, 2],
+);
+
+/// What a run leaves whose output no word names.
+const UNNAMED: Left = ("0 Quiet", REPORT, TRACE, NO_BYTES);
+
+/// What a run of these words over this input leaves.
+const RUNS: &[(&str, &[u8], Left)] = &[
+    (RUN, BYTES, WHOLE),
+    (RUN, NO_BYTES, EMPTY),
+    (
+        "rvc run Inc.cal In=in Out=out --trace t --budget 2",
+        BYTES,
+        CUT,
+    ),
+    (
+        "rvc run Inc.cal In=in Out=out --trace t --budget 3",
+        BYTES,
+        WHOLE,
+    ),
+    ("rvc run Inc.cal Out=out In=in --trace t", BYTES, WHOLE),
+    ("rvc --trace t run Inc.cal In=in Out=out", BYTES, WHOLE),
+    (
+        "rvc run --budget=3 Inc.cal In=in --trace=t Out=out --workers 1 --burst 64 --round all",
+        BYTES,
+        WHOLE,
+    ),
+    ("rvc run Inc.cal In=in --trace t", BYTES, UNNAMED),
+];
+
+const FAILED_PULL: Left = (
+    "2 ReadFault(Feed(1))",
+    "read fault in\n",
+    "rvc-trace 1 1 2\ni 0 Inc Inc\n",
+    NO_BYTES,
+);
+
+const FAILED_OUTPUT: Left = (
+    "3 WriteFault { channel: 2 }",
+    "write fault 2\n",
+    "rvc-trace 1 1 2\ni 0 Inc Inc\n",
+    NO_BYTES,
+);
+
+const FAILED_FILE: Left = ("2 ReadFault(File(1))", "read fault Inc.cal\n", "", NO_BYTES);
+
+/// What a run leaves in which one call fails.
+const FAULTS: &[(&str, &str, u32, Failing, Left)] = &[
+    (RUN, INC, 1, (0, 3, 0), FAILED_PULL),
+    (RUN, INC, 3, (0, 3, 0), FAILED_PULL),
+    (RUN, INC, 1000, (0, 3, 0), FAILED_PULL),
+    (RUN, INC, 1, (0, 0, 31), FAILED_OUTPUT),
+    (RUN, INC, 3, (0, 0, 13), FAILED_OUTPUT),
+    (RUN, INC, 1000, (0, 0, 4), FAILED_OUTPUT),
+    // no feed is opened where no word names the input
+    (
+        "rvc run Inc.cal Out=out --trace t",
+        INC,
+        1000,
+        (0, 1, 0),
+        EMPTY,
+    ),
+    ("rvc run Inc.cal --trace t", INC, 1000, (0, 1, 0), EMPTY),
+    ("rvc fmt Inc.cal", SPREAD, 1000, (1, 0, 0), FAILED_FILE),
+    (
+        "rvc fmt Inc.cal In=in",
+        SPREAD,
+        1000,
+        (1, 0, 0),
+        FAILED_FILE,
+    ),
+    (
+        "rvc fmt Inc.cal",
+        SPREAD,
+        1,
+        (0, 0, 4),
+        ("3 WriteFault { channel: 0 }", "act", "", NO_BYTES),
+    ),
+    (
+        "rvc fmt Inc.cal",
+        SPREAD,
+        3,
+        (0, 0, 1),
+        ("3 WriteFault { channel: 0 }", "", "", NO_BYTES),
+    ),
+    (
+        "rvc fmt Inc.cal",
+        SPREAD,
+        1000,
+        (0, 0, 1),
+        ("3 WriteFault { channel: 0 }", "", "", NO_BYTES),
+    ),
+];
+
+const SPREAD: &str =
+    "actor Inc() uint(size=8) In ==> uint(size=8) Out : action In:[a] ==> Out:[a+1] endaction endactor";
+
+const PRINTED: &str =
+    "actor Inc ( ) uint ( size = 8 ) In ==> uint ( size = 8 ) Out : action In : [ a ] ==> Out : [ a + 1 ] end\nend\n";
+
+/// What `fmt` writes of these sources.
+const PRINTS: &[(&str, &str, &str)] = &[
+    ("rvc fmt Inc.cal", SPREAD, PRINTED),
+    ("rvc fmt Inc.cal", PRINTED, PRINTED),
+    (
+        "rvc fmt Inc.cal --trace t --workers 2 --round turn --burst 63 --budget 1",
+        SPREAD,
+        PRINTED,
+    ),
+    (
+        "rvc fmt Inc.cal --trace t --workers 2 --round turn --burst 63 --budget 1",
+        PRINTED,
+        PRINTED,
+    ),
+];
+
+/// What refuses these words and this source.
+const REFUSALS: &[(&str, &str, &str)] = &[
+    (
+        "rvc run No.cal In=in Out=out --trace t",
+        INC,
+        "refused N1 words 0\n",
+    ),
+    (RUN, "actor B() \"", "refused L5 Inc.cal 10\n"),
+    (
+        RUN,
+        "actor B() uint(size=8) In ==> ",
+        "refused G1 Inc.cal 30\n",
+    ),
+    (RUN, " unit U : end", "refused Y1 Inc.cal 1\n"),
+    ("rvc check Inc.cal", INC, "refused Y1 words 0\n"),
+    ("rvc gen 1 --trace t", INC, "refused Y1 words 0\n"),
+    (
+        "rvc run Inc.xdf In=in Out=out --trace t",
+        INC,
+        "refused Y1 words 0\n",
+    ),
+    (
+        "rvc run Inc.cal In=in Out=out --trace t --workers 2",
+        INC,
+        "refused Y1 words 0\n",
+    ),
+    (
+        "rvc run Inc.cal In=in Out=out --trace t --round turn",
+        INC,
+        "refused Y1 words 0\n",
+    ),
+    (
+        "rvc run Inc.cal In=in Out=out --trace t --burst 63",
+        INC,
+        "refused Y1 words 0\n",
+    ),
+    (
+        "rvc run Inc.cal In=in Out=out --trace t --grow 1",
+        INC,
+        "refused Y1 words 0\n",
+    ),
+    (
+        "rvc run Inc.cal Inn=in --trace t",
+        INC,
+        "refused P1 words 0\n",
+    ),
+    (
+        "rvc run Inc.cal In=in Inn=in --trace t",
+        INC,
+        "refused P1 words 1\n",
+    ),
+    (
+        "rvc run Inc.cal X=in X=in --trace t",
+        INC,
+        "refused P1 words 0\n",
+    ),
+    (
+        "rvc run Inc.cal In=in In=in --trace t",
+        INC,
+        "refused P2 words 1\n",
+    ),
+    (
+        "rvc run Inc.cal In=in In=in X=in --trace t",
+        INC,
+        "refused P2 words 1\n",
+    ),
+    (
+        "rvc run Inc.cal In=in Out=out In=in --trace t",
+        INC,
+        "refused P2 words 2\n",
+    ),
+    (
+        "rvc run Inc.cal Out=o In=in X=in --trace t",
+        INC,
+        "refused P1 words 2\n",
+    ),
+    ("rvc fmt Inc.cal", "", "refused G1 Inc.cal 0\n"),
+    ("rvc fmt Inc.cal", "actor B() \"", "refused L5 Inc.cal 10\n"),
+    ("rvc fmt No.cal", SPREAD, "refused N1 words 0\n"),
+    ("rvc fmt a/Inc.cal", SPREAD, "refused N1 words 0\n"),
+    ("rvc fmt Inc.cal In=in", SPREAD, "refused P1 words 0\n"),
+    (
+        "rvc fmt Inc.cal Out=out In=in",
+        SPREAD,
+        "refused P1 words 0\n",
+    ),
+    ("rvc fmt Inc.cal In=in", "", "refused G1 Inc.cal 0\n"),
+];
+
+/// Why these words are no job.
+const USAGES: &[(&str, &str)] = &[
+    (
+        "rvc",
+        "usage words\nrvc VERB TOP [PORT=FILE ..] [--trace FILE] [--workers N] [--round P] [--burst N] [--budget N] [--grow N]\n",
+    ),
+    (
+        "rvc go Inc.cal",
+        "usage verb\nrvc VERB TOP [PORT=FILE ..] [--trace FILE] [--workers N] [--round P] [--burst N] [--budget N] [--grow N]\n",
+    ),
+    (
+        "rvc run Inc.txt --trace t",
+        "usage top\nrvc VERB TOP [PORT=FILE ..] [--trace FILE] [--workers N] [--round P] [--burst N] [--budget N] [--grow N]\n",
+    ),
+    (
+        "rvc run Inc.cal --workers 65 --trace t",
+        "usage number\nrvc VERB TOP [PORT=FILE ..] [--trace FILE] [--workers N] [--round P] [--burst N] [--budget N] [--grow N]\n",
+    ),
+    (
+        "rvc run Inc.cal --round x --trace t",
+        "usage round\nrvc VERB TOP [PORT=FILE ..] [--trace FILE] [--workers N] [--round P] [--burst N] [--budget N] [--grow N]\n",
+    ),
+    (
+        "rvc run Inc.cal In --trace t",
+        "usage port\nrvc VERB TOP [PORT=FILE ..] [--trace FILE] [--workers N] [--round P] [--burst N] [--budget N] [--grow N]\n",
+    ),
+    (
+        "rvc run Inc.cal",
+        "usage trace\nrvc VERB TOP [PORT=FILE ..] [--trace FILE] [--workers N] [--round P] [--burst N] [--budget N] [--grow N]\n",
+    ),
+];
 
 /// The words of a line, which one blank each parts.
 fn words(alloc: Global, line: &str) -> Result<Vec<String>, AllocError> {
@@ -82,23 +316,28 @@ fn file(alloc: Global, name: &str, bytes: &[u8]) -> Result<Vec<(String, Vec<u8>)
     Ok(files)
 }
 
+/// How a run ended, and its channels.
+#[derive(Drop)]
+struct Ran {
+    status: Status,
+    drains: MemDrains,
+}
+
 /// Runs a setting on objects of its own.
 fn run_setting<R: Abort + Threads + Sync>(
     rt: &R,
     alloc: Global,
     setting: &Setting<'_>,
 ) -> Result<Ran, Fail> {
-    let sources = file(alloc, "Inc.cal", setting.source)?;
+    let sources = file(alloc, "Inc.cal", setting.source.as_bytes())?;
     let inputs = file(alloc, "in", setting.input)?;
     assert!(rt; names_are_distinct(&sources));
     assert!(rt; names_are_distinct(&inputs));
     assert!(rt; setting.step > 0);
-    let reads = vec![in alloc; setting.failing_read]?;
-    let mut library = MemLibrary::new(sources, reads);
-    let pulls = vec![in alloc; setting.failing_feed]?;
-    let puts = vec![in alloc; setting.failing_drain]?;
-    let mut feeds = MemFeeds::new(alloc, inputs, pulls, setting.step, 2)?;
-    let mut drains = MemDrains::new(alloc, puts, setting.step, 3, 4096)?;
+    let (read, feed, drain) = setting.failing;
+    let mut library = MemLibrary::new(sources, vec![in alloc; read]?);
+    let mut feeds = MemFeeds::new(alloc, inputs, vec![in alloc; feed]?, setting.step, 2)?;
+    let mut drains = MemDrains::new(alloc, vec![in alloc; drain]?, setting.step, 3, 4096)?;
     let words = words(alloc, setting.words)?;
     let status = rvc(
         rt,
@@ -112,433 +351,103 @@ fn run_setting<R: Abort + Threads + Sync>(
     Ok(Ran { status, drains })
 }
 
-#[test]
-fn adds_one_to_each_byte(rt: HostRuntime) -> Result<(), Fail> {
-    for step in STEPS {
-        let ran = run_setting(&rt, rt.alloc(), &Setting { step, ..inc() })?;
-        assert_eq!(rt; ran.status, Status::Quiet);
-        assert_eq!(rt; ran.drains.held(2), [1, 2, 0].as_slice());
-        assert_eq!(rt; ran.drains.held(1), INC_TRACE);
-        assert_eq!(rt; ran.drains.held(0), INC_REPORT);
-    }
+/// A run leaves this.
+fn leaves<R: Abort + Threads + Sync>(
+    rt: &R,
+    alloc: Global,
+    setting: &Setting<'_>,
+    left: &Left,
+) -> Result<(), Fail> {
+    let ran = run_setting(rt, alloc, setting)?;
+    let ends = format!(in alloc; "{} {:?}", ran.status.code(), ran.status)?;
+    assert!(rt;
+        ends.as_str().starts_with(left.0),
+        "{}: {}",
+        setting.words,
+        ends.as_str()
+    );
+    assert!(rt;
+        ran.drains.held(0) == left.1.as_bytes(),
+        "report of {}",
+        setting.words
+    );
+    assert!(rt;
+        ran.drains.held(1) == left.2.as_bytes(),
+        "trace of {}",
+        setting.words
+    );
+    assert!(rt; ran.drains.held(2) == left.3, "output of {}", setting.words);
     Ok(())
 }
 
-#[test]
-fn no_bytes_give_no_bytes(rt: HostRuntime) -> Result<(), Fail> {
-    for step in STEPS {
+/// A run with calls of each size leaves this.
+fn leaves_by_steps<R: Abort + Threads + Sync>(
+    rt: &R,
+    alloc: Global,
+    words: &str,
+    source: &str,
+    input: &[u8],
+    left: &Left,
+) -> Result<(), Fail> {
+    for &step in STEPS {
         let setting = Setting {
+            words,
+            source,
+            input,
             step,
-            input: &[],
-            ..inc()
+            failing: NEVER,
         };
-        let ran = run_setting(&rt, rt.alloc(), &setting)?;
-        assert_eq!(rt; ran.status, Status::Quiet);
-        assert_eq!(rt; ran.drains.held(2).len(), 0);
-        assert_eq!(rt;
-            ran.drains.held(1),
-            b"rvc-trace 1 1 2\ni 0 Inc Inc\nr\nq\n".as_slice()
-        );
-        assert_eq!(rt;
-            ran.drains.held(0),
-            b"instances 1\nlinks 2\nfirings 0\nrounds 1\nin In 0 tokens 0 rest 0\nout Out tokens 0\nquiet\n".as_slice()
-        );
+        leaves(rt, alloc, &setting, left)?;
     }
     Ok(())
 }
 
 #[test]
-fn ends_by_its_budget(rt: HostRuntime) -> Result<(), Fail> {
-    for step in STEPS {
+fn runs_leave_their_trace_and_output(rt: HostRuntime) -> Result<(), Fail> {
+    for (words, input, left) in RUNS {
+        leaves_by_steps(&rt, rt.alloc(), words, INC, input, left)?;
+    }
+    Ok(())
+}
+
+#[test]
+fn a_failed_call_is_a_fault(rt: HostRuntime) -> Result<(), Fail> {
+    for &(words, source, step, failing, left) in FAULTS {
         let setting = Setting {
+            words,
+            source,
+            input: BYTES,
             step,
-            words: "rvc run Inc.cal In=in Out=out --trace t --budget 2",
-            ..inc()
+            failing,
         };
-        let ran = run_setting(&rt, rt.alloc(), &setting)?;
-        assert_eq!(rt; ran.status, Status::Budget { firings: 2 });
-        assert_eq!(rt; ran.status.code(), 7);
-        assert_eq!(rt; ran.drains.held(2), [1, 2].as_slice());
-        assert_eq!(rt;
-            ran.drains.held(1),
-            b"rvc-trace 1 1 2\ni 0 Inc Inc\nr\nf 0 0\nf 0 0\nr\nb\n".as_slice()
-        );
-        assert!(rt; ran.drains.held(0).ends_with(b"\nbudget 2\n"));
+        leaves(&rt, rt.alloc(), &setting, &left)?;
     }
     Ok(())
 }
 
 #[test]
-fn a_budget_just_great_enough_is_quiet(rt: HostRuntime) -> Result<(), Fail> {
-    for step in STEPS {
-        let setting = Setting {
-            step,
-            words: "rvc run Inc.cal In=in Out=out --trace t --budget 3",
-            ..inc()
-        };
-        let ran = run_setting(&rt, rt.alloc(), &setting)?;
-        assert_eq!(rt; ran.status, Status::Quiet);
-        assert_eq!(rt; ran.drains.held(1), INC_TRACE);
+fn fmt_prints_the_canonical_text(rt: HostRuntime) -> Result<(), Fail> {
+    for &(words, source, printed) in PRINTS {
+        let left = ("0 Done", printed, "", NO_BYTES);
+        leaves_by_steps(&rt, rt.alloc(), words, source, BYTES, &left)?;
     }
     Ok(())
 }
 
 #[test]
-fn a_failed_pull_is_a_read_fault(rt: HostRuntime) -> Result<(), Fail> {
-    for step in STEPS {
-        let setting = Setting {
-            step,
-            failing_feed: 3,
-            ..inc()
-        };
-        let ran = run_setting(&rt, rt.alloc(), &setting)?;
-        assert_eq!(rt; ran.status, Status::ReadFault(ReadAt::Feed(1)));
-        assert_eq!(rt; ran.drains.held(2).len(), 0);
-        assert_eq!(rt; ran.drains.held(1), HEAD);
-        assert_eq!(rt; ran.drains.held(0), b"read fault in\n".as_slice());
-    }
-    Ok(())
-}
-
-#[test]
-fn a_failed_output_is_a_write_fault(rt: HostRuntime) -> Result<(), Fail> {
-    for (step, failing_drain) in [(1, 31), (3, 13), (1000, 4)] {
-        let setting = Setting {
-            step,
-            failing_drain,
-            ..inc()
-        };
-        let ran = run_setting(&rt, rt.alloc(), &setting)?;
-        assert_eq!(rt; ran.status, Status::WriteFault { channel: 2 });
-        assert_eq!(rt; ran.drains.held(2).len(), 0);
-        assert_eq!(rt; ran.drains.held(0), b"write fault 2\n".as_slice());
-    }
-    Ok(())
-}
-
-#[test]
-fn a_file_that_lacks_is_refused(rt: HostRuntime) -> Result<(), Fail> {
-    for step in STEPS {
-        let setting = Setting {
-            step,
-            words: "rvc run No.cal In=in Out=out --trace t",
-            ..inc()
-        };
-        let ran = run_setting(&rt, rt.alloc(), &setting)?;
-        assert_eq!(rt; ran.status.code(), 4);
-        assert_eq!(rt; ran.drains.held(1).len(), 0);
-        assert_eq!(rt; ran.drains.held(0), b"refused N1 words 0\n".as_slice());
-    }
-    Ok(())
-}
-
-#[test]
-fn a_source_is_refused_at_its_place(rt: HostRuntime) -> Result<(), Fail> {
-    let rows = [
-        (
-            b"actor B() \"".as_slice(),
-            b"refused L5 Inc.cal 10\n".as_slice(),
-        ),
-        (
-            b"actor B() uint(size=8) In ==> ".as_slice(),
-            b"refused G1 Inc.cal 30\n".as_slice(),
-        ),
-        (
-            b" unit U : end".as_slice(),
-            b"refused Y1 Inc.cal 1\n".as_slice(),
-        ),
-    ];
-    for (source, line) in rows {
-        for step in STEPS {
-            let setting = Setting {
-                step,
-                source,
-                ..inc()
-            };
-            let ran = run_setting(&rt, rt.alloc(), &setting)?;
-            assert_eq!(rt; ran.status.code(), 4);
-            assert_eq!(rt; ran.drains.held(1).len(), 0);
-            assert_eq!(rt; ran.drains.held(0), line);
-        }
+fn refusals_name_a_rule_and_its_place(rt: HostRuntime) -> Result<(), Fail> {
+    for &(words, source, line) in REFUSALS {
+        let left = ("4 Refused", line, "", NO_BYTES);
+        leaves_by_steps(&rt, rt.alloc(), words, source, BYTES, &left)?;
     }
     Ok(())
 }
 
 #[test]
 fn words_that_are_no_job_are_usage(rt: HostRuntime) -> Result<(), Fail> {
-    let rows = [
-        ("rvc", b"usage words\n".as_slice()),
-        ("rvc go Inc.cal", b"usage verb\n".as_slice()),
-        ("rvc run Inc.txt --trace t", b"usage top\n".as_slice()),
-        (
-            "rvc run Inc.cal --workers 65 --trace t",
-            b"usage number\n".as_slice(),
-        ),
-        (
-            "rvc run Inc.cal --round x --trace t",
-            b"usage round\n".as_slice(),
-        ),
-        ("rvc run Inc.cal In --trace t", b"usage port\n".as_slice()),
-        ("rvc run Inc.cal", b"usage trace\n".as_slice()),
-    ];
-    for (words, line) in rows {
-        for step in STEPS {
-            let setting = Setting {
-                step,
-                words,
-                ..inc()
-            };
-            let ran = run_setting(&rt, rt.alloc(), &setting)?;
-            assert_eq!(rt; ran.status.code(), 1);
-            assert_eq!(rt; ran.drains.held(1).len(), 0);
-            assert!(rt; ran.drains.held(0).starts_with(line));
-            assert!(rt; ran.drains.held(0).ends_with(USAGE));
-        }
-    }
-    Ok(())
-}
-
-#[test]
-fn a_job_that_is_not_built_is_refused(rt: HostRuntime) -> Result<(), Fail> {
-    let rows = [
-        "rvc check Inc.cal",
-        "rvc gen 1 --trace t",
-        "rvc run Inc.xdf In=in Out=out --trace t",
-        "rvc run Inc.cal In=in Out=out --trace t --workers 2",
-        "rvc run Inc.cal In=in Out=out --trace t --round turn",
-        "rvc run Inc.cal In=in Out=out --trace t --burst 63",
-    ];
-    for words in rows {
-        let ran = run_setting(&rt, rt.alloc(), &Setting { words, ..inc() })?;
-        assert_eq!(rt; ran.status.code(), 4);
-        assert_eq!(rt; ran.drains.held(1).len(), 0);
-        assert_eq!(rt; ran.drains.held(0), b"refused Y1 words 0\n".as_slice());
-    }
-    Ok(())
-}
-
-#[test]
-fn port_words_stand_in_any_order(rt: HostRuntime) -> Result<(), Fail> {
-    for step in STEPS {
-        let setting = Setting {
-            step,
-            words: "rvc run Inc.cal Out=out In=in --trace t",
-            ..inc()
-        };
-        let ran = run_setting(&rt, rt.alloc(), &setting)?;
-        assert_eq!(rt; ran.status, Status::Quiet);
-        assert_eq!(rt; ran.drains.held(2), [1, 2, 0].as_slice());
-        assert_eq!(rt; ran.drains.held(1), INC_TRACE);
-        assert_eq!(rt; ran.drains.held(0), INC_REPORT);
-    }
-    Ok(())
-}
-
-#[test]
-fn an_output_that_no_word_names_is_counted(rt: HostRuntime) -> Result<(), Fail> {
-    for step in STEPS {
-        let setting = Setting {
-            step,
-            words: "rvc run Inc.cal In=in --trace t",
-            ..inc()
-        };
-        let ran = run_setting(&rt, rt.alloc(), &setting)?;
-        assert_eq!(rt; ran.status, Status::Quiet);
-        assert_eq!(rt; ran.drains.held(2).len(), 0);
-        assert_eq!(rt; ran.drains.held(1), INC_TRACE);
-        assert_eq!(rt; ran.drains.held(0), INC_REPORT);
-    }
-    Ok(())
-}
-
-#[test]
-fn an_input_that_no_word_names_has_no_tokens(rt: HostRuntime) -> Result<(), Fail> {
-    for words in [
-        "rvc run Inc.cal Out=out --trace t",
-        "rvc run Inc.cal --trace t",
-    ] {
-        let setting = Setting {
-            words,
-            failing_feed: 1,
-            ..inc()
-        };
-        let ran = run_setting(&rt, rt.alloc(), &setting)?;
-        assert_eq!(rt; ran.status, Status::Quiet);
-        assert_eq!(rt; ran.drains.held(2).len(), 0);
-        assert_eq!(rt;
-            ran.drains.held(1),
-            b"rvc-trace 1 1 2\ni 0 Inc Inc\nr\nq\n".as_slice()
-        );
-        assert_eq!(rt;
-            ran.drains.held(0),
-            b"instances 1\nlinks 2\nfirings 0\nrounds 1\nin In 0 tokens 0 rest 0\nout Out tokens 0\nquiet\n".as_slice()
-        );
-    }
-    Ok(())
-}
-
-#[test]
-fn a_port_word_that_does_not_fit_is_refused(rt: HostRuntime) -> Result<(), Fail> {
-    let rows = [
-        (
-            "rvc run Inc.cal Inn=in --trace t",
-            b"refused P1 words 0\n".as_slice(),
-        ),
-        (
-            "rvc run Inc.cal In=in Inn=in --trace t",
-            b"refused P1 words 1\n".as_slice(),
-        ),
-        (
-            "rvc run Inc.cal X=in X=in --trace t",
-            b"refused P1 words 0\n".as_slice(),
-        ),
-        (
-            "rvc run Inc.cal In=in In=in --trace t",
-            b"refused P2 words 1\n".as_slice(),
-        ),
-        (
-            "rvc run Inc.cal In=in In=in X=in --trace t",
-            b"refused P2 words 1\n".as_slice(),
-        ),
-        (
-            "rvc run Inc.cal In=in Out=out In=in --trace t",
-            b"refused P2 words 2\n".as_slice(),
-        ),
-        (
-            "rvc run Inc.cal Out=o In=in X=in --trace t",
-            b"refused P1 words 2\n".as_slice(),
-        ),
-    ];
-    for (words, line) in rows {
-        let ran = run_setting(&rt, rt.alloc(), &Setting { words, ..inc() })?;
-        assert_eq!(rt; ran.status.code(), 4);
-        assert_eq!(rt; ran.drains.held(1).len(), 0);
-        assert_eq!(rt; ran.drains.held(0), line);
-    }
-    Ok(())
-}
-
-#[test]
-fn options_stand_in_any_order(rt: HostRuntime) -> Result<(), Fail> {
-    let rows = [
-        "rvc --trace t run Inc.cal In=in Out=out",
-        "rvc run --budget=3 Inc.cal In=in --trace=t Out=out --workers 1 --burst 64 --round all",
-    ];
-    for words in rows {
-        let ran = run_setting(&rt, rt.alloc(), &Setting { words, ..inc() })?;
-        assert_eq!(rt; ran.status, Status::Quiet);
-        assert_eq!(rt; ran.drains.held(1), INC_TRACE);
-        assert_eq!(rt; ran.drains.held(0), INC_REPORT);
-    }
-    Ok(())
-}
-
-/// A `fmt` of this text under the name `Inc.cal`.
-fn fmt(words: &'static str, source: &'static [u8], step: u32) -> Setting<'static> {
-    Setting {
-        words,
-        source,
-        step,
-        ..inc()
-    }
-}
-
-const SPREAD: &[u8] =
-    b"actor Inc() uint(size=8) In ==> uint(size=8) Out : action In:[a] ==> Out:[a+1] endaction endactor";
-
-const PRINTED: &[u8] =
-    b"actor Inc ( ) uint ( size = 8 ) In ==> uint ( size = 8 ) Out : action In : [ a ] ==> Out : [ a + 1 ] end\nend\n";
-
-#[test]
-fn fmt_prints_the_canonical_text(rt: HostRuntime) -> Result<(), Fail> {
-    let rows = [
-        "rvc fmt Inc.cal",
-        "rvc fmt Inc.cal --trace t --workers 2 --round turn --burst 63 --budget 1",
-    ];
-    for words in rows {
-        for source in [SPREAD, PRINTED] {
-            for step in STEPS {
-                let ran = run_setting(&rt, rt.alloc(), &fmt(words, source, step))?;
-                assert_eq!(rt; ran.status, Status::Done);
-                assert_eq!(rt; ran.status.code(), 0);
-                assert_eq!(rt; ran.drains.held(0), PRINTED);
-                assert_eq!(rt; ran.drains.held(1).len(), 0);
-            }
-        }
-    }
-    Ok(())
-}
-
-#[test]
-fn fmt_refuses_at_its_place(rt: HostRuntime) -> Result<(), Fail> {
-    let rows = [
-        (
-            "rvc fmt Inc.cal",
-            b"".as_slice(),
-            b"refused G1 Inc.cal 0\n".as_slice(),
-        ),
-        (
-            "rvc fmt Inc.cal",
-            b"actor B() \"".as_slice(),
-            b"refused L5 Inc.cal 10\n".as_slice(),
-        ),
-        ("rvc fmt No.cal", SPREAD, b"refused N1 words 0\n".as_slice()),
-        (
-            "rvc fmt a/Inc.cal",
-            SPREAD,
-            b"refused N1 words 0\n".as_slice(),
-        ),
-        (
-            "rvc fmt Inc.cal In=in",
-            SPREAD,
-            b"refused P1 words 0\n".as_slice(),
-        ),
-        (
-            "rvc fmt Inc.cal Out=out In=in",
-            SPREAD,
-            b"refused P1 words 0\n".as_slice(),
-        ),
-        (
-            "rvc fmt Inc.cal In=in",
-            b"".as_slice(),
-            b"refused G1 Inc.cal 0\n".as_slice(),
-        ),
-    ];
-    for (words, source, line) in rows {
-        for step in STEPS {
-            let ran = run_setting(&rt, rt.alloc(), &fmt(words, source, step))?;
-            assert_eq!(rt; ran.status.code(), 4);
-            assert_eq!(rt; ran.drains.held(0), line);
-        }
-    }
-    Ok(())
-}
-
-#[test]
-fn a_file_that_cannot_be_read_is_a_read_fault(rt: HostRuntime) -> Result<(), Fail> {
-    for words in ["rvc fmt Inc.cal", "rvc fmt Inc.cal In=in"] {
-        let setting = Setting {
-            failing_read: 1,
-            ..fmt(words, SPREAD, 1000)
-        };
-        let ran = run_setting(&rt, rt.alloc(), &setting)?;
-        assert_eq!(rt; ran.status, Status::ReadFault(ReadAt::File(1)));
-        assert_eq!(rt; ran.drains.held(0), b"read fault Inc.cal\n".as_slice());
-    }
-    Ok(())
-}
-
-#[test]
-fn a_text_that_cannot_be_put_is_a_write_fault(rt: HostRuntime) -> Result<(), Fail> {
-    for (step, failing_drain, put) in [(1, 4, 3), (3, 1, 0), (1000, 1, 0)] {
-        let setting = Setting {
-            failing_drain,
-            ..fmt("rvc fmt Inc.cal", SPREAD, step)
-        };
-        let ran = run_setting(&rt, rt.alloc(), &setting)?;
-        assert_eq!(rt; ran.status, Status::WriteFault { channel: 0 });
-        assert!(rt; ran.drains.held(0).len() == put);
-        assert!(rt; PRINTED.starts_with(ran.drains.held(0)));
+    for &(words, report) in USAGES {
+        let left = ("1 Usage", report, "", NO_BYTES);
+        leaves_by_steps(&rt, rt.alloc(), words, INC, BYTES, &left)?;
     }
     Ok(())
 }

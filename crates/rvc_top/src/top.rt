@@ -1,25 +1,26 @@
 //! The top call.
 
 ghost use Rattle.std.specs.Prelude.{◌≡◌, ◌≢◌, ◌≤◌, ◌++◌, ◌⊎◌, ℕ, Bool, true, false, List, [], Option, Some, None, Ok, Err, IsOk, is_some, option_map, string_bytes};
+ghost use Rattle.rvc_io.specs.Channels.{WriteFails, WritesOnly};
 ghost use Rattle.rvc_io.specs.Count.{HasRisen};
 ghost use Rattle.rvc_io.specs.Told.{Told, Holding};
 ghost use Rattle.rvc_io.specs.Elsewhere.{SameElsewhere};
 ghost use Rattle.rvc_base.specs.declared.refusal.Refusal.{Refusal as Denial};
-ghost use Rattle.cal_model.specs.Form.{Form, form_of};
+ghost use Rattle.first_form.specs.Form.{Form, form_of};
 ghost use Rattle.rvc_words.specs.Words.{JobText, job, texts};
 ghost use Rattle.rvc_top.specs.Plain.{FormatText, PlainText, built, formats, plain_text};
 ghost use Rattle.cal_ast.specs.Tree.{Tree};
-ghost use Rattle.rvc_top.specs.Formatting.{HasFile, IsDoneOrMemory, IsPrinted, IsPrinting};
+ghost use Rattle.rvc_top.specs.Formatting.{HasFile, IsDoneOrMemory, IsPrinting, PrintsFile};
 ghost use Rattle.rvc_words.specs.declared.fault.UsageCause.{UsageCause};
 ghost use Rattle.rvc_top.specs.Status.{IsBeforeAll, IsOfJob};
-ghost use Rattle.rvc_top.specs.Report.{IsReported, IsReportedOf, IsReportedPlainly, last_line, naming, naming_top, not_built_here, not_built_text, text_or_none, usage_text};
+ghost use Rattle.rvc_top.specs.Report.{PlainReportIs, ReportIs, RunReportIs, last_line, naming, naming_top, not_built_here, not_built_text, text_or_none, usage_text};
 ghost use Rattle.rvc_top.specs.Naming.{names_text};
 ghost use Rattle.rvc_top.specs.Opened.{NamesItsInput};
 ghost use Rattle.rvc_top.specs.Matching.{AreMatched, file_of, ports_of};
 ghost use Rattle.rvc_top.specs.Refused.{IsDenial, IsRefusal};
 ghost use Rattle.rvc_top.specs.Planned.{IsReady, IsPerformed, HasCause, IsCaused};
-ghost use Rattle.rvc_top.specs.Run.{HasInputs, IsInput, Leaves, Writes};
-ghost use Rattle.rvc_top.specs.Outside.{KeepsAll, Answers, Reported};
+ghost use Rattle.rvc_top.specs.Run.{HasInputs, IsInput, LeavesOn, Writes};
+ghost use Rattle.rvc_top.specs.Outside.{Answers, Reports};
 ghost use Rattle.first_form.specs.Spelling.{Spells};
 ghost use Rattle.first_runner.specs.Leaves.{Leaves as HasLeft};
 ghost use Rattle.first_runner.specs.Source.{network_of};
@@ -33,8 +34,8 @@ use crate::reporting::{
     Names, REPORT_CHANNEL, report, report_memory, report_not_built, report_run, report_usage,
 };
 use crate::status::{ReadAt, Status};
-use cal_model::ast::Actor;
 use channel_writer::put_all;
+use first_form::ast::Actor;
 use first_runner::{Ends, Outcome, RunEnd, TRACE_CHANNEL};
 use rvc_base::MAX_BUDGET;
 use rvc_io::{Drains, Feeds, Gate, Library};
@@ -49,19 +50,29 @@ fn perform<F: Feeds, D: Drains>(
     feeds: &mut F,
     drains: &mut D,
 ) -> Status
-    requires feed_closed { F.is_open feeds.old 1 ≡ false }
-    requires trace_closed { D.is_open drains.old 1 ≡ false }
-    requires output_closed { D.is_open drains.old 2 ≡ false }
-    requires report_open { D.is_open drains.old 0 ≡ true }
+    requires feed_closed { (F.feeds feeds.old).is_open 1 ≡ false }
+    requires trace_closed { (D.channels drains.old).is_open 1 ≡ false }
+    requires output_closed { (D.channels drains.old).is_open 2 ≡ false }
+    requires report_open { (D.channels drains.old).is_open 0 ≡ true }
     requires planned { IsReady (form_of plan.actor) plan.runner plan.head.items }
     requires matched { AreMatched (ports_of (form_of plan.actor)) (plain_text job.now).ports }
-    requires input { option_map (λ file. file.now) plan.files.input ≡ file_of (form_of plan.actor).input (plain_text job.now).ports }
-    requires output { option_map (λ file. file.now) plan.files.output ≡ file_of (form_of plan.actor).output (plain_text job.now).ports }
+    requires input { option_map (λ file. file.now) plan.files.input
+        ≡ file_of (form_of plan.actor).input (plain_text job.now).ports }
+    requires output { option_map (λ file. file.now) plan.files.output
+        ≡ file_of (form_of plan.actor).output (plain_text job.now).ports }
     requires bounded { job.now.budget ≤ MAX_BUDGET }
-    ensures leaves { (source : List ℕ) (input : Form → List ℕ) → Spells source (form_of plan.entry.actor) → IsInput (F.under feeds.old) (file_of (form_of plan.entry.actor).input (plain_text job.now).ports) (input (form_of plan.entry.actor)) → D.tells drains.old ≡ true
-        → Leaves (plain_text job.now) source input result (D.held drains.old) (D.held drains.new) (D.is_open drains.new) job.now.budget }
-    ensures performed { IsPerformed (F.faults feeds.old) (F.faults feeds.new) (D.faults drains.old) (D.faults drains.new) result }
-    ensures reported { D.tells drains.old ≡ true → IsReported (naming (plain_text job.now) (text_or_none (option_map (λ file. file.now) plan.entry.files.input))) result (D.held drains.old 0) (D.held drains.new 0) }
+    ensures leaves { (source : List ℕ) (input : Form → List ℕ)
+        → Spells source (form_of plan.entry.actor)
+        → IsInput (F.feeds feeds.old).under (file_of (form_of plan.entry.actor).input
+        (plain_text job.now).ports) (input (form_of plan.entry.actor))
+        → (D.channels drains.old).tells ≡ true
+        → LeavesOn (plain_text job.now) source input result (D.channels drains.old)
+        (D.channels drains.new) job.now.budget }
+    ensures performed { IsPerformed (F.feeds feeds.old).faults (F.feeds feeds.new).faults
+        (D.channels drains.old).faults (D.channels drains.new).faults result }
+    ensures reported { ReportIs (naming (plain_text job.now)
+        (text_or_none (option_map (λ file. file.now) plan.entry.files.input))) result
+        (D.channels drains.old) (D.channels drains.new) }
     ensures names_input { NamesItsInput (is_some plan.entry.files.input) result }
 {
     let Plan {
@@ -95,17 +106,26 @@ fn conclude<D: Drains>(
     actor: &Actor,
     drains: &mut D,
 ) -> Status
-    requires { D.is_open drains.old REPORT_CHANNEL ≡ true }
-    ensures leaves { (j : PlainText) (source : List ℕ) (input : Form → List ℕ) (writes : Bool) (output_old : List ℕ) (limit : ℕ) (held_first : ℕ → List ℕ) → j.top ≡ names.now.top.now → Spells source (form_of actor.now) → AreMatched (ports_of (form_of actor.now)) j.ports → D.tells drains.old ≡ true
-        → held_first 0 ≡ D.held drains.old 0
-        → Writes writes (file_of (form_of actor.now).output j.ports) (D.is_open drains.old 2)
+    requires { (D.channels drains.old).is_open REPORT_CHANNEL ≡ true }
+    ensures leaves { (j : PlainText) (source : List ℕ) (input : Form → List ℕ) (writes : Bool)
+        (output_old : List ℕ) (limit : ℕ) (held_first : ℕ → List ℕ)
+        → j.top ≡ names.now.top.now → Spells source (form_of actor.now)
+        → AreMatched (ports_of (form_of actor.now)) j.ports → (D.channels drains.old).tells ≡ true
+        → held_first 0 ≡ (D.channels drains.old).held 0
+        → Writes writes (file_of (form_of actor.now).output j.ports)
+        ((D.channels drains.old).is_open 2)
         → (writes ≡ true → output_old ≡ [])
-        → HasLeft (form_of actor.now) writes (input (form_of actor.now)) outcome.now.end outcome.now.counts (head_text (network_of (form_of actor.now))) (D.held drains.old 1) output_old (D.held drains.old 2)
+        → HasLeft (form_of actor.now) writes (input (form_of actor.now)) outcome.now.end
+        outcome.now.counts (head_text (network_of (form_of actor.now)) 0)
+        ((D.channels drains.old).held 1) output_old ((D.channels drains.old).held 2)
         → (outcome.now.end ≡ RunEnd.Budget → outcome.now.counts.firings ≡ limit)
-        → Leaves j source input result held_first (D.held drains.new) (D.is_open drains.new) limit }
-    ensures answers { Answers outcome.now.end result (D.faults drains.old) (D.faults drains.new) }
-    ensures reported { D.tells drains.old ≡ true → IsReported (names_text names.now) result (D.held drains.old 0) (D.held drains.new 0) }
-    ensures keeps { KeepsAll (D.tells drains.old) (D.tells drains.new) (D.held drains.old) (D.held drains.new) (D.is_open drains.old) (D.is_open drains.new) (D.faults drains.old) (D.faults drains.new) }
+        → Leaves j source input result held_first (D.channels drains.new).held
+        (D.channels drains.new).is_open limit }
+    ensures answers { Answers outcome.now.end result (D.channels drains.old).faults
+        (D.channels drains.new).faults }
+    ensures reported { ReportIs (names_text names.now) result (D.channels drains.old)
+        (D.channels drains.new) }
+    ensures keeps { WritesOnly D.channels drains.old drains.new 0 }
 {
     let counts = &outcome.counts;
     match outcome.end {
@@ -125,7 +145,8 @@ fn conclude<D: Drains>(
 
 /// What a report of a job names, whose input has this file.
 fn names_of<'a>(job: &'a PlainRun, input: Option<&'a str>) -> Names<'a>
-    ensures { names_text result ≡ naming (plain_text job.now) (text_or_none (option_map (λ file. file.now) input.entry)) }
+    ensures { names_text result ≡ naming (plain_text job.now)
+        (text_or_none (option_map (λ file. file.now) input.entry)) }
 {
     Names {
         top: job.top.as_str(),
@@ -135,9 +156,10 @@ fn names_of<'a>(job: &'a PlainRun, input: Option<&'a str>) -> Names<'a>
 
 /// Reports what ended a job before anything was opened.
 fn report_early<D: Drains>(status: Status, job: &PlainRun, drains: &mut D) -> Status
-    requires { D.is_open drains.old REPORT_CHANNEL ≡ true }
-    ensures reported { Reported status result (D.tells drains.old) (D.faults drains.old) (D.faults drains.new) (D.held drains.old REPORT_CHANNEL) (D.held drains.new REPORT_CHANNEL) (last_line (naming (plain_text job.now) []) status) }
-    ensures keeps { KeepsAll (D.tells drains.old) (D.tells drains.new) (D.held drains.old) (D.held drains.new) (D.is_open drains.old) (D.is_open drains.new) (D.faults drains.old) (D.faults drains.new) }
+    requires { (D.channels drains.old).is_open REPORT_CHANNEL ≡ true }
+    ensures reported { Reports status result (D.channels drains.old) (D.channels drains.new)
+        (last_line (naming (plain_text job.now) []) status) }
+    ensures keeps { WritesOnly D.channels drains.old drains.new 0 }
 {
     report(status, &names_of(job, None), drains)
 }
@@ -150,18 +172,30 @@ fn run_job<L: Library, F: Feeds, D: Drains>(
     feeds: &mut F,
     drains: &mut D,
 ) -> Status
-    requires feed_closed { F.is_open feeds.old 1 ≡ false }
-    requires trace_closed { D.is_open drains.old 1 ≡ false }
-    requires output_closed { D.is_open drains.old 2 ≡ false }
-    requires report_open { D.is_open drains.old 0 ≡ true }
+    requires feed_closed { (F.feeds feeds.old).is_open 1 ≡ false }
+    requires trace_closed { (D.channels drains.old).is_open 1 ≡ false }
+    requires output_closed { (D.channels drains.old).is_open 2 ≡ false }
+    requires report_open { (D.channels drains.old).is_open 0 ≡ true }
     requires bounded { job.now.budget ≤ MAX_BUDGET }
-    ensures leaves { (source : List ℕ) (input : Form → List ℕ) → L.file library.old (string_bytes job.now.top) ≡ Holding source → HasInputs (F.under feeds.old) source (plain_text job.now).ports input → D.tells drains.old ≡ true
-        → Leaves (plain_text job.now) source input result (D.held drains.old) (D.held drains.new) (D.is_open drains.new) job.now.budget }
-    ensures refused { (refusal : Denial) → result ≡ Status.Refused refusal → IsRefusal (plain_text job.now) (L.file library.old (string_bytes job.now.top)) (L.misses library.old) (L.misses library.new) refusal }
-    ensures faults { HasCause (L.faults library.old) (L.faults library.new) (F.faults feeds.old) (F.faults feeds.new) (D.faults drains.old) (D.faults drains.new) result }
-    ensures reported { D.tells drains.old ≡ true → IsReportedOf (plain_text job.now) (L.file library.old (string_bytes job.now.top)) result (D.held drains.old 0) (D.held drains.new 0) }
-    ensures nothing_else { IsBeforeAll result → D.tells drains.old ≡ true → SameElsewhere (D.held drains.old) (D.held drains.new) 0 }
-    ensures nothing_opened { IsBeforeAll result → (other : ℕ) → D.is_open drains.new other ≡ D.is_open drains.old other }
+    ensures leaves { (source : List ℕ) (input : Form → List ℕ)
+        → L.file library.old (string_bytes job.now.top) ≡ Holding source
+        → HasInputs (F.feeds feeds.old).under source (plain_text job.now).ports input
+        → (D.channels drains.old).tells ≡ true
+        → LeavesOn (plain_text job.now) source input result (D.channels drains.old)
+        (D.channels drains.new) job.now.budget }
+    ensures refused { (refusal : Denial) → result ≡ Status.Refused refusal
+        → IsRefusal (plain_text job.now) (L.file library.old (string_bytes job.now.top))
+        (L.misses library.old) (L.misses library.new) refusal }
+    ensures faults { HasCause (L.faults library.old) (L.faults library.new)
+        (F.feeds feeds.old).faults (F.feeds feeds.new).faults (D.channels drains.old).faults
+        (D.channels drains.new).faults result }
+    ensures reported { RunReportIs (plain_text job.now)
+        (L.file library.old (string_bytes job.now.top)) result (D.channels drains.old)
+        (D.channels drains.new) }
+    ensures nothing_else { IsBeforeAll result → (D.channels drains.old).tells ≡ true
+        → SameElsewhere (D.channels drains.old).held (D.channels drains.new).held 0 }
+    ensures nothing_opened { IsBeforeAll result → (other : ℕ)
+        → (D.channels drains.new).is_open other ≡ (D.channels drains.old).is_open other }
 {
     match prepare(alloc, job, library) {
         Err(status) => report_early(status, job, drains),
@@ -207,27 +241,58 @@ pub fn rvc<R: Threads + Sync, L: Library, F: Feeds, D: Drains, G: Gate>(
     drains: &mut D,
     _gate: &G,
 ) -> Status
-    requires feeds_closed { (other : ℕ) → F.is_open feeds.old other ≡ false }
-    requires report_open { D.is_open drains.old 0 ≡ true }
-    requires others_closed { (other : ℕ) → other ≢ 0 → D.is_open drains.old other ≡ false }
-    ensures run { (j : JobText) (r : PlainText) (source : List ℕ) (input : Form → List ℕ) → job (texts words.now) ≡ Ok j → built j ≡ Some r → L.file library.old r.top ≡ Holding source → HasInputs (F.under feeds.old) source r.ports input → D.tells drains.old ≡ true
-        → Leaves r source input result (D.held drains.old) (D.held drains.new) (D.is_open drains.new) r.budget }
-    ensures refused { (j : JobText) (refusal : Denial) → job (texts words.now) ≡ Ok j → result ≡ Status.Refused refusal → IsDenial j (L.file library.old) (L.misses library.old) (L.misses library.new) refusal }
-    ensures formatted { (j : JobText) → job (texts words.now) ≡ Ok j → result ≡ Status.Done → (r : FormatText) × (formats j ≡ Some r) × IsPrinted (L.file library.old r.top) r.ports (D.tells drains.old) (D.held drains.old 0) (D.held drains.new 0) }
-    ensures complete { (j : JobText) (r : FormatText) (tree : Tree) → job (texts words.now) ≡ Ok j → formats j ≡ Some r → HasFile (L.file library.old r.top) r.ports tree → (HasRisen (L.faults library.old) (L.faults library.new) → ⊥) → (HasRisen (D.faults drains.old) (D.faults drains.new) → ⊥) → IsDoneOrMemory result }
-    ensures format_faults { (j : JobText) (r : FormatText) → job (texts words.now) ≡ Ok j → formats j ≡ Some r → IsPrinting (L.faults library.old) (L.faults library.new) (D.faults drains.old) (D.faults drains.new) result }
-    ensures format_report { (j : JobText) (r : FormatText) → job (texts words.now) ≡ Ok j → formats j ≡ Some r → D.tells drains.old ≡ true → IsReported (naming_top r.top) result (D.held drains.old 0) (D.held drains.new 0) }
-    ensures format_alone { (j : JobText) (r : FormatText) → job (texts words.now) ≡ Ok j → formats j ≡ Some r → KeepsAll (D.tells drains.old) (D.tells drains.new) (D.held drains.old) (D.held drains.new) (D.is_open drains.old) (D.is_open drains.new) (D.faults drains.old) (D.faults drains.new) }
-    ensures format_opens_no_feed { (j : JobText) (r : FormatText) → job (texts words.now) ≡ Ok j → formats j ≡ Some r → feeds.new ≡ feeds.old }
-    ensures not_built { (j : JobText) → job (texts words.now) ≡ Ok j → built j ≡ None → formats j ≡ None → (result ≡ Status.OutOfMemory) ⊎ Reported (Status.Refused not_built_here) result (D.tells drains.old) (D.faults drains.old) (D.faults drains.new) (D.held drains.old 0) (D.held drains.new 0) not_built_text }
-    ensures usage { (cause : UsageCause) → result ≡ Status.Usage cause → job (texts words.now) ≡ Err cause }
-    ensures no_job { (cause : UsageCause) → job (texts words.now) ≡ Err cause → (result ≡ Status.OutOfMemory) ⊎ Reported (Status.Usage cause) result (D.tells drains.old) (D.faults drains.old) (D.faults drains.new) (D.held drains.old 0) (D.held drains.new 0) (usage_text cause) }
+    requires feeds_closed { (other : ℕ) → (F.feeds feeds.old).is_open other ≡ false }
+    requires report_open { (D.channels drains.old).is_open 0 ≡ true }
+    requires others_closed { (other : ℕ) → other ≢ 0
+        → (D.channels drains.old).is_open other ≡ false }
+    ensures run { (j : JobText) (r : PlainText) (source : List ℕ) (input : Form → List ℕ)
+        → job (texts words.now) ≡ Ok j → built j ≡ Some r
+        → L.file library.old r.top ≡ Holding source
+        → HasInputs (F.feeds feeds.old).under source r.ports input
+        → (D.channels drains.old).tells ≡ true
+        → LeavesOn r source input result (D.channels drains.old) (D.channels drains.new) r.budget }
+    ensures refused { (j : JobText) (refusal : Denial) → job (texts words.now) ≡ Ok j
+        → result ≡ Status.Refused refusal
+        → IsDenial j (L.file library.old) (L.misses library.old) (L.misses library.new) refusal }
+    ensures formatted { (j : JobText) → job (texts words.now) ≡ Ok j → result ≡ Status.Done
+        → (r : FormatText) × (formats j ≡ Some r) × PrintsFile (L.file library.old r.top) r.ports
+        (D.channels drains.old) (D.channels drains.new) }
+    ensures complete { (j : JobText) (r : FormatText) (tree : Tree) → job (texts words.now) ≡ Ok j
+        → formats j ≡ Some r → HasFile (L.file library.old r.top) r.ports tree
+        → (HasRisen (L.faults library.old) (L.faults library.new) → ⊥)
+        → (WriteFails D.channels drains.old drains.new → ⊥) → IsDoneOrMemory result }
+    ensures format_faults { (j : JobText) (r : FormatText) → job (texts words.now) ≡ Ok j
+        → formats j ≡ Some r
+        → IsPrinting (L.faults library.old) (L.faults library.new) (D.channels drains.old).faults
+        (D.channels drains.new).faults result }
+    ensures format_report { (j : JobText) (r : FormatText) → job (texts words.now) ≡ Ok j
+        → formats j ≡ Some r
+        → ReportIs (naming_top r.top) result (D.channels drains.old) (D.channels drains.new) }
+    ensures format_alone { (j : JobText) (r : FormatText) → job (texts words.now) ≡ Ok j
+        → formats j ≡ Some r → WritesOnly D.channels drains.old drains.new 0 }
+    ensures format_opens_no_feed { (j : JobText) (r : FormatText) → job (texts words.now) ≡ Ok j
+        → formats j ≡ Some r → feeds.new ≡ feeds.old }
+    ensures not_built { (j : JobText) → job (texts words.now) ≡ Ok j → built j ≡ None
+        → formats j ≡ None
+        → (result ≡ Status.OutOfMemory) ⊎ Reports (Status.Refused not_built_here) result
+        (D.channels drains.old) (D.channels drains.new) not_built_text }
+    ensures usage { (cause : UsageCause) → result ≡ Status.Usage cause
+        → job (texts words.now) ≡ Err cause }
+    ensures no_job { (cause : UsageCause) → job (texts words.now) ≡ Err cause
+        → (result ≡ Status.OutOfMemory) ⊎ Reports (Status.Usage cause) result
+        (D.channels drains.old) (D.channels drains.new) (usage_text cause) }
     ensures planned { IsOfJob result → IsOk (job (texts words.now)) }
-    ensures faults { IsCaused (L.faults library.old) (L.faults library.new) (F.faults feeds.old) (F.faults feeds.new) (D.faults drains.old) (D.faults drains.new) result }
-    ensures report { (j : JobText) (r : PlainText) → job (texts words.now) ≡ Ok j → built j ≡ Some r → D.tells drains.old ≡ true → IsReportedOf r (L.file library.old r.top) result (D.held drains.old 0) (D.held drains.new 0) }
-    ensures plain_report { D.tells drains.old ≡ true → IsReportedPlainly result (D.held drains.old 0) (D.held drains.new 0) }
-    ensures nothing_else { IsBeforeAll result → D.tells drains.old ≡ true → SameElsewhere (D.held drains.old) (D.held drains.new) 0 }
-    ensures nothing_opened { IsBeforeAll result → (other : ℕ) → D.is_open drains.new other ≡ D.is_open drains.old other }
+    ensures faults { IsCaused (L.faults library.old) (L.faults library.new)
+        (F.feeds feeds.old).faults (F.feeds feeds.new).faults (D.channels drains.old).faults
+        (D.channels drains.new).faults result }
+    ensures report { (j : JobText) (r : PlainText) → job (texts words.now) ≡ Ok j → built j ≡ Some r
+        → RunReportIs r (L.file library.old r.top) result (D.channels drains.old)
+        (D.channels drains.new) }
+    ensures plain_report { PlainReportIs result (D.channels drains.old) (D.channels drains.new) }
+    ensures nothing_else { IsBeforeAll result → (D.channels drains.old).tells ≡ true
+        → SameElsewhere (D.channels drains.old).held (D.channels drains.new).held 0 }
+    ensures nothing_opened { IsBeforeAll result → (other : ℕ)
+        → (D.channels drains.new).is_open other ≡ (D.channels drains.old).is_open other }
 {
     match read_words(alloc, words) {
         Err(WordFault::Memory) => report_memory(drains),

@@ -13,7 +13,7 @@ use Rattle.rvc_words.specs.declared.fault.UsageCause.TheVariants.{Verb as VerbCa
 use Rattle.rvc_words.specs.declared.job.Verb.{Verb}
 use Rattle.rvc_words.specs.Command.{Parts}
 use Rattle.rvc_words.specs.Forms.{given_or, is_port, is_top, lacks_trace, number, round_of, verb_of}
-use Rattle.rvc_words.specs.Limits.{default_budget, default_burst, default_workers, max_budget, max_burst, max_workers}
+use Rattle.rvc_words.specs.Limits.{default_budget, default_burst, default_workers, max_budget, max_burst, max_grow, max_workers}
 use Rattle.rvc_words.specs.Words.{JobText, PortText, asked, port}
 
 -- what a value or a cause in place of an option says of it
@@ -50,12 +50,12 @@ pub answered_by : (p : Parts) (cause named : UsageCause) → ◌≡◌ {A = Resu
 answered_by p cause named e is = is ∙ ap Err (same_cause named cause (ap fault_in e))
 
 -- the texts of a job are those of the parts
-pub with_texts : (p : Parts) (verb : Verb) (workers burst budget : ℕ) (round : RoundKind) (top trace : List ℕ) (ports : List PortText)
+pub with_texts : (p : Parts) (verb : Verb) (workers burst budget grow : ℕ) (round : RoundKind) (top trace : List ℕ) (ports : List PortText)
     → top ≡ p.top → ports ≡ map port p.ports → trace ≡ p.trace
-    → asked p ≡ Ok (record { verb = verb; top = p.top; ports = map port p.ports; trace = p.trace; workers = workers; round = round; burst = burst; budget = budget })
-    → asked p ≡ Ok (record { verb = verb; top = top; ports = ports; trace = trace; workers = workers; round = round; burst = burst; budget = budget })
-with_texts p verb workers burst budget round top trace ports et ep er is =
-    let job : List ℕ → List PortText → List ℕ → JobText = λ t ps r. record { verb = verb; top = t; ports = ps; trace = r; workers = workers; round = round; burst = burst; budget = budget } in
+    → asked p ≡ Ok (record { verb = verb; top = p.top; ports = map port p.ports; trace = p.trace; workers = workers; round = round; burst = burst; budget = budget; grow = grow })
+    → asked p ≡ Ok (record { verb = verb; top = top; ports = ports; trace = trace; workers = workers; round = round; burst = burst; budget = budget; grow = grow })
+with_texts p verb workers burst budget grow round top trace ports et ep er is =
+    let job : List ℕ → List PortText → List ℕ → JobText = λ t ps r. record { verb = verb; top = t; ports = ps; trace = r; workers = workers; round = round; burst = burst; budget = budget; grow = grow } in
     is ∙ ap (λ t. Ok (job t (map port p.ports) p.trace)) (sym et) ∙ ap (λ ps. Ok (job top ps p.trace)) (sym ep) ∙ ap (λ r. Ok (job top ports r)) (sym er)
 
 module _ (p : Parts) where
@@ -84,21 +84,26 @@ module _ (p : Parts) where
           no_budget e = rw (v, t, w, b, e) refl
 
           module _ (budget : ℕ) (g : given_or default_budget (number 1 max_budget) p.budget ≡ Some budget) where
-            pub no_round : given_or All round_of p.round ≡ None → asked p ≡ Err Round
+            pub no_grow : given_or 0 (number 1 max_grow) p.grow ≡ None → asked p ≡ Err Number
             unfolding asked
-            no_round e = rw (v, t, w, b, g, e) refl
+            no_grow e = rw (v, t, w, b, g, e) refl
 
-            module _ (round : RoundKind) (r : given_or All round_of p.round ≡ Some round) where
-              pub no_port : list_all is_port p.ports ≡ false → asked p ≡ Err Port
+            module _ (grow : ℕ) (l : given_or 0 (number 1 max_grow) p.grow ≡ Some grow) where
+              pub no_round : given_or All round_of p.round ≡ None → asked p ≡ Err Round
               unfolding asked
-              no_port e = rw (v, t, w, b, g, r, e) refl
+              no_round e = rw (v, t, w, b, g, l, e) refl
 
-              module _ (k : list_all is_port p.ports ≡ true) where
-                pub no_trace : lacks_trace verb p.trace ≡ true → asked p ≡ Err Trace
+              module _ (round : RoundKind) (r : given_or All round_of p.round ≡ Some round) where
+                pub no_port : list_all is_port p.ports ≡ false → asked p ≡ Err Port
                 unfolding asked
-                no_trace e = rw (v, t, w, b, g, r, k, e) refl
+                no_port e = rw (v, t, w, b, g, l, r, e) refl
 
-                pub whole_job : lacks_trace verb p.trace ≡ false
-                    → asked p ≡ Ok (record { verb = verb; top = p.top; ports = map port p.ports; trace = p.trace; workers = workers; round = round; burst = burst; budget = budget })
-                unfolding asked
-                whole_job e = rw (v, t, w, b, g, r, k, e) refl
+                module _ (k : list_all is_port p.ports ≡ true) where
+                  pub no_trace : lacks_trace verb p.trace ≡ true → asked p ≡ Err Trace
+                  unfolding asked
+                  no_trace e = rw (v, t, w, b, g, l, r, k, e) refl
+
+                  pub whole_job : lacks_trace verb p.trace ≡ false
+                      → asked p ≡ Ok (record { verb = verb; top = p.top; ports = map port p.ports; trace = p.trace; workers = workers; round = round; burst = burst; budget = budget; grow = grow })
+                  unfolding asked
+                  whole_job e = rw (v, t, w, b, g, l, r, k, e) refl

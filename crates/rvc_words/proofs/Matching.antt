@@ -25,16 +25,16 @@ pub bare : (f : Command-F Command) → app_of_fields f ≡ new_app (codes "rvc")
 bare f e = ap without_flags e
 
 -- the command is put together
-pub whole : (a b c d e f g h last : App) → a ≡ without_flags (new_app (codes "rvc"))
+pub whole : (a b c d e f g h i last : App) → a ≡ without_flags (new_app (codes "rvc"))
     → b ≡ with_rule a (place (codes "VERB")) → c ≡ with_rule b (place (codes "TOP")) → d ≡ with_rule c (last_place (codes "PORTS"))
     → e ≡ with_rule d (option (codes "trace")) → f ≡ with_rule e (option (codes "workers")) → g ≡ with_rule f (option (codes "round"))
-    → h ≡ with_rule g (option (codes "burst")) → last ≡ with_rule h (option (codes "budget")) → last ≡ rvc
+    → h ≡ with_rule g (option (codes "burst")) → i ≡ with_rule h (option (codes "budget")) → last ≡ with_rule i (option (codes "grow")) → last ≡ rvc
 unfolding rvc
-whole a b c d e f g h last ea eb ec ed ee ef eg eh el =
-    el ∙ ap (λ x. with_rule x (option (codes "budget"))) (eh ∙ ap (λ x. with_rule x (option (codes "burst"))) (eg
+whole a b c d e f g h i last ea eb ec ed ee ef eg eh ei el =
+    el ∙ ap (λ x. with_rule x (option (codes "grow"))) (ei ∙ ap (λ x. with_rule x (option (codes "budget"))) (eh ∙ ap (λ x. with_rule x (option (codes "burst"))) (eg
     ∙ ap (λ x. with_rule x (option (codes "round"))) (ef ∙ ap (λ x. with_rule x (option (codes "workers"))) (ee
     ∙ ap (λ x. with_rule x (option (codes "trace"))) (ed ∙ ap (λ x. with_rule x (last_place (codes "PORTS"))) (ec
-    ∙ ap (λ x. with_rule x (place (codes "TOP"))) (eb ∙ ap (λ x. with_rule x (place (codes "VERB"))) ea)))))))
+    ∙ ap (λ x. with_rule x (place (codes "TOP"))) (eb ∙ ap (λ x. with_rule x (place (codes "VERB"))) ea))))))))
 
 pub accepted : (a : App) (words : List Text) → a ≡ rvc → (is_simple_and_free a ≡ true → fault_of a words ≡ []) → refuses words ≡ false
 unfolding refuses

@@ -48,6 +48,7 @@ a_job : job (codes "rvc" ∷ codes "run" ∷ codes "a/Inc.cal" ∷ codes "In=a=b
       round = Seed 7;
       burst = 64;
       budget = 100000000;
+      grow = 0;
     })
 unfolding clap_on_literals rvc refuses matches parts_of asked job verb_of is_file is_path is_name number round_of is_port
 a_job = refl

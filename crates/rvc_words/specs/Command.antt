@@ -22,11 +22,11 @@ option name = record (new_rule name) { long = Some name }
 abbrev pub without_flags : App → App
 without_flags = on_top (λ shape. record shape { disable_help_flag = true; disable_version_flag = true })
 
--- the places `VERB`, `TOP` and `PORTS`, and five options, in any order
+-- the places `VERB`, `TOP` and `PORTS`, and six options, in any order
 unfoldable pub rvc : App
 rvc =
     let places = with_rule (with_rule (with_rule (without_flags (new_app (codes "rvc"))) (place (codes "VERB"))) (place (codes "TOP"))) (last_place (codes "PORTS")) in
-    with_rule (with_rule (with_rule (with_rule (with_rule places (option (codes "trace"))) (option (codes "workers"))) (option (codes "round"))) (option (codes "burst"))) (option (codes "budget"))
+    with_rule (with_rule (with_rule (with_rule (with_rule (with_rule places (option (codes "trace"))) (option (codes "workers"))) (option (codes "round"))) (option (codes "burst"))) (option (codes "budget"))) (option (codes "grow"))
 
 abbrev pub is_some_fault : Kinds → Bool
 is_some_fault [] = false
@@ -51,6 +51,7 @@ pub record Parts : Type 0 where
   pub round : Option Text
   pub burst : Option Text
   pub budget : Option Text
+  pub grow : Option Text
 
 -- the word at a place or behind an option, or nothing
 abbrev pub text_at : Text → List Row → Text
@@ -69,4 +70,5 @@ parts_of rows = record {
   round = first_of (codes "round") rows;
   burst = first_of (codes "burst") rows;
   budget = first_of (codes "budget") rows;
+  grow = first_of (codes "grow") rows;
 }

@@ -23,4 +23,5 @@ parts_text g = record {
   round = word_of g.round;
   burst = word_of g.burst;
   budget = word_of g.budget;
+  grow = word_of g.grow;
 }

@@ -25,6 +25,10 @@ default_budget = 100000000
 abbrev pub max_budget : ℕ
 max_budget = 1000000000000
 
+-- tokens that a link which grows can hold
+abbrev pub max_grow : ℕ
+max_grow = 1048576
+
 -- the greatest start of the policy `seed:N`
 abbrev pub max_seed : ℕ
 max_seed = 18446744073709551615

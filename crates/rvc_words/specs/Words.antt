@@ -11,7 +11,7 @@ use Rattle.rvc_words.specs.declared.job.Verb.{Verb}
 pub use Rattle.rvc_words.specs.Texts.{texts}
 use Rattle.rvc_words.specs.Command.{Parts, matches, parts_of, refuses}
 use Rattle.rvc_words.specs.Forms.{front_of, given_or, is_port, is_top, lacks_trace, number, rest_of, round_of, verb_of}
-use Rattle.rvc_words.specs.Limits.{default_budget, default_burst, default_workers, max_budget, max_burst, max_workers}
+use Rattle.rvc_words.specs.Limits.{default_budget, default_burst, default_workers, max_budget, max_burst, max_grow, max_workers}
 
 -- a port and the file that it is read from or written to
 pub record PortText : Type 0 where
@@ -28,6 +28,7 @@ pub record JobText : Type 0 where
   pub round : RoundKind
   pub burst : ℕ
   pub budget : ℕ
+  pub grow : ℕ
 
 abbrev pub port : List ℕ → PortText
 port word = record { name = front_of 61 word; file = rest_of 61 word }
@@ -53,10 +54,11 @@ asked p = do
   workers ← ok_or (given_or default_workers (number 1 max_workers) p.workers) Number
   burst ← ok_or (given_or default_burst (number 1 max_burst) p.burst) Number
   budget ← ok_or (given_or default_budget (number 1 max_budget) p.budget) Number
+  grow ← ok_or (given_or 0 (number 1 max_grow) p.grow) Number
   round ← ok_or (given_or All round_of p.round) Round
   ports ← kept (list_all is_port p.ports) (map port p.ports) Port
   trace ← kept (not (lacks_trace verb p.trace)) p.trace Trace
-  Ok (record { verb = verb; top = top; ports = ports; trace = trace; workers = workers; round = round; burst = burst; budget = budget })
+  Ok (record { verb = verb; top = top; ports = ports; trace = trace; workers = workers; round = round; burst = burst; budget = budget; grow = grow })
 
 -- what the words ask for, the program's name first, or why they are no job
 unfoldable pub job : List (List ℕ) → Result JobText UsageCause
@@ -76,6 +78,7 @@ job_text j = record {
   round = j.round;
   burst = j.burst;
   budget = j.budget;
+  grow = j.grow;
 }
 
 -- the numbers of a job lie within their limits
@@ -86,3 +89,4 @@ pub record IsWithin (j : JobText) : Type 0 where
   pub burst_most : j.burst ≤ max_burst
   pub budget_least : 1 ≤ j.budget
   pub budget_most : j.budget ≤ max_budget
+  pub grow_most : j.grow ≤ max_grow

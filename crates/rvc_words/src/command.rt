@@ -53,7 +53,8 @@ fn command<'a>(alloc: Global) -> Result<Command<'a>, AllocError>
     let with_workers = with_trace.arg(option(alloc, "workers"))?;
     let with_round = with_workers.arg(option(alloc, "round"))?;
     let with_burst = with_round.arg(option(alloc, "burst"))?;
-    with_burst.arg(option(alloc, "budget"))
+    let with_budget = with_burst.arg(option(alloc, "budget"))?;
+    with_budget.arg(option(alloc, "grow"))
 }
 
 /// The matches of the words.

@@ -14,7 +14,7 @@ pub enum UsageCause {
     Verb,
     /// The top is neither a file of the verb nor, for `gen`, a number from 1 to 1,000.
     Top,
-    /// The value of `--workers`, `--burst` or `--budget` is no number, or is out of its bounds.
+    /// The value of `--workers`, `--burst`, `--budget` or `--grow` is no number, or is out of its bounds.
     Number,
     /// The value of `--round` is no policy.
     Round,

@@ -17,6 +17,9 @@ pub const MAX_BURST: u64 = 65_536;
 /// The budget where the words name none, in firings.
 pub const DEFAULT_BUDGET: u64 = 100_000_000;
 
+/// The greatest limit to which links grow, in tokens.
+pub const MAX_GROW: u64 = 1_048_576;
+
 /// The greatest number of a generated network.
 pub const MAX_GENERATED: u64 = 1_000;
 
@@ -38,6 +41,8 @@ pub struct Job {
     pub burst: u32,
     /// The most firings of the run.
     pub budget: u64,
+    /// The capacity up to which links grow at a stall, in tokens; 0 where none grows.
+    pub grow: u32,
 }
 
 /// A port and the file that it is read from or written to.

@@ -42,10 +42,10 @@ pub fn read_number(word: &str, least: u64, most: u64) -> Option<u64>
 
 /// The number of an option, or the default where it isn't given.
 pub fn number_or(word: Option<&str>, default: u64, most: u64) -> Option<u64>
-    requires least { 1 ≤ default }
     requires most { default ≤ most }
     ensures value { result ≡ given_or default (number 1 most) (word_of word.entry) }
-    ensures bounds { IfSome result (λ value. (1 ≤ value) × (value ≤ most)) }
+    ensures least { IfSome result (λ value. 1 ≤ default → 1 ≤ value) }
+    ensures most { IfSome result (λ value. value ≤ most) }
 {
     match word {
         Some(word) => read_number(word, 1, most),

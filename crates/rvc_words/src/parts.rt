@@ -20,6 +20,7 @@ pub struct Parts<'a, 'm> {
     pub round: Option<&'a str>,
     pub burst: Option<&'a str>,
     pub budget: Option<&'a str>,
+    pub grow: Option<&'a str>,
 }
 
 /// The word behind an option.
@@ -60,5 +61,6 @@ pub fn parts_of<'a, 'm>(matches: &'m ArgMatches<'a>) -> Parts<'a, 'm>
         round: option_at(matches, "round"),
         burst: option_at(matches, "burst"),
         budget: option_at(matches, "budget"),
+        grow: option_at(matches, "grow"),
     }
 }

@@ -13,7 +13,7 @@ use crate::command::matches;
 use crate::fault::{UsageCause, WordFault};
 use crate::forms::{is_port, is_top, lacks_trace, round_or_all, verb_of};
 use crate::job::{
-    DEFAULT_BUDGET, DEFAULT_BURST, DEFAULT_WORKERS, Job, MAX_BURST, MAX_WORKERS, PortWord,
+    DEFAULT_BUDGET, DEFAULT_BURST, DEFAULT_WORKERS, Job, MAX_BURST, MAX_GROW, MAX_WORKERS, PortWord,
 };
 use crate::names::cut;
 use crate::numbers::number_or;
@@ -51,6 +51,7 @@ fn asked(alloc: Global, parts: Parts<'_, '_>) -> Result<Job, WordFault>
     let workers = number_or(parts.workers, DEFAULT_WORKERS, MAX_WORKERS).ok_or(UsageCause::Number)?;
     let burst = number_or(parts.burst, DEFAULT_BURST, MAX_BURST).ok_or(UsageCause::Number)?;
     let budget = number_or(parts.budget, DEFAULT_BUDGET, MAX_BUDGET).ok_or(UsageCause::Number)?;
+    let grow = number_or(parts.grow, 0, MAX_GROW).ok_or(UsageCause::Number)?;
     let round = round_or_all(parts.round).ok_or(UsageCause::Round)?;
     if !are_ports(parts.ports) {
         return Err(WordFault::Usage(UsageCause::Port));
@@ -67,6 +68,7 @@ fn asked(alloc: Global, parts: Parts<'_, '_>) -> Result<Job, WordFault>
         round,
         burst: burst as u32,
         budget,
+        grow: grow as u32,
     })
 }
 

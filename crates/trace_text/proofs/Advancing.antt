@@ -1,21 +1,23 @@
 -- Where a byte leads, apart from numbers and from the first byte of a line.
 use Rattle.std.proofs.Common.{◌≡◌, ℕ, ◌+◌, ◌<◌, Bool, true, false, List, [], ◌∷◌, ◌++◌, None, refl, sym, subst, inl, inr, arith, length, slice_index_or, add-one}
-use Rattle.std.specs.Prelude.{drop, ◌==◌, MatchBool}
+use Rattle.std.specs.Prelude.{drop, ◌==◌, ◌≢◌, ◌≤◌, MatchBool}
+use Rattle.std.proofs.lemmas.List.{drop_all}
 use Rattle.std.proofs.Math.Seq.{drop-cons}
 use Rattle.rvc_base.specs.declared.trap.Trap.{Trap as TrapName}
 use Rattle.rvc_base.specs.declared.trap.Trap.TheVariants.{Overflow, DivideByZero, IndexRange, ShiftRange, TurnLimit}
 use Rattle.rvc_base.specs.Trap.{trap_name}
+use Rattle.trace_text.specs.declared.line.Line.{Line}
 use Rattle.trace_text.specs.declared.line.Line.TheVariants.{Inst, Trap}
 use Rattle.trace_text.specs.declared.place.Place.{Place}
 use Rattle.trace_text.specs.declared.place.Place.TheVariants.{AfterR, Front, Letter, Number, AtName, InName, AtTrap, InTrap, Lost}
 use Rattle.trace_text.specs.declared.place.Field.{Field}
-use Rattle.trace_text.specs.declared.place.Field.TheVariants.{Instances}
+use Rattle.trace_text.specs.declared.place.Field.TheVariants.{Instances, GrowingInstances}
 use Rattle.trace_text.specs.declared.place.Part.{Part}
 use Rattle.trace_text.specs.declared.place.Part.TheVariants.{Path, Class}
 use Rattle.trace_text.specs.Names.{is_letter, is_name_byte}
-use Rattle.trace_text.specs.Waiting.{Behind, Ends, separator_of, InField, IsAlive, Leads, LeadsOut, front}
+use Rattle.trace_text.specs.Waiting.{Behind, Ends, separator_of, Versions, IsAlive, Leads, LeadsOut, LeadsVersion, front}
 use Rattle.trace_text.proofs.Numbering.{alive_none, lost}
-use Rattle.trace_text.proofs.Starting.{behind_all}
+use Rattle.trace_text.proofs.Starting.{alive_letter, behind_all}
 
 -- one byte of a text, and the others
 behind_split : (text : List ℕ) (P : List ℕ → Type 0) (read byte : ℕ) (bytes : List ℕ) → read < length text
@@ -30,18 +32,22 @@ behind_less : (text : List ℕ) (P : List ℕ → Type 0) (read byte : ℕ) (byt
     → slice_index_or text read 0 ≡ byte → Behind (drop (read + 1) text) P bytes → Behind (drop read text) P (byte ∷ bytes)
 behind_less text P read byte bytes low e w = subst (λ (T : Type 0). T) (sym (behind_split text P read byte bytes low)) (sym e, w)
 
-pub front_more : (read byte : ℕ) → read < 12 → slice_index_or front read 0 ≡ byte → Leads (Front read) byte (Front (read + 1))
+-- a version follows what stands before it
+alive_version : (line : Line) × (bytes : List ℕ) × Versions line bytes
+alive_version = let some = alive_letter Instances in (some.0, 49 ∷ some.1, inl (refl, some.2))
+
+pub front_more : (read byte : ℕ) → read < 10 → slice_index_or front read 0 ≡ byte → Leads (Front read) byte (Front (read + 1))
 front_more read byte low e =
-    let some = alive_none Instances in
+    let some = alive_version in
     record {
-      onward = λ line bytes w. (behind_more front (InField Instances None line) read byte bytes low w).1;
-      back = λ line bytes w. behind_less front (InField Instances None line) read byte bytes low e w;
-      alive = (some.0, drop (read + 1) front ++ some.1, behind_all (drop (read + 1) front) (InField Instances None some.0) some.1 some.2);
+      onward = λ line bytes w. (behind_more front (Versions line) read byte bytes low w).1;
+      back = λ line bytes w. behind_less front (Versions line) read byte bytes low e w;
+      alive = (some.0, drop (read + 1) front ++ some.1, behind_all (drop (read + 1) front) (Versions some.0) some.1 some.2);
     }
 
-pub front_lost : (read byte : ℕ) → read < 12 → (slice_index_or front read 0 ≡ byte → ⊥) → Leads (Front read) byte Lost
+pub front_lost : (read byte : ℕ) → read < 10 → (slice_index_or front read 0 ≡ byte → ⊥) → Leads (Front read) byte Lost
 front_lost read byte low other = lost (Front read) byte
-    (λ line bytes w. other (sym (behind_more front (InField Instances None line) read byte bytes low w).0))
+    (λ line bytes w. other (sym (behind_more front (Versions line) read byte bytes low w).0))
 
 pub trap_more : (inst action : ℕ) (trap : TrapName) (read byte : ℕ) → read < length (trap_name trap)
     → slice_index_or (trap_name trap) read 0 ≡ byte → Leads (InTrap inst action trap read) byte (InTrap inst action trap (read + 1))
@@ -59,12 +65,44 @@ trap_more inst action trap read byte low e =
 
 pub first_front : Leads AfterR 118 (Front 2)
 first_front =
-    let some = alive_none Instances in
+    let some = alive_version in
     record {
       onward = λ line bytes w. elim w [ inl v ↦ absurd (let e : ◌≡◌ {A = ℕ} 118 10 = v.0 in omega arith) | inr v ↦ v.1 ];
       back = λ line bytes w. inr (refl, w);
-      alive = (some.0, drop 2 front ++ some.1, behind_all (drop 2 front) (InField Instances None some.0) some.1 some.2);
+      alive = (some.0, drop 2 front ++ some.1, behind_all (drop 2 front) (Versions some.0) some.1 some.2);
     }
+
+-- the version, behind all that stands before it
+pub version_at : (read byte : ℕ) (next : Place) → 10 ≤ read → LeadsVersion byte next → Leads (Front read) byte next
+version_at read byte next high there = record {
+  onward = λ line bytes w. there.onward line bytes (subst (λ cs. Behind cs (Versions line) (byte ∷ bytes)) none w);
+  back = λ line bytes w. subst (λ cs. Behind cs (Versions line) (byte ∷ bytes)) (sym none) (there.back line bytes w);
+  alive = there.alive;
+}
+  where
+    none : drop read front ≡ []
+    none = drop_all read front high
+
+pub first_version : LeadsVersion 49 (Letter Instances)
+first_version = record {
+  onward = λ line bytes w. elim w [ inl v ↦ v.1 | inr v ↦ absurd (let e : ◌≡◌ {A = ℕ} 49 50 = v.0 in omega arith) ];
+  back = λ line bytes w. inl (refl, w);
+  alive = alive_letter Instances;
+}
+
+pub second_version : LeadsVersion 50 (Letter GrowingInstances)
+second_version = record {
+  onward = λ line bytes w. elim w [ inl v ↦ absurd (let e : ◌≡◌ {A = ℕ} 50 49 = v.0 in omega arith) | inr v ↦ v.1 ];
+  back = λ line bytes w. inr (refl, w);
+  alive = alive_letter GrowingInstances;
+}
+
+pub no_version : (byte : ℕ) → byte ≢ 49 → byte ≢ 50 → LeadsVersion byte Lost
+no_version byte one two = record {
+  onward = λ line bytes w. elim w [ inl v ↦ one v.0 | inr v ↦ two v.0 ];
+  back = λ line bytes w. absurd w;
+  alive = tt;
+}
 
 pub blank : (field : Field) → Leads (Letter field) 32 (Number field None)
 blank field = record { onward = λ line bytes w. w.1; back = λ line bytes w. (refl, w); alive = alive_none field }

@@ -1,6 +1,7 @@
 -- Numbers of which some digits have been read.
-use Rattle.std.proofs.Common.{◌≡◌, ◌⊎◌, ℕ, zero, suc, ◌+◌, ◌*◌, ◌/◌, ◌%◌, ◌^◌, ◌<◌, ◌≤◌, List, [], ◌∷◌, ◌++◌, Option, None, Some, refl, sym, ap, ◌∙◌, inl, inr, subst, arith, append_assoc}
+use Rattle.std.proofs.Common.{◌≡◌, ◌⊎◌, ℕ, zero, suc, ◌+◌, ◌*◌, ◌/◌, ◌%◌, ◌^◌, ◌<◌, ◌≤◌, List, [], ◌∷◌, ◌++◌, Option, None, Some, refl, sym, ap, ◌∙◌, inl, inr, subst, ⊎_elim, arith, append_assoc}
 use Rattle.std.specs.Prelude.{decimal, length, slice_index_or as get_or}
+use Rattle.std.proofs.lemmas.Bool.{cases_lt}
 use Rattle.std.proofs.lemmas.List.{append-nil}
 use Rattle.std.proofs.lemmas.Fmt.{decimal_by_steps, decimal_injective, decimal_step, decimal_digit, decimal_nonempty, first_decimal}
 use Rattle.trace_text.specs.Waiting.{IsDigit, IsNumber, Numbers, digits_so_far}
@@ -226,3 +227,10 @@ not_whole xs (c ∷ tail) there all = there (digits_end xs c tail all)
 pub no_end : (bound : ℕ) (so_far : Option ℕ) (after : ℕ → List ℕ → Type 0) → AllStop after → Numbers bound so_far after [] → ⊥
 no_end bound so_far after stops w =
     not_whole (decimal w.number) w.tail (stops w.number w.tail w.follows) (subst AreDigits w.text (so_far_digits so_far w.fits))
+
+-- a byte is a digit, or it is none
+pub a_digit_or_not : {P : Type 0} (byte : ℕ) → (IsDigit byte → P) → ((IsDigit byte → ⊥) → P) → P
+a_digit_or_not byte p q = ⊎_elim
+    (λ low. q (λ digit. omega (arith, digit.0)))
+    (λ high. ⊎_elim (λ low. p (omega arith, low)) (λ great. q (λ digit. omega (arith, digit.1))) (cases_lt byte 58))
+    (cases_lt byte 48)

@@ -1,19 +1,20 @@
 -- A line's text ends at its first line feed, and is no other line's.
-use Rattle.std.proofs.Common.{◌≡◌, ◌≢◌, ℕ, ◌<◌, ◌≤◌, Bool, true, false, List, [], ◌∷◌, ◌++◌, refl, sym, ap, ◌∙◌, subst, arith, append_assoc}
+use Rattle.std.proofs.Common.{◌≡◌, ◌≢◌, ℕ, zero, suc, ◌<◌, ◌≤◌, Bool, true, false, List, [], ◌∷◌, ◌++◌, refl, sym, ap, ◌∙◌, subst, arith, append_assoc}
 use Rattle.std.specs.Prelude.{decimal, codes, drop, ◌==◌, if◌then◌else◌}
 use Rattle.std.proofs.lemmas.List.{append-nil}
 use Rattle.rvc_base.specs.declared.trap.Trap.{Trap as TrapName}
 use Rattle.rvc_base.specs.declared.trap.Trap.TheVariants.{Overflow, DivideByZero, IndexRange, ShiftRange, TurnLimit}
 use Rattle.rvc_base.specs.Trap.{trap_name}
 use Rattle.trace_text.specs.declared.line.Line.{Line}
-use Rattle.trace_text.specs.declared.line.Line.TheVariants.{Header, Inst, Fire, Deliver, Quiet, Trap, Stall, Budget}
+use Rattle.trace_text.specs.declared.line.Line.TheVariants.{Header, Inst, Fire, Deliver, Grow, Quiet, Trap, Stall, Budget}
 use Rattle.trace_text.specs.Text.{line_text}
 use Rattle.trace_text.specs.Table.{number_bound}
 use Rattle.trace_text.specs.Names.{is_name_byte, is_letter, AreNameBytes, IsName, AreNames, each_behind, IsJoined}
 use Rattle.trace_text.specs.Spelling.{Spells, IsFront}
 use Rattle.trace_text.specs.ReadBack.{HasNoLineFeed}
 use Rattle.trace_text.proofs.Decoding.{consed, AreDigits, decimal_digits, heads, tails, spread, line_tells, number_tells}
-use Rattle.trace_text.proofs.Starting.{text_spread, inst_spread, letter_of, first_letter}
+use Rattle.trace_text.proofs.Decoding.{letter_of}
+use Rattle.trace_text.proofs.Starting.{text_spread, inst_spread, first_letter}
 use Rattle.trace_text.proofs.Reading.{has_line}
 
 -- bytes without a line feed
@@ -103,9 +104,15 @@ at : (text that : List ℕ) → text ≡ that → EndsAlone that → EndsAlone t
 at text that e end = subst EndsAlone (sym e) end
 
 pub line_ends : (line : Line) (text : List ℕ) → Spells line text → EndsAlone text
-line_ends (Header n l) text w = at text (spread (Header n l) []) (w.1 ∙ text_spread (Header n l))
+line_ends (Header n l zero) text w = at text (spread (Header n l zero) []) (w.1 ∙ text_spread (Header n l zero))
     (behind (codes "rvc-trace 1 ") _ (free_none (codes "rvc-trace 1 ") refl)
     (number n _ w.0.0 (blank _ (number l (10 ∷ []) w.0.1 bare))))
+line_ends (Header n l (suc g)) text w = at text (spread (Header n l (suc g)) []) (w.1 ∙ text_spread (Header n l (suc g)))
+    (behind (codes "rvc-trace 2 ") _ (free_none (codes "rvc-trace 2 ") refl)
+    (number n _ w.0.0 (blank _ (number l _ w.0.1 (blank _ (number (suc g) (10 ∷ []) w.0.2 bare))))))
+line_ends (Grow l c) text w = at text (spread (Grow l c) []) (w.1 ∙ text_spread (Grow l c))
+    (behind (103 ∷ 32 ∷ []) _ (free_none (103 ∷ 32 ∷ []) refl)
+    (number l _ w.0.0 (blank _ (number c (10 ∷ []) w.0.1 bare))))
 line_ends (Inst k) text w =
     let path = w.1.0 in
     let class = w.1.1 in

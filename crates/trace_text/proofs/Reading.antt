@@ -4,14 +4,13 @@ use Rattle.std.specs.Prelude.{None}
 use Rattle.std.proofs.lemmas.List.{append-nil}
 use Rattle.rvc_base.specs.Trap.{trap_name}
 use Rattle.trace_text.specs.declared.line.Line.{Line}
-use Rattle.trace_text.specs.declared.line.Line.TheVariants.{Header, Inst, Fire, Deliver, Quiet, Trap, Stall, Budget}
+use Rattle.trace_text.specs.declared.line.Line.TheVariants.{Header, Inst, Fire, Deliver, Grow, Quiet, Trap, Stall, Budget}
 use Rattle.trace_text.specs.declared.place.Place.{Place}
 use Rattle.trace_text.specs.declared.place.Place.TheVariants.{Start, AfterR, Front, Letter, Number, AtName, InName, AtTrap, InTrap, Ending, Ended, Lost}
-use Rattle.trace_text.specs.declared.place.Field.TheVariants.{Instances}
 use Rattle.trace_text.specs.declared.reader.LineReader.{LineReader}
 use Rattle.trace_text.specs.declared.reader.Step2.TheVariants.{More, Line as TheLine, Bad}
 use Rattle.trace_text.specs.Spelling.{Spells, Begins, IsFront}
-use Rattle.trace_text.specs.Waiting.{Behind, Ends, InField, Waits, IsAlive, Leads, bound_of}
+use Rattle.trace_text.specs.Waiting.{Behind, Ends, Versions, Waits, IsAlive, Leads, bound_of}
 use Rattle.trace_text.specs.HasRead.{HasRead}
 use Rattle.trace_text.specs.ReadBack.{IsAnswer}
 use Rattle.trace_text.specs.Answer.{answer_of}
@@ -21,7 +20,8 @@ use Rattle.trace_text.proofs.Numbering.{field_stops}
 use Rattle.trace_text.proofs.Starting.{text_spread, inst_spread}
 
 pub has_line : (line : Line) → Spells line [] → ⊥
-has_line (Header n l) w = starts (Header n l) [] (w.1 ∙ text_spread (Header n l))
+has_line (Header n l g) w = starts (Header n l g) [] (w.1 ∙ text_spread (Header n l g))
+has_line (Grow l c) w = starts (Grow l c) [] (w.1 ∙ text_spread (Grow l c))
 has_line (Inst k) w = starts (Inst k) _ (w.1.4 ∙ inst_spread k w.1.0 w.1.1)
 has_line (Fire i a) w = starts (Fire i a) [] (w.1 ∙ text_spread (Fire i a))
 has_line Deliver w = starts Deliver [] (w.1 ∙ text_spread Deliver)
@@ -38,8 +38,7 @@ not_behind (c ∷ cs) P none w = w
 more_comes : (place : Place) (line : Line) → answer_of place ≡ More → Waits place line [] → ⊥
 more_comes Start line e w = has_line line w
 more_comes AfterR line e w = elim w [ inl v ↦ v | inr v ↦ v ]
-more_comes (Front read) line e w = not_behind _ (InField Instances None line)
-    (no_end (bound_of Instances) _ _ (field_stops Instances line)) w
+more_comes (Front read) line e w = not_behind _ (Versions line) (λ v. elim v [ inl v ↦ v | inr v ↦ v ]) w
 more_comes (Letter field) line e w = w
 more_comes (Number field so_far) line e w = no_end (bound_of field) so_far _ (field_stops field line) w
 more_comes (AtName inst part) line e w = w

@@ -1,7 +1,7 @@
 -- Lines whose numbers are within the bounds of the trace language.
 use Rattle.std.specs.Prelude.{◌≡◌, ℕ, ◌<◌, List, [], ◌∷◌, flat_map}
 use Rattle.trace_text.specs.declared.line.Line.{Line}
-use Rattle.trace_text.specs.declared.line.Line.TheVariants.{Header, Inst, Fire, Deliver, Quiet, Trap, Stall, Budget}
+use Rattle.trace_text.specs.declared.line.Line.TheVariants.{Header, Inst, Fire, Deliver, Grow, Quiet, Trap, Stall, Budget}
 use Rattle.trace_text.specs.Text.{line_text}
 
 -- every number of a line is below this ..
@@ -14,10 +14,12 @@ action_bound = 65536
 
 -- a line that is written in one piece, and its numbers are within their bounds
 abbrev pub IsWritten : Line → Type 0
-IsWritten (Header instances links) = (instances < number_bound) × (links < number_bound)
+IsWritten (Header instances links grow) =
+    (instances < number_bound) × (links < number_bound) × (grow < number_bound)
 IsWritten (Inst inst) = ⊥
 IsWritten (Fire inst action) = (inst < number_bound) × (action < action_bound)
 IsWritten Deliver = Unit {0}
+IsWritten (Grow link capacity) = (link < number_bound) × (capacity < number_bound)
 IsWritten Quiet = Unit {0}
 IsWritten (Trap inst action trap) = (inst < number_bound) × (action < action_bound)
 IsWritten (Stall inst action link) = (inst < number_bound) × (action < action_bound) × (link < number_bound)

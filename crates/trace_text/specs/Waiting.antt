@@ -3,11 +3,11 @@ use Rattle.std.specs.Prelude.{◌≡◌, ◌⊎◌, ℕ, ◌+◌, ◌*◌, ◌<�
 use Rattle.rvc_base.specs.declared.trap.Trap.{Trap as TrapName}
 use Rattle.rvc_base.specs.Trap.{trap_name}
 use Rattle.trace_text.specs.declared.line.Line.{Line}
-use Rattle.trace_text.specs.declared.line.Line.TheVariants.{Header, Inst, Fire, Deliver, Trap, Stall}
+use Rattle.trace_text.specs.declared.line.Line.TheVariants.{Header, Inst, Fire, Deliver, Grow, Trap, Stall}
 use Rattle.trace_text.specs.declared.place.Place.{Place}
 use Rattle.trace_text.specs.declared.place.Place.TheVariants.{Start, AfterR, Front, Letter, Number, AtName, InName, AtTrap, InTrap, Ending, Ended, Lost}
 use Rattle.trace_text.specs.declared.place.Field.{Field}
-use Rattle.trace_text.specs.declared.place.Field.TheVariants.{Instances, Links, Instance, FiringInst, FiringAction, TrappingInst, TrappingAction, StalledInst, StalledAction, StalledLink}
+use Rattle.trace_text.specs.declared.place.Field.TheVariants.{Instances, Links, GrowingInstances, GrowingLinks, Limit, Instance, FiringInst, FiringAction, TrappingInst, TrappingAction, StalledInst, StalledAction, StalledLink, GrownLink, GrownCapacity}
 use Rattle.trace_text.specs.declared.place.Part.{Part}
 use Rattle.trace_text.specs.declared.place.Part.TheVariants.{Path, Class}
 use Rattle.trace_text.specs.Table.{number_bound, action_bound}
@@ -67,6 +67,11 @@ abbrev pub after_names : Part → ℕ → Line → List ℕ → Type 0
 after_names Path inst line = Then 32 (Named false dot (Ends (Inst inst) line))
 after_names Class inst line = Ends (Inst inst) line
 
+-- the least number of a field: a limit of growth is at least 1
+abbrev pub least_of : Field → ℕ
+least_of (Limit instances links) = 1
+least_of field = 0
+
 abbrev pub bound_of : Field → ℕ
 bound_of (FiringAction inst) = action_bound
 bound_of (TrappingAction inst) = action_bound
@@ -75,18 +80,29 @@ bound_of field = number_bound
 
 abbrev pub stop_of : Field → ℕ
 stop_of (Links instances) = 10
+stop_of (Limit instances links) = 10
 stop_of (FiringAction inst) = 10
 stop_of (StalledLink inst action) = 10
+stop_of (GrownCapacity link) = 10
 stop_of field = 32
 
 -- the name of a trap
 abbrev pub NamesTrap : ℕ → ℕ → Line → List ℕ → Type 0
 NamesTrap inst action line bytes = (trap : TrapName) × Behind (trap_name trap) (Ends (Trap inst action trap) line) bytes
 
+-- the end of a first line of version 2, whose limit of growth isn't 0
+abbrev pub IsLimited : ℕ → ℕ → Line → ℕ → List ℕ → Type 0
+IsLimited instances links line zero bytes = ⊥
+IsLimited instances links line (suc grow) bytes = IsAll (Header instances links (suc grow)) line bytes
+
 -- what follows the number of a field and the byte that stops it
 abbrev pub follows : Field → Line → ℕ → List ℕ → Type 0
-follows (Links instances) line n = IsAll (Header instances n) line
-follows Instances line n = Numbers number_bound None (λ l. Then 10 (IsAll (Header n l) line))
+follows (Links instances) line n = IsAll (Header instances n 0) line
+follows Instances line n = Numbers number_bound None (λ l. Then 10 (IsAll (Header n l 0) line))
+follows (Limit instances links) line n = IsLimited instances links line n
+follows (GrowingLinks instances) line n = Numbers number_bound None (λ g. Then 10 (IsLimited instances n line g))
+follows GrowingInstances line n =
+    Numbers number_bound None (λ l. Then 32 (Numbers number_bound None (λ g. Then 10 (IsLimited n l line g))))
 follows Instance line n = Named false slash (after_names Path n line)
 follows (FiringAction inst) line n = IsAll (Fire inst n) line
 follows FiringInst line n = Numbers action_bound None (λ a. Then 10 (IsAll (Fire n a) line))
@@ -96,20 +112,27 @@ follows (StalledLink inst action) line n = IsAll (Stall inst action n) line
 follows (StalledAction inst) line n = Numbers number_bound None (λ l. Then 10 (IsAll (Stall inst n l) line))
 follows StalledInst line n =
     Numbers action_bound None (λ a. Then 32 (Numbers number_bound None (λ l. Then 10 (IsAll (Stall n a l) line))))
+follows (GrownCapacity link) line n = IsAll (Grow link n) line
+follows GrownLink line n = Numbers number_bound None (λ c. Then 10 (IsAll (Grow n c) line))
 
 -- a number of a line, and what follows it
 abbrev pub InField : Field → Option ℕ → Line → List ℕ → Type 0
 InField field so_far line bytes =
     Numbers (bound_of field) so_far (λ n. Then (stop_of field) (follows field line n)) bytes
 
+-- what stands before the version in the first line, and what follows it
 abbrev pub front : List ℕ
-front = codes "rvc-trace 1 "
+front = codes "rvc-trace "
+
+abbrev pub Versions : Line → List ℕ → Type 0
+Versions line bytes =
+    Then 49 (Then 32 (InField Instances None line)) bytes ⊎ Then 50 (Then 32 (InField GrowingInstances None line)) bytes
 
 -- The bytes that make this line of those that stand before the place.
 abbrev pub Waits : Place → Line → List ℕ → Type 0
 Waits Start line bytes = Spells line bytes
-Waits AfterR line bytes = Ends Deliver line bytes ⊎ Behind (drop 1 front) (InField Instances None line) bytes
-Waits (Front read) line bytes = Behind (drop read front) (InField Instances None line) bytes
+Waits AfterR line bytes = Ends Deliver line bytes ⊎ Behind (drop 1 front) (Versions line) bytes
+Waits (Front read) line bytes = Behind (drop read front) (Versions line) bytes
 Waits (Letter field) line bytes = Then 32 (InField field None line) bytes
 Waits (Number field so_far) line bytes = InField field so_far line bytes
 Waits (AtName inst part) line bytes = Named false (separator_of part) (after_names part inst line) bytes
@@ -132,6 +155,12 @@ pub record Leads (place : Place) (byte : ℕ) (next : Place) : Type 0 where
   pub back : (line : Line) (bytes : List ℕ) → Waits next line bytes → Waits place line (byte ∷ bytes)
   pub alive : IsAlive next
 
+-- a byte leads from the version in the first line to the next place
+pub record LeadsVersion (byte : ℕ) (next : Place) : Type 0 where
+  pub onward : (line : Line) (bytes : List ℕ) → Versions line (byte ∷ bytes) → Waits next line bytes
+  pub back : (line : Line) (bytes : List ℕ) → Waits next line bytes → Versions line (byte ∷ bytes)
+  pub alive : IsAlive next
+
 -- a place behind the number of a field and the byte that stops it
 pub record StandsBehind (field : Field) (n : ℕ) (next : Place) : Type 0 where
   pub onward : (line : Line) (bytes : List ℕ) → follows field line n bytes → Waits next line bytes
@@ -146,6 +175,11 @@ pub record LeadsOut (inst : ℕ) (part : Part) (byte : ℕ) (next : Place) : Typ
 
 abbrev pub IsDigit : ℕ → Type 0
 IsDigit byte = (48 ≤ byte) × (byte < 58)
+
+-- the place behind the digits of a number, which are lost where it is too small
+abbrev pub IsWithin : Field → ℕ → Place → Type 0
+IsWithin field number next =
+    ((least_of field ≤ number) × (next ≡ Number field (Some number))) ⊎ ((number < least_of field) × (next ≡ Lost))
 
 -- what one digit more makes of the digits so far
 abbrev pub SoFar : Option ℕ → ℕ → ℕ → Option ℕ → Type 0

@@ -2,15 +2,15 @@
 
 ghost use Rattle.std.specs.Prelude.{◌≡◌, ◌+◌, ◌<◌, ◌≤◌, ◌↔◌, IsTrue, Option};
 ghost use Rattle.trace_text.specs.Names.{is_letter as is_letter_byte, is_name_byte as is_part_of_name};
-ghost use Rattle.trace_text.specs.Waiting.{Leads, Waits, bound_of, stop_of, separator_of, IsDigit, LeadsOut, SoFar, StandsBehind};
+ghost use Rattle.trace_text.specs.Waiting.{Leads, LeadsVersion, IsWithin, Waits, least_of, bound_of, stop_of, separator_of, IsDigit, LeadsOut, SoFar, StandsBehind};
 ghost use Rattle.trace_text.specs.declared.place.Place.TheVariants.{Start, AfterR, Front, Letter, Number, AtName, InName, AtTrap, InTrap, Ending};
 
 use crate::line::Line;
 use crate::place::{Field, Part, Place};
 use rvc_base::Trap;
 
-/// What stands before the numbers of the first line.
-const FRONT: &[u8] = b"rvc-trace 1 ";
+/// What stands before the version in the first line.
+const FRONT: &[u8] = b"rvc-trace ";
 
 /// Where a reader stands after one byte more.
 pub(crate) fn advance(place: Place, byte: u8) -> Place
@@ -48,6 +48,9 @@ fn first_byte(byte: u8) -> Place
         b'f' => Place::Letter {
             field: Field::FiringInst,
         },
+        b'g' => Place::Letter {
+            field: Field::GrownLink,
+        },
         b'q' => Place::Ending { line: Line::Quiet },
         b't' => Place::Letter {
             field: Field::TrappingInst,
@@ -76,11 +79,25 @@ fn in_front(read: usize, byte: u8) -> Place
     ensures { Leads (Front read) byte result }
 {
     if read >= FRONT.len() {
-        in_number(Field::Instances, None, byte)
+        at_version(byte)
     } else if FRONT[read] == byte {
         Place::Front { read: read + 1 }
     } else {
         Place::Lost
+    }
+}
+
+fn at_version(byte: u8) -> Place
+    ensures { LeadsVersion byte result }
+{
+    match byte {
+        b'1' => Place::Letter {
+            field: Field::Instances,
+        },
+        b'2' => Place::Letter {
+            field: Field::GrowingInstances,
+        },
+        _ => Place::Lost,
     }
 }
 
@@ -102,10 +119,7 @@ fn in_number(field: Field, so_far: Option<u32>, byte: u8) -> Place
 {
     if byte.is_ascii_digit() {
         match with_digit(so_far, byte - b'0', most(field)) {
-            Some(number) => Place::Number {
-                field,
-                so_far: Some(number),
-            },
+            Some(number) => within_number(field, number),
             None => Place::Lost,
         }
     } else {
@@ -113,6 +127,20 @@ fn in_number(field: Field, so_far: Option<u32>, byte: u8) -> Place
             Some(number) => after_number(field, number, byte),
             None => Place::Lost,
         }
+    }
+}
+
+/// Where a reader stands behind the digits of this number.
+fn within_number(field: Field, number: u32) -> Place
+    ensures { IsWithin field number result }
+{
+    if number >= least(field) {
+        Place::Number {
+            field,
+            so_far: Some(number),
+        }
+    } else {
+        Place::Lost
     }
 }
 
@@ -140,10 +168,20 @@ fn after_number(field: Field, number: u32, byte: u8) -> Place
     requires { IsDigit byte → ⊥ }
     ensures { Leads (Number field (Option.Some number)) byte result }
 {
-    if byte == stop(field) && number <= most(field) {
+    if byte == stop(field) && least(field) <= number && number <= most(field) {
         behind(field, number)
     } else {
         Place::Lost
+    }
+}
+
+/// The least number of a field: a limit of growth is at least 1.
+fn least(field: Field) -> u32
+    ensures { result ≡ least_of field }
+{
+    match field {
+        Field::Limit { .. } => 1,
+        _ => 0,
     }
 }
 
@@ -164,14 +202,19 @@ fn stop(field: Field) -> u8
     ensures { result ≡ stop_of field }
 {
     match field {
-        Field::Links { .. } | Field::FiringAction { .. } | Field::StalledLink { .. } => b'\n',
+        Field::Links { .. }
+        | Field::Limit { .. }
+        | Field::FiringAction { .. }
+        | Field::StalledLink { .. }
+        | Field::GrownCapacity { .. } => b'\n',
         _ => b' ',
     }
 }
 
 /// Where a reader stands behind the number of a field and the byte that stops it.
 fn behind(field: Field, number: u32) -> Place
-    requires { number < bound_of field }
+    requires low { number < bound_of field }
+    requires high { least_of field ≤ number }
     ensures { StandsBehind field number result }
 {
     match field {
@@ -180,6 +223,19 @@ fn behind(field: Field, number: u32) -> Place
             line: Line::Header {
                 instances,
                 links: number,
+                grow: 0,
+            },
+        },
+        Field::GrowingInstances => at_number(Field::GrowingLinks { instances: number }),
+        Field::GrowingLinks { instances } => at_number(Field::Limit {
+            instances,
+            links: number,
+        }),
+        Field::Limit { instances, links } => Place::Ended {
+            line: Line::Header {
+                instances,
+                links,
+                grow: number,
             },
         },
         Field::Instance => Place::AtName {
@@ -208,6 +264,13 @@ fn behind(field: Field, number: u32) -> Place
                 inst,
                 action,
                 link: number,
+            },
+        },
+        Field::GrownLink => at_number(Field::GrownCapacity { link: number }),
+        Field::GrownCapacity { link } => Place::Ended {
+            line: Line::Grow {
+                link,
+                capacity: number,
             },
         },
     }

@@ -10,11 +10,11 @@ pub(crate) enum Place {
     Start,
     /// An `r`, which is a delivery or begins the first line.
     AfterR,
-    /// So many bytes of what stands before the numbers of the first line.
+    /// So many bytes of what stands before the version in the first line.
     Front {
         read: usize,
     },
-    /// The letter of a line. A blank and the number come next.
+    /// The letter of a line, or the version in the first one. A blank and the number come next.
     Letter {
         field: Field,
     },
@@ -60,8 +60,13 @@ pub(crate) enum Place {
 /// A number in a line, with the numbers before it.
 #[derive(Clone, Copy, Debug)]
 pub(crate) enum Field {
+    /// In a first line of version 1.
     Instances,
     Links { instances: u32 },
+    /// In a first line of version 2.
+    GrowingInstances,
+    GrowingLinks { instances: u32 },
+    Limit { instances: u32, links: u32 },
     Instance,
     FiringInst,
     FiringAction { inst: u32 },
@@ -70,6 +75,8 @@ pub(crate) enum Field {
     StalledInst,
     StalledAction { inst: u32 },
     StalledLink { inst: u32, action: u16 },
+    GrownLink,
+    GrownCapacity { link: u32 },
 }
 
 /// The two parts of an instance's line that are names.

@@ -5,7 +5,7 @@ ghost use Rattle.arrayvec.specs.ArrayVec.{array_vec_len};
 ghost use Rattle.trace_text.specs.Text.{line_text, line_feed, then_number, IsWhole};
 ghost use Rattle.trace_text.specs.Names.{IsPath, IsClass};
 ghost use Rattle.trace_text.specs.Spelling.{Spells};
-ghost use Rattle.trace_text.specs.declared.line.Line.TheVariants.{Inst};
+ghost use Rattle.trace_text.specs.declared.line.Line.TheVariants.{Header, Inst};
 
 use crate::line::Line;
 use arrayvec::ArrayVec;
@@ -24,11 +24,11 @@ pub fn write_line(line: &Line, out: &mut ArrayVec<u8, 64>)
     ensures spelled { Spells line.now out.new.items }
 {
     match line {
-        Line::Header { instances, links } => {
-            push_text(b"rvc-trace 1", out);
-            push_number(*instances, out);
-            push_number(*links, out);
-        }
+        Line::Header {
+            instances,
+            links,
+            grow,
+        } => push_header(*instances, *links, *grow, out),
         Line::Inst { inst: _ } => unreachable!(),
         Line::Fire { inst, action } => {
             push_text(b"f", out);
@@ -36,6 +36,11 @@ pub fn write_line(line: &Line, out: &mut ArrayVec<u8, 64>)
             push_number(u32::from(*action), out);
         }
         Line::Deliver => push_text(b"r", out),
+        Line::Grow { link, capacity } => {
+            push_text(b"g", out);
+            push_number(*link, out);
+            push_number(*capacity, out);
+        }
         Line::Quiet => push_text(b"q", out),
         Line::Trap { inst, action, trap } => {
             push_text(b"t", out);
@@ -66,6 +71,24 @@ pub fn write_front(inst: u32, out: &mut ArrayVec<u8, 64>)
     push_text(b"i", out);
     push_number(inst, out);
     push_text(b" ", out);
+}
+
+/// Puts all of the first line but its line feed into `out`, which is empty.
+fn push_header(instances: u32, links: u32, grow: u32, out: &mut ArrayVec<u8, 64>)
+    requires empty { out.old.items ≡ [] }
+    ensures text { out.new.items ++ line_feed ≡ line_text (Header instances links grow) }
+    ensures len { array_vec_len out.new ≤ 44 }
+{
+    if grow == 0 {
+        push_text(b"rvc-trace 1", out);
+        push_number(instances, out);
+        push_number(links, out);
+    } else {
+        push_text(b"rvc-trace 2", out);
+        push_number(instances, out);
+        push_number(links, out);
+        push_number(grow, out);
+    }
 }
 
 /// Puts a short text behind what stands in `out`.
@@ -110,8 +133,20 @@ mod tests {
         let header = Line::Header {
             instances: 0,
             links: 10,
+            grow: 0,
         };
         assert!(rt; reads(&header, "rvc-trace 1 0 10\n"));
+        let growing = Line::Header {
+            instances: 3,
+            links: 5,
+            grow: 4,
+        };
+        assert!(rt; reads(&growing, "rvc-trace 2 3 5 4\n"));
+        let grow = Line::Grow {
+            link: 3,
+            capacity: 4294967295,
+        };
+        assert!(rt; reads(&grow, "g 3 4294967295\n"));
         let fire = Line::Fire {
             inst: 9,
             action: 65535,

@@ -1,13 +1,13 @@
 //! Cells as a caller reads and writes them.
 
-use super::programs::{NotRun, PORTS, one_body};
+use super::programs::PORTS;
 use crate::{Cells, Run, cells};
-use code_ir::{Instr, admit, are_sized, has_tokens};
+use code_ir::{ActorCode, Admitted, Instr, admit, are_sized, has_tokens};
 use rvc_base::{Num, Scalar};
-use std::alloc::Global;
-use std::test::Fail;
+use std::alloc::{AllocError, Global};
+use std::process::Abort;
 
-/// What stands in three cells.
+/// What is in three cells.
 fn three(cells: &Cells) -> Option<[Num; 3]> {
     if cells.count() != 3 {
         return None;
@@ -15,56 +15,85 @@ fn three(cells: &Cells) -> Option<[Num; 3]> {
     Some([cells.get(0), cells.get(1), cells.get(2)])
 }
 
-/// Three cells as they are made, after -7 is put in cell 1, and after a run that copies it to cell 2.
-fn around_a_run(alloc: Global) -> Result<[Option<[Num; 3]>; 3], NotRun> {
-    let code = one_body(
-        alloc,
-        3,
-        &[Instr::Load(1), Instr::Store(2, None), Instr::Done],
-    )?;
-    if !are_sized(&code.instrs) {
-        return Err(NotRun::Unfit);
+/// Three cells as they are made, after -7 is put in cell 1, and after a run of the code.
+fn around_a_run(alloc: Global, code: &Admitted) -> Option<[Option<[Num; 3]>; 3]> {
+    if !code.is_entry(0) || !has_tokens(code, &PORTS) {
+        return None;
     }
-    let code = admit(alloc, code)?;
-    if !code.is_entry(0) || !has_tokens(&code, &PORTS) {
-        return Err(NotRun::Unfit);
-    }
-    let mut cells = cells(alloc, &code)?;
+    let Ok(mut cells) = cells(alloc, code) else {
+        return None
+    };
     let made = three(&cells);
     if cells.count() <= 1 {
-        return Err(NotRun::Unfit);
+        return None;
     }
     cells.set(1, -7);
     let put = three(&cells);
     let _outcome = code.run(0, &mut cells, &PORTS);
-    Ok([made, put, three(&cells)])
+    Some([made, put, three(&cells)])
+}
+
+/// Code that copies cell 1 to cell 2.
+fn copying(alloc: Global) -> Result<ActorCode, AllocError> {
+    Ok(ActorCode {
+        instrs: [Instr::Load(1), Instr::Store(2, None), Instr::Done].to_vec(alloc)?,
+        routines: Vec::new(alloc),
+        entries: [0].to_vec(alloc)?,
+        cells: 3,
+    })
+}
+
+fn seen(alloc: Global) -> Option<[Option<[Num; 3]>; 3]> {
+    let Ok(code) = copying(alloc) else {
+        return None
+    };
+    if !are_sized(&code.instrs) {
+        return None;
+    }
+    let Ok(code) = admit(alloc, code) else {
+        return None
+    };
+    around_a_run(alloc, &code)
 }
 
 #[test]
-fn cells_hold_zero_and_then_what_is_put_in(rt: HostRuntime) -> Result<(), Fail> {
-    let [made, put, left] = around_a_run(rt.alloc())?;
-    assert_eq!(rt; made, Some([0, 0, 0]));
-    assert_eq!(rt; put, Some([0, -7, 0]));
-    assert_eq!(rt; left, Some([0, -7, -7]));
-    Ok(())
+fn cells_hold_zero_and_then_what_is_put_in(rt: HostRuntime) {
+    let want = [Some([0, 0, 0]), Some([0, -7, 0]), Some([0, -7, -7])];
+    assert!(rt; seen(rt.alloc()) == Some(want));
+}
+
+/// A type, and whether its size is one that a type may have.
+const SIZES: &[(Option<Scalar>, bool)] = &[
+    (None, true),
+    (Some(Scalar::Bool), true),
+    (Some(Scalar::Int(1)), true),
+    (Some(Scalar::Int(32)), true),
+    (Some(Scalar::Int(33)), true),
+    (Some(Scalar::Int(64)), true),
+    (Some(Scalar::Uint(32)), true),
+    (Some(Scalar::Uint(33)), true),
+    (Some(Scalar::Uint(64)), true),
+    (Some(Scalar::Int(0)), false),
+    (Some(Scalar::Int(65)), false),
+    (Some(Scalar::Uint(0)), false),
+    (Some(Scalar::Uint(65)), false),
+];
+
+/// Asserts whether the types are sized in each instruction that names one.
+fn hold_sizes<R: Abort>(rt: &R, rows: &[(Option<Scalar>, bool)]) {
+    for &(t, want) in rows {
+        for instr in [
+            Instr::Store(0, t),
+            Instr::StoreAt(0, 1, t),
+            Instr::Copy(0, 0, 1, t),
+            Instr::CopyTo(0, 1, 0, 1, t),
+        ] {
+            assert!(rt; are_sized(&[Instr::Neg, instr]) == want, "{instr:?}");
+        }
+    }
 }
 
 #[test]
 fn sizes_of_types_are_those_that_types_have(rt: HostRuntime) {
-    for (t, want) in [
-        (None, true),
-        (Some(Scalar::Bool), true),
-        (Some(Scalar::Int(1)), true),
-        (Some(Scalar::Int(32)), true),
-        (Some(Scalar::Uint(32)), true),
-        (Some(Scalar::Int(0)), false),
-        (Some(Scalar::Int(33)), false),
-        (Some(Scalar::Uint(0)), false),
-        (Some(Scalar::Uint(33)), false),
-    ] {
-        assert_eq!(rt; are_sized(&[Instr::Neg, Instr::Store(0, t)]), want, "{t:?}");
-        assert_eq!(rt; are_sized(&[Instr::StoreAt(0, 1, t)]), want, "{t:?}");
-        assert_eq!(rt; are_sized(&[Instr::Copy(0, 0, 1, t)]), want, "{t:?}");
-        assert_eq!(rt; are_sized(&[Instr::CopyTo(0, 1, 0, 1, t)]), want, "{t:?}");
-    }
+    hold_sizes(&rt, SIZES);
 }

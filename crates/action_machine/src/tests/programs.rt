@@ -2,74 +2,33 @@
 
 ghost use Rattle.std.specs.Prelude.{ℕ, ℤ, List, [], if◌then◌else◌, ◌==◌};
 
-use crate::{Cells, Run, cells};
+use crate::{Cells, Outcome, Run, cells};
 use code_ir::{
-    ActorCode, CodeFault, Instr, Outcome, Routine, Tokens, admit, are_sized, has_tokens,
+    ActorCode, Admitted, CodeFault, Instr, Routine, Tokens, admit, are_sized, has_tokens,
 };
-use rvc_base::{Memory, Num, Trap};
+use rvc_base::{Num, Trap};
 use std::alloc::{AllocError, Global};
+use std::process::Abort;
 
-/// Why a program wasn't run.
+/// What a program comes to.
 #[derive(Clone, Copy, Debug, PartialEq, Eq)]
-pub(super) enum NotRun {
+pub(super) enum Found {
+    /// It runs: how the run ends, and what is left in the first six cells, 0 where there is no cell.
+    Ran(Outcome, [Num; 6]),
     /// The instruction at this place breaks a typing line.
     Bad(u32),
-    /// A type, an entry or a token that the program names isn't one.
+    /// A type, an entry or a token that it names isn't one.
     Unfit,
     Memory,
 }
 
-impl From<AllocError> for NotRun {
-    fn from(_e: AllocError) -> NotRun {
-        NotRun::Memory
-    }
-}
-
-impl From<Memory> for NotRun {
-    fn from(_e: Memory) -> NotRun {
-        NotRun::Memory
-    }
-}
-
-impl From<CodeFault> for NotRun {
-    fn from(fault: CodeFault) -> NotRun {
-        match fault {
-            CodeFault::Bad { at } => NotRun::Bad(at),
-            CodeFault::Memory => NotRun::Memory,
-        }
-    }
-}
-
-/// What a run came to, and the cells after it.
-#[derive(Drop)]
-pub(super) struct Ran {
-    pub(super) outcome: Outcome,
-    pub(super) cells: Vec<Num>,
-}
-
-/// What a program leaves in a cell, or the trap that cut it off.
+/// What an operation comes to.
 #[derive(Clone, Copy, Debug, PartialEq, Eq)]
 pub(super) enum Answer {
     Gives(Num),
     Traps(Trap),
-    /// It is no firing, or has no such cell.
+    /// The program is no firing.
     Other,
-}
-
-impl Ran {
-    /// What stands in cell `c` after a firing.
-    pub(super) fn answer(&self, c: usize) -> Answer {
-        match self.outcome {
-            Outcome::Trap(trap) => Answer::Traps(trap),
-            Outcome::Done => {
-                match self.cells.get(c) {
-                    Some(v) => Answer::Gives(*v),
-                    None => Answer::Other,
-                }
-            }
-            _ => Answer::Other,
-        }
-    }
 }
 
 /// The tokens before the actor: eight on port 0, two on port 1.
@@ -103,63 +62,85 @@ impl Tokens for Ports {
     }
 }
 
-/// The numbers in the cells.
-fn numbers_of(alloc: Global, cells: &Cells) -> Result<Vec<Num>, AllocError> {
-    let mut numbers = Vec::new(alloc);
-    for c in 0..u32::MAX {
-        if c as usize >= cells.count() {
-            return Ok(numbers);
+/// The numbers in the first six cells.
+fn first_six(cells: &Cells) -> [Num; 6] {
+    let mut numbers = [0; 6];
+    for c in 0u32..6 {
+        if (c as usize) < cells.count() {
+            numbers[c as usize] = cells.get(c);
         }
-        numbers.push(cells.get(c))?;
     }
-    Ok(numbers)
+    numbers
+}
+
+/// Runs admitted code from an entry.
+fn run_admitted(alloc: Global, code: &Admitted, entry: u32) -> Found {
+    if !code.is_entry(entry) || !has_tokens(code, &PORTS) {
+        return Found::Unfit;
+    }
+    let Ok(mut cells) = cells(alloc, code) else {
+        return Found::Memory
+    };
+    let outcome = code.run(entry, &mut cells, &PORTS);
+    Found::Ran(outcome, first_six(&cells))
 }
 
 /// Admits code, and runs it from an entry.
-pub(super) fn run_code(alloc: Global, code: ActorCode, entry: u32) -> Result<Ran, NotRun> {
+fn run_code(alloc: Global, code: ActorCode, entry: u32) -> Found {
     if !are_sized(&code.instrs) {
-        return Err(NotRun::Unfit);
+        return Found::Unfit;
     }
-    let code = admit(alloc, code)?;
-    if !code.is_entry(entry) || !has_tokens(&code, &PORTS) {
-        return Err(NotRun::Unfit);
+    match admit(alloc, code) {
+        Ok(code) => run_admitted(alloc, &code, entry),
+        Err(CodeFault::Bad { at }) => Found::Bad(at),
+        Err(CodeFault::Memory) => Found::Memory,
     }
-    let mut cells = cells(alloc, &code)?;
-    let outcome = code.run(entry, &mut cells, &PORTS);
-    Ok(Ran {
-        outcome,
-        cells: numbers_of(alloc, &cells)?,
-    })
 }
 
-/// Code of one entry and so many cells.
-pub(super) fn one_body(
-    alloc: Global,
-    cells: u32,
-    instrs: &[Instr],
-) -> Result<ActorCode, AllocError> {
-    bodies(alloc, cells, &[], &[0], instrs)
+/// A program: its bodies, and how many cells it has.
+#[derive(Clone, Copy)]
+pub(super) struct Program<'a> {
+    pub(super) cells: u32,
+    pub(super) routines: &'a [Routine],
+    pub(super) entries: &'a [u32],
+    pub(super) instrs: &'a [Instr],
 }
 
-/// Code of several bodies.
-pub(super) fn bodies(
-    alloc: Global,
-    cells: u32,
-    routines: &[Routine],
-    entries: &[u32],
-    instrs: &[Instr],
-) -> Result<ActorCode, AllocError> {
-    Ok(ActorCode {
-        instrs: instrs.to_vec(alloc)?,
-        routines: routines.to_vec(alloc)?,
-        entries: entries.to_vec(alloc)?,
-        cells,
-    })
+impl<'a> Program<'a> {
+    fn code(&self, alloc: Global) -> Result<ActorCode, AllocError> {
+        Ok(ActorCode {
+            instrs: self.instrs.to_vec(alloc)?,
+            routines: self.routines.to_vec(alloc)?,
+            entries: self.entries.to_vec(alloc)?,
+            cells: self.cells,
+        })
+    }
+
+    /// Admits the program, and runs it from an entry.
+    pub(super) fn run(&self, alloc: Global, entry: u32) -> Found {
+        match self.code(alloc) {
+            Ok(code) => run_code(alloc, code, entry),
+            Err(_refused) => Found::Memory,
+        }
+    }
 }
 
-/// Runs code of one entry and so many cells.
-pub(super) fn run(alloc: Global, cells: u32, instrs: &[Instr]) -> Result<Ran, NotRun> {
-    run_code(alloc, one_body(alloc, cells, instrs)?, 0)
+/// What instructions come to on six cells, each of which holds 0.
+pub(super) fn run(alloc: Global, instrs: &[Instr]) -> Found {
+    let program = Program {
+        cells: 6,
+        routines: &[],
+        entries: &[0],
+        instrs,
+    };
+    program.run(alloc, 0)
+}
+
+/// Asserts what programs come to on six cells, each of which holds 0.
+pub(super) fn hold<R: Abort>(rt: &R, alloc: Global, rows: &[(&[Instr], Found)]) {
+    for &(instrs, want) in rows {
+        assert!(rt; run(alloc, instrs) == want, "{instrs:?}");
+    }
 }
 
 /// Instructions that put 1, 2, 3 and so on into six cells, then these, and the end of a firing.
@@ -174,34 +155,51 @@ fn on_six(alloc: Global, instrs: &[Instr]) -> Result<Vec<Instr>, AllocError> {
     Ok(all)
 }
 
-/// Runs these instructions on cells that hold 1, 2, 3 and so on, six of them, and ends the firing.
-pub(super) fn run_on_six(alloc: Global, instrs: &[Instr]) -> Result<Ran, NotRun> {
-    let all = on_six(alloc, instrs)?;
-    run(alloc, 6, &all)
+/// What instructions come to on six cells that hold 1, 2, 3 and so on. The firing ends after them.
+fn run_on_six(alloc: Global, instrs: &[Instr]) -> Found {
+    match on_six(alloc, instrs) {
+        Ok(all) => run(alloc, &all),
+        Err(_refused) => Found::Memory,
+    }
 }
 
-/// What an instruction makes of one operand.
-pub(super) fn of_one(alloc: Global, instr: Instr, a: Num) -> Result<Answer, NotRun> {
-    let ran = run(
-        alloc,
-        1,
-        &[Instr::Const(a), instr, Instr::Store(0, None), Instr::Done],
-    )?;
-    Ok(ran.answer(0))
+/// Asserts what instructions come to on six cells that hold 1, 2, 3 and so on.
+pub(super) fn hold_on_six<R: Abort>(rt: &R, alloc: Global, rows: &[(&[Instr], Found)]) {
+    for &(instrs, want) in rows {
+        assert!(rt; run_on_six(alloc, instrs) == want, "{instrs:?}");
+    }
 }
 
-/// What an instruction makes of two operands, the right one of which is the top.
-pub(super) fn of_two(alloc: Global, instr: Instr, a: Num, b: Num) -> Result<Answer, NotRun> {
-    let ran = run(
-        alloc,
-        1,
-        &[
+/// What a firing leaves in cell 0, or the trap that cut it off.
+fn answer_of(found: Found) -> Answer {
+    match found {
+        Found::Ran(Outcome::Done, cells) => Answer::Gives(cells[0]),
+        Found::Ran(Outcome::Trap(trap), _) => Answer::Traps(trap),
+        _ => Answer::Other,
+    }
+}
+
+/// Asserts what instructions make of one operand.
+pub(super) fn hold_of_one<R: Abort>(rt: &R, alloc: Global, rows: &[(Instr, Num, Answer)]) {
+    for &(instr, a, want) in rows {
+        let program = [Instr::Const(a), instr, Instr::Store(0, None), Instr::Done];
+        assert!(rt; answer_of(run(alloc, &program)) == want, "{instr:?} of {a}");
+    }
+}
+
+/// Asserts what instructions make of two operands, the right one of which is the top.
+pub(super) fn hold_of_two<R: Abort>(rt: &R, alloc: Global, rows: &[(Instr, Num, Num, Answer)]) {
+    for &(instr, a, b, want) in rows {
+        let program = [
             Instr::Const(a),
             Instr::Const(b),
             instr,
             Instr::Store(0, None),
             Instr::Done,
-        ],
-    )?;
-    Ok(ran.answer(0))
+        ];
+        assert!(rt;
+            answer_of(run(alloc, &program)) == want,
+            "{instr:?} of {a} and {b}"
+        );
+    }
 }

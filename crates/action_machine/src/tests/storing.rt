@@ -1,18 +1,20 @@
 //! Numbers that go between the stack and single cells.
 
 use super::programs::Answer::{Gives, Traps};
-use super::programs::{Answer, NotRun, of_two, run, run_on_six};
+use super::programs::Found::Ran;
+use super::programs::{Answer, Found, hold, hold_of_two, hold_on_six, run};
+use crate::Outcome;
 use code_ir::Instr;
 use rvc_base::{Num, Scalar, Trap};
 use std::alloc::Global;
-use std::test::Fail;
+use std::process::Abort;
 
 const LEAST: Num = Num::MIN;
 
 const GREATEST: Num = Num::MAX;
 
 /// A type, a number, and what the type holds of it.
-const STORED: [(Option<Scalar>, Num, Num); 37] = [
+const STORED: &[(Option<Scalar>, Num, Num)] = &[
     (None, 300, 300),
     (None, LEAST, LEAST),
     (None, GREATEST, GREATEST),
@@ -21,6 +23,7 @@ const STORED: [(Option<Scalar>, Num, Num); 37] = [
     (Some(Scalar::Bool), 2, 1),
     (Some(Scalar::Bool), -1, 1),
     (Some(Scalar::Bool), LEAST, 1),
+    (Some(Scalar::Bool), 18446744073709551616, 1),
     (Some(Scalar::Int(1)), 0, 0),
     (Some(Scalar::Int(1)), 1, -1),
     (Some(Scalar::Int(1)), -1, -1),
@@ -50,188 +53,185 @@ const STORED: [(Option<Scalar>, Num, Num); 37] = [
     (Some(Scalar::Uint(32)), -1, 4294967295),
     (Some(Scalar::Uint(32)), GREATEST, 4294967295),
     (Some(Scalar::Uint(32)), LEAST, 0),
+    (Some(Scalar::Int(33)), 4294967295, 4294967295),
+    (Some(Scalar::Int(33)), 4294967296, -4294967296),
+    (Some(Scalar::Int(33)), -4294967296, -4294967296),
+    (Some(Scalar::Int(33)), -4294967297, 4294967295),
+    (Some(Scalar::Int(33)), 8589934591, -1),
+    (Some(Scalar::Int(33)), 8589934592, 0),
+    (Some(Scalar::Int(33)), GREATEST, -1),
+    (Some(Scalar::Int(33)), LEAST, 0),
+    (Some(Scalar::Uint(33)), 8589934591, 8589934591),
+    (Some(Scalar::Uint(33)), 8589934592, 0),
+    (Some(Scalar::Uint(33)), 8589934593, 1),
+    (Some(Scalar::Uint(33)), -1, 8589934591),
+    (Some(Scalar::Uint(33)), -8589934592, 0),
+    (Some(Scalar::Uint(33)), GREATEST, 8589934591),
+    (Some(Scalar::Uint(33)), LEAST, 0),
+    (
+        Some(Scalar::Int(63)),
+        4611686018427387903,
+        4611686018427387903,
+    ),
+    (
+        Some(Scalar::Int(63)),
+        4611686018427387904,
+        -4611686018427387904,
+    ),
+    (
+        Some(Scalar::Int(63)),
+        -4611686018427387904,
+        -4611686018427387904,
+    ),
+    (
+        Some(Scalar::Int(63)),
+        -4611686018427387905,
+        4611686018427387903,
+    ),
+    (Some(Scalar::Int(63)), 9223372036854775807, -1),
+    (Some(Scalar::Int(63)), 9223372036854775808, 0),
+    (Some(Scalar::Int(63)), GREATEST, -1),
+    (Some(Scalar::Int(63)), LEAST, 0),
+    (
+        Some(Scalar::Uint(63)),
+        9223372036854775807,
+        9223372036854775807,
+    ),
+    (Some(Scalar::Uint(63)), 9223372036854775808, 0),
+    (Some(Scalar::Uint(63)), 9223372036854775809, 1),
+    (Some(Scalar::Uint(63)), -1, 9223372036854775807),
+    (Some(Scalar::Uint(63)), -9223372036854775808, 0),
+    (Some(Scalar::Uint(63)), GREATEST, 9223372036854775807),
+    (Some(Scalar::Uint(63)), LEAST, 0),
+    (
+        Some(Scalar::Int(64)),
+        9223372036854775807,
+        9223372036854775807,
+    ),
+    (
+        Some(Scalar::Int(64)),
+        9223372036854775808,
+        -9223372036854775808,
+    ),
+    (
+        Some(Scalar::Int(64)),
+        -9223372036854775808,
+        -9223372036854775808,
+    ),
+    (
+        Some(Scalar::Int(64)),
+        -9223372036854775809,
+        9223372036854775807,
+    ),
+    (Some(Scalar::Int(64)), 18446744073709551615, -1),
+    (Some(Scalar::Int(64)), 18446744073709551616, 0),
+    (Some(Scalar::Int(64)), GREATEST, -1),
+    (Some(Scalar::Int(64)), LEAST, 0),
+    (
+        Some(Scalar::Uint(64)),
+        18446744073709551615,
+        18446744073709551615,
+    ),
+    (Some(Scalar::Uint(64)), 18446744073709551616, 0),
+    (Some(Scalar::Uint(64)), 18446744073709551617, 1),
+    (Some(Scalar::Uint(64)), -1, 18446744073709551615),
+    (Some(Scalar::Uint(64)), -18446744073709551616, 0),
+    (Some(Scalar::Uint(64)), GREATEST, 18446744073709551615),
+    (Some(Scalar::Uint(64)), LEAST, 0),
 ];
 
-#[test]
-fn a_stored_number_wraps_to_its_type(rt: HostRuntime) -> Result<(), Fail> {
-    let a = rt.alloc();
-    for (t, v, want) in STORED {
-        let by_store = run(a, 1, &[Instr::Const(v), Instr::Store(0, t), Instr::Done])?;
-        assert_eq!(rt; by_store.answer(0), Gives(want), "{v} in {t:?}");
-        let by_store_at = run(
-            a,
-            2,
-            &[
-                Instr::Const(1),
-                Instr::Const(v),
-                Instr::StoreAt(0, 2, t),
-                Instr::Done,
-            ],
-        )?;
-        assert_eq!(rt; by_store_at.answer(1), Gives(want), "{v} in {t:?}");
+/// Asserts what the types hold of numbers that are stored, stored at an offset, copied, and copied to an offset.
+fn hold_stored<R: Abort>(rt: &R, alloc: Global, rows: &[(Option<Scalar>, Num, Num)]) {
+    for &(t, v, want) in rows {
+        let program = [
+            Instr::Const(v),
+            Instr::Store(0, t),
+            Instr::Const(1),
+            Instr::Const(v),
+            Instr::StoreAt(0, 2, t),
+            Instr::Const(v),
+            Instr::Store(2, None),
+            Instr::Copy(3, 2, 1, t),
+            Instr::Const(1),
+            Instr::CopyTo(3, 2, 2, 1, t),
+            Instr::Done,
+        ];
+        let held = Ran(Outcome::Done, [want, want, v, want, want, 0]);
+        assert!(rt; run(alloc, &program) == held, "{v} in {t:?}");
     }
-    Ok(())
 }
 
 #[test]
-fn a_copied_number_wraps_to_its_type(rt: HostRuntime) -> Result<(), Fail> {
-    let a = rt.alloc();
-    for (t, v, want) in STORED {
-        let by_copy = run(
-            a,
-            2,
-            &[
-                Instr::Const(v),
-                Instr::Store(0, None),
-                Instr::Copy(1, 0, 1, t),
-                Instr::Done,
-            ],
-        )?;
-        assert_eq!(rt; by_copy.answer(1), Gives(want), "{v} in {t:?}");
-        assert_eq!(rt; by_copy.answer(0), Gives(v), "{v} in {t:?}");
-        let by_copy_to = run(
-            a,
-            3,
-            &[
-                Instr::Const(v),
-                Instr::Store(0, None),
-                Instr::Const(1),
-                Instr::CopyTo(1, 2, 0, 1, t),
-                Instr::Done,
-            ],
-        )?;
-        assert_eq!(rt; by_copy_to.answer(2), Gives(want), "{v} in {t:?}");
-    }
-    Ok(())
+fn a_stored_number_wraps_to_its_type(rt: HostRuntime) {
+    hold_stored(&rt, rt.alloc(), STORED);
 }
 
-#[test]
-fn a_constant_and_a_cell_are_pushed(rt: HostRuntime) -> Result<(), Fail> {
-    let a = rt.alloc();
-    for v in [0, 1, -1, LEAST, GREATEST] {
-        let ran = run(
-            a,
-            2,
-            &[
-                Instr::Const(v),
-                Instr::Store(0, None),
-                Instr::Load(0),
-                Instr::Store(1, None),
-                Instr::Done,
-            ],
-        )?;
-        assert_eq!(rt; ran.answer(1), Gives(v));
-        assert_eq!(rt; ran.answer(0), Gives(v));
-    }
-    Ok(())
-}
-
-#[test]
-fn an_index_counts_elements_of_m_from_an_offset(rt: HostRuntime) -> Result<(), Fail> {
-    let a = rt.alloc();
-    for (instr, o, i, want) in [
-        (Instr::Index(3, 4), 10, 0, Gives(10)),
-        (Instr::Index(3, 4), 10, 2, Gives(18)),
-        (Instr::Index(3, 4), 10, 3, Traps(Trap::IndexRange)),
-        (Instr::Index(3, 4), 10, -1, Traps(Trap::IndexRange)),
-        (Instr::Index(3, 4), 10, LEAST, Traps(Trap::IndexRange)),
-        (Instr::Index(3, 4), 10, GREATEST, Traps(Trap::IndexRange)),
-        (Instr::Index(0, 4), 10, 0, Traps(Trap::IndexRange)),
-        (Instr::Index(2, 1), GREATEST, 0, Gives(GREATEST)),
-        (Instr::Index(2, 1), GREATEST, 1, Traps(Trap::Overflow)),
-        (Instr::Index(2, 1), GREATEST, 2, Traps(Trap::IndexRange)),
-        (Instr::Index(2, 1), LEAST, 1, Gives(-9223372036854775807)),
-        (Instr::Index(3, 4294967295), -1, 2, Gives(8589934589)),
-        (
-            Instr::Index(4294967295, 4294967295),
-            LEAST,
-            4294967294,
-            Gives(9223372023969873922),
+/// Constants and cells that are pushed, and a top that is dropped.
+const PUSHED: &[(&[Instr], Found)] = &[
+    (
+        &[
+            Instr::Const(0),
+            Instr::Store(0, None),
+            Instr::Load(0),
+            Instr::Store(1, None),
+            Instr::Done,
+        ],
+        Ran(Outcome::Done, [0, 0, 0, 0, 0, 0]),
+    ),
+    (
+        &[
+            Instr::Const(1),
+            Instr::Store(0, None),
+            Instr::Load(0),
+            Instr::Store(1, None),
+            Instr::Done,
+        ],
+        Ran(Outcome::Done, [1, 1, 0, 0, 0, 0]),
+    ),
+    (
+        &[
+            Instr::Const(-1),
+            Instr::Store(0, None),
+            Instr::Load(0),
+            Instr::Store(1, None),
+            Instr::Done,
+        ],
+        Ran(Outcome::Done, [-1, -1, 0, 0, 0, 0]),
+    ),
+    (
+        &[
+            Instr::Const(LEAST),
+            Instr::Store(0, None),
+            Instr::Load(0),
+            Instr::Store(1, None),
+            Instr::Done,
+        ],
+        Ran(Outcome::Done, [LEAST, LEAST, 0, 0, 0, 0]),
+    ),
+    (
+        &[
+            Instr::Const(GREATEST),
+            Instr::Store(0, None),
+            Instr::Load(0),
+            Instr::Store(1, None),
+            Instr::Done,
+        ],
+        Ran(Outcome::Done, [GREATEST, GREATEST, 0, 0, 0, 0]),
+    ),
+    (
+        &[
+            Instr::Const(18446744073709551616),
+            Instr::Store(0, None),
+            Instr::Load(0),
+            Instr::Store(1, None),
+            Instr::Done,
+        ],
+        Ran(
+            Outcome::Done,
+            [18446744073709551616, 18446744073709551616, 0, 0, 0, 0],
         ),
-        (
-            Instr::Index(4294967295, 4294967295),
-            0,
-            4294967294,
-            Traps(Trap::Overflow),
-        ),
-        (
-            Instr::Index(4294967295, 1),
-            0,
-            4294967295,
-            Traps(Trap::IndexRange),
-        ),
-        (
-            Instr::Index(4294967295, 1),
-            0,
-            4294967296,
-            Traps(Trap::IndexRange),
-        ),
-    ] {
-        assert_eq!(rt; of_two(a, instr, o, i)?, want, "{instr:?} of {o} and {i}");
-    }
-    Ok(())
-}
-
-/// What `LoadAt(1, 4)` pushes at an offset into the cells 2, 3, 4, 5.
-fn loaded_at(alloc: Global, o: Num) -> Result<Answer, NotRun> {
-    let ran = run_on_six(
-        alloc,
-        &[Instr::Const(o), Instr::LoadAt(1, 4), Instr::Store(5, None)],
-    )?;
-    Ok(ran.answer(5))
-}
-
-#[test]
-fn a_cell_is_loaded_at_an_offset(rt: HostRuntime) -> Result<(), Fail> {
-    for (o, want) in [
-        (0, Gives(2)),
-        (1, Gives(3)),
-        (3, Gives(5)),
-        (4, Traps(Trap::IndexRange)),
-        (-1, Traps(Trap::IndexRange)),
-        (LEAST, Traps(Trap::IndexRange)),
-        (GREATEST, Traps(Trap::IndexRange)),
-        (4294967296, Traps(Trap::IndexRange)),
-    ] {
-        assert_eq!(rt; loaded_at(rt.alloc(), o)?, want, "at {o}");
-    }
-    Ok(())
-}
-
-#[test]
-fn a_number_is_stored_at_an_offset(rt: HostRuntime) -> Result<(), Fail> {
-    let a = rt.alloc();
-    for (o, want) in [
-        (0, [1, 9, 3, 4, 5, 6]),
-        (1, [1, 2, 9, 4, 5, 6]),
-        (3, [1, 2, 3, 4, 9, 6]),
-    ] {
-        let ran = run_on_six(
-            a,
-            &[Instr::Const(o), Instr::Const(9), Instr::StoreAt(1, 4, None)],
-        )?;
-        assert_eq!(rt; ran.cells.as_slice(), want.as_slice(), "at {o}");
-    }
-    for o in [4, -1, LEAST, GREATEST, 4294967296] {
-        let ran = run_on_six(
-            a,
-            &[Instr::Const(o), Instr::Const(9), Instr::StoreAt(1, 4, None)],
-        )?;
-        assert_eq!(rt; ran.answer(0), Traps(Trap::IndexRange), "at {o}");
-        assert_eq!(rt;
-            ran.cells.as_slice(),
-            [1, 2, 3, 4, 5, 6].as_slice(),
-            "at {o}"
-        );
-    }
-    Ok(())
-}
-
-#[test]
-fn the_top_is_dropped(rt: HostRuntime) -> Result<(), Fail> {
-    let ran = run(
-        rt.alloc(),
-        1,
+    ),
+    (
         &[
             Instr::Const(1),
             Instr::Const(2),
@@ -239,7 +239,190 @@ fn the_top_is_dropped(rt: HostRuntime) -> Result<(), Fail> {
             Instr::Store(0, None),
             Instr::Done,
         ],
-    )?;
-    assert_eq!(rt; ran.answer(0), Gives(1));
-    Ok(())
+        Ran(Outcome::Done, [1, 0, 0, 0, 0, 0]),
+    ),
+];
+
+#[test]
+fn a_constant_and_a_cell_are_pushed_and_the_top_is_dropped(rt: HostRuntime) {
+    hold(&rt, rt.alloc(), PUSHED);
+}
+
+/// An index, the top, counts elements of several numbers each from an offset.
+const INDEXED: &[(Instr, Num, Num, Answer)] = &[
+    (Instr::Index(3, 4), 10, 0, Gives(10)),
+    (Instr::Index(3, 4), 10, 2, Gives(18)),
+    (Instr::Index(3, 4), 10, 3, Traps(Trap::IndexRange)),
+    (Instr::Index(3, 4), 10, -1, Traps(Trap::IndexRange)),
+    (Instr::Index(3, 4), 10, LEAST, Traps(Trap::IndexRange)),
+    (Instr::Index(3, 4), 10, GREATEST, Traps(Trap::IndexRange)),
+    (Instr::Index(0, 4), 10, 0, Traps(Trap::IndexRange)),
+    (Instr::Index(2, 1), GREATEST, 0, Gives(GREATEST)),
+    (Instr::Index(2, 1), GREATEST, 1, Traps(Trap::Overflow)),
+    (Instr::Index(2, 1), GREATEST, 2, Traps(Trap::IndexRange)),
+    (
+        Instr::Index(2, 1),
+        LEAST,
+        1,
+        Gives(-170141183460469231731687303715884105727),
+    ),
+    (Instr::Index(3, 4294967295), -1, 2, Gives(8589934589)),
+    (
+        Instr::Index(4294967295, 4294967295),
+        LEAST,
+        4294967294,
+        Gives(-170141183460469231713240559655059455998),
+    ),
+    (
+        Instr::Index(4294967295, 4294967295),
+        0,
+        4294967294,
+        Gives(18446744060824649730),
+    ),
+    (
+        Instr::Index(4294967295, 4294967295),
+        170141183460469231713240559655059455997,
+        4294967294,
+        Gives(GREATEST),
+    ),
+    (
+        Instr::Index(4294967295, 4294967295),
+        170141183460469231713240559655059455998,
+        4294967294,
+        Traps(Trap::Overflow),
+    ),
+    (
+        Instr::Index(4294967295, 1),
+        0,
+        4294967295,
+        Traps(Trap::IndexRange),
+    ),
+    (
+        Instr::Index(4294967295, 1),
+        0,
+        4294967296,
+        Traps(Trap::IndexRange),
+    ),
+];
+
+#[test]
+fn an_index_counts_elements_from_an_offset(rt: HostRuntime) {
+    hold_of_two(&rt, rt.alloc(), INDEXED);
+}
+
+/// Cells that are loaded and stored at an offset into four of them.
+const AT_OFFSETS: &[(&[Instr], Found)] = &[
+    (
+        &[Instr::Const(0), Instr::LoadAt(1, 4), Instr::Store(5, None)],
+        Ran(Outcome::Done, [1, 2, 3, 4, 5, 2]),
+    ),
+    (
+        &[Instr::Const(1), Instr::LoadAt(1, 4), Instr::Store(5, None)],
+        Ran(Outcome::Done, [1, 2, 3, 4, 5, 3]),
+    ),
+    (
+        &[Instr::Const(3), Instr::LoadAt(1, 4), Instr::Store(5, None)],
+        Ran(Outcome::Done, [1, 2, 3, 4, 5, 5]),
+    ),
+    (
+        &[Instr::Const(4), Instr::LoadAt(1, 4), Instr::Store(5, None)],
+        Ran(Outcome::Trap(Trap::IndexRange), [1, 2, 3, 4, 5, 6]),
+    ),
+    (
+        &[Instr::Const(-1), Instr::LoadAt(1, 4), Instr::Store(5, None)],
+        Ran(Outcome::Trap(Trap::IndexRange), [1, 2, 3, 4, 5, 6]),
+    ),
+    (
+        &[
+            Instr::Const(LEAST),
+            Instr::LoadAt(1, 4),
+            Instr::Store(5, None),
+        ],
+        Ran(Outcome::Trap(Trap::IndexRange), [1, 2, 3, 4, 5, 6]),
+    ),
+    (
+        &[
+            Instr::Const(GREATEST),
+            Instr::LoadAt(1, 4),
+            Instr::Store(5, None),
+        ],
+        Ran(Outcome::Trap(Trap::IndexRange), [1, 2, 3, 4, 5, 6]),
+    ),
+    (
+        &[
+            Instr::Const(4294967296),
+            Instr::LoadAt(1, 4),
+            Instr::Store(5, None),
+        ],
+        Ran(Outcome::Trap(Trap::IndexRange), [1, 2, 3, 4, 5, 6]),
+    ),
+    (
+        &[
+            Instr::Const(18446744073709551616),
+            Instr::LoadAt(1, 4),
+            Instr::Store(5, None),
+        ],
+        Ran(Outcome::Trap(Trap::IndexRange), [1, 2, 3, 4, 5, 6]),
+    ),
+    (
+        &[Instr::Const(0), Instr::Const(9), Instr::StoreAt(1, 4, None)],
+        Ran(Outcome::Done, [1, 9, 3, 4, 5, 6]),
+    ),
+    (
+        &[Instr::Const(1), Instr::Const(9), Instr::StoreAt(1, 4, None)],
+        Ran(Outcome::Done, [1, 2, 9, 4, 5, 6]),
+    ),
+    (
+        &[Instr::Const(3), Instr::Const(9), Instr::StoreAt(1, 4, None)],
+        Ran(Outcome::Done, [1, 2, 3, 4, 9, 6]),
+    ),
+    (
+        &[Instr::Const(4), Instr::Const(9), Instr::StoreAt(1, 4, None)],
+        Ran(Outcome::Trap(Trap::IndexRange), [1, 2, 3, 4, 5, 6]),
+    ),
+    (
+        &[
+            Instr::Const(-1),
+            Instr::Const(9),
+            Instr::StoreAt(1, 4, None),
+        ],
+        Ran(Outcome::Trap(Trap::IndexRange), [1, 2, 3, 4, 5, 6]),
+    ),
+    (
+        &[
+            Instr::Const(LEAST),
+            Instr::Const(9),
+            Instr::StoreAt(1, 4, None),
+        ],
+        Ran(Outcome::Trap(Trap::IndexRange), [1, 2, 3, 4, 5, 6]),
+    ),
+    (
+        &[
+            Instr::Const(GREATEST),
+            Instr::Const(9),
+            Instr::StoreAt(1, 4, None),
+        ],
+        Ran(Outcome::Trap(Trap::IndexRange), [1, 2, 3, 4, 5, 6]),
+    ),
+    (
+        &[
+            Instr::Const(4294967296),
+            Instr::Const(9),
+            Instr::StoreAt(1, 4, None),
+        ],
+        Ran(Outcome::Trap(Trap::IndexRange), [1, 2, 3, 4, 5, 6]),
+    ),
+    (
+        &[
+            Instr::Const(18446744073709551616),
+            Instr::Const(9),
+            Instr::StoreAt(1, 4, None),
+        ],
+        Ran(Outcome::Trap(Trap::IndexRange), [1, 2, 3, 4, 5, 6]),
+    ),
+];
+
+#[test]
+fn a_cell_is_loaded_and_stored_at_an_offset(rt: HostRuntime) {
+    hold_on_six(&rt, rt.alloc(), AT_OFFSETS);
 }

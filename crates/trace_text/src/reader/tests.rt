@@ -46,7 +46,19 @@ fn stall(inst: u32, action: u16, link: u32) -> Line {
 }
 
 fn header(instances: u32, links: u32) -> Line {
-    Line::Header { instances, links }
+    growing(instances, links, 0)
+}
+
+fn growing(instances: u32, links: u32, grow: u32) -> Line {
+    Line::Header {
+        instances,
+        links,
+        grow,
+    }
+}
+
+fn grow(link: u32, capacity: u32) -> Line {
+    Line::Grow { link, capacity }
 }
 
 #[test]
@@ -56,6 +68,10 @@ fn lines_of_the_table(rt: HostRuntime) {
         ("rvc-trace 1 0 0\n", header(0, 0)),
         ("rvc-trace 1 12 305\n", header(12, 305)),
         ("rvc-trace 1 4294967295 4294967295\n", header(most, most)),
+        ("rvc-trace 2 3 5 4\n", growing(3, 5, 4)),
+        ("rvc-trace 2 0 0 4294967295\n", growing(0, 0, most)),
+        ("g 3 4\n", grow(3, 4)),
+        ("g 4294967295 4294967295\n", grow(most, most)),
         ("i 0 Inc Inc\n", Line::Inst { inst: 0 }),
         ("i 4294967295 a/_1/b_2 p.q9._\n", Line::Inst { inst: most }),
         ("i 10 begin end\n", Line::Inst { inst: 10 }),
@@ -140,13 +156,20 @@ fn bytes_that_can_not_follow(rt: HostRuntime) {
         ("rvc\n", 3),
         ("rvc-trace\n", 9),
         ("rvc-trace 1\n", 11),
-        ("rvc-trace 2 0 0\n", 10),
+        ("rvc-trace 2 0 0\n", 15),
+        ("rvc-trace 2 0 0 0\n", 16),
+        ("rvc-trace 2 0 0 4294967296\n", 25),
+        ("rvc-trace 2 0 0 4 4\n", 17),
+        ("rvc-trace 3 0 0\n", 10),
         ("rvc-trace 10 0 0\n", 11),
         ("rvc-trace 1 0\n", 13),
         ("rvc-trace 1 0 0 0\n", 15),
         ("RVC-trace 1 0 0\n", 0),
         // letters and names
-        ("g\n", 0),
+        ("h\n", 0),
+        ("g\n", 1),
+        ("g 3\n", 3),
+        ("g 3 4 5\n", 5),
         ("qq\n", 1),
         ("t 0 0 overflow\n", 6),
         ("t 0 0 Overfl\n", 12),
@@ -207,9 +230,11 @@ fn behind_each_line_feed_a_line_begins(rt: HostRuntime) {
 }
 
 /// A line of each kind, with each trap.
-fn lines_with(inst: u32, action: u16, link: u32) -> [Line; 12] {
+fn lines_with(inst: u32, action: u16, link: u32) -> [Line; 14] {
     [
         header(inst, link),
+        growing(inst, link, inst),
+        grow(link, inst),
         Line::Inst { inst },
         Line::Deliver,
         fire(inst, action),

@@ -1,10 +1,11 @@
-use Rattle.std.proofs.Common.{rules, SFits, w64, ◌∷◌, ◌∙◌, ap}
-use Rattle.rvc_base.specs.Arithmetic.{sum}
+use Rattle.std.proofs.Common.{rules, SFits, ◌∷◌, ◌∙◌, ap}
+use Rattle.rvc_base.specs.Width.{num_width}
+use Rattle.rvc_base.specs.Arithmetic.{add}
 use Rattle.action_machine.proofs.Arms.{two}
 use Rattle.action_machine.proofs.operators.add.Goals as goal
 
 pub returns : goal.returns
-returns c =
-    let fa : SFits w64 c.pop-a.result = search rules in
-    let fb : SFits w64 c.pop-b.result = search rules in
-    two sum c.pop-a.result c.pop-b.result c.sum.result c.push_result.result _ _ _ fa fb (c.pop-b.ensures.operands ∙ ap (λ s. c.pop-b.result ∷ s) c.pop-a.ensures.operands) c.sum.ensures c.push_result.ensures
+returns c = λ cells tokens.
+    let fa : SFits num_width c.pop-a.result = search rules in
+    let fb : SFits num_width c.pop-b.result = search rules in
+    two add c.pop-a.result c.pop-b.result c.add.result c.push_result.result _ _ _ fa fb (c.pop-b.ensures.operands ∙ ap (λ s. c.pop-b.result ∷ s) c.pop-a.ensures.operands) c.add.ensures c.push_result.ensures cells

@@ -4,4 +4,4 @@ use Rattle.action_machine.proofs.ranges.zero_cells.Goals as goal
 
 -- src/ranges.rt:31:5
 pub loop-k-preserved : goal.loop-k-preserved
-loop-k-preserved c = zeroed-more c.args.c c.loop-k.k c.args.n c.loop-k.cells (omega arith) ∙ c.loop-k.invariant
+loop-k-preserved c = zeroed-more c.args.target c.loop-k.k c.args.count c.loop-k.cells (omega arith) ∙ c.loop-k.invariant

@@ -3,4 +3,4 @@ use Rattle.code_ir.specs.Effect.{zeroed}
 use Rattle.action_machine.proofs.ranges.zero_cells.Given as goal
 
 abbrev pub invariant-loop-k : goal.invariant-loop-k
-invariant-loop-k l = zeroed (l.c + l.k) (l.n - l.k) l.cells ≡ zeroed l.c l.n l.initial.cells
+invariant-loop-k l = zeroed (l.target + l.k) (l.count - l.k) l.cells ≡ zeroed l.target l.count l.initial.cells

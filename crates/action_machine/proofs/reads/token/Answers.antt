@@ -3,4 +3,4 @@ use Rattle.action_machine.proofs.CellRanges.{token-inside}
 use Rattle.action_machine.proofs.reads.token.Goals as goal
 
 pub at-requires : goal.at-requires
-at-requires g c = token-inside (g.T.Tokens.tokens c.args.tokens.now c.args.p) c.args.k _ [] (c.requires.there [])
+at-requires g c = token-inside (g.T.Tokens.tokens c.args.tokens.now c.args.port) c.args.place _ [] (c.requires.there [])

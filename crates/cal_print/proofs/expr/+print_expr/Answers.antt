@@ -4,7 +4,7 @@ use Rattle.cal_ast.specs.View.{expr_tree, gen_tree, type_tree, type_arg_tree, id
 use Rattle.cal_lexer.specs.Lexeme.{Lexeme}
 use Rattle.cal_print.specs.Canon.{words, joined, following, paired, is_loose, word_of_prefix, word_of_binary}
 use Rattle.cal_print.specs.Spelling.{text_of}
-use Rattle.cal_print.specs.Words.{lexeme_of}
+use Rattle.cal_lexer.specs.Words.{lexeme_of}
 use Rattle.cal_print.proofs.Texts.{said, then, as_tree}
 use Rattle.cal_print.proofs.Loops.{following_more, loop_step, joined_all, where_some}
 use Rattle.cal_print.proofs.Forms.{gen_is, expr_if, expr_comp, expr_index, expr_prefix, expr_binary}

@@ -3,7 +3,7 @@ use Rattle.cal_ast.specs.Tree.{listed}
 use Rattle.cal_lexer.specs.Lexeme.{Lexeme}
 use Rattle.cal_print.specs.Canon.{joined}
 use Rattle.cal_print.specs.Spelling.{text_of}
-use Rattle.cal_print.specs.Words.{lexeme_of}
+use Rattle.cal_lexer.specs.Words.{lexeme_of}
 use Rattle.cal_print.proofs.Texts.{said, then}
 use Rattle.cal_print.proofs.Present.{where_not_empty}
 use Rattle.cal_print.proofs.part.print_introduced.Goals as goal

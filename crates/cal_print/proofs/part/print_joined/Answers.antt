@@ -1,6 +1,6 @@
 use Rattle.std.proofs.Common.{rules, ◌≡◌, [], ◌∷◌, map}
 use Rattle.cal_print.specs.Canon.{words, following}
-use Rattle.cal_print.specs.Words.{lexeme_of}
+use Rattle.cal_lexer.specs.Words.{lexeme_of}
 use Rattle.cal_print.proofs.Texts.{said, then}
 use Rattle.cal_print.proofs.Loops.{following_more, loop_step, joined_all}
 use Rattle.cal_print.proofs.part.print_joined.Goals as goal

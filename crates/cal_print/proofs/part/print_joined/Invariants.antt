@@ -2,7 +2,7 @@ use Rattle.std.proofs.Common.{◌≡◌, ◌++◌, map, take}
 use Rattle.cal_ast.specs.Tree.{listed}
 use Rattle.cal_print.specs.Canon.{following}
 use Rattle.cal_print.specs.Spelling.{text_of}
-use Rattle.cal_print.specs.Words.{lexeme_of}
+use Rattle.cal_lexer.specs.Words.{lexeme_of}
 use Rattle.cal_print.proofs.part.print_joined.Given as goal
 
 abbrev pub invariant-loop-part : goal.invariant-loop-part

@@ -1,7 +1,7 @@
 use Rattle.std.proofs.Common.{◌≡◌, true, [], ◌∷◌, map, string_bytes, sym, ap, ◌∙◌}
 use Rattle.cal_ast.specs.Tree.{listed}
 use Rattle.cal_ast.specs.View.{port_tree, type_tree}
-use Rattle.first_form.specs.Departing.{is_byte_type}
+use Rattle.first_form.specs.Mismatch.{is_byte_type}
 use Rattle.first_form.specs.Formed.{IsPort}
 use Rattle.first_form.proofs.Ports.{none_left, one_port}
 use Rattle.first_form.proofs.actor.port_name.Goals as goal

@@ -7,7 +7,7 @@ invariant-loop-fired g l = IsFiring l.sum l.fired
     l.initial.inbox.items l.inbox.items l.initial.outbox.items l.outbox.items
     (deque_capacity l.initial.inbox) (deque_capacity l.inbox) (deque_capacity l.initial.outbox) (deque_capacity l.outbox)
     l.initial.trace l.trace
-    (g.D.Drains.tells l.initial.drains) (g.D.Drains.tells l.drains)
-    (g.D.Drains.held l.initial.drains) (g.D.Drains.held l.drains)
-    (g.D.Drains.is_open l.initial.drains) (g.D.Drains.is_open l.drains)
-    (g.D.Drains.faults l.initial.drains) (g.D.Drains.faults l.drains)
+    (g.D.Drains.channels l.initial.drains).tells (g.D.Drains.channels l.drains).tells
+    (g.D.Drains.channels l.initial.drains).held (g.D.Drains.channels l.drains).held
+    (g.D.Drains.channels l.initial.drains).is_open (g.D.Drains.channels l.drains).is_open
+    (g.D.Drains.channels l.initial.drains).faults (g.D.Drains.channels l.drains).faults

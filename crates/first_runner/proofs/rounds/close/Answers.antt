@@ -6,12 +6,12 @@ use Rattle.first_runner.proofs.rounds.close.Goals as goal
 
 pub returns-in_default-clause-came : goal.returns-in_default-clause-came
 returns-in_default-clause-came g c = λ f ends input trace_base output_base to_come ready.
-    closing-cut f ends input trace_base output_base to_come _ _ _ _ (g.D.Drains.held c.args.drains.now) _ _ c.args.end _ (g.D.Drains.held c.note.new.drains) _ c.requires.fits ready
-    (c.in_default.ensures.same_held ready.going.told 2 output≢trace)
-    (subst (λ t. HoldsFront (g.D.Drains.held c.args.drains.now 1) (g.D.Drains.held c.note.new.drains 1) (c.args.run.now.trace ++ t)) c.end_line.ensures.text (c.in_default.ensures.front ready.going.told))
+    closing-cut f ends input trace_base output_base to_come _ _ _ _ (g.D.Drains.channels c.args.drains.now).held _ _ c.args.end _ (g.D.Drains.channels c.note.new.drains).held _ c.requires.fits ready
+    (c.in_default.ensures.elsewhere.same_held ready.going.told 2 output≢trace)
+    (subst (λ t. HoldsFront ((g.D.Drains.channels c.args.drains.now).held 1) ((g.D.Drains.channels c.note.new.drains).held 1) (c.args.run.now.trace ++ t)) c.end_line.ensures.text (c.in_default.ensures.front ready.going.told))
 
 pub returns-clause-came : goal.returns-clause-came
 returns-clause-came g c = λ f ends input trace_base output_base to_come ready.
-    closing-comes f ends input trace_base output_base to_come _ _ _ _ (g.D.Drains.held c.args.drains.now) _ _ c.args.end _ (g.D.Drains.held c.note.new.drains) _ c.requires.fits ready
-    (c.in-Ok.ensures.same_held ready.going.told 2 output≢trace)
-    (subst (Writes (g.D.Drains.held c.args.drains.now 1) c.args.run.now.trace (g.D.Drains.held c.note.new.drains 1) c.note.new.trace) c.end_line.ensures.text (c.in-Ok.ensures.written ready.going.told))
+    closing-comes f ends input trace_base output_base to_come _ _ _ _ (g.D.Drains.channels c.args.drains.now).held _ _ c.args.end _ (g.D.Drains.channels c.note.new.drains).held _ c.requires.fits ready
+    (c.in-Ok.ensures.elsewhere.same_held ready.going.told 2 output≢trace)
+    (subst (Writes ((g.D.Drains.channels c.args.drains.now).held 1) c.args.run.now.trace ((g.D.Drains.channels c.note.new.drains).held 1) c.note.new.trace) c.end_line.ensures.text (c.in-Ok.ensures.written ready.going.told))

@@ -8,4 +8,4 @@ returns-clause-coming g c =
     let kept = c.args.kept in
     let behind = drop kept bytes in
     let room = length bytes - kept in
-    coming_pulled c.pull.result kept bytes (take room behind) c.pull.new.buf (drop room behind) (g.F.Feeds.left c.args.feeds.now c.args.feed) (g.F.Feeds.left c.pull.new.self c.args.feed) (omega arith) c.pull.ensures.bytes
+    coming_pulled c.pull.result kept bytes (take room behind) c.pull.new.buf (drop room behind) ((g.F.Feeds.feeds c.args.feeds.now).left c.args.feed) ((g.F.Feeds.feeds c.pull.new.self).left c.args.feed) (omega arith) c.pull.ensures.bytes

@@ -1,5 +1,5 @@
 use Rattle.std.proofs.Common.{◌≤◌, sym, ap, ◌∙◌, arith, map, take}
-use Rattle.cal_model.specs.Form.{form_of}
+use Rattle.first_form.specs.Form.{form_of}
 use Rattle.rvc_words.specs.Words.{port_text}
 use Rattle.rvc_top.specs.Matching.{is_named, is_port, ports_of}
 use Rattle.rvc_top.proofs.PortWords.{there, earlier, fits_more, two_fit, unknown, twice}

@@ -1,5 +1,5 @@
 use Rattle.std.proofs.Common.{◌<◌, ℕ, map}
-use Rattle.cal_model.specs.Form.{form_of}
+use Rattle.first_form.specs.Form.{form_of}
 use Rattle.rvc_words.specs.Words.{port_text}
 use Rattle.rvc_top.specs.Matching.{Fits, ports_of}
 use Rattle.rvc_top.proofs.matching.check_words.Given as goal

@@ -1,6 +1,6 @@
 use Rattle.std.proofs.Common.{◌≡◌, ap, subst, map}
 use Rattle.std.specs.Prelude.{string_bytes, Err}
-use Rattle.cal_model.specs.Form.{form_of}
+use Rattle.first_form.specs.Form.{form_of}
 use Rattle.first_form.specs.Spelling.{Spells}
 use Rattle.rvc_io.specs.Told.{IsTold}
 use Rattle.rvc_words.specs.Words.{port_text}

@@ -1,5 +1,5 @@
 use Rattle.std.specs.Prelude.{string_bytes}
-use Rattle.cal_model.specs.Form.{form_of}
+use Rattle.first_form.specs.Form.{form_of}
 use Rattle.first_form.specs.Spelling.{Spells}
 use Rattle.rvc_top.specs.Plain.{plain_text}
 use Rattle.rvc_top.proofs.Seats.{reported-early, reported-of, told-spells}

@@ -15,7 +15,7 @@ returns-in-Some-clause-refused g c = λ j refusal is_job answered.
 
 pub returns-in-None-clause-refused : goal.returns-in-None-clause-refused
 returns-in-None-clause-refused g c = λ j refusal is_job answered.
-    denied_unbuilt (texts c.args.words.now) j (job_text c.in-Ok.job) (g.L.Library.file c.args.library.now) _ _ refusal c.report_not_built.result _ _ _ (g.D.Drains.held c.args.drains.now 0) (g.D.Drains.held c.report_not_built.new.drains 0) not_built_text is_job c.in-Ok.ensures.read c.in-None.ensures.run (c.is_format.ensures.other c.if-is_format.false) c.report_not_built.ensures.reported answered
+    denied_unbuilt (texts c.args.words.now) j (job_text c.in-Ok.job) (g.L.Library.file c.args.library.now) _ _ refusal c.report_not_built.result _ _ _ ((g.D.Drains.channels c.args.drains.now).held 0) ((g.D.Drains.channels c.report_not_built.new.drains).held 0) not_built_text is_job c.in-Ok.ensures.read c.in-None.ensures.run (c.is_format.ensures.other c.if-is_format.false) c.report_not_built.ensures.reported answered
 
 pub returns-then-is_format-clause-run : goal.returns-then-is_format-clause-run
 returns-then-is_format-clause-run g c = λ j r source input is_job run holds has told.
@@ -35,7 +35,7 @@ returns-then-is_format-clause-complete g c = λ j r tree is_job format has quiet
 
 pub returns-then-is_format-clause-format_report : goal.returns-then-is_format-clause-format_report
 returns-then-is_format-clause-format_report g c = λ j r is_job format told.
-    subst (λ x. IsReported (naming_top x.top) c.format_job.result (g.D.Drains.held c.args.drains.now 0) (g.D.Drains.held c.format_job.new.drains 0)) (format-is (texts c.args.words.now) j (job_text c.in-Ok.job) r (format_of (job_text c.in-Ok.job)) is_job c.in-Ok.ensures.read (c.is_format.ensures.format c.if-is_format.true) format) (c.format_job.ensures.reported told)
+    subst (λ x. IsReported (naming_top x.top) c.format_job.result ((g.D.Drains.channels c.args.drains.now).held 0) ((g.D.Drains.channels c.format_job.new.drains).held 0)) (format-is (texts c.args.words.now) j (job_text c.in-Ok.job) r (format_of (job_text c.in-Ok.job)) is_job c.in-Ok.ensures.read (c.is_format.ensures.format c.if-is_format.true) format) (c.format_job.ensures.reported told)
 
 pub returns-then-is_format-clause-not_built : goal.returns-then-is_format-clause-not_built
 returns-then-is_format-clause-not_built g c = λ j is_job none other.

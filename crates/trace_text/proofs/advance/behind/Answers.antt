@@ -1,8 +1,26 @@
-use Rattle.trace_text.proofs.Numbering.{behind_instances, behind_instance, behind_firing, behind_trapping, behind_trap, behind_stalled, behind_link}
+use Rattle.trace_text.proofs.Numbering.{behind_instances, behind_growing, behind_growing_links, behind_limit, behind_grown, behind_instance, behind_firing, behind_trapping, behind_trap, behind_stalled, behind_link}
+use Rattle.std.proofs.Common.{◌≤◌, subst}
+use Rattle.trace_text.specs.declared.place.Field.{Field}
+use Rattle.trace_text.specs.Waiting.{least_of}
 use Rattle.trace_text.proofs.advance.behind.Goals as goal
 
 pub returns-in-Instances : goal.returns-in-Instances
 returns-in-Instances c = rw (c.in-Instances.is, c.at_number.ensures) (behind_instances c.args.number)
+
+pub returns-in-GrowingInstances : goal.returns-in-GrowingInstances
+returns-in-GrowingInstances c = rw (c.in-GrowingInstances.is, c.at_number-in-GrowingInstances.ensures) (behind_growing c.args.number)
+
+pub returns-in-GrowingLinks : goal.returns-in-GrowingLinks
+returns-in-GrowingLinks c =
+    rw (c.in-GrowingLinks.is, c.at_number-in-GrowingLinks.ensures) (behind_growing_links c.in-GrowingLinks.instances c.args.number)
+
+pub returns-in-Limit : goal.returns-in-Limit
+returns-in-Limit c =
+    rw c.in-Limit.is (behind_limit c.in-Limit.instances c.in-Limit.links c.args.number
+    (subst (λ (field : Field). least_of field ≤ c.args.number) c.in-Limit.is c.requires.high))
+
+pub returns-in-GrownLink : goal.returns-in-GrownLink
+returns-in-GrownLink c = rw (c.in-GrownLink.is, c.at_number-in-GrownLink.ensures) (behind_grown c.args.number)
 
 pub returns-in-Instance : goal.returns-in-Instance
 returns-in-Instance c = rw c.in-Instance.is (behind_instance c.args.number)

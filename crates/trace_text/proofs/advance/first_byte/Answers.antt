@@ -1,9 +1,9 @@
 use Rattle.std.proofs.Common.{ℕ, subst, sym}
 use Rattle.trace_text.specs.declared.place.Place.TheVariants.{Start, AfterR, Letter, Ending}
-use Rattle.trace_text.specs.declared.place.Field.TheVariants.{Instance, FiringInst, TrappingInst, StalledInst}
+use Rattle.trace_text.specs.declared.place.Field.TheVariants.{Instance, FiringInst, TrappingInst, StalledInst, GrownLink}
 use Rattle.trace_text.specs.declared.line.Line.TheVariants.{Quiet, Budget}
 use Rattle.trace_text.specs.Waiting.{Leads}
-use Rattle.trace_text.proofs.Starting.{leads_r, leads_inst, leads_fire, leads_quiet, leads_trap, leads_stall, leads_budget}
+use Rattle.trace_text.proofs.Starting.{leads_r, leads_inst, leads_fire, leads_grow, leads_quiet, leads_trap, leads_stall, leads_budget}
 use Rattle.trace_text.proofs.advance.first_byte.Goals as goal
 
 pub returns-in-114 : goal.returns-in-114
@@ -14,6 +14,9 @@ returns-in-105 c = subst (λ (b : ℕ). Leads Start b (Letter Instance)) (sym c.
 
 pub returns-in-102 : goal.returns-in-102
 returns-in-102 c = subst (λ (b : ℕ). Leads Start b (Letter FiringInst)) (sym c.in-102.is) leads_fire
+
+pub returns-in-103 : goal.returns-in-103
+returns-in-103 c = subst (λ (b : ℕ). Leads Start b (Letter GrownLink)) (sym c.in-103.is) leads_grow
 
 pub returns-in-113 : goal.returns-in-113
 returns-in-113 c = subst (λ (b : ℕ). Leads Start b (Ending Quiet)) (sym c.in-113.is) leads_quiet

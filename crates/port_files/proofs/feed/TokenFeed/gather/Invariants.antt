@@ -1,5 +1,5 @@
 use Rattle.std.proofs.Common.{◌≡◌, ℕ, ◌+◌, ◌-◌, ◌≤◌, true, List, length, if◌then◌else◌}
-use Rattle.rvc_io.specs.Elsewhere.{SameElsewhere}
+use Rattle.rvc_io.specs.Feeds.{PullsOnly}
 use Rattle.net_model.specs.PortFile.{token_bytes}
 use Rattle.port_files.specs.Coming.{coming, EndIsTrue}
 use Rattle.port_files.proofs.feed.TokenFeed.gather.Given as goal
@@ -8,14 +8,11 @@ use Rattle.port_files.proofs.feed.TokenFeed.gather.Given as goal
 abbrev pub invariant-loop-self : goal.invariant-loop-self
 invariant-loop-self g l =
     record {
-      coming : coming l.self.pulled (g.F.Feeds.left l.feeds l.feed) ≡ coming l.initial.self.pulled (g.F.Feeds.left l.initial.feeds l.feed);
+      coming : coming l.self.pulled ((g.F.Feeds.feeds l.feeds).left l.feed) ≡ coming l.initial.self.pulled ((g.F.Feeds.feeds l.initial.feeds).left l.feed);
       at_end : l.initial.self.ended ≡ true → l.self ≡ l.initial.self;
       kind : l.self.kind ≡ l.initial.self.kind;
-      still_same_feed : EndIsTrue l.self (g.F.Feeds.left l.feeds l.feed);
-      same_names : (other : List ℕ) → g.F.Feeds.under l.feeds other ≡ g.F.Feeds.under l.initial.feeds other;
-      same_left : SameElsewhere (g.F.Feeds.left l.initial.feeds) (g.F.Feeds.left l.feeds) l.feed;
-      same_open : (other : ℕ) → g.F.Feeds.is_open l.feeds other ≡ g.F.Feeds.is_open l.initial.feeds other;
-      faults_stay : g.F.Feeds.faults l.initial.feeds ≤ g.F.Feeds.faults l.feeds;
+      still_same_feed : EndIsTrue l.self ((g.F.Feeds.feeds l.feeds).left l.feed);
+      elsewhere : PullsOnly g.F.Feeds.feeds l.initial.feeds l.feeds l.feed;
     }
 
 abbrev pub decreases-loop-self : goal.decreases-loop-self

@@ -3,7 +3,7 @@ use Rattle.trace_text.specs.declared.reader.Step2.{Step2}
 use Rattle.trace_text.specs.Spelling.{since_line_feed}
 use Rattle.trace_text.specs.HasRead.{HasRead}
 use Rattle.trace_text.specs.ReadBack.{IsAnswer}
-use Rattle.trace_text.proofs.Reading.{stands, says_line, is_said, says_more, more_is_said, is_answer}
+use Rattle.trace_text.proofs.Reading.{stands, says_line, is_said, says_more, more_is_said, says_bad, bad_is_said, is_answer}
 use Rattle.trace_text.proofs.Only.{tells_on, read_line_feed, read_other}
 use Rattle.trace_text.proofs.reader.LineReader.next.Goals as goal
 use Rattle.trace_text.proofs.reader.LineReader.next.Goals.{then-byte-eq10, else-byte-eq10}
@@ -22,6 +22,14 @@ returns-clause-more c read h =
     let there = stands c.args.self.now read c.args.byte place h c.advance-place.ensures in (
       λ e. says_more place (read ++ c.args.byte ∷ []) there (sym c.answer.ensures ∙ e),
       λ w. c.answer.ensures ∙ more_is_said place (read ++ c.args.byte ∷ []) there w,
+    )
+
+pub returns-clause-bad : goal.returns-clause-bad
+returns-clause-bad c read h =
+    let place = c.advance-place.result in
+    let there = stands c.args.self.now read c.args.byte place h c.advance-place.ensures in (
+      λ e. says_bad place (read ++ c.args.byte ∷ []) there (sym c.answer.ensures ∙ e),
+      λ none. c.answer.ensures ∙ bad_is_said place (read ++ c.args.byte ∷ []) there none,
     )
 
 pub returns-clause-answer : goal.returns-clause-answer

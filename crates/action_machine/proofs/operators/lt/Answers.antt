@@ -1,0 +1,11 @@
+use Rattle.std.proofs.Common.{rules, SFits, ◌∷◌, ◌∙◌, ap}
+use Rattle.rvc_base.specs.Width.{num_width}
+use Rattle.rvc_base.specs.Arithmetic.{Gives, truth, is_below}
+use Rattle.action_machine.proofs.Arms.{two}
+use Rattle.action_machine.proofs.operators.lt.Goals as goal
+
+pub returns : goal.returns
+returns c = λ cells tokens.
+    let fa : SFits num_width c.pop-a.result = search rules in
+    let fb : SFits num_width c.pop-b.result = search rules in
+    two (λ a b. Gives (truth (is_below a b))) c.pop-a.result c.pop-b.result c.lt.result c.push_result.result _ _ _ fa fb (c.pop-b.ensures.operands ∙ ap (λ s. c.pop-b.result ∷ s) c.pop-a.ensures.operands) c.lt.ensures c.push_result.ensures cells

@@ -1,0 +1,8 @@
+use Rattle.determinacy_cert.proofs.RangeLaw.{StandsAs}
+use Rattle.determinacy_cert.proofs.Ranges.{safe_then}
+use Rattle.determinacy_cert.proofs.Intervals.{in_left}
+use Rattle.determinacy_cert.proofs.Theorems.{quiet_runs_agree}
+use Rattle.determinacy_cert.proofs.laws.quiet_runs_agree.Goals as goal
+
+pub returns : goal.returns
+returns g c = quiet_runs_agree
