@@ -20,28 +20,52 @@ struct Frame {
 
 /// Whole files.
 const FILES: &[(&str, &str)] = &[
-    ("actor Inc() uint(size=8) In ==> uint(size=8) Out : action In:[a] ==> Out:[a+1] endaction endactor", "actor Inc ( ) uint ( size = 8 ) In ==> uint ( size = 8 ) Out : action In : [ a ] ==> Out : [ a + 1 ] end\nend\n"),
-    ("unit U : int X = if a then b else c endif; end", "unit U : int X = if a then b else c end\n;\nend\n"),
-    ("unit U : int X = (if a then b else c end); end", "unit U : int X = if a then b else c end\n;\nend\n"),
-    ("unit U : List(type:List(type:int(size=8),size=2),size=n*2) X = f(); bool b; endunit", "unit U : List ( type : List ( type : int ( size = 8 ) , size = 2 ) , size = n * 2 ) X = f ( ) ;\nbool b ;\nend\n"),
+    (
+        "actor Inc() uint(size=8) In ==> uint(size=8) Out : action In:[a] ==> Out:[a+1] endaction endactor",
+        "actor Inc ( ) uint ( size = 8 ) In ==> uint ( size = 8 ) Out : action In : [ a ] ==> Out : [ a + 1 ] end\nend\n",
+    ),
+    (
+        "unit U : int X = if a then b else c endif; end",
+        "unit U : int X = if a then b else c end\n;\nend\n",
+    ),
+    (
+        "unit U : int X = (if a then b else c end); end",
+        "unit U : int X = if a then b else c end\n;\nend\n",
+    ),
+    (
+        "unit U : List(type:List(type:int(size=8),size=2),size=n*2) X = f(); bool b; endunit",
+        "unit U : List ( type : List ( type : int ( size = 8 ) , size = 2 ) , size = n * 2 ) X = f ( ) ;\nbool b ;\nend\n",
+    ),
     ("unit U : end", "unit U : end\n"),
-    ("package a.b.c;import d.*;import e.f.g;unit U:int X:=1;function f()-->int:X endfunction endunit", "package a . b . c ;\nimport d . * ;\nimport e . f . g ;\nunit U : int X := 1 ;\nfunction f ( ) --> int : X end\nend\n"),
+    (
+        "package a.b.c;import d.*;import e.f.g;unit U:int X:=1;function f()-->int:X endfunction endunit",
+        "package a . b . c ;\nimport d . * ;\nimport e . f . g ;\nunit U : int X := 1 ;\nfunction f ( ) --> int : X end\nend\n",
+    ),
     ("actor A() ==> : end", "actor A ( ) ==> : end\n"),
-    ("package p; actor A(int K = 1+2, bool b) int X, int Y ==> int Z, bool W : endactor // end", "package p ;\nactor A ( int K = 1 + 2 , bool b ) int X , int Y ==> int Z , bool W : end\n"),
+    (
+        "package p; actor A(int K = 1+2, bool b) int X, int Y ==> int Z, bool W : endactor // end",
+        "package p ;\nactor A ( int K = 1 + 2 , bool b ) int X , int Y ==> int Z , bool W : end\n",
+    ),
 ];
 
 /// Starts of a constant.
 const EXPRS: &[(&str, &str)] = &[
     // literals calls and lists
     ("0x00fF", "255"),
-    ("0xffffffffffffffffffffffffffffffff", "340282366920938463463374607431768211455"),
+    (
+        "0xffffffffffffffffffffffffffffffff",
+        "340282366920938463463374607431768211455",
+    ),
     ("0", "0"),
     ("true", "true"),
     ("false", "false"),
     ("f()", "f ( )"),
     ("f(1,g(x),y)", "f ( 1 , g ( x ) , y )"),
     ("[1,2]", "[ 1 , 2 ]"),
-    ("[x+y:for int x in 0..3,for int(size=4) y in x .. f(x)]", "[ x + y : for int x in 0 .. 3 , for int ( size = 4 ) y in x .. f ( x ) ]"),
+    (
+        "[x+y:for int x in 0..3,for int(size=4) y in x .. f(x)]",
+        "[ x + y : for int x in 0 .. 3 , for int ( size = 4 ) y in x .. f ( x ) ]",
+    ),
     // operators
     ("a||b", "a or b"),
     ("a or b", "a or b"),
@@ -88,9 +112,18 @@ const EXPRS: &[(&str, &str)] = &[
     ("(a)[i]", "( a ) [ i ]"),
     ("a[i][j]", "a [ i ] [ j ]"),
     ("[1,2][i]", "[ 1 , 2 ] [ i ]"),
-    ("if a then b else c end + 1", "( if a then b else c end\n) + 1"),
-    ("not if a then b else c end", "not ( if a then b else c end\n)"),
-    ("if a then b else c end[i]", "( if a then b else c end\n) [ i ]"),
+    (
+        "if a then b else c end + 1",
+        "( if a then b else c end\n) + 1",
+    ),
+    (
+        "not if a then b else c end",
+        "not ( if a then b else c end\n)",
+    ),
+    (
+        "if a then b else c end[i]",
+        "( if a then b else c end\n) [ i ]",
+    ),
 ];
 
 /// Statements of a procedure.
@@ -100,30 +133,66 @@ const STMTS: &[(&str, &str)] = &[
     ("p(); q(1, x);", "p ( ) ;\nq ( 1 , x ) ;\n"),
     ("if a then endif", "if a then end\n"),
     ("if a then else end", "if a then else end\n"),
-    ("if a then x := 1; else y := 2; end", "if a then x := 1 ;\nelse y := 2 ;\nend\n"),
-    ("if a then x := 1; elsif b then y := 2; elsif c then else z := 3; endif", "if a then x := 1 ;\nelse if b then y := 2 ;\nelse if c then else z := 3 ;\nend\nend\nend\n"),
-    ("while i < n do i := i + 1; endwhile", "while i < n do i := i + 1 ;\nend\n"),
-    ("foreach uint(size=4) k in 0 .. n - 1 do endforeach", "foreach uint ( size = 4 ) k in 0 .. n - 1 do end\n"),
+    (
+        "if a then x := 1; else y := 2; end",
+        "if a then x := 1 ;\nelse y := 2 ;\nend\n",
+    ),
+    (
+        "if a then x := 1; elsif b then y := 2; elsif c then else z := 3; endif",
+        "if a then x := 1 ;\nelse if b then y := 2 ;\nelse if c then else z := 3 ;\nend\nend\nend\n",
+    ),
+    (
+        "while i < n do i := i + 1; endwhile",
+        "while i < n do i := i + 1 ;\nend\n",
+    ),
+    (
+        "foreach uint(size=4) k in 0 .. n - 1 do endforeach",
+        "foreach uint ( size = 4 ) k in 0 .. n - 1 do end\n",
+    ),
     ("begin endbegin", "begin end\n"),
-    ("begin var int x := 1, bool b do p(); end", "begin var int x := 1 , bool b do p ( ) ;\nend\n"),
+    (
+        "begin var int x := 1, bool b do p(); end",
+        "begin var int x := 1 , bool b do p ( ) ;\nend\n",
+    ),
 ];
 
 /// Members of an actor.
 const MEMBERS: &[(&str, &str)] = &[
     // functions and procedures
-    ("int s; int t := 0; int(size=8) K = 0x1F;", "int s ;\nint t := 0 ;\nint ( size = 8 ) K = 31 ;\n"),
-    ("function f(int x, bool y) --> int var int z = 1, int w := z : x endfunction", "function f ( int x , bool y ) --> int var int z = 1 , int w := z : x end\n"),
-    ("procedure p(int x) var int y begin y := x; endprocedure procedure q() begin end", "procedure p ( int x ) var int y begin y := x ;\nend\nprocedure q ( ) begin end\n"),
+    (
+        "int s; int t := 0; int(size=8) K = 0x1F;",
+        "int s ;\nint t := 0 ;\nint ( size = 8 ) K = 31 ;\n",
+    ),
+    (
+        "function f(int x, bool y) --> int var int z = 1, int w := z : x endfunction",
+        "function f ( int x , bool y ) --> int var int z = 1 , int w := z : x end\n",
+    ),
+    (
+        "procedure p(int x) var int y begin y := x; endprocedure procedure q() begin end",
+        "procedure p ( int x ) var int y begin y := x ;\nend\nprocedure q ( ) begin end\n",
+    ),
     // actions
     ("action ==> end", "action ==> end\n"),
     ("action ==> do endaction", "action ==> do end\n"),
-    ("a.b: action In:[x, y] repeat 2, [z] ==> Out:[x, 1] repeat n, [z] guard x > 0, y var int s, int t := 1 do s := x; end", "a . b : action In : [ x , y ] repeat 2 , [ z ] ==> Out : [ x , 1 ] repeat n , [ z ] guard x > 0 , y var int s , int t := 1 do s := x ;\nend\n"),
-    ("initialize ==> Out:[1] endinitialize i: initialize ==> guard true do p(); end", "initialize ==> Out : [ 1 ] end\ni : initialize ==> guard true do p ( ) ;\nend\n"),
+    (
+        "a.b: action In:[x, y] repeat 2, [z] ==> Out:[x, 1] repeat n, [z] guard x > 0, y var int s, int t := 1 do s := x; end",
+        "a . b : action In : [ x , y ] repeat 2 , [ z ] ==> Out : [ x , 1 ] repeat n , [ z ] guard x > 0 , y var int s , int t := 1 do s := x ;\nend\n",
+    ),
+    (
+        "initialize ==> Out:[1] endinitialize i: initialize ==> guard true do p(); end",
+        "initialize ==> Out : [ 1 ] end\ni : initialize ==> guard true do p ( ) ;\nend\n",
+    ),
     // schedules and priorities
     ("schedule fsm s : endschedule", "schedule fsm s : end\n"),
-    ("schedule fsm s : s (a.x, b) --> t; t (c) --> s; end", "schedule fsm s : s ( a . x , b ) --> t ;\nt ( c ) --> s ;\nend\n"),
+    (
+        "schedule fsm s : s (a.x, b) --> t; t (c) --> s; end",
+        "schedule fsm s : s ( a . x , b ) --> t ;\nt ( c ) --> s ;\nend\n",
+    ),
     ("priority endpriority", "priority end\n"),
-    ("priority a > b.c > d; e > f; end", "priority a > b . c > d ;\ne > f ;\nend\n"),
+    (
+        "priority a > b.c > d; e > f; end",
+        "priority a > b . c > d ;\ne > f ;\nend\n",
+    ),
 ];
 
 /// The tree that a text spells.
@@ -175,9 +244,11 @@ fn same_tree(alloc: Global, text: &[u8], other: &[u8]) -> Result<bool, Fail> {
 /// Whether the canonical text of `source` is `expected`, which is the canonical text of itself and spells the same
 /// tree.
 fn has_canon(alloc: Global, source: &[u8], expected: &[u8]) -> Result<bool, Fail> {
-    Ok(canon(alloc, source)?.as_slice() == expected
-        && canon(alloc, expected)?.as_slice() == expected
-        && same_tree(alloc, source, expected)?)
+    Ok(
+        canon(alloc, source)?.as_slice() == expected
+            && canon(alloc, expected)?.as_slice() == expected
+            && same_tree(alloc, source, expected)?,
+    )
 }
 
 /// A text within what stands before and behind it.
@@ -186,12 +257,7 @@ fn within(alloc: Global, before: &str, text: &str, behind: &str) -> Result<Strin
 }
 
 /// Stops at the first text that has another canonical text.
-fn hold(
-    rt: &impl Abort,
-    alloc: Global,
-    frame: &Frame,
-    rows: &[(&str, &str)],
-) -> Result<(), Fail> {
+fn hold(rt: &impl Abort, alloc: Global, frame: &Frame, rows: &[(&str, &str)]) -> Result<(), Fail> {
     for &(text, expected) in rows {
         let source = within(alloc, frame.before, text, frame.behind)?;
         let canon = within(alloc, frame.canon_before, expected, frame.canon_behind)?;

@@ -11,12 +11,12 @@ ghost use Rattle.first_form.specs.Form.{form_of};
 ghost use Rattle.first_form.specs.Parts.{given_form};
 ghost use Rattle.first_form.specs.Formed.{IsPort, IsPattern, IsOutput, IsAction, action_of};
 
+use crate::ast::{Actor, Binary};
 use crate::value::value;
 use cal_ast::{
     Action, Actor as ActorTree, Body, Expr, ExprForm, File, Ident, Member, Output, Pattern,
     PortDecl, TypeArg, TypeExpr,
 };
-use crate::ast::{Actor, Binary};
 use std::alloc::{AllocError, Global};
 
 /// An actor whose texts are the tree's.

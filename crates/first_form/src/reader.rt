@@ -8,9 +8,9 @@ ghost use Rattle.cal_lexer.specs.Lexes.{lexes};
 ghost use Rattle.first_form.specs.Spelling.{HasOffsets, IsActor, IsRightly, Spells};
 
 use crate::actor::{given_file, owned};
+use crate::ast::Actor;
 use cal_ast::File;
 use cal_lexer::{Token, lex};
-use crate::ast::Actor;
 use cal_parser::parse_file;
 use rvc_base::{Front, Place, Refusal, Rule};
 use std::alloc::Global;

@@ -1,7 +1,7 @@
 //! Sources with the actor that they spell, or the rule that they break and where.
 
-use crate::read_form;
 use crate::ast::{Actor, Operand, Operator};
+use crate::read_form;
 use rvc_base::Front;
 use std::alloc::{AllocError, Global};
 use std::process::Abort;
@@ -12,6 +12,7 @@ const FILE: u32 = 1;
 
 /// What stands before the action of a row, and behind it. The action begins at 49, and its text at 56.
 const HEAD: &[u8] = b"actor A() uint(size=8) In ==> uint(size=8) Out : action ";
+
 const ENDS: &[u8] = b" end end";
 
 /// Whole sources.
@@ -126,12 +127,7 @@ fn answer(alloc: Global, source: &[u8]) -> Result<String, Fail> {
 }
 
 /// A text within what stands before and behind it.
-fn within(
-    alloc: Global,
-    before: &[u8],
-    text: &[u8],
-    behind: &[u8],
-) -> Result<Vec<u8>, AllocError> {
+fn within(alloc: Global, before: &[u8], text: &[u8], behind: &[u8]) -> Result<Vec<u8>, AllocError> {
     let mut source = Vec::new(alloc);
     source.extend_from_slice(before)?;
     source.extend_from_slice(text)?;

@@ -6,8 +6,8 @@ ghost use Rattle.first_form.specs.Mismatch.{value_mismatch, is_operand};
 ghost use Rattle.cal_ast.specs.Places.{begins};
 ghost use Rattle.first_form.specs.Formed.{IsOperandOf, IsValueOf, operator_of};
 
-use cal_ast::{BinOp, Expr, ExprForm};
 use crate::ast::{Binary, Operand, Operator};
+use cal_ast::{BinOp, Expr, ExprForm};
 
 /// The least number that has too many digits.
 const TOO_GREAT: u128 = 1_000_000_000;

@@ -10,9 +10,9 @@ ghost use Rattle.first_runner.specs.Burst.{Bursts, BreaksBurst, fire_lines, Send
 
 use crate::TRACE_CHANNEL;
 use crate::trace_writer::note;
+use channel_writer::ChannelWriter;
 use first_form::ast::Binary;
 use first_form::sent_for;
-use channel_writer::ChannelWriter;
 use rvc_base::Num;
 use rvc_io::{Drains, Failed};
 use std::collections::VecDeque;

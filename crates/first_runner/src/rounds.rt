@@ -43,17 +43,17 @@ pub fn deliver<F: Feeds, D: Drains>(
 
     ensures delivered { (f : Form) (input trace_base output_base : List ℕ)
         → GoesOn f ends input trace_base output_base
-            (coming_on run.old.tokens.pulled (F.feeds feeds.old) INPUT_FEED) run.old
-            (D.channels drains.old)
+        (coming_on run.old.tokens.pulled (F.feeds feeds.old) INPUT_FEED) run.old
+        (D.channels drains.old)
         → OnOk result (HasDelivered f ends input trace_base output_base
-            (coming_on run.new.tokens.pulled (F.feeds feeds.new) INPUT_FEED) run.new
-            (D.channels drains.new)) }
+        (coming_on run.new.tokens.pulled (F.feeds feeds.new) INPUT_FEED) run.new
+        (D.channels drains.new)) }
     ensures cut { (f : Form) (input trace_base output_base : List ℕ) (counts : Numbers)
         → GoesOn f ends input trace_base output_base
-            (coming_on run.old.tokens.pulled (F.feeds feeds.old) INPUT_FEED) run.old
-            (D.channels drains.old)
+        (coming_on run.old.tokens.pulled (F.feeds feeds.old) INPUT_FEED) run.old
+        (D.channels drains.old)
         → IfErr result (λ how. HasCome f ends.writes input how counts trace_base output_base run.new
-            (D.channels drains.new)) }
+        (D.channels drains.new)) }
 
     ensures read_fault { (feed : ℕ) → result ≡ Err (RunEnd.ReadFault feed)
         → (feed ≡ INPUT_FEED) × ReadFails F.feeds feeds.old feeds.new }
@@ -108,13 +108,13 @@ pub fn fire<D: Drains>(
         → f.sum ≡ sum.now
         → HasDelivered f ends input trace_base output_base to_come run.old (D.channels drains.old)
         → OnOk result (GoesOn f ends input trace_base output_base to_come run.new
-            (D.channels drains.new)) }
+        (D.channels drains.new)) }
     ensures cut { (f : Form) (ends : OpenEnds) (input trace_base output_base : List ℕ)
         (to_come : Option (List ℕ)) (counts : Numbers)
         → f.sum ≡ sum.now
         → HasDelivered f ends input trace_base output_base to_come run.old (D.channels drains.old)
         → IfErr result (λ how. HasCome f ends.writes input how counts trace_base output_base run.new
-            (D.channels drains.new)) }
+        (D.channels drains.new)) }
     ensures same_tokens { run.new.tokens ≡ run.old.tokens }
     ensures counted { IfOk result (λ n. run.new.firings ≡ run.old.firings + n) }
     ensures uncounted { OnErr result (run.new.firings ≡ run.old.firings) }
@@ -150,7 +150,7 @@ fn close<D: Drains>(end: RunEnd, run: &mut Progress, drains: &mut D) -> RunEnd
         (to_come : Option (List ℕ))
         → HasDelivered f ends input trace_base output_base to_come run.old (D.channels drains.old)
         → HasCome f ends.writes input result (numbers run.old.firings run.old.rounds
-            (length run.old.inbox.items)) trace_base output_base run.new (D.channels drains.new) }
+        (length run.old.inbox.items)) trace_base output_base run.new (D.channels drains.new) }
     ensures ended { (result ≡ end) ⊎ ((result ≡ RunEnd.WriteFault TRACE_CHANNEL)
         × WriteFails D.channels drains.old drains.new) }
     ensures same_inbox { run.new.inbox.items ≡ run.old.inbox.items }
@@ -200,10 +200,10 @@ pub fn make_rounds<F: Feeds, D: Drains>(
 
     ensures came { (f : Form) (input trace_base output_base : List ℕ) → f.sum ≡ sum.now
         → GoesOn f ends input trace_base output_base
-            (coming_on run.old.tokens.pulled (F.feeds feeds.old) INPUT_FEED) run.old
-            (D.channels drains.old)
+        (coming_on run.old.tokens.pulled (F.feeds feeds.old) INPUT_FEED) run.old
+        (D.channels drains.old)
         → HasCome f ends.writes input result (numbers run.new.firings run.new.rounds
-            (length run.new.inbox.items)) trace_base output_base run.new (D.channels drains.new) }
+        (length run.new.inbox.items)) trace_base output_base run.new (D.channels drains.new) }
     ensures spent { result ≡ RunEnd.Budget → run.new.firings ≡ budget }
     ensures most { run.new.firings ≤ budget }
     ensures read_fault { (feed : ℕ) → result ≡ RunEnd.ReadFault feed

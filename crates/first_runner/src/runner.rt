@@ -15,8 +15,8 @@ use crate::outcome::{Counts, Outcome, RunEnd};
 use crate::progress::Progress;
 use crate::rounds::make_rounds;
 use crate::{BURST, CAPACITY, INPUT_FEED, OUTPUT_CHANNEL, TRACE_CHANNEL};
-use first_form::ast::Binary;
 use channel_writer::ChannelWriter;
+use first_form::ast::Binary;
 use port_files::TokenFeed;
 use rvc_base::{MAX_BUDGET, Memory, Num, Scalar};
 use rvc_io::{Drains, Failed, Feeds};
@@ -95,10 +95,10 @@ impl Runner {
             → HasInput ends.reads ((F.feeds feeds.old).left INPUT_FEED) input
             → (D.channels drains.old).tells ≡ true
             → Leaves f ends.writes input result.end result.counts
-                ((D.channels drains.old).held TRACE_CHANNEL)
-                ((D.channels drains.new).held TRACE_CHANNEL)
-                ((D.channels drains.old).held OUTPUT_CHANNEL)
-                ((D.channels drains.new).held OUTPUT_CHANNEL) }
+            ((D.channels drains.old).held TRACE_CHANNEL)
+            ((D.channels drains.new).held TRACE_CHANNEL)
+            ((D.channels drains.old).held OUTPUT_CHANNEL)
+            ((D.channels drains.new).held OUTPUT_CHANNEL) }
         ensures spent { result.end ≡ RunEnd.Budget → result.counts.firings ≡ budget }
         ensures most { result.counts.firings ≤ budget }
         ensures read_fault { (feed : ℕ) → result.end ≡ RunEnd.ReadFault feed
@@ -156,9 +156,9 @@ fn finish<D: Drains>(end: RunEnd, ends: Ends, run: &mut Progress, drains: &mut D
     ensures leaves { (f : Form) (input trace_base output_base : List ℕ) (counts : Numbers)
         → (D.channels drains.old).tells ≡ true
         → HasCome f ends.writes input end counts trace_base output_base run.old
-            (D.channels drains.old)
+        (D.channels drains.old)
         → Leaves f ends.writes input result counts trace_base ((D.channels drains.new).held 1)
-            output_base ((D.channels drains.new).held 2) }
+        output_base ((D.channels drains.new).held 2) }
     ensures ended { (result ≡ end) ⊎ ((channel : ℕ) × (result ≡ RunEnd.WriteFault channel)
         × IsWritten ends channel × WriteFails D.channels drains.old drains.new) }
     ensures others { KeepsOthers D.channels drains.old drains.new }

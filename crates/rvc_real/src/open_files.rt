@@ -66,7 +66,7 @@ fn add_closed<F: Drop>(files: &mut Vec<Option<F>>, count: usize) -> Result<(), A
     ensures added { OnOk result (length files.new.items ≡ length files.old.items + count) }
     ensures same_open { (other : ℕ)
         → is_open_at (map is_some files.new.items) other
-            ≡ is_open_at (map is_some files.old.items) other }
+        ≡ is_open_at (map is_some files.old.items) other }
 {
     for _number in 0..count {
         files.push(None)?;

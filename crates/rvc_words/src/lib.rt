@@ -14,8 +14,8 @@ mod tests;
 
 pub use fault::{UsageCause, WordFault};
 pub use job::{
-    DEFAULT_BUDGET, DEFAULT_BURST, DEFAULT_WORKERS, Job, MAX_BURST, MAX_GENERATED, MAX_GROW, MAX_WORKERS,
-    PortWord, Verb,
+    DEFAULT_BUDGET, DEFAULT_BURST, DEFAULT_WORKERS, Job, MAX_BURST, MAX_GENERATED, MAX_GROW,
+    MAX_WORKERS, PortWord, Verb,
 };
 pub use reader::read_words;
 pub use rvc_base::RoundKind;

@@ -16,10 +16,7 @@ const JOBS: &[(&str, &str)] = &[
         "rvc --workers=64 replay --round seed:18446744073709551615 a/_b/C.xdf A=x --burst 65536 B=y --trace=t --budget 00000000000000000001 C=z --grow 1048576",
         "Replay a/_b/C.xdf [A x][B y][C z] (t) 64 Seed(18446744073709551615) 65536 1 1048576",
     ),
-    (
-        "rvc check A.xdf",
-        "Check A.xdf () 1 All 64 100000000 0",
-    ),
+    ("rvc check A.xdf", "Check A.xdf () 1 All 64 100000000 0"),
     (
         "rvc certify A.cal --round turn --grow=1",
         "Certify A.cal () 1 Turn 64 100000000 1",
@@ -76,8 +73,14 @@ const USAGE: &[(&str, &str)] = &[
     ("rvc run Inc.cal --budget= --trace t", "number"),
     ("rvc run Inc.cal --budget=-1 --trace t", "number"),
     ("rvc run Inc.cal --budget +1 --trace t", "number"),
-    ("rvc run Inc.cal --budget 000000000000000000001 --trace t", "number"),
-    ("rvc run Inc.cal --budget 99999999999999999999 --trace t", "number"),
+    (
+        "rvc run Inc.cal --budget 000000000000000000001 --trace t",
+        "number",
+    ),
+    (
+        "rvc run Inc.cal --budget 99999999999999999999 --trace t",
+        "number",
+    ),
     ("rvc run Inc.cal --grow 0 --trace t", "number"),
     ("rvc run Inc.cal --grow 1048577 --trace t", "number"),
     ("rvc fmt Inc.cal --workers x --round x A", "number"),
@@ -85,7 +88,10 @@ const USAGE: &[(&str, &str)] = &[
     ("rvc run Inc.cal --round none --trace t", "round"),
     ("rvc run Inc.cal --round seed --trace t", "round"),
     ("rvc run Inc.cal --round seed: --trace t", "round"),
-    ("rvc run Inc.cal --round seed:18446744073709551616 --trace t", "round"),
+    (
+        "rvc run Inc.cal --round seed:18446744073709551616 --trace t",
+        "round",
+    ),
     ("rvc run Inc.cal --round seed:1:2 --trace t", "round"),
     ("rvc run Inc.cal --round Seed:1 In", "round"),
     ("rvc run Inc.cal In --trace t", "port"),
