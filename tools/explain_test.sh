@@ -1,11 +1,13 @@
 #!/usr/bin/env bash
-# Runs `rvc` on small sources that break a rule, and compares what it explains with what is wanted.
+# Compares the sentences of docs/RULES.md with those of the table of rules in the code, and runs `rvc` on small sources
+# that break a rule and compares what it explains with what is wanted.
 #
 #     tools/explain_test.sh
 #
-# It needs the built program, so it stands outside the gate.
+# It needs the built program, so it is outside the gate.
 set -u
-rvc=$(dirname -- "$(readlink -f -- "${BASH_SOURCE[0]}")")/../rvc
+top=$(dirname -- "$(readlink -f -- "${BASH_SOURCE[0]}")")/..
+rvc=$top/rvc
 folder=$(mktemp -d) || exit 1
 trap 'rm -rf "$folder"' EXIT
 cd "$folder" || exit 1
@@ -13,6 +15,19 @@ printf 'actor Inc() uint(size=8) In ==> uint(size=8) Out : action In:[a] ==> Out
 printf '\0' >a.bin
 passed=0
 failed=0
+
+# Each rule of the table in docs/RULES.md has the sentence of the table in the code.
+same_sentences() {
+    local rule sentence
+    while IFS=$'\t' read -r rule sentence; do
+        if grep -qxF "    /// $rule: $sentence." "$top/crates/rvc_base/src/rules.rt"; then
+            passed=$((passed + 1))
+        else
+            failed=$((failed + 1))
+            printf 'of %s: the code has another sentence than docs/RULES.md\n' "$rule"
+        fi
+    done < <(awk -F ' *[|] *' '$2 ~ /^[A-Z][0-9]+$/ && NF == 6 { print $2 "\t" $3 }' "$top/docs/RULES.md")
+}
 
 # The explanation of these words begins with the first line, and has the second as its place.
 wants() { # first line, place, words
@@ -32,6 +47,8 @@ source_wants() { # first line, place, text
     printf '%b' "$3" >B.cal
     wants "$1" "$2" fmt B.cal
 }
+
+same_sentences
 
 source_wants 'error L1: a byte' 'B.cal:1:3' 'a !b'
 source_wants 'error L2: a comment' 'B.cal:2:1' 'a\n/* b'
