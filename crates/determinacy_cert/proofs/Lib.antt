@@ -7,3 +7,4 @@ mod Intervals
 mod Ranges
 mod RangeLaw
 mod Seen
+mod Excluding
