@@ -8,3 +8,4 @@ mod Ranges
 mod RangeLaw
 mod Seen
 mod Excluding
+mod Conjuncts
