@@ -1,6 +1,6 @@
 -- Guards that exclude each other aren't both true.
-use Rattle.std.proofs.Common.{◌≡◌, ◌≢◌, ℕ, zero, suc, Bool, true, false, ℤ, pos, negsuc, ◌≤ℤ◌, ◌<ℤ◌, List, [], ◌∷◌, ◌++◌, refl, sym, ap, ◌∙◌, subst, ⊎_elim}
-use Rattle.std.specs.Prelude.{Option, None, Some, if◌then◌else◌, neg_ℤ, int_lt, not, ◌&&◌, nat_lt}
+use Rattle.std.proofs.Common.{◌≡◌, ◌≢◌, ℕ, Bool, true, false, ℤ, pos, ◌≤ℤ◌, ◌<ℤ◌, List, [], ◌∷◌, ◌++◌, refl, sym, ap, ◌∙◌, subst, ⊎_elim}
+use Rattle.std.specs.Prelude.{Option, None, Some, if◌then◌else◌, neg_ℤ, int_lt, not}
 use Rattle.std.proofs.lemmas.Float.{T_from_true}
 use Rattle.std.proofs.lemmas.Bool.Decides.{Decides-int_eq}
 use Rattle.std.specs.Int.Signed.{lt_z_yes, lt_z_no}
@@ -12,7 +12,7 @@ use Rattle.cal_ast.specs.declared.expr.PrefixOp.{PrefixOp}
 use Rattle.cal_ast.specs.declared.expr.PrefixOp.TheVariants.{Not, Neg, BitNot}
 use Rattle.cal_ast.specs.declared.expr.BinOp.{BinOp}
 use Rattle.cal_ast.specs.declared.expr.BinOp.TheVariants.{Or, And, BitOr, BitXor, BitAnd, Eq, Ne, Lt, Le, Gt, Ge, Shl, Shr, Add, Sub, Mul, Div, Mod}
-use Rattle.cal_ast.specs.Apart.{unplaced, IsEqualApart}
+use Rattle.cal_ast.specs.Apart.{unplaced}
 use Rattle.cal_ast.specs.Tree as tree
 use Rattle.cal_ast.specs.Tree.{Tree}
 use Rattle.cal_model.specs.Value.{Value, Num, Truth, Items}
@@ -20,7 +20,7 @@ use Rattle.cal_model.specs.Outcome.{Out, Gives, Traps, Lacks, Clashes, and_then}
 use Rattle.cal_model.specs.Env.{Env}
 use Rattle.cal_model.specs.Expression.{Calls, computed, prefixed, of_numbers, applied, with_right, eval}
 use Rattle.cal_model.specs.Actor.{Pattern, Action, Actor}
-use Rattle.cal_model.specs.Selection.{State, seen_by, Guards, AreTrue, AreFalse, AreTrapping, guard_then, guards_say}
+use Rattle.cal_model.specs.Selection.{State, seen_by, Guards, AreTrue, guard_then, guards_say}
 use Rattle.cal_model.specs.Sound.{Each}
 use Rattle.cal_model.specs.Certified.{key_in, keyed, conjuncts, all_conjuncts, literal, Holds, is_comparison, Compares, CompareApart, IsNotOf, Exclude, AnyOf, GuardsExclude, IsBare}
 use Rattle.determinacy_cert.proofs.Excluding.{values_alike}

@@ -1,8 +1,7 @@
 -- Conjuncts that exclude each other aren't both true over the same tokens.
-use Rattle.std.proofs.Common.{◌≡◌, ◌≢◌, ℕ, zero, suc, ◌+◌, ◌*◌, Bool, true, false, ℤ, pos, negsuc, List, [], ◌∷◌, ◌++◌, length, refl, sym, ap, ◌∙◌, subst, ⊎_elim, arith}
-use Rattle.std.specs.Prelude.{Option, None, Some, if◌then◌else◌, neg_ℤ, int_lt, not, ◌&&◌, nat_le, ◌==◌, unsigned_abs, option_map}
+use Rattle.std.proofs.Common.{◌≡◌, ℕ, zero, suc, ◌+◌, Bool, true, false, ℤ, pos, negsuc, List, [], ◌∷◌, ◌++◌, length, refl, sym, ap, ◌∙◌, subst}
+use Rattle.std.specs.Prelude.{Option, None, Some, if◌then◌else◌, not, option_map}
 use Rattle.std.specs.Str.{bytes_eq}
-use Rattle.std.proofs.lemmas.Int.{ints}
 use Rattle.rvc_base.specs.declared.scalar.Scalar.{Scalar}
 use Rattle.rvc_base.specs.Arithmetic.{Computed, whole, truth}
 use Rattle.rvc_base.specs.Arithmetic as arithmetic
@@ -13,13 +12,13 @@ use Rattle.cal_ast.specs.declared.expr.BinOp.TheVariants.{Or, And, BitOr, BitXor
 use Rattle.cal_ast.specs.Apart.{unplaced, IsEqualApart}
 use Rattle.cal_ast.specs.Tree as tree
 use Rattle.cal_ast.specs.Tree.{Tree}
-use Rattle.cal_model.specs.Value.{Value, Num, Truth, Items, Values, Nil, Cons, of_number, value_at}
+use Rattle.cal_model.specs.Value.{Value, Num, Truth, Items, Values, Nil, Cons, value_at}
 use Rattle.cal_model.specs.Outcome.{Out, Gives, Traps, Lacks, Clashes, and_then, known}
-use Rattle.cal_model.specs.Env.{Var, Env, find, look_up, item_at}
+use Rattle.cal_model.specs.Env.{Var, Env, find, look_up}
 use Rattle.cal_model.specs.Expression.{Calls, computed, prefixed, of_numbers, of_truths, applied, with_right, chosen, eval, eval_all}
 use Rattle.cal_model.specs.Expression as expression
 use Rattle.cal_model.specs.Actor.{Pattern, Action, Actor}
-use Rattle.cal_model.specs.Selection.{State, tokens_on, kind_of_port, token, tokens_from, pattern_value, pattern_var, pattern_vars_from, pattern_vars, seen_by}
+use Rattle.cal_model.specs.Selection.{State, tokens_on, kind_of_port, token, tokens_from, pattern_value, pattern_vars_from, pattern_vars, seen_by}
 use Rattle.cal_model.specs.Certified.{places_from, token_key, key_among, key_in, keyed_name, keyed, IsBare}
 
 -- ---- what a key stands for

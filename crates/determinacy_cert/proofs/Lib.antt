@@ -9,3 +9,4 @@ mod RangeLaw
 mod Seen
 mod Excluding
 mod Conjuncts
+mod Stability

@@ -1,5 +1,3 @@
-use Rattle.determinacy_cert.proofs.Conjuncts.{guards_true}
-use Rattle.determinacy_cert.proofs.Excluding.{look_up_is}
 use Rattle.determinacy_cert.proofs.Theorems.{quiet_runs_agree}
 use Rattle.determinacy_cert.proofs.laws.quiet_runs_agree.Goals as goal
 
