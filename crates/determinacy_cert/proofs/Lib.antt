@@ -7,3 +7,6 @@ mod Intervals
 mod Ranges
 mod RangeLaw
 mod Seen
+mod Excluding
+mod Conjuncts
+mod Stability

@@ -1,1 +1,2 @@
 pub mod Determinacy
+pub mod Certifying

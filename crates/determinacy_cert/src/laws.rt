@@ -3,6 +3,7 @@
 //! Each law is the contract of a function that does nothing: it is proved with the crate, and can be cited.
 
 ghost use Rattle.determinacy_cert.specs.Determinacy.{FiringsArePrefixes, SentArePrefixes, QuietRunsAgree, NoQuietRunBesides, AsManyFiringsAreAll};
+ghost use Rattle.determinacy_cert.specs.Certifying.{CertifiedAreStable};
 
 use net_model::Meaning;
 
@@ -27,4 +28,10 @@ pub fn no_quiet_run_besides_a_trap<M: Meaning>()
 /// quiet.
 pub fn as_many_firings_are_all<M: Meaning>()
     ensures { AsManyFiringsAreAll M.State }
+{}
+
+/// A sound and certified actor is stable: what it does it does with more tokens too, with the same effect, and no other
+/// action does anything then.
+pub fn certified_actors_are_stable()
+    ensures { CertifiedAreStable }
 {}

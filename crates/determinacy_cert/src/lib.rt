@@ -2,11 +2,13 @@
 //!
 //! Kahn's networks compute the same streams however they are scheduled (Kahn 1974). An actor that looks at which tokens
 //! have arrived can break that; a *stable* one can't: what it does it does with more tokens too. The laws here say what
-//! follows of networks of stable actors, over all runs, deliveries and capacities.
+//! follows of networks of stable actors, over all runs, deliveries and capacities, and that actors which the
+//! certification rule admits are stable.
 #![tactic(auto)]
 
 mod laws;
 
 pub use laws::{
-    as_many_firings_are_all, no_quiet_run_besides_a_trap, quiet_runs_agree, runs_lead_towards_quiet,
+    as_many_firings_are_all, certified_actors_are_stable, no_quiet_run_besides_a_trap,
+    quiet_runs_agree, runs_lead_towards_quiet,
 };
