@@ -11,5 +11,8 @@ mod Bare
 mod MoreRows
 pub mod Rounds
 mod Budgets
+pub mod Keeping
+pub mod KeepingRounds
+pub mod KeepingRuns
 pub mod Bursts
 pub mod TableActor

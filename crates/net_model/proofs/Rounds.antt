@@ -45,7 +45,7 @@ bursts_play net grow opened share (false ∷ marks) i k fired s (actions ∷ bur
 bursts_play net grow opened share marks i k fired s bursts halts last are after t h = absurd are
 
 -- what a closing line says is true
-abbrev CloseIsTrue : {X : Type 0} → Network X → ℕ → State X → Close → Type 0
+abbrev pub CloseIsTrue : {X : Type 0} → Network X → ℕ → State X → Close → Type 0
 CloseIsTrue net grow s GoesOn = Unit {0}
 CloseIsTrue net grow s (Widens l capacity) = Grows net grow s l capacity
 CloseIsTrue net grow s (Ends line) = LineIsTrue net grow s line []
@@ -91,7 +91,7 @@ by_true net grow marks bursts halts (Some line) s close is h =
 by_true net grow marks bursts halts None s close is h =
     either ((count_picked marks == length marks) && (count_of bursts == 0)) _ _ _ (idle_true net grow s close) (goes_on_true net grow s close) h
 
-closes_true : {X : Type 0} (net : Network X) (pace : Pace) (at : Moment X) (block : Block) (halts : List Halt) (s : State X)
+pub closes_true : {X : Type 0} (net : Network X) (pace : Pace) (at : Moment X) (block : Block) (halts : List Halt) (s : State X)
     → Closes net pace at block halts s → CloseIsTrue net pace.grow s block.close
 closes_true net pace at block halts s h =
     either (at.left == 0) _ _ _ (spent_true net pace.grow s block.close)
@@ -113,7 +113,7 @@ close_plays net grow s (Ends line) last holds leads after t none h = (
   next_of (goes net s line) last (λ u. PlaysFrom net grow u after t) leads h,
 )
 
-delivers : {X : Type 0} (net : Network X) (s : State X) (P : State X → Type 0) → s.trapped ≡ false → P (after_delivery net s)
+pub delivers : {X : Type 0} (net : Network X) (s : State X) (P : State X → Type 0) → s.trapped ≡ false → P (after_delivery net s)
     → OnNext (if s.trapped then None else Some (after_delivery net s)) P
 delivers net s P untrapped p = subst (λ b. OnNext (if b then None else Some (after_delivery net s)) P) (sym untrapped) p
 

@@ -15,5 +15,7 @@ pub use laws::{
     lines_lead_to_one_state, quiet_is_waiting, sent_lists_only_grow, stalled_in_one_place,
     taken_have_arrived,
 };
-pub use pacing::{paced_lines_are_one, paced_lines_keep_the_budget, paced_lines_play};
+pub use pacing::{
+    paced_lines_are_one, paced_lines_keep_capacities, paced_lines_keep_the_budget, paced_lines_play,
+};
 pub use wiring::{Counts, End, Link, Port, Wiring};
