@@ -1,25 +1,20 @@
 -- Paced lines keep the capacities of links.
-use Rattle.std.proofs.Common.{◌≡◌, ◌≢◌, ℕ, zero, suc, ◌+◌, ◌-◌, ◌*◌, ◌<◌, ◌≤◌, ◌⊎◌, min, Bool, true, false, List, [], ◌∷◌, ◌++◌, ℤ, length, map, refl, sym, ap, ◌∙◌, subst, inl, inr, ⊎_elim, arith, append_assoc, append-nil}
-use Rattle.std.specs.Prelude.{Option, None, Some, slice_get, slice_set, slice_index_or, if◌then◌else◌, ◌==◌, flat_map, replicate, pos}
+use Rattle.std.proofs.Common.{◌≡◌, ℕ, zero, suc, ◌+◌, ◌-◌, ◌<◌, ◌≤◌, min, Bool, true, false, List, [], ◌∷◌, ◌++◌, ℤ, length, map, refl, sym, ap, ◌∙◌, subst, ⊎_elim, arith}
+use Rattle.std.specs.Prelude.{Option, None, Some, slice_get, slice_index_or, if◌then◌else◌, ◌==◌}
 use Rattle.std.proofs.lemmas.Bool.{eqb-true, eq-eqb}
 use Rattle.std.proofs.lemmas.List.{length-append, length-map}
-use Rattle.rvc_base.specs.declared.trap.Trap.{Trap as TrapName}
-use Rattle.rvc_base.specs.Behaviour.{Effect, Fires, TrapsInGuard, TrapsInBody, Picks, Faults}
-use Rattle.rvc_base.specs.Lawful.{IsLawful, tokens_on}
-use Rattle.trace_text.specs.declared.line.Line.{Line}
-use Rattle.trace_text.specs.declared.line.Line.TheVariants.{Fire as FireLine, Deliver as DeliverLine, Grow as GrowLine, Trap as TrapLine, Quiet, Stall, Budget}
+use Rattle.rvc_base.specs.Behaviour.{Fires}
+use Rattle.rvc_base.specs.Lawful.{tokens_on}
 use Rattle.net_model.specs.declared.wiring.End.{End}
 use Rattle.net_model.specs.declared.wiring.End.TheVariants.{Leaf as AtLeaf, Net as AtNet}
 use Rattle.net_model.specs.declared.wiring.Link.{Link}
 use Rattle.net_model.specs.Network.{Leaf, Network, is_input, is_output, is_outside}
-use Rattle.net_model.specs.State.{Flow, State, untaken, start_of, first_flow, inboxes, effect_of, effect_at, choice_of, choice_at, need_of, give_of}
-use Rattle.net_model.specs.Event.{Fire, each_flow, sent_on, taken_from, after_firing, after_arrival, happens}
-use Rattle.net_model.specs.Ends.{AllArrived}
-use Rattle.net_model.specs.Trace.{arrivals, delivered, after_delivery, OnNext, held_since, FitFlows}
+use Rattle.net_model.specs.State.{Flow, State, untaken, inboxes, effect_of, need_of, give_of}
+use Rattle.net_model.specs.Event.{Fire, each_flow, sent_on, taken_from, after_firing, happens}
+use Rattle.net_model.specs.Trace.{arrivals, delivered, after_delivery, held_since, FitFlows}
 use Rattle.net_model.specs.Wired.{IsWired, HasOutput, ComesFromPort}
-use Rattle.net_model.specs.Laws.{AreLawful, AreOrdered, HasFlows}
+use Rattle.net_model.specs.Laws.{AreLawful, HasFlows}
 use Rattle.net_model.specs.Paced.{PassesRoom, PassesLink, HasRoomIn}
-use Rattle.net_model.specs.PacingLaws.{CanBegin}
 use Rattle.net_model.proofs.Commuting.{Fired, fired_unless}
 
 pub some_is : {A : Type 0} (x y : A) → Some x ≡ Some y → x ≡ y

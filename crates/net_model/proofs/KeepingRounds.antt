@@ -1,23 +1,23 @@
 -- Rounds keep the capacities of links, with the trap that ends a run.
-use Rattle.std.proofs.Common.{◌≡◌, ◌≢◌, ℕ, zero, suc, ◌+◌, ◌-◌, ◌*◌, ◌<◌, ◌≤◌, ◌⊎◌, min, Bool, true, false, List, [], ◌∷◌, ◌++◌, ℤ, length, map, refl, sym, ap, ◌∙◌, subst, inl, inr, ⊎_elim, arith, append_assoc, append-nil}
-use Rattle.std.specs.Prelude.{Option, None, Some, slice_get, slice_set, slice_index_or, if◌then◌else◌, ◌==◌, flat_map, replicate, pos}
+use Rattle.std.proofs.Common.{◌≡◌, ◌≢◌, ℕ, zero, suc, ◌+◌, ◌-◌, ◌<◌, ◌≤◌, ◌⊎◌, Bool, true, false, List, [], ◌∷◌, ◌++◌, ℤ, length, map, refl, sym, ap, ◌∙◌, subst, inl, inr, ⊎_elim, arith, append_assoc, append-nil}
+use Rattle.std.specs.Prelude.{Option, None, Some, slice_get, if◌then◌else◌, ◌==◌, replicate, pos}
 use Rattle.std.proofs.lemmas.Bool.{eqb-true, cases_lt}
 use Rattle.std.proofs.lemmas.List.{length-append, length-replicate}
 use Rattle.rvc_base.specs.declared.trap.Trap.{Trap as TrapName}
-use Rattle.rvc_base.specs.Behaviour.{Effect, Choice, Fires, TrapsInGuard, TrapsInBody, Picks, Faults}
+use Rattle.rvc_base.specs.Behaviour.{TrapsInGuard, TrapsInBody, Faults}
 use Rattle.rvc_base.specs.Lawful.{IsLawful}
 use Rattle.trace_text.specs.declared.line.Line.{Line}
-use Rattle.trace_text.specs.declared.line.Line.TheVariants.{Header, Inst, Fire as FireLine, Deliver as DeliverLine, Grow as GrowLine, Quiet, Trap as TrapLine, Stall, Budget}
+use Rattle.trace_text.specs.declared.line.Line.TheVariants.{Fire as FireLine, Trap as TrapLine}
 use Rattle.net_model.specs.declared.wiring.End.{End}
 use Rattle.net_model.specs.declared.wiring.End.TheVariants.{Leaf as AtLeaf, Net as AtNet}
 use Rattle.net_model.specs.declared.wiring.Link.{Link}
-use Rattle.net_model.specs.Network.{Leaf, Network, is_input}
-use Rattle.net_model.specs.State.{Flow, State, inboxes, effect_of, effect_at, choice_of, choice_at, need_of, give_of}
+use Rattle.net_model.specs.Network.{Leaf, Network}
+use Rattle.net_model.specs.State.{Flow, State, inboxes, effect_of, effect_at, choice_of, need_of, give_of}
 use Rattle.net_model.specs.Event.{Fire, each_flow, sent_on, after_firing, happens}
-use Rattle.net_model.specs.Trace.{goes, after_delivery, OnNext, held_since, FitFlows, with_given, counted_flows, TrapFits, KeepsSince}
+use Rattle.net_model.specs.Trace.{OnNext, held_since, FitFlows, with_given, counted_flows, KeepsSince}
 use Rattle.net_model.specs.Wired.{IsWired}
 use Rattle.net_model.specs.Laws.{AreLawful, AreOrdered}
-use Rattle.net_model.specs.Paced.{PassesRoom, PassesOn, PassesLink, HasRoomIn, Halt, Unpicked, Spent, Waiting, NoRoom, Trapping, TrapsIn, HaltsAt, IsBurst, Share, AreBursts, limit_of, fire_lines, first_trap}
+use Rattle.net_model.specs.Paced.{PassesRoom, PassesOn, PassesLink, HasRoomIn, Halt, Unpicked, Spent, Waiting, NoRoom, Trapping, TrapsIn, HaltsAt, IsBurst, Share, AreBursts, fire_lines, first_trap}
 use Rattle.net_model.proofs.Commuting.{Fired, fired_unless, get_other, effect_stays}
 use Rattle.net_model.proofs.Bounds.{happens_ordered}
 use Rattle.net_model.proofs.Keeping.{SinceOpened, Since, fits_now, fire_since, fit_each, changed}

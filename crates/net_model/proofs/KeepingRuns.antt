@@ -1,22 +1,21 @@
 -- Begun and paced lines keep the capacities of links.
-use Rattle.std.proofs.Common.{◌≡◌, ℕ, zero, suc, ◌+◌, ◌-◌, ◌*◌, ◌<◌, ◌≤◌, ◌⊎◌, min, Bool, true, false, List, [], ◌∷◌, ◌++◌, length, map, refl, sym, ap, ◌∙◌, subst, inl, inr, ⊎_elim, arith, append_assoc, append-nil}
-use Rattle.std.specs.Prelude.{Option, None, Some, slice_get, slice_set, if◌then◌else◌, MatchBool, ◌==◌, ◌&&◌, flat_map}
-use Rattle.std.proofs.lemmas.List.{length-map}
+use Rattle.std.proofs.Common.{◌≡◌, ℕ, zero, suc, ◌≤◌, ◌⊎◌, Bool, true, false, List, [], ◌∷◌, ◌++◌, length, map, refl, sym, ap, ◌∙◌, subst, inl, inr, ⊎_elim, arith, append_assoc, append-nil}
+use Rattle.std.specs.Prelude.{Option, None, Some, slice_get, slice_set, if◌then◌else◌, ◌==◌, ◌&&◌, flat_map}
 use Rattle.rvc_base.specs.declared.trap.Trap.{Trap as TrapName}
 use Rattle.rvc_base.specs.Behaviour.{Effect, Fires, TrapsInGuard, TrapsInBody}
 use Rattle.trace_text.specs.declared.line.Line.{Line}
-use Rattle.trace_text.specs.declared.line.Line.TheVariants.{Header, Inst, Fire as FireLine, Deliver as DeliverLine, Grow as GrowLine, Quiet, Trap as TrapLine, Stall, Budget}
+use Rattle.trace_text.specs.declared.line.Line.TheVariants.{Deliver as DeliverLine, Grow as GrowLine, Quiet, Trap as TrapLine, Stall, Budget}
 use Rattle.net_model.specs.declared.wiring.End.{End}
 use Rattle.net_model.specs.declared.wiring.End.TheVariants.{Leaf as AtLeaf, Net as AtNet}
 use Rattle.net_model.specs.declared.wiring.Link.{Link}
 use Rattle.net_model.specs.Network.{Network, NetPort, is_input}
-use Rattle.net_model.specs.State.{Flow, State, start_of, first_flow, fed_by, effect_at, capacity_at, capacity_of}
+use Rattle.net_model.specs.State.{Flow, State, start_of, first_flow, fed_by, effect_at, capacity_of}
 use Rattle.net_model.specs.Event.{Trap, trap, happens, and_then}
 use Rattle.net_model.specs.Ends.{AllArrived, Grows}
-use Rattle.net_model.specs.Trace.{goes, grown, played, after_delivery, OnNext, PlaysFrom, held_since, FitFlows, TrapFits, opened_by, KeepsSince, KeepsFrom}
+use Rattle.net_model.specs.Trace.{goes, grown, played, after_delivery, OnNext, PlaysFrom, FitFlows, TrapFits, opened_by, KeepsSince, KeepsFrom}
 use Rattle.net_model.specs.Wired.{IsWired}
 use Rattle.net_model.specs.Laws.{AreLawful, AreOrdered, HasFlows}
-use Rattle.net_model.specs.Paced.{Pace, Moment, first_moment, Close, GoesOn, Widens, Ends, Block, fire_lines, close_lines, lines_of, count_of, count_picked, picked, share_of, Halt, first_trap, ClosesSpent, ClosesIdle, ClosesBy, Closes, IsRound, next_moment, EndsRun, AreRounds, IsBegun, IsPaced}
+use Rattle.net_model.specs.Paced.{Pace, Moment, first_moment, Close, GoesOn, Widens, Ends, Block, fire_lines, close_lines, lines_of, count_of, count_picked, picked, share_of, Halt, first_trap, ClosesSpent, ClosesIdle, ClosesBy, Closes, IsRound, next_moment, AreRounds, IsBegun, IsPaced}
 use Rattle.net_model.specs.PacingLaws.{CanBegin}
 use Rattle.net_model.proofs.Lines.{lines_ordered, starts_in_order}
 use Rattle.net_model.proofs.Rounds.{either, trap_first, delivers, round_plays}

@@ -9,6 +9,9 @@ pub mod Commuting
 pub mod Arriving
 mod Bare
 mod MoreRows
+pub mod PacedRows
+mod GrowsOnceRows
+mod GrowsTwiceRows
 pub mod Rounds
 mod Budgets
 pub mod Keeping

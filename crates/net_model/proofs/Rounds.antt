@@ -1,18 +1,18 @@
 -- Paced lines play, and at most one list of lines is paced.
-use Rattle.std.proofs.Common.{◌≡◌, ℕ, zero, suc, ◌+◌, ◌-◌, ◌<◌, ◌≤◌, ◌⊎◌, Bool, true, false, List, [], ◌∷◌, ◌++◌, length, map, refl, sym, ap, ◌∙◌, subst, inl, inr, ⊎_elim, arith, append_assoc, append-nil}
-use Rattle.std.specs.Prelude.{Option, None, Some, min, ◌*◌, if◌then◌else◌, MatchBool, flat_map, ◌==◌, ◌&&◌, slice_get}
+use Rattle.std.proofs.Common.{◌≡◌, ℕ, suc, ◌+◌, ◌-◌, ◌<◌, ◌≤◌, Bool, true, false, List, [], ◌∷◌, ◌++◌, length, map, refl, sym, ap, ◌∙◌, subst, ⊎_elim, arith, append_assoc, append-nil}
+use Rattle.std.specs.Prelude.{Option, None, Some, min, ◌*◌, if◌then◌else◌, MatchBool, flat_map, ◌==◌, ◌&&◌}
 use Rattle.rvc_base.specs.declared.trap.Trap.{Trap as TrapName}
-use Rattle.rvc_base.specs.Behaviour.{Effect, Choice, Fires, TrapsInGuard, TrapsInBody, Waits, Picks, Faults}
+use Rattle.rvc_base.specs.Behaviour.{Effect, Choice, TrapsInBody, Waits, Picks, Faults}
 use Rattle.trace_text.specs.declared.line.Line.{Line}
-use Rattle.trace_text.specs.declared.line.Line.TheVariants.{Header, Inst, Fire as FireLine, Deliver as DeliverLine, Grow as GrowLine, Quiet, Trap as TrapLine, Stall, Budget}
+use Rattle.trace_text.specs.declared.line.Line.TheVariants.{Fire as FireLine, Grow as GrowLine, Quiet, Trap as TrapLine, Stall, Budget}
 use Rattle.net_model.specs.Network.{Network}
 use Rattle.net_model.specs.State.{State, effect_at, choice_at, capacity_at}
 use Rattle.net_model.specs.Event.{Fire, fire, happens, and_then}
-use Rattle.net_model.specs.Ends.{IsQuiet, IsStalled, IsStuck, Grows, IsBetween}
+use Rattle.net_model.specs.Ends.{IsStuck, Grows}
 use Rattle.net_model.specs.Trace.{goes, played, after_delivery, LineIsTrue, OnNext, PlaysFrom}
 use Rattle.net_model.specs.Stable.{IsPrefix}
 use Rattle.net_model.specs.Laws.{AreLawful}
-use Rattle.net_model.specs.Paced.{Pace, Moment, first_moment, Close, GoesOn, Widens, Ends, Block, fire_lines, close_lines, lines_of, count_of, picked, limit_of, HasRoomIn, PassesLink, Halt, Unpicked, Spent, Waiting, NoRoom, Trapping, TrapsIn, HaltsAt, IsBurst, Share, share_of, AreBursts, first_trap, ClosesSpent, ClosesIdle, ClosesUntrapped, ClosesBy, Closes, count_picked, IsRound, next_moment, EndsRun, AreRounds, IsBegun, IsPaced}
+use Rattle.net_model.specs.Paced.{Pace, Moment, first_moment, Close, GoesOn, Widens, Ends, Block, fire_lines, close_lines, lines_of, count_of, picked, HasRoomIn, PassesLink, Halt, Unpicked, Spent, Waiting, NoRoom, Trapping, TrapsIn, HaltsAt, IsBurst, Share, share_of, AreBursts, first_trap, ClosesSpent, ClosesIdle, ClosesBy, Closes, count_picked, IsRound, next_moment, EndsRun, AreRounds, IsBegun, IsPaced}
 use Rattle.net_model.proofs.Ending.{stalls_in_one_place, stalled_is_not_quiet}
 
 -- Playing: whatever lines play from where a part leads, the part's lines and those play.
