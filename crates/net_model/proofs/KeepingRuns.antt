@@ -80,7 +80,7 @@ since_flows net opened s t same since l link before flow at then_ now =
     since l link before flow at then_ (ap (λ fs. slice_get fs l) (sym same) ∙ now)
 
 -- a link that grows holds no more
-set_is : (flows : List Flow) (l : ℕ) (new : Flow) (m : ℕ) (flow : Flow) → slice_get (slice_set flows l new) m ≡ Some flow
+pub set_is : (flows : List Flow) (l : ℕ) (new : Flow) (m : ℕ) (flow : Flow) → slice_get (slice_set flows l new) m ≡ Some flow
     → (slice_get flows m ≡ Some flow) ⊎ ((m ≡ l) × (new ≡ flow))
 set_is [] l new m flow h = cc
 set_is (first ∷ flows) zero new zero flow h = inr (refl, some_is new flow h)

@@ -8,6 +8,11 @@ mod Ending
 pub mod Commuting
 pub mod Arriving
 mod Bare
+mod Trapping
+pub mod Twins
+pub mod LikeLines
+pub mod LikePacing
+mod LikeLaws
 mod MoreRows
 pub mod PacedRows
 mod GrowsOnceRows
