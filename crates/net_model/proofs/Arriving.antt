@@ -216,7 +216,7 @@ effect_keeps i a k links flows l link flow (Some leaf) None e at_link at_flow st
 effect_keeps i a k links flows l link flow (Some leaf) (Some x) e at_link at_flow stable h =
     (stable leaf refl).same x _ _ a e (inboxes_more i leaf.behaviour.ins k links flows l link flow at_link at_flow) h
 
-each_get : (change : Link → Flow → Flow) (links : List Link) (flows : List Flow) (l : ℕ) (link : Link) (flow : Flow)
+pub each_get : (change : Link → Flow → Flow) (links : List Link) (flows : List Flow) (l : ℕ) (link : Link) (flow : Flow)
     → slice_get links l ≡ Some link → slice_get flows l ≡ Some flow
     → slice_get (each_flow change links flows) l ≡ Some (change link flow)
 each_get change [] flows l link flow at_link at_flow = cc

@@ -1,5 +1,5 @@
 -- Events know no capacity: states that differ in capacities alone have the same runs.
-use Rattle.std.proofs.Common.{◌≡◌, ℕ, zero, suc, Bool, true, false, List, [], ◌∷◌, ℤ, length, map, refl, sym, ap, ◌∙◌, subst}
+use Rattle.std.proofs.Common.{◌≡◌, ℕ, zero, suc, Bool, true, false, List, [], ◌∷◌, length, map, refl, sym, ap, ◌∙◌}
 use Rattle.std.specs.Prelude.{Option, None, Some, slice_get, slice_set, if◌then◌else◌, nat_le, ◌+◌}
 use Rattle.std.specs.List.{range_with_len}
 use Rattle.rvc_base.specs.declared.trap.Trap.{Trap as TrapName}
@@ -7,7 +7,7 @@ use Rattle.rvc_base.specs.Behaviour.{Effect, Fires, TrapsInGuard, TrapsInBody}
 use Rattle.net_model.specs.declared.wiring.Link.{Link}
 use Rattle.net_model.specs.Network.{Leaf, Network, is_leaf_port}
 use Rattle.net_model.specs.State.{Flow, State, waiting, inbox, inboxes, effect_of, effect_at, need_of}
-use Rattle.net_model.specs.Event.{Event, Fire, Deliver, Trap, each_flow, after_firing, after_arrival, fire, deliver, trap, permitted, happens, and_then, run, number_of_trap}
+use Rattle.net_model.specs.Event.{Event, Fire, Deliver, Trap, each_flow, after_firing, after_arrival, fire, deliver, trap, permitted, happens, and_then, run}
 use Rattle.net_model.specs.Laws.{without_capacity, without_capacities}
 use Rattle.net_model.proofs.Commuting.{map_same}
 

@@ -10,7 +10,7 @@ use Rattle.net_model.specs.declared.wiring.End.{End}
 use Rattle.net_model.specs.declared.wiring.End.TheVariants.{Leaf as AtLeaf, Net as AtNet}
 use Rattle.net_model.specs.declared.wiring.Link.{Link}
 use Rattle.net_model.specs.Network.{NetPort, Leaf, Network, is_output, is_leaf_port}
-use Rattle.net_model.specs.State.{Flow, State, waiting, inbox, inboxes, first_flow, start_of, effect_of, effect_at, need_of}
+use Rattle.net_model.specs.State.{Flow, State, waiting, inbox, inboxes, first_flow, effect_of, effect_at, need_of}
 use Rattle.net_model.specs.Event.{Event, Fire, Deliver, Trap, each_flow, taken_from, after_firing, after_arrival, fire, deliver, trap, permitted, happens, and_then, run}
 use Rattle.rvc_base.specs.Lawful.{IsLawful}
 use Rattle.net_model.specs.Wired.{IsWired, IsBefore, LeadsToPort, HasInput}

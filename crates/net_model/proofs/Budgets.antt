@@ -1,10 +1,9 @@
 -- Paced lines have at most the budget's firings.
-use Rattle.std.proofs.Common.{◌≡◌, ℕ, zero, suc, ◌+◌, ◌-◌, ◌*◌, ◌/◌, ◌%◌, ◌<◌, ◌≤◌, min, Bool, true, false, List, [], ◌∷◌, ◌++◌, length, map, refl, sym, ap, ◌∙◌, subst, arith, append_assoc, append-nil}
-use Rattle.std.specs.Prelude.{◌==◌, ◌&&◌, nat_le, nat_lt, if◌then◌else◌, flat_map, sum, Option, None, Some}
-use Rattle.std.proofs.lemmas.Bool.{leb-true, le-leb, ltb-true, lt-ltb, cases_lt}
-use Rattle.std.proofs.lemmas.List.{length-map, length-append}
+use Rattle.std.proofs.Common.{◌≡◌, ℕ, suc, ◌+◌, ◌-◌, ◌*◌, ◌/◌, ◌%◌, ◌<◌, ◌≤◌, min, Bool, true, false, List, [], ◌∷◌, ◌++◌, length, map, refl, sym, ap, ◌∙◌, subst, arith, append_assoc, append-nil}
+use Rattle.std.specs.Prelude.{◌==◌, ◌&&◌, nat_le, nat_lt, if◌then◌else◌, flat_map, Option, None, Some}
+use Rattle.std.proofs.lemmas.Bool.{ltb-true}
 use Rattle.std.proofs.Math.Nat.{suc-mul, div-add-mod}
-use Rattle.rvc_base.specs.Shares.{share, allowed}
+use Rattle.rvc_base.specs.Shares.{allowed}
 use Rattle.trace_text.specs.declared.line.Line.{Line}
 use Rattle.trace_text.specs.declared.line.Line.TheVariants.{Header, Inst, Fire as FireLine, Deliver as DeliverLine, Grow as GrowLine, Quiet, Trap as TrapLine, Stall, Budget}
 use Rattle.net_model.specs.Network.{Network}
@@ -13,7 +12,7 @@ use Rattle.net_model.specs.Event.{Fire, happens}
 use Rattle.net_model.specs.Trace.{after_delivery, OnNext}
 use Rattle.net_model.specs.Laws.{firings_shown}
 use Rattle.net_model.proofs.Rounds.{either, trap_first}
-use Rattle.net_model.specs.Paced.{ClosesSpent, ClosesIdle, ClosesBy, first_trap, Pace, Moment, first_moment, Close, GoesOn, Widens, Ends, Block, fire_lines, close_lines, lines_of, count_of, picked, limit_of, Halt, IsBurst, Share, share_of, AreBursts, Closes, count_picked, IsRound, next_moment, EndsRun, AreRounds, IsBegun, IsPaced}
+use Rattle.net_model.specs.Paced.{ClosesSpent, ClosesIdle, ClosesBy, first_trap, Pace, Moment, first_moment, Close, GoesOn, Widens, Ends, Block, fire_lines, close_lines, lines_of, count_of, picked, limit_of, Halt, IsBurst, AreBursts, Closes, count_picked, IsRound, next_moment, AreRounds, IsBegun, IsPaced}
 
 -- a burst makes at most as many firings as it may
 on_next : {X : Type 0} {R : Type 0} (o : Option (State X)) (P : State X → Type 0) → ((u : State X) → P u → R) → OnNext o P → R

@@ -18,7 +18,7 @@ chosen_else true x y h = absurd (h refl)
 chosen_else false x y h = refl
 
 -- a test of two numbers that differ
-apart : {A : Type 0} (i j : ℕ) (x y : A) → i ≢ j → (if i == j then x else y) ≡ y
+pub apart : {A : Type 0} (i j : ℕ) (x y : A) → i ≢ j → (if i == j then x else y) ≡ y
 apart i j x y differ = chosen_else (i == j) x y (λ same. differ (eqb-true i j same))
 
 pub map_same : {A B : Type 0} (f g : A → B) → ((x : A) → f x ≡ g x) → (xs : List A) → map f xs ≡ map g xs
@@ -38,7 +38,7 @@ first_true true b h = refl
 first_true false b h = cc
 
 -- a leaf takes nothing from a link to another
-none_taken : (i j p : ℕ) (needs : ℕ → ℕ) (end : End) → i ≢ j → is_leaf_port i p end ≡ true → taken_from j needs end ≡ 0
+pub none_taken : (i j p : ℕ) (needs : ℕ → ℕ) (end : End) → i ≢ j → is_leaf_port i p end ≡ true → taken_from j needs end ≡ 0
 none_taken i j p needs (AtLeaf inst port) differ here =
     apart j inst.0 (needs port) 0 (λ same. differ (eqb-true i inst.0 (first_true (i == inst.0) (p == port) here) ∙ sym same))
 none_taken i j p needs (AtNet port) differ here = refl

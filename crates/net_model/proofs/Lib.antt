@@ -8,8 +8,19 @@ mod Ending
 pub mod Commuting
 pub mod Arriving
 mod Bare
+mod Trapping
+pub mod Twins
+pub mod LikeLines
+pub mod LikePacing
+mod LikeLaws
 mod MoreRows
+pub mod PacedRows
+mod GrowsOnceRows
+mod GrowsTwiceRows
 pub mod Rounds
 mod Budgets
+pub mod Keeping
+pub mod KeepingRounds
+pub mod KeepingRuns
 pub mod Bursts
 pub mod TableActor

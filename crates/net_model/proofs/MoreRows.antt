@@ -1,19 +1,18 @@
 -- Worked examples at the edges: agreement on each port alone, a link that holds too much, wiring that is
 -- refused, links that grow, and runs from a given state.
-use Rattle.std.proofs.Common.{◌≡◌, ℕ, zero, suc, ◌+◌, ◌-◌, ◌<◌, ◌≤◌, false, List, [], ◌∷◌, ℤ, pos, length, take, refl, sym, ap, ◌∙◌, subst, arith}
-use Rattle.std.specs.Prelude.{Option, None, Some, codes, replicate, slice_get}
+use Rattle.std.proofs.Common.{◌≡◌, ℕ, zero, suc, ◌-◌, ◌<◌, ◌≤◌, false, List, [], ◌∷◌, ℤ, pos, length, take, refl, sym, ap, subst, arith}
+use Rattle.std.specs.Prelude.{Some, codes, replicate, slice_get}
 use Rattle.rvc_base.specs.declared.scalar.Scalar.TheVariants.{Uint}
 use Rattle.rvc_base.specs.Behaviour.{Behaviour}
 use Rattle.rvc_base.specs.Lawful.{AgreeOn}
-use Rattle.trace_text.specs.declared.line.Line.{Line}
-use Rattle.trace_text.specs.declared.line.Line.TheVariants.{Fire, Deliver, Grow, Quiet, Stall}
-use Rattle.net_model.specs.declared.wiring.End.TheVariants.{Leaf as AtLeaf, Net as AtNet}
+use Rattle.trace_text.specs.declared.line.Line.TheVariants.{Fire, Deliver, Grow, Stall}
+use Rattle.net_model.specs.declared.wiring.End.TheVariants.{Net as AtNet}
 use Rattle.net_model.specs.Network.{Network}
 use Rattle.net_model.specs.State.{Flow, State, start_of}
-use Rattle.net_model.specs.Ends.{HasLessRoom, IsStalled, IsStuck, Grows}
-use Rattle.net_model.specs.Trace.{goes, played, PlaysFrom, KeepsFrom}
+use Rattle.net_model.specs.Ends.{HasLessRoom, IsStuck, Grows}
+use Rattle.net_model.specs.Trace.{goes, PlaysFrom, KeepsFrom}
 use Rattle.net_model.specs.Wired.{IsWired}
-use Rattle.net_model.proofs.Rows.{link, leaf_port, byte_port, rate, simple, sum_of_each, inc, inc_net, pair_net, pair_in, pair_last, pair_stalls}
+use Rattle.net_model.proofs.Rows.{link, leaf_port, byte_port, rate, simple, sum_of_each, inc, pair_net, pair_last, pair_stalls}
 use Rattle.net_model.proofs.Ending.{stalls_in_one_place}
 
 -- An actor that takes 600 tokens of its first port and one of its second. Before the second there are 512 of 700

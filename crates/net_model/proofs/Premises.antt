@@ -1,5 +1,5 @@
 -- A network that meets what the laws ask: its links lead to ports, and its actors are lawful.
-use Rattle.std.proofs.Common.{◌≡◌, ◌≢◌, ℕ, zero, suc, ◌<◌, ◌≤◌, ◌⊎◌, List, [], ◌∷◌, ℤ, pos, length, take, refl, sym, ap, ◌∙◌, subst, inl, arith}
+use Rattle.std.proofs.Common.{◌≡◌, ◌≢◌, ℕ, zero, suc, ◌<◌, ◌≤◌, ◌⊎◌, List, [], ◌∷◌, ℤ, pos, length, take, refl, subst, inl, arith}
 use Rattle.std.specs.Prelude.{None, Some, slice_get, slice_index_or}
 use Rattle.rvc_base.specs.declared.trap.Trap.{Trap}
 use Rattle.rvc_base.specs.Behaviour.{Fires, TrapsInGuard, TrapsInBody, Waits, Picks, Faults}

@@ -1,18 +1,18 @@
 -- Paced lines play, and at most one list of lines is paced.
-use Rattle.std.proofs.Common.{◌≡◌, ℕ, zero, suc, ◌+◌, ◌-◌, ◌<◌, ◌≤◌, ◌⊎◌, Bool, true, false, List, [], ◌∷◌, ◌++◌, length, map, refl, sym, ap, ◌∙◌, subst, inl, inr, ⊎_elim, arith, append_assoc, append-nil}
-use Rattle.std.specs.Prelude.{Option, None, Some, min, ◌*◌, if◌then◌else◌, MatchBool, flat_map, ◌==◌, ◌&&◌, slice_get}
+use Rattle.std.proofs.Common.{◌≡◌, ℕ, suc, ◌+◌, ◌-◌, ◌<◌, ◌≤◌, Bool, true, false, List, [], ◌∷◌, ◌++◌, length, map, refl, sym, ap, ◌∙◌, subst, ⊎_elim, arith, append_assoc, append-nil}
+use Rattle.std.specs.Prelude.{Option, None, Some, min, ◌*◌, if◌then◌else◌, MatchBool, flat_map, ◌==◌, ◌&&◌}
 use Rattle.rvc_base.specs.declared.trap.Trap.{Trap as TrapName}
-use Rattle.rvc_base.specs.Behaviour.{Effect, Choice, Fires, TrapsInGuard, TrapsInBody, Waits, Picks, Faults}
+use Rattle.rvc_base.specs.Behaviour.{Effect, Choice, TrapsInBody, Waits, Picks, Faults}
 use Rattle.trace_text.specs.declared.line.Line.{Line}
-use Rattle.trace_text.specs.declared.line.Line.TheVariants.{Header, Inst, Fire as FireLine, Deliver as DeliverLine, Grow as GrowLine, Quiet, Trap as TrapLine, Stall, Budget}
+use Rattle.trace_text.specs.declared.line.Line.TheVariants.{Fire as FireLine, Grow as GrowLine, Quiet, Trap as TrapLine, Stall, Budget}
 use Rattle.net_model.specs.Network.{Network}
 use Rattle.net_model.specs.State.{State, effect_at, choice_at, capacity_at}
 use Rattle.net_model.specs.Event.{Fire, fire, happens, and_then}
-use Rattle.net_model.specs.Ends.{IsQuiet, IsStalled, IsStuck, Grows, IsBetween}
+use Rattle.net_model.specs.Ends.{IsStuck, Grows}
 use Rattle.net_model.specs.Trace.{goes, played, after_delivery, LineIsTrue, OnNext, PlaysFrom}
 use Rattle.net_model.specs.Stable.{IsPrefix}
 use Rattle.net_model.specs.Laws.{AreLawful}
-use Rattle.net_model.specs.Paced.{Pace, Moment, first_moment, Close, GoesOn, Widens, Ends, Block, fire_lines, close_lines, lines_of, count_of, picked, limit_of, HasRoomIn, PassesLink, Halt, Unpicked, Spent, Waiting, NoRoom, Trapping, TrapsIn, HaltsAt, IsBurst, Share, share_of, AreBursts, first_trap, ClosesSpent, ClosesIdle, ClosesUntrapped, ClosesBy, Closes, count_picked, IsRound, next_moment, EndsRun, AreRounds, IsBegun, IsPaced}
+use Rattle.net_model.specs.Paced.{Pace, Moment, first_moment, Close, GoesOn, Widens, Ends, Block, fire_lines, close_lines, lines_of, count_of, picked, HasRoomIn, PassesLink, Halt, Unpicked, Spent, Waiting, NoRoom, Trapping, TrapsIn, HaltsAt, IsBurst, Share, share_of, AreBursts, first_trap, ClosesSpent, ClosesIdle, ClosesBy, Closes, count_picked, IsRound, next_moment, EndsRun, AreRounds, IsBegun, IsPaced}
 use Rattle.net_model.proofs.Ending.{stalls_in_one_place, stalled_is_not_quiet}
 
 -- Playing: whatever lines play from where a part leads, the part's lines and those play.
@@ -45,7 +45,7 @@ bursts_play net grow opened share (false ∷ marks) i k fired s (actions ∷ bur
 bursts_play net grow opened share marks i k fired s bursts halts last are after t h = absurd are
 
 -- what a closing line says is true
-abbrev CloseIsTrue : {X : Type 0} → Network X → ℕ → State X → Close → Type 0
+abbrev pub CloseIsTrue : {X : Type 0} → Network X → ℕ → State X → Close → Type 0
 CloseIsTrue net grow s GoesOn = Unit {0}
 CloseIsTrue net grow s (Widens l capacity) = Grows net grow s l capacity
 CloseIsTrue net grow s (Ends line) = LineIsTrue net grow s line []
@@ -91,7 +91,7 @@ by_true net grow marks bursts halts (Some line) s close is h =
 by_true net grow marks bursts halts None s close is h =
     either ((count_picked marks == length marks) && (count_of bursts == 0)) _ _ _ (idle_true net grow s close) (goes_on_true net grow s close) h
 
-closes_true : {X : Type 0} (net : Network X) (pace : Pace) (at : Moment X) (block : Block) (halts : List Halt) (s : State X)
+pub closes_true : {X : Type 0} (net : Network X) (pace : Pace) (at : Moment X) (block : Block) (halts : List Halt) (s : State X)
     → Closes net pace at block halts s → CloseIsTrue net pace.grow s block.close
 closes_true net pace at block halts s h =
     either (at.left == 0) _ _ _ (spent_true net pace.grow s block.close)
@@ -113,7 +113,7 @@ close_plays net grow s (Ends line) last holds leads after t none h = (
   next_of (goes net s line) last (λ u. PlaysFrom net grow u after t) leads h,
 )
 
-delivers : {X : Type 0} (net : Network X) (s : State X) (P : State X → Type 0) → s.trapped ≡ false → P (after_delivery net s)
+pub delivers : {X : Type 0} (net : Network X) (s : State X) (P : State X → Type 0) → s.trapped ≡ false → P (after_delivery net s)
     → OnNext (if s.trapped then None else Some (after_delivery net s)) P
 delivers net s P untrapped p = subst (λ b. OnNext (if b then None else Some (after_delivery net s)) P) (sym untrapped) p
 

@@ -1,6 +1,6 @@
 -- Worked runs, computed by the definitions.
 use Rattle.std.proofs.Common.{◌≡◌, ℕ, zero, suc, ◌<◌, ◌≤◌, ◌⊎◌, false, List, [], ◌∷◌, ℤ, pos, ◌+ℤ◌, refl, inl, inr, arith, rules}
-use Rattle.std.specs.Prelude.{Option, None, Some, codes, ◌==◌, if◌then◌else◌, slice_index_or, length}
+use Rattle.std.specs.Prelude.{Option, None, Some, codes, slice_index_or, length}
 use Rattle.rvc_base.specs.declared.scalar.Scalar.TheVariants.{Uint}
 use Rattle.rvc_base.specs.Storing.{conv}
 use Rattle.rvc_base.specs.Behaviour.{Behaviour, Effect, Fires, Choice, Waits, Picks}

@@ -4,7 +4,7 @@ use Rattle.std.specs.Prelude.{Option, None, Some, slice_get, slice_index_or, map
 use Rattle.std.proofs.lemmas.Bool.{leb-true, le-leb, cases_lt}
 use Rattle.std.proofs.lemmas.List.{length-take}
 use Rattle.rvc_base.specs.declared.trap.Trap.{Trap}
-use Rattle.rvc_base.specs.Behaviour.{Effect, Choice, Fires, TrapsInGuard, TrapsInBody, Waits, Picks, Faults}
+use Rattle.rvc_base.specs.Behaviour.{Fires, TrapsInGuard, TrapsInBody, Waits, Picks, Faults}
 use Rattle.rvc_base.specs.Lawful.{IsLawful, AgreeOn, tokens_on}
 use Rattle.net_model.specs.Cell.{number_on, held_after, LacksRoomOn, IsLeftByTrap, FiresTo, IsEnabled, FitsQueues}
 use Rattle.net_model.specs.TableActor.{row_of, deed_of, table_cell, table_capacity, Deed, Sends, GuardTraps, BodyTraps, Row, takes_of, gives_of, on_first, effect_of, effect_in, choice_of, choice_in, table_actor, IsFirst, NoneHas}

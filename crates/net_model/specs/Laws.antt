@@ -1,10 +1,11 @@
 -- What holds of all runs, as statements.
 use Rattle.std.specs.Prelude.{◌≡◌, ◌≢◌, ℕ, ◌+◌, ◌≤◌, ◌<◌, ◌↔◌, List, [], ◌∷◌, ℤ, length, map, slice_get, Option, None, Some}
-use Rattle.rvc_base.specs.Behaviour.{Waits}
+use Rattle.rvc_base.specs.declared.trap.Trap.{Trap as TrapName}
+use Rattle.rvc_base.specs.Behaviour.{Effect, Waits}
 use Rattle.trace_text.specs.declared.line.Line.{Line}
 use Rattle.trace_text.specs.declared.line.Line.TheVariants.{Header, Inst, Fire as FireLine, Deliver as DeliverLine, Grow, Quiet, Trap as TrapLine, Stall, Budget}
 use Rattle.net_model.specs.Network.{Leaf, Network}
-use Rattle.net_model.specs.State.{Flow, State, start_of, choice_at}
+use Rattle.net_model.specs.State.{Flow, State, start_of, effect_at, choice_at}
 use Rattle.net_model.specs.Event.{Event, Fire, Deliver, Trap, happens, run}
 use Rattle.net_model.specs.Ends.{IsQuiet, IsSettled, IsStalled, all_fed}
 use Rattle.net_model.specs.Trace.{PlaysFrom, played}
@@ -153,3 +154,27 @@ abbrev pub DeliveriesAdd : (X : Type 0) → Type 0
 DeliveriesAdd X = (net : Network X) (s t u : State X) (l k n : ℕ)
     → ((flow : Flow) → slice_get s.flows l ≡ Some flow → flow.arrived + (k + n) ≤ length flow.sent)
     → happens net s (Deliver l k) ≡ Some t → happens net s (Deliver l n) ≡ Some u → Meets net t (Deliver l n) u (Deliver l k)
+
+-- an event may happen in a state
+abbrev pub MayHappen : {X : Type 0} → Network X → State X → Event → Type 0
+MayHappen {X} net s event = (t : State X) × (happens net s event ≡ Some t)
+
+-- a trap of a stable actor stays possible when tokens arrive ..
+abbrev pub TrapsOutlastDeliveries : (X : Type 0) → Type 0
+TrapsOutlastDeliveries X = (net : Network X) (s u : State X) (i a l k : ℕ) (c : TrapName) → AreStable net
+    → MayHappen net s (Trap i a c) → happens net s (Deliver l k) ≡ Some u → MayHappen net u (Trap i a c)
+
+-- .. and when another leaf fires
+abbrev pub TrapsOutlastFirings : (X : Type 0) → Type 0
+TrapsOutlastFirings X = (net : Network X) (s u : State X) (i a j b : ℕ) (c : TrapName) → AreOrdered s → i ≢ j
+    → MayHappen net s (Trap i a c) → happens net s (Fire j b) ≡ Some u → MayHappen net u (Trap i a c)
+
+-- in a network of stable actors a leaf has one firing or trap in a state
+abbrev pub ActsOnce : (X : Type 0) → Type 0
+ActsOnce X = (net : Network X) (s : State X) (i a b : ℕ) (this that : Effect X) → AreStable net
+    → effect_at net s i a ≡ Some this → effect_at net s i b ≡ Some that → (a ≡ b) × (this ≡ that)
+
+-- at most one cause of a trap of an action
+abbrev pub TrapsByOneCause : (X : Type 0) → Type 0
+TrapsByOneCause X = (net : Network X) (s t u : State X) (i a : ℕ) (c d : TrapName)
+    → happens net s (Trap i a c) ≡ Some t → happens net s (Trap i a d) ≡ Some u → c ≡ d

@@ -14,3 +14,4 @@ pub mod Laws
 pub mod Paced
 pub mod PacingLaws
 pub mod Counted
+pub mod Alike

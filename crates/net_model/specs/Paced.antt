@@ -1,7 +1,6 @@
 -- Pacing: which lines the rounds of a run write, by its policy, burst and budget. The number of workers isn't
 -- among what they depend on.
-use Rattle.std.specs.Prelude.{◌≡◌, ℕ, zero, suc, ◌+◌, ◌-◌, ◌<◌, ◌⊎◌, ◌==◌, ◌||◌, ◌&&◌, nat_le, Bool, true, false, List, [], ◌∷◌, ◌++◌, length, map, flat_map, min, slice_get, Option, None, Some, if◌then◌else◌, MatchBool}
-use Rattle.std.specs.List.{range_with_len}
+use Rattle.std.specs.Prelude.{◌≡◌, ℕ, suc, ◌+◌, ◌-◌, ◌<◌, ◌⊎◌, ◌==◌, ◌||◌, ◌&&◌, nat_le, Bool, true, false, List, [], ◌∷◌, ◌++◌, length, map, flat_map, min, slice_get, Option, None, Some, if◌then◌else◌, MatchBool}
 use Rattle.rvc_base.specs.declared.trap.Trap.{Trap as TrapName}
 use Rattle.rvc_base.specs.declared.round_kind.RoundKind.{RoundKind}
 use Rattle.rvc_base.specs.Picks.{picks}
@@ -13,7 +12,7 @@ use Rattle.net_model.specs.declared.wiring.End.{End}
 use Rattle.net_model.specs.declared.wiring.End.TheVariants.{Leaf as AtLeaf, Net as AtNet}
 use Rattle.net_model.specs.declared.wiring.Link.{Link}
 use Rattle.net_model.specs.Network.{Network}
-use Rattle.net_model.specs.State.{Flow, State, start_of, effect_at, choice_at, give_of}
+use Rattle.net_model.specs.State.{Flow, State, effect_at, choice_at, give_of}
 use Rattle.net_model.specs.Event.{Fire, happens}
 use Rattle.net_model.specs.Ends.{IsQuiet, IsStuck, Grows, IsBetween}
 use Rattle.net_model.specs.Trace.{after_delivery, held_since, played, OnNext}

@@ -2,10 +2,12 @@
 use Rattle.std.specs.Prelude.{◌≡◌, ℕ, ◌+◌, ◌≤◌, List, length}
 use Rattle.trace_text.specs.declared.line.Line.{Line}
 use Rattle.net_model.specs.Network.{Network}
-use Rattle.net_model.specs.State.{State}
-use Rattle.net_model.specs.Trace.{PlaysFrom}
+use Rattle.net_model.specs.State.{State, start_of}
+use Rattle.net_model.specs.Ends.{AllArrived}
+use Rattle.net_model.specs.Trace.{PlaysFrom, FitFlows, KeepsFrom}
+use Rattle.net_model.specs.Wired.{IsWired}
 use Rattle.net_model.specs.Stable.{IsPrefix}
-use Rattle.net_model.specs.Laws.{AreLawful, firings_shown}
+use Rattle.net_model.specs.Laws.{AreLawful, AreOrdered, HasFlows, firings_shown}
 use Rattle.net_model.specs.Paced.{Pace, Moment, IsBegun, IsPaced}
 
 -- begun lines play, and so do paced ones
@@ -35,3 +37,24 @@ BegunWithinBudget X = (net : Network X) (pace : Pace) (s : State X) (lines : Lis
 abbrev pub PacedWithinBudget : (X : Type 0) → Type 0
 PacedWithinBudget X = (net : Network X) (pace : Pace) (s : State X) (lines : List Line) (last : State X)
     → IsPaced net pace s lines last → length (firings_shown lines) ≤ pace.budget
+
+-- a state in which a run may begin: no more was taken than has arrived, everything sent inside has arrived, and
+-- no inner or output link holds more than its capacity
+pub record CanBegin {X : Type 0} (net : Network X) (s : State X) : Type 0 where
+  pub has_flows : HasFlows net s
+  pub ordered : AreOrdered s
+  pub arrived : AllArrived net.links s.flows
+  pub fits : FitFlows net.links s.flows s.flows
+
+-- so is the start of a run over files
+abbrev pub StartsCanBegin : (X : Type 0) → Type 0
+StartsCanBegin X = (net : Network X) (inputs : List (List ℕ)) → CanBegin net (start_of net inputs)
+
+-- begun and paced lines keep the capacities
+abbrev pub BegunKeep : (X : Type 0) → Type 0
+BegunKeep X = (net : Network X) (pace : Pace) (s : State X) (lines : List Line) (reached : Moment X)
+    → IsWired net → AreLawful net → CanBegin net s → IsBegun net pace s lines reached → KeepsFrom net s lines
+
+abbrev pub PacedKeep : (X : Type 0) → Type 0
+PacedKeep X = (net : Network X) (pace : Pace) (s : State X) (lines : List Line) (last : State X)
+    → IsWired net → AreLawful net → CanBegin net s → IsPaced net pace s lines last → KeepsFrom net s lines

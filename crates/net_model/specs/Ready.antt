@@ -1,5 +1,5 @@
 -- What cells and their wiring must meet to be run, and the state in which they stand then.
-use Rattle.std.specs.Prelude.{◌≡◌, ℕ, ◌≤◌, ◌<◌, ◌↔◌, Bool, true, false, List, [], ◌++◌, ℤ, length, map, slice_get, Option, None, Some, string_bytes}
+use Rattle.std.specs.Prelude.{◌≡◌, ℕ, ◌≤◌, ◌<◌, ◌↔◌, true, false, List, [], ◌++◌, ℤ, length, map, slice_get, Option, None, Some, string_bytes}
 use Rattle.rvc_base.specs.Lawful.{tokens_on}
 use Rattle.net_model.specs.declared.wiring.End.{End}
 use Rattle.net_model.specs.declared.wiring.End.TheVariants.{Leaf as AtLeaf, Net as AtNet}
@@ -8,7 +8,7 @@ use Rattle.net_model.specs.declared.wiring.Port.{Port}
 use Rattle.net_model.specs.declared.wiring.Wiring.{Wiring}
 use Rattle.net_model.specs.Network.{NetPort, Network, is_input, is_output, is_leaf_port}
 use Rattle.net_model.specs.State.{Flow, State, fed_by}
-use Rattle.net_model.specs.Cell.{Cell, number_on, HasNothingOut, FitsQueues}
+use Rattle.net_model.specs.Cell.{Cell, number_on, HasNothingOut}
 use Rattle.net_model.specs.Limits.{max_grow}
 use Rattle.net_model.specs.Wired.{IsWired}
 

@@ -2,7 +2,7 @@
 //!
 //! Each law is the contract of a function that does nothing: it is proved with the crate, and can be cited.
 
-ghost use Rattle.net_model.specs.Laws.{DeliveriesAdd, DeliveriesCommute, DeliveriesKeepFirings, EventsKeepSent, FiringsCommute, LinesAreOrdered, LinesAreRuns, LinesKeepSent, LinesLeadToOne, QuietIsWaiting, RunsAreOrdered, StartsInOrder, StalledIsNotQuiet, StallsInOnePlace};
+ghost use Rattle.net_model.specs.Laws.{ActsOnce, DeliveriesAdd, DeliveriesCommute, DeliveriesKeepFirings, EventsKeepSent, FiringsCommute, LinesAreOrdered, LinesAreRuns, LinesKeepSent, LinesLeadToOne, QuietIsWaiting, RunsAreOrdered, StartsInOrder, TrapsByOneCause, TrapsOutlastDeliveries, TrapsOutlastFirings, StalledIsNotQuiet, StallsInOnePlace};
 
 /// The states of the actors of a network, as a type that laws can speak of.
 pub trait Meaning {
@@ -61,4 +61,17 @@ pub fn deliveries_commute<M: Meaning>()
 /// A firing of a stable actor and a delivery that may both happen lead to one state in either order.
 pub fn deliveries_keep_firings<M: Meaning>()
     ensures { DeliveriesKeepFirings M.State }
+{}
+
+/// A trap doesn't depend on what else happens: a trap of a stable actor stays possible when tokens arrive, and any
+/// trap when another leaf fires. Of an action there is one cause at most.
+pub fn traps_outlast<M: Meaning>()
+    ensures deliveries { TrapsOutlastDeliveries M.State }
+    ensures firings { TrapsOutlastFirings M.State }
+    ensures one_cause { TrapsByOneCause M.State }
+{}
+
+/// In a network of stable actors a leaf has one firing or trap at most in a state.
+pub fn stable_actors_act_once<M: Meaning>()
+    ensures { ActsOnce M.State }
 {}

@@ -2,7 +2,7 @@
 //!
 //! Each law is the contract of a function that does nothing: it is proved with the crate, and can be cited.
 
-ghost use Rattle.net_model.specs.PacingLaws.{BegunBeginPaced, BegunPlay, BegunWithinBudget, PacedAreOne, PacedPlay, PacedWithinBudget};
+ghost use Rattle.net_model.specs.PacingLaws.{BegunBeginPaced, BegunKeep, BegunPlay, BegunWithinBudget, PacedAreOne, PacedKeep, PacedPlay, PacedWithinBudget, StartsCanBegin};
 
 use crate::laws::Meaning;
 
@@ -23,4 +23,12 @@ pub fn paced_lines_are_one<M: Meaning>()
 pub fn paced_lines_keep_the_budget<M: Meaning>()
     ensures begun { BegunWithinBudget M.State }
     ensures paced { PacedWithinBudget M.State }
+{}
+
+/// Paced and begun lines keep the capacities of the links, where the network is wired, every leaf's behaviour is
+/// lawful and the run may begin in its state, as it may at the start of a run over files.
+pub fn paced_lines_keep_capacities<M: Meaning>()
+    ensures start { StartsCanBegin M.State }
+    ensures begun { BegunKeep M.State }
+    ensures paced { PacedKeep M.State }
 {}
