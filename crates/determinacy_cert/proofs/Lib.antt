@@ -10,3 +10,4 @@ mod Seen
 mod Excluding
 mod Conjuncts
 mod Stability
+mod CertifiedNetworks

@@ -3,8 +3,9 @@
 //! Each law is the contract of a function that does nothing: it is proved with the crate, and can be cited.
 
 ghost use Rattle.determinacy_cert.specs.Determinacy.{FiringsArePrefixes, SentArePrefixes, QuietRunsAgree, NoQuietRunBesides, AsManyFiringsAreAll};
-ghost use Rattle.determinacy_cert.specs.Certifying.{CertifiedAreStable};
+ghost use Rattle.determinacy_cert.specs.Certifying.{CertifiedAreDeterminate, CertifiedAreStable};
 
+use cal_model::sound_actors_are_lawful;
 use net_model::Meaning;
 
 /// Each leaf's firings in any run begin those of any quiet run over the same inputs, and what was sent on each link
@@ -35,3 +36,11 @@ pub fn as_many_firings_are_all<M: Meaning>()
 pub fn certified_actors_are_stable()
     ensures { CertifiedAreStable }
 {}
+
+/// A wired network whose leaves are sound and certified actors is determinate: the laws above hold of its runs.
+pub fn certified_networks_are_determinate()
+    ensures { CertifiedAreDeterminate }
+{
+    sound_actors_are_lawful();
+    certified_actors_are_stable();
+}

@@ -9,6 +9,6 @@
 mod laws;
 
 pub use laws::{
-    as_many_firings_are_all, certified_actors_are_stable, no_quiet_run_besides_a_trap,
-    quiet_runs_agree, runs_lead_towards_quiet,
+    as_many_firings_are_all, certified_actors_are_stable, certified_networks_are_determinate,
+    no_quiet_run_besides_a_trap, quiet_runs_agree, runs_lead_towards_quiet,
 };
