@@ -14,6 +14,7 @@ pub mod LikeLines
 pub mod LikePacing
 mod LikeLaws
 mod MoreRows
+mod CountRows
 pub mod PacedRows
 mod GrowsOnceRows
 mod GrowsTwiceRows

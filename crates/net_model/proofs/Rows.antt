@@ -73,10 +73,10 @@ inc_net = record {
   outs = byte_port (codes "Out") ∷ [];
 }
 
-abbrev inc_lines : List Line
+abbrev pub inc_lines : List Line
 inc_lines = Deliver ∷ Fire 0 0 ∷ Fire 0 0 ∷ Fire 0 0 ∷ Deliver ∷ Quiet ∷ []
 
-abbrev inc_last : State (Unit {0})
+abbrev pub inc_last : State (Unit {0})
 inc_last = record {
   actors = tt ∷ [];
   flows = record { sent = pos 0 ∷ pos 1 ∷ pos 255 ∷ []; arrived = 3; taken = 3; capacity = 512 }
@@ -173,7 +173,7 @@ pair_net = record {
 abbrev pub pair_in : List (List ℕ)
 pair_in = (1 ∷ 2 ∷ 3 ∷ 4 ∷ []) ∷ []
 
-abbrev pair_lines : List Line
+abbrev pub pair_lines : List Line
 pair_lines = Deliver ∷ Fire 0 0 ∷ Deliver ∷ Stall 0 0 3 ∷ []
 
 abbrev pub pair_last : State (Unit {0})
