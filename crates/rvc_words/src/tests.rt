@@ -10,11 +10,11 @@ use std::test::Fail;
 const JOBS: &[(&str, &str)] = &[
     (
         "rvc run Inc.cal In=a=b.bin Out=o.bin --trace t.txt",
-        "Run Inc.cal [In a=b.bin][Out o.bin] (t.txt) 1 All 64 100000000 0",
+        "Run Inc.cal [In a=b.bin] [Out o.bin] (t.txt) 1 All 64 100000000 0",
     ),
     (
         "rvc --workers=64 replay --round seed:18446744073709551615 a/_b/C.xdf A=x --burst 65536 B=y --trace=t --budget 00000000000000000001 C=z --grow 1048576",
-        "Replay a/_b/C.xdf [A x][B y][C z] (t) 64 Seed(18446744073709551615) 65536 1 1048576",
+        "Replay a/_b/C.xdf [A x] [B y] [C z] (t) 64 Seed(18446744073709551615) 65536 1 1048576",
     ),
     ("rvc check A.xdf", "Check A.xdf () 1 All 64 100000000 0"),
     (
