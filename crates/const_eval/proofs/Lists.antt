@@ -1,7 +1,7 @@
 -- Lists of values, one value after another.
 use Rattle.std.proofs.Common.{◌≡◌, ℕ, zero, suc, ◌+◌, List, [], ◌∷◌, ◌++◌, map, length, get_or, ◌<◌, ◌≤◌, refl, sym, ap, ◌∙◌, add-one, arith}
 use Rattle.std.proofs.Common.{ℤ, pos, negsuc, true, false, subst, take, to_z, of_z, SFits}
-use Rattle.std.specs.Prelude.{None, Some, int_le, int_lt, slice_get, unsigned_abs}
+use Rattle.std.specs.Prelude.{None, Some, ◌&&◌, int_le, int_lt, nat_le, slice_get, unsigned_abs}
 use Rattle.std.proofs.lemmas.Int.{ints, to_z-of_z}
 use Rattle.rvc_base.specs.declared.trap.Trap.TheVariants.{IndexRange}
 use Rattle.rvc_base.specs.Width.{num_width}
@@ -11,6 +11,9 @@ use Rattle.std.proofs.lemmas.List.{map-append, take_all}
 use Rattle.cal_model.specs.Value.{ListKind, Shape, Value, Items, Values, Nil, Cons, count, one, joined, repeated, stored, stored_each, value_at}
 use Rattle.cal_model.specs.View.{in_order, value_view}
 use Rattle.const_eval.specs.Constants.{kind_of_value}
+use Rattle.const_eval.specs.Lengths.{is_counted, most_items}
+use Rattle.std.proofs.lemmas.Bool.Decides.{nat_tests}
+use Rattle.const_eval.proofs.Tested.{and_left, and_right, le_holds}
 use Rattle.cal_model.specs.declared.value.Value.{Value as Declared}
 
 pub one_more : (vs : List Value) (v : Value) → in_order (vs ++ v ∷ []) ≡ joined (in_order vs) (one v)
@@ -104,13 +107,47 @@ item_gone z vs left len f e s p q =
     let l : int_le (pos len) (to_z num_width (of_z num_width z)) ≡ true = subst (λ x. int_le x (to_z num_width (of_z num_width z)) ≡ true) (to_pos len s) q in
     item_missing z vs left f p (outside_by (to_z num_width (of_z num_width z)) len (length vs) p l e)
 
+counted : (xs : List Declared) → count (in_order (map value_view xs)) ≡ length xs
+counted [] = refl
+counted (x ∷ xs) = ap suc (counted xs)
+
 -- the kind of a list is told by its first value
 pub first_kind : (vs : List Declared) (v : Declared) → slice_get vs 0 ≡ Some v → kind_of_value (Items (in_order (map value_view vs))) ≡ ListKind (length vs) (kind_of_value (value_view v))
 first_kind [] v e = cc
 first_kind (w ∷ vs) v e =
     let same : w ≡ v = cc in
     ap (λ n. ListKind (suc n) (kind_of_value (value_view w))) (counted vs) ∙ ap (λ x. ListKind (suc (length vs)) (kind_of_value (value_view x))) same
+
+-- .. and so is whether 32 bits count its items
+pub first_counted : (vs : List Declared) (v : Declared) → slice_get vs 0 ≡ Some v → is_counted (Items (in_order (map value_view vs))) ≡ (nat_le (length vs) most_items && is_counted (value_view v))
+first_counted [] v e = cc
+first_counted (w ∷ vs) v e =
+    let same : w ≡ v = cc in
+    ap (λ n. nat_le (suc n) most_items && is_counted (value_view w)) (counted vs) ∙ ap (λ x. nat_le (suc (length vs)) most_items && is_counted (value_view x)) same
+
+-- a list that is counted, and its first value
+pub counted_length : (vs : List Declared) (v : Declared) → slice_get vs 0 ≡ Some v → is_counted (Items (in_order (map value_view vs))) ≡ true → length vs < 4294967296
+counted_length vs v e h =
+    let le : length vs ≤ most_items = le_holds (length vs) most_items (and_left (nat_le (length vs) most_items) (is_counted (value_view v)) (sym (first_counted vs v e) ∙ h)) in
+    omega arith
+
+pub counted_first : (vs : List Declared) (v : Declared) → slice_get vs 0 ≡ Some v → is_counted (Items (in_order (map value_view vs))) ≡ true → is_counted (value_view v) ≡ true
+counted_first vs v e h = and_right (nat_le (length vs) most_items) (is_counted (value_view v)) (sym (first_counted vs v e) ∙ h)
+
+-- so 32 bits count them where they are few and the first value is counted
+pub counted_within : (vs : List Declared) (v : Declared) (n : ℕ) → slice_get vs 0 ≡ Some v → n ≡ length vs → n ≤ 4294967295 → is_counted (value_view v) ≡ is_counted (Items (in_order (map value_view vs)))
+counted_within vs v n e is le =
+    let few : nat_le (length vs) most_items ≡ true = within (length vs) most_items (omega arith) in
+    ap (λ b. b && is_counted (value_view v)) (sym few) ∙ sym (first_counted vs v e)
   where
-    counted : (xs : List Declared) → count (in_order (map value_view xs)) ≡ length xs
-    counted [] = refl
-    counted (x ∷ xs) = ap suc (counted xs)
+    within : (a b : ℕ) → a ≤ b → nat_le a b ≡ true
+    within a b h = grind (arith, nat_tests)
+
+-- .. and where they are too many they don't
+pub counted_beyond : (vs : List Declared) (v : Declared) (n : ℕ) → slice_get vs 0 ≡ Some v → n ≡ length vs → 4294967295 < n → nat_le n 4294967295 ≡ is_counted (Items (in_order (map value_view vs)))
+counted_beyond vs v n e is more =
+    let many : nat_le (length vs) most_items ≡ false = beyond (length vs) most_items (omega arith) in
+    beyond n 4294967295 more ∙ ap (λ b. b && is_counted (value_view v)) (sym many) ∙ sym (first_counted vs v e)
+  where
+    beyond : (a b : ℕ) → b < a → nat_le a b ≡ false
+    beyond a b h = grind (arith, nat_tests)

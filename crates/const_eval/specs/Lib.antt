@@ -1,6 +1,7 @@
 pub mod Outcome
 pub mod Sizes
 pub mod Constants
+pub mod Lengths
 pub mod Held
 pub mod Deciding
 pub mod Scoping

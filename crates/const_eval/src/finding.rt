@@ -4,15 +4,18 @@ ghost use Rattle.std.specs.Prelude.{◌≡◌, IfSome, map, option_map, true};
 ghost use Rattle.cal_model.specs.Call.{fun_named};
 ghost use Rattle.cal_model.specs.View.{fun_view, value_view};
 ghost use Rattle.const_eval.specs.Constants.{constant_named};
+ghost use Rattle.const_eval.specs.Lengths.{are_counted, is_counted};
 ghost use Rattle.const_eval.specs.Held.{constant_view};
 ghost use Rattle.const_eval.specs.Sizes.{are_sized_funs, is_sized_fun};
 
-use crate::env::Constant;
+use crate::held::Constant;
 use cal_model::{BoundFun, Value};
 
 /// The value of the first constant of the name.
 pub(crate) fn value_in<'a>(name: &str, constants: &'a [Constant]) -> Option<&'a Value>
-    ensures { option_map (λ v. value_view v.now) result ≡ constant_named name.now (map constant_view constants.now) }
+    requires { are_counted (map constant_view constants.now) ≡ true }
+    ensures is { option_map (λ v. value_view v.now) result ≡ constant_named name.now (map constant_view constants.now) }
+    ensures counted { IfSome result (λ v. is_counted (value_view v.now) ≡ true) }
 {
     let mut rest = constants;
     'names: while let Some((first, others)) = rest.split_first() {

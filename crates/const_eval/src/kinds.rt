@@ -6,6 +6,7 @@ ghost use Rattle.rvc_base.specs.Rules.{wrong_kind};
 ghost use Rattle.cal_model.specs.Value.{BoolKind, kind_of_scalar, scalars_of_kind};
 ghost use Rattle.cal_model.specs.View.{kind_view, value_view, values_view};
 ghost use Rattle.const_eval.specs.Constants.{kind_of_value};
+ghost use Rattle.const_eval.specs.Lengths.{is_counted};
 ghost use Rattle.const_eval.specs.Fitting.{both_fit, capped, fit_of};
 ghost use Rattle.const_eval.specs.Judging.{Judges};
 ghost use Rattle.cal_model.specs.Value.{Items};
@@ -31,6 +32,7 @@ pub(crate) fn wrong_kind(at: u32) -> KindFault
 /// The kind of a value. An empty list is taken as one of numbers.
 #[cycle(value)]
 pub(crate) fn kind_of_value(alloc: Global, value: &Value) -> Result<Kind, Memory>
+    requires { is_counted (value_view value.now) ≡ true }
     ensures { IfOk result (λ kind. kind_view kind ≡ kind_of_value (value_view value.now)) }
 {
     match value {
@@ -43,16 +45,14 @@ pub(crate) fn kind_of_value(alloc: Global, value: &Value) -> Result<Kind, Memory
 /// The kind of the list of values.
 #[cycle(value)]
 fn kind_of_values(alloc: Global, values: &Values) -> Result<Kind, Memory>
+    requires { is_counted (Items (values_view values.now)) ≡ true }
     ensures { IfOk result (λ kind. kind_view kind ≡ kind_of_value (Items (values_view values.now))) }
 {
     let Some(first) = values.items.first() else {
         return Ok(Kind::List(0, Box::new(alloc, Kind::Num)?));
     };
     let items = kind_of_value(alloc, first)?;
-    let Ok(size) = u32::try_from(values.items.len()) else {
-        return Err(Memory);
-    };
-    Ok(Kind::List(size, Box::new(alloc, items)?))
+    Ok(Kind::List(values.items.len() as u32, Box::new(alloc, items)?))
 }
 
 /// The kind of the values of a single type.

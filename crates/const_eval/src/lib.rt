@@ -12,18 +12,19 @@ mod evaluate;
 mod fault;
 mod filled;
 mod finding;
+mod held;
 mod judging;
 mod kinds;
+mod lengths;
 mod names;
 mod operators;
 mod scope;
 mod shapes;
 mod stop;
-#[cfg(test)]
-mod tests;
 mod types;
 mod value;
 
 pub use constant::{ConstFault, eval_const, kind_const};
 pub use env::Env;
 pub use fault::KindFault;
+pub use lengths::is_counted;

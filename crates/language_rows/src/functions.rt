@@ -1,13 +1,13 @@
-//! Environments of constants and functions, and what expressions give over them. Rows of text stand in a crate above.
+//! Environments of constants and functions, built by hand, and what expressions give over them.
 
 ghost use Rattle.std.specs.Prelude.{◌≡◌, IfOk};
 ghost use Rattle.rvc_base.specs.declared.scalar.Scalar.TheVariants as scalar;
 ghost use Rattle.cal_model.specs.Value.{Single};
 ghost use Rattle.cal_model.specs.View.{shape_view};
 
-use crate::{Env, eval_const};
 use cal_ast::{BinOp, Expr, ExprForm};
-use cal_model::{BoundFun, BoundLocal, Shape, Value};
+use cal_model::{BoundFun, BoundLocal, Shape, Value, Values};
+use const_eval::{Env, eval_const, is_counted};
 use rvc_base::Scalar;
 use std::alloc::{AllocError, Global};
 use std::test::Fail;
@@ -143,5 +143,18 @@ fn a_function_without_arguments(rt: HostRuntime) -> Result<(), Fail> {
     let e = call_without_arguments(a, "seven")?;
     let found = eval_const(a, &env, &e);
     assert_eq!(rt; format!(in a; "{found:?}")?.as_str(), "Ok(Num(7))");
+    Ok(())
+}
+
+#[test]
+fn short_lists_are_counted(rt: HostRuntime) -> Result<(), Fail> {
+    let a = rt.alloc();
+    assert!(rt; is_counted(&Value::Num(-1)));
+    assert!(rt; is_counted(&Value::List(Values { items: Vec::new(a) })));
+    let mut items = Vec::new(a);
+    items.push(Value::Bool(true))?;
+    let mut lists = Vec::new(a);
+    lists.push(Value::List(Values { items }))?;
+    assert!(rt; is_counted(&Value::List(Values { items: lists })));
     Ok(())
 }
