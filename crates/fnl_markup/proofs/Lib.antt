@@ -1,0 +1,4 @@
+mod Runs
+mod Names
+mod Stuck
+mod Fronts
