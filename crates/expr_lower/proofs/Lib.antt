@@ -1,0 +1,13 @@
+pub mod Runs
+pub mod Keeping
+pub mod Truthful
+pub mod Effects
+pub mod Aimed
+pub mod Doing
+pub mod Coded
+pub mod Fitted
+pub mod Whole
+pub mod Adding
+pub mod Linked
+pub mod Literals
+pub mod Weights
