@@ -12,11 +12,19 @@ use Rattle.code_ir.specs.declared.instr.Instr.TheVariants as op
 use Rattle.expr_lower.specs.declared.names.Seat.{Seat}
 use Rattle.expr_lower.specs.declared.names.Seat.TheVariants.{Cell, Tokens}
 use Rattle.expr_lower.specs.Names.{Name}
-use Rattle.expr_lower.specs.Coding.{IsCode, IsTest, number, too_great, negative, truth, variable, paren, prefix, binary, both, either, if_code, tested, both_tested, aimed, prefix_instr, binary_instr, seat_instr}
+use Rattle.expr_lower.specs.declared.names.ItemList.{ItemList}
+use Rattle.expr_lower.specs.Coding.{IsCode, IsTest, number, too_great, negative, truth, variable, paren, prefix, binary, both, either, if_code, tested, both_tested, aimed, prefix_instr, binary_instr, seat_instr, item, item_instr}
 
 seat_unaimed : (out : ℕ) (seat : Seat) → aimed out (seat_instr seat) ≡ seat_instr seat
 seat_unaimed out (Cell c) = refl
 seat_unaimed out (Tokens port first step) = refl
+
+item_unaimed : (out : ℕ) (l : ItemList) → aimed out (item_instr l) ≡ item_instr l
+item_unaimed out l = seat_item out l.seat l.size
+  where
+    seat_item : (out : ℕ) (seat : Seat) (size : ℕ) → aimed out (elim seat [ Cell c ↦ op.LoadAt c size | Tokens port first step ↦ op.TokenAt port first step size ]) ≡ elim seat [ Cell c ↦ op.LoadAt c size | Tokens port first step ↦ op.TokenAt port first step size ]
+    seat_item out (Cell c) size = refl
+    seat_item out (Tokens port first step) size = refl
 
 prefix_unaimed : (out : ℕ) (o : PrefixOp) → aimed out (prefix_instr o) ≡ prefix_instr o
 prefix_unaimed out prefixes.Not = refl
@@ -64,6 +72,7 @@ mutual
   unaimed out (prefix o e at base n m code h) = join_unaimed out code (prefix_instr o ∷ []) (unaimed out h) (cons_unaimed out (prefix_instr o) [] (prefix_unaimed out o) refl)
   unaimed out (binary o i l r at base n k m a b e h g) =
       join_unaimed out a (b ++ i ∷ []) (unaimed out h) (join_unaimed out b (i ∷ []) (unaimed out g) (cons_unaimed out i [] (binary_unaimed out o i e) refl))
+  unaimed out (item e place at base n m code l g h) = join_unaimed out code (item_instr l ∷ []) (unaimed out h) (cons_unaimed out (item_instr l) [] (item_unaimed out l) refl)
   unaimed out (both l r at base n k m far end a b t h g e f) =
       join_unaimed out a (b ++ op.Jump end ∷ op.Const (pos 0) ∷ []) (unaimed_test out h) (join_unaimed out b (op.Jump end ∷ op.Const (pos 0) ∷ []) (unaimed out g) refl)
   unaimed out (either l r at base n k m right end a b t h g e f) =

@@ -28,7 +28,9 @@ use Rattle.expr_lower.specs.Names.{Name, IsSingle, named}
 use Rattle.expr_lower.specs.Held.{StandAt, HoldsName, AreBelow}
 use Rattle.expr_lower.specs.Placed.{World, state}
 use Rattle.expr_lower.specs.Following.{Follows, Pushes, CutsOff, EndsAs, Evaluates}
-use Rattle.expr_lower.specs.Coding.{IsCode, IsTest, number, too_great, negative, truth, variable, paren, prefix, binary, both, either, if_code, tested, both_tested, seat_instr}
+use Rattle.expr_lower.specs.Coding.{IsCode, IsTest, number, too_great, negative, truth, variable, paren, prefix, binary, both, either, if_code, tested, both_tested, seat_instr, item}
+use Rattle.expr_lower.proofs.Items.{does_item}
+use Rattle.expr_lower.proofs.Listing.{single_flat}
 use Rattle.expr_lower.proofs.Runs.{ends_back, obeys}
 use Rattle.expr_lower.proofs.Keeping.{keeps_all}
 use Rattle.expr_lower.proofs.Doing.{IsStraight, Does, Tests, acts_after, does_const, does_prefix, does_binary, does_both, does_either, does_if, tests_value, tests_both}
@@ -45,6 +47,7 @@ mutual
   grows (paren e at base n m code h) = grows h
   grows (prefix o e at base n m code h) = grows h
   grows (binary o i l r at base n k m a b e h g) = let x = grows h in let y = grows g in omega (arith, x, y)
+  grows (item e place at base n m code l g h) = grows h
   grows (both l r at base n k m far end a b t h g e f) = let x = grows_test h in let y = grows g in omega (arith, x, y)
   grows (either l r at base n k m right end a b t h g e f) = let x = grows_test h in let y = grows g in omega (arith, x, y)
   grows (if_code test first other at base n k j m else_at end a b c h g d e f) = let x = grows_test h in let y = grows g in let z = grows d in omega (arith, x, y, z)
@@ -60,18 +63,6 @@ negative_num zero h = h
 negative_num (suc j) h = grind (arith, nat_tests)
 
 -- ---- variables
-
-single_flat : (t : Shape) (v : Value) → IsSingle t → HasKind (kind_of_type t) v → (z : ℤ) × (flat v ≡ z ∷ [])
-single_flat (Single scalar.Bool) (Num z) s h = absurd h
-single_flat (Single scalar.Bool) (Truth b) s h = (arithmetic.truth b, refl)
-single_flat (Single scalar.Bool) (Items vs) s h = absurd h
-single_flat (Single (scalar.Int n)) (Num z) s h = (z, refl)
-single_flat (Single (scalar.Int n)) (Truth b) s h = absurd h
-single_flat (Single (scalar.Int n)) (Items vs) s h = absurd h
-single_flat (Single (scalar.Uint n)) (Num z) s h = (z, refl)
-single_flat (Single (scalar.Uint n)) (Truth b) s h = absurd h
-single_flat (Single (scalar.Uint n)) (Items vs) s h = absurd h
-single_flat (Many n items) v s h = absurd s
 
 seat_straight : (seat : Seat) → IsStraight (seat_instr seat)
 seat_straight (Cell c) code tokens s = refl
@@ -141,6 +132,7 @@ module _ (names : List Name) (w : World) (env : Env) (frames : List ℕ) where
     does (paren e at base n m code h) = does h
     does (prefix o e at base n m code h) = does_prefix names w env frames o e at base n m code (does h)
     does (binary o i l r at base n k m a b e h g) = does_binary names w env frames o i l r at base n k m a b e (grows h) (grows g) (does h) (does g)
+    does (item e place at base n m code l g h) = does_item names w env frames e place at base n m code l g (does h)
     does (both l r at base n k m far end a b t h g e f) = does_both names w env frames l r at base n k m far end a b t (grows_test h) (grows g) e f (tests h) (does g)
     does (either l r at base n k m right end a b t h g e f) = does_either names w env frames l r at base n k m right end a b t (grows_test h) (grows g) e f (tests h) (does g)
     does (if_code test first other at base n k j m else_at end a b c h g d e f) =

@@ -157,7 +157,7 @@ module _ (names : List Name) (w : World) (env : Env) (frames : List ℕ) where
   Tests e base n out code m = (stack cells : List ℤ) (left : ℕ) → StandsAt w.code.instrs base code → AreBelow n names → AllApart w.low w.high names → Holds names w.tokens cells env
       → Follows (eval e w.calls env left) (Chooses w n m (state base stack frames cells left) (base + length code) out) (CutsOff w n m (state base stack frames cells left))
 
-  at_end : (o : Out Value) (n m p q : ℕ) (s : State) → p ≡ q → Follows o (Pushes w n m s p) (CutsOff w n m s) → Follows o (Pushes w n m s q) (CutsOff w n m s)
+  pub at_end : (o : Out Value) (n m p q : ℕ) (s : State) → p ≡ q → Follows o (Pushes w n m s p) (CutsOff w n m s) → Follows o (Pushes w n m s q) (CutsOff w n m s)
   at_end o n m p q s e h = subst (λ x. Follows o (Pushes w n m s x) (CutsOff w n m s)) e h
 
   -- ---- literals

@@ -1,5 +1,5 @@
 -- Code of an expression fits where it stands.
-use Rattle.std.proofs.Common.{◌≡◌, ℕ, zero, suc, ◌+◌, ◌-◌, ◌<◌, ◌≤◌, ◌⊎◌, inl, inr, ⊎_elim, List, [], ◌∷◌, ◌++◌, length, true, false, refl, sym, ap, ◌∙◌, subst, None, Some, arith, length-append}
+use Rattle.std.proofs.Common.{◌≡◌, ℕ, zero, suc, ◌+◌, ◌*◌, ◌-◌, ◌<◌, ◌≤◌, ◌⊎◌, inl, inr, ⊎_elim, List, [], ◌∷◌, ◌++◌, length, true, false, refl, sym, ap, ◌∙◌, subst, None, Some, arith, length-append}
 use Rattle.std.specs.Prelude.{if◌then◌else◌, slice_get, nat_lt, pos, neg_ℤ}
 use Rattle.std.proofs.lemmas.Bool.{cases_lt}
 use Rattle.std.proofs.lemmas.Bool.Decides.{nat_tests}
@@ -20,7 +20,10 @@ use Rattle.expr_lower.specs.declared.names.Seat.TheVariants.{Cell, Tokens}
 use Rattle.expr_lower.specs.Names.{Name, IsSingle}
 use Rattle.expr_lower.specs.Held.{AreBelow, SeatIsBelow}
 use Rattle.expr_lower.specs.Fitting.{IsInner, FitsAt, Fits}
-use Rattle.expr_lower.specs.Coding.{IsCode, IsTest, number, too_great, negative, truth, variable, paren, prefix, binary, both, either, if_code, tested, both_tested, seat_instr, prefix_instr, binary_instr}
+use Rattle.expr_lower.specs.declared.names.ItemList.{ItemList}
+use Rattle.expr_lower.specs.Listed.{list_named}
+use Rattle.expr_lower.proofs.Listing.{IsListName, found}
+use Rattle.expr_lower.specs.Coding.{IsCode, IsTest, number, too_great, negative, truth, variable, paren, prefix, binary, both, either, if_code, tested, both_tested, seat_instr, prefix_instr, binary_instr, item, item_instr}
 use Rattle.expr_lower.proofs.Coded.{grows, grows_test}
 use Rattle.expr_lower.proofs.Keeping.{below_more}
 
@@ -234,6 +237,24 @@ module _ (code : Code) (callable limit : ℕ) where
   fits_seat base h (Cell c) below = fits_one base h (h + 1) (op.Load c) (omega arith) (omega arith) refl below tt tt tt
   fits_seat base h (Tokens port first step) below = fits_one base h (h + 1) (op.Token port first) (omega arith) (omega arith) refl tt tt tt tt
 
+  fits_item_at : (base h size : ℕ) (seat : Seat) → SeatIsBelow limit size seat → Plain base (h + 1) (elim seat [ Cell c ↦ op.LoadAt c size | Tokens port first step ↦ op.TokenAt port first step size ] ∷ []) (h + 1)
+  fits_item_at base h size (Cell c) below = fits_one base (h + 1) (h + 1) (op.LoadAt c size) (omega arith) (omega arith) refl below tt tt tt
+  fits_item_at base h size (Tokens port first step) below = fits_one base (h + 1) (h + 1) (op.TokenAt port first step size) (omega arith) (omega arith) refl tt tt tt tt
+
+  fits_item : (base h : ℕ) (l : ItemList) → SeatIsBelow limit l.size l.seat → Plain base (h + 1) (item_instr l ∷ []) (h + 1)
+  fits_item base h l below = fits_item_at base h l.size l.seat below
+
+  list_below : (n : ℕ) (names : List Name) (e : Tree) (l : ItemList) → list_named names e ≡ Some l → AreBelow n names → n ≤ limit → SeatIsBelow limit l.size l.seat
+  list_below n names e l g below le =
+      let f : IsListName names e l = found names e l g in
+      let one : scalars_of_type f.x.shape ≡ l.size * 1 = ap scalars_of_type f.shape in
+      let size : scalars_of_type f.x.shape ≡ l.size = omega (arith, one) in
+      seat_wider l.size l.seat (subst (λ s. SeatIsBelow n l.size s) f.seat (subst (λ k. SeatIsBelow n k f.x.seat) size (below f.text f.x f.is)))
+    where
+      seat_wider : (size : ℕ) (seat : Seat) → SeatIsBelow n size seat → SeatIsBelow limit size seat
+      seat_wider size (Cell c) h = omega (arith, h, le)
+      seat_wider size (Tokens port first step) h = tt
+
   fits_prefix : (base h : ℕ) (o : PrefixOp) → Plain base (h + 1) (prefix_instr o ∷ []) (h + 1)
   fits_prefix base h prefixes.Not = fits_one base (h + 1) (h + 1) op.Not (omega arith) (omega arith) refl tt tt tt tt
   fits_prefix base h prefixes.Neg = fits_one base (h + 1) (h + 1) op.Neg (omega arith) (omega arith) refl tt tt tt tt
@@ -303,6 +324,8 @@ module _ (code : Code) (callable limit : ℕ) where
           let x = grows g in let y = grows d in
           plain_then base h (h + 1) (h + 1) a (b ++ i ∷ []) (fits h below (omega (arith, x, y)) g)
           (plain_then (base + length a) (h + 1) (h + 1 + 1) (h + 1) b (i ∷ []) (fits (h + 1) (below_more n k names x below) le d) (fits_binary (base + length a + length b) h o i e))
+      fits h below le (item e place at base n m code l g d) =
+          plain_then base h (h + 1) (h + 1) code (item_instr l ∷ []) (fits h below le d) (fits_item (base + length code) h l (list_below n names e l g below (let x = grows d in omega (arith, x))))
       fits h below le (both l r at base n k m far end a b t g d e f) =
           let x = grows_test g in let y = grows d in
           let at_tail : base + length a + length b + 1 ≡ far = sym e in

@@ -1,19 +1,23 @@
 -- What is seen to give truth values gives them.
-use Rattle.std.proofs.Common.{◌≡◌, ℕ, ℤ, List, Bool, true, false, refl, sym, subst, Option, None, Some}
+use Rattle.std.proofs.Common.{◌≡◌, ℕ, ℤ, pos, negsuc, List, Bool, true, false, refl, sym, subst, Option, None, Some}
 use Rattle.std.specs.Prelude.{◌&&◌}
 use Rattle.rvc_base.specs.declared.scalar.Scalar.TheVariants as scalar
+use Rattle.rvc_base.specs.declared.trap.Trap.TheVariants.{IndexRange}
 use Rattle.cal_ast.specs.declared.expr.PrefixOp.{PrefixOp}
 use Rattle.cal_ast.specs.declared.expr.PrefixOp.TheVariants as prefixes
 use Rattle.cal_ast.specs.declared.expr.BinOp.{BinOp}
 use Rattle.cal_ast.specs.declared.expr.BinOp.TheVariants as binaries
 use Rattle.cal_ast.specs.Tree as tree
 use Rattle.cal_ast.specs.Tree.{Tree}
-use Rattle.cal_model.specs.Value.{Shape, Single, Many, Value, Num, Truth, Items, HasKind, kind_of_type}
+use Rattle.cal_model.specs.Value.{Kind, Shape, Single, Many, Value, Num, Truth, Items, Values, value_at, HasKind, HaveKind, kind_of_type, kind_of_scalar}
 use Rattle.cal_model.specs.Outcome.{Out, Gives, Traps, Lacks, Clashes, and_then, known}
 use Rattle.cal_model.specs.Env.{Env, look_up}
-use Rattle.cal_model.specs.Expression.{Calls, eval, prefixed, applied, of_numbers, of_truths, with_right, chosen}
+use Rattle.cal_model.specs.Expression.{Calls, eval, prefixed, applied, of_numbers, of_truths, with_right, chosen, indexed}
 use Rattle.expr_lower.specs.Names.{Name, named}
-use Rattle.expr_lower.specs.Truths.{is_truth, is_truth_prefix, is_truth_binary, is_truth_shape}
+use Rattle.expr_lower.specs.Truths.{is_truth, is_truth_prefix, is_truth_binary, is_truth_shape, is_truth_list}
+use Rattle.expr_lower.specs.declared.names.ItemList.{ItemList}
+use Rattle.expr_lower.specs.Listed.{list_named}
+use Rattle.expr_lower.proofs.Listing.{IsList, named_list, item_kind}
 use Rattle.expr_lower.specs.Held.{HoldsName, Holds}
 use Rattle.expr_lower.specs.Following.{Follows}
 
@@ -119,6 +123,25 @@ name_truth names tokens cells env text left (Some x) e h holds =
     let held : HoldsName tokens cells env text x = holds text x e in
     subst (λ (o : Option Value). OnlyTruths (known o left)) (sym held.meant) (kind_truth x.shape held.value h held.of_type)
 
+value_truth : (o : Option Value) (left : ℕ) → ((u : Value) → o ≡ Some u → IsTruth u) → OnlyTruths (elim o [ None ↦ Traps IndexRange | Some v ↦ Gives v left ])
+value_truth None left h = tt
+value_truth (Some u) left h = h u refl
+
+indexed_truth : (t : Shape) (k : Kind) (vs : Values) (i : Value) (left : ℕ) → is_truth_shape t ≡ true → kind_of_type t ≡ k → HaveKind k vs → OnlyTruths (indexed (Items vs) i left)
+indexed_truth t k vs (Num (pos n)) left h e kinds =
+    value_truth (value_at vs n) left (λ u at. kind_truth t u h (subst (λ x. HasKind x u) (sym e) (item_kind k vs n u kinds at)))
+indexed_truth t k vs (Num (negsuc n)) left h e kinds = tt
+indexed_truth t k vs (Truth b) left h e kinds = tt
+indexed_truth t k vs (Items us) left h e kinds = tt
+
+item_truth : (names : List Name) (tokens : ℕ → List ℤ) (cells : List ℤ) (env : Env) (e place : Tree) (calls : Calls) (left : ℕ) (o : Option ItemList) → list_named names e ≡ o → is_truth_list o ≡ true → Holds names tokens cells env
+    → OnlyTruths (and_then (eval e calls env left) (λ v m. and_then (eval place calls env m) (λ i k. indexed v i k)))
+item_truth names tokens cells env e place calls left None g h holds = cc
+item_truth names tokens cells env e place calls left (Some l) g h holds =
+    let list : IsList tokens cells (eval e calls env left) left l = named_list names tokens cells env e l calls left g holds in
+    subst (λ (x : Out Value). OnlyTruths (and_then x (λ v m. and_then (eval place calls env m) (λ i k. indexed v i k)))) (sym list.gives)
+    (after_any (eval place calls env left) (λ i k. indexed (Items list.values) i k) (λ i k. indexed_truth (Single l.kind) (kind_of_scalar l.kind) list.values i k h refl list.kinds))
+
 pub truths : (e : Tree) (names : List Name) (tokens : ℕ → List ℤ) (cells : List ℤ) (env : Env) (calls : Calls) (left : ℕ) → is_truth names e ≡ true → Holds names tokens cells env → OnlyTruths (eval e calls env left)
 truths (tree.truth b at) names tokens cells env calls left h holds = tt
 truths (tree.variable text at) names tokens cells env calls left h holds = name_truth names tokens cells env text left (named text names) refl h holds
@@ -127,6 +150,7 @@ truths (tree.if_expr test first other at) names tokens cells env calls left h ho
     let parts = and_parts (is_truth names first) (is_truth names other) h in
     after_any (eval test calls env left) (λ v m. chosen v (λ k. eval first calls env k) (λ k. eval other calls env k) m)
     (λ v m. chosen_truth v (λ k. eval first calls env k) (λ k. eval other calls env k) m (truths first names tokens cells env calls m parts.0 holds) (truths other names tokens cells env calls m parts.1 holds))
+truths (tree.index e place at) names tokens cells env calls left h holds = item_truth names tokens cells env e place calls left (list_named names e) refl h holds
 truths (tree.prefix o e at) names tokens cells env calls left h holds =
     after_any (eval e calls env left) (λ v m. prefixed o v m) (λ v m. prefix_truth o v m h)
 truths (tree.binary o l r at) names tokens cells env calls left h holds =

@@ -13,6 +13,8 @@ use Rattle.code_ir.specs.declared.instr.Instr.TheVariants as op
 use Rattle.expr_lower.specs.declared.names.Seat.{Seat}
 use Rattle.expr_lower.specs.declared.names.Seat.TheVariants.{Cell, Tokens}
 use Rattle.expr_lower.specs.Names.{Name, IsSingle, named}
+use Rattle.expr_lower.specs.declared.names.ItemList.{ItemList}
+use Rattle.expr_lower.specs.Listed.{list_named}
 use Rattle.expr_lower.specs.Truths.{is_truth}
 
 -- the instruction of an operation with one operand
@@ -47,6 +49,10 @@ abbrev pub seat_instr : Seat → Instr
 seat_instr (Cell c) = op.Load c
 seat_instr (Tokens port first step) = op.Token port first
 
+-- the instruction that pushes the item of a list whose place is the top
+abbrev pub item_instr : ItemList → Instr
+item_instr l = elim l.seat [ Cell c ↦ op.LoadAt c l.size | Tokens port first step ↦ op.TokenAt port first step l.size ]
+
 mutual
   -- Code of an expression that stands at a place. It pushes the value. Of the cells, it uses those from n to m.
   pub data IsCode (names : List Name) : Tree → ℕ → ℕ → List Instr → ℕ → Type 0 where
@@ -65,6 +71,9 @@ mutual
     binary : (o : BinOp) (i : Instr) (l r : Tree) (at base n k m : ℕ) (a b : List Instr) → binary_instr o ≡ Some i
         → IsCode names l base n a k → IsCode names r (base + length a) k b m
         → IsCode names (tree.binary o l r at) base n (a ++ (b ++ i ∷ [])) m
+    -- the place, and then the item there
+    item : (e place : Tree) (at base n m : ℕ) (code : List Instr) (l : ItemList) → list_named names e ≡ Some l → IsCode names place base n code m
+        → IsCode names (tree.index e place at) base n (code ++ item_instr l ∷ []) m
     -- where the left side is false, the right one isn't evaluated
     both : (l r : Tree) (at base n k m out end : ℕ) (a b : List Instr) → is_truth names l ≡ true
         → IsTest names l base n out a k → IsCode names r (base + length a) k b m

@@ -12,6 +12,7 @@ use Rattle.expr_lower.specs.declared.draft.Draft.{Draft}
 use Rattle.expr_lower.specs.declared.fault.LowerFault.{LowerFault}
 use Rattle.expr_lower.specs.declared.fault.LowerFault.TheVariants.{Memory, TooLong, NotLowered}
 use Rattle.expr_lower.specs.Names.{Name, named}
+use Rattle.expr_lower.specs.Listed.{list_named}
 use Rattle.expr_lower.specs.Truths.{is_truth}
 
 -- the first of two that is there
@@ -31,8 +32,9 @@ is_short binaries.Or = true
 is_short binaries.And = true
 is_short o = false
 
--- The place of the first part of an expression for which no code is made: a call, a list, a comprehension, an index,
--- a name that isn't that of a single value, or an `and` or `or` whose left side isn't seen to be a truth value.
+-- The place of the first part of an expression for which no code is made: a call, a list, a comprehension, an index
+-- on what isn't the name of a list of single values, a name that isn't that of a single value, or an `and` or `or`
+-- whose left side isn't seen to be a truth value.
 abbrev pub left_out : List Name → Tree → Option ℕ
 left_out names (tree.number k at) = None
 left_out names (tree.truth b at) = None
@@ -44,7 +46,7 @@ left_out names (tree.binary o l r at) = if is_short o && not (is_truth names l) 
 left_out names (tree.call name args at) = Some at
 left_out names (tree.list items at) = Some at
 left_out names (tree.comp item gens at) = Some at
-left_out names (tree.index base place at) = Some at
+left_out names (tree.index base place at) = elim (list_named names base) [ None ↦ Some at | Some l ↦ left_out names place ]
 left_out names other = Some 0
 
 -- why nothing was lowered: the place is that of the first part that is left out, and the draft has too many

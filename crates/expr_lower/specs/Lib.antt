@@ -6,5 +6,6 @@ pub mod Following
 pub mod Coding
 pub mod Fitting
 pub mod Lowered
+pub mod Listed
 pub mod Truths
 pub mod Growing

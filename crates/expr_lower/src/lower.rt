@@ -17,8 +17,8 @@ ghost use Rattle.expr_lower.specs.Names.{Name, names_view};
 
 use crate::draft::{Draft, next_place, put, put_const};
 use crate::fault::LowerFault;
-use crate::names::{Named, find};
-use crate::operators::{binary_instr, negative, prefix_instr, seat_instr};
+use crate::names::{Named, find, list_named};
+use crate::operators::{binary_instr, item_instr, negative, prefix_instr, seat_instr};
 use crate::truths::is_truth;
 use cal_ast::{BinOp, Expr, ExprForm, PrefixOp};
 use cal_model::Shape;
@@ -43,7 +43,7 @@ fn lower(names: &[Named], e: &Expr, draft: &mut Draft) -> Result<(), LowerFault>
         ExprForm::Call { name: _, args: _ } => Err(LowerFault::NotLowered { at: e.at }),
         ExprForm::List(_) => Err(LowerFault::NotLowered { at: e.at }),
         ExprForm::Comp { item: _, gens: _ } => Err(LowerFault::NotLowered { at: e.at }),
-        ExprForm::Index { base: _, place: _ } => Err(LowerFault::NotLowered { at: e.at }),
+        ExprForm::Index { base, place } => item(names, base, place, e.at, draft),
     }
 }
 
@@ -103,6 +103,26 @@ fn variable(names: &[Named], text: &str, at: u32, draft: &mut Draft) -> Result<(
         Shape::Scalar(_) => put(draft, seat_instr(named.seat)),
         Shape::List(_, _) => Err(LowerFault::NotLowered { at }),
     }
+}
+
+/// Appends an item of a list: its place, and the instruction that reads it.
+#[cycle(lower)]
+fn item(
+    names: &[Named],
+    base: &Expr,
+    place: &Expr,
+    at: u32,
+    draft: &mut Draft,
+) -> Result<(), LowerFault>
+    ensures ok { OnOk result (Adds (IsCode (names_view names.now) (tree.index (expr_tree base.now) (expr_tree place.now) at)) draft.old draft.new) }
+    ensures whole { OnOk result (left_out (names_view names.now) (tree.index (expr_tree base.now) (expr_tree place.now) at) ≡ None) }
+    ensures fault { IfErr result (IsFault (left_out (names_view names.now) (tree.index (expr_tree base.now) (expr_tree place.now) at)) draft.new) }
+{
+    let Some(list) = list_named(names, base) else {
+        return Err(LowerFault::NotLowered { at });
+    };
+    lower(names, place, draft)?;
+    put(draft, item_instr(list))
 }
 
 /// Appends an operation with one operand. A minus sign before a literal is one number with it.
@@ -337,13 +357,15 @@ fn aimed(instr: Instr, out: u32) -> Instr
 /// `names` holds the names that the expression uses; the first of several that are the same is meant. The code
 /// reads their cells and tokens where they stand, and writes none. What stood in the draft stays.
 ///
-/// Code is made for literals, variables of single values, operators and `if`.
+/// Code is made for literals, variables of single values, items of lists of single values that are named, operators
+/// and `if`.
 ///
 /// # Errors
 ///
 /// `Memory` where an allocation was refused. `TooLong` where the draft has 2 to the power of 32 instructions.
 /// `NotLowered` with the offset of the first part for which no code is made: a call, a list, a comprehension, an
-/// index, or a name that `names` doesn't have as that of a single value.
+/// index on what isn't the name of a list of single values, a name that `names` doesn't have as that of a single
+/// value, or an `and` or `or` whose left side isn't seen to be a truth value.
 pub fn lower_expr(names: &[Named], e: &Expr, draft: &mut Draft) -> Result<(), LowerFault>
     requires below { AreBelow draft.old.cells (names_view names.now) }
     ensures lowered { OnOk result (Adds (IsLowered (names_view names.now) (expr_tree e.now)) draft.old draft.new) }

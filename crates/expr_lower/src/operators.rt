@@ -2,10 +2,10 @@
 
 ghost use Rattle.std.specs.Prelude.{◌≡◌, IfSome};
 ghost use Rattle.cal_ast.specs.View.{expr_tree};
-ghost use Rattle.expr_lower.specs.Coding.{binary_instr, prefix_instr, seat_instr};
+ghost use Rattle.expr_lower.specs.Coding.{binary_instr, item_instr, prefix_instr, seat_instr};
 ghost use Rattle.expr_lower.specs.Growing.{IsNegative, IsOpposite};
 
-use crate::names::Seat;
+use crate::names::{ItemList, Seat};
 use cal_ast::{BinOp, Expr, ExprForm, PrefixOp};
 use code_ir::Instr;
 use rvc_base::Num;
@@ -58,6 +58,16 @@ pub(crate) fn seat_instr(seat: Seat) -> Instr
             first,
             step: _,
         } => Instr::Token(port, first),
+    }
+}
+
+/// The instruction that pushes the item of a list whose place is on the stack.
+pub(crate) fn item_instr(list: ItemList) -> Instr
+    ensures { result ≡ item_instr list }
+{
+    match list.seat {
+        Seat::Cell(c) => Instr::LoadAt(c, list.size),
+        Seat::Tokens { port, first, step } => Instr::TokenAt(port, first, step, list.size),
     }
 }
 

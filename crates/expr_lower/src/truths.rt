@@ -4,9 +4,10 @@ ghost use Rattle.std.specs.Prelude.{◌≡◌};
 ghost use Rattle.cal_ast.specs.Tree as tree;
 ghost use Rattle.cal_ast.specs.View.{expr_tree};
 ghost use Rattle.expr_lower.specs.Names.{names_view};
-ghost use Rattle.expr_lower.specs.Truths.{is_truth, is_truth_binary};
+ghost use Rattle.expr_lower.specs.Truths.{is_truth, is_truth_binary, is_truth_list};
+ghost use Rattle.expr_lower.specs.Listed.{list_named};
 
-use crate::names::{Named, find};
+use crate::names::{Named, find, list_named};
 use cal_ast::{BinOp, Expr, ExprForm, PrefixOp};
 use cal_model::Shape;
 use rvc_base::Scalar;
@@ -24,7 +25,7 @@ pub(crate) fn is_truth(names: &[Named], e: &Expr) -> bool
         ExprForm::If { test: _, yes, no } => is_truth(names, yes) && is_truth(names, no),
         ExprForm::List(_) => false,
         ExprForm::Comp { item: _, gens: _ } => false,
-        ExprForm::Index { base: _, place: _ } => false,
+        ExprForm::Index { base, place: _ } => is_truth_item(names, base),
         ExprForm::Prefix { op, of: _ } => *op == PrefixOp::Not,
         ExprForm::Binary {
             op,
@@ -40,6 +41,16 @@ fn is_truth_name(names: &[Named], text: &str) -> bool
 {
     match find(names, text) {
         Some(named) => matches!(&named.shape, Shape::Scalar(Scalar::Bool)),
+        None => false,
+    }
+}
+
+/// Whether the items of a list have the type of truth values.
+fn is_truth_item(names: &[Named], base: &Expr) -> bool
+    ensures { result ≡ is_truth_list (list_named (names_view names.now) (expr_tree base.now)) }
+{
+    match list_named(names, base) {
+        Some(list) => matches!(list.kind, Scalar::Bool),
         None => false,
     }
 }

@@ -7,7 +7,7 @@ use Rattle.cal_ast.specs.View.{expr_tree}
 use Rattle.cal_ast.specs.declared.expr.BinOp.TheVariants as binaries
 use Rattle.code_ir.specs.declared.instr.Instr.TheVariants as op
 use Rattle.expr_lower.specs.Coding as coding
-use Rattle.expr_lower.specs.Coding.{IsCode, IsOpenTest, binary_instr, prefix_instr}
+use Rattle.expr_lower.specs.Coding.{IsCode, IsOpenTest, binary_instr, item_instr, prefix_instr}
 use Rattle.expr_lower.specs.Names.{Name, names_view}
 use Rattle.expr_lower.specs.Lowered.{IsPut}
 use Rattle.expr_lower.proofs.Adding.{put_adds, same_adds, then_put, then_adds, strict_adds, test_coded, tests_coded, if_adds, both_adds, either_adds}
@@ -88,4 +88,14 @@ test_value-returns-clause-ok t c =
     on_ok_weaker c.put.result
     (then_put (IsCode names (expr_tree c.args.e.now)) (IsOpenTest names (expr_tree c.args.e.now)) (op.Done ∷ []) c.args.draft.now c.lower.new.draft c.put.new.draft
     (λ base n m code h. test_coded names (expr_tree c.args.e.now) base n m code h) c.in_ok-lower.ensures.ok)
+    c.put.ensures.added
+
+pub item-returns-clause-ok : goal.item-returns-clause-ok
+item-returns-clause-ok t c =
+    let names : List Name = names_view c.args.names.now in
+    on_ok_weaker c.put.result
+    (λ (p : IsPut (c.item_instr.result ∷ []) c.lower.new.draft c.put.new.draft).
+    then_put (IsCode names (expr_tree c.args.place.now)) (IsCode names (tree.index (expr_tree c.args.base.now) (expr_tree c.args.place.now) c.args.at)) (item_instr c.in-Some.list ∷ []) c.args.draft.now c.lower.new.draft c.put.new.draft
+    (λ base n m code h. coding.item (expr_tree c.args.base.now) (expr_tree c.args.place.now) c.args.at base n m code c.in-Some.list (sym c.in-Some.ensures) h) c.in_ok-lower.ensures.ok
+    (subst (λ i. IsPut (i ∷ []) c.lower.new.draft c.put.new.draft) c.item_instr.ensures p))
     c.put.ensures.added

@@ -35,3 +35,6 @@ decreases-test_value l = 1 + size (expr_tree l.e.now)
 
 abbrev pub decreases-paren : goal.decreases-paren
 decreases-paren l = 4 + size (expr_tree l.inner.now)
+
+abbrev pub decreases-item : goal.decreases-item
+decreases-item l = 4 + size (expr_tree l.place.now)
