@@ -1,0 +1,5 @@
+pub mod Actor
+pub mod Facts
+pub mod Meaning
+pub mod Candidates
+pub mod Laws
