@@ -1,3 +1,4 @@
 pub mod Running
 pub mod Choosing
 pub mod Lawful
+pub mod Rows

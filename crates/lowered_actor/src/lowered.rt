@@ -105,6 +105,8 @@ impl Lowered {
         ensures eligible { result.now ≡ eligible_among self.now.fsm state self.now.order.line }
         ensures actions { All (λ a. a < length self.now.actions) result.now }
     {
+        // it tells that the actions of the line are in range
+        let _line = self.parts.order.line();
         &self.candidates[usize::from(state)].actions
     }
 
