@@ -2,3 +2,4 @@ pub mod Running
 pub mod Choosing
 pub mod Lawful
 pub mod Rows
+pub mod StraightRuns

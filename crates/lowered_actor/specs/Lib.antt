@@ -3,3 +3,4 @@ pub mod Facts
 pub mod Meaning
 pub mod Candidates
 pub mod Laws
+pub mod Straight

@@ -10,6 +10,7 @@ mod candidates;
 pub mod laws;
 mod lowered;
 mod parts;
+mod straight;
 
 pub use lowered::Lowered;
 pub use parts::{ActionCode, Parts, StateCell};
