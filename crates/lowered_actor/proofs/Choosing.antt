@@ -38,7 +38,7 @@ pub ready-parts : (actor : Actor) (x : ActorState) (tokens : ℕ → List ℤ) (
     → IsAble actor x tokens a
 ready-parts actor x tokens a h =
     let parts = ready-by-true (slice_get actor.actions a) (is_eligible actor x.at a && has_its_tokens actor tokens a)
-        (λ action. guards_say actor.code (cells_of actor x) (taken actor tokens a) action.guards) h in
+    (λ action. guards_say actor.code (cells_of actor x) (taken actor tokens a) action.guards) h in
     let both = both-true (is_eligible actor x.at a) (has_its_tokens actor tokens a) parts.0 in
     record { action = parts.1.0; there = parts.1.1; eligible = both.0; has = both.1 }
 

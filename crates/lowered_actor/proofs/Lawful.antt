@@ -10,10 +10,10 @@ use Rattle.rvc_base.specs.Lawful.{IsLawful, AgreeOn, tokens_on}
 use Rattle.code_ir.specs.declared.outcome.Outcome.{Outcome}
 use Rattle.code_ir.specs.declared.outcome.Outcome.TheVariants as outcome
 use Rattle.lowered_actor.specs.Actor.{Action, Actor, number_on}
-use Rattle.lowered_actor.specs.Facts.{IsEffect, IsLowered, cells_from}
+use Rattle.lowered_actor.specs.Facts.{Fits, IsEffect, IsLowered, cells_from}
 use Rattle.lowered_actor.specs.Meaning.{ActorState, End, Guards, AreTrue, AreFalse, AreTrapping, end_of, is_state, is_eligible, has_on_first, has_its_tokens, need, give, taken, cells_of, guards_say, readiness, choice_among, choice, is_outranked, is_exposed, sent_from, effect_of_outcome, effect_of_end, effect_of_body, effect_of_exposed, effect, behaviour}
 use Rattle.lowered_actor.specs.Laws.{IsReady}
-use Rattle.lowered_actor.proofs.Running.{StepsAreFine, StartStands, has-on, past-zero, firing-end, asked-at-first}
+use Rattle.lowered_actor.proofs.Running.{StepsAreFine, StartStands, all-at, has-on, past-zero, firing-end, asked-at-first}
 use Rattle.lowered_actor.proofs.Choosing.{both-true, ready-past, ready-parts, picked, faulted, idle}
 
 -- ---- tokens
@@ -143,10 +143,10 @@ module _ (actor : Actor) (lowered : IsLowered actor) (fine : StepsAreFine) (firs
       let ready : IsReady actor tokens a able.action = record { there = able.there; has = able.has } in
       let found = firing-end actor lowered x tokens a able.action ready fine first state in
       let ends : IsEffect found.0.outcome = (lowered.right.firings a able.action able.there).ends (cells_of actor x) (taken actor tokens a)
-          found.0.outcome found.0.cells (asked-at-first actor lowered x tokens a able.action ready state) found.2 in
+      found.0.outcome found.0.cells (asked-at-first actor lowered x tokens a able.action ready state) found.2 in
       let is : effect_of_body actor x tokens a ≡ effect_of_end actor x a able.action (Some found.0) =
-          ap (λ o. elim o [ None ↦ None | Some action ↦ effect_of_end actor x a action (end_of actor.code action.fire (cells_of actor x) (taken actor tokens a)) ]) able.there
-          ∙ ap (effect_of_end actor x a able.action) found.1 in
+      ap (λ o. elim o [ None ↦ None | Some action ↦ effect_of_end actor x a action (end_of actor.code action.fire (cells_of actor x) (taken actor tokens a)) ]) able.there
+      ∙ ap (effect_of_end actor x a able.action) found.1 in
       subst Acts (sym is) (by able.action found.0.outcome found.0.cells ends)
     where
       by : (action : Action) (o : Outcome) (cells : List ℤ) → IsEffect o → Acts (effect_of_outcome actor x a action o cells)
@@ -206,7 +206,7 @@ module _ (actor : Actor) (lowered : IsLowered actor) (fine : StepsAreFine) (firs
         by : (o : Option Action) → slice_get actor.actions a ≡ o → need_of o p ≡ 0
         by None there = refl
         by (Some action) there =
-            let size : length action.needs ≡ actor.ins = (lowered.fits.each a action there).needs in
+            let size : length action.needs ≡ actor.ins = (all-at (Fits actor) actor.actions a action lowered.fits.each there).needs in
             past-zero action.needs p (omega (arith, size, high))
 
     taken-same : (a : ℕ) → taken actor (tokens_on tokens) a ≡ taken actor (tokens_on others) a

@@ -1,9 +1,9 @@
 -- The end of a run: there is one, and it doesn't depend on the cells behind the state cells.
 use Rattle.std.proofs.Common.{◌≡◌, ◌≢◌, ℕ, zero, suc, ◌+◌, ◌-◌, ◌<◌, ◌≤◌, ◌⊎◌, inl, inr, min, ℤ, Bool, true, false, ◌&&◌, List, [], ◌∷◌, ◌++◌, length, take, drop, refl, sym, ap, subst, ◌∙◌, arith, Option, None, Some}
-use Rattle.std.specs.Prelude.{Contains, nat_le, ◌==◌, slice_get, slice_index_or}
+use Rattle.std.specs.Prelude.{All, Contains, nat_le, ◌==◌, slice_get, slice_index_or}
 use Rattle.std.proofs.lemmas.Bool.{leb-true, le-leb, eqb-true, cases_lt}
 use Rattle.std.proofs.lemmas.List.{length-append, length-drop, length-take-le, take-append-le, take_all}
-use Rattle.std.proofs.lemmas.Option.{slice_get_past}
+use Rattle.std.proofs.lemmas.Option.{slice_get_past, slice_get_within, get_or_from_slice_get}
 use Rattle.code_ir.specs.declared.outcome.Outcome.{Outcome}
 use Rattle.code_ir.specs.declared.outcome.Outcome.TheVariants as outcome
 use Rattle.code_ir.specs.Code.{Code, is_among}
@@ -21,6 +21,14 @@ StepsAreFine = (code : Code) (tokens : ℕ → List ℤ) (s : State) → IsAdmit
 
 abbrev pub StartStands : Type 0
 StartStands = (code : Code) (e : ℕ) (cells : List ℤ) → IsAdmitted code → is_among e code.entries ≡ true → length cells ≡ code.cells → Stands code (start e cells)
+
+-- ---- what holds of each element
+
+pub all-at : {A : Type 0} (P : A → Type 0) (xs : List A) (k : ℕ) (x : A) → All P xs → slice_get xs k ≡ Some x → P x
+all-at P xs k x all is = subst P (get_or_from_slice_get xs k x x is) (all k x (slice_get_within xs k x is))
+
+pub all-among : {A : Type 0} (P : A → Type 0) (xs : List A) (x : A) → All P xs → Contains xs x → P x
+all-among P xs x all (k, low, is) = subst P is (all k x low)
 
 -- ---- there is an end
 
@@ -82,7 +90,7 @@ state-cells actor x h = eqb-true _ _ (both-true (nat_le (suc x.at) actor.fsm.sta
 module _ (actor : Actor) (lowered : IsLowered actor) (x : ActorState) (tokens : ℕ → List ℤ) (a : ℕ) (action : Action)
     (ready : IsReady actor tokens a action) where
   fits : Fits actor action
-  fits = lowered.fits.each a action ready.there
+  fits = all-at (Fits actor) actor.actions a action lowered.fits.each ready.there
 
   takes : (p : ℕ) → length (taken actor tokens a p) ≡ number_on action.needs p
   takes p = by-case (cases_lt p actor.ins)
@@ -125,7 +133,7 @@ module _ (actor : Actor) (lowered : IsLowered actor) (x : ActorState) (tokens : 
       → (end : End) × (end_of actor.code entry (cells_of actor x) (taken actor tokens a) ≡ Some end)
       × runs actor.code entry (cells_of actor x) (taken actor tokens a) end.outcome end.cells
   guard-end fine first state entry among =
-      has-end actor.code entry (cells_of actor x) (taken actor tokens a) fine first lowered.admitted (fits.guards entry among) (size-of-cells state)
+      has-end actor.code entry (cells_of actor x) (taken actor tokens a) fine first lowered.admitted (all-among (λ e. is_among e actor.code.entries ≡ true) action.guards entry fits.guards among) (size-of-cells state)
       ((lowered.right.guards a action entry ready.there among).reads (cells_of actor x) (taken actor tokens a) (asked-at-first state))
 
   pub firing-end : StepsAreFine → StartStands → is_state actor x ≡ true
@@ -155,7 +163,7 @@ module _ (actor : Actor) (lowered : IsLowered actor) (x : ActorState) (tokens : 
       let found = firing-end fine first are.state in
       let firing : IsFiring actor action action.fire = lowered.right.firings a action ready.there in
       let alike = firing.alike (cells_of actor x) cells (taken actor tokens a) found.0.outcome o found.0.cells left
-          (asked-at-first are.state) (asked cells are.size) (same-state cells are) found.2 run in
+      (asked-at-first are.state) (asked cells are.size) (same-state cells are) found.2 run in
       record {
         end = found.0;
         is = found.1;

@@ -186,7 +186,15 @@ module _ (actor : Actor) (action : Action) (firing : Bool) (tokens : ℕ → Lis
       → (o ≡ outcome.Done → (c : ℕ) → (cell s.cells c ≡ cell t.cells c) ⊎ (stores c line ≡ true) → cell s.cells c ≡ cell t.cells c)
       → Ended line s t
   over line s t o e f right same sent = record {
-    o = o; left = s.cells; last = t.cells; one = stop e; other = stop f; right = right; same = same; size = refl; sent = sent;
+    o = o;
+    left = s.cells;
+    last = t.cells;
+    one = stop e;
+    other = stop f;
+    right = right;
+    same = same;
+    size = refl;
+    sent = sent;
     keeps = λ c h. refl;
     reads = λ u r. by u r;
   }
@@ -206,8 +214,8 @@ module _ (actor : Actor) (action : Action) (firing : Bool) (tokens : ℕ → Lis
       → is_end instr ≡ false → take actor.kept cs ≡ take actor.kept ds
       → IsSafe (at place stack cs) → Alike instr cs ds e f
       → ((stack' cs' ds' : List ℤ) → Moved instr cs ds cs' ds' → step code tokens (at place stack cs) ≡ Goes (at (place + 1) stack' cs')
-          → step code tokens (at place stack ds) ≡ Goes (at (place + 1) stack' ds')
-          → Ended line (at (place + 1) stack' cs') (at (place + 1) stack' ds'))
+      → step code tokens (at place stack ds) ≡ Goes (at (place + 1) stack' ds')
+      → Ended line (at (place + 1) stack' cs') (at (place + 1) stack' ds'))
       → Ended (instr ∷ line) (at place stack cs) (at place stack ds)
   then-line instr line place stack cs ds _ _ g h plain same safe (leaves stack' cs' ds' moved) rest =
       let ends = rest stack' cs' ds' moved g h in
@@ -278,7 +286,7 @@ module _ (actor : Actor) (action : Action) (firing : Bool) (tokens : ℕ → Lis
     goes instr is plain ok e f g h alike =
         then-line instr line place stack cs ds e f (fetch instr place stack cs is ∙ g) (fetch instr place stack ds is ∙ h) plain same safe alike
         (λ stack' cs' ds' moved k l. rest stack' cs' ds' ok moved.same (moved.size ∙ (sizes ∙ sym moved.other_size))
-            (safe-next (at place stack cs) (at (place + 1) stack' cs') safe k) (safe-next (at place stack ds) (at (place + 1) stack' ds') safe' l))
+        (safe-next (at place stack cs) (at (place + 1) stack' cs') safe k) (safe-next (at place stack ds) (at (place + 1) stack' ds') safe' l))
 
     quiet : (instr : Instr) → ((c : ℕ) → is_store c instr ≡ true → ⊥) → Moved instr cs ds cs ds
     quiet instr none = still instr cs ds none same

@@ -17,7 +17,7 @@ pub record Fits (actor : Actor) (action : Action) : Type 0 where
   pub needs : length action.needs ≡ actor.ins
   pub gives : length action.gives ≡ actor.outs
   pub sends : length action.sends ≡ actor.outs
-  pub guards : (entry : ℕ) → Contains action.guards entry → is_among entry actor.code.entries ≡ true
+  pub guards : All (λ entry. is_among entry actor.code.entries ≡ true) action.guards
   pub fire : is_among action.fire actor.code.entries ≡ true
   pub sent : (p : ℕ) → p < actor.outs → number_on action.sends p + number_on action.gives p ≤ actor.code.cells
 
@@ -32,8 +32,8 @@ pub record FitTogether (actor : Actor) : Type 0 where
   pub first : length actor.first ≡ actor.code.cells
   pub start : actor.start < actor.fsm.states
   pub kept : actor.kept ≤ actor.code.cells
-  pub saved : (cell : ℕ) → IsSaved actor cell → cell < actor.kept
-  pub each : (a : ℕ) (action : Action) → slice_get actor.actions a ≡ Some action → Fits actor action
+  pub saved : All (λ saved. saved.cell < actor.kept) actor.saved
+  pub each : All (Fits actor) actor.actions
 
 -- ---- runs
 

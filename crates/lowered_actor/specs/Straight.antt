@@ -1,6 +1,7 @@
 -- Straight lines of code: bodies without jumps, loops and calls. Whether such a body keeps the facts of guards and
 -- firings can be seen from its instructions.
 use Rattle.std.specs.Prelude.{◌≡◌, ℕ, zero, suc, ◌+◌, ◌==◌, Bool, true, false, ◌&&◌, ◌||◌, List, [], ◌∷◌, drop, nat_le, if◌then◌else◌}
+use Rattle.std.specs.List.{list_all}
 use Rattle.code_ir.specs.declared.instr.Instr.{Instr}
 use Rattle.code_ir.specs.declared.instr.Instr.TheVariants as op
 use Rattle.lowered_actor.specs.declared.parts.StateCell.{StateCell}
@@ -80,12 +81,12 @@ abbrev pub is_straight_firing : Actor → Action → Bool
 is_straight_firing actor action =
     is_line actor action true (body_at actor action.fire) && stores_sent action actor.outs (body_at actor action.fire)
 
-abbrev pub are_straight_guards : Actor → Action → List ℕ → Bool
-are_straight_guards actor action [] = true
-are_straight_guards actor action (entry ∷ entries) =
-    is_straight_guard actor action entry && are_straight_guards actor action entries
+abbrev pub are_straight_guards : Actor → Action → Bool
+are_straight_guards actor action = list_all (is_straight_guard actor action) action.guards
 
-abbrev pub are_straight : Actor → List Action → Bool
-are_straight actor [] = true
-are_straight actor (action ∷ actions) =
-    (are_straight_guards actor action action.guards && is_straight_firing actor action) && are_straight actor actions
+-- each guard of the action, and its firing
+abbrev pub is_straight : Actor → Action → Bool
+is_straight actor action = are_straight_guards actor action && is_straight_firing actor action
+
+abbrev pub are_straight : Actor → Bool
+are_straight actor = list_all (is_straight actor) actor.actions

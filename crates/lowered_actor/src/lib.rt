@@ -7,10 +7,13 @@
 #![tactic(auto)]
 
 mod candidates;
+mod fitting;
 pub mod laws;
 mod lowered;
 mod parts;
 mod straight;
+#[cfg(test)]
+mod tests;
 
-pub use lowered::Lowered;
+pub use lowered::{Lowered, Unfit};
 pub use parts::{ActionCode, Parts, StateCell};

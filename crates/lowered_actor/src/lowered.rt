@@ -15,6 +15,17 @@ use schedule_fsm::Fsm;
 use std::alloc::Global;
 use std::marker::Model;
 
+/// Why parts that were written by hand make no lowered actor.
+#[derive(Clone, Copy, Debug, PartialEq, Eq)]
+pub enum Unfit {
+    /// The parts are of different actions, or a number is out of range.
+    DoNotFit,
+    /// The code of a guard or a firing is no straight line that keeps the facts.
+    NotStraight,
+    /// An allocation was refused.
+    Memory,
+}
+
 /// An actor as code, with its automaton, its order and its rates. It keeps the facts of `specs/Facts.antt`.
 #[derive(Drop)]
 pub struct Lowered {
@@ -54,6 +65,27 @@ impl Lowered {
             return Err(Memory);
         };
         Ok(Lowered { parts, candidates })
+    }
+
+    /// The same of parts that were written by hand, whose facts are tested.
+    ///
+    /// # Errors
+    ///
+    /// `DoNotFit` and `NotStraight` where [`Parts::fit`] and [`Parts::are_straight`] say so. `Memory` where an
+    /// allocation was refused.
+    pub fn of_straight_lines(alloc: Global, parts: Parts) -> Result<Lowered, Unfit>
+        ensures { IfOk result (λ lowered. lowered ≡ actor_of parts) }
+    {
+        if !parts.fit() {
+            return Err(Unfit::DoNotFit);
+        }
+        if !parts.are_straight() {
+            return Err(Unfit::NotStraight);
+        }
+        let Ok(lowered) = Lowered::new(alloc, parts) else {
+            return Err(Unfit::Memory);
+        };
+        Ok(lowered)
     }
 
     /// The code of its guards and firings.
