@@ -25,14 +25,14 @@ pub enum Choice {
 /// The first action of the line that is eligible in the state, has its tokens, and whose guards aren't false.
 ///
 /// Only the actions that are eligible in the state are looked at. The state cells and the tokens stay as they are.
-pub fn select<T: Tokens>(l: &Lowered, cells: &mut Cells, state: u16, tokens: &T) -> Choice
-    requires made { IsMadeFor l.now.code cells.old }
-    requires state { state < l.now.fsm.states }
-    ensures choice { chosen_of result ≡ choice l.now (state_of l.now state cells.old.numbers) (T.tokens tokens.now) }
-    ensures keeps { KeepsState l.now cells.old cells.new }
+pub fn select<T: Tokens>(actor: &Lowered, cells: &mut Cells, state: u16, tokens: &T) -> Choice
+    requires made { IsMadeFor actor.now.code cells.old }
+    requires state { state < actor.now.fsm.states }
+    ensures choice { chosen_of result ≡ choice actor.now (state_of actor.now state cells.old.numbers) (T.tokens tokens.now) }
+    ensures keeps { KeepsState actor.now cells.old cells.new }
 {
-    for &a in l.candidates(state) {
-        match readiness(l, a, cells, state, tokens) {
+    for &a in actor.candidates(state) {
+        match readiness(actor, a, cells, state, tokens) {
             Ready::True => return Choice::Fire(ActId(a)),
             Ready::False => {}
             Ready::Trap(trap) => return Choice::Trap(ActId(a), trap),

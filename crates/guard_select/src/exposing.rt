@@ -14,20 +14,20 @@ use lowered_actor::Lowered;
 /// Whether an action is eligible, has its tokens, and no action above it is enabled.
 ///
 /// The state cells and the tokens stay as they are.
-pub fn is_exposed<T: Tokens>(l: &Lowered, a: u16, cells: &mut Cells, state: u16, tokens: &T) -> bool
-    requires made { IsMadeFor l.now.code cells.old }
-    requires state { state < l.now.fsm.states }
-    requires action { a < length l.now.actions }
-    ensures exposed { result ≡ is_exposed l.now (state_of l.now state cells.old.numbers) (T.tokens tokens.now) a }
-    ensures keeps { KeepsState l.now cells.old cells.new }
+pub fn is_exposed<T: Tokens>(actor: &Lowered, a: u16, cells: &mut Cells, state: u16, tokens: &T) -> bool
+    requires made { IsMadeFor actor.now.code cells.old }
+    requires state { state < actor.now.fsm.states }
+    requires action { a < length actor.now.actions }
+    ensures exposed { result ≡ is_exposed actor.now (state_of actor.now state cells.old.numbers) (T.tokens tokens.now) a }
+    ensures keeps { KeepsState actor.now cells.old cells.new }
 {
     // it tells that the automaton and the order are of the actor's actions
-    let _code = l.code();
-    if !l.fsm().eligible(state, a) || !has_its_tokens(l, a, tokens) {
+    let _code = actor.code();
+    if !actor.fsm().eligible(state, a) || !has_its_tokens(actor, a, tokens) {
         return false;
     }
-    for &b in l.candidates(state) {
-        if l.order().above(b, a) && readiness(l, b, cells, state, tokens) == Ready::True {
+    for &b in actor.candidates(state) {
+        if actor.order().above(b, a) && readiness(actor, b, cells, state, tokens) == Ready::True {
             return false;
         }
     }

@@ -26,33 +26,33 @@ pub enum Ready {
 /// What the guards of an action that is eligible say. Where it lacks tokens no guard is run.
 ///
 /// The state cells and the tokens stay as they are.
-pub fn readiness<T: Tokens>(l: &Lowered, a: u16, cells: &mut Cells, state: u16, tokens: &T) -> Ready
-    requires made { IsMadeFor l.now.code cells.old }
-    requires state { state < l.now.fsm.states }
-    requires action { a < length l.now.actions }
-    requires eligible { is_eligible l.now state a ≡ true }
-    ensures says { guards_of result ≡ readiness l.now (state_of l.now state cells.old.numbers) (T.tokens tokens.now) a }
-    ensures keeps { KeepsState l.now cells.old cells.new }
+pub fn readiness<T: Tokens>(actor: &Lowered, a: u16, cells: &mut Cells, state: u16, tokens: &T) -> Ready
+    requires made { IsMadeFor actor.now.code cells.old }
+    requires state { state < actor.now.fsm.states }
+    requires action { a < length actor.now.actions }
+    requires eligible { is_eligible actor.now state a ≡ true }
+    ensures says { guards_of result ≡ readiness actor.now (state_of actor.now state cells.old.numbers) (T.tokens tokens.now) a }
+    ensures keeps { KeepsState actor.now cells.old cells.new }
 {
-    if !has_its_tokens(l, a, tokens) {
+    if !has_its_tokens(actor, a, tokens) {
         return Ready::False;
     }
-    guards(l, a, cells, state, tokens)
+    guards(actor, a, cells, state, tokens)
 }
 
 /// The same of an action that has its tokens.
-fn guards<T: Tokens>(l: &Lowered, a: u16, cells: &mut Cells, state: u16, tokens: &T) -> Ready
-    requires made { IsMadeFor l.now.code cells.old }
-    requires state { state < l.now.fsm.states }
-    requires action { a < length l.now.actions }
-    requires eligible { is_eligible l.now state a ≡ true }
-    requires has { has_its_tokens l.now (T.tokens tokens.now) a ≡ true }
-    ensures says { guards_of result ≡ readiness l.now (state_of l.now state cells.old.numbers) (T.tokens tokens.now) a }
-    ensures keeps { KeepsState l.now cells.old cells.new }
+fn guards<T: Tokens>(actor: &Lowered, a: u16, cells: &mut Cells, state: u16, tokens: &T) -> Ready
+    requires made { IsMadeFor actor.now.code cells.old }
+    requires state { state < actor.now.fsm.states }
+    requires action { a < length actor.now.actions }
+    requires eligible { is_eligible actor.now state a ≡ true }
+    requires has { has_its_tokens actor.now (T.tokens tokens.now) a ≡ true }
+    ensures says { guards_of result ≡ readiness actor.now (state_of actor.now state cells.old.numbers) (T.tokens tokens.now) a }
+    ensures keeps { KeepsState actor.now cells.old cells.new }
 {
     laws::runs_are_the_meaning();
-    let code = l.code();
-    let action = l.action(a);
+    let code = actor.code();
+    let action = actor.action(a);
     let taken = Taken {
         tokens,
         needs: &action.needs,
