@@ -57,6 +57,20 @@ impl Model for Fsm {
 }
 
 impl Fsm {
+    /// How many states it has.
+    pub fn states(&self) -> u16
+        ensures { result ≡ self.now.states }
+    {
+        self.states
+    }
+
+    /// How many actions it has.
+    pub fn actions(&self) -> usize
+        ensures { result ≡ self.now.actions }
+    {
+        self.actions
+    }
+
     /// Whether `action` is eligible in `state`.
     pub fn eligible(&self, state: u16, action: u16) -> bool
         requires state_in_range { state < self.now.states }

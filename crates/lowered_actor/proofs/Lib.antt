@@ -1,0 +1,7 @@
+pub mod Running
+pub mod Choosing
+pub mod Lawful
+pub mod Rows
+pub mod Loops
+pub mod StraightRuns
+pub mod StraightFacts
