@@ -60,7 +60,7 @@ fits_like code callable limit base end out from to far f g p i h here next jump 
 }
 
 -- an element of two lists stands in the first or in the second
-get_append : (a b : List Instr) (j : ℕ) (i : Instr) → slice_get (a ++ b) j ≡ Some i → ((j < length a) × (slice_get a j ≡ Some i)) ⊎ ((k : ℕ) × (j ≡ length a + k) × (slice_get b k ≡ Some i))
+pub get_append : (a b : List Instr) (j : ℕ) (i : Instr) → slice_get (a ++ b) j ≡ Some i → ((j < length a) × (slice_get a j ≡ Some i)) ⊎ ((k : ℕ) × (j ≡ length a + k) × (slice_get b k ≡ Some i))
 get_append [] b j i e = inr (j, omega arith, e)
 get_append (x ∷ a) b zero i e = inl (omega arith, e)
 get_append (x ∷ a) b (suc j) i e =

@@ -13,3 +13,5 @@ pub mod Adding
 pub mod Linked
 pub mod Literals
 pub mod Weights
+pub mod Back
+pub mod Admits

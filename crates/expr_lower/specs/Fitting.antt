@@ -1,5 +1,5 @@
 -- What the typing lines of code ask of a part of it.
-use Rattle.std.specs.Prelude.{◌≡◌, ℕ, ◌+◌, ◌-◌, ◌<◌, ◌≤◌, ◌⊎◌, true, List, length, Some, slice_get}
+use Rattle.std.specs.Prelude.{◌≡◌, ℕ, ◌+◌, ◌-◌, ◌<◌, ◌≤◌, ◌⊎◌, true, List, [], ◌∷◌, ◌++◌, length, Some, slice_get}
 use Rattle.code_ir.specs.declared.instr.Instr.{Instr}
 use Rattle.code_ir.specs.declared.instr.Instr.TheVariants as op
 use Rattle.code_ir.specs.Code.{Code}
@@ -32,3 +32,7 @@ pub record Fits (code : Code) (callable limit base h : ℕ) (instrs : List Instr
   pub last : height (base + length instrs) ≡ k
   pub exit : height out ≡ e
   pub at : (j : ℕ) (i : Instr) → slice_get instrs j ≡ Some i → FitsAt code callable limit base (base + length instrs) out height (base + j) i
+
+-- a guard's code: these instructions, and then the answer
+abbrev pub guard_of : List Instr → ℕ → Code
+guard_of instrs cells = record { instrs = instrs ++ op.Answer ∷ []; routines = []; entries = 0 ∷ []; cells = cells }

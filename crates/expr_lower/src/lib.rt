@@ -5,6 +5,7 @@
 
 mod draft;
 mod fault;
+pub mod laws;
 mod lower;
 mod names;
 mod operators;
