@@ -1,3 +1,0 @@
-pub mod Takes
-pub mod Says
-pub mod Lines
