@@ -2,7 +2,11 @@
 use Rattle.std.proofs.Common.{◌≡◌, ℕ, zero, suc, ◌+◌, ◌<◌, ◌≤◌, ◌⊎◌, inl, inr, ℤ, Bool, true, false, ◌&&◌, List, [], ◌∷◌, length, take, refl, sym, ap, subst, ◌∙◌, arith, Option, None, Some}
 use Rattle.std.specs.Prelude.{nat_le, slice_get}
 use Rattle.std.proofs.lemmas.Bool.{leb-true, le-leb, cases_lt}
+use Rattle.std.specs.Prelude.{slice_index_or}
+use Rattle.std.proofs.lemmas.List.{get_or_default}
+use Rattle.std.proofs.lemmas.Option.{get_or_from_slice_get, slice_get_within}
 use Rattle.lowered_actor.specs.Actor.{Action, Actor, number_on}
+use Rattle.lowered_actor.specs.Facts.{Fits, IsLowered}
 use Rattle.lowered_actor.specs.Meaning.{has_on_first, has_its_tokens, need, taken}
 use Rattle.guard_select.specs.Selecting.{first_of}
 
@@ -56,3 +60,11 @@ taken-is actor tokens a action there = sym (pointwise (λ p. ap (λ n. take n (t
   where
     pointwise : ((p : ℕ) → taken actor tokens a p ≡ first_of action.needs tokens p) → taken actor tokens a ≡ first_of action.needs tokens
     pointwise h = λ i p. h p i
+
+-- the number that is read for a port
+pub read-number : (actor : Actor) (a : ℕ) (action : Action) (p n : ℕ) → IsLowered actor → slice_get actor.actions a ≡ Some action → p < actor.ins
+    → n ≡ slice_index_or action.needs p n → n ≡ number_on action.needs p
+read-number actor a action p n lowered there low is =
+    let fits : Fits actor action = subst (Fits actor) (get_or_from_slice_get actor.actions a action action there) (lowered.fits.each a action (slice_get_within actor.actions a action there)) in
+    let size : length action.needs ≡ actor.ins = fits.needs in
+    is ∙ get_or_default action.needs p n 0 (omega (arith, low, size))

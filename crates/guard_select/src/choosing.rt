@@ -31,6 +31,8 @@ pub fn select<T: Tokens>(actor: &Lowered, cells: &mut Cells, state: u16, tokens:
     ensures choice { chosen_of result ≡ choice actor.now (state_of actor.now state cells.old.numbers) (T.tokens tokens.now) }
     ensures keeps { KeepsState actor.now cells.old cells.new }
 {
+    // it tells the facts of lowered actors
+    let _code = actor.code();
     for &a in actor.candidates(state) {
         match readiness(actor, a, cells, state, tokens) {
             Ready::True => return Choice::Fire(ActId(a)),

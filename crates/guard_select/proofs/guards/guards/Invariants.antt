@@ -9,6 +9,6 @@ abbrev pub invariant-loop-entry : goal.invariant-loop-entry
 invariant-loop-entry g l = record {
   made : IsMadeFor l.actor.code l.cells;
   state : take l.actor.kept l.cells.numbers ≡ take l.actor.kept l.initial.cells.numbers;
-  says : guards_say l.actor.code (cells_of l.actor (state_of l.actor l.state l.initial.cells.numbers)) (taken l.actor (g.T.Tokens.tokens l.tokens) l.a) (drop l.entry-index l.action.guards.items)
-      ≡ guards_say l.actor.code (cells_of l.actor (state_of l.actor l.state l.initial.cells.numbers)) (taken l.actor (g.T.Tokens.tokens l.tokens) l.a) l.action.guards.items;
+  says : guards_say l.actor.code (cells_of l.actor (state_of l.actor l.state l.initial.cells.numbers)) (taken l.actor (g.T.Tokens.tokens l.tokens) l.a) (drop l.entry-index l.entry-items)
+      ≡ guards_say l.actor.code (cells_of l.actor (state_of l.actor l.state l.initial.cells.numbers)) (taken l.actor (g.T.Tokens.tokens l.tokens) l.a) l.entry-items;
 }
