@@ -1,6 +1,6 @@
 -- The choice among the candidates is that among all actions.
 use Rattle.std.proofs.Common.{◌≡◌, ℕ, zero, suc, ◌+◌, ◌<◌, ◌≤◌, ◌⊎◌, inl, inr, ℤ, Bool, true, false, not, ◌&&◌, ◌||◌, List, [], ◌∷◌, length, take, drop, refl, sym, ap, subst, ◌∙◌, arith}
-use Rattle.std.specs.Prelude.{All, if◌then◌else◌, slice_index_or}
+use Rattle.std.specs.Prelude.{All, IsSome, Option, None, Some, is_some, if◌then◌else◌, slice_index_or}
 use Rattle.std.specs.List.{filter}
 use Rattle.std.proofs.lemmas.List.{drop_more, drop_all, get_or_default}
 use Rattle.std.proofs.lemmas.List.Elements.{filter_passes}
@@ -125,9 +125,9 @@ module _ (actor : Actor) (s : ℕ) (first : List ℤ) (tokens : ℕ → List ℤ
   outranked-at now a k kept low above enabled so_far =
       let here : true ≡ are_true (ready (slice_index_or items k 0)) = enabled ∙ ap (λ cs. are_true (readiness actor (record { at = s; cells = cs }) tokens (slice_index_or items k 0))) kept in
       let found : is_outranked actor ready a (drop k items) ≡ true =
-          outranked-from actor ready a items k (slice_index_or items k 0) low (place k low)
-          ∙ (ap (λ b. (b && are_true (ready (slice_index_or items k 0))) || is_outranked actor ready a (drop (k + 1) items)) above
-          ∙ ap (λ b. b || is_outranked actor ready a (drop (k + 1) items)) (sym here)) in
+      outranked-from actor ready a items k (slice_index_or items k 0) low (place k low)
+      ∙ (ap (λ b. (b && are_true (ready (slice_index_or items k 0))) || is_outranked actor ready a (drop (k + 1) items)) above
+      ∙ ap (λ b. b || is_outranked actor ready a (drop (k + 1) items)) (sym here)) in
       sym (exposed-by a true (sym (outranked-so a k so_far) ∙ found) ∙ and-no (is_eligible actor s a && has_its_tokens actor tokens a))
 
   pub exposed-at-last : (a k : ℕ) → length items ≤ k → is_eligible actor s a ≡ true → has_its_tokens actor tokens a ≡ true
@@ -135,3 +135,7 @@ module _ (actor : Actor) (s : ℕ) (first : List ℤ) (tokens : ℕ → List ℤ
   exposed-at-last a k high eligible has so_far =
       sym (exposed-by a false (sym (outranked-so a k so_far) ∙ ap (is_outranked actor ready a) (drop_all k items high))
       ∙ (ap (λ b. (b && has_its_tokens actor tokens a) && true) eligible ∙ ap (λ b. b && true) has))
+
+pub some-is : (o : Option ℕ) → IsSome o → is_some o ≡ true
+some-is None h = absurd (grind arith)
+some-is (Some n) h = refl

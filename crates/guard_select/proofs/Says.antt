@@ -70,7 +70,7 @@ module _ (actor : Actor) (x : ActorState) (tokens : ℕ → List ℤ) (a : ℕ) 
       let ends = guard-ends law entry o left (among-at action.guards k entry low is) run in
       let rest : Guards = guards_say actor.code (cells_of actor x) (taken actor tokens a) (drop (k + 1) action.guards) in
       let here : drop k action.guards ≡ entry ∷ drop (k + 1) action.guards =
-          drop_more action.guards k entry low ∙ ap (λ e. e ∷ drop (k + 1) action.guards) (sym is) in
+      drop_more action.guards k entry low ∙ ap (λ e. e ∷ drop (k + 1) action.guards) (sym is) in
       ap (guards_say actor.code (cells_of actor x) (taken actor tokens a)) here
       ∙ (ap (λ end. guard_then end rest) ends.is ∙ ap (λ p. outcome_then p rest) ends.same)
 

@@ -14,7 +14,13 @@ use lowered_actor::Lowered;
 /// Whether an action is eligible, has its tokens, and no action above it is enabled.
 ///
 /// The state cells and the tokens stay as they are.
-pub fn is_exposed<T: Tokens>(actor: &Lowered, a: u16, cells: &mut Cells, state: u16, tokens: &T) -> bool
+pub fn is_exposed<T: Tokens>(
+    actor: &Lowered,
+    a: u16,
+    cells: &mut Cells,
+    state: u16,
+    tokens: &T,
+) -> bool
     requires made { IsMadeFor actor.now.code cells.old }
     requires state { state < actor.now.fsm.states }
     requires action { a < length actor.now.actions }

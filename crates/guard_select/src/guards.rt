@@ -26,7 +26,13 @@ pub enum Ready {
 /// What the guards of an action that is eligible say. Where it lacks tokens no guard is run.
 ///
 /// The state cells and the tokens stay as they are.
-pub fn readiness<T: Tokens>(actor: &Lowered, a: u16, cells: &mut Cells, state: u16, tokens: &T) -> Ready
+pub fn readiness<T: Tokens>(
+    actor: &Lowered,
+    a: u16,
+    cells: &mut Cells,
+    state: u16,
+    tokens: &T,
+) -> Ready
     requires made { IsMadeFor actor.now.code cells.old }
     requires state { state < actor.now.fsm.states }
     requires action { a < length actor.now.actions }

@@ -21,7 +21,11 @@ impl<'a> Tokens for Line<'a> {
 
     fn count(&self, _port: u32) -> u32 {
         let most = u32::MAX as usize;
-        if self.tokens.len() <= most { self.tokens.len() as u32 } else { u32::MAX }
+        if self.tokens.len() <= most {
+            self.tokens.len() as u32
+        } else {
+            u32::MAX
+        }
     }
 
     fn at(&self, _port: u32, k: u32) -> Num {
@@ -92,10 +96,26 @@ fn actions(alloc: Global) -> Result<Vec<ActionCode>, Memory> {
 
 /// Actions 0, 1 and 3 are eligible in state 0, action 2 in state 1.
 const STEPS: [Step; 4] = [
-    Step { from: 0, action: 0, to: 0 },
-    Step { from: 0, action: 1, to: 0 },
-    Step { from: 1, action: 2, to: 0 },
-    Step { from: 0, action: 3, to: 1 },
+    Step {
+        from: 0,
+        action: 0,
+        to: 0,
+    },
+    Step {
+        from: 0,
+        action: 1,
+        to: 0,
+    },
+    Step {
+        from: 1,
+        action: 2,
+        to: 0,
+    },
+    Step {
+        from: 0,
+        action: 3,
+        to: 1,
+    },
 ];
 
 fn automaton(alloc: Global) -> Result<Fsm, Memory> {
@@ -121,7 +141,12 @@ fn actor(alloc: Global) -> Result<Lowered, Memory> {
 }
 
 /// What is chosen in a state, and whether action 1 is exposed.
-fn answer(alloc: Global, actor: &Lowered, state: u16, tokens: &[Num]) -> Result<(Choice, bool), Memory> {
+fn answer(
+    alloc: Global,
+    actor: &Lowered,
+    state: u16,
+    tokens: &[Num],
+) -> Result<(Choice, bool), Memory> {
     let mut cells = cells(alloc, actor.code())?;
     let tokens = Line { tokens };
     if state >= actor.fsm().states() || actor.actions() < 2 {

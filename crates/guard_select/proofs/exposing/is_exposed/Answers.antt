@@ -1,8 +1,8 @@
 use Rattle.std.proofs.Common.{◌≡◌, ◌∙◌, true, subst, sym}
 use Rattle.std.specs.Prelude.{slice_index_or, is_some}
 use Rattle.priority_order.specs.Ranking.{Ranking, is_above}
-use Rattle.lowered_actor.specs.Meaning.{is_eligible}
-use Rattle.guard_select.proofs.Lines.{eligible-at, outranked-at, exposed-at-last}
+use Rattle.schedule_fsm.specs.Automaton.{Automaton, target}
+use Rattle.guard_select.proofs.Lines.{eligible-at, outranked-at, exposed-at-last, some-is}
 use Rattle.guard_select.proofs.exposing.is_exposed.Goals as goal
 
 pub is_enabled-requires-clause-eligible : goal.is_enabled-requires-clause-eligible
@@ -19,4 +19,4 @@ returns-then-is_enabled-clause-exposed g c =
 pub returns-clause-exposed : goal.returns-clause-exposed
 returns-clause-exposed g c =
     exposed-at-last c.args.actor.now c.args.state c.args.cells.now.numbers (g.T.Tokens.tokens c.args.tokens.now) c.candidates-b-items.result.now c.candidates-b-items.ensures.eligible
-    c.args.a c.loop-b.b-index c.loop-b-test.false (let e = c.eligible.ensures in let t = c.if-not-eligible.false in ?) (sym c.has_its_tokens.ensures ∙ c.if-not-has_its_tokens.false) c.loop-b.invariant.outranked
+    c.args.a c.loop-b.b-index c.loop-b-test.false (subst (λ (f : Automaton). is_some (target f c.args.state c.args.a) ≡ true) c.fsm.ensures (some-is (target c.fsm.result.now c.args.state c.args.a) (c.eligible.ensures.0 c.if-not-eligible.false))) (sym c.has_its_tokens.ensures ∙ c.if-not-has_its_tokens.false) c.loop-b.invariant.outranked

@@ -38,11 +38,11 @@ pub returns-in-Trap-clause-keeps : goal.returns-in-Trap-clause-keeps
 returns-in-Trap-clause-keeps g c = record {
   made = subst (λ (d : Code). IsMadeFor d c.run.new.cells) c.code-code.ensures.code c.run.ensures.made;
   state = turn-keeps c.args.actor.now c.code-code.ensures.facts c.args.state c.requires.state (g.T.Tokens.tokens c.args.tokens.now) c.args.a (action_of c.action-action.result.now)
-    (record { there = c.action-action.ensures; has = c.requires.has }) c.requires.eligible c.runs_are_the_meaning.ensures.asked c.runs_are_the_meaning.ensures.guards
-    c.args.cells.now.numbers c.requires.made.size c.loop-entry.cells.numbers c.loop-entry.invariant.made.size c.loop-entry.invariant.state
-    c.deref-entry-items.result.now c.deref-entry-items.ensures.value c.loop-entry.entry-index c.loop-entry-test.true
-    c.code-code.result.now c.code-code.ensures.code c.deref.result.now c.deref.ensures.value
-    c.run.result c.run.new.cells.numbers c.run.ensures.runs;
+      (record { there = c.action-action.ensures; has = c.requires.has }) c.requires.eligible c.runs_are_the_meaning.ensures.asked c.runs_are_the_meaning.ensures.guards
+      c.args.cells.now.numbers c.requires.made.size c.loop-entry.cells.numbers c.loop-entry.invariant.made.size c.loop-entry.invariant.state
+      c.deref-entry-items.result.now c.deref-entry-items.ensures.value c.loop-entry.entry-index c.loop-entry-test.true
+      c.code-code.result.now c.code-code.ensures.code c.deref.result.now c.deref.ensures.value
+      c.run.result c.run.new.cells.numbers c.run.ensures.runs;
 }
 
 pub returns-in_default-clause-says : goal.returns-in_default-clause-says
@@ -58,28 +58,28 @@ pub returns-in_default-clause-keeps : goal.returns-in_default-clause-keeps
 returns-in_default-clause-keeps g c = record {
   made = subst (λ (d : Code). IsMadeFor d c.run.new.cells) c.code-code.ensures.code c.run.ensures.made;
   state = turn-keeps c.args.actor.now c.code-code.ensures.facts c.args.state c.requires.state (g.T.Tokens.tokens c.args.tokens.now) c.args.a (action_of c.action-action.result.now)
-    (record { there = c.action-action.ensures; has = c.requires.has }) c.requires.eligible c.runs_are_the_meaning.ensures.asked c.runs_are_the_meaning.ensures.guards
-    c.args.cells.now.numbers c.requires.made.size c.loop-entry.cells.numbers c.loop-entry.invariant.made.size c.loop-entry.invariant.state
-    c.deref-entry-items.result.now c.deref-entry-items.ensures.value c.loop-entry.entry-index c.loop-entry-test.true
-    c.code-code.result.now c.code-code.ensures.code c.deref.result.now c.deref.ensures.value
-    c.run.result c.run.new.cells.numbers c.run.ensures.runs;
+      (record { there = c.action-action.ensures; has = c.requires.has }) c.requires.eligible c.runs_are_the_meaning.ensures.asked c.runs_are_the_meaning.ensures.guards
+      c.args.cells.now.numbers c.requires.made.size c.loop-entry.cells.numbers c.loop-entry.invariant.made.size c.loop-entry.invariant.state
+      c.deref-entry-items.result.now c.deref-entry-items.ensures.value c.loop-entry.entry-index c.loop-entry-test.true
+      c.code-code.result.now c.code-code.ensures.code c.deref.result.now c.deref.ensures.value
+      c.run.result c.run.new.cells.numbers c.run.ensures.runs;
 }
 
 pub loop-entry-preserved : goal.loop-entry-preserved
 loop-entry-preserved g c = record {
   made = subst (λ (d : Code). IsMadeFor d c.run.new.cells) c.code-code.ensures.code c.run.ensures.made;
   state = turn-keeps c.args.actor.now c.code-code.ensures.facts c.args.state c.requires.state (g.T.Tokens.tokens c.args.tokens.now) c.args.a (action_of c.action-action.result.now)
-    (record { there = c.action-action.ensures; has = c.requires.has }) c.requires.eligible c.runs_are_the_meaning.ensures.asked c.runs_are_the_meaning.ensures.guards
-    c.args.cells.now.numbers c.requires.made.size c.loop-entry.cells.numbers c.loop-entry.invariant.made.size c.loop-entry.invariant.state
-    c.deref-entry-items.result.now c.deref-entry-items.ensures.value c.loop-entry.entry-index c.loop-entry-test.true
-    c.code-code.result.now c.code-code.ensures.code c.deref.result.now c.deref.ensures.value
-    c.run.result c.run.new.cells.numbers c.run.ensures.runs;
+      (record { there = c.action-action.ensures; has = c.requires.has }) c.requires.eligible c.runs_are_the_meaning.ensures.asked c.runs_are_the_meaning.ensures.guards
+      c.args.cells.now.numbers c.requires.made.size c.loop-entry.cells.numbers c.loop-entry.invariant.made.size c.loop-entry.invariant.state
+      c.deref-entry-items.result.now c.deref-entry-items.ensures.value c.loop-entry.entry-index c.loop-entry-test.true
+      c.code-code.result.now c.code-code.ensures.code c.deref.result.now c.deref.ensures.value
+      c.run.result c.run.new.cells.numbers c.run.ensures.runs;
   says = turn-true c.args.actor.now c.code-code.ensures.facts c.args.state c.requires.state (g.T.Tokens.tokens c.args.tokens.now) c.args.a (action_of c.action-action.result.now)
-    (record { there = c.action-action.ensures; has = c.requires.has }) c.requires.eligible c.runs_are_the_meaning.ensures.asked c.runs_are_the_meaning.ensures.guards
-    c.args.cells.now.numbers c.requires.made.size c.loop-entry.cells.numbers c.loop-entry.invariant.made.size c.loop-entry.invariant.state
-    c.deref-entry-items.result.now c.deref-entry-items.ensures.value c.loop-entry.entry-index c.loop-entry-test.true
-    c.code-code.result.now c.code-code.ensures.code c.deref.result.now c.deref.ensures.value
-    c.run.new.cells.numbers c.in-True.ensures.runs c.loop-entry.invariant.says;
+      (record { there = c.action-action.ensures; has = c.requires.has }) c.requires.eligible c.runs_are_the_meaning.ensures.asked c.runs_are_the_meaning.ensures.guards
+      c.args.cells.now.numbers c.requires.made.size c.loop-entry.cells.numbers c.loop-entry.invariant.made.size c.loop-entry.invariant.state
+      c.deref-entry-items.result.now c.deref-entry-items.ensures.value c.loop-entry.entry-index c.loop-entry-test.true
+      c.code-code.result.now c.code-code.ensures.code c.deref.result.now c.deref.ensures.value
+      c.run.new.cells.numbers c.in-True.ensures.runs c.loop-entry.invariant.says;
 }
 
 pub returns-clause-says : goal.returns-clause-says
