@@ -1,0 +1,3 @@
+pub mod Takes
+pub mod Says
+pub mod Lines
