@@ -1,0 +1,23 @@
+-- Cells as contracts see them, at their places.
+use Rattle.std.proofs.Common.{◌≡◌, ◌≢◌, ℕ, ◌<◌, List, [], ◌∷◌, ℤ, length, map, refl, sym, ap, subst, ◌∙◌}
+use Rattle.std.specs.Prelude.{Option, None, Some, slice_get, slice_set, slice_index_or}
+use Rattle.std.proofs.lemmas.List.{map-set}
+use Rattle.std.proofs.lemmas.Option.{slice_get-get_or, slice_get-map}
+use Rattle.std.specs.Option.{option_map}
+use Rattle.net_model.specs.Cell.{Cell, Accepts}
+use Rattle.net_state.specs.Moving.{Gains, EachGains, only_to}
+use Rattle.net_state.proofs.Gaining.{each_gains_at, gains_token}
+
+module _ {C X : Type 0} (view : C → Cell X) where
+  -- the cell at a place
+  pub viewed : (cells : List C) (i : ℕ) (d : C) → i < length cells → slice_get (map view cells) i ≡ Some (view (slice_index_or cells i d))
+  viewed cells i d low = slice_get-map view cells i ∙ ap (option_map view) (slice_get-get_or cells i d low)
+
+  pub accepted : (cells : List C) (i p : ℕ) (token kept : ℤ) (d new : C) → i < length cells → kept ≡ token
+      → Accepts (view (slice_index_or cells i d)) p kept (view new)
+      → EachGains (only_to i p (token ∷ [])) (map view cells) (map view (slice_set cells i new))
+  accepted cells i p token kept d new low same takes =
+      let accepts : Accepts (view (slice_index_or cells i d)) p token (view new) = subst (λ t. Accepts (view (slice_index_or cells i d)) p t (view new)) same takes in
+      subst (EachGains (only_to i p (token ∷ [])) (map view cells)) (sym (map-set view cells i new))
+      (each_gains_at i p (token ∷ []) (map view cells) (view (slice_index_or cells i d)) (view new) (viewed cells i d low)
+          (gains_token i p token (view (slice_index_or cells i d)) (view new) accepts))
