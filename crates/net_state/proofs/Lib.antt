@@ -1,3 +1,4 @@
 pub mod Gaining
 pub mod Viewed
 pub mod Coming
+pub mod Clearing

@@ -1,12 +1,12 @@
 -- Cells as contracts see them, at their places.
 use Rattle.std.proofs.Common.{◌≡◌, ◌≢◌, ℕ, ◌<◌, List, [], ◌∷◌, ℤ, length, map, refl, sym, ap, subst, ◌∙◌}
 use Rattle.std.specs.Prelude.{Option, None, Some, slice_get, slice_set, slice_index_or}
-use Rattle.std.proofs.lemmas.List.{map-set}
+use Rattle.std.proofs.lemmas.List.{map-set, length-set}
 use Rattle.std.proofs.lemmas.Option.{slice_get-get_or, slice_get-map}
 use Rattle.std.specs.Option.{option_map}
-use Rattle.net_model.specs.Cell.{Cell, Accepts}
-use Rattle.net_state.specs.Moving.{Gains, EachGains, only_to}
-use Rattle.net_state.proofs.Gaining.{each_gains_at, gains_token}
+use Rattle.net_model.specs.Cell.{Cell, Accepts, Clears}
+use Rattle.net_state.specs.Moving.{EachGains, ClearsAt, only_to}
+use Rattle.net_state.proofs.Gaining.{some_is, get_set_same, get_set_other, each_gains_at, gains_token}
 
 module _ {C X : Type 0} (view : C → Cell X) where
   -- the cell at a place
@@ -21,3 +21,15 @@ module _ {C X : Type 0} (view : C → Cell X) where
       subst (EachGains (only_to i p (token ∷ [])) (map view cells)) (sym (map-set view cells i new))
       (each_gains_at i p (token ∷ []) (map view cells) (view (slice_index_or cells i d)) (view new) (viewed cells i d low)
           (gains_token i p token (view (slice_index_or cells i d)) (view new) accepts))
+
+  pub cleared_at : (cells : List C) (i : ℕ) (d new : C) → i < length cells → Clears (view (slice_index_or cells i d)) (view new)
+      → ClearsAt i (map view cells) (map view (slice_set cells i new))
+  cleared_at cells i d new low clears =
+      subst (ClearsAt i (map view cells)) (sym (map-set view cells i new)) (record {
+        count = length-set (map view cells) i (view new);
+        here = λ before after was is.
+            let old_is : view (slice_index_or cells i d) ≡ before = some_is _ before (sym (viewed cells i d low) ∙ was) in
+            let new_is : view new ≡ after = some_is (view new) after (sym (get_set_same (map view cells) i before (view new) was) ∙ is) in
+            subst (λ c. Clears c after) old_is (subst (Clears (view (slice_index_or cells i d))) new_is clears);
+        elsewhere = λ k differ. get_set_other (map view cells) k i (view new) differ;
+      })

@@ -7,7 +7,7 @@ use Rattle.net_model.specs.declared.wiring.End.{End}
 use Rattle.net_model.specs.declared.wiring.End.TheVariants.{Leaf as AtLeaf, Net as AtNet}
 use Rattle.net_model.specs.declared.wiring.Link.{Link}
 use Rattle.net_model.specs.Network.{is_leaf_port}
-use Rattle.net_model.specs.Cell.{Cell, number_on, IsSameActor, SameOutboxes, SameInboxes, HasNothingOut}
+use Rattle.net_model.specs.Cell.{Cell, number_on, IsSameActor, SameOutboxes, Clears}
 use Rattle.net_model.specs.Ready.{OnCell, tokens_of}
 
 -- the tokens that were sent on a port and haven't left yet
@@ -38,10 +38,23 @@ only_to j q tokens i p = if (i == j) && (p == q) then tokens else []
 abbrev pub IsOutput : {X : Type 0} → List (Cell X) → ℕ → ℕ → Type 0
 IsOutput cells i p = OnCell (slice_get cells i) (λ cell. p < cell.actor.outs)
 
+abbrev pub IsInput : {X : Type 0} → List (Cell X) → ℕ → ℕ → Type 0
+IsInput cells j q = OnCell (slice_get cells j) (λ cell. q < cell.actor.ins)
+
 -- port q is an input port of cell j, and so many tokens more have room before it
 abbrev pub HasRoomBefore : {X : Type 0} → List (Cell X) → ℕ → ℕ → ℕ → Type 0
 HasRoomBefore cells j q count = OnCell (slice_get cells j) (λ cell. (q < cell.actor.ins)
     × (length (tokens_on cell.inboxes q) + count ≤ number_on cell.inbox_capacities q))
+
+-- cell i is cleared, and the others stay
+pub record ClearsAt {X : Type 0} (i : ℕ) (old new : List (Cell X)) : Type 0 where
+  pub count : length new ≡ length old
+  pub here : (before after : Cell X) → slice_get old i ≡ Some before → slice_get new i ≡ Some after → Clears before after
+  pub elsewhere : (k : ℕ) → k ≢ i → slice_get new k ≡ slice_get old k
+
+pub record EachClears {X : Type 0} (old new : List (Cell X)) : Type 0 where
+  pub count : length new ≡ length old
+  pub each : (i : ℕ) (before after : Cell X) → slice_get old i ≡ Some before → slice_get new i ≡ Some after → Clears before after
 
 -- Links.
 

@@ -2,7 +2,8 @@
 
 ghost use Rattle.std.specs.Prelude.{◌≡◌, ◌≤◌, ◌<◌, [], ◌∷◌, length, map, slice_get, Some};
 ghost use Rattle.rvc_base.specs.Storing.{IsSize, conv};
-ghost use Rattle.net_state.specs.Moving.{EachGains, HasRoomBefore, IsOutput, only_to, sent_of};
+ghost use Rattle.net_model.specs.Ready.{tokens_of};
+ghost use Rattle.net_state.specs.Moving.{ClearsAt, EachClears, EachGains, HasRoomBefore, IsInput, IsOutput, only_to, sent_of};
 
 use net_model::Firing;
 use rvc_base::{InstId, Num, Scalar, conv};
@@ -40,4 +41,30 @@ pub(crate) fn store_at<A: Firing>(
     ensures { EachGains (only_to inst.0 port (conv kind token ∷ [])) (map A.cell cells.old) (map A.cell cells.new) }
 {
     cells[inst.0 as usize].accept(port, conv(kind, token));
+}
+
+/// How many tokens wait before an input port of a cell.
+pub(crate) fn held_at<A: Firing>(cells: &[A], inst: InstId, port: u32) -> u32
+    requires there { inst.0 < length cells.now }
+    requires input { IsInput (map A.cell cells.now) inst.0 port }
+    ensures { result ≡ length (tokens_of (slice_get (map A.cell cells.now) inst.0) port) }
+{
+    cells[inst.0 as usize].held(port)
+}
+
+/// Empties the outboxes and the journal of one cell.
+fn clear_at<A: Firing>(cells: &mut [A], i: usize)
+    requires { i < length cells.old }
+    ensures { ClearsAt i (map A.cell cells.old) (map A.cell cells.new) }
+{
+    cells[i].clear();
+}
+
+/// Empties the outboxes and the journals of all cells.
+pub(crate) fn clear_all<A: Firing>(cells: &mut [A])
+    ensures { EachClears (map A.cell cells.old) (map A.cell cells.new) }
+{
+    for i in 0..cells.len() {
+        clear_at(cells, i);
+    }
 }
