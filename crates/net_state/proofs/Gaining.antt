@@ -29,7 +29,7 @@ get_set_other (z ∷ xs) (suc i) (suc j) y differ = get_set_other xs i j y (λ s
 pub only_there : (j q : ℕ) (tokens : List ℤ) → only_to j q tokens j q ≡ tokens
 only_there j q tokens = rw (eq-eqb j j refl, eq-eqb q q refl)
 
-not_eq : (i j : ℕ) → i ≢ j → (i == j) ≡ false
+pub not_eq : (i j : ℕ) → i ≢ j → (i == j) ≡ false
 not_eq i j differ = by_bool (i == j) (λ same. absurd (differ (eqb-true i j same))) (λ e. e)
   where
     by_bool : {P : Type 0} (b : Bool) → (b ≡ true → P) → (b ≡ false → P) → P

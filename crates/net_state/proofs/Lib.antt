@@ -2,3 +2,4 @@ pub mod Gaining
 pub mod Viewed
 pub mod Coming
 pub mod Clearing
+pub mod Narrowing

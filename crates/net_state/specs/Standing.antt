@@ -1,2 +1,67 @@
 -- The state of a network as its cells hold it.
-use Rattle.std.specs.Prelude.{ℕ}
+use Rattle.std.specs.Prelude.{◌≡◌, ℕ, ◌≤◌, ◌<◌, true, false, List, [], ◌∷◌, ℤ, length, map, drop, slice_get, Option, None, Some, if◌then◌else◌}
+use Rattle.rvc_base.specs.Storing.{conv}
+use Rattle.rvc_base.specs.Lawful.{tokens_on}
+use Rattle.net_model.specs.declared.wiring.End.{End}
+use Rattle.net_model.specs.declared.wiring.End.TheVariants.{Leaf as AtLeaf, Net as AtNet}
+use Rattle.net_model.specs.declared.wiring.Link.{Link}
+use Rattle.net_model.specs.Network.{Network, is_input, is_output}
+use Rattle.net_model.specs.State.{Flow, State, inbox}
+use Rattle.net_model.specs.Event.{each_flow}
+use Rattle.net_model.specs.Trace.{delivered}
+use Rattle.net_model.specs.Cell.{Cell}
+use Rattle.net_state.specs.Moving.{sent_of}
+use Rattle.net_state.specs.Held.{Held}
+
+-- The network whose leaves are these cells' actors, joined by these links. Its paths, classes and ports are any.
+pub record IsNetOf {X : Type 0} (net : Network X) (cells : List (Cell X)) (links : List Link) : Type 0 where
+  pub actors : map (λ leaf. leaf.behaviour) net.leaves ≡ map (λ cell. cell.actor) cells
+  pub links : net.links ≡ links
+
+-- What was sent on a link and hasn't arrived lies in the writer's outbox. It is stored in the reader's type when it
+-- moves. What is to come from outside isn't held here.
+abbrev pub LiesIn : {X : Type 0} → List (Cell X) → Link → List ℤ → End → Type 0
+LiesIn cells link tokens (AtLeaf inst port) = tokens ≡ map (conv link.kind) (sent_of (slice_get cells inst.0) port)
+LiesIn cells link tokens (AtNet port) = Unit {0}
+
+pub record IsHeld {X : Type 0} (cells : List (Cell X)) (link : Link) (flow : Flow) (capacity : ℕ) : Type 0 where
+  pub lies : LiesIn cells link (drop flow.arrived flow.sent) link.from
+  pub capacity_is : flow.capacity ≡ capacity
+  pub arrived : flow.arrived ≤ length flow.sent
+  pub taken : flow.taken ≤ flow.arrived
+  -- what arrives at an output of the network counts as taken
+  pub gone : is_output link ≡ true → flow.taken ≡ flow.arrived
+
+-- the same of each link
+abbrev pub AreHeld : {X : Type 0} → List (Cell X) → List Link → List Flow → List ℕ → Type 0
+AreHeld cells [] [] [] = Unit {0}
+AreHeld cells (link ∷ links) (flow ∷ flows) (capacity ∷ capacities) = IsHeld cells link flow capacity × AreHeld cells links flows capacities
+AreHeld cells [] [] (capacity ∷ capacities) = ⊥
+AreHeld cells [] (flow ∷ flows) capacities = ⊥
+AreHeld cells (link ∷ links) [] capacities = ⊥
+AreHeld cells (link ∷ links) (flow ∷ flows) [] = ⊥
+
+-- the tokens before each input port are those that wait on the link that leads there
+abbrev pub InboxesHold : {X : Type 0} → List (Cell X) → List Link → List Flow → Type 0
+InboxesHold {X} cells links flows = (i : ℕ) (cell : Cell X) → slice_get cells i ≡ Some cell
+    → (p : ℕ) → p < cell.actor.ins → tokens_on cell.inboxes p ≡ inbox i p links flows
+
+-- the cells hold this state of the network
+pub record Stands {X : Type 0} (net : Network X) (cells : List (Cell X)) (capacities : List ℕ) (s : State X) : Type 0 where
+  pub actors : s.actors ≡ map (λ cell. cell.state) cells
+  pub inboxes : InboxesHold cells net.links s.flows
+  pub flows : AreHeld cells net.links s.flows capacities
+  pub untrapped : s.trapped ≡ false
+
+-- the same of what is held, where `cell` is what is seen of a cell
+abbrev pub StandsIn : {C X : Type 0} → (C → Cell X) → Network X → Held C → State X → Type 0
+StandsIn cell net held s = IsNetOf net (map cell held.cells) held.links × Stands net (map cell held.cells) held.capacities s
+
+-- Deliveries.
+
+-- a delivery of inner and output links: all that was sent arrives
+abbrev pub inside_delivered : Link → Flow → Flow
+inside_delivered link flow = if is_input link then flow else delivered link flow
+
+abbrev pub after_inside : {X : Type 0} → Network X → State X → State X
+after_inside net s = record s { flows = each_flow inside_delivered net.links s.flows }
