@@ -9,14 +9,14 @@ use Rattle.net_model.specs.Network.{Network, is_input, is_output}
 use Rattle.net_model.specs.State.{Flow, State, inbox}
 use Rattle.net_model.specs.Event.{each_flow}
 use Rattle.net_model.specs.Trace.{delivered}
-use Rattle.net_model.specs.Cell.{Cell}
+use Rattle.net_model.specs.Cell.{Cell, HasNothingOut}
 use Rattle.net_state.specs.Moving.{sent_of}
-use Rattle.net_state.specs.Held.{Held}
+
 
 -- The network whose leaves are these cells' actors, joined by these links. Its paths, classes and ports are any.
 pub record IsNetOf {X : Type 0} (net : Network X) (cells : List (Cell X)) (links : List Link) : Type 0 where
   pub actors : map (λ leaf. leaf.behaviour) net.leaves ≡ map (λ cell. cell.actor) cells
-  pub links : net.links ≡ links
+  pub links_are : net.links ≡ links
 
 -- What was sent on a link and hasn't arrived lies in the writer's outbox. It is stored in the reader's type when it
 -- moves. What is to come from outside isn't held here.
@@ -53,10 +53,6 @@ pub record Stands {X : Type 0} (net : Network X) (cells : List (Cell X)) (capaci
   pub flows : AreHeld cells net.links s.flows capacities
   pub untrapped : s.trapped ≡ false
 
--- the same of what is held, where `cell` is what is seen of a cell
-abbrev pub StandsIn : {C X : Type 0} → (C → Cell X) → Network X → Held C → State X → Type 0
-StandsIn cell net held s = IsNetOf net (map cell held.cells) held.links × Stands net (map cell held.cells) held.capacities s
-
 -- Deliveries.
 
 -- a delivery of inner and output links: all that was sent arrives
@@ -65,3 +61,12 @@ inside_delivered link flow = if is_input link then flow else delivered link flow
 
 abbrev pub after_inside : {X : Type 0} → Network X → State X → State X
 after_inside net s = record s { flows = each_flow inside_delivered net.links s.flows }
+
+-- each state that the cells held is followed by this one
+abbrev pub StandAfterInside : {X : Type 0} → List (Cell X) → List (Cell X) → List Link → List ℕ → Type 0
+StandAfterInside {X} old new links capacities = (net : Network X) (s : State X) → IsNetOf net old links → Stands net old capacities s
+    → IsNetOf net new links × Stands net new capacities (after_inside net s)
+
+-- no cell has sent anything that hasn't left, and no journal names a firing
+abbrev pub AreAllOut : {X : Type 0} → List (Cell X) → Type 0
+AreAllOut {X} cells = (i : ℕ) (cell : Cell X) → slice_get cells i ≡ Some cell → HasNothingOut cell

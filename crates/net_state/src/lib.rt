@@ -2,5 +2,10 @@
 #![tactic(auto)]
 
 mod carrying;
+mod delivering;
+mod network;
 mod places;
 mod rooms;
+mod waiting;
+
+pub use network::NetState;
