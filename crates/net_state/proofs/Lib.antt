@@ -6,3 +6,4 @@ pub mod Narrowing
 pub mod Moved
 pub mod Counting
 pub mod Kept
+pub mod Slices
