@@ -7,3 +7,4 @@ pub mod Moved
 pub mod Counting
 pub mod Kept
 pub mod Slices
+pub mod Starting

@@ -1,11 +1,12 @@
 -- What is held of a network at work: its cells, its links, and how much each link can hold now.
 use Rattle.std.specs.Prelude.{◌≡◌, ℕ, ◌+◌, ◌-◌, ◌≤◌, ◌<◌, ◌↔◌, min, true, false, List, [], ◌∷◌, length, map, slice_get, slice_index_or, Option, None, Some, if◌then◌else◌}
 use Rattle.rvc_base.specs.Storing.{IsSize}
+use Rattle.rvc_base.specs.Lawful.{tokens_on}
 use Rattle.net_model.specs.declared.wiring.End.{End}
 use Rattle.net_model.specs.declared.wiring.End.TheVariants.{Leaf as AtLeaf, Net as AtNet}
 use Rattle.net_model.specs.declared.wiring.Link.{Link}
 use Rattle.net_model.specs.Network.{is_input, is_output, is_leaf_port}
-use Rattle.net_model.specs.Cell.{Cell, number_on, unread_room}
+use Rattle.net_model.specs.Cell.{Cell, number_on, unread_room, HasNothingOut}
 use Rattle.net_model.specs.Ready.{OutboxHolds, InboxHolds, waiting_at}
 use Rattle.net_state.specs.Moving.{IsInput, IsWriter, AreApart, sent_from}
 
@@ -93,8 +94,43 @@ pub record IsWorking {X : Type 0} (cells : List (Cell X)) (links : List Link) (c
   pub read : (i : ℕ) (cell : Cell X) → slice_get cells i ≡ Some cell
       → (p : ℕ) → p < cell.actor.outs → (0 < number_on cell.outbox_capacities p) ↔ IsLeft links i p
 
+-- the table has a row for each cell, and in it a place for each of its output ports
+pub record HasWidths {X : Type 0} (cells : List (Cell X)) (table : List (List ℕ)) : Type 0 where
+  pub rows : length table ≡ length cells
+  pub widths : (i : ℕ) (cell : Cell X) (row : List ℕ) → slice_get cells i ≡ Some cell → slice_get table i ≡ Some row → length row ≡ cell.actor.outs
+
 -- the table of rooms fits the cells
 pub record HasRooms {X : Type 0} (cells : List (Cell X)) (links : List Link) (capacities waited : List ℕ) (table : List (List ℕ)) : Type 0 where
   pub rows : length table ≡ length cells
   pub widths : (i : ℕ) (cell : Cell X) (row : List ℕ) → slice_get cells i ≡ Some cell → slice_get table i ≡ Some row → length row ≡ cell.actor.outs
   pub rooms : IsRoomTable links capacities waited table
+
+-- What is asked of cells and links at the start.
+
+-- what is asked of a link and its queues
+pub record IsJoinedTo {X : Type 0} (cells : List (Cell X)) (link : Link) : Type 0 where
+  pub size : IsSize link.kind
+  pub writer : IsWriter cells link.from
+  pub reader : IsReader cells link.to
+  pub inside : is_input link ≡ true → is_output link ≡ false
+  pub outbox : OutboxHolds cells link.capacity link.from
+  pub inbox : InboxHolds cells link.capacity link.to
+  pub waiting : length (waiting_at cells link.to) ≤ link.capacity
+
+-- no link leads to port p of cell i
+abbrev pub NoneLeads : List Link → ℕ → ℕ → Type 0
+NoneLeads links i p = (l : ℕ) (link : Link) → slice_get links l ≡ Some link → is_leaf_port i p link.to ≡ false
+
+pub record CanWork {X : Type 0} (cells : List (Cell X)) (links : List Link) : Type 0 where
+  pub apart : AreApart links
+  pub joined : (l : ℕ) (link : Link) → slice_get links l ≡ Some link → IsJoinedTo cells link
+  pub read : (i : ℕ) (cell : Cell X) → slice_get cells i ≡ Some cell
+      → (p : ℕ) → p < cell.actor.outs → (0 < number_on cell.outbox_capacities p) ↔ IsLeft links i p
+  -- nothing was sent, and no journal names a firing
+  pub all_out : (i : ℕ) (cell : Cell X) → slice_get cells i ≡ Some cell → HasNothingOut cell
+  -- before an input port to which no link leads no token waits
+  pub unlinked : (i : ℕ) (cell : Cell X) → slice_get cells i ≡ Some cell
+      → (p : ℕ) → p < cell.actor.ins → NoneLeads links i p → tokens_on cell.inboxes p ≡ []
+
+abbrev pub capacity_of : Link → ℕ
+capacity_of link = link.capacity

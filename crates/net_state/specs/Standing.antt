@@ -10,6 +10,7 @@ use Rattle.net_model.specs.State.{Flow, State, inbox}
 use Rattle.net_model.specs.Event.{each_flow}
 use Rattle.net_model.specs.Trace.{delivered}
 use Rattle.net_model.specs.Cell.{Cell, HasNothingOut}
+use Rattle.net_model.specs.Ready.{given_state}
 use Rattle.net_state.specs.Moving.{sent_of}
 
 
@@ -70,3 +71,8 @@ StandAfterInside {X} old new links capacities = (net : Network X) (s : State X) 
 -- no cell has sent anything that hasn't left, and no journal names a firing
 abbrev pub AreAllOut : {X : Type 0} → List (Cell X) → Type 0
 AreAllOut {X} cells = (i : ℕ) (cell : Cell X) → slice_get cells i ≡ Some cell → HasNothingOut cell
+
+-- the cells hold the state in which a run from them begins
+abbrev pub StandAtStart : {X : Type 0} → List (Cell X) → List Link → List ℕ → Type 0
+StandAtStart {X} cells links capacities = (net : Network X) (inputs : List (List ℕ)) → IsNetOf net cells links
+    → Stands net cells capacities (given_state net cells inputs)

@@ -6,6 +6,7 @@ mod delivering;
 mod network;
 mod places;
 mod rooms;
+mod tables;
 mod waiting;
 
 pub use network::NetState;
