@@ -8,3 +8,4 @@ pub mod Counting
 pub mod Kept
 pub mod Slices
 pub mod Starting
+pub mod Reading

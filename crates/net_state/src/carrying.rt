@@ -1,12 +1,12 @@
 //! Tokens on their way from an output to an input.
 
-ghost use Rattle.std.specs.Prelude.{◌≡◌, ◌≤◌, ◌<◌, [], ◌∷◌, length, map, slice_get};
+ghost use Rattle.std.specs.Prelude.{◌≡◌, ◌≤◌, ◌<◌, [], ◌∷◌, length, map, slice_get, Some};
 ghost use Rattle.rvc_base.specs.Storing.{IsSize, conv};
-ghost use Rattle.net_state.specs.Moving.{AreApart, CanCarry, CanCarryAll, EachGains, arriving, HasRoomBefore, IsOutput, only_to, sent_of};
+ghost use Rattle.net_state.specs.Moving.{AreApart, CanCarry, CanCarryAll, EachGains, HasRoomBefore, IsOutput, IsWriter, arriving, carried, only_to, sent_of};
 
 use crate::places::{store_at, sent_on, sent_token};
 use net_model::{End, Firing, Link};
-use rvc_base::{InstId, Scalar};
+use rvc_base::{InstId, Num, Scalar, conv};
 
 /// Moves all that was sent on output port `out` of one cell behind what waits before input port `port` of
 /// another, or of the same. Each token is stored in the reader's type. The outbox is left as it is.
@@ -53,5 +53,29 @@ pub(crate) fn carry_all<A: Firing>(cells: &mut [A], links: &[Link])
     let count = links.len();
     for k in 0..count {
         follow(cells, &links[count - 1 - k]);
+    }
+}
+
+/// How many tokens were sent on a link and haven't arrived, where it begins at a cell.
+pub(crate) fn sent_along<A: Firing>(cells: &[A], link: &Link) -> u32
+    requires writer { IsWriter (map A.cell cells.now) link.now.from }
+    ensures { result ≡ length (carried (map A.cell cells.now) link.now) }
+{
+    match link.from {
+        End::Leaf { inst, port } => sent_on(cells, inst, port),
+        End::Net { port: _ } => 0,
+    }
+}
+
+/// The token at place `k` of these, as the link's reader stores it.
+pub(crate) fn token_along<A: Firing>(cells: &[A], link: &Link, k: u32) -> Num
+    requires size { IsSize link.now.kind }
+    requires writer { IsWriter (map A.cell cells.now) link.now.from }
+    requires among { k < length (carried (map A.cell cells.now) link.now) }
+    ensures { slice_get (carried (map A.cell cells.now) link.now) k ≡ Some result }
+{
+    match link.from {
+        End::Leaf { inst, port } => conv(link.kind, sent_token(cells, inst, port, k)),
+        End::Net { port: _ } => unreachable!(),
     }
 }
