@@ -1,11 +1,10 @@
 -- Cells that are cleared one after another.
-use Rattle.std.proofs.Common.{◌≡◌, ◌≢◌, ℕ, suc, ◌+◌, ◌<◌, ◌≤◌, List, length, refl, sym, ap, subst, ◌∙◌, ⊎_elim, arith}
-use Rattle.std.specs.Prelude.{Option, None, Some, slice_get}
-use Rattle.std.proofs.lemmas.Bool.{cases_eq, cases_lt}
+use Rattle.std.proofs.Common.{◌≡◌, ℕ, ◌+◌, ◌<◌, ◌≤◌, List, length, refl, sym, ap, ◌∙◌, ⊎_elim, arith}
+use Rattle.std.specs.Prelude.{Some, slice_get}
+use Rattle.std.proofs.lemmas.Bool.{cases_eq}
 use Rattle.std.proofs.lemmas.Option.{slice_get_within}
 use Rattle.net_model.specs.Cell.{Cell, Clears}
 use Rattle.net_state.specs.Moving.{ClearsAt, EachClears}
-use Rattle.net_state.proofs.Gaining.{some_is, there_too}
 
 -- the first k cells are cleared
 pub record IsClearing {X : Type 0} (k : ℕ) (old now : List (Cell X)) : Type 0 where

@@ -1,6 +1,6 @@
 -- What is sent on an output, carried to an input.
 use Rattle.std.proofs.Common.{◌≡◌, ℕ, zero, suc, ◌+◌, ◌-◌, ◌<◌, ◌≤◌, Bool, true, false, List, [], ◌∷◌, ◌++◌, ℤ, length, map, take, drop, refl, sym, ap, subst, ◌∙◌, arith, length-append, append-nil}
-use Rattle.std.specs.Prelude.{Option, None, Some, slice_get, slice_index_or, if◌then◌else◌, ◌==◌, ◌&&◌}
+use Rattle.std.specs.Prelude.{Option, None, Some, slice_get, if◌then◌else◌, ◌==◌, ◌&&◌}
 use Rattle.std.proofs.lemmas.Bool.{eqb-true, eq-eqb}
 use Rattle.std.proofs.lemmas.List.{length-map, length-take-le, map-append, take_more, take_all}
 use Rattle.std.proofs.lemmas.Option.{slice_get_within, get_or_from_slice_get}
@@ -13,7 +13,7 @@ use Rattle.net_model.specs.declared.wiring.Link.{Link}
 use Rattle.net_model.specs.Network.{is_leaf_port}
 use Rattle.net_model.specs.Cell.{Cell, number_on}
 use Rattle.net_model.specs.Ready.{OnCell}
-use Rattle.net_state.specs.Moving.{Gains, EachGains, only_to, sent_of, IsOutput, HasRoomBefore, sent_from, carried, arriving, IsWriter, HasRoomAt, CanCarry, CanCarryAll, AreApart}
+use Rattle.net_state.specs.Moving.{EachGains, only_to, sent_of, IsOutput, HasRoomBefore, sent_from, carried, arriving, IsWriter, HasRoomAt, CanCarry, CanCarryAll, AreApart}
 use Rattle.net_state.proofs.Gaining.{some_is, there_too, each_gains_then, each_gains_as, only_there, only_more}
 
 -- the cell that something holds of
@@ -54,8 +54,8 @@ room_left j q count tokens old new gains room few =
     let later = there_too old new j on.0 (sym gains.count) on.1 in
     let gained = gains.each j on.0 later.0 on.1 later.1 in
     let longer : length (tokens_on later.0.inboxes q) ≡ length (tokens_on on.0.inboxes q) + length tokens =
-        ap (λ ts. length ts) (gained.inboxes q on.2.0 ∙ ap (λ ts. tokens_on on.0.inboxes q ++ ts) (only_there j q tokens))
-        ∙ length-append (tokens_on on.0.inboxes q) tokens in
+    ap (λ ts. length ts) (gained.inboxes q on.2.0 ∙ ap (λ ts. tokens_on on.0.inboxes q ++ ts) (only_there j q tokens))
+    ∙ length-append (tokens_on on.0.inboxes q) tokens in
     let same : number_on later.0.inbox_capacities q ≡ number_on on.0.inbox_capacities q = gained.actor.same_inbox_capacities q on.2.0 in
     let fits : length (tokens_on on.0.inboxes q) + count ≤ number_on on.0.inbox_capacities q = on.2.1 in
     on_some (slice_get new j) (HasInputRoom q 1) later.0 later.1
@@ -65,7 +65,7 @@ stored_more : (kind : Scalar) (sent : List ℤ) (k : ℕ) (token : ℤ) → slic
     → map (conv kind) (take k sent) ++ conv kind token ∷ [] ≡ map (conv kind) (take (k + 1) sent)
 stored_more kind sent k token at =
     sym (ap (map (conv kind)) (take_more sent k token (slice_get_within sent k token at)
-        ∙ ap (λ t. take k sent ++ t ∷ []) (get_or_from_slice_get sent k token token at))
+    ∙ ap (λ t. take k sent ++ t ∷ []) (get_or_from_slice_get sent k token token at))
     ∙ map-append (conv kind) (take k sent) (token ∷ []))
 
 -- the k-th token comes behind those before it
@@ -76,8 +76,8 @@ pub carried_more : {X : Type 0} (kind : Scalar) (j q k : ℕ) (sent : List ℤ) 
 carried_more kind j q k sent token old now new so_far at one =
     subst (λ ts. EachGains (only_to j q ts) old new) (stored_more kind sent k token at)
     (each_gains_as _ (only_to j q (map (conv kind) (take k sent) ++ conv kind token ∷ [])) old new
-        (each_gains_then (only_to j q (map (conv kind) (take k sent))) (only_to j q (conv kind token ∷ [])) old now new so_far one)
-        (only_more j q (map (conv kind) (take k sent)) (conv kind token ∷ [])))
+    (each_gains_then (only_to j q (map (conv kind) (take k sent))) (only_to j q (conv kind token ∷ [])) old now new so_far one)
+    (only_more j q (map (conv kind) (take k sent)) (conv kind token ∷ [])))
 
 pub length_stored : (kind : Scalar) (k : ℕ) (sent : List ℤ) → k ≤ length sent → length (map (conv kind) (take k sent)) ≡ k
 length_stored kind k sent few = length-map (take k sent) (conv kind) ∙ length-take-le k sent few
@@ -166,7 +166,7 @@ module _ {X : Type 0} (gained : ℕ → ℕ → List ℤ) (old new : List (Cell 
       let later = there_too old new inst.0 on.0 (sym gains.count) on.1 in
       let cell = gains.each inst.0 on.0 later.0 on.1 later.1 in
       let as_long : tokens_on later.0.inboxes port ≡ tokens_on on.0.inboxes port =
-          cell.inboxes port on.2.0 ∙ (ap (λ ts. tokens_on on.0.inboxes port ++ ts) (none inst.0 port (is_own_port inst.0 port)) ∙ append-nil (tokens_on on.0.inboxes port)) in
+      cell.inboxes port on.2.0 ∙ (ap (λ ts. tokens_on on.0.inboxes port ++ ts) (none inst.0 port (is_own_port inst.0 port)) ∙ append-nil (tokens_on on.0.inboxes port)) in
       let same : number_on later.0.inbox_capacities port ≡ number_on on.0.inbox_capacities port = cell.actor.same_inbox_capacities port on.2.0 in
       let len : length (tokens_on later.0.inboxes port) ≡ length (tokens_on on.0.inboxes port) = ap (λ ts. length ts) as_long in
       let fits : length (tokens_on on.0.inboxes port) + count ≤ number_on on.0.inbox_capacities port = on.2.1 in
@@ -184,7 +184,7 @@ module _ {X : Type 0} (start now : List (Cell X)) (links : List Link) (l : ℕ) 
         writer = writer_stays (arriving start (drop (suc l) links)) start now so_far link.from asked.writer;
         room = subst (λ ts. HasRoomAt now link.to (length ts)) (sym (sent_from_stays (arriving start (drop (suc l) links)) start now so_far link.from asked.writer))
             (room_stays (arriving start (drop (suc l) links)) start now so_far link.to (length (sent_from start link.from))
-                (λ i p leads. none_behind start links l link i p apart at leads) asked.room);
+            (λ i p leads. none_behind start links l link i p apart at leads) asked.room);
       }
 
   same_carried : carried now link ≡ carried start link
@@ -199,8 +199,8 @@ module _ {X : Type 0} (start now : List (Cell X)) (links : List Link) (l : ℕ) 
   carried_next new one =
       subst (λ ls. EachGains (arriving start ls) start new) (sym (drop_at l links link at))
       (each_gains_as (λ i p. arriving start (drop (suc l) links) i p ++ arriving now (link ∷ []) i p) (arriving start (link ∷ drop (suc l) links)) start new
-          (each_gains_then (arriving start (drop (suc l) links)) (arriving now (link ∷ [])) start now new so_far one)
-          (λ i p. joined i p (is_leaf_port i p link.to) (λ leads. none_behind start links l link i p apart at leads)))
+      (each_gains_then (arriving start (drop (suc l) links)) (arriving now (link ∷ [])) start now new so_far one)
+      (λ i p. joined i p (is_leaf_port i p link.to) (λ leads. none_behind start links l link i p apart at leads)))
 
 -- a loop that goes over a list from its end
 pub next_place : (n k : ℕ) → k < n → (n - 1 - k < n) × (n - k ≡ suc (n - 1 - k)) × (n - 1 - k ≡ n - (k + 1))

@@ -1,5 +1,5 @@
 -- Tokens that wait, counted link by link.
-use Rattle.std.proofs.Common.{◌≡◌, ℕ, suc, ◌+◌, ◌<◌, ◌≤◌, List, length, refl, sym, ap, subst, ◌∙◌, ⊎_elim, arith}
+use Rattle.std.proofs.Common.{◌≡◌, ℕ, ◌+◌, ◌<◌, ◌≤◌, List, length, sym, ap, ◌∙◌, ⊎_elim, arith}
 use Rattle.std.specs.Prelude.{Some, slice_get, slice_set, slice_index_or}
 use Rattle.std.proofs.lemmas.Bool.{cases_eq}
 use Rattle.std.proofs.lemmas.List.{length-set, get_or-set_same, get_or-set_other}
@@ -22,10 +22,10 @@ counting_more n count cells links waited link so_far at is = record {
   as_many = length-set waited n count ∙ so_far.as_many;
   each = λ l other low there. ⊎_elim
       (λ same.
-          let other_is : other ≡ link = some_is other link (sym there ∙ (ap (slice_get links) same ∙ at)) in
-          ap (λ k. slice_index_or (slice_set waited n count) k 0) same
-          ∙ (get_or-set_same waited n count 0 (omega (arith, so_far.as_many, slice_get_within links n link at))
-          ∙ (is ∙ ap (λ k. length (waiting_at cells k.to)) (sym other_is))))
+      let other_is : other ≡ link = some_is other link (sym there ∙ (ap (slice_get links) same ∙ at)) in
+      ap (λ k. slice_index_or (slice_set waited n count) k 0) same
+      ∙ (get_or-set_same waited n count 0 (omega (arith, so_far.as_many, slice_get_within links n link at))
+      ∙ (is ∙ ap (λ k. length (waiting_at cells k.to)) (sym other_is))))
       (λ differ. get_or-set_other waited n l count 0 differ ∙ so_far.each l other (omega (arith, low, differ)) there)
       (cases_eq l n);
 }

@@ -1,11 +1,10 @@
 -- Tokens that come in, one after another, and cells that gain them.
-use Rattle.std.proofs.Common.{◌≡◌, ◌≢◌, ℕ, zero, suc, ◌+◌, ◌<◌, ◌≤◌, Bool, true, false, List, [], ◌∷◌, ◌++◌, ℤ, length, map, take, refl, sym, ap, subst, ◌∙◌, ⊎_elim, inl, inr, arith, append_assoc, append-nil, length-append}
-use Rattle.std.specs.Prelude.{Option, None, Some, slice_get, slice_set, slice_index_or, if◌then◌else◌, ◌==◌, ◌&&◌}
+use Rattle.std.proofs.Common.{◌≡◌, ◌≢◌, ℕ, zero, suc, ◌<◌, Bool, true, false, List, [], ◌∷◌, ◌++◌, ℤ, length, refl, sym, ap, subst, ◌∙◌, ⊎_elim, arith, append_assoc, append-nil}
+use Rattle.std.specs.Prelude.{Some, slice_get, slice_set, if◌then◌else◌, ◌==◌, ◌&&◌}
 use Rattle.std.proofs.lemmas.Bool.{cases_eq, eq-eqb, eqb-true}
 use Rattle.std.proofs.lemmas.List.{length-set}
-use Rattle.std.proofs.lemmas.Option.{slice_get_within}
 use Rattle.rvc_base.specs.Lawful.{tokens_on}
-use Rattle.net_model.specs.Cell.{Cell, number_on, IsSameActor, IsSame, Accepts}
+use Rattle.net_model.specs.Cell.{Cell, IsSameActor, Accepts}
 use Rattle.net_state.specs.Moving.{Gains, EachGains, only_to}
 
 pub some_is : {A : Type 0} (x y : A) → Some x ≡ Some y → x ≡ y
@@ -116,9 +115,9 @@ gains_token j q token old new accepts = record {
   state = accepts.state;
   inboxes = λ p low. ⊎_elim
       (λ same. subst (λ k. tokens_on new.inboxes k ≡ tokens_on old.inboxes k ++ only_to j q (token ∷ []) j k) (sym same)
-          (accepts.there ∙ ap (λ ts. tokens_on old.inboxes q ++ ts) (sym (only_there j q (token ∷ [])))))
+      (accepts.there ∙ ap (λ ts. tokens_on old.inboxes q ++ ts) (sym (only_there j q (token ∷ [])))))
       (λ differ. accepts.elsewhere p low differ
-          ∙ sym (ap (λ ts. tokens_on old.inboxes p ++ ts) (other_port j q (token ∷ []) j p differ) ∙ append-nil (tokens_on old.inboxes p)))
+      ∙ sym (ap (λ ts. tokens_on old.inboxes p ++ ts) (other_port j q (token ∷ []) j p differ) ∙ append-nil (tokens_on old.inboxes p)))
       (cases_eq p q);
   outboxes = accepts.outboxes;
   journal = accepts.journal;
@@ -164,14 +163,14 @@ each_gains_at j q tokens cells old new at gains = record {
   count = length-set cells j new;
   each = λ i before after was is. ⊎_elim
       (λ same.
-          let before_is : before ≡ old = some_is before old (sym was ∙ (ap (slice_get cells) same ∙ at)) in
-          let after_is : after ≡ new = some_is after new (sym is ∙ (ap (slice_get (slice_set cells j new)) same ∙ get_set_same cells j old new at)) in
-          subst (λ k. Gains (only_to j q tokens k) before after) (sym same)
-          (subst (λ c. Gains (only_to j q tokens j) c after) (sym before_is) (subst (λ c. Gains (only_to j q tokens j) old c) (sym after_is) gains)))
+      let before_is : before ≡ old = some_is before old (sym was ∙ (ap (slice_get cells) same ∙ at)) in
+      let after_is : after ≡ new = some_is after new (sym is ∙ (ap (slice_get (slice_set cells j new)) same ∙ get_set_same cells j old new at)) in
+      subst (λ k. Gains (only_to j q tokens k) before after) (sym same)
+      (subst (λ c. Gains (only_to j q tokens j) c after) (sym before_is) (subst (λ c. Gains (only_to j q tokens j) old c) (sym after_is) gains)))
       (λ differ.
-          let after_is : after ≡ before = some_is after before (sym is ∙ (get_set_other cells i j new differ ∙ was)) in
-          subst (λ c. Gains (only_to j q tokens i) before c) (sym after_is)
-          (gains_nothing (only_to j q tokens i) before (λ p. other_cell j q tokens i p differ)))
+      let after_is : after ≡ before = some_is after before (sym is ∙ (get_set_other cells i j new differ ∙ was)) in
+      subst (λ c. Gains (only_to j q tokens i) before c) (sym after_is)
+      (gains_nothing (only_to j q tokens i) before (λ p. other_cell j q tokens i p differ)))
       (cases_eq i j);
 }
 
@@ -189,5 +188,5 @@ pub gains_one_more : {X : Type 0} (j q : ℕ) (tokens : List ℤ) (token : ℤ) 
 gains_one_more j q tokens token start cells old new so_far at accepts =
     each_gains_as (λ i p. only_to j q tokens i p ++ only_to j q (token ∷ []) i p) (only_to j q (tokens ++ token ∷ [])) start (slice_set cells j new)
     (each_gains_then (only_to j q tokens) (only_to j q (token ∷ [])) start cells (slice_set cells j new) so_far
-        (each_gains_at j q (token ∷ []) cells old new at (gains_token j q token old new accepts)))
+    (each_gains_at j q (token ∷ []) cells old new at (gains_token j q token old new accepts)))
     (only_more j q tokens (token ∷ []))

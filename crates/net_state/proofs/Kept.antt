@@ -1,6 +1,6 @@
 -- What holds of all that is held stays so.
-use Rattle.std.proofs.Common.{◌≡◌, ◌≢◌, ℕ, zero, suc, ◌+◌, ◌<◌, ◌≤◌, Bool, true, false, List, [], ◌∷◌, ◌++◌, ℤ, length, map, refl, sym, ap, subst, ◌∙◌, arith, length-append, append-nil}
-use Rattle.std.specs.Prelude.{Option, None, Some, slice_get, slice_index_or, if◌then◌else◌, ◌↔◌}
+use Rattle.std.proofs.Common.{◌≡◌, ℕ, zero, suc, ◌+◌, ◌<◌, ◌≤◌, true, List, [], ◌∷◌, ◌++◌, ℤ, length, refl, sym, ap, subst, ◌∙◌, arith, length-append}
+use Rattle.std.specs.Prelude.{Some, slice_get, slice_index_or, ◌↔◌}
 use Rattle.std.proofs.lemmas.List.{length-map}
 use Rattle.rvc_base.specs.declared.scalar.Scalar.TheVariants.{Bool as Truth}
 use Rattle.rvc_base.specs.Storing.{conv}
@@ -8,15 +8,14 @@ use Rattle.rvc_base.specs.Lawful.{tokens_on}
 use Rattle.net_model.specs.declared.wiring.End.{End}
 use Rattle.net_model.specs.declared.wiring.End.TheVariants.{Leaf as AtLeaf, Net as AtNet}
 use Rattle.net_model.specs.declared.wiring.Link.{Link}
-use Rattle.net_model.specs.Network.{is_input, is_output, is_outside, is_leaf_port}
+use Rattle.net_model.specs.Network.{is_outside, is_leaf_port}
 use Rattle.net_model.specs.Cell.{Cell, number_on, IsSameActor}
 use Rattle.net_model.specs.Ready.{OnCell, OutboxHolds, InboxHolds, waiting_at, tokens_of}
-use Rattle.net_state.specs.Moving.{EachGains, EachClears, IsInput, IsOutput, IsWriter, AreApart, HasRoomAt, HasRoomBefore, CanCarry, sent_of, sent_from, carried, arriving}
+use Rattle.net_state.specs.Moving.{EachGains, EachClears, IsInput, IsOutput, IsWriter, AreApart, HasRoomAt, CanCarry, sent_from, carried, arriving}
 use Rattle.net_state.specs.Held.{AreCounted, FitsIn, HasPlace, HasRooms, OnRow, HasShapeOf, IsLeft, IsReader, IsRoomTable, IsWorking}
 use Rattle.net_state.proofs.Gaining.{there_too, actor_then}
-use Rattle.net_state.proofs.Coming.{on_cell, on_some, by_bool, is_own_port, is_that_port, if_true, if_false, none_arrives, apart_from}
+use Rattle.net_state.proofs.Coming.{on_cell, on_some, by_bool, is_own_port, is_that_port, if_true, if_false}
 use Rattle.net_state.proofs.Moved.{none_sent, moved_inbox, moved_count}
-use Rattle.net_state.proofs.Narrowing.{on_row}
 
 -- any link, for reading a list within its length
 abbrev pub any_link : Link
@@ -77,7 +76,7 @@ module _ {X : Type 0} (old new : List (Cell X)) (same : SameActors old new) wher
       let later = there_too old new inst.0 on.0 (sym same.count) on.1 in
       let enough : n ≤ number_on on.0.outbox_capacities port = subst (λ o. OnCell o (λ cell. n ≤ number_on cell.outbox_capacities port)) on.1 holds in
       let is : number_on later.0.outbox_capacities port ≡ number_on on.0.outbox_capacities port =
-          (same.each inst.0 on.0 later.0 on.1 later.1).same_outbox_capacities port on.2 in
+      (same.each inst.0 on.0 later.0 on.1 later.1).same_outbox_capacities port on.2 in
       on_some (slice_get new inst.0) (λ cell. n ≤ number_on cell.outbox_capacities port) later.0 later.1 (omega (arith, enough, is))
 
   pub same_inbox : (end : End) (n : ℕ) → IsReader old end → InboxHolds old n end → InboxHolds new n end
@@ -87,7 +86,7 @@ module _ {X : Type 0} (old new : List (Cell X)) (same : SameActors old new) wher
       let later = there_too old new inst.0 on.0 (sym same.count) on.1 in
       let enough : n ≤ number_on on.0.inbox_capacities port = subst (λ o. OnCell o (λ cell. n ≤ number_on cell.inbox_capacities port)) on.1 holds in
       let is : number_on later.0.inbox_capacities port ≡ number_on on.0.inbox_capacities port =
-          (same.each inst.0 on.0 later.0 on.1 later.1).same_inbox_capacities port on.2 in
+      (same.each inst.0 on.0 later.0 on.1 later.1).same_inbox_capacities port on.2 in
       on_some (slice_get new inst.0) (λ cell. n ≤ number_on cell.inbox_capacities port) later.0 later.1 (omega (arith, enough, is))
 
   pub same_read : (links : List Link) → ((i : ℕ) (cell : Cell X) → slice_get old i ≡ Some cell → (p : ℕ) → p < cell.actor.outs → (0 < number_on cell.outbox_capacities p) ↔ IsLeft links i p)
@@ -132,8 +131,8 @@ arriving_at cells (head ∷ links) zero link i p apart at leads =
 arriving_at cells (head ∷ links) (suc l) link i p apart at leads =
     if_false (is_leaf_port i p head.to) (carried cells head) (arriving cells links i p)
     (by_bool (is_leaf_port i p head.to)
-        (λ too. absurd (apart zero (suc l) head link (omega arith) refl at (is_that_port i p head.to too ∙ sym (is_that_port i p link.to leads))))
-        (λ none. none))
+    (λ too. absurd (apart zero (suc l) head link (omega arith) refl at (is_that_port i p head.to too ∙ sym (is_that_port i p link.to leads))))
+    (λ none. none))
     ∙ arriving_at cells links l link i p (λ m n that other low. apart (suc m) (suc n) that other (omega (arith, low))) at leads
 
 -- what a link carries has room at its end
@@ -157,10 +156,10 @@ can_carry_of cells capacity waited link fits = record { size = fits.size; writer
         let holds : OnCell (slice_get cells inst.0) (λ cell. capacity ≤ number_on cell.inbox_capacities port) = subst (InboxHolds cells capacity) to fits.inbox in
         let enough : capacity ≤ number_on on.0.inbox_capacities port = subst (λ o. OnCell o (λ cell. capacity ≤ number_on cell.inbox_capacities port)) on.1 holds in
         let waits : length (waiting_at cells link.to) ≡ length (tokens_on on.0.inboxes port) =
-            ap (λ end. length (waiting_at cells end)) to ∙ ap (λ o. length (tokens_of o port)) on.1 in
+        ap (λ end. length (waiting_at cells end)) to ∙ ap (λ o. length (tokens_of o port)) on.1 in
         subst (λ end. HasRoomAt cells end (length (sent_from cells link.from))) (sym to)
         (on_some (slice_get cells inst.0) (λ cell. (port < cell.actor.ins) × (length (tokens_on cell.inboxes port) + length (sent_from cells link.from) ≤ number_on cell.inbox_capacities port))
-            on.0 on.1 (on.2, omega (arith, enough, waits, few)))
+        on.0 on.1 (on.2, omega (arith, enough, waits, few)))
 
 module _ {X : Type 0} (old mid new : List (Cell X)) (links : List Link) (capacities waited later : List ℕ) (working : IsWorking old links capacities waited)
     (gains : EachGains (arriving old links) old mid) (clears : EachClears mid new) (counted : AreCounted new links later) where
@@ -181,14 +180,14 @@ module _ {X : Type 0} (old mid new : List (Cell X)) (links : List Link) (capacit
       let after = there_too old new inst.0 on.0 (sym (moved_count old mid new links gains clears)) on.1 in
       let leads : is_leaf_port inst.0 port link.to ≡ true = ap (is_leaf_port inst.0 port) to ∙ is_own_port inst.0 port in
       let is : tokens_on after.0.inboxes port ≡ tokens_on on.0.inboxes port ++ carried old link =
-          moved_inbox old mid new links gains clears inst.0 port on.0 after.0 on.1 after.1 on.2
-          ∙ ap (λ ts. tokens_on on.0.inboxes port ++ ts) (arriving_at old links l link inst.0 port working.apart at leads) in
+      moved_inbox old mid new links gains clears inst.0 port on.0 after.0 on.1 after.1 on.2
+      ∙ ap (λ ts. tokens_on on.0.inboxes port ++ ts) (arriving_at old links l link inst.0 port working.apart at leads) in
       let len : length (tokens_on after.0.inboxes port) ≡ length (tokens_on on.0.inboxes port) + length (carried old link) =
-          ap (λ ts. length ts) is ∙ length-append (tokens_on on.0.inboxes port) (carried old link) in
+      ap (λ ts. length ts) is ∙ length-append (tokens_on on.0.inboxes port) (carried old link) in
       let now : length (waiting_at new link.to) ≡ length (tokens_on after.0.inboxes port) =
-          ap (λ end. length (waiting_at new end)) to ∙ ap (λ o. length (tokens_of o port)) after.1 in
+      ap (λ end. length (waiting_at new end)) to ∙ ap (λ o. length (tokens_of o port)) after.1 in
       let then_ : length (waiting_at old link.to) ≡ length (tokens_on on.0.inboxes port) =
-          ap (λ end. length (waiting_at old end)) to ∙ ap (λ o. length (tokens_of o port)) on.1 in
+      ap (λ end. length (waiting_at old end)) to ∙ ap (λ o. length (tokens_of o port)) on.1 in
       let sent : length (carried old link) ≡ length (sent_from old link.from) = length-map (sent_from old link.from) (conv link.kind) in
       by_from link.from refl (omega (arith, len, now, then_, sent))
     where

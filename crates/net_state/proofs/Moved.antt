@@ -1,6 +1,6 @@
 -- A delivery of inner and output links: the state that the cells hold after it.
-use Rattle.std.proofs.Common.{◌≡◌, ℕ, zero, suc, ◌+◌, ◌-◌, ◌<◌, ◌≤◌, min, Bool, true, false, List, [], ◌∷◌, ◌++◌, ℤ, length, map, take, drop, refl, sym, ap, subst, ◌∙◌, arith, append-nil, length-append}
-use Rattle.std.specs.Prelude.{Option, None, Some, slice_get, slice_index_or, if◌then◌else◌}
+use Rattle.std.proofs.Common.{◌≡◌, ℕ, zero, suc, ◌+◌, ◌-◌, ◌<◌, ◌≤◌, min, true, false, List, [], ◌∷◌, ◌++◌, ℤ, length, map, take, drop, refl, sym, ap, subst, ◌∙◌, arith, append-nil}
+use Rattle.std.specs.Prelude.{Some, slice_get, if◌then◌else◌}
 use Rattle.std.proofs.lemmas.List.{take_all, drop-append-le, drop_all, length-take-le, take-append-drop}
 use Rattle.rvc_base.specs.Storing.{conv}
 use Rattle.rvc_base.specs.Lawful.{tokens_on}
@@ -9,11 +9,11 @@ use Rattle.net_model.specs.declared.wiring.End.TheVariants.{Leaf as AtLeaf, Net 
 use Rattle.net_model.specs.declared.wiring.Link.{Link}
 use Rattle.net_model.specs.Network.{Network, is_input, is_output, is_outside, is_leaf_port}
 use Rattle.net_model.specs.State.{Flow, State, waiting, untaken, inbox}
-use Rattle.net_model.specs.Event.{each_flow, after_arrival}
+use Rattle.net_model.specs.Event.{each_flow}
 use Rattle.net_model.specs.Trace.{arrivals, delivered}
-use Rattle.net_model.specs.Cell.{Cell, Clears}
-use Rattle.net_state.specs.Moving.{Gains, EachGains, EachClears, sent_of, sent_from, carried, arriving, IsWriter, IsOutput}
-use Rattle.net_state.specs.Standing.{AreAllOut, IsNetOf, LiesIn, IsHeld, AreHeld, InboxesHold, Stands, inside_delivered, after_inside}
+use Rattle.net_model.specs.Cell.{Cell}
+use Rattle.net_state.specs.Moving.{EachGains, EachClears, sent_of, sent_from, carried, arriving, IsWriter, IsOutput}
+use Rattle.net_state.specs.Standing.{AreAllOut, IsNetOf, LiesIn, IsHeld, AreHeld, Stands, inside_delivered, after_inside}
 use Rattle.net_state.proofs.Gaining.{there_too}
 use Rattle.net_state.proofs.Coming.{by_bool, is_that_port, if_true, if_false, on_cell}
 
@@ -58,11 +58,11 @@ waits_more cells link flow capacity held not_out = by_from link.from refl
     by_from (AtLeaf inst port) from =
         let not_in : is_input link ≡ false = ap is_outside from in
         let lies : drop flow.arrived flow.sent ≡ carried cells link =
-            (let l : LiesIn cells link (drop flow.arrived flow.sent) (AtLeaf inst port) = subst (LiesIn cells link (drop flow.arrived flow.sent)) from held.lies in l)
-            ∙ sym (ap (λ end. map (conv link.kind) (sent_from cells end)) from) in
+        (let l : LiesIn cells link (drop flow.arrived flow.sent) (AtLeaf inst port) = subst (LiesIn cells link (drop flow.arrived flow.sent)) from held.lies in l)
+        ∙ sym (ap (λ end. map (conv link.kind) (sent_from cells end)) from) in
         let arrived : flow.arrived + arrivals link flow ≡ length flow.sent = ap (λ n. flow.arrived + n) (arrives_inside link flow not_in) ∙ all_arrived flow held.arrived in
         let taken : (if is_output link then flow.taken + arrivals link flow else flow.taken) ≡ flow.taken =
-            if_false (is_output link) (flow.taken + arrivals link flow) flow.taken not_out in
+        if_false (is_output link) (flow.taken + arrivals link flow) flow.taken not_out in
         ap waiting (if_false (is_input link) flow (delivered link flow) not_in)
         ∙ (ap (λ n. drop n (take (flow.arrived + arrivals link flow) flow.sent)) taken
         ∙ (ap (λ n. drop flow.taken (take n flow.sent)) arrived
@@ -87,17 +87,17 @@ inbox_delivered cells i p (link ∷ links) (flow ∷ flows) [] held = absurd hel
 inbox_delivered cells i p (link ∷ links) (flow ∷ flows) (capacity ∷ capacities) held =
     by_bool (is_leaf_port i p link.to)
     (λ leads.
-        if_true (is_leaf_port i p link.to) (waiting (inside_delivered link flow)) (inbox i p links (each_flow inside_delivered links flows)) leads
-        ∙ (waits_more cells link flow capacity held.0 (not_output i p link leads)
-        ∙ (ap (λ ts. ts ++ carried cells link) (sym (if_true (is_leaf_port i p link.to) (waiting flow) (inbox i p links flows) leads))
-        ∙ ap (λ ts. (if is_leaf_port i p link.to then waiting flow else inbox i p links flows) ++ ts)
-            (sym (if_true (is_leaf_port i p link.to) (carried cells link) (arriving cells links i p) leads)))))
+    if_true (is_leaf_port i p link.to) (waiting (inside_delivered link flow)) (inbox i p links (each_flow inside_delivered links flows)) leads
+    ∙ (waits_more cells link flow capacity held.0 (not_output i p link leads)
+    ∙ (ap (λ ts. ts ++ carried cells link) (sym (if_true (is_leaf_port i p link.to) (waiting flow) (inbox i p links flows) leads))
+    ∙ ap (λ ts. (if is_leaf_port i p link.to then waiting flow else inbox i p links flows) ++ ts)
+    (sym (if_true (is_leaf_port i p link.to) (carried cells link) (arriving cells links i p) leads)))))
     (λ leads.
-        if_false (is_leaf_port i p link.to) (waiting (inside_delivered link flow)) (inbox i p links (each_flow inside_delivered links flows)) leads
-        ∙ (inbox_delivered cells i p links flows capacities held.1
-        ∙ (ap (λ ts. ts ++ arriving cells links i p) (sym (if_false (is_leaf_port i p link.to) (waiting flow) (inbox i p links flows) leads))
-        ∙ ap (λ ts. (if is_leaf_port i p link.to then waiting flow else inbox i p links flows) ++ ts)
-            (sym (if_false (is_leaf_port i p link.to) (carried cells link) (arriving cells links i p) leads)))))
+    if_false (is_leaf_port i p link.to) (waiting (inside_delivered link flow)) (inbox i p links (each_flow inside_delivered links flows)) leads
+    ∙ (inbox_delivered cells i p links flows capacities held.1
+    ∙ (ap (λ ts. ts ++ arriving cells links i p) (sym (if_false (is_leaf_port i p link.to) (waiting flow) (inbox i p links flows) leads))
+    ∙ ap (λ ts. (if is_leaf_port i p link.to then waiting flow else inbox i p links flows) ++ ts)
+    (sym (if_false (is_leaf_port i p link.to) (carried cells link) (arriving cells links i p) leads)))))
 
 -- Links after a delivery.
 
@@ -117,9 +117,9 @@ held_inside new link flow capacity same within before gone none writer not_in =
       arrived = omega (arith, arrived);
       taken = by_bool (is_output link)
           (λ out. let taken : (if is_output link then flow.taken + arrivals link flow else flow.taken) ≡ flow.taken + arrivals link flow =
-              if_true (is_output link) (flow.taken + arrivals link flow) flow.taken out in omega (arith, taken, before))
+          if_true (is_output link) (flow.taken + arrivals link flow) flow.taken out in omega (arith, taken, before))
           (λ inner. let taken : (if is_output link then flow.taken + arrivals link flow else flow.taken) ≡ flow.taken =
-              if_false (is_output link) (flow.taken + arrivals link flow) flow.taken inner in omega (arith, taken, before));
+          if_false (is_output link) (flow.taken + arrivals link flow) flow.taken inner in omega (arith, taken, before));
       gone = λ out. if_true (is_output link) (flow.taken + arrivals link flow) flow.taken out ∙ ap (λ n. n + arrivals link flow) (gone out);
     }
   where
@@ -152,9 +152,10 @@ all_held_delivered old new [] [] (capacity ∷ capacities) held none writers = a
 all_held_delivered old new [] (flow ∷ flows) capacities held none writers = absurd held
 all_held_delivered old new (link ∷ links) [] capacities held none writers = absurd held
 all_held_delivered old new (link ∷ links) (flow ∷ flows) [] held none writers = absurd held
-all_held_delivered old new (link ∷ links) (flow ∷ flows) (capacity ∷ capacities) held none writers =
-    (held_delivered old new link flow capacity held.0 none (writers zero link refl),
-    all_held_delivered old new links flows capacities held.1 none (λ m. writers (suc m)))
+all_held_delivered old new (link ∷ links) (flow ∷ flows) (capacity ∷ capacities) held none writers = (
+  held_delivered old new link flow capacity held.0 none (writers zero link refl),
+  all_held_delivered old new links flows capacities held.1 none (λ m. writers (suc m)),
+)
 
 -- The whole.
 

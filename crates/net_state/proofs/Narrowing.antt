@@ -1,7 +1,7 @@
 -- The table of rooms.
 use Rattle.std.proofs.Common.{◌≡◌, ◌≢◌, ℕ, zero, suc, ◌+◌, ◌-◌, ◌<◌, ◌≤◌, min, Bool, true, false, List, [], ◌∷◌, length, map, drop, replicate, refl, sym, ap, subst, ◌∙◌, ⊎_elim, arith}
 use Rattle.std.specs.Prelude.{Option, None, Some, slice_get, slice_set, slice_index_or, if◌then◌else◌, ◌==◌, ◌&&◌}
-use Rattle.std.proofs.lemmas.Bool.{cases_eq, eq-eqb, cases_lt}
+use Rattle.std.proofs.lemmas.Bool.{cases_eq, eq-eqb}
 use Rattle.std.proofs.lemmas.List.{length-set, length-replicate, get_or-replicate, get_or-set_same, get_or-set_other, drop_more, map-set, length-map}
 use Rattle.std.proofs.lemmas.Option.{slice_get_within, slice_get-map, slice_get-get_or}
 use Rattle.std.specs.Option.{option_map}
@@ -31,9 +31,9 @@ shape_set table i row new at same = record {
   rows = length-set table i new;
   widths = λ k before after was is. ⊎_elim
       (λ here.
-          let before_is : before ≡ row = some_is before row (sym was ∙ (ap (slice_get table) here ∙ at)) in
-          let after_is : after ≡ new = some_is after new (sym is ∙ (ap (slice_get (slice_set table i new)) here ∙ get_set_same table i row new at)) in
-          ap (λ r. length r) after_is ∙ (same ∙ sym (ap (λ r. length r) before_is)))
+      let before_is : before ≡ row = some_is before row (sym was ∙ (ap (slice_get table) here ∙ at)) in
+      let after_is : after ≡ new = some_is after new (sym is ∙ (ap (slice_get (slice_set table i new)) here ∙ get_set_same table i row new at)) in
+      ap (λ r. length r) after_is ∙ (same ∙ sym (ap (λ r. length r) before_is)))
       (λ differ. ap (λ r. length r) (some_is after before (sym is ∙ (get_set_other table k i new differ ∙ was))))
       (cases_eq k i);
 }
@@ -53,10 +53,10 @@ widening_more n old now row so_far at = record {
       (shape_set now n row (replicate (length row) unread_room) at (length-replicate (length row) unread_room));
   wide = λ i p after low is within. ⊎_elim
       (λ here.
-          let after_is : after ≡ replicate (length row) unread_room =
-              some_is after _ (sym is ∙ (ap (slice_get (slice_set now n (replicate (length row) unread_room))) here ∙ get_set_same now n row (replicate (length row) unread_room) at)) in
-          let len : length after ≡ length row = ap (λ r. length r) after_is ∙ length-replicate (length row) unread_room in
-          ap (λ r. slice_index_or r p 0) after_is ∙ get_or-replicate (length row) p unread_room 0 (omega (arith, len, within)))
+      let after_is : after ≡ replicate (length row) unread_room =
+      some_is after _ (sym is ∙ (ap (slice_get (slice_set now n (replicate (length row) unread_room))) here ∙ get_set_same now n row (replicate (length row) unread_room) at)) in
+      let len : length after ≡ length row = ap (λ r. length r) after_is ∙ length-replicate (length row) unread_room in
+      ap (λ r. slice_index_or r p 0) after_is ∙ get_or-replicate (length row) p unread_room 0 (omega (arith, len, within)))
       (λ differ. so_far.wide i p after (omega (arith, low, differ)) (sym (get_set_other now i n (replicate (length row) unread_room) differ) ∙ is) within)
       (cases_eq i n);
 }
@@ -86,28 +86,28 @@ narrowed table j q room row at low = record {
   shape = shape_set table j row (slice_set row q (min room (slice_index_or row q 0))) at (length-set row q (min room (slice_index_or row q 0)));
   each = λ i p before after was is within. ⊎_elim
       (λ here.
-          let before_is : before ≡ row = some_is before row (sym was ∙ (ap (slice_get table) here ∙ at)) in
-          let after_is : after ≡ slice_set row q (min room (slice_index_or row q 0)) =
-              some_is after _ (sym is ∙ (ap (slice_get (slice_set table j (slice_set row q (min room (slice_index_or row q 0))))) here ∙ get_set_same table j row _ at)) in
-          ⊎_elim
-          (λ there.
-              let test : ((i == j) && (p == q)) ≡ true = same_port i p j q here there in
-              ap (λ r. slice_index_or r p 0) after_is
-              ∙ (ap (λ k. slice_index_or (slice_set row q (min room (slice_index_or row q 0))) k 0) there
-              ∙ (get_or-set_same row q (min room (slice_index_or row q 0)) 0 low
-              ∙ (ap (λ k. min room (slice_index_or row k 0)) (sym there)
-              ∙ (ap (λ r. min room (slice_index_or r p 0)) (sym before_is)
-              ∙ sym (if_so ((i == j) && (p == q)) (min room (slice_index_or before p 0)) (slice_index_or before p 0) test))))))
-          (λ differ.
-              ap (λ r. slice_index_or r p 0) after_is
-              ∙ (get_or-set_other row q p (min room (slice_index_or row q 0)) 0 differ
-              ∙ (ap (λ r. slice_index_or r p 0) (sym before_is)
-              ∙ sym (if_not ((i == j) && (p == q)) (min room (slice_index_or before p 0)) (slice_index_or before p 0) (other_place i p j q differ)))))
-          (cases_eq p q))
+      let before_is : before ≡ row = some_is before row (sym was ∙ (ap (slice_get table) here ∙ at)) in
+      let after_is : after ≡ slice_set row q (min room (slice_index_or row q 0)) =
+      some_is after _ (sym is ∙ (ap (slice_get (slice_set table j (slice_set row q (min room (slice_index_or row q 0))))) here ∙ get_set_same table j row _ at)) in
+      ⊎_elim
+      (λ there.
+      let test : ((i == j) && (p == q)) ≡ true = same_port i p j q here there in
+      ap (λ r. slice_index_or r p 0) after_is
+      ∙ (ap (λ k. slice_index_or (slice_set row q (min room (slice_index_or row q 0))) k 0) there
+      ∙ (get_or-set_same row q (min room (slice_index_or row q 0)) 0 low
+      ∙ (ap (λ k. min room (slice_index_or row k 0)) (sym there)
+      ∙ (ap (λ r. min room (slice_index_or r p 0)) (sym before_is)
+      ∙ sym (if_so ((i == j) && (p == q)) (min room (slice_index_or before p 0)) (slice_index_or before p 0) test))))))
       (λ differ.
-          let after_is : after ≡ before = some_is after before (sym is ∙ (get_set_other table i j _ differ ∙ was)) in
-          ap (λ r. slice_index_or r p 0) after_is
-          ∙ sym (if_not ((i == j) && (p == q)) (min room (slice_index_or before p 0)) (slice_index_or before p 0) (other_row i p j q differ)))
+      ap (λ r. slice_index_or r p 0) after_is
+      ∙ (get_or-set_other row q p (min room (slice_index_or row q 0)) 0 differ
+      ∙ (ap (λ r. slice_index_or r p 0) (sym before_is)
+      ∙ sym (if_not ((i == j) && (p == q)) (min room (slice_index_or before p 0)) (slice_index_or before p 0) (other_place i p j q differ)))))
+      (cases_eq p q))
+      (λ differ.
+      let after_is : after ≡ before = some_is after before (sym is ∙ (get_set_other table i j _ differ ∙ was)) in
+      ap (λ r. slice_index_or r p 0) after_is
+      ∙ sym (if_not ((i == j) && (p == q)) (min room (slice_index_or before p 0)) (slice_index_or before p 0) (other_row i p j q differ)))
       (cases_eq i j);
 }
   where
@@ -151,7 +151,7 @@ narrowing_more l links capacities waited old now new link so_far at some_capacit
       let before = there_too new now i row narrows.shape.rows is in
       let len : length row ≡ length before.0 = narrows.shape.widths i before.0 row before.1 is in
       let room : slice_index_or before.0 p 0 ≡ room_of i p (drop (suc l) links) (drop (suc l) capacities) (drop (suc l) waited) =
-          so_far.rooms i p before.0 before.1 (omega (arith, len, within)) in
+      so_far.rooms i p before.0 before.1 (omega (arith, len, within)) in
       narrows.each i p before.0 row before.1 is (omega (arith, len, within))
       ∙ (ap (λ n. if is_leaf_port i p link.from then min (slice_index_or capacities l 0 - slice_index_or waited l 0) n else n) room
       ∙ sym (ap (λ ls. room_of i p ls (drop l capacities) (drop l waited)) (drop_at l links link at)

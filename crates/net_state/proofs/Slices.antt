@@ -1,5 +1,5 @@
 -- Vectors that were lent as slices.
-use Rattle.std.proofs.Common.{◌≡◌, ℕ, ◌≤◌, List, ◌++◌, length, take, drop, sym, ap, ◌∙◌, arith, append-nil}
+use Rattle.std.proofs.Common.{◌≡◌, ℕ, List, ◌++◌, length, take, drop}
 use Rattle.std.proofs.lemmas.List.{take_at}
 
 -- what was written to the whole of a vector is the whole of it

@@ -1,21 +1,20 @@
 -- What is held at the start.
-use Rattle.std.proofs.Common.{◌≡◌, ◌≢◌, ℕ, zero, suc, ◌+◌, ◌<◌, ◌≤◌, Bool, true, false, List, [], ◌∷◌, ◌++◌, ℤ, length, map, take, drop, refl, sym, ap, subst, ◌∙◌, ⊎_elim, arith, append-nil, length-append}
-use Rattle.std.specs.Prelude.{Option, None, Some, slice_get, slice_index_or, if◌then◌else◌, ◌↔◌}
+use Rattle.std.proofs.Common.{◌≡◌, ℕ, zero, suc, ◌+◌, ◌<◌, ◌≤◌, true, false, List, [], ◌∷◌, ◌++◌, ℤ, length, map, take, drop, refl, sym, ap, subst, ◌∙◌, ⊎_elim, arith, length-append}
+use Rattle.std.specs.Prelude.{Some, slice_get, slice_index_or}
 use Rattle.std.proofs.lemmas.Bool.{cases_eq}
-use Rattle.std.proofs.lemmas.List.{length-map, take_more, take_all, map-append, drop_at}
-use Rattle.std.proofs.lemmas.Option.{slice_get_within, get_or_from_slice_get}
+use Rattle.std.proofs.lemmas.List.{length-map, drop_at}
 use Rattle.rvc_base.specs.Storing.{conv}
 use Rattle.rvc_base.specs.Lawful.{tokens_on}
 use Rattle.net_model.specs.declared.wiring.End.{End}
 use Rattle.net_model.specs.declared.wiring.End.TheVariants.{Leaf as AtLeaf, Net as AtNet}
 use Rattle.net_model.specs.declared.wiring.Link.{Link}
-use Rattle.net_model.specs.Network.{Network, NetPort, is_input, is_output, is_outside, is_leaf_port}
-use Rattle.net_model.specs.State.{Flow, State, waiting, inbox, fed_by}
-use Rattle.net_model.specs.Cell.{Cell, number_on, HasNothingOut}
-use Rattle.net_model.specs.Ready.{OnCell, waiting_at, tokens_of, given_flow, given_state}
-use Rattle.net_state.specs.Moving.{IsOutput, IsWriter, AreApart, sent_of, sent_from}
-use Rattle.net_state.specs.Held.{AreCounted, CanWork, FitsIn, HasRooms, HasShapeOf, HasWidths, IsJoinedTo, IsLeft, IsReader, IsRoomTable, IsWorking, NoneLeads, capacity_of}
-use Rattle.net_state.specs.Standing.{AreHeld, InboxesHold, IsHeld, IsNetOf, LiesIn, StandAtStart, Stands}
+use Rattle.net_model.specs.Network.{Network, is_outside, is_leaf_port}
+use Rattle.net_model.specs.State.{waiting, inbox, fed_by}
+use Rattle.net_model.specs.Cell.{Cell, HasNothingOut}
+use Rattle.net_model.specs.Ready.{OnCell, waiting_at, tokens_of, given_flow}
+use Rattle.net_state.specs.Moving.{IsWriter, sent_of, sent_from}
+use Rattle.net_state.specs.Held.{AreCounted, CanWork, FitsIn, HasRooms, HasShapeOf, HasWidths, IsReader, IsRoomTable, IsWorking, NoneLeads, capacity_of}
+use Rattle.net_state.specs.Standing.{AreHeld, IsHeld, LiesIn, StandAtStart}
 use Rattle.net_state.proofs.Gaining.{some_is, there_too}
 use Rattle.net_state.proofs.Coming.{by_bool, if_true, if_false, is_that_port, on_cell}
 
@@ -45,9 +44,9 @@ tabling_more n outs cells table row so_far here len = record {
       let pushed = get_pushed table row i that is in
       ⊎_elim
       (λ same.
-          let on = on_cell (slice_get cells n) (λ cell. outs ≡ cell.actor.outs) here in
-          let cell_is : cell ≡ on.0 = some_is cell on.0 (sym at ∙ (ap (slice_get cells) (let e : i ≡ n = omega (arith, same, so_far.rows) in e) ∙ on.1)) in
-          ap (λ r. length r) (pushed.1 same) ∙ (len ∙ (on.2 ∙ sym (ap (λ c. c.actor.outs) cell_is))))
+      let on = on_cell (slice_get cells n) (λ cell. outs ≡ cell.actor.outs) here in
+      let cell_is : cell ≡ on.0 = some_is cell on.0 (sym at ∙ (ap (slice_get cells) (let e : i ≡ n = omega (arith, same, so_far.rows) in e) ∙ on.1)) in
+      ap (λ r. length r) (pushed.1 same) ∙ (len ∙ (on.2 ∙ sym (ap (λ c. c.actor.outs) cell_is))))
       (λ differ. so_far.widths i cell that at (pushed.0 (omega (arith, differ, pushed.2))))
       (cases_eq i (length table));
 }
@@ -129,11 +128,11 @@ module _ {X : Type 0} (net : Network X) (cells : List (Cell X)) (inputs : List (
   inbox_given (link ∷ links) i p none =
       by_bool (is_leaf_port i p link.to)
       (λ leads.
-          if_true (is_leaf_port i p link.to) (waiting (given_flow net cells inputs link)) (inbox i p links (map (given_flow net cells inputs) links)) leads
-          ∙ (waits_given link ∙ ap (waiting_at cells) (is_that_port i p link.to leads)))
+      if_true (is_leaf_port i p link.to) (waiting (given_flow net cells inputs link)) (inbox i p links (map (given_flow net cells inputs) links)) leads
+      ∙ (waits_given link ∙ ap (waiting_at cells) (is_that_port i p link.to leads)))
       (λ leads.
-          if_false (is_leaf_port i p link.to) (waiting (given_flow net cells inputs link)) (inbox i p links (map (given_flow net cells inputs) links)) leads
-          ∙ inbox_given links i p (λ rest. none (none_too leads rest)))
+      if_false (is_leaf_port i p link.to) (waiting (given_flow net cells inputs link)) (inbox i p links (map (given_flow net cells inputs) links)) leads
+      ∙ inbox_given links i p (λ rest. none (none_too leads rest)))
     where
       none_too : is_leaf_port i p link.to ≡ false → NoneLeads links i p → NoneLeads (link ∷ links) i p
       none_too leads rest zero that at = ap (λ k. is_leaf_port i p k.to) (sym (some_is link that at)) ∙ leads
@@ -170,11 +169,11 @@ start_stands cells links can = λ net inputs is. record {
   inboxes = λ i cell at p low.
       let here : tokens_of (slice_get cells i) p ≡ tokens_on cell.inboxes p = ap (λ o. tokens_of o p) at in
       sym (inbox_given net cells inputs net.links i p
-          (λ none. here ∙ can.unlinked i cell at p low (λ l link there. none l link (ap (λ ls. slice_get ls l) is.links_are ∙ there)))
-          ∙ here);
+      (λ none. here ∙ can.unlinked i cell at p low (λ l link there. none l link (ap (λ ls. slice_get ls l) is.links_are ∙ there)))
+      ∙ here);
   flows = subst (λ ls. AreHeld cells net.links (map (given_flow net cells inputs) net.links) (map capacity_of ls)) is.links_are
       (all_held_given net cells inputs net.links (λ l link at.
-          let joined = can.joined l link (sym (ap (λ ls. slice_get ls l) is.links_are) ∙ at) in
-          (joined.writer, none_sent_from cells can.all_out link.from joined.writer)));
+      let joined = can.joined l link (sym (ap (λ ls. slice_get ls l) is.links_are) ∙ at) in
+      (joined.writer, none_sent_from cells can.all_out link.from joined.writer)));
   untrapped = refl;
 }

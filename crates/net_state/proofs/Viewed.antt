@@ -1,6 +1,6 @@
 -- Cells as contracts see them, at their places.
-use Rattle.std.proofs.Common.{◌≡◌, ◌≢◌, ℕ, ◌<◌, List, [], ◌∷◌, ℤ, length, map, refl, sym, ap, subst, ◌∙◌}
-use Rattle.std.specs.Prelude.{Option, None, Some, slice_get, slice_set, slice_index_or}
+use Rattle.std.proofs.Common.{◌≡◌, ℕ, ◌<◌, List, [], ◌∷◌, ℤ, length, map, sym, ap, subst, ◌∙◌}
+use Rattle.std.specs.Prelude.{Some, slice_get, slice_set, slice_index_or}
 use Rattle.std.proofs.lemmas.List.{map-set, length-set}
 use Rattle.std.proofs.lemmas.Option.{slice_get-get_or, slice_get-map}
 use Rattle.std.specs.Option.{option_map}
@@ -20,7 +20,7 @@ module _ {C X : Type 0} (view : C → Cell X) where
       let accepts : Accepts (view (slice_index_or cells i d)) p token (view new) = subst (λ t. Accepts (view (slice_index_or cells i d)) p t (view new)) same takes in
       subst (EachGains (only_to i p (token ∷ [])) (map view cells)) (sym (map-set view cells i new))
       (each_gains_at i p (token ∷ []) (map view cells) (view (slice_index_or cells i d)) (view new) (viewed cells i d low)
-          (gains_token i p token (view (slice_index_or cells i d)) (view new) accepts))
+      (gains_token i p token (view (slice_index_or cells i d)) (view new) accepts))
 
   pub cleared_at : (cells : List C) (i : ℕ) (d new : C) → i < length cells → Clears (view (slice_index_or cells i d)) (view new)
       → ClearsAt i (map view cells) (map view (slice_set cells i new))

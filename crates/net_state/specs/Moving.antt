@@ -1,14 +1,13 @@
 -- What moves between the cells of a network: tokens that come in, and outboxes that are emptied.
-use Rattle.std.specs.Prelude.{◌≡◌, ◌≢◌, ℕ, ◌+◌, ◌≤◌, ◌<◌, ◌==◌, ◌&&◌, List, [], ◌∷◌, ◌++◌, ℤ, length, map, slice_get, Option, None, Some, if◌then◌else◌}
-use Rattle.rvc_base.specs.declared.scalar.Scalar.{Scalar}
+use Rattle.std.specs.Prelude.{◌≡◌, ◌≢◌, ℕ, ◌+◌, ◌≤◌, ◌<◌, ◌==◌, ◌&&◌, false, List, [], ◌∷◌, ◌++◌, ℤ, length, map, slice_get, Option, None, Some, if◌then◌else◌}
 use Rattle.rvc_base.specs.Storing.{IsSize, conv}
 use Rattle.rvc_base.specs.Lawful.{tokens_on}
 use Rattle.net_model.specs.declared.wiring.End.{End}
 use Rattle.net_model.specs.declared.wiring.End.TheVariants.{Leaf as AtLeaf, Net as AtNet}
 use Rattle.net_model.specs.declared.wiring.Link.{Link}
-use Rattle.net_model.specs.Network.{is_leaf_port}
+use Rattle.net_model.specs.Network.{is_input, is_leaf_port}
 use Rattle.net_model.specs.Cell.{Cell, number_on, IsSameActor, SameOutboxes, Clears}
-use Rattle.net_model.specs.Ready.{OnCell, tokens_of}
+use Rattle.net_model.specs.Ready.{OnCell}
 
 -- the tokens that were sent on a port and haven't left yet
 abbrev pub sent_of : {X : Type 0} → Option (Cell X) → ℕ → List ℤ
@@ -94,3 +93,17 @@ AreApart links = (l m : ℕ) (link other : Link) → l < m → slice_get links l
 
 abbrev pub CanCarryAll : {X : Type 0} → List (Cell X) → List Link → Type 0
 CanCarryAll cells links = (l : ℕ) (link : Link) → slice_get links l ≡ Some link → CanCarry cells link
+
+-- a link that begins at a cell
+abbrev pub IsFromCell : Option Link → Type 0
+IsFromCell None = ⊥
+IsFromCell (Some link) = is_input link ≡ false
+
+-- what was sent on a link, as its reader stores it
+abbrev pub carried_on : {X : Type 0} → List (Cell X) → Option Link → List ℤ
+carried_on cells None = []
+carried_on cells (Some link) = carried cells link
+
+-- each link begins at a port that is there, and has a type of tokens
+abbrev pub WritersFit : {X : Type 0} → List (Cell X) → List Link → Type 0
+WritersFit cells links = (l : ℕ) (link : Link) → slice_get links l ≡ Some link → IsSize link.kind × IsWriter cells link.from

@@ -11,8 +11,7 @@ use Rattle.net_model.specs.Event.{each_flow}
 use Rattle.net_model.specs.Trace.{delivered}
 use Rattle.net_model.specs.Cell.{Cell, HasNothingOut}
 use Rattle.net_model.specs.Ready.{given_state}
-use Rattle.net_state.specs.Moving.{carried, sent_of}
-
+use Rattle.net_state.specs.Moving.{sent_of}
 
 -- The network whose leaves are these cells' actors, joined by these links. Its paths, classes and ports are any.
 pub record IsNetOf {X : Type 0} (net : Network X) (cells : List (Cell X)) (links : List Link) : Type 0 where
@@ -79,11 +78,6 @@ StandAtStart {X} cells links capacities = (net : Network X) (inputs : List (List
 
 -- Reading what was sent.
 
--- link l begins at a cell
-abbrev pub IsFromCell : Option Link → Type 0
-IsFromCell None = ⊥
-IsFromCell (Some link) = is_input link ≡ false
-
 -- what was sent on a link and hasn't arrived
 abbrev pub unarrived : Option Flow → List ℤ
 unarrived None = []
@@ -93,8 +87,3 @@ unarrived (Some flow) = drop flow.arrived flow.sent
 abbrev pub IsTrueOfUnarrived : {X : Type 0} → List (Cell X) → List Link → List ℕ → ℕ → (List ℤ → Type 0) → Type 0
 IsTrueOfUnarrived {X} cells links capacities l P = (net : Network X) (s : State X) → IsNetOf net cells links → Stands net cells capacities s
     → P (unarrived (slice_get s.flows l))
-
--- what was sent on a link from a cell, as its reader stores it
-abbrev pub carried_on : {X : Type 0} → List (Cell X) → Option Link → List ℤ
-carried_on cells None = []
-carried_on cells (Some link) = carried cells link

@@ -4,7 +4,7 @@ ghost use Rattle.std.specs.Prelude.{◌≡◌, ◌≤◌, ◌<◌, [], ◌∷◌
 ghost use Rattle.rvc_base.specs.Storing.{IsSize, conv};
 ghost use Rattle.net_state.specs.Moving.{AreApart, CanCarry, CanCarryAll, EachGains, HasRoomBefore, IsOutput, IsWriter, arriving, carried, only_to, sent_of};
 
-use crate::places::{store_at, sent_on, sent_token};
+use crate::places::{sent_on, sent_token, store_at};
 use net_model::{End, Firing, Link};
 use rvc_base::{InstId, Num, Scalar, conv};
 
@@ -37,7 +37,11 @@ fn follow<A: Firing>(cells: &mut [A], link: &Link)
     requires { CanCarry (map A.cell cells.old) link.now }
     ensures gains { EachGains (arriving (map A.cell cells.old) (link.now ∷ [])) (map A.cell cells.old) (map A.cell cells.new) }
 {
-    if let End::Leaf { inst: from, port: out } = link.from {
+    if let End::Leaf {
+        inst: from,
+        port: out,
+    } = link.from
+    {
         if let End::Leaf { inst: to, port } = link.to {
             carry(cells, from, out, to, port, link.kind);
         }

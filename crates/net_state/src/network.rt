@@ -2,8 +2,8 @@
 
 ghost use Rattle.std.specs.Prelude.{◌≡◌, ◌<◌, IfOk, Some, length, map, slice_get};
 ghost use Rattle.net_state.specs.Held.{AreCounted, CanWork, capacity_of, room_of};
-ghost use Rattle.net_state.specs.Moving.{IsOutput};
-ghost use Rattle.net_state.specs.Standing.{AreAllOut, IsFromCell, IsTrueOfUnarrived, StandAfterInside, StandAtStart, carried_on};
+ghost use Rattle.net_state.specs.Moving.{IsFromCell, IsOutput, carried_on};
+ghost use Rattle.net_state.specs.Standing.{AreAllOut, IsTrueOfUnarrived, StandAfterInside, StandAtStart};
 
 use crate::carrying::{sent_along, token_along};
 use crate::delivering::{deliver_inside, lay_out};
@@ -44,11 +44,7 @@ impl<A: Firing> NetState<A> {
     ///
     /// The links are in link order; each begins and ends at a port of a cell or of the network, not both of the
     /// network. Nothing was sent yet, and before an input port to which no link leads no token waits.
-    pub fn new(
-        alloc: Global,
-        cells: Vec<A>,
-        links: Vec<Link>,
-    ) -> Result<NetState<A>, Memory>
+    pub fn new(alloc: Global, cells: Vec<A>, links: Vec<Link>) -> Result<NetState<A>, Memory>
         requires can_work { CanWork (map A.cell cells.items) links.items }
         ensures cells { IfOk result (λ n. n.cells ≡ cells.items) }
         ensures links { IfOk result (λ n. n.links ≡ links.items) }

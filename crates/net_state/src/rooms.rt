@@ -8,12 +8,7 @@ ghost use Rattle.net_state.specs.Held.{HasPlace, HasShapeOf, IsRoomTable, IsWide
 use net_model::{End, Link};
 
 /// Fixes the room of each output port: the least of its links' capacities, each less what waits at its reader.
-pub(crate) fn fix_rooms(
-    table: &mut [Vec<u32>],
-    links: &[Link],
-    capacities: &[u32],
-    waited: &[u32],
-)
+pub(crate) fn fix_rooms(table: &mut [Vec<u32>], links: &[Link], capacities: &[u32], waited: &[u32])
     requires each_holds { length capacities.now ≡ length links.now }
     requires each_waited { length waited.now ≡ length links.now }
     requires fits { (l : ℕ) → l < length links.now → slice_index_or waited.now l 0 ≤ slice_index_or capacities.now l 0 }

@@ -1,4 +1,4 @@
-use Rattle.std.proofs.Common.{FitsSigned, rules, map, take, sym, ap, subst, arith, ◌∙◌, ◌≡◌, ◌<◌, ◌≤◌, ◌∷◌, [], length}
+use Rattle.std.proofs.Common.{FitsSigned, rules, map, take, sym, ap, subst, arith, ◌∙◌, ◌≡◌, ◌<◌, ◌∷◌, [], length}
 use Rattle.std.specs.Prelude.{slice_get}
 use Rattle.std.proofs.lemmas.Int.{to_z-of_z}
 use Rattle.rvc_base.specs.Width.{num_width}
@@ -17,7 +17,7 @@ sent_token-token-requires-clause-output g c = output_stays _ _ _ c.loop-k.invari
 pub sent_token-token-requires-clause-among : goal.sent_token-token-requires-clause-among
 sent_token-token-requires-clause-among g c =
     let same : length (sent_of (slice_get (map g.A.Firing.cell c.loop-k.cells) c.args.from.0) c.args.out) ≡ length (sent_of (slice_get (map g.A.Firing.cell c.args.cells.now) c.args.from.0) c.args.out) =
-        ap (λ ts. length ts) (sent_stays _ _ _ c.loop-k.invariant c.args.from.0 c.args.out c.requires.from_output) in
+    ap (λ ts. length ts) (sent_stays _ _ _ c.loop-k.invariant c.args.from.0 c.args.out c.requires.from_output) in
     omega (arith, same, c.sent_on-count.ensures, c.loop-k-test.true)
 
 pub store_at-requires-clause-room : goal.store_at-requires-clause-room
@@ -36,7 +36,7 @@ loop-k-preserved g c =
     (map g.A.Firing.cell c.args.cells.now) (map g.A.Firing.cell c.loop-k.cells) (map g.A.Firing.cell c.store_at.new.cells) c.loop-k.invariant
     (sym (ap (λ ts. slice_get ts c.loop-k.k) same) ∙ c.sent_token-token.ensures)
     (subst (λ v. EachGains (only_to c.args.to.0 c.args.port (conv c.args.kind v ∷ [])) (map g.A.Firing.cell c.loop-k.cells) (map g.A.Firing.cell c.store_at.new.cells))
-        (to_z-of_z num_width c.sent_token-token.result fits) c.store_at.ensures)
+    (to_z-of_z num_width c.sent_token-token.result fits) c.store_at.ensures)
 
 pub returns : goal.returns
 returns g c = record {

@@ -1,8 +1,6 @@
-use Rattle.std.proofs.Common.{◌≡◌, map, drop, length, suc, sym, ap, subst, arith, ◌-◌, ◌+◌, ◌<◌, ℕ}
-use Rattle.std.specs.Prelude.{slice_get, slice_index_or, Some}
+use Rattle.std.proofs.Common.{map, drop, length, subst, ◌-◌}
 use Rattle.std.proofs.lemmas.Option.{slice_get-get_or}
 use Rattle.net_state.specs.Moving.{EachGains, arriving}
-use Rattle.net_state.proofs.Gaining.{each_gains_nothing}
 use Rattle.net_state.proofs.Coming.{can_carry_next, carried_next, next_place}
 use Rattle.net_state.proofs.carrying.carry_all.Goals as goal
 

@@ -1,5 +1,5 @@
-use Rattle.std.proofs.Common.{map, length, arith}
-use Rattle.std.specs.Prelude.{vec_items, slice_index_or}
+use Rattle.std.proofs.Common.{map}
+use Rattle.std.specs.Prelude.{vec_items}
 use Rattle.std.proofs.lemmas.Option.{slice_get-get_or}
 use Rattle.net_state.proofs.Kept.{can_carry_of, moved_same, moved_working, moved_writer, moved_rooms, readers_there, places_there, rooms_fit}
 use Rattle.net_state.proofs.Moved.{inside_stands, net_stays, moved_all_out}
@@ -33,17 +33,17 @@ returns g c =
     let new = map g.A.Firing.cell c.clear_all.new.cells in
     record {
       states = λ net s is stands. (
-          net_stays old mid new c.args.links.now c.carry_all.ensures.gains c.clear_all.ensures net is,
-          inside_stands old mid new c.args.links.now c.carry_all.ensures.gains c.clear_all.ensures net c.args.capacities.now s is stands
-          (moved_writer old mid new c.args.links.now c.args.capacities.now c.args.waited.now c.count_waiting.new.waited c.requires.working
-              c.carry_all.ensures.gains c.clear_all.ensures c.count_waiting.ensures),
-        );
+        net_stays old mid new c.args.links.now c.carry_all.ensures.gains c.clear_all.ensures net is,
+        inside_stands old mid new c.args.links.now c.carry_all.ensures.gains c.clear_all.ensures net c.args.capacities.now s is stands
+            (moved_writer old mid new c.args.links.now c.args.capacities.now c.args.waited.now c.count_waiting.new.waited c.requires.working
+            c.carry_all.ensures.gains c.clear_all.ensures c.count_waiting.ensures),
+      );
       all_out = moved_all_out mid new c.clear_all.ensures;
       counted = c.count_waiting.ensures;
       working = moved_working old mid new c.args.links.now c.args.capacities.now c.args.waited.now c.count_waiting.new.waited c.requires.working
           c.carry_all.ensures.gains c.clear_all.ensures c.count_waiting.ensures;
       rooms = moved_rooms old new c.args.links.now c.args.capacities.now c.args.waited.now c.count_waiting.new.waited (map vec_items c.args.rooms.now) (map vec_items c.fix_rooms.new.table)
           (moved_same old mid new c.args.links.now c.args.capacities.now c.args.waited.now c.count_waiting.new.waited c.requires.working
-              c.carry_all.ensures.gains c.clear_all.ensures c.count_waiting.ensures)
+          c.carry_all.ensures.gains c.clear_all.ensures c.count_waiting.ensures)
           c.requires.rooms c.fix_rooms.ensures.shape c.fix_rooms.ensures.rooms;
     }

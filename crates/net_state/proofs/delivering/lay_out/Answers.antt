@@ -1,8 +1,8 @@
-use Rattle.std.proofs.Common.{map, length, arith, subst, sym, ap, ◌∙◌, ◌≡◌, ◌≤◌}
+use Rattle.std.proofs.Common.{map, length, subst, sym, ap, ◌∙◌, ◌≤◌}
 use Rattle.std.specs.Prelude.{vec_items, slice_index_or}
 use Rattle.std.proofs.lemmas.List.{length-map}
 use Rattle.std.proofs.lemmas.Option.{slice_get-get_or}
-use Rattle.net_state.specs.Held.{HasRooms, IsWorking, capacity_of}
+use Rattle.net_state.specs.Held.{IsWorking, capacity_of}
 use Rattle.net_state.proofs.Kept.{any_link, place_of_writer}
 use Rattle.net_state.proofs.Starting.{start_working, readers_at_start, rooms_at_start, fits_at_start}
 use Rattle.net_state.proofs.delivering.lay_out.Goals as goal
@@ -17,7 +17,7 @@ pub fix_rooms-requires-clause-fits : goal.fix_rooms-requires-clause-fits
 fix_rooms-requires-clause-fits g c = λ l low.
     subst (λ ns. slice_index_or c.count_waiting.new.waited l 0 ≤ slice_index_or ns l 0) (sym c.requires.capacities)
     (fits_at_start (map g.A.Firing.cell c.args.cells.now) c.args.links.now c.count_waiting.new.waited c.requires.can c.count_waiting.ensures l _
-        (slice_get-get_or c.args.links.now l any_link low))
+    (slice_get-get_or c.args.links.now l any_link low))
 
 pub fix_rooms-requires-clause-places : goal.fix_rooms-requires-clause-places
 fix_rooms-requires-clause-places g c = λ l link at.

@@ -1,4 +1,4 @@
-use Rattle.std.proofs.Common.{map, length, arith}
+use Rattle.std.proofs.Common.{map, arith}
 use Rattle.std.proofs.lemmas.List.{length-map}
 use Rattle.net_state.proofs.Clearing.{clearing_starts, clearing_more, all_cleared}
 use Rattle.net_state.proofs.places.clear_all.Goals as goal

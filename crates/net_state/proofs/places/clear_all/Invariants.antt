@@ -1,4 +1,4 @@
-use Rattle.std.specs.Prelude.{map, length, ◌≡◌}
+use Rattle.std.specs.Prelude.{map}
 use Rattle.net_state.proofs.Clearing.{IsClearing}
 use Rattle.net_state.proofs.places.clear_all.Given as goal
 

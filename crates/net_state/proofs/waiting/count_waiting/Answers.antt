@@ -1,4 +1,4 @@
-use Rattle.std.proofs.Common.{map, arith}
+use Rattle.std.proofs.Common.{map}
 use Rattle.std.proofs.lemmas.Option.{slice_get-get_or}
 use Rattle.net_state.proofs.Counting.{counting_more, counted_all}
 use Rattle.net_state.proofs.waiting.count_waiting.Goals as goal
