@@ -1,0 +1,12 @@
+//! A network at work: its cells, the links between them, and how much each link can hold now.
+#![tactic(auto)]
+
+mod carrying;
+mod delivering;
+mod network;
+mod places;
+mod rooms;
+mod tables;
+mod waiting;
+
+pub use network::NetState;
