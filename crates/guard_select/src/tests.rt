@@ -1,5 +1,7 @@
 //! An actor in code, and what is chosen of it.
 
+ghost use Rattle.std.specs.Prelude.{◌<◌, ◌^◌, length};
+
 use super::*;
 use action_machine::cells;
 use code_ir::{ActorCode, Admitted, Instr, Tokens, admit, are_few, are_sized};
@@ -14,18 +16,14 @@ use std::process::Abort;
 #[derive(Drop)]
 struct Line<'a> {
     tokens: &'a [Num],
+    ghost few: { length tokens.now < 2 ^ 32 },
 }
 
 impl<'a> Tokens for Line<'a> {
     ghost tokens = { λ t _. t.tokens.now };
 
     fn count(&self, _port: u32) -> u32 {
-        let most = u32::MAX as usize;
-        if self.tokens.len() <= most {
-            self.tokens.len() as u32
-        } else {
-            u32::MAX
-        }
+        self.tokens.len() as u32
     }
 
     fn at(&self, _port: u32, k: u32) -> Num {
@@ -148,10 +146,10 @@ fn answer(
     tokens: &[Num],
 ) -> Result<(Choice, bool), Memory> {
     let mut cells = cells(alloc, actor.code())?;
-    let tokens = Line { tokens };
-    if state >= actor.fsm().states() || actor.actions() < 2 {
+    if tokens.len() >= 8 || state >= actor.fsm().states() || actor.actions() < 2 {
         return Err(Memory);
     }
+    let tokens = Line { tokens };
     let choice = select(actor, &mut cells, state, &tokens);
     Ok((choice, is_exposed(actor, 1, &mut cells, state, &tokens)))
 }
