@@ -1,0 +1,4 @@
+mod Judged
+mod Found
+mod Loops
+mod Each
