@@ -1,4 +1,2 @@
-mod Judged
 mod Found
-mod Loops
-mod Each
+mod Rows

@@ -57,13 +57,13 @@ names_judged other here = Fine tt
 
 -- a pattern, whose `repeat` sees no pattern variable
 abbrev pub pattern_resolved : Tree → Ports → List (List ℕ) → Names → Judged Tree
-pattern_resolved (tree.pattern port variables repeat at) ports here names =
-    and_so (port_judged port ports.ins ports.outs) (λ _. and_so (names_judged variables here) (λ _. and_so (optional_resolved repeat names) (λ n. Fine (tree.pattern port variables n at))))
+pattern_resolved (tree.pattern asked variables repeat at) ports here names =
+    and_so (port_judged asked ports.ins ports.outs) (λ _. and_so (names_judged variables here) (λ _. and_so (optional_resolved repeat names) (λ n. Fine (tree.pattern asked variables n at))))
 pattern_resolved other ports here names = Broken unknown_name 0
 
 -- the names of a scope with the variables of a pattern
 abbrev pub pattern_names : Tree → List (List ℕ) → List (List ℕ)
-pattern_names (tree.pattern port variables repeat at) here = declared_by variables here
+pattern_names (tree.pattern asked variables repeat at) here = declared_by variables here
 pattern_names other here = here
 
 abbrev pub patterns_resolved : Tree → Ports → List (List ℕ) → Names → Judged (List Tree)
@@ -77,8 +77,8 @@ declared_by_patterns (tree.cons p ps) here = declared_by_patterns ps (pattern_na
 declared_by_patterns other here = here
 
 abbrev pub output_resolved : Tree → Ports → Names → Judged Tree
-output_resolved (tree.output port values repeat at) ports names =
-    and_so (port_judged port ports.outs ports.ins) (λ _. and_so (exprs_resolved values names) (λ vs. and_so (optional_resolved repeat names) (λ n. Fine (tree.output port (listed vs) n at))))
+output_resolved (tree.output asked values repeat at) ports names =
+    and_so (port_judged asked ports.outs ports.ins) (λ _. and_so (exprs_resolved values names) (λ vs. and_so (optional_resolved repeat names) (λ n. Fine (tree.output asked (listed vs) n at))))
 output_resolved other ports names = Broken unknown_name 0
 
 abbrev pub outputs_resolved : Tree → Ports → Names → Judged (List Tree)
@@ -89,13 +89,13 @@ outputs_resolved other ports names = Broken unknown_name 0
 -- An action's parts in the order in which they are evaluated. Pattern variables and locals are one scope; guards are
 -- evaluated before the locals, and don't see them.
 abbrev pub action_resolved : Tree → Ports → Names → Judged Tree
-action_resolved (tree.action tag initialize patterns outputs guards vars body at) ports names =
+action_resolved (tree.action tagged initialize patterns outputs guards vars body at) ports names =
     and_so (patterns_resolved patterns ports [] names) (λ ps.
     and_so (exprs_resolved guards (within (declared_by_patterns patterns []) names)) (λ gs.
     and_so (vars_resolved vars (declared_by_patterns patterns []) names) (λ vs.
     and_so (else_resolved body (within (declared_by vars (declared_by_patterns patterns [])) names)) (λ b.
     and_so (outputs_resolved outputs ports (within (declared_by vars (declared_by_patterns patterns [])) names)) (λ os.
-    Fine (tree.action tag initialize (listed ps) (listed os) (listed gs) (listed vs) b at))))))
+    Fine (tree.action tagged initialize (listed ps) (listed os) (listed gs) (listed vs) b at))))))
 action_resolved other ports names = Broken unknown_name 0
 
 -- ---- members
@@ -105,8 +105,8 @@ abbrev pub member_resolved : Tree → Ports → Names → Judged Tree
 member_resolved (tree.var shape name start changes at) ports names = var_resolved (tree.var shape name start changes at) [] names
 member_resolved (tree.function name formals result vars body at) ports names = function_resolved (tree.function name formals result vars body at) names
 member_resolved (tree.procedure name formals vars body at) ports names = procedure_resolved (tree.procedure name formals vars body at) names
-member_resolved (tree.action tag initialize patterns outputs guards vars body at) ports names =
-    action_resolved (tree.action tag initialize patterns outputs guards vars body at) ports names
+member_resolved (tree.action tagged initialize patterns outputs guards vars body at) ports names =
+    action_resolved (tree.action tagged initialize patterns outputs guards vars body at) ports names
 member_resolved other ports names = Fine other
 
 abbrev pub members_resolved : Tree → Ports → Names → Judged (List Tree)

@@ -1,6 +1,6 @@
 //! The names of a file: what it declares, and what it imports.
 
-ghost use Rattle.std.specs.Prelude.{◌≡◌, [], ◌∷◌, ◌++◌, IfOk, OnOk, OnErr, IfSome, Option, None, is_some, option_map, string_bytes};
+ghost use Rattle.std.specs.Prelude.{◌≡◌, [], ◌∷◌, ◌++◌, OnOk, OnErr, None, is_some, option_map};
 ghost use Rattle.cal_scope.specs.Names.{global_named};
 ghost use Rattle.cal_scope.specs.View.{globals_of, meaning_of};
 
@@ -19,7 +19,7 @@ pub(crate) struct Meaning {
 /// The names of a file: what it declares, and what it imports, by their names.
 ///
 /// It is seen as the list of the names with what they stand for, in the order in which they were added; no name stands
-/// there twice.
+/// there twice. A look-up takes the same time however many they are.
 #[derive(Drop)]
 pub struct FileNames {
     alloc: Global,

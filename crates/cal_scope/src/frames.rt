@@ -14,17 +14,18 @@ use std::alloc::Global;
 
 /// The names of a scope, and the scopes outside it.
 #[derive(Clone, Copy, Drop)]
-pub(crate) struct Frame<'a> {
+pub struct Frame<'a> {
     pub names: &'a NameSet,
+    /// The scope outside it, if it isn't the outermost.
     pub outer: Option<&'a Frame<'a>>,
 }
 
-/// What a part of a file sees.
+/// What a part of a file sees: the names of the scopes round it, the innermost first, and those of its file.
 #[derive(Clone, Copy)]
-pub(crate) struct Inside<'a> {
+pub struct Inside<'a> {
     pub alloc: Global,
     pub file: &'a FileNames,
-    /// The innermost scope round it.
+    /// The innermost scope round it, if one stands there.
     pub frame: Option<&'a Frame<'a>>,
 }
 
@@ -42,7 +43,7 @@ impl<'a> Inside<'a> {
         }
     }
 
-    /// What is seen inside a scope more.
+    /// What is seen inside one scope more, which stands inside those that are seen here.
     pub fn under<'b>(&self, frame: &'b Frame<'b>) -> Inside<'b>
     where
         'a: 'b,
@@ -56,7 +57,13 @@ impl<'a> Inside<'a> {
         }
     }
 
-    /// The full name of what is used by a name.
+    /// The text that stands for what is used by a name here, as a variable, a function or a procedure: the name
+    /// itself, or of a declaration of another file its unit's class, a dot and the name.
+    ///
+    /// # Errors
+    ///
+    /// `Broken`: no declaration of the name is seen here, or the innermost one is of something else; the place is the
+    /// name's, which is handed in. `Memory`: an allocation was refused.
     pub fn full_name(&self, role: Role, name: &str, at: u32) -> Result<String, ScopeFault>
         ensures { Judges string_bytes result (used_as role name.now at (names_view self.now)) }
     {

@@ -1,20 +1,23 @@
-//! Names: each use of a name is found, and written out in full.
+//! Names: what a name stands for where it is used, and the text that stands for it in full.
 //!
-//! A part of a source sees the names that are declared round it, those of its file, and what the file imports: inner
-//! names hide outer ones, and a file's own declaration hides an import. The calls here copy a part with each name
-//! written as the text that stands for it everywhere, or name the first rule of scope that the part breaks.
+//! A part of a source sees the names that the scopes round it declare, those that its file declares, and those that the
+//! file imports. Inner names hide outer ones, and a file's own declaration hides an import. [`FileNames`] holds the
+//! names of a file, [`NameSet`] those of one scope, and [`Inside`] is what a part sees.
+//!
+//! `specs/` says what resolving an expression, a type, a statement and a member gives: the part with each name written
+//! out in full, or the first rule of scope that it breaks, with its place. No call does so yet.
 #![tactic(auto)]
 
-mod expr;
 mod fault;
 mod file_names;
 mod frames;
-mod made;
 mod name_set;
-mod public;
 mod role;
+#[cfg(test)]
+mod tests;
 
 pub use fault::ScopeFault;
 pub use file_names::FileNames;
-pub use public::{resolve_expr, resolve_type};
+pub use frames::{Frame, Inside};
+pub use name_set::NameSet;
 pub use role::Role;

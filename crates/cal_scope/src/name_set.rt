@@ -1,6 +1,6 @@
 //! The names that one scope declares.
 
-ghost use Rattle.std.specs.Prelude.{◌≡◌, [], IfOk, OnOk, OnErr, not, string_bytes};
+ghost use Rattle.std.specs.Prelude.{◌≡◌, [], OnErr, OnOk};
 ghost use Rattle.cal_scope.specs.Names.{is_among, with_name};
 ghost use Rattle.cal_scope.specs.View.{names_in};
 
@@ -8,11 +8,13 @@ use indexmap::IndexSet;
 use rvc_base::Memory;
 use std::alloc::Global;
 
-/// The names that one scope declares, with an index.
+/// The names that one scope declares, with an index, so that a look-up takes the same time however many they are.
+///
+/// It is seen as the list of the names in the order in which they were added, each once.
 #[derive(Drop)]
-pub(crate) struct NameSet {
-    pub alloc: Global,
-    pub names: IndexSet<String>,
+pub struct NameSet {
+    alloc: Global,
+    names: IndexSet<String>,
 }
 
 impl NameSet {
@@ -26,7 +28,7 @@ impl NameSet {
         }
     }
 
-    /// Whether the name is among them.
+    /// Whether the name is among them: whether one more declaration of it would be the second in its scope.
     pub fn has(&self, name: &str) -> bool
         ensures { result ≡ is_among name.now (names_in self.now) }
     {
@@ -34,8 +36,13 @@ impl NameSet {
     }
 
     /// Adds a name, unless it is among them.
+    ///
+    /// # Errors
+    ///
+    /// [`Memory`] if an allocation is refused; the names are as before.
     pub fn add(&mut self, name: &str) -> Result<(), Memory>
-        ensures { OnOk result (names_in self.new ≡ with_name name.now (names_in self.old)) }
+        ensures added { OnOk result (names_in self.new ≡ with_name name.now (names_in self.old)) }
+        ensures same { OnErr result (names_in self.new ≡ names_in self.old) }
     {
         let name = String::from_str(self.alloc, name)?;
         self.names.insert(name)?;
