@@ -85,31 +85,39 @@ fn scope_of(a: Global, name: &str) -> Result<NameSet, Fail> {
     Ok(names)
 }
 
-/// The rows inside two scopes, each of which declares one name.
-fn hold_inside(rt: &impl Abort, a: Global, names: &FileNames) -> Result<(), Fail> {
-    let outer = scope_of(a, "g")?;
-    let inner = scope_of(a, "i")?;
-    let round = Frame {
-        names: &outer,
-        outer: None,
-    };
+/// The rows inside one scope more.
+fn hold_within(
+    rt: &impl Abort,
+    a: Global,
+    names: &Inside,
+    here: &NameSet,
+    rows: &[(&str, Role, &str)],
+) -> Result<(), Fail> {
     let frame = Frame {
-        names: &inner,
-        outer: Some(&round),
+        names: here,
+        outer: names.frame,
     };
-    let inside = Inside {
-        alloc: a,
-        file: names,
-        frame: Some(&frame),
+    let inside = names.under(&frame);
+    hold(rt, a, &inside, rows)
+}
+
+/// The rows inside a scope of `i`, which stands inside another.
+fn hold_inside(rt: &impl Abort, a: Global, names: &Inside, round: &NameSet) -> Result<(), Fail> {
+    let frame = Frame {
+        names: round,
+        outer: names.frame,
     };
-    hold(rt, a, &inside, INSIDE)
+    let inside = names.under(&frame);
+    let here = scope_of(a, "i")?;
+    hold_within(rt, a, &inside, &here, INSIDE)
 }
 
 #[test]
 fn inner_names_hide_outer_ones(rt: HostRuntime) -> Result<(), Fail> {
     let a = rt.alloc();
     let names = file_names(a)?;
-    hold_inside(&rt, a, &names)
+    let round = scope_of(a, "g")?;
+    hold_inside(&rt, a, &Inside::outermost(&names), &round)
 }
 
 #[test]
