@@ -3,6 +3,7 @@
 
 mod carrying;
 mod delivering;
+mod filling;
 mod network;
 mod places;
 mod rooms;
