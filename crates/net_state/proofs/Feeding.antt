@@ -1,6 +1,6 @@
 -- Tokens of a feed that come before a port.
-use Rattle.std.proofs.Common.{◌≡◌, ◌≢◌, ℕ, suc, ◌+◌, ◌-◌, ◌<◌, ◌≤◌, Bool, true, List, [], ◌∷◌, ◌++◌, ℤ, length, map, take, drop, refl, sym, ap, subst, ◌∙◌, ⊎_elim, inl, inr, arith, length-append, length-drop}
-use Rattle.std.specs.Prelude.{Option, None, Some, slice_get}
+use Rattle.std.proofs.Common.{◌≡◌, ◌≢◌, ℕ, suc, ◌+◌, ◌-◌, ◌<◌, ◌≤◌, Bool, true, false, List, [], ◌∷◌, ◌++◌, ℤ, length, map, take, drop, refl, sym, ap, subst, ◌∙◌, ⊎_elim, inl, inr, arith, length-append, length-drop}
+use Rattle.std.specs.Prelude.{Option, None, Some, slice_get, slice_index_or}
 use Rattle.std.proofs.lemmas.List.{length-map, map-append, drop-drop}
 use Rattle.std.proofs.Math.Seq.{take-add}
 use Rattle.rvc_base.specs.declared.scalar.Scalar.{Scalar}
@@ -9,11 +9,17 @@ use Rattle.rvc_base.specs.Lawful.{tokens_on}
 use Rattle.rvc_io.specs.Count.{HasRisen}
 use Rattle.rvc_io.specs.Feeds.{Inputs, PullsOnlyAt}
 use Rattle.net_model.specs.Cell.{Cell, number_on}
+use Rattle.net_model.specs.declared.wiring.End.{End}
+use Rattle.net_model.specs.declared.wiring.End.TheVariants.{Leaf as AtLeaf, Net as AtNet}
+use Rattle.net_model.specs.declared.wiring.Link.{Link}
+use Rattle.net_model.specs.Network.{is_input, is_outside}
 use Rattle.net_model.specs.PortFile.{tokens}
 use Rattle.net_model.specs.Ready.{OnCell, tokens_of}
 use Rattle.port_files.specs.Coming.{GivesToken, EndsWith, NothingLeft}
 use Rattle.net_state.specs.Moving.{EachGains, HasRoomBefore, HasRoomUpTo, IsInput, only_to}
-use Rattle.net_state.specs.Filling.{AreToCome, IsFilled, Takes}
+use Rattle.net_state.specs.Filling.{AreToCome, AtPort, AtReader, IsFilled, IsInputLink, Takes}
+use Rattle.net_state.specs.Held.{HasRooms, IsWorking}
+use Rattle.net_state.proofs.Kept.{filled_working, filled_rooms, reader_of, room_up_to}
 use Rattle.net_state.proofs.Gaining.{there_too, each_gains_nothing, each_gains_then, each_gains_as, only_none, only_more, only_there}
 use Rattle.net_state.proofs.Coming.{on_cell, on_some}
 
@@ -150,3 +156,39 @@ risen_after old mid new stay risen = ⊎_elim (λ more. inl (omega (arith, stay,
 
 pub ends_as : (kind kind_now : Scalar) (rest : ℕ) (coming coming_new : Option (List ℕ)) → kind_now ≡ kind → coming_new ≡ coming → EndsWith kind_now rest coming → EndsWith kind rest coming_new
 ends_as kind kind_now rest coming coming_new same still ended = subst (EndsWith kind rest) (sym still) (subst (λ k. EndsWith k rest coming) same ended)
+
+-- By the port to which a link leads.
+
+pub at_port_as : (link : Link) (P Q : Link → ℕ → ℕ → Type 0) (end : End) → ((j q : ℕ) → P link j q → Q link j q) → AtPort link P end → AtPort link Q end
+at_port_as link P Q (AtLeaf inst port) change holds = change inst.0 port holds
+at_port_as link P Q (AtNet port) change holds = holds
+
+module _ {X : Type 0} (old : List (Cell X)) (links : List Link) (capacities waited : List ℕ) (working : IsWorking old links capacities waited)
+    (l : ℕ) (link : Link) (at : slice_get links l ≡ Some link) (input : is_input link ≡ true) where
+  pub reader_at : AtPort link (λ (that : Link) (j : ℕ) (q : ℕ). IsInput old j q × HasRoomUpTo old j q (slice_index_or capacities l 0)) link.to
+  reader_at = by_end link.to refl
+    where
+      by_end : (end : End) → link.to ≡ end → AtPort link (λ (that : Link) (j : ℕ) (q : ℕ). IsInput old j q × HasRoomUpTo old j q (slice_index_or capacities l 0)) end
+      by_end (AtLeaf inst port) to = (reader_of old links capacities waited working l link at inst.0 port to, room_up_to old links capacities waited working l link at inst.0 port to)
+      by_end (AtNet port) to = let no : true ≡ false = sym (ap is_outside to) ∙ (working.fits l link at).inside input in absurd (let none : ⊥ = cc in none)
+
+  pub kept_by_fill : (new : List (Cell X)) → AtPort link (λ (that : Link) (j : ℕ) (q : ℕ). (ts : List ℤ) × EachGains (only_to j q ts) old new) link.to
+      → AtPort link (λ (that : Link) (j : ℕ) (q : ℕ). HasRoomUpTo new j q (slice_index_or capacities l 0)) link.to
+      → (table : List (List ℕ)) → HasRooms old links capacities waited table → IsWorking new links capacities waited × HasRooms new links capacities waited table
+  kept_by_fill new gained room table had = by_end link.to refl gained room
+    where
+      by_end : (end : End) → link.to ≡ end → AtPort link (λ (that : Link) (j : ℕ) (q : ℕ). (ts : List ℤ) × EachGains (only_to j q ts) old new) end
+          → AtPort link (λ (that : Link) (j : ℕ) (q : ℕ). HasRoomUpTo new j q (slice_index_or capacities l 0)) end
+          → IsWorking new links capacities waited × HasRooms new links capacities waited table
+      by_end (AtNet port) to gained room = absurd gained
+      by_end (AtLeaf inst port) to gained room = (
+          filled_working old new links capacities waited working l inst.0 port link gained.0 at to input gained.1 (held_most new inst.0 port (slice_index_or capacities l 0) room),
+          filled_rooms old new links capacities waited working l inst.0 port link gained.0 at to input gained.1 (held_most new inst.0 port (slice_index_or capacities l 0) room) table had,
+        )
+
+pub on_input : (o : Option Link) → IsInputLink o → (link : Link) × (o ≡ Some link) × (is_input link ≡ true)
+on_input None h = absurd h
+on_input (Some link) h = (link, refl, h)
+
+pub at_reader : (links : List Link) (l : ℕ) (link : Link) (P : Link → ℕ → ℕ → Type 0) → slice_get links l ≡ Some link → AtPort link P link.to → AtReader (slice_get links l) P
+at_reader links l link P at holds = subst (λ o. AtReader o P) (sym at) holds

@@ -1,7 +1,11 @@
 -- What filling an input link from its feed does.
-use Rattle.std.specs.Prelude.{◌≡◌, ℕ, ◌≤◌, ◌<◌, List, ℤ, length, take, drop, map, slice_get, Option, None, Some}
+use Rattle.std.specs.Prelude.{◌≡◌, ℕ, ◌≤◌, ◌<◌, true, List, ℤ, length, take, drop, map, slice_get, Option, None, Some}
 use Rattle.rvc_base.specs.declared.scalar.Scalar.{Scalar}
 use Rattle.rvc_base.specs.Storing.{conv}
+use Rattle.net_model.specs.declared.wiring.End.{End}
+use Rattle.net_model.specs.declared.wiring.End.TheVariants.{Leaf as AtLeaf, Net as AtNet}
+use Rattle.net_model.specs.declared.wiring.Link.{Link}
+use Rattle.net_model.specs.Network.{is_input}
 use Rattle.net_model.specs.Cell.{Cell}
 use Rattle.net_model.specs.PortFile.{tokens}
 use Rattle.net_model.specs.Ready.{tokens_of}
@@ -24,3 +28,19 @@ pub record Takes {X : Type 0} (kind stored_in : Scalar) (j q count : ℕ) (old n
 abbrev pub IsFilled : {X : Type 0} → Scalar → ℕ → ℕ → ℕ → Option ℕ → List (Cell X) → Option (List ℕ) → Type 0
 IsFilled kind j q capacity None cells coming = length (tokens_of (slice_get cells j) q) ≡ capacity
 IsFilled kind j q capacity (Some rest) cells coming = (length (tokens_of (slice_get cells j) q) < capacity) × EndsWith kind rest coming
+
+-- Input links.
+
+-- link l begins at an input of the network
+abbrev pub IsInputLink : Option Link → Type 0
+IsInputLink None = ⊥
+IsInputLink (Some link) = is_input link ≡ true
+
+-- this is true of link l and the port to which it leads
+abbrev pub AtPort : Link → (Link → ℕ → ℕ → Type 0) → End → Type 0
+AtPort link P (AtLeaf inst port) = P link inst.0 port
+AtPort link P (AtNet port) = ⊥
+
+abbrev pub AtReader : Option Link → (Link → ℕ → ℕ → Type 0) → Type 0
+AtReader None P = ⊥
+AtReader (Some link) P = AtPort link P link.to

@@ -5,11 +5,11 @@ ghost use Rattle.rvc_base.specs.Storing.{IsSize};
 ghost use Rattle.rvc_io.specs.Feeds.{PullsOnly, ReadFails};
 ghost use Rattle.net_model.specs.Ready.{tokens_of};
 ghost use Rattle.port_files.specs.Coming.{EndIsTrue, coming_on};
-ghost use Rattle.net_state.specs.Filling.{IsFilled, Takes};
+ghost use Rattle.net_state.specs.Filling.{AtPort, IsFilled, Takes};
 ghost use Rattle.net_state.specs.Moving.{HasRoomUpTo, IsInput};
 
 use crate::places::{held_at, store_at};
-use net_model::Firing;
+use net_model::{End, Firing, Link};
 use port_files::{Next, TokenFeed};
 use rvc_base::{InstId, Scalar};
 use rvc_io::{Failed, Feeds};
@@ -76,4 +76,39 @@ pub(crate) fn fill_port<A: Firing, F: Feeds>(
         tokens: count,
         rest: None,
     })
+}
+
+/// Fills a link that ends at a cell from its feed.
+pub(crate) fn fill_link<A: Firing, F: Feeds>(
+    cells: &mut [A],
+    link: &Link,
+    capacity: u32,
+    tokens: &mut TokenFeed,
+    feed: u32,
+    feeds: &mut F,
+) -> Result<Filled, Failed>
+    requires size { IsSize link.now.kind }
+    requires reader { AtPort link.now (λ that j q. IsInput (map A.cell cells.old) j q × HasRoomUpTo (map A.cell cells.old) j q capacity) link.now.to }
+    requires open { (F.feeds feeds.old).is_open feed ≡ true }
+    requires same_feed { EndIsTrue tokens.old ((F.feeds feeds.old).left feed) }
+    ensures took { AtPort link.now (λ that j q. (count : ℕ) × Takes tokens.old.kind that.kind j q count (map A.cell cells.old) (map A.cell cells.new)
+        (coming_on tokens.old.pulled (F.feeds feeds.old) feed) (coming_on tokens.new.pulled (F.feeds feeds.new) feed) × IfOk result (λ filled. filled.tokens ≡ count)) link.now.to }
+    ensures filled { IfOk result (λ filled. AtPort link.now (λ that j q. IsFilled tokens.old.kind j q capacity filled.rest (map A.cell cells.new)
+        (coming_on tokens.new.pulled (F.feeds feeds.new) feed)) link.now.to) }
+    ensures within { AtPort link.now (λ that j q. HasRoomUpTo (map A.cell cells.new) j q capacity) link.now.to }
+    ensures failed { OnErr result (ReadFails F.feeds feeds.old feeds.new) }
+    ensures kind { tokens.new.kind ≡ tokens.old.kind }
+    ensures still_same_feed { EndIsTrue tokens.new ((F.feeds feeds.new).left feed) }
+    ensures elsewhere { PullsOnly F.feeds feeds.old feeds.new feed }
+{
+    let End::Leaf { inst, port } = link.to else {
+        unreachable!();
+    };
+    let inlet = Inlet {
+        inst,
+        port,
+        kind: link.kind,
+        capacity,
+    };
+    fill_port(cells, &inlet, tokens, feed, feeds)
 }

@@ -10,4 +10,5 @@ mod rooms;
 mod tables;
 mod waiting;
 
+pub use filling::Filled;
 pub use network::NetState;
