@@ -90,8 +90,8 @@ takes_more kind stored_in j q count v old now new coming_old coming coming_new t
   count_is = length-append takes.taken (v ∷ []) ∙ (let more : length takes.taken + 1 ≡ count + 1 = omega (arith, takes.count_is) in more);
   gains = subst (λ ts. EachGains (only_to j q ts) old new) (sym (map-append (conv stored_in) takes.taken (v ∷ [])))
       (each_gains_as _ (only_to j q (map (conv stored_in) takes.taken ++ conv stored_in v ∷ [])) old new
-          (each_gains_then (only_to j q (map (conv stored_in) takes.taken)) (only_to j q (conv stored_in v ∷ [])) old now new takes.gains gains)
-          (only_more j q (map (conv stored_in) takes.taken) (conv stored_in v ∷ [])));
+      (each_gains_then (only_to j q (map (conv stored_in) takes.taken)) (only_to j q (conv stored_in v ∷ [])) old now new takes.gains gains)
+      (only_more j q (map (conv stored_in) takes.taken) (conv stored_in v ∷ [])));
   first = λ ts told.
       let before = takes.first ts told in
       let one = first_of kind v coming coming_new (drop count ts) given before.2 in
@@ -99,7 +99,8 @@ takes_more kind stored_in j q count v old now new coming_old coming coming_new t
       let rest_is : one.rest ≡ drop (count + 1) ts = sym (ap (drop 1) one.is) ∙ drop-drop 1 count ts in (
         ap (λ us. us ++ v ∷ []) before.0 ∙ sym (take-add count 1 ts ∙ ap (λ us. take count ts ++ take 1 us) one.is),
         omega (arith, len),
-        subst (AreToCome kind coming_new) rest_is one.to_come);
+        subst (AreToCome kind coming_new) rest_is one.to_come,
+      );
 }
 
 -- one token more came
@@ -112,8 +113,8 @@ taking_more kind kind_now kind_new stored_in j q capacity count held v old now n
     let later = there_too now new j on.0 (sym gains.count) on.1 in
     let gained = gains.each j on.0 later.0 on.1 later.1 in
     let longer : length (tokens_on later.0.inboxes q) ≡ length (tokens_on on.0.inboxes q) + 1 =
-        ap (λ ts. length ts) (gained.inboxes q on.2.0 ∙ ap (λ ts. tokens_on on.0.inboxes q ++ ts) (only_there j q (conv stored_in v ∷ [])))
-        ∙ length-append (tokens_on on.0.inboxes q) (conv stored_in v ∷ []) in
+    ap (λ ts. length ts) (gained.inboxes q on.2.0 ∙ ap (λ ts. tokens_on on.0.inboxes q ++ ts) (only_there j q (conv stored_in v ∷ [])))
+    ∙ length-append (tokens_on on.0.inboxes q) (conv stored_in v ∷ []) in
     let here : length (tokens_of (slice_get now j) q) ≡ length (tokens_on on.0.inboxes q) = ap (λ o. length (tokens_of o q)) on.1 in
     let there : length (tokens_of (slice_get new j) q) ≡ length (tokens_on later.0.inboxes q) = ap (λ o. length (tokens_of o q)) later.1 in
     let holds : number_on later.0.inbox_capacities q ≡ number_on on.0.inbox_capacities q = gained.actor.same_inbox_capacities q on.2.0 in
@@ -145,8 +146,8 @@ nearer j q capacity held v now new room is low gains =
     let later = there_too now new j on.0 (sym gains.count) on.1 in
     let gained = gains.each j on.0 later.0 on.1 later.1 in
     let longer : length (tokens_on later.0.inboxes q) ≡ length (tokens_on on.0.inboxes q) + 1 =
-        ap (λ ts. length ts) (gained.inboxes q on.2.0 ∙ ap (λ ts. tokens_on on.0.inboxes q ++ ts) (only_there j q (v ∷ [])))
-        ∙ length-append (tokens_on on.0.inboxes q) (v ∷ []) in
+    ap (λ ts. length ts) (gained.inboxes q on.2.0 ∙ ap (λ ts. tokens_on on.0.inboxes q ++ ts) (only_there j q (v ∷ [])))
+    ∙ length-append (tokens_on on.0.inboxes q) (v ∷ []) in
     let here : length (tokens_of (slice_get now j) q) ≡ length (tokens_on on.0.inboxes q) = ap (λ o. length (tokens_of o q)) on.1 in
     let there : length (tokens_of (slice_get new j) q) ≡ length (tokens_on later.0.inboxes q) = ap (λ o. length (tokens_of o q)) later.1 in
     omega (arith, longer, here, there, is, low)
@@ -182,9 +183,9 @@ module _ {X : Type 0} (old : List (Cell X)) (links : List Link) (capacities wait
           → IsWorking new links capacities waited × HasRooms new links capacities waited table
       by_end (AtNet port) to gained room = absurd gained
       by_end (AtLeaf inst port) to gained room = (
-          filled_working old new links capacities waited working l inst.0 port link gained.0 at to input gained.1 (held_most new inst.0 port (slice_index_or capacities l 0) room),
-          filled_rooms old new links capacities waited working l inst.0 port link gained.0 at to input gained.1 (held_most new inst.0 port (slice_index_or capacities l 0) room) table had,
-        )
+        filled_working old new links capacities waited working l inst.0 port link gained.0 at to input gained.1 (held_most new inst.0 port (slice_index_or capacities l 0) room),
+        filled_rooms old new links capacities waited working l inst.0 port link gained.0 at to input gained.1 (held_most new inst.0 port (slice_index_or capacities l 0) room) table had,
+      )
 
 pub on_input : (o : Option Link) → IsInputLink o → (link : Link) × (o ≡ Some link) × (is_input link ≡ true)
 on_input None h = absurd h

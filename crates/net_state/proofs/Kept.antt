@@ -283,9 +283,9 @@ module _ {X : Type 0} (old new : List (Cell X)) (links : List Link) (capacities 
       nothing : only_to j q ts inst.0 port ≡ []
       nothing = ⊎_elim
           (λ same. ⊎_elim
-              (λ too. absurd (differ (ap (λ i. AtLeaf (record { 0 = i }) port) same ∙ (ap (λ p. AtLeaf (record { 0 = j }) p) too ∙ sym to))))
-              (λ other. other_port j q ts inst.0 port other)
-              (cases_eq port q))
+          (λ too. absurd (differ (ap (λ i. AtLeaf (record { 0 = i }) port) same ∙ (ap (λ p. AtLeaf (record { 0 = j }) p) too ∙ sym to))))
+          (λ other. other_port j q ts inst.0 port other)
+          (cases_eq port q))
           (λ other. other_cell j q ts inst.0 port other)
           (cases_eq inst.0 j)
 
@@ -304,13 +304,13 @@ module _ {X : Type 0} (old new : List (Cell X)) (links : List Link) (capacities 
         inbox = same_inbox old new filled_same other.to (slice_index_or capacities m 0) fits.reader fits.inbox;
         waiting = ⊎_elim
             (λ same.
-                let other_is : other ≡ link = some_is other link (sym there ∙ (ap (slice_get links) same ∙ at)) in
-                let waits : length (waiting_at new other.to) ≡ length (tokens_of (slice_get new j) q) = ap (λ k. length (waiting_at new k.to)) other_is ∙ ap (λ end. length (waiting_at new end)) to in
-                let holds : slice_index_or capacities m 0 ≡ slice_index_or capacities l 0 = ap (λ k. slice_index_or capacities k 0) same in
-                omega (arith, waits, holds, few))
+            let other_is : other ≡ link = some_is other link (sym there ∙ (ap (slice_get links) same ∙ at)) in
+            let waits : length (waiting_at new other.to) ≡ length (tokens_of (slice_get new j) q) = ap (λ k. length (waiting_at new k.to)) other_is ∙ ap (λ end. length (waiting_at new end)) to in
+            let holds : slice_index_or capacities m 0 ≡ slice_index_or capacities l 0 = ap (λ k. slice_index_or capacities k 0) same in
+            omega (arith, waits, holds, few))
             (λ differ.
-                let waits : length (waiting_at new other.to) ≡ length (waiting_at old other.to) = ap (λ us. length us) (waits_as_before other.to fits.reader (apart_ends m other there differ)) in
-                omega (arith, waits, fits.waiting))
+            let waits : length (waiting_at new other.to) ≡ length (waiting_at old other.to) = ap (λ us. length us) (waits_as_before other.to fits.reader (apart_ends m other there differ)) in
+            omega (arith, waits, fits.waiting))
             (cases_eq m l);
         fewer = λ inner.
             let waits : length (waiting_at new other.to) ≡ length (waiting_at old other.to) = ap (λ us. length us) (waits_as_before other.to fits.reader (apart_ends m other there (not_it m other there inner))) in
@@ -356,7 +356,7 @@ room_up_to cells links capacities waited working l link at j q to =
     let on = on_cell (slice_get cells j) (λ cell. q < cell.actor.ins) (reader_of cells links capacities waited working l link at j q to) in
     let holds : OnCell (slice_get cells j) (λ cell. slice_index_or capacities l 0 ≤ number_on cell.inbox_capacities q) = subst (InboxHolds cells (slice_index_or capacities l 0)) to fits.inbox in
     let enough : slice_index_or capacities l 0 ≤ number_on on.0.inbox_capacities q =
-        subst (λ o. OnCell o (λ cell. slice_index_or capacities l 0 ≤ number_on cell.inbox_capacities q)) on.1 holds in
+    subst (λ o. OnCell o (λ cell. slice_index_or capacities l 0 ≤ number_on cell.inbox_capacities q)) on.1 holds in
     let waits : length (waiting_at cells link.to) ≡ length (tokens_on on.0.inboxes q) = ap (λ end. length (waiting_at cells end)) to ∙ ap (λ o. length (tokens_of o q)) on.1 in
     on_some (slice_get cells j) (λ cell. (q < cell.actor.ins) × (length (tokens_on cell.inboxes q) ≤ slice_index_or capacities l 0) × (slice_index_or capacities l 0 ≤ number_on cell.inbox_capacities q))
     on.0 on.1 (on.2, omega (arith, waits, fits.waiting), enough)

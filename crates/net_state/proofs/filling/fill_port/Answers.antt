@@ -21,18 +21,18 @@ store_at-requires-clause-room g c = one_more (map g.A.Firing.cell c.loop-tokens.
 
 pub loop-tokens-init : goal.loop-tokens-init
 loop-tokens-init g c = (
-    taking_starts c.args.tokens.now.kind c.args.inlet.now.kind c.args.inlet.now.inst.0 c.args.inlet.now.port c.args.inlet.now.capacity (map g.A.Firing.cell c.args.cells.now)
-    (coming_on c.args.tokens.now.pulled (g.F.Feeds.feeds c.args.feeds.now) c.args.feed) c.requires.room,
-    c.requires.same_feed,
-    pulls_nothing c.args.feed (g.F.Feeds.feeds c.args.feeds.now),
-  )
+  taking_starts c.args.tokens.now.kind c.args.inlet.now.kind c.args.inlet.now.inst.0 c.args.inlet.now.port c.args.inlet.now.capacity (map g.A.Firing.cell c.args.cells.now)
+      (coming_on c.args.tokens.now.pulled (g.F.Feeds.feeds c.args.feeds.now) c.args.feed) c.requires.room,
+  c.requires.same_feed,
+  pulls_nothing c.args.feed (g.F.Feeds.feeds c.args.feeds.now),
+)
 
 pub loop-tokens-preserved : goal.loop-tokens-preserved
 loop-tokens-preserved g c =
     let fits : FitsSigned num_width c.in-Token.token = search rules in
     let gains : EachGains (only_to c.args.inlet.now.inst.0 c.args.inlet.now.port (conv c.args.inlet.now.kind c.in-Token.token ∷ [])) (map g.A.Firing.cell c.loop-tokens.cells) (map g.A.Firing.cell c.store_at.new.cells) =
-        subst (λ v. EachGains (only_to c.args.inlet.now.inst.0 c.args.inlet.now.port (conv c.args.inlet.now.kind v ∷ [])) (map g.A.Firing.cell c.loop-tokens.cells) (map g.A.Firing.cell c.store_at.new.cells))
-        (to_z-of_z num_width c.in-Token.token fits) c.store_at.ensures in (
+    subst (λ v. EachGains (only_to c.args.inlet.now.inst.0 c.args.inlet.now.port (conv c.args.inlet.now.kind v ∷ [])) (map g.A.Firing.cell c.loop-tokens.cells) (map g.A.Firing.cell c.store_at.new.cells))
+    (to_z-of_z num_width c.in-Token.token fits) c.store_at.ensures in (
       taking_more c.args.tokens.now.kind c.loop-tokens.tokens.kind c.next.new.self.kind c.args.inlet.now.kind c.args.inlet.now.inst.0 c.args.inlet.now.port c.args.inlet.now.capacity
           c.loop-tokens.count c.held_at.result c.in-Token.token (map g.A.Firing.cell c.args.cells.now) (map g.A.Firing.cell c.loop-tokens.cells) (map g.A.Firing.cell c.store_at.new.cells)
           (coming_on c.args.tokens.now.pulled (g.F.Feeds.feeds c.args.feeds.now) c.args.feed)
@@ -49,19 +49,23 @@ loop-tokens-smaller g c = nearer c.args.inlet.now.inst.0 c.args.inlet.now.port c
 
 pub returns-in-End : goal.returns-in-End
 returns-in-End g c = record {
-  took = (c.loop-tokens.count,
-      takes_same c.args.tokens.now.kind c.args.inlet.now.kind c.args.inlet.now.inst.0 c.args.inlet.now.port c.loop-tokens.count (map g.A.Firing.cell c.args.cells.now) (map g.A.Firing.cell c.loop-tokens.cells)
-          (coming_on c.args.tokens.now.pulled (g.F.Feeds.feeds c.args.feeds.now) c.args.feed)
-          (coming_on c.loop-tokens.tokens.pulled (g.F.Feeds.feeds c.loop-tokens.feeds) c.args.feed)
-          (coming_on c.next.new.self.pulled (g.F.Feeds.feeds c.next.new.feeds) c.args.feed)
-          c.loop-tokens.invariant.0.takes c.in-End.ensures.end_coming,
-      refl);
-  filled = (let few : length (tokens_of (slice_get (map g.A.Firing.cell c.loop-tokens.cells) c.args.inlet.now.inst.0) c.args.inlet.now.port) < c.args.inlet.now.capacity =
-          omega (arith, c.held_at.ensures, c.loop-tokens-test.true) in few,
-      ends_as c.args.tokens.now.kind c.loop-tokens.tokens.kind c.in-End.rest
-          (coming_on c.loop-tokens.tokens.pulled (g.F.Feeds.feeds c.loop-tokens.feeds) c.args.feed)
-          (coming_on c.next.new.self.pulled (g.F.Feeds.feeds c.next.new.feeds) c.args.feed)
-          c.loop-tokens.invariant.0.same_kind c.in-End.ensures.end_coming c.in-End.ensures.end);
+  took = (
+    c.loop-tokens.count,
+    takes_same c.args.tokens.now.kind c.args.inlet.now.kind c.args.inlet.now.inst.0 c.args.inlet.now.port c.loop-tokens.count (map g.A.Firing.cell c.args.cells.now) (map g.A.Firing.cell c.loop-tokens.cells)
+        (coming_on c.args.tokens.now.pulled (g.F.Feeds.feeds c.args.feeds.now) c.args.feed)
+        (coming_on c.loop-tokens.tokens.pulled (g.F.Feeds.feeds c.loop-tokens.feeds) c.args.feed)
+        (coming_on c.next.new.self.pulled (g.F.Feeds.feeds c.next.new.feeds) c.args.feed)
+        c.loop-tokens.invariant.0.takes c.in-End.ensures.end_coming,
+    refl,
+  );
+  filled = (
+    let few : length (tokens_of (slice_get (map g.A.Firing.cell c.loop-tokens.cells) c.args.inlet.now.inst.0) c.args.inlet.now.port) < c.args.inlet.now.capacity =
+        omega (arith, c.held_at.ensures, c.loop-tokens-test.true) in few,
+    ends_as c.args.tokens.now.kind c.loop-tokens.tokens.kind c.in-End.rest
+        (coming_on c.loop-tokens.tokens.pulled (g.F.Feeds.feeds c.loop-tokens.feeds) c.args.feed)
+        (coming_on c.next.new.self.pulled (g.F.Feeds.feeds c.next.new.feeds) c.args.feed)
+        c.loop-tokens.invariant.0.same_kind c.in-End.ensures.end_coming c.in-End.ensures.end,
+  );
   within = c.loop-tokens.invariant.0.room;
   failed = tt;
   kind = c.in-End.ensures.kind ∙ c.loop-tokens.invariant.0.same_kind;
@@ -71,13 +75,15 @@ returns-in-End g c = record {
 
 pub returns-in-Failed : goal.returns-in-Failed
 returns-in-Failed g c = record {
-  took = (c.loop-tokens.count,
-      takes_same c.args.tokens.now.kind c.args.inlet.now.kind c.args.inlet.now.inst.0 c.args.inlet.now.port c.loop-tokens.count (map g.A.Firing.cell c.args.cells.now) (map g.A.Firing.cell c.loop-tokens.cells)
-          (coming_on c.args.tokens.now.pulled (g.F.Feeds.feeds c.args.feeds.now) c.args.feed)
-          (coming_on c.loop-tokens.tokens.pulled (g.F.Feeds.feeds c.loop-tokens.feeds) c.args.feed)
-          (coming_on c.next.new.self.pulled (g.F.Feeds.feeds c.next.new.feeds) c.args.feed)
-          c.loop-tokens.invariant.0.takes c.in-Failed.ensures.failed_coming,
-      tt);
+  took = (
+    c.loop-tokens.count,
+    takes_same c.args.tokens.now.kind c.args.inlet.now.kind c.args.inlet.now.inst.0 c.args.inlet.now.port c.loop-tokens.count (map g.A.Firing.cell c.args.cells.now) (map g.A.Firing.cell c.loop-tokens.cells)
+        (coming_on c.args.tokens.now.pulled (g.F.Feeds.feeds c.args.feeds.now) c.args.feed)
+        (coming_on c.loop-tokens.tokens.pulled (g.F.Feeds.feeds c.loop-tokens.feeds) c.args.feed)
+        (coming_on c.next.new.self.pulled (g.F.Feeds.feeds c.next.new.feeds) c.args.feed)
+        c.loop-tokens.invariant.0.takes c.in-Failed.ensures.failed_coming,
+    tt,
+  );
   filled = tt;
   within = c.loop-tokens.invariant.0.room;
   failed = risen_after (g.F.Feeds.feeds c.args.feeds.now).faults (g.F.Feeds.feeds c.loop-tokens.feeds).faults (g.F.Feeds.feeds c.next.new.feeds).faults
