@@ -1,5 +1,5 @@
 -- What holds of all that is held stays so.
-use Rattle.std.proofs.Common.{◌≡◌, ℕ, zero, suc, ◌+◌, ◌<◌, ◌≤◌, true, List, [], ◌∷◌, ◌++◌, ℤ, length, refl, sym, ap, subst, ◌∙◌, arith, length-append}
+use Rattle.std.proofs.Common.{◌≡◌, ℕ, zero, suc, ◌+◌, ◌<◌, ◌≤◌, true, false, List, [], ◌∷◌, ◌++◌, ℤ, length, refl, sym, ap, subst, ◌∙◌, arith, length-append, ⊎_elim, append-nil}
 use Rattle.std.specs.Prelude.{Some, slice_get, slice_index_or, ◌↔◌}
 use Rattle.std.proofs.lemmas.List.{length-map}
 use Rattle.rvc_base.specs.declared.scalar.Scalar.TheVariants.{Bool as Truth}
@@ -8,13 +8,15 @@ use Rattle.rvc_base.specs.Lawful.{tokens_on}
 use Rattle.net_model.specs.declared.wiring.End.{End}
 use Rattle.net_model.specs.declared.wiring.End.TheVariants.{Leaf as AtLeaf, Net as AtNet}
 use Rattle.net_model.specs.declared.wiring.Link.{Link}
-use Rattle.net_model.specs.Network.{is_outside, is_leaf_port}
+use Rattle.net_model.specs.Network.{is_input, is_outside, is_leaf_port}
 use Rattle.net_model.specs.Cell.{Cell, number_on, IsSameActor}
 use Rattle.net_model.specs.Ready.{OnCell, OutboxHolds, InboxHolds, waiting_at, tokens_of}
-use Rattle.net_state.specs.Moving.{EachGains, EachClears, IsInput, IsOutput, IsWriter, AreApart, HasRoomAt, CanCarry, sent_from, carried, arriving}
+use Rattle.net_state.specs.Moving.{EachGains, only_to, EachClears, IsInput, IsOutput, IsWriter, AreApart, HasRoomAt, HasRoomUpTo, CanCarry, sent_from, carried, arriving}
 use Rattle.net_state.specs.Held.{AreCounted, FitsIn, HasPlace, HasRooms, OnRow, HasShapeOf, IsLeft, IsReader, IsRoomTable, IsWorking}
-use Rattle.net_state.proofs.Gaining.{there_too, actor_then}
-use Rattle.net_state.proofs.Coming.{on_cell, on_some, by_bool, is_own_port, is_that_port, if_true, if_false}
+use Rattle.net_state.proofs.Gaining.{some_is, there_too, actor_then, other_cell, other_port}
+use Rattle.net_state.proofs.Narrowing.{same_shape}
+use Rattle.std.proofs.lemmas.Bool.{cases_eq, cases_lt}
+use Rattle.net_state.proofs.Coming.{on_cell, on_some, sent_from_stays, by_bool, is_own_port, is_that_port, if_true, if_false}
 use Rattle.net_state.proofs.Moved.{none_sent, moved_inbox, moved_count}
 
 -- any link, for reading a list within its length
@@ -256,3 +258,105 @@ module _ {X : Type 0} (old mid new : List (Cell X)) (links : List Link) (capacit
   rooms_fit counted l link at =
       let fits = moved_fits old mid new links capacities waited later working gains clears counted l link at in
       omega (arith, counted.each l link at, fits.waiting)
+
+-- Tokens from outside.
+
+-- one end of a link gained tokens from outside; it holds at most its capacity
+module _ {X : Type 0} (old new : List (Cell X)) (links : List Link) (capacities waited : List ℕ) (working : IsWorking old links capacities waited)
+    (l j q : ℕ) (link : Link) (ts : List ℤ) (at : slice_get links l ≡ Some link) (to : link.to ≡ AtLeaf (record { 0 = j }) q) (input : is_input link ≡ true)
+    (gains : EachGains (only_to j q ts) old new) (few : length (tokens_of (slice_get new j) q) ≤ slice_index_or capacities l 0) where
+  filled_same : SameActors old new
+  filled_same = same_of_gains (only_to j q ts) old new gains
+
+  -- elsewhere nothing came
+  waits_as_before : (end : End) → IsReader old end → (end ≡ link.to → ⊥) → waiting_at new end ≡ waiting_at old end
+  waits_as_before (AtNet port) reader differ = refl
+  waits_as_before (AtLeaf inst port) reader differ =
+      let on = on_cell (slice_get old inst.0) (λ cell. port < cell.actor.ins) reader in
+      let after = there_too old new inst.0 on.0 (sym gains.count) on.1 in
+      let gained = gains.each inst.0 on.0 after.0 on.1 after.1 in
+      ap (λ o. tokens_of o port) after.1
+      ∙ (gained.inboxes port on.2
+      ∙ (ap (λ us. tokens_on on.0.inboxes port ++ us) nothing
+      ∙ (append-nil (tokens_on on.0.inboxes port) ∙ sym (ap (λ o. tokens_of o port) on.1))))
+    where
+      nothing : only_to j q ts inst.0 port ≡ []
+      nothing = ⊎_elim
+          (λ same. ⊎_elim
+          (λ too. absurd (differ (ap (λ i. AtLeaf (record { 0 = i }) port) same ∙ (ap (λ p. AtLeaf (record { 0 = j }) p) too ∙ sym to))))
+          (λ other. other_port j q ts inst.0 port other)
+          (cases_eq port q))
+          (λ other. other_cell j q ts inst.0 port other)
+          (cases_eq inst.0 j)
+
+  filled_sent : (end : End) → IsWriter old end → sent_from new end ≡ sent_from old end
+  filled_sent end writer = sent_from_stays (only_to j q ts) old new gains end writer
+
+  filled_fits : (m : ℕ) (other : Link) → slice_get links m ≡ Some other → FitsIn new (slice_index_or capacities m 0) (slice_index_or waited m 0) other
+  filled_fits m other there =
+      let fits = working.fits m other there in
+      record {
+        size = fits.size;
+        writer = same_writer old new filled_same other.from fits.writer;
+        reader = same_reader old new filled_same other.to fits.reader;
+        inside = fits.inside;
+        outbox = same_outbox old new filled_same other.from (slice_index_or capacities m 0) fits.writer fits.outbox;
+        inbox = same_inbox old new filled_same other.to (slice_index_or capacities m 0) fits.reader fits.inbox;
+        waiting = ⊎_elim
+            (λ same.
+            let other_is : other ≡ link = some_is other link (sym there ∙ (ap (slice_get links) same ∙ at)) in
+            let waits : length (waiting_at new other.to) ≡ length (tokens_of (slice_get new j) q) = ap (λ k. length (waiting_at new k.to)) other_is ∙ ap (λ end. length (waiting_at new end)) to in
+            let holds : slice_index_or capacities m 0 ≡ slice_index_or capacities l 0 = ap (λ k. slice_index_or capacities k 0) same in
+            omega (arith, waits, holds, few))
+            (λ differ.
+            let waits : length (waiting_at new other.to) ≡ length (waiting_at old other.to) = ap (λ us. length us) (waits_as_before other.to fits.reader (apart_ends m other there differ)) in
+            omega (arith, waits, fits.waiting))
+            (cases_eq m l);
+        fewer = λ inner.
+            let waits : length (waiting_at new other.to) ≡ length (waiting_at old other.to) = ap (λ us. length us) (waits_as_before other.to fits.reader (apart_ends m other there (not_it m other there inner))) in
+            omega (arith, waits, fits.fewer inner);
+        since = λ inner.
+            let sent : length (sent_from new other.from) ≡ length (sent_from old other.from) = ap (λ us. length us) (filled_sent other.from fits.writer) in
+            omega (arith, sent, fits.since inner);
+      }
+    where
+      not_it : (m : ℕ) (other : Link) → slice_get links m ≡ Some other → is_input other ≡ false → m ≡ l → ⊥
+      not_it m other there inner same =
+          let other_is : other ≡ link = some_is other link (sym there ∙ (ap (slice_get links) same ∙ at)) in
+          let no : true ≡ false = sym input ∙ (sym (ap is_input other_is) ∙ inner) in cc
+
+      apart_ends : (m : ℕ) (other : Link) → slice_get links m ≡ Some other → (m ≡ l → ⊥) → other.to ≡ link.to → ⊥
+      apart_ends m other there differ same = ⊎_elim
+          (λ low. working.apart m l other link low there at same)
+          (λ high. working.apart l m link other (omega (arith, differ, high)) at there (sym same))
+          (cases_lt m l)
+
+  pub filled_working : IsWorking new links capacities waited
+  filled_working = record {
+    each_holds = working.each_holds;
+    each_waited = working.each_waited;
+    apart = working.apart;
+    fits = filled_fits;
+    read = same_read old new filled_same links working.read;
+  }
+
+  pub filled_rooms : (table : List (List ℕ)) → HasRooms old links capacities waited table → HasRooms new links capacities waited table
+  filled_rooms table had = moved_rooms old new links capacities waited waited table table filled_same had (same_shape table) had.rooms
+
+-- Filling: the facts by the link's place.
+
+pub reader_of : {X : Type 0} (cells : List (Cell X)) (links : List Link) (capacities waited : List ℕ) → IsWorking cells links capacities waited
+    → (l : ℕ) (link : Link) → slice_get links l ≡ Some link → (j q : ℕ) → link.to ≡ AtLeaf (record { 0 = j }) q → IsInput cells j q
+reader_of cells links capacities waited working l link at j q to = subst (IsReader cells) to (working.fits l link at).reader
+
+pub room_up_to : {X : Type 0} (cells : List (Cell X)) (links : List Link) (capacities waited : List ℕ) → IsWorking cells links capacities waited
+    → (l : ℕ) (link : Link) → slice_get links l ≡ Some link → (j q : ℕ) → link.to ≡ AtLeaf (record { 0 = j }) q → HasRoomUpTo cells j q (slice_index_or capacities l 0)
+room_up_to cells links capacities waited working l link at j q to =
+    let fits = working.fits l link at in
+    let on = on_cell (slice_get cells j) (λ cell. q < cell.actor.ins) (reader_of cells links capacities waited working l link at j q to) in
+    let holds : OnCell (slice_get cells j) (λ cell. slice_index_or capacities l 0 ≤ number_on cell.inbox_capacities q) = subst (InboxHolds cells (slice_index_or capacities l 0)) to fits.inbox in
+    let enough : slice_index_or capacities l 0 ≤ number_on on.0.inbox_capacities q =
+    subst (λ o. OnCell o (λ cell. slice_index_or capacities l 0 ≤ number_on cell.inbox_capacities q)) on.1 holds in
+    let waits : length (waiting_at cells link.to) ≡ length (tokens_on on.0.inboxes q) = ap (λ end. length (waiting_at cells end)) to ∙ ap (λ o. length (tokens_of o q)) on.1 in
+    on_some (slice_get cells j) (λ cell. (q < cell.actor.ins) × (length (tokens_on cell.inboxes q) ≤ slice_index_or capacities l 0) × (slice_index_or capacities l 0 ≤ number_on cell.inbox_capacities q))
+    on.0 on.1 (on.2, omega (arith, waits, fits.waiting), enough)

@@ -9,3 +9,4 @@ pub mod Kept
 pub mod Slices
 pub mod Starting
 pub mod Reading
+pub mod Feeding

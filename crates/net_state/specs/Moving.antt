@@ -107,3 +107,8 @@ carried_on cells (Some link) = carried cells link
 -- each link begins at a port that is there, and has a type of tokens
 abbrev pub WritersFit : {X : Type 0} → List (Cell X) → List Link → Type 0
 WritersFit cells links = (l : ℕ) (link : Link) → slice_get links l ≡ Some link → IsSize link.kind × IsWriter cells link.from
+
+-- port q is an input port of cell j; at most `capacity` tokens wait before it, and it can hold so many
+abbrev pub HasRoomUpTo : {X : Type 0} → List (Cell X) → ℕ → ℕ → ℕ → Type 0
+HasRoomUpTo cells j q capacity = OnCell (slice_get cells j) (λ cell. (q < cell.actor.ins)
+    × (length (tokens_on cell.inboxes q) ≤ capacity) × (capacity ≤ number_on cell.inbox_capacities q))

@@ -3,10 +3,12 @@
 
 mod carrying;
 mod delivering;
+mod filling;
 mod network;
 mod places;
 mod rooms;
 mod tables;
 mod waiting;
 
+pub use filling::Filled;
 pub use network::NetState;

@@ -1,15 +1,21 @@
 //! A network at work.
 
-ghost use Rattle.std.specs.Prelude.{◌≡◌, ◌<◌, IfOk, Some, length, map, slice_get};
+ghost use Rattle.std.specs.Prelude.{◌≡◌, ◌<◌, ℕ, true, IfOk, OnErr, Some, length, map, slice_get, slice_index_or};
+ghost use Rattle.rvc_io.specs.Feeds.{PullsOnly, ReadFails};
+ghost use Rattle.port_files.specs.Coming.{EndIsTrue, coming_on};
+ghost use Rattle.net_state.specs.Filling.{AtReader, IsFilled, IsInputLink, Takes};
 ghost use Rattle.net_state.specs.Held.{AreCounted, CanWork, capacity_of, room_of};
 ghost use Rattle.net_state.specs.Moving.{IsFromCell, IsOutput, carried_on};
 ghost use Rattle.net_state.specs.Standing.{AreAllOut, IsTrueOfUnarrived, StandAfterInside, StandAtStart};
 
 use crate::carrying::{sent_along, token_along};
 use crate::delivering::{deliver_inside, lay_out};
+use crate::filling::{Filled, fill_link};
 use crate::tables::{first_capacities, room_table, zeros};
 use net_model::{Firing, Link};
+use port_files::TokenFeed;
 use rvc_base::{InstId, LinkId, Memory, Num};
+use rvc_io::{Failed, Feeds};
 use std::alloc::Global;
 use std::marker::Model;
 
@@ -91,6 +97,47 @@ impl<A: Firing> NetState<A> {
         ensures states { IsTrueOfUnarrived (map A.cell self.now.cells) self.now.links self.now.capacities link.0 (λ tokens. slice_get tokens k ≡ Some result) }
     {
         token_along(&self.cells, &self.links[link.0 as usize], k)
+    }
+
+    /// Fills an input link from its feed until it holds its present capacity, or to the feed's end. Each token is
+    /// stored in the reader's type. Nothing is pulled where the link is full.
+    ///
+    /// `tokens` reads the tokens of this feed, and is the same one in each call for this link.
+    ///
+    /// # Errors
+    ///
+    /// `failed`: bytes couldn't be pulled. What came before that stays.
+    pub fn fill<F: Feeds>(
+        &mut self,
+        link: LinkId,
+        tokens: &mut TokenFeed,
+        feed: u32,
+        feeds: &mut F,
+    ) -> Result<Filled, Failed>
+        requires input { IsInputLink (slice_get self.old.links link.0) }
+        requires open { (F.feeds feeds.old).is_open feed ≡ true }
+        requires same_feed { EndIsTrue tokens.old ((F.feeds feeds.old).left feed) }
+        ensures took { AtReader (slice_get self.old.links link.0) (λ that j q. (count : ℕ) × Takes tokens.old.kind that.kind j q count (map A.cell self.old.cells) (map A.cell self.new.cells)
+            (coming_on tokens.old.pulled (F.feeds feeds.old) feed) (coming_on tokens.new.pulled (F.feeds feeds.new) feed) × IfOk result (λ filled. filled.tokens ≡ count)) }
+        ensures filled { IfOk result (λ filled. AtReader (slice_get self.old.links link.0) (λ that j q. IsFilled tokens.old.kind j q (slice_index_or self.old.capacities link.0 0) filled.rest (map A.cell self.new.cells)
+            (coming_on tokens.new.pulled (F.feeds feeds.new) feed))) }
+        ensures links { self.new.links ≡ self.old.links }
+        ensures capacities { self.new.capacities ≡ self.old.capacities }
+        ensures waited { self.new.waited ≡ self.old.waited }
+        ensures failed { OnErr result (ReadFails F.feeds feeds.old feeds.new) }
+        ensures kind { tokens.new.kind ≡ tokens.old.kind }
+        ensures still_same_feed { EndIsTrue tokens.new ((F.feeds feeds.new).left feed) }
+        ensures elsewhere { PullsOnly F.feeds feeds.old feeds.new feed }
+    {
+        let l = link.0 as usize;
+        fill_link(
+            &mut self.cells,
+            &self.links[l],
+            self.capacities[l],
+            tokens,
+            feed,
+            feeds,
+        )
     }
 
     /// Delivers what was sent on links between two cells and on links to outputs of the network: all of it
