@@ -11,3 +11,12 @@ mod Excluding
 mod Conjuncts
 mod Stability
 mod CertifiedNetworks
+mod BareTrees
+mod NeverBoth
+mod SameTrees
+mod Exclusions
+mod NoFailures
+mod Corners
+mod Places
+mod Firsts
+mod FailingRows

@@ -1,0 +1,12 @@
+use Rattle.std.proofs.Common.{sym, ◌∙◌}
+use Rattle.determinacy_cert.specs.Viewing.{interval_view}
+use Rattle.determinacy_cert.proofs.Corners.{corners_hold}
+use Rattle.determinacy_cert.proofs.interval.from_corners.Goals as goal
+
+pub returns : goal.returns
+returns c = λ w x y z p q r s.
+    corners_hold c.in-Some.a c.in-Some-b.b c.in-Some-c.c c.in-Some-d.d w x y z
+    (interval_view c.just.result) (interval_view c.just-2.result) (interval_view c.just-3.result) (interval_view c.just-4.result)
+    (interval_view c.hull.result) (interval_view c.hull-2.result) (interval_view c.hull-3.result)
+    (sym c.in-Some.is ∙ p) (sym c.in-Some-b.is ∙ q) (sym c.in-Some-c.is ∙ r) (sym c.in-Some-d.is ∙ s)
+    c.just.ensures c.just-2.ensures c.just-3.ensures c.just-4.ensures c.hull.ensures c.hull-2.ensures c.hull-3.ensures
