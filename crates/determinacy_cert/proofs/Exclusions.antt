@@ -160,8 +160,8 @@ apart_then c d qs rs p q h =
     ap (λ o. compare_apart o qs (compared d) rs) x.is
     ∙ ap (λ o. compare_apart (Some (record { left = x.left; op = h.one_op; number = h.n })) qs o rs) y.is
     ∙ both_true (never_both h.one_op h.n h.other_op h.m) (same x.left qs y.left rs)
-      (never_then h.one_op h.other_op h.n h.m h.one.comparison h.two.comparison h.never)
-      (same_then x.left y.left qs rs x.simple_left y.simple_left lefts)
+    (never_then h.one_op h.other_op h.n h.m h.one.comparison h.two.comparison h.never)
+    (same_then x.left y.left qs rs x.simple_left y.simple_left lefts)
 
 -- ---- `not`
 

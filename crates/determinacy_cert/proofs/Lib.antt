@@ -17,6 +17,3 @@ mod SameTrees
 mod Exclusions
 mod NoFailures
 mod Corners
-mod Places
-mod Firsts
-mod FailingRows

@@ -186,12 +186,7 @@ fn product(a: Num, b: Num) -> Option<Num>
 }
 
 /// The least interval that holds four numbers, if all are numbers of the language.
-fn from_corners(
-    a: Option<Num>,
-    b: Option<Num>,
-    c: Option<Num>,
-    d: Option<Num>,
-) -> Option<Interval>
+fn from_corners(a: Option<Num>, b: Option<Num>, c: Option<Num>, d: Option<Num>) -> Option<Interval>
     ensures { (w x y z : ℤ) → a ≡ numbered w → b ≡ numbered x → c ≡ numbered y → d ≡ numbered z
         → option_map interval_view result ≡ fitting (hull (hull (just w) (just x)) (hull (just y) (just z))) }
 {
@@ -206,14 +201,22 @@ fn from_corners(
 fn quotients(i: Interval, j: Interval) -> Option<Interval>
     ensures { option_map interval_view result ≡ range_of_both BinOp.Div (interval_view i) (interval_view j) }
 {
-    if 0 < j.low { Some(hull(i, just(0))) } else { None }
+    if 0 < j.low {
+        Some(hull(i, just(0)))
+    } else {
+        None
+    }
 }
 
 /// What quotients by divisors above 0 leave.
 fn remainders(i: Interval, j: Interval) -> Option<Interval>
     ensures { option_map interval_view result ≡ range_of_both BinOp.Mod (interval_view i) (interval_view j) }
 {
-    if 0 < j.low { remainders_by(j.high) } else { None }
+    if 0 < j.low {
+        remainders_by(j.high)
+    } else {
+        None
+    }
 }
 
 /// What quotients by divisors up to this one leave.
