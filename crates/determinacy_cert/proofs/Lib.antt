@@ -16,4 +16,3 @@ mod NeverBoth
 mod SameTrees
 mod Exclusions
 mod NoFailures
-mod Corners

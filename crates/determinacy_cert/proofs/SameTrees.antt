@@ -113,7 +113,7 @@ prefix_if BitNot BitNot h = refl
 prefix_if op other h = absurd (grind arith)
 
 -- an operator by its number
-abbrev op_of : ℕ → BinOp
+op_of : ℕ → BinOp
 op_of n =
     if n == 0 then Or else
     if n == 1 then And else
@@ -135,6 +135,7 @@ op_of n =
     Mod
 
 op_back : (op : BinOp) → op_of (op_number op) ≡ op
+unfolding op_of
 op_back Or = refl
 op_back And = refl
 op_back BitOr = refl

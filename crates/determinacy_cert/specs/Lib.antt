@@ -1,5 +1,4 @@
 pub mod Determinacy
 pub mod Certifying
-pub mod Viewing
 pub mod Deciding
 pub mod Failing

@@ -7,7 +7,6 @@
 #![tactic(auto)]
 
 mod fault;
-mod interval;
 mod laws;
 
 pub use fault::{CertFault, Reason};
