@@ -11,3 +11,8 @@ mod Excluding
 mod Conjuncts
 mod Stability
 mod CertifiedNetworks
+mod BareTrees
+mod NeverBoth
+mod SameTrees
+mod Exclusions
+mod NoFailures

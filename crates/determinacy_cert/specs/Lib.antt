@@ -1,2 +1,4 @@
 pub mod Determinacy
 pub mod Certifying
+pub mod Deciding
+pub mod Failing
