@@ -9,7 +9,7 @@ use cal_ast::{Body, Expr, ExprForm, File, Member};
 use cal_lexer::lex;
 use cal_model::{BoundFun, BoundLocal, Kind, Shape, Value, Values};
 use cal_parser::parse_file;
-use const_eval::{ConstFault, Env, KindFault, eval_const, kind_const};
+use const_eval::{ConstFault, Env, KindFault, eval_const, is_counted, kind_const};
 use rvc_base::{Front, Scalar};
 use std::alloc::{AllocError, Global};
 use std::process::Abort;
@@ -155,7 +155,10 @@ pub(crate) fn constants(a: Global) -> Result<Env, Fail> {
     let mut items = Vec::new(a);
     items.push(Value::Bool(true))?;
     items.push(Value::Bool(false))?;
-    env.add_value("l", Value::List(Values { items }))?;
+    let list = Value::List(Values { items });
+    if is_counted(&list) {
+        env.add_value("l", list)?;
+    }
     Ok(env)
 }
 
