@@ -1,0 +1,6 @@
+mod Runs
+mod Names
+mod Stuck
+mod Fronts
+mod Grows
+mod Before
