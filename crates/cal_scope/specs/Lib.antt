@@ -1,0 +1,7 @@
+pub mod Names
+pub mod Judging
+pub mod Expressions
+pub mod Statements
+pub mod Members
+pub mod View
+pub mod PortView

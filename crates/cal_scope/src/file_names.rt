@@ -1,0 +1,74 @@
+//! The names of a file: what it declares, and what it imports.
+
+ghost use Rattle.std.specs.Prelude.{◌≡◌, [], ◌∷◌, ◌++◌, OnOk, OnErr, None, is_some, option_map};
+ghost use Rattle.cal_scope.specs.Names.{global_named};
+ghost use Rattle.cal_scope.specs.View.{globals_of, meaning_of};
+
+use crate::role::Role;
+use indexmap::IndexMap;
+use rvc_base::Memory;
+use std::alloc::Global;
+
+/// What a name of a file stands for, and its text in full.
+#[derive(Drop)]
+pub(crate) struct Meaning {
+    pub role: Role,
+    pub full: String,
+}
+
+/// The names of a file: what it declares, and what it imports, by their names.
+///
+/// It is seen as the list of the names with what they stand for, in the order in which they were added; no name stands
+/// there twice. A look-up takes the same time however many they are.
+#[derive(Drop)]
+pub struct FileNames {
+    alloc: Global,
+    named: IndexMap<String, Meaning>,
+}
+
+impl FileNames {
+    /// No names.
+    pub fn new(alloc: Global) -> FileNames
+        ensures { globals_of result ≡ [] }
+    {
+        FileNames {
+            alloc,
+            named: IndexMap::new(alloc),
+        }
+    }
+
+    /// The allocator that the names were made with.
+    pub(crate) fn alloc(&self) -> Global {
+        self.alloc
+    }
+
+    /// Whether the name is there.
+    pub fn has(&self, name: &str) -> bool
+        ensures { result ≡ is_some (global_named name.now (globals_of self.now)) }
+    {
+        self.meaning(name).is_some()
+    }
+
+    /// Adds a name with what it stands for, and the text that stands for it wherever it is used.
+    ///
+    /// # Errors
+    ///
+    /// `Memory`: an allocation was refused, and the names are as before.
+    pub fn add(&mut self, name: &str, role: Role, full: &str) -> Result<(), Memory>
+        requires { global_named name.now (globals_of self.old) ≡ None }
+        ensures added { OnOk result (globals_of self.new ≡ globals_of self.old ++ record { name = name.now; role = role; full = full.now } ∷ []) }
+        ensures same { OnErr result (globals_of self.new ≡ globals_of self.old) }
+    {
+        let full = String::from_str(self.alloc, full)?;
+        let name = String::from_str(self.alloc, name)?;
+        self.named.insert(name, Meaning { role, full })?;
+        Ok(())
+    }
+
+    /// What a name stands for.
+    pub(crate) fn meaning(&self, name: &str) -> Option<&Meaning>
+        ensures { option_map (λ m. meaning_of name.now m.now) result ≡ global_named name.now (globals_of self.now) }
+    {
+        self.named.get(name)
+    }
+}

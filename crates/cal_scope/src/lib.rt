@@ -1,0 +1,35 @@
+//! Names: what a name stands for where it is used, and the text that stands for it in full.
+//!
+//! A part of a source sees the names that the scopes round it declare, those that its file declares, and those that the
+//! file imports. Inner names hide outer ones, and a file's own declaration hides an import. [`FileNames`] holds the
+//! names of a file, [`NameSet`] those of one scope, and [`Inside`] is what a part sees.
+//!
+//! `specs/` says what resolving an expression, a type, a statement and a member gives: the part with each name written
+//! out in full, or the first rule of scope that it breaks, with its place. No call does so yet.
+#![tactic(auto)]
+
+mod actions;
+mod copies;
+mod expr;
+mod fault;
+mod file_names;
+mod frames;
+mod made;
+mod made_stmt;
+mod member;
+mod members;
+mod name_set;
+mod ports;
+mod public;
+mod role;
+mod stmt;
+#[cfg(test)]
+mod tests;
+mod vars;
+
+pub use fault::ScopeFault;
+pub use file_names::FileNames;
+pub use frames::{Frame, Inside};
+pub use name_set::NameSet;
+pub use public::{resolve_expr, resolve_type};
+pub use role::Role;

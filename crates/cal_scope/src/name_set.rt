@@ -1,0 +1,51 @@
+//! The names that one scope declares.
+
+ghost use Rattle.std.specs.Prelude.{◌≡◌, [], OnErr, OnOk};
+ghost use Rattle.cal_scope.specs.Names.{is_among, with_name};
+ghost use Rattle.cal_scope.specs.View.{names_in};
+
+use indexmap::IndexSet;
+use rvc_base::Memory;
+use std::alloc::Global;
+
+/// The names that one scope declares, with an index, so that a look-up takes the same time however many they are.
+///
+/// It is seen as the list of the names in the order in which they were added, each once.
+#[derive(Drop)]
+pub struct NameSet {
+    alloc: Global,
+    names: IndexSet<String>,
+}
+
+impl NameSet {
+    /// No names.
+    pub fn new(alloc: Global) -> NameSet
+        ensures { names_in result ≡ [] }
+    {
+        NameSet {
+            alloc,
+            names: IndexSet::new(alloc),
+        }
+    }
+
+    /// Whether the name is among them: whether one more declaration of it would be the second in its scope.
+    pub fn has(&self, name: &str) -> bool
+        ensures { result ≡ is_among name.now (names_in self.now) }
+    {
+        self.names.contains(name)
+    }
+
+    /// Adds a name, unless it is among them.
+    ///
+    /// # Errors
+    ///
+    /// [`Memory`] if an allocation is refused; the names are as before.
+    pub fn add(&mut self, name: &str) -> Result<(), Memory>
+        ensures added { OnOk result (names_in self.new ≡ with_name name.now (names_in self.old)) }
+        ensures same { OnErr result (names_in self.new ≡ names_in self.old) }
+    {
+        let name = String::from_str(self.alloc, name)?;
+        self.names.insert(name)?;
+        Ok(())
+    }
+}
