@@ -1,0 +1,158 @@
+-- Code of an expression evaluates it.
+use Rattle.std.proofs.Common.{◌≡◌, ℕ, zero, suc, ◌+◌, ◌*◌, ◌≤◌, ℤ, pos, List, [], ◌∷◌, length, true, false, refl, sym, ap, ◌∙◌, subst, Option, Some, arith}
+use Rattle.std.specs.Prelude.{if◌then◌else◌, slice_get, neg_ℤ, nat_le}
+use Rattle.std.proofs.lemmas.Option.{slice_get_within, get_or_from_slice_get}
+use Rattle.std.proofs.lemmas.Bool.Decides.{nat_tests}
+use Rattle.rvc_base.specs.declared.scalar.Scalar.TheVariants as scalar
+use Rattle.rvc_base.specs.declared.trap.Trap.TheVariants.{Overflow}
+use Rattle.rvc_base.specs.Arithmetic as arithmetic
+use Rattle.rvc_base.specs.Width.{is_num, greatest_num}
+use Rattle.cal_ast.specs.declared.expr.PrefixOp.TheVariants as prefixes
+use Rattle.cal_ast.specs.Tree as tree
+use Rattle.cal_ast.specs.Tree.{Tree}
+use Rattle.cal_model.specs.Value.{Shape, Single, Many, Value, Num, Truth, Items, HasKind, kind_of_type}
+use Rattle.cal_model.specs.Outcome.{Out, Gives, Traps, Lacks, Clashes, and_then, known}
+use Rattle.cal_model.specs.Env.{Env}
+use Rattle.cal_model.specs.Expression.{eval, computed, prefixed}
+use Rattle.code_ir.specs.declared.instr.Instr.{Instr}
+use Rattle.code_ir.specs.declared.instr.Instr.TheVariants as op
+use Rattle.code_ir.specs.declared.outcome.Outcome.{Outcome}
+use Rattle.code_ir.specs.declared.outcome.Outcome.TheVariants as outcome
+use Rattle.code_ir.specs.Effect.{Leaves, Breaks, effect, cell, push_token}
+use Rattle.code_ir.specs.Running.{State, Goes, step, Ends, stop, go, here}
+use Rattle.code_ir.proofs.Ends.{one-end}
+use Rattle.expr_lower.specs.declared.names.Seat.{Seat}
+use Rattle.expr_lower.specs.declared.names.Seat.TheVariants.{Cell, Tokens}
+use Rattle.expr_lower.specs.Flat.{flat}
+use Rattle.expr_lower.specs.Names.{Name, IsSingle, named}
+use Rattle.expr_lower.specs.Held.{StandAt, HoldsName, AreBelow}
+use Rattle.expr_lower.specs.Placed.{World, state}
+use Rattle.expr_lower.specs.Following.{Follows, Pushes, CutsOff, EndsAs, Evaluates}
+use Rattle.expr_lower.specs.Coding.{IsCode, IsTest, number, too_great, negative, truth, variable, paren, prefix, binary, both, either, if_code, tested, both_tested, seat_instr, item}
+use Rattle.expr_lower.proofs.Items.{does_item}
+use Rattle.expr_lower.proofs.Listing.{single_flat}
+use Rattle.expr_lower.proofs.Runs.{ends_back, obeys}
+use Rattle.expr_lower.proofs.Keeping.{keeps_all}
+use Rattle.expr_lower.proofs.Doing.{IsStraight, Does, Tests, acts_after, does_const, does_prefix, does_binary, does_both, does_either, does_if, tests_value, tests_both}
+
+-- ---- cells
+
+mutual
+  pub grows : {names : List Name} {e : Tree} {base n m : ℕ} {code : List Instr} → IsCode names e base n code m → n ≤ m
+  grows (number k at base n h) = omega arith
+  grows (too_great k at base n h) = omega arith
+  grows (negative k at base n place h) = omega arith
+  grows (truth b at base n) = omega arith
+  grows (variable text at base n x h s) = omega arith
+  grows (paren e at base n m code h) = grows h
+  grows (prefix o e at base n m code h) = grows h
+  grows (binary o i l r at base n k m a b e h g) = let x = grows h in let y = grows g in omega (arith, x, y)
+  grows (item e place at base n m code l g h) = grows h
+  grows (both l r at base n k m far end a b t h g e f) = let x = grows_test h in let y = grows g in omega (arith, x, y)
+  grows (either l r at base n k m right end a b t h g e f) = let x = grows_test h in let y = grows g in omega (arith, x, y)
+  grows (if_code test first other at base n k j m else_at end a b c h g d e f) = let x = grows_test h in let y = grows g in let z = grows d in omega (arith, x, y, z)
+
+  pub grows_test : {names : List Name} {e : Tree} {base n far m : ℕ} {code : List Instr} → IsTest names e base n far code m → n ≤ m
+  grows_test (tested e base n m far code h) = grows h
+  grows_test (both_tested l r at base n k m far a b t h g) = let x = grows_test h in let y = grows_test g in omega (arith, x, y)
+
+-- ---- literals
+
+pub negative_num : (k : ℕ) → is_num (pos k) ≡ true → is_num (neg_ℤ (pos k)) ≡ true
+negative_num zero h = h
+negative_num (suc j) h = grind (arith, nat_tests)
+
+-- ---- variables
+
+seat_straight : (seat : Seat) → IsStraight (seat_instr seat)
+seat_straight (Cell c) code tokens s = refl
+seat_straight (Tokens port first step) code tokens s = refl
+
+load_leaves : (c : ℕ) (tokens : ℕ → List ℤ) (stack cells : List ℤ) (z : ℤ) → slice_get cells c ≡ Some z → effect tokens (op.Load c) stack cells ≡ Leaves (z ∷ stack) cells
+load_leaves c tokens stack cells z e =
+    let inside : nat_le (c + 1) (length cells) ≡ true = let w = slice_get_within cells c z e in grind (arith, nat_tests, w) in
+    ap (λ b. if b then Leaves (cell cells c ∷ stack) cells else Breaks) inside ∙ ap (λ x. Leaves (x ∷ stack) cells) (get_or_from_slice_get cells c z (pos 0) e)
+
+seat_leaves : (seat : Seat) (tokens : ℕ → List ℤ) (stack cells : List ℤ) (z : ℤ) → StandAt seat tokens cells (z ∷ []) → effect tokens (seat_instr seat) stack cells ≡ Leaves (z ∷ stack) cells
+seat_leaves (Cell c) tokens stack cells z h =
+    let e : c + 0 ≡ c = omega arith in load_leaves c tokens stack cells z (subst (λ x. slice_get cells x ≡ Some z) e (h 0 z refl))
+seat_leaves (Tokens port first step) tokens stack cells z h =
+    let e : first + 0 * step ≡ first = omega arith in
+    ap (λ o. push_token o stack cells) (subst (λ x. slice_get (tokens port) x ≡ Some z) e (h 0 z refl))
+
+-- ---- all forms
+
+module _ (names : List Name) (w : World) (env : Env) (frames : List ℕ) where
+  does_number : (k at base n : ℕ) → is_num (pos k) ≡ true → Does names w env frames (tree.number k at) base n (op.Const (pos k) ∷ []) n
+  does_number k at base n h stack cells left stands below apart holds =
+      let s : State = state base stack frames cells left in
+      subst (λ b. Follows (computed (if b then arithmetic.Gives (pos k) else arithmetic.Traps Overflow) left) (Pushes w n n s (base + 1)) (CutsOff w n n s)) (sym h)
+      (does_const names w env frames (pos k) (Num (pos k)) base n stack cells left refl stands)
+
+  does_negative : (k place at base n : ℕ) → is_num (pos k) ≡ true → Does names w env frames (tree.prefix prefixes.Neg (tree.number k place) at) base n (op.Const (neg_ℤ (pos k)) ∷ []) n
+  does_negative k place at base n h stack cells left stands below apart holds =
+      let s : State = state base stack frames cells left in
+      subst (λ b. Follows (and_then (computed (if b then arithmetic.Gives (pos k) else arithmetic.Traps Overflow) left) (λ v m. prefixed prefixes.Neg v m)) (Pushes w n n s (base + 1)) (CutsOff w n n s)) (sym h)
+      (subst (λ b. Follows (computed (if b then arithmetic.Gives (neg_ℤ (pos k)) else arithmetic.Traps Overflow) left) (Pushes w n n s (base + 1)) (CutsOff w n n s)) (sym (negative_num k h))
+      (does_const names w env frames (neg_ℤ (pos k)) (Num (neg_ℤ (pos k))) base n stack cells left refl stands))
+
+  does_too_great : (k at base n : ℕ) → is_num (pos k) ≡ false → Does names w env frames (tree.number k at) base n (op.Const greatest_num ∷ op.Const (pos 1) ∷ op.Add ∷ []) n
+  does_too_great k at base n h stack cells left stands below apart holds =
+      let s : State = state base stack frames cells left in
+      let s1 : State = state (base + 1) (greatest_num ∷ stack) frames cells left in
+      let s2 : State = state (base + 1 + 1) (pos 1 ∷ greatest_num ∷ stack) frames cells left in
+      let cut : CutsOff w n n s Overflow = record {
+        cells = cells;
+        ends = go_two s s1 s2 (obeys w.code w.tokens s (op.Const greatest_num) stands.0) (obeys w.code w.tokens s1 (op.Const (pos 1)) stands.1.0)
+            (stop (obeys w.code w.tokens s2 op.Add stands.1.1.0));
+        keeps = keeps_all n n w.low w.high cells;
+      } in
+      subst (λ b. Follows (computed (if b then arithmetic.Gives (pos k) else arithmetic.Traps Overflow) left) (Pushes w n n s (base + 3)) (CutsOff w n n s)) (sym h) cut
+    where
+      go_two : (s t u : State) → step w.code w.tokens s ≡ Goes t → step w.code w.tokens t ≡ Goes u → Ends w.code w.tokens u (outcome.Trap Overflow) cells → Ends w.code w.tokens s (outcome.Trap Overflow) cells
+      go_two s t u e f r = go e (go f r)
+
+  does_variable : (text : List ℕ) (at base n : ℕ) (x : Name) → named text names ≡ Some x → IsSingle x.shape → Does names w env frames (tree.variable text at) base n (seat_instr x.seat ∷ []) n
+  does_variable text at base n x e single stack cells left stands below apart holds =
+      let s : State = state base stack frames cells left in
+      let h : HoldsName w.tokens cells env text x = holds text x e in
+      let one = single_flat x.shape h.value single h.of_type in
+      let stand : StandAt x.seat w.tokens cells (one.0 ∷ []) = subst (λ zs. StandAt x.seat w.tokens cells zs) one.1 h.stands in
+      subst (λ (o : Option Value). Follows (known o left) (Pushes w n n s (base + 1)) (CutsOff w n n s)) (sym h.meant)
+      (acts_after w n n base base stack stack frames cells cells left left (seat_instr x.seat) (Gives h.value left) (seat_straight x.seat) stands.0 here (keeps_all n n w.low w.high cells)
+      (record { same = refl; number = one.0; is = one.1; leaves = seat_leaves x.seat w.tokens stack cells one.0 stand }))
+
+  mutual
+    pub does : {e : Tree} {base n m : ℕ} {code : List Instr} → IsCode names e base n code m → Does names w env frames e base n code m
+    does (number k at base n h) = does_number k at base n h
+    does (too_great k at base n h) = does_too_great k at base n h
+    does (negative k at base n place h) = does_negative k place at base n h
+    does (truth b at base n) = λ stack cells left stands below apart holds. does_const names w env frames (arithmetic.truth b) (Truth b) base n stack cells left refl stands
+    does (variable text at base n x h s) = does_variable text at base n x h s
+    does (paren e at base n m code h) = does h
+    does (prefix o e at base n m code h) = does_prefix names w env frames o e at base n m code (does h)
+    does (binary o i l r at base n k m a b e h g) = does_binary names w env frames o i l r at base n k m a b e (grows h) (grows g) (does h) (does g)
+    does (item e place at base n m code l g h) = does_item names w env frames e place at base n m code l g (does h)
+    does (both l r at base n k m far end a b t h g e f) = does_both names w env frames l r at base n k m far end a b t (grows_test h) (grows g) e f (tests h) (does g)
+    does (either l r at base n k m right end a b t h g e f) = does_either names w env frames l r at base n k m right end a b t (grows_test h) (grows g) e f (tests h) (does g)
+    does (if_code test first other at base n k j m else_at end a b c h g d e f) =
+        does_if names w env frames test first other at base n k j m else_at end a b c (grows_test h) (grows g) (grows d) e f (tests h) (does g) (does d)
+
+    pub tests : {e : Tree} {base n far m : ℕ} {code : List Instr} → IsTest names e base n far code m → Tests names w env frames e base n far code m
+    tests (tested e base n m far code h) = tests_value names w env frames e base n m far code (does h)
+    tests (both_tested l r at base n k m far a b t h g) = tests_both names w env frames l r at base n k m far a b t (grows_test h) (grows_test g) (tests h) (tests g)
+
+-- ---- and no other end
+
+ends_as : (w : World) (n m : ℕ) (s : State) (end : ℕ) (out : Out Value) (o : Outcome) (last : List ℤ) → Follows out (Pushes w n m s end) (CutsOff w n m s) → Ends w.code w.tokens s o last → EndsAs w s end out o last
+ends_as w n m s end (Gives v left) o last p r = (p.number, p.cells, p.is, ends_back o last p.reaches r)
+ends_as w n m s end (Traps c) o last t r = (one-end w.code w.tokens (outcome.Trap c) t.cells r t.ends).0
+ends_as w n m s end Lacks o last t r = tt
+ends_as w n m s end Clashes o last t r = tt
+
+pub evaluates : (names : List Name) (e : Tree) (base n m : ℕ) (code : List Instr) → AreBelow n names → IsCode names e base n code m → Evaluates names e base n m code
+evaluates names e base n m code below coded = record {
+  goes = λ w env stack frames cells left stands apart holds. does names w env frames coded stack cells left stands below apart holds;
+  only = λ w env stack frames cells left stands apart holds o last r.
+      ends_as w n m (state base stack frames cells left) (base + length code) (eval e w.calls env left) o last (does names w env frames coded stack cells left stands below apart holds) r;
+}

@@ -1,0 +1,17 @@
+pub mod Runs
+pub mod Keeping
+pub mod Listing
+pub mod Truthful
+pub mod Effects
+pub mod Aimed
+pub mod Doing
+pub mod Items
+pub mod Coded
+pub mod Fitted
+pub mod Whole
+pub mod Adding
+pub mod Linked
+pub mod Literals
+pub mod Weights
+pub mod Back
+pub mod Admits

@@ -1,0 +1,112 @@
+-- The code of each form of an expression. It stands at a place of the code, since jumps name places.
+use Rattle.std.specs.Prelude.{◌≡◌, ℕ, ◌+◌, Bool, pos, neg_ℤ, true, false, List, [], ◌∷◌, ◌++◌, length, map, Option, None, Some}
+use Rattle.rvc_base.specs.Arithmetic as arithmetic
+use Rattle.rvc_base.specs.Width.{is_num, greatest_num}
+use Rattle.cal_ast.specs.declared.expr.PrefixOp.{PrefixOp}
+use Rattle.cal_ast.specs.declared.expr.PrefixOp.TheVariants as prefixes
+use Rattle.cal_ast.specs.declared.expr.BinOp.{BinOp}
+use Rattle.cal_ast.specs.declared.expr.BinOp.TheVariants as binaries
+use Rattle.cal_ast.specs.Tree as tree
+use Rattle.cal_ast.specs.Tree.{Tree}
+use Rattle.code_ir.specs.declared.instr.Instr.{Instr}
+use Rattle.code_ir.specs.declared.instr.Instr.TheVariants as op
+use Rattle.expr_lower.specs.declared.names.Seat.{Seat}
+use Rattle.expr_lower.specs.declared.names.Seat.TheVariants.{Cell, Tokens}
+use Rattle.expr_lower.specs.Names.{Name, IsSingle, named}
+use Rattle.expr_lower.specs.declared.names.ItemList.{ItemList}
+use Rattle.expr_lower.specs.Listed.{list_named}
+use Rattle.expr_lower.specs.Truths.{is_truth}
+
+-- the instruction of an operation with one operand
+abbrev pub prefix_instr : PrefixOp → Instr
+prefix_instr prefixes.Not = op.Not
+prefix_instr prefixes.Neg = op.Neg
+prefix_instr prefixes.BitNot = op.BitNot
+
+-- the instruction of an operation whose operands are both evaluated
+abbrev pub binary_instr : BinOp → Option Instr
+binary_instr binaries.Or = None
+binary_instr binaries.And = None
+binary_instr binaries.BitOr = Some op.Or
+binary_instr binaries.BitXor = Some op.Xor
+binary_instr binaries.BitAnd = Some op.And
+binary_instr binaries.Eq = Some op.Eq
+binary_instr binaries.Ne = Some op.Ne
+binary_instr binaries.Lt = Some op.Lt
+binary_instr binaries.Le = Some op.Le
+binary_instr binaries.Gt = Some op.Gt
+binary_instr binaries.Ge = Some op.Ge
+binary_instr binaries.Shl = Some op.Shl
+binary_instr binaries.Shr = Some op.Shr
+binary_instr binaries.Add = Some op.Add
+binary_instr binaries.Sub = Some op.Sub
+binary_instr binaries.Mul = Some op.Mul
+binary_instr binaries.Div = Some op.Div
+binary_instr binaries.Mod = Some op.Mod
+
+-- the instruction that pushes the single value of a seat
+abbrev pub seat_instr : Seat → Instr
+seat_instr (Cell c) = op.Load c
+seat_instr (Tokens port first step) = op.Token port first
+
+-- the instruction that pushes the item of a list whose place is the top
+abbrev pub item_instr : ItemList → Instr
+item_instr l = elim l.seat [ Cell c ↦ op.LoadAt c l.size | Tokens port first step ↦ op.TokenAt port first step l.size ]
+
+mutual
+  -- Code of an expression that stands at a place. It pushes the value. Of the cells, it uses those from n to m.
+  pub data IsCode (names : List Name) : Tree → ℕ → ℕ → List Instr → ℕ → Type 0 where
+    number : (k at base n : ℕ) → is_num (pos k) ≡ true → IsCode names (tree.number k at) base n (op.Const (pos k) ∷ []) n
+    -- a literal that is no number traps
+    too_great : (k at base n : ℕ) → is_num (pos k) ≡ false
+        → IsCode names (tree.number k at) base n (op.Const greatest_num ∷ op.Const (pos 1) ∷ op.Add ∷ []) n
+    negative : (k at base n place : ℕ) → is_num (pos k) ≡ true
+        → IsCode names (tree.prefix prefixes.Neg (tree.number k place) at) base n (op.Const (neg_ℤ (pos k)) ∷ []) n
+    truth : (b : Bool) (at base n : ℕ) → IsCode names (tree.truth b at) base n (op.Const (arithmetic.truth b) ∷ []) n
+    variable : (text : List ℕ) (at base n : ℕ) (x : Name) → named text names ≡ Some x → IsSingle x.shape
+        → IsCode names (tree.variable text at) base n (seat_instr x.seat ∷ []) n
+    paren : (e : Tree) (at base n m : ℕ) (code : List Instr) → IsCode names e base n code m → IsCode names (tree.paren e at) base n code m
+    prefix : (o : PrefixOp) (e : Tree) (at base n m : ℕ) (code : List Instr) → IsCode names e base n code m
+        → IsCode names (tree.prefix o e at) base n (code ++ prefix_instr o ∷ []) m
+    binary : (o : BinOp) (i : Instr) (l r : Tree) (at base n k m : ℕ) (a b : List Instr) → binary_instr o ≡ Some i
+        → IsCode names l base n a k → IsCode names r (base + length a) k b m
+        → IsCode names (tree.binary o l r at) base n (a ++ (b ++ i ∷ [])) m
+    -- the place, and then the item there
+    item : (e place : Tree) (at base n m : ℕ) (code : List Instr) (l : ItemList) → list_named names e ≡ Some l → IsCode names place base n code m
+        → IsCode names (tree.index e place at) base n (code ++ item_instr l ∷ []) m
+    -- where the left side is false, the right one isn't evaluated
+    both : (l r : Tree) (at base n k m out end : ℕ) (a b : List Instr) → is_truth names l ≡ true
+        → IsTest names l base n out a k → IsCode names r (base + length a) k b m
+        → out ≡ base + length a + length b + 1 → end ≡ out + 1
+        → IsCode names (tree.binary binaries.And l r at) base n (a ++ (b ++ op.Jump end ∷ op.Const (pos 0) ∷ [])) m
+    -- where the left side is true, the right one isn't evaluated
+    either : (l r : Tree) (at base n k m right end : ℕ) (a b : List Instr) → is_truth names l ≡ true
+        → IsTest names l base n right a k → IsCode names r right k b m
+        → right ≡ base + length a + 2 → end ≡ right + length b
+        → IsCode names (tree.binary binaries.Or l r at) base n (a ++ (op.Const (pos 1) ∷ op.Jump end ∷ b)) m
+    -- the condition, the first branch with a jump over the other, and the other branch
+    if_code : (test first other : Tree) (at base n k h m else_at end : ℕ) (a b c : List Instr)
+        → IsTest names test base n else_at a k → IsCode names first (base + length a) k b h → IsCode names other else_at h c m
+        → else_at ≡ base + length a + length b + 1 → end ≡ else_at + length c
+        → IsCode names (tree.if_expr test first other at) base n (a ++ (b ++ op.Jump end ∷ c)) m
+
+  -- Code of a condition that stands at a place. It goes on after itself where the condition is true, and jumps to
+  -- `out` where it is false.
+  pub data IsTest (names : List Name) : Tree → ℕ → ℕ → ℕ → List Instr → ℕ → Type 0 where
+    tested : (e : Tree) (base n m out : ℕ) (code : List Instr) → IsCode names e base n code m
+        → IsTest names e base n out (code ++ op.JumpIfNot out ∷ []) m
+    -- both conditions jump to the same place
+    both_tested : (l r : Tree) (at base n k m out : ℕ) (a b : List Instr) → is_truth names l ≡ true
+        → IsTest names l base n out a k → IsTest names r (base + length a) k out b m
+        → IsTest names (tree.binary binaries.And l r at) base n out (a ++ b) m
+
+-- ---- conditions whose place to jump to isn't known yet
+
+-- an instruction with the place to jump to: `Done`, which code of expressions doesn't have, stands for the jump
+abbrev pub aimed : ℕ → Instr → Instr
+aimed out op.Done = op.JumpIfNot out
+aimed out i = i
+
+-- code of a condition, whatever the place is that it is to jump to
+abbrev pub IsOpenTest : List Name → Tree → ℕ → ℕ → List Instr → ℕ → Type 0
+IsOpenTest names e base n code m = (out : ℕ) → IsTest names e base n out (map (aimed out) code) m

@@ -1,0 +1,11 @@
+pub mod Names
+pub mod Flat
+pub mod Held
+pub mod Placed
+pub mod Following
+pub mod Coding
+pub mod Fitting
+pub mod Lowered
+pub mod Listed
+pub mod Truths
+pub mod Growing

@@ -1,0 +1,28 @@
+-- Names with their types and the cells or tokens where their values stand.
+use Rattle.std.specs.Prelude.{ℕ, List, [], ◌∷◌, map, if◌then◌else◌, Option, None, Some, string_bytes}
+use Rattle.std.specs.Str.{bytes_eq}
+use Rattle.cal_model.specs.Value.{Shape, Single, Many}
+use Rattle.cal_model.specs.View.{shape_view}
+use Rattle.expr_lower.specs.declared.names.Named.{Named}
+use Rattle.expr_lower.specs.declared.names.Seat.{Seat}
+
+pub record Name : Type 0 where
+  pub text : List ℕ
+  pub shape : Shape
+  pub seat : Seat
+
+abbrev pub name_view : Named → Name
+name_view x = record { text = string_bytes x.name; shape = shape_view x.shape; seat = x.seat }
+
+abbrev pub names_view : List Named → List Name
+names_view names = map name_view names
+
+-- the name that a text means among these, of which the first hides the others
+abbrev pub named : List ℕ → List Name → Option Name
+named text [] = None
+named text (x ∷ xs) = if bytes_eq x.text text then Some x else named text xs
+
+-- a type of single values
+abbrev pub IsSingle : Shape → Type 0
+IsSingle (Single t) = Unit {0}
+IsSingle (Many n items) = ⊥

@@ -1,0 +1,46 @@
+//! Code that is being written.
+
+ghost use Rattle.std.specs.Prelude.{◌≡◌, ◌∷◌, [], ◌^◌, ◌≤◌, length, IfOk, IfErr, OnOk};
+ghost use Rattle.code_ir.specs.declared.instr.Instr.TheVariants as op;
+ghost use Rattle.expr_lower.specs.declared.fault.LowerFault.TheVariants.{Memory, TooLong};
+ghost use Rattle.expr_lower.specs.Lowered.{IsPut};
+
+use crate::fault::LowerFault;
+use code_ir::{Instr, Routine};
+use rvc_base::Num;
+
+/// Code that is being written: the instructions and the routines so far, and how many cells they use.
+#[derive(Drop)]
+pub struct Draft {
+    pub instrs: Vec<Instr>,
+    pub routines: Vec<Routine>,
+    pub cells: u32,
+}
+
+/// Appends an instruction.
+pub(crate) fn put(draft: &mut Draft, instr: Instr) -> Result<(), LowerFault>
+    ensures added { OnOk result (IsPut (instr ∷ []) draft.old draft.new) }
+    ensures memory { IfErr result (λ fault. fault ≡ Memory) }
+{
+    draft.instrs.push(instr)?;
+    Ok(())
+}
+
+/// Appends an instruction that pushes a number.
+pub(crate) fn put_const(draft: &mut Draft, value: Num) -> Result<(), LowerFault>
+    ensures added { OnOk result (IsPut (op.Const value ∷ []) draft.old draft.new) }
+    ensures memory { IfErr result (λ fault. fault ≡ Memory) }
+{
+    put(draft, Instr::Const(value))
+}
+
+/// The place of the instruction that is appended next.
+pub(crate) fn next_place(draft: &Draft) -> Result<u32, LowerFault>
+    ensures place { IfOk result (λ place. place ≡ length draft.now.instrs.items) }
+    ensures too_long { IfErr result (λ fault. (fault ≡ TooLong) × (2 ^ 32 ≤ length draft.now.instrs.items)) }
+{
+    match u32::try_from(draft.instrs.len()) {
+        Ok(place) => Ok(place),
+        Err(_) => Err(LowerFault::TooLong),
+    }
+}

@@ -1,0 +1,376 @@
+//! Expressions as code: one small function a form.
+
+ghost use Rattle.std.specs.Prelude.{◌≡◌, ◌+◌, ◌<◌, ◌≤◌, ℕ, IfErr, IfOk, IfSome, List, None, OnOk, Some, [], ◌++◌, ◌∷◌, length, map, neg_ℤ, pos, true};
+ghost use Rattle.rvc_base.specs.Width.{greatest_num, is_num};
+ghost use Rattle.cal_ast.specs.Tree as tree;
+ghost use Rattle.cal_ast.specs.View.{expr_tree};
+ghost use Rattle.cal_ast.specs.declared.expr.PrefixOp.TheVariants as prefixes;
+ghost use Rattle.cal_ast.specs.declared.expr.BinOp.TheVariants as binaries;
+ghost use Rattle.code_ir.specs.declared.instr.Instr.{Instr};
+ghost use Rattle.code_ir.specs.declared.instr.Instr.TheVariants as op;
+ghost use Rattle.expr_lower.specs.declared.fault.LowerFault.TheVariants.{Memory};
+ghost use Rattle.expr_lower.specs.Coding.{IsCode, IsOpenTest, aimed, binary_instr};
+ghost use Rattle.expr_lower.specs.Growing.{IsFault, left_out, ◌or_else◌};
+ghost use Rattle.expr_lower.specs.Held.{AreBelow};
+ghost use Rattle.expr_lower.specs.Lowered.{Adds, IsLowered, IsPut};
+ghost use Rattle.expr_lower.specs.Names.{Name, names_view};
+
+use crate::draft::{Draft, next_place, put, put_const};
+use crate::fault::LowerFault;
+use crate::names::{Named, find, list_named};
+use crate::operators::{binary_instr, item_instr, negative, prefix_instr, seat_instr};
+use crate::truths::is_truth;
+use cal_ast::{BinOp, Expr, ExprForm, PrefixOp};
+use cal_model::Shape;
+use code_ir::Instr;
+use rvc_base::Num;
+
+/// Appends code that evaluates an expression and pushes its value.
+#[cycle(lower)]
+fn lower(names: &[Named], e: &Expr, draft: &mut Draft) -> Result<(), LowerFault>
+    ensures ok { OnOk result (Adds (IsCode (names_view names.now) (expr_tree e.now)) draft.old draft.new) }
+    ensures whole { OnOk result (left_out (names_view names.now) (expr_tree e.now) ≡ None) }
+    ensures fault { IfErr result (IsFault (left_out (names_view names.now) (expr_tree e.now)) draft.new) }
+{
+    match &e.form {
+        ExprForm::Number(value) => number(*value, draft),
+        ExprForm::Bool(value) => truth(*value, draft),
+        ExprForm::Name(text) => variable(names, text.as_str(), e.at, draft),
+        ExprForm::Paren(inner) => paren(names, inner, draft),
+        ExprForm::If { test, yes, no } => choice(names, test, yes, no, draft),
+        ExprForm::Prefix { op, of } => operation(names, *op, of, draft),
+        ExprForm::Binary { op, left, right } => binary(names, *op, left, right, e.at, draft),
+        ExprForm::Call { name: _, args: _ } => Err(LowerFault::NotLowered { at: e.at }),
+        ExprForm::List(_) => Err(LowerFault::NotLowered { at: e.at }),
+        ExprForm::Comp { item: _, gens: _ } => Err(LowerFault::NotLowered { at: e.at }),
+        ExprForm::Index { base, place } => item(names, base, place, e.at, draft),
+    }
+}
+
+/// Appends a number as it is written.
+fn number(value: u128, draft: &mut Draft) -> Result<(), LowerFault>
+    ensures ok { (names : List Name) (at : ℕ) → OnOk result (Adds (IsCode names (tree.number value at)) draft.old draft.new) }
+    ensures memory { IfErr result (λ fault. fault ≡ Memory) }
+{
+    match Num::try_from(value) {
+        Ok(value) => put_const(draft, value),
+        Err(_) => overflow(draft),
+    }
+}
+
+/// Appends a truth value: 0 or 1.
+fn truth(value: bool, draft: &mut Draft) -> Result<(), LowerFault>
+    ensures ok { (names : List Name) (at : ℕ) → OnOk result (Adds (IsCode names (tree.truth value at)) draft.old draft.new) }
+    ensures memory { IfErr result (λ fault. fault ≡ Memory) }
+{
+    if value {
+        put_const(draft, 1)
+    } else {
+        put_const(draft, 0)
+    }
+}
+
+/// Appends what stands in a pair of parentheses.
+#[cycle(lower)]
+fn paren(names: &[Named], inner: &Expr, draft: &mut Draft) -> Result<(), LowerFault>
+    ensures ok { (at : ℕ) → OnOk result (Adds (IsCode (names_view names.now) (tree.paren (expr_tree inner.now) at)) draft.old draft.new) }
+    ensures whole { OnOk result (left_out (names_view names.now) (expr_tree inner.now) ≡ None) }
+    ensures fault { IfErr result (IsFault (left_out (names_view names.now) (expr_tree inner.now)) draft.new) }
+{
+    lower(names, inner, draft)
+}
+
+/// Appends code that traps: a sum that is one greater than the greatest number.
+fn overflow(draft: &mut Draft) -> Result<(), LowerFault>
+    ensures added { OnOk result (IsPut (op.Const greatest_num ∷ op.Const (pos 1) ∷ op.Add ∷ []) draft.old draft.new) }
+    ensures memory { IfErr result (λ fault. fault ≡ Memory) }
+{
+    put(draft, Instr::Const(Num::MAX))?;
+    put(draft, Instr::Const(1))?;
+    put(draft, Instr::Add)
+}
+
+/// Appends a variable, which must be that of a single value.
+fn variable(names: &[Named], text: &str, at: u32, draft: &mut Draft) -> Result<(), LowerFault>
+    ensures ok { OnOk result (Adds (IsCode (names_view names.now) (tree.variable text.now at)) draft.old draft.new) }
+    ensures whole { OnOk result (left_out (names_view names.now) (tree.variable text.now at) ≡ None) }
+    ensures fault { IfErr result (IsFault (left_out (names_view names.now) (tree.variable text.now at)) draft.new) }
+{
+    let Some(named) = find(names, text) else {
+        return Err(LowerFault::NotLowered { at });
+    };
+    match &named.shape {
+        Shape::Scalar(_) => put(draft, seat_instr(named.seat)),
+        Shape::List(_, _) => Err(LowerFault::NotLowered { at }),
+    }
+}
+
+/// Appends an item of a list: its place, and the instruction that reads it.
+#[cycle(lower)]
+fn item(
+    names: &[Named],
+    base: &Expr,
+    place: &Expr,
+    at: u32,
+    draft: &mut Draft,
+) -> Result<(), LowerFault>
+    ensures ok { OnOk result (Adds (IsCode (names_view names.now) (tree.index (expr_tree base.now) (expr_tree place.now) at)) draft.old draft.new) }
+    ensures whole { OnOk result (left_out (names_view names.now) (tree.index (expr_tree base.now) (expr_tree place.now) at) ≡ None) }
+    ensures fault { IfErr result (IsFault (left_out (names_view names.now) (tree.index (expr_tree base.now) (expr_tree place.now) at)) draft.new) }
+{
+    let Some(list) = list_named(names, base) else {
+        return Err(LowerFault::NotLowered { at });
+    };
+    lower(names, place, draft)?;
+    put(draft, item_instr(list))
+}
+
+/// Appends an operation with one operand. A minus sign before a literal is one number with it.
+#[cycle(lower)]
+fn operation(names: &[Named], op: PrefixOp, of: &Expr, draft: &mut Draft) -> Result<(), LowerFault>
+    ensures ok { (at : ℕ) → OnOk result (Adds (IsCode (names_view names.now) (tree.prefix op (expr_tree of.now) at)) draft.old draft.new) }
+    ensures whole { OnOk result (left_out (names_view names.now) (expr_tree of.now) ≡ None) }
+    ensures fault { IfErr result (IsFault (left_out (names_view names.now) (expr_tree of.now)) draft.new) }
+{
+    if let Some(value) = negative(op, of) {
+        return put_const(draft, value);
+    }
+    lower(names, of, draft)?;
+    put(draft, prefix_instr(op))
+}
+
+/// Appends an operation with two operands.
+#[cycle(lower)]
+fn binary(
+    names: &[Named],
+    op: BinOp,
+    left: &Expr,
+    right: &Expr,
+    at: u32,
+    draft: &mut Draft,
+) -> Result<(), LowerFault>
+    ensures ok { OnOk result (Adds (IsCode (names_view names.now) (tree.binary op (expr_tree left.now) (expr_tree right.now) at)) draft.old draft.new) }
+    ensures whole { OnOk result (left_out (names_view names.now) (tree.binary op (expr_tree left.now) (expr_tree right.now) at) ≡ None) }
+    ensures fault { IfErr result (IsFault (left_out (names_view names.now) (tree.binary op (expr_tree left.now) (expr_tree right.now) at)) draft.new) }
+{
+    match binary_instr(op) {
+        Some(instr) => strict(names, instr, left, right, draft),
+        None => {
+            if op == BinOp::Or {
+                either(names, left, right, at, draft)
+            } else {
+                both(names, left, right, at, draft)
+            }
+        }
+    }
+}
+
+/// Appends an operation whose operands are both evaluated.
+#[cycle(lower)]
+fn strict(
+    names: &[Named],
+    instr: Instr,
+    left: &Expr,
+    right: &Expr,
+    draft: &mut Draft,
+) -> Result<(), LowerFault>
+    ensures ok { (op : BinOp) (at : ℕ) → binary_instr op ≡ Some instr → OnOk result (Adds (IsCode (names_view names.now) (tree.binary op (expr_tree left.now) (expr_tree right.now) at)) draft.old draft.new) }
+    ensures whole { OnOk result (left_out (names_view names.now) (expr_tree left.now) or_else left_out (names_view names.now) (expr_tree right.now) ≡ None) }
+    ensures fault { IfErr result (IsFault (left_out (names_view names.now) (expr_tree left.now) or_else left_out (names_view names.now) (expr_tree right.now)) draft.new) }
+{
+    lower(names, left, draft)?;
+    lower(names, right, draft)?;
+    put(draft, instr)
+}
+
+/// Appends an `and`, whose right side isn't evaluated where the left one is false.
+#[cycle(lower)]
+fn both(
+    names: &[Named],
+    left: &Expr,
+    right: &Expr,
+    at: u32,
+    draft: &mut Draft,
+) -> Result<(), LowerFault>
+    ensures ok { OnOk result (Adds (IsCode (names_view names.now) (tree.binary binaries.And (expr_tree left.now) (expr_tree right.now) at)) draft.old draft.new) }
+    ensures whole { OnOk result (left_out (names_view names.now) (tree.binary binaries.And (expr_tree left.now) (expr_tree right.now) at) ≡ None) }
+    ensures fault { IfErr result (IsFault (left_out (names_view names.now) (tree.binary binaries.And (expr_tree left.now) (expr_tree right.now) at)) draft.new) }
+{
+    if !is_truth(names, left) {
+        return Err(LowerFault::NotLowered { at });
+    }
+    let start = draft.instrs.len();
+    lower_test(names, left, draft)?;
+    let exits = draft.instrs.len();
+    lower(names, right, draft)?;
+    let jump = draft.instrs.len();
+    put(draft, Instr::Jump(0))?;
+    let out = next_place(draft)?;
+    put(draft, Instr::Const(0))?;
+    let end = next_place(draft)?;
+    link(draft, start, exits, out, jump, end);
+    Ok(())
+}
+
+/// Appends an `or`, whose right side isn't evaluated where the left one is true.
+#[cycle(lower)]
+fn either(
+    names: &[Named],
+    left: &Expr,
+    right: &Expr,
+    at: u32,
+    draft: &mut Draft,
+) -> Result<(), LowerFault>
+    ensures ok { OnOk result (Adds (IsCode (names_view names.now) (tree.binary binaries.Or (expr_tree left.now) (expr_tree right.now) at)) draft.old draft.new) }
+    ensures whole { OnOk result (left_out (names_view names.now) (tree.binary binaries.Or (expr_tree left.now) (expr_tree right.now) at) ≡ None) }
+    ensures fault { IfErr result (IsFault (left_out (names_view names.now) (tree.binary binaries.Or (expr_tree left.now) (expr_tree right.now) at)) draft.new) }
+{
+    if !is_truth(names, left) {
+        return Err(LowerFault::NotLowered { at });
+    }
+    let start = draft.instrs.len();
+    lower_test(names, left, draft)?;
+    let exits = draft.instrs.len();
+    put(draft, Instr::Const(1))?;
+    let jump = draft.instrs.len();
+    put(draft, Instr::Jump(0))?;
+    let out = next_place(draft)?;
+    lower(names, right, draft)?;
+    let end = next_place(draft)?;
+    link(draft, start, exits, out, jump, end);
+    Ok(())
+}
+
+/// Appends an `if`: the condition, and a branch for each answer.
+#[cycle(lower)]
+fn choice(
+    names: &[Named],
+    test: &Expr,
+    yes: &Expr,
+    no: &Expr,
+    draft: &mut Draft,
+) -> Result<(), LowerFault>
+    ensures ok { (at : ℕ) → OnOk result (Adds (IsCode (names_view names.now) (tree.if_expr (expr_tree test.now) (expr_tree yes.now) (expr_tree no.now) at)) draft.old draft.new) }
+    ensures whole { OnOk result (left_out (names_view names.now) (expr_tree test.now) or_else (left_out (names_view names.now) (expr_tree yes.now) or_else left_out (names_view names.now) (expr_tree no.now)) ≡ None) }
+    ensures fault { IfErr result (IsFault (left_out (names_view names.now) (expr_tree test.now) or_else (left_out (names_view names.now) (expr_tree yes.now) or_else left_out (names_view names.now) (expr_tree no.now))) draft.new) }
+{
+    let start = draft.instrs.len();
+    lower_test(names, test, draft)?;
+    let exits = draft.instrs.len();
+    lower(names, yes, draft)?;
+    let jump = draft.instrs.len();
+    put(draft, Instr::Jump(0))?;
+    let out = next_place(draft)?;
+    lower(names, no, draft)?;
+    let end = next_place(draft)?;
+    link(draft, start, exits, out, jump, end);
+    Ok(())
+}
+
+// ---- conditions
+
+/// Appends a condition, which goes on where it is true. Where it is false it is to jump elsewhere: `Done` stands for
+/// these jumps, until their target is known.
+#[cycle(lower)]
+fn lower_test(names: &[Named], e: &Expr, draft: &mut Draft) -> Result<(), LowerFault>
+    ensures ok { OnOk result (Adds (IsOpenTest (names_view names.now) (expr_tree e.now)) draft.old draft.new) }
+    ensures whole { OnOk result (left_out (names_view names.now) (expr_tree e.now) ≡ None) }
+    ensures fault { IfErr result (IsFault (left_out (names_view names.now) (expr_tree e.now)) draft.new) }
+{
+    match &e.form {
+        ExprForm::Binary {
+            op: BinOp::And,
+            left,
+            right,
+        } => test_both(names, left, right, e.at, draft),
+        _ => test_value(names, e, draft),
+    }
+}
+
+/// Appends two conditions that must both be true.
+#[cycle(lower)]
+fn test_both(
+    names: &[Named],
+    left: &Expr,
+    right: &Expr,
+    at: u32,
+    draft: &mut Draft,
+) -> Result<(), LowerFault>
+    ensures ok { OnOk result (Adds (IsOpenTest (names_view names.now) (tree.binary binaries.And (expr_tree left.now) (expr_tree right.now) at)) draft.old draft.new) }
+    ensures whole { OnOk result (left_out (names_view names.now) (tree.binary binaries.And (expr_tree left.now) (expr_tree right.now) at) ≡ None) }
+    ensures fault { IfErr result (IsFault (left_out (names_view names.now) (tree.binary binaries.And (expr_tree left.now) (expr_tree right.now) at)) draft.new) }
+{
+    if !is_truth(names, left) {
+        return Err(LowerFault::NotLowered { at });
+    }
+    lower_test(names, left, draft)?;
+    lower_test(names, right, draft)
+}
+
+/// Appends a value, and a jump where it is false.
+#[cycle(lower)]
+fn test_value(names: &[Named], e: &Expr, draft: &mut Draft) -> Result<(), LowerFault>
+    ensures ok { OnOk result (Adds (IsOpenTest (names_view names.now) (expr_tree e.now)) draft.old draft.new) }
+    ensures whole { OnOk result (left_out (names_view names.now) (expr_tree e.now) ≡ None) }
+    ensures fault { IfErr result (IsFault (left_out (names_view names.now) (expr_tree e.now)) draft.new) }
+{
+    lower(names, e, draft)?;
+    put(draft, Instr::Done)
+}
+
+/// Sets the targets of the jumps that stand from `start` to `exits` for a condition that is false, and that of the
+/// jump at `jump`.
+fn link(draft: &mut Draft, start: usize, exits: usize, out: u32, jump: usize, end: u32)
+    requires order { (start ≤ exits) × (exits ≤ jump) × (jump < length draft.old.instrs.items) }
+    ensures linked { (before test first other : List Instr) (i : Instr)
+        → draft.old.instrs.items ≡ before ++ (test ++ (first ++ i ∷ other))
+        → start ≡ length before → exits ≡ start + length test → jump ≡ exits + length first
+        → draft.new.instrs.items ≡ before ++ (map (aimed out) test ++ (first ++ op.Jump end ∷ other)) }
+    ensures routines { draft.new.routines.items ≡ draft.old.routines.items }
+    ensures cells { draft.new.cells ≡ draft.old.cells }
+{
+    aim(&mut draft.instrs[start..exits], out);
+    draft.instrs[jump] = Instr::Jump(end);
+}
+
+/// Sets the target of the jumps for which `Done` stands.
+fn aim(part: &mut [Instr], out: u32)
+    ensures { part.new ≡ map (aimed out) part.old }
+{
+    for instr in part.iter_mut() {
+        *instr = aimed(*instr, out);
+    }
+}
+
+/// The instruction with its target, if `Done` stands for a jump.
+fn aimed(instr: Instr, out: u32) -> Instr
+    ensures { result ≡ aimed out instr }
+{
+    match instr {
+        Instr::Done => Instr::JumpIfNot(out),
+        _ => instr,
+    }
+}
+
+/// Appends code that evaluates an expression of a single value and pushes the value.
+///
+/// `names` holds the names that the expression uses; the first of several that are the same is meant. The code
+/// reads their cells and tokens where they stand, and writes none. What stood in the draft stays.
+///
+/// Code is made for literals, variables of single values, items of lists of single values that are named, operators
+/// and `if`.
+///
+/// # Errors
+///
+/// `Memory` where an allocation was refused. `TooLong` where the draft has 2 to the power of 32 instructions.
+/// `NotLowered` with the offset of the first part for which no code is made: a call, a list, a comprehension, an
+/// index on what isn't the name of a list of single values, a name that `names` doesn't have as that of a single
+/// value, or an `and` or `or` whose left side isn't seen to be a truth value.
+pub fn lower_expr(names: &[Named], e: &Expr, draft: &mut Draft) -> Result<(), LowerFault>
+    requires below { AreBelow draft.old.cells (names_view names.now) }
+    ensures lowered { OnOk result (Adds (IsLowered (names_view names.now) (expr_tree e.now)) draft.old draft.new) }
+    ensures whole { OnOk result (left_out (names_view names.now) (expr_tree e.now) ≡ None) }
+    ensures fault { IfErr result (IsFault (left_out (names_view names.now) (expr_tree e.now)) draft.new) }
+{
+    lower(names, e, draft)
+}

@@ -1,0 +1,98 @@
+//! Names with the cells or tokens that hold their values.
+
+ghost use Rattle.std.specs.Prelude.{◌≡◌, option_map};
+ghost use Rattle.cal_ast.specs.Tree as tree;
+ghost use Rattle.cal_ast.specs.View.{expr_tree};
+ghost use Rattle.cal_model.specs.View.{shape_view};
+ghost use Rattle.expr_lower.specs.Listed.{items_of, list_named, single_of};
+ghost use Rattle.expr_lower.specs.Names.{name_view, named, names_view};
+
+use cal_ast::{Expr, ExprForm};
+use cal_model::Shape;
+use rvc_base::Scalar;
+
+/// A name, the type of its value, and where the value stands, number by number.
+#[derive(Debug, Drop)]
+pub struct Named {
+    pub name: String,
+    pub shape: Shape,
+    pub seat: Seat,
+}
+
+/// Where the numbers of a value stand.
+#[derive(Clone, Copy, Debug, PartialEq, Eq)]
+pub enum Seat {
+    /// In the cells from this one on.
+    Cell(u32),
+    /// In the tokens of a port: the number at place k of the value is token `first + k * step`.
+    Tokens { port: u32, first: u32, step: u32 },
+}
+
+/// Where the items of a list stand, and of which type they are.
+#[derive(Clone, Copy)]
+pub(crate) struct ItemList {
+    pub seat: Seat,
+    pub size: u32,
+    pub kind: Scalar,
+}
+
+/// The list of single values that an expression names, if it names one.
+pub(crate) fn list_named(names: &[Named], e: &Expr) -> Option<ItemList>
+    ensures { result ≡ list_named (names_view names.now) (expr_tree e.now) }
+{
+    match &e.form {
+        ExprForm::Name(text) => list_called(names, text.as_str()),
+        _ => None,
+    }
+}
+
+/// The list of single values of a name, if it is that of one.
+fn list_called(names: &[Named], text: &str) -> Option<ItemList>
+    ensures { result ≡ list_named (names_view names.now) (tree.variable text.now 0) }
+{
+    match find(names, text) {
+        Some(named) => items_of(named),
+        None => None,
+    }
+}
+
+/// Where the items of a list stand, if it is one of single values.
+fn items_of(named: &Named) -> Option<ItemList>
+    ensures { result ≡ items_of (name_view named.now) }
+{
+    match &named.shape {
+        Shape::Scalar(_) => None,
+        Shape::List(size, items) => {
+            let kind = single(items)?;
+            Some(ItemList {
+                seat: named.seat,
+                size: *size,
+                kind,
+            })
+        }
+    }
+}
+
+/// The type of single values that a type is, if it is one.
+fn single(shape: &Shape) -> Option<Scalar>
+    ensures { result ≡ single_of (shape_view shape.now) }
+{
+    match shape {
+        Shape::Scalar(t) => Some(*t),
+        Shape::List(_, _) => None,
+    }
+}
+
+/// The first of the names that is this text.
+pub(crate) fn find<'a>(names: &'a [Named], text: &str) -> Option<&'a Named>
+    ensures { option_map (λ x. name_view x.now) result ≡ named text.now (names_view names.now) }
+{
+    let mut rest = names;
+    'names: while let Some((first, others)) = rest.split_first() {
+        if first.name.as_str() == text {
+            return Some(first);
+        }
+        rest = others;
+    }
+    None
+}
