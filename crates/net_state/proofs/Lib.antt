@@ -1,0 +1,12 @@
+pub mod Gaining
+pub mod Viewed
+pub mod Coming
+pub mod Clearing
+pub mod Narrowing
+pub mod Moved
+pub mod Counting
+pub mod Kept
+pub mod Slices
+pub mod Starting
+pub mod Reading
+pub mod Feeding

@@ -1,0 +1,35 @@
+-- Cells as contracts see them, at their places.
+use Rattle.std.proofs.Common.{◌≡◌, ℕ, ◌<◌, List, [], ◌∷◌, ℤ, length, map, sym, ap, subst, ◌∙◌}
+use Rattle.std.specs.Prelude.{Some, slice_get, slice_set, slice_index_or}
+use Rattle.std.proofs.lemmas.List.{map-set, length-set}
+use Rattle.std.proofs.lemmas.Option.{slice_get-get_or, slice_get-map}
+use Rattle.std.specs.Option.{option_map}
+use Rattle.net_model.specs.Cell.{Cell, Accepts, Clears}
+use Rattle.net_state.specs.Moving.{EachGains, ClearsAt, only_to}
+use Rattle.net_state.proofs.Gaining.{some_is, get_set_same, get_set_other, each_gains_at, gains_token}
+
+module _ {C X : Type 0} (view : C → Cell X) where
+  -- the cell at a place
+  pub viewed : (cells : List C) (i : ℕ) (d : C) → i < length cells → slice_get (map view cells) i ≡ Some (view (slice_index_or cells i d))
+  viewed cells i d low = slice_get-map view cells i ∙ ap (option_map view) (slice_get-get_or cells i d low)
+
+  pub accepted : (cells : List C) (i p : ℕ) (token kept : ℤ) (d new : C) → i < length cells → kept ≡ token
+      → Accepts (view (slice_index_or cells i d)) p kept (view new)
+      → EachGains (only_to i p (token ∷ [])) (map view cells) (map view (slice_set cells i new))
+  accepted cells i p token kept d new low same takes =
+      let accepts : Accepts (view (slice_index_or cells i d)) p token (view new) = subst (λ t. Accepts (view (slice_index_or cells i d)) p t (view new)) same takes in
+      subst (EachGains (only_to i p (token ∷ [])) (map view cells)) (sym (map-set view cells i new))
+      (each_gains_at i p (token ∷ []) (map view cells) (view (slice_index_or cells i d)) (view new) (viewed cells i d low)
+      (gains_token i p token (view (slice_index_or cells i d)) (view new) accepts))
+
+  pub cleared_at : (cells : List C) (i : ℕ) (d new : C) → i < length cells → Clears (view (slice_index_or cells i d)) (view new)
+      → ClearsAt i (map view cells) (map view (slice_set cells i new))
+  cleared_at cells i d new low clears =
+      subst (ClearsAt i (map view cells)) (sym (map-set view cells i new)) (record {
+        count = length-set (map view cells) i (view new);
+        here = λ before after was is.
+            let old_is : view (slice_index_or cells i d) ≡ before = some_is _ before (sym (viewed cells i d low) ∙ was) in
+            let new_is : view new ≡ after = some_is (view new) after (sym (get_set_same (map view cells) i before (view new) was) ∙ is) in
+            subst (λ c. Clears c after) old_is (subst (Clears (view (slice_index_or cells i d))) new_is clears);
+        elsewhere = λ k differ. get_set_other (map view cells) k i (view new) differ;
+      })

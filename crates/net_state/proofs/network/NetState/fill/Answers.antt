@@ -1,0 +1,88 @@
+use Rattle.std.proofs.Common.{◌≡◌, ◌++◌, ◌<◌, ℕ, ℤ, List, true, arith, ap, sym, subst, refl, ◌∙◌, length, map, take, drop, rules}
+use Rattle.std.specs.Prelude.{slice_get, slice_index_or, vec_items, Some, IfOk}
+use Rattle.std.proofs.lemmas.List.{get_or_read}
+use Rattle.std.proofs.lemmas.Option.{slice_get_read, slice_get_within}
+use Rattle.rvc_base.specs.Storing.{conv}
+use Rattle.net_model.specs.declared.wiring.Link.{Link}
+use Rattle.net_model.specs.Network.{is_input}
+use Rattle.port_files.specs.Coming.{coming_on}
+use Rattle.net_state.specs.Moving.{EachGains, HasRoomUpTo, IsInput, only_to}
+use Rattle.net_state.specs.Filling.{AtPort, IsInputLink, Takes}
+use Rattle.net_state.proofs.Slices.{written_back}
+use Rattle.net_state.proofs.Feeding.{at_port_as, kept_by_fill, on_input, reader_at}
+use Rattle.net_state.proofs.network.NetState.fill.Goals as goal
+
+pub fill_link-requires : goal.fill_link-requires
+fill_link-requires g c =
+    let links_are : c.self.inside.links.items ≡ c.args.self.now.links = ap (λ h. h.links) c.self.view_is in
+    let from : IsInputLink (slice_get c.self.inside.links.items c.args.link.0) = subst (λ ls. IsInputLink (slice_get ls c.args.link.0)) (sym links_are) c.requires.input in
+    let on = on_input (slice_get c.self.inside.links.items c.args.link.0) from in
+    let low : c.args.link.0 < length c.self.inside.links.items = slice_get_within c.self.inside.links.items c.args.link.0 on.0 on.1 in
+    let at : slice_get c.self.inside.links.items c.args.link.0 ≡ Some c.index.result.now =
+    slice_get_read c.self.inside.links.items (length c.self.inside.links.items) c.args.link.0 c.index.result.now refl low c.index.ensures in
+    let input : is_input c.index.result.now ≡ true = subst IsInputLink at from in
+    let capacity : c.index-2.result.now ≡ slice_index_or c.self.inside.capacities.items c.args.link.0 0 =
+    get_or_read c.self.inside.capacities.items c.args.link.0 c.index-2.result.now (omega (arith, low, c.self.invariant.0.each_holds)) c.index-2.ensures 0 in
+    record {
+      size = (c.self.invariant.0.fits c.args.link.0 c.index.result.now at).size;
+      reader =
+          subst (λ n. AtPort c.index.result.now (λ (that : Link) (j : ℕ) (q : ℕ). IsInput (map g.A.Firing.cell c.deref_mut.result.now) j q × HasRoomUpTo (map g.A.Firing.cell c.deref_mut.result.now) j q n) c.index.result.now.to) (sym capacity)
+          (subst (λ cs. AtPort c.index.result.now (λ (that : Link) (j : ℕ) (q : ℕ). IsInput (map g.A.Firing.cell cs) j q × HasRoomUpTo (map g.A.Firing.cell cs) j q (slice_index_or c.self.inside.capacities.items c.args.link.0 0)) c.index.result.now.to) (sym c.deref_mut.ensures.value)
+          (reader_at (map g.A.Firing.cell c.self.inside.cells.items) c.self.inside.links.items c.self.inside.capacities.items c.self.inside.waited.items c.self.invariant.0 c.args.link.0 c.index.result.now at input));
+      «open» = c.requires.«open»;
+      same_feed = c.requires.same_feed;
+    }
+
+pub invariant_of-self : goal.invariant_of-self
+invariant_of-self g c =
+    let links_are : c.self.inside.links.items ≡ c.args.self.now.links = ap (λ h. h.links) c.self.view_is in
+    let from : IsInputLink (slice_get c.self.inside.links.items c.args.link.0) = subst (λ ls. IsInputLink (slice_get ls c.args.link.0)) (sym links_are) c.requires.input in
+    let on = on_input (slice_get c.self.inside.links.items c.args.link.0) from in
+    let low : c.args.link.0 < length c.self.inside.links.items = slice_get_within c.self.inside.links.items c.args.link.0 on.0 on.1 in
+    let at : slice_get c.self.inside.links.items c.args.link.0 ≡ Some c.index.result.now =
+    slice_get_read c.self.inside.links.items (length c.self.inside.links.items) c.args.link.0 c.index.result.now refl low c.index.ensures in
+    let input : is_input c.index.result.now ≡ true = subst IsInputLink at from in
+    let capacity : c.index-2.result.now ≡ slice_index_or c.self.inside.capacities.items c.args.link.0 0 =
+    get_or_read c.self.inside.capacities.items c.args.link.0 c.index-2.result.now (omega (arith, low, c.self.invariant.0.each_holds)) c.index-2.ensures 0 in
+    let cells : take c.self.inside.cells.len (c.fill_link.new.cells ++ drop (length c.fill_link.new.cells) c.self.inside.cells.items) ≡ c.fill_link.new.cells =
+    written_back c.self.inside.cells.items c.fill_link.new.cells c.self.inside.cells.len (omega (arith, c.fill_link.auto.cells, c.deref_mut.ensures.len)) in
+    let gained : AtPort c.index.result.now (λ (that : Link) (j : ℕ) (q : ℕ). (ts : List ℤ) × EachGains (only_to j q ts) (map g.A.Firing.cell c.deref_mut.result.now) (map g.A.Firing.cell c.fill_link.new.cells)) c.index.result.now.to =
+    at_port_as c.index.result.now
+    (λ (that : Link) (j : ℕ) (q : ℕ). (count : ℕ) × Takes c.args.tokens.now.kind that.kind j q count (map g.A.Firing.cell c.deref_mut.result.now) (map g.A.Firing.cell c.fill_link.new.cells)
+    (coming_on c.args.tokens.now.pulled (g.F.Feeds.feeds c.args.feeds.now) c.args.feed) (coming_on c.fill_link.new.tokens.pulled (g.F.Feeds.feeds c.fill_link.new.feeds) c.args.feed)
+    × IfOk c.fill_link.result (λ filled. filled.tokens ≡ count))
+    (λ (that : Link) (j : ℕ) (q : ℕ). (ts : List ℤ) × EachGains (only_to j q ts) (map g.A.Firing.cell c.deref_mut.result.now) (map g.A.Firing.cell c.fill_link.new.cells))
+    c.index.result.now.to (λ j q took. (map (conv c.index.result.now.kind) took.1.taken, took.1.gains)) c.fill_link.ensures.took in
+    rw cells (kept_by_fill (map g.A.Firing.cell c.self.inside.cells.items) c.self.inside.links.items c.self.inside.capacities.items c.self.inside.waited.items c.self.invariant.0
+    c.args.link.0 c.index.result.now at input (map g.A.Firing.cell c.fill_link.new.cells)
+    (subst (λ cs. AtPort c.index.result.now (λ (that : Link) (j : ℕ) (q : ℕ). (ts : List ℤ) × EachGains (only_to j q ts) (map g.A.Firing.cell cs) (map g.A.Firing.cell c.fill_link.new.cells)) c.index.result.now.to)
+    c.deref_mut.ensures.value gained)
+    (subst (λ n. AtPort c.index.result.now (λ (that : Link) (j : ℕ) (q : ℕ). HasRoomUpTo (map g.A.Firing.cell c.fill_link.new.cells) j q n) c.index.result.now.to) capacity c.fill_link.ensures.within)
+    (map vec_items c.self.inside.rooms.items) c.self.invariant.1)
+
+pub returns : goal.returns
+returns g c =
+    let links_are : c.self.inside.links.items ≡ c.args.self.now.links = ap (λ h. h.links) c.self.view_is in
+    let from : IsInputLink (slice_get c.self.inside.links.items c.args.link.0) = subst (λ ls. IsInputLink (slice_get ls c.args.link.0)) (sym links_are) c.requires.input in
+    let on = on_input (slice_get c.self.inside.links.items c.args.link.0) from in
+    let low : c.args.link.0 < length c.self.inside.links.items = slice_get_within c.self.inside.links.items c.args.link.0 on.0 on.1 in
+    let at : slice_get c.self.inside.links.items c.args.link.0 ≡ Some c.index.result.now =
+    slice_get_read c.self.inside.links.items (length c.self.inside.links.items) c.args.link.0 c.index.result.now refl low c.index.ensures in
+    let there : slice_get c.args.self.now.links c.args.link.0 ≡ Some c.index.result.now = sym (ap (λ ls. slice_get ls c.args.link.0) links_are) ∙ at in
+    let capacity : slice_index_or c.args.self.now.capacities c.args.link.0 0 ≡ c.index-2.result.now =
+    sym (get_or_read c.self.inside.capacities.items c.args.link.0 c.index-2.result.now (omega (arith, low, c.self.invariant.0.each_holds)) c.index-2.ensures 0
+    ∙ ap (λ h. slice_index_or h.capacities c.args.link.0 0) c.self.view_is) in
+    let old : c.args.self.now.cells ≡ c.deref_mut.result.now = sym (c.deref_mut.ensures.value ∙ ap (λ h. h.cells) c.self.view_is) in
+    let cells : take c.self.inside.cells.len (c.fill_link.new.cells ++ drop (length c.fill_link.new.cells) c.self.inside.cells.items) ≡ c.fill_link.new.cells =
+    written_back c.self.inside.cells.items c.fill_link.new.cells c.self.inside.cells.len (omega (arith, c.fill_link.auto.cells, c.deref_mut.ensures.len)) in
+    rw (cells, there, capacity, old) (record {
+      took = c.fill_link.ensures.took;
+      filled = c.fill_link.ensures.filled;
+      links = links_are;
+      capacities = ap (λ h. h.capacities) c.self.view_is;
+      waited = ap (λ h. h.waited) c.self.view_is;
+      failed = c.fill_link.ensures.failed;
+      kind = c.fill_link.ensures.kind;
+      still_same_feed = c.fill_link.ensures.still_same_feed;
+      elsewhere = c.fill_link.ensures.elsewhere;
+    })

@@ -1,0 +1,45 @@
+use Rattle.std.proofs.Common.{FitsSigned, rules, ◌≡◌, ◌<◌, map, length, ap, sym, subst, refl, ◌∙◌}
+use Rattle.std.specs.Prelude.{slice_get, Some}
+use Rattle.std.proofs.lemmas.Int.{to_z-of_z}
+use Rattle.rvc_base.specs.Width.{num_width}
+use Rattle.std.proofs.lemmas.Option.{slice_get_read}
+use Rattle.net_state.specs.Moving.{IsFromCell, IsWriter, carried, carried_on}
+use Rattle.net_state.proofs.Reading.{carried_at, place_of_link, true_of_unarrived_on}
+use Rattle.net_state.proofs.network.NetState.sent_at.Goals as goal
+
+pub token_along-requires : goal.token_along-requires
+token_along-requires g c =
+    let links_are : c.self.inside.links.items ≡ c.args.self.now.links = ap (λ h. h.links) c.self.view_is in
+    let cells_are : c.self.inside.cells.items ≡ c.args.self.now.cells = ap (λ h. h.cells) c.self.view_is in
+    let from : IsFromCell (slice_get c.self.inside.links.items c.args.link.0) = subst (λ ls. IsFromCell (slice_get ls c.args.link.0)) (sym links_are) c.requires.from_cell in
+    let at : slice_get c.self.inside.links.items c.args.link.0 ≡ Some c.index.result.now =
+    slice_get_read c.self.inside.links.items (length c.self.inside.links.items) c.args.link.0 c.index.result.now refl (place_of_link c.self.inside.links.items c.args.link.0 from) c.index.ensures in
+    let is : carried (map g.A.Firing.cell c.deref.result.now) c.index.result.now ≡ carried_on (map g.A.Firing.cell c.args.self.now.cells) (slice_get c.args.self.now.links c.args.link.0) =
+    ap (λ cs. carried (map g.A.Firing.cell cs) c.index.result.now) (c.deref.ensures.value ∙ cells_are)
+    ∙ sym (carried_at (map g.A.Firing.cell c.args.self.now.cells) c.args.self.now.links c.args.link.0 c.index.result.now (sym (ap (λ ls. slice_get ls c.args.link.0) links_are) ∙ at)) in
+    record {
+      size = (c.self.invariant.0.fits c.args.link.0 c.index.result.now at).size;
+      writer = subst (λ cs. IsWriter (map g.A.Firing.cell cs) c.index.result.now.from) (sym c.deref.ensures.value) (c.self.invariant.0.fits c.args.link.0 c.index.result.now at).writer;
+      among = subst (λ ts. c.args.k < length ts) (sym is) c.requires.among;
+    }
+
+pub returns : goal.returns
+returns g c =
+    let links_are : c.self.inside.links.items ≡ c.args.self.now.links = ap (λ h. h.links) c.self.view_is in
+    let cells_are : c.self.inside.cells.items ≡ c.args.self.now.cells = ap (λ h. h.cells) c.self.view_is in
+    let from : IsFromCell (slice_get c.self.inside.links.items c.args.link.0) = subst (λ ls. IsFromCell (slice_get ls c.args.link.0)) (sym links_are) c.requires.from_cell in
+    let at : slice_get c.self.inside.links.items c.args.link.0 ≡ Some c.index.result.now =
+    slice_get_read c.self.inside.links.items (length c.self.inside.links.items) c.args.link.0 c.index.result.now refl (place_of_link c.self.inside.links.items c.args.link.0 from) c.index.ensures in
+    let is : carried (map g.A.Firing.cell c.deref.result.now) c.index.result.now ≡ carried_on (map g.A.Firing.cell c.args.self.now.cells) (slice_get c.args.self.now.links c.args.link.0) =
+    ap (λ cs. carried (map g.A.Firing.cell cs) c.index.result.now) (c.deref.ensures.value ∙ cells_are)
+    ∙ sym (carried_at (map g.A.Firing.cell c.args.self.now.cells) c.args.self.now.links c.args.link.0 c.index.result.now (sym (ap (λ ls. slice_get ls c.args.link.0) links_are) ∙ at)) in
+    let fits : FitsSigned num_width c.token_along.result = search rules in
+    let token : slice_get (carried_on (map g.A.Firing.cell c.args.self.now.cells) (slice_get c.args.self.now.links c.args.link.0)) c.args.k ≡ Some c.token_along.result =
+    sym (ap (λ ts. slice_get ts c.args.k) is) ∙ c.token_along.ensures in
+    record {
+      token = token ∙ ap Some (sym (to_z-of_z num_width c.token_along.result fits));
+      states = λ net s that stands.
+          true_of_unarrived_on (map g.A.Firing.cell c.args.self.now.cells) c.args.self.now.links c.args.self.now.capacities c.args.link.0
+          (λ tokens. slice_get tokens c.args.k ≡ Some c.token_along.result) c.requires.from_cell token net s that stands
+          ∙ ap Some (sym (to_z-of_z num_width c.token_along.result fits));
+    }

@@ -1,0 +1,4 @@
+pub mod Moving
+pub mod Held
+pub mod Standing
+pub mod Filling

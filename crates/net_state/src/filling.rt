@@ -1,0 +1,114 @@
+//! An input link is filled from its feed.
+
+ghost use Rattle.std.specs.Prelude.{◌≡◌, ◌≤◌, ◌<◌, ◌+◌, ℕ, true, length, map, slice_get, IfOk, OnErr};
+ghost use Rattle.rvc_base.specs.Storing.{IsSize};
+ghost use Rattle.rvc_io.specs.Feeds.{PullsOnly, ReadFails};
+ghost use Rattle.net_model.specs.Ready.{tokens_of};
+ghost use Rattle.port_files.specs.Coming.{EndIsTrue, coming_on};
+ghost use Rattle.net_state.specs.Filling.{AtPort, IsFilled, Takes};
+ghost use Rattle.net_state.specs.Moving.{HasRoomUpTo, IsInput};
+
+use crate::places::{held_at, store_at};
+use net_model::{End, Firing, Link};
+use port_files::{Next, TokenFeed};
+use rvc_base::{InstId, Scalar};
+use rvc_io::{Failed, Feeds};
+
+/// What a link was filled with.
+#[derive(Clone, Copy, Debug, PartialEq, Eq)]
+pub struct Filled {
+    /// How many tokens came.
+    pub tokens: u32,
+    /// Where the feed's end was read: how many bytes are left there, which are no token.
+    pub rest: Option<u8>,
+}
+
+/// Where tokens go that come from a feed: a port, its type, and how many tokens may wait there.
+#[derive(Clone, Copy)]
+pub(crate) struct Inlet {
+    pub inst: InstId,
+    pub port: u32,
+    pub kind: Scalar,
+    pub capacity: u32,
+}
+
+/// Lets tokens of a feed come before a port until it holds its capacity, or to the feed's end.
+///
+/// Nothing is pulled where the port holds its capacity.
+pub(crate) fn fill_port<A: Firing, F: Feeds>(
+    cells: &mut [A],
+    inlet: &Inlet,
+    tokens: &mut TokenFeed,
+    feed: u32,
+    feeds: &mut F,
+) -> Result<Filled, Failed>
+    requires size { IsSize inlet.now.kind }
+    requires there { inlet.now.inst.0 < length cells.old }
+    requires input { IsInput (map A.cell cells.old) inlet.now.inst.0 inlet.now.port }
+    requires room { HasRoomUpTo (map A.cell cells.old) inlet.now.inst.0 inlet.now.port inlet.now.capacity }
+    requires open { (F.feeds feeds.old).is_open feed ≡ true }
+    requires same_feed { EndIsTrue tokens.old ((F.feeds feeds.old).left feed) }
+    ensures took { (count : ℕ) × Takes tokens.old.kind inlet.now.kind inlet.now.inst.0 inlet.now.port count (map A.cell cells.old) (map A.cell cells.new)
+        (coming_on tokens.old.pulled (F.feeds feeds.old) feed) (coming_on tokens.new.pulled (F.feeds feeds.new) feed) × IfOk result (λ filled. filled.tokens ≡ count) }
+    ensures filled { IfOk result (λ filled. IsFilled tokens.old.kind inlet.now.inst.0 inlet.now.port inlet.now.capacity filled.rest (map A.cell cells.new)
+        (coming_on tokens.new.pulled (F.feeds feeds.new) feed)) }
+    ensures within { HasRoomUpTo (map A.cell cells.new) inlet.now.inst.0 inlet.now.port inlet.now.capacity }
+    ensures failed { OnErr result (ReadFails F.feeds feeds.old feeds.new) }
+    ensures kind { tokens.new.kind ≡ tokens.old.kind }
+    ensures still_same_feed { EndIsTrue tokens.new ((F.feeds feeds.new).left feed) }
+    ensures elsewhere { PullsOnly F.feeds feeds.old feeds.new feed }
+{
+    let mut count = 0u32;
+    while held_at(cells, inlet.inst, inlet.port) < inlet.capacity {
+        match tokens.next(feed, feeds) {
+            Next::Token(token) => store_at(cells, inlet.inst, inlet.port, inlet.kind, token),
+            Next::End { rest } => {
+                return Ok(Filled {
+                    tokens: count,
+                    rest: Some(rest),
+                });
+            }
+            Next::Failed => return Err(Failed),
+        }
+        count += 1;
+    }
+    Ok(Filled {
+        tokens: count,
+        rest: None,
+    })
+}
+
+/// Fills a link that ends at a cell from its feed.
+pub(crate) fn fill_link<A: Firing, F: Feeds>(
+    cells: &mut [A],
+    link: &Link,
+    capacity: u32,
+    tokens: &mut TokenFeed,
+    feed: u32,
+    feeds: &mut F,
+) -> Result<Filled, Failed>
+    requires size { IsSize link.now.kind }
+    requires reader { AtPort link.now (λ that j q. IsInput (map A.cell cells.old) j q × HasRoomUpTo (map A.cell cells.old) j q capacity) link.now.to }
+    requires open { (F.feeds feeds.old).is_open feed ≡ true }
+    requires same_feed { EndIsTrue tokens.old ((F.feeds feeds.old).left feed) }
+    ensures took { AtPort link.now (λ that j q. (count : ℕ) × Takes tokens.old.kind that.kind j q count (map A.cell cells.old) (map A.cell cells.new)
+        (coming_on tokens.old.pulled (F.feeds feeds.old) feed) (coming_on tokens.new.pulled (F.feeds feeds.new) feed) × IfOk result (λ filled. filled.tokens ≡ count)) link.now.to }
+    ensures filled { IfOk result (λ filled. AtPort link.now (λ that j q. IsFilled tokens.old.kind j q capacity filled.rest (map A.cell cells.new)
+        (coming_on tokens.new.pulled (F.feeds feeds.new) feed)) link.now.to) }
+    ensures within { AtPort link.now (λ that j q. HasRoomUpTo (map A.cell cells.new) j q capacity) link.now.to }
+    ensures failed { OnErr result (ReadFails F.feeds feeds.old feeds.new) }
+    ensures kind { tokens.new.kind ≡ tokens.old.kind }
+    ensures still_same_feed { EndIsTrue tokens.new ((F.feeds feeds.new).left feed) }
+    ensures elsewhere { PullsOnly F.feeds feeds.old feeds.new feed }
+{
+    let End::Leaf { inst, port } = link.to else {
+        unreachable!();
+    };
+    let inlet = Inlet {
+        inst,
+        port,
+        kind: link.kind,
+        capacity,
+    };
+    fill_port(cells, &inlet, tokens, feed, feeds)
+}

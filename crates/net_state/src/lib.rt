@@ -1,0 +1,14 @@
+//! A network at work: its cells, the links between them, and how much each link can hold now.
+#![tactic(auto)]
+
+mod carrying;
+mod delivering;
+mod filling;
+mod network;
+mod places;
+mod rooms;
+mod tables;
+mod waiting;
+
+pub use filling::Filled;
+pub use network::NetState;

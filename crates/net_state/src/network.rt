@@ -1,0 +1,165 @@
+//! A network at work.
+
+ghost use Rattle.std.specs.Prelude.{◌≡◌, ◌<◌, ℕ, true, IfOk, OnErr, Some, length, map, slice_get, slice_index_or};
+ghost use Rattle.rvc_io.specs.Feeds.{PullsOnly, ReadFails};
+ghost use Rattle.port_files.specs.Coming.{EndIsTrue, coming_on};
+ghost use Rattle.net_state.specs.Filling.{AtReader, IsFilled, IsInputLink, Takes};
+ghost use Rattle.net_state.specs.Held.{AreCounted, CanWork, capacity_of, room_of};
+ghost use Rattle.net_state.specs.Moving.{IsFromCell, IsOutput, carried_on};
+ghost use Rattle.net_state.specs.Standing.{AreAllOut, IsTrueOfUnarrived, StandAfterInside, StandAtStart};
+
+use crate::carrying::{sent_along, token_along};
+use crate::delivering::{deliver_inside, lay_out};
+use crate::filling::{Filled, fill_link};
+use crate::tables::{first_capacities, room_table, zeros};
+use net_model::{Firing, Link};
+use port_files::TokenFeed;
+use rvc_base::{InstId, LinkId, Memory, Num};
+use rvc_io::{Failed, Feeds};
+use std::alloc::Global;
+use std::marker::Model;
+
+/// The cells of a network, its links, and how many tokens each link can hold now.
+///
+/// Contracts see the cells as values of `A`, the links, their present capacities, and how many tokens waited at
+/// the reading end of each link after the last delivery. What it says of the network's state is said of every
+/// state that the cells hold: the actors' states, the tokens that wait on each link, and those that were sent and
+/// haven't arrived.
+#[derive(Drop)]
+pub struct NetState<A: Firing> {
+    cells: Vec<A>,
+    links: Vec<Link>,
+    capacities: Vec<u32>,
+    waited: Vec<u32>,
+    rooms: Vec<Vec<u32>>,
+}
+
+impl<A: Firing> Model for NetState<A> {
+    ghost use Rattle.std.specs.Prelude.{map, vec_items};
+    ghost use Rattle.net_state.specs.Held.{Held, IsWorking, HasRooms};
+
+    ghost Value = { Held A };
+
+    ghost view = { λ n. record { cells = n.cells.items; links = n.links.items; capacities = n.capacities.items; waited = n.waited.items } };
+
+    ghost invariant = { λ n. IsWorking (map A.cell n.cells.items) n.links.items n.capacities.items n.waited.items × HasRooms (map A.cell n.cells.items) n.links.items n.capacities.items n.waited.items (map vec_items n.rooms.items) };
+}
+
+impl<A: Firing> NetState<A> {
+    /// A network of these cells and links, at the state in which the cells are. All memory is taken here.
+    ///
+    /// The links are in link order; each begins and ends at a port of a cell or of the network, not both of the
+    /// network. Nothing was sent yet, and before an input port to which no link leads no token waits.
+    pub fn new(alloc: Global, cells: Vec<A>, links: Vec<Link>) -> Result<NetState<A>, Memory>
+        requires can_work { CanWork (map A.cell cells.items) links.items }
+        ensures cells { IfOk result (λ n. n.cells ≡ cells.items) }
+        ensures links { IfOk result (λ n. n.links ≡ links.items) }
+        ensures capacities { IfOk result (λ n. n.capacities ≡ map capacity_of links.items) }
+        ensures waited { IfOk result (λ n. AreCounted (map A.cell cells.items) links.items n.waited) }
+        ensures states { IfOk result (λ n. StandAtStart (map A.cell n.cells) n.links n.capacities) }
+    {
+        let capacities = first_capacities(alloc, &links)?;
+        let mut waited = zeros(alloc, links.len())?;
+        let mut rooms = room_table(alloc, &cells)?;
+        lay_out(&cells, &links, &capacities, &mut waited, &mut rooms);
+        Ok(NetState {
+            cells,
+            links,
+            capacities,
+            waited,
+            rooms,
+        })
+    }
+
+    /// The room of an output port, as it was fixed at the last delivery: how many tokens may be sent there until
+    /// the next one.
+    pub fn room(&self, inst: InstId, port: u32) -> u32
+        requires output { IsOutput (map A.cell self.now.cells) inst.0 port }
+        ensures { result ≡ room_of inst.0 port self.now.links self.now.capacities self.now.waited }
+    {
+        self.rooms[inst.0 as usize][port as usize]
+    }
+
+    /// How many tokens were sent on a link from a cell and haven't arrived.
+    pub fn sent(&self, link: LinkId) -> u32
+        requires from_cell { IsFromCell (slice_get self.now.links link.0) }
+        ensures count { result ≡ length (carried_on (map A.cell self.now.cells) (slice_get self.now.links link.0)) }
+        ensures states { IsTrueOfUnarrived (map A.cell self.now.cells) self.now.links self.now.capacities link.0 (λ tokens. result ≡ length tokens) }
+    {
+        sent_along(&self.cells, &self.links[link.0 as usize])
+    }
+
+    /// The token at place `k` of these, counted from 0, as the link's reader stores it.
+    pub fn sent_at(&self, link: LinkId, k: u32) -> Num
+        requires from_cell { IsFromCell (slice_get self.now.links link.0) }
+        requires among { k < length (carried_on (map A.cell self.now.cells) (slice_get self.now.links link.0)) }
+        ensures token { slice_get (carried_on (map A.cell self.now.cells) (slice_get self.now.links link.0)) k ≡ Some result }
+        ensures states { IsTrueOfUnarrived (map A.cell self.now.cells) self.now.links self.now.capacities link.0 (λ tokens. slice_get tokens k ≡ Some result) }
+    {
+        token_along(&self.cells, &self.links[link.0 as usize], k)
+    }
+
+    /// Fills an input link from its feed until it holds its present capacity, or to the feed's end. Each token is
+    /// stored in the reader's type. Nothing is pulled where the link is full.
+    ///
+    /// `tokens` reads the tokens of this feed, and is the same one in each call for this link.
+    ///
+    /// # Errors
+    ///
+    /// `failed`: bytes couldn't be pulled. What came before that stays.
+    pub fn fill<F: Feeds>(
+        &mut self,
+        link: LinkId,
+        tokens: &mut TokenFeed,
+        feed: u32,
+        feeds: &mut F,
+    ) -> Result<Filled, Failed>
+        requires input { IsInputLink (slice_get self.old.links link.0) }
+        requires open { (F.feeds feeds.old).is_open feed ≡ true }
+        requires same_feed { EndIsTrue tokens.old ((F.feeds feeds.old).left feed) }
+        ensures took { AtReader (slice_get self.old.links link.0) (λ that j q. (count : ℕ) × Takes tokens.old.kind that.kind j q count (map A.cell self.old.cells) (map A.cell self.new.cells)
+            (coming_on tokens.old.pulled (F.feeds feeds.old) feed) (coming_on tokens.new.pulled (F.feeds feeds.new) feed) × IfOk result (λ filled. filled.tokens ≡ count)) }
+        ensures filled { IfOk result (λ filled. AtReader (slice_get self.old.links link.0) (λ that j q. IsFilled tokens.old.kind j q (slice_index_or self.old.capacities link.0 0) filled.rest (map A.cell self.new.cells)
+            (coming_on tokens.new.pulled (F.feeds feeds.new) feed))) }
+        ensures links { self.new.links ≡ self.old.links }
+        ensures capacities { self.new.capacities ≡ self.old.capacities }
+        ensures waited { self.new.waited ≡ self.old.waited }
+        ensures failed { OnErr result (ReadFails F.feeds feeds.old feeds.new) }
+        ensures kind { tokens.new.kind ≡ tokens.old.kind }
+        ensures still_same_feed { EndIsTrue tokens.new ((F.feeds feeds.new).left feed) }
+        ensures elsewhere { PullsOnly F.feeds feeds.old feeds.new feed }
+    {
+        let l = link.0 as usize;
+        fill_link(
+            &mut self.cells,
+            &self.links[l],
+            self.capacities[l],
+            tokens,
+            feed,
+            feeds,
+        )
+    }
+
+    /// Delivers what was sent on links between two cells and on links to outputs of the network: all of it
+    /// arrives, the outboxes and journals are empty then, and the rooms of output ports are fixed anew.
+    ///
+    /// What was sent to an output of the network is gone after it.
+    pub fn deliver(&mut self)
+        ensures states { StandAfterInside (map A.cell self.old.cells) (map A.cell self.new.cells) self.old.links self.old.capacities }
+        ensures all_out { AreAllOut (map A.cell self.new.cells) }
+        ensures waited { AreCounted (map A.cell self.new.cells) self.new.links self.new.waited }
+        ensures links { self.new.links ≡ self.old.links }
+        ensures capacities { self.new.capacities ≡ self.old.capacities }
+    {
+        deliver_inside(
+            &mut self.cells,
+            &self.links,
+            &self.capacities,
+            &mut self.waited,
+            &mut self.rooms,
+        );
+    }
+}
+
+#[cfg(test)]
+mod tests;
