@@ -11,3 +11,17 @@ mod Excluding
 mod Conjuncts
 mod Stability
 mod CertifiedNetworks
+mod BareTrees
+mod NeverBoth
+mod SameTrees
+mod Exclusions
+mod NoFailures
+mod Corners
+mod Places
+mod FailingRows
+mod ScalarRanges
+mod Keys
+mod Firsts
+mod Memo
+mod Automata
+mod Answering

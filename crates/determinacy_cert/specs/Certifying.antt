@@ -1,5 +1,5 @@
 -- What the certification rule gives, as statements (Kahn 1974, for each firing). Trusted: part of what the promises mean.
-use Rattle.std.specs.Prelude.{◌≡◌, ℕ, Some, slice_get}
+use Rattle.std.specs.Prelude.{◌≡◌, ◌↔◌, ℕ, [], Some, slice_get}
 use Rattle.rvc_base.specs.Behaviour.{Behaviour}
 use Rattle.net_model.specs.Network.{Leaf, Network}
 use Rattle.net_model.specs.Stable.{IsStable}
@@ -10,6 +10,7 @@ use Rattle.cal_model.specs.Firing.{behaviour}
 use Rattle.cal_model.specs.Sound.{IsSound}
 use Rattle.cal_model.specs.Certified.{IsCertified}
 use Rattle.determinacy_cert.specs.Determinacy.{IsDeterminate}
+use Rattle.determinacy_cert.specs.Failing.{failures}
 
 -- what a sound and certified actor does isn't undone by tokens that come later
 abbrev pub CertifiedAreStable : Type 0
@@ -30,3 +31,7 @@ AreCertified net = (i : ℕ) (leaf : Leaf State) → slice_get net.leaves i ≡ 
 -- a wired network of such actors has one result, however it is scheduled
 abbrev pub CertifiedAreDeterminate : Type 0
 CertifiedAreDeterminate = (net : Network State) → IsWired net → AreCertified net → IsDeterminate net
+
+-- an actor is certified exactly where the list of its failures is empty
+abbrev pub NoFailureWhereCertified : Type 0
+NoFailureWhereCertified = (actor : Actor) (p : Priorities actor) → (failures actor p.above ≡ []) ↔ IsCertified actor

@@ -3,7 +3,7 @@
 //! Each law is the contract of a function that does nothing: it is proved with the crate, and can be cited.
 
 ghost use Rattle.determinacy_cert.specs.Determinacy.{FiringsArePrefixes, SentArePrefixes, QuietRunsAgree, NoQuietRunBesides, AsManyFiringsAreAll};
-ghost use Rattle.determinacy_cert.specs.Certifying.{CertifiedAreDeterminate, CertifiedAreStable};
+ghost use Rattle.determinacy_cert.specs.Certifying.{CertifiedAreDeterminate, CertifiedAreStable, NoFailureWhereCertified};
 
 use cal_model::sound_actors_are_lawful;
 use net_model::Meaning;
@@ -44,3 +44,8 @@ pub fn certified_networks_are_determinate()
     sound_actors_are_lawful();
     certified_actors_are_stable();
 }
+
+/// An actor is certified exactly where the list of its failures is empty.
+pub fn no_failure_where_certified()
+    ensures { NoFailureWhereCertified }
+{}
