@@ -2,14 +2,13 @@
 use Rattle.std.proofs.Common.{◌≡◌, ℕ, true, false, List, [], ◌∷◌, length, refl}
 use Rattle.std.specs.Prelude.{codes}
 use Rattle.rvc_base.specs.declared.scalar.Scalar.TheVariants.{Uint}
-use Rattle.trace_text.specs.declared.line.Line.{Line}
-use Rattle.trace_text.specs.declared.line.Line.TheVariants.{Fire, Deliver, Quiet, Stall}
+use Rattle.trace_text.specs.declared.line.Line.TheVariants.{Fire, Deliver}
 use Rattle.net_model.specs.declared.wiring.End.TheVariants.{Net as AtNet}
 use Rattle.net_model.specs.Network.{Network}
 use Rattle.net_model.specs.State.{start_of}
 use Rattle.net_model.specs.Laws.{firings_shown}
 use Rattle.net_model.specs.Counted.{deliveries_in, arrived_at, was_short, rest_at, sent_count}
-use Rattle.net_model.proofs.Rows.{leaf_port, inc, inc_net, inc_lines, inc_last, pair_net, pair_in, pair_lines, pair_last}
+use Rattle.net_model.proofs.Rows.{leaf_port, inc, inc_net, inc_lines, inc_last, pair_net, pair_last}
 
 -- three firings in two deliveries, three tokens in and three out
 inc_counts : length (firings_shown inc_lines) ≡ 3

@@ -18,6 +18,7 @@ mod CountRows
 pub mod PacedRows
 mod GrowsOnceRows
 mod GrowsTwiceRows
+mod BudgetRows
 pub mod Rounds
 mod Budgets
 pub mod Keeping

@@ -7,9 +7,8 @@ use Rattle.trace_text.specs.declared.line.Line.{Line}
 use Rattle.net_model.specs.declared.wiring.End.{End}
 use Rattle.net_model.specs.declared.wiring.End.TheVariants.{Leaf as AtLeaf, Net as AtNet}
 use Rattle.net_model.specs.declared.wiring.Link.{Link}
-use Rattle.net_model.specs.Network.{Leaf, Network, NetPort, kind_at}
+use Rattle.net_model.specs.Network.{Leaf, Network, NetPort}
 use Rattle.net_model.specs.State.{Flow, State, start_of, first_flow, fed_by}
-use Rattle.net_model.specs.PortFile.{tokens}
 use Rattle.net_model.specs.Ends.{IsQuiet, IsStalled, IsStuck, IsBetween}
 use Rattle.net_model.specs.Trace.{PlaysFrom, KeepsFrom, text, bytes_out}
 use Rattle.net_model.specs.Paced.{Pace, IsPaced}

@@ -1,20 +1,20 @@
 -- Networks that are alike play the same lines, with the same ends.
-use Rattle.std.proofs.Common.{◌≡◌, ◌≢◌, ℕ, zero, suc, ◌+◌, ◌<◌, ◌≤◌, ◌⊎◌, Bool, true, false, List, [], ◌∷◌, ◌++◌, ℤ, length, map, refl, sym, ap, ◌∙◌, subst, inl, inr, ⊎_elim, arith}
-use Rattle.std.specs.Prelude.{Option, None, Some, slice_get, slice_set, if◌then◌else◌, ◌↔◌, ◌==◌, replicate, pos, codes, flat_map}
+use Rattle.std.proofs.Common.{◌≡◌, ℕ, suc, ◌+◌, ◌<◌, Bool, true, false, List, [], ◌∷◌, ◌++◌, ℤ, length, refl, sym, ap, ◌∙◌, subst, inl, inr, ⊎_elim, arith}
+use Rattle.std.specs.Prelude.{Option, None, Some, slice_get, slice_set, if◌then◌else◌, ◌==◌, replicate, pos, flat_map}
 use Rattle.rvc_base.specs.declared.trap.Trap.{Trap as TrapName}
 use Rattle.rvc_base.specs.Behaviour.{Effect, Choice, Fires, TrapsInGuard, TrapsInBody, Waits, Picks, Faults}
 use Rattle.trace_text.specs.declared.line.Line.{Line}
 use Rattle.trace_text.specs.declared.line.Line.TheVariants.{Header, Inst, Fire as FireLine, Deliver as DeliverLine, Grow as GrowLine, Quiet, Trap as TrapLine, Stall, Budget}
-use Rattle.trace_text.specs.Text.{line_text, line_feed}
+use Rattle.trace_text.specs.Text.{line_text}
 use Rattle.net_model.specs.declared.wiring.End.{End}
 use Rattle.net_model.specs.declared.wiring.End.TheVariants.{Leaf as AtLeaf, Net as AtNet}
 use Rattle.net_model.specs.declared.wiring.Link.{Link}
-use Rattle.net_model.specs.Network.{Leaf, Network, is_input}
-use Rattle.net_model.specs.State.{Flow, State, effect_at, choice_at, need_of, give_of}
+use Rattle.net_model.specs.Network.{Leaf, Network}
+use Rattle.net_model.specs.State.{Flow, State, effect_at, choice_at, need_of}
 use Rattle.net_model.specs.Event.{Fire, Trap, each_flow, after_firing, trap, happens}
-use Rattle.net_model.specs.Ends.{AllArrived, IsSettled, with_rest, all_fed, IsQuiet, HasLessRoom, LacksOn, LacksRoom, IsStalled, IsStuck, Grows, IsBetween}
+use Rattle.net_model.specs.Ends.{IsSettled, with_rest, all_fed, IsQuiet, HasLessRoom, LacksOn, LacksRoom, IsStalled, IsStuck, Grows, IsBetween}
 use Rattle.net_model.specs.Trace.{delivered, after_delivery, grown, goes, LineIsTrue, OnNext, PlaysFrom, FitFlows, with_given, counted_flows, TrapFits, opened_by, KeepsSince, instance_lines, text}
-use Rattle.net_model.specs.Alike.{Allowed, EachIs, EffectsAlike, BehaveAlike, LeavesAlike, StoresAllowed, ActorsAlike, HoldsAllowed}
+use Rattle.net_model.specs.Alike.{Allowed, EachIs, EffectsAlike, BehaveAlike, LeavesAlike, ActorsAlike, HoldsAllowed}
 use Rattle.net_model.proofs.Commuting.{Fired, fired_unless, fires_so}
 use Rattle.net_model.proofs.Twins.{Twins, TwinNets, twin, twin_net, twin_choice, twin_effect, twin_need, twin_give, StepToo, FiresToo, fires_too, trap_too, holds_kept, holds_fired, set_alike, each_same, taken_same}
 

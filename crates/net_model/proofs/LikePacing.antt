@@ -1,24 +1,22 @@
 -- Networks that are alike have the same paced lines, and the laws of likeness.
-use Rattle.std.proofs.Common.{◌≡◌, ◌≢◌, ℕ, zero, suc, ◌+◌, ◌-◌, ◌<◌, ◌≤◌, ◌⊎◌, Bool, true, false, List, [], ◌∷◌, ◌++◌, ℤ, length, map, refl, sym, ap, ◌∙◌, subst, inl, inr, ⊎_elim, arith}
-use Rattle.std.specs.Prelude.{Option, None, Some, slice_get, if◌then◌else◌, MatchBool, ◌↔◌, ◌==◌, ◌&&◌, ◌||◌, flat_map}
+use Rattle.std.proofs.Common.{◌≡◌, ℕ, suc, ◌+◌, ◌-◌, Bool, true, false, List, [], ◌∷◌, length, map, refl, sym, ap, ◌∙◌, subst, inl, inr, ⊎_elim, arith}
+use Rattle.std.specs.Prelude.{Option, None, Some, slice_get, if◌then◌else◌, MatchBool, ◌==◌, ◌&&◌, ◌||◌}
 use Rattle.rvc_base.specs.declared.trap.Trap.{Trap as TrapName}
-use Rattle.rvc_base.specs.Storing.{conv}
 use Rattle.rvc_base.specs.Picks.{picks}
-use Rattle.rvc_base.specs.Behaviour.{Effect, Choice, Fires, TrapsInGuard, TrapsInBody, Waits, Picks, Faults}
+use Rattle.rvc_base.specs.Behaviour.{Effect, Fires, TrapsInGuard, TrapsInBody}
 use Rattle.trace_text.specs.declared.line.Line.{Line}
-use Rattle.trace_text.specs.declared.line.Line.TheVariants.{Header, Inst, Fire as FireLine, Deliver as DeliverLine, Grow as GrowLine, Quiet, Trap as TrapLine, Stall, Budget}
+use Rattle.trace_text.specs.declared.line.Line.TheVariants.{Grow as GrowLine, Quiet, Stall, Budget}
 use Rattle.net_model.specs.declared.wiring.End.{End}
 use Rattle.net_model.specs.declared.wiring.End.TheVariants.{Leaf as AtLeaf, Net as AtNet}
 use Rattle.net_model.specs.declared.wiring.Link.{Link}
-use Rattle.net_model.specs.Network.{Leaf, Network, NetPort}
-use Rattle.net_model.specs.State.{Flow, State, effect_at, choice_at, give_of, start_of, first_flow, fed_by}
+use Rattle.net_model.specs.Network.{Leaf, Network}
+use Rattle.net_model.specs.State.{Flow, State, effect_at}
 use Rattle.net_model.specs.Event.{Fire, happens, and_then}
-use Rattle.net_model.specs.Ends.{IsQuiet, IsStalled, IsStuck, IsBetween}
-use Rattle.net_model.specs.Trace.{goes, played, after_delivery, OnNext, PlaysFrom, KeepsFrom, text, bytes_out}
-use Rattle.net_model.specs.Paced.{Pace, Moment, first_moment, Close, GoesOn, Widens, Ends, Block, close_lines, count_of, none_of, picked, count_picked, PassesRoom, PassesOn, PassesLink, HasRoomIn, Halt, Unpicked, Spent, Waiting, NoRoom, Trapping, TrapsIn, HaltsAt, limit_of, IsBurst, Share, share_of, AreBursts, first_trap, ClosesSpent, ClosesIdle, ClosesUntrapped, ClosesBy, Closes, IsRound, next_moment, EndsRun, AreRounds, IsPaced}
-use Rattle.net_model.specs.Alike.{Allowed, EachIs, EffectsAlike, LeavesAlike, StoresAllowed, AreAlike, ActorsAlike, HoldsAllowed, StatesAlike}
-use Rattle.net_model.proofs.Twins.{Twins, TwinNets, twin, twin_net, twin_choice, twin_effect, twin_give, StepToo, each_map}
-use Rattle.net_model.proofs.LikeLines.{goes_too, fire_too, deliver_too, quiet_too, quiet_back, stalled_too, stalled_back, stuck_too, stuck_back, grows_too, between_too, between_back, plays_too, keeps_too, text_too}
+use Rattle.net_model.specs.Trace.{goes, played, after_delivery, OnNext}
+use Rattle.net_model.specs.Paced.{Pace, Moment, first_moment, Close, GoesOn, Widens, Ends, Block, close_lines, count_of, none_of, picked, count_picked, PassesRoom, PassesOn, PassesLink, HasRoomIn, Halt, Unpicked, Spent, Waiting, NoRoom, Trapping, TrapsIn, HaltsAt, IsBurst, Share, share_of, AreBursts, first_trap, ClosesSpent, ClosesIdle, ClosesBy, IsRound, next_moment, AreRounds, IsPaced}
+use Rattle.net_model.specs.Alike.{Allowed, EffectsAlike, LeavesAlike}
+use Rattle.net_model.proofs.Twins.{Twins, TwinNets, twin, twin_net, twin_choice, twin_effect, twin_give}
+use Rattle.net_model.proofs.LikeLines.{goes_too, fire_too, deliver_too, quiet_too, stuck_too, grows_too, between_too}
 
 abbrev twin_moment : {X Y : Type 0} → Moment X → List Y → Moment Y
 twin_moment at those = record { state = twin at.state those; round = at.round; idle = at.idle; left = at.left }

@@ -1,22 +1,20 @@
 -- Networks that are alike have the same runs.
-use Rattle.std.proofs.Common.{◌≡◌, ◌≢◌, ℕ, zero, suc, ◌+◌, ◌<◌, ◌≤◌, ◌⊎◌, Bool, true, false, List, [], ◌∷◌, ◌++◌, ℤ, length, map, take, drop, refl, sym, ap, ◌∙◌, subst, inl, inr, ⊎_elim, arith}
-use Rattle.std.specs.Prelude.{Option, None, Some, slice_get, slice_set, slice_index_or, if◌then◌else◌, nat_le, ◌↔◌, ◌==◌, ◌&&◌}
-use Rattle.std.specs.List.{range_with_len}
+use Rattle.std.proofs.Common.{◌≡◌, ℕ, zero, suc, ◌+◌, ◌<◌, Bool, true, false, List, [], ◌∷◌, ◌++◌, ℤ, map, take, drop, refl, sym, ap, ◌∙◌, subst, arith}
+use Rattle.std.specs.Prelude.{Option, None, Some, slice_get, slice_set, slice_index_or, if◌then◌else◌, ◌==◌, ◌&&◌}
 use Rattle.std.proofs.lemmas.List.FromFn.{get_or-map-range_with_len}
 use Rattle.std.proofs.lemmas.Bool.{eqb-true}
 use Rattle.rvc_base.specs.declared.trap.Trap.{Trap as TrapName}
 use Rattle.rvc_base.specs.Storing.{conv}
-use Rattle.rvc_base.specs.Behaviour.{Behaviour, Effect, Choice, Fires, TrapsInGuard, TrapsInBody, Waits, Picks, Faults}
+use Rattle.rvc_base.specs.Behaviour.{Effect, Fires, TrapsInGuard, TrapsInBody}
 use Rattle.rvc_base.specs.Lawful.{tokens_on}
-use Rattle.trace_text.specs.declared.line.Line.{Line}
 use Rattle.net_model.specs.declared.wiring.End.{End}
 use Rattle.net_model.specs.declared.wiring.End.TheVariants.{Leaf as AtLeaf, Net as AtNet}
 use Rattle.net_model.specs.declared.wiring.Link.{Link}
-use Rattle.net_model.specs.Network.{Leaf, Network, NetPort, is_leaf_port, is_input}
-use Rattle.net_model.specs.State.{Flow, State, waiting, inbox, inboxes, effect_of, effect_at, choice_of, choice_at, need_of, give_of, start_of, first_flow, fed_by}
+use Rattle.net_model.specs.Network.{Leaf, Network, is_leaf_port}
+use Rattle.net_model.specs.State.{Flow, State, waiting, inbox, inboxes, effect_of, effect_at, choice_of, choice_at, need_of, give_of}
 use Rattle.net_model.specs.Event.{each_flow, sent_on, taken_from, after_firing, trap, number_of_trap}
 use Rattle.net_model.proofs.Keeping.{changed}
-use Rattle.net_model.specs.Alike.{Allowed, EachIs, EffectsAlike, BehaveAlike, LeavesAlike, StoresAllowed, AreAlike, ActorsAlike, HoldsAllowed, StatesAlike}
+use Rattle.net_model.specs.Alike.{Allowed, EachIs, EffectsAlike, BehaveAlike, LeavesAlike, StoresAllowed, ActorsAlike, HoldsAllowed}
 
 -- Allowed tokens.
 

@@ -11,7 +11,7 @@ use Rattle.net_model.specs.Network.{Leaf, Network}
 use Rattle.net_model.specs.State.{Flow, State, start_of}
 use Rattle.net_model.specs.Ends.{IsQuiet, IsStalled, IsStuck, IsBetween}
 use Rattle.net_model.specs.Trace.{PlaysFrom, KeepsFrom, text, bytes_out}
-use Rattle.net_model.specs.Paced.{Pace, Moment, IsBegun, IsPaced}
+use Rattle.net_model.specs.Paced.{Pace, IsPaced}
 
 -- which tokens may come before a port of a leaf
 abbrev pub Allowed : Type 1
