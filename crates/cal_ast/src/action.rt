@@ -20,7 +20,7 @@ pub struct Action {
     pub outputs: Vec<Output>,
     pub guards: Vec<Expr>,
     pub vars: Vec<VarDecl>,
-    /// Absent where it has no `do`.
+    /// Absent if it has no `do`.
     pub body: Option<Vec<Stmt>>,
     /// The offset of its first byte.
     pub at: u32,
@@ -75,6 +75,10 @@ pub struct Priority {
 
 impl Action {
     /// An equal action.
+    ///
+    /// # Errors
+    ///
+    /// `AllocError` if memory runs out.
     pub fn copy(&self, alloc: Global) -> Result<Action, AllocError>
         ensures { IfOk result (λ copied. action_tree copied ≡ action_tree self.now) }
     {
@@ -103,6 +107,10 @@ fn copy_body(alloc: Global, body: &Option<Vec<Stmt>>) -> Result<Option<Vec<Stmt>
 
 impl Pattern {
     /// An equal input pattern.
+    ///
+    /// # Errors
+    ///
+    /// `AllocError` if memory runs out.
     pub fn copy(&self, alloc: Global) -> Result<Pattern, AllocError>
         ensures { IfOk result (λ copied. pattern_tree copied ≡ pattern_tree self.now) }
     {
@@ -125,6 +133,10 @@ impl Part for Pattern {
 
 impl Output {
     /// An equal output.
+    ///
+    /// # Errors
+    ///
+    /// `AllocError` if memory runs out.
     pub fn copy(&self, alloc: Global) -> Result<Output, AllocError>
         ensures { IfOk result (λ copied. output_tree copied ≡ output_tree self.now) }
     {
@@ -147,6 +159,10 @@ impl Part for Output {
 
 impl Schedule {
     /// An equal schedule.
+    ///
+    /// # Errors
+    ///
+    /// `AllocError` if memory runs out.
     pub fn copy(&self, alloc: Global) -> Result<Schedule, AllocError>
         ensures { IfOk result (λ copied. schedule_tree copied ≡ schedule_tree self.now) }
     {
@@ -160,6 +176,10 @@ impl Schedule {
 
 impl Move {
     /// An equal transition.
+    ///
+    /// # Errors
+    ///
+    /// `AllocError` if memory runs out.
     pub fn copy(&self, alloc: Global) -> Result<Move, AllocError>
         ensures { IfOk result (λ copied. move_tree copied ≡ move_tree self.now) }
     {
@@ -182,6 +202,10 @@ impl Part for Move {
 
 impl Priority {
     /// Equal chains of tags.
+    ///
+    /// # Errors
+    ///
+    /// `AllocError` if memory runs out.
     pub fn copy(&self, alloc: Global) -> Result<Priority, AllocError>
         ensures { IfOk result (λ copied. priority_tree copied ≡ priority_tree self.now) }
     {

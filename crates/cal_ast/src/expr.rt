@@ -41,7 +41,7 @@ pub struct Gen {
 
 /// An expression.
 ///
-/// Where a pair of parentheses round it is dropped from the tree, `at` is the offset of the pair's
+/// If a pair of parentheses round it is dropped from the tree, `at` is the offset of the pair's
 /// first parenthesis.
 #[derive(Debug, Drop)]
 #[cycle(expr)]
@@ -171,6 +171,10 @@ impl BinOp {
 
 impl TypeExpr {
     /// An equal type.
+    ///
+    /// # Errors
+    ///
+    /// `AllocError` if memory runs out.
     #[cycle(copy)]
     pub fn copy(&self, alloc: Global) -> Result<TypeExpr, AllocError>
         ensures { IfOk result (λ copied. type_tree copied ≡ type_tree self.now) }
@@ -185,6 +189,10 @@ impl TypeExpr {
 
 impl TypeArg {
     /// An equal argument.
+    ///
+    /// # Errors
+    ///
+    /// `AllocError` if memory runs out.
     #[cycle(copy)]
     pub fn copy(&self, alloc: Global) -> Result<TypeArg, AllocError>
         ensures { IfOk result (λ copied. type_arg_tree copied ≡ type_arg_tree self.now) }
@@ -204,6 +212,10 @@ impl TypeArg {
 
 impl Gen {
     /// An equal generator.
+    ///
+    /// # Errors
+    ///
+    /// `AllocError` if memory runs out.
     #[cycle(copy)]
     pub fn copy(&self, alloc: Global) -> Result<Gen, AllocError>
         ensures { IfOk result (λ copied. gen_tree copied ≡ gen_tree self.now) }
@@ -220,6 +232,10 @@ impl Gen {
 
 impl Expr {
     /// An equal expression.
+    ///
+    /// # Errors
+    ///
+    /// `AllocError` if memory runs out.
     #[cycle(copy)]
     pub fn copy(&self, alloc: Global) -> Result<Expr, AllocError>
         ensures { IfOk result (λ copied. expr_tree copied ≡ expr_tree self.now) }
@@ -233,6 +249,10 @@ impl Expr {
 
 impl ExprForm {
     /// An equal form of an expression.
+    ///
+    /// # Errors
+    ///
+    /// `AllocError` if memory runs out.
     #[cycle(copy)]
     pub fn copy(&self, alloc: Global) -> Result<ExprForm, AllocError>
         ensures { IfOk result (λ copied. (at : ℕ) → form_tree copied at ≡ form_tree self.now at) }

@@ -58,6 +58,10 @@ pub struct UnitFile {
 
 impl File {
     /// An equal file.
+    ///
+    /// # Errors
+    ///
+    /// `AllocError` if memory runs out.
     pub fn copy(&self, alloc: Global) -> Result<File, AllocError>
         ensures { IfOk result (λ copied. file_tree copied ≡ file_tree self.now) }
     {
@@ -72,6 +76,10 @@ impl File {
 
 impl Body {
     /// An equal actor or unit.
+    ///
+    /// # Errors
+    ///
+    /// `AllocError` if memory runs out.
     pub fn copy(&self, alloc: Global) -> Result<Body, AllocError>
         ensures { IfOk result (λ copied. file_body_tree copied ≡ file_body_tree self.now) }
     {
@@ -84,6 +92,10 @@ impl Body {
 
 impl Import {
     /// An equal import.
+    ///
+    /// # Errors
+    ///
+    /// `AllocError` if memory runs out.
     pub fn copy(&self, alloc: Global) -> Result<Import, AllocError>
         ensures { IfOk result (λ copied. import_tree copied ≡ import_tree self.now) }
     {
@@ -105,6 +117,10 @@ impl Part for Import {
 
 impl Actor {
     /// An equal actor.
+    ///
+    /// # Errors
+    ///
+    /// `AllocError` if memory runs out.
     pub fn copy(&self, alloc: Global) -> Result<Actor, AllocError>
         ensures { IfOk result (λ copied. actor_tree copied ≡ actor_tree self.now) }
     {
@@ -121,6 +137,10 @@ impl Actor {
 
 impl UnitFile {
     /// An equal unit.
+    ///
+    /// # Errors
+    ///
+    /// `AllocError` if memory runs out.
     pub fn copy(&self, alloc: Global) -> Result<UnitFile, AllocError>
         ensures { IfOk result (λ copied. unit_tree copied ≡ unit_tree self.now) }
     {

@@ -24,6 +24,10 @@ pub struct Tag {
 
 impl Ident {
     /// An equal name.
+    ///
+    /// # Errors
+    ///
+    /// `AllocError` if memory runs out.
     pub fn copy(&self, alloc: Global) -> Result<Ident, AllocError>
         ensures { IfOk result (λ copied. ident_tree copied ≡ ident_tree self.now) }
     {
@@ -44,6 +48,10 @@ impl Part for Ident {
 
 impl Tag {
     /// An equal dotted name.
+    ///
+    /// # Errors
+    ///
+    /// `AllocError` if memory runs out.
     pub fn copy(&self, alloc: Global) -> Result<Tag, AllocError>
         ensures { IfOk result (λ copied. tag_tree copied ≡ tag_tree self.now) }
     {

@@ -26,7 +26,7 @@ pub enum Member {
 pub struct Param {
     pub shape: TypeExpr,
     pub name: Ident,
-    /// Its value where none is given.
+    /// Its value if none is given.
     pub start: Option<Expr>,
     /// The offset of its first byte.
     pub at: u32,
@@ -48,7 +48,7 @@ pub struct VarDecl {
     pub name: Ident,
     /// Its first value.
     pub start: Option<Expr>,
-    /// Whether it may be assigned: false exactly where the declaration has `=`.
+    /// Whether it may be assigned: false exactly if the declaration has `=`.
     pub changes: bool,
     /// The offset of its first byte.
     pub at: u32,
@@ -79,6 +79,10 @@ pub struct Procedure {
 
 impl Member {
     /// An equal member.
+    ///
+    /// # Errors
+    ///
+    /// `AllocError` if memory runs out.
     pub fn copy(&self, alloc: Global) -> Result<Member, AllocError>
         ensures { IfOk result (λ copied. member_tree copied ≡ member_tree self.now) }
     {
@@ -103,6 +107,10 @@ impl Part for Member {
 
 impl Param {
     /// An equal parameter.
+    ///
+    /// # Errors
+    ///
+    /// `AllocError` if memory runs out.
     pub fn copy(&self, alloc: Global) -> Result<Param, AllocError>
         ensures { IfOk result (λ copied. param_tree copied ≡ param_tree self.now) }
     {
@@ -125,6 +133,10 @@ impl Part for Param {
 
 impl PortDecl {
     /// An equal port or formal parameter.
+    ///
+    /// # Errors
+    ///
+    /// `AllocError` if memory runs out.
     pub fn copy(&self, alloc: Global) -> Result<PortDecl, AllocError>
         ensures { IfOk result (λ copied. port_tree copied ≡ port_tree self.now) }
     {
@@ -146,6 +158,10 @@ impl Part for PortDecl {
 
 impl VarDecl {
     /// An equal variable.
+    ///
+    /// # Errors
+    ///
+    /// `AllocError` if memory runs out.
     pub fn copy(&self, alloc: Global) -> Result<VarDecl, AllocError>
         ensures { IfOk result (λ copied. var_tree copied ≡ var_tree self.now) }
     {
@@ -169,6 +185,10 @@ impl Part for VarDecl {
 
 impl Function {
     /// An equal function.
+    ///
+    /// # Errors
+    ///
+    /// `AllocError` if memory runs out.
     pub fn copy(&self, alloc: Global) -> Result<Function, AllocError>
         ensures { IfOk result (λ copied. function_tree copied ≡ function_tree self.now) }
     {
@@ -185,6 +205,10 @@ impl Function {
 
 impl Procedure {
     /// An equal procedure.
+    ///
+    /// # Errors
+    ///
+    /// `AllocError` if memory runs out.
     pub fn copy(&self, alloc: Global) -> Result<Procedure, AllocError>
         ensures { IfOk result (λ copied. procedure_tree copied ≡ procedure_tree self.now) }
     {

@@ -26,7 +26,7 @@ pub(crate) fn copy_all<T: Part>(alloc: Global, parts: &[T]) -> Result<Vec<T>, Al
     Ok(copied)
 }
 
-/// An equal part where there is one.
+/// An equal part, if there is one.
 pub(crate) fn copy_optional<T: Part>(
     alloc: Global,
     part: &Option<T>,

@@ -61,6 +61,10 @@ pub enum StmtForm {
 
 impl Stmt {
     /// An equal statement.
+    ///
+    /// # Errors
+    ///
+    /// `AllocError` if memory runs out.
     #[cycle(copy_stmt)]
     pub fn copy(&self, alloc: Global) -> Result<Stmt, AllocError>
         ensures { IfOk result (λ copied. stmt_tree copied ≡ stmt_tree self.now) }
@@ -74,6 +78,10 @@ impl Stmt {
 
 impl StmtForm {
     /// An equal form of a statement.
+    ///
+    /// # Errors
+    ///
+    /// `AllocError` if memory runs out.
     #[cycle(copy_stmt)]
     pub fn copy(&self, alloc: Global) -> Result<StmtForm, AllocError>
         ensures { IfOk result (λ copied. (at : ℕ) → stmt_form_tree copied at ≡ stmt_form_tree self.now at) }

@@ -14,7 +14,8 @@ use std::alloc::Global;
 ///
 /// # Errors
 ///
-/// `Refused` with the fault that the text has first, and `Memory`.
+/// `Refused` if the text has a fault, with the one that it has first (`refused`, `faulted`). `Memory` if memory runs
+/// out.
 pub fn lex(alloc: Global, file: u32, text: &[u8]) -> Result<Vec<Token>, Front>
     requires { length text.now < 2 ^ 32 }
     ensures listed { IfOk result (λ tokens. lexes text.now (plain_tokens tokens.items)) }

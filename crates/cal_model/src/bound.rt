@@ -21,7 +21,7 @@ pub struct Bound {
     pub procs: Vec<BoundProc>,
     /// In text order, `initialize` included.
     pub actions: Vec<BoundAction>,
-    /// The names of the schedule's states in the order of first sight, the initial one first; none where there is no
+    /// The names of the schedule's states in order of first appearance, the initial one first; none if there is no
     /// schedule.
     pub states: Vec<String>,
     pub moves: Vec<BoundMove>,
@@ -51,7 +51,7 @@ pub struct BoundVar {
 pub struct BoundLocal {
     pub name: String,
     pub shape: Shape,
-    /// Where it is absent, the local begins with 0, false or a list of these.
+    /// If it is absent, the local begins with 0, false or a list of these.
     pub start: Option<Expr>,
     /// Whether it may be assigned.
     pub changes: bool,
@@ -82,7 +82,7 @@ pub struct BoundPattern {
     /// The number of the port among the inputs.
     pub port: u32,
     pub names: Vec<String>,
-    /// The length of the lists that the names stand for; where it is absent, they stand for single tokens.
+    /// The length of the lists that the names stand for; if it is absent, they stand for single tokens.
     pub repeat: Option<u32>,
 }
 
@@ -92,14 +92,14 @@ pub struct BoundOutput {
     /// The number of the port among the outputs.
     pub port: u32,
     pub values: Vec<Expr>,
-    /// The length of the lists that are sent interleaved; where it is absent, single values are sent.
+    /// The length of the lists that are sent interleaved; if it is absent, single values are sent.
     pub repeat: Option<u32>,
 }
 
 /// An action, or an `initialize`.
 #[derive(Debug, Drop)]
 pub struct BoundAction {
-    /// The parts of its tag; none where it is untagged.
+    /// The parts of its tag; none if it is untagged.
     pub tag: Vec<String>,
     pub patterns: Vec<BoundPattern>,
     pub outputs: Vec<BoundOutput>,

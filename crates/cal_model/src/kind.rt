@@ -26,6 +26,10 @@ pub enum Shape {
 }
 
 /// The kind of the values of a type.
+///
+/// # Errors
+///
+/// `Memory` if memory runs out.
 pub fn kind_of_type(alloc: Global, t: &Shape) -> Result<Kind, Memory>
     ensures { IfOk result (λ kind. kind_view kind ≡ kind_of_type (shape_view t.now)) }
 {

@@ -19,7 +19,7 @@ pub fn one_effect()
     ensures never_both { NeverBoth }
 {}
 
-/// What selection gives: an exposed and enabled action to fire, or an exposed one whose guards trap, or none where
+/// What selection gives: an exposed and enabled action to fire, or an exposed one whose guards trap, or none if
 /// the guards of each action are false or it isn't eligible or lacks tokens.
 pub fn selection()
     ensures fires { ChosenIsEnabled }
@@ -98,8 +98,8 @@ pub fn one_line()
     ensures behaviour { BehaviourIsOne }
 {}
 
-/// A loop over n numbers whose body is empty makes n turns: it ends where so many are left, and is one turn too
-/// many where fewer are.
+/// A loop over n numbers whose body is empty makes n turns: it ends if so many are left, and is one turn too
+/// many if fewer are.
 pub fn loops_count_turns()
     ensures end { LoopsCountTurns }
     ensures too_many { LoopsEndByTurns }
@@ -115,7 +115,7 @@ pub fn loops_go_on()
 {}
 
 /// Evaluation of an expression that has a kind gives a value of that kind, or a trap: over an environment of its
-/// names, with functions that are of their kinds. It never clashes. It lacks a name only where the environment may
+/// names, with functions that are of their kinds. It never clashes. It lacks a name only if the environment may
 /// lack one, or a function may call itself.
 pub fn kinds_are_kept()
     ensures expression { KindIsKept }
@@ -129,7 +129,7 @@ pub fn kinds_are_kept()
 {}
 
 /// What a procedure makes of the globals is what its arguments, its locals and its body make of them over all
-/// procedures, where none calls itself, directly or round about: the bound on open calls never shows.
+/// procedures, if none calls itself, directly or indirectly: the bound on open calls never shows.
 pub fn procedures_are_performed()
     ensures { RunIsPerformed }
 {}

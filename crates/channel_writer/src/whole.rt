@@ -10,8 +10,7 @@ use rvc_io::{Drains, Failed};
 ///
 /// # Errors
 ///
-/// - `front`: after a failure the channel got a prefix of the piece.
-/// - `failed`: the failure was counted.
+/// `Failed` if a put failed: the failure was counted (`failed`), and the channel got a prefix of the piece (`front`).
 pub fn put_all<D: Drains>(drains: &mut D, channel: u32, piece: &[u8]) -> Result<(), Failed>
     requires { (D.channels drains.old).is_open channel ≡ true }
     ensures all { OnOk result (Appends channel (D.channels drains.old) (D.channels drains.new)

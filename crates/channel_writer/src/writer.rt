@@ -32,6 +32,10 @@ impl Model for ChannelWriter {
 
 impl ChannelWriter {
     /// A writer that buffers nothing.
+    ///
+    /// # Errors
+    ///
+    /// `Memory` if memory runs out.
     pub fn new(alloc: Global) -> Result<ChannelWriter, Memory>
         ensures { IfOk result (λ w. w ≡ []) }
     {
@@ -43,9 +47,9 @@ impl ChannelWriter {
     ///
     /// # Errors
     ///
-    /// - `front`: after a failure the channel got a prefix of what was buffered and of the text.
-    /// - `still_pending`: what was buffered still is, also what the channel got of it, and the text isn't.
-    /// - `failed`: the failure was counted.
+    /// `Failed` if a put failed: the failure was counted (`failed`), and the channel got a prefix of what was buffered
+    /// and of the text (`front`). What was buffered still is, also what the channel got of it, and the text isn't
+    /// (`still_pending`).
     pub fn write<D: Drains>(
         &mut self,
         drains: &mut D,
@@ -73,9 +77,8 @@ impl ChannelWriter {
     ///
     /// # Errors
     ///
-    /// - `front`: after a failure the channel got a prefix of what was buffered.
-    /// - `still_pending`: what was buffered still is, also what the channel got of it.
-    /// - `failed`: the failure was counted.
+    /// `Failed` if a put failed: the failure was counted (`failed`), and the channel got a prefix of what was buffered
+    /// (`front`). What was buffered still is, also what the channel got of it (`still_pending`).
     pub fn flush<D: Drains>(&mut self, drains: &mut D, channel: u32) -> Result<(), Failed>
         requires { (D.channels drains.old).is_open channel ≡ true }
         ensures all { OnOk result (Appends channel (D.channels drains.old) (D.channels drains.new)

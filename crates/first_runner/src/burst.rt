@@ -20,7 +20,7 @@ use trace_text::Line;
 
 /// Fires the action on the tokens of the inbox in order, at most `limit` times, and says how often.
 ///
-/// It stops before that only where the inbox is empty.
+/// It stops before that only if the inbox is empty.
 pub fn fire_burst<D: Drains>(
     sum: &Binary,
     limit: u64,

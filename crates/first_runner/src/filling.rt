@@ -15,8 +15,8 @@ use rvc_base::Num;
 use rvc_io::{Failed, Feeds};
 use std::collections::VecDeque;
 
-/// Fills the inbox from the feed, up to the link's capacity or to the end of input. Where the port isn't
-/// read nothing comes.
+/// Fills the inbox from the feed, up to the link's capacity or to the end of input. If the port isn't
+/// read, nothing comes.
 ///
 /// At the end of input nothing more is pulled.
 pub fn fill<F: Feeds>(

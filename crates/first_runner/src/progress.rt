@@ -10,7 +10,7 @@ use port_files::TokenFeed;
 use rvc_base::Num;
 use std::collections::VecDeque;
 
-/// The tokens still to come and the queues of a run, what is held back of its trace and of its output, and its numbers.
+/// The tokens still to come and the queues of a run, what is buffered of its trace and of its output, and its numbers.
 #[derive(Drop)]
 pub struct Progress {
     pub tokens: TokenFeed,

@@ -53,6 +53,10 @@ impl Model for Runner {
 
 impl Runner {
     /// Takes the memory for a run of an actor whose action sends the value of `sum`.
+    ///
+    /// # Errors
+    ///
+    /// `Memory` if memory runs out.
     pub fn new(alloc: Global, sum: Binary) -> Result<Runner, Memory>
         ensures { IfOk result (λ r. r ≡ sum) }
     {
@@ -76,6 +80,11 @@ impl Runner {
     ///
     /// Without a feed the input has no tokens. Without a channel the output's tokens are counted and
     /// not written.
+    ///
+    /// # Errors
+    ///
+    /// The run ends in `ReadFault` if its feed couldn't be read (`read_fault`), and in `WriteFault` if the trace or the
+    /// output couldn't be written (`write_fault`, `writes_it`). The failure was counted.
     pub fn run<F: Feeds, D: Drains>(
         self,
         ends: Ends,
@@ -148,7 +157,7 @@ fn counts_of(run: &Progress) -> Counts
     }
 }
 
-/// Puts what is held back, unless a write failed.
+/// Puts what is buffered, unless a write failed.
 fn finish<D: Drains>(end: RunEnd, ends: Ends, run: &mut Progress, drains: &mut D) -> RunEnd
     requires trace_open { (D.channels drains.old).is_open TRACE_CHANNEL ≡ true }
     requires output_open { ends.writes ≡ true
@@ -179,7 +188,7 @@ fn finish<D: Drains>(end: RunEnd, ends: Ends, run: &mut Progress, drains: &mut D
     end
 }
 
-/// Puts what is held back of the output, where it has a channel.
+/// Puts what is buffered of the output, if it has a channel.
 fn put_rest<D: Drains>(
     writes: bool,
     output: &mut ChannelWriter,

@@ -15,7 +15,7 @@ use rvc_base::{MAX_TOKEN_BYTES, Num, Scalar};
 use rvc_io::{Drains, Failed};
 use std::collections::VecDeque;
 
-/// Writes the tokens of the outbox where the output has a channel, and leaves it empty.
+/// Writes the tokens of the outbox, if the output has a channel, and leaves the outbox empty.
 pub fn send_out<D: Drains>(
     writes: bool,
     outbox: &mut VecDeque<Num>,

@@ -69,7 +69,13 @@ pub trait Firing: Drop {
         ensures looks { Looks rooms.now (cell self.old) result }
         ensures same { IsSame (cell self.old) (cell self.new) };
 
-    /// Fires the named action where it is exposed and enabled, has room and doesn't trap. The journal stays.
+    /// Fires the named action if it is exposed and enabled, has room and doesn't trap. The journal stays.
+    ///
+    /// # Errors
+    ///
+    /// `Trap` if its guards trap, or it has room and then traps. `NotExposed` if it is neither exposed and enabled nor
+    /// exposed with guards that trap. `NoRoom` if it is exposed and enabled and lacks room. With the last two nothing
+    /// that is seen changes (`tries`).
     fn try_fire(&mut self, action: ActId, rooms: &[u32]) -> Tried
         requires untrapped { (cell self.old).trapped ≡ false }
         requires rooms { AreRooms (cell self.old) rooms.now }

@@ -16,7 +16,7 @@ pub fn sent_lists_only_grow<M: Meaning>()
 {}
 
 /// No more tokens are taken from a link than have arrived there, and no more arrive than were sent: at the
-/// start of a run over files, and in every state that events or lines lead to from such a state, where the
+/// start of a run over files, and in every state that events or lines lead to from such a state, if the
 /// network is wired and every leaf's behaviour is lawful.
 pub fn taken_have_arrived<M: Meaning>()
     ensures start { StartsInOrder M.State }
@@ -35,7 +35,7 @@ pub fn lines_are_runs<M: Meaning>()
     ensures { LinesAreRuns M.State }
 {}
 
-/// A state is quiet exactly where it is settled and each leaf waits, where every leaf's behaviour is lawful.
+/// If every leaf's behaviour is lawful, a state is quiet exactly if it is settled and each leaf waits.
 pub fn quiet_is_waiting<M: Meaning>()
     ensures { QuietIsWaiting M.State }
 {}
@@ -51,7 +51,7 @@ pub fn firings_commute<M: Meaning>()
     ensures { FiringsCommute M.State }
 {}
 
-/// Deliveries that may both happen lead to one state in either order: on different links, and on one link where
+/// Deliveries that may both happen lead to one state in either order: on different links, and on one link if
 /// together they don't pass what was sent.
 pub fn deliveries_commute<M: Meaning>()
     ensures apart { DeliveriesCommute M.State }

@@ -12,7 +12,7 @@ pub fn paced_lines_play<M: Meaning>()
     ensures paced { PacedPlay M.State }
 {}
 
-/// At most one list of lines is paced, and lines that are begun are a prefix of it, where every leaf's behaviour
+/// At most one list of lines is paced, and lines that are begun are a prefix of it, if every leaf's behaviour
 /// is lawful.
 pub fn paced_lines_are_one<M: Meaning>()
     ensures one { PacedAreOne M.State }
@@ -25,7 +25,7 @@ pub fn paced_lines_keep_the_budget<M: Meaning>()
     ensures paced { PacedWithinBudget M.State }
 {}
 
-/// Paced and begun lines keep the capacities of the links, where the network is wired, every leaf's behaviour is
+/// Paced and begun lines keep the capacities of the links, if the network is wired, every leaf's behaviour is
 /// lawful and the run may begin in its state, as it may at the start of a run over files.
 pub fn paced_lines_keep_capacities<M: Meaning>()
     ensures start { StartsCanBegin M.State }

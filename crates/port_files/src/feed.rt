@@ -51,6 +51,10 @@ impl TokenFeed {
     ghost use Rattle.port_files.specs.Answer.{IfToken, IfEnd, OnFailed};
 
     /// A reader of tokens of this type, of a feed from which nothing was pulled yet.
+    ///
+    /// # Errors
+    ///
+    /// `Memory` if memory runs out.
     pub fn new(alloc: Global, kind: Scalar) -> Result<TokenFeed, Memory>
         requires { IsSize kind }
         ensures kind { IfOk result (λ t. t.kind ≡ kind) }
@@ -67,8 +71,12 @@ impl TokenFeed {
 
     /// What comes next on `feed`, which is the same one of the same `feeds` in each call.
     ///
-    /// After an end each further call gives the same end, and pulls nothing. After a failure the
-    /// tokens still to come are those that were to come before.
+    /// After an end each further call gives the same end, and pulls nothing.
+    ///
+    /// # Errors
+    ///
+    /// `Failed` if bytes couldn't be pulled: the failure was counted (`failed`), and the tokens still to come are those
+    /// that were to come before (`failed_coming`).
     pub fn next<F: Feeds>(&mut self, feed: u32, feeds: &mut F) -> Next
         requires open { (F.feeds feeds.old).is_open feed ≡ true }
         requires same_feed { EndIsTrue self.old ((F.feeds feeds.old).left feed) }
@@ -144,7 +152,7 @@ impl TokenFeed {
         Ok(())
     }
 
-    /// Gives the first token that was pulled, and where the end was seen the end.
+    /// Gives the first token that was pulled, or the end if it was seen.
     fn give(&mut self) -> Next
         requires { is_short self.old ≡ false }
         ensures token { IfToken result (λ v. (self.old.ended ≡ false)

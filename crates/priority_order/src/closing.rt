@@ -36,7 +36,10 @@ impl From<AllocError> for OrderFault {
 /// The order of the numbers below `n` in which the first of each declared pair is above the second. The
 /// pairs are of numbers below `n`.
 ///
-/// `Cycle` comes exactly where a chain of pairs leads from a number to itself. `Memory` is want of memory.
+/// # Errors
+///
+/// `Cycle` if a chain of pairs leads from a number to itself, and only then (`cycle`, `without_cycle`). `Memory` if
+/// memory runs out.
 pub fn close(alloc: Global, pairs: &[(u16, u16)], n: u16) -> Result<Order, OrderFault>
     requires { IsInRange pairs.now n }
     ensures count { IfOk result (λ order. order.count ≡ n) }

@@ -1,4 +1,4 @@
-//! A cycle of declared pairs, where a number is above itself.
+//! A cycle of declared pairs, in which a number is above itself.
 
 ghost use Rattle.std.specs.Prelude.{◌≡◌, ◌≢◌, ◌<◌, ℕ, length, slice_index, Contains, IfOk, AllPairs, MatchOption, nat_lt, take, drop, ◌++◌};
 ghost use Rattle.std.specs.List.{IsFirstBest};

@@ -10,7 +10,7 @@ pub trait Policy: Drop {
     ghost kind: { Self → RoundKind };
     /// How many rounds it was asked.
     ghost rounds: { Self → ℕ };
-    /// For how many instances it was asked, where it was.
+    /// For how many instances it was asked, if it was.
     ghost instances: { Self → ℕ };
 
     /// Marks in `picked` the instances that it picks in `round`; rounds are numbered from 1.

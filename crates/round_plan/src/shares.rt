@@ -3,7 +3,7 @@
 ghost use Rattle.std.specs.Prelude.{◌≡◌, ◌≤◌, ◌<◌};
 ghost use Rattle.rvc_base.specs.Shares.{allowed, allowed_together};
 
-/// How often the `k`-th of the picked instances may fire, counted from 0, where `left` firings are
+/// How often the `k`-th of the picked instances may fire, counted from 0, if `left` firings are
 /// left of the budget: its share of them, and at most `burst`.
 ///
 /// Together the picked instances may fire at most `left` times.

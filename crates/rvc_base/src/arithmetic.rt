@@ -59,7 +59,11 @@ fn rem_whole(a: Num, b: Num) -> Result<Num, Trap>
     Ok(a % b)
 }
 
-/// The sum, where it is a number of the language; else Overflow.
+/// The sum.
+///
+/// # Errors
+///
+/// `Overflow` if the sum is no number of the language.
 #[inline]
 pub fn add(a: Num, b: Num) -> Result<Num, Trap>
     ensures { computed_of result ≡ add a b }
@@ -70,7 +74,11 @@ pub fn add(a: Num, b: Num) -> Result<Num, Trap>
     }
 }
 
-/// The difference, where it is a number of the language; else Overflow.
+/// The difference.
+///
+/// # Errors
+///
+/// `Overflow` if the difference is no number of the language.
 #[inline]
 pub fn sub(a: Num, b: Num) -> Result<Num, Trap>
     ensures { computed_of result ≡ sub a b }
@@ -81,7 +89,11 @@ pub fn sub(a: Num, b: Num) -> Result<Num, Trap>
     }
 }
 
-/// The product, where it is a number of the language; else Overflow.
+/// The product.
+///
+/// # Errors
+///
+/// `Overflow` if the product is no number of the language.
 #[inline]
 pub fn mul(a: Num, b: Num) -> Result<Num, Trap>
     ensures { computed_of result ≡ mul a b }
@@ -95,7 +107,11 @@ pub fn mul(a: Num, b: Num) -> Result<Num, Trap>
     Ok(mul_halves(x, y))
 }
 
-/// The number with the other sign, where it is a number of the language; else Overflow.
+/// The number with the other sign.
+///
+/// # Errors
+///
+/// `Overflow` if that is no number of the language.
 #[inline]
 pub fn neg(a: Num) -> Result<Num, Trap>
     ensures { computed_of result ≡ neg a }
@@ -106,7 +122,11 @@ pub fn neg(a: Num) -> Result<Num, Trap>
     }
 }
 
-/// The quotient rounded towards 0. A divisor of 0 is DivideByZero, and the one quotient that is no number is Overflow.
+/// The quotient rounded towards 0.
+///
+/// # Errors
+///
+/// `DivideByZero` if `b` is 0. `Overflow` if the quotient is no number of the language: that of `Num::MIN` by -1 alone.
 #[inline]
 pub fn div(a: Num, b: Num) -> Result<Num, Trap>
     ensures { computed_of result ≡ div a b }
@@ -123,7 +143,11 @@ pub fn div(a: Num, b: Num) -> Result<Num, Trap>
     }
 }
 
-/// What the quotient leaves, with the sign of `a`; 0 where `b` is -1. A divisor of 0 is DivideByZero.
+/// What the quotient leaves, with the sign of `a`; 0 if `b` is -1.
+///
+/// # Errors
+///
+/// `DivideByZero` if `b` is 0.
 #[inline]
 pub fn rem(a: Num, b: Num) -> Result<Num, Trap>
     ensures { computed_of result ≡ rem a b }
@@ -140,8 +164,11 @@ pub fn rem(a: Num, b: Num) -> Result<Num, Trap>
     }
 }
 
-/// The number times 2 to the power `b`, where it is a number of the language; else Overflow. A count outside 0 to [`MAX_SHIFT`] is
-/// ShiftRange.
+/// The number times 2 to the power `b`.
+///
+/// # Errors
+///
+/// `ShiftRange` if `b` is below 0 or above [`MAX_SHIFT`]. `Overflow` if the product is no number of the language.
 #[inline]
 pub fn shl(a: Num, b: Num) -> Result<Num, Trap>
     ensures { computed_of result ≡ shl a b }
@@ -158,8 +185,11 @@ pub fn shl(a: Num, b: Num) -> Result<Num, Trap>
     }
 }
 
-/// The number divided by 2 to the power `b`, rounded towards the lower number. A count outside 0 to [`MAX_SHIFT`] is
-/// ShiftRange.
+/// The number divided by 2 to the power `b`, rounded towards the lower number.
+///
+/// # Errors
+///
+/// `ShiftRange` if `b` is below 0 or above [`MAX_SHIFT`].
 #[inline]
 pub fn shr(a: Num, b: Num) -> Result<Num, Trap>
     ensures { computed_of result ≡ shr a b }

@@ -14,7 +14,7 @@ pub(crate) type Half = i64;
 /// The greatest `size` of the types `int` and `uint`, in bits.
 pub const MAX_SIZE: u8 = 64;
 
-/// The `size` of the types `int` and `uint` where none is written, in bits.
+/// The `size` of the types `int` and `uint` if none is written, in bits.
 pub const DEFAULT_SIZE: u8 = 32;
 
 /// The greatest count of a shift.

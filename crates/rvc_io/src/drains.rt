@@ -14,7 +14,7 @@ pub trait Drains {
     ///
     /// # Errors
     ///
-    /// - `failed`: the failure is counted, and the channel is as it was.
+    /// `Failed` if the channel couldn't be opened: the failure is counted, and the channel is as it was (`failed`).
     fn open(&mut self, channel: u32, name: &str) -> Result<(), Failed>
         requires { (channels self.old).is_open channel ≡ false }
         ensures opened { OnOk result (OpensAt channel (channels self.old) (channels self.new)) }
@@ -25,7 +25,7 @@ pub trait Drains {
     ///
     /// # Errors
     ///
-    /// - `failed`: the failure is counted, and the channel is as it was.
+    /// `Failed` if no byte could be put: the failure is counted, and the channel is as it was (`failed`).
     fn put(&mut self, channel: u32, piece: &[u8]) -> Result<usize, Failed>
         requires open { (channels self.old).is_open channel ≡ true }
         requires some { 0 < length piece.now }

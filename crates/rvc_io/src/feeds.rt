@@ -14,7 +14,7 @@ pub trait Feeds {
     ///
     /// # Errors
     ///
-    /// - `failed`: the failure is counted, and the feed is as it was.
+    /// `Failed` if the feed couldn't be opened: the failure is counted, and the feed is as it was (`failed`).
     fn open(&mut self, feed: u32, name: &str) -> Result<(), Failed>
         requires { (feeds self.old).is_open feed ≡ false }
         ensures opened { OnOk result (OpensOn feed name.now (feeds self.old) (feeds self.new)) }
@@ -27,7 +27,7 @@ pub trait Feeds {
     ///
     /// # Errors
     ///
-    /// - `failed`: the failure is counted, and the feed is as it was.
+    /// `Failed` if the feed couldn't be read: the failure is counted, and the feed is as it was (`failed`).
     fn pull(&mut self, feed: u32, buf: &mut [u8]) -> Result<usize, Failed>
         requires open { (feeds self.old).is_open feed ≡ true }
         requires room { 0 < length buf.old }

@@ -34,6 +34,12 @@ pub trait Library {
     ghost misses: { Self → ℕ };
 
     /// Reads the file `name` into `out`, which is empty at first and after every answer but `Found`.
+    ///
+    /// # Errors
+    ///
+    /// `Missing` if there is no such file: the miss is counted (`missing`). `Failed` if the file couldn't be read: the
+    /// failure is counted (`failed`). `TooLong` if the file has more than [`MAX_FILE_BYTES`] bytes (`too_long`).
+    /// `Memory` if memory runs out.
     fn read(&mut self, alloc: Global, name: &str, out: &mut Vec<u8>) -> ReadAnswer
         requires { out.old.items ≡ [] }
         ensures found { result ≡ ReadAnswer.Found → IsTold (file self.old name.now) out.new.items }

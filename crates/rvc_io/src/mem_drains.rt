@@ -42,6 +42,10 @@ impl MemDrains {
     /// Channels, numbered below `channels`, of which channel 0 is open. A call moves at most `step`
     /// bytes, and a channel holds at most `room`. `failing` lists the numbers of the calls that are
     /// to fail; calls are numbered from 1, openings included.
+    ///
+    /// # Errors
+    ///
+    /// `Memory` if memory runs out.
     pub fn new(
         alloc: Global,
         failing: Vec<u64>,
@@ -66,7 +70,7 @@ impl MemDrains {
         })
     }
 
-    /// The bytes that `channel` holds, and nothing where it isn't open.
+    /// The bytes that `channel` holds, and nothing if it isn't open.
     pub fn held(&self, channel: u32) -> &[u8]
         ensures { result.now ≡ bytes_held self.now channel }
     {
@@ -76,14 +80,14 @@ impl MemDrains {
         }
     }
 
-    /// Whether the next call fails where it is to open `channel`.
+    /// Whether the next call fails if it is to open `channel`.
     fn opening_fails(&self, channel: u32) -> bool
         ensures { result ≡ opening_fails self.now channel }
     {
         self.calls.is_listed() || channel as usize >= self.channels.len()
     }
 
-    /// Whether the next call fails where it is to put bytes on an open channel.
+    /// Whether the next call fails if it is to put bytes on an open channel.
     fn put_fails(&self, channel: u32) -> bool
         ensures { result ≡ put_fails self.now channel }
     {

@@ -47,6 +47,10 @@ impl MemFeeds {
     /// numbered from 1, openings included.
     ///
     /// [`crate::names_are_distinct`] tests the condition on the names.
+    ///
+    /// # Errors
+    ///
+    /// `Memory` if memory runs out.
     pub fn new(
         alloc: Global,
         files: Vec<(String, Vec<u8>)>,
@@ -71,7 +75,7 @@ impl MemFeeds {
         })
     }
 
-    /// The place of the file that `feed` is to read, where the next call may open it.
+    /// The place of the file that `feed` is to read, if the next call may open it.
     fn place_to_open(&self, feed: u32, name: &str) -> Option<usize>
         ensures fails { is_none result ≡ opening_fails self.now feed name.now }
         ensures feed { IsSome result → feed < length self.now.left }

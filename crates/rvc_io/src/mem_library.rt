@@ -75,7 +75,7 @@ impl Library for MemLibrary {
         ensures faults_stay { self.old.calls.faults ≤ self.new.calls.faults }
         ensures misses_stay { self.old.misses ≤ self.new.misses }
 
-        // When each answer comes, want of memory apart.
+        // When each answer comes, unless memory runs out.
         ensures failed_exactly { (result ≡ ReadAnswer.Failed) ↔ (is_listed self.old.calls ≡ true) }
         ensures missing_exactly { (result ≡ ReadAnswer.Missing) ↔
             ((is_listed self.old.calls ≡ false) × (bytes_of self.old name.now ≡ None)) }

@@ -107,7 +107,9 @@ impl<R: Files + Print> Drains for FileDrains<R> {
         Ok(())
     }
 
-    /// A write that takes nothing is a failure.
+    /// # Errors
+    ///
+    /// Those of [`Drains::put`]. `Failed` also if the write takes nothing (`least`).
     fn put(&mut self, channel: u32, piece: &[u8]) -> Result<usize, Failed>
         requires open { channel_is_open self.old channel ≡ true }
         requires some { 0 < length piece.now }

@@ -63,7 +63,10 @@ impl<R: Files> Library for FolderLibrary<R> {
 
     ghost misses = { λ l. l.misses };
 
-    /// A name that leads out of the folder, by a slash at its start or by a part `..`, is missing.
+    /// # Errors
+    ///
+    /// Those of [`Library::read`]. `Missing` also if the name leads out of the folder, by a slash at its start or by a
+    /// part `..` (`below`).
     fn read(&mut self, alloc: Global, name: &str, out: &mut Vec<u8>) -> ReadAnswer
         requires { out.old.items ≡ [] }
         ensures found { result ≡ ReadAnswer.Found

@@ -95,9 +95,12 @@ impl Fsm {
 /// The automaton of these steps and free actions, with so many states. `free[a]` says that action `a` is
 /// eligible in each state and doesn't change it; there are as many actions as `free` has entries.
 ///
-/// States and actions of the steps are in range, and no free action takes a step. `Ambiguous` names a state
-/// and an action from which steps lead to two states, and comes exactly where there are such. `Memory` is
-/// want of memory.
+/// States and actions of the steps are in range, and no free action takes a step.
+///
+/// # Errors
+///
+/// `Ambiguous` if steps lead from a state by an action to two states, and only then: it names such a state and action
+/// (`ambiguous`, `unambiguous`). `Memory` if memory runs out.
 pub fn build(alloc: Global, steps: &[Step], free: &[bool], states: u16) -> Result<Fsm, FsmFault>
     requires states_in_range { All (λ step. (step.from < states) × (step.to < states)) steps.now }
     requires actions_in_range { All (λ step. step.action < length free.now) steps.now }

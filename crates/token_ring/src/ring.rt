@@ -28,6 +28,10 @@ impl Model for Ring {
 
 impl Ring {
     /// An empty queue for so many tokens.
+    ///
+    /// # Errors
+    ///
+    /// `Memory` if memory runs out.
     pub fn new(alloc: Global, capacity: u32) -> Result<Ring, Memory>
         requires { 1 ≤ capacity }
         ensures empty { IfOk result (λ ring. ring.tokens ≡ []) }

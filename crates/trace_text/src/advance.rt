@@ -144,7 +144,7 @@ fn within_number(field: Field, number: u32) -> Place
     }
 }
 
-/// The number that the digits so far and one more are. None where no number has these digits, or where it is
+/// The number that the digits so far and one more are. None if no number has these digits, or if it is
 /// too great.
 fn with_digit(so_far: Option<u32>, digit: u8, most: u32) -> Option<u32>
     requires { digit < 10 }

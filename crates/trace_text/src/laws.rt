@@ -5,7 +5,7 @@
 ghost use Rattle.trace_text.specs.Table.{TextTellsLines};
 ghost use Rattle.trace_text.specs.Laws.{BadBeginsNoLines, BeginsWithItsFirstLines, EndsAtLineFeed, FrontIsNoLine, HasOneAnswerEach, IsCutInOneWay, IsOneLine, LineIsReadBack, LinesAreReadBack, LinesBehindLines, OnlyLinesAreReadBack, ToldAreFirst, ToldAreWhole, WrittenAreLines};
 
-/// A text is the text of one list of lines, where their numbers are within the bounds of the trace language.
+/// A text is the text of one list of lines, if their numbers are within the bounds of the trace language.
 pub fn text_tells_lines()
     ensures { TextTellsLines }
 {}
@@ -34,7 +34,7 @@ pub fn lines_are_read_back()
 {}
 
 /// Only lines are read back: a text whose last byte is a line feed and of which no byte is bad is the lines that
-/// are told, one after another. Where a byte is bad, no lines have a text that begins with the bytes up to it.
+/// are told, one after another. If a byte is bad, no lines have a text that begins with the bytes up to it.
 pub fn only_lines_are_read_back()
     ensures only { OnlyLinesAreReadBack }
     ensures bad { BadBeginsNoLines }

@@ -42,11 +42,15 @@ impl LineReader {
 
     /// Reads the next byte, and says what the bytes since the last line feed are, with this one.
     ///
-    /// After `Bad` each byte up to the next line feed is `Bad`, and that line feed too. Behind each line feed
-    /// a new line begins, whatever stood before it.
+    /// Behind each line feed a new line begins, whatever stood before it.
     ///
-    /// Where none of the bytes since the reader was made was bad, they are the lines that it told, one after
-    /// another, and a front of one more (`told`).
+    /// If none of the bytes since the reader was made was bad, they are the lines that it told, one after another,
+    /// and a prefix of one more (`told`).
+    ///
+    /// # Errors
+    ///
+    /// `Bad` if the bytes since the last line feed, with this one, begin no line (`bad`). After it each byte up to the
+    /// next line feed is `Bad`, and that line feed too.
     pub fn next(&mut self, byte: u8) -> Step2
         ensures line { (read : List ℕ) (line : TheLine) → HasRead self.old read → (result ≡ Step2.Line line) ↔ Spells line (read ++ byte ∷ []) }
         ensures more { (read : List ℕ) → HasRead self.old read → (result ≡ Step2.More) ↔ IsFront (read ++ byte ∷ []) }
