@@ -16,7 +16,7 @@ use crate::stack::Acted;
 use code_ir::{Instr, Tokens};
 use rvc_base::Num;
 
-/// Carries out an instruction that goes to the next place. Where it fails the cells are as before.
+/// Carries out an instruction that goes to the next place. If it fails the cells are as before.
 #[inline]
 pub(crate) fn carry_out<T: Tokens>(
     instr: &Instr,

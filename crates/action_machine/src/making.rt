@@ -42,7 +42,7 @@ fn room(most: u32, routines: usize) -> usize
 ///
 /// # Errors
 ///
-/// `Memory` where an allocation was refused.
+/// `Memory` if memory runs out.
 pub fn cells(alloc: Global, code: &Admitted) -> Result<Cells, Memory>
     ensures zeros { IfOk result (λ cells. AreZeros code.now.cells cells.numbers) }
     ensures made { IfOk result (IsMadeFor code.now) }

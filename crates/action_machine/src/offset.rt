@@ -6,7 +6,7 @@ ghost use Rattle.action_machine.specs.Offset.{at_offset};
 
 use rvc_base::Num;
 
-/// The offset as a place, where `m` of the `n` elements stand from it on.
+/// The offset as a place, if at least `m` of the `n` elements stand from it on.
 #[inline]
 pub(crate) fn offset(o: Num, m: u32, n: u32) -> Option<u32>
     ensures effect { (next : ℕ → Effect) → with_offset o m n next ≡ at_offset result next }

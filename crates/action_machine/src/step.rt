@@ -13,7 +13,7 @@ use crate::stack::{Acted, pop};
 use code_ir::{Admitted, Instr, Outcome, Routine, Tokens};
 use rvc_base::{Num, Trap};
 
-/// Pops a number, and goes to a place where it is 0.
+/// Pops a number, and goes to a place if it is 0.
 #[inline]
 fn jump_if_not(t: u32, at: &mut Registers, stack: &[Num])
     requires some { 0 < at.old.top }
@@ -108,7 +108,7 @@ fn go_on(at: &mut Registers, acted: Acted) -> Option<Outcome>
     }
 }
 
-/// Makes one step. The outcome comes where the run is over.
+/// Makes one step. The outcome comes if the run is over then.
 #[inline]
 pub(crate) fn step<T: Tokens>(
     code: &Admitted,

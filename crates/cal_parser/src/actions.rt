@@ -30,7 +30,7 @@ fn guards(alloc: Global, tokens: &mut &[Token], room: u32) -> Result<Vec<Expr>, 
     exprs(alloc, tokens, room)
 }
 
-/// How many tokens each name or value of a port stands for, where `repeat` says so.
+/// How many tokens each name or value of a port stands for, if `repeat` says so.
 #[tactic(auto, using(cal_grammar::proofs::Reading::read_is))]
 fn repeat(alloc: Global, tokens: &mut &[Token], room: u32) -> Result<Option<Expr>, Fault>
     ensures { Tells optional_expr room (part some_repeat) result tokens.old.now tokens.new.now }

@@ -140,7 +140,7 @@ fn body(alloc: Global, tokens: &mut &[Token], room: u32) -> Result<Body, Fault>
     }
 }
 
-/// The offset of the first import, or of the body where there is none.
+/// The offset of the first import, or of the body if there is none.
 fn first_offset(imports: &[Import], body: &Body) -> u32
     ensures { result ≡ first_place (listed (map import_tree imports.now)) (file_body_tree body.now) }
 {

@@ -22,13 +22,14 @@ pub const MAX_HEIGHT: u32 = 256;
 /// The file that the tokens of a text spell. The text is the file of this number, and `end` is its length.
 ///
 /// A list of tokens spells at most one tree, and one of a height of at most [`MAX_HEIGHT`] is always read, unless
-/// memory is wanting.
+/// memory runs out (`read`).
 ///
 /// # Errors
 ///
 /// `Refused` with [`Rule::SPELLS_NO_FILE`] at a token such that no file's tokens begin with those up to and including
-/// it, or at `end` where all the tokens together spell none; with [`Rule::TOO_HIGH`] at a token such that no file of a
-/// height of at most [`MAX_HEIGHT`] has tokens that begin with those up to and including it. And `Memory`.
+/// it, or at `end` if all the tokens together spell none; with [`Rule::TOO_HIGH`] at a token such that no file of a
+/// height of at most [`MAX_HEIGHT`] has tokens that begin with those up to and including it (`refused`). `Memory` if
+/// memory runs out.
 pub fn parse_file(alloc: Global, file: u32, tokens: &[Token], end: u32) -> Result<File, Front>
     ensures spelled { IfOk result (λ f. spells (plain_tokens tokens.now) (file_tree f)) }
     ensures low { IfOk result (λ f. height (file_tree f) ≤ max_height) }
@@ -52,7 +53,7 @@ fn place(tokens: &[Token], end: u32) -> u32
     }
 }
 
-/// Why a file isn't read, where it is known why and at which offset.
+/// Why a file isn't read, given the cause and its offset.
 fn answer(fault: Fault, file: u32, offset: u32) -> Front
     ensures { result ≡ answer_of fault file offset }
 {

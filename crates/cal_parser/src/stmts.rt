@@ -57,7 +57,7 @@ pub fn stmts(alloc: Global, tokens: &mut &[Token], room: u32) -> Result<Vec<Stmt
     Ok(found)
 }
 
-/// A statement, where there is room for one.
+/// A statement, if there is room for one.
 #[cycle(stmt)]
 fn stmt(alloc: Global, tokens: &mut &[Token], room: u32) -> Result<Stmt, Fault>
     requires { 1 ≤ room }
@@ -100,7 +100,7 @@ fn if_rest(alloc: Global, tokens: &mut &[Token], room: u32, at: u32) -> Result<S
     })
 }
 
-/// What is done where the test of an `if` fails, up to the end of the `if`.
+/// What is done if the test of an `if` fails, up to the end of the `if`.
 #[cycle(stmt)]
 fn otherwise(alloc: Global, tokens: &mut &[Token], room: u32) -> Result<Option<Vec<Stmt>>, Fault>
     ensures { Tells body_tree room (part spells.otherwise) result tokens.old.now tokens.new.now }

@@ -70,7 +70,7 @@ pub(crate) fn print_expr(e: &Expr, out: &mut Writer) -> Result<(), Memory>
     }
 }
 
-/// Prints an operand or the base of an index, in parentheses where it is an operation or an `if`.
+/// Prints an operand or the base of an index, in parentheses if it is an operation or an `if`.
 #[cycle(print_expr)]
 fn print_operand(e: &Expr, out: &mut Writer) -> Result<(), Memory>
     ensures { IfOk result (λ _. out.new ≡ out.old ++ text_of (paired (is_loose (expr_tree e.now)) (words (expr_tree e.now)))) }
@@ -171,7 +171,7 @@ pub(crate) fn print_type(shape: &TypeExpr, out: &mut Writer) -> Result<(), Memor
     Ok(())
 }
 
-/// Prints the arguments of a type in parentheses, with a comma between each two, or nothing where there are none.
+/// Prints the arguments of a type in parentheses, with a comma between each two, or nothing if there are none.
 #[cycle(print_expr)]
 fn print_type_args(args: &[TypeArg], out: &mut Writer) -> Result<(), Memory>
     ensures { IfOk result (λ _. out.new ≡ out.old ++ text_of (where_any (listed (map type_arg_tree args.now)) (Lexeme.LeftParen ∷ joined Lexeme.Comma (listed (map type_arg_tree args.now)) ++ (Lexeme.RightParen ∷ [])))) }

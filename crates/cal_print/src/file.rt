@@ -25,7 +25,7 @@ use std::alloc::Global;
 ///
 /// # Errors
 ///
-/// [`Memory`] if an allocation for the text is refused.
+/// `Memory` if memory runs out.
 pub fn print_file(alloc: Global, file: &File) -> Result<Vec<u8>, Memory>
     ensures { IfOk result (λ text. text.items ≡ canon (file_tree file.now)) }
 {
@@ -44,7 +44,7 @@ fn print_whole(file: &File, out: &mut Writer) -> Result<(), Memory>
     Ok(())
 }
 
-/// Prints `package tag ;`, or nothing where the file has no package.
+/// Prints `package tag ;`, or nothing if the file has no package.
 fn print_package(named: &Option<Tag>, out: &mut Writer) -> Result<(), Memory>
     ensures { IfOk result (λ _. out.new ≡ out.old ++ text_of (packaged (optional (option_map tag_tree named.now)))) }
 {

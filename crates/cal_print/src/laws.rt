@@ -18,7 +18,7 @@ pub fn canonical_text_is_read_back()
     ensures { (source : List ℕ) (tokens : List Placed) (x t : Tree) → lexes source tokens → spells tokens x → IsEqualApart t x → IsReadBack t }
 {}
 
-/// The trees of two texts have the same canonical text only where they are equal, ignoring offsets.
+/// The trees of two texts have the same canonical text only if they are equal, ignoring offsets.
 pub fn one_canonical_text()
     ensures { (source other : List ℕ) (tokens others : List Placed) (x y : Tree) → lexes source tokens → spells tokens x → lexes other others → spells others y → canon x ≡ canon y → IsEqualApart x y }
 {

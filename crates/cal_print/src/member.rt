@@ -50,7 +50,7 @@ impl Part for VarDecl {
     }
 }
 
-/// The sign before the start of a variable: `:=` where it can change, else `=`.
+/// The sign before the start of a variable: `:=` if it can change, else `=`.
 fn start_sign(changes: bool) -> Word
     ensures { lexeme_of result ≡ (if changes then Lexeme.Assign else Lexeme.Equal) }
 {

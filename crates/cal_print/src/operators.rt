@@ -45,7 +45,7 @@ pub(crate) fn prefix_word(op: PrefixOp) -> Word
     }
 }
 
-/// Whether an expression stands in parentheses where it is an operand or the base of an index.
+/// Whether an expression stands in parentheses if it is an operand or the base of an index.
 pub(crate) fn stands_in_parens(e: &Expr) -> bool
     ensures { result ≡ is_loose (expr_tree e.now) }
 {

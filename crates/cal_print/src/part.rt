@@ -53,7 +53,7 @@ pub(crate) fn print_joined<T: Part>(parts: &[T], mark: Word, out: &mut Writer) -
     Ok(())
 }
 
-/// Prints parts behind a word with a comma between each two, or nothing where there are none.
+/// Prints parts behind a word with a comma between each two, or nothing if there are none.
 pub(crate) fn print_introduced<T: Part>(
     word: Word,
     parts: &[T],
@@ -69,7 +69,7 @@ pub(crate) fn print_introduced<T: Part>(
     Ok(())
 }
 
-/// Prints a part and a colon, or nothing where it is missing.
+/// Prints a part and a colon, or nothing if it is missing.
 pub(crate) fn print_label<T: Part>(part: &Option<T>, out: &mut Writer) -> Result<(), Memory>
     ensures { IfOk result (λ _. out.new ≡ out.old ++ text_of (label (optional (option_map T.tree part.now)))) }
 {
@@ -83,7 +83,7 @@ pub(crate) fn print_label<T: Part>(part: &Option<T>, out: &mut Writer) -> Result
     }
 }
 
-/// Prints an expression behind a word, or nothing where it is missing.
+/// Prints an expression behind a word, or nothing if it is missing.
 pub(crate) fn print_under(word: Word, e: &Option<Expr>, out: &mut Writer) -> Result<(), Memory>
     ensures { IfOk result (λ _. out.new ≡ out.old ++ text_of (under (lexeme_of word) (optional_expr e.now))) }
 {

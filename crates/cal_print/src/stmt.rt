@@ -74,7 +74,7 @@ pub(crate) fn print_stmts(stmts: &[Stmt], out: &mut Writer) -> Result<(), Memory
     Ok(())
 }
 
-/// Prints statements behind a word, or nothing where they are missing.
+/// Prints statements behind a word, or nothing if they are missing.
 #[cycle(print_stmt)]
 pub(crate) fn print_body(
     word: Word,
@@ -141,7 +141,7 @@ fn print_foreach(
     Ok(())
 }
 
-/// Prints `var vars do`, or nothing where there are no variables.
+/// Prints `var vars do`, or nothing if there are no variables.
 fn print_block_vars(vars: &[VarDecl], out: &mut Writer) -> Result<(), Memory>
     ensures { IfOk result (λ _. out.new ≡ out.old ++ text_of (where_any (listed (map var_tree vars.now)) (Lexeme.Var ∷ joined Lexeme.Comma (listed (map var_tree vars.now)) ++ (Lexeme.Do ∷ [])))) }
 {

@@ -53,7 +53,7 @@ impl FileNames {
     ///
     /// # Errors
     ///
-    /// `Memory`: an allocation was refused, and the names are as before.
+    /// `Memory` if memory runs out; the names are as before then (`same`).
     pub fn add(&mut self, name: &str, role: Role, full: &str) -> Result<(), Memory>
         requires { global_named name.now (globals_of self.old) ≡ None }
         ensures added { OnOk result (globals_of self.new ≡ globals_of self.old ++ record { name = name.now; role = role; full = full.now } ∷ []) }

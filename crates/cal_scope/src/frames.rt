@@ -62,8 +62,8 @@ impl<'a> Inside<'a> {
     ///
     /// # Errors
     ///
-    /// `Broken`: no declaration of the name is seen here, or the innermost one is of something else; the place is the
-    /// name's, which is handed in. `Memory`: an allocation was refused.
+    /// `Broken` if no declaration of the name is seen here, or the innermost one is of something else; the place is the
+    /// name's, which is handed in. `Memory` if memory runs out.
     pub fn full_name(&self, role: Role, name: &str, at: u32) -> Result<String, ScopeFault>
         ensures { Judges string_bytes result (used_as role name.now at (names_view self.now)) }
     {
@@ -80,7 +80,7 @@ impl<'a> Inside<'a> {
     }
 }
 
-/// A name that is declared inside, where it may be used.
+/// A name that is declared inside, if it may be used.
 fn local_name(alloc: Global, role: Role, name: &str, at: u32) -> Result<String, ScopeFault>
     ensures { Judges string_bytes result (full_name role at (Some (local name.now))) }
 {
@@ -93,7 +93,7 @@ fn local_name(alloc: Global, role: Role, name: &str, at: u32) -> Result<String, 
     })
 }
 
-/// The full name of a name of the file, where it may be used.
+/// The full name of a name of the file, if it may be used.
 fn meant(meaning: &Meaning, role: Role, at: u32) -> Result<String, ScopeFault>
     ensures { (name : List ℕ) → Judges string_bytes result (full_name role at (Some (meaning_of name meaning.now))) }
 {

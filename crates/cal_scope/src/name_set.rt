@@ -39,7 +39,7 @@ impl NameSet {
     ///
     /// # Errors
     ///
-    /// [`Memory`] if an allocation is refused; the names are as before.
+    /// `Memory` if memory runs out; the names are as before then (`same`).
     pub fn add(&mut self, name: &str) -> Result<(), Memory>
         ensures added { OnOk result (names_in self.new ≡ with_name name.now (names_in self.old)) }
         ensures same { OnErr result (names_in self.new ≡ names_in self.old) }

@@ -44,6 +44,10 @@ impl<P: Piece> Model for Board<P> {
 
 impl<P: Piece> Board<P> {
     /// A board with these pieces, and as many passes.
+    ///
+    /// # Errors
+    ///
+    /// `NoBoard` if memory runs out; it holds the pieces (`no_board`).
     pub fn open(
         alloc: Global,
         pieces: Vec<P>,

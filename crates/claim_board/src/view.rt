@@ -5,7 +5,7 @@ use std::snapshot::Snapshot;
 
 /// What a pass knows. No value of it is made.
 pub struct View<P> {
-    /// How many passes it stands for: 0 where it was joined to another one.
+    /// How many passes it stands for: 0 if it was joined to another one.
     pub passes: u32,
     /// The pieces as they were put on the board, by place.
     pub put: LinkedList<P>,

@@ -20,8 +20,8 @@ use std::alloc::Global;
 ///
 /// # Errors
 ///
-/// `Bad` where a line is broken. It names the first place that may not begin a body, or 0 where no body begins
-/// there; else an instruction that breaks a line. `Memory` where an allocation was refused.
+/// `Bad` if a line is broken (`bad`). It names the first place that may not begin a body, or 0 if no body begins
+/// there; else an instruction that breaks a line. `Memory` if memory runs out.
 pub fn admit(alloc: Global, code: ActorCode) -> Result<Admitted, CodeFault>
     requires sized { AllSized code.instrs.items }
     requires few { AreFew (code_of code) }

@@ -74,7 +74,7 @@ fn leaves_results(code: &ActorCode, bodies: &[u32], place: u32, height: u32, ins
     }
 }
 
-/// Passes a height on to the next place, where the instruction goes on.
+/// Passes a height on to the next place, if the instruction goes on.
 fn pass_to_next(
     heights: &mut Vec<Option<u32>>,
     work: &mut Vec<u32>,
@@ -200,7 +200,7 @@ fn mark_begins(
     Ok(())
 }
 
-/// The greatest of the heights, 0 where there is none.
+/// The greatest of the heights, 0 if there is none.
 fn greatest(heights: &[Option<u32>]) -> u32
     ensures { (p h : ℕ) → IsMarked heights.now p h → h ≤ result }
 {

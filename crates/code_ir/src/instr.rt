@@ -66,7 +66,7 @@ pub enum Instr {
     Ge,
     /// `t`: goes there.
     Jump(u32),
-    /// `t`: pops a number, and goes there where it is 0.
+    /// `t`: pops a number, and goes there if it is 0.
     JumpIfNot(u32),
     /// Counts one turn.
     Turn,
@@ -76,7 +76,7 @@ pub enum Instr {
     Return,
     /// Pops a number.
     Drop,
-    /// Ends a guard: pops the answer, which is true where it isn't 0.
+    /// Ends a guard: pops the answer, which is true if it isn't 0.
     Answer,
     /// Ends a firing.
     Done,

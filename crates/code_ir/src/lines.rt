@@ -69,7 +69,7 @@ pub(crate) fn pops(instr: &Instr) -> u32
     }
 }
 
-/// How many numbers a routine leaves on the stack; none where there is no such routine.
+/// How many numbers a routine leaves on the stack; none if there is no such routine.
 pub(crate) fn results_of(code: &ActorCode, r: usize) -> u32
     ensures value { result ≡ results_of (code_of code.now) r }
     ensures small { result < 256 }
@@ -171,7 +171,7 @@ fn names_cells(instr: &Instr, cells: u32) -> bool
     }
 }
 
-/// Whether a jump from `p` to `t` goes to a place of the same body, and to a `Turn` where it isn't forward.
+/// Whether a jump from `p` to `t` goes to a place of the same body, and to a `Turn` if it isn't forward.
 fn is_target(code: &ActorCode, bodies: &[u32], p: usize, t: usize) -> bool
     requires table { IsTableOf (length code.now.instrs.items) (body_of (code_of code.now)) bodies.now }
     requires inside { p < length code.now.instrs.items }

@@ -68,7 +68,7 @@ pub(crate) fn bodies(
     Ok(bodies)
 }
 
-/// The number of the routine whose body begins at a place; as many as there are routines where none does.
+/// The number of the routine whose body begins at a place; as many as there are routines if none does.
 pub(crate) fn routine_at(routines: &[Routine], place: u32) -> usize
     ensures { result ≡ routine_at routines.now place }
 {

@@ -39,11 +39,15 @@ pub enum ConstFault {
 /// The value of an expression over the constants and functions of the environment (ISO/IEC 23001-4, RVC-CAL:
 /// expressions), with its own count of turns.
 ///
-/// It answers [`ConstFault::NotConstant`] exactly where evaluation reaches a name that the environment lacks, provided
-/// that some kinds can be given to the names that it lacks such that the expression has a kind and each function is of
-/// the kinds that it declares, that the items of each list among the constants are of one kind, and that no function
-/// calls itself, directly or round about. Where that doesn't hold, it also answers so where a part is of another kind
-/// than its form asks.
+/// # Errors
+///
+/// `Trap` if the evaluation traps (`trap`). `NotConstant` if it reaches a name that the environment lacks, or a part
+/// that is of another kind than its form asks (`no_value`). `Memory` if memory runs out.
+///
+/// `NotConstant` has the first of these two causes (`not_constant`), provided that some kinds can be given to the names
+/// that the environment lacks such that the expression has a kind and each function is of the kinds that it declares,
+/// that the items of each list among the constants are of one kind, and that no function calls itself, directly or
+/// indirectly.
 pub fn eval_const(alloc: Global, env: &Env, e: &Expr) -> Result<Value, ConstFault>
     ensures value { IfOk result (λ value. (left : ℕ) × (value_of (expr_tree e.now) (held env.now) ≡ Gives (value_view value) left)) }
     ensures trap { (c : Trap) → IsErrOf result (ConstFault.Trap c) → value_of (expr_tree e.now) (held env.now) ≡ Traps c }
@@ -57,7 +61,7 @@ pub fn eval_const(alloc: Global, env: &Env, e: &Expr) -> Result<Value, ConstFaul
         Ok(value) => Ok(value),
         Err(Stop::Trap(trap)) => Err(ConstFault::Trap(trap)),
         Err(Stop::Lacks) => Err(ConstFault::NotConstant),
-        // Nothing clashes where the expression has a kind.
+        // Nothing clashes if the expression has a kind.
         Err(Stop::Clashes) => Err(ConstFault::NotConstant),
         Err(Stop::Memory) => Err(ConstFault::Memory),
     }
@@ -66,9 +70,12 @@ pub fn eval_const(alloc: Global, env: &Env, e: &Expr) -> Result<Value, ConstFaul
 /// The kind of an expression over the kinds and the values of the constants, and the functions, of the environment
 /// (ISO/IEC 23001-4, RVC-CAL: expressions and types).
 ///
-/// [`KindFault::Broken`] names the first rule that the expression breaks, parts before wholes and from left to right,
-/// and its place: S1 for a name or a type that is unknown, T1, T2, T3, T5, T6 and Z4 as their rules say, T7 and T9 for
-/// the bound of a generator or the size of a type that traps or isn't constant.
+/// # Errors
+///
+/// `Broken` if the expression breaks a rule: the first one, parts before wholes and from left to right, and its place
+/// (`broken`). S1 if a name or a type is unknown; T1, T2, T3, T5, T6 and Z4 as their rules say; T7 and T9 if the bound
+/// of a generator or the size of a type traps or isn't constant. `Memory` if memory runs out, or if a constant is a
+/// list of more items than a kind can say.
 pub fn kind_const(alloc: Global, env: &Env, e: &Expr) -> Result<Kind, KindFault>
     ensures kind { IfOk result (λ found. kind (expr_tree e.now) (names_of (held env.now)) ≡ Fine (kind_view found)) }
     ensures broken { (rule : Rule) (at : ℕ) → IsErrOf result (KindFault.Broken rule at) → kind (expr_tree e.now) (names_of (held env.now)) ≡ Broken rule at }
@@ -81,7 +88,7 @@ pub fn kind_const(alloc: Global, env: &Env, e: &Expr) -> Result<Kind, KindFault>
     kind(&names, e)
 }
 
-/// Nothing clashes where an expression may be evaluated.
+/// Nothing clashes if an expression may be evaluated.
 fn never_clashes()
     ensures { (env : Constants) (e : Tree) → IsEvaluable env e → value_of e env ≡ Clashes → ⊥ }
 {

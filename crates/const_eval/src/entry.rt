@@ -23,7 +23,7 @@ pub(crate) fn all_turns() -> u32
     MAX_TURNS
 }
 
-/// Makes a turn. Where none is left, that is one too many.
+/// Makes a turn. If none is left, that is one too many.
 pub(crate) fn turn(left: &mut u32) -> Result<(), Stop>
     ensures ok { OnOk result (left.old ≡ suc left.new) }
     ensures err { IfErr result (λ stop. (stop ≡ Stop.Trap TurnLimit) × (left.old ≡ 0)) }
@@ -35,7 +35,7 @@ pub(crate) fn turn(left: &mut u32) -> Result<(), Stop>
     Ok(())
 }
 
-/// The arguments, each stored in its formal's type. It clashes where they aren't as many.
+/// The arguments, each stored in its formal's type. It clashes if they aren't as many.
 pub(crate) fn entry(
     alloc: Global,
     formals: &[BoundLocal],

@@ -79,7 +79,7 @@ impl Env {
     ///
     /// # Errors
     ///
-    /// Memory leaves all as it was.
+    /// `Memory` if memory runs out; the environment is as before then (`memory`).
     pub fn add_value(&mut self, name: &str, value: Value) -> Result<(), Memory>
         requires new { has_value name.now (held self.old).values ≡ false }
         requires counted { is_counted (value_view value) ≡ true }
@@ -98,7 +98,7 @@ impl Env {
     ///
     /// # Errors
     ///
-    /// Memory leaves all as it was.
+    /// `Memory` if memory runs out; the environment is as before then (`memory`).
     pub fn add_fun(&mut self, fun: BoundFun) -> Result<(), Memory>
         requires new { has_fun (string_bytes fun.name) (held self.old).funs ≡ false }
         requires sized { is_sized_fun (fun_view fun) ≡ true }

@@ -27,7 +27,7 @@ use cal_ast::{BinOp, Expr, ExprForm, Gen, TypeArg, TypeExpr};
 use cal_model::{BoundFun, BoundLocal, Value};
 use rvc_base::{MAX_TURNS, Num, Scalar};
 
-/// The value of an expression, where so many turns are left.
+/// The value of an expression, with so many turns left.
 #[cycle(eval)]
 pub(crate) fn eval(scope: &Scope, e: &Expr, left: &mut u32) -> Result<Value, Stop>
     ensures { Evaluates value_view result left.new (eval (expr_tree e.now) (calls scope.now) (seen scope.now) left.old) }
@@ -99,7 +99,7 @@ fn eval_index(scope: &Scope, base: &Expr, place: &Expr, left: &mut u32) -> Resul
     indexed(base, &place)
 }
 
-/// An operation with two operands. The right one isn't evaluated where the left one decides.
+/// An operation with two operands. The right one isn't evaluated if the left one decides.
 #[tactic(auto, using(crate::proofs::Going::stops_on, crate::proofs::Rights::goes_right))]
 #[cycle(eval)]
 fn eval_binary(

@@ -209,7 +209,7 @@ fn kind_of_comp(names: &Names, item: &Expr, gens: &[Gen], at: u32) -> Result<Kin
     list_of_kind(names.alloc, size as usize, k, at)
 }
 
-/// How many elements generators make, or one more than the limit of a list where they make more.
+/// How many elements generators make, or one more than the limit of a list if they make more.
 #[cycle(kind)]
 fn elements_in(names: &Names, gens: &[Gen]) -> Result<u32, KindFault>
     ensures { Judges (λ n. n) result (and_so (elements_in (listed (map gen_tree gens.now)) (names_view names.now)) (λ n. Fine (capped n))) }
@@ -226,7 +226,7 @@ fn elements_in(names: &Names, gens: &[Gen]) -> Result<u32, KindFault>
     Ok(size)
 }
 
-/// How many numbers a generator gives, or one more than the limit of a list where it gives more.
+/// How many numbers a generator gives, or one more than the limit of a list if it gives more.
 #[cycle(kind)]
 fn numbers_of(names: &Names, g: &Gen) -> Result<u32, KindFault>
     ensures { Judges (λ n. n) result (numbers_judged (gen_tree g.now) (names_view names.now)) }
@@ -238,7 +238,7 @@ fn numbers_of(names: &Names, g: &Gen) -> Result<u32, KindFault>
     Ok(span(low, high))
 }
 
-/// How many numbers there are from one to another, or one more than the limit of a list where they are more.
+/// How many numbers there are from one to another, or one more than the limit of a list if they are more.
 fn span(low: Num, high: Num) -> u32
     ensures { result ≡ capped (span low high) }
 {

@@ -149,7 +149,7 @@ impl Fit {
 
 // ---- lists
 
-/// A product, or one more than the limit of a list where it is more.
+/// A product, or one more than the limit of a list if it is more.
 pub(crate) fn product(a: u32, b: u32) -> u32
     ensures { result ≡ capped (a * b) }
 {
@@ -160,7 +160,7 @@ pub(crate) fn product(a: u32, b: u32) -> u32
     whole as u32
 }
 
-/// How many scalars the values of a kind have, or one more than the limit of a list where they are more.
+/// How many scalars the values of a kind have, or one more than the limit of a list if they are more.
 fn scalars(k: &Kind) -> u32
     ensures { result ≡ capped (scalars_of_kind (kind_view k.now)) }
 {

@@ -187,7 +187,7 @@ fn list_of_items(alloc: Global, items: Filled, size: Num, at: u32) -> Result<Sha
     Ok(Shape::List(size, Box::new(alloc, items.shape)?))
 }
 
-/// How many scalars the values of a type have, or one more than the limit of a list where they are more.
+/// How many scalars the values of a type have, or one more than the limit of a list if they are more.
 fn scalars_in(t: &Shape) -> u32
     ensures { result ≡ capped (scalars_of_type (shape_view t.now)) }
 {

@@ -132,7 +132,7 @@ pub(crate) fn type_named(name: &str, given: Given) -> Result<Option<Scalar>, Sto
     Err(Stop::Clashes)
 }
 
-/// A signed type, whose size is the greatest where none is given.
+/// A signed type, whose size is the greatest if none is given.
 fn signed(size: Option<u128>) -> Result<Option<Scalar>, Stop>
     ensures kept { (left : ℕ) → Evaluates (λ kept. kept) result left (needed (kept_bits size (λ n. Scalar.Int n)) left) }
     ensures sized { IfOk result IsKept }
@@ -146,7 +146,7 @@ fn signed(size: Option<u128>) -> Result<Option<Scalar>, Stop>
     Ok(Some(Scalar::Int(size as u8)))
 }
 
-/// An unsigned type, whose size is the greatest where none is given.
+/// An unsigned type, whose size is the greatest if none is given.
 fn unsigned(size: Option<u128>) -> Result<Option<Scalar>, Stop>
     ensures kept { (left : ℕ) → Evaluates (λ kept. kept) result left (needed (kept_bits size (λ n. Scalar.Uint n)) left) }
     ensures sized { IfOk result IsKept }

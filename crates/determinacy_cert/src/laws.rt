@@ -45,7 +45,7 @@ pub fn certified_networks_are_determinate()
     certified_actors_are_stable();
 }
 
-/// An actor is certified exactly where the list of its failures is empty.
+/// An actor is certified if and only if the list of its failures is empty.
 pub fn no_failure_where_certified()
     ensures { NoFailureWhereCertified }
 {}

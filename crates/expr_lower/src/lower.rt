@@ -183,7 +183,7 @@ fn strict(
     put(draft, instr)
 }
 
-/// Appends an `and`, whose right side isn't evaluated where the left one is false.
+/// Appends an `and`, whose right side isn't evaluated if the left one is false.
 #[cycle(lower)]
 fn both(
     names: &[Named],
@@ -212,7 +212,7 @@ fn both(
     Ok(())
 }
 
-/// Appends an `or`, whose right side isn't evaluated where the left one is true.
+/// Appends an `or`, whose right side isn't evaluated if the left one is true.
 #[cycle(lower)]
 fn either(
     names: &[Named],
@@ -269,7 +269,7 @@ fn choice(
 
 // ---- conditions
 
-/// Appends a condition, which goes on where it is true. Where it is false it is to jump elsewhere: `Done` stands for
+/// Appends a condition, which goes on if it is true. If it is false it is to jump elsewhere: `Done` stands for
 /// these jumps, until their target is known.
 #[cycle(lower)]
 fn lower_test(names: &[Named], e: &Expr, draft: &mut Draft) -> Result<(), LowerFault>
@@ -307,7 +307,7 @@ fn test_both(
     lower_test(names, right, draft)
 }
 
-/// Appends a value, and a jump where it is false.
+/// Appends a value, and a jump if it is false.
 #[cycle(lower)]
 fn test_value(names: &[Named], e: &Expr, draft: &mut Draft) -> Result<(), LowerFault>
     ensures ok { OnOk result (Adds (IsOpenTest (names_view names.now) (expr_tree e.now)) draft.old draft.new) }
@@ -362,10 +362,10 @@ fn aimed(instr: Instr, out: u32) -> Instr
 ///
 /// # Errors
 ///
-/// `Memory` where an allocation was refused. `TooLong` where the draft has 2 to the power of 32 instructions.
-/// `NotLowered` with the offset of the first part for which no code is made: a call, a list, a comprehension, an
-/// index on what isn't the name of a list of single values, a name that `names` doesn't have as that of a single
-/// value, or an `and` or `or` whose left side isn't seen to be a truth value.
+/// `NotLowered` if the expression has a part for which no code is made, with the offset of the first one (`fault`): a
+/// call, a list, a comprehension, an index on what isn't the name of a list of single values, a name that `names`
+/// doesn't have as that of a single value, or an `and` or `or` whose left side isn't seen to be a truth value.
+/// `TooLong` if the draft has 2 to the power of 32 instructions. `Memory` if memory runs out.
 pub fn lower_expr(names: &[Named], e: &Expr, draft: &mut Draft) -> Result<(), LowerFault>
     requires below { AreBelow draft.old.cells (names_view names.now) }
     ensures lowered { OnOk result (Adds (IsLowered (names_view names.now) (expr_tree e.now)) draft.old draft.new) }

@@ -21,7 +21,7 @@ pub(crate) fn prefix_instr(op: PrefixOp) -> Instr
     }
 }
 
-/// The instruction of an operator between two operands; none where the right operand may not be evaluated.
+/// The instruction of an operator between two operands; none if the right operand may not be evaluated.
 pub(crate) fn binary_instr(op: BinOp) -> Option<Instr>
     ensures { result ≡ binary_instr op }
 {

@@ -8,7 +8,7 @@ ghost use Rattle.first_form.specs.Meaning.{IsFirstForm, IsShort, byte_type, Send
 use crate::ast::{Binary, Operand, Operator};
 use rvc_base::{Num, Scalar, conv};
 
-/// The token that the action sends where it takes `token`, a byte: the value of its expression, which
+/// The token that the action sends when it takes `token`, a byte: the value of its expression, which
 /// never traps, stored in the type of the output port.
 pub fn sent_for(sum: &Binary, token: Num) -> Num
     requires first_form { IsFirstForm sum.now }

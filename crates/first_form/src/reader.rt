@@ -20,9 +20,9 @@ use std::alloc::Global;
 ///
 /// # Errors
 ///
-/// [`Front::Refused`] with the rule that the text breaks, and its place in this file: the first fault of the lexis;
-/// a rule of the grammar; or [`Rule::NOT_BUILT`] if the text spells a file of another form, at the first part that
-/// isn't of it. [`Front::Memory`] if an allocation is refused.
+/// `Refused` if the text breaks a rule, with the rule and its place in this file (`refused`): the first fault of the
+/// lexis; a rule of the grammar; or [`Rule::NOT_BUILT`] if the text spells a file of another form, at the first part
+/// that isn't of this one. `Memory` if memory runs out.
 pub fn read_form(alloc: Global, file: u32, text: &[u8]) -> Result<Actor, Front>
     requires { HasOffsets text.now }
     ensures read { IfOk result (λ actor. Spells text.now (form_of actor)) }

@@ -12,7 +12,7 @@ use cal_ast::{BinOp, Expr, ExprForm};
 /// The least number that has too many digits.
 const TOO_GREAT: u128 = 1_000_000_000;
 
-/// The operand that an expression is, where the action's token has this name.
+/// The operand that an expression is, if the action's token has this name.
 fn operand(token: &str, e: &Expr) -> Option<Operand>
     ensures { IsOperandOf token.now (expr_tree e.now) result }
 {
@@ -47,7 +47,7 @@ fn operator(op: BinOp) -> Option<Operator>
     }
 }
 
-/// The operation that an expression is, where the action's token has this name; an error is its first mismatch.
+/// The operation that an expression is, if the action's token has this name; an error is its first mismatch.
 pub fn value(token: &str, e: &Expr) -> Result<Binary, u32>
     ensures { IsValueOf token.now (expr_tree e.now) result }
 {

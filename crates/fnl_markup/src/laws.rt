@@ -5,8 +5,8 @@ ghost use Rattle.rvc_base.specs.Rules.{spells_no_network};
 ghost use Rattle.fnl_markup.specs.Markup.{IsMarkup, broken_of, fault};
 ghost use Rattle.fnl_markup.specs.Tags.{Tag};
 
-/// Where a text is refused at a byte that can't follow, no markup begins with the bytes up to that one and with it;
-/// where it is refused at its end, it is no markup.
+/// If a text is refused at a byte that can't follow, no markup begins with the bytes up to that one and with it;
+/// if it is refused at its end, it is no markup.
 pub fn no_markup_begins_so()
     ensures { (text other : List ℕ) (at : ℕ) (tags : List Tag)
         → broken_of text ≡ Some (fault spells_no_network at)

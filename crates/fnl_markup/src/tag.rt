@@ -36,6 +36,6 @@ pub struct Attribute {
 pub struct Markup {
     /// The tags that stand before the first broken rule, or all tags.
     pub tags: Vec<Tag>,
-    /// The rule that the text breaks first, and its place. Where there is none, the tags are one element.
+    /// The rule that the text breaks first, and its place. If there is none, the tags are one element.
     pub broken: Option<Refusal>,
 }

@@ -19,7 +19,7 @@ use std::str;
 ///
 /// # Errors
 ///
-/// `Memory` alone.
+/// `Memory` if memory runs out. A rule that the text breaks is no error: it is a part of the answer (`broken`).
 pub fn read_markup(alloc: Global, file: u32, text: &[u8]) -> Result<Markup, Memory>
     requires { length text.now < 2 ^ 32 }
     ensures tags { IfOk result (λ found. plain_tags found.tags.items ≡ tags_of text.now) }

@@ -23,7 +23,7 @@ pub enum Ready {
     Trap(Trap),
 }
 
-/// What the guards of an action that is eligible say. Where it lacks tokens no guard is run.
+/// What the guards of an action that is eligible say. If it lacks tokens no guard is run.
 ///
 /// The state cells and the tokens stay as they are.
 pub fn readiness<T: Tokens>(

@@ -16,7 +16,7 @@ pub fn lowered_actors_are_lawful()
     laws::has_one_end();
 }
 
-/// Where an action has its tokens, a run over those that it takes, from cells of a state, is one that the facts of
+/// If an action has its tokens, a run over those that it takes, from cells of a state, is one that the facts of
 /// guards and firings speak of. Its outcome is the one of the actor's meaning, whatever the cells behind the state
 /// cells held; and so are the state and the tokens to send that a firing leaves.
 pub fn runs_are_the_meaning()

@@ -53,7 +53,7 @@ impl Lowered {
     ///
     /// # Errors
     ///
-    /// `Memory` where an allocation was refused.
+    /// `Memory` if memory runs out.
     pub fn new(alloc: Global, parts: Parts) -> Result<Lowered, Memory>
         requires fits { FitTogether (actor_of parts) }
         requires right { RunRight (actor_of parts) }
@@ -71,8 +71,8 @@ impl Lowered {
     ///
     /// # Errors
     ///
-    /// `DoNotFit` and `NotStraight` where [`Parts::fit`] and [`Parts::are_straight`] say so. `Memory` where an
-    /// allocation was refused.
+    /// `DoNotFit` if [`Parts::fit`] is false; else `NotStraight` if [`Parts::are_straight`] is. `Memory` if memory
+    /// runs out.
     pub fn of_straight_lines(alloc: Global, parts: Parts) -> Result<Lowered, Unfit>
         ensures { IfOk result (λ lowered. lowered ≡ actor_of parts) }
     {

@@ -60,7 +60,7 @@ pub(crate) fn carry_all<A: Firing>(cells: &mut [A], links: &[Link])
     }
 }
 
-/// How many tokens were sent on a link and haven't arrived, where it begins at a cell.
+/// How many tokens were sent on a link and haven't arrived, if it begins at a cell.
 pub(crate) fn sent_along<A: Firing>(cells: &[A], link: &Link) -> u32
     requires writer { IsWriter (map A.cell cells.now) link.now.from }
     ensures { result ≡ length (carried (map A.cell cells.now) link.now) }

@@ -19,7 +19,7 @@ use rvc_io::{Failed, Feeds};
 pub struct Filled {
     /// How many tokens came.
     pub tokens: u32,
-    /// Where the feed's end was read: how many bytes are left there, which are no token.
+    /// If the feed's end was read: how many bytes are left there, which are no token.
     pub rest: Option<u8>,
 }
 
@@ -34,7 +34,7 @@ pub(crate) struct Inlet {
 
 /// Lets tokens of a feed come before a port until it holds its capacity, or to the feed's end.
 ///
-/// Nothing is pulled where the port holds its capacity.
+/// Nothing is pulled if the port holds its capacity.
 pub(crate) fn fill_port<A: Firing, F: Feeds>(
     cells: &mut [A],
     inlet: &Inlet,

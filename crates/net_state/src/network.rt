@@ -50,6 +50,10 @@ impl<A: Firing> NetState<A> {
     ///
     /// The links are in link order; each begins and ends at a port of a cell or of the network, not both of the
     /// network. Nothing was sent yet, and before an input port to which no link leads no token waits.
+    ///
+    /// # Errors
+    ///
+    /// `Memory` if memory runs out.
     pub fn new(alloc: Global, cells: Vec<A>, links: Vec<Link>) -> Result<NetState<A>, Memory>
         requires can_work { CanWork (map A.cell cells.items) links.items }
         ensures cells { IfOk result (λ n. n.cells ≡ cells.items) }
@@ -100,13 +104,13 @@ impl<A: Firing> NetState<A> {
     }
 
     /// Fills an input link from its feed until it holds its present capacity, or to the feed's end. Each token is
-    /// stored in the reader's type. Nothing is pulled where the link is full.
+    /// stored in the reader's type. Nothing is pulled if the link is full.
     ///
     /// `tokens` reads the tokens of this feed, and is the same one in each call for this link.
     ///
     /// # Errors
     ///
-    /// `failed`: bytes couldn't be pulled. What came before that stays.
+    /// `Failed` if bytes couldn't be pulled (`failed`). What came before that stays.
     pub fn fill<F: Feeds>(
         &mut self,
         link: LinkId,

@@ -32,7 +32,7 @@ fn main(rt: HostRuntime) -> ExitCode {
 ///
 /// # Errors
 ///
-/// `AllocError` where an allocation was refused.
+/// `AllocError` if memory runs out.
 fn read_arguments(rt: &HostRuntime) -> Result<Vec<String>, AllocError> {
     match env::args(rt) {
         Ok(words) => words.collect(rt.alloc()),

@@ -89,7 +89,7 @@ fn check_no_words(words: &[PortWord]) -> Result<(), Refusal>
     })
 }
 
-/// The canonical text of a file, where no words name ports.
+/// The canonical text of a file, if no words name ports.
 fn print_alone(alloc: Global, file: &File, ports: &[PortWord]) -> Result<Vec<u8>, Status>
     ensures printed { IfOk result (λ printed. printed.items ≡ canon (file_tree file.now)) }
     ensures no_ports { OnOk result (map port_text ports.now ≡ []) }
@@ -170,12 +170,12 @@ fn put_printed<D: Drains>(printed: &[u8], drains: &mut D) -> Status
 
 /// Prints the file of this name to channel 0, or reports why it can't. Nothing is opened.
 ///
-/// - `formatted`: where the answer is `Done`, the file's text spells a tree, no words name ports, and channel 0 got
+/// - `formatted`: if the answer is `Done`, the file's text spells a tree, no words name ports, and channel 0 got
 ///   the canonical text of that tree and nothing else.
 /// - `refused`: the file lacks, passes its limit, or breaks a rule of the lexis or the grammar at its place, or its
 ///   text spells a file and the first port word is refused.
-/// - `complete`: a text that spells a file is printed, unless memory lacks, or a count of faults rose.
-/// - `faults`: a fault comes only where the count of faults of what it names rose.
+/// - `complete`: a text that spells a file is printed, unless memory runs out or a count of faults rose.
+/// - `faults`: a fault comes only if the count of faults of what it names rose.
 fn format_file<L: Library, D: Drains>(
     alloc: Global,
     top: &str,

@@ -57,7 +57,7 @@ pub fn open_all<F: Feeds, D: Drains>(
     Ok(())
 }
 
-/// Opens the input's feed, where the input has a file.
+/// Opens the input's feed, if the input has a file.
 fn open_feed<F: Feeds>(file: Option<&str>, feeds: &mut F) -> Result<(), Failed>
     requires { (F.feeds feeds.old).is_open INPUT_FEED ≡ false }
     ensures open { OnOk result (is_some file.entry ≡ true → (F.feeds feeds.new).is_open INPUT_FEED
@@ -75,7 +75,7 @@ fn open_feed<F: Feeds>(file: Option<&str>, feeds: &mut F) -> Result<(), Failed>
     }
 }
 
-/// Opens the output's channel, where the output has a file.
+/// Opens the output's channel, if the output has a file.
 fn open_output<D: Drains>(file: Option<&str>, drains: &mut D) -> Result<(), Failed>
     requires { (D.channels drains.old).is_open OUTPUT_CHANNEL ≡ false }
     ensures open { OnOk result (is_some file.entry ≡ true

@@ -19,7 +19,7 @@ pub struct PlainRun {
     pub budget: u64,
 }
 
-/// The run that a job asks for, where it is built.
+/// The run that a job asks for, if it is built.
 #[tactic(auto, unfolding(crate::specs::Plain::built))]
 pub fn plain_run(job: Job) -> Option<PlainRun>
     ensures run { option_map plain_text result ≡ built (job_text job) }

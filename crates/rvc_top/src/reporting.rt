@@ -20,7 +20,7 @@ use rvc_words::UsageCause;
 /// The channel of the report.
 pub const REPORT_CHANNEL: u32 = 0;
 
-/// What a report names: the source's file, and the input's, or nothing where no word names the input's port.
+/// What a report names: the source's file, and the input's, or nothing if no word names the input's port.
 #[derive(Clone, Copy)]
 pub struct Names<'a> {
     pub top: &'a str,
@@ -165,7 +165,7 @@ fn put_refusal<D: Drains>(
     put_numbered(b" ", u64::from(refusal.place.offset), b"\n", drains)
 }
 
-/// The name of a file, where file 0 is the command line.
+/// The name of a file; file 0 is the command line.
 fn file_name<'a>(names: &Names<'a>, file: u32) -> &'a [u8]
     ensures { result.now ≡ file_name (names_text names.now) file }
 {
@@ -303,7 +303,7 @@ pub fn report_not_built<D: Drains>(drains: &mut D) -> Status
     }
 }
 
-/// Reports want of memory before the words were read.
+/// Reports that memory ran out before the words were read.
 pub fn report_memory<D: Drains>(drains: &mut D) -> Status
     requires { (D.channels drains.old).is_open REPORT_CHANNEL ≡ true }
     ensures reported { Reports Status.OutOfMemory result (D.channels drains.old)

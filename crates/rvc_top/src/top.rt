@@ -203,7 +203,7 @@ fn run_job<L: Library, F: Feeds, D: Drains>(
     }
 }
 
-/// Runs what the words ask for, where that is built: `run` of a source of the first form by one worker, all
+/// Runs what the words ask for, if that is built: `run` of a source of the first form by one worker, all
 /// instances in each round, in bursts of 64 firings; and `fmt`, which writes the canonical text of a file to channel 0.
 ///
 /// The words are read, the program's name first; then the source, which is checked against the form that is
@@ -211,27 +211,33 @@ fn run_job<L: Library, F: Feeds, D: Drains>(
 /// as words name them, the rounds go, and the report is written last. An input that no word names has no tokens, and
 /// the tokens of an output that no word names are counted and not written.
 ///
-/// - `run`: where the source, the input and the channels are told, and the answer is `Quiet` or `Budget`, the trace
+/// - `run`: if the source, the input and the channels are told, and the answer is `Quiet` or `Budget`, the trace
 ///   is the text of a run of the source's network over the input, the output is the bytes of that run, the answer
-///   is true of its end, and the report counts it. After a fault on the way, where the trace was opened, the trace
-///   and the output are those of a part of a run, or fronts of them.
-/// - `refused`: the job isn't built, or the rule is broken at its place, as far as the source is told: in the source,
-///   or by the first port word that names no port, or one that is named already.
+///   states how the run ended, and the report counts it. After a fault on the way, if the trace was opened, the trace
+///   and the output are those of a part of a run, or prefixes of them.
 /// - `formatted`: `Done` comes only of `fmt`; the file's text spells a tree, no words name ports, and channel 0 got the
 ///   canonical text of that tree alone.
-/// - `complete`: `fmt` of a file that is told to hold such a text is `Done`, unless memory lacks, a read failed or
+/// - `complete`: `fmt` of a file that is told to hold such a text is `Done`, unless memory runs out, a read failed or
 ///   the text couldn't be written.
 /// - `format_faults`, `format_report`, `format_alone` and `format_opens_no_feed`: the other answers of `fmt` are its
 ///   report; nothing is opened, and nothing but channel 0 is written.
-/// - `not_built`: a job that isn't built is refused, unless memory lacks or the report couldn't be written.
-/// - `usage`: `Usage` comes only of words that are no job, and names the first cause.
-/// - `no_job`: words that are no job are answered so, unless memory lacks or the report couldn't be written.
 /// - `planned`: `Quiet`, `Done`, `Budget`, `Refused` and `ReadFault` come only of words that are a job.
-/// - `faults`: a fault comes only where the count of faults of what it names rose in this call.
-/// - `report` and `plain_report`: where no run ended, channel 0 got exactly the report, unless that couldn't be
+/// - `report` and `plain_report`: if no run ended, channel 0 got exactly the report, unless that couldn't be
 ///   written.
 /// - `nothing_else` and `nothing_opened`: after `Done`, `Usage`, `Refused`, `OutOfMemory` and a source that can't be read,
 ///   nothing was opened, and nothing but the report was written.
+///
+/// # Errors
+///
+/// - `Usage` if the words are no job, with the first cause (`usage`). Words that are no job are answered so, unless
+///   memory runs out or the report couldn't be written (`no_job`).
+/// - `Refused` if the job isn't built, or if a rule is broken, at its place and as far as the source is told
+///   (`refused`): there is no such file, it is too long, its text breaks the rule, or a port word does: the first that
+///   names no port, or one that is named already. `fmt` knows no ports. A job that isn't built is answered so, unless
+///   memory runs out or the report couldn't be written (`not_built`).
+/// - `ReadFault` if the source or the input couldn't be read, and `WriteFault` if a channel couldn't be written: the
+///   count of faults of what it names rose in this call (`faults`).
+/// - `OutOfMemory` if memory runs out before the run begins.
 pub fn rvc<R: Threads + Sync, L: Library, F: Feeds, D: Drains, G: Gate>(
     _rt: &R,
     alloc: Global,

@@ -61,7 +61,7 @@ fn command<'a>(alloc: Global) -> Result<Command<'a>, AllocError>
 ///
 /// # Errors
 ///
-/// `Usage(Words)` if the command finds fault with the words; `Memory` if an allocation is refused.
+/// `Usage(Words)` if the command finds fault with the words; `Memory` if memory runs out.
 pub fn matches<'a>(alloc: Global, words: &'a [String]) -> Result<ArgMatches<'a>, WordFault>
     ensures accepted { IfOk result (λ _. refuses (texts words.now) ≡ false) }
     ensures matched { IfOk result (λ m. rows_of (found_of m) ≡ matches (texts words.now)) }

@@ -72,7 +72,7 @@ fn round_of(word: &str) -> Option<RoundKind>
     read_number(parts.rest, 0, MAX_SEED).map(|start| RoundKind::Seed(start))
 }
 
-/// The policy of the option, or all instances where it isn't given.
+/// The policy of the option, or all instances if it isn't given.
 pub fn round_or_all(word: Option<&str>) -> Option<RoundKind>
     ensures { result ≡ given_or All round_of (word_of word.entry) }
 {

@@ -2,19 +2,19 @@
 
 use rvc_base::RoundKind;
 
-/// The number of workers where the words name none.
+/// The number of workers if the words name none.
 pub const DEFAULT_WORKERS: u64 = 1;
 
 /// The greatest number of workers.
 pub const MAX_WORKERS: u64 = 64;
 
-/// The burst where the words name none, in firings of an instance.
+/// The burst if the words name none, in firings of an instance.
 pub const DEFAULT_BURST: u64 = 64;
 
 /// The greatest burst, in firings of an instance.
 pub const MAX_BURST: u64 = 65_536;
 
-/// The budget where the words name none, in firings.
+/// The budget if the words name none, in firings.
 pub const DEFAULT_BUDGET: u64 = 100_000_000;
 
 /// The greatest limit to which links grow, in tokens.
@@ -31,7 +31,7 @@ pub struct Job {
     pub top: String,
     /// The port words, as they stand.
     pub ports: Vec<PortWord>,
-    /// The file of the trace; empty where none is named.
+    /// The file of the trace; empty if none is named.
     pub trace: String,
     /// How many workers there are.
     pub workers: u32,
@@ -41,7 +41,7 @@ pub struct Job {
     pub burst: u32,
     /// The most firings of the run.
     pub budget: u64,
-    /// The capacity up to which links grow at a stall, in tokens; 0 where none grows.
+    /// The capacity up to which links grow at a stall, in tokens; 0 if none grows.
     pub grow: u32,
 }
 

@@ -40,7 +40,7 @@ pub fn read_number(word: &str, least: u64, most: u64) -> Option<u64>
     Some(value)
 }
 
-/// The number of an option, or the default where it isn't given.
+/// The number of an option, or the default if it isn't given.
 pub fn number_or(word: Option<&str>, default: u64, most: u64) -> Option<u64>
     requires most { default ≤ most }
     ensures value { result ≡ given_or default (number 1 most) (word_of word.entry) }

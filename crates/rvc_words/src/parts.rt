@@ -13,7 +13,7 @@ use clap::ArgMatches;
 pub struct Parts<'a, 'm> {
     pub verb: &'a str,
     pub top: &'a str,
-    /// None where there is no port word.
+    /// None if there is no port word.
     pub ports: Option<&'m [&'a str]>,
     pub trace: &'a str,
     pub workers: Option<&'a str>,

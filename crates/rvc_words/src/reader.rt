@@ -26,9 +26,9 @@ use std::alloc::{AllocError, Global};
 ///
 /// # Errors
 ///
-/// [`WordFault::Usage`] with the first cause why the words are no job: [`UsageCause::Words`] if they don't fit the
-/// command, and then, in the order of the variants, the first whose part isn't of its form. [`WordFault::Memory`] if
-/// an allocation is refused.
+/// `Usage` if the words are no job, with the first cause (`usage`): [`UsageCause::Words`] if they don't fit the
+/// command, and then, in the order of the variants, the first whose part isn't of its form. `Memory` if memory runs
+/// out.
 #[tactic(auto, unfolding(crate::specs::Words::job))]
 pub fn read_words(alloc: Global, words: &[String]) -> Result<Job, WordFault>
     ensures read { IfOk result (λ given. job (texts words.now) ≡ Ok (job_text given)) }
