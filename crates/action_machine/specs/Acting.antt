@@ -1,4 +1,5 @@
 -- What carrying out an instruction that goes to the next place comes to.
+-- Not trusted: no promise is read with it.
 use Rattle.std.specs.Prelude.{◌≡◌, ℕ, ℤ, List}
 use Rattle.code_ir.specs.declared.instr.Instr.{Instr}
 use Rattle.code_ir.specs.Effect.{Effect, Leaves, Fails, effect}

@@ -1,4 +1,5 @@
 -- What a run keeps its numbers in.
+-- Trusted: part of what a promise means.
 use Rattle.std.specs.Prelude.{◌≡◌, ℕ, ◌+◌, ◌*◌, ◌<◌, ◌≤◌, ℤ, pos, List, length, Some, slice_get}
 use Rattle.code_ir.specs.Code.{Code}
 use Rattle.code_ir.specs.Typing.{Way}

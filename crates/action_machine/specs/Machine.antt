@@ -1,4 +1,5 @@
 -- The state of the machine, and what its instructions need of it.
+-- Not trusted: no promise is read with it.
 use Rattle.std.specs.Prelude.{◌≢◌, ℕ, ◌+◌, ◌*◌, ◌≤◌, ℤ, pos, List, length, Option, None, Some}
 use Rattle.code_ir.specs.declared.instr.Instr.{Instr}
 use Rattle.code_ir.specs.declared.instr.Instr.TheVariants as op

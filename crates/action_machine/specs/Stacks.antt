@@ -1,4 +1,5 @@
 -- A stack in a list of fixed length: the elements below an index, with the top first.
+-- Not trusted: no promise is read with it.
 use Rattle.std.specs.Prelude.{ℕ, zero, suc, ℤ, pos, List, [], ◌∷◌, slice_index_or}
 
 abbrev pub top_first : {X : Type 0} → X → ℕ → List X → List X

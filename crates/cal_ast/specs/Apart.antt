@@ -1,4 +1,5 @@
 -- Trees that are equal, offsets aside.
+-- Trusted: part of what a promise means.
 use Rattle.std.specs.Prelude.{◌≡◌}
 use Rattle.cal_ast.specs.Tree.{Tree, absent, present, nil, cons, ident, tag, import_part, file, actor, unit, param, port, var, function, procedure, action, pattern, output, schedule, move, priority, type_of, shape_arg, value_arg, assign, call_stmt, if_stmt, while_stmt, foreach_stmt, block, number, truth, variable, call, paren, if_expr, list, comp, gen, index, prefix, binary}
 

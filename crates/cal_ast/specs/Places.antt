@@ -1,4 +1,5 @@
 -- Where the parts of a tree begin.
+-- Trusted: part of what a promise means.
 use Rattle.std.specs.Prelude.{ℕ}
 use Rattle.cal_ast.specs.Tree.{Tree, absent, present, nil, cons, ident, tag, import_part, file, actor, unit, param, port, var, function, procedure, action, pattern, output, schedule, move, priority, type_of, assign, call_stmt, if_stmt, while_stmt, foreach_stmt, block, number, truth, variable, call, paren, if_expr, list, comp, gen, index, prefix, binary}
 

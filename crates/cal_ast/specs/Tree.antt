@@ -2,6 +2,7 @@
 --
 -- One type serves for all parts. `at` is the offset of the part's first byte. A list of parts is made of `nil` and
 -- `cons`, and a part that may be missing is `absent` or `present`.
+-- Trusted: part of what a promise means.
 use Rattle.std.specs.Prelude.{ℕ, Bool, List, [], ◌∷◌}
 use Rattle.cal_ast.specs.declared.expr.PrefixOp.{PrefixOp}
 use Rattle.cal_ast.specs.declared.expr.BinOp.{BinOp}

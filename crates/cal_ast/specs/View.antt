@@ -1,4 +1,5 @@
 -- The plain tree that each declared type stands for. Two values are equal trees where their plain trees are equal.
+-- Trusted: part of what a promise means.
 use Rattle.std.specs.Prelude.{ℕ, List, map, Option, Some, None, option_map, string_bytes, Vec}
 use Rattle.std.specs.declared.alloc.Global.{Global}
 use Rattle.cal_ast.specs.Tree.{Tree, absent, present, listed, ident, tag, import_part, file, actor, unit, param, port, var, function, procedure, action, pattern, output, schedule, move, priority, type_of, shape_arg, value_arg, assign, call_stmt, if_stmt, while_stmt, foreach_stmt, block, number, truth, variable, call, paren, if_expr, list, comp, gen, index, prefix, binary}

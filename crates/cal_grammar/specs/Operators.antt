@@ -1,4 +1,5 @@
 -- Operators, ends, and what a tree drops.
+-- Trusted: part of what a promise means.
 use Rattle.std.specs.Prelude.{ℕ, suc, max, Bool, true, false, ◌||◌}
 use Rattle.cal_ast.specs.Places.{begins}
 use Rattle.cal_ast.specs.declared.expr.PrefixOp.{PrefixOp}

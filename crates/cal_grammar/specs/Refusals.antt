@@ -1,4 +1,5 @@
 -- What is promised of the reading of a file.
+-- Trusted: part of what a promise means.
 use Rattle.std.specs.Prelude.{◌≡◌, ℕ, List, [], ◌∷◌}
 use Rattle.rvc_base.specs.Rules.{spells_no_file, too_high}
 use Rattle.rvc_base.specs.declared.refusal.Rule.{Rule}

@@ -1,4 +1,5 @@
 -- The rules of the parser: each part of the grammar as a program that looks one token ahead.
+-- Not trusted: no promise is read with it.
 use Rattle.std.specs.Prelude.{ℕ, zero, suc, ◌+◌, ◌*◌, Bool, true, false, List, Option, length, nat_eq, ◌||◌, None, Some}
 use Rattle.look_ahead.specs.Program.{Program, Outcome, give, fail, ask, take, check, jump, invoke, enter, read as read_rules}
 use Rattle.cal_ast.specs.Tree.{Tree, absent, present, nil, cons, ident, tag, import_part, file, actor, unit, param, port, var, function, procedure, action, pattern, output, schedule, move, priority, type_of, shape_arg, value_arg, assign, call_stmt, if_stmt, while_stmt, foreach_stmt, block, number, truth, variable, call, if_expr, list, comp, gen, index, prefix, binary}

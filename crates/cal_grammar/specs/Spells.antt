@@ -2,6 +2,7 @@
 --
 -- `Spells part before after tree`: the tokens of `before` up to those of `after` spell the tree as this part. `any`,
 -- `repeated` and `separated` are the grammar's brackets; `ends v w` says that w is `end` or the long end of v.
+-- Trusted: part of what a promise means.
 use Rattle.std.specs.Prelude.{◌≡◌, ℕ, suc, Bool, true, false, List, [], ◌∷◌}
 use Rattle.cal_ast.specs.Tree.{Tree, absent, present, nil, cons, ident, tag, import_part, file, actor, unit, param, port, var, function, procedure, action, pattern, output, schedule, move, priority, type_of, shape_arg, value_arg, assign, call_stmt, if_stmt, while_stmt, foreach_stmt, block, number, truth, variable, call, if_expr, list, comp, gen, index, prefix, binary}
 use Rattle.cal_lexer.specs.Lexeme.{Lexeme, Placed, placed}

@@ -1,4 +1,5 @@
 -- Questions on what stands at the front of a list of tokens.
+-- Trusted for `offset` and `same_word` alone: part of what a promise means.
 use Rattle.std.specs.Prelude.{ℕ, List, [], Bool, true, false, ◌&&◌, Option, None, Some, nat_eq, nat_lt}
 use Rattle.cal_lexer.specs.Lexeme.{Lexeme, Placed, placed}
 use Rattle.cal_lexer.specs.Words.{word_number}

@@ -1,4 +1,5 @@
 -- The plain tokens: what a token is, without memory, and where it stands.
+-- Trusted: part of what a promise means.
 use Rattle.std.specs.Prelude.{ℕ, List, string_bytes, map}
 use Rattle.cal_lexer.specs.declared.token.Token.{Token}
 use Rattle.cal_lexer.specs.declared.token.TokenKind.{TokenKind}

@@ -1,4 +1,5 @@
 -- Which tokens a text has, and which fault it has first.
+-- Trusted: part of what a promise means.
 use Rattle.std.specs.Prelude.{◌≡◌, ℕ, ◌+◌, List, [], ◌∷◌, take, drop, Some, None}
 use Rattle.rvc_base.specs.declared.refusal.Rule.{Rule}
 use Rattle.rvc_base.specs.declared.refusal.Front.{Front as Answer}

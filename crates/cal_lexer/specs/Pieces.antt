@@ -1,4 +1,5 @@
 -- What one step of reading finds.
+-- Not trusted: no promise is read with it.
 use Rattle.std.specs.Prelude.{◌≡◌, ℕ, ◌^◌, ◌<◌, ◌≤◌, List, take, drop, length, Bool, true, false, Some, None, slice_index}
 use Rattle.std.specs.List.{list_all}
 use Rattle.cal_lexer.specs.Lexeme.{Lexeme, Number, lexeme}

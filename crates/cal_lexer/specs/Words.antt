@@ -1,4 +1,5 @@
 -- The reserved words and symbols: the text of each, beside its name.
+-- Trusted: part of what a promise means.
 use Rattle.std.specs.Prelude.{ℕ, List, [], ◌∷◌, codes, decimal}
 use Rattle.cal_lexer.specs.Lexeme.{Lexeme}
 use Rattle.cal_lexer.specs.declared.word.Word.{Word}

@@ -1,5 +1,6 @@
 -- An actor as its meaning sees it: what a `Bound` says, without where it lies in memory. Expressions and statements
 -- stay as they are written.
+-- Trusted: part of what a promise means.
 use Rattle.std.specs.Prelude.{ℕ, Bool, List, Option}
 use Rattle.rvc_base.specs.declared.scalar.Scalar.{Scalar}
 use Rattle.cal_ast.specs.Tree.{Tree}

@@ -1,5 +1,6 @@
 -- The states that an actor can be in, and the tokens that its ports take (CAL Language Report, the state of an actor
 -- and its ports). Each is said in words, and as a test or a change that a behaviour can make.
+-- Trusted: part of what a promise means.
 use Rattle.std.specs.Prelude.{◌≡◌, ℕ, Bool, true, false, ◌&&◌, ◌||◌, List, [], ◌∷◌, map, nat_lt, ◌==◌, ℤ, pos, ◌+ℤ◌, ◌-◌, ◌^◌, int_lt, int_le, if◌then◌else◌, Option, None, Some}
 use Rattle.std.specs.Str.{bytes_eq}
 use Rattle.rvc_base.specs.declared.scalar.Scalar.{Scalar}

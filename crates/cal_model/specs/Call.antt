@@ -1,4 +1,5 @@
 -- Calls of functions and procedures (ISO/IEC 23001-4, RVC-CAL: functions and procedures).
+-- Trusted: part of what a promise means.
 use Rattle.std.specs.Prelude.{ℕ, zero, suc, List, [], ◌∷◌, ◌++◌, length, if◌then◌else◌, Option, None, Some, option_map}
 use Rattle.std.specs.Str.{bytes_eq}
 use Rattle.cal_ast.specs.Tree.{Tree}

@@ -1,5 +1,6 @@
 -- Eligibility: which actions the schedule lets fire in a state, and where they lead (CAL Language Report,
 -- action schedules).
+-- Trusted: part of what a promise means.
 use Rattle.std.specs.Prelude.{◌≡◌, ℕ, max, ◌<◌, ◌⊎◌, Bool, true, false, ◌||◌, ◌&&◌, List, [], ◌∷◌, length, ◌==◌, if◌then◌else◌, Option, None, Some, is_some, slice_get}
 use Rattle.cal_model.specs.Actor.{Action, Move, Actor}
 

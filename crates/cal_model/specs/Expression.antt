@@ -1,6 +1,7 @@
 -- Evaluation: what an expression gives (ISO/IEC 23001-4, RVC-CAL: expressions; CAL Language Report, expressions).
 --
 -- From left to right, one case a form. Each step is told how many turns are left, and says how many it leaves.
+-- Trusted: part of what a promise means.
 use Rattle.std.specs.Prelude.{ℕ, zero, suc, Bool, true, false, not, ◌&&◌, ◌||◌, nat_le, List, codes, ℤ, pos, ◌+ℤ◌, ◌-ℤ◌, int_lt, unsigned_abs, if◌then◌else◌, Option, None, Some}
 use Rattle.std.specs.Str.{bytes_eq}
 use Rattle.rvc_base.specs.declared.scalar.Scalar.TheVariants as scalar

@@ -1,4 +1,5 @@
 -- The firing rule: what an action makes of a state and its tokens (CAL Language Report, the execution of an actor).
+-- Trusted: part of what a promise means.
 use Rattle.std.specs.Prelude.{◌≡◌, ℕ, zero, suc, ◌⊎◌, List, [], ◌∷◌, ◌++◌, map, length, ◌==◌, ℤ, pos, if◌then◌else◌, Option, None, Some, slice_get}
 use Rattle.std.specs.List.{range_with_len}
 use Rattle.rvc_base.specs.declared.trap.Trap.{Trap}

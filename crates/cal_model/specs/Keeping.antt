@@ -1,5 +1,6 @@
 -- What it means that values keep to the kinds of their names: environments that are of names, functions that are of
 -- their kinds, and outcomes that give such values alone.
+-- Trusted: part of what a promise means.
 use Rattle.std.specs.Prelude.{◌≡◌, ℕ, ◌≤◌, List, [], ◌∷◌, ◌++◌, Option, None, Some}
 use Rattle.rvc_base.specs.Storing.{IsSize}
 use Rattle.cal_ast.specs.Tree.{Tree}

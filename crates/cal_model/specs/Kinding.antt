@@ -3,6 +3,7 @@
 --
 -- Parts come before wholes, and from left to right: where an expression has no kind, the first rule that it breaks is
 -- named with its place.
+-- Trusted: part of what a promise means.
 use Rattle.std.specs.Prelude.{ℕ, zero, suc, ◌*◌, Bool, true, false, not, ◌&&◌, ◌||◌, ◌==◌, nat_le, List, [], ◌∷◌, ◌++◌, length, codes, ℤ, pos, negsuc, if◌then◌else◌, Option, None, Some}
 use Rattle.std.specs.Str.{bytes_eq}
 use Rattle.rvc_base.specs.declared.scalar.Scalar.{Scalar}

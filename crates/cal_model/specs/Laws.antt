@@ -1,4 +1,5 @@
 -- What holds of all values, expressions and actors, as statements.
+-- Trusted: part of what a promise means.
 use Rattle.std.specs.Prelude.{◌≡◌, ℕ, ◌+◌, ◌<◌, ◌↔◌, ◌⊎◌, Contains, slice_get, true, false, List, [], length, ℤ, pos, ◌+ℤ◌, int_lt, if◌then◌else◌, None, Some}
 use Rattle.rvc_base.specs.declared.trap.Trap.{Trap}
 use Rattle.rvc_base.specs.declared.trap.Trap.TheVariants.{TurnLimit}

@@ -1,4 +1,5 @@
 -- What evaluation and execution come to.
+-- Trusted: part of what a promise means.
 use Rattle.std.specs.Prelude.{ℕ, zero, suc, Option, None, Some}
 use Rattle.rvc_base.specs.declared.trap.Trap.{Trap}
 use Rattle.rvc_base.specs.declared.trap.Trap.TheVariants.{TurnLimit}

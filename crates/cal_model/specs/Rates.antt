@@ -1,5 +1,6 @@
 -- Rates: how many tokens an action takes from a port, and gives on one (CAL Language Report, input patterns and
 -- output expressions).
+-- Trusted: part of what a promise means.
 use Rattle.std.specs.Prelude.{ℕ, suc, ◌*◌, List, [], ◌∷◌, length, ◌==◌, if◌then◌else◌, Option, None, Some, slice_get}
 use Rattle.cal_ast.specs.Tree.{Tree, cons}
 use Rattle.cal_model.specs.Actor.{Pattern, Output, Actor}

@@ -1,4 +1,5 @@
 -- Selection: which action is to fire (CAL Language Report, guards, priorities and the choice of an action).
+-- Trusted: part of what a promise means.
 use Rattle.std.specs.Prelude.{◌≡◌, ℕ, zero, suc, ◌+◌, ◌<◌, Bool, true, false, not, ◌&&◌, ◌||◌, ◌↔◌, IsTrue, List, [], ◌∷◌, ◌++◌, map, length, nat_le, ℤ, pos, if◌then◌else◌, Option, None, Some, slice_get, slice_index_or}
 use Rattle.std.specs.List.{range_with_len}
 use Rattle.rvc_base.specs.declared.scalar.Scalar.{Scalar}

@@ -1,5 +1,6 @@
 -- Execution: what a statement makes of an environment (ISO/IEC 23001-4, RVC-CAL: statements; CAL Language Report,
 -- statements).
+-- Trusted: part of what a promise means.
 use Rattle.std.specs.Prelude.{ℕ, zero, suc, false, List, [], ◌∷◌, length, if◌then◌else◌, ℤ, pos, ◌+ℤ◌, Option, None, Some}
 use Rattle.std.specs.Str.{bytes_eq}
 use Rattle.cal_ast.specs.Tree as tree

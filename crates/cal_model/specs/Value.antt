@@ -1,5 +1,6 @@
 -- Values, the types that they are stored in, and their kinds (ISO/IEC 23001-4, RVC-CAL: types; CAL Language Report,
 -- data types).
+-- Trusted: part of what a promise means.
 use Rattle.std.specs.Prelude.{◌≡◌, ℕ, zero, suc, ◌*◌, ◌≤◌, Bool, ℤ, pos, Option, None, Some}
 use Rattle.rvc_base.specs.declared.scalar.Scalar.{Scalar}
 use Rattle.rvc_base.specs.declared.scalar.Scalar.TheVariants as scalar

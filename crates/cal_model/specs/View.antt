@@ -1,4 +1,5 @@
 -- What the declared types stand for, without where they lie in memory.
+-- Trusted but for `values_view`: part of what a promise means.
 use Rattle.std.specs.Prelude.{List, [], ◌∷◌, map, option_map, string_bytes}
 use Rattle.cal_ast.specs.Tree.{listed}
 use Rattle.cal_ast.specs.View.{expr_tree, stmt_tree}

@@ -1,4 +1,5 @@
 -- The answer where a file isn't read.
+-- Not trusted: no promise is read with it.
 use Rattle.std.specs.Prelude.{ℕ}
 use Rattle.rvc_base.specs.Rules.{spells_no_file, too_high}
 use Rattle.rvc_base.specs.declared.refusal.Front.{Front as Answer}

@@ -1,4 +1,5 @@
 -- What the code's answers say of pieces of the rules.
+-- Not trusted: no promise is read with it.
 use Rattle.std.specs.Prelude.{◌≡◌, ℕ, Bool, true, false, List, map, option_map, string_bytes, Result, Ok, Err}
 use Rattle.look_ahead.specs.Program.{Gave, exec, invoke, give}
 use Rattle.cal_ast.specs.Tree.{Tree, absent, present, cons, tag, listed}

@@ -1,4 +1,5 @@
 -- Where the parser stands: the tokens that are left, as plain ones.
+-- Not trusted: no promise is read with it.
 use Rattle.std.specs.Prelude.{◌≡◌, ℕ, List, ◌∷◌, Bool, true, false, Result, Ok, Err, string_bytes}
 use Rattle.cal_ast.specs.declared.ident.Ident.{Ident}
 use Rattle.cal_parser.specs.declared.fault.Fault.{Fault}

@@ -1,4 +1,5 @@
 -- Parts of files: what follows the first name of an import, and what follows the imports.
+-- Not trusted: no promise is read with it.
 use Rattle.std.specs.Prelude.{◌≡◌, ℕ, List, [], ◌∷◌, map, option_map, cond}
 use Rattle.look_ahead.specs.Program.{Outcome, Gave, Refused, TooHigh, Spent}
 use Rattle.cal_ast.specs.Tree.{Tree, import_part, listed}

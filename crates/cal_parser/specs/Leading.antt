@@ -1,4 +1,5 @@
 -- What takes the tokens that stand before a part, an operand or a pair.
+-- Not trusted: no promise is read with it.
 use Rattle.std.specs.Prelude.{◌≡◌, ◌<◌, ◌≤◌, ℕ, suc, true, false, List, [], ◌∷◌, Result, Ok, Err, string_bytes, Vec}
 use Rattle.std.specs.declared.alloc.Global.{Global}
 use Rattle.cal_ast.specs.declared.expr.BinOp.{BinOp}

@@ -1,4 +1,5 @@
 -- Pieces of the rules that functions of their own read: the rest of a rule, or its front.
+-- Not trusted: no promise is read with it.
 use Rattle.std.specs.Prelude.{◌≡◌, ℕ, List, Result, Ok, Err}
 use Rattle.look_ahead.specs.Program.{Gave, exec, give, invoke, enter}
 use Rattle.cal_ast.specs.Tree.{Tree, nil, present, assign, call_stmt}

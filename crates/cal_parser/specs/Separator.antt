@@ -1,4 +1,5 @@
 -- What stands between the parts of a list, as the code has it.
+-- Not trusted: no promise is read with it.
 use Rattle.cal_parser.specs.declared.names.Separator.{Separator}
 use Rattle.cal_parser.specs.declared.names.Separator.TheVariants as separators
 use Rattle.cal_grammar.specs.Spells.{Mark, comma, dot, greater}

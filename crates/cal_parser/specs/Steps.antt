@@ -1,4 +1,5 @@
 -- Steps within the rules of expressions and types, and what the code's answers say of them.
+-- Not trusted: no promise is read with it.
 use Rattle.std.specs.Prelude.{◌≡◌, ℕ, zero, suc, Bool, true, false, List, map, Result, Ok, Err}
 use Rattle.look_ahead.specs.Program.{Outcome, Gave, give, fail, ask, take, check, after, exec}
 use Rattle.cal_ast.specs.Tree.{Tree, number, truth, call, if_expr, list, comp, index, prefix, binary, type_of, ident, listed}

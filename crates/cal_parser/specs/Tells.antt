@@ -1,4 +1,5 @@
 -- What the code's answers say of the rules: it does what the rule reads, and stands where the rule's outcome says.
+-- Not trusted: no promise is read with it.
 use Rattle.std.specs.Prelude.{◌≡◌, ℕ, List, [], ◌∷◌, map, Result, Ok, Err, Vec}
 use Rattle.std.specs.declared.alloc.Global.{Global}
 use Rattle.look_ahead.specs.Program.{Outcome, Gave, Refused, TooHigh, Spent}

@@ -1,6 +1,7 @@
 -- The canonical text of a tree (this profile's): its tokens in order, each end written `end`, each operator by its
 -- first spelling, and no pair of parentheses but those that the tree holds and those round an operand that is itself
 -- an operation or an `if`.
+-- Trusted: part of what a promise means.
 use Rattle.std.specs.Prelude.{ℕ, Bool, true, false, List, [], ◌∷◌, ◌++◌, if◌then◌else◌}
 use Rattle.cal_ast.specs.declared.expr.PrefixOp.{PrefixOp}
 use Rattle.cal_ast.specs.declared.expr.PrefixOp.TheVariants as prefixes

@@ -1,4 +1,5 @@
 -- What stands before the `==>` of an action.
+-- Not trusted: no promise is read with it.
 use Rattle.std.specs.Prelude.{Bool, true, false, List, [], ◌∷◌}
 use Rattle.cal_ast.specs.Tree.{Tree}
 use Rattle.cal_lexer.specs.Lexeme.{Lexeme}

@@ -1,4 +1,5 @@
 -- The tokens that a text can have.
+-- Not trusted: no promise is read with it.
 use Rattle.std.specs.Prelude.{◌≡◌, ◌^◌, ◌<◌, ◌≤◌, List, [], ◌∷◌, true, length, map}
 use Rattle.cal_lexer.specs.Lexeme.{Lexeme, Placed}
 use Rattle.cal_lexer.specs.Lexis.{is_name, max_name}

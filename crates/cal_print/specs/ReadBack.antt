@@ -1,4 +1,5 @@
 -- Canonical text that is read back.
+-- Trusted: part of what a promise means.
 use Rattle.std.specs.Prelude.{◌≡◌, List}
 use Rattle.cal_ast.specs.Apart.{IsEqualApart}
 use Rattle.cal_ast.specs.Tree.{Tree}

@@ -1,4 +1,5 @@
 -- The text of tokens: their spellings, and what stands behind each.
+-- Trusted: part of what a promise means.
 use Rattle.std.specs.Prelude.{ℕ, List, [], ◌∷◌, ◌++◌}
 use Rattle.cal_lexer.specs.Lexeme.{Lexeme}
 use Rattle.cal_lexer.specs.Words.{spelling}

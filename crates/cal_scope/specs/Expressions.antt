@@ -3,6 +3,7 @@
 --
 -- Parts come before wholes, and from left to right; a comprehension's generators come before its item, since it sees
 -- them all. A rule is named with the place at which it is broken.
+-- Not trusted: no promise is read with it.
 use Rattle.std.specs.Prelude.{ℕ, List, [], ◌∷◌, if◌then◌else◌}
 use Rattle.rvc_base.specs.Rules.{unknown_name}
 use Rattle.cal_ast.specs.Tree as tree

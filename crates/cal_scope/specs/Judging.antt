@@ -1,4 +1,5 @@
 -- What a call that judges answers, beside the judgement.
+-- Trusted but for `Violation` and `violations`: part of what a promise means.
 use Rattle.std.specs.Prelude.{◌≡◌, List, [], ◌∷◌, ℕ}
 use Rattle.std.specs.declared.result.Result.{Result}
 use Rattle.std.specs.declared.result.Result.TheVariants.{Ok, Err}

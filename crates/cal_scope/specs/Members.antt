@@ -1,5 +1,6 @@
 -- Members with each name written out in full, or the first rule of scope that they break (ISO/IEC 23001-4, RVC-CAL:
 -- functions, procedures and actions; CAL Language Report, scoping).
+-- Not trusted: no promise is read with it.
 use Rattle.std.specs.Prelude.{ℕ, List, [], ◌∷◌, if◌then◌else◌}
 use Rattle.rvc_base.specs.Rules.{unknown_name, declared_twice, not_as_asked}
 use Rattle.cal_ast.specs.Tree as tree

@@ -2,6 +2,7 @@
 --
 -- Names that are declared inside hide those outside. Inside a file's own declarations only variables are declared:
 -- formals, locals, pattern variables, and the variables of loops and generators.
+-- Trusted: part of what a promise means.
 use Rattle.std.specs.Prelude.{ℕ, Bool, true, false, ◌||◌, List, [], ◌∷◌, ◌++◌, Option, None, Some, if◌then◌else◌}
 use Rattle.std.specs.Str.{bytes_eq}
 use Rattle.rvc_base.specs.Rules.{unknown_name, not_as_asked}

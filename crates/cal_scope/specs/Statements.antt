@@ -1,5 +1,6 @@
 -- Variables and statements with each name written out in full, or the first rule of scope that they break (ISO/IEC
 -- 23001-4, RVC-CAL: statements; CAL Language Report, scoping).
+-- Not trusted: no promise is read with it.
 use Rattle.std.specs.Prelude.{ℕ, List, [], ◌∷◌, if◌then◌else◌}
 use Rattle.rvc_base.specs.Rules.{unknown_name, declared_twice}
 use Rattle.cal_ast.specs.Tree as tree

@@ -1,4 +1,5 @@
 -- What is seen, without where it lies in memory.
+-- Trusted but for `meaning_of`: part of what a promise means.
 use Rattle.std.specs.Prelude.{ℕ, List, [], ◌∷◌, ◌++◌, map, Option, None, Some, string_bytes}
 use Rattle.std.specs.Borrow.{Bor}
 use Rattle.std.specs.Prelude.{String}

@@ -1,4 +1,5 @@
 -- What a channel holds once a text was written to it, of which a part may be held back.
+-- Trusted: part of what a promise means.
 use Rattle.std.specs.Prelude.{◌≡◌, ℕ, true, List, ◌++◌}
 use Rattle.rvc_io.specs.Channels.{Channels}
 

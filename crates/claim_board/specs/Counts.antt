@@ -1,4 +1,5 @@
 -- How often a number stands in lists, and sums over what several passes know.
+-- Trusted but for `past`: part of what a promise means.
 use Rattle.std.specs.Prelude.{ℕ, ◌+◌, List, [], ◌∷◌, ◌==◌, if◌then◌else◌, nat_lt}
 
 abbrev pub total : {A : Type 0} → (A → ℕ) → List A → ℕ

@@ -1,4 +1,5 @@
 -- The slots of a table with these pieces.
+-- Not trusted: no promise is read with it.
 use Rattle.std.specs.Prelude.{◌≡◌, List, [], ◌∷◌, ◌++◌, map, length}
 use Rattle.claim_board.specs.declared.slot.Slot.{Slot}
 use Rattle.claim_board.specs.declared.slot.Slot.TheVariants.{Empty, Holds, Room}

@@ -1,4 +1,5 @@
 -- Pieces of work on a board: as they were put, and worked.
+-- Trusted: part of what a promise means.
 use Rattle.std.specs.Prelude.{◌≡◌, ℕ, List, Bool, true, false, Some, slice_get, map}
 
 module _ {P X : Type 0} (state : P → X) where

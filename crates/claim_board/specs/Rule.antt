@@ -1,4 +1,5 @@
 -- The rule of the board, over its counter, its slots at home and what each pass knows.
+-- Not trusted: no promise is read with it.
 use Rattle.std.specs.Prelude.{◌≡◌, ℕ, ◌+◌, ◌<◌, ◌≤◌, List, [], ◌∷◌, length, Bool, Some, slice_get, vec_capacity}
 use mathlib.Core.Option.{some, none}
 use mathlib.Core.Option as maybe

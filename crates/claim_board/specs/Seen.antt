@@ -1,4 +1,5 @@
 -- A board and its passes, as contracts see them.
+-- Trusted but for `board_at`, `Gathered` and `IsSeatOf`: part of what a promise means.
 use Rattle.std.specs.Prelude.{◌≡◌, ℕ, ◌<◌, ◌≤◌, List, [], ◌∷◌, ◌++◌, length, Bool, true, false, Option, Some, None, slice_get}
 use Rattle.std.specs.List.{Any}
 use Rattle.atomic_table.specs.Seated.{TableId}

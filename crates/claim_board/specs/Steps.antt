@@ -1,4 +1,5 @@
 -- What each kind of step makes of a view, and what it tells.
+-- Trusted for `Seated` and `places_of` alone: part of what a promise means.
 use Rattle.std.specs.Prelude.{◌≡◌, ℕ, ◌+◌, ◌-◌, ◌<◌, ◌≤◌, List, [], ◌∷◌, ◌++◌, length, Some, slice_get}
 use Rattle.atomic_table.specs.Table.{Me, Step, rest}
 use Rattle.claim_board.specs.declared.slot.Slot.{Slot}

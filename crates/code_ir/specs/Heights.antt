@@ -1,4 +1,5 @@
 -- Heights found so far: a mark for each place that some way was seen to lead to.
+-- Not trusted: no promise is read with it.
 use Rattle.std.specs.Prelude.{◌≡◌, ◌≢◌, ℕ, suc, ◌+◌, ◌-◌, ◌*◌, ◌≤◌, ◌⊎◌, true, List, [], ◌∷◌, length, Option, None, Some, slice_get}
 use Rattle.code_ir.specs.declared.instr.Instr.{Instr}
 use Rattle.code_ir.specs.Code.{Code, begins, is_among}

@@ -1,4 +1,5 @@
 -- What marking a place comes to.
+-- Not trusted: no promise is read with it.
 use Rattle.code_ir.specs.declared.heights.Marked.{Marked}
 use Rattle.code_ir.specs.declared.heights.Marked.TheVariants.{Done, Conflict, Memory}
 use Rattle.code_ir.specs.declared.heights.Passed.{Passed}

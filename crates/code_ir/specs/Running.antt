@@ -1,4 +1,5 @@
 -- Running code: one step, and how a run ends.
+-- Trusted: part of what a promise means.
 use Rattle.std.specs.Prelude.{◌≡◌, ◌≢◌, ℕ, zero, suc, ◌+◌, ℤ, if◌then◌else◌, List, [], ◌∷◌, None, Some, slice_get}
 use Rattle.rvc_base.specs.declared.trap.Trap.TheVariants.{TurnLimit}
 use Rattle.rvc_base.specs.Arithmetic.{is_true}

@@ -1,4 +1,5 @@
 -- The states that runs of admitted code come by, and how far each is from its end at most.
+-- Trusted: part of what a promise means.
 use Rattle.std.specs.Prelude.{◌≡◌, ℕ, suc, ◌+◌, ◌-◌, ◌*◌, ◌^◌, ◌<◌, ◌≤◌, List, [], ◌∷◌, length, Option, None, Some, slice_get}
 use Rattle.code_ir.specs.declared.instr.Instr.{Instr}
 use Rattle.code_ir.specs.declared.instr.Instr.TheVariants.{Turn}

@@ -1,4 +1,5 @@
 -- Tables that hold a value for each place.
+-- Not trusted: no promise is read with it.
 use Rattle.std.specs.Prelude.{◌≡◌, ◌<◌, ℕ, List, length, Some, slice_get}
 
 -- the list has n elements, which are what the function gives at their places

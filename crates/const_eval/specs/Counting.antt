@@ -1,4 +1,5 @@
 -- The variables of the generators that stand round an expression: numbers without a value, which hide constants.
+-- Not trusted: no promise is read with it.
 use Rattle.std.specs.Prelude.{ℕ, Bool, false, ◌||◌, List, [], ◌∷◌, map, Option, None, Some}
 use Rattle.std.specs.Borrow.{Bor}
 use Rattle.std.specs.Str.{bytes_eq}

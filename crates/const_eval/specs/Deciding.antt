@@ -1,4 +1,5 @@
 -- Operations that their left side decides.
+-- Not trusted: no promise is read with it.
 use Rattle.std.specs.Prelude.{Bool, false, not}
 use Rattle.cal_ast.specs.declared.expr.BinOp.{BinOp}
 use Rattle.cal_ast.specs.declared.expr.BinOp.TheVariants.{Or, And}

@@ -1,4 +1,5 @@
 -- What a constant expression gives, and which expressions may be evaluated over constants.
+-- Trusted: part of what a promise means.
 use Rattle.std.specs.Prelude.{◌≡◌, List, [], ◌++◌, map}
 use Rattle.rvc_base.specs.Turns.{max_turns}
 use Rattle.cal_ast.specs.Tree.{Tree}

@@ -1,4 +1,5 @@
 -- Lists whose items are of one kind, and counts up to one more than the limit.
+-- Not trusted: no promise is read with it.
 use Rattle.std.specs.Prelude.{ℕ, suc, ◌&&◌, List, Option, None, Some, nat_le, if◌then◌else◌}
 use Rattle.cal_model.specs.Actor.{Local}
 use Rattle.cal_model.specs.Value.{Kind, kind_of_type, max_list_scalars}

@@ -1,4 +1,5 @@
 -- What an environment of constant expressions holds, without where it lies in memory.
+-- Trusted: part of what a promise means.
 use Rattle.std.specs.Prelude.{List, map, string_bytes}
 use Rattle.cal_model.specs.View.{fun_view, value_view}
 use Rattle.cal_model.specs.declared.bound.BoundFun.{BoundFun}

@@ -1,4 +1,5 @@
 -- Whether 32 bits count the items of lists, so that a kind can say how long they are.
+-- Trusted: part of what a promise means.
 use Rattle.std.specs.Prelude.{ℕ, suc, Bool, true, ◌&&◌, nat_le, List, [], ◌∷◌}
 use Rattle.cal_model.specs.Value.{Value, Num, Truth, Items, Nil, Cons, count}
 use Rattle.const_eval.specs.Constants.{Constant}

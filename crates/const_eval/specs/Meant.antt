@@ -1,4 +1,5 @@
 -- Types, as what a number is stored in.
+-- Not trusted: no promise is read with it.
 use Rattle.std.specs.Prelude.{ℕ, Bool, true, false, List, ℤ, Option, None, Some, string_bytes, codes, if◌then◌else◌, ◌&&◌, nat_le}
 use Rattle.std.specs.Str.{bytes_eq}
 use Rattle.rvc_base.specs.Width.{default_size, max_size}

@@ -1,4 +1,5 @@
 -- What an expression sees while it is evaluated, without where it lies in memory.
+-- Not trusted: no promise is read with it.
 use Rattle.std.specs.Prelude.{ℕ, false, List, [], ◌∷◌, ◌++◌, map, Option, None, Some, string_bytes}
 use Rattle.std.specs.Borrow.{Bor}
 use Rattle.rvc_base.specs.declared.scalar.Scalar.TheVariants as scalar

@@ -1,4 +1,5 @@
 -- Arguments of types, one by one.
+-- Not trusted: no promise is read with it.
 use Rattle.std.specs.Prelude.{ℕ, ◌&&◌, List, [], ◌∷◌, ℤ, pos, negsuc, codes, nat_le, if◌then◌else◌, string_bytes}
 use Rattle.std.specs.Str.{bytes_eq}
 use Rattle.rvc_base.specs.Width.{default_size, max_size}

@@ -1,4 +1,5 @@
 -- Whether the sizes of types are ones that types may have.
+-- Trusted: part of what a promise means.
 use Rattle.std.specs.Prelude.{Bool, true, ◌&&◌, nat_le, List, [], ◌∷◌}
 use Rattle.rvc_base.specs.declared.scalar.Scalar.{Scalar}
 use Rattle.rvc_base.specs.declared.scalar.Scalar.TheVariants as scalar

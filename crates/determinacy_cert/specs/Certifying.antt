@@ -1,4 +1,5 @@
--- What the certification rule gives, as statements (Kahn 1974, for each firing). Trusted: part of what the promises mean.
+-- What the certification rule gives, as statements (Kahn 1974, for each firing).
+-- Trusted: part of what a promise means.
 use Rattle.std.specs.Prelude.{◌≡◌, ◌↔◌, ℕ, [], Some, slice_get}
 use Rattle.rvc_base.specs.Behaviour.{Behaviour}
 use Rattle.net_model.specs.Network.{Leaf, Network}

@@ -1,4 +1,5 @@
 -- The parts of the certification rule as tests, each of which can be computed.
+-- Trusted: part of what a promise means.
 use Rattle.std.specs.Prelude.{ℕ, suc, Bool, true, false, not, ◌&&◌, ◌||◌, List, [], ◌∷◌, length, ℤ, pos, ◌+ℤ◌, int_le, int_lt, nat_le, if◌then◌else◌, Option, None, Some, is_some, ◌==◌}
 use Rattle.std.specs.Str.{bytes_eq}
 use Rattle.std.specs.Ordering.{int_eq}

@@ -1,4 +1,5 @@
--- Determinacy of networks of stable actors (Kahn 1974), as statements. Trusted: part of what the promises mean.
+-- Determinacy of networks of stable actors (Kahn 1974), as statements.
+-- Trusted: part of what a promise means.
 use Rattle.std.specs.Prelude.{◌≡◌, ℕ, ◌<◌, ◌≤◌, ◌==◌, true, List, [], ◌∷◌, length, if◌then◌else◌, Some}
 use Rattle.net_model.specs.Network.{Network}
 use Rattle.net_model.specs.State.{State, start_of}

@@ -1,4 +1,5 @@
 -- The code of each form of an expression. It stands at a place of the code, since jumps name places.
+-- Not trusted: no promise is read with it.
 use Rattle.std.specs.Prelude.{◌≡◌, ℕ, ◌+◌, Bool, pos, neg_ℤ, true, false, List, [], ◌∷◌, ◌++◌, length, map, Option, None, Some}
 use Rattle.rvc_base.specs.Arithmetic as arithmetic
 use Rattle.rvc_base.specs.Width.{is_num, greatest_num}

@@ -1,4 +1,5 @@
 -- Values as numbers side by side.
+-- Trusted: part of what a promise means.
 use Rattle.std.specs.Prelude.{ℕ, zero, suc, ℤ, pos, List, [], ◌∷◌, ◌++◌, drop}
 use Rattle.rvc_base.specs.Arithmetic.{is_true, truth}
 use Rattle.cal_model.specs.Value.{Kind, NumKind, BoolKind, ListKind, Value, Num, Truth, Items, Values, Nil, Cons, scalars_of_kind}

@@ -1,4 +1,5 @@
 -- Runs of code that go as an evaluation does.
+-- Trusted but for `Chooses`: part of what a promise means.
 use Rattle.std.specs.Prelude.{◌≡◌, ℕ, ◌+◌, ℤ, if◌then◌else◌, List, [], ◌∷◌, length}
 use Rattle.rvc_base.specs.declared.trap.Trap.{Trap}
 use Rattle.rvc_base.specs.Arithmetic.{is_true}

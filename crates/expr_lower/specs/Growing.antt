@@ -1,4 +1,5 @@
 -- What a call that adds to a draft answers.
+-- Trusted but for `IsOpposite` and `IsNegative`: part of what a promise means.
 use Rattle.std.specs.Prelude.{◌≡◌, ◌^◌, ◌≤◌, ℕ, ℤ, pos, neg_ℤ, Bool, true, false, not, ◌&&◌, if◌then◌else◌, List, length, Option, None, Some}
 use Rattle.rvc_base.specs.Width.{is_num}
 use Rattle.cal_ast.specs.declared.expr.PrefixOp.{PrefixOp}

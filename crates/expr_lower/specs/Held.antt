@@ -1,4 +1,5 @@
 -- Cells and tokens that hold an environment.
+-- Trusted: part of what a promise means.
 use Rattle.std.specs.Prelude.{◌≡◌, ℕ, ◌+◌, ◌*◌, ◌≤◌, ◌<◌, ◌⊎◌, ℤ, List, length, Option, Some, slice_get}
 use Rattle.cal_model.specs.Value.{Value, HasKind, kind_of_type, scalars_of_type}
 use Rattle.cal_model.specs.Env.{Env, look_up}

@@ -1,4 +1,5 @@
 -- What a call that lowers an expression gives.
+-- Trusted but for `IsPut`: part of what a promise means.
 use Rattle.std.specs.Prelude.{◌≡◌, ℕ, ◌+◌, ◌≤◌, List, ◌++◌, length}
 use Rattle.cal_ast.specs.Tree.{Tree}
 use Rattle.code_ir.specs.declared.instr.Instr.{Instr}

@@ -1,4 +1,5 @@
 -- Names with their types and the cells or tokens where their values stand.
+-- Trusted but for `IsSingle`: part of what a promise means.
 use Rattle.std.specs.Prelude.{ℕ, List, [], ◌∷◌, map, if◌then◌else◌, Option, None, Some, string_bytes}
 use Rattle.std.specs.Str.{bytes_eq}
 use Rattle.cal_model.specs.Value.{Shape, Single, Many}

@@ -1,4 +1,5 @@
 -- Instructions that stand somewhere in code, and states of a run there.
+-- Trusted: part of what a promise means.
 use Rattle.std.specs.Prelude.{◌≡◌, ℕ, ◌+◌, ℤ, List, [], ◌∷◌, Some, slice_get}
 use Rattle.cal_model.specs.Expression.{Calls}
 use Rattle.code_ir.specs.declared.instr.Instr.{Instr}

@@ -1,4 +1,5 @@
 -- The first form as a case of the whole language.
+-- Trusted: part of what a promise means.
 use Rattle.std.specs.Prelude.{◌≡◌, ℕ, List, [], ◌∷◌, ℤ, None}
 use Rattle.cal_model.specs.Value.{Value, Num}
 use Rattle.cal_model.specs.Outcome.{Out, Gives, Traps}

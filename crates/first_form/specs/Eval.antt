@@ -1,4 +1,5 @@
 -- Evaluation: the value of an expression, or its trap.
+-- Trusted: part of what a promise means.
 use Rattle.std.specs.Prelude.{ℤ, pos, ◌+ℤ◌, ◌-ℤ◌, ◌*ℤ◌, if◌then◌else◌}
 use Rattle.rvc_base.specs.Width.{is_num}
 use Rattle.rvc_base.specs.declared.trap.Trap.{Trap}

@@ -1,4 +1,5 @@
 -- The tree of an actor of the first form, without where its texts lie in memory.
+-- Trusted: part of what a promise means.
 use Rattle.std.specs.Prelude.{ℕ, List, string_bytes}
 use Rattle.first_form.specs.declared.ast.Actor.{Actor}
 use Rattle.first_form.specs.declared.ast.Binary.{Binary}

@@ -1,4 +1,5 @@
 -- The tree of an actor of the first form, ignoring offsets.
+-- Trusted: part of what a promise means.
 use Rattle.std.specs.Prelude.{◌<◌, ◌^◌, ℕ, false, List, codes}
 use Rattle.cal_ast.specs.declared.expr.BinOp.{BinOp}
 use Rattle.cal_ast.specs.declared.expr.BinOp.TheVariants as ops

@@ -1,4 +1,5 @@
 -- What the parts of an actor are, for each part by itself: what it is made to, or its first mismatch.
+-- Trusted for `value_tree` alone: part of what a promise means.
 use Rattle.std.specs.Prelude.{◌≡◌, ℕ, List, true, false, Option, None, Some, Result, Ok, Err}
 use Rattle.cal_ast.specs.declared.expr.BinOp.{BinOp}
 use Rattle.cal_ast.specs.declared.expr.BinOp.TheVariants as ops

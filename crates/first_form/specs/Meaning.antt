@@ -1,4 +1,5 @@
 -- What an actor of the first form does: its action takes a token and sends the value of its expression.
+-- Trusted: part of what a promise means.
 use Rattle.std.specs.Prelude.{◌≡◌, ℕ, zero, suc, List, [], ◌∷◌, ℤ, pos, Option, None, Some, ◌<ℤ◌, ◌≤ℤ◌}
 use Rattle.rvc_base.specs.declared.scalar.Scalar.{Scalar}
 use Rattle.rvc_base.specs.declared.scalar.Scalar.TheVariants.{Uint}

@@ -1,6 +1,7 @@
 -- The first mismatch of a tree with the first form: where the first part begins, in the order of the text, that isn't of it.
 --
 -- A part that is there once too often is a mismatch where it begins. If a part is lacking, what should hold it is one.
+-- Trusted: part of what a promise means.
 use Rattle.std.specs.Prelude.{ℕ, ◌^◌, nat_lt, nat_eq, Bool, true, false, not, ◌&&◌, List, Option, None, Some, codes}
 use Rattle.std.specs.Str.{bytes_eq}
 use Rattle.cal_ast.specs.declared.expr.BinOp.{BinOp}

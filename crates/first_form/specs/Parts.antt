@@ -1,4 +1,5 @@
 -- An actor while its texts are still the tree's.
+-- Not trusted: no promise is read with it.
 use Rattle.first_form.specs.declared.actor.Given.{Given}
 use Rattle.first_form.specs.Form.{Form}
 

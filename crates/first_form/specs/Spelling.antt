@@ -1,4 +1,5 @@
 -- What a source spells, and why one that spells no actor of the first form is refused.
+-- Trusted but for `IsActor`: part of what a promise means.
 use Rattle.std.specs.Prelude.{◌≡◌, ℕ, ◌^◌, ◌<◌, List, length, Some, Result, Ok, Err}
 use Rattle.rvc_base.specs.declared.refusal.Rule.{Rule}
 use Rattle.rvc_base.specs.declared.refusal.Front.{Front as Answer}

@@ -1,4 +1,5 @@
 -- What a burst of firings does to the queues.
+-- Not trusted: no promise is read with it.
 use Rattle.std.specs.Prelude.{◌≡◌, ◌≤◌, ℕ, List, [], ◌∷◌, ◌++◌, ℤ, pos, length, replicate, flat_map}
 use Rattle.trace_text.specs.declared.line.Line.{Line}
 use Rattle.trace_text.specs.declared.line.Line.TheVariants.{Fire}

@@ -1,4 +1,5 @@
 -- What filling an inbox from a feed does.
+-- Not trusted: no promise is read with it.
 use Rattle.std.specs.Prelude.{◌≡◌, ℕ, ◌-◌, ◌≤◌, min, Bool, true, List, ◌++◌, length, take, drop, map, ℤ, pos, Option}
 use Rattle.rvc_base.specs.Storing.{conv}
 use Rattle.first_form.specs.Meaning.{byte_type}

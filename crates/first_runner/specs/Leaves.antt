@@ -1,4 +1,5 @@
 -- What a run leaves on its two channels, for each end.
+-- Trusted for `EndsAs` and `Leaves` alone: part of what a promise means.
 use Rattle.std.specs.Prelude.{◌≡◌, ℕ, ◌+◌, ◌<◌, Bool, List, [], ◌++◌, length}
 use Rattle.trace_text.specs.Text.{line_text}
 use Rattle.trace_text.specs.declared.line.Line.TheVariants.{Quiet, Budget}

@@ -1,4 +1,5 @@
 -- What is said of ports that may lack a feed or a channel.
+-- Trusted but for `IsToCome`, `MayWrite` and `MayHoldFront`: part of what a promise means.
 use Rattle.std.specs.Prelude.{◌≡◌, ◌⊎◌, ℕ, Bool, true, false, List, [], ◌++◌, ℤ, Option, None, Some}
 use Rattle.net_model.specs.PortFile.{tokens}
 use Rattle.first_form.specs.Meaning.{byte_type}

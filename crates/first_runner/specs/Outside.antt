@@ -1,4 +1,5 @@
 -- What stays the same of the channels, but for what the trace and the output hold.
+-- Trusted: part of what a promise means.
 use Rattle.std.specs.Prelude.{◌≡◌, ◌≢◌, ◌≤◌, ℕ, true}
 use Rattle.rvc_io.specs.Channels.{Channels}
 

@@ -1,4 +1,5 @@
 -- A run so far: lines that play from the start, and the state that they lead to, by a few numbers.
+-- Not trusted: no promise is read with it.
 use Rattle.std.specs.Prelude.{◌≡◌, ℕ, ◌+◌, ◌≤◌, Bool, true, false, List, [], ◌∷◌, ◌++◌, length, take, drop, map, ℤ, pos, Option, flat_map}
 use Rattle.rvc_base.specs.Storing.{conv}
 use Rattle.trace_text.specs.declared.line.Line.{Line}

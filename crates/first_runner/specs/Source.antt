@@ -1,4 +1,5 @@
 -- The source network of an actor of the first form: the actor is the one leaf of a network with its ports.
+-- Trusted: part of what a promise means.
 use Rattle.std.specs.Prelude.{ℕ, [], ◌∷◌}
 use Rattle.net_model.specs.declared.wiring.End.{End}
 use Rattle.net_model.specs.declared.wiring.End.TheVariants.{Leaf as AtLeaf, Net as AtNet}

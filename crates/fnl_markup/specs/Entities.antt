@@ -1,4 +1,5 @@
 -- The entities: `&lt;`, `&gt;`, `&quot;`, `&amp;` and `&apos;`.
+-- Trusted: part of what a promise means.
 use Rattle.std.specs.Prelude.{ℕ, ◌==◌, if◌then◌else◌, Option, Some, None}
 use Rattle.fnl_markup.specs.declared.entity.Entity.{Entity}
 use Rattle.fnl_markup.specs.declared.entity.Entity.TheVariants.{Ampersand, L, Lt, G, Gt, Q, Qu, Quo, Quot, A, Am, Amp, Ap, Apo, Apos}

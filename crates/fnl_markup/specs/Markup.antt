@@ -1,4 +1,5 @@
 -- The tags of a text, and the rule that it breaks first.
+-- Trusted: part of what a promise means.
 use Rattle.std.specs.Prelude.{◌≡◌, ℕ, ◌+◌, List, [], ◌∷◌, length, Bool, true, false, ◌&&◌, if◌then◌else◌, nat_lt, nat_le, Option, None, Some}
 use Rattle.std.specs.Str.Lossy.{utf8_valid_len}
 use Rattle.rvc_base.specs.declared.refusal.Rule.{Rule}

@@ -1,4 +1,5 @@
 -- What a reader of markup has at hand between two bytes, and what a byte brings.
+-- Trusted: part of what a promise means.
 use Rattle.std.specs.Prelude.{ℕ, List, [], Bool, false}
 use Rattle.rvc_base.specs.declared.refusal.Rule.{Rule}
 use Rattle.fnl_markup.specs.Tags.{Attribute, Tag}

@@ -1,4 +1,5 @@
 -- What a step of the reader answers, beside what it means.
+-- Trusted for `IsFault` and `IsRefusal` alone: part of what a promise means.
 use Rattle.std.specs.Prelude.{◌≡◌, ℕ, nat_le, if◌then◌else◌, List, map, Option, None, Some, Result, Ok, Err, Vec}
 use Rattle.std.specs.declared.alloc.Global.{Global}
 use Rattle.rvc_base.specs.declared.refusal.Rule.{Rule}

@@ -1,4 +1,5 @@
 -- The plain tags: what a tag is, without memory.
+-- Trusted: part of what a promise means.
 use Rattle.std.specs.Prelude.{ℕ, List, map}
 use Rattle.fnl_markup.specs.declared.tag.Tag.{Tag as TheTag}
 use Rattle.fnl_markup.specs.declared.tag.Tag.TheVariants as tags

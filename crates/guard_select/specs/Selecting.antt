@@ -1,4 +1,5 @@
 -- What selection answers, and of which state.
+-- Trusted: part of what a promise means.
 use Rattle.std.specs.Prelude.{◌≡◌, ℕ, ℤ, List, length, take}
 use Rattle.rvc_base.specs.Behaviour.{Choice as Chosen, Waits, Picks, Faults}
 use Rattle.action_machine.specs.Kept.{Kept, IsMadeFor}

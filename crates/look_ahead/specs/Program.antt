@@ -1,6 +1,7 @@
 -- Programs that read a list of tokens from its front, look at most one token ahead, and build a tree.
 --
 -- A rule is a name for a program. Each program runs with a room: a number that bounds the height of what it builds.
+-- Trusted for `ahead` alone: part of what a promise means.
 use Rattle.std.specs.Prelude.{ℕ, zero, suc, ◌-◌, Bool, true, false, List, [], ◌∷◌, Option, None, Some, nat_le}
 
 -- What a program does. It fails, or finds what is too high, where it stands: at the first token that is left, or at the end.

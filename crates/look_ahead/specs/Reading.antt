@@ -1,4 +1,5 @@
 -- What is promised of a refusal, over any grammar: `Spelled ts x` says that the tokens spell the tree x.
+-- Trusted: part of what a promise means.
 use Rattle.std.specs.Prelude.{◌≡◌, ◌≤◌, ◌+◌, ℕ, List, ◌++◌, length}
 use Rattle.look_ahead.specs.Program.{ahead}
 

@@ -1,4 +1,5 @@
 -- A lowered actor, as contracts see it.
+-- Trusted: part of what a promise means.
 use Rattle.std.specs.Prelude.{ℕ, ℤ, List, map, slice_index_or}
 use Rattle.code_ir.specs.Code.{Code}
 use Rattle.schedule_fsm.specs.Automaton.{Automaton}

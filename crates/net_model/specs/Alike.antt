@@ -1,4 +1,5 @@
 -- Likeness: networks with the same links and ports whose leaves behave alike, by a relation between their states.
+-- Trusted: part of what a promise means.
 use Rattle.std.specs.Prelude.{◌≡◌, ℕ, suc, ◌<◌, ◌↔◌, List, [], ◌∷◌, ℤ, slice_get, Option, None, Some}
 use Rattle.rvc_base.specs.Storing.{conv}
 use Rattle.rvc_base.specs.Behaviour.{Behaviour, Effect, Fires, TrapsInGuard, TrapsInBody}

@@ -1,4 +1,5 @@
 -- An actor at work: what is seen of it, and what each call on it does.
+-- Trusted: part of what a promise means.
 use Rattle.std.specs.Prelude.{◌≡◌, ◌≢◌, ℕ, ◌+◌, ◌≤◌, ◌<◌, ◌⊎◌, Bool, true, List, [], ◌∷◌, ◌++◌, ℤ, length, drop, slice_index_or, Option, None, Some}
 use Rattle.rvc_base.specs.declared.trap.Trap.{Trap as TrapName}
 use Rattle.rvc_base.specs.Behaviour.{Behaviour, Effect, Choice, Fires, TrapsInGuard, TrapsInBody, Waits, Picks, Faults}

@@ -1,4 +1,5 @@
 -- Events: what can happen to a network, and what it makes of a state. Which comes next is free.
+-- Trusted: part of what a promise means.
 use Rattle.std.specs.Prelude.{ℕ, ◌+◌, true, List, [], ◌∷◌, ◌++◌, ℤ, map, length, if◌then◌else◌, ◌==◌, nat_le, slice_index_or, slice_get, slice_set, Option, None, Some}
 use Rattle.rvc_base.specs.declared.trap.Trap.{Trap as TrapName}
 use Rattle.rvc_base.specs.declared.trap.Trap.TheVariants.{Overflow, DivideByZero, IndexRange, ShiftRange, TurnLimit}

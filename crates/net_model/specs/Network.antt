@@ -1,4 +1,5 @@
 -- Networks: leaves, which are actors, and links between ports.
+-- Trusted: part of what a promise means.
 use Rattle.std.specs.Prelude.{ℕ, Bool, true, false, ◌&&◌, ◌==◌, List, [], slice_index_or}
 use Rattle.rvc_base.specs.declared.scalar.Scalar.{Scalar}
 use Rattle.rvc_base.specs.declared.scalar.Scalar.TheVariants.{Bool as Truth}

@@ -1,5 +1,6 @@
 -- Pacing: which lines the rounds of a run write, by its policy, burst and budget. The number of workers isn't
 -- among what they depend on.
+-- Trusted: part of what a promise means.
 use Rattle.std.specs.Prelude.{◌≡◌, ℕ, suc, ◌+◌, ◌-◌, ◌<◌, ◌⊎◌, ◌==◌, ◌||◌, ◌&&◌, nat_le, Bool, true, false, List, [], ◌∷◌, ◌++◌, length, map, flat_map, min, slice_get, Option, None, Some, if◌then◌else◌, MatchBool}
 use Rattle.rvc_base.specs.declared.trap.Trap.{Trap as TrapName}
 use Rattle.rvc_base.specs.declared.round_kind.RoundKind.{RoundKind}

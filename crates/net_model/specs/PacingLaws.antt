@@ -1,4 +1,5 @@
 -- What holds of all paced and begun lines, as statements.
+-- Trusted: part of what a promise means.
 use Rattle.std.specs.Prelude.{◌≡◌, ℕ, ◌+◌, ◌≤◌, List, length}
 use Rattle.trace_text.specs.declared.line.Line.{Line}
 use Rattle.net_model.specs.Network.{Network}

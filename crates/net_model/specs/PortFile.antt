@@ -1,4 +1,5 @@
 -- Port files: tokens and the bytes that hold them.
+-- Trusted: part of what a promise means.
 use Rattle.std.specs.Prelude.{ℕ, zero, suc, ◌+◌, ◌*◌, ◌/◌, ◌%◌, List, [], ◌∷◌, map, length, take, drop, ℤ, pos, if◌then◌else◌, nat_le, flat_map}
 use Rattle.rvc_base.specs.declared.scalar.Scalar.{Scalar}
 use Rattle.rvc_base.specs.declared.scalar.Scalar.TheVariants.{Bool as Truth, Int, Uint}

@@ -1,4 +1,5 @@
 -- What cells and their wiring must meet to be run, and the state in which they stand then.
+-- Trusted: part of what a promise means.
 use Rattle.std.specs.Prelude.{◌≡◌, ℕ, ◌≤◌, ◌<◌, ◌↔◌, true, false, List, [], ◌++◌, ℤ, length, map, slice_get, Option, None, Some, string_bytes}
 use Rattle.rvc_base.specs.Lawful.{tokens_on}
 use Rattle.net_model.specs.declared.wiring.End.{End}

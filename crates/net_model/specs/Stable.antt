@@ -1,4 +1,5 @@
 -- Stability (Kahn 1974, for each firing): what an actor does isn't undone by tokens that come later.
+-- Trusted: part of what a promise means.
 use Rattle.std.specs.Prelude.{◌≡◌, ◌≢◌, ℕ, ◌<◌, List, [], ◌++◌, ℤ, slice_get, slice_index_or, None, Some}
 use Rattle.rvc_base.specs.Behaviour.{Behaviour, Effect}
 use Rattle.net_model.specs.Network.{Leaf, Network}

@@ -1,5 +1,6 @@
 -- The state of a network: its actors' states, and what was sent, has arrived and was taken on each link, and
 -- how many tokens the link can hold now.
+-- Trusted: part of what a promise means.
 use Rattle.std.specs.Prelude.{ℕ, ◌-◌, Bool, false, List, [], ◌∷◌, ℤ, map, take, drop, if◌then◌else◌, slice_index_or, slice_get, Option, None, Some}
 use Rattle.std.specs.List.{range_with_len}
 use Rattle.rvc_base.specs.Storing.{conv}

@@ -1,5 +1,6 @@
 -- The trace language: which lines play, which keep the capacities of the links, and their text.
 -- `grow` is the greatest capacity that a link may grow to at a stall; it is 0 where none may grow.
+-- Trusted: part of what a promise means.
 use Rattle.std.specs.Prelude.{◌≡◌, ℕ, ◌+◌, ◌-◌, ◌≤◌, ◌==◌, false, List, [], ◌∷◌, ◌++◌, pos, min, length, replicate, slice_get, slice_set, Option, None, Some, if◌then◌else◌, codes, flat_map}
 use Rattle.rvc_base.specs.Behaviour.{Effect, Fires, TrapsInGuard, TrapsInBody}
 use Rattle.trace_text.specs.declared.line.Line.{Line}

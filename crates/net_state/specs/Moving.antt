@@ -1,4 +1,5 @@
 -- What moves between the cells of a network: tokens that come in, and outboxes that are emptied.
+-- Trusted: part of what a promise means.
 use Rattle.std.specs.Prelude.{◌≡◌, ◌≢◌, ℕ, ◌+◌, ◌≤◌, ◌<◌, ◌==◌, ◌&&◌, false, List, [], ◌∷◌, ◌++◌, ℤ, length, map, slice_get, Option, None, Some, if◌then◌else◌}
 use Rattle.rvc_base.specs.Storing.{IsSize, conv}
 use Rattle.rvc_base.specs.Lawful.{tokens_on}

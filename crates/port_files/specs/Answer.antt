@@ -1,4 +1,5 @@
 -- What is said of an answer by its case.
+-- Trusted: part of what a promise means.
 use Rattle.std.specs.Prelude.{ℕ, ℤ}
 use Rattle.port_files.specs.declared.feed.Next.{Next}
 use Rattle.port_files.specs.declared.feed.Next.TheVariants.{Token, End, Failed}

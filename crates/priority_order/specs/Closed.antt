@@ -1,4 +1,5 @@
 -- The table of what is above what by declared pairs.
+-- Trusted but for `IsClosed`: part of what a promise means.
 use Rattle.std.specs.Prelude.{◌≡◌, ℕ, ◌*◌, ◌<◌, List, Bool, length, IsTrue, All, ◌↔◌}
 use Rattle.rvc_base.specs.Chain.{IsAbove}
 use Rattle.priority_order.specs.Ranking.{cell}

@@ -1,4 +1,5 @@
 -- Cycles of declared pairs.
+-- Trusted: part of what a promise means.
 use Rattle.std.specs.Prelude.{◌≢◌, ℕ, ◌≤◌, List, [], ◌∷◌, slice_index, All, AllPairs}
 use Rattle.rvc_base.specs.Chain.{ChainLeads}
 use Rattle.priority_order.specs.declared.closing.OrderFault.{OrderFault}

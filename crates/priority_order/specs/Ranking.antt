@@ -1,4 +1,5 @@
 -- What an order is seen as.
+-- Trusted: part of what a promise means.
 use Rattle.std.specs.Prelude.{◌≡◌, ℕ, ◌+◌, ◌*◌, ◌<◌, Bool, false, List, length, slice_index_or, IsTrue}
 use Rattle.rvc_base.specs.Line.{IsLine}
 

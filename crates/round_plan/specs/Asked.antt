@@ -1,4 +1,5 @@
 -- What is known of a policy.
+-- Trusted: part of what a promise means.
 use Rattle.std.specs.Prelude.{ℕ}
 use Rattle.rvc_base.specs.declared.round_kind.RoundKind.{RoundKind}
 

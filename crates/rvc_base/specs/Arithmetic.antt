@@ -1,4 +1,5 @@
 -- Arithmetic on numbers of the language: the value, or the trap that comes in its place.
+-- Trusted: part of what a promise means.
 use Rattle.std.specs.Prelude.{ℕ, ℤ, pos, negsuc, ◌+ℤ◌, ◌-ℤ◌, ◌*ℤ◌, neg_ℤ, int_div, int_rem, int_lt, unsigned_abs, ◌^◌, Bool, not, if◌then◌else◌, ◌==◌, nat_le}
 use Rattle.std.specs.Int.{int_bit_and, int_bit_or, int_bit_xor, int_bit_not, int_shr}
 use Rattle.std.specs.Ordering.{int_eq}

@@ -1,4 +1,5 @@
 -- What an actor does, without its source: rates, effects and the choice of the action to fire.
+-- Trusted: part of what a promise means.
 use Rattle.std.specs.Prelude.{ℕ, ℤ, List, Option}
 use Rattle.rvc_base.specs.declared.trap.Trap.{Trap}
 

@@ -1,5 +1,6 @@
 -- Chains of declared pairs, and what stands above what by them: the priorities of the CAL Language Report
 -- (action-level control structures), over any things that are paired.
+-- Trusted: part of what a promise means.
 use Rattle.std.specs.Prelude.{List, [], ◌∷◌, Contains}
 
 -- from a through these, one after another, to b: each is paired with the next

@@ -1,4 +1,5 @@
 -- What a call that computes answers, as what the operation gives.
+-- Trusted: part of what a promise means.
 use Rattle.std.specs.Prelude.{ℤ}
 use Rattle.std.specs.declared.result.Result.{Result}
 use Rattle.std.specs.declared.result.Result.TheVariants.{Ok, Err}

@@ -1,4 +1,5 @@
 -- What holds of every actor.
+-- Trusted: part of what a promise means.
 use Rattle.std.specs.Prelude.{◌≡◌, ◌≢◌, ℕ, ◌≤◌, ◌<◌, ◌⊎◌, List, [], ℤ, length, take, slice_index_or, None, Some}
 use Rattle.rvc_base.specs.declared.trap.Trap.{Trap}
 use Rattle.rvc_base.specs.Behaviour.{Behaviour, Fires, TrapsInGuard, TrapsInBody, Waits, Picks, Faults}

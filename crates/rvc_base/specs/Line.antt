@@ -1,4 +1,5 @@
 -- The line of the numbers below n, some of which stand above others.
+-- Trusted: part of what a promise means.
 use Rattle.std.specs.Prelude.{ℕ, ◌<◌, ◌≤◌, List, length, take, slice_index, Contains}
 
 -- b may stand next: it doesn't stand yet, and each number below n that is above it does

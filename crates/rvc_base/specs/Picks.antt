@@ -1,4 +1,5 @@
 -- Which instances a policy picks in a round. Rounds are numbered from 1.
+-- Trusted: part of what a promise means.
 use Rattle.std.specs.Prelude.{ℕ, zero, suc, ◌+◌, ◌-◌, ◌*◌, ◌/◌, ◌%◌, ◌^◌, Bool, true, List, map, ◌==◌, nat_le}
 use Rattle.std.specs.List.{range_with_len}
 use Rattle.rvc_base.specs.declared.round_kind.RoundKind.{RoundKind}

@@ -1,4 +1,5 @@
 -- The printed names of rules.
+-- Trusted: part of what a promise means.
 use Rattle.std.specs.Prelude.{ℕ, ◌/◌, ◌%◌, ◌++◌, List, codes, decimal, take, drop, min}
 use Rattle.rvc_base.specs.declared.refusal.Rule.{Rule}
 

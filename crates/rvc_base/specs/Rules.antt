@@ -1,4 +1,5 @@
--- The table of rules: each with its number, its group's hundred plus its own. Trusted: part of what the promises mean.
+-- The table of rules: each with its number, its group's hundred plus its own.
+-- Trusted: part of what a promise means.
 use Rattle.rvc_base.specs.declared.refusal.Rule.{Rule}
 
 -- Y1: a form isn't built yet. Place: its first token.

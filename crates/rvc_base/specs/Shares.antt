@@ -1,4 +1,5 @@
 -- How the firings that are left of a budget are shared by the picked instances.
+-- Trusted: part of what a promise means.
 use Rattle.std.specs.Prelude.{ℕ, ◌+◌, ◌/◌, ◌%◌, map, min, nat_lt, sum, if◌then◌else◌}
 use Rattle.std.specs.List.{range_with_len}
 

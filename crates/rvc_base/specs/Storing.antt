@@ -1,4 +1,5 @@
 -- Storing: what a variable, a port or a parameter of a type holds once a number is stored in it.
+-- Trusted: part of what a promise means.
 use Rattle.std.specs.Prelude.{◌≡◌, ℕ, ℤ, pos, ◌+ℤ◌, ◌-ℤ◌, ◌≤ℤ◌, ◌<ℤ◌, ◌-◌, ◌^◌, ◌≤◌, ◌⊎◌, if◌then◌else◌, nat_lt, ◌==◌, unsigned_abs}
 use Rattle.std.specs.Int.{int_rem_euclid}
 use Rattle.rvc_base.specs.declared.scalar.Scalar.{Scalar}

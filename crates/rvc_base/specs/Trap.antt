@@ -1,4 +1,5 @@
 -- The printed names of traps.
+-- Trusted: part of what a promise means.
 use Rattle.std.specs.Prelude.{ℕ, List, codes}
 use Rattle.rvc_base.specs.declared.trap.Trap.{Trap}
 use Rattle.rvc_base.specs.declared.trap.Trap.TheVariants.{Overflow, DivideByZero, IndexRange, ShiftRange, TurnLimit}

@@ -1,4 +1,5 @@
 -- The limit of turns.
+-- Trusted: part of what a promise means.
 use Rattle.std.specs.Prelude.{ℕ, ◌≡◌, refl}
 
 -- The most turns of one firing, its guards apart, and of one guard. Proofs go by this name: they never count

@@ -1,4 +1,5 @@
--- The width of numbers: every bound that follows from it, by name. Trusted: part of what the promises mean.
+-- The width of numbers: every bound that follows from it, by name.
+-- Trusted: part of what a promise means.
 use Rattle.std.specs.Prelude.{ℕ, Bool, ℤ, pos, negsuc, ◌-◌, ◌^◌, FitsSigned, nat_lt}
 use Rattle.std.specs.Int.{Width, w128}
 

@@ -1,4 +1,5 @@
 -- Which calls of an object in memory fail. Its calls are numbered from 1.
+-- Trusted: part of what a promise means.
 use Rattle.std.specs.Prelude.{ℕ, ◌+◌, Bool, List, nat_lt, ◌==◌, if◌then◌else◌}
 use Rattle.std.specs.List.{list_any}
 use Rattle.rvc_io.specs.Count.{last_count}

@@ -1,4 +1,5 @@
 -- What is known of channels, and what a call changes of them.
+-- Trusted: part of what a promise means.
 use Rattle.std.specs.Prelude.{◌≡◌, ◌≤◌, ℕ, Bool, true, List, [], ◌++◌}
 use Rattle.rvc_io.specs.Count.{HasRisen}
 use Rattle.rvc_io.specs.Elsewhere.{SameElsewhere}

@@ -1,4 +1,5 @@
 -- Counts of faults, which never fall, and stand still at the last value of their type.
+-- Trusted: part of what a promise means.
 use Rattle.std.specs.Prelude.{ℕ, ◌≤◌, ◌<◌, ◌⊎◌}
 
 -- the last value of a count

@@ -1,4 +1,5 @@
 -- When a file is too long.
+-- Trusted: part of what a promise means.
 use Rattle.std.specs.Prelude.{ℕ, ◌<◌, length}
 use Rattle.rvc_io.specs.Told.{Told, Untold, Lacking, Holding}
 

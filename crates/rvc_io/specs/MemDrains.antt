@@ -1,4 +1,5 @@
 -- Drains in memory.
+-- Trusted: part of what a promise means.
 use Rattle.std.specs.Prelude.{◌≡◌, ℕ, ◌≤◌, ◌-◌, Bool, true, false, ◌||◌, List, [], Option, None, Some, All, map, length, min, nat_le, is_some, unwrap_or, slice_index_or, vec_capacity, if◌then◌else◌}
 use Rattle.rvc_io.specs.Calls.{CallCount, is_listed}
 use Rattle.rvc_io.specs.Channels.{Channels}

@@ -1,4 +1,5 @@
 -- Feeds in memory.
+-- Trusted: part of what a promise means.
 use Rattle.std.specs.Prelude.{ℕ, ◌<◌, ◌≤◌, Bool, ◌||◌, List, [], Option, None, Some, All, map, length, drop, min, nat_le, is_some, is_none, unwrap_or, slice_index_or}
 use Rattle.rvc_io.specs.Calls.{CallCount, is_listed}
 use Rattle.rvc_io.specs.Files.{File, under, bytes_at}

@@ -1,4 +1,5 @@
 -- A library in memory.
+-- Trusted: part of what a promise means.
 use Rattle.std.specs.Prelude.{ℕ, List, Option, None, Some}
 use Rattle.rvc_io.specs.Told.{Told, Lacking, Holding}
 use Rattle.rvc_io.specs.Calls.{CallCount}

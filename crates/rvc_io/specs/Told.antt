@@ -1,4 +1,5 @@
 -- What a library tells of a file.
+-- Trusted: part of what a promise means.
 use Rattle.std.specs.Prelude.{◌≡◌, ℕ, List}
 
 -- what is known of a file: nothing, that there is none, or its bytes

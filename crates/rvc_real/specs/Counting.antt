@@ -1,4 +1,5 @@
 -- Counts of calls that went one way.
+-- Trusted: part of what a promise means.
 use Rattle.std.specs.Prelude.{ℕ, ◌+◌, Bool, nat_lt, if◌then◌else◌}
 use Rattle.rvc_io.specs.Count.{last_count}
 

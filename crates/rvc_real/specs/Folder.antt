@@ -1,4 +1,5 @@
 -- A folder of files that are read whole.
+-- Trusted: part of what a promise means.
 use Rattle.std.specs.Prelude.{ℕ, List, [], ◌∷◌, Bool, true, false, ◌||◌, ◌==◌, slice_index_or}
 use Rattle.std.specs.List.{slice_split, list_any}
 use Rattle.std.specs.Str.{bytes_eq}

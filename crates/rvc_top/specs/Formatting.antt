@@ -1,4 +1,5 @@
 -- What the verb `fmt` prints, and what refuses it.
+-- Trusted but for `IsRightly`: part of what a promise means.
 use Rattle.std.specs.Prelude.{◌≡◌, ◌≤◌, ◌⊎◌, ℕ, Bool, true, List, [], ◌++◌, length}
 use Rattle.rvc_base.specs.declared.refusal.Refusal.{Refusal}
 use Rattle.rvc_base.specs.declared.refusal.Rule.{Rule}

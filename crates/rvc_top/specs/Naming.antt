@@ -1,4 +1,5 @@
 -- What a report's names say.
+-- Not trusted: no promise is read with it.
 use Rattle.rvc_top.specs.Report.{Named}
 use Rattle.rvc_top.specs.declared.reporting.Names.{Names}
 

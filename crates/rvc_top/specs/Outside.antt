@@ -1,4 +1,5 @@
 -- What a report changes.
+-- Trusted but for `Answers`: part of what a promise means.
 use Rattle.std.specs.Prelude.{◌≡◌, ◌⊎◌, ℕ, Bool, true, List, ◌++◌}
 use Rattle.rvc_io.specs.Channels.{Channels}
 use Rattle.rvc_io.specs.Count.{HasRisen}

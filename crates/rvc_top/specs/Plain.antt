@@ -1,4 +1,5 @@
 -- What is built of a job: one actor that is run, or a file that is printed.
+-- Trusted but for `plain_text`: part of what a promise means.
 use Rattle.std.specs.Prelude.{ℕ, Bool, true, false, ◌&&◌, ◌==◌, if◌then◌else◌, List, map, Option, None, Some, string_bytes}
 use Rattle.rvc_base.specs.declared.round_kind.RoundKind.{RoundKind}
 use Rattle.rvc_base.specs.declared.round_kind.RoundKind.TheVariants.{All, Turn, Seed}

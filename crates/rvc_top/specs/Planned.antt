@@ -1,4 +1,5 @@
 -- What stands before a run.
+-- Trusted for `IsCaused` alone: part of what a promise means.
 use Rattle.std.specs.Prelude.{◌≡◌, ℕ, List}
 use Rattle.rvc_io.specs.Told.{Told, IsTold}
 use Rattle.rvc_io.specs.Count.{HasRisen}

@@ -1,4 +1,5 @@
 -- What refuses a job: a rule is broken at its place.
+-- Trusted but for `IsActorRefusal`: part of what a promise means.
 use Rattle.std.specs.Prelude.{◌≡◌, ◌==◌, ℕ, List, ◌++◌, codes, not, true, None, Some}
 use Rattle.std.specs.List.{list_all}
 use Rattle.rvc_io.specs.Told.{Told, Untold, Lacking, Holding, IsLacking}

@@ -1,4 +1,5 @@
 -- The report.
+-- Trusted but for `text_or_none`: part of what a promise means.
 use Rattle.std.specs.Prelude.{ℕ, ◌≡◌, ◌≢◌, List, ◌++◌, codes, decimal, ◌==◌, true, if◌then◌else◌, [], Option, None, Some}
 use Rattle.rvc_io.specs.Channels.{Channels}
 use Rattle.rvc_io.specs.Told.{Told, Untold, Lacking, Holding}

@@ -1,4 +1,5 @@
 -- What a run of the top call leaves.
+-- Trusted but for `Writes`: part of what a promise means.
 use Rattle.std.specs.Prelude.{◌≡◌, ℕ, Bool, true, false, List, [], ◌∷◌, ◌++◌, Option, None, Some}
 use Rattle.rvc_io.specs.Channels.{Channels}
 use Rattle.trace_text.specs.declared.line.Line.{Line}

@@ -1,4 +1,5 @@
 -- The exit statuses.
+-- Trusted: part of what a promise means.
 use Rattle.std.specs.Prelude.{ℕ}
 use Rattle.rvc_top.specs.declared.status.Status.{Status}
 use Rattle.rvc_top.specs.declared.status.ReadAt.TheVariants.{File, Feed}

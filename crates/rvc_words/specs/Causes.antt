@@ -1,4 +1,5 @@
 -- The names of the causes.
+-- Trusted: part of what a promise means.
 use Rattle.std.specs.Prelude.{ℕ, List, codes}
 use Rattle.rvc_words.specs.declared.fault.UsageCause.{UsageCause}
 use Rattle.rvc_words.specs.declared.fault.UsageCause.TheVariants.{Words, Verb, Top, Number, Round, Port, Trace}

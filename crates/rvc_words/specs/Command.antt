@@ -1,4 +1,5 @@
 -- The command that the words are matched by, and what stands at its places.
+-- Trusted: part of what a promise means.
 use Rattle.std.specs.Prelude.{Bool, true, false, List, [], ◌∷◌, Option, Some, codes, unwrap_or}
 use Rattle.clap.specs.Lexer.{usize_max}
 use Rattle.clap.specs.Walk.{Row, Rule, Text, all_of, first_of}

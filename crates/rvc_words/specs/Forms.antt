@@ -1,4 +1,5 @@
 -- The forms of the words.
+-- Trusted: part of what a promise means.
 use Rattle.std.specs.Prelude.{ℕ, Bool, true, false, ◌||◌, ◌&&◌, not, nat_le, ◌==◌, if◌then◌else◌, List, length, codes, Option, None, Some, is_some, option_map}
 use Rattle.std.specs.List.{before_first, after_first, list_all, slice_split}
 use Rattle.std.specs.Str.{bytes_eq}

@@ -1,4 +1,5 @@
 -- The parts as the code has them.
+-- Not trusted: no promise is read with it.
 use Rattle.std.specs.Prelude.{List, [], Option, option_map, unwrap_or}
 use Rattle.std.specs.Borrow.{Bor}
 use Rattle.clap.specs.Walk.{Text, texts}

@@ -1,4 +1,5 @@
 -- The limits and the defaults of the options.
+-- Trusted: part of what a promise means.
 use Rattle.std.specs.Prelude.{ℕ}
 
 -- the most digits of a number; leading zeros count

@@ -1,4 +1,5 @@
 -- The words as texts.
+-- Trusted: part of what a promise means.
 use Rattle.std.specs.Prelude.{ℕ, List, map, string_bytes}
 use Rattle.std.specs.declared.alloc.Global.{Global}
 use Rattle.std.specs.declared.string.String.{String}

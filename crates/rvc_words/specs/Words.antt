@@ -1,4 +1,5 @@
 -- What the words of the command line ask for.
+-- Trusted: part of what a promise means.
 use Rattle.std.specs.Prelude.{ℕ, ◌≤◌, Bool, true, false, not, if◌then◌else◌, List, map, string_bytes, Result, Ok, Err, ok_or}
 use Rattle.std.specs.List.{list_all}
 use Rattle.rvc_base.specs.declared.round_kind.RoundKind.{RoundKind}

@@ -1,4 +1,5 @@
 -- What an automaton is seen as.
+-- Trusted: part of what a promise means.
 use Rattle.std.specs.Prelude.{◌≡◌, ℕ, ◌+◌, ◌*◌, ◌<◌, List, length, slice_index_or, Option, None, Some}
 
 -- how many states and actions it has, and row by row, a row a state and a column an action, the state

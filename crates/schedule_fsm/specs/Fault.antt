@@ -1,4 +1,5 @@
 -- Why steps make no automaton.
+-- Trusted but for `IsTaken`: part of what a promise means.
 use Rattle.std.specs.Prelude.{◌≡◌, ◌≢◌, ℕ, List, Option, Some}
 use Rattle.schedule_fsm.specs.declared.fsm.Step.{Step}
 use Rattle.schedule_fsm.specs.declared.fsm.FsmFault.{FsmFault}

@@ -1,5 +1,6 @@
 -- Where an action leads from a state, by steps and free actions: the action schedules of the CAL Language
 -- Report (action-level control structures), over numbers.
+-- Trusted: part of what a promise means.
 use Rattle.std.specs.Prelude.{◌≡◌, ◌≢◌, ℕ, Bool, false, List, slice_index_or, Contains, ◌⊎◌, IsTrue}
 use Rattle.schedule_fsm.specs.declared.fsm.Step.{Step}
 

@@ -1,4 +1,5 @@
 -- What a reader says at a place.
+-- Not trusted: no promise is read with it.
 use Rattle.trace_text.specs.declared.place.Place.{Place}
 use Rattle.trace_text.specs.declared.place.Place.TheVariants.{Ended, Lost}
 use Rattle.trace_text.specs.declared.reader.Step2.{Step2}

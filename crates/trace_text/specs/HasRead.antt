@@ -1,4 +1,5 @@
 -- What a reader has read.
+-- Trusted: part of what a promise means.
 use Rattle.std.specs.Prelude.{ℕ, List, ◌++◌}
 use Rattle.trace_text.specs.declared.line.Line.{Line}
 use Rattle.trace_text.specs.declared.reader.LineReader.{LineReader}

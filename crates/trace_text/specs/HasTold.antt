@@ -1,4 +1,5 @@
 -- What a reader has told of a text.
+-- Trusted: part of what a promise means.
 use Rattle.std.specs.Prelude.{◌≡◌, ℕ, List, [], ◌∷◌, ◌++◌}
 use Rattle.std.specs.List.{concat}
 use Rattle.trace_text.specs.declared.line.Line.{Line}

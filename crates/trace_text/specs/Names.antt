@@ -1,4 +1,5 @@
 -- The names in the line of an instance: a path, whose names are joined by `/`, and a class, whose names are joined by `.`.
+-- Trusted: part of what a promise means.
 use Rattle.std.specs.Prelude.{◌≡◌, ◌==◌, ◌&&◌, ◌||◌, ℕ, Bool, true, nat_le, List, [], ◌∷◌, ◌++◌}
 
 -- a name begins with a letter or `_` ..

@@ -1,4 +1,5 @@
 -- Whole texts of lines, and what is answered of each of their bytes.
+-- Trusted: part of what a promise means.
 use Rattle.std.specs.Prelude.{◌≡◌, ◌≢◌, ◌⊎◌, ℕ, ◌-◌, List, [], ◌∷◌, ◌++◌, length, replicate}
 use Rattle.std.specs.List.{concat}
 use Rattle.trace_text.specs.declared.line.Line.{Line}
