@@ -16,8 +16,6 @@ mod run;
 mod stack;
 mod step;
 mod stepping;
-#[cfg(test)]
-mod tests;
 mod truth;
 
 pub use code_ir::Outcome;

@@ -12,8 +12,6 @@ pub mod ast;
 mod evaluate;
 mod laws;
 mod reader;
-#[cfg(test)]
-mod tests;
 mod value;
 
 pub use evaluate::sent_for;

@@ -10,8 +10,6 @@ mod exposing;
 mod guards;
 mod rates;
 mod taken;
-#[cfg(test)]
-mod tests;
 
 pub use choosing::{Choice, select};
 pub use exposing::is_exposed;

@@ -12,8 +12,6 @@ pub mod laws;
 mod lowered;
 mod parts;
 mod straight;
-#[cfg(test)]
-mod tests;
 
 pub use lowered::{Lowered, Unfit};
 pub use parts::{ActionCode, Parts, StateCell};

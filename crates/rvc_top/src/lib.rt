@@ -8,8 +8,6 @@ mod plain;
 mod preparing;
 mod reporting;
 mod status;
-#[cfg(test)]
-mod tests;
 mod top;
 
 pub use rvc_words::UsageCause;

@@ -9,8 +9,6 @@ mod names;
 mod numbers;
 mod parts;
 mod reader;
-#[cfg(test)]
-mod tests;
 
 pub use fault::{UsageCause, WordFault};
 pub use job::{

@@ -1,7 +1,7 @@
 //! Cells as a caller reads and writes them.
 
 use super::programs::PORTS;
-use crate::{Cells, Run, cells};
+use action_machine::{Cells, Run, cells};
 use code_ir::{ActorCode, Admitted, Instr, admit, are_few, are_sized, has_tokens};
 use rvc_base::{Num, Scalar};
 use std::alloc::{AllocError, Global};

@@ -1,7 +1,7 @@
 //! A small actor in code, and bodies that don't keep the facts.
 
-use super::*;
 use code_ir::{ActorCode, Admitted, Instr, admit, are_few, are_sized};
+use lowered_actor::{ActionCode, Lowered, Parts, StateCell, Unfit};
 use priority_order::close;
 use rvc_base::{Memory, Num, Scalar};
 use schedule_fsm::{Fsm, Step, build};

@@ -1,6 +1,6 @@
 //! Lines of words with what they ask for, or the cause why they ask for nothing.
 
-use crate::{Job, PortWord, WordFault, read_words};
+use rvc_words::{Job, PortWord, WordFault, read_words};
 use std::alloc::{AllocError, Global};
 use std::process::Abort;
 use std::test::Fail;

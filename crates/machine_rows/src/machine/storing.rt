@@ -3,7 +3,7 @@
 use super::programs::Answer::{Gives, Traps};
 use super::programs::Found::Ran;
 use super::programs::{Answer, Found, hold, hold_of_two, hold_on_six, run};
-use crate::Outcome;
+use action_machine::Outcome;
 use code_ir::Instr;
 use rvc_base::{Num, Scalar, Trap};
 use std::alloc::Global;

@@ -1,7 +1,7 @@
 //! Runs over the objects in memory: their outputs, traces, reports and statuses, and what faults leave.
 
-use crate::{Status, rvc};
 use rvc_io::{MemDrains, MemFeeds, MemLibrary, OpenGate, names_are_distinct};
+use rvc_top::{Status, rvc};
 use std::alloc::{AllocError, Global};
 use std::process::Abort;
 use std::test::Fail;

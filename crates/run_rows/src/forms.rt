@@ -1,7 +1,7 @@
 //! Sources with the actor that they spell, or the rule that they break and where.
 
-use crate::ast::{Actor, Operand, Operator};
-use crate::read_form;
+use first_form::ast::{Actor, Operand, Operator};
+use first_form::read_form;
 use rvc_base::Front;
 use std::alloc::{AllocError, Global};
 use std::process::Abort;

@@ -2,7 +2,7 @@
 
 ghost use Rattle.std.specs.Prelude.{ℕ, ℤ, List, [], if◌then◌else◌, ◌==◌};
 
-use crate::{Cells, Outcome, Run, cells};
+use action_machine::{Cells, Outcome, Run, cells};
 use code_ir::{
     ActorCode, Admitted, CodeFault, Instr, Routine, Tokens, admit, are_few, are_sized, has_tokens,
 };

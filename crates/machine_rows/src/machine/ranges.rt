@@ -2,7 +2,7 @@
 
 use super::programs::Found::Ran;
 use super::programs::{Found, hold_on_six};
-use crate::Outcome;
+use action_machine::Outcome;
 use code_ir::Instr;
 use rvc_base::{Num, Trap};
 

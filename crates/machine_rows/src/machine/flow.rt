@@ -2,7 +2,7 @@
 
 use super::programs::Found::Ran;
 use super::programs::{Found, Program, hold};
-use crate::Outcome;
+use action_machine::Outcome;
 use code_ir::{Instr, Routine};
 use rvc_base::{MAX_TURNS, Num, Trap};
 use std::alloc::Global;

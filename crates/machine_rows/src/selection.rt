@@ -2,9 +2,9 @@
 
 ghost use Rattle.std.specs.Prelude.{◌<◌, ◌^◌, length};
 
-use super::*;
 use action_machine::cells;
 use code_ir::{ActorCode, Admitted, Instr, Tokens, admit, are_few, are_sized};
+use guard_select::{Choice, is_exposed, select};
 use lowered_actor::{ActionCode, Lowered, Parts};
 use priority_order::close;
 use rvc_base::{ActId, Memory, Num, Trap};
