@@ -10,7 +10,7 @@ abbrev pub effect_of : Acted → List ℤ → List ℤ → Effect
 effect_of acted.On stack cells = Leaves stack cells
 effect_of (acted.Fails trap) stack cells = Fails trap
 
--- where it fails, this holds
+-- if it fails, this holds
 abbrev pub OnFails : Acted → Type 0 → Type 0
 OnFails acted.On P = Unit {0}
 OnFails (acted.Fails trap) P = P

@@ -15,7 +15,7 @@ use Rattle.action_machine.specs.Stacks.{top_first}
 abbrev pub state_of : Registers → List ℤ → List ℕ → List ℤ → State
 state_of at stack frames cells = record { place = at.place; stack = top_first (pos 0) at.top stack; frames = top_first 0 at.depth frames; cells = cells; left = at.left }
 
--- what a step comes to: no outcome where the run goes on
+-- what a step comes to: no outcome if the run goes on
 abbrev pub next_of : Option Outcome → State → Next
 next_of None s = Goes s
 next_of (Some o) s = Over o s.cells

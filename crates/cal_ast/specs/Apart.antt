@@ -1,4 +1,4 @@
--- Trees that are equal, offsets aside.
+-- Trees that are equal, ignoring offsets.
 -- Trusted: part of what a promise means.
 use Rattle.std.specs.Prelude.{◌≡◌}
 use Rattle.cal_ast.specs.Tree.{Tree, absent, present, nil, cons, ident, tag, import_part, file, actor, unit, param, port, var, function, procedure, action, pattern, output, schedule, move, priority, type_of, shape_arg, value_arg, assign, call_stmt, if_stmt, while_stmt, foreach_stmt, block, number, truth, variable, call, paren, if_expr, list, comp, gen, index, prefix, binary}
@@ -48,6 +48,6 @@ unplaced (index base place at) = index (unplaced base) (unplaced place) 0
 unplaced (prefix op operand at) = prefix op (unplaced operand) 0
 unplaced (binary op left right at) = binary op (unplaced left) (unplaced right) 0
 
--- equal, offsets aside
+-- equal, ignoring offsets
 abbrev pub IsEqualApart : Tree → Tree → Type 0
 IsEqualApart t u = unplaced t ≡ unplaced u

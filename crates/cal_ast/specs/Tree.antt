@@ -20,7 +20,7 @@ pub data Tree : Type 0 where
   file : (in_package imports body : Tree) (at : ℕ) → Tree
   actor : (name params ins outs members : Tree) (at : ℕ) → Tree
   unit : (name members : Tree) (at : ℕ) → Tree
-  -- members; `changes` is false where a variable is declared with `=`
+  -- members; `changes` is false if a variable is declared with `=`
   param : (shape name start : Tree) (at : ℕ) → Tree
   port : (shape name : Tree) (at : ℕ) → Tree
   var : (shape name start : Tree) (changes : Bool) (at : ℕ) → Tree

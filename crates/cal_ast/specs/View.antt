@@ -1,4 +1,4 @@
--- The plain tree that each declared type stands for. Two values are equal trees where their plain trees are equal.
+-- The plain tree that each declared type stands for. Two values are equal trees if their plain trees are equal.
 -- Trusted: part of what a promise means.
 use Rattle.std.specs.Prelude.{ℕ, List, map, Option, Some, None, option_map, string_bytes, Vec}
 use Rattle.std.specs.declared.alloc.Global.{Global}

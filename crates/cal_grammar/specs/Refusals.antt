@@ -19,7 +19,7 @@ IsNoFile ts left = IsRefused spells ts left
 abbrev pub IsHighFile : List Placed → List Placed → Type 0
 IsHighFile ts left = IsTooHigh spells height max_height ts left
 
--- the offset of the first of these tokens; where there is none, the end of the text
+-- the offset of the first of these tokens; if there is none, the end of the text
 abbrev pub place_in : ℕ → List Placed → ℕ
 place_in end [] = end
 place_in end (t ∷ ts) = offset t
@@ -29,7 +29,7 @@ pub data Breaks (end : ℕ) (ts : List Placed) : Rule → ℕ → Type 0 where
   breaks_off : (left : List Placed) → IsNoFile ts left → Breaks end ts spells_no_file (place_in end left)
   grows_high : (t : Placed) (left : List Placed) → IsHighFile ts (t ∷ left) → Breaks end ts too_high (offset t)
 
--- a refusal names this file, and what its tokens break; want of memory says nothing of them
+-- a refusal names this file, and what its tokens break; running out of memory says nothing of them
 abbrev pub IsRightly : ℕ → ℕ → List Placed → Answer → Type 0
 IsRightly number end ts (Refused refusal) = (refusal.place.file ≡ number) × Breaks end ts refusal.rule refusal.place.offset
 IsRightly number end ts Memory = Unit {0}

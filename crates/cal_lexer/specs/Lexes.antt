@@ -28,12 +28,12 @@ lexes text tokens = LexesFrom text 0 tokens
 abbrev pub faults : List ℕ → Rule → ℕ → Type 0
 faults text rule place = FaultsFrom text 0 rule place
 
--- a refusal names the fault that the text has first; want of memory says nothing of it
+-- a refusal names the fault that the text has first; running out of memory says nothing of it
 abbrev pub IsRightly : ℕ → List ℕ → Answer → Type 0
 IsRightly number text (Refused refusal) = (refusal.place.file ≡ number) × faults text refusal.rule refusal.place.offset
 IsRightly number text Memory = Unit {0}
 
--- want of memory, or a refusal that names this rule and this place
+-- out of memory, or a refusal that names this rule and this place
 abbrev pub IsMemoryOr : ℕ → Rule → ℕ → Answer → Type 0
 IsMemoryOr number rule at (Refused refusal) = (refusal.rule ≡ rule) × (refusal.place.file ≡ number) × (refusal.place.offset ≡ at)
 IsMemoryOr number rule at Memory = Unit {0}

@@ -9,7 +9,7 @@ use Rattle.cal_lexer.specs.Lexes.{FaultsFrom}
 use Rattle.cal_lexer.specs.declared.piece.Piece.{Piece}
 use Rattle.cal_lexer.specs.declared.piece.Piece.TheVariants.{Gap, Token, Fault}
 
--- no longer front is a symbol
+-- no longer prefix is a symbol
 pub record IsLongestSymbol (bytes : List ℕ) (size : ℕ) (kind : Lexeme) : Type 0 where
   pub positive : 0 < size
   pub within : size ≤ length bytes

@@ -53,7 +53,7 @@ pub record Output : Type 0 where
   pub repeat : Option ℕ
 
 pub record Action : Type 0 where
-  -- the parts of its tag, none where it is untagged
+  -- the parts of its tag, none if it is untagged
   pub tag : List (List ℕ)
   pub patterns : List Pattern
   pub outputs : List Output
@@ -77,7 +77,7 @@ pub record Actor : Type 0 where
   pub funs : List Fun
   pub procs : List Proc
   pub actions : List Action
-  -- the names of the schedule's states in their order, none where there is no schedule
+  -- the names of the schedule's states in their order, none if there is no schedule
   pub states : List (List ℕ)
   pub moves : List Move
   -- which action is declared above which

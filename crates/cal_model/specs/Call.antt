@@ -20,7 +20,7 @@ declared [] calls env left = Gives env left
 declared (x ∷ xs) calls env left =
     and_then (first_value x.shape x.start calls env left) (λ v m. declared xs calls (with_local (variable x.name x.shape x.changes v) env) m)
 
--- The arguments by the names of the formals, each stored in its type; none where they aren't as many. Later ones stand
+-- The arguments by the names of the formals, each stored in its type; none if they aren't as many. Later ones stand
 -- in front, as later locals do.
 abbrev pub arguments : List Local → Values → Option (List Var)
 arguments [] Nil = Some []
@@ -42,13 +42,13 @@ abbrev pub fun_named : List ℕ → List Fun → Option Fun
 fun_named name [] = None
 fun_named name (f ∷ fs) = if bytes_eq f.name name then Some f else fun_named name fs
 
--- What functions give, where at most so many calls are open at once.
+-- What functions give, if at most so many calls are open at once.
 abbrev pub calls_within : ℕ → List Fun → Calls
 calls_within zero funs globals name args left = Lacks
 calls_within (suc n) funs globals name args left =
     elim (fun_named name funs) [ None ↦ Lacks | Some f ↦ answered f (calls_within n funs) globals args left ]
 
--- What functions give. None calls itself, directly or round about, so never more calls are open than there are
+-- What functions give. None calls itself, directly or indirectly, so never more calls are open than there are
 -- functions.
 abbrev pub calls_of : List Fun → Calls
 calls_of funs = calls_within (length funs) funs

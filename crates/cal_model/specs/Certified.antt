@@ -77,7 +77,7 @@ abbrev mutual
 
 -- ---- names of guards
 
--- a name with its type, and its value where it is a constant
+-- a name with its type, and its value if it is a constant
 pub record Ranged : Type 0 where
   pub name : List ℕ
   pub shape : Shape
@@ -129,7 +129,7 @@ range_of_both BitOr i j = Some all_numbers
 range_of_both BitXor i j = Some all_numbers
 range_of_both op i j = Some truths
 
--- the range of what has this type, and this value where it is or is part of a constant
+-- the range of what has this type, and this value if it is or is part of a constant
 abbrev pub range_of_name : Ranged → Option Interval
 range_of_name x = elim x.shape [
   | Single t ↦ elim x.value [ None ↦ fitting (type_range t) | Some v ↦ elim (scalars_range v) [ None ↦ None | Some i ↦ fitting i ] ]

@@ -4,7 +4,7 @@
 use Rattle.std.specs.Prelude.{◌≡◌, ℕ, max, ◌<◌, ◌⊎◌, Bool, true, false, ◌||◌, ◌&&◌, List, [], ◌∷◌, length, ◌==◌, if◌then◌else◌, Option, None, Some, is_some, slice_get}
 use Rattle.cal_model.specs.Actor.{Action, Move, Actor}
 
--- there are as many states as the schedule names, and state 0 alone where there is no schedule
+-- there are as many states as the schedule names, and state 0 alone if there is no schedule
 abbrev pub states_of : Actor → ℕ
 states_of actor = max 1 (length actor.states)
 
@@ -16,7 +16,7 @@ abbrev pub has_initialize : List Action → Bool
 has_initialize [] = false
 has_initialize (act ∷ acts) = act.initialize || has_initialize acts
 
--- a state of the schedule, or the fresh one where there is an `initialize`
+-- a state of the schedule, or the fresh one if there is an `initialize`
 abbrev pub IsStateOf : Actor → ℕ → Type 0
 IsStateOf actor s = (s < states_of actor) ⊎ ((has_initialize actor.actions ≡ true) × (s ≡ fresh actor))
 

@@ -19,7 +19,7 @@ use Rattle.cal_model.specs.Value.{Shape, Single, Many, Value, Num, Truth, Items,
 use Rattle.cal_model.specs.Outcome.{Out, Gives, Traps, Clashes, and_then, turn, alone, needed, known}
 use Rattle.cal_model.specs.Env.{Var, Env, look_up, variable, with_local, item_at}
 
--- what a function gives: over the globals, by its name, for these arguments, where so many turns are left
+-- what a function gives: over the globals, by its name, for these arguments, if so many turns are left
 abbrev pub Calls : Type 0
 Calls = List Var → List ℕ → Values → ℕ → Out Value
 
@@ -71,7 +71,7 @@ applied op (Num a) (Num b) left = of_numbers op a b left
 applied op (Truth a) (Truth b) left = of_truths op a b left
 applied op v w left = Clashes
 
--- An operation once its left side is evaluated. The right side of `and` and `or` is evaluated only where the left
+-- An operation once its left side is evaluated. The right side of `and` and `or` is evaluated only if the left
 -- one doesn't decide.
 abbrev pub with_right : BinOp → Value → (ℕ → Out Value) → ℕ → Out Value
 with_right And (Truth false) right left = Gives (Truth false) left
@@ -114,7 +114,7 @@ pub record Given : Type 0 where
 abbrev pub nothing_given : Given
 nothing_given = record { items = None; size = None }
 
--- a size of bits, or 32 where none is given
+-- a size of bits, or 32 if none is given
 abbrev pub bits : Option ℕ → (ℕ → Shape) → Option Shape
 bits None f = Some (f default_size)
 bits (Some n) f = if nat_le 1 n && nat_le n max_size then Some (f n) else None

@@ -45,7 +45,7 @@ abbrev pub numbers_of : Values → List ℤ
 numbers_of Nil = []
 numbers_of (Cons v vs) = number_of v ∷ numbers_of vs
 
--- the numbers that values send, which are lists where the output is repeated
+-- the numbers that values send, which are lists if the output is repeated
 abbrev pub sent_numbers : Option ℕ → Values → List ℤ
 sent_numbers None vs = numbers_of vs
 sent_numbers (Some n) vs = interleaved n 0 vs

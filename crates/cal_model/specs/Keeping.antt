@@ -78,7 +78,7 @@ given_by (OfSize name z ∷ args) = record (given_by args) { size = size_of_valu
 
 -- ---- environments
 
--- a value that may stand under a name: of its kind, and the constant where the name is one
+-- a value that may stand under a name: of its kind, and the constant if the name is one
 pub record StandsFor (x : Known) (v : Value) : Type 0 where
   pub kind : HasKind x.kind v
   pub constant : (w : Value) → x.value ≡ Some w → v ≡ w
@@ -87,7 +87,7 @@ pub record StandsFor (x : Known) (v : Value) : Type 0 where
 abbrev pub StandFor : List Known → List Var → Type 0
 StandFor names vars = (name : List ℕ) (x : Known) (v : Value) → known_as name names ≡ Some x → find name vars ≡ Some v → StandsFor x v
 
--- .. where none is missing
+-- .. if none is missing
 abbrev pub HasEach : List Known → List Var → Type 0
 HasEach names vars = (name : List ℕ) (x : Known) → known_as name names ≡ Some x → (v : Value) × (find name vars ≡ Some v)
 
@@ -123,12 +123,12 @@ pub record IsOfItsKinds (names : Names) (f : Fun) : Type 0 where
   pub result : IsSize f.result
   pub body : kind f.body (with_locals f.locals (with_locals f.formals (outside names))) ≡ Fine (kind_of_scalar f.result)
 
--- what the function that is named gives over all functions, or nothing where there is none
+-- what the function that is named gives over all functions, or nothing if there is none
 abbrev pub answer : List Fun → List Var → Values → ℕ → Option Fun → Out Value
 answer funs globals args left None = Lacks
 answer funs globals args left (Some f) = answered f (calls_of funs) globals args left
 
--- what the procedure that is named makes of the globals over all procedures, or nothing where there is none
+-- what the procedure that is named makes of the globals over all procedures, or nothing if there is none
 abbrev pub made : List Proc → Calls → List Var → Values → ℕ → Option Proc → Out (List Var)
 made procs calls globals args left None = Lacks
 made procs calls globals args left (Some p) = performed p calls (runs_of procs calls) globals args left

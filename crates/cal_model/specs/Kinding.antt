@@ -1,7 +1,7 @@
 -- The kind of an expression, over the kinds of its names and the values of its constants (ISO/IEC 23001-4, RVC-CAL:
 -- expressions and types).
 --
--- Parts come before wholes, and from left to right: where an expression has no kind, the first rule that it breaks is
+-- Parts come before wholes, and from left to right: if an expression has no kind, the first rule that it breaks is
 -- named with its place.
 -- Trusted: part of what a promise means.
 use Rattle.std.specs.Prelude.{ℕ, zero, suc, ◌*◌, Bool, true, false, not, ◌&&◌, ◌||◌, ◌==◌, nat_le, List, [], ◌∷◌, ◌++◌, length, codes, ℤ, pos, negsuc, if◌then◌else◌, Option, None, Some}
@@ -39,7 +39,7 @@ and_so (Broken rule at) f = Broken rule at
 
 -- ---- names
 
--- a name with its kind, its value where it is a constant, and whether it may be assigned
+-- a name with its kind, its value if it is a constant, and whether it may be assigned
 pub record Known : Type 0 where
   pub name : List ℕ
   pub kind : Kind
@@ -114,7 +114,7 @@ is_same_kind BoolKind BoolKind = true
 is_same_kind (ListKind n k) (ListKind m l) = (n == m) && is_same_kind k l
 is_same_kind k l = false
 
--- the one kind that both are, where a value of the second stands for one of the first
+-- the one kind that both are, if a value of the second stands for one of the first
 abbrev pub one_kind : Kind → Kind → ℕ → Judged Kind
 one_kind k l at = if is_same_kind k l then Fine k else if is_like k l then Broken wrong_length at else Broken wrong_kind at
 

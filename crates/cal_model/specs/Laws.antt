@@ -74,7 +74,7 @@ abbrev pub ChosenTraps : Type 0
 ChosenTraps = (actor : Actor) (p : Priorities actor) (x : State) (u : List (List ℤ)) (a : ℕ) (c : Trap)
     → choice actor p x u ≡ Faults a c → IsExposed actor x u a × (readiness actor x u a ≡ AreTrapping c)
 
--- there is none to choose where no action is enabled or has guards that trap
+-- there is none to choose if no action is enabled or has guards that trap
 abbrev pub WaitingIsIdle : Type 0
 WaitingIsIdle = (actor : Actor) (p : Priorities actor) (x : State) (u : List (List ℤ))
     → choice actor p x u ≡ Waits → (a : ℕ) → readiness actor x u a ≡ AreFalse
@@ -140,7 +140,7 @@ TagsStandFor = (actor : Actor) (tag : List (List ℕ)) (a : ℕ) → Contains (s
 abbrev pub TransitionsLead : Type 0
 TransitionsLead = (actor : Actor) (t : Transition) (m : Move) → Contains (moves_of actor t) m ↔ IsMoveOf actor t m
 
--- a chain puts an action above another where a tag stands for the one and the next tag for the other
+-- a chain puts an action above another if a tag stands for the one and the next tag for the other
 abbrev pub ChainsPutAbove : Type 0
 ChainsPutAbove = (actor : Actor) (tags : List (List (List ℕ))) (a b : ℕ) → Contains (pairs_of actor tags) (a, b) ↔ IsPairOf actor tags a b
 
@@ -201,15 +201,15 @@ AsManyAreKept = (actor : Actor) (u : List (List ℤ)) (port : ℕ) → port < le
 
 -- ---- loops
 
--- a loop over n numbers makes n turns where its body makes none ..
+-- a loop over n numbers makes n turns if its body makes none ..
 abbrev pub LoopsCountTurns : Type 0
 LoopsCountTurns = (n left : ℕ) (i : ℤ) (env : Env) → for_loop n i (λ at now k. Gives now k) env (n + left) ≡ Gives env left
 
--- .. and is one turn too many where fewer are left
+-- .. and is one turn too many if fewer are left
 abbrev pub LoopsEndByTurns : Type 0
 LoopsEndByTurns = (n left : ℕ) (i : ℤ) (env : Env) → left < n → for_loop n i (λ at now k. Gives now k) env left ≡ Traps TurnLimit
 
--- A `while` evaluates its condition; where it is true, a turn and the body follow, and then the same `while`. The bound
+-- A `while` evaluates its condition; if it is true, a turn and the body follow, and then the same `while`. The bound
 -- that its definition is started with never shows.
 abbrev pub WhileUnfolds : Type 0
 WhileUnfolds = (test body : Tree) (at : ℕ) (calls : Calls) (runs : Runs) (env : Env) (left : ℕ) → CallsTakeTurns calls → RunsTakeTurns runs
@@ -217,7 +217,7 @@ WhileUnfolds = (test body : Tree) (at : ℕ) (calls : Calls) (runs : Runs) (env 
     ≡ and_then (eval test calls env left) (λ v m.
     chosen v (λ k. turn k (λ j. and_then (exec_all body calls runs env j) (λ next i. exec (tree.while_stmt test body at) calls runs next i))) (λ k. Gives env k) m)
 
--- a loop over the numbers from low to high does nothing where there are none; else a turn and the body at the first
+-- a loop over the numbers from low to high does nothing if there are none; else a turn and the body at the first
 -- follow, and then the loop from the next one
 abbrev pub NumbersUnfold : Type 0
 NumbersUnfold = (low high : ℤ) (body : ℤ → Env → ℕ → Out Env) (env : Env) (left : ℕ)
@@ -235,19 +235,19 @@ ProceduresTakeTurns = (procs : List Proc) (calls : Calls) → CallsTakeTurns cal
 
 -- ---- kinds
 
--- an expression that has a kind gives a value of that kind, or traps; where the environment lacks names, it may lack one ..
+-- an expression with a kind gives a value of that kind, or traps; if the environment lacks names, it may lack one ..
 abbrev pub KindIsKept : Type 0
 KindIsKept = (names : Names) (env : Env) (e : Tree) (k : Kind) (left : ℕ)
     → Each (IsOfItsKinds names) names.funs → IsEnvOf names env → kind e names ≡ Fine k
     → GivesOnly (HasKind k) left (eval e (calls_of names.funs) env left)
 
--- .. and lacks none where the environment has all, and no function calls itself, directly or round about
+-- .. and lacks none if the environment has all, and no function calls itself, directly or indirectly
 abbrev pub NothingIsLacking : Type 0
 NothingIsLacking = (names : Names) (env : Env) (e : Tree) (k : Kind) (left : ℕ)
     → Each (IsOfItsKinds names) names.funs → FunsNeverReturn names.funs → IsEnvOf names env → HasAllOf names env → kind e names ≡ Fine k
     → LacksNothing (eval e (calls_of names.funs) env left)
 
--- where no name is declared inside, what an expression gives as a constant is what it gives over the constants
+-- if no name is declared inside, what an expression gives as a constant is what it gives over the constants
 abbrev pub ConstantIsValue : Type 0
 ConstantIsValue = (globals : List Known) (funs : List Fun) (e : Tree)
     → constant e (record { globals = globals; locals = []; funs = funs }) ≡ eval e (calls_of funs) (record { globals = constants globals; locals = [] }) max_turns
@@ -277,7 +277,7 @@ CallIsKept = (names : Names) (globals : List Var) (name : List ℕ) (f : Fun) (a
     → Each (IsOfItsKinds names) names.funs → StandFor names.globals globals → fun_named name names.funs ≡ Some f → AreArguments f.formals args
     → GivesOnly (HasKind (kind_of_scalar f.result)) left (calls_of names.funs globals name args left)
 
--- Where no function calls itself, directly or round about, what one gives is what its body gives over all functions: the
+-- If no function calls itself, directly or indirectly, what one gives is what its body gives over all functions: the
 -- bound on open calls never shows.
 abbrev pub CallIsAnswered : Type 0
 CallIsAnswered = (funs : List Fun) (globals : List Var) (name : List ℕ) (args : Values) (left : ℕ)

@@ -10,7 +10,7 @@ pub data Out (A : Type 0) : Type 0 where
   Traps : Trap → Out A
   -- a name is reached that means nothing
   Lacks : Out A
-  -- a part is of another kind than its form asks; never where the whole has a kind
+  -- a part is of another kind than its form asks; never if the whole has a kind
   Clashes : Out A
 
 abbrev pub and_then : {A B : Type 0} → Out A → (A → ℕ → Out B) → Out B
@@ -19,12 +19,12 @@ and_then (Traps c) f = Traps c
 and_then Lacks f = Lacks
 and_then Clashes f = Clashes
 
--- one turn, and then f. Where no turn is left, that is one turn too many.
+-- one turn, and then f. If no turn is left, that is one turn too many.
 abbrev pub turn : {A : Type 0} → ℕ → (ℕ → Out A) → Out A
 turn zero f = Traps TurnLimit
 turn (suc left) f = f left
 
--- what counts its turns for itself, where so many are left outside
+-- what counts its turns for itself, if so many are left outside
 abbrev pub alone : {A : Type 0} → Out A → ℕ → Out A
 alone (Gives a used) left = Gives a left
 alone (Traps c) left = Traps c

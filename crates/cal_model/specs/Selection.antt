@@ -112,7 +112,7 @@ abbrev pub guards_say : List Tree → Calls → Env → Guards
 guards_say [] calls env = AreTrue
 guards_say (g ∷ gs) calls env = guard_then (eval g calls env max_turns) (guards_say gs calls env)
 
--- What the guards of an action say. Where it isn't eligible or lacks tokens, they are false.
+-- What the guards of an action say. If it isn't eligible or lacks tokens, they are false.
 abbrev pub readiness : Actor → State → List (List ℤ) → ℕ → Guards
 readiness actor x u a = elim (slice_get actor.actions a) [
   | None ↦ AreFalse

@@ -119,7 +119,7 @@ pub record FunCallsBelow (rank : List ℕ → ℕ) (f : Fun) : Type 0 where
 pub record ProcCallsBelow (rank : List ℕ → ℕ) (p : Proc) : Type 0 where
   pub body : EachCall (λ name. Unit {0}) (λ name. rank name < rank p.name) p.body
 
--- None calls itself, directly or round about: they have ranks, as many as there are functions or procedures, and
+-- None calls itself, directly or indirectly: they have ranks, as many as there are functions or procedures, and
 -- each calls only those of lower ranks.
 pub record FunsNeverReturn (funs : List Fun) : Type 0 where
   pub rank : List ℕ → ℕ
@@ -266,7 +266,7 @@ repeat_in q = q.repeat
 abbrev pub repeat_out : Output → Option ℕ
 repeat_out o = o.repeat
 
--- the kind of what stands for tokens, which are lists where they are repeated
+-- the kind of what stands for tokens, which are lists if they are repeated
 abbrev pub kind_of_tokens : Scalar → Option ℕ → Kind
 kind_of_tokens t None = kind_of_scalar t
 kind_of_tokens t (Some n) = ListKind n (kind_of_scalar t)

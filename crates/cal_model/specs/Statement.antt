@@ -12,7 +12,7 @@ use Rattle.cal_model.specs.Expression.{Calls, eval, eval_all, chosen, span, rang
 use Rattle.cal_model.specs.Actor.{Proc}
 use Rattle.cal_model.specs.Call.{declared, on_call}
 
--- what a procedure makes of the globals: by its name, for these arguments, where so many turns are left
+-- what a procedure makes of the globals: by its name, for these arguments, if so many turns are left
 abbrev pub Runs : Type 0
 Runs = List Var → List ℕ → Values → ℕ → Out (List Var)
 
@@ -99,13 +99,13 @@ abbrev pub proc_named : List ℕ → List Proc → Option Proc
 proc_named name [] = None
 proc_named name (p ∷ ps) = if bytes_eq p.name name then Some p else proc_named name ps
 
--- what procedures do, where at most so many of their calls are open at once
+-- what procedures do, if at most so many of their calls are open at once
 abbrev pub runs_within : ℕ → List Proc → Calls → Runs
 runs_within zero procs calls globals name args left = Lacks
 runs_within (suc n) procs calls globals name args left =
     elim (proc_named name procs) [ None ↦ Lacks | Some p ↦ performed p calls (runs_within n procs calls) globals args left ]
 
--- What procedures do. None calls itself, directly or round about, so never more of their calls are open than
+-- What procedures do. None calls itself, directly or indirectly, so never more of their calls are open than
 -- there are procedures.
 abbrev pub runs_of : List Proc → Calls → Runs
 runs_of procs calls = runs_within (length procs) procs calls

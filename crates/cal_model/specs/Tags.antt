@@ -17,7 +17,7 @@ is_prefix_tag (x ∷ xs) (y ∷ ys) = bytes_eq x y && is_prefix_tag xs ys
 abbrev pub may_be_meant : Action → Bool
 may_be_meant act = not act.initialize && not (is_empty act.tag)
 
--- the numbers of the actions that a tag stands for, where the first is number k
+-- the numbers of the actions that a tag stands for, if the first is number k
 abbrev pub stands_from : ℕ → List (List ℕ) → List Action → List ℕ
 stands_from k tag [] = []
 stands_from k tag (act ∷ acts) = if may_be_meant act && is_prefix_tag tag act.tag then k ∷ stands_from (suc k) tag acts else stands_from (suc k) tag acts
@@ -58,7 +58,7 @@ abbrev pub seen_in : List (List ℕ) → List Transition → List (List ℕ)
 seen_in seen [] = seen
 seen_in seen (t ∷ ts) = seen_in (with_seen (with_seen seen t.from) t.to) ts
 
--- the states of a schedule in the order of first sight, the initial one first
+-- the states of a schedule in order of first appearance, the initial one first
 abbrev pub states_seen : List ℕ → List Transition → List (List ℕ)
 states_seen initial transitions = seen_in (initial ∷ []) transitions
 

@@ -44,12 +44,12 @@ is_loose (prefix op operand at) = true
 is_loose (if_expr test first other at) = true
 is_loose _ = false
 
--- these tokens in a pair of parentheses, where that is asked for
+-- these tokens in a pair of parentheses, if that is asked for
 abbrev pub paired : Bool → List Lexeme → List Lexeme
 paired true ws = Lexeme.LeftParen ∷ ws ++ (Lexeme.RightParen ∷ [])
 paired false ws = ws
 
--- tokens that introduce a list of parts, where there are any
+-- tokens that introduce a list of parts, if there are any
 abbrev pub where_any : Tree → List Lexeme → List Lexeme
 where_any nil ws = []
 where_any _ ws = ws

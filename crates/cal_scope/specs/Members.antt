@@ -40,7 +40,7 @@ procedure_resolved other names = Broken unknown_name 0
 
 -- ---- actions
 
--- the names of an actor's ports, which are asked for only where a port is named
+-- the names of an actor's ports, which are asked for only if a port is named
 pub record Ports : Type 0 where
   pub ins : List (List ℕ)
   pub outs : List (List ℕ)

@@ -28,7 +28,7 @@ module _ {P X : Type 0} (state : P → X) (marked : P → Bool) (gives : X → X
 
   -- what is true of each view
   pub record Knows (v : View P) : Type 0 where
-    -- it stands for no pass exactly where it was joined to another one
+    -- it stands for no pass exactly if it was joined to another one
     pub spent : v.passes ≡ 0 → v ≡ blank
     -- else it has the pieces as they were put
     pub starts : 0 < v.passes → v.put ≡ put

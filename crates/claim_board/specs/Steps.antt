@@ -30,7 +30,8 @@ module _ {P : Type 0} where
   abbrev pub with_home : View P → List ℕ → View P
   with_home v places = record { passes = v.passes; put = v.put; drawn = v.drawn; home = v.home ++ places }
 
-  -- a number was drawn, which is above each that this view drew before; where it is a place, its slot is out with the piece that was put there
+  -- a number was drawn, which is above each that this view drew before; if it is a place, its slot is out with the
+  -- piece that was put there
   abbrev pub drew : Step (Slot P) → Seated P → ℕ → Seated P → Type 0
   drew st m n m' =
       (m'.0 ≡ with_number m.0 n)

@@ -31,7 +31,7 @@ abbrev pub body_of : Code → ℕ → ℕ
 body_of code zero = 0
 body_of code (suc p) = if is_among (suc p) (begins code) then suc p else body_of code p
 
--- The number of the routine whose body begins at a place. Where none does, as at the bodies of entries, it is
+-- The number of the routine whose body begins at a place. If none does, as at the bodies of entries, it is
 -- the number of routines.
 abbrev pub routine_at : List Routine → ℕ → ℕ
 routine_at [] place = 0

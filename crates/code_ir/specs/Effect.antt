@@ -53,7 +53,7 @@ push_computed (Traps trap) stack cells = Fails trap
 
 -- ---- ranges of cells
 
--- n cells from s on go to those from d on, in order from the first: where the ranges overlap, a cell that was
+-- n cells from s on go to those from d on, in order from the first: if the ranges overlap, a cell that was
 -- written is read as written
 abbrev pub copied : Option Scalar → ℕ → ℕ → ℕ → List ℤ → List ℤ
 copied t d s zero cells = cells
@@ -67,7 +67,7 @@ abbrev pub push_token : Option ℤ → List ℤ → List ℤ → Effect
 push_token None stack cells = LacksToken
 push_token (Some v) stack cells = Leaves (v ∷ stack) cells
 
--- the tokens k, k + m and so on, n of them, go to the cells from d on; none where one isn't there
+-- the tokens k, k + m and so on, n of them, go to the cells from d on; none if one isn't there
 abbrev pub taken : List ℤ → ℕ → ℕ → ℕ → ℕ → List ℤ → Option (List ℤ)
 taken tokens d k m zero cells = Some cells
 taken tokens d k m (suc n) cells = elim (slice_get tokens k) [ None ↦ None | Some v ↦ taken tokens (d + 1) (k + m) m n (slice_set cells d v) ]

@@ -36,7 +36,7 @@ abbrev pub frames_left : Code → List ℕ → ℕ
 frames_left code [] = 0
 frames_left code (f ∷ frames) = body_left code f + frames_left code frames
 
--- a jump that isn't forward may come before the next turn; none where the turn comes at once
+-- a jump that isn't forward may come before the next turn; none if the turn comes at once
 abbrev pub jumps_left : Option Instr → ℕ
 jumps_left None = 1
 jumps_left (Some Turn) = 0

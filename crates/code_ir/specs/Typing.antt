@@ -211,7 +211,7 @@ pub record IsAdmitted (code : Code) : Type 0 where
   pub places : PlacesStand code
   pub typed : (p : ℕ) (i : Instr) → slice_get code.instrs p ≡ Some i → IsTyped code p i
 
--- ---- what is named where a line is broken
+-- ---- what is named if a line is broken
 
 -- it is the first of these places that is wrong
 pub record IsFirstWrong (size : ℕ) (places : List ℕ) (at : ℕ) : Type 0 where
@@ -220,7 +220,7 @@ pub record IsFirstWrong (size : ℕ) (places : List ℕ) (at : ℕ) : Type 0 whe
   pub before : AreDistinct size (take index places)
   pub wrong : IsWrong size (take index places) at
 
--- the first of these places that is wrong, or 0 where no body begins there
+-- the first of these places that is wrong, or 0 if no body begins there
 abbrev pub IsWrongAmong : ℕ → List ℕ → ℕ → Type 0
 IsWrongAmong size places at = IsFirstWrong size places at ⊎ (AreDistinct size places × (0 < size) × (is_among 0 places ≡ false) × (at ≡ 0))
 

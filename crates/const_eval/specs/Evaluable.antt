@@ -37,7 +37,7 @@ abbrev pub IsOfOneKind : Constant → Type 0
 IsOfOneKind x = HasKind (kind_of_value x.value) x.value
 
 -- Some kinds can be given to names that the constants lack such that the expression has a kind, and each function's
--- body and starts have the kinds that it declares for them. No function calls itself, directly or round about.
+-- body and starts have the kinds that it declares for them. No function calls itself, directly or indirectly.
 pub record IsEvaluable (env : Constants) (e : Tree) : Type 0 where
   pub lacking : List Known
   pub kind_of : Kind

@@ -18,6 +18,6 @@ abbrev pub formal_fits : Option Local → Kind → ℕ → Judged (Unit {0})
 formal_fits None k at = Fine tt
 formal_fits (Some x) k at = and_so (one_kind (kind_of_type x.shape) k at) (λ l. Fine tt)
 
--- a count, or one more than the limit of a list where it is more
+-- a count, or one more than the limit of a list if it is more
 abbrev pub capped : ℕ → ℕ
 capped n = if nat_le n max_list_scalars then n else suc max_list_scalars

@@ -7,7 +7,7 @@ use Rattle.cal_model.specs.Kinding.{Judged, Fine, Broken}
 use Rattle.const_eval.specs.declared.fault.KindFault.{KindFault}
 use Rattle.const_eval.specs.declared.fault.KindFault.TheVariants as fault
 
--- the first rule that is broken, with its place; want of memory says nothing
+-- the first rule that is broken, with its place; running out of memory says nothing
 abbrev pub Breaks : {B : Type 0} → KindFault → Judged B → Type 0
 Breaks (fault.Broken rule at) judged = judged ≡ Broken rule at
 Breaks fault.Memory judged = Unit {0}

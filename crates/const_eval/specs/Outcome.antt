@@ -7,7 +7,7 @@ use Rattle.const_eval.specs.declared.stop.Stop.{Stop}
 use Rattle.const_eval.specs.declared.stop.Stop.TheVariants as stop
 use Rattle.cal_model.specs.Outcome.{Out, Gives, Traps, Lacks, Clashes}
 
--- evaluation ends so; want of memory says nothing
+-- evaluation ends so; running out of memory says nothing
 abbrev pub Stops : {B : Type 0} → Stop → Out B → Type 0
 Stops (stop.Trap c) out = out ≡ Traps c
 Stops stop.Lacks out = out ≡ Lacks

@@ -64,7 +64,7 @@ seen s = record {
   locals = chain s.innermost ++ frame s.formals.now s.arguments.now;
 }
 
--- What functions give, where so many calls may still be open. What generators hide functions see all the same.
+-- What functions give, if so many calls may still be open. What generators hide functions see all the same.
 abbrev pub calls : Scope → Calls
 calls s = elim s.hidden [
   | None ↦ calls_within s.depth (held s.env.now).funs

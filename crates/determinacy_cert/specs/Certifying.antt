@@ -33,6 +33,6 @@ AreCertified net = (i : ℕ) (leaf : Leaf State) → slice_get net.leaves i ≡ 
 abbrev pub CertifiedAreDeterminate : Type 0
 CertifiedAreDeterminate = (net : Network State) → IsWired net → AreCertified net → IsDeterminate net
 
--- an actor is certified exactly where the list of its failures is empty
+-- an actor is certified exactly if the list of its failures is empty
 abbrev pub NoFailureWhereCertified : Type 0
 NoFailureWhereCertified = (actor : Actor) (p : Priorities actor) → (failures actor p.above ≡ []) ↔ IsCertified actor

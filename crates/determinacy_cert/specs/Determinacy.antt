@@ -47,7 +47,7 @@ QuietRunsAgree X = (net : Network X) (inputs : List (List ℕ)) (all others : Li
     → IsQuietRun net inputs all q → IsQuietRun net inputs others r
     → (l : ℕ) → l < length net.links → sent_on_link q l ≡ sent_on_link r l
 
--- where a run traps there is no quiet run
+-- if a run traps, there is no quiet run
 abbrev pub NoQuietRunBesides : (X : Type 0) → Type 0
 NoQuietRunBesides X = (net : Network X) (inputs : List (List ℕ)) (events all : List Event) (s q : State X) → IsDeterminate net
     → LeadsTo net inputs events s → s.trapped ≡ true → IsQuietRun net inputs all q → ⊥

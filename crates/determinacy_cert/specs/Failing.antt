@@ -15,7 +15,7 @@ pub record Failure : Type 0 where
   pub b : ℕ
   pub reason : Reason
 
--- ---- one judgement an action and a pair, none where nothing is wrong
+-- ---- one judgement an action and a pair, none if nothing is wrong
 
 -- the guards of an action
 abbrev pub guards_judged : Actor → Action → Option Reason
@@ -65,7 +65,7 @@ abbrev pub state_failures : Actor → (ℕ → ℕ → Bool) → ℕ → List Fa
 state_failures actor above s =
     each_from (length actor.actions) 0 (λ a. action_failures actor s a) ++ each_from (length actor.actions) 0 (λ a. pairs_failures actor above s a)
 
--- the states of the schedule, and the fresh one where there is an `initialize`
+-- the states of the schedule, and the fresh one if there is an `initialize`
 abbrev pub all_states : Actor → ℕ
 all_states actor = if has_initialize actor.actions then suc (states_of actor) else states_of actor
 

@@ -75,12 +75,12 @@ mutual
     -- the place, and then the item there
     item : (e place : Tree) (at base n m : ℕ) (code : List Instr) (l : ItemList) → list_named names e ≡ Some l → IsCode names place base n code m
         → IsCode names (tree.index e place at) base n (code ++ item_instr l ∷ []) m
-    -- where the left side is false, the right one isn't evaluated
+    -- if the left side is false, the right one isn't evaluated
     both : (l r : Tree) (at base n k m out end : ℕ) (a b : List Instr) → is_truth names l ≡ true
         → IsTest names l base n out a k → IsCode names r (base + length a) k b m
         → out ≡ base + length a + length b + 1 → end ≡ out + 1
         → IsCode names (tree.binary binaries.And l r at) base n (a ++ (b ++ op.Jump end ∷ op.Const (pos 0) ∷ [])) m
-    -- where the left side is true, the right one isn't evaluated
+    -- if the left side is true, the right one isn't evaluated
     either : (l r : Tree) (at base n k m right end : ℕ) (a b : List Instr) → is_truth names l ≡ true
         → IsTest names l base n right a k → IsCode names r right k b m
         → right ≡ base + length a + 2 → end ≡ right + length b
@@ -91,8 +91,8 @@ mutual
         → else_at ≡ base + length a + length b + 1 → end ≡ else_at + length c
         → IsCode names (tree.if_expr test first other at) base n (a ++ (b ++ op.Jump end ∷ c)) m
 
-  -- Code of a condition that stands at a place. It goes on after itself where the condition is true, and jumps to
-  -- `out` where it is false.
+  -- Code of a condition that stands at a place. It goes on after itself if the condition is true, and jumps to
+  -- `out` if it is false.
   pub data IsTest (names : List Name) : Tree → ℕ → ℕ → ℕ → List Instr → ℕ → Type 0 where
     tested : (e : Tree) (base n m out : ℕ) (code : List Instr) → IsCode names e base n code m
         → IsTest names e base n out (code ++ op.JumpIfNot out ∷ []) m

@@ -13,7 +13,7 @@ IsInner op.Answer = ⊥
 IsInner op.Done = ⊥
 IsInner i = Unit {0}
 
--- an instruction at a place of a part of code that goes from base to end, where the stack has these heights; it may
+-- an instruction at a place of a part of code that goes from base to end, if the stack has these heights; it may
 -- also jump to `out`
 pub record FitsAt (code : Code) (callable limit base end out : ℕ) (height : ℕ → ℕ) (p : ℕ) (i : Instr) : Type 0 where
   pub enough : pops i ≤ height p

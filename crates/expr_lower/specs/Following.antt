@@ -17,8 +17,8 @@ use Rattle.expr_lower.specs.Held.{AllApart, Holds, Keeps}
 use Rattle.expr_lower.specs.Names.{Name}
 use Rattle.expr_lower.specs.Placed.{StandsAt, World, state}
 
--- What is said of an outcome: one thing where it gives something, with so many turns left, another where it traps.
--- Nothing is said where a name lacks or a part clashes, which never comes where the whole has a kind.
+-- What is said of an outcome: one thing if it gives something, with so many turns left, another if it traps.
+-- Nothing is said if a name lacks or a part clashes, which never comes if the whole has a kind.
 abbrev pub Follows : {A : Type 0} → Out A → (A → ℕ → Type 0) → (Trap → Type 0) → Type 0
 Follows (Gives v left) G T = G v left
 Follows (Traps c) G T = T c
@@ -33,7 +33,7 @@ pub record Pushes (w : World) (n m : ℕ) (s : State) (end : ℕ) (v : Value) (l
   pub reaches : Reaches w.code w.tokens s (state end (number ∷ s.stack) s.frames cells left)
   pub keeps : Keeps n m w.low w.high s.cells cells
 
--- The run goes on to one place where a value is true, and to another where it is false.
+-- The run goes on to one place if a value is true, and to another if it is false.
 pub record Chooses (w : World) (n m : ℕ) (s : State) (here there : ℕ) (v : Value) (left : ℕ) : Type 0 where
   pub number : ℤ
   pub is : flat v ≡ number ∷ []
@@ -47,8 +47,8 @@ pub record CutsOff (w : World) (n m : ℕ) (s : State) (c : Trap) : Type 0 where
   pub ends : Ends w.code w.tokens s (outcome.Trap c) cells
   pub keeps : Keeps n m w.low w.high s.cells cells
 
--- How a run ends that goes as an evaluation does: where that gives a value, as it ends from the place that it goes
--- on to; where it traps, by that trap.
+-- How a run ends that goes as an evaluation does: if that gives a value, as it ends from the place that it goes
+-- on to; if it traps, by that trap.
 abbrev pub EndsAs : World → State → ℕ → Out Value → Outcome → List ℤ → Type 0
 EndsAs w s end (Gives v left) o last =
     (number : ℤ) × (cells : List ℤ) × (flat v ≡ number ∷ []) × Ends w.code w.tokens (state end (number ∷ s.stack) s.frames cells left) o last

@@ -14,11 +14,11 @@ pub data Out : Type 0 where
   Gives : ℤ → Out
   Traps : Trap → Out
 
--- the whole number, where a number of the language can be it
+-- the whole number, if a number of the language can be it
 abbrev pub whole : ℤ → Out
 whole z = if is_num z then Gives z else Traps Overflow
 
--- an operand where the action's token is v
+-- an operand if the action's token is v
 abbrev pub operand : ℤ → Operand → ℤ
 operand v Token = v
 operand v (Number n) = pos n
@@ -28,6 +28,6 @@ applied Add x y = whole (x +ℤ y)
 applied Sub x y = whole (x -ℤ y)
 applied Mul x y = whole (x *ℤ y)
 
--- the value of an operation where the action's token is v
+-- the value of an operation if the action's token is v
 abbrev pub eval : ℤ → Binary → Out
 eval v b = applied b.op (operand v b.left) (operand v b.right)

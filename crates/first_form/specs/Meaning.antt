@@ -14,12 +14,12 @@ use Rattle.first_form.specs.Eval.{Out, Gives, Traps, eval}
 abbrev pub byte_type : Scalar
 byte_type = Uint 8
 
--- the action's effect where its expression has this value; the token that it sends is stored in the port's type
+-- the action's effect if its expression has this value; the token that it sends is stored in the port's type
 abbrev pub effect_of : Out → Effect (Unit {0})
 effect_of (Gives z) = Fires tt ((conv byte_type z ∷ []) ∷ [])
 effect_of (Traps c) = TrapsInBody c
 
--- The one action is exposed where there is a token. It has no guard.
+-- The one action is exposed if there is a token. It has no guard.
 abbrev pub effect : Binary → List (List ℤ) → ℕ → Option (Effect (Unit {0}))
 effect b [] a = None
 effect b ([] ∷ us) a = None

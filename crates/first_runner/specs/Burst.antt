@@ -28,7 +28,7 @@ pub record Bursts (b : Binary) (n : ℕ) (inbox inbox_new : List ℕ) (outbox ou
   pub outbox_is : outbox_new ≡ outbox ++ sent
   pub sends : SendAll b taken sent
 
--- a line of a burst couldn't be written: the trace got a front of the lines up to it
+-- a line of a burst couldn't be written: the trace got a prefix of the lines up to it
 pub record BreaksBurst (b : Binary) (limit : ℕ) (inbox : List ℕ) (held held_new pending : List ℕ) : Type 0 where
   pub taken : List ℕ
   pub rest : List ℕ

@@ -20,7 +20,7 @@ EndsAs f input end.Budget counts trace output = Ended f input Budget counts trac
 EndsAs f input (end.ReadFault feed) counts trace output = CutOff f input trace output
 EndsAs f input (end.WriteFault channel) counts trace output = BrokenOff f input trace output
 
--- The channels hold what they held, and what belongs to the end. Where the output isn't written its channel holds
+-- The channels hold what they held, and what belongs to the end. If the output isn't written, its channel holds
 -- what it held.
 pub record Leaves (f : Form) (writes : Bool) (input : List ℕ) (how : RunEnd) (counts : Counts) (trace_old trace_new output_old output_new : List ℕ) : Type 0 where
   pub trace : List ℕ
@@ -29,7 +29,7 @@ pub record Leaves (f : Form) (writes : Bool) (input : List ℕ) (how : RunEnd) (
   pub output_is : Gets writes output_old output_new output
   pub ends : EndsAs f input how counts trace output
 
--- the same where a part of it is held back
+-- the same if a part of it is buffered
 pub record Pends (f : Form) (writes : Bool) (input : List ℕ) (how : RunEnd) (counts : Counts) (trace_old trace_new trace_pending output_old output_new output_pending : List ℕ) : Type 0 where
   pub trace : List ℕ
   pub output : List ℕ
@@ -70,7 +70,7 @@ end_text end.Budget = line_text Budget
 end_text (end.ReadFault feed) = []
 end_text (end.WriteFault channel) = []
 
--- the numbers of a run, where so many tokens wait in the inbox
+-- the numbers of a run, if so many tokens wait in the inbox
 abbrev pub numbers : (firings rounds waiting : ℕ) → Counts
 numbers firings rounds waiting = record { firings = firings; rounds = rounds; arrived = firings + waiting; sent = firings }
 

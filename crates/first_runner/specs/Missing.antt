@@ -11,7 +11,7 @@ abbrev pub HasInput : (reads : Bool) → (left : Option (List ℕ)) → (input :
 HasInput true left input = left ≡ Some input
 HasInput false left input = input ≡ []
 
--- these tokens are still to come, where the bytes still to come are told; without a feed there are none
+-- these tokens are still to come, if the bytes still to come are told; without a feed there are none
 abbrev pub IsToCome : (reads : Bool) → (to_come : Option (List ℕ)) → (ts : List ℤ) → Type 0
 IsToCome true None ts = ⊥
 IsToCome true (Some bytes) ts = tokens byte_type bytes ≡ ts
@@ -22,16 +22,16 @@ abbrev pub Gets : (writes : Bool) → (held held_new text : List ℕ) → Type 0
 Gets true held held_new text = held_new ≡ held ++ text
 Gets false held held_new text = held_new ≡ held
 
--- the same where a part of the text may be held back
+-- the same if a part of the text may be buffered
 abbrev pub MayWrite : (writes : Bool) → (held pending held_new pending_new text : List ℕ) → Type 0
 MayWrite true held pending held_new pending_new text = Writes held pending held_new pending_new text
 MayWrite false held pending held_new pending_new text = held_new ≡ held
 
--- the same where a write failed: the channel got a front of the text
+-- the same if a write failed: the channel got a prefix of the text
 abbrev pub MayHoldFront : (writes : Bool) → (held held_new text : List ℕ) → Type 0
 MayHoldFront true held held_new text = HoldsFront held held_new text
 MayHoldFront false held held_new text = held_new ≡ held
 
--- a channel that a run may write: the trace's, and the output's where it has one
+-- a channel that a run may write: the trace's, and the output's if it has one
 abbrev pub IsWritten : Ends → ℕ → Type 0
 IsWritten ends channel = (channel ≡ 1) ⊎ ((channel ≡ 2) × (ends.writes ≡ true))

@@ -84,12 +84,12 @@ pub record CutOff (f : Form) (input : List ℕ) (trace output : List ℕ) : Type
   pub last : State (Unit {0})
   pub written : Written f input moves last trace output
 
--- a front of a text
+-- a prefix of a text
 pub record IsFrontOf (front text : List ℕ) : Type 0 where
   pub rest : List ℕ
   pub is : text ≡ front ++ rest
 
--- a write failed: the channels hold fronts of what belongs to one list of lines that play
+-- a write failed: the channels hold prefixes of what belongs to one list of lines that play
 pub record BrokenOff (f : Form) (input : List ℕ) (trace output : List ℕ) : Type 0 where
   pub lines : List Line
   pub last : State (Unit {0})

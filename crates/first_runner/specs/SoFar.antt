@@ -47,7 +47,7 @@ state_at b ts arrived fired out = record {
 }
 
 -- The lines lead from the start to `state_at`. `arrived_then` and `fired_then` are its numbers after the last delivery.
--- What is said of all that may follow needs no induction where one line is added.
+-- What is said of all that may follow needs no induction when one line is added.
 pub record SoFar (f : Form) (input : List ℕ) (lines : List Line) (rounds arrived fired out arrived_then fired_then : ℕ) : Type 0 where
   pub plays : (after : List Line) (last : State (Unit {0}))
       → PlaysFrom (network_of f) 0 (state_at f.sum (toks input) arrived fired out) after last

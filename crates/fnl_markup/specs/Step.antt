@@ -95,7 +95,7 @@ comment_dash s b = goes s (if b == 45 then CommentDashes else Comment)
 abbrev pub comment_dashes : State → ℕ → Next
 comment_dashes s b = if b == 62 then goes s Content else comment_dash s b
 
--- The end of a tag that begins an element: `>`, or `/>` where the element is empty.
+-- The end of a tag that begins an element: `>`, or `/>` if the element is empty.
 
 abbrev pub opened : State → State
 opened s = with_opening (record s { place = Content; opened = s.opened ++ s.name ∷ [] })

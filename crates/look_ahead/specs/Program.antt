@@ -10,7 +10,7 @@ pub data Program (Token Tree Rule : Type 0) : Type 0 where
   give : Tree → Program Token Tree Rule
   -- what stands here can't follow
   fail : Program Token Tree Rule
-  -- a question on what stands here, and how to go on where it is answered by yes, by no
+  -- a question on what stands here, and how to go on if it is answered by yes, by no
   ask : (Option Token → Bool) → Program Token Tree Rule → Program Token Tree Rule → Program Token Tree Rule
   -- the token that stands here is taken
   take : (Token → Program Token Tree Rule) → Program Token Tree Rule
@@ -43,7 +43,7 @@ after (Refused left) next = Refused left
 after (TooHigh left) next = TooHigh left
 after Spent next = Spent
 
--- what a program does in a room, where f tells what each rule does
+-- what a program does in a room, if f tells what each rule does
 abbrev pub exec : {Token Tree Rule : Type 0} → (ℕ → Rule → List Token → Outcome Token Tree) → ℕ → Program Token Tree Rule → List Token → Outcome Token Tree
 exec f m (give x) ts = Gave x ts
 exec f m fail ts = Refused ts
@@ -60,6 +60,6 @@ abbrev pub go : {Token Tree Rule : Type 0} → (Rule → Program Token Tree Rule
 go body zero m r ts = Spent
 go body (suc n) m r ts = exec (go body n) m (body r) ts
 
--- what a rule does, where `size` bounds the depth of its calls
+-- what a rule does, if `size` bounds the depth of its calls
 unfoldable pub read : {Token Tree Rule : Type 0} → (Rule → Program Token Tree Rule) → (Rule → List Token → ℕ) → ℕ → Rule → List Token → Outcome Token Tree
 read body size m r ts = go body (suc (size r ts)) m r ts

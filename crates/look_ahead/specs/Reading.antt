@@ -4,7 +4,7 @@ use Rattle.std.specs.Prelude.{◌≡◌, ◌≤◌, ◌+◌, ℕ, List, ◌++◌
 use Rattle.look_ahead.specs.Program.{ahead}
 
 -- No list of tokens that begins as ts does, up to what is left and including the token that stands there, spells a
--- tree. Where nothing is left, ts itself spells none.
+-- tree. If nothing is left, ts itself spells none.
 pub record IsRefused {Token Tree : Type 0} (Spelled : List Token → Tree → Type 0) (ts left : List Token) : Type 0 where
   pub front : List Token
   pub is_front : ts ≡ front ++ left

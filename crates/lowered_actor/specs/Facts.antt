@@ -87,7 +87,7 @@ pub record IsGuard (actor : Actor) (action : Action) (entry : ℕ) : Type 0 wher
 
 -- A firing reads no token behind those that its action takes, and changes no state cell but those that are saved.
 -- How it ends is a matter of these tokens and the state cells alone, and so are the state and the tokens to send
--- that it leaves where it is done.
+-- that it leaves if it is done.
 pub record IsFiring (actor : Actor) (action : Action) (entry : ℕ) : Type 0 where
   pub reads : (cells : List ℤ) (tokens : ℕ → List ℤ) → IsAsked actor action cells tokens
       → HasItsTokens actor.code entry cells tokens

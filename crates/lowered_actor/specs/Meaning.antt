@@ -107,7 +107,7 @@ guards_say code cells tokens [] = AreTrue
 guards_say code cells tokens (entry ∷ entries) =
     guard_then (end_of code entry cells tokens) (guards_say code cells tokens entries)
 
--- What the guards of an action say. Where it isn't eligible or lacks tokens, they are false.
+-- What the guards of an action say. If it isn't eligible or lacks tokens, they are false.
 abbrev pub readiness : Actor → ActorState → (ℕ → List ℤ) → ℕ → Guards
 readiness actor x tokens a = elim (slice_get actor.actions a) [
   | None ↦ AreFalse

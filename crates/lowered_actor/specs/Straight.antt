@@ -28,7 +28,7 @@ ends_line firing op.Answer = if firing then false else true
 ends_line firing op.Done = firing
 ends_line firing instr = false
 
--- It may stand in a straight line: it reads no cell but state cells, writes only where that is allowed, and reads
+-- It may stand in a straight line: it reads no cell but state cells, writes only if that is allowed, and reads
 -- no token behind those that the action takes.
 abbrev pub may_stand : Actor → Action → Bool → Instr → Bool
 may_stand actor action firing (op.Const v) = true

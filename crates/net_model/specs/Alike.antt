@@ -30,7 +30,7 @@ EffectsAlike related (Some (TrapsInGuard cause)) (Some (TrapsInGuard other)) = c
 EffectsAlike related (Some (TrapsInBody cause)) (Some (TrapsInBody other)) = cause ≡ other
 EffectsAlike related effect other = ⊥
 
--- Two actors behave alike where their rates are the same and, in related states and over tokens that may come,
+-- Two actors behave alike if their rates are the same and, in related states and over tokens that may come,
 -- so are their choices and what their actions make.
 pub record BehaveAlike {X Y : Type 0} (related : X → Y → Type 0) (allowed : ℕ → ℤ → Type 0) (one : Behaviour X) (other : Behaviour Y) : Type 0 where
   pub starts : related one.start other.start

@@ -1,5 +1,5 @@
--- Ends: where a run is quiet, where it is stalled, and where no link may grow any more.
--- `grow` is the greatest capacity that a link may grow to at a stall; it is 0 where none may grow.
+-- Ends: when a run is quiet, when it is stalled, and when no link may grow any more.
+-- `grow` is the greatest capacity that a link may grow to at a stall; it is 0 if none may grow.
 -- Trusted: part of what a promise means.
 use Rattle.std.specs.Prelude.{◌≡◌, ℕ, ◌+◌, ◌*◌, ◌≤◌, ◌<◌, ◌⊎◌, false, List, [], ◌∷◌, length, min, slice_get, Option, None, Some, if◌then◌else◌}
 use Rattle.rvc_base.specs.Behaviour.{Waits, Picks}

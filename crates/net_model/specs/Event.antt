@@ -92,7 +92,7 @@ permitted net s (Fire i a) = fire net s i a (effect_at net s i a)
 permitted net s (Deliver l k) = deliver s l k (slice_get net.links l) (slice_get s.flows l)
 permitted net s (Trap i a c) = trap s c (effect_at net s i a)
 
--- the state after an event, or none where it may not happen; after a trap none may
+-- the state after an event, or none if it may not happen; after a trap none may
 abbrev pub happens : {X : Type 0} → Network X → State X → Event → Option (State X)
 happens net s event = if s.trapped then None else permitted net s event
 

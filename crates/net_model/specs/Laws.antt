@@ -116,7 +116,7 @@ LinesAreRuns X = (net : Network X) (grow : ℕ) (lines : List Line) (s t : State
 abbrev pub AllWait : {X : Type 0} → Network X → State X → Type 0
 AllWait net s = (i : ℕ) → choice_at net (all_fed net s) i ≡ Waits
 
--- a state is quiet where it is settled and each leaf waits
+-- a state is quiet if it is settled and each leaf waits
 abbrev pub QuietIsWaiting : (X : Type 0) → Type 0
 QuietIsWaiting X = (net : Network X) (s : State X) → AreLawful net → IsQuiet net s ↔ (IsSettled net s × AllWait net s)
 

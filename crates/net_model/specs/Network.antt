@@ -10,7 +10,7 @@ use Rattle.net_model.specs.declared.wiring.Link.{Link}
 
 -- an actor at its place in the network
 pub record Leaf (X : Type 0) : Type 0 where
-  -- the ids of the instances that lead to it, joined by `/`; its name where it is the top
+  -- the ids of the instances that lead to it, joined by `/`; its name if it is the top
   pub path : List ℕ
   -- the dotted class
   pub class : List ℕ
@@ -48,7 +48,7 @@ abbrev pub is_outside : End → Bool
 is_outside (AtLeaf inst port) = false
 is_outside (AtNet port) = true
 
--- a link is an input link where it begins at the network, an output link where it ends there
+-- a link is an input link if it begins at the network, an output link if it ends there
 abbrev pub is_input : Link → Bool
 is_input link = is_outside link.from
 

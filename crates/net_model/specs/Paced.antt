@@ -25,7 +25,7 @@ pub record Pace : Type 0 where
   -- the most firings of a leaf in one round, and of all leaves in the run
   pub burst : ℕ
   pub budget : ℕ
-  -- the greatest capacity that a link may grow to at a stall; 0 where none may grow
+  -- the greatest capacity that a link may grow to at a stall; 0 if none may grow
   pub grow : ℕ
 
 -- where a run stands between two rounds
@@ -78,7 +78,7 @@ none_of [] = true
 none_of (true ∷ marks) = false
 none_of (false ∷ marks) = none_of marks
 
--- those that the policy picks; all where it picks none, and where the round before fired nothing
+-- those that the policy picks; all if it picks none, or if the round before fired nothing
 abbrev pub picked : {X : Type 0} → Network X → Pace → Moment X → List Bool
 picked net pace at =
     if at.idle || none_of (picks pace.kind (length net.leaves) at.round)
@@ -90,8 +90,8 @@ count_picked [] = 0
 count_picked (true ∷ marks) = suc (count_picked marks)
 count_picked (false ∷ marks) = count_picked marks
 
--- How often a leaf may fire: the k-th of the picked ones, where the lower ones fired so often in the round.
--- Where fewer firings are left than leaves are picked, they are given out one leaf after another.
+-- How often a leaf may fire: the k-th of the picked ones, if the lower ones fired so often in the round.
+-- If fewer firings are left than leaves are picked, they are given out one leaf after another.
 abbrev pub limit_of : ℕ → ℕ → ℕ → ℕ → ℕ → ℕ
 limit_of burst left picks k fired = if nat_le picks left then allowed left picks burst k else min burst (left - fired)
 

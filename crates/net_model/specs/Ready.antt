@@ -73,11 +73,11 @@ pub record IsReady {X : Type 0} (net : Network X) (grow burst : ℕ) (cells : Li
   pub few_grown : grow ≤ max_grow
   pub fresh : (i : ℕ) (cell : Cell X) → slice_get cells i ≡ Some cell → IsFreshCell burst cell
   pub queues : (l : ℕ) (link : Link) → slice_get net.links l ≡ Some link → HasQueues cells grow link
-  -- a port is without reader exactly where no link leaves it
+  -- a port is without reader exactly if no link leaves it
   pub read : (i : ℕ) (cell : Cell X) → slice_get cells i ≡ Some cell
       → (p : ℕ) → p < cell.actor.outs → (0 < number_on cell.outbox_capacities p) ↔ IsLeft net i p
 
--- a link's tokens where its run begins from cells as they are: those that wait, and then those of its feed
+-- a link's tokens if its run begins from cells as they are: those that wait, and then those of its feed
 abbrev pub given_flow : {X : Type 0} → Network X → List (Cell X) → List (List ℕ) → Link → Flow
 given_flow net cells inputs link = record {
   sent = waiting_at cells link.to ++ fed_by net.ins inputs link link.from;

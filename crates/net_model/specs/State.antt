@@ -62,7 +62,7 @@ inbox i p (link ∷ links) (flow ∷ flows) = if is_leaf_port i p link.to then w
 abbrev pub inboxes : ℕ → ℕ → List Link → List Flow → List (List ℤ)
 inboxes i ins links flows = map (λ p. inbox i p links flows) (range_with_len 0 ins)
 
--- what action a of leaf i would do now, where it is exposed and its guards aren't false
+-- what action a of leaf i would do now, if it is exposed and its guards aren't false
 abbrev pub effect_of : {X : Type 0} → List Link → List Flow → ℕ → ℕ → Option (Leaf X) → Option X → Option (Effect X)
 effect_of links flows i a None x = None
 effect_of links flows i a (Some leaf) None = None

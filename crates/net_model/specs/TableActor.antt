@@ -41,7 +41,7 @@ effect_of Sends = Fires tt ((pos 1 ∷ []) ∷ [])
 effect_of (GuardTraps cause) = TrapsInGuard cause
 effect_of (BodyTraps cause) = TrapsInBody cause
 
--- where so many tokens wait, the first action that has its tokens is the one that does something
+-- if so many tokens wait, the first action that has its tokens is the one that does something
 abbrev pub effect_in : List Row → ℕ → ℕ → Option (Effect (Unit {0}))
 effect_in [] waiting a = None
 effect_in (row ∷ rows) waiting zero = if nat_le row.takes waiting then Some (effect_of row.does) else None

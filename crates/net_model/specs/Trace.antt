@@ -1,5 +1,5 @@
 -- The trace language: which lines play, which keep the capacities of the links, and their text.
--- `grow` is the greatest capacity that a link may grow to at a stall; it is 0 where none may grow.
+-- `grow` is the greatest capacity that a link may grow to at a stall; it is 0 if none may grow.
 -- Trusted: part of what a promise means.
 use Rattle.std.specs.Prelude.{◌≡◌, ℕ, ◌+◌, ◌-◌, ◌≤◌, ◌==◌, false, List, [], ◌∷◌, ◌++◌, pos, min, length, replicate, slice_get, slice_set, Option, None, Some, if◌then◌else◌, codes, flat_map}
 use Rattle.rvc_base.specs.Behaviour.{Effect, Fires, TrapsInGuard, TrapsInBody}
@@ -35,7 +35,7 @@ abbrev pub grown : {X : Type 0} → State X → ℕ → ℕ → Option Flow → 
 grown s l capacity (Some flow) = Some (record s { flows = slice_set s.flows l (record flow { capacity = capacity }) })
 grown s l capacity None = None
 
--- The state after a line, or none where the line may not come. An end line but that of a trap changes
+-- The state after a line, or none if the line may not come. An end line but that of a trap changes
 -- nothing. What a line says of the state is `LineIsTrue`.
 abbrev pub goes : {X : Type 0} → Network X → State X → Line → Option (State X)
 goes net s (Fire i a) = happens net s (event.Fire i a)
@@ -155,7 +155,7 @@ instance_lines k (leaf ∷ leaves) =
 abbrev pub head_text : {X : Type 0} → Network X → ℕ → List ℕ
 head_text net grow = line_text (Header (length net.leaves) (length net.links) grow) ++ instance_lines 0 net.leaves
 
--- the text of a trace with these event lines: of version 1 where no link may grow, else of version 2
+-- the text of a trace with these event lines: of version 1 if no link may grow, else of version 2
 abbrev pub text : {X : Type 0} → Network X → ℕ → List Line → List ℕ
 text net grow lines = head_text net grow ++ flat_map line_text lines
 

@@ -13,7 +13,7 @@ use Rattle.net_model.specs.Ready.{tokens_of}
 use Rattle.port_files.specs.Coming.{EndsWith}
 use Rattle.net_state.specs.Moving.{EachGains, only_to}
 
--- these tokens are still to come, where the bytes to come are told
+-- these tokens are still to come, if the bytes to come are told
 abbrev pub AreToCome : Scalar → Option (List ℕ) → List ℤ → Type 0
 AreToCome kind None ts = ⊥
 AreToCome kind (Some bytes) ts = tokens kind bytes ≡ ts

@@ -31,7 +31,7 @@ abbrev pub NothingLeft : Option (List ℕ) → Type 0
 NothingLeft None = Unit {0}
 NothingLeft (Some left) = left ≡ []
 
--- where the end was seen nothing is left
+-- if the end was seen, nothing is left
 abbrev pub EndIsTrue : Reading → Option (List ℕ) → Type 0
 EndIsTrue r left = r.ended ≡ true → NothingLeft left
 

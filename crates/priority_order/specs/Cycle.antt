@@ -16,7 +16,7 @@ pub record IsCycle (pairs : List (ℕ × ℕ)) (actions : List ℕ) : Type 0 whe
   pub distinct : AllPairs (λ a b. a ≢ b) actions
   pub least_first : All (λ a. slice_index actions 0 ≤ a) actions
 
--- the fault names a cycle; want of memory has no cause
+-- the fault names a cycle; running out of memory has no cause
 abbrev pub IsCause : List (ℕ × ℕ) → OrderFault → Type 0
 IsCause pairs (Cycle actions) = IsCycle pairs actions.items
 IsCause pairs Memory = Unit {0}

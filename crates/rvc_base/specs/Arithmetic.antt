@@ -12,7 +12,7 @@ pub data Computed : Type 0 where
   Gives : ℤ → Computed
   Traps : Trap → Computed
 
--- a whole number, where it is a number of the language
+-- a whole number, if it is a number of the language
 abbrev pub whole : ℤ → Computed
 whole z = if is_num z then Gives z else Traps Overflow
 

@@ -17,7 +17,7 @@ pub data Choice : Type 0 where
   Faults : ℕ → Trap → Choice
 
 -- An actor over states X. Tokens stand as a list for each input port, those before it in order.
--- `effect` is none where the action isn't exposed, and where its guards are false.
+-- `effect` is none if the action isn't exposed or its guards are false.
 pub record Behaviour (X : Type 0) : Type 0 where
   -- the state of a fresh instance
   pub start : X

@@ -34,7 +34,7 @@ pub record IsLawful {X : Type 0} (actor : Behaviour X) : Type 0 where
   -- .. or an exposed one whose guards trap ..
   pub faults : (state : X) (tokens : List (List ℤ)) (a : ℕ) (cause : Trap)
       → actor.choice state tokens ≡ Faults a cause → actor.effect state tokens a ≡ Some (TrapsInGuard cause)
-  -- .. and it is to wait only where no action has an effect
+  -- .. and it is to wait only if no action has an effect
   pub waits : (state : X) (tokens : List (List ℤ)) → actor.choice state tokens ≡ Waits
       → (a : ℕ) → actor.effect state tokens a ≡ None
   -- beyond its actions nothing is done, needed or given

@@ -7,7 +7,7 @@ use Rattle.std.specs.List.{range_with_len}
 abbrev pub share : ℕ → ℕ → ℕ → ℕ
 share left picked k = left / picked + (if nat_lt k (left % picked) then 1 else 0)
 
--- how often it may fire, where no instance fires more often than burst in a round
+-- how often it may fire, if no instance fires more often than burst in a round
 abbrev pub allowed : ℕ → ℕ → ℕ → ℕ → ℕ
 allowed left picked burst k = min burst (share left picked k)
 

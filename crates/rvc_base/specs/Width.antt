@@ -31,7 +31,7 @@ greatest_num = pos (num_bound - 1)
 abbrev pub max_size : ℕ
 max_size = 64
 
--- the size of a number type where none is written, in bits
+-- the size of a number type if none is written, in bits
 abbrev pub default_size : ℕ
 default_size = 32
 

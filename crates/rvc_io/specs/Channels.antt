@@ -4,7 +4,7 @@ use Rattle.std.specs.Prelude.{◌≡◌, ◌≤◌, ℕ, Bool, true, List, [], �
 use Rattle.rvc_io.specs.Count.{HasRisen}
 use Rattle.rvc_io.specs.Elsewhere.{SameElsewhere}
 
--- whether what the channels hold is told; the bytes that an open channel holds, where they are told;
+-- whether what the channels hold is told; the bytes that an open channel holds, if they are told;
 -- whether a channel is open; and how many calls failed so far
 pub record Channels : Type 0 where
   pub tells : Bool

@@ -4,7 +4,7 @@ use Rattle.std.specs.Prelude.{◌≡◌, ◌≤◌, ℕ, Bool, true, List, [], �
 use Rattle.rvc_io.specs.Count.{HasRisen}
 use Rattle.rvc_io.specs.Elsewhere.{SameElsewhere}
 
--- the bytes under a name, where they are told; the bytes left on an open feed, where they are told;
+-- the bytes under a name, if they are told; the bytes left on an open feed, if they are told;
 -- whether a feed is open; and how many calls failed so far
 pub record Inputs : Type 0 where
   pub under : List ℕ → Option (List ℕ)
@@ -48,7 +48,7 @@ pub record FailsOn (feed : ℕ) (old new : Inputs) : Type 0 where
 abbrev pub ReadFails : {S : Type 0} → (S → Inputs) → S → S → Type 0
 ReadFails feeds old new = HasRisen (feeds old).faults (feeds new).faults
 
--- n bytes go from the front of what was left, where that is told, to the front of the buffer; none is
+-- n bytes go from the front of what was left, if that is told, to the front of the buffer; none is
 -- moved only at the end
 pub record MovesTold (n : ℕ) (before : List ℕ) (buffer filled after : List ℕ) : Type 0 where
   pub there : n ≤ length before

@@ -15,7 +15,7 @@ pub record File : Type 0 where
 abbrev pub named : String Global × Vec ℕ Global → File
 named f = record { name = string_bytes f.0; bytes = f.1.items }
 
--- the bytes under a name, where a file has it
+-- the bytes under a name, if a file has it
 abbrev pub under : List File → List ℕ → Option (List ℕ)
 under [] name = None
 under (f ∷ fs) name = if bytes_eq f.name name then Some f.bytes else under fs name

@@ -6,14 +6,14 @@ use Rattle.rvc_io.specs.Channels.{Channels}
 use Rattle.rvc_io.specs.declared.mem_drains.Channel.{Channel}
 
 -- the most bytes that a call moves, the most that a channel holds, for each channel the bytes that it
--- holds where it is open, and the calls
+-- holds if it is open, and the calls
 pub record DrainsState : Type 0 where
   pub step : ℕ
   pub room : ℕ
   pub held : List (Option (List ℕ))
   pub calls : CallCount
 
--- what a channel holds, where it is open
+-- what a channel holds, if it is open
 abbrev pub held_by : Channel → Option (List ℕ)
 held_by c = if c.is_open then Some c.bytes.items else None
 
@@ -38,7 +38,7 @@ held_on d channel = slice_index_or d.held channel None
 abbrev pub channel_is_open : DrainsState → ℕ → Bool
 channel_is_open d channel = is_some (held_on d channel)
 
--- what a channel holds, which is nothing where it isn't open
+-- what a channel holds, which is nothing if it isn't open
 abbrev pub bytes_held : DrainsState → ℕ → List ℕ
 bytes_held d channel = unwrap_or (held_on d channel) []
 

@@ -6,7 +6,7 @@ use Rattle.rvc_io.specs.Files.{File, under, bytes_at}
 use Rattle.rvc_io.specs.Feeds.{Inputs}
 use Rattle.rvc_io.specs.declared.mem_feeds.Reading.{Reading}
 
--- the files, the most bytes that a call moves, for each feed the bytes that are left where it is
+-- the files, the most bytes that a call moves, for each feed the bytes that are left if it is
 -- open, and the calls
 pub record FeedsState : Type 0 where
   pub files : List File
@@ -31,7 +31,7 @@ IsWithin files (Some r) = (r.place < length files) × (r.at ≤ length (bytes_at
 abbrev pub AreWithin : List File → List (Option Reading) → Type 0
 AreWithin files readings = All (IsWithin files) readings
 
--- what is left on a feed, where it is open
+-- what is left on a feed, if it is open
 abbrev pub left_on : FeedsState → ℕ → Option (List ℕ)
 left_on f feed = slice_index_or f.left feed None
 

@@ -11,11 +11,11 @@ pub record LibraryState : Type 0 where
   pub calls : CallCount
   pub misses : ℕ
 
--- what is told where all is told
+-- what is told if all is told
 abbrev pub told : Option (List ℕ) → Told
 told None = Lacking
 told (Some bytes) = Holding bytes
 
--- the bytes under a name, where there is such a file
+-- the bytes under a name, if there is such a file
 abbrev pub bytes_of : LibraryState → List ℕ → Option (List ℕ)
 bytes_of l name = under l.files name

@@ -65,7 +65,7 @@ pub data BreaksRules (text : List ℕ) : Rule → ℕ → Type 0 where
   in_lexis : (rule : Rule) (at : ℕ) → faults text rule at → BreaksRules text rule at
   in_grammar : (tokens : List Placed) (rule : Rule) (at : ℕ) → lexes text tokens → grammar.Breaks (length text) tokens rule at → BreaksRules text rule at
 
--- a refusal names this file, and what its text breaks; want of memory says nothing of it
+-- a refusal names this file, and what its text breaks; running out of memory says nothing of it
 abbrev pub IsRightly : ℕ → List ℕ → Answer → Type 0
 IsRightly number text (Denied refusal) = (refusal.place.file ≡ number) × BreaksRules text refusal.rule refusal.place.offset
 IsRightly number text Memory = Unit {0}

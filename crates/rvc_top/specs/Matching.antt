@@ -49,7 +49,7 @@ pub record IsWrong (ports : List (List ℕ)) (words : List PortText) (rule : Rul
 abbrev pub IsWrongWord : List (List ℕ) → List PortText → Refusal → Type 0
 IsWrongWord ports words refusal = (refusal.place.file ≡ 0) × IsWrong ports words refusal.rule refusal.place.offset
 
--- the file of the word that names a port; none where no word names it
+-- the file of the word that names a port; none if no word names it
 abbrev pub file_of : List ℕ → List PortText → Option (List ℕ)
 file_of name [] = None
 file_of name (w ∷ rest) = if bytes_eq w.name name then Some w.file else file_of name rest

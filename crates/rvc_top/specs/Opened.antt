@@ -1,4 +1,4 @@
--- What may fail where the feed and the channels are opened.
+-- What may fail when the feed and the channels are opened.
 -- Not trusted: no promise is read with it.
 use Rattle.std.specs.Prelude.{◌≡◌, ◌≢◌, ◌≤◌, ℕ, Bool, true, false, []}
 use Rattle.rvc_io.specs.Channels.{Channels}
@@ -18,7 +18,7 @@ IsOpening ffo ff fo fn trace_open (Refused refusal) = ⊥
 IsOpening ffo ff fo fn trace_open (Budget firings) = ⊥
 IsOpening ffo ff fo fn trace_open OutOfMemory = ⊥
 
--- a feed is opened only where the input has a file
+-- a feed is opened only if the input has a file
 abbrev pub NamesItsInput : (has_file : Bool) → Status → Type 0
 NamesItsInput has_file (ReadFault (Feed feed)) = has_file ≡ true
 NamesItsInput has_file _ = Unit {0}

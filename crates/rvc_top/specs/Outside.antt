@@ -20,7 +20,7 @@ abbrev pub Reports : Status → Status → Channels → Channels → (text : Lis
 Reports status result old new text =
     Reported status result old.tells old.faults new.faults (old.held 0) (new.held 0) text
 
--- which status an end of a run becomes; where the report can't be written it is a write fault
+-- which status an end of a run becomes; if the report can't be written, it is a write fault
 abbrev pub Answers : RunEnd → Status → ℕ → ℕ → Type 0
 Answers end.Quiet result faults_old faults = (result ≡ Quiet) ⊎ ((result ≡ WriteFault 0) × HasRisen faults_old faults)
 Answers end.Budget result faults_old faults = ((n : ℕ) × (result ≡ Budget n)) ⊎ ((result ≡ WriteFault 0) × HasRisen faults_old faults)

@@ -40,7 +40,7 @@ is_plain j = is_run j.verb && (j.workers == 1 && (is_all j.round && (j.burst == 
 abbrev pub plain_of : JobText → PlainText
 plain_of j = record { top = j.top; ports = j.ports; trace = j.trace; budget = j.budget }
 
--- the run that a job asks for, where it is built
+-- the run that a job asks for, if it is built
 unfoldable pub built : JobText → Option PlainText
 built j = if is_plain j then Some (plain_of j) else None
 

@@ -23,7 +23,7 @@ pub record IsTop (top : List ℕ) : Type 0 where
   pub top_is : top ≡ name ++ codes ".cal"
 
 -- The source breaks the rule at the place: of the lexis, of the grammar, or that what isn't of the form isn't built.
--- Where the source isn't told some text does.
+-- If the source isn't told, some text does.
 abbrev pub BreaksThere : Told → Rule → ℕ → Type 0
 BreaksThere Untold rule at = (source : List ℕ) × Breaks source rule at
 BreaksThere Lacking rule at = ⊥

@@ -50,7 +50,7 @@ naming j input = record { top = j.top; input = input }
 abbrev pub naming_top : List ℕ → Named
 naming_top top = record { top = top; input = [] }
 
--- a file's name, where file 0 is the command line
+-- a file's name, if file 0 is the command line
 abbrev pub file_name : Named → ℕ → List ℕ
 file_name j file = if file == 0 then codes "words" else j.top
 
@@ -89,7 +89,7 @@ last_line j (Refused refusal) = refusal_line j refusal
 last_line j (Budget firings) = codes "budget " ++ decimal firings ++ line_feed
 last_line j OutOfMemory = memory_text
 
--- Channel 0 got exactly the report, where no run ended. Nothing is said where the report itself couldn't be
+-- Channel 0 got exactly the report, if no run ended. Nothing is said if the report itself couldn't be
 -- written, which is a write fault on channel 0; what a run's end reports stands with what it leaves, and what another
 -- verb's work writes stands with that.
 abbrev pub IsReported : Named → Status → (held_old held : List ℕ) → Type 0
@@ -124,7 +124,7 @@ abbrev pub NamesInput : Told → List PortText → List ℕ → Status → Type 
 NamesInput source ports file (ReadFault (Feed feed)) = IsInputFile source ports file
 NamesInput source ports file _ = Unit {0}
 
--- The report of a run, which names its source and, where its feed couldn't be read, the file of its input.
+-- The report of a run, which names its source and, if its feed couldn't be read, the file of its input.
 pub record IsReportedOf (j : PlainText) (source : Told) (status : Status) (held_old held : List ℕ) : Type 0 where
   pub input : List ℕ
   pub is_input : NamesInput source j.ports input status

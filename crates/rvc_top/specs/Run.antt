@@ -19,12 +19,12 @@ use Rattle.rvc_top.specs.declared.status.Status.TheVariants.{Quiet, Done, Usage,
 use Rattle.rvc_top.specs.declared.status.ReadAt.TheVariants.{File, Feed}
 use Rattle.rvc_top.specs.Report.{run_lines, last_line, naming}
 
--- what was written of an output: the bytes where a word gives it a file, else its channel isn't open
+-- what was written of an output: the bytes if a word gives it a file, else its channel isn't open
 abbrev pub IsWritten : Option (List ℕ) → (is_open : Bool) → (held bytes : List ℕ) → Type 0
 IsWritten (Some file) is_open held bytes = held ≡ bytes
 IsWritten None is_open held bytes = is_open ≡ false
 
--- the input of an actor: what is under the file that a word gives its port; no tokens where no word names it
+-- the input of an actor: what is under the file that a word gives its port; no tokens if no word names it
 abbrev pub IsInput : (under : List ℕ → Option (List ℕ)) → Option (List ℕ) → List ℕ → Type 0
 IsInput under (Some file) input = under file ≡ Some input
 IsInput under None input = input ≡ []
@@ -33,14 +33,14 @@ IsInput under None input = input ≡ []
 abbrev pub HasInputs : (under : List ℕ → Option (List ℕ)) → (source : List ℕ) → List PortText → (Form → List ℕ) → Type 0
 HasInputs under source ports input = (f : Form) → Spells source f → IsInput under (file_of f.input ports) (input f)
 
--- whether an output is written: where a word gives it a file, else its channel isn't open
+-- an output is written if a word gives it a file, else its channel isn't open
 abbrev pub Writes : Bool → Option (List ℕ) → (is_open : Bool) → Type 0
 Writes writes (Some file) is_open = writes ≡ true
 Writes writes None is_open = is_open ≡ false
 
 -- The source is an actor whose ports the words match. The trace is the text of lines that play from the start of its
 -- network over this input, keep the capacities and end in this line. The output is the bytes of the state after them,
--- where it is written. The numbers count them.
+-- if it is written. The numbers count them.
 pub record IsRun (ports : List PortText) (source input : List ℕ) (end : Line) (form : Form) (counts : Counts) (trace : List ℕ) (output_open : Bool) (output : List ℕ) : Type 0 where
   pub spelled : Spells source form
   pub matched : AreMatched (ports_of form) ports
@@ -73,7 +73,7 @@ pub record IsCutRun (ports : List PortText) (source : List ℕ) (input : Form �
   pub trace_is : trace ≡ text (network_of form) 0 moves
   pub output_is : IsWritten (file_of form.output ports) output_open output (bytes_out (network_of form) last 0)
 
--- fronts of what belongs to lines that play, with or without an end
+-- prefixes of what belongs to lines that play, with or without an end
 pub record IsBrokenRun (ports : List PortText) (source : List ℕ) (input : Form → List ℕ) (trace : List ℕ) (output_open : Bool) (output : List ℕ) : Type 0 where
   pub form : Form
   pub spelled : Spells source form
@@ -85,8 +85,8 @@ pub record IsBrokenRun (ports : List PortText) (source : List ℕ) (input : Form
   pub trace_front : IsFrontOf trace (text (network_of form) 0 lines)
   pub output_front : output_open ≡ true → IsFrontOf output (bytes_out (network_of form) last 0)
 
--- What the top call leaves, where the source and the channels are told, and for each actor that the source may be its
--- input. After a fault the trace's channel holds something only where it was opened.
+-- What the top call leaves, if the source and the channels are told, and for each actor that the source may be its
+-- input. After a fault the trace's channel holds something only if it was opened.
 abbrev pub Leaves : PlainText → (source : List ℕ) → (input : Form → List ℕ) → Status → (held_old held : ℕ → List ℕ) → (is_open : ℕ → Bool) → ℕ → Type 0
 Leaves j source input Quiet held_old held is_open limit = (firings : ℕ) × HasEnded j source input QuietLine Quiet held_old held is_open firings
 Leaves j source input (Budget firings) held_old held is_open limit =

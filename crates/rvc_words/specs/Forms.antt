@@ -33,7 +33,7 @@ number least most word =
     if not (is_empty word) && nat_le (length word) max_digits && list_all is_digit word && nat_le least value && nat_le value most
     then Some value else None
 
--- an option's value, read by its form, or the default where the option isn't given
+-- an option's value, read by its form, or the default if the option isn't given
 abbrev pub given_or : {A : Type 0} → A → (List ℕ → Option A) → Option (List ℕ) → Option A
 given_or default read None = Some default
 given_or default read (Some word) = read word

@@ -6,11 +6,11 @@ use Rattle.clap.specs.Walk.{Text, texts}
 use Rattle.rvc_words.specs.declared.parts.Parts.{Parts as Given}
 use Rattle.rvc_words.specs.Command.{Parts}
 
--- the word behind a reference, where there is one
+-- the word behind a reference, if there is one
 abbrev pub word_of : Option (Bor Text) → Option Text
 word_of = option_map (λ s. s.now)
 
--- the words behind references, where there are some
+-- the words behind references, if there are some
 abbrev pub words_of : Option (Bor (List (Bor Text))) → List Text
 words_of words = unwrap_or (option_map (λ s. texts s.now) words) []
 

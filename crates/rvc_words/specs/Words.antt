@@ -34,7 +34,7 @@ pub record JobText : Type 0 where
 abbrev pub port : List ℕ → PortText
 port word = record { name = front_of 61 word; file = rest_of 61 word }
 
--- what holds, or the cause that is named where it doesn't
+-- what holds, or the cause that is named if it doesn't
 abbrev pub kept : {A : Type 0} → Bool → A → UsageCause → Result A UsageCause
 kept true value cause = Ok value
 kept false value cause = Err cause

@@ -3,7 +3,7 @@
 use Rattle.std.specs.Prelude.{◌≡◌, ℕ, ◌+◌, ◌*◌, ◌<◌, List, length, slice_index_or, Option, None, Some}
 
 -- how many states and actions it has, and row by row, a row a state and a column an action, the state
--- that follows: none where the action isn't eligible
+-- that follows: none if the action isn't eligible
 pub record Automaton : Type 0 where
   pub states : ℕ
   pub actions : ℕ
@@ -13,7 +13,7 @@ pub record Automaton : Type 0 where
 abbrev pub entry : ℕ → List (Option ℕ) → ℕ → ℕ → Option ℕ
 entry columns table state action = slice_index_or table (state * columns + action) None
 
--- the state that follows a state by an action: none where the action isn't eligible there
+-- the state that follows a state by an action: none if the action isn't eligible there
 abbrev pub target : Automaton → ℕ → ℕ → Option ℕ
 target fsm state action = entry fsm.actions fsm.targets state action
 

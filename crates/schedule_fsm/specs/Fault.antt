@@ -6,7 +6,7 @@ use Rattle.schedule_fsm.specs.declared.fsm.FsmFault.{FsmFault}
 use Rattle.schedule_fsm.specs.declared.fsm.FsmFault.TheVariants.{Ambiguous, Memory}
 use Rattle.schedule_fsm.specs.Leads.{HasTwoTargets}
 
--- the fault names a state and an action from which steps lead to two states; want of memory has no cause
+-- the fault names a state and an action from which steps lead to two states; running out of memory has no cause
 abbrev pub IsCause : List Step → FsmFault → Type 0
 IsCause steps (Ambiguous state action) = HasTwoTargets steps state action
 IsCause steps Memory = Unit {0}

@@ -57,18 +57,18 @@ abbrev pub LinesAreReadBack : Type 0
 LinesAreReadBack = (lines : List Line) (texts : List (List ℕ)) (answers : List Step2) → SpellEach lines texts
     → AreAnswers [] (concat texts) answers ↔ (answers ≡ answers_to_each lines texts)
 
--- A text is lines, one after another, exactly where its last byte, if it has one, is a line feed, no answer is
+-- A text is lines, one after another, exactly if its last byte, if it has one, is a line feed, no answer is
 -- bad, and these are the lines that are told.
 abbrev pub OnlyLinesAreReadBack : Type 0
 OnlyLinesAreReadBack = (lines : List Line) (text : List ℕ) (answers : List Step2) → AreAnswers [] text answers
     → AreLines lines text ↔ (IsEnded text × NoneIsBad answers × (lines_among answers ≡ lines))
 
--- Bytes begin the text of some lines exactly where no answer is bad.
+-- Bytes begin the text of some lines exactly if no answer is bad.
 abbrev pub BadBeginsNoLines : Type 0
 BadBeginsNoLines = (bytes : List ℕ) (answers : List Step2) → AreAnswers [] bytes answers
     → BeginLines bytes ↔ NoneIsBad answers
 
--- Where a reader has told lines of bytes, they are the first of any lines whose text begins with these bytes ..
+-- If a reader has told lines of bytes, they are the first of any lines whose text begins with these bytes ..
 abbrev pub ToldAreFirst : Type 0
 ToldAreFirst = (reader : LineReader) (lines those : List Line) (bytes more : List ℕ) → HasTold reader lines bytes
     → AreLines those (bytes ++ more) → (others : List Line) × (those ≡ lines ++ others)

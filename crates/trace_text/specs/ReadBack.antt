@@ -31,13 +31,13 @@ abbrev pub HasNoLineFeed : List ℕ → Type 0
 HasNoLineFeed [] = Unit {0}
 HasNoLineFeed (byte ∷ bytes) = (byte ≢ 10) × HasNoLineFeed bytes
 
--- what is answered where these are the bytes since the last line feed
+-- what is answered if these are the bytes since the last line feed
 abbrev pub IsAnswer : List ℕ → Step2 → Type 0
 IsAnswer bytes (TheLine line) = Spells line bytes
 IsAnswer bytes More = IsFront bytes
 IsAnswer bytes Bad = ¬ Begins bytes
 
--- what is answered of each byte of a text, where these bytes stand before it since the last line feed
+-- what is answered of each byte of a text, if these bytes stand before it since the last line feed
 abbrev pub AreAnswers : List ℕ → List ℕ → List Step2 → Type 0
 AreAnswers read [] [] = Unit {0}
 AreAnswers read [] (answer ∷ answers) = ⊥

@@ -12,8 +12,8 @@ line_feed = 10 ∷ []
 abbrev pub then_number : ℕ → List ℕ
 then_number n = codes " " ++ decimal n
 
--- The text of a line. Of an instance it is the front alone: its path and its class follow. Where links may
--- grow the first line is of version 2 and tells up to which capacity.
+-- The text of a line. Of an instance it is a prefix alone: its path and its class follow. If links may
+-- grow, the first line is of version 2 and tells up to which capacity.
 abbrev pub line_text : Line → List ℕ
 line_text (Header instances links zero) =
     codes "rvc-trace 1" ++ then_number instances ++ then_number links ++ line_feed

@@ -168,7 +168,7 @@ pub record StandsBehind (field : Field) (n : ℕ) (next : Place) : Type 0 where
   pub back : (line : Line) (bytes : List ℕ) → Waits next line bytes → follows field line n bytes
   pub alive : IsAlive next
 
--- a place behind the names of a part, where the next byte is no part of them
+-- a place behind the names of a part, if the next byte is no part of them
 pub record LeadsOut (inst : ℕ) (part : Part) (byte : ℕ) (next : Place) : Type 0 where
   pub onward : (line : Line) (bytes : List ℕ) → after_names part inst line (byte ∷ bytes) → Waits next line bytes
   pub back : (line : Line) (bytes : List ℕ) → Waits next line bytes → after_names part inst line (byte ∷ bytes)
@@ -177,7 +177,7 @@ pub record LeadsOut (inst : ℕ) (part : Part) (byte : ℕ) (next : Place) : Typ
 abbrev pub IsDigit : ℕ → Type 0
 IsDigit byte = (48 ≤ byte) × (byte < 58)
 
--- the place behind the digits of a number, which are lost where it is too small
+-- the place behind the digits of a number, which are lost if it is too small
 abbrev pub IsWithin : Field → ℕ → Place → Type 0
 IsWithin field number next =
     ((least_of field ≤ number) × (next ≡ Number field (Some number))) ⊎ ((number < least_of field) × (next ≡ Lost))
