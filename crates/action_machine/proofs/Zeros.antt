@@ -18,7 +18,7 @@ zeros-more n xs are = record {
   zero = λ k h. zero-at xs k (λ j l. are.zero j (omega (arith, l, are.size))) (omega (arith, h, are.size));
 }
 
--- so much room is enough where no way through the code has more operands than are said
+-- so much room is enough if no way through the code has more operands than are said
 pub made-for : (code : Code) (kept : Kept) (most n : ℕ) → n ≡ length code.routines → ((p h : ℕ) → Way code p h → h ≤ most) → length kept.numbers ≡ code.cells → kept.operands ≡ most * (n + 1) → kept.calls ≡ n → IsMadeFor code kept
 made-for code kept most n same bound cells operands calls = record {
   size = cells;

@@ -33,7 +33,7 @@ places_stop m x b f =
     let none : here (same_word Lexeme.LeftBracket) (ahead b) ≡ false = unseen (same_word Lexeme.LeftBracket) (ahead b) (no_bracket (seen (ahead b)) f) in
     rw (read_is m (places x) b, none, exec) refl
 
--- where nothing that belongs to it comes, the part is read
+-- if nothing that belongs to it comes, the part is read
 pub closes : {p : Part} {m : ℕ} {a b : List Placed} {x : Tree} → Claim p m a b x → may_follow p (seen (ahead b)) ≡ true → read m (part p) a ≡ Gave x b
 closes {p = level (suc n)} {m = m} {a = a} {b = b} {x = x} c f = c.it (lower_follows (seen (ahead b)) n f) ∙ chain_stops m n x b f
 closes {p = a_postfix} {m = m} {a = a} {b = b} {x = x} c f = c.it (Follow.looser_follows 0 1 (seen (ahead b)) (omega arith) f) ∙ places_stop m x b f

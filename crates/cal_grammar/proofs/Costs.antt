@@ -1,4 +1,4 @@
--- What a part costs: as many tokens as its height, and one at least where it can't be empty.
+-- What a part costs: as many tokens as its height, and one at least if it can't be empty.
 use Rattle.std.proofs.Common.{◌≡◌, ℕ, suc, ◌+◌, ◌≤◌, List, length, refl, arith}
 use Rattle.cal_ast.specs.Tree.{Tree, ident, import_part, file, action, if_expr, prefix, binary}
 use Rattle.cal_lexer.specs.Lexeme.{Placed}

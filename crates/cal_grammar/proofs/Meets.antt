@@ -57,7 +57,7 @@ number_is : (k : Lexeme) → counts k ≡ true → (v : ℕ) × (k ≡ Lexeme.Nu
 number_is (Lexeme.Number v) e = (v, refl)
 number_is _ e = absurd cc
 
--- a token is there where something is known of it
+-- a token is there if something is known of it
 pub some_left : (f : Lexeme → Bool) (ts : List Placed) → here f (ahead ts) ≡ true → 0 < length ts
 some_left f [] e = absurd cc
 some_left f (t ∷ ts) e = omega arith
@@ -114,7 +114,7 @@ module _ (s m : ℕ) where
   pub entered : (p : Part) (ts : List Placed) (next : Tree → Step) (Q : Outcome Placed Tree → Type 0) → rank p + 100 * length ts < s → ((left : List Placed) → Q (Refused left)) → ((left : List Placed) → m - 1 + length left ≤ length ts → 0 < length left → Q (TooHigh left)) → ((x : Tree) (left : List Placed) → Spells p ts left x → height x ≤ m - 1 → height x + length left ≤ length ts → takes p + length left ≤ length ts → Shows (next x) left Q) → Shows (enter (part p) next) ts Q
   entered p ts next Q less refused high each = record { it = (less, λ x left h. (each x left h.spelled h.low (costs h.spelled).high (costs h.spelled).taken).it, λ left h. refused left, λ left h. high left h.far h.at_token) }
 
-  -- the same where the rule reads a part of its own
+  -- the same if the rule reads a part of its own
   pub invokes : (p whole_part : Part) (a ts : List Placed) (next : Tree → Step) → rank p + 100 * length ts < s → length ts ≤ length a → ((x : Tree) (left : List Placed) → Spells p ts left x → height x ≤ m → height x + length left ≤ length ts → takes p + length left ≤ length ts → Shows (next x) left (Meets whole_part m a)) → Shows (invoke (part p) next) ts (Meets whole_part m a)
   invokes p w a ts next less inside each = invoked p ts next (Meets w m a) less (λ left. tt) (λ left far at. record { far = omega arith; at_token = at }) each
 
@@ -144,7 +144,7 @@ module _ (s m : ℕ) where
   pub finishes : (w : Lexeme) (p whole_part : Part) (b : List Placed) (x : Tree) (a ts : List Placed) (next : Step) → Spells p b ts x → ((k : Lexeme) (q : ℕ) (l : List Placed) → ends w k ≡ true → length ts ≡ suc (length l) → Spells p b (placed k q ∷ l) x → Shows next l (Meets whole_part m a)) → Shows (finish w next) ts (Meets whole_part m a)
   finishes w p v b x a ts next h each = asks (here (ends w)) (take (λ t. next)) fail ts (Meets v m a) (λ e. takes_kind (ends w) (λ l. Spells p b l x) (λ l. Meets v m a) (λ t. next) ts e h each) (λ e. fails ts (Meets v m a) tt)
 
--- a rule's outcome is another's where what it read is the other's part
+-- a rule's outcome is another's if what it read is the other's part
 pub turns : (p v : Part) (m : ℕ) (a ts : List Placed) → length ts ≤ length a → ((x : Tree) (left : List Placed) → Spells p ts left x → Spells v a left x) → (o : Outcome Placed Tree) → Meets p m ts o → Meets v m a o
 turns p v m a ts inside f (Gave x left) h = record { spelled = f x left h.spelled; low = h.low }
 turns p v m a ts inside f (Refused left) h = tt

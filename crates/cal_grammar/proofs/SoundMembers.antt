@@ -315,7 +315,7 @@ file_kept m a =
     gives _ _ _ _ _ (record { spelled = the_package_file ht2 hx; low = omega (arith, height-with_package q t x) }))
     (λ e. jumps _ _ _ _ _ (omega arith) (turns some_imports a_file m a a (omega arith) (λ x left h. the_file h)))
 
--- nothing stands where no token does
+-- nothing is left if no token is ahead
 nothing_left : (l : List Placed) → at_end (ahead l) ≡ true → l ≡ []
 nothing_left [] e = refl
 nothing_left (t ∷ ts) e = absurd cc

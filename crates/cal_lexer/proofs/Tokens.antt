@@ -29,7 +29,7 @@ passes_at : (passes : ℕ → Bool) (xs : List ℕ) (i : ℕ) (b : Bool) → pas
 passes_at passes xs i true is all h = refl
 passes_at passes xs i false is all h = let none = list_all_at passes xs i 0 h is in cc
 
--- a front begins as the whole does
+-- a prefix begins as the whole does
 first_of_take : (n : ℕ) (bytes : List ℕ) → 0 < n → slice_index (take n bytes) 0 ≡ slice_index bytes 0
 first_of_take n bytes h = get_or-take n bytes 0 0 h
 

@@ -58,7 +58,7 @@ actor_ ins vars actions states moves pairs = record {
   pairs = pairs;
 }
 
--- what it chooses at first of these tokens, where its actions stand in this line
+-- what it chooses at first of these tokens, if its actions stand in this line
 abbrev chooses : Actor → List ℕ → List (List ℤ) → Choice
 chooses actor line u = choice_among actor (start_of actor) u line
 

@@ -1,5 +1,5 @@
 -- Evaluation doesn't depend on names that it doesn't reach: over two environments that agree on the names that both
--- have, and with functions that agree where they are called, it comes to the same wherever it lacks no name.
+-- have, and with functions that agree where they are called, it comes to the same if it lacks no name.
 use Rattle.std.proofs.Common.{◌≡◌, ℕ, zero, suc, ◌<◌, ℤ, pos, ◌+ℤ◌, Bool, true, false, List, [], ◌∷◌, ◌++◌, length, refl, sym, ap, subst, arith, Option, None, Some}
 use Rattle.std.specs.Prelude.{if◌then◌else◌}
 use Rattle.std.specs.Str.{bytes_eq}
@@ -64,7 +64,7 @@ pub any-starts : (xs : List Local) → Each (StartCalls (λ name. Unit {0}) (λ 
 any-starts [] = tt
 any-starts (x ∷ xs) = (any-start x, any-starts xs)
 
--- two outcomes are the same; one of them may lack a name where L allows it
+-- two outcomes are the same; one of them may lack a name if L allows it
 abbrev pub Agree : (L : Type 0) {A : Type 0} → Out A → Out A → Type 0
 Agree L Lacks Lacks = Unit {0}
 Agree L Lacks p = L
@@ -76,14 +76,14 @@ Agree L Clashes Lacks = L
 Agree L Clashes Clashes = Unit {0}
 Agree L o p = ⊥
 
--- two names mean the same; one of them may mean nothing where L allows it
+-- two names mean the same; one of them may mean nothing if L allows it
 abbrev pub Match : Type 0 → Option Value → Option Value → Type 0
 Match L None None = Unit {0}
 Match L None (Some w) = L
 Match L (Some v) None = L
 Match L (Some v) (Some w) = v ≡ w
 
--- environments that agree, where what the functions give that P speaks of does too
+-- environments that agree, as does what the functions that P speaks of give
 pub record Alike (L : Type 0) (P : List ℕ → Type 0) (c d : Calls) (x y : Env) : Type 0 where
   pub names : (name : List ℕ) → Match L (look_up name x) (look_up name y)
   pub calls : (name : List ℕ) → P name → (args : Values) (left : ℕ) → Agree L (c x.globals name args left) (d y.globals name args left)
@@ -103,7 +103,7 @@ declared-step : {B : Type 0} (c : Calls) (z : Local) (zs : List Local) (x : Env)
 declared-step c z zs x left f =
     then-then (first_value z.shape z.start c x left) (λ v m. declared zs c (with_local (variable z.name z.shape z.changes v) x) m) f
 
--- outcomes that agree where none may lack a name are the same
+-- outcomes that agree are the same if none may lack a name
 pub agree-is : {A : Type 0} (o p : Out A) → Agree ⊥ o p → o ≡ p
 agree-is Lacks Lacks e = refl
 agree-is Lacks (Gives b m) e = absurd e
@@ -353,7 +353,7 @@ named-one F name (g ∷ gs) f h e = go (bytes_eq g.name name) refl e (named-one 
     go true s i rest = let same : g ≡ f = cc in subst (λ k. F k × (k.name ≡ name)) same (h.0, (bytes_eq-Decides g.name name).0 s)
     go false s i rest = rest i
 
--- where functions have ranks, it doesn't count how many more calls than its rank may be open at a function
+-- if functions have ranks, it doesn't count how many more calls than its rank may be open at a function
 calls-same : (n m : ℕ) (funs : List Fun) (rank : List ℕ → ℕ) (globals : List Var) → Each (FunCallsBelow rank) funs
     → (name : List ℕ) → rank name < n → rank name < m → (args : Values) (left : ℕ) → Agree ⊥ (calls_within n funs globals name args left) (calls_within m funs globals name args left)
 calls-same zero m funs rank globals below name h i args left = absurd (omega arith)
@@ -402,7 +402,7 @@ calls-are-answered funs globals name args left never = go (length funs) refl
 
 -- ---- constants
 
--- functions see the constants alone, which are all that is seen where no name is declared inside
+-- functions see the constants alone, which are all that is seen if no name is declared inside
 pub constant-is-value : (globals : List Known) (funs : List Fun) (e : Tree)
     → constant e (record { globals = globals; locals = []; funs = funs }) ≡ eval e (calls_of funs) (record { globals = constants globals; locals = [] }) max_turns
 constant-is-value globals funs e =

@@ -215,7 +215,7 @@ outranks actor above x u a b (c ∷ cs) e f m = go (in-rest b c cs m) (outranks 
         ap (λ v. (v && are_true (readiness actor x u c)) || outranked actor above x u a cs) first ∙ ap (λ g. are_true g || outranked actor above x u a cs) second
     go (inr rest) ih = ap (λ v. (above c a && are_true (readiness actor x u c)) || v) (ih rest) ∙ or-true (above c a && are_true (readiness actor x u c))
 
--- where none that is above a is enabled, none of a list outranks it
+-- if none that is above a is enabled, none of a list outranks it
 outranks-not : (actor : Actor) (above : ℕ → ℕ → Bool) (x : State) (u : List (List ℤ)) (a : ℕ) (bs : List ℕ)
     → ((b : ℕ) → above b a ≡ true → readiness actor x u b ≢ AreTrue) → outranked actor above x u a bs ≡ false
 outranks-not actor above x u a [] h = refl

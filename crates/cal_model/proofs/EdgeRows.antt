@@ -74,7 +74,7 @@ up_by_minus_1 = refl
 down_by_minus_1 : plain (two Shr (n_ 1) (minus (n_ 1))) 9 ≡ Traps ShiftRange
 down_by_minus_1 = refl
 
--- also where the result would be 0 whatever the count
+-- even if the result would be 0 whatever the count
 none_up_by_128 : plain (two Shl (n_ 0) (n_ 128)) 9 ≡ Traps ShiftRange
 none_up_by_128 = refl
 
@@ -326,7 +326,7 @@ set_c = put_ (codes "c") [] (n_ 1)
 constant_is_not_assigned : does set_c (record { globals = constant_c ∷ []; locals = [] }) 9 ≡ Clashes
 constant_is_not_assigned = refl
 
--- nor where a constant hides a variable of the name
+-- nor if a constant hides a variable of the name
 constant_hides_a_variable : does set_c (record { globals = variable (codes "c") int_ true (Num (pos 5)) ∷ []; locals = constant_c ∷ [] }) 9 ≡ Clashes
 constant_hides_a_variable = refl
 

@@ -270,7 +270,7 @@ module _ (hs : List Held) (ts : Typed hs) where
         (subst (λ fs. GivesOrTraps (Good hs (onto (map known_local p.locals) formals)) (exec_all p.body (calls_of fs) runs env m)) (more ∙ funs)
         (all-good hs ts procs runs Q r p.body (with_locals p.locals inner) (onto (map known_local p.locals) formals) env m (locals-fixed hs p.locals inner formals fixed) now c is.body)) (λ last k done. done.globals)))
 
-    -- where as many calls may be open as there are ranks below, the bound on open calls never shows
+    -- if as many calls may be open as there are ranks below, the bound on open calls never shows
     within-keep : (n : ℕ) → RunsKeep hs procs (λ name. never.rank name < n) (runs_within n procs (calls_of names.funs))
     within-keep zero globals name p args left q g e a = let no : never.rank name < 0 = q in absurd (omega arith)
     within-keep (suc n) globals name p args left q g e a =

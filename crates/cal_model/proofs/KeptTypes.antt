@@ -122,7 +122,7 @@ put-if (Many n items) (Items vs) (Cons p places) v (ListKind m l ∷ ks) k left 
 
 -- ---- variables
 
--- A variable stands for a name; where it is assigned, it keeps a type of the name's kind; and a name that changes is
+-- A variable stands for a name; if it is assigned, it keeps a type of the name's kind; and a name that changes is
 -- assigned.
 pub record Stays (n : Known) (x : Var) : Type 0 where
   pub name : x.name ≡ n.name

@@ -95,7 +95,7 @@ module _ (L : Type 0) (P Q : List ℕ → Type 0) (calls : Calls) where
 
 -- ---- all functions
 
--- functions that may call each other give values of their kinds, where any name may be lacked
+-- functions that may call each other give values of their kinds, if every name may be lacked
 pub calls-kept : (n : ℕ) (names : Names) (globals : List Var) → Each (IsOfItsKinds names) names.funs → Stand (Unit {0}) names.globals globals
     → (name : List ℕ) (f : Fun) (args : Values) (left : ℕ) → fun_named name names.funs ≡ Some f → AreArguments f.formals args
     → Comes (Unit {0}) (HasKind (kind_of_scalar f.result)) left (calls_within n names.funs globals name args left)
@@ -111,7 +111,7 @@ calls-kept (suc n) names globals fine h name f args left e a =
       agree = calls-agree (length names.funs) n names.funs (constants names.globals) globals (stand-match (Unit {0}) names.globals globals h);
     }) a)
 
--- functions of which none calls itself, directly or round about, lack nothing where no name is lacked
+-- functions of which none calls itself, directly or indirectly, lack nothing if no name is lacked
 pub calls-lack-nothing : (n : ℕ) (names : Names) (globals : List Var) (never : FunsNeverReturn names.funs) → Each (IsOfItsKinds names) names.funs → Stand ⊥ names.globals globals
     → (name : List ℕ) (f : Fun) (args : Values) (left : ℕ) → never.rank name < n → fun_named name names.funs ≡ Some f → AreArguments f.formals args
     → Comes ⊥ (HasKind (kind_of_scalar f.result)) left (calls_within n names.funs globals name args left)

@@ -45,7 +45,7 @@ with_items t given = record given { items = Some t }
 abbrev with_size : Value → Given → Given
 with_size v given = record given { size = size_of_value v }
 
--- a number is constant where it has this kind, and is given over the constants
+-- a number is constant only if it has this kind and is given over the constants
 number-parts : (o : Judged Kind) (e : Tree) (names : Names) (a : ℤ) → constant_number o e names ≡ Fine a → (o ≡ Fine NumKind) × (number_given (constant e names) (begins e) ≡ Fine a)
 number-parts (Fine NumKind) e names a h = (refl, h)
 number-parts (Fine BoolKind) e names a h = absurd (not-fine wrong_kind (begins e) a h)

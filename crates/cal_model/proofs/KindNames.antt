@@ -92,7 +92,7 @@ find-constant name (x ∷ xs) = go x.value refl (bytes_eq x.name name) refl (fin
 
 -- ---- environments of names
 
--- what is found under a name: a value that may stand there, or nothing where L allows it
+-- what is found under a name: a value that may stand there, or nothing if L allows it
 abbrev pub Found : Type 0 → Known → Option Value → Type 0
 Found L x None = L
 Found L x (Some v) = StandsFor x v

@@ -18,7 +18,7 @@ use Rattle.cal_model.specs.Keeping.{AreMany}
 use Rattle.cal_model.proofs.KindValues.{not-fine, fine-is, one-kind, count-joined, have-joined}
 use Rattle.cal_model.proofs.Numbers.{is-num, rest-is-num, shifted-is-num, and-is-num, or-is-num, xor-is-num, not-is-num}
 
--- An outcome gives such a value, with no more turns left than these, or traps, or lacks a name where L allows it. It
+-- An outcome gives such a value, with no more turns left than these, or traps, or lacks a name if L allows it. It
 -- never clashes.
 abbrev pub Comes : (L : Type 0) {A : Type 0} → (A → Type 0) → ℕ → Out A → Type 0
 Comes L P left (Gives a m) = P a × (m ≤ left)
@@ -132,7 +132,7 @@ module _ (L : Type 0) where
   applied-comes op BoolKind BoolKind j at v w left h p q = absurd p
   applied-comes op k m j at v w left h p q = absurd (not-fine _ at j h)
 
-  -- where one side is a truth value, `and` and `or` give one
+  -- if one side is a truth value, `and` and `or` give one
   and-is-truth : (k m j : Kind) (at : ℕ) (b : Bool) → binary_kind And k m at ≡ Fine j → HasKind k (Truth b) → HasKind j (Truth b)
   and-is-truth BoolKind BoolKind j at b h p = subst (λ l. HasKind l (Truth b)) (fine-is BoolKind j h) tt
   and-is-truth NumKind m j at b h p = absurd p

@@ -20,12 +20,12 @@ not-fine rule at a h = cc
 pub fine-is : {A : Type 0} (a b : A) → Fine a ≡ Fine b → a ≡ b
 fine-is a b h = cc
 
--- a judgement of two parts is fine where both are
+-- a judgement of two parts is fine only if both are
 pub split : {A B : Type 0} (o : Judged A) (f : A → Judged B) (b : B) → and_so o f ≡ Fine b → (a : A) × (o ≡ Fine a) × (f a ≡ Fine b)
 split (Fine a) f b h = (a, refl, h)
 split (Broken rule at) f b h = absurd (not-fine rule at b h)
 
--- .. and so is one that depends on a test where it holds and what follows is fine
+-- .. and one that depends on a test only if the test holds and what follows is fine
 pub tested : {A : Type 0} (b : Bool) (o : Judged A) (rule : Rule) (at : ℕ) (a : A) → (if b then o else Broken rule at) ≡ Fine a → (b ≡ true) × (o ≡ Fine a)
 tested true o rule at a h = (refl, h)
 tested false o rule at a h = absurd (not-fine rule at a h)

@@ -34,7 +34,7 @@ module _ (test : Env → ℕ → Out Value) (body : Env → ℕ → Out Env)
   abbrev going : (Env → ℕ → Out Env) → Env → Value → ℕ → Out Env
   going rest env v m = chosen v (λ k. turn k (λ j. and_then (body env j) rest)) (λ k. Gives env k) m
 
-  -- rests that are the same where fewer turns are left
+  -- rests that are the same if fewer turns are left
   going-same : (f g : Env → ℕ → Out Env) (env : Env) (left : ℕ) → ((next : Env) (i : ℕ) → suc i ≤ left → f next i ≡ g next i)
       → and_then (test env left) (λ v m. going f env v m) ≡ and_then (test env left) (λ v m. going g env v m)
   going-same f g env left h =

@@ -135,7 +135,7 @@ module _ (actor : Actor) (n : ℕ → ℕ) (u v : List (List ℤ)) (agree : Agre
       ap (λ xs. xs ++ pattern_vars_from t (tokens_on u q.port) q 0 q.names) (patterns-same qs h.1 few.1)
       ∙ ap (λ xs. pattern_vars actor v qs ++ xs) (vars-same t (tokens_on u q.port) (tokens_on v q.port) q 0 q.names here (let e : 0 + length q.names ≡ length q.names = omega arith in e))
 
-  -- what one action sees, where as many tokens agree as it needs
+  -- what one action sees, if as many tokens agree as it needs
   module _ (sound : IsSound actor) (a : ℕ) (few : (p : ℕ) → need actor a p ≤ n p) where
     tokens-on-same : (k s : ℕ) → s + k ≤ length actor.ins → has_its_tokens_on actor u a (range_with_len s k) ≡ has_its_tokens_on actor v a (range_with_len s k)
     tokens-on-same zero s h = refl

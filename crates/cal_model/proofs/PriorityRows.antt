@@ -26,7 +26,7 @@ below-end k c h =
     let same : 0 + h.0 ≡ c = sym (get_or-range_with_len 0 k h.0 c within) ∙ h.2 in
     omega arith
 
--- where what is above has the lower number, the line is that of the numbers
+-- if what is above has the lower number, the line is that of the numbers
 numbers-stand : (n : ℕ) (A : ℕ → ℕ → Type 0) → ((a b : ℕ) → A a b → a < b) → IsLine n A (range_with_len 0 n)
 numbers-stand n A lower = record {
   each = λ a h. in-range n a h;
@@ -96,7 +96,7 @@ pair-leads p q a b (x ∷ xs) less h =
     let second : x ≡ p = (pair-leads p q x b xs less h.1).0 in
     absurd (omega arith)
 
--- where one pair is declared, that is all that stands above
+-- if one pair is declared, that is all that stands above
 pub one-above : (p q a b : ℕ) → p < q → IsAbove ((p, q) ∷ []) a b → (a ≡ p) × (b ≡ q)
 one-above p q a b less h = pair-leads p q a b h.0 less h.1
 

@@ -1,4 +1,4 @@
--- Procedures: the bound on open calls never shows where none returns to itself.
+-- Procedures: the bound on open calls never shows if none returns to itself.
 use Rattle.std.proofs.Common.{◌≡◌, ℕ, zero, suc, ◌<◌, ℤ, pos, ◌+ℤ◌, Bool, true, false, List, [], ◌∷◌, length, refl, sym, ap, subst, ◌∙◌, arith, Option, None, Some}
 use Rattle.std.specs.Prelude.{if◌then◌else◌}
 use Rattle.std.specs.Str.{bytes_eq}
@@ -114,7 +114,7 @@ abbrev made_by : Calls → Runs → List Var → Values → ℕ → Option Proc 
 made_by calls runs globals args left None = Lacks
 made_by calls runs globals args left (Some p) = performed p calls runs globals args left
 
--- where procedures have ranks, it doesn't count how many more calls than its rank may be open at a procedure
+-- if procedures have ranks, it doesn't count how many more calls than its rank may be open at a procedure
 runs-same : (n m : ℕ) (procs : List Proc) (calls : Calls) (rank : List ℕ → ℕ) → Each (ProcCallsBelow rank) procs
     → (globals : List Var) (name : List ℕ) → rank name < n → rank name < m → (args : Values) (left : ℕ) → runs_within n procs calls globals name args left ≡ runs_within m procs calls globals name args left
 runs-same zero m procs calls rank below globals name h i args left = absurd (omega arith)

@@ -18,7 +18,7 @@ no_calls globals name args left = Lacks
 abbrev pub nothing : Env
 nothing = record { globals = []; locals = [] }
 
--- what an expression without names gives, where so many turns are left
+-- what an expression without names gives, if so many turns are left
 abbrev pub plain : Tree → ℕ → Out Value
 plain e left = eval e no_calls nothing left
 

@@ -67,7 +67,7 @@ another_order = refl
 one_is_missing : can_be [] 0 (s_ (pos 0) ∷ []) ≡ false
 one_is_missing = refl
 
--- state 1 is the fresh one, which is there where an `initialize` is
+-- state 1 is the fresh one, which is there only if an `initialize` is
 no_fresh_state : can_be [] 1 (s_ (pos 0) ∷ k_ (pos 3) ∷ []) ≡ false
 no_fresh_state = refl
 

@@ -97,7 +97,7 @@ goes_through_both_bounds : does (each_ (n_ 3) (n_ 5) (set_x (two Add (two Mul (n
     ≡ Gives (at_ (pos 69) zeros) 6
 goes_through_both_bounds = refl
 
--- none where the second is lower
+-- none if the second is lower
 goes_nowhere : does (each_ (n_ 5) (n_ 4) (set_x (n_ 1))) (at_ (pos 0) zeros) 9 ≡ Gives (at_ (pos 0) zeros) 9
 goes_nowhere = refl
 

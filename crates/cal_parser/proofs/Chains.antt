@@ -116,7 +116,7 @@ places_takes x t = enter (part an_expr) (λ i. places_step x i)
 abbrev places_on : ℕ → Tree → Next
 places_on m x i left = does m (places_step x i) left
 
--- where a tree would be given behind a word, its indexes go on
+-- if a tree would be given behind a word, its indexes go on
 jump_behind : (m : ℕ) (w : Lexeme) (x : Tree) (ts : List Placed) → does m (expect w (jump (places x))) ts ≡ after (does m (expect w (give x)) ts) (λ z left. read m (places z) left)
 jump_behind m w x [] = refl
 jump_behind m w x (t ∷ ts) = branch (same_word w (kind_of t))

@@ -30,7 +30,7 @@ module _ (ts left : List Placed) where
   pub given_same : (f x : Tree) → read max_height whole ts ≡ Gave f left → spells ts x → height x ≤ max_height → f ≡ x
   given_same f x e h low = let s : read max_height whole ts ≡ Gave x [] = whole_read max_height ts x h low in cc
 
-  -- and so none is where no tree is given
+  -- and so none is, if no tree is given
   pub none_refused : (x : Tree) → read max_height whole ts ≡ Refused left → spells ts x → height x ≤ max_height → ⊥
   none_refused x e h low = let s : read max_height whole ts ≡ Gave x [] = whole_read max_height ts x h low in cc
 
@@ -59,7 +59,7 @@ module _ (number end : ℕ) (ts : List Token) (left : List Token) where
       let whole_is : answer ≡ answer_of fault number (place_in end (plain_tokens left)) = is ∙ ap (λ q. answer_of fault number q) place in
       subst (λ (a : Answer). IsRightly number end (plain_tokens ts) a) (sym whole_is) (rightly_at_once fault e)
 
--- where a file is spelled, only memory may be wanting
+-- if a file is spelled, the only fault is that memory runs out
 pub only_memory : (number : ℕ) (ts left : List Token) (fault : Fault) (at : ℕ) (answer : Answer) (x : Tree) → TellsFault fault left (read max_height whole (plain_tokens ts)) → answer ≡ answer_of fault number at → spells (plain_tokens ts) x → height x ≤ max_height → answer ≡ Memory
 only_memory number ts left faults.Refused at answer x e is h low = absurd (none_refused (plain_tokens ts) (plain_tokens left) x e h low)
 only_memory number ts left faults.TooHigh at answer x e is h low = absurd (none_high (plain_tokens ts) (plain_tokens left) x e h low)

@@ -80,7 +80,7 @@ module _ (m : ℕ) where
     pub all_members : stands starts_member now ≡ false → (k ≡ true → stands (same_word Lexeme.Schedule) now ≡ false) → read m (part (members true)) (plain_tokens start) ≡ Gave (listed (map member_tree xs)) (plain_tokens now)
     all_members none other = so_far.far ∙ ap (λ o. before (map member_tree xs) o) (no_member k (plain_tokens now) none other) ∙ ap (λ t. Gave t (plain_tokens now)) (ListSteps.joined-nil (map member_tree xs))
 
-    -- where a part isn't read, the members aren't
+    -- if a part isn't read, the members aren't
     passed : (new : List Token) (fault : Fault) → TellsFault fault new (read m (part (members k)) (plain_tokens now)) → TellsFault fault new (read m (part (members true)) (plain_tokens start))
     passed new faults.Refused e = so_far.far ∙ ap (λ o. before (map member_tree xs) o) e
     passed new faults.TooHigh e = so_far.far ∙ ap (λ o. before (map member_tree xs) o) e

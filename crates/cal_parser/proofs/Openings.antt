@@ -16,7 +16,7 @@ use Rattle.cal_parser.specs.declared.actions.Opening.{Opening}
 use Rattle.cal_parser.specs.declared.fault.Fault.{Fault}
 use Rattle.cal_parser.specs.declared.fault.Fault.TheVariants as faults
 
--- the same fault where the outcome is the same
+-- the same fault if the outcome is the same
 same_fault : (fault : Fault) (new : List Token) (o n : Outcome Placed Tree) → o ≡ n → TellsFault fault new n → TellsFault fault new o
 same_fault faults.Refused new o n e h = e ∙ h
 same_fault faults.TooHigh new o n e h = e ∙ h

@@ -66,7 +66,7 @@ module _ (m : ℕ) (old : List Token) where
             pub primary_none : stands (same_word Lexeme.LeftBracket) old ≡ false → read m (part a_primary) (plain_tokens old) ≡ Refused (plain_tokens old)
             primary_none b = let b_here : here (same_word Lexeme.LeftBracket) (ahead (plain_tokens old)) ≡ false = b in rw (read_is m (part a_primary) (plain_tokens old), c_here, n_here, t_here, f_here, p_here, i_here, b_here, exec) refl
 
--- a token that is taken where it fits the room
+-- a token that is taken if it fits the room
 
 taken_here : (m : ℕ) (next : Placed → Step) (k : Lexeme) (q : ℕ) (old mid : List Token) → Took k q old mid → 1 ≤ m → does m (check 1 (take next)) (plain_tokens old) ≡ does m (next (placed k q)) (plain_tokens mid)
 taken_here m next k q old mid took low =
@@ -84,7 +84,7 @@ pub named_call : (m : ℕ) (s : List ℕ) (q r : ℕ) (old mid l : List Token) �
 named_call m s q r old mid l took low paren =
     taken_here m name_body (Lexeme.Name s) q old mid took low ∙ ap (λ v. does m (name_body (placed (Lexeme.Name s) q)) v) paren
 
--- `if`: behind the test, and behind what it gives where it holds
+-- `if`: behind the test, and behind what it gives if it holds
 
 abbrev pub if_test : ℕ → ℕ → Next
 if_test m q x left = does m (expect Lexeme.Then (enter (part an_expr) (λ y. expect Lexeme.Else (enter (part an_expr) (λ z. if_step q x y z))))) left

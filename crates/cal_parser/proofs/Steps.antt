@@ -87,7 +87,7 @@ module _ (m : ℕ) where
   enter_fails r next old new faults.TooHigh e = ap (λ o. after o (λ y left. exec read m (next y) left)) e
   enter_fails r next old new faults.Memory e = tt
 
-  -- another part where none of this end comes
+  -- another part if none of this end comes
   pub end_yes : (v : Lexeme) (p other : Step) (old new : List Token) → TookEnd v old new → exec read m (ask (here (ends v)) (take (λ t. p)) other) (plain_tokens old) ≡ exec read m p (plain_tokens new)
   end_yes v p other old new h =
       let is : ends v h.kind ≡ true = h.is_end in

@@ -58,7 +58,7 @@ neither_here v (Some t) a b = neither_true (same_word Lexeme.End (kind_of t)) (s
 pub no_end : (v w : Lexeme) (ts : List Token) → w ≡ long_end v → stands (same_word Lexeme.End) ts ≡ false → stands (same_word w) ts ≡ false → stands (ends v) ts ≡ false
 no_end v w ts e a b = neither_here v (ahead (plain_tokens ts)) a (sym (ap (λ k. stands (same_word k) ts) e) ∙ b)
 
--- what `finish` says where its answer is known
+-- what `finish` says when its answer is known
 pub end_stood : (v : Lexeme) (b : Bool) (old new : List Token) → Finished v b old new → b ≡ true → TookEnd v old new
 end_stood v true old new h e = h
 end_stood v false old new h e = absurd cc

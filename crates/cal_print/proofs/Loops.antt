@@ -60,7 +60,7 @@ joined_all f mark old a new all x xs i split large first others =
     (then (said (words (f x)) first) (said (following mark (listed (map f xs))) (loop_all f (following mark) a new xs i large others))).is
     ∙ ap (λ ys. old ++ text_of (joined mark (listed (map f ys)))) (sym split)
 
--- where there are parts, what introduces them stands
+-- if there are parts, what introduces them stands
 pub where_some : {X : Type 0} (f : X → Tree) (all : List X) (x : X) (xs : List X) (ws : List Lexeme) → all ≡ x ∷ xs → where_any (listed (map f all)) ws ≡ ws
 where_some f all x xs ws split = ap (λ ys. where_any (listed (map f ys)) ws) split
 

@@ -1,4 +1,4 @@
--- Expressions: where their words spell them, they do as operands too, in a pair of parentheses where one is wanted.
+-- Expressions: if their words spell them, they do as operands too, in a pair of parentheses if one is wanted.
 use Rattle.std.proofs.Common.{◌≡◌, ℕ, zero, suc, ◌+◌, ◌-◌, ◌≤◌, Bool, true, false, List, [], ◌∷◌, ◌++◌, if◌then◌else◌, nat_eq, refl, sym, ap, ◌∙◌, subst, arith}
 use Rattle.std.proofs.lemmas.Bool.{eqb-true}
 use Rattle.cal_ast.specs.Tree.{Tree, absent, paren, if_expr, index, prefix, binary}
@@ -33,7 +33,7 @@ raise (suc k) n m e h = raise k (suc n) m (omega (arith, e)) (the_tighter h)
 postfix_at : (m : ℕ) {a b : List Placed} {x : Tree} → Spells a_postfix a b x → Spells (level m) a b x
 postfix_at m h = raise m 0 m (omega arith) (the_postfix h)
 
--- the words spell an expression, and an operand where it is put in parentheses if it is an operation or an `if`
+-- the words spell an expression, and an operand once it is put in parentheses if it is an operation or an `if`
 pub record IsOperand (x : Tree) : Type 0 where
   pub whole : Respells an_expr (words x) (unplaced x)
   pub operand : Respells a_postfix (paired (is_loose x) (words x)) (unplaced x)

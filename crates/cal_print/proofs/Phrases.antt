@@ -90,6 +90,6 @@ printables (word w f) h = (h.0, printables f h.1)
 printables (part p ws y f) h = both_printable ws (words_of f) h.0.printable (printables f h.1)
 printables (last p ws y) h = h.printable
 
--- where the parts of a phrase are spelled by their words, the whole is
+-- if the parts of a phrase are spelled by their words, the whole is
 pub respells : {f : Phrase} {p : Part} {y : Tree} → Respell f → ((a b : List Placed) → Reads f a b → IsBack p a b y) → Respells p (words_of f) y
 respells {f = f} h go = record { gives = λ a b t. go a b (reads f h a b t); printable = printables f h }

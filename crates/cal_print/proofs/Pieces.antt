@@ -26,7 +26,7 @@ pub said_start : {old new : List ℕ} (word : Lexeme) (e : Option Expr) → new 
 said_start word None h = record { is = h }
 said_start word (Some e) h = record { is = h }
 
--- so it does where the word is the sign of a variable
+-- so it does if the word is the sign of a variable
 pub said_signed : {old new : List ℕ} (changes : Bool) (word : Lexeme) (e : Option Expr) → word ≡ (if changes then Lexeme.Assign else Lexeme.Equal) → new ≡ old ++ text_of (under word (optional_expr e))
     → Writes old (start_words (if changes then Lexeme.Assign else Lexeme.Equal) (optional_expr e)) new
 said_signed {old} changes word e is h = said_start (if changes then Lexeme.Assign else Lexeme.Equal) e (h ∙ ap (λ w. old ++ text_of (under w (optional_expr e))) is)

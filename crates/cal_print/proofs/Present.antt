@@ -1,4 +1,4 @@
--- Where there are parts, what introduces them stands.
+-- If there are parts, what introduces them stands.
 use Rattle.std.proofs.Common.{◌≡◌, ◌==◌, false, List, [], ◌∷◌, map, length, refl}
 use Rattle.cal_ast.specs.Tree.{Tree, listed}
 use Rattle.cal_lexer.specs.Lexeme.{Lexeme}

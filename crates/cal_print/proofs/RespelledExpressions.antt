@@ -1,4 +1,4 @@
--- Lists, expressions, types and declarations: where the words of their parts spell them, theirs do.
+-- Lists, expressions, types and declarations: if the words of their parts spell them, theirs do.
 use Rattle.std.proofs.Common.{◌≡◌, ℕ, suc, true, false, List, [], ◌∷◌, ◌++◌, refl}
 use Rattle.cal_ast.specs.Tree.{Tree, absent, present, nil, cons, ident, tag, param, port, var, type_of, shape_arg, value_arg, number, truth, variable, call, if_expr, list, comp, gen, index, prefix, binary}
 use Rattle.cal_lexer.specs.Lexeme.{Lexeme, Placed}

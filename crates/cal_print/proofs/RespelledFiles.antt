@@ -1,4 +1,4 @@
--- Files: where the words of their parts spell them, theirs do.
+-- Files: if the words of their parts spell them, theirs do.
 use Rattle.std.proofs.Common.{◌≡◌, ℕ, true, List, [], ◌∷◌, ◌++◌, refl}
 use Rattle.cal_ast.specs.Tree.{Tree, absent, present, nil, cons, ident, import_part, file, actor, unit}
 use Rattle.cal_ast.specs.Apart.{unplaced}

@@ -1,4 +1,4 @@
--- Members: where the words of their parts spell them, theirs do.
+-- Members: if the words of their parts spell them, theirs do.
 use Rattle.std.proofs.Common.{◌≡◌, ℕ, Bool, true, false, List, [], ◌∷◌, ◌++◌, refl}
 use Rattle.cal_ast.specs.Tree.{Tree, absent, present, nil, cons, ident, function, procedure, action, pattern, output, schedule, move, priority}
 use Rattle.cal_ast.specs.Apart.{unplaced}

@@ -1,4 +1,4 @@
--- Statements: where the words of their parts spell them, theirs do.
+-- Statements: if the words of their parts spell them, theirs do.
 use Rattle.std.proofs.Common.{ℕ, List, [], ◌∷◌, ◌++◌, refl}
 use Rattle.cal_ast.specs.Tree.{Tree, absent, present, nil, ident, assign, call_stmt, if_stmt, while_stmt, foreach_stmt, block}
 use Rattle.cal_lexer.specs.Lexeme.{Lexeme, Placed}

@@ -10,7 +10,7 @@ writes-nothing held pending = record {
 }
 
 module _ (h p h' p' h'' t : List ℕ) (first : Writes h p h' p' t) where
-  -- what is held back and what comes behind it, by what was put first
+  -- what is buffered and what comes behind it, by what was put first
   regrouped : (u put left : List ℕ) → p' ++ u ≡ put ++ left → p ++ (t ++ u) ≡ (first.put ++ put) ++ left
   regrouped u put left e =
       sym (append_assoc p t u) ∙ ap (λ xs. xs ++ u) first.text_is ∙ append_assoc first.put p' u
@@ -34,7 +34,7 @@ module _ (h p h' p' h'' t : List ℕ) (first : Writes h p h' p' t) where
     text_is = regrouped u second.put second.left second.text_is;
   }
 
--- a front of a text is one of a longer text
+-- a prefix of a text is one of a longer text
 pub front-longer : (h h' t u : List ℕ) → HoldsFront h h' t → HoldsFront h h' (t ++ u)
 front-longer h h' t u front = record {
   put = front.put;
@@ -43,7 +43,7 @@ front-longer h h' t u front = record {
   text_is = ap (λ xs. xs ++ u) front.text_is ∙ append_assoc front.put front.left u;
 }
 
--- what was written is a front of it and of all that follows
+-- what was written is a prefix of it and of all that follows
 pub front-of_writes : (h p h' p' t u : List ℕ) → Writes h p h' p' t → HoldsFront h h' (p ++ (t ++ u))
 front-of_writes h p h' p' t u first = record {
   put = first.put;

@@ -32,7 +32,7 @@ module _ {P : Type 0} where
   none-left f zero-blank [] e spent = refl
   none-left f zero-blank (u ∷ us) e spent = omega (arith, ap f (spent 0 u refl (omega (arith, e))), zero-blank, none-left f zero-blank us (omega (arith, e)) (λ j w at none. spent (suc j) w at none))
 
-  -- where one view stands for all passes, it knows all
+  -- if one view stands for all passes, it knows all
   alone : (f : View P → ℕ) → f blank ≡ 0 → (views : List (View P)) (id : ℕ) (v : View P) → get_elem? views id ≡ some v → total passes-of views ≡ v.passes → Spent views → total f views ≡ f v
   alone f zero-blank [] id v at e spent = absurd (some-ne-none v (sym at))
   alone f zero-blank (u ∷ us) zero v at e spent =
@@ -67,7 +67,7 @@ module _ {P X : Type 0} (state : P → X) (marked : P → Bool) (works : X → X
   drawn-is : (n : ℕ) → times n me.0.drawn ≡ once_below k.counter n
   drawn-is n = sym (alone (λ u. times n u.drawn) refl s.views id me.0 at (k.shared_out ∙ sym all.count) (λ j u e. (k.each_view j u e).spent)) ∙ k.drawn_once n
 
-  -- a place is drawn where it lies below the counter
+  -- a place is drawn if it lies below the counter
   below-drawn : (place : ℕ) → place < length put → place < k.counter → times_drawn place ps ≡ 1
   below-drawn place lt below = sym (all.drawn place lt) ∙ drawn-is place ∙ once-within k.counter place below
 

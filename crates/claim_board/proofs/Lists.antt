@@ -33,7 +33,7 @@ pub nil-of : {A : Type 0} (xs : List A) → length xs ≡ 0 → xs ≡ []
 nil-of [] e = refl
 nil-of (x ∷ xs) e = absurd (omega arith)
 
--- where no item was found, what holds of none
+-- if no item was found, what holds of none
 pub none-case : {A : Type 0} {X : Type 0} (Y : A → Type 0) (r : Option A) → ((x : A) → r ≡ Some x → ⊥) → MatchOption r X Y → X
 none-case Y None nothing h = h
 none-case Y (Some x) nothing h = absurd (nothing x refl)

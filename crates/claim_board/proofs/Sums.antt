@@ -51,7 +51,7 @@ past-place places n h = ap (λ b. cond b 0 1 + 0) (lt-ltb n places h)
 pub past-past : (places n : ℕ) → places ≤ n → past places (n ∷ []) ≡ 1
 past-past places n h = ap (λ b. cond b 0 1 + 0) (le-ltb n places h)
 
--- where each number is a place, none is past the last
+-- if each number is a place, none is past the last
 pub past-none : (places : ℕ) (xs : List ℕ) → ((n : ℕ) → 0 < times n xs → n < places) → past places xs ≡ 0
 past-none places [] h = refl
 past-none places (x ∷ xs) h =

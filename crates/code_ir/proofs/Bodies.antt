@@ -56,7 +56,7 @@ routine_at-bound (r ∷ routines) p =
     let rest : routine_at routines p ≤ length routines = routine_at-bound routines p in
     chosen (λ n. n ≤ suc (length routines)) (r.start == p) 0 (suc (routine_at routines p)) (λ _. omega arith) (λ _. omega arith)
 
--- where a place is among none, no routine starts there
+-- if a place is among none, no routine starts there
 no_start : (p r : ℕ) (x : Routine) (routines : List Routine) (entries : List ℕ) → is_among p (map (λ r. r.start) routines ++ entries) ≡ false → slice_get routines r ≡ Some x → (x.start == p) ≡ false
 no_start p r x [] entries e g = cc
 no_start p zero x (y ∷ routines) entries e g =

@@ -50,7 +50,7 @@ one-end code tokens p d (go e q) (stop f) = cc
 one-end code tokens p d (go {t = t} e q) (go {t = u} f r) =
     let same : u ≡ t = cc in one-end code tokens p d q (subst (λ v. Ends code tokens v p d) same r)
 
--- where no state that a run comes by lacks a token, it ends
+-- if no state that a run comes by lacks a token, it ends
 abbrev pub SomeEnd : Code → (ℕ → List ℤ) → State → Type 0
 SomeEnd code tokens s = (o : Outcome) × (c : List ℤ) × Ends code tokens s o c
 

@@ -55,7 +55,7 @@ shifts_to_the_least = go refl (go refl (go refl (go refl (stop refl))))
 index_too_great : runs (one_body (op.Const (pos 2) ∷ op.LoadAt 0 2 ∷ op.Answer ∷ []) 2) 0 (pos 5 ∷ pos 6 ∷ []) no_tokens (Trap IndexRange) (pos 5 ∷ pos 6 ∷ [])
 index_too_great = go refl (stop refl)
 
--- where the ranges overlap, a cell that was written is read as written
+-- if the ranges overlap, a cell that was written is read as written
 copies_from_the_first : runs (one_body (op.Copy 1 0 2 None ∷ op.Done ∷ []) 3) 0 (pos 1 ∷ pos 2 ∷ pos 3 ∷ []) no_tokens Done (pos 1 ∷ pos 1 ∷ pos 1 ∷ [])
 copies_from_the_first = go refl (stop refl)
 

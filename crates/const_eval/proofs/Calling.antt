@@ -110,16 +110,16 @@ calls-by : (hidden : Option (Bor Counters)) (n : ℕ) (funs : List Fun) (vars : 
 calls-by None n funs vars = refl
 calls-by (Some x) n funs vars = refl
 
--- functions see all constants, also where generators hide some
+-- functions see all constants, even if generators hide some
 pub calls_see : (s : Scope) → calls s (seen s).globals ≡ calls_within s.depth (held s.env.now).funs (map var_of (held s.env.now).values)
 calls_see s = calls-by s.hidden s.depth (held s.env.now).funs (map var_of (held s.env.now).values)
 
--- .. none where no function has the name
+-- .. none if no function has the name
 pub called_lacks : (depth : ℕ) (name : List ℕ) (funs : List Fun) (globals : List Var) (args : Values) (left : ℕ) → None ≡ fun_named name funs → calls_within depth funs globals name args left ≡ Lacks
 called_lacks zero name funs globals args left e = refl
 called_lacks (suc n) name funs globals args left e = ap (λ o. elim o [ None ↦ Lacks | Some f ↦ answered f (calls_within n funs) globals args left ]) (sym e)
 
--- .. and no more than the arguments where these end it
+-- .. and no more than the arguments if these end it
 pub called_stops : (depth : ℕ) (name : List ℕ) (funs : List Fun) (fun : BoundFun) (globals : List Var) (args : Values) (left : ℕ) (formals : List BoundLocal) (s : Stop)
     → 0 < depth → Some (fun_view fun) ≡ fun_named name funs → formals ≡ fun.formals.items → Stops s (needed (arguments (map local_view formals) args) left) → Stops s (calls_within depth funs globals name args left)
 called_stops zero name funs fun globals args left formals s l e f h = absurd (omega arith)

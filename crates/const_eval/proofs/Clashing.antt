@@ -1,4 +1,4 @@
--- Nothing clashes where an expression may be evaluated over constants.
+-- Nothing clashes if an expression may be evaluated over constants.
 use Rattle.std.proofs.Common.{◌≡◌, Bool, true, false, List, [], ◌∷◌, ◌++◌, map, subst}
 use Rattle.std.specs.Prelude.{Option, Some, if◌then◌else◌}
 use Rattle.std.specs.Str.{bytes_eq}

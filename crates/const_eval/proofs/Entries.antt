@@ -82,7 +82,7 @@ frame_next xs vs n x v l m f g =
     ap (λ ys. frame ys (take (n + 1) vs)) a ∙ ap (λ ws. frame (take n xs ++ x ∷ []) ws) b
     ∙ frame_last (take n xs) (take n vs) x v (length-take-le n xs (omega arith) ∙ sym (length-take-le n vs (omega arith)))
 
--- the formal at a place, where none that stands later has the name
+-- the formal at a place, if none that stands later has the name
 pub argument_here : (name : List ℕ) (xs : List BoundLocal) (vs : List Value) (n m : ℕ) (x : BoundLocal) (v : Value) (o : Option ModelValue) → n < length xs → n < length vs → x ≡ get_or xs n x → v ≡ get_or vs n v
     → m ≡ n + 1 → find name (frame (take m xs) (take m vs)) ≡ o → bytes_eq (string_bytes x.name) name ≡ true → Some (value_view v) ≡ o
 argument_here name xs vs n m x v o l k f g s h e =

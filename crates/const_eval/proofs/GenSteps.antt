@@ -144,7 +144,7 @@ elements_start gs outer names = go (elements_in (listed (map gen_tree gs)) (insi
     go (Fine n) = ap (λ m. Fine (capped m)) (one-times n)
     go (Broken rule at) = refl
 
--- where no generator is left, and the count is no more than one more than the limit
+-- if no generator is left, and the count is no more than one more than the limit
 pub elements_done : (gs : List Gen) (n : ℕ) (outer : List (List ℕ)) (names : Names) (k : ℕ) (whole : Judged ℕ) → length gs ≤ n → capped k ≡ k
     → and_so (elements_from n gs outer names) (λ s. Fine (capped (k * s))) ≡ whole → whole ≡ Fine k
 elements_done gs n outer names k whole h e g =

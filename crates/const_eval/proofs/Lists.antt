@@ -134,7 +134,7 @@ counted_length vs v e h =
 pub counted_first : (vs : List Declared) (v : Declared) → slice_get vs 0 ≡ Some v → is_counted (Items (in_order (map value_view vs))) ≡ true → is_counted (value_view v) ≡ true
 counted_first vs v e h = and_right (nat_le (length vs) most_items) (is_counted (value_view v)) (sym (first_counted vs v e) ∙ h)
 
--- so 32 bits count them where they are few and the first value is counted
+-- so 32 bits count them if they are few and the first value is counted
 pub counted_within : (vs : List Declared) (v : Declared) (n : ℕ) → slice_get vs 0 ≡ Some v → n ≡ length vs → n ≤ 4294967295 → is_counted (value_view v) ≡ is_counted (Items (in_order (map value_view vs)))
 counted_within vs v n e is le =
     let few : nat_le (length vs) most_items ≡ true = within (length vs) most_items (omega arith) in
@@ -143,7 +143,7 @@ counted_within vs v n e is le =
     within : (a b : ℕ) → a ≤ b → nat_le a b ≡ true
     within a b h = grind (arith, nat_tests)
 
--- .. and where they are too many they don't
+-- .. and if they are too many they don't
 pub counted_beyond : (vs : List Declared) (v : Declared) (n : ℕ) → slice_get vs 0 ≡ Some v → n ≡ length vs → 4294967295 < n → nat_le n 4294967295 ≡ is_counted (Items (in_order (map value_view vs)))
 counted_beyond vs v n e is more =
     let many : nat_le (length vs) most_items ≡ false = beyond (length vs) most_items (omega arith) in

@@ -51,7 +51,7 @@ pub pushed_sized : (fs : List BoundFun) (f : BoundFun) → are_sized_funs (map f
 pushed_sized [] f h e = rw e refl
 pushed_sized (g ∷ fs) f h e = both (is_sized_fun (fun_view g)) (are_sized_funs (map fun_view (fs ++ f ∷ []))) (and_left (is_sized_fun (fun_view g)) (are_sized_funs (map fun_view fs)) h) (pushed_sized fs f (and_right (is_sized_fun (fun_view g)) (are_sized_funs (map fun_view fs)) h) e)
 
--- .. or none, where it wasn't stored
+-- .. or none, if it wasn't stored
 pub kept_sized : (b : Bool) (news olds : List BoundFun) (f : BoundFun) → news ≡ (if b then olds ++ f ∷ [] else olds) → are_sized_funs (map fun_view olds) ≡ true → is_sized_fun (fun_view f) ≡ true → are_sized_funs (map fun_view news) ≡ true
 kept_sized true news olds f is h e = ap (λ fs. are_sized_funs (map fun_view fs)) is ∙ pushed_sized olds f h e
 kept_sized false news olds f is h e = ap (λ fs. are_sized_funs (map fun_view fs)) is ∙ h
@@ -71,7 +71,7 @@ pushed_counted : (xs : List Declared) (x : Declared) → are_counted (map consta
 pushed_counted [] x h e = rw e refl
 pushed_counted (y ∷ xs) x h e = both (is_counted (value_view y.value)) (are_counted (map constant_view (xs ++ x ∷ []))) (and_left (is_counted (value_view y.value)) (are_counted (map constant_view xs)) h) (pushed_counted xs x (and_right (is_counted (value_view y.value)) (are_counted (map constant_view xs)) h) e)
 
--- .. or none, where it wasn't stored
+-- .. or none, if it wasn't stored
 pub kept_counted : (b : Bool) (news olds : List Declared) (x : Declared) → news ≡ (if b then olds ++ x ∷ [] else olds) → are_counted (map constant_view olds) ≡ true → is_counted (value_view x.value) ≡ true → are_counted (map constant_view news) ≡ true
 kept_counted true news olds x is h e = ap (λ xs. are_counted (map constant_view xs)) is ∙ pushed_counted olds x h e
 kept_counted false news olds x is h e = ap (λ xs. are_counted (map constant_view xs)) is ∙ h

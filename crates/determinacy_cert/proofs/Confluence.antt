@@ -20,7 +20,7 @@ use Rattle.determinacy_cert.proofs.Splitting.{Stepped, stepped, step_then, IsSin
 begin_same : (ins : ℕ) (u : List (List ℤ)) → BeginWith ins u u
 begin_same ins u p low = ([], sym (append-nil (Rattle.std.specs.Prelude.slice_index_or u p [])))
 
--- where one action of a stable actor has an effect no other one has
+-- if one action of a stable actor has an effect no other one has
 pub none_besides : {X : Type 0} (links : List Link) (flows : List Flow) (i a b : ℕ) (leaf : Option (Leaf X)) (x : Option X) (e : Effect X)
     → ((that : Leaf X) → leaf ≡ Some that → IsStable that.behaviour) → b ≢ a
     → effect_of links flows i a leaf x ≡ Some e → effect_of links flows i b leaf x ≡ None

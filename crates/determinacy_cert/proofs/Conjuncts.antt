@@ -250,7 +250,7 @@ right_is BitXor v r m c = refl
 right_is And v r m c = cc
 right_is Or v r m c = cc
 
--- the left side of a comparison with a number, where it is true
+-- the left side of a comparison with a number, if the comparison is true
 pub record Compared (op : BinOp) (l : Tree) (n : ℤ) (calls : Calls) (env : Env) : Type 0 where
   pub value : ℤ
   pub before : ℕ

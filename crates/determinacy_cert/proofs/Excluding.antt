@@ -96,7 +96,7 @@ look_up_is actor x u act name =
     either_found name (pattern_vars actor u act.patterns) x.vars
     ∙ ap (λ o. elim o [ None ↦ find name x.vars | Some v ↦ Some v ]) (keys_found actor u name act.patterns)
 
--- ---- outcomes that give the same where both give something
+-- ---- outcomes that give the same if both give something
 
 abbrev pub Alike : {A : Type 0} → Out A → Out A → Type 0
 Alike {A} o p = (v w : A) (i j : ℕ) → o ≡ Gives v i → p ≡ Gives w j → v ≡ w
@@ -323,7 +323,7 @@ module _ (actor : Actor) (x : State) (u : List (List ℤ)) (one two : Action) wh
   like_name f name at m k bf h calls = clashes_alike (known (look_up name here) m)
 
   mutual
-    -- trees that are equal once names are keyed have one value, where both have one
+    -- trees that are equal once names are keyed have one value, if both have one
     pub values_alike : (e f : Tree) (m k : ℕ) → IsBare e → IsBare f → IsEqualApart (keyed e one.patterns) (keyed f two.patterns)
         → (calls : Calls) → Alike (eval e calls here m) (eval f calls there k)
     values_alike (tree.number n at) (tree.number o place) m k be bf h calls =

@@ -1,4 +1,4 @@
--- An expression that has a range never traps where its names have values of their types, and gives a number within it.
+-- An expression that has a range never traps if its names have values of their types, and gives a number within it.
 use Rattle.std.proofs.Common.{◌≡◌, ℕ, zero, suc, ◌-◌, ◌<◌, ◌^◌, Bool, true, false, ℤ, pos, negsuc, ◌+ℤ◌, ◌-ℤ◌, ◌*ℤ◌, ◌≤ℤ◌, ◌<ℤ◌, List, refl, sym, subst, arith}
 use Rattle.std.specs.Prelude.{Option, None, Some, if◌then◌else◌, int_le, neg_ℤ, int_div, int_rem, unsigned_abs, nat_le, ◌==◌}
 use Rattle.std.specs.Int.{int_shr}
@@ -179,7 +179,7 @@ sound_item Nil k v h at = cc
 sound_item (Cons w vs) zero v h at = let same : w ≡ v = cc in subst (λ x. IsSound x) same h.0
 sound_item (Cons w vs) (suc k) v h at = sound_item vs k v h.1 at
 
--- what it gives is a number of the language, where it is a number
+-- what it gives is a number of the language, if it is a number
 abbrev pub Numbers : Out Value → Type 0
 Numbers (Gives v left) = HasNumber v
 Numbers (Traps c) = Unit {0}

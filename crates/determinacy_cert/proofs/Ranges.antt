@@ -111,7 +111,7 @@ prefixed_safe BitNot i r (Num a) left n h p = bits_safe r (bit_not a) left h (no
 prefixed_safe BitNot i r (Truth b) left n h p = tt
 prefixed_safe BitNot i r (Items vs) left n h p = tt
 
--- where a divisor is above 0 nothing traps
+-- if a divisor is above 0, nothing traps
 if_above : {A : Type 0} (b : Bool) (o : Option A) (r : A) → (if b then o else None) ≡ Some r → (b ≡ true) × (o ≡ Some r)
 if_above true o r h = (refl, h)
 if_above false o r h = cc

@@ -59,7 +59,7 @@ set_same [] l x h = cc
 set_same (y ∷ xs) zero x h = let same : y ≡ x = cc in ap (λ w. w ∷ xs) (sym same)
 set_same (y ∷ xs) (suc l) x h = ap (λ w. y ∷ w) (set_same xs l x h)
 
--- where nothing arrives, nothing changes
+-- if nothing arrives, nothing changes
 nothing_arrives : {X : Type 0} (net : Network X) (s t : State X) (l : ℕ) → happens net s (Deliver l 0) ≡ Some t → s ≡ t
 nothing_arrives net s t l h =
     let one : Arrived net s t l 0 = arrived_unless net s t l 0 s.trapped refl h in

@@ -39,7 +39,7 @@ both_true true true h = (refl, refl)
 both_true true false h = cc
 both_true false b h = cc
 
--- where an action has its tokens, each port has as many as it needs
+-- if an action has its tokens, each port has as many as it needs
 needed_at : (actor : Actor) (u : List (List ℤ)) (a k s port : ℕ) → has_its_tokens_on actor u a (range_with_len s k) ≡ true → s ≤ port → port < s + k
     → need actor a port ≤ length (tokens_on u port)
 needed_at actor u a zero s port h i j = absurd (let e : port < s = omega arith in let f : s ≤ port = i in omega arith)
@@ -123,7 +123,7 @@ module _ (actor : Actor) (p : Priorities actor) (sound : IsSound actor) (certifi
       (bare_guards _ two.act.guards (certified.guards x.at c two.act state.at two.is two.eligible))
       one.says two.says exclude
 
-  -- ---- .. with an exposed action, whose tokens stay where more come
+  -- ---- .. with an exposed action, whose tokens stay when more come
   module _ (u v : List (List ℤ)) (more : BeginWith (length actor.ins) u v) (a : ℕ)
       (exposed : IsExposed actor x (kept_tokens actor u) a) (other : readiness actor x (kept_tokens actor u) a ≢ AreFalse)
       (enough : (port : ℕ) → port < length actor.ins → need actor a port ≤ length (tokens_on u port)) where

@@ -134,7 +134,7 @@ const_pushes w n m base place stack frames before cells left now z v e at r keep
 
 -- ---- what is chosen
 
--- the place that a choice goes on to where the value is known
+-- the place that a choice goes on to when the value is known
 chosen_place : (a : Bool) (number : ℤ) (near there : ℕ) → truth a ∷ [] ≡ number ∷ [] → (if is_true number then near else there) ≡ (if a then near else there)
 chosen_place a number near there e =
     let same : truth a ≡ number = same_number (truth a) number e in

@@ -24,7 +24,7 @@ pub record Left (e : Effect) (stack cells : List ℤ) (left : ℕ) (v : Value) (
   pub is : flat v ≡ number ∷ []
   pub leaves : e ≡ Leaves (number ∷ stack) cells
 
--- an effect is that of an outcome, where so many turns are left
+-- an effect is that of an outcome, if so many turns are left
 abbrev pub Acts : Effect → List ℤ → List ℤ → ℕ → Out Value → Type 0
 Acts e stack cells left o = Follows o (Left e stack cells left) (λ c. e ≡ Fails c)
 

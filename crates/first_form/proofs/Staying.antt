@@ -49,7 +49,7 @@ named : (t : Tree) (s : List ℕ) → unplaced t ≡ present (ident s 0) → is_
 named (present (ident text q)) s e = let same : text ≡ s = cc in (bytes_eq-Decides text s).1 same
 named _ s e = absurd cc
 
--- a part by itself, where the lists that hold it are those of the form
+-- a part by itself, if the lists that hold it are those of the form
 port_stays : (t : Tree) (name : List ℕ) → unplaced t ≡ port_tree name → (port_mismatch t ≡ None) × (name_of t ≡ name)
 port_stays (port shape nm q) name e =
     let shaped : unplaced shape ≡ byte_type = cc in

@@ -140,7 +140,7 @@ finishing-leaves f writes input how counts tb th tp ob oh op th_new oh_new pends
   ends = pends.ends;
 }
 
--- what is put of an end where a write fails
+-- what is put of an end if a write fails
 pub finishing-broken : (f : Form) (writes : Bool) (input : List ℕ) (how : RunEnd) (counts : Counts) (channel : ℕ) (trace output : List ℕ) (tb th ob oh : List ℕ)
     → EndsAs f input how counts trace output → HoldsFront tb th trace → MayHoldFront writes ob oh output → Leaves f writes input (end.WriteFault channel) counts tb th ob oh
 finishing-broken f writes input end.Quiet counts channel trace output tb th ob oh e t o = broken-of f writes input (e.moves ++ Quiet ∷ []) e.last trace output e.written counts channel tb th ob oh t o
@@ -168,7 +168,7 @@ finishing-trace_cut f writes input how counts tb th tp ob oh op th_new oh_new pe
     (flush-front tb th th_new tp pends.trace pends.trace_is front)
     (may_front-whole writes ob oh_new pends.output (may_flushed writes ob oh oh_new op pends.output pends.output_is output_put))
 
--- what isn't a failed write is still held back
+-- what isn't a failed write is still buffered
 pub comes-pends : (f : Form) (writes : Bool) (input : List ℕ) (how : RunEnd) (counts : Counts) (tb th tp ob oh op : List ℕ)
     → ((channel : ℕ) → how ≡ end.WriteFault channel → ⊥) → Comes f writes input how counts tb th tp ob oh op → Pends f writes input how counts tb th tp ob oh op
 comes-pends f writes input end.Quiet counts tb th tp ob oh op other comes = comes

@@ -25,11 +25,11 @@ use Rattle.first_runner.proofs.SoFar.{so_far-deliver, written_so_far, moves_so_f
 use Rattle.first_runner.proofs.Tokens.{toks-part, toks-length}
 use Rattle.first_runner.specs.Source.{default_capacity}
 
--- what was written is a front of it
+-- what was written is a prefix of it
 pub front-of : (base held pending text : List ℕ) → Writes base [] held pending text → HoldsFront base held text
 front-of base held pending text w = record { put = w.put; left = pending; new_is = w.new_is; text_is = w.text_is }
 
--- a failed write, where the channels hold fronts of what belongs to the lines so far
+-- a failed write, if the channels hold prefixes of what belongs to the lines so far
 pub broken-off : (f : Form) (writes : Bool) (input : List ℕ) (lines : List Line) (rounds arrived fired out arrived_then fired_then : ℕ) → SoFar f input lines rounds arrived fired out arrived_then fired_then
     → (counts : Counts) (channel : ℕ) (trace_base trace_held output_base output_held : List ℕ)
     → HoldsFront trace_base trace_held (flat_map line_text lines) → MayHoldFront writes output_base output_held (all_encoded byte_type (results f.sum (toks input) fired))

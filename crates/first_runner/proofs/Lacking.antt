@@ -20,7 +20,7 @@ pub may_front-longer : (writes : Bool) (h h' t u : List ℕ) → MayHoldFront wr
 may_front-longer true h h' t u front = front-longer h h' t u front
 may_front-longer false h h' t u front = front
 
--- what was written is a front of it
+-- what was written is a prefix of it
 pub may_front-of : (writes : Bool) (base held pending text : List ℕ) → MayWrite writes base [] held pending text → MayHoldFront writes base held text
 may_front-of true base held pending text w = record { put = w.put; left = pending; new_is = w.new_is; text_is = w.text_is }
 may_front-of false base held pending text w = w
@@ -49,7 +49,7 @@ may_flush-front true base held held_new pending text w front = record {
 }
 may_flush-front false base held held_new pending text w front = front ∙ w
 
--- what was put whole is a front of it
+-- what was put whole is a prefix of it
 pub may_front-whole : (writes : Bool) (base held text : List ℕ) → Gets writes base held text → MayHoldFront writes base held text
 may_front-whole true base held text e = record { put = text; left = []; new_is = e; text_is = sym (append-nil text) }
 may_front-whole false base held text same = same

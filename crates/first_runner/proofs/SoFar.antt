@@ -28,7 +28,7 @@ so_far-start f input = record {
   few = omega arith;
 }
 
--- what follows a line, where the line leads to a state
+-- what follows a line, if the line leads to a state
 next-plays : {X : Type 0} (P : State X → Type 0) (o : Option (State X)) (t : State X) → o ≡ Some t → P t → OnNext o P
 next-plays P o t e h = subst (λ r. OnNext r P) (sym e) h
 

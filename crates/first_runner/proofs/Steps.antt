@@ -90,14 +90,14 @@ quiet-at f ts arrived fired all_taken = record {
     nothing zero (suc a) = ap (λ us. effect f.sum (us ∷ []) (suc a)) left
     nothing (suc i) a = refl
 
--- what waits where the rest of the feed counts as arrived
+-- what waits if the rest of the feed counts as arrived
 left-of : (ts : List ℤ) (fired : ℕ) (v : ℤ) (more : List ℤ) → drop fired ts ≡ v ∷ more → drop fired (take (length ts) ts) ≡ v ∷ more
 left-of ts fired v more next = ap (drop fired) (take_all (length ts) ts (omega arith)) ∙ next
 
 some≢none : {A : Type 0} (x : A) (o : Option A) → o ≡ Some x → o ≡ None → ⊥
 some≢none x o is_some is_none = cc
 
--- no action lacks room where everything has come out
+-- no action lacks room if everything has come out
 room-at : (f : Form) (ts : List ℤ) (arrived fired i a l : ℕ) → LacksRoom (network_of f) (all_fed (network_of f) (state_at f.sum ts arrived fired fired)) i a l → ⊥
 room-at f ts arrived fired i a zero lacks = lacks
 room-at f ts arrived fired zero zero (suc zero) lacks = absurd (omega (arith, lacks.1))

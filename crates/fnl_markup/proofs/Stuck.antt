@@ -20,7 +20,7 @@ number_of rule = rule.0
 pub not_that : wrong_encoding ≡ spells_no_network → ⊥
 not_that e = let same : number_of wrong_encoding ≡ number_of spells_no_network = ap number_of e in absurd (omega arith)
 
--- where a step stops since no text goes on so, it stops at this offset
+-- if a step stops since no text goes on so, it stops at this offset
 abbrev IsHere : ℕ → Next → Type 0
 IsHere at next = (place : ℕ) → next ≡ Fault spells_no_network place → place ≡ at
 

@@ -74,7 +74,7 @@ module _ (actor : Actor) (x : ActorState) (tokens : ℕ → List ℤ) (a : ℕ) 
       ap (guards_say actor.code (cells_of actor x) (taken actor tokens a)) here
       ∙ (ap (λ end. guard_then end rest) ends.is ∙ ap (λ p. outcome_then p rest) ends.same)
 
--- where an action is eligible and has its tokens, its readiness is what its guards say
+-- if an action is eligible and has its tokens, its readiness is what its guards say
 pub readiness-is : (actor : Actor) (x : ActorState) (tokens : ℕ → List ℤ) (a : ℕ) (action : Action) → is_eligible actor x.at a ≡ true → IsReady actor tokens a action
     → readiness actor x tokens a ≡ guards_say actor.code (cells_of actor x) (taken actor tokens a) action.guards
 readiness-is actor x tokens a action eligible ready =
@@ -96,7 +96,7 @@ and-no : (b : Bool) → (b && false) ≡ false
 and-no true = refl
 and-no false = refl
 
--- where it lacks tokens, or isn't eligible, its guards count as false
+-- if it lacks tokens, or isn't eligible, its guards count as false
 pub lacking-is-false : (actor : Actor) (x : ActorState) (tokens : ℕ → List ℤ) (a : ℕ) → has_its_tokens actor tokens a ≡ false → readiness actor x tokens a ≡ AreFalse
 lacking-is-false actor x tokens a lacks =
     ap (λ b. elim (slice_get actor.actions a) [

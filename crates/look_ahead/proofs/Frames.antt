@@ -41,7 +41,7 @@ module _ {Token Tree : Type 0} where
   framed_take F G t ts (TooHigh left) step h = token_framed F G (λ l. TooHigh l) t ts left step h
   framed_take F G t ts Spent step h = tt
 
-  -- where the same was done on every list that begins alike
+  -- if the same was done on every list that begins alike
   replace_framed : (F G : List Token → Outcome Token Tree) (make : List Token → Outcome Token Tree) (ts left : List Token) → ((other : List Token) → ahead other ≡ ahead ts → F other ≡ G other) → IsFramed G make ts left → IsFramed F make ts left
   replace_framed F G make ts left alike h = record {
     front = h.front;

@@ -17,7 +17,7 @@ module _ {Token Tree Rule : Type 0} (body : Rule → Program Token Tree Rule) (s
       let h : IsKept (read body size m top ts) (read body size more top ts) = read_kept body size m more top ts less in
       rw e at h
 
-  -- where it refuses, no list that goes on alike spells a tree of any height
+  -- if it refuses, no list that goes on alike spells a tree of any height
   pub rightly_refused : (m : ℕ) (ts left : List Token) → read body size m top ts ≡ Refused left → IsRefused Spelled ts left
   rightly_refused m ts left e =
       let h : IsFramed (read body size m top) (λ l. Refused l) ts left = frame_at m ts left (λ l. Refused l) (Refused left) e (λ f. f) in
@@ -31,7 +31,7 @@ module _ {Token Tree Rule : Type 0} (body : Rule → Program Token Tree Rule) (s
             cc;
       }
 
-  -- where it finds what is too high, no list that goes on alike spells a tree that fits
+  -- if it finds what is too high, no list that goes on alike spells a tree that fits
   pub rightly_too_high : (m : ℕ) (ts left : List Token) → read body size m top ts ≡ TooHigh left → m + length left ≤ length ts → IsTooHigh Spelled height m ts left
   rightly_too_high m ts left e far =
       let h : IsFramed (read body size m top) (λ l. TooHigh l) ts left = frame_at m ts left (λ l. TooHigh l) (TooHigh left) e (λ f. f) in

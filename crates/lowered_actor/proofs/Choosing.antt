@@ -119,7 +119,7 @@ waits-all ready (c ∷ cs) h b m = by (ready c) refl h (waits-all ready cs) (in-
 
 -- ---- what is chosen is exposed
 
--- where none that is above a is enabled, none of a list outranks it
+-- if none that is above a is enabled, none of a list outranks it
 outranks-not : (actor : Actor) (ready : ℕ → Guards) (a : ℕ) (bs : List ℕ)
     → ((b : ℕ) → is_above actor.order b a ≡ true → ready b ≢ AreTrue) → is_outranked actor ready a bs ≡ false
 outranks-not actor ready a [] h = refl

@@ -67,7 +67,7 @@ abbrev need_of : Option Action → ℕ → ℕ
 need_of o p = elim o [ None ↦ 0 | Some action ↦ number_on action.needs p ]
 
 module _ (actor : Actor) (lowered : IsLowered actor) (fine : StepsAreFine) (first : StartStands) where
-  -- where there is an effect, the guards of the action say something else than that they are false
+  -- if there is an effect, the guards of the action say something else than that they are false
   effect-ready : (x : ActorState) (tokens : ℕ → List ℤ) (a : ℕ) → effect actor x tokens a ≢ None → readiness actor x tokens a ≢ AreFalse
   effect-ready x tokens a h e = h (by (is_state actor x && is_exposed actor x tokens a))
     where

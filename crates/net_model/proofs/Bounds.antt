@@ -143,7 +143,7 @@ taken_fits net flows i a x e wired lawful has l link flow at_link at_flow (AtLea
     rw (chosen (i == inst.0) (need_of (slice_get net.leaves i) a port) 0 here) (omega arith))
     (λ elsewhere. rw elsewhere (omega arith))
 
--- what was taken and has arrived keep their order where each flow's change keeps it
+-- what was taken and has arrived keep their order if each flow's change keeps it
 each_ordered : (change : Link → Flow → Flow) (links : List Link) (flows : List Flow)
     → ((l : ℕ) (link : Link) (flow : Flow) → slice_get links l ≡ Some link → slice_get flows l ≡ Some flow → IsOrdered (change link flow))
     → (l : ℕ) (flow : Flow) → slice_get (each_flow change links flows) l ≡ Some flow → IsOrdered flow

@@ -42,7 +42,7 @@ share_fits n q r k few m rest fits =
 count_more : (actions : List ℕ) (bursts : List (List ℕ)) → count_of (actions ∷ bursts) ≡ length actions + count_of bursts
 count_more actions bursts = refl
 
--- where as many firings are left as leaves are picked, they are shared
+-- if as many firings are left as leaves are picked, they are shared
 shared : {X : Type 0} (net : Network X) (opened : State X) (burst left picks : ℕ) (marks : List Bool) (i k fired : ℕ) (s : State X)
     (bursts : List (List ℕ)) (halts : List Halt) (last : State X) → nat_le picks left ≡ true
     → AreBursts net opened (record { burst = burst; left = left; picks = picks }) marks i k fired s bursts halts last
@@ -68,7 +68,7 @@ shared net opened burst left picks (true ∷ marks) i k fired s (actions ∷ bur
 shared net opened burst left picks (false ∷ marks) i k fired s [] halts last enough are = absurd are
 shared net opened burst left picks (false ∷ marks) i k fired s (actions ∷ bursts) [] last enough are = absurd are
 
--- where fewer are left, they are given out one leaf after another
+-- if fewer are left, they are given out one leaf after another
 given_out : {X : Type 0} (net : Network X) (opened : State X) (burst left picks : ℕ) (marks : List Bool) (i k fired : ℕ) (s : State X)
     (bursts : List (List ℕ)) (halts : List Halt) (last : State X) → nat_le picks left ≡ false → fired ≤ left
     → AreBursts net opened (record { burst = burst; left = left; picks = picks }) marks i k fired s bursts halts last

@@ -155,7 +155,7 @@ fires_so net s i a x sent e untrapped effect =
     subst (λ w. (if s.trapped then None else fire net s i a w) ≡ Some (fired net s i a x sent)) (sym effect)
     (chosen_else s.trapped None (Some (fired net s i a x sent)) (λ trapped. let no : false ≡ true = sym untrapped ∙ trapped in cc))
 
--- a firing stays possible, with the same effect, where another leaf fires
+-- a firing stays possible, with the same effect, if another leaf fires
 still_fires : {X : Type 0} (net : Network X) (s : State X) (i a j b : ℕ) (x y : X) (xs ys : List (List ℤ))
     → AreOrdered s → i ≢ j → s.trapped ≡ false → effect_at net s i a ≡ Some (Fires x xs)
     → happens net (fired net s j b y ys) (Fire i a) ≡ Some (fired net (fired net s j b y ys) i a x xs)

@@ -86,7 +86,7 @@ flow_same : (flow : Flow) (arrived taken : ℕ) → arrived ≡ flow.arrived →
     → ◌≡◌ {A = Flow} (record { sent = flow.sent; arrived = arrived; taken = taken; capacity = flow.capacity }) flow
 flow_same flow arrived taken a t = rw (a, t)
 
--- where none arrives the flow stays
+-- if none arrives, the flow stays
 pub after_none : (link : Link) (flow : Flow) → after_arrival 0 link flow ≡ flow
 after_none link flow =
     let same : flow.taken + 0 ≡ flow.taken = omega arith in
@@ -132,7 +132,7 @@ set_after (z ∷ front) x y rest = ap (λ w. z ∷ w) (set_after front x y rest)
 abbrev midst : {X : Type 0} → List X → List Flow → State X
 midst actors flows = record { actors = actors; flows = flows; trapped = false }
 
--- one link's part of a delivery: an event, or none where nothing can arrive
+-- one link's part of a delivery: an event, or none if nothing can arrive
 one_arrives : {X : Type 0} (net : Network X) (actors : List X) (front : List Flow) (link : Link) (flow : Flow) (flows : List Flow)
     → slice_get net.links (length front) ≡ Some link
     → Reaches net (midst actors (front ++ (flow ∷ flows))) (midst actors (front ++ (delivered link flow ∷ flows))) []

@@ -76,11 +76,11 @@ straight_through wired = let no = (wired.joined 0 _ refl).inside refl in cc
 output_name : slice_get pair_net.outs 0 ≡ Some (record { name = codes "Out"; kind = Uint 8 })
 output_name = refl
 
--- At a stall the link that holds one token may grow to two, where the limit is 4 ..
+-- At a stall the link that holds one token may grow to two, if the limit is 4 ..
 pair_grows : Grows pair_net 4 pair_last 3 2
 pair_grows = record { leaf = 0; action = 0; stalled = pair_stalls; below = omega arith; doubled = refl }
 
--- .. so the run isn't stuck there, as it is where the limit is 1
+-- .. so the run isn't stuck there, as it is if the limit is 1
 pair_is_stuck : IsStuck pair_net 1 pair_last 0 0 3
 pair_is_stuck = record { stalled = pair_stalls; grown = omega arith }
 

@@ -229,7 +229,7 @@ module _ {X : Type 0} (net : Network X) (opened : State X) (i : ℕ) (s : State 
   halts_same limit (Trapping a cause) NoRoom p q = absurd (traps_no_room a q.1.0 q.1.1 cause q.1.2 q.1.3 p.1)
   halts_same limit (Trapping a cause) (Trapping b other) p q = traps_same a b cause other p.1 q.1
 
-  -- and doesn't halt where it fires
+  -- and doesn't halt if it fires
   halts_or_fires : (limit a : ℕ) (halt : Halt) (P : State X → Type 0) → HaltsAt net opened i limit s halt → 0 < limit → choice_at net s i ≡ Picks a
       → HasRoomIn net opened s i a → OnNext (happens net s (Fire i a)) P → ⊥
   halts_or_fires limit a Unpicked P h some picks room fires = h

@@ -227,7 +227,7 @@ pair_keeps = grind arith
 pair_passes : KeepsCapacities pair_net pair_in (Deliver ∷ Fire 0 0 ∷ Fire 0 0 ∷ []) → ⊥
 pair_passes keeps = let passes : 2 ≤ 1 = keeps.2.2.2.1.1.1.0 refl in omega arith
 
--- An actor that sends a byte of its own where it has none, and takes one where it has: which comes depends
+-- An actor that sends a byte of its own if it has none, and takes one if it has one: which comes depends
 -- on the order. Its state is the number that its guards compare with 0.
 abbrev pub takes_first : ℕ → List ℤ → Option (Effect ℕ)
 takes_first zero (v ∷ vs) = Some (Fires 2 ([] ∷ []))

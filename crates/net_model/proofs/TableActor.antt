@@ -409,7 +409,7 @@ fires_so_far xs xs' inbox inbox' outbox outbox' journal journal' trapped trapped
     unread_of zero within none = absurd (omega arith)
     unread_of (suc p) within none = absurd (omega arith)
 
--- an action whose guards don't trap is enabled where it is the first that has its tokens
+-- an action whose guards don't trap is enabled if it is the first that has its tokens
 pub enabled_at : (xs : List CodeRow) (inbox : List ℤ) (a : ℕ) (d : CodeRow) → a < length xs
     → takes_of (slice_get (map row_of xs) a) ≤ length inbox
     → ((b : ℕ) → b < a → length inbox < takes_of (slice_get (map row_of xs) b))

@@ -158,7 +158,7 @@ module _ {X : Type 0} (gained : ℕ → ℕ → List ℤ) (old new : List (Cell 
   sent_from_stays (AtLeaf inst port) writer = sent_stays gained old new gains inst.0 port writer
   sent_from_stays (AtNet port) writer = refl
 
-  -- where nothing came before a reading end its room is as before
+  -- if nothing came before a reading end, its room is as before
   pub room_stays : (end : End) (count : ℕ) → ((i p : ℕ) → is_leaf_port i p end ≡ true → gained i p ≡ []) → HasRoomAt old end count → HasRoomAt new end count
   room_stays (AtNet port) count none room = tt
   room_stays (AtLeaf inst port) count none room =

@@ -126,7 +126,7 @@ taking_more kind kind_now kind_new stored_in j q capacity count held v old now n
       few = omega (arith, so_far.few, longer, here, there);
     }
 
--- where nothing more came but bytes may have been pulled
+-- if nothing more came but bytes may have been pulled
 pub takes_same : {X : Type 0} (kind stored_in : Scalar) (j q count : ℕ) (old now : List (Cell X)) (coming_old coming coming_new : Option (List ℕ))
     → Takes kind stored_in j q count old now coming_old coming → coming_new ≡ coming → Takes kind stored_in j q count old now coming_old coming_new
 takes_same kind stored_in j q count old now coming_old coming coming_new takes same =

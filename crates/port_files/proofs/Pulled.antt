@@ -41,7 +41,7 @@ coming_moved n kept bytes buffer filled behind (Some before) None within moves =
 coming_moved n kept bytes buffer filled behind (Some before) (Some after) within moves =
     ap Some (coming_told n kept bytes before buffer filled after behind within moves)
 
--- what is still to come stays the same where a pull puts its bytes behind those that were kept
+-- what is still to come stays the same if a pull puts its bytes behind those that were kept
 pub coming_pulled : (pulled : Result ℕ Failed) (kept : ℕ) (bytes buffer filled behind : List ℕ) (left rest : Option (List ℕ)) → kept ≤ length bytes → IfOk pulled (λ n. Moves n left buffer filled rest) → IfOk pulled (λ n. coming (take (kept + n) (take kept bytes ++ (filled ++ behind))) rest ≡ coming (take kept bytes) left)
 coming_pulled (Ok n) kept bytes buffer filled behind left rest within moves = coming_moved n kept bytes buffer filled behind left rest within moves
 coming_pulled (Err failed) kept bytes buffer filled behind left rest within moves = tt

@@ -33,7 +33,7 @@ cell-replicate n a b a_in b_in e =
     false≢true (sym (get_or-replicate (n * n) (a * n + b) false false (place_in n a b a_in b_in)) ∙ e)
 
 -- ---- the declared pairs
--- each cell is set exactly where its pair is among these
+-- each cell is set if and only if its pair is among these
 abbrev pub Marks : List (ℕ × ℕ) → ℕ → List Bool → Type 0
 Marks pairs n cells = (a b : ℕ) → a < n → b < n → IsTrue (cell n cells a b) ↔ Contains pairs (a, b)
 

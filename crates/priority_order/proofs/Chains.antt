@@ -70,7 +70,7 @@ below_from_leads pairs n a b [] in_range h = h
 below_from_leads pairs n a b (x ∷ xs) in_range h =
     (h.0, (All-contains (λ pair. (pair.0 < n) × (pair.1 < n)) pairs (a, x) in_range h.0).1, below_from_leads pairs n x b xs in_range h.1)
 
--- where all pairs are of numbers below n, each chain passes only such numbers
+-- if all pairs are of numbers below n, each chain passes only such numbers
 pub above_by_all : (pairs : List (ℕ × ℕ)) (n a b : ℕ) → IsInRange pairs n → IsAboveBy pairs n a b ↔ IsAbove pairs a b
 above_by_all pairs n a b in_range =
     (λ h. (h.0, leads_from_below pairs n a b h.0 h.1), λ h. (h.0, below_from_leads pairs n a b h.0 in_range h.1))

@@ -101,7 +101,7 @@ some_may n cells stands strict (suc k) within =
     (cases_Bool (get_or stands k false)))
     (some_may n cells stands strict k (omega (arith, within)))
 
--- where none may stand next, all stand
+-- if none may stand next, all stand
 pub all_stand : (n : ℕ) (cells stands : List Bool) → IsStrict n cells → ((b : ℕ) → ¬ MayStand n (Above n cells) (λ a. IsTrue (get_or stands a false)) b) → (a : ℕ) → a < n → IsTrue (get_or stands a false)
 all_stand n cells stands strict none a a_in =
     ⊎_elim (λ all. all a a_in)

@@ -23,7 +23,7 @@ abbrev pub NoneLeads : List (ℕ × ℕ) → ℕ → List Bool → ℕ → ℕ �
 NoneLeads pairs n cells current bound = (k : ℕ) → k < bound → (get_or pairs k (0, 0)).0 ≡ current → ¬ IsTrue (cell n cells (get_or pairs k (0, 0)).1 current)
 
 module _ (pairs : List (ℕ × ℕ)) (n : ℕ) (cells : List Bool) (current : ℕ) (in_range : IsInRange pairs n) (closed : IsClosed pairs n cells) (current_in : current < n) where
-  -- a pair that stands in the list leads back, where a chain does
+  -- a pair that stands in the list leads back, if a chain does
   leads_back : (next : ℕ) → Contains pairs (current, next) → IsAbove pairs next current → NoneLeads pairs n cells current (length pairs) → ⊥
   leads_back next found back none =
       let at : get_or pairs found.0 (0, 0) ≡ (current, next) = get_or_default pairs found.0 (0, 0) (current, next) found.1 ∙ found.2 in

@@ -114,7 +114,7 @@ const FAULTS: &[(&str, &str, u32, Failing, Left)] = &[
     (RUN, INC, 1, (0, 0, 31), FAILED_OUTPUT),
     (RUN, INC, 3, (0, 0, 13), FAILED_OUTPUT),
     (RUN, INC, 1000, (0, 0, 4), FAILED_OUTPUT),
-    // no feed is opened where no word names the input
+    // no feed is opened if no word names the input
     (
         "rvc run Inc.cal Out=out --trace t",
         INC,

@@ -120,7 +120,7 @@ broken-cut ports source input held_trace held_output open_output r = record {
   output_front = λ opened. record { rest = []; is = sym (written-there (file_of r.form.output ports) open_output held_output _ r.output_is opened) ∙ sym (append-nil held_output) };
 }
 
--- nothing but a front of the head was written
+-- nothing but a prefix of the head was written
 pub broken-head : (ports : List PortText) (source : List ℕ) (input : Form → List ℕ) (f : Form) (held_trace held_output : List ℕ) (open_output : Bool) → Spells source f → AreMatched (ports_of f) ports → IsFrontOf held_trace (head_text (network_of f) 0) → (open_output ≡ true → held_output ≡ []) → IsBrokenRun ports source input held_trace open_output held_output
 broken-head ports source input f held_trace held_output open_output spelled matched front empty = record {
   form = f;

@@ -38,7 +38,7 @@ pub refused-not-done : (status result : Status) (tells : Bool) (fo fn : ℕ) (he
 refused-not-done status result tells fo fn held_old held text other (inl done) e = other (sym done.0 ∙ e)
 refused-not-done status result tells fo fn held_old held text other (inr failed) e = let h = failed.0 in cc
 
--- want of memory before the words were read
+-- out of memory before the words were read
 pub memory-printing : (lo ln fo fn : ℕ) (result : Status) (tells : Bool) (held_old held text : List ℕ) → Reported OutOfMemory result tells fo fn held_old held text → IsPrinting lo ln fo fn result
 memory-printing lo ln fo fn result tells held_old held text (inl done) = subst (IsPrinting lo ln fo fn) (sym done.0) tt
 memory-printing lo ln fo fn result tells held_old held text (inr failed) = subst (IsPrinting lo ln fo fn) (sym failed.0) (refl, failed.1)

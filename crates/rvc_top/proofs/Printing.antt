@@ -57,7 +57,7 @@ pub rule-refusal : (ports : List PortText) (told : Told) (misses_old misses_new 
 rule-refusal ports told misses_old misses_new text refusal is_text h =
     subst (λ file. IsUnprinted ports told misses_old misses_new (record { rule = refusal.rule; place = record { file = file; offset = refusal.place.offset } })) (sym h.0) (breaks_rules text refusal.rule refusal.place.offset is_text h.1)
 
--- where no port is opened the first word is wrong
+-- if no port is opened, the first word is wrong
 pub wrong-words : (words : List PortWord) (b : Bool) → b ≡ (length words == 0) → b ≡ false → (◌≡◌ {A = ℕ} 0 0) × IsWrong [] (map port_text words) unknown_port 0
 wrong-words [] b e f = absurd (Rattle.std.proofs.lemmas.Bool.false≢true (sym f ∙ e))
 wrong-words (w ∷ rest) b e f = (refl, record { before = λ j low. absurd (omega arith); word = port_text w; is_there = refl; breaks = inl (refl, refl) })
@@ -85,7 +85,7 @@ read-or-memory told ports tree misses_old misses_new lo ln (Refused refusal) has
 read-or-memory told ports tree misses_old misses_new lo ln (Budget firings) has quiet is refused rose = absurd is
 read-or-memory told ports tree misses_old misses_new lo ln OutOfMemory has quiet is refused rose = refl
 
--- want of memory is answered where it was reported and no count rose
+-- out of memory is the answer if it was reported and no count rose
 pub memory-reported : (fo fn : ℕ) (status result : Status) (tells : Bool) (held_old held text : List ℕ) → Reported status result tells fo fn held_old held text → (HasRisen fo fn → ⊥) → status ≡ OutOfMemory → IsDoneOrMemory result
 memory-reported fo fn status result tells held_old held text (inl done) quiet e = inr (done.0 ∙ e)
 memory-reported fo fn status result tells held_old held text (inr failed) quiet e = absurd (quiet failed.1)

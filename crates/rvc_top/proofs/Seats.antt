@@ -20,7 +20,7 @@ use Rattle.rvc_top.specs.declared.status.Status.{Status}
 use Rattle.rvc_top.specs.declared.status.Status.TheVariants.{Quiet, Done, Usage, ReadFault, WriteFault, Refused, Budget, OutOfMemory}
 use Rattle.rvc_top.specs.declared.status.ReadAt.TheVariants.{File, Feed}
 
--- an output is written where its port has a file, and isn't open where it has none
+-- an output is written if its port has a file, and isn't open if it has none
 pub writes-by : {A : Type 0} (g : A → List ℕ) (seat : Option A) (file : Option (List ℕ)) (writes is_open : Bool) → option_map g seat ≡ file → writes ≡ is_some seat → (is_some seat ≡ false → is_open ≡ false) → Writes writes file is_open
 writes-by g None file writes is_open same is_it shut = subst (λ f. Writes writes f is_open) same (shut refl)
 writes-by g (Some x) file writes is_open same is_it shut = subst (λ f. Writes writes f is_open) same is_it
@@ -33,7 +33,7 @@ input-by g None file reads left under input same is_it opened h =
 input-by g (Some x) file reads left under input same is_it opened h =
     subst (λ r. HasInput r left input) (sym is_it) (opened (g x) refl ∙ subst (λ f. IsInput under f input) (sym same) h)
 
--- a run's end names the input only where it has a file
+-- a run's end names the input only if it has a file
 pub names-run : (how : RunEnd) (result : Status) (faults_old faults : ℕ) (reads has_file : Bool) → Answers how result faults_old faults → ((feed : ℕ) → how ≡ end.ReadFault feed → reads ≡ true) → reads ≡ has_file → NamesItsInput has_file result
 names-run end.Quiet result faults_old faults reads has_file (inl e) reads_it is_it = subst (NamesItsInput has_file) (sym e) tt
 names-run end.Quiet result faults_old faults reads has_file (inr e) reads_it is_it = subst (NamesItsInput has_file) (sym e.0) tt

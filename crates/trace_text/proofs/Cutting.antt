@@ -40,7 +40,7 @@ first_line this that text other rest behind w v h =
       same_rest = cut.rest;
     }
 
--- no line's text is empty, nor a front of a line, nor without its line feed
+-- no line's text is empty, nor a proper prefix of a line, nor without its line feed
 not_empty : (line : Line) (text rest : List ℕ) → Spells line text → text ++ rest ≡ [] → ⊥
 not_empty line text rest w h = starts (line_ends line text w).before (sym (ends_before line text rest w) ∙ h) where
   starts : (xs : List ℕ) → xs ++ (10 ∷ rest) ≡ [] → ⊥
@@ -75,7 +75,7 @@ first_rest line (that ∷ lines) text (other ∷ texts) rest w v h = record {
   text = (first_line that line other text (concat texts) rest v.0 w h).same_rest;
 }
 
--- lines, and a front of one more
+-- lines, and a prefix of one more
 pub record SameLines (these those : List Line) (texts others : List (List ℕ)) (read : List ℕ) : Type 0 where
   pub same_lines : these ≡ those
   pub same_texts : texts ≡ others

@@ -41,7 +41,7 @@ begun (x ∷ xs) (y ∷ ys) r s all there h =
     let others = begun xs ys r s all.1 there (tails x y _ _ h) in
     (others.0, consed x y (xs ++ others.0) ys first others.1)
 
--- a front of a list with one more is all of it, or a front of the list
+-- a prefix of a list with one more is all of it, or a prefix of the list
 shorter : (us bs xs : List ℕ) (l : ℕ) → us ++ bs ≡ xs ++ (l ∷ [])
     → (us ≡ xs ++ (l ∷ [])) ⊎ ((ds : List ℕ) × (us ++ ds ≡ xs))
 shorter [] bs xs l h = inr (xs, refl)

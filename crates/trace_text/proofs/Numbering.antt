@@ -191,7 +191,7 @@ leads_small_digit field (Some zero) byte digit most number e low bound w small =
 leads_small_digit field (Some (suc v)) byte digit most number e low bound w small =
     absurd (omega (arith, w.0, least_low field))
 
--- the digits so far, where they aren't too few
+-- the digits so far, if they aren't too few
 pub leads_within : (field : Field) (so_far : Option ℕ) (byte digit most number : ℕ) (next : Place)
     → byte ≡ 48 + digit → digit < 10 → most + 1 ≡ bound_of field
     → SoFar so_far digit most (Some number) → IsWithin field number next → Leads (Number field so_far) byte next

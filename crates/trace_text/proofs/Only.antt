@@ -19,7 +19,7 @@ use Rattle.trace_text.proofs.LineEnds.{line_ends, front_none, no_empty}
 use Rattle.trace_text.proofs.Telling.{empty_front, since_other, one_more, front_goes_on, told_at_line_feed, line_answered, front_answered}
 use Rattle.trace_text.proofs.Cutting.{cut_so, line_more, text_more, goes_on, first_rest, first_lines}
 
--- bytes that are lines and a front of one more
+-- bytes that are lines and a proper prefix of one more
 pub record Told (lines : List Line) (bytes : List ℕ) : Type 0 where
   pub texts : List (List ℕ)
   pub read : List ℕ
@@ -27,7 +27,7 @@ pub record Told (lines : List Line) (bytes : List ℕ) : Type 0 where
   pub is_front : IsFront read
   pub whole : bytes ≡ concat texts ++ read
 
--- where none is bad, the lines that are told stand there, and a front of one more
+-- if none is bad, the lines that are told stand there, and a proper prefix of one more
 pub told : (bytes read : List ℕ) (answers : List Step2) → IsFront read → AreAnswers read bytes answers → NoneIsBad answers
     → Told (lines_among answers) (read ++ bytes)
 told [] read [] front all none =
@@ -56,7 +56,7 @@ told (byte ∷ bytes) read (TheLine line ∷ answers) front all none =
     }
 told (byte ∷ bytes) read (Bad ∷ answers) front all none = absurd (none.0 refl)
 
--- no answer is bad where the bytes begin the text of lines
+-- no answer is bad if the bytes begin the text of lines
 pub none_bad : (bytes read more : List ℕ) (answers : List Step2) (lines : List Line) (texts : List (List ℕ)) → IsFront read
     → SpellEach lines texts → AreAnswers read bytes answers → concat texts ≡ read ++ (bytes ++ more) → NoneIsBad answers
 none_bad [] read more [] lines texts front w all h = tt
@@ -103,7 +103,7 @@ none_left [] read before none h = absurd (feed_in before (subst HasNoLineFeed h 
 none_left (x ∷ xs) read [] none h = nothing xs read (tails x 10 (xs ++ read) [] h)
 none_left (x ∷ xs) read (b ∷ before) none h = none_left xs read before none (tails x b _ _ h)
 
--- a front that ends in a line feed is empty
+-- a proper prefix of a line, at the end of a text that ends in a line feed, is empty
 pub ended_whole : (xs read text : List ℕ) → IsFront read → text ≡ xs ++ read → IsEnded text → read ≡ []
 ended_whole xs read text front h ended = elim ended [
   | inl e ↦ nothing xs read (sym h ∙ e)
@@ -136,7 +136,7 @@ pub begun_none : (bytes : List ℕ) (answers : List Step2) → AreAnswers [] byt
 begun_none bytes answers all w =
     none_bad bytes [] w.1 answers w.0 w.2.0 empty_front w.2.1 all (sym w.2.2)
 
--- lines and a front begin lines
+-- lines and a prefix of one more begin lines
 front_begins : (lines : List Line) (texts : List (List ℕ)) (read bytes : List ℕ) → SpellEach lines texts → Begins read
     → bytes ≡ concat texts ++ read → BeginLines bytes
 front_begins lines texts read bytes w front h = (

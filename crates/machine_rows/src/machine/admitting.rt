@@ -5,7 +5,7 @@ use code_ir::{Instr, Routine};
 use std::alloc::Global;
 use std::process::Abort;
 
-/// The place at which code of two cells is bad, none where it is admitted and runs.
+/// The place at which code of two cells is bad, none if it is admitted and runs.
 type Bodies = (
     &'static [Routine],
     &'static [u32],

@@ -43,7 +43,7 @@ const ENDED: &[(&[Instr], Found)] = &[
         ],
         Ran(Outcome::Trap(Trap::DivideByZero), [5, 0, 0, 0, 0, 0]),
     ),
-    // a guard is true where its answer is not zero
+    // a guard is true if its answer is not zero
     (
         &[Instr::Const(0), Instr::Answer],
         Ran(Outcome::False, [0, 0, 0, 0, 0, 0]),
@@ -80,7 +80,7 @@ const ENDED: &[(&[Instr], Found)] = &[
         ],
         Ran(Outcome::Done, [2, 0, 0, 0, 0, 0]),
     ),
-    // a jump is made where the top is zero
+    // a jump is made if the top is zero
     (
         &[
             Instr::Const(0),

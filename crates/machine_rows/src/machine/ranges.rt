@@ -10,7 +10,7 @@ const LEAST: Num = Num::MIN;
 
 const GREATEST: Num = Num::MAX;
 
-/// Where the ranges overlap, a cell that was written is read as written.
+/// If the ranges overlap, a cell that was written is read as written.
 const COPIED: &[(&[Instr], Found)] = &[
     (
         &[Instr::Copy(3, 0, 3, None)],
