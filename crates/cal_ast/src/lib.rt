@@ -10,8 +10,6 @@ mod ident;
 mod member;
 mod part;
 mod stmt;
-#[cfg(test)]
-mod tests;
 
 pub use action::{Action, Move, Output, Pattern, Priority, Schedule};
 pub use expr::{BinOp, Expr, ExprForm, Gen, PrefixOp, TypeArg, TypeExpr};

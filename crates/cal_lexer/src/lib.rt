@@ -5,8 +5,6 @@ mod bytes;
 mod number;
 mod piece;
 mod symbols;
-#[cfg(test)]
-mod tests;
 mod text;
 mod token;
 mod word;

@@ -8,11 +8,7 @@ mod cursor;
 mod decls;
 mod ends;
 mod expr;
-#[cfg(test)]
-mod expr_tests;
 mod fault;
-#[cfg(test)]
-mod file_tests;
 mod files;
 mod forms;
 mod leading;

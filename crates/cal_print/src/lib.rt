@@ -10,8 +10,6 @@ mod name;
 mod operators;
 mod part;
 mod stmt;
-#[cfg(test)]
-mod tests;
 mod writer;
 
 pub use file::print_file;

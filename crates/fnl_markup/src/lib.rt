@@ -11,8 +11,6 @@ mod place;
 mod reader;
 mod stop;
 mod tag;
-#[cfg(test)]
-mod tests;
 mod text;
 mod word;
 

@@ -1,8 +1,8 @@
 //! Texts with the trees that they spell, or the place where they break the grammar.
 
-use crate::parse_file;
 use cal_ast::{Body, File};
 use cal_lexer::lex;
+use cal_parser::parse_file;
 use rvc_base::Front;
 use std::alloc::Global;
 use std::process::Abort;

@@ -1,7 +1,6 @@
 //! Texts with their tags, or the rule that they break first.
 
-use crate::tag::{Attribute, Tag};
-use crate::text::read_markup;
+use fnl_markup::{Attribute, Tag, read_markup};
 use rvc_base::Memory;
 use std::alloc::Global;
 use std::process::Abort;

@@ -1,6 +1,6 @@
 //! A file with every kind of part, and its copy.
 
-use crate::{
+use cal_ast::{
     Action, Actor, BinOp, Body, Expr, ExprForm, File, Function, Gen, Ident, Import, Member, Move,
     Output, Param, Pattern, PortDecl, PrefixOp, Priority, Procedure, Schedule, Stmt, StmtForm, Tag,
     TypeArg, TypeExpr, UnitFile, VarDecl,

@@ -1,9 +1,9 @@
 //! Texts with their canonical texts, which give the same trees again.
 
-use crate::print_file;
 use cal_ast::File;
 use cal_lexer::lex;
 use cal_parser::parse_file;
+use cal_print::print_file;
 use rvc_base::Front;
 use std::alloc::Global;
 use std::process::Abort;

@@ -1,6 +1,6 @@
 //! Texts with the tokens or the fault that the language gives them.
 
-use crate::{MAX_NAME, Word, is_name, lex};
+use cal_lexer::{MAX_NAME, Word, is_name, lex};
 use rvc_base::Front;
 use std::alloc::Global;
 use std::process::Abort;
