@@ -21,7 +21,11 @@ impl Model for Cells {
 
     ghost Value = { Kept };
 
-    ghost view = { λ a. record { numbers = a.numbers.items; operands = length a.stack.items; calls = length a.frames.items } };
+    ghost view = { λ a. record {
+      numbers = a.numbers.items;
+      operands = length a.stack.items;
+      calls = length a.frames.items;
+    } };
 }
 
 impl Cells {

@@ -23,8 +23,10 @@ pub trait Run {
     fn run<T: Tokens>(&self, entry: u32, cells: &mut Cells, tokens: &T) -> Outcome
         requires entry { is_among entry (code self.now).entries ≡ true }
         requires made { IsMadeFor (code self.now) cells.old }
-        requires tokens { HasItsTokens (code self.now) entry cells.old.numbers (T.tokens tokens.now) }
-        ensures runs { runs (code self.now) entry cells.old.numbers (T.tokens tokens.now) result cells.new.numbers }
+        requires tokens { HasItsTokens (code self.now) entry cells.old.numbers
+            (T.tokens tokens.now) }
+        ensures runs { runs (code self.now) entry cells.old.numbers
+            (T.tokens tokens.now) result cells.new.numbers }
         ensures made { IsMadeFor (code self.now) cells.new }
         ensures operands { cells.new.operands ≡ cells.old.operands }
         ensures calls { cells.new.calls ≡ cells.old.calls };

@@ -84,7 +84,8 @@ impl StmtForm {
     /// `AllocError` if memory runs out.
     #[cycle(copy_stmt)]
     pub fn copy(&self, alloc: Global) -> Result<StmtForm, AllocError>
-        ensures { IfOk result (λ copied. (at : ℕ) → stmt_form_tree copied at ≡ stmt_form_tree self.now at) }
+        ensures { IfOk result (λ copied. (at : ℕ)
+            → stmt_form_tree copied at ≡ stmt_form_tree self.now at) }
     {
         match self {
             StmtForm::Assign {

@@ -70,7 +70,8 @@ fn has_leading_zero(text: &[u8]) -> bool
 /// The number that digits stand for, unless it needs more than 128 bits.
 fn value(digits: &[u8], base: u128) -> Option<u128>
     requires { 1 ≤ base }
-    ensures { MatchOption result (2 ^ 128 ≤ value_of base digits.now) (λ v. (v ≡ value_of base digits.now) × (v < 2 ^ 128)) }
+    ensures { MatchOption result (2 ^ 128 ≤ value_of base digits.now)
+        (λ v. (v ≡ value_of base digits.now) × (v < 2 ^ 128)) }
 {
     let mut value: u128 = 0;
     for b in digits {
@@ -81,7 +82,8 @@ fn value(digits: &[u8], base: u128) -> Option<u128>
 
 /// The number with one more digit, unless it needs more than 128 bits.
 fn with_digit(value: u128, base: u128, digit: u8) -> Option<u128>
-    ensures { MatchOption result (2 ^ 128 ≤ value * base + digit_value digit) (λ v. (v ≡ value * base + digit_value digit) × (v < 2 ^ 128)) }
+    ensures { MatchOption result (2 ^ 128 ≤ value * base + digit_value digit)
+        (λ v. (v ≡ value * base + digit_value digit) × (v < 2 ^ 128)) }
 {
     value.checked_mul(base)?.checked_add(digit_value(digit))
 }

@@ -17,7 +17,9 @@ pub(crate) struct Symbol {
 
 /// The longest symbol that a text begins with.
 pub(crate) fn longest_symbol(text: &[u8]) -> Option<Symbol>
-    ensures { MatchOption result ((find (take 1 text.now) symbols_of_one ≡ None) × (find (take 2 text.now) symbols_of_two ≡ None)) (λ s. IsLongestSymbol text.now s.size (lexeme_of s.word)) }
+    ensures { MatchOption result ((find (take 1 text.now) symbols_of_one ≡ None)
+        × (find (take 2 text.now) symbols_of_two ≡ None))
+        (λ s. IsLongestSymbol text.now s.size (lexeme_of s.word)) }
 {
     if let Some(word) = symbol_of_three(text) {
         return Some(Symbol { word, size: 3 });

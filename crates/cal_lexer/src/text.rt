@@ -20,8 +20,10 @@ pub fn lex(alloc: Global, file: u32, text: &[u8]) -> Result<Vec<Token>, Front>
     requires { length text.now < 2 ^ 32 }
     ensures listed { IfOk result (λ tokens. lexes text.now (plain_tokens tokens.items)) }
     ensures refused { IfErr result (IsRightly file text.now) }
-    ensures read { (tokens : List Placed) → lexes text.now tokens → MatchResult result (λ ts. plain_tokens ts.items ≡ tokens) (λ e. e ≡ Front.Memory) }
-    ensures faulted { (rule : Rule) (at : ℕ) → faults text.now rule at → IsErrAnd result (IsMemoryOr file rule at) }
+    ensures read { (tokens : List Placed) → lexes text.now tokens
+        → MatchResult result (λ ts. plain_tokens ts.items ≡ tokens) (λ e. e ≡ Front.Memory) }
+    ensures faulted { (rule : Rule) (at : ℕ) → faults text.now rule at
+        → IsErrAnd result (IsMemoryOr file rule at) }
 {
     let mut tokens = Vec::new(alloc);
     let mut at = 0;
@@ -55,15 +57,18 @@ pub fn lex(alloc: Global, file: u32, text: &[u8]) -> Result<Vec<Token>, Front>
 
 /// A text has at most one list of tokens.
 pub fn one_list()
-    ensures { (text : List ℕ) (tokens others : List Placed) → lexes text tokens → lexes text others → tokens ≡ others }
+    ensures { (text : List ℕ) (tokens others : List Placed) → lexes text tokens → lexes text others
+        → tokens ≡ others }
 {}
 
 /// A text that has a list of tokens has no fault.
 pub fn no_fault_in_a_list()
-    ensures { (text : List ℕ) (tokens : List Placed) (rule : Rule) (at : ℕ) → lexes text tokens → faults text rule at → ⊥ }
+    ensures { (text : List ℕ) (tokens : List Placed) (rule : Rule) (at : ℕ) → lexes text tokens
+        → faults text rule at → ⊥ }
 {}
 
 /// A text has at most one first fault.
 pub fn one_first_fault()
-    ensures { (text : List ℕ) (rule other : Rule) (at place : ℕ) → faults text rule at → faults text other place → (rule ≡ other) × (at ≡ place) }
+    ensures { (text : List ℕ) (rule other : Rule) (at place : ℕ) → faults text rule at
+        → faults text other place → (rule ≡ other) × (at ≡ place) }
 {}

@@ -202,7 +202,8 @@ impl Word {
 impl TokenKind {
     /// The reserved word or symbol that it is, if it is one.
     pub fn word(&self) -> Option<Word>
-        ensures { MatchOption result (word_number (lexeme self.now) ≡ 0) (λ w. lexeme_of w ≡ lexeme self.now) }
+        ensures { MatchOption result (word_number (lexeme self.now) ≡ 0)
+            (λ w. lexeme_of w ≡ lexeme self.now) }
     {
         with_words!(with_long_ends!(with_symbols!(word_of!(self;))))
     }

@@ -58,7 +58,8 @@ fn given_on(port: u32, outputs: &[BoundOutput]) -> u32
 /// How many tokens an output gives on its port.
 fn given_by(output: &BoundOutput) -> u32
     requires repeated { IsRepeat output.now.repeat }
-    requires few { parts_times (parts (output_view output.now).values) output.now.repeat ≤ max_rate }
+    requires few { parts_times (parts (output_view output.now).values) output.now.repeat ≤
+        max_rate }
     ensures { result ≡ parts_times (parts (output_view output.now).values) output.now.repeat }
 {
     tokens(output.values.len(), output.repeat)

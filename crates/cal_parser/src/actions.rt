@@ -89,7 +89,8 @@ fn pattern_from(
     room: u32,
     from: Opening,
 ) -> Result<Pattern, Fault>
-    ensures { TellsStep pattern_tree room (after_opening in_body from) result tokens.old.now tokens.new.now }
+    ensures { TellsStep pattern_tree room
+        (after_opening in_body from) result tokens.old.now tokens.new.now }
 {
     let names = names(alloc, tokens, Separator::Comma)?;
     expect(tokens, Word::RightBracket)?;
@@ -135,7 +136,8 @@ fn output_from(
     room: u32,
     to: Opening,
 ) -> Result<Output, Fault>
-    ensures { TellsStep output_tree room (after_opening out_body to) result tokens.old.now tokens.new.now }
+    ensures { TellsStep output_tree room
+        (after_opening out_body to) result tokens.old.now tokens.new.now }
 {
     let values = exprs(alloc, tokens, room)?;
     expect(tokens, Word::RightBracket)?;

@@ -34,7 +34,8 @@ pub fn var_after(
     room: u32,
     shape: TypeExpr,
 ) -> Result<VarDecl, Fault>
-    ensures { Tells var_tree room (var_tail (type_tree shape)) result tokens.old.now tokens.new.now }
+    ensures { Tells var_tree room (var_tail (type_tree shape)) result tokens.old.now
+        tokens.new.now }
 {
     let name = name(alloc, tokens)?;
     if is_word(tokens, Word::Assign) {
@@ -64,7 +65,9 @@ fn var_with_start(
     name: Ident,
     changes: bool,
 ) -> Result<VarDecl, Fault>
-    ensures { Does var_tree room (value_then (λ x. tree.var (type_tree shape) (ident_tree name) (present x) changes (begins (type_tree shape)))) result tokens.old.now tokens.new.now }
+    ensures { Does var_tree room (value_then
+        (λ x. tree.var (type_tree shape) (ident_tree name) (present x) changes
+        (begins (type_tree shape)))) result tokens.old.now tokens.new.now }
 {
     let start = expr(alloc, tokens, room)?;
     let at = place_of(&shape);
@@ -103,7 +106,8 @@ impl Read for VarDecl {
 
 /// The variables behind `var`, or none.
 pub fn some_vars(alloc: Global, tokens: &mut &[Token], room: u32) -> Result<Vec<VarDecl>, Fault>
-    ensures { Tells (each var_tree) room (part some_vars_part) result tokens.old.now tokens.new.now }
+    ensures { Tells (each var_tree) room
+        (part some_vars_part) result tokens.old.now tokens.new.now }
 {
     if !is_word(tokens, Word::Var) {
         return Ok(Vec::new(alloc));
@@ -156,7 +160,8 @@ impl Read for Param {
 
 /// Any number of parameters, with commas between them.
 pub fn params(alloc: Global, tokens: &mut &[Token], room: u32) -> Result<Vec<Param>, Fault>
-    ensures { Tells (each param_tree) room (part (any comma a_param)) result tokens.old.now tokens.new.now }
+    ensures { Tells (each param_tree) room
+        (part (any comma a_param)) result tokens.old.now tokens.new.now }
 {
     any::<Param>(alloc, tokens, room)
 }
@@ -190,7 +195,8 @@ impl Read for PortDecl {
 
 /// Any number of ports or formal parameters, with commas between them.
 pub fn ports(alloc: Global, tokens: &mut &[Token], room: u32) -> Result<Vec<PortDecl>, Fault>
-    ensures { Tells (each port_tree) room (part (any comma a_port)) result tokens.old.now tokens.new.now }
+    ensures { Tells (each port_tree) room
+        (part (any comma a_port)) result tokens.old.now tokens.new.now }
 {
     any::<PortDecl>(alloc, tokens, room)
 }

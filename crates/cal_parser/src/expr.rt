@@ -43,7 +43,8 @@ pub fn expr(alloc: Global, tokens: &mut &[Token], room: u32) -> Result<Expr, Fau
 
 /// One expression or more, with commas between them.
 pub fn exprs(alloc: Global, tokens: &mut &[Token], room: u32) -> Result<Vec<Expr>, Fault>
-    ensures { Tells (each expr_tree) room (part (separated comma an_expr)) result tokens.old.now tokens.new.now }
+    ensures { Tells (each expr_tree) room
+        (part (separated comma an_expr)) result tokens.old.now tokens.new.now }
 {
     let found = tall_exprs(alloc, tokens, room)?;
     Ok(found.exprs)
@@ -51,7 +52,8 @@ pub fn exprs(alloc: Global, tokens: &mut &[Token], room: u32) -> Result<Vec<Expr
 
 /// Any number of expressions, with commas between them.
 pub fn args(alloc: Global, tokens: &mut &[Token], room: u32) -> Result<Vec<Expr>, Fault>
-    ensures { Tells (each expr_tree) room (part (any comma an_expr)) result tokens.old.now tokens.new.now }
+    ensures { Tells (each expr_tree) room
+        (part (any comma an_expr)) result tokens.old.now tokens.new.now }
 {
     let found = tall_args(alloc, tokens, room)?;
     Ok(found.exprs)
@@ -72,7 +74,8 @@ pub fn type_after(
     room: u32,
     name: Ident,
 ) -> Result<TypeExpr, Fault>
-    ensures { Tells type_tree room (type_tail (string_bytes name.text) name.at) result tokens.old.now tokens.new.now }
+    ensures { Tells type_tree room
+        (type_tail (string_bytes name.text) name.at) result tokens.old.now tokens.new.now }
 {
     if !is_word(tokens, Word::LeftParen) {
         let found = bare_type(alloc, name);
@@ -111,7 +114,8 @@ fn operations(
     first: TallExpr,
 ) -> Result<TallExpr, Fault>
     requires { first.high ≤ room }
-    ensures told { Answers tall_tree (climbs room 0 top (tall_tree first) (plain_tokens tokens.old.now)) result tokens.new.now }
+    ensures told { Answers tall_tree
+        (climbs room 0 top (tall_tree first) (plain_tokens tokens.old.now)) result tokens.new.now }
     ensures low { IfOk result (λ x. x.high ≤ room) }
 {
     let mut left = first;
@@ -138,7 +142,8 @@ fn indexes(
     first: TallExpr,
 ) -> Result<TallExpr, Fault>
     requires { first.high ≤ room }
-    ensures told { Reads tall_tree room (places (tall_tree first)) result tokens.old.now tokens.new.now }
+    ensures told { Reads tall_tree room
+        (places (tall_tree first)) result tokens.old.now tokens.new.now }
     ensures low { IfOk result (λ x. x.high ≤ room) }
 {
     let mut base = first;
@@ -203,7 +208,8 @@ fn primary(alloc: Global, tokens: &mut &[Token], room: u32) -> Result<TallExpr, 
 #[cycle(reading)]
 fn named(alloc: Global, tokens: &mut &[Token], room: u32) -> Result<TallExpr, Fault>
     requires { stands names tokens.old.now ≡ true }
-    ensures told { Does tall_tree room (check 1 (take name_body)) result tokens.old.now tokens.new.now }
+    ensures told { Does tall_tree room
+        (check 1 (take name_body)) result tokens.old.now tokens.new.now }
     ensures low { IfOk result (λ x. x.high ≤ room) }
 {
     let name = leading_name(alloc, tokens, room)?;
@@ -219,7 +225,8 @@ fn named(alloc: Global, tokens: &mut &[Token], room: u32) -> Result<TallExpr, Fa
 #[cycle(reading)]
 fn choice(alloc: Global, tokens: &mut &[Token], room: u32) -> Result<TallExpr, Fault>
     requires { stands (same_word If) tokens.old.now ≡ true }
-    ensures told { Does tall_tree room (check 1 (take if_body)) result tokens.old.now tokens.new.now }
+    ensures told { Does tall_tree room
+        (check 1 (take if_body)) result tokens.old.now tokens.new.now }
     ensures low { IfOk result (λ x. x.high ≤ room) }
 {
     let at = leading_word(tokens, room, Word::If)?;
@@ -235,7 +242,8 @@ fn choice(alloc: Global, tokens: &mut &[Token], room: u32) -> Result<TallExpr, F
 #[cycle(reading)]
 fn bracketed(alloc: Global, tokens: &mut &[Token], room: u32) -> Result<TallExpr, Fault>
     requires { stands (same_word LeftBracket) tokens.old.now ≡ true }
-    ensures told { Does tall_tree room (check 1 (take list_body)) result tokens.old.now tokens.new.now }
+    ensures told { Does tall_tree room
+        (check 1 (take list_body)) result tokens.old.now tokens.new.now }
     ensures low { IfOk result (λ x. x.high ≤ room) }
 {
     let at = leading_word(tokens, room, Word::LeftBracket)?;
@@ -258,7 +266,8 @@ fn bracketed(alloc: Global, tokens: &mut &[Token], room: u32) -> Result<TallExpr
 /// Any number of expressions, with commas between them.
 #[cycle(reading)]
 fn tall_args(alloc: Global, tokens: &mut &[Token], room: u32) -> Result<TallExprs, Fault>
-    ensures told { Reads each_expr room (part (any comma an_expr)) result tokens.old.now tokens.new.now }
+    ensures told { Reads each_expr room
+        (part (any comma an_expr)) result tokens.old.now tokens.new.now }
     ensures low { IfOk result (λ xs. xs.high ≤ room) }
 {
     if !starts_expr(tokens) {
@@ -270,7 +279,8 @@ fn tall_args(alloc: Global, tokens: &mut &[Token], room: u32) -> Result<TallExpr
 /// One expression or more, with commas between them.
 #[cycle(reading)]
 fn tall_exprs(alloc: Global, tokens: &mut &[Token], room: u32) -> Result<TallExprs, Fault>
-    ensures told { Reads each_expr room (part (separated comma an_expr)) result tokens.old.now tokens.new.now }
+    ensures told { Reads each_expr room
+        (part (separated comma an_expr)) result tokens.old.now tokens.new.now }
     ensures low { IfOk result (λ xs. xs.high ≤ room) }
 {
     let mut found = no_exprs(alloc);
@@ -288,7 +298,8 @@ fn tall_exprs(alloc: Global, tokens: &mut &[Token], room: u32) -> Result<TallExp
 /// One generator or more, with commas between them.
 #[cycle(reading)]
 fn tall_gens(alloc: Global, tokens: &mut &[Token], room: u32) -> Result<TallGens, Fault>
-    ensures told { Reads each_gen room (part (separated comma a_gen)) result tokens.old.now tokens.new.now }
+    ensures told { Reads each_gen room
+        (part (separated comma a_gen)) result tokens.old.now tokens.new.now }
     ensures low { IfOk result (λ xs. xs.high ≤ room) }
 {
     let mut found = no_gens(alloc);
@@ -340,7 +351,8 @@ fn tall_type(alloc: Global, tokens: &mut &[Token], room: u32) -> Result<TallType
 /// One argument of a type or more, with commas between them.
 #[cycle(reading)]
 fn type_args(alloc: Global, tokens: &mut &[Token], room: u32) -> Result<TallTypeArgs, Fault>
-    ensures told { Reads each_type_arg room (part (separated comma a_type_arg)) result tokens.old.now tokens.new.now }
+    ensures told { Reads each_type_arg room
+        (part (separated comma a_type_arg)) result tokens.old.now tokens.new.now }
     ensures low { IfOk result (λ xs. xs.high ≤ room) }
 {
     let mut found = no_type_args(alloc);

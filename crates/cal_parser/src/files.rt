@@ -131,7 +131,8 @@ fn unit(alloc: Global, tokens: &mut &[Token], room: u32) -> Result<UnitFile, Fau
 
 /// The actor or the unit of a file.
 fn body(alloc: Global, tokens: &mut &[Token], room: u32) -> Result<Body, Fault>
-    ensures { Tells file_body_tree room (part (body_part tokens.old.now)) result tokens.old.now tokens.new.now }
+    ensures { Tells file_body_tree room
+        (part (body_part tokens.old.now)) result tokens.old.now tokens.new.now }
 {
     if is_word(tokens, Word::Actor) {
         Ok(Body::Actor(actor(alloc, tokens, room)?))
@@ -142,7 +143,8 @@ fn body(alloc: Global, tokens: &mut &[Token], room: u32) -> Result<Body, Fault>
 
 /// The offset of the first import, or of the body if there is none.
 fn first_offset(imports: &[Import], body: &Body) -> u32
-    ensures { result ≡ first_place (listed (map import_tree imports.now)) (file_body_tree body.now) }
+    ensures { result ≡ first_place (listed (map import_tree imports.now))
+        (file_body_tree body.now) }
 {
     match imports.first() {
         Some(import) => import.at,

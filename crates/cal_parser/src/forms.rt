@@ -22,7 +22,8 @@ pub fn prefixed(
     operand: TallExpr,
 ) -> Result<TallExpr, AllocError>
     requires { operand.high < room }
-    ensures is { IfOk result (λ x. expr_tree x.expr ≡ prefix operator.op (expr_tree operand.expr) operator.at) }
+    ensures is { IfOk result (λ x. expr_tree x.expr
+        ≡ prefix operator.op (expr_tree operand.expr) operator.at) }
     ensures low { IfOk result (λ x. x.high ≤ room) }
 {
     let high = operand.high + 1;
@@ -49,7 +50,8 @@ pub fn operation(
 ) -> Result<TallExpr, AllocError>
     requires left_fits { left.high < room }
     requires right_fits { right.high < room }
-    ensures is { IfOk result (λ x. expr_tree x.expr ≡ binary op (expr_tree left.expr) (expr_tree right.expr) (begins (expr_tree left.expr))) }
+    ensures is { IfOk result (λ x. expr_tree x.expr
+        ≡ binary op (expr_tree left.expr) (expr_tree right.expr) (begins (expr_tree left.expr))) }
     ensures low { IfOk result (λ x. x.high ≤ room) }
 {
     let high = left.high.max(right.high) + 1;
@@ -75,7 +77,9 @@ pub fn indexed(
 ) -> Result<TallExpr, Fault>
     requires base_fits { base.high < room }
     requires place_fits { place.high < room }
-    ensures told { Does tall_tree room (index_step (expr_tree base.expr) (expr_tree place.expr)) result tokens.old.now tokens.new.now }
+    ensures told { Does tall_tree room
+        (index_step (expr_tree base.expr) (expr_tree place.expr)) result tokens.old.now
+        tokens.new.now }
     ensures low { IfOk result (λ x. x.high ≤ room) }
 {
     expect(tokens, Word::RightBracket)?;
@@ -99,7 +103,9 @@ pub fn called(
     args: TallExprs,
 ) -> Result<TallExpr, Fault>
     requires { args.high < room }
-    ensures told { Does tall_tree room (call_step (string_bytes name.text) name.at (each_expr args)) result tokens.old.now tokens.new.now }
+    ensures told { Does tall_tree room
+        (call_step (string_bytes name.text) name.at (each_expr args)) result tokens.old.now
+        tokens.new.now }
     ensures low { IfOk result (λ x. x.high ≤ room) }
 {
     expect(tokens, Word::RightParen)?;
@@ -126,7 +132,9 @@ pub fn conditional(
     requires test_fits { test.high < room }
     requires yes_fits { yes.high < room }
     requires no_fits { no.high < room }
-    ensures told { Does tall_tree room (if_step at (expr_tree test.expr) (expr_tree yes.expr) (expr_tree no.expr)) result tokens.old.now tokens.new.now }
+    ensures told { Does tall_tree room
+        (if_step at (expr_tree test.expr) (expr_tree yes.expr) (expr_tree no.expr)) result
+        tokens.old.now tokens.new.now }
     ensures low { IfOk result (λ x. x.high ≤ room) }
 {
     if !finish(tokens, Word::If) {
@@ -152,7 +160,8 @@ pub fn listing(
     items: TallExprs,
 ) -> Result<TallExpr, Fault>
     requires { items.high < room }
-    ensures told { Does tall_tree room (list_step at (each_expr items)) result tokens.old.now tokens.new.now }
+    ensures told { Does tall_tree room
+        (list_step at (each_expr items)) result tokens.old.now tokens.new.now }
     ensures low { IfOk result (λ x. x.high ≤ room) }
 {
     expect(tokens, Word::RightBracket)?;
@@ -176,7 +185,8 @@ pub fn comprehension(
 ) -> Result<TallExpr, Fault>
     requires item_fits { item.high < room }
     requires gens_fit { gens.high < room }
-    ensures told { Does tall_tree room (comp_step at (expr_tree item.expr) (each_gen gens)) result tokens.old.now tokens.new.now }
+    ensures told { Does tall_tree room
+        (comp_step at (expr_tree item.expr) (each_gen gens)) result tokens.old.now tokens.new.now }
     ensures low { IfOk result (λ x. x.high ≤ room) }
 {
     expect(tokens, Word::RightBracket)?;
@@ -204,7 +214,8 @@ pub fn no_exprs(alloc: Global) -> TallExprs
 
 /// These expressions and one more.
 pub fn with_expr(found: TallExprs, next: TallExpr) -> Result<TallExprs, AllocError>
-    ensures is { IfOk result (λ xs. map expr_tree xs.exprs.items ≡ map expr_tree found.exprs.items ++ expr_tree next.expr ∷ []) }
+    ensures is { IfOk result (λ xs. map expr_tree xs.exprs.items
+        ≡ map expr_tree found.exprs.items ++ expr_tree next.expr ∷ []) }
     ensures high { IfOk result (λ xs. xs.high ≡ max found.high next.high) }
 {
     let mut exprs = found.exprs;
@@ -217,7 +228,8 @@ pub fn with_expr(found: TallExprs, next: TallExpr) -> Result<TallExprs, AllocErr
 
 /// An expression before others.
 pub fn before_exprs(first: TallExpr, others: TallExprs) -> Result<TallExprs, AllocError>
-    ensures is { IfOk result (λ xs. map expr_tree xs.exprs.items ≡ expr_tree first.expr ∷ map expr_tree others.exprs.items) }
+    ensures is { IfOk result (λ xs. map expr_tree xs.exprs.items
+        ≡ expr_tree first.expr ∷ map expr_tree others.exprs.items) }
     ensures high { IfOk result (λ xs. xs.high ≡ max first.high others.high) }
 {
     let mut exprs = others.exprs;

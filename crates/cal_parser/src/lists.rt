@@ -42,7 +42,8 @@ pub fn separated<T: Read>(
     room: u32,
     between: Separator,
 ) -> Result<Vec<T>, Fault>
-    ensures { Tells (each T.tree) room (part (separated (mark_of between) T.part)) result tokens.old.now tokens.new.now }
+    ensures { Tells (each T.tree) room
+        (part (separated (mark_of between) T.part)) result tokens.old.now tokens.new.now }
 {
     let mut found = Vec::new(alloc);
     let word = between.word();
@@ -58,7 +59,8 @@ pub fn separated<T: Read>(
 
 /// Any number of parts, with commas between them.
 pub fn any<T: Read>(alloc: Global, tokens: &mut &[Token], room: u32) -> Result<Vec<T>, Fault>
-    ensures { Tells (each T.tree) room (part (any comma T.part)) result tokens.old.now tokens.new.now }
+    ensures { Tells (each T.tree) room
+        (part (any comma T.part)) result tokens.old.now tokens.new.now }
 {
     if !T::starts(tokens) {
         return Ok(Vec::new(alloc));
@@ -68,7 +70,8 @@ pub fn any<T: Read>(alloc: Global, tokens: &mut &[Token], room: u32) -> Result<V
 
 /// Any number of parts, one behind the other.
 pub fn repeated<T: Read>(alloc: Global, tokens: &mut &[Token], room: u32) -> Result<Vec<T>, Fault>
-    ensures { Tells (each T.tree) room (part (repeated T.part)) result tokens.old.now tokens.new.now }
+    ensures { Tells (each T.tree) room
+        (part (repeated T.part)) result tokens.old.now tokens.new.now }
 {
     let mut found = Vec::new(alloc);
     'parts: while T::starts(tokens) {

@@ -77,7 +77,8 @@ fn procedure(alloc: Global, tokens: &mut &[Token], room: u32) -> Result<Procedur
 /// What follows the first name of a tag.
 #[tactic(auto, using(cal_grammar::proofs::Reading::read_is))]
 fn more_names(alloc: Global, tokens: &mut &[Token], room: u32) -> Result<Vec<Ident>, Fault>
-    ensures { Tells (each ident_tree) room (part (rest dot a_name)) result tokens.old.now tokens.new.now }
+    ensures { Tells (each ident_tree) room
+        (part (rest dot a_name)) result tokens.old.now tokens.new.now }
 {
     if !is_word(tokens, Word::Dot) {
         return Ok(Vec::new(alloc));
@@ -127,7 +128,8 @@ fn variable(alloc: Global, tokens: &mut &[Token], room: u32, first: Ident) -> Re
 /// A member that begins with a name: a variable, or an action under a tag.
 #[tactic(auto, using(cal_grammar::proofs::Reading::read_is))]
 fn named_member(alloc: Global, tokens: &mut &[Token], room: u32) -> Result<Member, Fault>
-    ensures { TellsStep member_tree room (named named_member_body) result tokens.old.now tokens.new.now }
+    ensures { TellsStep member_tree room
+        (named named_member_body) result tokens.old.now tokens.new.now }
 {
     let first = name(alloc, tokens)?;
     if is_word(tokens, Word::Dot) || is_word(tokens, Word::Colon) {
@@ -180,7 +182,8 @@ fn member(alloc: Global, tokens: &mut &[Token], room: u32) -> Result<Member, Fau
 
 /// The members of an actor, among which one schedule may stand.
 pub fn members(alloc: Global, tokens: &mut &[Token], room: u32) -> Result<Vec<Member>, Fault>
-    ensures { Tells (each member_tree) room (part (members_of true)) result tokens.old.now tokens.new.now }
+    ensures { Tells (each member_tree) room
+        (part (members_of true)) result tokens.old.now tokens.new.now }
 {
     let mut found = Vec::new(alloc);
     let mut may_schedule = true;

@@ -88,7 +88,8 @@ pub fn close_pair(
     inner: TallExpr,
 ) -> Result<TallExpr, Fault>
     requires { inner.high ≤ room }
-    ensures told { Does tall_tree room (closing_step at (expr_tree inner.expr)) result tokens.old.now tokens.new.now }
+    ensures told { Does tall_tree room
+        (closing_step at (expr_tree inner.expr)) result tokens.old.now tokens.new.now }
     ensures low { IfOk result (λ x. x.high ≤ room) }
 {
     if !is_word(tokens, Word::RightParen) {

@@ -34,7 +34,8 @@ pub fn parse_file(alloc: Global, file: u32, tokens: &[Token], end: u32) -> Resul
     ensures spelled { IfOk result (λ f. spells (plain_tokens tokens.now) (file_tree f)) }
     ensures low { IfOk result (λ f. height (file_tree f) ≤ max_height) }
     ensures refused { IfErr result (IsRightly file end (plain_tokens tokens.now)) }
-    ensures read { (x : Tree) → spells (plain_tokens tokens.now) x → height x ≤ max_height → MatchResult result (λ f. file_tree f ≡ x) (λ e. e ≡ Front.Memory) }
+    ensures read { (x : Tree) → spells (plain_tokens tokens.now) x → height x ≤ max_height
+        → MatchResult result (λ f. file_tree f ≡ x) (λ e. e ≡ Front.Memory) }
 {
     let mut left = tokens;
     match whole(alloc, &mut left, MAX_HEIGHT) {

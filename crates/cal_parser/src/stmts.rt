@@ -44,7 +44,8 @@ fn is_stmt(tokens: &[Token]) -> bool
 /// Any number of statements.
 #[cycle(stmt)]
 pub fn stmts(alloc: Global, tokens: &mut &[Token], room: u32) -> Result<Vec<Stmt>, Fault>
-    ensures { Tells (each stmt_tree) room (part (repeated a_stmt)) result tokens.old.now tokens.new.now }
+    ensures { Tells (each stmt_tree) room
+        (part (repeated a_stmt)) result tokens.old.now tokens.new.now }
 {
     let mut found = Vec::new(alloc);
     'all: while is_stmt(tokens) {
@@ -141,7 +142,8 @@ fn else_rest(alloc: Global, tokens: &mut &[Token], room: u32) -> Result<Option<V
 #[cycle(stmt)]
 fn while_rest(alloc: Global, tokens: &mut &[Token], room: u32, at: u32) -> Result<Stmt, Fault>
     requires { 1 ≤ room }
-    ensures { Does stmt_tree room (while_body (placed Lexeme.While at)) result tokens.old.now tokens.new.now }
+    ensures { Does stmt_tree room (while_body (placed Lexeme.While at)) result tokens.old.now
+        tokens.new.now }
 {
     let test = expr_before(alloc, tokens, room, Word::Do)?;
     let body = body_before(alloc, tokens, room, Word::While)?;
@@ -155,7 +157,8 @@ fn while_rest(alloc: Global, tokens: &mut &[Token], room: u32, at: u32) -> Resul
 #[cycle(stmt)]
 fn foreach_rest(alloc: Global, tokens: &mut &[Token], room: u32, at: u32) -> Result<Stmt, Fault>
     requires { 1 ≤ room }
-    ensures { Does stmt_tree room (foreach_body (placed Lexeme.Foreach at)) result tokens.old.now tokens.new.now }
+    ensures { Does stmt_tree room (foreach_body (placed Lexeme.Foreach at)) result tokens.old.now
+        tokens.new.now }
 {
     let over = range(alloc, tokens, room)?;
     let body = body_before(alloc, tokens, room, Word::Foreach)?;
@@ -175,7 +178,8 @@ fn foreach_rest(alloc: Global, tokens: &mut &[Token], room: u32, at: u32) -> Res
 #[cycle(stmt)]
 fn block_rest(alloc: Global, tokens: &mut &[Token], room: u32, at: u32) -> Result<Stmt, Fault>
     requires { 1 ≤ room }
-    ensures { Does stmt_tree room (block_body (placed Lexeme.Begin at)) result tokens.old.now tokens.new.now }
+    ensures { Does stmt_tree room (block_body (placed Lexeme.Begin at)) result tokens.old.now
+        tokens.new.now }
 {
     let vars = block_vars(alloc, tokens, room)?;
     let body = body_before(alloc, tokens, room, Word::Begin)?;
@@ -194,7 +198,8 @@ fn body_before(
     opener: Word,
 ) -> Result<Vec<Stmt>, Fault>
     requires { 1 ≤ room }
-    ensures { Leads (each stmt_tree) room (pieces.body_then (lexeme_of opener)) result tokens.old.now tokens.new.now }
+    ensures { Leads (each stmt_tree) room
+        (pieces.body_then (lexeme_of opener)) result tokens.old.now tokens.new.now }
 {
     let found = stmts(alloc, tokens, room - 1)?;
     if !finish(tokens, opener) {
@@ -206,7 +211,8 @@ fn body_before(
 /// An expression inside a statement, and the word behind it.
 fn expr_before(alloc: Global, tokens: &mut &[Token], room: u32, word: Word) -> Result<Expr, Fault>
     requires { 1 ≤ room }
-    ensures { Leads expr_tree room (pieces.expr_then (lexeme_of word)) result tokens.old.now tokens.new.now }
+    ensures { Leads expr_tree room
+        (pieces.expr_then (lexeme_of word)) result tokens.old.now tokens.new.now }
 {
     let found = expr(alloc, tokens, room - 1)?;
     if !is_word(tokens, word) {
@@ -264,7 +270,8 @@ fn named_stmt(alloc: Global, tokens: &mut &[Token], room: u32) -> Result<Stmt, F
 /// A call behind its name and a parenthesis.
 fn call_rest(alloc: Global, tokens: &mut &[Token], room: u32, name: Ident) -> Result<Stmt, Fault>
     requires { 1 ≤ room }
-    ensures { Does stmt_tree room (pieces.call_rest (ident_tree name) name.at) result tokens.old.now tokens.new.now }
+    ensures { Does stmt_tree room (pieces.call_rest (ident_tree name) name.at) result tokens.old.now
+        tokens.new.now }
 {
     let given = args(alloc, tokens, room - 1)?;
     expect(tokens, Word::RightParen)?;
@@ -279,7 +286,8 @@ fn call_rest(alloc: Global, tokens: &mut &[Token], room: u32, name: Ident) -> Re
 /// An assignment behind its name.
 fn assign_rest(alloc: Global, tokens: &mut &[Token], room: u32, name: Ident) -> Result<Stmt, Fault>
     requires { 1 ≤ room }
-    ensures { Does stmt_tree room (pieces.assign_rest (ident_tree name) name.at) result tokens.old.now tokens.new.now }
+    ensures { Does stmt_tree room (pieces.assign_rest (ident_tree name) name.at) result
+        tokens.old.now tokens.new.now }
 {
     let found = places(alloc, tokens, room - 1)?;
     expect(tokens, Word::Assign)?;
@@ -297,7 +305,8 @@ fn assign_rest(alloc: Global, tokens: &mut &[Token], room: u32, name: Ident) -> 
 
 /// The indices behind the name of what is assigned.
 fn places(alloc: Global, tokens: &mut &[Token], room: u32) -> Result<Vec<Expr>, Fault>
-    ensures { Tells (each expr_tree) room (part (repeated a_place)) result tokens.old.now tokens.new.now }
+    ensures { Tells (each expr_tree) room
+        (part (repeated a_place)) result tokens.old.now tokens.new.now }
 {
     let mut found = Vec::new(alloc);
     'places: while is_word(tokens, Word::LeftBracket) {

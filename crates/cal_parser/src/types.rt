@@ -36,7 +36,9 @@ pub fn closed_type(
     args: TallTypeArgs,
 ) -> Result<TallType, Fault>
     requires { args.high ≤ room - 1 }
-    ensures told { Does tall_type room (type_step (string_bytes name.text) name.at (each_type_arg args)) result tokens.old.now tokens.new.now }
+    ensures told { Does tall_type room
+        (type_step (string_bytes name.text) name.at (each_type_arg args)) result tokens.old.now
+        tokens.new.now }
     ensures high { IfOk result (λ x. x.high ≡ args.high + 1) }
 {
     expect(tokens, Word::RightParen)?;
@@ -54,7 +56,8 @@ pub fn closed_type(
 
 /// An argument that is a type.
 pub fn shape_arg(name: Ident, shape: TallType) -> TallTypeArg
-    ensures is { type_arg_tree result.arg ≡ shape_arg_tree (ident_tree name) (type_tree shape.shape) }
+    ensures is { type_arg_tree result.arg
+        ≡ shape_arg_tree (ident_tree name) (type_tree shape.shape) }
     ensures high { result.high ≡ shape.high }
 {
     TallTypeArg {
@@ -68,7 +71,8 @@ pub fn shape_arg(name: Ident, shape: TallType) -> TallTypeArg
 
 /// An argument that is a value.
 pub fn value_arg(name: Ident, value: TallExpr) -> TallTypeArg
-    ensures is { type_arg_tree result.arg ≡ value_arg_tree (ident_tree name) (expr_tree value.expr) }
+    ensures is { type_arg_tree result.arg
+        ≡ value_arg_tree (ident_tree name) (expr_tree value.expr) }
     ensures high { result.high ≡ value.high }
 {
     TallTypeArg {
@@ -82,7 +86,9 @@ pub fn value_arg(name: Ident, value: TallExpr) -> TallTypeArg
 
 /// A generator that begins here.
 pub fn generated(at: u32, shape: TallType, name: Ident, from: TallExpr, to: TallExpr) -> TallGen
-    ensures is { gen_tree result.generator ≡ gen (type_tree shape.shape) (ident_tree name) (expr_tree from.expr) (expr_tree to.expr) at }
+    ensures is { gen_tree result.generator
+        ≡ gen (type_tree shape.shape) (ident_tree name) (expr_tree from.expr)
+        (expr_tree to.expr) at }
     ensures high { result.high ≡ max shape.high (max from.high to.high) }
 {
     TallGen {
@@ -110,7 +116,8 @@ pub fn no_type_args(alloc: Global) -> TallTypeArgs
 
 /// These arguments and one more.
 pub fn with_type_arg(found: TallTypeArgs, next: TallTypeArg) -> Result<TallTypeArgs, AllocError>
-    ensures is { IfOk result (λ xs. map type_arg_tree xs.args.items ≡ map type_arg_tree found.args.items ++ type_arg_tree next.arg ∷ []) }
+    ensures is { IfOk result (λ xs. map type_arg_tree xs.args.items
+        ≡ map type_arg_tree found.args.items ++ type_arg_tree next.arg ∷ []) }
     ensures high { IfOk result (λ xs. xs.high ≡ max found.high next.high) }
 {
     let mut args = found.args;
@@ -134,7 +141,8 @@ pub fn no_gens(alloc: Global) -> TallGens
 
 /// These generators and one more.
 pub fn with_gen(found: TallGens, next: TallGen) -> Result<TallGens, AllocError>
-    ensures is { IfOk result (λ xs. map gen_tree xs.gens.items ≡ map gen_tree found.gens.items ++ gen_tree next.generator ∷ []) }
+    ensures is { IfOk result (λ xs. map gen_tree xs.gens.items
+        ≡ map gen_tree found.gens.items ++ gen_tree next.generator ∷ []) }
     ensures high { IfOk result (λ xs. xs.high ≡ max found.high next.high) }
 {
     let mut gens = found.gens;

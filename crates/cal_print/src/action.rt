@@ -33,7 +33,9 @@ pub(crate) fn print_action(action: &Action, out: &mut Writer) -> Result<(), Memo
 
 /// Prints `action` and the patterns, or `initialize`, which has none.
 fn print_inputs(action: &Action, out: &mut Writer) -> Result<(), Memory>
-    ensures { IfOk result (λ _. out.new ≡ out.old ++ text_of (input_words action.now.initialize (listed (map pattern_tree action.now.patterns.items)))) }
+    ensures { IfOk result (λ _. out.new
+        ≡ out.old ++ text_of (input_words action.now.initialize
+        (listed (map pattern_tree action.now.patterns.items)))) }
 {
     if action.initialize {
         return out.put(Word::Initialize);
@@ -107,7 +109,8 @@ pub(crate) fn print_priority(priority: &Priority, out: &mut Writer) -> Result<()
 
 /// Prints chains, each with a `;` behind it.
 fn print_chains(chains: &[Vec<Tag>], out: &mut Writer) -> Result<(), Memory>
-    ensures { IfOk result (λ _. out.new ≡ out.old ++ text_of (each_chain (listed (map chain_tree chains.now)))) }
+    ensures { IfOk result (λ _. out.new
+        ≡ out.old ++ text_of (each_chain (listed (map chain_tree chains.now)))) }
 {
     for chain in chains {
         print_joined(chain, Word::Greater, out)?;

@@ -73,7 +73,8 @@ pub(crate) fn print_expr(e: &Expr, out: &mut Writer) -> Result<(), Memory>
 /// Prints an operand or the base of an index, in parentheses if it is an operation or an `if`.
 #[cycle(print_expr)]
 fn print_operand(e: &Expr, out: &mut Writer) -> Result<(), Memory>
-    ensures { IfOk result (λ _. out.new ≡ out.old ++ text_of (paired (is_loose (expr_tree e.now)) (words (expr_tree e.now)))) }
+    ensures { IfOk result (λ _. out.new
+        ≡ out.old ++ text_of (paired (is_loose (expr_tree e.now)) (words (expr_tree e.now)))) }
 {
     if stands_in_parens(e) {
         print_between(Word::LeftParen, e, Word::RightParen, out)
@@ -90,7 +91,9 @@ pub(crate) fn print_between(
     closing: Word,
     out: &mut Writer,
 ) -> Result<(), Memory>
-    ensures { IfOk result (λ _. out.new ≡ out.old ++ text_of (lexeme_of opening ∷ words (expr_tree e.now) ++ (lexeme_of closing ∷ []))) }
+    ensures { IfOk result (λ _. out.new
+        ≡ out.old ++ text_of (lexeme_of opening ∷ words (expr_tree e.now) ++
+        (lexeme_of closing ∷ []))) }
 {
     out.put(opening)?;
     print_expr(e, out)?;
@@ -106,7 +109,9 @@ pub(crate) fn print_listed(
     closing: Word,
     out: &mut Writer,
 ) -> Result<(), Memory>
-    ensures { IfOk result (λ _. out.new ≡ out.old ++ text_of (lexeme_of opening ∷ joined Lexeme.Comma (listed (map expr_tree exprs.now)) ++ (lexeme_of closing ∷ []))) }
+    ensures { IfOk result (λ _. out.new
+        ≡ out.old ++ text_of (lexeme_of opening ∷ joined Lexeme.Comma
+        (listed (map expr_tree exprs.now)) ++ (lexeme_of closing ∷ []))) }
 {
     out.put(opening)?;
     print_exprs(exprs, out)?;
@@ -117,7 +122,8 @@ pub(crate) fn print_listed(
 /// Prints expressions with a comma between each two.
 #[cycle(print_expr)]
 pub(crate) fn print_exprs(exprs: &[Expr], out: &mut Writer) -> Result<(), Memory>
-    ensures { IfOk result (λ _. out.new ≡ out.old ++ text_of (joined Lexeme.Comma (listed (map expr_tree exprs.now)))) }
+    ensures { IfOk result (λ _. out.new
+        ≡ out.old ++ text_of (joined Lexeme.Comma (listed (map expr_tree exprs.now)))) }
 {
     let Some((first, others)) = exprs.split_first() else {
         return Ok(());
@@ -133,7 +139,8 @@ pub(crate) fn print_exprs(exprs: &[Expr], out: &mut Writer) -> Result<(), Memory
 /// Prints generators with a comma between each two.
 #[cycle(print_expr)]
 fn print_gens(gens: &[Gen], out: &mut Writer) -> Result<(), Memory>
-    ensures { IfOk result (λ _. out.new ≡ out.old ++ text_of (joined Lexeme.Comma (listed (map gen_tree gens.now)))) }
+    ensures { IfOk result (λ _. out.new
+        ≡ out.old ++ text_of (joined Lexeme.Comma (listed (map gen_tree gens.now)))) }
 {
     let Some((first, others)) = gens.split_first() else {
         return Ok(());
@@ -174,7 +181,10 @@ pub(crate) fn print_type(shape: &TypeExpr, out: &mut Writer) -> Result<(), Memor
 /// Prints the arguments of a type in parentheses, with a comma between each two, or nothing if there are none.
 #[cycle(print_expr)]
 fn print_type_args(args: &[TypeArg], out: &mut Writer) -> Result<(), Memory>
-    ensures { IfOk result (λ _. out.new ≡ out.old ++ text_of (where_any (listed (map type_arg_tree args.now)) (Lexeme.LeftParen ∷ joined Lexeme.Comma (listed (map type_arg_tree args.now)) ++ (Lexeme.RightParen ∷ [])))) }
+    ensures { IfOk result (λ _. out.new
+        ≡ out.old ++ text_of (where_any (listed (map type_arg_tree args.now))
+        (Lexeme.LeftParen ∷ joined Lexeme.Comma (listed (map type_arg_tree args.now)) ++
+        (Lexeme.RightParen ∷ [])))) }
 {
     let Some((first, others)) = args.split_first() else {
         return Ok(());

@@ -46,7 +46,8 @@ fn print_whole(file: &File, out: &mut Writer) -> Result<(), Memory>
 
 /// Prints `package tag ;`, or nothing if the file has no package.
 fn print_package(named: &Option<Tag>, out: &mut Writer) -> Result<(), Memory>
-    ensures { IfOk result (λ _. out.new ≡ out.old ++ text_of (packaged (optional (option_map tag_tree named.now)))) }
+    ensures { IfOk result (λ _. out.new
+        ≡ out.old ++ text_of (packaged (optional (option_map tag_tree named.now)))) }
 {
     match named {
         Some(tag) => {
@@ -72,7 +73,8 @@ impl Part for Import {
 
 /// Prints names, each with a dot behind it.
 fn print_path(path: &[Ident], out: &mut Writer) -> Result<(), Memory>
-    ensures { IfOk result (λ _. out.new ≡ out.old ++ text_of (dotted (listed (map ident_tree path.now)))) }
+    ensures { IfOk result (λ _. out.new
+        ≡ out.old ++ text_of (dotted (listed (map ident_tree path.now)))) }
 {
     for name in path {
         print_ident(name, out)?;
@@ -83,7 +85,8 @@ fn print_path(path: &[Ident], out: &mut Writer) -> Result<(), Memory>
 
 /// Prints the last name of an import, or `*`.
 fn print_last(last: &Option<Ident>, out: &mut Writer) -> Result<(), Memory>
-    ensures { IfOk result (λ _. out.new ≡ out.old ++ text_of (last_name (optional (option_map ident_tree last.now)))) }
+    ensures { IfOk result (λ _. out.new
+        ≡ out.old ++ text_of (last_name (optional (option_map ident_tree last.now)))) }
 {
     match last {
         Some(name) => print_ident(name, out),

@@ -15,12 +15,15 @@ ghost use Rattle.cal_print.specs.ReadBack.{IsReadBack};
 /// So if the tree isn't too high and its canonical text is short enough to be read, `cal_lexer::lex` answers these
 /// tokens and `cal_parser::parse_file` that tree, unless out of memory.
 pub fn canonical_text_is_read_back()
-    ensures { (source : List ℕ) (tokens : List Placed) (x t : Tree) → lexes source tokens → spells tokens x → IsEqualApart t x → IsReadBack t }
+    ensures { (source : List ℕ) (tokens : List Placed) (x t : Tree) → lexes source tokens
+        → spells tokens x → IsEqualApart t x → IsReadBack t }
 {}
 
 /// The trees of two texts have the same canonical text only if they are equal, ignoring offsets.
 pub fn one_canonical_text()
-    ensures { (source other : List ℕ) (tokens others : List Placed) (x y : Tree) → lexes source tokens → spells tokens x → lexes other others → spells others y → canon x ≡ canon y → IsEqualApart x y }
+    ensures { (source other : List ℕ) (tokens others : List Placed) (x y : Tree)
+        → lexes source tokens → spells tokens x → lexes other others → spells others y
+        → canon x ≡ canon y → IsEqualApart x y }
 {
     cal_lexer::one_list();
     cal_parser::one_tree();

@@ -93,7 +93,8 @@ fn print_procedure(p: &Procedure, out: &mut Writer) -> Result<(), Memory>
 
 /// Prints members one behind the other, each variable with a `;` behind it.
 pub(crate) fn print_members(members: &[Member], out: &mut Writer) -> Result<(), Memory>
-    ensures { IfOk result (λ _. out.new ≡ out.old ++ text_of (each_member (listed (map member_tree members.now)))) }
+    ensures { IfOk result (λ _. out.new
+        ≡ out.old ++ text_of (each_member (listed (map member_tree members.now)))) }
 {
     for member in members {
         print_member(member, out)?;
@@ -103,7 +104,8 @@ pub(crate) fn print_members(members: &[Member], out: &mut Writer) -> Result<(), 
 
 /// Prints a member, a variable with a `;` behind it.
 fn print_member(member: &Member, out: &mut Writer) -> Result<(), Memory>
-    ensures { IfOk result (λ _. out.new ≡ out.old ++ text_of (each_member (listed (member_tree member.now ∷ [])))) }
+    ensures { IfOk result (λ _. out.new
+        ≡ out.old ++ text_of (each_member (listed (member_tree member.now ∷ [])))) }
 {
     match member {
         Member::Var(v) => {

@@ -30,7 +30,8 @@ pub(crate) trait Part {
 
 /// Prints parts one behind the other.
 pub(crate) fn print_each<T: Part>(parts: &[T], out: &mut Writer) -> Result<(), Memory>
-    ensures { IfOk result (λ _. out.new ≡ out.old ++ text_of (words (listed (map T.tree parts.now)))) }
+    ensures { IfOk result (λ _. out.new
+        ≡ out.old ++ text_of (words (listed (map T.tree parts.now)))) }
 {
     for part in parts {
         part.print(out)?;
@@ -40,7 +41,8 @@ pub(crate) fn print_each<T: Part>(parts: &[T], out: &mut Writer) -> Result<(), M
 
 /// Prints parts with a mark between each two.
 pub(crate) fn print_joined<T: Part>(parts: &[T], mark: Word, out: &mut Writer) -> Result<(), Memory>
-    ensures { IfOk result (λ _. out.new ≡ out.old ++ text_of (joined (lexeme_of mark) (listed (map T.tree parts.now)))) }
+    ensures { IfOk result (λ _. out.new
+        ≡ out.old ++ text_of (joined (lexeme_of mark) (listed (map T.tree parts.now)))) }
 {
     let Some((first, others)) = parts.split_first() else {
         return Ok(());
@@ -59,7 +61,9 @@ pub(crate) fn print_introduced<T: Part>(
     parts: &[T],
     out: &mut Writer,
 ) -> Result<(), Memory>
-    ensures { IfOk result (λ _. out.new ≡ out.old ++ text_of (where_any (listed (map T.tree parts.now)) (lexeme_of word ∷ joined Lexeme.Comma (listed (map T.tree parts.now))))) }
+    ensures { IfOk result (λ _. out.new
+        ≡ out.old ++ text_of (where_any (listed (map T.tree parts.now))
+        (lexeme_of word ∷ joined Lexeme.Comma (listed (map T.tree parts.now))))) }
 {
     if parts.is_empty() {
         return Ok(());
@@ -71,7 +75,8 @@ pub(crate) fn print_introduced<T: Part>(
 
 /// Prints a part and a colon, or nothing if it is missing.
 pub(crate) fn print_label<T: Part>(part: &Option<T>, out: &mut Writer) -> Result<(), Memory>
-    ensures { IfOk result (λ _. out.new ≡ out.old ++ text_of (label (optional (option_map T.tree part.now)))) }
+    ensures { IfOk result (λ _. out.new
+        ≡ out.old ++ text_of (label (optional (option_map T.tree part.now)))) }
 {
     match part {
         Some(part) => {
@@ -85,7 +90,8 @@ pub(crate) fn print_label<T: Part>(part: &Option<T>, out: &mut Writer) -> Result
 
 /// Prints an expression behind a word, or nothing if it is missing.
 pub(crate) fn print_under(word: Word, e: &Option<Expr>, out: &mut Writer) -> Result<(), Memory>
-    ensures { IfOk result (λ _. out.new ≡ out.old ++ text_of (under (lexeme_of word) (optional_expr e.now))) }
+    ensures { IfOk result (λ _. out.new
+        ≡ out.old ++ text_of (under (lexeme_of word) (optional_expr e.now))) }
 {
     match e {
         Some(e) => {

@@ -66,7 +66,8 @@ pub(crate) fn print_stmt(stmt: &Stmt, out: &mut Writer) -> Result<(), Memory>
 /// Prints statements one behind the other.
 #[cycle(print_stmt)]
 pub(crate) fn print_stmts(stmts: &[Stmt], out: &mut Writer) -> Result<(), Memory>
-    ensures { IfOk result (λ _. out.new ≡ out.old ++ text_of (words (listed (map stmt_tree stmts.now)))) }
+    ensures { IfOk result (λ _. out.new
+        ≡ out.old ++ text_of (words (listed (map stmt_tree stmts.now)))) }
 {
     for stmt in stmts {
         print_stmt(stmt, out)?;
@@ -81,7 +82,8 @@ pub(crate) fn print_body(
     body: &Option<Vec<Stmt>>,
     out: &mut Writer,
 ) -> Result<(), Memory>
-    ensures { IfOk result (λ _. out.new ≡ out.old ++ text_of (under (lexeme_of word) (body_tree body.now))) }
+    ensures { IfOk result (λ _. out.new
+        ≡ out.old ++ text_of (under (lexeme_of word) (body_tree body.now))) }
 {
     match body {
         Some(stmts) => {
@@ -94,7 +96,9 @@ pub(crate) fn print_body(
 
 /// Prints `name [ place ] .. := value ;`.
 fn print_assign(name: &Ident, places: &[Expr], value: &Expr, out: &mut Writer) -> Result<(), Memory>
-    ensures { IfOk result (λ _. out.new ≡ out.old ++ text_of (words (assign (ident_tree name.now) (listed (map expr_tree places.now)) (expr_tree value.now) 0))) }
+    ensures { IfOk result (λ _. out.new
+        ≡ out.old ++ text_of (words (assign (ident_tree name.now)
+        (listed (map expr_tree places.now)) (expr_tree value.now) 0))) }
 {
     print_ident(name, out)?;
     print_places(places, out)?;
@@ -104,7 +108,8 @@ fn print_assign(name: &Ident, places: &[Expr], value: &Expr, out: &mut Writer) -
 
 /// Prints each index of an assigned place in brackets.
 fn print_places(places: &[Expr], out: &mut Writer) -> Result<(), Memory>
-    ensures { IfOk result (λ _. out.new ≡ out.old ++ text_of (each_place (listed (map expr_tree places.now)))) }
+    ensures { IfOk result (λ _. out.new
+        ≡ out.old ++ text_of (each_place (listed (map expr_tree places.now)))) }
 {
     for place in places {
         print_between(Word::LeftBracket, place, Word::RightBracket, out)?;
@@ -114,7 +119,9 @@ fn print_places(places: &[Expr], out: &mut Writer) -> Result<(), Memory>
 
 /// Prints `name ( args ) ;`.
 fn print_call(name: &Ident, args: &[Expr], out: &mut Writer) -> Result<(), Memory>
-    ensures { IfOk result (λ _. out.new ≡ out.old ++ text_of (words (call_stmt (ident_tree name.now) (listed (map expr_tree args.now)) 0))) }
+    ensures { IfOk result (λ _. out.new
+        ≡ out.old ++ text_of (words (call_stmt (ident_tree name.now)
+        (listed (map expr_tree args.now)) 0))) }
 {
     print_ident(name, out)?;
     print_listed(Word::LeftParen, args, Word::RightParen, out)?;
@@ -130,7 +137,10 @@ fn print_foreach(
     to: &Expr,
     out: &mut Writer,
 ) -> Result<(), Memory>
-    ensures { IfOk result (λ _. out.new ≡ out.old ++ text_of (Lexeme.Foreach ∷ words (type_tree shape.now) ++ words (ident_tree name.now) ++ (Lexeme.In ∷ words (expr_tree from.now) ++ (Lexeme.DotDot ∷ words (expr_tree to.now) ++ (Lexeme.Do ∷ []))))) }
+    ensures { IfOk result (λ _. out.new
+        ≡ out.old ++ text_of (Lexeme.Foreach ∷ words (type_tree shape.now) ++ words
+        (ident_tree name.now) ++ (Lexeme.In ∷ words (expr_tree from.now) ++
+        (Lexeme.DotDot ∷ words (expr_tree to.now) ++ (Lexeme.Do ∷ []))))) }
 {
     out.put(Word::Foreach)?;
     print_type(shape, out)?;
@@ -143,7 +153,9 @@ fn print_foreach(
 
 /// Prints `var vars do`, or nothing if there are no variables.
 fn print_block_vars(vars: &[VarDecl], out: &mut Writer) -> Result<(), Memory>
-    ensures { IfOk result (λ _. out.new ≡ out.old ++ text_of (where_any (listed (map var_tree vars.now)) (Lexeme.Var ∷ joined Lexeme.Comma (listed (map var_tree vars.now)) ++ (Lexeme.Do ∷ [])))) }
+    ensures { IfOk result (λ _. out.new
+        ≡ out.old ++ text_of (where_any (listed (map var_tree vars.now))
+        (Lexeme.Var ∷ joined Lexeme.Comma (listed (map var_tree vars.now)) ++ (Lexeme.Do ∷ [])))) }
 {
     if vars.is_empty() {
         return Ok(());

@@ -27,7 +27,8 @@ impl Model for ChannelWriter {
 
     ghost view = { λ w. w.pending.items };
 
-    ghost invariant = { λ w. (PIECE_BYTES ≤ vec_capacity w.pending) × (vec_len w.pending ≤ PIECE_BYTES) };
+    ghost invariant = { λ w. (PIECE_BYTES ≤ vec_capacity w.pending)
+        × (vec_len w.pending ≤ PIECE_BYTES) };
 }
 
 impl ChannelWriter {

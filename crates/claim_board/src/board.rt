@@ -37,9 +37,18 @@ impl<P: Piece> Model for Board<P> {
 
     ghost Value = { BoardSeen P };
 
-    ghost view = { λ b. record { id = b.table.shared.table_id; put = b.table.shared.key.put.value.items; passes = b.table.shared.key.passes } };
+    ghost view = { λ b. record {
+      id = b.table.shared.table_id;
+      put = b.table.shared.key.put.value.items;
+      passes = b.table.shared.key.passes;
+    } };
 
-    ghost invariant = { λ b. (b.table.shared.table_id.words ≡ 1) × (b.table.shared.table_id.slots ≡ length b.table.shared.key.put.value.items + 1) × (b.places ≡ length b.table.shared.key.put.value.items) × (length b.table.shared.key.put.value.items < 2 ^ 32) × (1 ≤ b.table.shared.key.passes) × (b.table.shared.key.passes < 2 ^ 32) × All (λ p. P.marked p ≡ false) b.table.shared.key.put.value.items };
+    ghost invariant = { λ b. (b.table.shared.table_id.words ≡ 1)
+        × (b.table.shared.table_id.slots ≡ length b.table.shared.key.put.value.items + 1)
+        × (b.places ≡ length b.table.shared.key.put.value.items)
+        × (length b.table.shared.key.put.value.items < 2 ^ 32) × (1 ≤ b.table.shared.key.passes)
+        × (b.table.shared.key.passes < 2 ^ 32)
+        × All (λ p. P.marked p ≡ false) b.table.shared.key.put.value.items };
 }
 
 impl<P: Piece> Board<P> {
@@ -130,11 +139,16 @@ impl<P: Piece> Board<P> {
         requires all { length passes.items ≡ self.passes }
         requires free { All (λ pass. pass.held ≡ None) passes.items }
         ensures places { length result.items ≡ length self.put }
-        ensures each { AtEachPlace (λ place piece. IsWorked P.state P.marked P.gives self.put place piece ⊎ IsAsPut P.state P.marked self.put place piece) result.items }
-        ensures drawn { AtEachPlace (λ place piece. 0 < times_drawn place passes.items → IsWorked P.state P.marked P.gives self.put place piece) result.items }
-        ensures left { AtEachPlace (λ place piece. times_drawn place passes.items ≡ 0 → slice_get self.put place ≡ Some piece) result.items }
+        ensures each { AtEachPlace (λ place piece. IsWorked P.state P.marked P.gives self.put place
+            piece ⊎ IsAsPut P.state P.marked self.put place piece) result.items }
+        ensures drawn { AtEachPlace (λ place piece. 0 < times_drawn place passes.items
+            → IsWorked P.state P.marked P.gives self.put place piece) result.items }
+        ensures left { AtEachPlace (λ place piece. times_drawn place passes.items ≡ 0
+            → slice_get self.put place ≡ Some piece) result.items }
         ensures once { EachDrawnOnce self.put passes.items }
-        ensures ended { Any (λ pass. pass.ended ≡ true) passes.items → AtEachPlace (λ place piece. IsWorked P.state P.marked P.gives self.put place piece) result.items }
+        ensures ended { Any (λ pass. pass.ended ≡ true) passes.items
+            → AtEachPlace (λ place piece. IsWorked P.state P.marked P.gives self.put place piece)
+            result.items }
     {
         let Board { table, places } = self;
         let seat = gather(&table.shared, passes);

@@ -26,7 +26,9 @@ pub(crate) fn deal<P: Piece>(
     requires some { 1 ≤ passes }
     requires room { (list.items ≡ []) × (passes ≤ vec_capacity list) }
     ensures count { length result.items ≡ passes }
-    ensures new { All (λ pass. pass ≡ new_pass (board_at shared.now.table_id shared.now.key.put.value.items passes)) result.items }
+    ensures new { All (λ pass. pass
+        ≡ new_pass (board_at shared.now.table_id shared.now.key.put.value.items passes))
+        result.items }
 {
     for _ in 1..passes {
         list.push_reserved(Pass {
@@ -45,7 +47,9 @@ pub(crate) fn gather<P: Piece>(
 ) -> Seat<Slot<P>, View<P>>
     requires words { 0 < shared.now.table_id.words }
     requires some { 0 < length passes.items }
-    requires own { All (λ pass. IsPassOf (board_at shared.now.table_id shared.now.key.put.value.items (length passes.items)) pass) passes.items }
+    requires own { All (λ pass. IsPassOf
+        (board_at shared.now.table_id shared.now.key.put.value.items (length passes.items)) pass)
+        passes.items }
     requires free { All (λ pass. pass.held ≡ None) passes.items }
     ensures table { result.table_id ≡ shared.now.table_id }
     ensures all { Gathered shared.now.key.put.value.items passes.items result.me }

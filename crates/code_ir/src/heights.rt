@@ -38,8 +38,11 @@ pub(crate) enum Passed {
 /// Marks a place with a height. A place that had none is to be worked on.
 fn mark(heights: &mut Vec<Option<u32>>, work: &mut Vec<u32>, place: u32, height: u32) -> Marked
     requires { place < length heights.old.items }
-    ensures marked { MatchMarked result (IsMarked heights.new.items place height) (Differs heights.old.items place height) }
-    ensures grows { MatchMarked result (Grows (λ q k. (q ≡ place) × (k ≡ height)) heights.old.items heights.new.items work.old.items work.new.items) (Differs heights.old.items place height) }
+    ensures marked { MatchMarked result (IsMarked heights.new.items place height)
+        (Differs heights.old.items place height) }
+    ensures grows { MatchMarked result
+        (Grows (λ q k. (q ≡ place) × (k ≡ height)) heights.old.items heights.new.items
+        work.old.items work.new.items) (Differs heights.old.items place height) }
 {
     match heights[place as usize] {
         Some(other) => {
@@ -61,9 +64,11 @@ fn mark(heights: &mut Vec<Option<u32>>, work: &mut Vec<u32>, place: u32, height:
 
 /// Whether a routine's body that ends here has the height of its results.
 fn leaves_results(code: &ActorCode, bodies: &[u32], place: u32, height: u32, instr: &Instr) -> bool
-    requires table { IsTableOf (length code.now.instrs.items) (body_of (code_of code.now)) bodies.now }
+    requires table { IsTableOf (length code.now.instrs.items)
+        (body_of (code_of code.now)) bodies.now }
     requires inside { place < length code.now.instrs.items }
-    ensures { MatchBool result (LeavesResults (code_of code.now) place height instr.now) (¬ LeavesResults (code_of code.now) place height instr.now) }
+    ensures { MatchBool result (LeavesResults (code_of code.now) place height instr.now)
+        (¬ LeavesResults (code_of code.now) place height instr.now) }
 {
     match instr {
         Instr::Return => {
@@ -84,8 +89,13 @@ fn pass_to_next(
 ) -> Passed
     requires inside { goes_on instr.now ≡ true → place + 1 < length heights.old.items }
     requires small { place < 4294967295 }
-    ensures passed { MatchPassed result (goes_on instr.now ≡ true → IsMarked heights.new.items (place + 1) height) (λ at. (at ≡ place + 1) × (goes_on instr.now ≡ true) × Differs heights.old.items (place + 1) height) }
-    ensures grows { MatchPassed result (Grows (λ q k. (goes_on instr.now ≡ true) × (q ≡ place + 1) × (k ≡ height)) heights.old.items heights.new.items work.old.items work.new.items) (λ _. Unit {0}) }
+    ensures passed { MatchPassed result
+        (goes_on instr.now ≡ true → IsMarked heights.new.items (place + 1) height)
+        (λ at. (at ≡ place + 1) × (goes_on instr.now ≡ true)
+        × Differs heights.old.items (place + 1) height) }
+    ensures grows { MatchPassed result
+        (Grows (λ q k. (goes_on instr.now ≡ true) × (q ≡ place + 1) × (k ≡ height))
+        heights.old.items heights.new.items work.old.items work.new.items) (λ _. Unit {0}) }
 {
     if !goes_on(instr) {
         return Passed::Done;
@@ -105,8 +115,12 @@ fn pass_to_target(
     height: u32,
 ) -> Passed
     requires inside { (t : ℕ) → target instr.now ≡ Some t → t < length heights.old.items }
-    ensures passed { MatchPassed result ((t : ℕ) → target instr.now ≡ Some t → IsMarked heights.new.items t height) (λ at. (target instr.now ≡ Some at) × Differs heights.old.items at height) }
-    ensures grows { MatchPassed result (Grows (λ q k. (target instr.now ≡ Some q) × (k ≡ height)) heights.old.items heights.new.items work.old.items work.new.items) (λ _. Unit {0}) }
+    ensures passed { MatchPassed result
+        ((t : ℕ) → target instr.now ≡ Some t → IsMarked heights.new.items t height)
+        (λ at. (target instr.now ≡ Some at) × Differs heights.old.items at height) }
+    ensures grows { MatchPassed result
+        (Grows (λ q k. (target instr.now ≡ Some q) × (k ≡ height)) heights.old.items
+        heights.new.items work.old.items work.new.items) (λ _. Unit {0}) }
 {
     match target(instr) {
         None => Passed::Done,
@@ -129,13 +143,19 @@ fn pass_on(
     place: u32,
 ) -> Passed
     requires alone { AllFitAlone (code_of code.now) }
-    requires table { IsTableOf (length code.now.instrs.items) (body_of (code_of code.now)) bodies.now }
+    requires table { IsTableOf (length code.now.instrs.items)
+        (body_of (code_of code.now)) bodies.now }
     requires small { length code.now.instrs.items ≤ 4294967295 }
     requires size { length heights.old.items ≡ length code.now.instrs.items }
     requires sound { (q k : ℕ) → IsMarked heights.old.items q k → Way (code_of code.now) q k }
     requires marked { (h : ℕ) × IsMarked heights.old.items place h }
-    ensures passed { MatchPassed result ((h : ℕ) → IsMarked heights.old.items place h → IsPassedOn (code_of code.now) heights.new.items place h) (IsBadHeight (code_of code.now)) }
-    ensures grows { MatchPassed result (Grows (Way (code_of code.now)) heights.old.items heights.new.items work.old.items work.new.items) (λ _. Unit {0}) }
+    ensures passed { MatchPassed result
+        ((h : ℕ) → IsMarked heights.old.items place h
+        → IsPassedOn (code_of code.now) heights.new.items place h)
+        (IsBadHeight (code_of code.now)) }
+    ensures grows { MatchPassed result
+        (Grows (Way (code_of code.now)) heights.old.items heights.new.items work.old.items
+        work.new.items) (λ _. Unit {0}) }
 {
     let instr = code.instrs[place as usize];
     let Some(height) = heights[place as usize] else {
@@ -163,10 +183,12 @@ fn pass_all(
     bodies: &[u32],
 ) -> Passed
     requires alone { AllFitAlone (code_of code.now) }
-    requires table { IsTableOf (length code.now.instrs.items) (body_of (code_of code.now)) bodies.now }
+    requires table { IsTableOf (length code.now.instrs.items)
+        (body_of (code_of code.now)) bodies.now }
     requires small { length code.now.instrs.items ≤ 4294967295 }
     requires marking { Marking (code_of code.now) heights.old.items work.old.items }
-    ensures { MatchPassed result (Marking (code_of code.now) heights.new.items []) (IsBadHeight (code_of code.now)) }
+    ensures { MatchPassed result (Marking (code_of code.now) heights.new.items [])
+        (IsBadHeight (code_of code.now)) }
 {
     while let Some(place) = work.pop() {
         match pass_on(heights, work, code, bodies, place) {
@@ -187,8 +209,11 @@ fn mark_begins(
     requires none { (q k : ℕ) → ¬ IsMarked heights.old.items q k }
     requires no_work { work.old.items ≡ [] }
     requires inside { (q : ℕ) → is_among q places.now ≡ true → q < length heights.old.items }
-    ensures grows { OnOk result (Grows (λ q k. (k ≡ 0) × (is_among q places.now ≡ true)) heights.old.items heights.new.items [] work.new.items) }
-    ensures begun { OnOk result ((q : ℕ) → is_among q places.now ≡ true → IsMarked heights.new.items q 0) }
+    ensures grows { OnOk result (Grows
+        (λ q k. (k ≡ 0) × (is_among q places.now ≡ true)) heights.old.items heights.new.items []
+        work.new.items) }
+    ensures begun { OnOk result ((q : ℕ) → is_among q places.now ≡ true
+        → IsMarked heights.new.items q 0) }
 {
     for place in places {
         match mark(heights, work, *place, 0) {
@@ -228,9 +253,11 @@ pub(crate) fn find_heights(
     requires places { places.now ≡ begins (code_of code.now) }
     requires stand { PlacesStand (code_of code.now) }
     requires alone { AllFitAlone (code_of code.now) }
-    requires table { IsTableOf (length code.now.instrs.items) (body_of (code_of code.now)) bodies.now }
+    requires table { IsTableOf (length code.now.instrs.items)
+        (body_of (code_of code.now)) bodies.now }
     requires small { length code.now.instrs.items ≤ 4294967295 }
-    ensures ok { IfOk result (λ most. HaveOneHeight (code_of code.now) × ((p h : ℕ) → Way (code_of code.now) p h → h ≤ most)) }
+    ensures ok { IfOk result (λ most. HaveOneHeight (code_of code.now)
+        × ((p h : ℕ) → Way (code_of code.now) p h → h ≤ most)) }
     ensures bad { IfErr result (IsHeightFault (code_of code.now)) }
 {
     let size = code.instrs.len();

@@ -120,7 +120,8 @@ pub(crate) fn pushes(code: &ActorCode, instr: &Instr) -> u32
 /// Whether `Return`, `Answer` and `Done` stand where they may: in a body of routine number `routine`, which is
 /// `routines` for the body of an entry.
 fn stands_in_body(instr: &Instr, routine: usize, routines: usize) -> bool
-    ensures { MatchBool result (StandsInBody routines routine instr.now) (¬ StandsInBody routines routine instr.now) }
+    ensures { MatchBool result (StandsInBody routines routine instr.now)
+        (¬ StandsInBody routines routine instr.now) }
 {
     match instr {
         Instr::Return => routine < routines,
@@ -148,7 +149,8 @@ fn are_cells(first: u32, count: u32, cells: u32) -> bool
 
 /// Whether both ranges are below `cells`.
 fn are_both_cells(first: u32, count: u32, other: u32, others: u32, cells: u32) -> bool
-    ensures { MatchBool result ((first + count ≤ cells) × (other + others ≤ cells)) (¬ ((first + count ≤ cells) × (other + others ≤ cells))) }
+    ensures { MatchBool result ((first + count ≤ cells) × (other + others ≤ cells))
+        (¬ ((first + count ≤ cells) × (other + others ≤ cells))) }
 {
     are_cells(first, count, cells) && are_cells(other, others, cells)
 }
@@ -173,9 +175,11 @@ fn names_cells(instr: &Instr, cells: u32) -> bool
 
 /// Whether a jump from `p` to `t` goes to a place of the same body, and to a `Turn` if it isn't forward.
 fn is_target(code: &ActorCode, bodies: &[u32], p: usize, t: usize) -> bool
-    requires table { IsTableOf (length code.now.instrs.items) (body_of (code_of code.now)) bodies.now }
+    requires table { IsTableOf (length code.now.instrs.items)
+        (body_of (code_of code.now)) bodies.now }
     requires inside { p < length code.now.instrs.items }
-    ensures { MatchBool result (IsTarget (code_of code.now) p t) (¬ IsTarget (code_of code.now) p t) }
+    ensures { MatchBool result (IsTarget (code_of code.now) p t)
+        (¬ IsTarget (code_of code.now) p t) }
 {
     if t >= code.instrs.len() || bodies[t] != bodies[p] {
         return false;
@@ -185,9 +189,11 @@ fn is_target(code: &ActorCode, bodies: &[u32], p: usize, t: usize) -> bool
 
 /// Whether the jump of the instruction at `p`, if it is one, goes where it may.
 fn jumps_inside(code: &ActorCode, bodies: &[u32], p: usize, instr: &Instr) -> bool
-    requires table { IsTableOf (length code.now.instrs.items) (body_of (code_of code.now)) bodies.now }
+    requires table { IsTableOf (length code.now.instrs.items)
+        (body_of (code_of code.now)) bodies.now }
     requires inside { p < length code.now.instrs.items }
-    ensures { MatchBool result (JumpsInside (code_of code.now) p instr.now) (¬ JumpsInside (code_of code.now) p instr.now) }
+    ensures { MatchBool result (JumpsInside (code_of code.now) p instr.now)
+        (¬ JumpsInside (code_of code.now) p instr.now) }
 {
     match *instr {
         Instr::Jump(t) => is_target(code, bodies, p, t as usize),
@@ -200,7 +206,8 @@ fn jumps_inside(code: &ActorCode, bodies: &[u32], p: usize, instr: &Instr) -> bo
 fn stays_inside(code: &ActorCode, places: &[u32], p: usize, instr: &Instr) -> bool
     requires places { places.now ≡ begins (code_of code.now) }
     requires small { p < 4294967295 }
-    ensures { MatchBool result (StaysInside (code_of code.now) p instr.now) (¬ StaysInside (code_of code.now) p instr.now) }
+    ensures { MatchBool result (StaysInside (code_of code.now) p instr.now)
+        (¬ StaysInside (code_of code.now) p instr.now) }
 {
     if !goes_on(instr) {
         return true;
@@ -211,10 +218,12 @@ fn stays_inside(code: &ActorCode, places: &[u32], p: usize, instr: &Instr) -> bo
 /// Whether the instruction at `p` meets each line but that of heights.
 pub(crate) fn fits_alone(code: &ActorCode, places: &[u32], bodies: &[u32], p: usize) -> bool
     requires places { places.now ≡ begins (code_of code.now) }
-    requires table { IsTableOf (length code.now.instrs.items) (body_of (code_of code.now)) bodies.now }
+    requires table { IsTableOf (length code.now.instrs.items)
+        (body_of (code_of code.now)) bodies.now }
     requires inside { p < length code.now.instrs.items }
     requires small { p < 4294967295 }
-    ensures { (i : TheInstr) → slice_get code.now.instrs.items p ≡ Some i → MatchBool result (FitsAlone (code_of code.now) p i) (¬ FitsAlone (code_of code.now) p i) }
+    ensures { (i : TheInstr) → slice_get code.now.instrs.items p ≡ Some i
+        → MatchBool result (FitsAlone (code_of code.now) p i) (¬ FitsAlone (code_of code.now) p i) }
 {
     let instr = code.instrs[p];
     let routine = routine_at(&code.routines, bodies[p]);
@@ -228,7 +237,8 @@ pub(crate) fn fits_alone(code: &ActorCode, places: &[u32], bodies: &[u32], p: us
 /// The first place whose instruction breaks a line other than that of heights.
 pub(crate) fn first_unfit(code: &ActorCode, places: &[u32], bodies: &[u32]) -> Option<u32>
     requires places { places.now ≡ begins (code_of code.now) }
-    requires table { IsTableOf (length code.now.instrs.items) (body_of (code_of code.now)) bodies.now }
+    requires table { IsTableOf (length code.now.instrs.items)
+        (body_of (code_of code.now)) bodies.now }
     requires small { length code.now.instrs.items ≤ 4294967295 }
     ensures { MatchOption result (AllFitAlone (code_of code.now)) (IsUnfit (code_of code.now)) }
 {

@@ -51,7 +51,8 @@ pub(crate) fn bodies(
     places: &[u32],
 ) -> Result<Vec<u32>, AllocError>
     requires { places.now ≡ begins (code_of code.now) }
-    ensures { IfOk result (λ v. IsTableOf (length code.now.instrs.items) (body_of (code_of code.now)) v.items) }
+    ensures { IfOk result (λ v. IsTableOf (length code.now.instrs.items)
+        (body_of (code_of code.now)) v.items) }
 {
     let size = code.instrs.len();
     let mut bodies = Vec::new(alloc);

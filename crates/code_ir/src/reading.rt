@@ -21,7 +21,8 @@ fn are_below(count: u32, k: u32, m: u32, n: u32) -> bool
 
 /// Whether each token that the instruction may read is there.
 fn names_tokens<T: Tokens>(instr: &Instr, tokens: &T) -> bool
-    ensures { MatchBool result (NamesTokens (T.tokens tokens.now) instr.now) (¬ NamesTokens (T.tokens tokens.now) instr.now) }
+    ensures { MatchBool result (NamesTokens (T.tokens tokens.now) instr.now)
+        (¬ NamesTokens (T.tokens tokens.now) instr.now) }
 {
     match *instr {
         Instr::Token(p, k) => k < tokens.count(p),
@@ -34,8 +35,11 @@ fn names_tokens<T: Tokens>(instr: &Instr, tokens: &T) -> bool
 /// Whether each token is there that an instruction of the code may read, whatever its operands are. Each run of
 /// the code then has its tokens.
 pub fn has_tokens<T: Tokens>(code: &Admitted, tokens: &T) -> bool
-    ensures named { MatchBool result (AllNameTokens (T.tokens tokens.now) code.now.instrs) (¬ AllNameTokens (T.tokens tokens.now) code.now.instrs) }
-    ensures read { MatchBool result ((entry : ℕ) (cells : List ℤ) → HasItsTokens code.now entry cells (T.tokens tokens.now)) (Unit {0}) }
+    ensures named { MatchBool result (AllNameTokens (T.tokens tokens.now) code.now.instrs)
+        (¬ AllNameTokens (T.tokens tokens.now) code.now.instrs) }
+    ensures read { MatchBool result
+        ((entry : ℕ) (cells : List ℤ) → HasItsTokens code.now entry cells (T.tokens tokens.now))
+        (Unit {0}) }
 {
     for instr in code.instrs() {
         if !names_tokens(instr, tokens) {

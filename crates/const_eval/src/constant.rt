@@ -49,10 +49,15 @@ pub enum ConstFault {
 /// that the items of each list among the constants are of one kind, and that no function calls itself, directly or
 /// indirectly.
 pub fn eval_const(alloc: Global, env: &Env, e: &Expr) -> Result<Value, ConstFault>
-    ensures value { IfOk result (λ value. (left : ℕ) × (value_of (expr_tree e.now) (held env.now) ≡ Gives (value_view value) left)) }
-    ensures trap { (c : Trap) → IsErrOf result (ConstFault.Trap c) → value_of (expr_tree e.now) (held env.now) ≡ Traps c }
-    ensures no_value { IsErrOf result ConstFault.NotConstant → HasNoValue (value_of (expr_tree e.now) (held env.now)) }
-    ensures not_constant { IsErrOf result ConstFault.NotConstant → IsEvaluable (held env.now) (expr_tree e.now) → value_of (expr_tree e.now) (held env.now) ≡ Lacks }
+    ensures value { IfOk result (λ value. (left : ℕ)
+        × (value_of (expr_tree e.now) (held env.now) ≡ Gives (value_view value) left)) }
+    ensures trap { (c : Trap) → IsErrOf result (ConstFault.Trap c)
+        → value_of (expr_tree e.now) (held env.now) ≡ Traps c }
+    ensures no_value { IsErrOf result ConstFault.NotConstant
+        → HasNoValue (value_of (expr_tree e.now) (held env.now)) }
+    ensures not_constant { IsErrOf result ConstFault.NotConstant
+        → IsEvaluable (held env.now) (expr_tree e.now)
+        → value_of (expr_tree e.now) (held env.now) ≡ Lacks }
 {
     never_clashes();
     let scope = Scope::outermost(alloc, env);
@@ -77,8 +82,10 @@ pub fn eval_const(alloc: Global, env: &Env, e: &Expr) -> Result<Value, ConstFaul
 /// of a generator or the size of a type traps or isn't constant. `Memory` if memory runs out, or if a constant is a
 /// list of more items than a kind can say.
 pub fn kind_const(alloc: Global, env: &Env, e: &Expr) -> Result<Kind, KindFault>
-    ensures kind { IfOk result (λ found. kind (expr_tree e.now) (names_of (held env.now)) ≡ Fine (kind_view found)) }
-    ensures broken { (rule : Rule) (at : ℕ) → IsErrOf result (KindFault.Broken rule at) → kind (expr_tree e.now) (names_of (held env.now)) ≡ Broken rule at }
+    ensures kind { IfOk result (λ found. kind (expr_tree e.now) (names_of (held env.now))
+        ≡ Fine (kind_view found)) }
+    ensures broken { (rule : Rule) (at : ℕ) → IsErrOf result (KindFault.Broken rule at)
+        → kind (expr_tree e.now) (names_of (held env.now)) ≡ Broken rule at }
 {
     let names = Names {
         alloc,

@@ -42,7 +42,10 @@ pub(crate) fn entry(
     args: &[Value],
 ) -> Result<Vec<Value>, Stop>
     requires { are_sized (map local_view formals.now) ≡ true }
-    ensures { (left : ℕ) → Evaluates (λ kept. frame formals.now kept.items) result left (needed (arguments (map local_view formals.now) (in_order (map value_view args.now))) left) }
+    ensures { (left : ℕ) → Evaluates
+        (λ kept. frame formals.now kept.items) result left
+        (needed (arguments (map local_view formals.now) (in_order (map value_view args.now)))
+        left) }
 {
     if formals.len() != args.len() {
         return Err(Stop::Clashes);

@@ -38,7 +38,8 @@ impl Model for Env {
 
     ghost view = { λ env. record { values = env.values.items; funs = env.funs.items } };
 
-    ghost invariant = { λ env. (are_counted (map constant_view env.values.items) ≡ true) × (are_sized_funs (map fun_view env.funs.items) ≡ true) };
+    ghost invariant = { λ env. (are_counted (map constant_view env.values.items) ≡ true)
+        × (are_sized_funs (map fun_view env.funs.items) ≡ true) };
 }
 
 impl Env {
@@ -83,7 +84,9 @@ impl Env {
     pub fn add_value(&mut self, name: &str, value: Value) -> Result<(), Memory>
         requires new { has_value name.now (held self.old).values ≡ false }
         requires counted { is_counted (value_view value) ≡ true }
-        ensures added { OnOk result ((held self.new).values ≡ (held self.old).values ++ (record { name = name.now; value = value_view value }) ∷ []) }
+        ensures added { OnOk result ((held self.new).values
+            ≡ (held self.old).values ++ (record { name = name.now; value = value_view value }) ∷
+            []) }
         ensures same_funs { (held self.new).funs ≡ (held self.old).funs }
         ensures memory { OnErr result (held self.new ≡ held self.old) }
     {
@@ -102,7 +105,8 @@ impl Env {
     pub fn add_fun(&mut self, fun: BoundFun) -> Result<(), Memory>
         requires new { has_fun (string_bytes fun.name) (held self.old).funs ≡ false }
         requires sized { is_sized_fun (fun_view fun) ≡ true }
-        ensures added { OnOk result ((held self.new).funs ≡ (held self.old).funs ++ fun_view fun ∷ []) }
+        ensures added { OnOk result ((held self.new).funs
+            ≡ (held self.old).funs ++ fun_view fun ∷ []) }
         ensures same_values { (held self.new).values ≡ (held self.old).values }
         ensures memory { OnErr result (held self.new ≡ held self.old) }
     {
@@ -119,7 +123,8 @@ impl Env {
 
     /// The constant of the name.
     pub(crate) fn value(&self, name: &str) -> Option<&Value>
-        ensures is { option_map (λ v. value_view v.now) result ≡ constant_named name.now (held self.now).values }
+        ensures is { option_map (λ v. value_view v.now) result
+            ≡ constant_named name.now (held self.now).values }
         ensures counted { IfSome result (λ v. is_counted (value_view v.now) ≡ true) }
     {
         value_in(name, &self.values)
@@ -127,7 +132,8 @@ impl Env {
 
     /// The function of the name.
     pub(crate) fn fun(&self, name: &str) -> Option<&BoundFun>
-        ensures is { option_map (λ f. fun_view f.now) result ≡ fun_named name.now (held self.now).funs }
+        ensures is { option_map (λ f. fun_view f.now) result
+            ≡ fun_named name.now (held self.now).funs }
         ensures sized { IfSome result (λ f. is_sized_fun (fun_view f.now) ≡ true) }
     {
         fun_in(name, &self.funs)

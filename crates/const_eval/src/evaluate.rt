@@ -30,7 +30,8 @@ use rvc_base::{MAX_TURNS, Num, Scalar};
 /// The value of an expression, with so many turns left.
 #[cycle(eval)]
 pub(crate) fn eval(scope: &Scope, e: &Expr, left: &mut u32) -> Result<Value, Stop>
-    ensures { Evaluates value_view result left.new (eval (expr_tree e.now) (calls scope.now) (seen scope.now) left.old) }
+    ensures { Evaluates value_view result left.new
+        (eval (expr_tree e.now) (calls scope.now) (seen scope.now) left.old) }
 {
     match &e.form {
         ExprForm::Number(number) => literal(*number),
@@ -57,7 +58,8 @@ pub(crate) fn eval(scope: &Scope, e: &Expr, left: &mut u32) -> Result<Value, Sto
 /// The values of expressions in order.
 #[cycle(eval)]
 fn eval_all(scope: &Scope, exprs: &[Expr], left: &mut u32) -> Result<Vec<Value>, Stop>
-    ensures { Evaluates (λ values. in_order (map value_view values.items)) result left.new (eval_all (listed (map expr_tree exprs.now)) (calls scope.now) (seen scope.now) left.old) }
+    ensures { Evaluates (λ values. in_order (map value_view values.items)) result left.new
+        (eval_all (listed (map expr_tree exprs.now)) (calls scope.now) (seen scope.now) left.old) }
 {
     let mut items = Vec::new(scope.alloc);
     for e in exprs {
@@ -70,7 +72,9 @@ fn eval_all(scope: &Scope, exprs: &[Expr], left: &mut u32) -> Result<Vec<Value>,
 /// The list of the values of expressions.
 #[cycle(eval)]
 fn eval_list(scope: &Scope, exprs: &[Expr], left: &mut u32) -> Result<Value, Stop>
-    ensures { Evaluates value_view result left.new (eval (tree.list (listed (map expr_tree exprs.now)) 0) (calls scope.now) (seen scope.now) left.old) }
+    ensures { Evaluates value_view result left.new
+        (eval (tree.list (listed (map expr_tree exprs.now)) 0) (calls scope.now)
+        (seen scope.now) left.old) }
 {
     let items = eval_all(scope, exprs, left)?;
     Ok(list_of(items))
@@ -79,7 +83,9 @@ fn eval_list(scope: &Scope, exprs: &[Expr], left: &mut u32) -> Result<Value, Sto
 /// A condition, and then the branch that it chooses.
 #[cycle(eval)]
 fn eval_if(scope: &Scope, test: &Expr, yes: &Expr, no: &Expr, left: &mut u32) -> Result<Value, Stop>
-    ensures { Evaluates value_view result left.new (eval (tree.if_expr (expr_tree test.now) (expr_tree yes.now) (expr_tree no.now) 0) (calls scope.now) (seen scope.now) left.old) }
+    ensures { Evaluates value_view result left.new
+        (eval (tree.if_expr (expr_tree test.now) (expr_tree yes.now) (expr_tree no.now) 0)
+        (calls scope.now) (seen scope.now) left.old) }
 {
     match eval(scope, test, left)? {
         Value::Bool(true) => eval(scope, yes, left),
@@ -92,7 +98,9 @@ fn eval_if(scope: &Scope, test: &Expr, yes: &Expr, no: &Expr, left: &mut u32) ->
 /// A list, the place in it, and then what stands there.
 #[cycle(eval)]
 fn eval_index(scope: &Scope, base: &Expr, place: &Expr, left: &mut u32) -> Result<Value, Stop>
-    ensures { Evaluates value_view result left.new (eval (tree.index (expr_tree base.now) (expr_tree place.now) 0) (calls scope.now) (seen scope.now) left.old) }
+    ensures { Evaluates value_view result left.new
+        (eval (tree.index (expr_tree base.now) (expr_tree place.now) 0) (calls scope.now)
+        (seen scope.now) left.old) }
 {
     let base = eval(scope, base, left)?;
     let place = eval(scope, place, left)?;
@@ -109,7 +117,9 @@ fn eval_binary(
     second: &Expr,
     left: &mut u32,
 ) -> Result<Value, Stop>
-    ensures { Evaluates value_view result left.new (eval (tree.binary op (expr_tree first.now) (expr_tree second.now) 0) (calls scope.now) (seen scope.now) left.old) }
+    ensures { Evaluates value_view result left.new
+        (eval (tree.binary op (expr_tree first.now) (expr_tree second.now) 0) (calls scope.now)
+        (seen scope.now) left.old) }
 {
     let first = eval(scope, first, left)?;
     if decides(op, &first) {
@@ -124,7 +134,9 @@ fn eval_binary(
 /// The arguments, one turn, and then the function.
 #[cycle(eval)]
 fn eval_call(scope: &Scope, name: &str, args: &[Expr], left: &mut u32) -> Result<Value, Stop>
-    ensures { Evaluates value_view result left.new (eval (tree.call name.now (listed (map expr_tree args.now)) 0) (calls scope.now) (seen scope.now) left.old) }
+    ensures { Evaluates value_view result left.new
+        (eval (tree.call name.now (listed (map expr_tree args.now)) 0) (calls scope.now)
+        (seen scope.now) left.old) }
 {
     let values = eval_all(scope, args, left)?;
     turn(left)?;
@@ -134,7 +146,9 @@ fn eval_call(scope: &Scope, name: &str, args: &[Expr], left: &mut u32) -> Result
 /// What the function of the name gives for arguments.
 #[cycle(eval)]
 fn called(scope: &Scope, name: &str, args: &[Value], left: &mut u32) -> Result<Value, Stop>
-    ensures { Evaluates value_view result left.new (calls scope.now (seen scope.now).globals name.now (in_order (map value_view args.now)) left.old) }
+    ensures { Evaluates value_view result left.new
+        (calls scope.now (seen scope.now).globals name.now
+        (in_order (map value_view args.now)) left.old) }
 {
     if scope.depth == 0 {
         return Err(Stop::Lacks);
@@ -157,7 +171,10 @@ fn answer(
 ) -> Result<Value, Stop>
     requires result { is_size fun.now.result ≡ true }
     requires locals { are_sized (map local_view locals.now) ≡ true }
-    ensures { Evaluates value_view result left.new (and_then (declared (map local_view locals.now) (calls scope.now) (seen scope.now) left.old) (λ env m. and_then (eval (expr_tree fun.now.body) (calls scope.now) env m) (λ v k. Gives (stored (Single fun.now.result) v) k))) }
+    ensures { Evaluates value_view result left.new
+        (and_then (declared (map local_view locals.now) (calls scope.now) (seen scope.now) left.old)
+        (λ env m. and_then (eval (expr_tree fun.now.body) (calls scope.now) env m)
+        (λ v k. Gives (stored (Single fun.now.result) v) k))) }
 {
     let Some((first, others)) = locals.split_first() else {
         let value = eval(scope, &fun.body, left)?;
@@ -176,7 +193,9 @@ fn answer(
 #[cycle(eval)]
 fn first_value(scope: &Scope, local: &BoundLocal, left: &mut u32) -> Result<Value, Stop>
     requires { is_sized (shape_view local.now.shape) ≡ true }
-    ensures { Evaluates value_view result left.new (first_value (local_view local.now).shape (local_view local.now).start (calls scope.now) (seen scope.now) left.old) }
+    ensures { Evaluates value_view result left.new
+        (first_value (local_view local.now).shape (local_view local.now).start (calls scope.now)
+        (seen scope.now) left.old) }
 {
     match &local.start {
         None => Ok(zero_of(scope.alloc, &local.shape)?),
@@ -192,7 +211,9 @@ fn first_value(scope: &Scope, local: &BoundLocal, left: &mut u32) -> Result<Valu
 /// The list of the elements of a comprehension.
 #[cycle(eval)]
 fn eval_comp(scope: &Scope, item: &Expr, gens: &[Gen], left: &mut u32) -> Result<Value, Stop>
-    ensures { Evaluates value_view result left.new (eval (tree.comp (expr_tree item.now) (listed (map gen_tree gens.now)) 0) (calls scope.now) (seen scope.now) left.old) }
+    ensures { Evaluates value_view result left.new
+        (eval (tree.comp (expr_tree item.now) (listed (map gen_tree gens.now)) 0) (calls scope.now)
+        (seen scope.now) left.old) }
 {
     let mut items = Vec::new(scope.alloc);
     elements(scope, item, gens, &mut items, left)?;
@@ -208,7 +229,11 @@ fn elements(
     found: &mut Vec<Value>,
     left: &mut u32,
 ) -> Result<(), Stop>
-    ensures { Evaluates (λ _. in_order (map value_view found.new.items)) result left.new (and_then (elements (listed (map gen_tree gens.now)) (λ inner k. eval (expr_tree item.now) (calls scope.now) inner k) (calls scope.now) (seen scope.now) left.old) (λ vs k. Gives (joined (in_order (map value_view found.old.items)) vs) k)) }
+    ensures { Evaluates (λ _. in_order (map value_view found.new.items)) result left.new
+        (and_then (elements (listed (map gen_tree gens.now))
+        (λ inner k. eval (expr_tree item.now) (calls scope.now) inner k) (calls scope.now)
+        (seen scope.now) left.old) (λ vs k. Gives
+        (joined (in_order (map value_view found.old.items)) vs) k)) }
 {
     let Some((first, others)) = gens.split_first() else {
         return element(scope, item, found, left);
@@ -229,7 +254,10 @@ fn elements(
 /// Adds one element: one turn, and then its value.
 #[cycle(eval)]
 fn element(scope: &Scope, item: &Expr, found: &mut Vec<Value>, left: &mut u32) -> Result<(), Stop>
-    ensures { Evaluates (λ _. in_order (map value_view found.new.items)) result left.new (and_then (elements tree.nil (λ inner k. eval (expr_tree item.now) (calls scope.now) inner k) (calls scope.now) (seen scope.now) left.old) (λ vs k. Gives (joined (in_order (map value_view found.old.items)) vs) k)) }
+    ensures { Evaluates (λ _. in_order (map value_view found.new.items)) result left.new
+        (and_then (elements tree.nil (λ inner k. eval (expr_tree item.now)
+        (calls scope.now) inner k) (calls scope.now) (seen scope.now) left.old)
+        (λ vs k. Gives (joined (in_order (map value_view found.old.items)) vs) k)) }
 {
     turn(left)?;
     let value = eval(scope, item, left)?;
@@ -249,7 +277,12 @@ fn each(
     left: &mut u32,
 ) -> Result<(), Stop>
     requires { IsKept range.t }
-    ensures { Evaluates (λ _. in_order (map value_view found.new.items)) result left.new (and_then (each_from (span range.low range.high) range.low (λ i m. elements (listed (map gen_tree others.now)) (λ inner k. eval (expr_tree item.now) (calls scope.now) inner k) (calls scope.now) (with_local (counter_var (name_of first.now) (counted range.t i)) (seen scope.now)) m) left.old) (λ vs k. Gives (joined (in_order (map value_view found.old.items)) vs) k)) }
+    ensures { Evaluates (λ _. in_order (map value_view found.new.items)) result left.new
+        (and_then (each_from (span range.low range.high) range.low
+        (λ i m. elements (listed (map gen_tree others.now))
+        (λ inner k. eval (expr_tree item.now) (calls scope.now) inner k) (calls scope.now)
+        (with_local (counter_var (name_of first.now) (counted range.t i)) (seen scope.now)) m)
+        left.old) (λ vs k. Gives (joined (in_order (map value_view found.old.items)) vs) k)) }
 {
     if range.high < range.low {
         return Ok(());
@@ -272,7 +305,8 @@ fn each(
 /// The value of a constant expression, which counts its turns for itself.
 #[cycle(eval)]
 fn constant(scope: &Scope, e: &Expr) -> Result<Value, Stop>
-    ensures { (left : ℕ) → Evaluates value_view result left (alone (eval (expr_tree e.now) (calls scope.now) (seen scope.now) max_turns) left) }
+    ensures { (left : ℕ) → Evaluates value_view result left
+        (alone (eval (expr_tree e.now) (calls scope.now) (seen scope.now) max_turns) left) }
 {
     let mut turns = MAX_TURNS;
     eval(scope, e, &mut turns)
@@ -283,7 +317,10 @@ fn constant(scope: &Scope, e: &Expr) -> Result<Value, Stop>
 /// The type that is meant, as what a number is stored in: None for a list.
 #[cycle(eval)]
 fn type_meant(scope: &Scope, t: &TypeExpr) -> Result<Option<Scalar>, Stop>
-    ensures means { (left : ℕ) → Evaluates (λ kept. kept) result left (and_then (type_meant (type_tree t.now) (calls scope.now) (seen scope.now) left) (λ shape k. Gives (kept_in shape) k)) }
+    ensures means { (left : ℕ) → Evaluates
+        (λ kept. kept) result left (and_then
+        (type_meant (type_tree t.now) (calls scope.now) (seen scope.now) left)
+        (λ shape k. Gives (kept_in shape) k)) }
     ensures sized { IfOk result IsKept }
 {
     let given = args_given(scope, &t.args)?;
@@ -293,7 +330,9 @@ fn type_meant(scope: &Scope, t: &TypeExpr) -> Result<Option<Scalar>, Stop>
 /// The arguments that a type is given.
 #[cycle(eval)]
 fn args_given(scope: &Scope, args: &[TypeArg]) -> Result<Given, Stop>
-    ensures { (left : ℕ) → Evaluates given_view result left (and_then (args_given (listed (map type_arg_tree args.now)) (calls scope.now) (seen scope.now) left) (λ given k. Gives (erased given) k)) }
+    ensures { (left : ℕ) → Evaluates given_view result left
+        (and_then (args_given (listed (map type_arg_tree args.now)) (calls scope.now)
+        (seen scope.now) left) (λ given k. Gives (erased given) k)) }
 {
     let Some((first, others)) = args.split_first() else {
         return Ok(Given::nothing());

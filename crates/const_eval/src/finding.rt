@@ -14,7 +14,8 @@ use cal_model::{BoundFun, Value};
 /// The value of the first constant of the name.
 pub(crate) fn value_in<'a>(name: &str, constants: &'a [Constant]) -> Option<&'a Value>
     requires { are_counted (map constant_view constants.now) ≡ true }
-    ensures is { option_map (λ v. value_view v.now) result ≡ constant_named name.now (map constant_view constants.now) }
+    ensures is { option_map (λ v. value_view v.now) result
+        ≡ constant_named name.now (map constant_view constants.now) }
     ensures counted { IfSome result (λ v. is_counted (value_view v.now) ≡ true) }
 {
     let mut rest = constants;
@@ -30,7 +31,8 @@ pub(crate) fn value_in<'a>(name: &str, constants: &'a [Constant]) -> Option<&'a 
 /// The first function of the name.
 pub(crate) fn fun_in<'a>(name: &str, funs: &'a [BoundFun]) -> Option<&'a BoundFun>
     requires { are_sized_funs (map fun_view funs.now) ≡ true }
-    ensures is { option_map (λ f. fun_view f.now) result ≡ fun_named name.now (map fun_view funs.now) }
+    ensures is { option_map (λ f. fun_view f.now) result
+        ≡ fun_named name.now (map fun_view funs.now) }
     ensures sized { IfSome result (λ f. is_sized_fun (fun_view f.now) ≡ true) }
 {
     let mut rest = funs;

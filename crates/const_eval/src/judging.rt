@@ -56,7 +56,9 @@ pub(crate) fn kind(names: &Names, e: &Expr) -> Result<Kind, KindFault>
 /// A condition and two branches.
 #[cycle(kind)]
 fn kind_of_if(names: &Names, test: &Expr, yes: &Expr, no: &Expr, at: u32) -> Result<Kind, KindFault>
-    ensures { Judges kind_view result (kind (tree.if_expr (expr_tree test.now) (expr_tree yes.now) (expr_tree no.now) at) (names_view names.now)) }
+    ensures { Judges kind_view result
+        (kind (tree.if_expr (expr_tree test.now) (expr_tree yes.now) (expr_tree no.now) at)
+        (names_view names.now)) }
 {
     let test = kind(names, test)?;
     let yes = kind(names, yes)?;
@@ -67,7 +69,8 @@ fn kind_of_if(names: &Names, test: &Expr, yes: &Expr, no: &Expr, at: u32) -> Res
 /// A list and a place in it.
 #[cycle(kind)]
 fn kind_of_index(names: &Names, base: &Expr, place: &Expr, at: u32) -> Result<Kind, KindFault>
-    ensures { Judges kind_view result (kind (tree.index (expr_tree base.now) (expr_tree place.now) at) (names_view names.now)) }
+    ensures { Judges kind_view result
+        (kind (tree.index (expr_tree base.now) (expr_tree place.now) at) (names_view names.now)) }
 {
     let base = kind(names, base)?;
     let place = kind(names, place)?;
@@ -83,7 +86,9 @@ fn kind_of_binary(
     right: &Expr,
     at: u32,
 ) -> Result<Kind, KindFault>
-    ensures { Judges kind_view result (kind (tree.binary op (expr_tree left.now) (expr_tree right.now) at) (names_view names.now)) }
+    ensures { Judges kind_view result
+        (kind (tree.binary op (expr_tree left.now) (expr_tree right.now) at)
+        (names_view names.now)) }
 {
     let left = kind(names, left)?;
     let right = kind(names, right)?;
@@ -95,7 +100,8 @@ fn kind_of_binary(
 /// A function and its arguments.
 #[cycle(kind)]
 fn kind_of_call(names: &Names, name: &str, args: &[Expr], at: u32) -> Result<Kind, KindFault>
-    ensures { Judges kind_view result (kind (tree.call name.now (listed (map expr_tree args.now)) at) (names_view names.now)) }
+    ensures { Judges kind_view result
+        (kind (tree.call name.now (listed (map expr_tree args.now)) at) (names_view names.now)) }
 {
     let Some(fun) = names.env.fun(name) else {
         return Err(KindFault::Broken {
@@ -115,7 +121,9 @@ fn kind_of_call(names: &Names, name: &str, args: &[Expr], at: u32) -> Result<Kin
 /// Whether there are as many arguments as formals, each of its formal's kind.
 #[cycle(kind)]
 fn arguments_fit(names: &Names, args: &[Expr], formals: &[BoundLocal]) -> Result<bool, KindFault>
-    ensures { Judges (λ fit. fit) result (arguments_fit (listed (map expr_tree args.now)) (map local_view formals.now) (names_view names.now)) }
+    ensures { Judges (λ fit. fit) result
+        (arguments_fit (listed (map expr_tree args.now)) (map local_view formals.now)
+        (names_view names.now)) }
 {
     for place in 0..args.len() {
         let e = &args[place];
@@ -128,7 +136,8 @@ fn arguments_fit(names: &Names, args: &[Expr], formals: &[BoundLocal]) -> Result
 /// The formal at a place.
 #[tactic(auto, using(crate::proofs::Steps::formal_at))]
 fn formal_at(formals: &[BoundLocal], place: usize) -> Option<&BoundLocal>
-    ensures { option_map (λ f. local_view f.now) result ≡ slice_get (map local_view formals.now) place }
+    ensures { option_map (λ f. local_view f.now) result
+        ≡ slice_get (map local_view formals.now) place }
 {
     formals.get(place)
 }
@@ -147,7 +156,8 @@ fn argument_fits(
     k: &Kind,
     at: u32,
 ) -> Result<(), KindFault>
-    ensures { Judges (λ _. tt) result (formal_fits (option_map (λ f. local_view f.now) formal.entry) (kind_view k.now) at) }
+    ensures { Judges (λ _. tt) result
+        (formal_fits (option_map (λ f. local_view f.now) formal.entry) (kind_view k.now) at) }
 {
     let Some(formal) = formal else {
         return Ok(());
@@ -161,7 +171,8 @@ fn argument_fits(
 /// A list of expressions.
 #[cycle(kind)]
 fn kind_of_list(names: &Names, items: &[Expr], at: u32) -> Result<Kind, KindFault>
-    ensures { Judges kind_view result (kind (tree.list (listed (map expr_tree items.now)) at) (names_view names.now)) }
+    ensures { Judges kind_view result
+        (kind (tree.list (listed (map expr_tree items.now)) at) (names_view names.now)) }
 {
     let Some((first, others)) = items.split_first() else {
         return Err(wrong_kind(at));
@@ -183,7 +194,9 @@ fn kind_of_list(names: &Names, items: &[Expr], at: u32) -> Result<Kind, KindFaul
 /// Whether the kinds of expressions are like another one, and the same.
 #[cycle(kind)]
 fn fit_of(names: &Names, k: &Kind, exprs: &[Expr]) -> Result<Fit, KindFault>
-    ensures { Judges (λ fit. fit) result (and_so (kinds (listed (map expr_tree exprs.now)) (names_view names.now)) (λ ks. Fine (fit_of (kind_view k.now) ks))) }
+    ensures { Judges (λ fit. fit) result
+        (and_so (kinds (listed (map expr_tree exprs.now)) (names_view names.now))
+        (λ ks. Fine (fit_of (kind_view k.now) ks))) }
 {
     let mut fit = Fit::of_none();
     for e in exprs {
@@ -198,7 +211,9 @@ fn fit_of(names: &Names, k: &Kind, exprs: &[Expr]) -> Result<Fit, KindFault>
 /// An item over generators: the item is judged first.
 #[cycle(kind)]
 fn kind_of_comp(names: &Names, item: &Expr, gens: &[Gen], at: u32) -> Result<Kind, KindFault>
-    ensures { Judges kind_view result (kind (tree.comp (expr_tree item.now) (listed (map gen_tree gens.now)) at) (names_view names.now)) }
+    ensures { Judges kind_view result
+        (kind (tree.comp (expr_tree item.now) (listed (map gen_tree gens.now)) at)
+        (names_view names.now)) }
 {
     let counters = Counters {
         gens,
@@ -212,7 +227,9 @@ fn kind_of_comp(names: &Names, item: &Expr, gens: &[Gen], at: u32) -> Result<Kin
 /// How many elements generators make, or one more than the limit of a list if they make more.
 #[cycle(kind)]
 fn elements_in(names: &Names, gens: &[Gen]) -> Result<u32, KindFault>
-    ensures { Judges (λ n. n) result (and_so (elements_in (listed (map gen_tree gens.now)) (names_view names.now)) (λ n. Fine (capped n))) }
+    ensures { Judges (λ n. n) result
+        (and_so (elements_in (listed (map gen_tree gens.now)) (names_view names.now))
+        (λ n. Fine (capped n))) }
 {
     let mut size: u32 = 1;
     for place in 0..gens.len() {
@@ -259,7 +276,9 @@ fn span(low: Num, high: Num) -> u32
 /// The number that a constant expression gives.
 #[cycle(kind)]
 fn constant_number(names: &Names, e: &Expr) -> Result<Num, KindFault>
-    ensures { Judges (λ z. z) result (constant_number (kind (expr_tree e.now) (names_view names.now)) (expr_tree e.now) (names_view names.now)) }
+    ensures { Judges (λ z. z) result
+        (constant_number (kind (expr_tree e.now) (names_view names.now)) (expr_tree e.now)
+        (names_view names.now)) }
 {
     match kind(names, e)? {
         Kind::Num => number_given(names, e),
@@ -270,7 +289,8 @@ fn constant_number(names: &Names, e: &Expr) -> Result<Num, KindFault>
 
 /// The number that an expression gives over the constants.
 fn number_given(names: &Names, e: &Expr) -> Result<Num, KindFault>
-    ensures { Judges (λ z. z) result (number_given (constant (expr_tree e.now) (names_view names.now)) (out-Expr e.now).at) }
+    ensures { Judges (λ z. z) result
+        (number_given (constant (expr_tree e.now) (names_view names.now)) (out-Expr e.now).at) }
 {
     let not_constant = KindFault::Broken {
         rule: Rule::NOT_CONSTANT,
@@ -295,7 +315,8 @@ fn number_given(names: &Names, e: &Expr) -> Result<Num, KindFault>
 /// The type that a type in a source is.
 #[cycle(kind)]
 fn type_judged(names: &Names, t: &TypeExpr) -> Result<Shape, KindFault>
-    ensures judged { Judges shape_view result (type_judged (type_tree t.now) (names_view names.now)) }
+    ensures judged { Judges shape_view result
+        (type_judged (type_tree t.now) (names_view names.now)) }
     ensures filled { IfOk result (λ shape. 1 ≤ scalars_of_type (shape_view shape)) }
 {
     let name = t.name.text.as_str();
@@ -312,7 +333,8 @@ fn type_judged(names: &Names, t: &TypeExpr) -> Result<Shape, KindFault>
 /// The arguments that a type is given.
 #[cycle(kind)]
 fn type_arguments<'a>(names: &Names, args: &'a [TypeArg]) -> Result<Vec<Argument<'a>>, KindFault>
-    ensures { Judges (λ given. map argument_view given.items) result (type_arguments (listed (map type_arg_tree args.entry.now)) (names_view names.now)) }
+    ensures { Judges (λ given. map argument_view given.items) result
+        (type_arguments (listed (map type_arg_tree args.entry.now)) (names_view names.now)) }
 {
     let mut given = Vec::new(names.alloc);
     for arg in args {
@@ -324,7 +346,8 @@ fn type_arguments<'a>(names: &Names, args: &'a [TypeArg]) -> Result<Vec<Argument
 /// An argument of a type.
 #[cycle(kind)]
 fn argument<'a>(names: &Names, arg: &'a TypeArg) -> Result<Argument<'a>, KindFault>
-    ensures { Judges argument_view result (argument_judged (type_arg_tree arg.entry.now) (names_view names.now)) }
+    ensures { Judges argument_view result
+        (argument_judged (type_arg_tree arg.entry.now) (names_view names.now)) }
 {
     match arg {
         TypeArg::Shape { name, shape } => {

@@ -46,7 +46,8 @@ pub(crate) fn kind_of_value(alloc: Global, value: &Value) -> Result<Kind, Memory
 #[cycle(value)]
 fn kind_of_values(alloc: Global, values: &Values) -> Result<Kind, Memory>
     requires { is_counted (Items (values_view values.now)) ≡ true }
-    ensures { IfOk result (λ kind. kind_view kind ≡ kind_of_value (Items (values_view values.now))) }
+    ensures { IfOk result (λ kind. kind_view kind
+        ≡ kind_of_value (Items (values_view values.now))) }
 {
     let Some(first) = values.items.first() else {
         return Ok(Kind::List(0, Box::new(alloc, Kind::Num)?));
@@ -100,7 +101,8 @@ fn is_like(k: &Kind, l: &Kind) -> bool
 
 /// That both are one kind.
 pub(crate) fn one_kind(k: &Kind, l: &Kind, at: u32) -> Result<(), KindFault>
-    ensures { Judges (λ _. kind_view k.now) result (one_kind (kind_view k.now) (kind_view l.now) at) }
+    ensures { Judges (λ _. kind_view k.now) result
+        (one_kind (kind_view k.now) (kind_view l.now) at) }
 {
     if is_same(k, l) {
         return Ok(());
@@ -305,7 +307,8 @@ pub(crate) fn item_kind(base: Kind, place: &Kind, at: u32) -> Result<Kind, KindF
 
 /// The kind of a choice between two branches, by a condition's kind.
 pub(crate) fn branch_kind(test: &Kind, yes: Kind, no: &Kind, at: u32) -> Result<Kind, KindFault>
-    ensures { Judges kind_view result (branch_kind (kind_view test.now) (kind_view yes) (kind_view no.now) at) }
+    ensures { Judges kind_view result
+        (branch_kind (kind_view test.now) (kind_view yes) (kind_view no.now) at) }
 {
     match test {
         Kind::Bool => {

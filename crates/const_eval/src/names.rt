@@ -37,8 +37,13 @@ impl<'a> Names<'a> {
     pub fn under<'b>(&self, counters: &'b Counters<'b>) -> Names<'b>
     where
         'a: 'b,
-        requires { counted_names (out-Counters counters.now).outer ≡ counted_names self.now.counters }
-        ensures { names_view result ≡ record (names_view self.now) { locals = map counter (named_by (out-Counters counters.now).gens.now (counted_names self.now.counters)) } }
+        requires { counted_names (out-Counters counters.now).outer
+            ≡ counted_names self.now.counters }
+        ensures { names_view result ≡ record
+            (names_view self.now) {
+              locals = map counter
+                  (named_by (out-Counters counters.now).gens.now (counted_names self.now.counters));
+            } }
     {
         Names {
             alloc: self.alloc,
@@ -49,7 +54,8 @@ impl<'a> Names<'a> {
 
     /// What a constant expression gives, with its own count of turns.
     pub fn value_of(&self, e: &Expr) -> Result<Value, Stop>
-        ensures { (left : ℕ) × Evaluates value_view result left (constant (expr_tree e.now) (names_view self.now)) }
+        ensures { (left : ℕ) × Evaluates value_view result left
+            (constant (expr_tree e.now) (names_view self.now)) }
     {
         constants_are_values();
         let mut turns = all_turns();

@@ -37,7 +37,8 @@ fn computed(found: Result<Num, Trap>) -> Result<Value, Stop>
 
 /// An operation with one operand.
 pub(crate) fn prefixed(op: PrefixOp, value: &Value) -> Result<Value, Stop>
-    ensures { (left : ℕ) → Evaluates value_view result left (prefixed op (value_view value.now) left) }
+    ensures { (left : ℕ) → Evaluates value_view result left
+        (prefixed op (value_view value.now) left) }
 {
     match op {
         PrefixOp::Not => denied(value),
@@ -48,7 +49,8 @@ pub(crate) fn prefixed(op: PrefixOp, value: &Value) -> Result<Value, Stop>
 
 /// The other truth value.
 fn denied(value: &Value) -> Result<Value, Stop>
-    ensures { (left : ℕ) → Evaluates value_view result left (prefixed PrefixOp.Not (value_view value.now) left) }
+    ensures { (left : ℕ) → Evaluates value_view result left
+        (prefixed PrefixOp.Not (value_view value.now) left) }
 {
     match value {
         Value::Bool(truth) => Ok(Value::Bool(!*truth)),
@@ -59,7 +61,8 @@ fn denied(value: &Value) -> Result<Value, Stop>
 
 /// The number with the other sign.
 fn negated(value: &Value) -> Result<Value, Stop>
-    ensures { (left : ℕ) → Evaluates value_view result left (prefixed PrefixOp.Neg (value_view value.now) left) }
+    ensures { (left : ℕ) → Evaluates value_view result left
+        (prefixed PrefixOp.Neg (value_view value.now) left) }
 {
     match value {
         Value::Num(number) => computed(neg(*number)),
@@ -70,7 +73,8 @@ fn negated(value: &Value) -> Result<Value, Stop>
 
 /// The number with the other bits.
 fn inverted(value: &Value) -> Result<Value, Stop>
-    ensures { (left : ℕ) → Evaluates value_view result left (prefixed PrefixOp.BitNot (value_view value.now) left) }
+    ensures { (left : ℕ) → Evaluates value_view result left
+        (prefixed PrefixOp.BitNot (value_view value.now) left) }
 {
     match value {
         Value::Num(number) => Ok(Value::Num(!*number)),
@@ -93,7 +97,8 @@ pub(crate) fn decides(op: BinOp, value: &Value) -> bool
 
 /// An operation with two operands.
 pub(crate) fn applied(op: BinOp, first: &Value, second: &Value) -> Result<Value, Stop>
-    ensures { (left : ℕ) → Evaluates value_view result left (applied op (value_view first.now) (value_view second.now) left) }
+    ensures { (left : ℕ) → Evaluates value_view result left
+        (applied op (value_view first.now) (value_view second.now) left) }
 {
     match first {
         Value::Num(a) => with_number(op, *a, second),
@@ -104,7 +109,8 @@ pub(crate) fn applied(op: BinOp, first: &Value, second: &Value) -> Result<Value,
 
 /// An operation whose first operand is a number.
 fn with_number(op: BinOp, a: Num, second: &Value) -> Result<Value, Stop>
-    ensures { (left : ℕ) → Evaluates value_view result left (applied op (value_view (Value.Num a)) (value_view second.now) left) }
+    ensures { (left : ℕ) → Evaluates value_view result left
+        (applied op (value_view (Value.Num a)) (value_view second.now) left) }
 {
     match second {
         Value::Num(b) => of_numbers(op, a, *b),
@@ -115,7 +121,8 @@ fn with_number(op: BinOp, a: Num, second: &Value) -> Result<Value, Stop>
 
 /// An operation whose first operand is a truth value.
 fn with_truth(op: BinOp, a: bool, second: &Value) -> Result<Value, Stop>
-    ensures { (left : ℕ) → Evaluates value_view result left (applied op (value_view (Value.Bool a)) (value_view second.now) left) }
+    ensures { (left : ℕ) → Evaluates value_view result left
+        (applied op (value_view (Value.Bool a)) (value_view second.now) left) }
 {
     match second {
         Value::Bool(b) => of_truths(op, a, *b),
@@ -178,7 +185,8 @@ fn of_truths(op: BinOp, a: bool, b: bool) -> Result<Value, Stop>
 
 /// The item of a list at a place.
 pub(crate) fn indexed(base: Value, place: &Value) -> Result<Value, Stop>
-    ensures { (left : ℕ) → Evaluates value_view result left (indexed (value_view base) (value_view place.now) left) }
+    ensures { (left : ℕ) → Evaluates value_view result left
+        (indexed (value_view base) (value_view place.now) left) }
 {
     match base {
         Value::List(values) => item(values, place),
@@ -189,7 +197,8 @@ pub(crate) fn indexed(base: Value, place: &Value) -> Result<Value, Stop>
 
 /// The item of a list at a place, which must be a number.
 fn item(values: Values, place: &Value) -> Result<Value, Stop>
-    ensures { (left : ℕ) → Evaluates value_view result left (indexed (value_view (Value.List values)) (value_view place.now) left) }
+    ensures { (left : ℕ) → Evaluates value_view result left
+        (indexed (value_view (Value.List values)) (value_view place.now) left) }
 {
     match place {
         Value::Num(number) => item_at(values.items, *number),
@@ -200,7 +209,8 @@ fn item(values: Values, place: &Value) -> Result<Value, Stop>
 
 /// The item of a list at a number, which must be a place of the list.
 fn item_at(mut items: Vec<Value>, number: Num) -> Result<Value, Stop>
-    ensures { (left : ℕ) → Evaluates value_view result left (item_at (in_order (map value_view items.items)) number left) }
+    ensures { (left : ℕ) → Evaluates value_view result left
+        (item_at (in_order (map value_view items.items)) number left) }
 {
     if number < 0 {
         return Err(Stop::Trap(Trap::IndexRange));

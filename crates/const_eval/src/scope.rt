@@ -85,8 +85,13 @@ impl<'a> Scope<'a> {
 
     /// What a constant expression sees that stands inside generators.
     pub fn among(alloc: Global, env: &'a Env, counters: &'a Counters<'a>) -> Scope<'a>
-        ensures seen { seen result ≡ record { globals = hide (all_names counters.now) (map var_of (held env.now).values); locals = [] } }
-        ensures calls { calls result ≡ (λ globals. calls_of (held env.now).funs (map var_of (held env.now).values)) }
+        ensures seen { seen result ≡ record {
+          globals = hide (all_names counters.now)
+              (map var_of (held env.now).values);
+          locals = [];
+        } }
+        ensures calls { calls result ≡
+            (λ globals. calls_of (held env.now).funs (map var_of (held env.now).values)) }
     {
         Scope {
             alloc,
@@ -104,7 +109,9 @@ impl<'a> Scope<'a> {
     where
         'a: 'b,
         requires { chain (out-Local local.now).outer ≡ chain self.now.innermost }
-        ensures seen { seen result ≡ with_local (local_var (out-Local local.now).of (value_view (out-Local local.now).value)) (seen self.now) }
+        ensures seen { seen result ≡ with_local
+            (local_var (out-Local local.now).of (value_view (out-Local local.now).value))
+            (seen self.now) }
         ensures calls { calls result ≡ calls self.now }
         ensures depth { result.depth ≡ self.now.depth }
         ensures env { held result.env.now ≡ held self.now.env.now }
@@ -125,8 +132,13 @@ impl<'a> Scope<'a> {
     where
         'a: 'b,
         requires { 0 < self.now.depth }
-        ensures seen { seen result ≡ record { globals = map var_of (held self.now.env.now).values; locals = frame fun.now.formals.items arguments.now } }
-        ensures calls { calls result ≡ calls_within (self.now.depth - 1) (held self.now.env.now).funs }
+        ensures seen { seen result ≡ record {
+          globals = map var_of (held self.now.env.now).values;
+          locals = frame
+              fun.now.formals.items arguments.now;
+        } }
+        ensures calls { calls result ≡ calls_within (self.now.depth - 1)
+            (held self.now.env.now).funs }
         ensures depth { result.depth ≡ self.now.depth - 1 }
         ensures env { held result.env.now ≡ held self.now.env.now }
     {
@@ -143,7 +155,8 @@ impl<'a> Scope<'a> {
 
     /// What a name means, as a value of its own.
     pub fn copied(&self, name: &str) -> Result<Value, Stop>
-        ensures { (left : ℕ) → Evaluates value_view result left (known (look_up name.now (seen self.now)) left) }
+        ensures { (left : ℕ) → Evaluates value_view result left
+            (known (look_up name.now (seen self.now)) left) }
     {
         match self.value(name) {
             Some(value) => Ok(copy(self.alloc, value)?),
@@ -185,7 +198,8 @@ fn local_value<'a>(name: &str, innermost: Option<&'a Local<'a>>) -> Option<&'a V
 
 /// The argument of the name. A later formal hides an earlier one of its name.
 fn argument<'a>(name: &str, formals: &'a [BoundLocal], arguments: &'a [Value]) -> Option<&'a Value>
-    ensures { option_map (λ v. value_view v.now) result ≡ find name.now (frame formals.now arguments.now) }
+    ensures { option_map (λ v. value_view v.now) result
+        ≡ find name.now (frame formals.now arguments.now) }
 {
     let mut place = formals.len().min(arguments.len());
     'backwards: while place > 0 {

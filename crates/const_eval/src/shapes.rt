@@ -55,7 +55,8 @@ pub(crate) fn type_with(
     given: Vec<Argument<'_>>,
     at: u32,
 ) -> Result<Shape, KindFault>
-    ensures judged { Judges shape_view result (type_with name.now (map argument_view given.entry.items) at) }
+    ensures judged { Judges shape_view result
+        (type_with name.now (map argument_view given.entry.items) at) }
     ensures filled { IfOk result (λ t. 1 ≤ scalars_of_type (shape_view t)) }
 {
     if name == "bool" {
@@ -156,7 +157,10 @@ fn list_of(
     size: Num,
     at: u32,
 ) -> Result<Shape, KindFault>
-    ensures judged { Judges shape_view result (if bytes_eq (string_bytes name.now.text) (codes "type") && bytes_eq (string_bytes other.now.text) (codes "size") then list_type_of (shape_view items.shape) size at else Broken wrong_type_argument at) }
+    ensures judged { Judges shape_view result
+        (if bytes_eq (string_bytes name.now.text) (codes "type") && bytes_eq
+        (string_bytes other.now.text) (codes "size") then list_type_of
+        (shape_view items.shape) size at else Broken wrong_type_argument at) }
     ensures filled { IfOk result (λ t. 1 ≤ scalars_of_type (shape_view t)) }
 {
     if name.text.as_str() == "type" && other.text.as_str() == "size" {

@@ -114,7 +114,8 @@ pub(crate) fn counted(t: Option<Scalar>, number: Num) -> Value
 
 /// The type of a name with these arguments.
 pub(crate) fn type_named(name: &str, given: Given) -> Result<Option<Scalar>, Stop>
-    ensures named { (left : ℕ) → Evaluates (λ kept. kept) result left (needed (kept_named name.now (given_view given)) left) }
+    ensures named { (left : ℕ) → Evaluates
+        (λ kept. kept) result left (needed (kept_named name.now (given_view given)) left) }
     ensures sized { IfOk result IsKept }
 {
     if name == "bool" {
@@ -134,7 +135,8 @@ pub(crate) fn type_named(name: &str, given: Given) -> Result<Option<Scalar>, Sto
 
 /// A signed type, whose size is the greatest if none is given.
 fn signed(size: Option<u128>) -> Result<Option<Scalar>, Stop>
-    ensures kept { (left : ℕ) → Evaluates (λ kept. kept) result left (needed (kept_bits size (λ n. Scalar.Int n)) left) }
+    ensures kept { (left : ℕ) → Evaluates
+        (λ kept. kept) result left (needed (kept_bits size (λ n. Scalar.Int n)) left) }
     ensures sized { IfOk result IsKept }
 {
     let Some(size) = size else {
@@ -148,7 +150,8 @@ fn signed(size: Option<u128>) -> Result<Option<Scalar>, Stop>
 
 /// An unsigned type, whose size is the greatest if none is given.
 fn unsigned(size: Option<u128>) -> Result<Option<Scalar>, Stop>
-    ensures kept { (left : ℕ) → Evaluates (λ kept. kept) result left (needed (kept_bits size (λ n. Scalar.Uint n)) left) }
+    ensures kept { (left : ℕ) → Evaluates
+        (λ kept. kept) result left (needed (kept_bits size (λ n. Scalar.Uint n)) left) }
     ensures sized { IfOk result IsKept }
 {
     let Some(size) = size else {
@@ -162,7 +165,8 @@ fn unsigned(size: Option<u128>) -> Result<Option<Scalar>, Stop>
 
 /// A list type, which is given the type of its items and its size.
 fn list(given: Given) -> Result<Option<Scalar>, Stop>
-    ensures kept { (left : ℕ) → Evaluates (λ kept. kept) result left (needed (kept_list (given_view given)) left) }
+    ensures kept { (left : ℕ) → Evaluates
+        (λ kept. kept) result left (needed (kept_list (given_view given)) left) }
     ensures sized { IfOk result IsKept }
 {
     if given.has_items && given.size.is_some() {

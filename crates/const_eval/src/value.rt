@@ -63,7 +63,8 @@ fn number_of(flag: bool) -> Num
 #[cycle(stored)]
 pub(crate) fn stored(alloc: Global, t: &Shape, value: &Value) -> Result<Value, Memory>
     requires { is_sized (shape_view t.now) ≡ true }
-    ensures { IfOk result (λ kept. value_view kept ≡ stored (shape_view t.now) (value_view value.now)) }
+    ensures { IfOk result (λ kept. value_view kept
+        ≡ stored (shape_view t.now) (value_view value.now)) }
 {
     match t {
         Shape::Scalar(t) => stored_single(alloc, *t, value),
@@ -91,7 +92,8 @@ pub(crate) fn stored_single(alloc: Global, t: Scalar, value: &Value) -> Result<V
 #[cycle(stored)]
 fn stored_list(alloc: Global, t: &Shape, values: &Values) -> Result<Values, Memory>
     requires { is_sized (shape_view t.now) ≡ true }
-    ensures { IfOk result (λ kept. values_view kept ≡ stored_each (shape_view t.now) (values_view values.now)) }
+    ensures { IfOk result (λ kept. values_view kept
+        ≡ stored_each (shape_view t.now) (values_view values.now)) }
 {
     let items = stored_each(alloc, t, &values.items)?;
     Ok(Values { items })
@@ -101,7 +103,8 @@ fn stored_list(alloc: Global, t: &Shape, values: &Values) -> Result<Values, Memo
 #[cycle(stored)]
 fn stored_each(alloc: Global, t: &Shape, values: &[Value]) -> Result<Vec<Value>, Memory>
     requires { is_sized (shape_view t.now) ≡ true }
-    ensures { IfOk result (λ kept. in_order (map value_view kept.items) ≡ stored_each (shape_view t.now) (in_order (map value_view values.now))) }
+    ensures { IfOk result (λ kept. in_order (map value_view kept.items)
+        ≡ stored_each (shape_view t.now) (in_order (map value_view values.now))) }
 {
     let mut items = Vec::new(alloc);
     for value in values {
@@ -125,7 +128,8 @@ pub(crate) fn zero_of(alloc: Global, t: &Shape) -> Result<Value, Memory>
 #[tactic(auto, using(crate::proofs::Lists::zeros_more))]
 #[cycle(zero)]
 fn zeros(alloc: Global, size: u32, t: &Shape) -> Result<Values, Memory>
-    ensures { IfOk result (λ zeros. values_view zeros ≡ repeated size (zero_of (shape_view t.now))) }
+    ensures { IfOk result (λ zeros. values_view zeros
+        ≡ repeated size (zero_of (shape_view t.now))) }
 {
     let mut items = Vec::new(alloc);
     for _place in 0..size {

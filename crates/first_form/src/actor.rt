@@ -67,7 +67,8 @@ fn is_byte_type(shape: &TypeExpr) -> bool
 
 /// The name of the one port of a direction; an error is their first mismatch. `at` is where the actor begins.
 fn port_name(ports: &[PortDecl], at: u32) -> Result<&str, u32>
-    ensures { MatchResult result (λ name. IsPort at (listed (map port_tree ports.now)) name.now) (λ place. alone at port_mismatch (listed (map port_tree ports.now)) ≡ Some place) }
+    ensures { MatchResult result (λ name. IsPort at (listed (map port_tree ports.now)) name.now)
+        (λ place. alone at port_mismatch (listed (map port_tree ports.now)) ≡ Some place) }
 {
     let Some((port, others)) = ports.split_first() else {
         return Err(at);
@@ -94,7 +95,10 @@ fn is_named(port: &Option<Ident>, name: &str) -> bool
 /// The name that the one pattern of an action gives its token; an error is their first mismatch. `at` is where
 /// the action begins.
 fn variable<'a>(patterns: &'a [Pattern], input: &str, at: u32) -> Result<&'a str, u32>
-    ensures { MatchResult result (λ name. IsPattern at input.now (listed (map pattern_tree patterns.now)) name.now) (λ place. alone at (pattern_mismatch input.now) (listed (map pattern_tree patterns.now)) ≡ Some place) }
+    ensures { MatchResult result (λ name. IsPattern at input.now
+        (listed (map pattern_tree patterns.now)) name.now)
+        (λ place. alone at (pattern_mismatch input.now) (listed (map pattern_tree patterns.now))
+        ≡ Some place) }
 {
     let Some((pattern, others)) = patterns.split_first() else {
         return Err(at);
@@ -119,7 +123,10 @@ fn variable<'a>(patterns: &'a [Pattern], input: &str, at: u32) -> Result<&'a str
 
 /// What the one output of an action sends; an error is their first mismatch. `at` is where the action begins.
 fn sent(outputs: &[Output], output: &str, token: &str, at: u32) -> Result<Binary, u32>
-    ensures { MatchResult result (λ sum. IsOutput at output.now token.now (listed (map output_tree outputs.now)) sum) (λ place. alone at (output_mismatch output.now token.now) (listed (map output_tree outputs.now)) ≡ Some place) }
+    ensures { MatchResult result (λ sum. IsOutput at output.now token.now
+        (listed (map output_tree outputs.now)) sum)
+        (λ place. alone at (output_mismatch output.now token.now)
+        (listed (map output_tree outputs.now)) ≡ Some place) }
 {
     let Some((first, others)) = outputs.split_first() else {
         return Err(at);
@@ -213,7 +220,10 @@ fn one_action<'a>(
     output: &str,
     at: u32,
 ) -> Result<Sending<'a>, u32>
-    ensures { MatchResult result (λ s. IsAction at input.now output.now (listed (map member_tree members.now)) s.variable.now s.sum) (λ place. alone at (action_mismatch input.now output.now) (listed (map member_tree members.now)) ≡ Some place) }
+    ensures { MatchResult result (λ s. IsAction at input.now output.now
+        (listed (map member_tree members.now)) s.variable.now s.sum)
+        (λ place. alone at (action_mismatch input.now output.now)
+        (listed (map member_tree members.now)) ≡ Some place) }
 {
     let Some((first, others)) = members.split_first() else {
         return Err(at);

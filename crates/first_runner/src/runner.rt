@@ -48,7 +48,10 @@ impl Model for Runner {
 
     ghost view = { λ r. r.sum };
 
-    ghost invariant = { λ r. (r.tokens.kind ≡ byte_type) × (r.tokens.pulled ≡ []) × (r.tokens.ended ≡ false) × (r.inbox.items ≡ []) × (r.outbox.items ≡ []) × (r.trace ≡ []) × (r.output ≡ []) × (CAPACITY ≤ deque_capacity r.inbox) × (BURST ≤ deque_capacity r.outbox) };
+    ghost invariant = { λ r. (r.tokens.kind ≡ byte_type) × (r.tokens.pulled ≡ [])
+        × (r.tokens.ended ≡ false) × (r.inbox.items ≡ []) × (r.outbox.items ≡ []) × (r.trace ≡ [])
+        × (r.output ≡ []) × (CAPACITY ≤ deque_capacity r.inbox)
+        × (BURST ≤ deque_capacity r.outbox) };
 }
 
 impl Runner {

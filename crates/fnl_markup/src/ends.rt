@@ -17,7 +17,8 @@ use std::mem;
 impl Reader {
     /// What ends the start of an element, or the declaration.
     pub(crate) fn ends(&mut self, at: u32, b: u8) -> Result<(), Stop>
-        ensures { Stepped (meant.ends at (state_of self.old) b) (state_of self.old) self.new result }
+        ensures { Stepped (meant.ends at (state_of self.old) b)
+            (state_of self.old) self.new result }
     {
         if self.declares {
             return self.only(at, b, b'?', Place::LastQuestion);
@@ -26,7 +27,8 @@ impl Reader {
     }
 
     fn ends_tag(&mut self, at: u32, b: u8) -> Result<(), Stop>
-        ensures { Stepped (meant.ends_tag at (state_of self.old) b) (state_of self.old) self.new result }
+        ensures { Stepped (meant.ends_tag at (state_of self.old) b)
+            (state_of self.old) self.new result }
     {
         if b == b'>' {
             return self.open();
@@ -42,7 +44,8 @@ impl Reader {
 
     /// The element is open.
     fn open(&mut self) -> Result<(), Stop>
-        ensures { Stepped (Going (meant.opened (state_of self.old))) (state_of self.old) self.new result }
+        ensures { Stepped (Going (meant.opened (state_of self.old)))
+            (state_of self.old) self.new result }
     {
         self.place = Place::Content;
         self.opened.push(copied(&self.name)?)?;
@@ -52,7 +55,8 @@ impl Reader {
 
     /// The tag that begins the element, with its name and its attributes.
     fn push_opening(&mut self) -> Result<(), Stop>
-        ensures { Stepped (Going (meant.with_opening (state_of self.old))) (state_of self.old) self.new result }
+        ensures { Stepped (Going (meant.with_opening (state_of self.old)))
+            (state_of self.old) self.new result }
     {
         let name = mem::replace(&mut self.name, Vec::new(self.alloc));
         let attributes = mem::replace(&mut self.attributes, Vec::new(self.alloc));
@@ -66,7 +70,8 @@ impl Reader {
 
     /// What follows the last `?` of the declaration.
     pub(crate) fn last_question(&mut self, at: u32, b: u8) -> Result<(), Stop>
-        ensures { Stepped (meant.last_question at (state_of self.old) b) (state_of self.old) self.new result }
+        ensures { Stepped (meant.last_question at (state_of self.old) b)
+            (state_of self.old) self.new result }
     {
         if b != b'>' {
             return Err(stuck(at));

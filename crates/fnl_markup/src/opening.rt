@@ -25,7 +25,8 @@ impl Reader {
 
     /// The `/` of an end tag.
     fn end_tag(&mut self, at: u32) -> Result<(), Stop>
-        ensures { Stepped (meant.end_tag at (state_of self.old)) (state_of self.old) self.new result }
+        ensures { Stepped (meant.end_tag at (state_of self.old))
+            (state_of self.old) self.new result }
     {
         let Some(name) = self.opened.pop() else {
             return Err(stuck(at));
@@ -38,7 +39,8 @@ impl Reader {
 
     /// The first byte of a new element's name.
     fn new_tag(&mut self, at: u32, b: u8) -> Result<(), Stop>
-        ensures { Stepped (meant.new_tag at (state_of self.old) b) (state_of self.old) self.new result }
+        ensures { Stepped (meant.new_tag at (state_of self.old) b)
+            (state_of self.old) self.new result }
     {
         if self.begun && self.opened.is_empty() {
             return Err(stuck(at));
@@ -52,7 +54,8 @@ impl Reader {
 
     /// The name in an end tag, of which so many bytes were read.
     pub(crate) fn end_name(&mut self, at: u32, b: u8, size: usize) -> Result<(), Stop>
-        ensures { Stepped (meant.end_name size at (state_of self.old) b) (state_of self.old) self.new result }
+        ensures { Stepped (meant.end_name size at (state_of self.old) b)
+            (state_of self.old) self.new result }
     {
         if size < self.name.len() {
             let byte = self.name[size];
@@ -63,7 +66,8 @@ impl Reader {
 
     /// Blanks, and the end of an end tag.
     pub(crate) fn end_gap(&mut self, at: u32, b: u8) -> Result<(), Stop>
-        ensures { Stepped (meant.end_gap at (state_of self.old) b) (state_of self.old) self.new result }
+        ensures { Stepped (meant.end_gap at (state_of self.old) b)
+            (state_of self.old) self.new result }
     {
         if is_blank(b) {
             self.place = Place::EndGap;

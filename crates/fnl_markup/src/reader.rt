@@ -63,7 +63,8 @@ impl Reader {
     /// Takes the byte at an offset.
     pub(crate) fn step(&mut self, at: u32, b: u8) -> Result<(), Stop>
         requires { at < 2 ^ 32 - 1 }
-        ensures { Stepped (meant.step at (state_of self.old) b) (state_of self.old) self.new result }
+        ensures { Stepped (meant.step at (state_of self.old) b)
+            (state_of self.old) self.new result }
     {
         match self.place {
             Place::Start => self.at_start(at, b),
@@ -98,7 +99,8 @@ impl Reader {
 
     /// This byte alone may follow.
     pub(crate) fn only(&mut self, at: u32, b: u8, byte: u8, place: Place) -> Result<(), Stop>
-        ensures { Stepped (meant.only at (state_of self.old) b byte place) (state_of self.old) self.new result }
+        ensures { Stepped (meant.only at (state_of self.old) b byte place)
+            (state_of self.old) self.new result }
     {
         if b != byte {
             return Err(stuck(at));
@@ -108,7 +110,8 @@ impl Reader {
     }
 
     fn at_start(&mut self, at: u32, b: u8) -> Result<(), Stop>
-        ensures { Stepped (meant.start at (state_of self.old) b) (state_of self.old) self.new result }
+        ensures { Stepped (meant.start at (state_of self.old) b)
+            (state_of self.old) self.new result }
     {
         if b == 239 {
             self.place = Place::MarkOne;
@@ -118,7 +121,8 @@ impl Reader {
     }
 
     fn after_mark(&mut self, at: u32, b: u8) -> Result<(), Stop>
-        ensures { Stepped (meant.after_mark at (state_of self.old) b) (state_of self.old) self.new result }
+        ensures { Stepped (meant.after_mark at (state_of self.old) b)
+            (state_of self.old) self.new result }
     {
         if b == b'<' {
             self.place = Place::FirstLess;
@@ -129,7 +133,8 @@ impl Reader {
     }
 
     fn first_less(&mut self, at: u32, b: u8) -> Result<(), Stop>
-        ensures { Stepped (meant.first_less at (state_of self.old) b) (state_of self.old) self.new result }
+        ensures { Stepped (meant.first_less at (state_of self.old) b)
+            (state_of self.old) self.new result }
     {
         if b == b'?' {
             self.place = Place::Question;
@@ -140,7 +145,8 @@ impl Reader {
 
     /// The last letter of the declaration's name.
     fn declaration(&mut self, at: u32, b: u8) -> Result<(), Stop>
-        ensures { Stepped (meant.declaration at (state_of self.old) b) (state_of self.old) self.new result }
+        ensures { Stepped (meant.declaration at (state_of self.old) b)
+            (state_of self.old) self.new result }
     {
         if b != b'l' {
             return Err(stuck(at));
@@ -152,7 +158,8 @@ impl Reader {
 
     /// Blanks between tags, and what begins with `<`.
     fn content(&mut self, at: u32, b: u8) -> Result<(), Stop>
-        ensures { Stepped (meant.content at (state_of self.old) b) (state_of self.old) self.new result }
+        ensures { Stepped (meant.content at (state_of self.old) b)
+            (state_of self.old) self.new result }
     {
         if is_blank(b) {
             self.place = Place::Content;
@@ -167,7 +174,8 @@ impl Reader {
     }
 
     fn less(&mut self, at: u32, b: u8) -> Result<(), Stop>
-        ensures { Stepped (meant.less at (state_of self.old) b) (state_of self.old) self.new result }
+        ensures { Stepped (meant.less at (state_of self.old) b)
+            (state_of self.old) self.new result }
     {
         if b == b'!' {
             self.place = Place::Bang;
@@ -177,7 +185,8 @@ impl Reader {
     }
 
     fn comment(&mut self, b: u8) -> Result<(), Stop>
-        ensures { Stepped (meant.comment (state_of self.old) b) (state_of self.old) self.new result }
+        ensures { Stepped (meant.comment (state_of self.old) b)
+            (state_of self.old) self.new result }
     {
         self.place = if b == b'-' {
             Place::CommentDash
@@ -188,7 +197,8 @@ impl Reader {
     }
 
     fn comment_dash(&mut self, b: u8) -> Result<(), Stop>
-        ensures { Stepped (meant.comment_dash (state_of self.old) b) (state_of self.old) self.new result }
+        ensures { Stepped (meant.comment_dash (state_of self.old) b)
+            (state_of self.old) self.new result }
     {
         self.place = if b == b'-' {
             Place::CommentDashes
@@ -199,7 +209,8 @@ impl Reader {
     }
 
     fn comment_dashes(&mut self, b: u8) -> Result<(), Stop>
-        ensures { Stepped (meant.comment_dashes (state_of self.old) b) (state_of self.old) self.new result }
+        ensures { Stepped (meant.comment_dashes (state_of self.old) b)
+            (state_of self.old) self.new result }
     {
         if b == b'>' {
             self.place = Place::Content;

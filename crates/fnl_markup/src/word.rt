@@ -16,7 +16,8 @@ use std::mem;
 impl Reader {
     /// A byte of an element's name, or what follows it.
     pub(crate) fn name(&mut self, at: u32, b: u8) -> Result<(), Stop>
-        ensures { Stepped (meant.name at (state_of self.old) b) (state_of self.old) self.new result }
+        ensures { Stepped (meant.name at (state_of self.old) b)
+            (state_of self.old) self.new result }
     {
         if goes_on_name(b) {
             self.place = Place::Name;
@@ -28,7 +29,8 @@ impl Reader {
 
     /// What follows a name or a value: a blank, or the tag's end.
     pub(crate) fn quoted(&mut self, at: u32, b: u8) -> Result<(), Stop>
-        ensures { Stepped (meant.quoted at (state_of self.old) b) (state_of self.old) self.new result }
+        ensures { Stepped (meant.quoted at (state_of self.old) b)
+            (state_of self.old) self.new result }
     {
         if is_blank(b) {
             self.place = Place::Gap;
@@ -52,7 +54,8 @@ impl Reader {
 
     /// A byte of an attribute's name, or what follows it.
     pub(crate) fn word(&mut self, at: u32, b: u8) -> Result<(), Stop>
-        ensures { Stepped (meant.word at (state_of self.old) b) (state_of self.old) self.new result }
+        ensures { Stepped (meant.word at (state_of self.old) b)
+            (state_of self.old) self.new result }
     {
         if goes_on_name(b) {
             self.place = Place::Word;
@@ -64,7 +67,8 @@ impl Reader {
 
     /// What follows an attribute's name.
     pub(crate) fn word_gap(&mut self, at: u32, b: u8) -> Result<(), Stop>
-        ensures { Stepped (meant.word_gap at (state_of self.old) b) (state_of self.old) self.new result }
+        ensures { Stepped (meant.word_gap at (state_of self.old) b)
+            (state_of self.old) self.new result }
     {
         if is_blank(b) {
             self.place = Place::WordGap;
@@ -76,7 +80,8 @@ impl Reader {
     /// What follows `=`.
     pub(crate) fn equal(&mut self, at: u32, b: u8) -> Result<(), Stop>
         requires { at < 2 ^ 32 - 1 }
-        ensures { Stepped (meant.equal at (state_of self.old) b) (state_of self.old) self.new result }
+        ensures { Stepped (meant.equal at (state_of self.old) b)
+            (state_of self.old) self.new result }
     {
         if is_blank(b) {
             self.place = Place::Equal;
@@ -93,7 +98,8 @@ impl Reader {
 
     /// A byte of a value, or the quote that closes it.
     pub(crate) fn value(&mut self, at: u32, b: u8, quote: u8) -> Result<(), Stop>
-        ensures { Stepped (meant.value quote at (state_of self.old) b) (state_of self.old) self.new result }
+        ensures { Stepped (meant.value quote at (state_of self.old) b)
+            (state_of self.old) self.new result }
     {
         if b == quote {
             return self.end_value();
@@ -111,7 +117,8 @@ impl Reader {
 
     /// One more byte of a value.
     fn go_on_value(&mut self, b: u8, quote: u8) -> Result<(), Stop>
-        ensures { Stepped (Going (meant.longer_value quote (state_of self.old) b)) (state_of self.old) self.new result }
+        ensures { Stepped (Going (meant.longer_value quote (state_of self.old) b))
+            (state_of self.old) self.new result }
     {
         self.place = Place::Value { quote };
         self.value.push(b)?;
@@ -120,7 +127,8 @@ impl Reader {
 
     /// The attribute is whole.
     fn end_value(&mut self) -> Result<(), Stop>
-        ensures { Stepped (Going (meant.valued (state_of self.old))) (state_of self.old) self.new result }
+        ensures { Stepped (Going (meant.valued (state_of self.old)))
+            (state_of self.old) self.new result }
     {
         self.place = Place::Quoted;
         let name = mem::replace(&mut self.word, Vec::new(self.alloc));
@@ -132,7 +140,8 @@ impl Reader {
 
     /// A letter of an entity, or its end.
     pub(crate) fn entity(&mut self, at: u32, b: u8, quote: u8, read: Entity) -> Result<(), Stop>
-        ensures { Stepped (meant.entity quote read at (state_of self.old) b) (state_of self.old) self.new result }
+        ensures { Stepped (meant.entity quote read at (state_of self.old) b)
+            (state_of self.old) self.new result }
     {
         if b == b';' {
             return match read.meaning() {

@@ -28,7 +28,8 @@ pub enum Choice {
 pub fn select<T: Tokens>(actor: &Lowered, cells: &mut Cells, state: u16, tokens: &T) -> Choice
     requires made { IsMadeFor actor.now.code cells.old }
     requires state { state < actor.now.fsm.states }
-    ensures choice { chosen_of result ≡ choice actor.now (state_of actor.now state cells.old.numbers) (T.tokens tokens.now) }
+    ensures choice { chosen_of result
+        ≡ choice actor.now (state_of actor.now state cells.old.numbers) (T.tokens tokens.now) }
     ensures keeps { KeepsState actor.now cells.old cells.new }
 {
     // it tells the facts of lowered actors

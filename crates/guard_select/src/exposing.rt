@@ -24,7 +24,8 @@ pub fn is_exposed<T: Tokens>(
     requires made { IsMadeFor actor.now.code cells.old }
     requires state { state < actor.now.fsm.states }
     requires action { a < length actor.now.actions }
-    ensures exposed { result ≡ is_exposed actor.now (state_of actor.now state cells.old.numbers) (T.tokens tokens.now) a }
+    ensures exposed { result ≡ is_exposed actor.now (state_of actor.now state cells.old.numbers)
+        (T.tokens tokens.now) a }
     ensures keeps { KeepsState actor.now cells.old cells.new }
 {
     // it tells that the automaton and the order are of the actor's actions
@@ -46,7 +47,8 @@ fn is_enabled<T: Tokens>(actor: &Lowered, a: u16, cells: &mut Cells, state: u16,
     requires state { state < actor.now.fsm.states }
     requires action { a < length actor.now.actions }
     requires eligible { is_eligible actor.now state a ≡ true }
-    ensures enabled { result ≡ are_true (readiness actor.now (state_of actor.now state cells.old.numbers) (T.tokens tokens.now) a) }
+    ensures enabled { result ≡ are_true
+        (readiness actor.now (state_of actor.now state cells.old.numbers) (T.tokens tokens.now) a) }
     ensures keeps { KeepsState actor.now cells.old cells.new }
 {
     match readiness(actor, a, cells, state, tokens) {

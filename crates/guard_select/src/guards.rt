@@ -37,7 +37,8 @@ pub fn readiness<T: Tokens>(
     requires state { state < actor.now.fsm.states }
     requires action { a < length actor.now.actions }
     requires eligible { is_eligible actor.now state a ≡ true }
-    ensures says { guards_of result ≡ readiness actor.now (state_of actor.now state cells.old.numbers) (T.tokens tokens.now) a }
+    ensures says { guards_of result
+        ≡ readiness actor.now (state_of actor.now state cells.old.numbers) (T.tokens tokens.now) a }
     ensures keeps { KeepsState actor.now cells.old cells.new }
 {
     if !has_its_tokens(actor, a, tokens) {
@@ -53,7 +54,8 @@ fn guards<T: Tokens>(actor: &Lowered, a: u16, cells: &mut Cells, state: u16, tok
     requires action { a < length actor.now.actions }
     requires eligible { is_eligible actor.now state a ≡ true }
     requires has { has_its_tokens actor.now (T.tokens tokens.now) a ≡ true }
-    ensures says { guards_of result ≡ readiness actor.now (state_of actor.now state cells.old.numbers) (T.tokens tokens.now) a }
+    ensures says { guards_of result
+        ≡ readiness actor.now (state_of actor.now state cells.old.numbers) (T.tokens tokens.now) a }
     ensures keeps { KeepsState actor.now cells.old cells.new }
 {
     laws::runs_are_the_meaning();

@@ -95,7 +95,8 @@ fn are_entries(code: &Admitted, entries: &[u32]) -> bool
 
 /// Whether the code has the cells of the tokens to send.
 fn cells_fit(parts: &Parts, action: &ActionCode) -> bool
-    ensures { IsTrue result → (p : ℕ) → p < length action.now.gives.items → p < length action.now.sends.items
+    ensures { IsTrue result → (p : ℕ) → p < length action.now.gives.items
+        → p < length action.now.sends.items
         → number_on action.now.sends.items p + number_on action.now.gives.items p ≤ parts.now.code.cells }
 {
     let cells = u64::from(parts.code.cells());

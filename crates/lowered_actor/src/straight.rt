@@ -53,7 +53,8 @@ fn is_straight(parts: &Parts, action: &ActionCode) -> bool
 
 /// Whether each guard of an action is a straight line.
 fn are_straight_guards(parts: &Parts, action: &ActionCode) -> bool
-    ensures { IsTrue result → are_straight_guards (actor_of parts.now) (action_of action.now) ≡ true }
+    ensures { IsTrue result → are_straight_guards (actor_of parts.now) (action_of action.now)
+        ≡ true }
 {
     for &entry in &action.guards {
         if !is_line(parts, action, false, entry) {
@@ -65,7 +66,8 @@ fn are_straight_guards(parts: &Parts, action: &ActionCode) -> bool
 
 /// Whether the body that begins at an entry is a straight line of a firing or of a guard.
 fn is_line(parts: &Parts, action: &ActionCode, firing: bool, entry: u32) -> bool
-    ensures { IsTrue result → is_line (actor_of parts.now) (action_of action.now) firing (body_at (actor_of parts.now) entry) ≡ true }
+    ensures { IsTrue result → is_line (actor_of parts.now) (action_of action.now) firing
+        (body_at (actor_of parts.now) entry) ≡ true }
 {
     let instrs = parts.code.instrs();
     for place in entry as usize..instrs.len() {
@@ -145,7 +147,8 @@ fn is_saved(saved: &[StateCell], cell: u32) -> bool
 /// Whether a firing writes in each cell of the tokens to send.
 fn stores_sent(parts: &Parts, action: &ActionCode) -> bool
     requires { Fits (actor_of parts.now) (action_of action.now) }
-    ensures { IsTrue result → stores_sent (action_of action.now) parts.now.outs (body_at (actor_of parts.now) action.now.fire) ≡ true }
+    ensures { IsTrue result → stores_sent (action_of action.now) parts.now.outs
+        (body_at (actor_of parts.now) action.now.fire) ≡ true }
 {
     for p in 0..parts.outs as usize {
         if !stores_each(parts, action.fire, action.sends[p], action.gives[p]) {

@@ -93,7 +93,8 @@ pub trait Firing: Drop {
     /// Puts a token behind those before an input port.
     fn accept(&mut self, port: u32, token: Num)
         requires port { port < (cell self.old).actor.ins }
-        requires below { length (tokens_on (cell self.old).inboxes port) < number_on (cell self.old).inbox_capacities port }
+        requires below { length (tokens_on (cell self.old).inboxes port) < number_on
+            (cell self.old).inbox_capacities port }
         ensures accepts { Accepts (cell self.old) port token (cell self.new) };
 
     /// How many tokens were sent on an output port and haven't left yet.

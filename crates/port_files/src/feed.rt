@@ -44,7 +44,8 @@ impl Model for TokenFeed {
 
     ghost view = { λ t. record { kind = t.kind; pulled = t.piece; ended = t.ended } };
 
-    ghost invariant = { λ t. IsSize t.kind × (t.ended ≡ true → length t.piece < token_bytes t.kind) };
+    ghost invariant = { λ t. IsSize t.kind
+        × (t.ended ≡ true → length t.piece < token_bytes t.kind) };
 }
 
 impl TokenFeed {

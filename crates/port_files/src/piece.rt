@@ -31,7 +31,8 @@ impl Model for Piece {
 
     ghost view = { λ p. take (p.end - p.start) (drop p.start p.bytes.items) };
 
-    ghost invariant = { λ p. (p.start ≤ p.end) × (p.end ≤ vec_len p.bytes) × (vec_len p.bytes ≡ PIECE_BYTES) };
+    ghost invariant = { λ p. (p.start ≤ p.end) × (p.end ≤ vec_len p.bytes)
+        × (vec_len p.bytes ≡ PIECE_BYTES) };
 }
 
 impl Piece {

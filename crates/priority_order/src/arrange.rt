@@ -42,7 +42,8 @@ fn may_stand(table: &[bool], n: u16, stands: &[bool], number: u16) -> bool
     requires size { length table.now ≡ n * n }
     requires numbers { length stands.now ≡ n }
     requires in_range { number < n }
-    ensures { IsTrue result ↔ MayStand n (Above n table.now) (λ a. IsTrue (slice_index_or stands.now a false)) number }
+    ensures { IsTrue result ↔ MayStand n (Above n table.now)
+        (λ a. IsTrue (slice_index_or stands.now a false)) number }
 {
     if stands[usize::from(number)] {
         return false;

@@ -43,7 +43,8 @@ impl From<AllocError> for OrderFault {
 pub fn close(alloc: Global, pairs: &[(u16, u16)], n: u16) -> Result<Order, OrderFault>
     requires { IsInRange pairs.now n }
     ensures count { IfOk result (λ order. order.count ≡ n) }
-    ensures above { IfOk result (λ order. (a b : ℕ) → a < n → b < n → IsTrue (is_above order a b) ↔ IsAbove pairs.now a b) }
+    ensures above { IfOk result (λ order. (a b : ℕ) → a < n → b < n → IsTrue (is_above order a b)
+        ↔ IsAbove pairs.now a b) }
     ensures line { IfOk result (λ order. IsLine n (IsAbove pairs.now) order.line) }
     ensures without_cycle { IfOk result (λ _. (a : ℕ) → ¬ IsAbove pairs.now a a) }
     ensures cycle { IfErr result (IsCause pairs.now) }

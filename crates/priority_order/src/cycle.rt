@@ -86,7 +86,8 @@ fn next_on_cycle(pairs: &[(u16, u16)], table: &[bool], n: u16, current: u16) -> 
 /// Turns a ring so that its least number stands first.
 fn turn_least_first(ring: &mut [u16])
     requires { 0 < length ring.old }
-    ensures turned { (k : ℕ) × IsFirstBest nat_lt ring.old (length ring.old) k × (ring.new ≡ drop k ring.old ++ take k ring.old) }
+    ensures turned { (k : ℕ) × IsFirstBest nat_lt ring.old (length ring.old) k
+        × (ring.new ≡ drop k ring.old ++ take k ring.old) }
 {
     let least = place_of_least(ring);
     ring.rotate_left(least);

@@ -17,9 +17,11 @@ impl Model for Order {
 
     ghost Value = { Ranking };
 
-    ghost view = { λ order. record { count = order.count; cells = order.cells.items; line = order.line.items } };
+    ghost view = { λ order. record
+        { count = order.count; cells = order.cells.items; line = order.line.items } };
 
-    ghost invariant = { λ order. IsOrder (record { count = order.count; cells = order.cells.items; line = order.line.items }) };
+    ghost invariant = { λ order. IsOrder
+        (record { count = order.count; cells = order.cells.items; line = order.line.items }) };
 }
 
 impl Order {
@@ -32,7 +34,8 @@ impl Order {
         requires b_in_range { b < self.now.count }
         ensures answer { result ≡ is_above self.now a b }
         ensures not_itself { a ≡ b → ¬ IsTrue result }
-        ensures carries { IsTrue result → (c : ℕ) → c < self.now.count → IsTrue (is_above self.now b c) → IsTrue (is_above self.now a c) }
+        ensures carries { IsTrue result → (c : ℕ) → c < self.now.count
+            → IsTrue (is_above self.now b c) → IsTrue (is_above self.now a c) }
     {
         self.cells[usize::from(a) * usize::from(self.count) + usize::from(b)]
     }
@@ -43,7 +46,9 @@ impl Order {
         ensures in_range { All (λ a. a < self.now.count) result.now }
         ensures each { (a : ℕ) → a < self.now.count → Contains result.now a }
         ensures once { AllPairs (λ a b. a ≢ b) result.now }
-        ensures after { (k a : ℕ) → k < length result.now → a < self.now.count → IsTrue (is_above self.now a (slice_index result.now k)) → Contains (take k result.now) a }
+        ensures after { (k a : ℕ) → k < length result.now → a < self.now.count
+            → IsTrue (is_above self.now a (slice_index result.now k))
+            → Contains (take k result.now) a }
         ensures least { IsLine self.now.count (λ a b. IsTrue (is_above self.now a b)) result.now }
     {
         self.line.as_slice()

@@ -17,7 +17,8 @@ pub(crate) fn place(columns: u16, row: u16, column: u16) -> usize
 fn declared(alloc: Global, pairs: &[(u16, u16)], n: u16) -> Result<Vec<bool>, AllocError>
     requires { IsInRange pairs.now n }
     ensures size { IfOk result (λ table. length table.items ≡ n * n) }
-    ensures pairs { IfOk result (λ table. (a b : ℕ) → a < n → b < n → IsTrue (cell n table.items a b) ↔ Contains pairs.now (a, b)) }
+    ensures pairs { IfOk result (λ table. (a b : ℕ) → a < n → b < n
+        → IsTrue (cell n table.items a b) ↔ Contains pairs.now (a, b)) }
 {
     let mut table = vec![in alloc; false; usize::from(n) * usize::from(n)]?;
     for (above, below) in pairs {

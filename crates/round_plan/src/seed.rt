@@ -67,7 +67,8 @@ impl Policy for SeedPolicy {
 /// last of these numbers.
 fn mark_by_sequence(last: u64, picked: &mut [bool]) -> u64
     ensures last { result ≡ number_at last (length picked.old) }
-    ensures marks { picked.new ≡ map (λ k. has_highest_bit (number_at last (k + 1))) (range_with_len 0 (length picked.old)) }
+    ensures marks { picked.new ≡ map
+        (λ k. has_highest_bit (number_at last (k + 1))) (range_with_len 0 (length picked.old)) }
 {
     let mut number = last;
     for k in 0..picked.len() {

@@ -33,7 +33,12 @@ impl Model for MemDrains {
 
     ghost Value = { DrainsState };
 
-    ghost view = { λ d. record { step = d.step; room = d.room; held = held_by_each d.channels.items; calls = d.calls } };
+    ghost view = { λ d. record {
+      step = d.step;
+      room = d.room;
+      held = held_by_each d.channels.items;
+      calls = d.calls;
+    } };
 
     ghost invariant = { λ d. (0 < d.step) × EachHasRoom d.room d.channels.items };
 }

@@ -36,7 +36,13 @@ impl Model for MemFeeds {
 
     ghost Value = { FeedsState };
 
-    ghost view = { λ f. record { files = map named f.files.items; step = f.step; left = left_of_each (map named f.files.items) f.readings.items; calls = f.calls } };
+    ghost view = { λ f. record {
+      files = map named f.files.items;
+      step = f.step;
+      left = left_of_each
+          (map named f.files.items) f.readings.items;
+      calls = f.calls;
+    } };
 
     ghost invariant = { λ f. (0 < f.step) × AreWithin (map named f.files.items) f.readings.items };
 }

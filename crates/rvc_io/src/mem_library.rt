@@ -29,7 +29,11 @@ impl Model for MemLibrary {
 
     ghost Value = { LibraryState };
 
-    ghost view = { λ l. record { files = map named l.files.items; calls = l.calls; misses = l.misses } };
+    ghost view = { λ l. record {
+      files = map named l.files.items;
+      calls = l.calls;
+      misses = l.misses;
+    } };
 }
 
 impl MemLibrary {

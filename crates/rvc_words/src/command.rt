@@ -66,7 +66,8 @@ pub fn matches<'a>(alloc: Global, words: &'a [String]) -> Result<ArgMatches<'a>,
     ensures accepted { IfOk result (λ _. refuses (texts words.now) ≡ false) }
     ensures matched { IfOk result (λ m. rows_of (found_of m) ≡ matches (texts words.now)) }
     ensures usage { (cause : Cause) → result ≡ Err (Usage cause) → cause ≡ Words }
-    ensures refused { (cause : Cause) → result ≡ Err (Usage cause) → refuses (texts words.now) ≡ true }
+    ensures refused { (cause : Cause) → result ≡ Err (Usage cause)
+        → refuses (texts words.now) ≡ true }
 {
     match command(alloc)?.try_get_matches_from(words) {
         Ok(matches) => Ok(matches),

@@ -32,7 +32,8 @@ use std::alloc::{AllocError, Global};
 #[tactic(auto, unfolding(crate::specs::Words::job))]
 pub fn read_words(alloc: Global, words: &[String]) -> Result<Job, WordFault>
     ensures read { IfOk result (λ given. job (texts words.now) ≡ Ok (job_text given)) }
-    ensures usage { (cause : Cause) → result ≡ Err (Usage cause) → job (texts words.now) ≡ Err cause }
+    ensures usage { (cause : Cause) → result ≡ Err (Usage cause)
+        → job (texts words.now) ≡ Err cause }
     ensures within { IfOk result (λ given. IsWithin (job_text given)) }
 {
     let found = matches(alloc, words)?;
@@ -42,7 +43,8 @@ pub fn read_words(alloc: Global, words: &[String]) -> Result<Job, WordFault>
 /// What the parts of a command ask for.
 fn asked(alloc: Global, parts: Parts<'_, '_>) -> Result<Job, WordFault>
     ensures read { IfOk result (λ given. asked (parts_text parts.entry) ≡ Ok (job_text given)) }
-    ensures usage { (cause : Cause) → result ≡ Err (Usage cause) → asked (parts_text parts.entry) ≡ Err cause }
+    ensures usage { (cause : Cause) → result ≡ Err (Usage cause)
+        → asked (parts_text parts.entry) ≡ Err cause }
     ensures within { IfOk result (λ given. IsWithin (job_text given)) }
 {
     let verb = verb_of(parts.verb).ok_or(UsageCause::Verb)?;

@@ -51,9 +51,14 @@ impl Model for Fsm {
 
     ghost Value = { Automaton };
 
-    ghost view = { λ fsm. record { states = fsm.states; actions = fsm.actions; targets = fsm.targets.items } };
+    ghost view = { λ fsm. record {
+      states = fsm.states;
+      actions = fsm.actions;
+      targets = fsm.targets.items;
+    } };
 
-    ghost invariant = { λ fsm. IsWhole (record { states = fsm.states; actions = fsm.actions; targets = fsm.targets.items }) };
+    ghost invariant = { λ fsm. IsWhole
+        (record { states = fsm.states; actions = fsm.actions; targets = fsm.targets.items }) };
 }
 
 impl Fsm {
@@ -107,9 +112,11 @@ pub fn build(alloc: Global, steps: &[Step], free: &[bool], states: u16) -> Resul
     requires free_take_no_step { All (λ step. ¬ IsFree free.now step.action) steps.now }
     ensures states { IfOk result (λ fsm. fsm.states ≡ states) }
     ensures actions { IfOk result (λ fsm. fsm.actions ≡ length free.now) }
-    ensures leads { IfOk result (λ fsm. (state action to : ℕ) → state < states → action < length free.now
+    ensures leads { IfOk result (λ fsm. (state action to : ℕ) → state < states
+        → action < length free.now
         → (target fsm state action ≡ Some to) ↔ Leads steps.now free.now state action to) }
-    ensures unambiguous { IfOk result (λ _. (state action : ℕ) → ¬ HasTwoTargets steps.now state action) }
+    ensures unambiguous { IfOk result
+        (λ _. (state action : ℕ) → ¬ HasTwoTargets steps.now state action) }
     ensures ambiguous { IfErr result (IsCause steps.now) }
 {
     let mut targets = free_moves(alloc, free, states)?;
@@ -127,9 +134,12 @@ pub fn build(alloc: Global, steps: &[Step], free: &[bool], states: u16) -> Resul
 /// state already.
 fn add_step(targets: &mut [Option<u16>], columns: usize, step: Step) -> Result<(), FsmFault>
     requires { step.from * columns + step.action < length targets.old }
-    ensures entered { OnOk result (targets.new ≡ slice_set targets.old (step.from * columns + step.action) (Some step.to)) }
-    ensures the_same { OnOk result ((to : ℕ) → entry columns targets.old step.from step.action ≡ Some to → to ≡ step.to) }
-    ensures another { IfErr result (IsTaken step (entry columns targets.old step.from step.action)) }
+    ensures entered { OnOk result (targets.new
+        ≡ slice_set targets.old (step.from * columns + step.action) (Some step.to)) }
+    ensures the_same { OnOk result
+        ((to : ℕ) → entry columns targets.old step.from step.action ≡ Some to → to ≡ step.to) }
+    ensures another { IfErr result
+        (IsTaken step (entry columns targets.old step.from step.action)) }
 {
     let place = usize::from(step.from) * columns + usize::from(step.action);
     match targets[place] {

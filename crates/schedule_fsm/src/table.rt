@@ -13,7 +13,8 @@ pub(crate) fn free_moves(
     states: u16,
 ) -> Result<Vec<Option<u16>>, AllocError>
     ensures size { IfOk result (λ table. length table.items ≡ states * length free.now) }
-    ensures stays { IfOk result (λ table. (state action : ℕ) → state < states → action < length free.now
+    ensures stays { IfOk result (λ table. (state action : ℕ) → state < states
+        → action < length free.now
         → entry (length free.now) table.items state action ≡ stay state (slice_index_or free.now action false)) }
 {
     let mut table = Vec::new(alloc);

@@ -82,7 +82,10 @@ impl Ring {
     /// Puts a token behind the others.
     pub fn push(&mut self, v: Num)
         requires { length self.old.tokens < self.old.capacity }
-        ensures { self.new ≡ record { tokens = self.old.tokens ++ v ∷ []; capacity = self.old.capacity } }
+        ensures { self.new ≡ record {
+          tokens = self.old.tokens ++ v ∷ [];
+          capacity = self.old.capacity;
+        } }
     {
         let _ = self.tokens.push_back(v);
     }
@@ -90,7 +93,10 @@ impl Ring {
     /// Drops the first `n` tokens.
     pub fn take(&mut self, n: u32)
         requires { n ≤ length self.old.tokens }
-        ensures { self.new ≡ record { tokens = drop n self.old.tokens; capacity = self.old.capacity } }
+        ensures { self.new ≡ record {
+          tokens = drop n self.old.tokens;
+          capacity = self.old.capacity;
+        } }
     {
         let kept = self.tokens.len() - n as usize;
         self.tokens.truncate_front(kept);

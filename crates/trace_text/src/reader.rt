@@ -52,12 +52,18 @@ impl LineReader {
     /// `Bad` if the bytes since the last line feed, with this one, begin no line (`bad`). After it each byte up to the
     /// next line feed is `Bad`, and that line feed too.
     pub fn next(&mut self, byte: u8) -> Step2
-        ensures line { (read : List ℕ) (line : TheLine) → HasRead self.old read → (result ≡ Step2.Line line) ↔ Spells line (read ++ byte ∷ []) }
-        ensures more { (read : List ℕ) → HasRead self.old read → (result ≡ Step2.More) ↔ IsFront (read ++ byte ∷ []) }
-        ensures bad { (read : List ℕ) → HasRead self.old read → (result ≡ Step2.Bad) ↔ ¬ Begins (read ++ byte ∷ []) }
-        ensures read { (read : List ℕ) → HasRead self.old read → HasRead self.new (since_line_feed read byte) }
-        ensures answer { (read : List ℕ) → HasRead self.old read → IsAnswer (read ++ byte ∷ []) result }
-        ensures told { (lines : List TheLine) (text : List ℕ) → HasTold self.old lines text → TellsOn self.new lines (text ++ byte ∷ []) result }
+        ensures line { (read : List ℕ) (line : TheLine) → HasRead self.old read
+            → (result ≡ Step2.Line line) ↔ Spells line (read ++ byte ∷ []) }
+        ensures more { (read : List ℕ) → HasRead self.old read → (result ≡ Step2.More)
+            ↔ IsFront (read ++ byte ∷ []) }
+        ensures bad { (read : List ℕ) → HasRead self.old read → (result ≡ Step2.Bad)
+            ↔ ¬ Begins (read ++ byte ∷ []) }
+        ensures read { (read : List ℕ) → HasRead self.old read
+            → HasRead self.new (since_line_feed read byte) }
+        ensures answer { (read : List ℕ) → HasRead self.old read
+            → IsAnswer (read ++ byte ∷ []) result }
+        ensures told { (lines : List TheLine) (text : List ℕ) → HasTold self.old lines text
+            → TellsOn self.new lines (text ++ byte ∷ []) result }
     {
         let place = advance(self.place, byte);
         self.place = if byte == b'\n' { Place::Start } else { place };

@@ -66,7 +66,8 @@ pub fn write_line(line: &Line, out: &mut ArrayVec<u8, 64>)
 pub fn write_front(inst: u32, out: &mut ArrayVec<u8, 64>)
     requires empty { out.old.items ≡ [] }
     ensures text { out.new.items ≡ line_text (Inst inst) }
-    ensures spelled { (path class : List ℕ) → IsPath path → IsClass class → Spells (Inst inst) (out.new.items ++ path ++ codes " " ++ class ++ line_feed) }
+    ensures spelled { (path class : List ℕ) → IsPath path → IsClass class
+        → Spells (Inst inst) (out.new.items ++ path ++ codes " " ++ class ++ line_feed) }
 {
     push_text(b"i", out);
     push_number(inst, out);

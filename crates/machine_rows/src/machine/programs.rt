@@ -43,7 +43,8 @@ pub(super) const PORTS: Ports = Ports {
 };
 
 impl Tokens for Ports {
-    ghost tokens = { λ ports p. if p == 0 then ports.first else if p == 1 then ports.second else [] };
+    ghost tokens = { λ ports p. if p == 0 then ports.first else if p == 1 then ports.second else
+        [] };
 
     fn count(&self, port: u32) -> u32 {
         match port {

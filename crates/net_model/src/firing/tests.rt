@@ -38,9 +38,13 @@ impl TableCell {
     /// The first action that has its tokens.
     fn selected(&self) -> Option<usize>
         ensures low { IfSome result (λ a. a < length self.now.rows) }
-        ensures has { IfSome result (λ a. takes_of (slice_get (map row_of self.now.rows) a) ≤ length self.now.inbox.items) }
-        ensures earlier { IfSome result (λ a. (b : ℕ) → b < a → length self.now.inbox.items < takes_of (slice_get (map row_of self.now.rows) b)) }
-        ensures none { IfNone result (NoneHas (map row_of self.now.rows) (length self.now.inbox.items)) }
+        ensures has { IfSome result (λ a. takes_of
+            (slice_get (map row_of self.now.rows) a) ≤ length self.now.inbox.items) }
+        ensures earlier { IfSome result
+            (λ a. (b : ℕ) → b < a → length self.now.inbox.items < takes_of
+            (slice_get (map row_of self.now.rows) b)) }
+        ensures none { IfNone result (NoneHas (map row_of self.now.rows)
+            (length self.now.inbox.items)) }
     {
         let waiting = self.inbox.len();
         for a in 0..self.rows.len() {
@@ -53,8 +57,10 @@ impl TableCell {
 
     /// What selection gives now.
     fn look_at(&self, rooms: &[u32]) -> Look
-        requires { AreRooms (table_cell self.now.rows self.now.inbox.items self.now.outbox.items self.now.journal.items self.now.trapped) rooms.now }
-        ensures { Looks rooms.now (table_cell self.now.rows self.now.inbox.items self.now.outbox.items self.now.journal.items self.now.trapped) result }
+        requires { AreRooms (table_cell self.now.rows self.now.inbox.items self.now.outbox.items
+            self.now.journal.items self.now.trapped) rooms.now }
+        ensures { Looks rooms.now (table_cell self.now.rows self.now.inbox.items
+            self.now.outbox.items self.now.journal.items self.now.trapped) result }
     {
         let Some(a) = self.selected() else {
             return Look::Waits;
