@@ -21,8 +21,10 @@ Moves instr operands cells left = (tokens : ℕ → List ℤ) → effect tokens 
 
 -- whatever the tokens and the cells are, it comes to this on these operands: others, and the same cells, or a trap
 abbrev pub Computes : Instr → List ℤ → Acted → List ℤ → Type 0
-Computes instr operands acted left = (cells : List ℤ) → Moves instr operands cells (effect_of acted left cells)
+Computes instr operands acted left = (cells : List ℤ)
+    → Moves instr operands cells (effect_of acted left cells)
 
 -- whatever the operands are, it comes to this on these cells: the same operands, and other cells
 abbrev pub Rewrites : Instr → List ℤ → Acted → List ℤ → Type 0
-Rewrites instr cells acted left = (operands : List ℤ) → Moves instr operands cells (effect_of acted operands left)
+Rewrites instr cells acted left = (operands : List ℤ)
+    → Moves instr operands cells (effect_of acted operands left)

@@ -13,7 +13,14 @@ use Rattle.action_machine.specs.Stacks.{top_first}
 
 -- the state that the registers, the slices of operands and of open calls, and the cells are
 abbrev pub state_of : Registers → List ℤ → List ℕ → List ℤ → State
-state_of at stack frames cells = record { place = at.place; stack = top_first (pos 0) at.top stack; frames = top_first 0 at.depth frames; cells = cells; left = at.left }
+state_of at stack frames cells =
+    record {
+      place = at.place;
+      stack = top_first (pos 0) at.top stack;
+      frames = top_first 0 at.depth frames;
+      cells = cells;
+      left = at.left;
+    }
 
 -- what a step comes to: no outcome if the run goes on
 abbrev pub next_of : Option Outcome → State → Next
@@ -33,7 +40,8 @@ rises (op.Token p k) = 1
 rises instr = 0
 
 -- a state of a run that has its tokens, with the room for it
-pub record IsReady (code : Code) (tokens : ℕ → List ℤ) (s : State) (operands calls : ℕ) : Type 0 where
+pub record IsReady (code : Code) (tokens : ℕ → List ℤ) (s : State) (operands calls : ℕ) :
+    Type 0 where
   pub admitted : IsAdmitted code
   pub sized : AllSized code.instrs
   pub room : HasRoom code operands calls

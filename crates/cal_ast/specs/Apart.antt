@@ -12,16 +12,24 @@ unplaced (cons t u) = cons (unplaced t) (unplaced u)
 unplaced (ident text at) = ident text 0
 unplaced (tag parts at) = tag (unplaced parts) 0
 unplaced (import_part path last at) = import_part (unplaced path) (unplaced last) 0
-unplaced (file in_package imports body at) = file (unplaced in_package) (unplaced imports) (unplaced body) 0
-unplaced (actor name params ins outs members at) = actor (unplaced name) (unplaced params) (unplaced ins) (unplaced outs) (unplaced members) 0
+unplaced (file in_package imports body at) =
+    file (unplaced in_package) (unplaced imports) (unplaced body) 0
+unplaced (actor name params ins outs members at) =
+    actor (unplaced name) (unplaced params) (unplaced ins) (unplaced outs) (unplaced members) 0
 unplaced (unit name members at) = unit (unplaced name) (unplaced members) 0
 unplaced (param shape name start at) = param (unplaced shape) (unplaced name) (unplaced start) 0
 unplaced (port shape name at) = port (unplaced shape) (unplaced name) 0
-unplaced (var shape name start changes at) = var (unplaced shape) (unplaced name) (unplaced start) changes 0
-unplaced (function name formals result vars body at) = function (unplaced name) (unplaced formals) (unplaced result) (unplaced vars) (unplaced body) 0
-unplaced (procedure name formals vars body at) = procedure (unplaced name) (unplaced formals) (unplaced vars) (unplaced body) 0
-unplaced (action tags initialize patterns outputs guards vars body at) = action (unplaced tags) initialize (unplaced patterns) (unplaced outputs) (unplaced guards) (unplaced vars) (unplaced body) 0
-unplaced (pattern from names repeat at) = pattern (unplaced from) (unplaced names) (unplaced repeat) 0
+unplaced (var shape name start changes at) =
+    var (unplaced shape) (unplaced name) (unplaced start) changes 0
+unplaced (function name formals result vars body at) =
+    function (unplaced name) (unplaced formals) (unplaced result) (unplaced vars) (unplaced body) 0
+unplaced (procedure name formals vars body at) =
+    procedure (unplaced name) (unplaced formals) (unplaced vars) (unplaced body) 0
+unplaced (action tags initialize patterns outputs guards vars body at) =
+    action (unplaced tags) initialize (unplaced patterns) (unplaced outputs) (unplaced guards)
+    (unplaced vars) (unplaced body) 0
+unplaced (pattern from names repeat at) =
+    pattern (unplaced from) (unplaced names) (unplaced repeat) 0
 unplaced (output to values repeat at) = output (unplaced to) (unplaced values) (unplaced repeat) 0
 unplaced (schedule start moves at) = schedule (unplaced start) (unplaced moves) 0
 unplaced (move from tags to at) = move (unplaced from) (unplaced tags) (unplaced to) 0
@@ -33,7 +41,8 @@ unplaced (assign name places value at) = assign (unplaced name) (unplaced places
 unplaced (call_stmt name args at) = call_stmt (unplaced name) (unplaced args) 0
 unplaced (if_stmt test first other at) = if_stmt (unplaced test) (unplaced first) (unplaced other) 0
 unplaced (while_stmt test body at) = while_stmt (unplaced test) (unplaced body) 0
-unplaced (foreach_stmt shape name from to body at) = foreach_stmt (unplaced shape) (unplaced name) (unplaced from) (unplaced to) (unplaced body) 0
+unplaced (foreach_stmt shape name from to body at) =
+    foreach_stmt (unplaced shape) (unplaced name) (unplaced from) (unplaced to) (unplaced body) 0
 unplaced (block vars body at) = block (unplaced vars) (unplaced body) 0
 unplaced (number value at) = number value 0
 unplaced (truth value at) = truth value 0
@@ -43,7 +52,8 @@ unplaced (paren inner at) = paren (unplaced inner) 0
 unplaced (if_expr test first other at) = if_expr (unplaced test) (unplaced first) (unplaced other) 0
 unplaced (list items at) = list (unplaced items) 0
 unplaced (comp item gens at) = comp (unplaced item) (unplaced gens) 0
-unplaced (gen shape name from to at) = gen (unplaced shape) (unplaced name) (unplaced from) (unplaced to) 0
+unplaced (gen shape name from to at) =
+    gen (unplaced shape) (unplaced name) (unplaced from) (unplaced to) 0
 unplaced (index base place at) = index (unplaced base) (unplaced place) 0
 unplaced (prefix op operand at) = prefix op (unplaced operand) 0
 unplaced (binary op left right at) = binary op (unplaced left) (unplaced right) 0

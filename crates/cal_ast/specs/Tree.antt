@@ -26,7 +26,8 @@ pub data Tree : Type 0 where
   var : (shape name start : Tree) (changes : Bool) (at : ℕ) → Tree
   function : (name formals result vars body : Tree) (at : ℕ) → Tree
   procedure : (name formals vars body : Tree) (at : ℕ) → Tree
-  action : (tag : Tree) (initialize : Bool) (patterns outputs guards vars body : Tree) (at : ℕ) → Tree
+  action : (tag : Tree) (initialize : Bool) (patterns outputs guards vars body : Tree) (at : ℕ)
+      → Tree
   pattern : (port names repeat : Tree) (at : ℕ) → Tree
   output : (port values repeat : Tree) (at : ℕ) → Tree
   schedule : (start moves : Tree) (at : ℕ) → Tree

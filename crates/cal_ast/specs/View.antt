@@ -77,19 +77,24 @@ abbrev pub type_step : TypeExpr-F (ℕ → Tree) Tree Tree Tree Tree → Tree
 type_step t = type_of (ident_tree t.name) (listed t.args.items) t.at
 
 abbrev pub form_tree : ExprForm → ℕ → Tree
-form_tree = fold-ExprForm (ℕ → Tree) Tree Tree Tree Tree form_step type_arg_step expr_step gen_step type_step
+form_tree = fold-ExprForm (ℕ → Tree) Tree Tree Tree Tree form_step type_arg_step expr_step gen_step
+    type_step
 
 abbrev pub type_arg_tree : TypeArg → Tree
-type_arg_tree = fold-TypeArg (ℕ → Tree) Tree Tree Tree Tree form_step type_arg_step expr_step gen_step type_step
+type_arg_tree = fold-TypeArg (ℕ → Tree) Tree Tree Tree Tree form_step type_arg_step expr_step
+    gen_step type_step
 
 abbrev pub expr_tree : Expr → Tree
-expr_tree = fold-Expr (ℕ → Tree) Tree Tree Tree Tree form_step type_arg_step expr_step gen_step type_step
+expr_tree =
+    fold-Expr (ℕ → Tree) Tree Tree Tree Tree form_step type_arg_step expr_step gen_step type_step
 
 abbrev pub gen_tree : Gen → Tree
-gen_tree = fold-Gen (ℕ → Tree) Tree Tree Tree Tree form_step type_arg_step expr_step gen_step type_step
+gen_tree =
+    fold-Gen (ℕ → Tree) Tree Tree Tree Tree form_step type_arg_step expr_step gen_step type_step
 
 abbrev pub type_tree : TypeExpr → Tree
-type_tree = fold-TypeExpr (ℕ → Tree) Tree Tree Tree Tree form_step type_arg_step expr_step gen_step type_step
+type_tree = fold-TypeExpr (ℕ → Tree) Tree Tree Tree Tree form_step type_arg_step expr_step gen_step
+    type_step
 
 abbrev pub optional_expr : Option Expr → Tree
 optional_expr e = optional (option_map expr_tree e)
@@ -106,7 +111,8 @@ abbrev pub var_tree : VarDecl → Tree
 var_tree v = var (type_tree v.shape) (ident_tree v.name) (optional_expr v.start) v.changes v.at
 
 abbrev pub function_tree : Function → Tree
-function_tree f = function (ident_tree f.name) (listed (map port_tree f.formals.items)) (type_tree f.result) (listed (map var_tree f.vars.items)) (expr_tree f.body) f.at
+function_tree f = function (ident_tree f.name) (listed (map port_tree f.formals.items))
+    (type_tree f.result) (listed (map var_tree f.vars.items)) (expr_tree f.body) f.at
 
 -- statements
 
@@ -115,12 +121,18 @@ optional_stmts None = absent
 optional_stmts (Some ts) = present (listed ts.items)
 
 abbrev pub stmt_form_step : StmtForm-F (ℕ → Tree) Tree → ℕ → Tree
-stmt_form_step (StmtForm-F.Assign name places value) at = assign (ident_tree name) (listed (map expr_tree places.items)) (expr_tree value) at
-stmt_form_step (StmtForm-F.Call name args) at = call_stmt (ident_tree name) (listed (map expr_tree args.items)) at
-stmt_form_step (StmtForm-F.If test first other) at = if_stmt (expr_tree test) (listed first.items) (optional_stmts other) at
+stmt_form_step (StmtForm-F.Assign name places value) at =
+    assign (ident_tree name) (listed (map expr_tree places.items)) (expr_tree value) at
+stmt_form_step (StmtForm-F.Call name args) at =
+    call_stmt (ident_tree name) (listed (map expr_tree args.items)) at
+stmt_form_step (StmtForm-F.If test first other) at =
+    if_stmt (expr_tree test) (listed first.items) (optional_stmts other) at
 stmt_form_step (StmtForm-F.While test body) at = while_stmt (expr_tree test) (listed body.items) at
-stmt_form_step (StmtForm-F.Foreach shape name from to body) at = foreach_stmt (type_tree shape) (ident_tree name) (expr_tree from) (expr_tree to) (listed body.items) at
-stmt_form_step (StmtForm-F.Block vars body) at = block (listed (map var_tree vars.items)) (listed body.items) at
+stmt_form_step (StmtForm-F.Foreach shape name from to body) at =
+    foreach_stmt (type_tree shape) (ident_tree name) (expr_tree from) (expr_tree to)
+    (listed body.items) at
+stmt_form_step (StmtForm-F.Block vars body) at =
+    block (listed (map var_tree vars.items)) (listed body.items) at
 
 abbrev pub stmt_step : Stmt-F (ℕ → Tree) Tree → Tree
 stmt_step s = s.form s.at
@@ -134,20 +146,26 @@ stmt_tree = fold-Stmt (ℕ → Tree) Tree stmt_form_step stmt_step
 -- the other members
 
 abbrev pub procedure_tree : Procedure → Tree
-procedure_tree p = procedure (ident_tree p.name) (listed (map port_tree p.formals.items)) (listed (map var_tree p.vars.items)) (listed (map stmt_tree p.body.items)) p.at
+procedure_tree p = procedure (ident_tree p.name) (listed (map port_tree p.formals.items))
+    (listed (map var_tree p.vars.items)) (listed (map stmt_tree p.body.items)) p.at
 
 abbrev pub pattern_tree : Pattern → Tree
-pattern_tree p = pattern (optional (option_map ident_tree p.port)) (listed (map ident_tree p.names.items)) (optional_expr p.repeat) p.at
+pattern_tree p = pattern (optional (option_map ident_tree p.port))
+    (listed (map ident_tree p.names.items)) (optional_expr p.repeat) p.at
 
 abbrev pub output_tree : Output → Tree
-output_tree o = output (optional (option_map ident_tree o.port)) (listed (map expr_tree o.values.items)) (optional_expr o.repeat) o.at
+output_tree o = output (optional (option_map ident_tree o.port))
+    (listed (map expr_tree o.values.items)) (optional_expr o.repeat) o.at
 
 abbrev pub body_tree : Option (Vec Stmt Global) → Tree
 body_tree None = absent
 body_tree (Some body) = present (listed (map stmt_tree body.items))
 
 abbrev pub action_tree : Action → Tree
-action_tree a = action (optional (option_map tag_tree a.tag)) a.initialize (listed (map pattern_tree a.patterns.items)) (listed (map output_tree a.outputs.items)) (listed (map expr_tree a.guards.items)) (listed (map var_tree a.vars.items)) (body_tree a.body) a.at
+action_tree a = action (optional (option_map tag_tree a.tag)) a.initialize
+    (listed (map pattern_tree a.patterns.items)) (listed (map output_tree a.outputs.items))
+    (listed (map expr_tree a.guards.items)) (listed (map var_tree a.vars.items))
+    (body_tree a.body) a.at
 
 abbrev pub move_tree : Move → Tree
 move_tree m = move (ident_tree m.from) (listed (map tag_tree m.tags.items)) (ident_tree m.to) m.at
@@ -172,7 +190,9 @@ member_tree (members.Priority p) = priority_tree p
 -- files
 
 abbrev pub actor_tree : Actor → Tree
-actor_tree a = actor (ident_tree a.name) (listed (map param_tree a.params.items)) (listed (map port_tree a.ins.items)) (listed (map port_tree a.outs.items)) (listed (map member_tree a.members.items)) a.at
+actor_tree a = actor (ident_tree a.name) (listed (map param_tree a.params.items))
+    (listed (map port_tree a.ins.items)) (listed (map port_tree a.outs.items))
+    (listed (map member_tree a.members.items)) a.at
 
 abbrev pub unit_tree : UnitFile → Tree
 unit_tree u = unit (ident_tree u.name) (listed (map member_tree u.members.items)) u.at
@@ -182,7 +202,9 @@ file_body_tree (bodies.Actor a) = actor_tree a
 file_body_tree (bodies.Unit u) = unit_tree u
 
 abbrev pub import_tree : Import → Tree
-import_tree i = import_part (listed (map ident_tree i.path.items)) (optional (option_map ident_tree i.last)) i.at
+import_tree i = import_part (listed (map ident_tree i.path.items))
+    (optional (option_map ident_tree i.last)) i.at
 
 abbrev pub file_tree : File → Tree
-file_tree f = file (optional (option_map tag_tree f.package)) (listed (map import_tree f.imports.items)) (file_body_tree f.body) f.at
+file_tree f = file (optional (option_map tag_tree f.package))
+    (listed (map import_tree f.imports.items)) (file_body_tree f.body) f.at

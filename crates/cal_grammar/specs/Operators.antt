@@ -105,7 +105,8 @@ group q x = paren x q
 
 -- an action under a tag, which its offset is then
 abbrev pub with_tag : Tree → Tree → Tree
-with_tag t (action none initialize patterns outputs guards vars body at) = action (present t) initialize patterns outputs guards vars body (begins t)
+with_tag t (action none initialize patterns outputs guards vars body at) =
+    action (present t) initialize patterns outputs guards vars body (begins t)
 with_tag t x = x
 
 -- the dotted path of an import, with one name more at its front
@@ -138,14 +139,18 @@ height (ident text at) = 0
 height (tag parts at) = 0
 height (import_part path last at) = 0
 height (file in_package imports body at) = height body
-height (actor nm params ins outs members at) = max (height params) (max (height ins) (max (height outs) (height members)))
+height (actor nm params ins outs members at) =
+    max (height params) (max (height ins) (max (height outs) (height members)))
 height (unit nm members at) = height members
 height (param shape nm start at) = max (height shape) (height start)
 height (port shape nm at) = height shape
 height (var shape nm start changes at) = max (height shape) (height start)
-height (function nm formals result vars body at) = max (height formals) (max (height result) (max (height vars) (height body)))
+height (function nm formals result vars body at) =
+    max (height formals) (max (height result) (max (height vars) (height body)))
 height (procedure nm formals vars body at) = max (height formals) (max (height vars) (height body))
-height (action t initialize patterns outputs guards vars body at) = max (height patterns) (max (height outputs) (max (height guards) (max (height vars) (height body))))
+height (action t initialize patterns outputs guards vars body at) =
+    max (height patterns) (max (height outputs)
+    (max (height guards) (max (height vars) (height body))))
 height (pattern from names repeat at) = height repeat
 height (output to values repeat at) = max (height values) (height repeat)
 height (schedule start moves at) = 0
@@ -158,7 +163,8 @@ height (assign nm places value at) = suc (max (height places) (height value))
 height (call_stmt nm args at) = suc (height args)
 height (if_stmt test first other at) = suc (max (height test) (max (height first) (height other)))
 height (while_stmt test body at) = suc (max (height test) (height body))
-height (foreach_stmt shape nm from to body at) = suc (max (height shape) (max (height from) (max (height to) (height body))))
+height (foreach_stmt shape nm from to body at) =
+    suc (max (height shape) (max (height from) (max (height to) (height body))))
 height (block vars body at) = suc (max (height vars) (height body))
 height (number value at) = 1
 height (truth value at) = 1

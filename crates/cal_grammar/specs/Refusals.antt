@@ -26,10 +26,13 @@ place_in end (t ∷ ts) = offset t
 
 -- which rule of the grammar the tokens of a text of this length break, and where
 pub data Breaks (end : ℕ) (ts : List Placed) : Rule → ℕ → Type 0 where
-  breaks_off : (left : List Placed) → IsNoFile ts left → Breaks end ts spells_no_file (place_in end left)
-  grows_high : (t : Placed) (left : List Placed) → IsHighFile ts (t ∷ left) → Breaks end ts too_high (offset t)
+  breaks_off : (left : List Placed) → IsNoFile ts left
+      → Breaks end ts spells_no_file (place_in end left)
+  grows_high : (t : Placed) (left : List Placed) → IsHighFile ts (t ∷ left)
+      → Breaks end ts too_high (offset t)
 
 -- a refusal names this file, and what its tokens break; running out of memory says nothing of them
 abbrev pub IsRightly : ℕ → ℕ → List Placed → Answer → Type 0
-IsRightly number end ts (Refused refusal) = (refusal.place.file ≡ number) × Breaks end ts refusal.rule refusal.place.offset
+IsRightly number end ts (Refused refusal) = (refusal.place.file ≡ number)
+    × Breaks end ts refusal.rule refusal.place.offset
 IsRightly number end ts Memory = Unit {0}

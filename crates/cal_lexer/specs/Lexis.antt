@@ -55,7 +55,8 @@ max_name = 255
 
 -- a letter or `_` followed by letters, digits and `_`, and no reserved word
 unfoldable pub is_name : List ℕ → Bool
-is_name text = begins_name (slice_index text 0) && list_all goes_on_name text && not (is_some (reserved text))
+is_name text =
+    begins_name (slice_index text 0) && list_all goes_on_name text && not (is_some (reserved text))
 
 abbrev pub symbols_of_three : List (List ℕ × Lexeme)
 symbols_of_three =
@@ -72,7 +73,8 @@ symbols_of_one =
     Plus ∷ Minus ∷ Star ∷ Slash ∷ Equal ∷ Less ∷ Greater ∷ Ampersand ∷ Bar ∷ Caret ∷ Tilde ∷ [])
 
 abbrev pub symbol : List ℕ → Option Lexeme
-symbol text = first_of_both (find text symbols_of_three) (first_of_both (find text symbols_of_two) (find text symbols_of_one))
+symbol text = first_of_both (find text symbols_of_three)
+    (first_of_both (find text symbols_of_two) (find text symbols_of_one))
 
 -- the value of a digit in a base up to 16, in either case
 abbrev pub digit_value : ℕ → ℕ
@@ -84,16 +86,20 @@ value_of base digits = fold (λ value b. value * base + digit_value b) 0 digits
 
 -- a word is a name unless it is reserved
 abbrev pub word : List ℕ → Option Lexeme
-word text = if list_all goes_on_name text then first_of_both (reserved text) (Some (Name text)) else None
+word text = if list_all goes_on_name text then first_of_both (reserved text) (Some (Name text))
+    else None
 
 -- `0x` and hexadecimal digits
 abbrev pub hexadecimal : List ℕ → Option Lexeme
 hexadecimal text =
-    if (slice_index text 0 == 48) && (nat_lt 2 (length text) && list_all is_ascii_hexdigit (drop 2 text)) then Some (Number (value_of 16 (drop 2 text))) else None
+    if (slice_index text 0 == 48) &&
+    (nat_lt 2 (length text) && list_all is_ascii_hexdigit (drop 2 text))
+    then Some (Number (value_of 16 (drop 2 text))) else None
 
 -- digits
 abbrev pub decimal_number : List ℕ → Option Lexeme
-decimal_number text = if list_all is_ascii_digit text then Some (Number (value_of 10 text)) else None
+decimal_number text = if list_all is_ascii_digit text then Some (Number (value_of 10 text))
+    else None
 
 abbrev pub number : List ℕ → Option Lexeme
 number text = if slice_index text 1 == 120 then hexadecimal text else decimal_number text
@@ -120,7 +126,9 @@ at_close bytes = (slice_index bytes 0 == 42) && (slice_index bytes 1 == 47)
 
 -- the bytes that the lexis has outside comments
 abbrev pub in_alphabet : ℕ → Bool
-in_alphabet b = is_blank b || (goes_on_name b || ((b == 34) || ((b == 33) || is_some (find (b ∷ []) symbols_of_one))))
+in_alphabet b =
+    is_blank b || (goes_on_name b ||
+    ((b == 34) || ((b == 33) || is_some (find (b ∷ []) symbols_of_one))))
 
 -- nothing of the lexis begins so: the first byte is outside the alphabet, or a `!` without `=` at once after it
 abbrev pub is_foreign : ℕ → ℕ → Bool
@@ -136,12 +144,14 @@ pub data Front : Type 0 where
 -- what a comment is that begins with `/*`, by the bytes behind these two
 abbrev pub comment : List ℕ → Front
 comment inside =
-    if nat_lt (before at_close inside) (length inside) then Gap (before at_close inside + 4) else Fault open_comment
+    if nat_lt (before at_close inside) (length inside) then Gap (before at_close inside + 4)
+    else Fault open_comment
 
 abbrev pub some_front : List ℕ → Front
 some_front bytes =
     if is_blank (slice_index bytes 0) then Gap 1
-    else (if (slice_index bytes 0 == 47) && (slice_index bytes 1 == 47) then Gap (before at_line_end bytes)
+    else (if (slice_index bytes 0 == 47) && (slice_index bytes 1 == 47)
+    then Gap (before at_line_end bytes)
     else (if (slice_index bytes 0 == 47) && (slice_index bytes 1 == 42) then comment (drop 2 bytes)
     else (if slice_index bytes 0 == 34 then Fault string_literal
     else (if is_foreign (slice_index bytes 0) (slice_index bytes 1) then Fault foreign_byte
@@ -160,11 +170,13 @@ pub record IsNext (bytes : List ℕ) (size : ℕ) (kind : Lexeme) : Type 0 where
 
 -- a number that is followed at once by these bytes runs on
 abbrev pub runs_on : List ℕ → Bool
-runs_on rest = begins_name (slice_index rest 0) || ((slice_index rest 0 == 46) && is_ascii_digit (slice_index rest 1))
+runs_on rest = begins_name (slice_index rest 0) ||
+    ((slice_index rest 0 == 46) && is_ascii_digit (slice_index rest 1))
 
 -- several decimal digits of which the first is 0
 abbrev pub has_leading_zero : List ℕ → Bool
-has_leading_zero text = (slice_index text 0 == 48) && (nat_lt 1 (length text) && list_all is_ascii_digit text)
+has_leading_zero text =
+    (slice_index text 0 == 48) && (nat_lt 1 (length text) && list_all is_ascii_digit text)
 
 -- the first rule that a token breaks, by its text and the bytes behind it
 abbrev pub flaw : Lexeme → List ℕ → List ℕ → Option Rule

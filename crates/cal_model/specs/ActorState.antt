@@ -82,7 +82,8 @@ abbrev mutual
 
 abbrev pub is_single_of : Scalar → ℤ → Bool
 is_single_of scalar.Bool z = false
-is_single_of (scalar.Int n) z = int_le (pos 0) (z +ℤ pos (2 ^ (n - 1))) && int_lt z (pos (2 ^ (n - 1)))
+is_single_of (scalar.Int n) z =
+    int_le (pos 0) (z +ℤ pos (2 ^ (n - 1))) && int_lt z (pos (2 ^ (n - 1)))
 is_single_of (scalar.Uint n) z = int_le (pos 0) z && int_lt z (pos (2 ^ n))
 
 abbrev pub is_truth_type : Scalar → Bool
@@ -105,7 +106,8 @@ abbrev mutual
 -- ---- variables and states
 
 abbrev pub is_var_of : Held → Var → Bool
-is_var_of h x = bytes_eq x.name h.name && is_same_kept x.kept (kept_in h) && is_of h.shape x.value && (h.changes || is_same_value x.value h.value)
+is_var_of h x = bytes_eq x.name h.name && is_same_kept x.kept
+    (kept_in h) && is_of h.shape x.value && (h.changes || is_same_value x.value h.value)
 
 abbrev pub are_vars_of : List Held → List Var → Bool
 are_vars_of [] [] = true
@@ -113,7 +115,8 @@ are_vars_of (h ∷ hs) (x ∷ xs) = is_var_of h x && are_vars_of hs xs
 are_vars_of hs xs = false
 
 abbrev pub is_state_of : Actor → ℕ → Bool
-is_state_of actor s = nat_lt s (states_of actor) || (has_initialize actor.actions && s == fresh actor)
+is_state_of actor s =
+    nat_lt s (states_of actor) || (has_initialize actor.actions && s == fresh actor)
 
 -- the same as `IsActorState`, as a test
 abbrev pub is_actor_state : Actor → State → Bool

@@ -53,7 +53,8 @@ lies_within i a b = int_le a i.low && int_le i.high b
 
 -- the hull of the results at the ends
 abbrev pub at_ends : (ℤ → ℤ → ℤ) → Interval → Interval → Interval
-at_ends f i j = hull (hull (just (f i.low j.low)) (just (f i.low j.high))) (hull (just (f i.high j.low)) (just (f i.high j.high)))
+at_ends f i j = hull (hull (just (f i.low j.low)) (just (f i.low j.high)))
+    (hull (just (f i.high j.low)) (just (f i.high j.high)))
 
 -- the numbers of a type
 abbrev pub type_range : Scalar → Interval
@@ -89,7 +90,9 @@ ranged name (x ∷ xs) = if bytes_eq x.name name then Some x else ranged name xs
 
 abbrev pub ranged_vars : List Held → List Ranged
 ranged_vars [] = []
-ranged_vars (x ∷ xs) = record { name = x.name; shape = x.shape; value = if x.changes then None else Some x.value } ∷ ranged_vars xs
+ranged_vars (x ∷ xs) =
+    record { name = x.name; shape = x.shape; value = if x.changes then None else Some x.value }
+    ∷ ranged_vars xs
 
 abbrev pub shape_of_tokens : Scalar → Option ℕ → Shape
 shape_of_tokens t None = Single t
@@ -98,12 +101,14 @@ shape_of_tokens t (Some n) = Many n (Single t)
 -- the names of a pattern, the later ones in front
 abbrev pub ranged_names : Shape → List (List ℕ) → List Ranged
 ranged_names t [] = []
-ranged_names t (name ∷ names) = ranged_names t names ++ record { name = name; shape = t; value = None } ∷ []
+ranged_names t (name ∷ names) = ranged_names t names
+    ++ record { name = name; shape = t; value = None } ∷ []
 
 -- the pattern variables of an action, those of later patterns in front
 abbrev pub ranged_patterns : Actor → List Pattern → List Ranged
 ranged_patterns actor [] = []
-ranged_patterns actor (q ∷ qs) = ranged_patterns actor qs ++ ranged_names (shape_of_tokens (kind_of_port actor.ins q.port) q.repeat) q.names
+ranged_patterns actor (q ∷ qs) = ranged_patterns actor qs
+    ++ ranged_names (shape_of_tokens (kind_of_port actor.ins q.port) q.repeat) q.names
 
 -- the names that the guards of an action see
 abbrev pub guard_names : Actor → Action → List Ranged
@@ -121,8 +126,10 @@ range_of_both Add i j = fitting (at_ends (λ a b. a +ℤ b) i j)
 range_of_both Sub i j = fitting (at_ends (λ a b. a -ℤ b) i j)
 range_of_both Mul i j = fitting (at_ends (λ a b. a *ℤ b) i j)
 range_of_both Div i j = if int_lt (pos 0) j.low then fitting (hull i (just (pos 0))) else None
-range_of_both Mod i j = if int_lt (pos 0) j.low then fitting (between (pos 1 -ℤ j.high) (j.high -ℤ pos 1)) else None
-range_of_both Shr i j = if lies_within j (pos 0) (pos max_shift) then fitting (hull i (just (pos 0))) else None
+range_of_both Mod i j = if int_lt (pos 0) j.low
+    then fitting (between (pos 1 -ℤ j.high) (j.high -ℤ pos 1)) else None
+range_of_both Shr i j = if lies_within j (pos 0) (pos max_shift)
+    then fitting (hull i (just (pos 0))) else None
 range_of_both Shl i j = None
 range_of_both BitAnd i j = Some all_numbers
 range_of_both BitOr i j = Some all_numbers
@@ -132,7 +139,11 @@ range_of_both op i j = Some truths
 -- the range of what has this type, and this value if it is or is part of a constant
 abbrev pub range_of_name : Ranged → Option Interval
 range_of_name x = elim x.shape [
-  | Single t ↦ elim x.value [ None ↦ fitting (type_range t) | Some v ↦ elim (scalars_range v) [ None ↦ None | Some i ↦ fitting i ] ]
+  | Single t ↦ elim x.value [
+    | None ↦ fitting
+        (type_range t)
+    | Some v ↦ elim (scalars_range v) [ None ↦ None | Some i ↦ fitting i ]
+  ]
   | Many n items ↦ None
 ]
 
@@ -140,7 +151,8 @@ range_of_name x = elim x.shape [
 abbrev pub item_ranged : Interval → Ranged → Option Ranged
 item_ranged i x = elim x.shape [
   | Single t ↦ None
-  | Many n items ↦ if lies_within i (pos 0) (pos n -ℤ pos 1) then Some (record x { shape = items }) else None
+  | Many n items ↦ if lies_within i (pos 0) (pos n -ℤ pos 1) then Some (record x { shape = items })
+      else None
 ]
 
 abbrev pub on_interval : {A : Type 0} → Option Interval → (Interval → Option A) → Option A
@@ -158,17 +170,23 @@ abbrev mutual
   range (tree.variable name at) names = on_ranged (ranged name names) (λ x. range_of_name x)
   range (tree.paren e at) names = range e names
   range (tree.if_expr test first other at) names =
-      on_interval (range test names) (λ c. on_interval (range first names) (λ i. on_interval (range other names) (λ j. Some (hull i j))))
+      on_interval (range test names)
+      (λ c. on_interval (range first names)
+      (λ i. on_interval (range other names) (λ j. Some (hull i j))))
   range (tree.index base place at) names =
-      on_ranged (indexed base names) (λ x. on_interval (range place names) (λ i. on_ranged (item_ranged i x) (λ y. range_of_name y)))
+      on_ranged (indexed base names)
+      (λ x. on_interval (range place names)
+      (λ i. on_ranged (item_ranged i x) (λ y. range_of_name y)))
   range (tree.prefix op e at) names = on_interval (range e names) (λ i. range_of_prefix op i)
-  range (tree.binary op l r at) names = on_interval (range l names) (λ i. on_interval (range r names) (λ j. range_of_both op i j))
+  range (tree.binary op l r at) names = on_interval (range l names)
+      (λ i. on_interval (range r names) (λ j. range_of_both op i j))
   range other names = None
 
   -- a name, or an index on a name, as what is indexed
   pub indexed : Tree → List Ranged → Option Ranged
   indexed (tree.variable name at) names = ranged name names
-  indexed (tree.index base place at) names = on_ranged (indexed base names) (λ x. on_interval (range place names) (λ i. item_ranged i x))
+  indexed (tree.index base place at) names = on_ranged (indexed base names)
+      (λ x. on_interval (range place names) (λ i. item_ranged i x))
   indexed other names = None
 
 -- ---- what guards hold
@@ -219,18 +237,21 @@ key_among name q k (other ∷ names) = elim (key_among name q (suc k) names) [
 -- .. and among those of patterns, as evaluation finds them
 abbrev pub key_in : List ℕ → List Pattern → Option (List ℕ)
 key_in name [] = None
-key_in name (q ∷ qs) = elim (key_in name qs) [ Some key ↦ Some key | None ↦ key_among name q 0 q.names ]
+key_in name (q ∷ qs) =
+    elim (key_in name qs) [ Some key ↦ Some key | None ↦ key_among name q 0 q.names ]
 
 -- A name as what it stands for: a pattern variable is its tokens. These stand as an identifier, which no expression is,
 -- so that no variable can be taken for them.
 abbrev pub keyed_name : List ℕ → ℕ → List Pattern → Tree
-keyed_name name at qs = elim (key_in name qs) [ Some key ↦ tree.ident key at | None ↦ tree.variable name at ]
+keyed_name name at qs =
+    elim (key_in name qs) [ Some key ↦ tree.ident key at | None ↦ tree.variable name at ]
 
 -- a conjunct with the tokens in place of the pattern variables
 abbrev pub keyed : Tree → List Pattern → Tree
 keyed (tree.variable name at) qs = keyed_name name at qs
 keyed (tree.paren e at) qs = tree.paren (keyed e qs) at
-keyed (tree.if_expr test first other at) qs = tree.if_expr (keyed test qs) (keyed first qs) (keyed other qs) at
+keyed (tree.if_expr test first other at) qs =
+    tree.if_expr (keyed test qs) (keyed first qs) (keyed other qs) at
 keyed (tree.list items at) qs = tree.list (keyed items qs) at
 keyed (tree.cons e es) qs = tree.cons (keyed e qs) (keyed es qs)
 keyed (tree.index base place at) qs = tree.index (keyed base qs) (keyed place qs) at
@@ -304,7 +325,8 @@ AnyOf P (x ∷ xs) = P x ⊎ AnyOf P xs
 -- a conjunct of the one's guards and one of the other's exclude each other
 abbrev pub GuardsExclude : Action → Action → Type 0
 GuardsExclude one two =
-    AnyOf (λ c. AnyOf (λ d. Exclude (keyed c one.patterns) (keyed d two.patterns)) (all_conjuncts two.guards)) (all_conjuncts one.guards)
+    AnyOf (λ c. AnyOf (λ d. Exclude (keyed c one.patterns) (keyed d two.patterns))
+    (all_conjuncts two.guards)) (all_conjuncts one.guards)
 
 -- ---- the rule
 
@@ -315,12 +337,15 @@ pub record IsModest (actor : Actor) (a b : ℕ) : Type 0 where
 
 -- the guards hold no call and no comprehension, and have a range
 abbrev pub HasTameGuards : Actor → Action → Type 0
-HasTameGuards actor act = Each (λ g. IsBare g × ((i : Interval) × (range g (guard_names actor act) ≡ Some i))) act.guards
+HasTameGuards actor act = Each
+    (λ g. IsBare g × ((i : Interval) × (range g (guard_names actor act) ≡ Some i))) act.guards
 
 -- In each state: the guards of each eligible action are tame, and of each two eligible actions one is above the
 -- other without needing more, or their guards exclude each other.
 pub record IsCertified (actor : Actor) : Type 0 where
-  pub guards : (s a : ℕ) (act : Action) → IsStateOf actor s → slice_get actor.actions a ≡ Some act → eligible actor s a ≡ true → HasTameGuards actor act
-  pub pairs : (s a b : ℕ) (one two : Action) → IsStateOf actor s → slice_get actor.actions a ≡ Some one → slice_get actor.actions b ≡ Some two → a ≢ b
+  pub guards : (s a : ℕ) (act : Action) → IsStateOf actor s → slice_get actor.actions a ≡ Some act
+      → eligible actor s a ≡ true → HasTameGuards actor act
+  pub pairs : (s a b : ℕ) (one two : Action) → IsStateOf actor s
+      → slice_get actor.actions a ≡ Some one → slice_get actor.actions b ≡ Some two → a ≢ b
       → eligible actor s a ≡ true → eligible actor s b ≡ true
       → (IsModest actor a b ⊎ IsModest actor b a) ⊎ GuardsExclude one two

@@ -18,7 +18,8 @@ has_initialize (act ∷ acts) = act.initialize || has_initialize acts
 
 -- a state of the schedule, or the fresh one if there is an `initialize`
 abbrev pub IsStateOf : Actor → ℕ → Type 0
-IsStateOf actor s = (s < states_of actor) ⊎ ((has_initialize actor.actions ≡ true) × (s ≡ fresh actor))
+IsStateOf actor s = (s < states_of actor)
+    ⊎ ((has_initialize actor.actions ≡ true) × (s ≡ fresh actor))
 
 -- where an instance begins
 abbrev pub start_state : Actor → ℕ

@@ -28,14 +28,16 @@ look_up name env = find name (env.locals ++ env.globals)
 
 -- a variable of a type, which changes or is a constant
 abbrev pub variable : List ℕ → Shape → Bool → Value → Var
-variable name t changes v = record { name = name; value = v; kept = if changes then Some t else None }
+variable name t changes v =
+    record { name = name; value = v; kept = if changes then Some t else None }
 
 abbrev pub with_local : Var → Env → Env
 with_local x env = record env { locals = x ∷ env.locals }
 
 -- the environment without the locals that were declared since this one
 abbrev pub back_to : Env → Env → Env
-back_to before env = record env { locals = drop (length env.locals - length before.locals) env.locals }
+back_to before env =
+    record env { locals = drop (length env.locals - length before.locals) env.locals }
 
 -- ---- assignment
 
@@ -54,11 +56,16 @@ with_item vs (negsuc k) w = vs
 abbrev pub put : Shape → Value → Values → Value → ℕ → Out Value
 put t old Nil v left = Gives (stored t v) left
 put (Many n items) (Items vs) (Cons (Num i) places) v left =
-    and_then (item_at vs i left) (λ old m. and_then (put items old places v m) (λ w k. Gives (Items (with_item vs i w)) k))
+    and_then (item_at vs i left) (λ old m. and_then (put items old places v m)
+    (λ w k. Gives (Items (with_item vs i w)) k))
 put t old places v left = Clashes
 
 abbrev pub assigned_to : Var → Values → Value → ℕ → Out Var
-assigned_to x places v left = elim x.kept [ None ↦ Clashes | Some t ↦ and_then (put t x.value places v left) (λ w k. Gives (record x { value = w }) k) ]
+assigned_to x places v left = elim x.kept [
+  | None ↦ Clashes
+  | Some t ↦ and_then (put t x.value places v left)
+      (λ w k. Gives (record x { value = w }) k)
+]
 
 -- the first variable of the name is assigned
 abbrev pub assigned : List Var → List ℕ → Values → Value → ℕ → Out (List Var)
@@ -73,5 +80,7 @@ is_among name (x ∷ xs) = bytes_eq x.name name || is_among name xs
 
 abbrev pub assign : Env → List ℕ → Values → Value → ℕ → Out Env
 assign env name places v left = if is_among name env.locals
-    then and_then (assigned env.locals name places v left) (λ xs k. Gives (record env { locals = xs }) k)
-    else and_then (assigned env.globals name places v left) (λ xs k. Gives (record env { globals = xs }) k)
+    then and_then (assigned env.locals name places v left)
+    (λ xs k. Gives (record env { locals = xs }) k)
+    else and_then (assigned env.globals name places v left)
+    (λ xs k. Gives (record env { globals = xs }) k)

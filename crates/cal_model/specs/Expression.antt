@@ -102,7 +102,8 @@ range_of v w f = Clashes
 -- one list after another, for so many numbers from i on
 abbrev pub each_from : ℕ → ℤ → (ℤ → ℕ → Out Values) → ℕ → Out Values
 each_from zero i f left = Gives Nil left
-each_from (suc n) i f left = and_then (f i left) (λ vs m. and_then (each_from n (i +ℤ pos 1) f m) (λ ws k. Gives (joined vs ws) k))
+each_from (suc n) i f left = and_then (f i left)
+    (λ vs m. and_then (each_from n (i +ℤ pos 1) f m) (λ ws k. Gives (joined vs ws) k))
 
 -- ---- types
 
@@ -120,7 +121,8 @@ bits None f = Some (f default_size)
 bits (Some n) f = if nat_le 1 n && nat_le n max_size then Some (f n) else None
 
 abbrev pub list_of : Given → Option Shape
-list_of given = elim given.items [ None ↦ None | Some items ↦ elim given.size [ None ↦ None | Some n ↦ Some (Many n items) ] ]
+list_of given = elim given.items
+    [ None ↦ None | Some items ↦ elim given.size [ None ↦ None | Some n ↦ Some (Many n items) ] ]
 
 -- the type of a name with these arguments
 abbrev pub type_named : List ℕ → Given → Option Shape
@@ -143,17 +145,24 @@ abbrev mutual
   eval (tree.truth b at) calls env left = Gives (Truth b) left
   eval (tree.variable name at) calls env left = known (look_up name env) left
   -- the arguments, then one turn, then the function's locals and its body
-  eval (tree.call name args at) calls env left = and_then (eval_all args calls env left) (λ vs m. turn m (λ k. calls env.globals name vs k))
+  eval (tree.call name args at) calls env left = and_then (eval_all args calls env left)
+      (λ vs m. turn m (λ k. calls env.globals name vs k))
   eval (tree.paren e at) calls env left = eval e calls env left
   eval (tree.if_expr test first other at) calls env left =
-      and_then (eval test calls env left) (λ v m. chosen v (λ k. eval first calls env k) (λ k. eval other calls env k) m)
-  eval (tree.list items at) calls env left = and_then (eval_all items calls env left) (λ vs m. Gives (Items vs) m)
+      and_then (eval test calls env left)
+      (λ v m. chosen v (λ k. eval first calls env k) (λ k. eval other calls env k) m)
+  eval (tree.list items at) calls env left = and_then (eval_all items calls env left)
+      (λ vs m. Gives (Items vs) m)
   eval (tree.comp item gens at) calls env left =
-      and_then (elements gens (λ inner k. eval item calls inner k) calls env left) (λ vs m. Gives (Items vs) m)
+      and_then (elements gens (λ inner k. eval item calls inner k) calls env left)
+      (λ vs m. Gives (Items vs) m)
   eval (tree.index base place at) calls env left =
-      and_then (eval base calls env left) (λ v m. and_then (eval place calls env m) (λ i k. indexed v i k))
-  eval (tree.prefix op e at) calls env left = and_then (eval e calls env left) (λ v m. prefixed op v m)
-  eval (tree.binary op l r at) calls env left = and_then (eval l calls env left) (λ v m. with_right op v (λ k. eval r calls env k) m)
+      and_then (eval base calls env left)
+      (λ v m. and_then (eval place calls env m) (λ i k. indexed v i k))
+  eval (tree.prefix op e at) calls env left = and_then (eval e calls env left)
+      (λ v m. prefixed op v m)
+  eval (tree.binary op l r at) calls env left = and_then (eval l calls env left)
+      (λ v m. with_right op v (λ k. eval r calls env k) m)
   -- what is no expression
   eval other calls env left = Clashes
 
@@ -161,19 +170,23 @@ abbrev mutual
   pub eval_all : Tree → Calls → Env → ℕ → Out Values
   eval_all tree.nil calls env left = Gives Nil left
   eval_all (tree.cons e es) calls env left =
-      and_then (eval e calls env left) (λ v m. and_then (eval_all es calls env m) (λ vs k. Gives (Cons v vs) k))
+      and_then (eval e calls env left)
+      (λ v m. and_then (eval_all es calls env m) (λ vs k. Gives (Cons v vs) k))
   eval_all other calls env left = Clashes
 
   -- The elements of a comprehension: the first generator is outermost, and one turn comes before each element.
   -- Bounds are constant, and count for themselves.
   pub elements : Tree → (Env → ℕ → Out Value) → Calls → Env → ℕ → Out Values
-  elements tree.nil item calls env left = turn left (λ m. and_then (item env m) (λ v k. Gives (one v) k))
-  elements (tree.cons (tree.gen shape (tree.ident name place) from to at) gens) item calls env left =
+  elements tree.nil item calls env left = turn left
+      (λ m. and_then (item env m) (λ v k. Gives (one v) k))
+  elements (tree.cons (tree.gen shape (tree.ident name place) from to at) gens) item calls env
+      left =
       and_then (type_meant shape calls env left) (λ t h.
       and_then (alone (eval from calls env max_turns) h) (λ a j.
       and_then (alone (eval to calls env max_turns) j) (λ b k.
       range_of a b (λ low high.
-      each_from (span low high) low (λ i m. elements gens item calls (with_local (variable name t false (stored t (Num i))) env) m) k))))
+      each_from (span low high) low (λ i m. elements gens item calls
+      (with_local (variable name t false (stored t (Num i))) env) m) k))))
   elements other item calls env left = Clashes
 
   -- the type that is meant; its sizes are constant, and count for themselves
@@ -189,5 +202,6 @@ abbrev mutual
       and_then (args_given args calls env m) (λ given k. Gives (record given { items = Some t }) k))
   args_given (tree.cons (tree.value_arg name value) args) calls env left =
       and_then (alone (eval value calls env max_turns) left) (λ v m.
-      and_then (args_given args calls env m) (λ given k. Gives (record given { size = size_of_value v }) k))
+      and_then (args_given args calls env m)
+      (λ given k. Gives (record given { size = size_of_value v }) k))
   args_given other calls env left = Clashes

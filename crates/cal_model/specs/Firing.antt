@@ -55,7 +55,12 @@ abbrev pub outputs : List Port → List Output → Calls → Env → ℕ → Out
 outputs ports [] calls env left = Gives [] left
 outputs ports (o ∷ os) calls env left =
     and_then (eval_all o.values calls env left) (λ vs m.
-    and_then (outputs ports os calls env m) (λ rest k. Gives ((o.port, map (conv (kind_of_port ports o.port)) (sent_numbers o.repeat vs)) ∷ rest) k))
+    and_then (outputs ports os calls env m)
+    (λ rest k. Gives ((
+      o.port,
+      map (conv (kind_of_port ports o.port))
+          (sent_numbers o.repeat vs),
+    ) ∷ rest) k))
 
 abbrev pub sent_to_port : List (ℕ × List ℤ) → ℕ → List ℤ
 sent_to_port [] port = []
@@ -79,7 +84,10 @@ body_of actor x u to act =
     and_then (declared act.locals calls (seen_by actor x u act) max_turns) (λ env m.
     and_then (exec_all act.body calls (runs_of actor.procs calls) env m) (λ last k.
     and_then (outputs actor.outs act.outputs calls last k) (λ sent j.
-    Gives (record { state = record { at = to; vars = last.globals }; sent = sent_by_port actor.outs sent }) j)))
+    Gives (record {
+      state = record { at = to; vars = last.globals };
+      sent = sent_by_port actor.outs sent;
+    }) j)))
 
 -- what the locals, the body and the outputs of an action come to
 abbrev pub body : Actor → State → List (List ℤ) → ℕ → Out Fired
@@ -98,9 +106,11 @@ pub record IsFiring (actor : Actor) (x : State) (u : List (List ℤ)) (a : ℕ) 
   pub gives : body actor x u a ≡ Gives (record { state = y; sent = sent }) left
 
 -- it is exposed, and traps in its guards, or enabled, and traps in the rest
-pub record IsTrapping (actor : Actor) (x : State) (u : List (List ℤ)) (a : ℕ) (c : Trap) : Type 0 where
+pub record IsTrapping (actor : Actor) (x : State) (u : List (List ℤ)) (a : ℕ) (c : Trap) :
+    Type 0 where
   pub exposed : IsExposed actor x u a
-  pub where_ : (readiness actor x u a ≡ AreTrapping c) ⊎ (IsEnabled actor x u a × (body actor x u a ≡ Traps c))
+  pub where_ : (readiness actor x u a ≡ AreTrapping c)
+      ⊎ (IsEnabled actor x u a × (body actor x u a ≡ Traps c))
 
 -- ---- as a behaviour
 
@@ -115,8 +125,10 @@ effect_of_exposed actor x u a AreTrue = effect_of_body (body actor x u a)
 effect_of_exposed actor x u a AreFalse = None
 effect_of_exposed actor x u a (AreTrapping c) = Some (TrapsInGuard c)
 
-abbrev pub effect : (actor : Actor) → Priorities actor → State → List (List ℤ) → ℕ → Option (Effect State)
-effect actor p x u a = if is_exposed actor p x u a then effect_of_exposed actor x u a (readiness actor x u a) else None
+abbrev pub effect : (actor : Actor) → Priorities actor → State → List (List ℤ) → ℕ
+    → Option (Effect State)
+effect actor p x u a = if is_exposed actor p x u a
+    then effect_of_exposed actor x u a (readiness actor x u a) else None
 
 -- What the actor does, as networks see it: nothing but in its own states, and on tokens as its ports store them.
 abbrev pub behaviour : (actor : Actor) → Priorities actor → Behaviour State
@@ -127,6 +139,7 @@ behaviour actor p = record {
   actions = length actor.actions;
   need = need actor;
   give = give actor;
-  effect = λ x u a. if is_actor_state actor x then effect actor p x (kept_tokens actor u) a else None;
+  effect = λ x u a. if is_actor_state actor x then effect actor p x (kept_tokens actor u) a
+      else None;
   choice = λ x u. if is_actor_state actor x then choice actor p x (kept_tokens actor u) else Waits;
 }

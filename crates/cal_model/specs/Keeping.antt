@@ -46,11 +46,13 @@ LeavesNoMore left Clashes = Unit {0}
 
 -- functions that leave no more turns than they get, ..
 abbrev pub CallsTakeTurns : Calls → Type 0
-CallsTakeTurns calls = (globals : List Var) (name : List ℕ) (args : Values) (left : ℕ) → LeavesNoMore left (calls globals name args left)
+CallsTakeTurns calls = (globals : List Var) (name : List ℕ) (args : Values) (left : ℕ)
+    → LeavesNoMore left (calls globals name args left)
 
 -- .. and procedures
 abbrev pub RunsTakeTurns : Runs → Type 0
-RunsTakeTurns runs = (globals : List Var) (name : List ℕ) (args : Values) (left : ℕ) → LeavesNoMore left (runs globals name args left)
+RunsTakeTurns runs = (globals : List Var) (name : List ℕ) (args : Values) (left : ℕ)
+    → LeavesNoMore left (runs globals name args left)
 
 -- ---- values
 
@@ -85,11 +87,13 @@ pub record StandsFor (x : Known) (v : Value) : Type 0 where
 
 -- variables that stand for names: what is found under a name may stand there. Some names may be missing.
 abbrev pub StandFor : List Known → List Var → Type 0
-StandFor names vars = (name : List ℕ) (x : Known) (v : Value) → known_as name names ≡ Some x → find name vars ≡ Some v → StandsFor x v
+StandFor names vars = (name : List ℕ) (x : Known) (v : Value) → known_as name names ≡ Some x
+    → find name vars ≡ Some v → StandsFor x v
 
 -- .. if none is missing
 abbrev pub HasEach : List Known → List Var → Type 0
-HasEach names vars = (name : List ℕ) (x : Known) → known_as name names ≡ Some x → (v : Value) × (find name vars ≡ Some v)
+HasEach names vars = (name : List ℕ) (x : Known) → known_as name names ≡ Some x → (v : Value)
+    × (find name vars ≡ Some v)
 
 -- an environment of these names, which may lack some
 pub record IsEnvOf (names : Names) (env : Env) : Type 0 where
@@ -114,14 +118,16 @@ StartIsOf k (Some e) names = kind e names ≡ Fine k
 -- the start of each local has the kind of its type; it sees the locals before it
 abbrev pub StartsAreOf : List Local → Names → Type 0
 StartsAreOf [] names = Unit {0}
-StartsAreOf (x ∷ xs) names = IsType x.shape × StartIsOf (kind_of_type x.shape) x.start names × StartsAreOf xs (with_known (known_local x) names)
+StartsAreOf (x ∷ xs) names = IsType x.shape × StartIsOf (kind_of_type x.shape) x.start names
+    × StartsAreOf xs (with_known (known_local x) names)
 
 -- a function whose body and starts have the kinds that it declares for them
 pub record IsOfItsKinds (names : Names) (f : Fun) : Type 0 where
   pub formals : Each (λ x. IsType x.shape) f.formals
   pub locals : StartsAreOf f.locals (with_locals f.formals (outside names))
   pub result : IsSize f.result
-  pub body : kind f.body (with_locals f.locals (with_locals f.formals (outside names))) ≡ Fine (kind_of_scalar f.result)
+  pub body : kind f.body (with_locals f.locals (with_locals f.formals (outside names)))
+      ≡ Fine (kind_of_scalar f.result)
 
 -- what the function that is named gives over all functions, or nothing if there is none
 abbrev pub answer : List Fun → List Var → Values → ℕ → Option Fun → Out Value
@@ -131,4 +137,5 @@ answer funs globals args left (Some f) = answered f (calls_of funs) globals args
 -- what the procedure that is named makes of the globals over all procedures, or nothing if there is none
 abbrev pub made : List Proc → Calls → List Var → Values → ℕ → Option Proc → Out (List Var)
 made procs calls globals args left None = Lacks
-made procs calls globals args left (Some p) = performed p calls (runs_of procs calls) globals args left
+made procs calls globals args left (Some p) =
+    performed p calls (runs_of procs calls) globals args left

@@ -75,15 +75,21 @@ without name (x ∷ xs) = if bytes_eq x.name name then without name xs else x �
 -- The constants among names. A name without a value hides a constant.
 abbrev pub constants : List Known → List Var
 constants [] = []
-constants (x ∷ xs) = elim x.value [ None ↦ without x.name (constants xs) | Some v ↦ record { name = x.name; value = v; kept = None } ∷ constants xs ]
+constants (x ∷ xs) = elim x.value [
+  | None ↦ without x.name (constants xs)
+  | Some v ↦
+      record { name = x.name; value = v; kept = None } ∷ constants xs
+]
 
 -- functions see the names of the actor alone
 abbrev pub constant_calls : Names → Calls
-constant_calls names globals name args left = calls_of names.funs (constants names.globals) name args left
+constant_calls names globals name args left =
+    calls_of names.funs (constants names.globals) name args left
 
 -- what an expression gives over the constants
 abbrev pub constant : Tree → Names → Out Value
-constant e names = eval e (constant_calls names) (record { globals = constants (names.locals ++ names.globals); locals = [] }) max_turns
+constant e names = eval e (constant_calls names)
+    (record { globals = constants (names.locals ++ names.globals); locals = [] }) max_turns
 
 -- ---- places
 
@@ -116,7 +122,8 @@ is_same_kind k l = false
 
 -- the one kind that both are, if a value of the second stands for one of the first
 abbrev pub one_kind : Kind → Kind → ℕ → Judged Kind
-one_kind k l at = if is_same_kind k l then Fine k else if is_like k l then Broken wrong_length at else Broken wrong_kind at
+one_kind k l at = if is_same_kind k l then Fine k else if is_like k l then Broken wrong_length at
+    else Broken wrong_kind at
 
 abbrev pub all_like : Kind → List Kind → Bool
 all_like k [] = true
@@ -129,7 +136,8 @@ all_same k (l ∷ ls) = is_same_kind k l && all_same k ls
 -- A list of n items of a kind. Neither its scalars nor its items, which may be empty lists, are too many.
 abbrev pub list_of_kind : ℕ → Kind → ℕ → Judged Kind
 list_of_kind n k at =
-    if nat_le n max_list_scalars && nat_le (n * scalars_of_kind k) max_list_scalars then Fine (ListKind n k) else Broken list_too_long at
+    if nat_le n max_list_scalars && nat_le (n * scalars_of_kind k) max_list_scalars
+    then Fine (ListKind n k) else Broken list_too_long at
 
 -- a list of items of these kinds, which are one
 abbrev pub list_kind : List Kind → ℕ → Judged Kind
@@ -189,7 +197,8 @@ abbrev pub is_word : List ℕ → Bool
 is_word name = bytes_eq name (codes "bool") || bytes_eq name (codes "int") || bytes_eq name (codes "uint") || bytes_eq name (codes "List") || bytes_eq name (codes "float") || bytes_eq name (codes "half") || bytes_eq name (codes "String")
 
 abbrev pub bits_of : ℤ → (ℕ → Scalar) → ℕ → Judged Shape
-bits_of (pos n) f at = if nat_le 1 n && nat_le n max_size then Fine (Single (f n)) else Broken wrong_type_argument at
+bits_of (pos n) f at = if nat_le 1 n && nat_le n max_size then Fine (Single (f n))
+    else Broken wrong_type_argument at
 bits_of (negsuc n) f at = Broken wrong_type_argument at
 
 -- a number type, whose one argument may be its size
@@ -204,7 +213,8 @@ truth_type args at = Broken wrong_type_argument at
 
 abbrev pub list_type_of : Shape → ℤ → ℕ → Judged Shape
 list_type_of t (pos zero) at = Broken wrong_type_argument at
-list_type_of t (pos (suc n)) at = if nat_le (scalars_of_type (Many (suc n) t)) max_list_scalars then Fine (Many (suc n) t) else Broken list_too_long at
+list_type_of t (pos (suc n)) at = if nat_le (scalars_of_type (Many (suc n) t)) max_list_scalars
+    then Fine (Many (suc n) t) else Broken list_too_long at
 list_type_of t (negsuc n) at = Broken wrong_type_argument at
 
 -- a list type, whose arguments are the type of its items and its size, in either order
@@ -229,7 +239,8 @@ counts (Many n t) at = Broken wrong_kind at
 
 -- the names with the variables of generators
 abbrev pub with_counters : Tree → Names → Names
-with_counters (tree.cons (tree.gen shape (tree.ident name place) from to at) gens) names = with_counters gens (with_known (counter name) names)
+with_counters (tree.cons (tree.gen shape (tree.ident name place) from to at) gens) names =
+    with_counters gens (with_known (counter name) names)
 with_counters other names = names
 
 -- ---- the kind of an expression
@@ -238,36 +249,46 @@ abbrev mutual
   pub kind : Tree → Names → Judged Kind
   kind (tree.number n at) names = Fine NumKind
   kind (tree.truth b at) names = Fine BoolKind
-  kind (tree.variable name at) names = elim (meant_by name names) [ None ↦ Broken unknown_name at | Some x ↦ Fine x.kind ]
+  kind (tree.variable name at) names =
+      elim (meant_by name names) [ None ↦ Broken unknown_name at | Some x ↦ Fine x.kind ]
   kind (tree.call name args at) names = elim (fun_named name names.funs) [
     | None ↦ Broken unknown_name at
-    | Some f ↦ and_so (arguments_fit args f.formals names) (λ as_many. if as_many then Fine (kind_of_scalar f.result) else Broken wrong_number_of_arguments at)
+    | Some f ↦ and_so (arguments_fit args f.formals names)
+        (λ as_many. if as_many then Fine (kind_of_scalar f.result)
+        else Broken wrong_number_of_arguments at)
   ]
   kind (tree.paren e at) names = kind e names
   kind (tree.if_expr test first other at) names =
-      and_so (kind test names) (λ c. and_so (kind first names) (λ k. and_so (kind other names) (λ l. branch_kind c k l at)))
+      and_so (kind test names) (λ c. and_so (kind first names)
+      (λ k. and_so (kind other names) (λ l. branch_kind c k l at)))
   kind (tree.list items at) names = and_so (kinds items names) (λ ks. list_kind ks at)
   -- the item stands before its generators
   kind (tree.comp item gens at) names =
-      and_so (kind item (with_counters gens names)) (λ k. and_so (elements_in gens names) (λ n. list_of_kind n k at))
-  kind (tree.index base place at) names = and_so (kind base names) (λ k. and_so (kind place names) (λ l. item_kind k l at))
+      and_so (kind item (with_counters gens names))
+      (λ k. and_so (elements_in gens names) (λ n. list_of_kind n k at))
+  kind (tree.index base place at) names = and_so (kind base names)
+      (λ k. and_so (kind place names) (λ l. item_kind k l at))
   kind (tree.prefix op e at) names = and_so (kind e names) (λ k. prefix_kind op k at)
-  kind (tree.binary op l r at) names = and_so (kind l names) (λ k. and_so (kind r names) (λ m. binary_kind op k m at))
+  kind (tree.binary op l r at) names = and_so (kind l names)
+      (λ k. and_so (kind r names) (λ m. binary_kind op k m at))
   -- what is no expression
   kind other names = Broken wrong_kind 0
 
   pub kinds : Tree → Names → Judged (List Kind)
   kinds tree.nil names = Fine []
-  kinds (tree.cons e es) names = and_so (kind e names) (λ k. and_so (kinds es names) (λ ks. Fine (k ∷ ks)))
+  kinds (tree.cons e es) names = and_so (kind e names)
+      (λ k. and_so (kinds es names) (λ ks. Fine (k ∷ ks)))
   kinds other names = Broken wrong_kind 0
 
   -- whether there are as many arguments as formals; each is of its formal's kind
   pub arguments_fit : Tree → List Local → Names → Judged Bool
   arguments_fit tree.nil [] names = Fine true
   arguments_fit tree.nil (f ∷ fs) names = Fine false
-  arguments_fit (tree.cons e es) [] names = and_so (kind e names) (λ k. and_so (arguments_fit es [] names) (λ as_many. Fine false))
+  arguments_fit (tree.cons e es) [] names = and_so (kind e names)
+      (λ k. and_so (arguments_fit es [] names) (λ as_many. Fine false))
   arguments_fit (tree.cons e es) (f ∷ fs) names =
-      and_so (kind e names) (λ k. and_so (one_kind (kind_of_type f.shape) k (begins e)) (λ l. arguments_fit es fs names))
+      and_so (kind e names) (λ k. and_so (one_kind (kind_of_type f.shape) k (begins e))
+      (λ l. arguments_fit es fs names))
   arguments_fit other fs names = Broken wrong_kind 0
 
   -- how many elements generators make
@@ -284,13 +305,16 @@ abbrev mutual
   -- the type that a type in a source is
   pub type_judged : Tree → Names → Judged Shape
   type_judged (tree.type_of (tree.ident name place) args at) names =
-      if is_word name then and_so (type_arguments args names) (λ given. type_with name given at) else Broken unknown_name place
+      if is_word name then and_so (type_arguments args names) (λ given. type_with name given at)
+      else Broken unknown_name place
   type_judged other names = Broken wrong_kind 0
 
   pub type_arguments : Tree → Names → Judged (List Argument)
   type_arguments tree.nil names = Fine []
   type_arguments (tree.cons (tree.shape_arg (tree.ident name place) shape) args) names =
-      and_so (type_judged shape names) (λ t. and_so (type_arguments args names) (λ others. Fine (OfShape name t ∷ others)))
+      and_so (type_judged shape names)
+      (λ t. and_so (type_arguments args names) (λ others. Fine (OfShape name t ∷ others)))
   type_arguments (tree.cons (tree.value_arg (tree.ident name place) value) args) names =
-      and_so (constant_number (kind value names) value names) (λ z. and_so (type_arguments args names) (λ others. Fine (OfSize name z ∷ others)))
+      and_so (constant_number (kind value names) value names)
+      (λ z. and_so (type_arguments args names) (λ others. Fine (OfSize name z ∷ others)))
   type_arguments other names = Broken wrong_kind 0

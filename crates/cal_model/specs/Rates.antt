@@ -21,14 +21,18 @@ parts other = 0
 
 abbrev pub taken_on : ℕ → List Pattern → ℕ
 taken_on port [] = 0
-taken_on port (q ∷ qs) = if q.port == port then parts_times (length q.names) q.repeat else taken_on port qs
+taken_on port (q ∷ qs) = if q.port == port then parts_times (length q.names) q.repeat
+    else taken_on port qs
 
 abbrev pub given_on : ℕ → List Output → ℕ
 given_on port [] = 0
-given_on port (o ∷ os) = if o.port == port then parts_times (parts o.values) o.repeat else given_on port os
+given_on port (o ∷ os) = if o.port == port then parts_times (parts o.values) o.repeat
+    else given_on port os
 
 abbrev pub need : Actor → ℕ → ℕ → ℕ
-need actor a port = elim (slice_get actor.actions a) [ None ↦ 0 | Some act ↦ taken_on port act.patterns ]
+need actor a port =
+    elim (slice_get actor.actions a) [ None ↦ 0 | Some act ↦ taken_on port act.patterns ]
 
 abbrev pub give : Actor → ℕ → ℕ → ℕ
-give actor a port = elim (slice_get actor.actions a) [ None ↦ 0 | Some act ↦ given_on port act.outputs ]
+give actor a port =
+    elim (slice_get actor.actions a) [ None ↦ 0 | Some act ↦ given_on port act.outputs ]

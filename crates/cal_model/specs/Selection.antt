@@ -40,7 +40,8 @@ Above actor a b = IsAbove actor.pairs a b
 pub record Priorities (actor : Actor) : Type 0 where
   pub above : ℕ → ℕ → Bool
   pub line : List ℕ
-  pub is_above : (a b : ℕ) → a < length actor.actions → b < length actor.actions → IsTrue (above a b) ↔ Above actor a b
+  pub is_above : (a b : ℕ) → a < length actor.actions → b < length actor.actions
+      → IsTrue (above a b) ↔ Above actor a b
   pub is_line : IsLine (length actor.actions) (Above actor) line
 
 -- ---- tokens
@@ -55,7 +56,8 @@ kind_of_port ports p = elim (slice_get ports p) [ None ↦ scalar.Bool | Some po
 
 abbrev pub has_its_tokens_on : Actor → List (List ℤ) → ℕ → List ℕ → Bool
 has_its_tokens_on actor u a [] = true
-has_its_tokens_on actor u a (p ∷ ports) = nat_le (need actor a p) (length (tokens_on u p)) && has_its_tokens_on actor u a ports
+has_its_tokens_on actor u a (p ∷ ports) =
+    nat_le (need actor a p) (length (tokens_on u p)) && has_its_tokens_on actor u a ports
 
 -- on each port there are as many tokens as the action takes
 abbrev pub has_its_tokens : Actor → List (List ℤ) → ℕ → Bool
@@ -77,18 +79,21 @@ pattern_value t us (Some n) names k = Items (tokens_from t us n k names)
 
 -- the name at place k of a pattern, which is a constant
 abbrev pub pattern_var : Scalar → List ℤ → Pattern → ℕ → List ℕ → Var
-pattern_var t us q k name = record { name = name; value = pattern_value t us q.repeat (length q.names) k; kept = None }
+pattern_var t us q k name =
+    record { name = name; value = pattern_value t us q.repeat (length q.names) k; kept = None }
 
 -- the names of a pattern from place k on, the later ones in front
 abbrev pub pattern_vars_from : Scalar → List ℤ → Pattern → ℕ → List (List ℕ) → List Var
 pattern_vars_from t us q k [] = []
-pattern_vars_from t us q k (name ∷ names) = pattern_vars_from t us q (suc k) names ++ pattern_var t us q k name ∷ []
+pattern_vars_from t us q k (name ∷ names) = pattern_vars_from t us q (suc k) names
+    ++ pattern_var t us q k name ∷ []
 
 -- the pattern variables of an action, those of later patterns in front
 abbrev pub pattern_vars : Actor → List (List ℤ) → List Pattern → List Var
 pattern_vars actor u [] = []
 pattern_vars actor u (q ∷ qs) =
-    pattern_vars actor u qs ++ pattern_vars_from (kind_of_port actor.ins q.port) (tokens_on u q.port) q 0 q.names
+    pattern_vars actor u qs ++ pattern_vars_from (kind_of_port actor.ins q.port)
+    (tokens_on u q.port) q 0 q.names
 
 -- what an action sees: the actor's variables and its pattern variables
 abbrev pub seen_by : Actor → State → List (List ℤ) → Action → Env
@@ -116,7 +121,8 @@ guards_say (g ∷ gs) calls env = guard_then (eval g calls env max_turns) (guard
 abbrev pub readiness : Actor → State → List (List ℤ) → ℕ → Guards
 readiness actor x u a = elim (slice_get actor.actions a) [
   | None ↦ AreFalse
-  | Some act ↦ if eligible actor x.at a && has_its_tokens actor u a then guards_say act.guards (calls_of actor.funs) (seen_by actor x u act) else AreFalse
+  | Some act ↦ if eligible actor x.at a && has_its_tokens actor u a
+      then guards_say act.guards (calls_of actor.funs) (seen_by actor x u act) else AreFalse
 ]
 
 -- ---- enabled and exposed actions
@@ -139,17 +145,20 @@ are_true (AreTrapping c) = false
 -- one of these is above a and enabled
 abbrev pub outranked : (actor : Actor) → (ℕ → ℕ → Bool) → State → List (List ℤ) → ℕ → List ℕ → Bool
 outranked actor above x u a [] = false
-outranked actor above x u a (b ∷ bs) = (above b a && are_true (readiness actor x u b)) || outranked actor above x u a bs
+outranked actor above x u a (b ∷ bs) =
+    (above b a && are_true (readiness actor x u b)) || outranked actor above x u a bs
 
 -- the same as `IsExposed`, as a test
 abbrev pub is_exposed : (actor : Actor) → Priorities actor → State → List (List ℤ) → ℕ → Bool
-is_exposed actor p x u a = eligible actor x.at a && has_its_tokens actor u a && not (outranked actor p.above x u a p.line)
+is_exposed actor p x u a =
+    eligible actor x.at a && has_its_tokens actor u a && not (outranked actor p.above x u a p.line)
 
 -- ---- the choice
 
 abbrev pub choice_among : Actor → State → List (List ℤ) → List ℕ → Choice
 choice_among actor x u [] = Waits
-choice_among actor x u (a ∷ line) = elim (readiness actor x u a) [ AreTrue ↦ Picks a | AreFalse ↦ choice_among actor x u line | AreTrapping c ↦ Faults a c ]
+choice_among actor x u (a ∷ line) = elim (readiness actor x u a)
+    [ AreTrue ↦ Picks a | AreFalse ↦ choice_among actor x u line | AreTrapping c ↦ Faults a c ]
 
 -- The first action of the line that is eligible, has its tokens, and whose guards aren't false: it is to fire, or
 -- its guards trap.

@@ -24,7 +24,8 @@ abbrev pub while_loop : (most : ℕ) → (Env → ℕ → Out Value) → (Env �
 while_loop zero test body env left = turn zero (λ m. Gives env m)
 while_loop (suc most) test body env left =
     and_then (test env left) (λ v m.
-    chosen v (λ k. turn k (λ j. and_then (body env j) (λ next i. while_loop most test body next i))) (λ k. Gives env k) m)
+    chosen v (λ k. turn k (λ j. and_then (body env j) (λ next i. while_loop most test body next i)))
+    (λ k. Gives env k) m)
 
 -- a `foreach` over so many numbers from i on: a turn, and then the body at the number
 abbrev pub for_loop : ℕ → ℤ → (ℤ → Env → ℕ → Out Env) → Env → ℕ → Out Env
@@ -41,15 +42,18 @@ inside env inner body left = and_then (body inner left) (λ next k. Gives (back_
 -- the start of a variable, which may be absent
 abbrev pub first_of : Shape → Tree → Calls → Env → ℕ → Out Value
 first_of t tree.absent calls env left = Gives (zero_of t) left
-first_of t (tree.present e) calls env left = and_then (eval e calls env left) (λ v k. Gives (stored t v) k)
+first_of t (tree.present e) calls env left = and_then (eval e calls env left)
+    (λ v k. Gives (stored t v) k)
 first_of t other calls env left = Clashes
 
 -- the environment with these variables, in order: each sees those before it
 abbrev pub with_vars : Tree → Calls → Env → ℕ → Out Env
 with_vars tree.nil calls env left = Gives env left
-with_vars (tree.cons (tree.var shape (tree.ident name place) start changes at) vars) calls env left =
+with_vars (tree.cons (tree.var shape (tree.ident name place) start changes at) vars) calls env
+    left =
     and_then (type_meant shape calls env left) (λ t m.
-    and_then (first_of t start calls env m) (λ v k. with_vars vars calls (with_local (variable name t changes v) env) k))
+    and_then (first_of t start calls env m)
+    (λ v k. with_vars vars calls (with_local (variable name t changes v) env) k))
 with_vars other calls env left = Clashes
 
 -- ---- execution
@@ -58,30 +62,39 @@ abbrev mutual
   pub exec : Tree → Calls → Runs → Env → ℕ → Out Env
   -- the indices, then the value; then the indices are tested
   exec (tree.assign (tree.ident name place) places value at) calls runs env left =
-      and_then (eval_all places calls env left) (λ is m. and_then (eval value calls env m) (λ v k. assign env name is v k))
+      and_then (eval_all places calls env left)
+      (λ is m. and_then (eval value calls env m) (λ v k. assign env name is v k))
   exec (tree.call_stmt (tree.ident name place) args at) calls runs env left =
       and_then (eval_all args calls env left) (λ vs m. turn m (λ k.
-      and_then (runs env.globals name vs k) (λ globals j. Gives (record env { globals = globals }) j)))
+      and_then (runs env.globals name vs k)
+      (λ globals j. Gives (record env { globals = globals }) j)))
   exec (tree.if_stmt test first other at) calls runs env left =
-      and_then (eval test calls env left) (λ v m. chosen v (λ k. exec_all first calls runs env k) (λ k. exec_all other calls runs env k) m)
+      and_then (eval test calls env left)
+      (λ v m. chosen v (λ k. exec_all first calls runs env k)
+      (λ k. exec_all other calls runs env k) m)
   exec (tree.while_stmt test body at) calls runs env left =
-      while_loop (suc left) (λ now k. eval test calls now k) (λ now k. exec_all body calls runs now k) env left
+      while_loop (suc left) (λ now k. eval test calls now k)
+      (λ now k. exec_all body calls runs now k) env left
   -- both bounds once, and the variable is a constant of each turn
   exec (tree.foreach_stmt shape (tree.ident name place) from to body at) calls runs env left =
       and_then (type_meant shape calls env left) (λ t h.
       and_then (eval from calls env h) (λ a j.
       and_then (eval to calls env j) (λ b k.
       range_of a b (λ low high.
-      for_loop (span low high) low (λ i now m. inside now (with_local (variable name t false (stored t (Num i))) now) (λ inner n. exec_all body calls runs inner n) m) env k))))
+      for_loop (span low high) low (λ i now m. inside now
+      (with_local (variable name t false (stored t (Num i))) now)
+      (λ inner n. exec_all body calls runs inner n) m) env k))))
   exec (tree.block vars body at) calls runs env left =
-      and_then (with_vars vars calls env left) (λ inner m. inside env inner (λ now k. exec_all body calls runs now k) m)
+      and_then (with_vars vars calls env left)
+      (λ inner m. inside env inner (λ now k. exec_all body calls runs now k) m)
   -- what is no statement
   exec other calls runs env left = Clashes
 
   -- statements in order; those of an `else` may be absent
   pub exec_all : Tree → Calls → Runs → Env → ℕ → Out Env
   exec_all tree.nil calls runs env left = Gives env left
-  exec_all (tree.cons s rest) calls runs env left = and_then (exec s calls runs env left) (λ next m. exec_all rest calls runs next m)
+  exec_all (tree.cons s rest) calls runs env left = and_then (exec s calls runs env left)
+      (λ next m. exec_all rest calls runs next m)
   exec_all tree.absent calls runs env left = Gives env left
   exec_all (tree.present body) calls runs env left = exec_all body calls runs env left
   exec_all other calls runs env left = Clashes
@@ -103,7 +116,11 @@ proc_named name (p ∷ ps) = if bytes_eq p.name name then Some p else proc_named
 abbrev pub runs_within : ℕ → List Proc → Calls → Runs
 runs_within zero procs calls globals name args left = Lacks
 runs_within (suc n) procs calls globals name args left =
-    elim (proc_named name procs) [ None ↦ Lacks | Some p ↦ performed p calls (runs_within n procs calls) globals args left ]
+    elim (proc_named name procs) [
+      | None ↦ Lacks
+      | Some p ↦ performed p calls
+          (runs_within n procs calls) globals args left
+    ]
 
 -- What procedures do. None calls itself, directly or indirectly, so never more of their calls are open than
 -- there are procedures.

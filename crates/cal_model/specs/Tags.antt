@@ -20,7 +20,8 @@ may_be_meant act = not act.initialize && not (is_empty act.tag)
 -- the numbers of the actions that a tag stands for, if the first is number k
 abbrev pub stands_from : ℕ → List (List ℕ) → List Action → List ℕ
 stands_from k tag [] = []
-stands_from k tag (act ∷ acts) = if may_be_meant act && is_prefix_tag tag act.tag then k ∷ stands_from (suc k) tag acts else stands_from (suc k) tag acts
+stands_from k tag (act ∷ acts) = if may_be_meant act && is_prefix_tag tag act.tag then k
+    ∷ stands_from (suc k) tag acts else stands_from (suc k) tag acts
 
 -- A tag stands for each action whose tag it is a prefix of, in text order: never for an `initialize`, and never for an
 -- untagged one.
@@ -73,11 +74,13 @@ moves_by from actions to = map (λ a. record { from = from; action = a; to = to 
 
 abbrev pub moves_by_tags : Actor → ℕ → List (List (List ℕ)) → ℕ → List Move
 moves_by_tags actor from [] to = []
-moves_by_tags actor from (tag ∷ tags) to = moves_by from (stands_for tag actor) to ++ moves_by_tags actor from tags to
+moves_by_tags actor from (tag ∷ tags) to = moves_by from (stands_for tag actor) to
+    ++ moves_by_tags actor from tags to
 
 -- what a transition means: it leads from the one state to the other by each action that one of its tags stands for
 abbrev pub moves_of : Actor → Transition → List Move
-moves_of actor t = moves_by_tags actor (number_of_name t.from actor.states) t.tags (number_of_name t.to actor.states)
+moves_of actor t = moves_by_tags actor (number_of_name t.from actor.states) t.tags
+    (number_of_name t.to actor.states)
 
 -- the same in words
 pub record IsMoveOf (actor : Actor) (t : Transition) (m : Move) : Type 0 where
@@ -98,7 +101,8 @@ each_above (a ∷ higher) lower = map (λ b. (a, b)) lower ++ each_above higher 
 abbrev pub pairs_of : Actor → List (List (List ℕ)) → List (ℕ × ℕ)
 pairs_of actor [] = []
 pairs_of actor (tag ∷ []) = []
-pairs_of actor (tag ∷ next ∷ tags) = each_above (stands_for tag actor) (stands_for next actor) ++ pairs_of actor (next ∷ tags)
+pairs_of actor (tag ∷ next ∷ tags) = each_above (stands_for tag actor) (stands_for next actor)
+    ++ pairs_of actor (next ∷ tags)
 
 -- the same in words: this tag of the chain stands for the one, and the tag behind it for the other
 pub record IsPairOf (actor : Actor) (tags : List (List (List ℕ))) (a b : ℕ) : Type 0 where

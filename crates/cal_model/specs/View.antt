@@ -66,10 +66,22 @@ abbrev pub port_view : DeclaredPort → Port
 port_view p = record { name = string_bytes p.name; kind = p.kind }
 
 abbrev pub var_view : BoundVar → Held
-var_view x = record { name = string_bytes x.name; shape = shape_view x.shape; value = value_view x.value; changes = x.changes }
+var_view x =
+    record {
+      name = string_bytes x.name;
+      shape = shape_view x.shape;
+      value = value_view x.value;
+      changes = x.changes;
+    }
 
 abbrev pub local_view : BoundLocal → Local
-local_view x = record { name = string_bytes x.name; shape = shape_view x.shape; start = option_map expr_tree x.start; changes = x.changes }
+local_view x =
+    record {
+      name = string_bytes x.name;
+      shape = shape_view x.shape;
+      start = option_map expr_tree x.start;
+      changes = x.changes;
+    }
 
 abbrev pub fun_view : BoundFun → Fun
 fun_view f = record {
@@ -92,7 +104,8 @@ abbrev pub pattern_view : BoundPattern → Pattern
 pattern_view q = record { port = q.port; names = map string_bytes q.names.items; repeat = q.repeat }
 
 abbrev pub output_view : BoundOutput → Output
-output_view o = record { port = o.port; values = listed (map expr_tree o.values.items); repeat = o.repeat }
+output_view o =
+    record { port = o.port; values = listed (map expr_tree o.values.items); repeat = o.repeat }
 
 abbrev pub action_view : BoundAction → Action
 action_view act = record {

@@ -9,6 +9,8 @@ use Rattle.cal_parser.specs.declared.fault.Fault.TheVariants as faults
 
 -- the answer if a file isn't read, for this reason at this offset
 abbrev pub answer_of : Fault → ℕ → ℕ → Answer
-answer_of faults.Refused number at = Refused (record { rule = spells_no_file; place = record { file = number; offset = at } })
-answer_of faults.TooHigh number at = Refused (record { rule = too_high; place = record { file = number; offset = at } })
+answer_of faults.Refused number at =
+    Refused (record { rule = spells_no_file; place = record { file = number; offset = at } })
+answer_of faults.TooHigh number at =
+    Refused (record { rule = too_high; place = record { file = number; offset = at } })
 answer_of faults.Memory number at = Memory

@@ -15,7 +15,8 @@ use Rattle.cal_grammar.specs.Token.{same_word}
 
 -- the tree of what follows the first name of an import; the import has an offset, and this has none
 abbrev pub path_tree : Path → Tree
-path_tree p = import_part (listed (map ident_tree p.names.items)) (optional (option_map ident_tree p.last)) 0
+path_tree p =
+    import_part (listed (map ident_tree p.names.items)) (optional (option_map ident_tree p.last)) 0
 
 -- a path with names at its front
 abbrev pub behind : List Tree → Tree → Tree
@@ -31,7 +32,8 @@ path_behind is Spent = Spent
 
 -- these names are read from `start` on, with a dot before each, and the rest of the path is read from `now` on
 pub record IsPathSoFar (m : ℕ) (start now : List Token) (is : List Tree) : Type 0 where
-  pub far : read m (part a_path) (plain_tokens start) ≡ path_behind is (read m (part a_path) (plain_tokens now))
+  pub far : read m (part a_path) (plain_tokens start)
+      ≡ path_behind is (read m (part a_path) (plain_tokens now))
 
 -- what a file declares from here on
 abbrev pub body_part : List Token → Part

@@ -67,7 +67,8 @@ opened (q ∷ qs) ts = placed Lexeme.LeftParen q ∷ opened qs ts
 
 -- all opening parentheses at the front were taken
 abbrev pub TookOpens : Result (Vec ℕ Global) Fault → List Token → List Token → Type 0
-TookOpens (Ok qs) old new = (plain_tokens old ≡ opened qs.items (plain_tokens new)) × (stands (same_word Lexeme.LeftParen) new ≡ false)
+TookOpens (Ok qs) old new = (plain_tokens old ≡ opened qs.items (plain_tokens new))
+    × (stands (same_word Lexeme.LeftParen) new ≡ false)
 TookOpens (Err faults.Refused) old new = ⊥
 TookOpens (Err faults.TooHigh) old new = ⊥
 TookOpens (Err faults.Memory) old new = Unit {0}

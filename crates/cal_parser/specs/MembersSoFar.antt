@@ -9,5 +9,7 @@ use Rattle.cal_grammar.specs.Rules.{part, read}
 use Rattle.cal_parser.specs.Tells.{before}
 
 -- these members are read from `start` on, and the others from `now` on; `k` says whether a schedule may still come
-pub record IsMembersSoFar (m : ℕ) (start now : List Token) (k : Bool) (xs : List Tree) : Type 0 where
-  pub far : read m (part (members true)) (plain_tokens start) ≡ before xs (read m (part (members k)) (plain_tokens now))
+pub record IsMembersSoFar (m : ℕ) (start now : List Token) (k : Bool) (xs : List Tree) :
+    Type 0 where
+  pub far : read m (part (members true)) (plain_tokens start)
+      ≡ before xs (read m (part (members k)) (plain_tokens now))

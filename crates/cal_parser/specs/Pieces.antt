@@ -31,35 +31,53 @@ body_then v next = enter (part (repeated a_stmt)) (λ ys. finish v (next ys))
 
 -- the variables of a block with the word behind them, or none
 abbrev pub vars_then : (Tree → Step) → Step
-vars_then next = on Lexeme.Var (enter (part (separated comma a_var)) (λ xs. expect Lexeme.Do (next xs))) (next nil)
+vars_then next = on Lexeme.Var
+    (enter (part (separated comma a_var)) (λ xs. expect Lexeme.Do (next xs))) (next nil)
 
 -- what a loop runs over, with the word behind it
 abbrev pub range_then : (Tree → Tree → Tree → Tree → Step) → Step
-range_then next = enter (part a_type) (λ shape. named (λ i. expect Lexeme.In (enter (part an_expr) (λ x. expect Lexeme.DotDot (enter (part an_expr) (λ y. expect Lexeme.Do (next shape (ident_of i) x y)))))))
+range_then next = enter (part a_type)
+    (λ shape. named (λ i. expect Lexeme.In
+    (enter (part an_expr) (λ x. expect Lexeme.DotDot
+    (enter (part an_expr) (λ y. expect Lexeme.Do (next shape (ident_of i) x y)))))))
 
 -- a call behind its name and a parenthesis, an assignment behind its name
 abbrev pub call_rest : Tree → ℕ → Step
-call_rest name q = enter (part (any comma an_expr)) (λ xs. expect Lexeme.RightParen (expect Lexeme.Semicolon (give (call_stmt name xs q))))
+call_rest name q = enter (part (any comma an_expr))
+    (λ xs. expect Lexeme.RightParen (expect Lexeme.Semicolon (give (call_stmt name xs q))))
 
 abbrev pub assign_rest : Tree → ℕ → Step
-assign_rest name q = enter (part (repeated a_place)) (λ xs. expect Lexeme.Assign (enter (part an_expr) (λ x. expect Lexeme.Semicolon (give (assign name xs x q)))))
+assign_rest name q = enter (part (repeated a_place))
+    (λ xs. expect Lexeme.Assign (enter (part an_expr)
+    (λ x. expect Lexeme.Semicolon (give (assign name xs x q)))))
 
 -- what is given is what the front of a program reads, whatever goes on behind it with the tree
-abbrev pub Leads : {A : Type 0} → (A → Tree) → ℕ → ((Tree → Step) → Step) → Result A Fault → List Token → List Token → Type 0
-Leads view m p (Ok x) old new = (next : Tree → Step) → exec read m (p next) (plain_tokens old) ≡ exec read m (next (view x)) (plain_tokens new)
-Leads view m p (Err fault) old new = (next : Tree → Step) → TellsFault fault new (exec read m (p next) (plain_tokens old))
+abbrev pub Leads : {A : Type 0} → (A → Tree) → ℕ → ((Tree → Step) → Step) → Result A Fault
+    → List Token → List Token → Type 0
+Leads view m p (Ok x) old new = (next : Tree → Step)
+    → exec read m (p next) (plain_tokens old) ≡ exec read m (next (view x)) (plain_tokens new)
+Leads view m p (Err fault) old new = (next : Tree → Step)
+    → TellsFault fault new (exec read m (p next) (plain_tokens old))
 
 -- the same of what a loop runs over
 abbrev pub LeadsRange : ℕ → Result Bounds Fault → List Token → List Token → Type 0
-LeadsRange m (Ok r) old new = (next : Tree → Tree → Tree → Tree → Step) → exec read m (range_then next) (plain_tokens old) ≡ exec read m (next (type_tree r.shape) (ident_tree r.name) (expr_tree r.from) (expr_tree r.to)) (plain_tokens new)
-LeadsRange m (Err fault) old new = (next : Tree → Tree → Tree → Tree → Step) → TellsFault fault new (exec read m (range_then next) (plain_tokens old))
+LeadsRange m (Ok r) old new = (next : Tree → Tree → Tree → Tree → Step)
+    → exec read m (range_then next) (plain_tokens old)
+    ≡ exec read m (next (type_tree r.shape) (ident_tree r.name) (expr_tree r.from) (expr_tree r.to))
+    (plain_tokens new)
+LeadsRange m (Err fault) old new = (next : Tree → Tree → Tree → Tree → Step)
+    → TellsFault fault new (exec read m (range_then next) (plain_tokens old))
 
 -- what is given is what the rest of a rule reads
-abbrev pub Does : {A : Type 0} → (A → Tree) → ℕ → Step → Result A Fault → List Token → List Token → Type 0
+abbrev pub Does : {A : Type 0} → (A → Tree) → ℕ → Step → Result A Fault → List Token → List Token
+    → Type 0
 Does view m p (Ok x) old new = exec read m p (plain_tokens old) ≡ Gave (view x) (plain_tokens new)
 Does view m p (Err fault) old new = TellsFault fault new (exec read m p (plain_tokens old))
 
 -- the same of an `if` behind its first word, which stood at q, whatever is made of it
 abbrev pub DoesIf : ℕ → ℕ → Result Stmt Fault → List Token → List Token → Type 0
-DoesIf m q (Ok x) old new = (make : Tree → Tree) (w : Lexeme) → exec read m (if_stmt_body make (placed w q)) (plain_tokens old) ≡ Gave (make (stmt_tree x)) (plain_tokens new)
-DoesIf m q (Err fault) old new = (make : Tree → Tree) (w : Lexeme) → TellsFault fault new (exec read m (if_stmt_body make (placed w q)) (plain_tokens old))
+DoesIf m q (Ok x) old new = (make : Tree → Tree) (w : Lexeme)
+    → exec read m (if_stmt_body make (placed w q)) (plain_tokens old)
+    ≡ Gave (make (stmt_tree x)) (plain_tokens new)
+DoesIf m q (Err fault) old new = (make : Tree → Tree) (w : Lexeme)
+    → TellsFault fault new (exec read m (if_stmt_body make (placed w q)) (plain_tokens old))

@@ -9,9 +9,11 @@ use Rattle.cal_grammar.specs.Rules.{Rule, part, read}
 use Rattle.cal_parser.specs.Tells.{before}
 
 -- these trees are read from `start` on, with a mark behind each, and the rest is read from `now` on
-pub record IsSoFar (v : Mark) (p : Part) (w : Lexeme) (start now : List Token) (xs : List Tree) : Type 0 where
+pub record IsSoFar (v : Mark) (p : Part) (w : Lexeme) (start now : List Token) (xs : List Tree) :
+    Type 0 where
   pub word_is : w ≡ mark v
-  pub far : (m : ℕ) → read m (part (separated v p)) (plain_tokens start) ≡ before xs (read m (part (separated v p)) (plain_tokens now))
+  pub far : (m : ℕ) → read m (part (separated v p)) (plain_tokens start)
+      ≡ before xs (read m (part (separated v p)) (plain_tokens now))
 
 -- the same for any rule of a list, in one room
 pub record HasRead (m : ℕ) (r : Rule) (start now : List Token) (xs : List Tree) : Type 0 where

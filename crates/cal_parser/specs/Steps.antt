@@ -25,16 +25,19 @@ abbrev pub does : ℕ → Step → List Placed → Outcome Placed Tree
 does m p ts = exec read m p ts
 
 -- what is given is the tree of an outcome, or why there is none
-abbrev pub Answers : {A : Type 0} → (A → Tree) → Outcome Placed Tree → Result A Fault → List Token → Type 0
+abbrev pub Answers : {A : Type 0} → (A → Tree) → Outcome Placed Tree → Result A Fault → List Token
+    → Type 0
 Answers view o (Ok x) new = o ≡ Gave (view x) (plain_tokens new)
 Answers view o (Err fault) new = TellsFault fault new o
 
 -- the same of a step
-abbrev pub Does : {A : Type 0} → (A → Tree) → ℕ → Step → Result A Fault → List Token → List Token → Type 0
+abbrev pub Does : {A : Type 0} → (A → Tree) → ℕ → Step → Result A Fault → List Token → List Token
+    → Type 0
 Does view m p result old new = Answers view (does m p (plain_tokens old)) result new
 
 -- the same of a rule
-abbrev pub Reads : {A : Type 0} → (A → Tree) → ℕ → Rule → Result A Fault → List Token → List Token → Type 0
+abbrev pub Reads : {A : Type 0} → (A → Tree) → ℕ → Rule → Result A Fault → List Token → List Token
+    → Type 0
 Reads view m r result old new = Answers view (read m r (plain_tokens old)) result new
 
 -- the trees of parts with their heights
@@ -82,7 +85,8 @@ truth_step value = check 1 (take (λ t. give (truth value (offset t))))
 
 -- the end of a pair of parentheses round x
 abbrev pub closing_step : ℕ → Tree → Step
-closing_step q x = ask (here (same_word Lexeme.RightParen)) (check (height (group 0 x)) (take (λ u. give (group q x)))) fail
+closing_step q x = ask (here (same_word Lexeme.RightParen))
+    (check (height (group 0 x)) (take (λ u. give (group q x)))) fail
 
 abbrev pub index_step : Tree → Tree → Step
 index_step x i = expect Lexeme.RightBracket (give (index x i (begins x)))

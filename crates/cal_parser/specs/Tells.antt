@@ -20,7 +20,8 @@ TellsFault faults.TooHigh new o = o ≡ TooHigh (plain_tokens new)
 TellsFault faults.Memory new o = Unit {0}
 
 -- what is given is the tree that the rule reads in a room of m, or why it reads none; `view` is the tree of a value
-abbrev pub Tells : {A : Type 0} → (A → Tree) → ℕ → Rule → Result A Fault → List Token → List Token → Type 0
+abbrev pub Tells : {A : Type 0} → (A → Tree) → ℕ → Rule → Result A Fault → List Token → List Token
+    → Type 0
 Tells view m r (Ok x) old new = read m r (plain_tokens old) ≡ Gave (view x) (plain_tokens new)
 Tells view m r (Err fault) old new = TellsFault fault new (read m r (plain_tokens old))
 
@@ -29,8 +30,11 @@ abbrev pub each : {A : Type 0} → (A → Tree) → Vec A Global → Tree
 each view xs = listed (map view xs.items)
 
 abbrev pub TellsNames : Mark → Result (Vec Ident Global) Fault → List Token → List Token → Type 0
-TellsNames v (Ok xs) old new = (m : ℕ) → read m (part (separated v a_name)) (plain_tokens old) ≡ Gave (listed (map ident_tree xs.items)) (plain_tokens new)
-TellsNames v (Err fault) old new = (m : ℕ) → TellsFault fault new (read m (part (separated v a_name)) (plain_tokens old))
+TellsNames v (Ok xs) old new = (m : ℕ)
+    → read m (part (separated v a_name)) (plain_tokens old)
+    ≡ Gave (listed (map ident_tree xs.items)) (plain_tokens new)
+TellsNames v (Err fault) old new = (m : ℕ)
+    → TellsFault fault new (read m (part (separated v a_name)) (plain_tokens old))
 
 -- the trees before a list of trees
 abbrev pub joined : List Tree → Tree → Tree
@@ -45,5 +49,7 @@ before xs (TooHigh left) = TooHigh left
 before xs Spent = Spent
 
 abbrev pub TellsTag : Result Tag Fault → List Token → List Token → Type 0
-TellsTag (Ok t) old new = (m : ℕ) → read m (part a_tag) (plain_tokens old) ≡ Gave (tag_tree t) (plain_tokens new)
-TellsTag (Err fault) old new = (m : ℕ) → TellsFault fault new (read m (part a_tag) (plain_tokens old))
+TellsTag (Ok t) old new = (m : ℕ)
+    → read m (part a_tag) (plain_tokens old) ≡ Gave (tag_tree t) (plain_tokens new)
+TellsTag (Err fault) old new = (m : ℕ)
+    → TellsFault fault new (read m (part a_tag) (plain_tokens old))

@@ -1,6 +1,7 @@
 -- The canonical text of a tree (this profile's): its tokens in order, each end written `end`, each operator by its
 -- first spelling, and no pair of parentheses but those that the tree holds and those round an operand that is itself
 -- an operation or an `if`.
+-- Above what stands for a production is its line in EBNF; E(x) is `end` or the long end of x.
 -- Trusted: part of what a promise means.
 use Rattle.std.specs.Prelude.{ℕ, Bool, true, false, List, [], ◌∷◌, ◌++◌, if◌then◌else◌}
 use Rattle.cal_ast.specs.declared.expr.PrefixOp.{PrefixOp}
@@ -65,70 +66,129 @@ abbrev mutual
   words (ident text at) = Lexeme.Name text ∷ []
   words (tag parts at) = joined Lexeme.Dot parts
   -- files
-  words (import_part path last at) = Lexeme.Import ∷ dotted path ++ last_name last ++ (Lexeme.Semicolon ∷ [])
+  words (import_part path last at) = Lexeme.Import ∷ dotted path ++ last_name last
+      ++ (Lexeme.Semicolon ∷ [])
+  -- File      = ["package" Tag ";"] {Import} (Actor | Unit)
   words (file in_package imports body at) = packaged in_package ++ words imports ++ words body
   words (actor name params ins outs members at) =
-      Lexeme.Actor ∷ words name ++ (Lexeme.LeftParen ∷ joined Lexeme.Comma params ++ (Lexeme.RightParen ∷ joined Lexeme.Comma ins
-      ++ (Lexeme.LongDoubleArrow ∷ joined Lexeme.Comma outs ++ (Lexeme.Colon ∷ each_member members ++ (Lexeme.End ∷ [])))))
-  words (unit name members at) = Lexeme.Unit ∷ words name ++ (Lexeme.Colon ∷ each_member members ++ (Lexeme.End ∷ []))
+      Lexeme.Actor ∷ words name ++ (Lexeme.LeftParen ∷ joined Lexeme.Comma params
+      ++ (Lexeme.RightParen ∷ joined Lexeme.Comma ins
+      ++ (Lexeme.LongDoubleArrow ∷ joined Lexeme.Comma outs
+      ++ (Lexeme.Colon ∷ each_member members ++ (Lexeme.End ∷ [])))))
+  -- Unit      = "unit" Name ":" {Var ";" | Function} E(unit)
+  words (unit name members at) = Lexeme.Unit ∷ words name
+      ++ (Lexeme.Colon ∷ each_member members ++ (Lexeme.End ∷ []))
   -- members
+  -- Param     = Type Name ["=" Expr]
   words (param shape name start at) = words shape ++ words name ++ start_words Lexeme.Equal start
+  -- Ports     = Type Name {"," Type Name}
+  -- Formals   = Type Name {"," Type Name}
   words (port shape name at) = words shape ++ words name
-  words (var shape name start changes at) = words shape ++ words name ++ start_words (if changes then Lexeme.Assign else Lexeme.Equal) start
+  -- Var       = Type Name [(":=" | "=") Expr]
+  words (var shape name start changes at) = words shape ++ words name
+      ++ start_words (if changes then Lexeme.Assign else Lexeme.Equal) start
+  -- Function  = "function" Name "(" [Formals] ")" "-->" Type [Vars] ":" Expr E(function)
   words (function name formals result vars body at) =
-      Lexeme.Function ∷ words name ++ (Lexeme.LeftParen ∷ joined Lexeme.Comma formals ++ (Lexeme.RightParen ∷ Lexeme.LongArrow ∷ words result
-      ++ where_any vars (Lexeme.Var ∷ joined Lexeme.Comma vars) ++ (Lexeme.Colon ∷ words body ++ (Lexeme.End ∷ []))))
+      Lexeme.Function ∷ words name ++ (Lexeme.LeftParen ∷ joined Lexeme.Comma formals
+      ++ (Lexeme.RightParen ∷ Lexeme.LongArrow ∷ words result
+      ++ where_any vars (Lexeme.Var ∷ joined Lexeme.Comma vars)
+      ++ (Lexeme.Colon ∷ words body ++ (Lexeme.End ∷ []))))
+  -- Procedure = "procedure" Name "(" [Formals] ")" [Vars] "begin" {Stmt} E(procedure)
   words (procedure name formals vars body at) =
-      Lexeme.Procedure ∷ words name ++ (Lexeme.LeftParen ∷ joined Lexeme.Comma formals ++ (Lexeme.RightParen ∷
-      where_any vars (Lexeme.Var ∷ joined Lexeme.Comma vars) ++ (Lexeme.Begin ∷ words body ++ (Lexeme.End ∷ []))))
+      Lexeme.Procedure ∷ words name ++ (Lexeme.LeftParen ∷ joined Lexeme.Comma formals
+      ++ (Lexeme.RightParen ∷
+      where_any vars (Lexeme.Var ∷ joined Lexeme.Comma vars)
+      ++ (Lexeme.Begin ∷ words body ++ (Lexeme.End ∷ []))))
+  -- Action    = [Tag ":"] "action" [In {"," In}] "==>" [Outs] Rest E(action)
+  -- Rest      = ["guard" Expr {"," Expr}] [Vars] ["do" {Stmt}]
   words (action name false patterns outputs guards vars body at) =
-      label name ++ (Lexeme.Action ∷ joined Lexeme.Comma patterns ++ (Lexeme.LongDoubleArrow ∷ joined Lexeme.Comma outputs
-      ++ where_any guards (Lexeme.Guard ∷ joined Lexeme.Comma guards) ++ where_any vars (Lexeme.Var ∷ joined Lexeme.Comma vars)
+      label name ++ (Lexeme.Action ∷ joined Lexeme.Comma patterns
+      ++ (Lexeme.LongDoubleArrow ∷ joined Lexeme.Comma outputs
+      ++ where_any guards (Lexeme.Guard ∷ joined Lexeme.Comma guards)
+      ++ where_any vars (Lexeme.Var ∷ joined Lexeme.Comma vars)
       ++ under Lexeme.Do body ++ (Lexeme.End ∷ [])))
   words (action name true patterns outputs guards vars body at) =
       label name ++ (Lexeme.Initialize ∷ Lexeme.LongDoubleArrow ∷ joined Lexeme.Comma outputs
-      ++ where_any guards (Lexeme.Guard ∷ joined Lexeme.Comma guards) ++ where_any vars (Lexeme.Var ∷ joined Lexeme.Comma vars)
+      ++ where_any guards (Lexeme.Guard ∷ joined Lexeme.Comma guards)
+      ++ where_any vars (Lexeme.Var ∷ joined Lexeme.Comma vars)
       ++ under Lexeme.Do body ++ (Lexeme.End ∷ []))
+  -- In        = [Name ":"] "[" Name {"," Name} "]" ["repeat" Expr]
   words (pattern from names repeat at) =
-      label from ++ (Lexeme.LeftBracket ∷ joined Lexeme.Comma names ++ (Lexeme.RightBracket ∷ under Lexeme.Repeat repeat))
+      label from ++ (Lexeme.LeftBracket ∷ joined Lexeme.Comma names
+      ++ (Lexeme.RightBracket ∷ under Lexeme.Repeat repeat))
+  -- Out       = [Name ":"] "[" Expr {"," Expr} "]" ["repeat" Expr]
   words (output to values repeat at) =
-      label to ++ (Lexeme.LeftBracket ∷ joined Lexeme.Comma values ++ (Lexeme.RightBracket ∷ under Lexeme.Repeat repeat))
-  words (schedule start moves at) = Lexeme.Schedule ∷ Lexeme.Fsm ∷ words start ++ (Lexeme.Colon ∷ words moves ++ (Lexeme.End ∷ []))
+      label to ++ (Lexeme.LeftBracket ∷ joined Lexeme.Comma values
+      ++ (Lexeme.RightBracket ∷ under Lexeme.Repeat repeat))
+  -- Schedule  = "schedule" "fsm" Name ":" {Name "(" Tag {"," Tag} ")" "-->" Name ";"} E(schedule)
+  words (schedule start moves at) = Lexeme.Schedule ∷ Lexeme.Fsm ∷ words start
+      ++ (Lexeme.Colon ∷ words moves ++ (Lexeme.End ∷ []))
   words (move from tags to at) =
-      words from ++ (Lexeme.LeftParen ∷ joined Lexeme.Comma tags ++ (Lexeme.RightParen ∷ Lexeme.LongArrow ∷ words to ++ (Lexeme.Semicolon ∷ [])))
+      words from ++ (Lexeme.LeftParen ∷ joined Lexeme.Comma tags
+      ++ (Lexeme.RightParen ∷ Lexeme.LongArrow ∷ words to ++ (Lexeme.Semicolon ∷ [])))
+  -- Priority  = "priority" {Tag ">" Tag {">" Tag} ";"} E(priority)
   words (priority chains at) = Lexeme.Priority ∷ each_chain chains ++ (Lexeme.End ∷ [])
   -- types and their arguments
-  words (type_of name args at) = words name ++ where_any args (Lexeme.LeftParen ∷ joined Lexeme.Comma args ++ (Lexeme.RightParen ∷ []))
+  -- Type      = Name ["(" TypeArg {"," TypeArg} ")"]
+  words (type_of name args at) = words name
+      ++ where_any args (Lexeme.LeftParen ∷ joined Lexeme.Comma args ++ (Lexeme.RightParen ∷ []))
+  -- TypeArg   = Name ":" Type | Name "=" Expr
   words (shape_arg name shape) = words name ++ (Lexeme.Colon ∷ words shape)
   words (value_arg name value) = words name ++ (Lexeme.Equal ∷ words value)
   -- statements
-  words (assign name places value at) = words name ++ each_place places ++ (Lexeme.Assign ∷ words value ++ (Lexeme.Semicolon ∷ []))
+  -- Stmt      = Name {"[" Expr "]"} ":=" Expr ";" | Name "(" [Args] ")" ";"
+  words (assign name places value at) = words name ++ each_place places
+      ++ (Lexeme.Assign ∷ words value ++ (Lexeme.Semicolon ∷ []))
   words (call_stmt name args at) =
-      words name ++ (Lexeme.LeftParen ∷ joined Lexeme.Comma args ++ (Lexeme.RightParen ∷ Lexeme.Semicolon ∷ []))
+      words name ++ (Lexeme.LeftParen ∷ joined Lexeme.Comma args
+      ++ (Lexeme.RightParen ∷ Lexeme.Semicolon ∷ []))
+  --           | "if" Expr "then" {Stmt} {"elsif" Expr "then" {Stmt}} ["else" {Stmt}] E(if)
   words (if_stmt test first other at) =
-      Lexeme.If ∷ words test ++ (Lexeme.Then ∷ words first ++ under Lexeme.Else other ++ (Lexeme.End ∷ []))
-  words (while_stmt test body at) = Lexeme.While ∷ words test ++ (Lexeme.Do ∷ words body ++ (Lexeme.End ∷ []))
+      Lexeme.If ∷ words test ++ (Lexeme.Then ∷ words first ++ under Lexeme.Else other
+      ++ (Lexeme.End ∷ []))
+  --           | "while" Expr "do" {Stmt} E(while)
+  words (while_stmt test body at) = Lexeme.While ∷ words test
+      ++ (Lexeme.Do ∷ words body ++ (Lexeme.End ∷ []))
+  --           | "foreach" Type Name "in" Expr ".." Expr "do" {Stmt} E(foreach)
   words (foreach_stmt shape name from to body at) =
-      Lexeme.Foreach ∷ words shape ++ words name ++ (Lexeme.In ∷ words from ++ (Lexeme.DotDot ∷ words to ++ (Lexeme.Do ∷ words body ++ (Lexeme.End ∷ []))))
+      Lexeme.Foreach ∷ words shape ++ words name
+      ++ (Lexeme.In ∷ words from ++ (Lexeme.DotDot ∷ words to
+      ++ (Lexeme.Do ∷ words body ++ (Lexeme.End ∷ []))))
+  --           | "begin" [Vars "do"] {Stmt} E(begin)
   words (block vars body at) =
-      Lexeme.Begin ∷ where_any vars (Lexeme.Var ∷ joined Lexeme.Comma vars ++ (Lexeme.Do ∷ [])) ++ words body ++ (Lexeme.End ∷ [])
+      Lexeme.Begin ∷ where_any vars (Lexeme.Var ∷ joined Lexeme.Comma vars ++ (Lexeme.Do ∷ []))
+      ++ words body ++ (Lexeme.End ∷ [])
   -- expressions
+  -- Primary   = Number | "true" | "false" | Name | Name "(" [Args] ")" | "(" Expr ")"
   words (number value at) = Lexeme.Number value ∷ []
   words (truth true at) = Lexeme.True ∷ []
   words (truth false at) = Lexeme.False ∷ []
   words (variable text at) = Lexeme.Name text ∷ []
-  words (call name args at) = Lexeme.Name name ∷ Lexeme.LeftParen ∷ joined Lexeme.Comma args ++ (Lexeme.RightParen ∷ [])
+  words (call name args at) = Lexeme.Name name ∷ Lexeme.LeftParen ∷ joined Lexeme.Comma args
+      ++ (Lexeme.RightParen ∷ [])
   words (paren inner at) = Lexeme.LeftParen ∷ words inner ++ (Lexeme.RightParen ∷ [])
+  --           | "if" Expr "then" Expr "else" Expr E(if)
   words (if_expr test first other at) =
-      Lexeme.If ∷ words test ++ (Lexeme.Then ∷ words first ++ (Lexeme.Else ∷ words other ++ (Lexeme.End ∷ [])))
-  words (list items at) = Lexeme.LeftBracket ∷ joined Lexeme.Comma items ++ (Lexeme.RightBracket ∷ [])
-  words (comp item gens at) = Lexeme.LeftBracket ∷ words item ++ (Lexeme.Colon ∷ joined Lexeme.Comma gens ++ (Lexeme.RightBracket ∷ []))
+      Lexeme.If ∷ words test ++ (Lexeme.Then ∷ words first
+      ++ (Lexeme.Else ∷ words other ++ (Lexeme.End ∷ [])))
+  --           | "[" Expr {"," Expr} "]" | "[" Expr ":" Gen {"," Gen} "]"
+  words (list items at) = Lexeme.LeftBracket ∷ joined Lexeme.Comma items
+      ++ (Lexeme.RightBracket ∷ [])
+  words (comp item gens at) = Lexeme.LeftBracket ∷ words item
+      ++ (Lexeme.Colon ∷ joined Lexeme.Comma gens ++ (Lexeme.RightBracket ∷ []))
+  -- Gen       = "for" Type Name "in" Expr ".." Expr
   words (gen shape name from to at) =
-      Lexeme.For ∷ words shape ++ words name ++ (Lexeme.In ∷ words from ++ (Lexeme.DotDot ∷ words to))
-  words (index base place at) = paired (is_loose base) (words base) ++ (Lexeme.LeftBracket ∷ words place ++ (Lexeme.RightBracket ∷ []))
+      Lexeme.For ∷ words shape ++ words name
+      ++ (Lexeme.In ∷ words from ++ (Lexeme.DotDot ∷ words to))
+  -- Postfix   = Primary {"[" Expr "]"}
+  words (index base place at) = paired (is_loose base) (words base)
+      ++ (Lexeme.LeftBracket ∷ words place ++ (Lexeme.RightBracket ∷ []))
+  -- Prefix    = ("not" | "-" | "~") Prefix | Postfix
   words (prefix op operand at) = word_of_prefix op ∷ paired (is_loose operand) (words operand)
+  -- Level     = Tighter {Operator Tighter}
   words (binary op left right at) =
-      paired (is_loose left) (words left) ++ (word_of_binary op ∷ paired (is_loose right) (words right))
+      paired (is_loose left) (words left)
+      ++ (word_of_binary op ∷ paired (is_loose right) (words right))
 
   -- the parts of a list with a mark between them
   pub joined : Lexeme → Tree → List Lexeme
@@ -147,12 +207,14 @@ abbrev mutual
 
   -- chains of priorities
   pub each_chain : Tree → List Lexeme
-  each_chain (cons chain chains) = joined Lexeme.Greater chain ++ (Lexeme.Semicolon ∷ each_chain chains)
+  each_chain (cons chain chains) = joined Lexeme.Greater chain
+      ++ (Lexeme.Semicolon ∷ each_chain chains)
   each_chain _ = []
 
   -- members, each variable with a `;` behind it
   pub each_member : Tree → List Lexeme
-  each_member (cons (var shape name start changes at) rest) = words (var shape name start changes at) ++ (Lexeme.Semicolon ∷ each_member rest)
+  each_member (cons (var shape name start changes at) rest) =
+      words (var shape name start changes at) ++ (Lexeme.Semicolon ∷ each_member rest)
   each_member (cons x rest) = words x ++ each_member rest
   each_member _ = []
 

@@ -18,7 +18,8 @@ pub record Writes (held pending held_new pending_new text : List ℕ) : Type 0 w
 
 -- the same of a channel, as far as its bytes are told
 abbrev pub AppendsFront : ℕ → Channels → Channels → List ℕ → Type 0
-AppendsFront channel old new text = old.tells ≡ true → HoldsFront (old.held channel) (new.held channel) text
+AppendsFront channel old new text = old.tells ≡ true
+    → HoldsFront (old.held channel) (new.held channel) text
 
 abbrev pub WritesOn : ℕ → Channels → Channels → (pending pending_new text : List ℕ) → Type 0
 WritesOn channel old new pending pending_new text =

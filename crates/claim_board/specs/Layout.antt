@@ -11,7 +11,8 @@ module _ {P : Type 0} where
 
   -- a slot for each piece, by place, and one with room for as many
   abbrev pub IsLaidOut : List P → List (Slot P) → Type 0
-  IsLaidOut pieces slots = (room : Slot P) × (slots ≡ holding pieces ++ room ∷ []) × IsRoom (length pieces) room
+  IsLaidOut pieces slots = (room : Slot P) × (slots ≡ holding pieces ++ room ∷ [])
+      × IsRoom (length pieces) room
 
   -- the pieces in the slots
   abbrev pub pieces_of : List (Slot P) → List P

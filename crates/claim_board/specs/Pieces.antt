@@ -10,8 +10,10 @@ module _ {P X : Type 0} (state : P → X) where
   module _ (marked : P → Bool) where
     -- the piece's state is the start at this place, and its mark isn't set
     abbrev pub IsAsPut : List P → ℕ → P → Type 0
-    IsAsPut put place piece = (marked piece ≡ false) × (slice_get (starts put) place ≡ Some (state piece))
+    IsAsPut put place piece = (marked piece ≡ false)
+        × (slice_get (starts put) place ≡ Some (state piece))
 
     -- its mark is set, and its state is what work gives from the start at this place
     abbrev pub IsWorked : (X → X → Type 0) → List P → ℕ → P → Type 0
-    IsWorked gives put place piece = (marked piece ≡ true) × ((start : X) × (slice_get (starts put) place ≡ Some start) × gives start (state piece))
+    IsWorked gives put place piece = (marked piece ≡ true)
+        × ((start : X) × (slice_get (starts put) place ≡ Some start) × gives start (state piece))

@@ -33,15 +33,24 @@ module _ {P : Type 0} where
 
   -- the pass after it drew this place, whose piece it then holds
   abbrev pub drew_place : PassSeen P → ℕ → PassSeen P
-  drew_place pass place = record { id = pass.id; put = pass.put; drawn = pass.drawn ++ place ∷ []; held = Some place; ended = pass.ended }
+  drew_place pass place =
+      record {
+        id = pass.id;
+        put = pass.put;
+        drawn = pass.drawn ++ place ∷ [];
+        held = Some place;
+        ended = pass.ended;
+      }
 
   -- the pass after it was answered that no piece is left
   abbrev pub ended_pass : PassSeen P → PassSeen P
-  ended_pass pass = record { id = pass.id; put = pass.put; drawn = pass.drawn; held = pass.held; ended = true }
+  ended_pass pass =
+      record { id = pass.id; put = pass.put; drawn = pass.drawn; held = pass.held; ended = true }
 
   -- the pass after it gave back what it held
   abbrev pub gave_back : PassSeen P → PassSeen P
-  gave_back pass = record { id = pass.id; put = pass.put; drawn = pass.drawn; held = None; ended = pass.ended }
+  gave_back pass =
+      record { id = pass.id; put = pass.put; drawn = pass.drawn; held = None; ended = pass.ended }
 
   -- how often this place was drawn by one of the passes
   abbrev pub times_drawn : ℕ → List (PassSeen P) → ℕ
@@ -49,11 +58,13 @@ module _ {P : Type 0} where
 
   -- the places below some number were drawn by one of the passes, once, and no other place was drawn
   abbrev pub EachDrawnOnce : List P → List (PassSeen P) → Type 0
-  EachDrawnOnce put passes = (count : ℕ) × (count ≤ length put) × ((place : ℕ) → times_drawn place passes ≡ once_below count place)
+  EachDrawnOnce put passes = (count : ℕ) × (count ≤ length put)
+      × ((place : ℕ) → times_drawn place passes ≡ once_below count place)
 
   -- what the fact says of the piece at each place
   abbrev pub AtEachPlace : (ℕ → P → Type 0) → List P → Type 0
-  AtEachPlace fact pieces = (place : ℕ) (piece : P) → slice_get pieces place ≡ Some piece → fact place piece
+  AtEachPlace fact pieces = (place : ℕ) (piece : P) → slice_get pieces place ≡ Some piece
+      → fact place piece
 
   -- the place of the slot that was taken last
   abbrev pub held_in : List (ℕ × Slot P) → Option ℕ
@@ -61,12 +72,20 @@ module _ {P : Type 0} where
   held_in (x ∷ xs) = Some x.0
 
   abbrev pub pass_seen : TableId → Seated P → Bool → PassSeen P
-  pass_seen id me ended = record { id = id; put = me.0.put; drawn = me.0.home ++ places_of me.1; held = held_in me.1; ended = ended }
+  pass_seen id me ended =
+      record {
+        id = id;
+        put = me.0.put;
+        drawn = me.0.home ++ places_of me.1;
+        held = held_in me.1;
+        ended = ended;
+      }
 
   -- the numbers that it drew are the places that it brought home and the one that is out with it, and once it has ended one more, which is no place
   abbrev pub Drew : List ℕ → List P → List ℕ → List (ℕ × Slot P) → Bool → Type 0
   Drew drawn put home hand false = drawn ≡ home ++ places_of hand
-  Drew drawn put home hand true = (hand ≡ []) × ((n : ℕ) × (length put ≤ n) × (drawn ≡ home ++ n ∷ []))
+  Drew drawn put home hand true = (hand ≡ [])
+      × ((n : ℕ) × (length put ≤ n) × (drawn ≡ home ++ n ∷ []))
 
   -- what is true of each pass
   pub record IsPass (me : Seated P) (ended : Bool) : Type 0 where
@@ -86,7 +105,8 @@ module _ {P : Type 0} where
     pub home : (place : ℕ) → times place me.0.home ≡ times_drawn place passes
     pub places : (place : ℕ) → 0 < times place me.0.home → place < length put
     pub drawn : (place : ℕ) → place < length put → times place me.0.drawn ≡ times_drawn place passes
-    pub ended : Any (λ pass. pass.ended ≡ true) passes → (n : ℕ) × (length put ≤ n) × (0 < times n me.0.drawn)
+    pub ended : Any (λ pass. pass.ended ≡ true) passes → (n : ℕ) × (length put ≤ n)
+        × (0 < times n me.0.drawn)
 
   -- the seat of this pass
   abbrev pub IsSeatOf : TableId → Seated P → PassSeen P → Type 0

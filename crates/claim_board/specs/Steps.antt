@@ -24,11 +24,13 @@ module _ {P : Type 0} where
 
   -- the view with one number more that it drew
   abbrev pub with_number : View P → ℕ → View P
-  with_number v n = record { passes = v.passes; put = v.put; drawn = v.drawn ++ n ∷ []; home = v.home }
+  with_number v n =
+      record { passes = v.passes; put = v.put; drawn = v.drawn ++ n ∷ []; home = v.home }
 
   -- the view with one place more that it brought home
   abbrev pub with_home : View P → List ℕ → View P
-  with_home v places = record { passes = v.passes; put = v.put; drawn = v.drawn; home = v.home ++ places }
+  with_home v places =
+      record { passes = v.passes; put = v.put; drawn = v.drawn; home = v.home ++ places }
 
   -- a number was drawn, which is above each that this view drew before; if it is a place, its slot is out with the
   -- piece that was put there
@@ -56,4 +58,11 @@ module _ {P : Type 0} where
 
   -- what two views know together
   abbrev pub joined : View P → View P → View P
-  joined v w = record { passes = v.passes + w.passes; put = v.put; drawn = v.drawn ++ w.drawn; home = v.home ++ w.home }
+  joined v w =
+      record {
+        passes = v.passes + w.passes;
+        put = v.put;
+        drawn = v.drawn ++ w.drawn;
+        home = v.home
+            ++ w.home;
+      }

@@ -14,7 +14,13 @@ pub record Code : Type 0 where
 
 -- code as it is written
 abbrev pub code_of : ActorCode → Code
-code_of code = record { instrs = code.instrs.items; routines = code.routines.items; entries = code.entries.items; cells = code.cells }
+code_of code =
+    record {
+      instrs = code.instrs.items;
+      routines = code.routines.items;
+      entries = code.entries.items;
+      cells = code.cells;
+    }
 
 -- the places that begin bodies
 abbrev pub begins : Code → List ℕ

@@ -57,7 +57,8 @@ push_computed (Traps trap) stack cells = Fails trap
 -- written is read as written
 abbrev pub copied : Option Scalar → ℕ → ℕ → ℕ → List ℤ → List ℤ
 copied t d s zero cells = cells
-copied t d s (suc n) cells = copied t (d + 1) (s + 1) n (slice_set cells d (stored t (cell cells s)))
+copied t d s (suc n) cells =
+    copied t (d + 1) (s + 1) n (slice_set cells d (stored t (cell cells s)))
 
 abbrev pub zeroed : ℕ → ℕ → List ℤ → List ℤ
 zeroed c zero cells = cells
@@ -70,7 +71,8 @@ push_token (Some v) stack cells = Leaves (v ∷ stack) cells
 -- the tokens k, k + m and so on, n of them, go to the cells from d on; none if one isn't there
 abbrev pub taken : List ℤ → ℕ → ℕ → ℕ → ℕ → List ℤ → Option (List ℤ)
 taken tokens d k m zero cells = Some cells
-taken tokens d k m (suc n) cells = elim (slice_get tokens k) [ None ↦ None | Some v ↦ taken tokens (d + 1) (k + m) m n (slice_set cells d v) ]
+taken tokens d k m (suc n) cells = elim (slice_get tokens k)
+    [ None ↦ None | Some v ↦ taken tokens (d + 1) (k + m) m n (slice_set cells d v) ]
 
 abbrev pub leave_taken : List ℤ → Option (List ℤ) → Effect
 leave_taken stack None = LacksToken
@@ -89,16 +91,29 @@ on_two f stack cells = pop_two stack (λ a b s. push_computed (f a b) s cells)
 abbrev pub effect : (ℕ → List ℤ) → Instr → List ℤ → List ℤ → Effect
 effect tokens (op.Const v) stack cells = Leaves (v ∷ stack) cells
 effect tokens (op.Load c) stack cells = with_cells cells c 1 (Leaves (cell cells c ∷ stack) cells)
-effect tokens (op.Store c t) stack cells = pop stack (λ v s. with_cells cells c 1 (Leaves s (slice_set cells c (stored t v))))
-effect tokens (op.Index n m) stack cells = pop_two stack (λ o i s. with_offset i 1 n (λ k. push_computed (whole (o +ℤ pos (k * m))) s cells))
-effect tokens (op.LoadAt c n) stack cells = pop stack (λ o s. with_offset o 1 n (λ k. with_cells cells (c + k) 1 (Leaves (cell cells (c + k) ∷ s) cells)))
-effect tokens (op.StoreAt c n t) stack cells = pop_two stack (λ o v s. with_offset o 1 n (λ k. with_cells cells (c + k) 1 (Leaves s (slice_set cells (c + k) (stored t v)))))
-effect tokens (op.Copy d s n t) stack cells = with_cells cells d n (with_cells cells s n (Leaves stack (copied t d s n cells)))
-effect tokens (op.CopyTo d n s m t) stack cells = pop stack (λ o st. with_offset o m n (λ k. with_cells cells (d + k) m (with_cells cells s m (Leaves st (copied t (d + k) s m cells)))))
-effect tokens (op.CopyFrom d s n m) stack cells = pop stack (λ o st. with_offset o m n (λ k. with_cells cells d m (with_cells cells (s + k) m (Leaves st (copied None d (s + k) m cells)))))
+effect tokens (op.Store c t) stack cells = pop stack
+    (λ v s. with_cells cells c 1 (Leaves s (slice_set cells c (stored t v))))
+effect tokens (op.Index n m) stack cells = pop_two stack
+    (λ o i s. with_offset i 1 n (λ k. push_computed (whole (o +ℤ pos (k * m))) s cells))
+effect tokens (op.LoadAt c n) stack cells = pop stack
+    (λ o s. with_offset o 1 n (λ k. with_cells cells (c + k) 1
+    (Leaves (cell cells (c + k) ∷ s) cells)))
+effect tokens (op.StoreAt c n t) stack cells = pop_two stack
+    (λ o v s. with_offset o 1 n (λ k. with_cells cells (c + k) 1
+    (Leaves s (slice_set cells (c + k) (stored t v)))))
+effect tokens (op.Copy d s n t) stack cells =
+    with_cells cells d n (with_cells cells s n (Leaves stack (copied t d s n cells)))
+effect tokens (op.CopyTo d n s m t) stack cells = pop stack
+    (λ o st. with_offset o m n (λ k. with_cells cells (d + k) m
+    (with_cells cells s m (Leaves st (copied t (d + k) s m cells)))))
+effect tokens (op.CopyFrom d s n m) stack cells = pop stack
+    (λ o st. with_offset o m n (λ k. with_cells cells d m
+    (with_cells cells (s + k) m (Leaves st (copied None d (s + k) m cells)))))
 effect tokens (op.Token p k) stack cells = push_token (slice_get (tokens p) k) stack cells
-effect tokens (op.TokenAt p k m n) stack cells = pop stack (λ i s. with_offset i 1 n (λ j. push_token (slice_get (tokens p) (k + j * m)) s cells))
-effect tokens (op.TokenList d p k m n) stack cells = with_cells cells d n (leave_taken stack (taken (tokens p) d k m n cells))
+effect tokens (op.TokenAt p k m n) stack cells = pop stack
+    (λ i s. with_offset i 1 n (λ j. push_token (slice_get (tokens p) (k + j * m)) s cells))
+effect tokens (op.TokenList d p k m n) stack cells =
+    with_cells cells d n (leave_taken stack (taken (tokens p) d k m n cells))
 effect tokens (op.Zero c n) stack cells = with_cells cells c n (Leaves stack (zeroed c n cells))
 effect tokens op.Neg stack cells = on_top neg stack cells
 effect tokens op.BitNot stack cells = on_top (λ a. Gives (bit_not a)) stack cells

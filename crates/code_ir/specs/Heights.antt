@@ -16,11 +16,14 @@ unmarked (None ∷ heights) = suc (unmarked heights)
 unmarked (Some h ∷ heights) = unmarked heights
 
 -- The marks grow, and the places whose marks are new are to be worked on. Each new mark is one that P permits.
-pub record Grows (P : ℕ → ℕ → Type 0) (before after : List (Option ℕ)) (work later : List ℕ) : Type 0 where
+pub record Grows (P : ℕ → ℕ → Type 0) (before after : List (Option ℕ)) (work later : List ℕ) :
+    Type 0 where
   pub keeps : (q k : ℕ) → IsMarked before q k → IsMarked after q k
-  pub adds : (q k : ℕ) → IsMarked after q k → IsMarked before q k ⊎ (P q k × (is_among q later ≡ true))
+  pub adds : (q k : ℕ) → IsMarked after q k → IsMarked before q k
+      ⊎ (P q k × (is_among q later ≡ true))
   pub holds : (q : ℕ) → is_among q work ≡ true → is_among q later ≡ true
-  pub takes : (q : ℕ) → is_among q later ≡ true → (is_among q work ≡ true) ⊎ ((k : ℕ) × IsMarked after q k)
+  pub takes : (q : ℕ) → is_among q later ≡ true → (is_among q work ≡ true)
+      ⊎ ((k : ℕ) × IsMarked after q k)
   pub size : length after ≡ length before
   pub fewer : 2 * unmarked after + length later ≤ 2 * unmarked before + length work
 
@@ -36,8 +39,10 @@ pub record IsEnough (code : Code) (p h : ℕ) (i : Instr) : Type 0 where
 -- the mark was passed on to the places that may come next
 pub record IsPassedOn (code : Code) (heights : List (Option ℕ)) (p h : ℕ) : Type 0 where
   pub enough : (i : Instr) → slice_get code.instrs p ≡ Some i → IsEnough code p h i
-  pub next : (i : Instr) → slice_get code.instrs p ≡ Some i → goes_on i ≡ true → IsMarked heights (p + 1) (h - pops i + pushes code i)
-  pub jump : (i : Instr) (t : ℕ) → slice_get code.instrs p ≡ Some i → target i ≡ Some t → IsMarked heights t (h - pops i + pushes code i)
+  pub next : (i : Instr) → slice_get code.instrs p ≡ Some i → goes_on i ≡ true
+      → IsMarked heights (p + 1) (h - pops i + pushes code i)
+  pub jump : (i : Instr) (t : ℕ) → slice_get code.instrs p ≡ Some i → target i ≡ Some t
+      → IsMarked heights t (h - pops i + pushes code i)
 
 -- the marks are heights of ways; those of the starts of bodies are there, and those that aren't to be worked on
 -- were passed on
@@ -46,7 +51,8 @@ pub record Marking (code : Code) (heights : List (Option ℕ)) (work : List ℕ)
   pub sound : (p h : ℕ) → IsMarked heights p h → Way code p h
   pub begun : (p : ℕ) → is_among p (begins code) ≡ true → IsMarked heights p 0
   pub pending : (p : ℕ) → is_among p work ≡ true → (h : ℕ) × IsMarked heights p h
-  pub passed : (p h : ℕ) → IsMarked heights p h → (is_among p work ≡ true) ⊎ IsPassedOn code heights p h
+  pub passed : (p h : ℕ) → IsMarked heights p h → (is_among p work ≡ true)
+      ⊎ IsPassedOn code heights p h
 
 -- the instruction there breaks the line of heights
 abbrev pub IsBadHeight : Code → ℕ → Type 0

@@ -16,4 +16,5 @@ NamesTokens tokens (op.TokenList d p k m n) = AreBelow (length (tokens p)) k m n
 NamesTokens tokens instr = Unit {0}
 
 abbrev pub AllNameTokens : (ℕ → List ℤ) → List Instr → Type 0
-AllNameTokens tokens instrs = (p : ℕ) (i : Instr) → slice_get instrs p ≡ Some i → NamesTokens tokens i
+AllNameTokens tokens instrs = (p : ℕ) (i : Instr) → slice_get instrs p ≡ Some i
+    → NamesTokens tokens i

@@ -41,14 +41,19 @@ go_on s Breaks = Stuck
 
 abbrev pub jump_if_not : ℕ → State → List ℤ → Next
 jump_if_not t s [] = Stuck
-jump_if_not t s (a ∷ stack) = Goes (record s { place = if is_true a then s.place + 1 else t; stack = stack })
+jump_if_not t s (a ∷ stack) =
+    Goes (record s { place = if is_true a then s.place + 1 else t; stack = stack })
 
 abbrev pub turn : State → ℕ → Next
 turn s zero = Over (outcome.Trap TurnLimit) s.cells
 turn s (suc left) = Goes (record s { place = s.place + 1; left = left })
 
 abbrev pub call : Code → ℕ → State → Next
-call code r s = elim (slice_get code.routines r) [ None ↦ Stuck | Some routine ↦ Goes (record s { place = routine.start; frames = (s.place + 1) ∷ s.frames }) ]
+call code r s = elim (slice_get code.routines r) [
+  | None ↦ Stuck
+  | Some routine ↦ Goes
+      (record s { place = routine.start; frames = (s.place + 1) ∷ s.frames })
+]
 
 abbrev pub return : State → List ℕ → Next
 return s [] = Stuck
@@ -70,23 +75,28 @@ obey code tokens s instr = go_on s (effect tokens instr s.stack s.cells)
 
 -- one step
 abbrev pub step : Code → (ℕ → List ℤ) → State → Next
-step code tokens s = elim (slice_get code.instrs s.place) [ None ↦ Stuck | Some instr ↦ obey code tokens s instr ]
+step code tokens s =
+    elim (slice_get code.instrs s.place) [ None ↦ Stuck | Some instr ↦ obey code tokens s instr ]
 
 -- ---- runs
 
 -- from this state a run comes to this end
 pub data Ends (code : Code) (tokens : ℕ → List ℤ) : State → Outcome → List ℤ → Type 0 where
-  stop : {s : State} {o : Outcome} {cells : List ℤ} → step code tokens s ≡ Over o cells → Ends code tokens s o cells
-  go : {s t : State} {o : Outcome} {cells : List ℤ} → step code tokens s ≡ Goes t → Ends code tokens t o cells → Ends code tokens s o cells
+  stop : {s : State} {o : Outcome} {cells : List ℤ} → step code tokens s ≡ Over o cells
+      → Ends code tokens s o cells
+  go : {s t : State} {o : Outcome} {cells : List ℤ} → step code tokens s ≡ Goes t
+      → Ends code tokens t o cells → Ends code tokens s o cells
 
 -- from this state a run comes by that one
 pub data Reaches (code : Code) (tokens : ℕ → List ℤ) : State → State → Type 0 where
   here : {s : State} → Reaches code tokens s s
-  after : {s t u : State} → step code tokens s ≡ Goes t → Reaches code tokens t u → Reaches code tokens s u
+  after : {s t u : State} → step code tokens s ≡ Goes t → Reaches code tokens t u
+      → Reaches code tokens s u
 
 -- where a run from an entry starts
 abbrev pub start : ℕ → List ℤ → State
-start entry cells = record { place = entry; stack = []; frames = []; cells = cells; left = max_turns }
+start entry cells =
+    record { place = entry; stack = []; frames = []; cells = cells; left = max_turns }
 
 -- the code, run from an entry on these cells and tokens, has this outcome and leaves these cells
 abbrev pub runs : Code → ℕ → List ℤ → (ℕ → List ℤ) → Outcome → List ℤ → Type 0
@@ -94,4 +104,5 @@ runs code entry cells tokens o left = Ends code tokens (start entry cells) o lef
 
 -- each token that the run reads is there
 abbrev pub HasItsTokens : Code → ℕ → List ℤ → (ℕ → List ℤ) → Type 0
-HasItsTokens code entry cells tokens = (s : State) → Reaches code tokens (start entry cells) s → step code tokens s ≢ Lacks
+HasItsTokens code entry cells tokens = (s : State) → Reaches code tokens (start entry cells) s
+    → step code tokens s ≢ Lacks

@@ -11,7 +11,9 @@ use Rattle.code_ir.specs.Typing.{Way}
 -- place whose way counts the results, in the body of an entry or of a routine with a greater number.
 pub data Framed (code : Code) : ℕ → List ℕ → ℕ → Type 0 where
   entry : {r : ℕ} → length code.routines ≤ r → Framed code r [] 0
-  called : {r f : ℕ} {frames : List ℕ} (h n : ℕ) → r < routine_of code f → Way code f (h + results_of code r) → Framed code (routine_of code f) frames n → Framed code r (f ∷ frames) (h + n)
+  called : {r f : ℕ} {frames : List ℕ} (h n : ℕ) → r < routine_of code f
+      → Way code f (h + results_of code r) → Framed code (routine_of code f) frames n
+      → Framed code r (f ∷ frames) (h + n)
 
 pub record Stands (code : Code) (s : State) : Type 0 where
   -- the height in the body, and the operands under it
@@ -43,7 +45,8 @@ jumps_left (Some Turn) = 0
 jumps_left (Some instr) = 1
 
 abbrev pub most_steps : Code → State → ℕ
-most_steps code s = (s.left + s.left + jumps_left (slice_get code.instrs s.place)) * unit_of code (suc (length code.routines)) + (body_left code s.place + frames_left code s.frames)
+most_steps code s = (s.left + s.left + jumps_left (slice_get code.instrs s.place)) * unit_of code
+    (suc (length code.routines)) + (body_left code s.place + frames_left code s.frames)
 
 -- the step is over, lacks a token, or goes to a state that stands and is nearer to its end
 abbrev pub IsFine : Code → State → Next → Type 0

@@ -18,7 +18,8 @@ IsWrong size before place = (size ≤ place) ⊎ (is_among place before ≡ true
 -- each place of a list is inside the code, and none stands twice
 abbrev pub AreDistinct : ℕ → List ℕ → Type 0
 AreDistinct size [] = Unit {0}
-AreDistinct size (place ∷ places) = (place < size) × (is_among place places ≡ false) × AreDistinct size places
+AreDistinct size (place ∷ places) = (place < size) × (is_among place places ≡ false)
+    × AreDistinct size places
 
 -- the places are distinct and in range, and 0 is one of them unless there are no instructions
 pub record PlacesStand (code : Code) : Type 0 where
@@ -107,8 +108,10 @@ target instr = None
 -- some way through the code from the start of a body leads to this place, with so many operands on the stack
 pub data Way (code : Code) : ℕ → ℕ → Type 0 where
   begin : {p : ℕ} → is_among p (begins code) ≡ true → Way code p 0
-  next : {p h : ℕ} {i : Instr} → Way code p h → slice_get code.instrs p ≡ Some i → goes_on i ≡ true → pops i ≤ h → Way code (p + 1) (h - pops i + pushes code i)
-  jump : {p h t : ℕ} {i : Instr} → Way code p h → slice_get code.instrs p ≡ Some i → target i ≡ Some t → pops i ≤ h → Way code t (h - pops i + pushes code i)
+  next : {p h : ℕ} {i : Instr} → Way code p h → slice_get code.instrs p ≡ Some i → goes_on i ≡ true
+      → pops i ≤ h → Way code (p + 1) (h - pops i + pushes code i)
+  jump : {p h t : ℕ} {i : Instr} → Way code p h → slice_get code.instrs p ≡ Some i
+      → target i ≡ Some t → pops i ≤ h → Way code t (h - pops i + pushes code i)
 
 -- a body of a routine ends by `Return` at the height of its results
 abbrev pub LeavesResults : Code → ℕ → ℕ → Instr → Type 0
@@ -222,14 +225,16 @@ pub record IsFirstWrong (size : ℕ) (places : List ℕ) (at : ℕ) : Type 0 whe
 
 -- the first of these places that is wrong, or 0 if no body begins there
 abbrev pub IsWrongAmong : ℕ → List ℕ → ℕ → Type 0
-IsWrongAmong size places at = IsFirstWrong size places at ⊎ (AreDistinct size places × (0 < size) × (is_among 0 places ≡ false) × (at ≡ 0))
+IsWrongAmong size places at = IsFirstWrong size places at
+    ⊎ (AreDistinct size places × (0 < size) × (is_among 0 places ≡ false) × (at ≡ 0))
 
 abbrev pub IsWrongPlace : Code → ℕ → Type 0
 IsWrongPlace code at = IsWrongAmong (length code.instrs) (begins code) at
 
 -- the places stand, and the instruction at this one breaks a line
 abbrev pub IsWrongInstr : Code → ℕ → Type 0
-IsWrongInstr code at = PlacesStand code × ((i : Instr) × (slice_get code.instrs at ≡ Some i) × ¬ IsTyped code at i)
+IsWrongInstr code at = PlacesStand code
+    × ((i : Instr) × (slice_get code.instrs at ≡ Some i) × ¬ IsTyped code at i)
 
 -- what a refusal of code says
 abbrev pub IsCause : Code → CodeFault → Type 0

@@ -35,7 +35,8 @@ kind_of_value (Items (Cons v vs)) = ListKind (suc (count vs)) (kind_of_value v)
 
 -- a constant as a name with its kind and its value
 abbrev pub known_of : Constant → Known
-known_of x = record { name = x.name; kind = kind_of_value x.value; value = Some x.value; changes = false }
+known_of x =
+    record { name = x.name; kind = kind_of_value x.value; value = Some x.value; changes = false }
 
 -- the constants and the functions as names with their kinds
 abbrev pub names_of : Constants → Names

@@ -30,7 +30,8 @@ HasNoValue Clashes = Unit {0}
 
 -- the names of the constants, and others besides
 abbrev pub names_with : List Known → Constants → Names
-names_with lacking env = record { globals = map known_of env.values ++ lacking; locals = []; funs = env.funs }
+names_with lacking env =
+    record { globals = map known_of env.values ++ lacking; locals = []; funs = env.funs }
 
 -- a value whose lists have items of one kind each
 abbrev pub IsOfOneKind : Constant → Type 0

@@ -61,7 +61,8 @@ kept_bits None f = Some (Some (f default_size))
 kept_bits (Some n) f = if nat_le 1 n && nat_le n max_size then Some (Some (f n)) else None
 
 abbrev pub kept_list : Erased → Option (Option Scalar)
-kept_list given = if given.has_items then elim given.size [ None ↦ None | Some n ↦ Some None ] else None
+kept_list given = if given.has_items then elim given.size [ None ↦ None | Some n ↦ Some None ]
+    else None
 
 -- the type of a name, as what a number is stored in
 abbrev pub kept_named : List ℕ → Erased → Option (Option Scalar)

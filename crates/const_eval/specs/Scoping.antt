@@ -32,7 +32,8 @@ declared_name (declared.Counter name) = string_bytes name.now.text
 -- a local with its value; a generator's variable isn't assigned
 abbrev pub local_var : Declared → Value → Var
 local_var (declared.Local x) v = bound_var (local_view x.now) v
-local_var (declared.Counter name) v = variable (string_bytes name.now.text) (Single scalar.Bool) false v
+local_var (declared.Counter name) v =
+    variable (string_bytes name.now.text) (Single scalar.Bool) false v
 
 abbrev pub outside : Option (Bor (List Var)) → List Var
 outside None = []
@@ -68,5 +69,6 @@ seen s = record {
 abbrev pub calls : Scope → Calls
 calls s = elim s.hidden [
   | None ↦ calls_within s.depth (held s.env.now).funs
-  | Some x ↦ (λ globals. calls_within s.depth (held s.env.now).funs (map var_of (held s.env.now).values))
+  | Some x ↦ (λ globals. calls_within s.depth (held s.env.now).funs
+      (map var_of (held s.env.now).values))
 ]

@@ -13,17 +13,21 @@ use Rattle.const_eval.specs.declared.shapes.Argument.TheVariants as declared
 
 -- an argument of a type
 abbrev pub argument_judged : Tree → Names → Judged Argument
-argument_judged (tree.shape_arg (tree.ident name place) shape) names = and_so (type_judged shape names) (λ t. Fine (OfShape name t))
-argument_judged (tree.value_arg (tree.ident name place) value) names = and_so (constant_number (kind value names) value names) (λ z. Fine (OfSize name z))
+argument_judged (tree.shape_arg (tree.ident name place) shape) names =
+    and_so (type_judged shape names) (λ t. Fine (OfShape name t))
+argument_judged (tree.value_arg (tree.ident name place) value) names =
+    and_so (constant_number (kind value names) value names) (λ z. Fine (OfSize name z))
 argument_judged other names = Broken wrong_kind 0
 
 abbrev pub argument_view : Declared → Argument
-argument_view (declared.Shape name filled) = OfShape (string_bytes name.now.text) (shape_view filled.shape)
+argument_view (declared.Shape name filled) =
+    OfShape (string_bytes name.now.text) (shape_view filled.shape)
 argument_view (declared.Size name z) = OfSize (string_bytes name.now.text) z
 
 -- a size in bits
 abbrev pub bits_judged : ℤ → ℕ → Judged ℕ
-bits_judged (pos n) at = if nat_le 1 n && nat_le n max_size then Fine n else Broken wrong_type_argument at
+bits_judged (pos n) at = if nat_le 1 n && nat_le n max_size then Fine n
+    else Broken wrong_type_argument at
 bits_judged (negsuc n) at = Broken wrong_type_argument at
 
 -- the size of a number type, whose one argument may be its size

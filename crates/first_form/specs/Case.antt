@@ -17,9 +17,11 @@ as_outcome (form.Traps c) left = Traps c
 
 -- the action's token as a name
 abbrev pub token_named : List ℕ → ℤ → Env
-token_named name v = record { globals = []; locals = record { name = name; value = Num v; kept = None } ∷ [] }
+token_named name v =
+    record { globals = []; locals = record { name = name; value = Num v; kept = None } ∷ [] }
 
 -- the value of an expression of the first form is what the whole language says
 abbrev pub FirstFormIsCase : Type 0
 FirstFormIsCase = (calls : Calls) (name : List ℕ) (v : ℤ) (b : Binary) (left : ℕ)
-    → IsFirstForm b → eval (value_tree name b) calls (token_named name v) left ≡ as_outcome (form.eval v b) left
+    → IsFirstForm b → eval (value_tree name b) calls (token_named name v) left
+    ≡ as_outcome (form.eval v b) left

@@ -37,7 +37,9 @@ pattern_tree f = pattern (present (ident f.input 0)) (one (ident f.variable 0)) 
 
 -- OUT:[X op Y]
 abbrev pub output_tree : Form → Tree
-output_tree f = output (present (ident f.output 0)) (one (binary (op_of f.sum.op) (operand_tree f.variable f.sum.left) (operand_tree f.variable f.sum.right) 0)) absent 0
+output_tree f = output (present (ident f.output 0))
+    (one (binary (op_of f.sum.op) (operand_tree f.variable f.sum.left)
+    (operand_tree f.variable f.sum.right) 0)) absent 0
 
 -- an action that does nothing but take one token and send one
 abbrev pub action_tree : Form → Tree
@@ -45,7 +47,8 @@ action_tree f = action absent false (one (pattern_tree f)) (one (output_tree f))
 
 -- actor NAME () uint(size=8) IN ==> uint(size=8) OUT : action IN:[VARIABLE] ==> OUT:[X op Y] end end
 abbrev pub actor_of : Form → Tree
-actor_of f = actor (ident f.name 0) nil (one (port_tree f.input)) (one (port_tree f.output)) (one (action_tree f)) 0
+actor_of f = actor (ident f.name 0) nil (one (port_tree f.input)) (one (port_tree f.output))
+    (one (action_tree f)) 0
 
 -- a file that is such an actor and no more
 abbrev pub form_tree : Form → Tree

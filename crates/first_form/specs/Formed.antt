@@ -14,7 +14,8 @@ use Rattle.first_form.specs.Mismatch.{is_operand, value_mismatch, port_mismatch,
 
 -- this operand, or none
 abbrev pub IsOperandOf : List ℕ → Tree → Option Operand → Type 0
-IsOperandOf token x (Some o) = IsEqualApart x (operand_tree token o) × IsOperand o × (is_operand token x ≡ true)
+IsOperandOf token x (Some o) = IsEqualApart x (operand_tree token o) × IsOperand o
+    × (is_operand token x ≡ true)
 IsOperandOf token x None = is_operand token x ≡ false
 
 abbrev pub operator_of : BinOp → Option Operator
@@ -28,7 +29,8 @@ value_tree token b = binary (op_of b.op) (operand_tree token b.left) (operand_tr
 
 -- this operation on two operands of the form, or its first mismatch
 abbrev pub IsValueOf : List ℕ → Tree → Result Binary ℕ → Type 0
-IsValueOf token x (Ok b) = IsEqualApart x (value_tree token b) × IsOperand b.left × IsOperand b.right × (value_mismatch token x ≡ None)
+IsValueOf token x (Ok b) = IsEqualApart x (value_tree token b) × IsOperand b.left
+    × IsOperand b.right × (value_mismatch token x ≡ None)
 IsValueOf token x (Err at) = value_mismatch token x ≡ Some at
 
 -- the one port of this name
@@ -57,7 +59,8 @@ pub record IsOutput (at : ℕ) (out_port token : List ℕ) (outputs : Tree) (b :
   pub stays : alone at (output_mismatch out_port token) outputs ≡ None
 
 abbrev pub action_of : List ℕ → List ℕ → List ℕ → Binary → Tree
-action_of in_port out_port token b = action absent false (one (pattern_of in_port token)) (one (output_of out_port token b)) nil nil absent 0
+action_of in_port out_port token b = action absent false (one (pattern_of in_port token))
+    (one (output_of out_port token b)) nil nil absent 0
 
 -- the one action
 pub record IsAction (at : ℕ) (in_port out_port : List ℕ) (members : Tree) (token : List ℕ) (b : Binary) : Type 0 where

@@ -73,7 +73,8 @@ is_named name _ = false
 
 -- a pattern of one name at the port `name`
 abbrev pub pattern_mismatch : List ℕ → Tree → Option ℕ
-pattern_mismatch name (pattern from names repeat at) = unless (is_named name from) at or_else alone at (λ x. None) names or_else none repeat
+pattern_mismatch name (pattern from names repeat at) =
+    unless (is_named name from) at or_else alone at (λ x. None) names or_else none repeat
 pattern_mismatch name x = Some (begins x)
 
 -- the token, under the name that the action gives it, or a number of at most MAX_DIGITS digits
@@ -90,12 +91,15 @@ is_operator _ = false
 
 -- an operation on two operands
 abbrev pub value_mismatch : List ℕ → Tree → Option ℕ
-value_mismatch token (binary op left right at) = unless (is_operator op) at or_else unless (is_operand token left) (begins left) or_else unless (is_operand token right) (begins right)
+value_mismatch token (binary op left right at) =
+    unless (is_operator op) at or_else unless (is_operand token left) (begins left) or_else unless
+    (is_operand token right) (begins right)
 value_mismatch token x = Some (begins x)
 
 -- an output of one value at the port `name`
 abbrev pub output_mismatch : List ℕ → List ℕ → Tree → Option ℕ
-output_mismatch name token (output to values repeat at) = unless (is_named name to) at or_else alone at (value_mismatch token) values or_else none repeat
+output_mismatch name token (output to values repeat at) =
+    unless (is_named name to) at or_else alone at (value_mismatch token) values or_else none repeat
 output_mismatch name token x = Some (begins x)
 
 abbrev pub is_absent : Tree → Bool
@@ -131,5 +135,6 @@ actor_mismatch x = Some (begins x)
 
 -- a file that is an actor of the form
 abbrev pub first_mismatch : Tree → Option ℕ
-first_mismatch (file in_package imports body at) = unless (is_absent in_package) at or_else none imports or_else actor_mismatch body
+first_mismatch (file in_package imports body at) =
+    unless (is_absent in_package) at or_else none imports or_else actor_mismatch body
 first_mismatch x = Some (begins x)

@@ -4,4 +4,11 @@ use Rattle.first_form.specs.declared.actor.Given.{Given}
 use Rattle.first_form.specs.Form.{Form}
 
 abbrev pub given_form : Given → Form
-given_form g = record { name = g.name.now; input = g.input.now; output = g.output.now; variable = g.variable.now; sum = g.sum }
+given_form g =
+    record {
+      name = g.name.now;
+      input = g.input.now;
+      output = g.output.now;
+      variable = g.variable.now;
+      sum = g.sum;
+    }

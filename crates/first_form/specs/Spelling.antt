@@ -39,12 +39,14 @@ pub record HasMismatchAt (text : List ℕ) (at : ℕ) : Type 0 where
 -- form isn't built
 pub data Breaks (text : List ℕ) : Rule → ℕ → Type 0 where
   in_lexis : (rule : Rule) (at : ℕ) → faults text rule at → Breaks text rule at
-  in_grammar : (tokens : List Placed) (rule : Rule) (at : ℕ) → lexes text tokens → grammar.Breaks (length text) tokens rule at → Breaks text rule at
+  in_grammar : (tokens : List Placed) (rule : Rule) (at : ℕ) → lexes text tokens
+      → grammar.Breaks (length text) tokens rule at → Breaks text rule at
   in_form : (at : ℕ) → HasMismatchAt text at → Breaks text not_built at
 
 -- a refusal names this file, and what its source breaks; out of memory says nothing of it
 abbrev pub IsRightly : ℕ → List ℕ → Answer → Type 0
-IsRightly number text (Refused refusal) = (refusal.place.file ≡ number) × Breaks text refusal.rule refusal.place.offset
+IsRightly number text (Refused refusal) = (refusal.place.file ≡ number)
+    × Breaks text refusal.rule refusal.place.offset
 IsRightly number text Memory = Unit {0}
 
 -- each place of the text, its end too, can be written as an offset
@@ -53,6 +55,8 @@ HasOffsets text = length text < 2 ^ 32
 
 -- what comes of a tree: the actor that it is, ignoring offsets, or its first mismatch
 abbrev pub IsActor : ℕ → Tree → Result Actor Answer → Type 0
-IsActor number tree (Ok actor) = IsEqualApart tree (form_tree (form_of actor)) × HasShortNumbers (form_of actor)
-IsActor number tree (Err (Refused refusal)) = (refusal.place.file ≡ number) × (refusal.rule ≡ not_built) × (first_mismatch tree ≡ Some refusal.place.offset)
+IsActor number tree (Ok actor) = IsEqualApart tree (form_tree (form_of actor))
+    × HasShortNumbers (form_of actor)
+IsActor number tree (Err (Refused refusal)) = (refusal.place.file ≡ number)
+    × (refusal.rule ≡ not_built) × (first_mismatch tree ≡ Some refusal.place.offset)
 IsActor number tree (Err Memory) = Unit {0}

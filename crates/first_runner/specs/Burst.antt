@@ -20,7 +20,8 @@ abbrev pub fire_lines : ℕ → List Line
 fire_lines n = replicate n (Fire 0 0)
 
 -- n tokens are taken from the front of the inbox, and what is sent for them stands behind the outbox
-pub record Bursts (b : Binary) (n : ℕ) (inbox inbox_new : List ℕ) (outbox outbox_new : List ℤ) : Type 0 where
+pub record Bursts (b : Binary) (n : ℕ) (inbox inbox_new : List ℕ) (outbox outbox_new : List ℤ) :
+    Type 0 where
   pub taken : List ℕ
   pub sent : List ℤ
   pub count_is : length taken ≡ n
@@ -29,7 +30,8 @@ pub record Bursts (b : Binary) (n : ℕ) (inbox inbox_new : List ℕ) (outbox ou
   pub sends : SendAll b taken sent
 
 -- a line of a burst couldn't be written: the trace got a prefix of the lines up to it
-pub record BreaksBurst (b : Binary) (limit : ℕ) (inbox : List ℕ) (held held_new pending : List ℕ) : Type 0 where
+pub record BreaksBurst (b : Binary) (limit : ℕ) (inbox : List ℕ) (held held_new pending : List ℕ) :
+    Type 0 where
   pub taken : List ℕ
   pub rest : List ℕ
   pub sent : List ℤ

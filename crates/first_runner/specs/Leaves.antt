@@ -38,16 +38,23 @@ pub record Pends (f : Form) (writes : Bool) (input : List ℕ) (how : RunEnd) (c
   pub ends : EndsAs f input how counts trace output
 
 -- after a failed write nothing more is put
-abbrev pub Comes : Form → Bool → List ℕ → RunEnd → Counts → (trace_old trace_new trace_pending output_old output_new output_pending : List ℕ) → Type 0
-Comes f writes input end.Quiet counts to tn tp oo on_ op = Pends f writes input end.Quiet counts to tn tp oo on_ op
-Comes f writes input end.Budget counts to tn tp oo on_ op = Pends f writes input end.Budget counts to tn tp oo on_ op
-Comes f writes input (end.ReadFault feed) counts to tn tp oo on_ op = Pends f writes input (end.ReadFault feed) counts to tn tp oo on_ op
-Comes f writes input (end.WriteFault channel) counts to tn tp oo on_ op = Leaves f writes input (end.WriteFault channel) counts to tn oo on_
+abbrev pub Comes : Form → Bool → List ℕ → RunEnd → Counts
+    → (trace_old trace_new trace_pending output_old output_new output_pending : List ℕ) → Type 0
+Comes f writes input end.Quiet counts to tn tp oo on_ op =
+    Pends f writes input end.Quiet counts to tn tp oo on_ op
+Comes f writes input end.Budget counts to tn tp oo on_ op =
+    Pends f writes input end.Budget counts to tn tp oo on_ op
+Comes f writes input (end.ReadFault feed) counts to tn tp oo on_ op =
+    Pends f writes input (end.ReadFault feed) counts to tn tp oo on_ op
+Comes f writes input (end.WriteFault channel) counts to tn tp oo on_ op =
+    Leaves f writes input (end.WriteFault channel) counts to tn oo on_
 
 -- the same of what the code holds
-abbrev pub HasCome : Form → Bool → List ℕ → RunEnd → Counts → (trace_base output_base : List ℕ) → Progress → Channels → Type 0
+abbrev pub HasCome : Form → Bool → List ℕ → RunEnd → Counts → (trace_base output_base : List ℕ)
+    → Progress → Channels → Type 0
 HasCome f writes input how counts trace_base output_base run channels =
-    Comes f writes input how counts trace_base (channels.held 1) run.trace output_base (channels.held 2) run.output
+    Comes f writes input how counts trace_base (channels.held 1) run.trace output_base
+    (channels.held 2) run.output
 
 -- a read or a write failed
 abbrev pub IsFault : RunEnd → Type 0
@@ -72,7 +79,8 @@ end_text (end.WriteFault channel) = []
 
 -- the numbers of a run, if so many tokens wait in the inbox
 abbrev pub numbers : (firings rounds waiting : ℕ) → Counts
-numbers firings rounds waiting = record { firings = firings; rounds = rounds; arrived = firings + waiting; sent = firings }
+numbers firings rounds waiting =
+    record { firings = firings; rounds = rounds; arrived = firings + waiting; sent = firings }
 
 abbrev pub IsNoFault : RunEnd → Type 0
 IsNoFault end.Quiet = Unit {0}

@@ -5,7 +5,8 @@ use Rattle.rvc_io.specs.Channels.{Channels}
 
 pub record KeepsOthersAt (old new : Channels) : Type 0 where
   pub same_telling : new.tells ≡ old.tells
-  pub same_held : old.tells ≡ true → (other : ℕ) → other ≢ 1 → other ≢ 2 → new.held other ≡ old.held other
+  pub same_held : old.tells ≡ true → (other : ℕ) → other ≢ 1 → other ≢ 2
+      → new.held other ≡ old.held other
   pub same_open : (other : ℕ) → new.is_open other ≡ old.is_open other
   pub faults_stay : old.faults ≤ new.faults
 

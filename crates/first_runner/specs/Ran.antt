@@ -37,10 +37,14 @@ deliveries_in (Inst k ∷ lines) = deliveries_in lines
 
 -- how many tokens have arrived on a link, and how many were sent on it
 abbrev pub arrived_on : List Flow → ℕ → ℕ
-arrived_on flows l = (Rattle.std.specs.Prelude.slice_index_or flows l (record { sent = []; arrived = 0; taken = 0; capacity = 0 })).arrived
+arrived_on flows l =
+    (Rattle.std.specs.Prelude.slice_index_or flows l
+    (record { sent = []; arrived = 0; taken = 0; capacity = 0 })).arrived
 
 abbrev pub sent_on : List Flow → ℕ → ℕ
-sent_on flows l = length (Rattle.std.specs.Prelude.slice_index_or flows l (record { sent = []; arrived = 0; taken = 0; capacity = 0 })).sent
+sent_on flows l =
+    length (Rattle.std.specs.Prelude.slice_index_or flows l
+    (record { sent = []; arrived = 0; taken = 0; capacity = 0 })).sent
 
 -- the numbers of the report count these lines and the tokens of the state after them
 pub record Counted (counts : Counts) (lines : List Line) (last : State (Unit {0})) : Type 0 where

@@ -33,10 +33,12 @@ abbrev pub results : Binary → List ℤ → ℕ → List ℤ
 results b ts n = map (λ v. outgoing (eval v b)) (take n ts)
 
 abbrev pub input_flow : List ℤ → ℕ → ℕ → Flow
-input_flow ts arrived fired = record { sent = ts; arrived = arrived; taken = fired; capacity = default_capacity }
+input_flow ts arrived fired =
+    record { sent = ts; arrived = arrived; taken = fired; capacity = default_capacity }
 
 abbrev pub output_flow : List ℤ → ℕ → Flow
-output_flow sent out = record { sent = sent; arrived = out; taken = out; capacity = default_capacity }
+output_flow sent out =
+    record { sent = sent; arrived = out; taken = out; capacity = default_capacity }
 
 -- so many tokens have arrived, were taken, and went out of the network
 abbrev pub state_at : Binary → List ℤ → ℕ → ℕ → ℕ → State (Unit {0})
@@ -53,11 +55,14 @@ pub record SoFar (f : Form) (input : List ℕ) (lines : List Line) (rounds arriv
       → PlaysFrom (network_of f) 0 (state_at f.sum (toks input) arrived fired out) after last
       → PlaysFrom (network_of f) 0 (start_of (network_of f) (input ∷ [])) (lines ++ after) last
   pub keeps : (after : List Line)
-      → KeepsSince (network_of f) (state_at f.sum (toks input) arrived_then fired_then fired_then) (state_at f.sum (toks input) arrived fired out) after
-      → KeepsSince (network_of f) (start_of (network_of f) (input ∷ [])) (start_of (network_of f) (input ∷ [])) (lines ++ after)
+      → KeepsSince (network_of f) (state_at f.sum (toks input) arrived_then fired_then fired_then)
+      (state_at f.sum (toks input) arrived fired out) after
+      → KeepsSince (network_of f) (start_of (network_of f) (input ∷ []))
+      (start_of (network_of f) (input ∷ [])) (lines ++ after)
   pub moves : (after : List Line) → AreMoves after → AreMoves (lines ++ after)
   pub fires : (after : List Line) → fires_in (lines ++ after) ≡ fired + fires_in after
-  pub deliveries : (after : List Line) → deliveries_in (lines ++ after) ≡ rounds + deliveries_in after
+  pub deliveries : (after : List Line)
+      → deliveries_in (lines ++ after) ≡ rounds + deliveries_in after
   pub out_behind : out ≤ fired
   pub fired_behind : fired ≤ arrived
   pub within : arrived ≤ length (toks input)
@@ -79,23 +84,29 @@ pub record Going (f : Form) (ends : Ends) (input trace_base output_base : List �
   pub to_come_is : IsToCome ends.reads to_come (drop arrived (tokens byte_type input))
   pub trace_is : Writes trace_base [] (held 1) trace_pending (flat_map line_text lines)
   pub output_is : MayWrite ends.writes output_base [] (held 2) output_pending gone
-  pub sent_is : gone ++ all_encoded byte_type outbox ≡ all_encoded byte_type (results f.sum (toks input) firings)
+  pub sent_is : gone ++ all_encoded byte_type outbox
+      ≡ all_encoded byte_type (results f.sum (toks input) firings)
 
 -- the same right after a delivery
 pub record Delivered (f : Form) (ends : Ends) (input trace_base output_base : List ℕ) (to_come : Option (List ℕ)) (inbox : List ℕ) (outbox : List ℤ) (firings rounds : ℕ) (tells : Bool) (held : ℕ → List ℕ) (trace_pending output_pending : List ℕ) : Type 0 where
-  pub going : Going f ends input trace_base output_base to_come inbox outbox firings rounds tells held trace_pending output_pending
+  pub going : Going f ends input trace_base output_base to_come inbox outbox firings rounds tells
+      held trace_pending output_pending
   pub all_out : going.out ≡ firings
   pub opened : going.fired_then ≡ firings
   pub outbox_is : outbox ≡ []
   pub all_taken : inbox ≡ [] → firings ≡ length (toks input)
 
 -- the two of what the code holds
-abbrev pub GoesOn : Form → Ends → (input trace_base output_base : List ℕ) → (to_come : Option (List ℕ)) → Progress → Channels → Type 0
+abbrev pub GoesOn : Form → Ends → (input trace_base output_base : List ℕ)
+    → (to_come : Option (List ℕ)) → Progress → Channels → Type 0
 GoesOn f ends input trace_base output_base to_come run channels =
-    Going f ends input trace_base output_base to_come run.inbox.items run.outbox.items run.firings run.rounds
+    Going f ends input trace_base output_base to_come run.inbox.items run.outbox.items run.firings
+    run.rounds
     channels.tells channels.held run.trace run.output
 
-abbrev pub HasDelivered : Form → Ends → (input trace_base output_base : List ℕ) → (to_come : Option (List ℕ)) → Progress → Channels → Type 0
+abbrev pub HasDelivered : Form → Ends → (input trace_base output_base : List ℕ)
+    → (to_come : Option (List ℕ)) → Progress → Channels → Type 0
 HasDelivered f ends input trace_base output_base to_come run channels =
-    Delivered f ends input trace_base output_base to_come run.inbox.items run.outbox.items run.firings run.rounds
+    Delivered f ends input trace_base output_base to_come run.inbox.items run.outbox.items
+    run.firings run.rounds
     channels.tells channels.held run.trace run.output

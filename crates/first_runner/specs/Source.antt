@@ -17,10 +17,12 @@ abbrev pub of_actor : ℕ → End
 of_actor p = AtLeaf (record { 0 = 0 }) p
 
 abbrev pub input_link : Link
-input_link = record { from = AtNet 0; to = of_actor 0; capacity = default_capacity; kind = byte_type }
+input_link =
+    record { from = AtNet 0; to = of_actor 0; capacity = default_capacity; kind = byte_type }
 
 abbrev pub output_link : Link
-output_link = record { from = of_actor 0; to = AtNet 0; capacity = default_capacity; kind = byte_type }
+output_link =
+    record { from = of_actor 0; to = AtNet 0; capacity = default_capacity; kind = byte_type }
 
 abbrev pub network_of : Form → Network (Unit {0})
 network_of f = record {

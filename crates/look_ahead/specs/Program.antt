@@ -11,7 +11,8 @@ pub data Program (Token Tree Rule : Type 0) : Type 0 where
   -- what stands here can't follow
   fail : Program Token Tree Rule
   -- a question on what stands here, and how to go on if it is answered by yes, by no
-  ask : (Option Token → Bool) → Program Token Tree Rule → Program Token Tree Rule → Program Token Tree Rule
+  ask : (Option Token → Bool) → Program Token Tree Rule → Program Token Tree Rule
+      → Program Token Tree Rule
   -- the token that stands here is taken
   take : (Token → Program Token Tree Rule) → Program Token Tree Rule
   -- what has this height must fit the room
@@ -37,17 +38,20 @@ ahead [] = None
 ahead (t ∷ ts) = Some t
 
 -- how it goes on after a part
-abbrev pub after : {Token Tree : Type 0} → Outcome Token Tree → (Tree → List Token → Outcome Token Tree) → Outcome Token Tree
+abbrev pub after : {Token Tree : Type 0} → Outcome Token Tree
+    → (Tree → List Token → Outcome Token Tree) → Outcome Token Tree
 after (Gave x left) next = next x left
 after (Refused left) next = Refused left
 after (TooHigh left) next = TooHigh left
 after Spent next = Spent
 
 -- what a program does in a room, if f tells what each rule does
-abbrev pub exec : {Token Tree Rule : Type 0} → (ℕ → Rule → List Token → Outcome Token Tree) → ℕ → Program Token Tree Rule → List Token → Outcome Token Tree
+abbrev pub exec : {Token Tree Rule : Type 0} → (ℕ → Rule → List Token → Outcome Token Tree) → ℕ
+    → Program Token Tree Rule → List Token → Outcome Token Tree
 exec f m (give x) ts = Gave x ts
 exec f m fail ts = Refused ts
-exec f m (ask q p other) ts = elim (q (ahead ts)) [ true ↦ exec f m p ts | false ↦ exec f m other ts ]
+exec f m (ask q p other) ts =
+    elim (q (ahead ts)) [ true ↦ exec f m p ts | false ↦ exec f m other ts ]
 exec f m (take next) [] = Refused []
 exec f m (take next) (t ∷ ts) = exec f m (next t) ts
 exec f m (check h p) ts = elim (nat_le h m) [ true ↦ exec f m p ts | false ↦ TooHigh ts ]
@@ -56,10 +60,12 @@ exec f m (invoke r next) ts = after (f m r ts) (λ x left. exec f m (next x) lef
 exec f m (enter r next) ts = after (f (m - 1) r ts) (λ x left. exec f m (next x) left)
 
 -- what a rule does, with a bound on how deep the calls go
-abbrev pub go : {Token Tree Rule : Type 0} → (Rule → Program Token Tree Rule) → ℕ → ℕ → Rule → List Token → Outcome Token Tree
+abbrev pub go : {Token Tree Rule : Type 0} → (Rule → Program Token Tree Rule) → ℕ → ℕ → Rule
+    → List Token → Outcome Token Tree
 go body zero m r ts = Spent
 go body (suc n) m r ts = exec (go body n) m (body r) ts
 
 -- what a rule does, if `size` bounds the depth of its calls
-unfoldable pub read : {Token Tree Rule : Type 0} → (Rule → Program Token Tree Rule) → (Rule → List Token → ℕ) → ℕ → Rule → List Token → Outcome Token Tree
+unfoldable pub read : {Token Tree Rule : Type 0} → (Rule → Program Token Tree Rule)
+    → (Rule → List Token → ℕ) → ℕ → Rule → List Token → Outcome Token Tree
 read body size m r ts = go body (suc (size r ts)) m r ts

@@ -20,11 +20,13 @@ pub record Fits (actor : Actor) (action : Action) : Type 0 where
   pub sends : length action.sends ≡ actor.outs
   pub guards : All (λ entry. is_among entry actor.code.entries ≡ true) action.guards
   pub fire : is_among action.fire actor.code.entries ≡ true
-  pub sent : (p : ℕ) → p < actor.outs → number_on action.sends p + number_on action.gives p ≤ actor.code.cells
+  pub sent : (p : ℕ) → p < actor.outs
+      → number_on action.sends p + number_on action.gives p ≤ actor.code.cells
 
 -- a firing may change this state cell
 abbrev pub IsSaved : Actor → ℕ → Type 0
-IsSaved actor cell = (k : ℕ) × (saved : StateCell) × (slice_get actor.saved k ≡ Some saved) × (saved.cell ≡ cell)
+IsSaved actor cell = (k : ℕ) × (saved : StateCell) × (slice_get actor.saved k ≡ Some saved)
+    × (saved.cell ≡ cell)
 
 -- the automaton, the order and the actions are of the same actions, and all numbers are in range
 pub record FitTogether (actor : Actor) : Type 0 where
@@ -39,7 +41,8 @@ pub record FitTogether (actor : Actor) : Type 0 where
 -- ---- runs
 
 -- there is a number for each cell of the code, and there are exactly the tokens that the action takes
-pub record IsAsked (actor : Actor) (action : Action) (cells : List ℤ) (tokens : ℕ → List ℤ) : Type 0 where
+pub record IsAsked (actor : Actor) (action : Action) (cells : List ℤ) (tokens : ℕ → List ℤ) :
+    Type 0 where
   pub cells_there : length cells ≡ actor.code.cells
   pub tokens_there : (p : ℕ) → length (tokens p) ≡ number_on action.needs p
 
@@ -80,10 +83,13 @@ pub record IsGuard (actor : Actor) (action : Action) (entry : ℕ) : Type 0 wher
   pub answers : (cells : List ℤ) (tokens : ℕ → List ℤ) (o : Outcome) (left : List ℤ)
       → IsAsked actor action cells tokens → runs actor.code entry cells tokens o left → IsAnswer o
   pub keeps : (cells : List ℤ) (tokens : ℕ → List ℤ) (o : Outcome) (left : List ℤ)
-      → IsAsked actor action cells tokens → runs actor.code entry cells tokens o left → SameState actor left cells
+      → IsAsked actor action cells tokens → runs actor.code entry cells tokens o left
+      → SameState actor left cells
   pub alike : (cells others : List ℤ) (tokens : ℕ → List ℤ) (o p : Outcome) (left last : List ℤ)
-      → IsAsked actor action cells tokens → IsAsked actor action others tokens → SameState actor cells others
-      → runs actor.code entry cells tokens o left → runs actor.code entry others tokens p last → o ≡ p
+      → IsAsked actor action cells tokens → IsAsked actor action others tokens
+      → SameState actor cells others
+      → runs actor.code entry cells tokens o left → runs actor.code entry others tokens p last
+      → o ≡ p
 
 -- A firing reads no token behind those that its action takes, and changes no state cell but those that are saved.
 -- How it ends is a matter of these tokens and the state cells alone, and so are the state and the tokens to send
@@ -95,9 +101,11 @@ pub record IsFiring (actor : Actor) (action : Action) (entry : ℕ) : Type 0 whe
       → IsAsked actor action cells tokens → runs actor.code entry cells tokens o left → IsEffect o
   pub keeps : (cells : List ℤ) (tokens : ℕ → List ℤ) (o : Outcome) (left : List ℤ)
       → IsAsked actor action cells tokens → runs actor.code entry cells tokens o left
-      → (cell : ℕ) → cell < actor.kept → ¬ IsSaved actor cell → slice_get left cell ≡ slice_get cells cell
+      → (cell : ℕ) → cell < actor.kept → ¬ IsSaved actor cell
+      → slice_get left cell ≡ slice_get cells cell
   pub alike : (cells others : List ℤ) (tokens : ℕ → List ℤ) (o p : Outcome) (left last : List ℤ)
-      → IsAsked actor action cells tokens → IsAsked actor action others tokens → SameState actor cells others
+      → IsAsked actor action cells tokens → IsAsked actor action others tokens
+      → SameState actor cells others
       → runs actor.code entry cells tokens o left → runs actor.code entry others tokens p last
       → (o ≡ p) × (o ≡ outcome.Done → SameState actor left last × SameSent actor action left last)
 

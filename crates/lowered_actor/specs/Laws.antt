@@ -25,7 +25,8 @@ pub record IsReady (actor : Actor) (tokens : ℕ → List ℤ) (a : ℕ) (action
 
 -- there are exactly the tokens that the action takes
 abbrev pub TokensAreAsked : Type 0
-TokensAreAsked = (actor : Actor) (x : ActorState) (tokens : ℕ → List ℤ) (a : ℕ) (action : Action) (cells : List ℤ)
+TokensAreAsked = (actor : Actor) (x : ActorState) (tokens : ℕ → List ℤ) (a : ℕ) (action : Action)
+    (cells : List ℤ)
     → IsLowered actor → AreCellsOf actor x cells → IsReady actor tokens a action
     → IsAsked actor action cells (taken actor tokens a)
 
@@ -36,8 +37,10 @@ pub record GuardEnds (actor : Actor) (x : ActorState) (tokens : ℕ → List ℤ
   pub same : end.outcome ≡ o
 
 abbrev pub GuardsEnd : Type 0
-GuardsEnd = (actor : Actor) (x : ActorState) (tokens : ℕ → List ℤ) (a : ℕ) (action : Action) (entry : ℕ)
-    (cells left : List ℤ) (o : Outcome) → IsLowered actor → AreCellsOf actor x cells → IsReady actor tokens a action
+GuardsEnd =
+    (actor : Actor) (x : ActorState) (tokens : ℕ → List ℤ) (a : ℕ) (action : Action) (entry : ℕ)
+    (cells left : List ℤ) (o : Outcome) → IsLowered actor → AreCellsOf actor x cells
+    → IsReady actor tokens a action
     → Contains action.guards entry → runs actor.code entry cells (taken actor tokens a) o left
     → GuardEnds actor x (taken actor tokens a) entry o
 
@@ -51,6 +54,7 @@ pub record FiringEnds (actor : Actor) (x : ActorState) (tokens : ℕ → List �
 
 abbrev pub FiringsEnd : Type 0
 FiringsEnd = (actor : Actor) (x : ActorState) (tokens : ℕ → List ℤ) (a : ℕ) (action : Action)
-    (cells left : List ℤ) (o : Outcome) → IsLowered actor → AreCellsOf actor x cells → IsReady actor tokens a action
+    (cells left : List ℤ) (o : Outcome) → IsLowered actor → AreCellsOf actor x cells
+    → IsReady actor tokens a action
     → runs actor.code action.fire cells (taken actor tokens a) o left
     → FiringEnds actor x (taken actor tokens a) action o left

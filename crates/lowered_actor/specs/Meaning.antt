@@ -60,10 +60,12 @@ cells_of actor x = x.cells ++ drop actor.kept actor.first
 -- ---- rates, eligibility and tokens
 
 abbrev pub need : Actor → ℕ → ℕ → ℕ
-need actor a p = elim (slice_get actor.actions a) [ None ↦ 0 | Some action ↦ number_on action.needs p ]
+need actor a p =
+    elim (slice_get actor.actions a) [ None ↦ 0 | Some action ↦ number_on action.needs p ]
 
 abbrev pub give : Actor → ℕ → ℕ → ℕ
-give actor a p = elim (slice_get actor.actions a) [ None ↦ 0 | Some action ↦ number_on action.gives p ]
+give actor a p =
+    elim (slice_get actor.actions a) [ None ↦ 0 | Some action ↦ number_on action.gives p ]
 
 abbrev pub is_eligible : Actor → ℕ → ℕ → Bool
 is_eligible actor s a = is_some (target actor.fsm s a)
@@ -74,7 +76,8 @@ next actor s a = elim (target actor.fsm s a) [ None ↦ s | Some to ↦ to ]
 -- there are as many tokens as are needed on each of the first n ports
 abbrev pub has_on_first : (ℕ → ℕ) → (ℕ → List ℤ) → ℕ → Bool
 has_on_first needed tokens zero = true
-has_on_first needed tokens (suc p) = has_on_first needed tokens p && nat_le (needed p) (length (tokens p))
+has_on_first needed tokens (suc p) =
+    has_on_first needed tokens p && nat_le (needed p) (length (tokens p))
 
 abbrev pub has_its_tokens : Actor → (ℕ → List ℤ) → ℕ → Bool
 has_its_tokens actor tokens a = has_on_first (need actor a) tokens actor.ins
@@ -157,11 +160,14 @@ is_exposed actor x tokens a = (is_eligible actor x.at a && has_its_tokens actor 
 abbrev pub sent_from : Action → List ℤ → ℕ → ℕ → List (List ℤ)
 sent_from action cells p zero = []
 sent_from action cells p (suc n) =
-    cells_from cells (number_on action.sends p) (number_on action.gives p) ∷ sent_from action cells (suc p) n
+    cells_from cells (number_on action.sends p) (number_on action.gives p)
+    ∷ sent_from action cells (suc p) n
 
-abbrev pub effect_of_outcome : Actor → ActorState → ℕ → Action → Outcome → List ℤ → Option (Effect ActorState)
+abbrev pub effect_of_outcome : Actor → ActorState → ℕ → Action → Outcome → List ℤ
+    → Option (Effect ActorState)
 effect_of_outcome actor x a action outcome.Done cells =
-    Some (Fires (record { at = next actor x.at a; cells = take actor.kept cells }) (sent_from action cells 0 actor.outs))
+    Some (Fires (record { at = next actor x.at a; cells = take actor.kept cells })
+    (sent_from action cells 0 actor.outs))
 effect_of_outcome actor x a action outcome.True cells = None
 effect_of_outcome actor x a action outcome.False cells = None
 effect_of_outcome actor x a action (outcome.Trap cause) cells = Some (TrapsInBody cause)
@@ -175,10 +181,12 @@ abbrev pub effect_of_body : Actor → ActorState → (ℕ → List ℤ) → ℕ 
 effect_of_body actor x tokens a = elim (slice_get actor.actions a) [
   | None ↦ None
   | Some action ↦
-      effect_of_end actor x a action (end_of actor.code action.fire (cells_of actor x) (taken actor tokens a))
+      effect_of_end actor x a action
+      (end_of actor.code action.fire (cells_of actor x) (taken actor tokens a))
 ]
 
-abbrev pub effect_of_exposed : Actor → ActorState → (ℕ → List ℤ) → ℕ → Guards → Option (Effect ActorState)
+abbrev pub effect_of_exposed : Actor → ActorState → (ℕ → List ℤ) → ℕ → Guards
+    → Option (Effect ActorState)
 effect_of_exposed actor x tokens a AreTrue = effect_of_body actor x tokens a
 effect_of_exposed actor x tokens a AreFalse = None
 effect_of_exposed actor x tokens a (AreTrapping cause) = Some (TrapsInGuard cause)

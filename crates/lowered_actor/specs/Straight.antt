@@ -49,7 +49,8 @@ may_stand actor action firing instr = false
 abbrev pub is_line : Actor → Action → Bool → List Instr → Bool
 is_line actor action firing [] = false
 is_line actor action firing (instr ∷ instrs) =
-    ends_line firing instr || (may_stand actor action firing instr && is_line actor action firing instrs)
+    ends_line firing instr || (may_stand actor action firing instr && is_line actor action firing
+    instrs)
 
 abbrev pub is_store : ℕ → Instr → Bool
 is_store cell (op.Store c kind) = c == cell
@@ -58,7 +59,8 @@ is_store cell instr = false
 -- the line stores in this cell
 abbrev pub stores : ℕ → List Instr → Bool
 stores cell [] = false
-stores cell (instr ∷ instrs) = if is_end instr then false else (is_store cell instr || stores cell instrs)
+stores cell (instr ∷ instrs) = if is_end instr then false
+    else (is_store cell instr || stores cell instrs)
 
 -- it stores in each of the n cells from this one on
 abbrev pub stores_each : ℕ → ℕ → List Instr → Bool
@@ -76,11 +78,13 @@ is_straight_guard actor action entry = is_line actor action false (body_at actor
 abbrev pub stores_sent : Action → ℕ → List Instr → Bool
 stores_sent action zero instrs = true
 stores_sent action (suc p) instrs =
-    stores_sent action p instrs && stores_each (number_on action.sends p) (number_on action.gives p) instrs
+    stores_sent action p instrs && stores_each (number_on action.sends p)
+    (number_on action.gives p) instrs
 
 abbrev pub is_straight_firing : Actor → Action → Bool
 is_straight_firing actor action =
-    is_line actor action true (body_at actor action.fire) && stores_sent action actor.outs (body_at actor action.fire)
+    is_line actor action true (body_at actor action.fire) && stores_sent action actor.outs
+    (body_at actor action.fire)
 
 abbrev pub are_straight_guards : Actor → Action → Bool
 are_straight_guards actor action = list_all (is_straight_guard actor action) action.guards

@@ -76,10 +76,12 @@ pub record IsSameActor {X : Type 0} (old new : Cell X) : Type 0 where
   pub same_journal_room : new.journal_room ≡ old.journal_room
 
 abbrev pub SameInboxes : {X : Type 0} → Cell X → Cell X → Type 0
-SameInboxes old new = (p : ℕ) → p < old.actor.ins → tokens_on new.inboxes p ≡ tokens_on old.inboxes p
+SameInboxes old new = (p : ℕ) → p < old.actor.ins
+    → tokens_on new.inboxes p ≡ tokens_on old.inboxes p
 
 abbrev pub SameOutboxes : {X : Type 0} → Cell X → Cell X → Type 0
-SameOutboxes old new = (p : ℕ) → p < old.actor.outs → tokens_on new.outboxes p ≡ tokens_on old.outboxes p
+SameOutboxes old new = (p : ℕ) → p < old.actor.outs
+    → tokens_on new.outboxes p ≡ tokens_on old.outboxes p
 
 -- nothing that is seen changes
 pub record IsSame {X : Type 0} (old new : Cell X) : Type 0 where
@@ -117,7 +119,8 @@ pub record IsLeftByTrap {X : Type 0} (old new : Cell X) : Type 0 where
   pub trapped : new.trapped ≡ true
 
 -- one firing of a burst: the selected action, which has room; the journal names it
-pub record FiresChoice {X : Type 0} (rooms : List ℕ) (old : Cell X) (a : ℕ) (new : Cell X) : Type 0 where
+pub record FiresChoice {X : Type 0} (rooms : List ℕ) (old : Cell X) (a : ℕ) (new : Cell X) :
+    Type 0 where
   pub chosen : choice_of old ≡ Picks a
   pub room : HasRoom old rooms a
   pub fired : FiresTo old a new
@@ -132,15 +135,18 @@ FireInTurn {X} rooms old (a ∷ actions) last =
 -- selection gives an action whose guards trap, or one that has room and then traps
 abbrev pub TrapsNow : {X : Type 0} → List ℕ → Cell X → ℕ → TrapName → Type 0
 TrapsNow rooms cell a cause = (choice_of cell ≡ Faults a cause)
-    ⊎ ((choice_of cell ≡ Picks a) × HasRoom cell rooms a × (effect_of cell a ≡ Some (TrapsInBody cause)))
+    ⊎ ((choice_of cell ≡ Picks a) × HasRoom cell rooms a
+    × (effect_of cell a ≡ Some (TrapsInBody cause)))
 
 -- Where and why a burst ends, after so many of at most `limit` firings: its number is spent, or of the action
 -- that selection gives then.
 abbrev pub EndsBurst : {X : Type 0} → List ℕ → ℕ → ℕ → Cell X → BurstEnd → Cell X → Type 0
 EndsBurst rooms limit fired last burst.Spent new = (fired ≡ limit) × IsSame last new
-EndsBurst rooms limit fired last burst.Waits new = (fired < limit) × (choice_of last ≡ Waits) × IsSame last new
+EndsBurst rooms limit fired last burst.Waits new = (fired < limit) × (choice_of last ≡ Waits)
+    × IsSame last new
 EndsBurst rooms limit fired last (burst.NoRoom action port) new =
-    (fired < limit) × (choice_of last ≡ Picks action.0) × LacksRoomOn last rooms action.0 port × IsSame last new
+    (fired < limit) × (choice_of last ≡ Picks action.0) × LacksRoomOn last rooms action.0 port
+    × IsSame last new
 EndsBurst rooms limit fired last (burst.Trap action cause) new =
     (fired < limit) × TrapsNow rooms last action.0 cause × IsLeftByTrap last new
 
@@ -155,7 +161,8 @@ pub record Bursts {X : Type 0} (rooms : List ℕ) (limit : ℕ) (old : Cell X) (
 -- what selection gives, and whether it has room
 abbrev pub Looks : {X : Type 0} → List ℕ → Cell X → Look → Type 0
 Looks rooms cell look.Waits = choice_of cell ≡ Waits
-Looks rooms cell (look.Ready action) = (choice_of cell ≡ Picks action.0) × HasRoom cell rooms action.0
+Looks rooms cell (look.Ready action) = (choice_of cell ≡ Picks action.0)
+    × HasRoom cell rooms action.0
 Looks rooms cell (look.NoRoom action port) =
     (choice_of cell ≡ Picks action.0) × LacksRoomOn cell rooms action.0 port
 Looks rooms cell (look.GuardTrap action cause) = choice_of cell ≡ Faults action.0 cause
@@ -169,9 +176,11 @@ IsEnabled None = ⊥
 
 -- what a named action does
 abbrev pub Tries : {X : Type 0} → List ℕ → ℕ → Cell X → Tried → Cell X → Type 0
-Tries rooms a old tried.Fired new = HasRoom old rooms a × FiresTo old a new × (new.journal ≡ old.journal)
+Tries rooms a old tried.Fired new = HasRoom old rooms a × FiresTo old a new
+    × (new.journal ≡ old.journal)
 Tries rooms a old (tried.Trap cause) new =
-    ((effect_of old a ≡ Some (TrapsInGuard cause)) ⊎ (HasRoom old rooms a × (effect_of old a ≡ Some (TrapsInBody cause))))
+    ((effect_of old a ≡ Some (TrapsInGuard cause))
+    ⊎ (HasRoom old rooms a × (effect_of old a ≡ Some (TrapsInBody cause))))
     × IsLeftByTrap old new
 Tries rooms a old tried.NotExposed new = (effect_of old a ≡ None) × IsSame old new
 Tries rooms a old (tried.NoRoom port) new =
@@ -184,7 +193,8 @@ pub record Accepts {X : Type 0} (old : Cell X) (p : ℕ) (token : ℤ) (new : Ce
   pub actor : IsSameActor old new
   pub state : new.state ≡ old.state
   pub there : tokens_on new.inboxes p ≡ tokens_on old.inboxes p ++ token ∷ []
-  pub elsewhere : (q : ℕ) → q < old.actor.ins → q ≢ p → tokens_on new.inboxes q ≡ tokens_on old.inboxes q
+  pub elsewhere : (q : ℕ) → q < old.actor.ins → q ≢ p
+      → tokens_on new.inboxes q ≡ tokens_on old.inboxes q
   pub outboxes : SameOutboxes old new
   pub journal : new.journal ≡ old.journal
   pub trapped : new.trapped ≡ old.trapped

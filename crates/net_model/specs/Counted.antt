@@ -68,11 +68,13 @@ pub record IsCounted {X : Type 0} (net : Network X) (inputs : List (List ℕ)) (
   pub rounds : counts.rounds ≡ deliveries_in lines
   pub links : length counts.arrived.items ≡ length net.links
   pub arrived : (l : ℕ) (link : Link) → slice_get net.links l ≡ Some link
-      → slice_index_or counts.arrived.items l 0 ≡ (if is_input link then arrived_at last l - arrived_at s l else 0)
+      → slice_index_or counts.arrived.items l 0
+      ≡ (if is_input link then arrived_at last l - arrived_at s l else 0)
   pub ends : length counts.rests.items ≡ length net.links
   -- a remainder counts only once its end was read
   pub rests : (l : ℕ) (link : Link) → slice_get net.links l ≡ Some link
-      → slice_index_or counts.rests.items l 0 ≡ (if was_short net s lines l then rest_at net.ins inputs link.from else 0)
+      → slice_index_or counts.rests.items l 0
+      ≡ (if was_short net s lines l then rest_at net.ins inputs link.from else 0)
   pub outs : length counts.sent.items ≡ length net.outs
   pub sent : (p : ℕ) → p < length net.outs
       → slice_index_or counts.sent.items p 0 ≡ sent_count net last p - sent_count net s p

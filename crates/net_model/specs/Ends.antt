@@ -41,7 +41,8 @@ pub record IsQuiet {X : Type 0} (net : Network X) (s : State X) : Type 0 where
 
 -- a link leads from port p of leaf i, and what the action gives there passes its room
 abbrev pub HasLessRoom : (ℕ → ℕ) → ℕ → Flow → End → Type 0
-HasLessRoom gives i flow (AtLeaf inst port) = (i ≡ inst.0) × (flow.capacity < untaken flow + gives port)
+HasLessRoom gives i flow (AtLeaf inst port) = (i ≡ inst.0)
+    × (flow.capacity < untaken flow + gives port)
 HasLessRoom gives i flow (AtNet port) = ⊥
 
 abbrev pub LacksOn : (ℕ → ℕ) → ℕ → Option Link → Option Flow → Type 0
@@ -59,19 +60,22 @@ LacksRoom net s i a l =
 pub record IsStalled {X : Type 0} (net : Network X) (s : State X) (i a l : ℕ) : Type 0 where
   pub settled : IsSettled net s
   pub each : (j : ℕ) → (choice_at net (all_fed net s) j ≡ Waits)
-      ⊎ ((b : ℕ) × (m : ℕ) × (choice_at net (all_fed net s) j ≡ Picks b) × LacksRoom net (all_fed net s) j b m)
+      ⊎ ((b : ℕ) × (m : ℕ) × (choice_at net (all_fed net s) j ≡ Picks b)
+      × LacksRoom net (all_fed net s) j b m)
   pub chosen : choice_at net (all_fed net s) i ≡ Picks a
   pub lowest_leaf : (j : ℕ) → j < i → choice_at net (all_fed net s) j ≡ Waits
   pub lacks : LacksRoom net (all_fed net s) i a l
   pub lowest_link : (m : ℕ) → m < l → LacksRoom net (all_fed net s) i a m → ⊥
 
 -- stalled, and the link has grown as far as it may
-pub record IsStuck {X : Type 0} (net : Network X) (grow : ℕ) (s : State X) (i a l : ℕ) : Type 0 where
+pub record IsStuck {X : Type 0} (net : Network X) (grow : ℕ) (s : State X) (i a l : ℕ) :
+    Type 0 where
   pub stalled : IsStalled net s i a l
   pub grown : grow ≤ capacity_at s l
 
 -- stalled, and the link may still grow: its capacity is doubled, at most up to the limit
-pub record Grows {X : Type 0} (net : Network X) (grow : ℕ) (s : State X) (l capacity : ℕ) : Type 0 where
+pub record Grows {X : Type 0} (net : Network X) (grow : ℕ) (s : State X) (l capacity : ℕ) :
+    Type 0 where
   pub leaf : ℕ
   pub action : ℕ
   pub stalled : IsStalled net s leaf action l

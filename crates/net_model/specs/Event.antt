@@ -27,7 +27,8 @@ each_flow change (link ∷ links) (flow ∷ flows) = change link flow ∷ each_f
 
 -- what a firing of leaf i sends on a link: the tokens of its port, stored in the reader's type
 abbrev pub sent_on : ℕ → List (List ℤ) → Link → End → List ℤ
-sent_on i sent link (AtLeaf inst port) = if i == inst.0 then map (conv link.kind) (slice_index_or sent port []) else []
+sent_on i sent link (AtLeaf inst port) = if i == inst.0
+    then map (conv link.kind) (slice_index_or sent port []) else []
 sent_on i sent link (AtNet port) = []
 
 -- how many tokens a firing of leaf i takes from a link

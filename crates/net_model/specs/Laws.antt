@@ -36,7 +36,8 @@ AreOrdered s = (l : ℕ) (flow : Flow) → slice_get s.flows l ≡ Some flow →
 
 -- the behaviour of each leaf is lawful
 abbrev pub AreLawful : {X : Type 0} → Network X → Type 0
-AreLawful {X} net = (i : ℕ) (leaf : Leaf X) → slice_get net.leaves i ≡ Some leaf → IsLawful leaf.behaviour
+AreLawful {X} net = (i : ℕ) (leaf : Leaf X) → slice_get net.leaves i ≡ Some leaf
+    → IsLawful leaf.behaviour
 
 -- the firings in events, and those that lines show: a leaf and its action, in order
 abbrev pub firings_in : List Event → List (ℕ × ℕ)
@@ -59,13 +60,15 @@ firings_shown (Inst k ∷ lines) = firings_shown lines
 
 -- a state without the capacities of its links, of which no event knows
 abbrev pub without_capacity : Flow → Flow
-without_capacity flow = record { sent = flow.sent; arrived = flow.arrived; taken = flow.taken; capacity = 0 }
+without_capacity flow =
+    record { sent = flow.sent; arrived = flow.arrived; taken = flow.taken; capacity = 0 }
 
 abbrev pub without_capacities : {X : Type 0} → State X → State X
 without_capacities s = record s { flows = map without_capacity s.flows }
 
 -- Some events lead from s to t but for the capacities, and the firings among them are these.
-pub record IsRunOf {X : Type 0} (net : Network X) (s t : State X) (firings : List (ℕ × ℕ)) : Type 0 where
+pub record IsRunOf {X : Type 0} (net : Network X) (s t : State X) (firings : List (ℕ × ℕ)) :
+    Type 0 where
   pub events : List Event
   pub reached : State X
   pub leads : run net s events ≡ Some reached
@@ -80,11 +83,13 @@ HasFlows net s = length s.flows ≡ length net.links
 
 -- what was sent stays in front of what is sent later, in every run ..
 abbrev pub EventsKeepSent : (X : Type 0) → Type 0
-EventsKeepSent X = (net : Network X) (s t : State X) (events : List Event) → run net s events ≡ Some t → SentGrows net s t
+EventsKeepSent X = (net : Network X) (s t : State X) (events : List Event)
+    → run net s events ≡ Some t → SentGrows net s t
 
 -- .. and by every line
 abbrev pub LinesKeepSent : (X : Type 0) → Type 0
-LinesKeepSent X = (net : Network X) (s t : State X) (lines : List Line) → played net s lines ≡ Some t → SentGrows net s t
+LinesKeepSent X = (net : Network X) (s t : State X) (lines : List Line)
+    → played net s lines ≡ Some t → SentGrows net s t
 
 -- at the start of a run over files each link has its flow, and no more was taken than has arrived ..
 abbrev pub StartsInOrder : (X : Type 0) → Type 0
@@ -118,7 +123,8 @@ AllWait net s = (i : ℕ) → choice_at net (all_fed net s) i ≡ Waits
 
 -- a state is quiet if it is settled and each leaf waits
 abbrev pub QuietIsWaiting : (X : Type 0) → Type 0
-QuietIsWaiting X = (net : Network X) (s : State X) → AreLawful net → IsQuiet net s ↔ (IsSettled net s × AllWait net s)
+QuietIsWaiting X = (net : Network X) (s : State X) → AreLawful net → IsQuiet net s
+    ↔ (IsSettled net s × AllWait net s)
 
 -- a state is stalled in one place
 abbrev pub StallsInOnePlace : (X : Type 0) → Type 0
@@ -127,7 +133,8 @@ StallsInOnePlace X = (net : Network X) (s : State X) (i a l j b m : ℕ)
 
 -- and it isn't quiet then
 abbrev pub StalledIsNotQuiet : (X : Type 0) → Type 0
-StalledIsNotQuiet X = (net : Network X) (s : State X) (i a l : ℕ) → AreLawful net → IsStalled net s i a l → IsQuiet net s → ⊥
+StalledIsNotQuiet X = (net : Network X) (s : State X) (i a l : ℕ) → AreLawful net
+    → IsStalled net s i a l → IsQuiet net s → ⊥
 
 -- an event from t and another from u lead to one state
 pub record Meets {X : Type 0} (net : Network X) (t : State X) (from_t : Event) (u : State X) (from_u : Event) : Type 0 where
@@ -138,23 +145,27 @@ pub record Meets {X : Type 0} (net : Network X) (t : State X) (from_t : Event) (
 -- two firings of different leaves lead to one state in either order
 abbrev pub FiringsCommute : (X : Type 0) → Type 0
 FiringsCommute X = (net : Network X) (s t u : State X) (i a j b : ℕ) → AreOrdered s → i ≢ j
-    → happens net s (Fire i a) ≡ Some t → happens net s (Fire j b) ≡ Some u → Meets net t (Fire j b) u (Fire i a)
+    → happens net s (Fire i a) ≡ Some t → happens net s (Fire j b) ≡ Some u
+    → Meets net t (Fire j b) u (Fire i a)
 
 -- a firing of a stable actor and a delivery lead to one state in either order
 abbrev pub DeliveriesKeepFirings : (X : Type 0) → Type 0
 DeliveriesKeepFirings X = (net : Network X) (s t u : State X) (i a l k : ℕ) → AreStable net
-    → happens net s (Fire i a) ≡ Some t → happens net s (Deliver l k) ≡ Some u → Meets net t (Deliver l k) u (Fire i a)
+    → happens net s (Fire i a) ≡ Some t → happens net s (Deliver l k) ≡ Some u
+    → Meets net t (Deliver l k) u (Fire i a)
 
 -- two deliveries on different links lead to one state in either order
 abbrev pub DeliveriesCommute : (X : Type 0) → Type 0
 DeliveriesCommute X = (net : Network X) (s t u : State X) (l k m n : ℕ) → l ≢ m
-    → happens net s (Deliver l k) ≡ Some t → happens net s (Deliver m n) ≡ Some u → Meets net t (Deliver m n) u (Deliver l k)
+    → happens net s (Deliver l k) ≡ Some t → happens net s (Deliver m n) ≡ Some u
+    → Meets net t (Deliver m n) u (Deliver l k)
 
 -- and so do two deliveries on one link that together don't pass what was sent
 abbrev pub DeliveriesAdd : (X : Type 0) → Type 0
 DeliveriesAdd X = (net : Network X) (s t u : State X) (l k n : ℕ)
     → ((flow : Flow) → slice_get s.flows l ≡ Some flow → flow.arrived + (k + n) ≤ length flow.sent)
-    → happens net s (Deliver l k) ≡ Some t → happens net s (Deliver l n) ≡ Some u → Meets net t (Deliver l n) u (Deliver l k)
+    → happens net s (Deliver l k) ≡ Some t → happens net s (Deliver l n) ≡ Some u
+    → Meets net t (Deliver l n) u (Deliver l k)
 
 -- an event may happen in a state
 abbrev pub MayHappen : {X : Type 0} → Network X → State X → Event → Type 0
@@ -162,13 +173,17 @@ MayHappen {X} net s event = (t : State X) × (happens net s event ≡ Some t)
 
 -- a trap of a stable actor stays possible when tokens arrive ..
 abbrev pub TrapsOutlastDeliveries : (X : Type 0) → Type 0
-TrapsOutlastDeliveries X = (net : Network X) (s u : State X) (i a l k : ℕ) (c : TrapName) → AreStable net
-    → MayHappen net s (Trap i a c) → happens net s (Deliver l k) ≡ Some u → MayHappen net u (Trap i a c)
+TrapsOutlastDeliveries X = (net : Network X) (s u : State X) (i a l k : ℕ) (c : TrapName)
+    → AreStable net
+    → MayHappen net s (Trap i a c) → happens net s (Deliver l k) ≡ Some u
+    → MayHappen net u (Trap i a c)
 
 -- .. and when another leaf fires
 abbrev pub TrapsOutlastFirings : (X : Type 0) → Type 0
-TrapsOutlastFirings X = (net : Network X) (s u : State X) (i a j b : ℕ) (c : TrapName) → AreOrdered s → i ≢ j
-    → MayHappen net s (Trap i a c) → happens net s (Fire j b) ≡ Some u → MayHappen net u (Trap i a c)
+TrapsOutlastFirings X = (net : Network X) (s u : State X) (i a j b : ℕ) (c : TrapName)
+    → AreOrdered s → i ≢ j
+    → MayHappen net s (Trap i a c) → happens net s (Fire j b) ≡ Some u
+    → MayHappen net u (Trap i a c)
 
 -- in a network of stable actors a leaf has one firing or trap in a state
 abbrev pub ActsOnce : (X : Type 0) → Type 0

@@ -93,7 +93,8 @@ count_picked (false ∷ marks) = count_picked marks
 -- How often a leaf may fire: the k-th of the picked ones, if the lower ones fired so often in the round.
 -- If fewer firings are left than leaves are picked, they are given out one leaf after another.
 abbrev pub limit_of : ℕ → ℕ → ℕ → ℕ → ℕ → ℕ
-limit_of burst left picks k fired = if nat_le picks left then allowed left picks burst k else min burst (left - fired)
+limit_of burst left picks k fired = if nat_le picks left then allowed left picks burst k
+    else min burst (left - fired)
 
 -- Room.
 
@@ -113,7 +114,8 @@ PassesOn gives i None opened flow = ⊥
 -- what action a of leaf i gives passes the room of link l
 abbrev pub PassesLink : {X : Type 0} → Network X → State X → State X → ℕ → ℕ → ℕ → Type 0
 PassesLink net opened s i a l =
-    PassesOn (give_of (slice_get net.leaves i) a) i (slice_get net.links l) (slice_get opened.flows l) (slice_get s.flows l)
+    PassesOn (give_of (slice_get net.leaves i) a) i (slice_get net.links l)
+    (slice_get opened.flows l) (slice_get s.flows l)
 
 -- action a of leaf i has room on each link
 abbrev pub HasRoomIn : {X : Type 0} → Network X → State X → State X → ℕ → ℕ → Type 0
@@ -132,7 +134,8 @@ pub data Halt : Type 0 where
 -- the choice is to trap, or to fire an action that has room and then traps
 abbrev pub TrapsIn : {X : Type 0} → Network X → State X → State X → ℕ → ℕ → TrapName → Type 0
 TrapsIn net opened s i a cause = (choice_at net s i ≡ Faults a cause)
-    ⊎ ((choice_at net s i ≡ Picks a) × HasRoomIn net opened s i a × (effect_at net s i a ≡ Some (TrapsInBody cause)))
+    ⊎ ((choice_at net s i ≡ Picks a) × HasRoomIn net opened s i a
+    × (effect_at net s i a ≡ Some (TrapsInBody cause)))
 
 -- leaf i may fire so often still, and this is why it fires no more
 abbrev pub HaltsAt : {X : Type 0} → Network X → State X → ℕ → ℕ → State X → Halt → Type 0
@@ -140,15 +143,18 @@ HaltsAt net opened i limit s Unpicked = ⊥
 HaltsAt net opened i limit s Spent = limit ≡ 0
 HaltsAt net opened i limit s Waiting = (0 < limit) × (choice_at net s i ≡ Waits)
 HaltsAt net opened i limit s NoRoom =
-    (0 < limit) × ((a : ℕ) × (l : ℕ) × (choice_at net s i ≡ Picks a) × PassesLink net opened s i a l)
+    (0 < limit) × ((a : ℕ) × (l : ℕ) × (choice_at net s i ≡ Picks a)
+    × PassesLink net opened s i a l)
 HaltsAt net opened i limit s (Trapping a cause) = (0 < limit) × TrapsIn net opened s i a cause
 
 -- Leaf i fires its choices, each with room, up to the first moment at which it halts.
-abbrev pub IsBurst : {X : Type 0} → Network X → State X → ℕ → ℕ → State X → List ℕ → Halt → State X → Type 0
+abbrev pub IsBurst : {X : Type 0} → Network X → State X → ℕ → ℕ → State X → List ℕ → Halt → State X
+    → Type 0
 IsBurst net opened i limit s [] halt last = HaltsAt net opened i limit s halt × (s ≡ last)
 IsBurst net opened i limit s (a ∷ actions) halt last =
     (0 < limit) × (choice_at net s i ≡ Picks a) × HasRoomIn net opened s i a
-    × OnNext (happens net s (Fire i a)) (λ next. IsBurst net opened i (limit - 1) next actions halt last)
+    × OnNext (happens net s (Fire i a))
+    (λ next. IsBurst net opened i (limit - 1) next actions halt last)
 
 -- the bursts of a round whose share is by these numbers
 pub record Share : Type 0 where
@@ -158,14 +164,17 @@ pub record Share : Type 0 where
 
 -- The leaves from i on fire one after another, those that are picked. k of the lower ones were picked and
 -- fired so often.
-abbrev pub AreBursts : {X : Type 0} → Network X → State X → Share → List Bool → ℕ → ℕ → ℕ → State X → List (List ℕ) → List Halt → State X → Type 0
+abbrev pub AreBursts : {X : Type 0} → Network X → State X → Share → List Bool → ℕ → ℕ → ℕ → State X
+    → List (List ℕ) → List Halt → State X → Type 0
 AreBursts net opened share [] i k fired s [] [] last = s ≡ last
 AreBursts {X} net opened share (true ∷ marks) i k fired s (actions ∷ bursts) (halt ∷ halts) last =
     (next : State X)
     × IsBurst net opened i (limit_of share.burst share.left share.picks k fired) s actions halt next
-    × AreBursts net opened share marks (suc i) (suc k) (fired + length actions) next bursts halts last
+    × AreBursts net opened share marks (suc i) (suc k)
+    (fired + length actions) next bursts halts last
 AreBursts net opened share (false ∷ marks) i k fired s (actions ∷ bursts) (halt ∷ halts) last =
-    (actions ≡ []) × (halt ≡ Unpicked) × AreBursts net opened share marks (suc i) k fired s bursts halts last
+    (actions ≡ []) × (halt ≡ Unpicked)
+    × AreBursts net opened share marks (suc i) k fired s bursts halts last
 AreBursts net opened share marks i k fired s bursts halts last = ⊥
 
 -- Closing.
@@ -193,16 +202,20 @@ ClosesIdle net grow s (Ends (Stall i a l)) = IsStuck net grow s i a l
 ClosesIdle net grow s (Widens l capacity) = Grows net grow s l capacity
 ClosesIdle net grow s close = ⊥
 
-abbrev pub ClosesUntrapped : {X : Type 0} → Network X → ℕ → List Bool → List (List ℕ) → State X → Close → Type 0
+abbrev pub ClosesUntrapped : {X : Type 0} → Network X → ℕ → List Bool → List (List ℕ) → State X
+    → Close → Type 0
 ClosesUntrapped net grow marks bursts s close =
-    MatchBool ((count_picked marks == length marks) && (count_of bursts == 0)) (ClosesIdle net grow s close) (close ≡ GoesOn)
+    MatchBool ((count_picked marks == length marks) && (count_of bursts == 0))
+    (ClosesIdle net grow s close) (close ≡ GoesOn)
 
 -- the lowest leaf's trap ends the run
-abbrev pub ClosesBy : {X : Type 0} → Network X → ℕ → List Bool → List (List ℕ) → Option Line → State X → Close → Type 0
+abbrev pub ClosesBy : {X : Type 0} → Network X → ℕ → List Bool → List (List ℕ) → Option Line
+    → State X → Close → Type 0
 ClosesBy net grow marks bursts (Some line) s close = close ≡ Ends line
 ClosesBy net grow marks bursts None s close = ClosesUntrapped net grow marks bursts s close
 
-abbrev pub Closes : {X : Type 0} → Network X → Pace → Moment X → Block → List Halt → State X → Type 0
+abbrev pub Closes : {X : Type 0} → Network X → Pace → Moment X → Block → List Halt → State X
+    → Type 0
 Closes net pace at block halts s = MatchBool (at.left == 0)
     (ClosesSpent net pace.grow s block.close)
     (ClosesBy net pace.grow (picked net pace at) block.bursts (first_trap 0 halts) s block.close)
@@ -218,7 +231,8 @@ pub record IsRound {X : Type 0} (net : Network X) (pace : Pace) (at : Moment X) 
   pub untrapped : at.state.trapped ≡ false
   pub halts : List Halt
   pub fired : State X
-  pub bursts : AreBursts net (after_delivery net at.state) (share_of net pace at) (picked net pace at) 0 0 0
+  pub bursts :
+      AreBursts net (after_delivery net at.state) (share_of net pace at) (picked net pace at) 0 0 0
       (after_delivery net at.state) block.bursts halts fired
   pub closes : Closes net pace at block halts fired
   pub leads : played net fired (close_lines block.close) ≡ Some last

@@ -22,21 +22,26 @@ PacedPlay X = (net : Network X) (pace : Pace) (s : State X) (lines : List Line) 
 
 -- at most one list of lines is paced ..
 abbrev pub PacedAreOne : (X : Type 0) → Type 0
-PacedAreOne X = (net : Network X) (pace : Pace) (s : State X) (lines those : List Line) (last other : State X) → AreLawful net
+PacedAreOne X = (net : Network X) (pace : Pace) (s : State X) (lines those : List Line)
+    (last other : State X) → AreLawful net
     → IsPaced net pace s lines last → IsPaced net pace s those other → lines ≡ those
 
 -- .. and begun lines are a prefix of it
 abbrev pub BegunBeginPaced : (X : Type 0) → Type 0
-BegunBeginPaced X = (net : Network X) (pace : Pace) (s : State X) (lines those : List Line) (reached : Moment X) (last : State X)
-    → AreLawful net → IsBegun net pace s lines reached → IsPaced net pace s those last → IsPrefix lines those
+BegunBeginPaced X = (net : Network X) (pace : Pace) (s : State X) (lines those : List Line)
+    (reached : Moment X) (last : State X)
+    → AreLawful net → IsBegun net pace s lines reached → IsPaced net pace s those last
+    → IsPrefix lines those
 
 -- begun lines have spent what isn't left of the budget, and paced lines have at most its firings
 abbrev pub BegunWithinBudget : (X : Type 0) → Type 0
-BegunWithinBudget X = (net : Network X) (pace : Pace) (s : State X) (lines : List Line) (reached : Moment X)
+BegunWithinBudget X =
+    (net : Network X) (pace : Pace) (s : State X) (lines : List Line) (reached : Moment X)
     → IsBegun net pace s lines reached → length (firings_shown lines) + reached.left ≡ pace.budget
 
 abbrev pub PacedWithinBudget : (X : Type 0) → Type 0
-PacedWithinBudget X = (net : Network X) (pace : Pace) (s : State X) (lines : List Line) (last : State X)
+PacedWithinBudget X =
+    (net : Network X) (pace : Pace) (s : State X) (lines : List Line) (last : State X)
     → IsPaced net pace s lines last → length (firings_shown lines) ≤ pace.budget
 
 -- a state in which a run may begin: no more was taken than has arrived, everything sent inside has arrived, and
@@ -54,8 +59,10 @@ StartsCanBegin X = (net : Network X) (inputs : List (List ℕ)) → CanBegin net
 -- begun and paced lines keep the capacities
 abbrev pub BegunKeep : (X : Type 0) → Type 0
 BegunKeep X = (net : Network X) (pace : Pace) (s : State X) (lines : List Line) (reached : Moment X)
-    → IsWired net → AreLawful net → CanBegin net s → IsBegun net pace s lines reached → KeepsFrom net s lines
+    → IsWired net → AreLawful net → CanBegin net s → IsBegun net pace s lines reached
+    → KeepsFrom net s lines
 
 abbrev pub PacedKeep : (X : Type 0) → Type 0
 PacedKeep X = (net : Network X) (pace : Pace) (s : State X) (lines : List Line) (last : State X)
-    → IsWired net → AreLawful net → CanBegin net s → IsPaced net pace s lines last → KeepsFrom net s lines
+    → IsWired net → AreLawful net → CanBegin net s → IsPaced net pace s lines last
+    → KeepsFrom net s lines

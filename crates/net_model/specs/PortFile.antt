@@ -16,7 +16,8 @@ byte_values = 256
 -- the first of these sizes in bytes that holds so many bits, or the greatest size of a token
 abbrev pub first_to_hold : List ℕ → ℕ → ℕ
 first_to_hold [] bits = max_token_bytes
-first_to_hold (size ∷ sizes) bits = if nat_le bits (byte_bits * size) then size else first_to_hold sizes bits
+first_to_hold (size ∷ sizes) bits = if nat_le bits (byte_bits * size) then size
+    else first_to_hold sizes bits
 
 -- how many bytes hold a number of this many bits: the least of 1, 2, 4 and the greatest size
 abbrev pub bytes_for : ℕ → ℕ
@@ -49,7 +50,8 @@ token_of kind piece = conv kind (pos (little_endian piece))
 
 -- the tokens in a file, without a remainder that is shorter than one
 abbrev pub tokens : Scalar → List ℕ → List ℤ
-tokens kind bytes = map (token_of kind) (pieces (length bytes / token_bytes kind) (token_bytes kind) bytes)
+tokens kind bytes =
+    map (token_of kind) (pieces (length bytes / token_bytes kind) (token_bytes kind) bytes)
 
 -- how many bytes at the end are no token
 abbrev pub rest_of : Scalar → List ℕ → ℕ

@@ -18,7 +18,8 @@ abbrev pub port_of : Port → NetPort
 port_of port = record { name = string_bytes port.name; kind = port.kind }
 
 -- the network that cells and their wiring make, whatever the paths and classes of its leaves are
-pub record IsNetworkOf {X : Type 0} (net : Network X) (cells : List (Cell X)) (wiring : Wiring) : Type 0 where
+pub record IsNetworkOf {X : Type 0} (net : Network X) (cells : List (Cell X)) (wiring : Wiring) :
+    Type 0 where
   pub actors : map (λ leaf. leaf.behaviour) net.leaves ≡ map (λ cell. cell.actor) cells
   pub links : net.links ≡ wiring.links.items
   pub ins : net.ins ≡ map port_of wiring.ins.items
@@ -33,11 +34,13 @@ OnCell (Some cell) P = P cell
 
 -- the queue behind a writing end, and the one before a reading end, can hold so many tokens
 abbrev pub OutboxHolds : {X : Type 0} → List (Cell X) → ℕ → End → Type 0
-OutboxHolds cells n (AtLeaf inst port) = OnCell (slice_get cells inst.0) (λ cell. n ≤ number_on cell.outbox_capacities port)
+OutboxHolds cells n (AtLeaf inst port) = OnCell (slice_get cells inst.0)
+    (λ cell. n ≤ number_on cell.outbox_capacities port)
 OutboxHolds cells n (AtNet port) = Unit {0}
 
 abbrev pub InboxHolds : {X : Type 0} → List (Cell X) → ℕ → End → Type 0
-InboxHolds cells n (AtLeaf inst port) = OnCell (slice_get cells inst.0) (λ cell. n ≤ number_on cell.inbox_capacities port)
+InboxHolds cells n (AtLeaf inst port) = OnCell (slice_get cells inst.0)
+    (λ cell. n ≤ number_on cell.inbox_capacities port)
 InboxHolds cells n (AtNet port) = Unit {0}
 
 abbrev pub tokens_of : {X : Type 0} → Option (Cell X) → ℕ → List ℤ
@@ -54,7 +57,8 @@ pub record HasQueues {X : Type 0} (cells : List (Cell X)) (grow : ℕ) (link : L
   pub outbox : OutboxHolds cells link.capacity link.from
   pub inbox : InboxHolds cells link.capacity link.to
   -- an inner link's queues can hold what it may grow to
-  pub grown_outbox : is_input link ≡ false → is_output link ≡ false → OutboxHolds cells grow link.from
+  pub grown_outbox : is_input link ≡ false → is_output link ≡ false
+      → OutboxHolds cells grow link.from
   pub grown_inbox : is_input link ≡ false → is_output link ≡ false → InboxHolds cells grow link.to
   pub waiting : length (waiting_at cells link.to) ≤ link.capacity
 
@@ -66,9 +70,11 @@ pub record IsFreshCell {X : Type 0} (burst : ℕ) (cell : Cell X) : Type 0 where
 
 -- some link leaves port p of leaf i
 abbrev pub IsLeft : {X : Type 0} → Network X → ℕ → ℕ → Type 0
-IsLeft net i p = (l : ℕ) × (link : Link) × (slice_get net.links l ≡ Some link) × (is_leaf_port i p link.from ≡ true)
+IsLeft net i p = (l : ℕ) × (link : Link) × (slice_get net.links l ≡ Some link)
+    × (is_leaf_port i p link.from ≡ true)
 
-pub record IsReady {X : Type 0} (net : Network X) (grow burst : ℕ) (cells : List (Cell X)) : Type 0 where
+pub record IsReady {X : Type 0} (net : Network X) (grow burst : ℕ) (cells : List (Cell X)) :
+    Type 0 where
   pub wired : IsWired net
   pub few_grown : grow ≤ max_grow
   pub fresh : (i : ℕ) (cell : Cell X) → slice_get cells i ≡ Some cell → IsFreshCell burst cell

@@ -21,4 +21,5 @@ pub record IsStable {X : Type 0} (b : Behaviour X) : Type 0 where
 
 -- the behaviour of each leaf is stable
 abbrev pub AreStable : {X : Type 0} → Network X → Type 0
-AreStable {X} net = (i : ℕ) (leaf : Leaf X) → slice_get net.leaves i ≡ Some leaf → IsStable leaf.behaviour
+AreStable {X} net = (i : ℕ) (leaf : Leaf X) → slice_get net.leaves i ≡ Some leaf
+    → IsStable leaf.behaviour

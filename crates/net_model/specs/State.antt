@@ -42,7 +42,12 @@ fed_by ports inputs link (AtNet port) =
 -- a link's capacity is where its present one starts
 abbrev pub first_flow : List NetPort → List (List ℕ) → Link → Flow
 first_flow ports inputs link =
-    record { sent = fed_by ports inputs link link.from; arrived = 0; taken = 0; capacity = link.capacity }
+    record {
+      sent = fed_by ports inputs link link.from;
+      arrived = 0;
+      taken = 0;
+      capacity = link.capacity;
+    }
 
 -- The state in which each run from files begins. `inputs` are the bytes of each network input, in port order.
 abbrev pub start_of : {X : Type 0} → Network X → List (List ℕ) → State X
@@ -56,24 +61,28 @@ start_of net inputs = record {
 abbrev pub inbox : ℕ → ℕ → List Link → List Flow → List ℤ
 inbox i p [] flows = []
 inbox i p (link ∷ links) [] = []
-inbox i p (link ∷ links) (flow ∷ flows) = if is_leaf_port i p link.to then waiting flow else inbox i p links flows
+inbox i p (link ∷ links) (flow ∷ flows) = if is_leaf_port i p link.to then waiting flow
+    else inbox i p links flows
 
 -- the tokens before each input port of a leaf
 abbrev pub inboxes : ℕ → ℕ → List Link → List Flow → List (List ℤ)
 inboxes i ins links flows = map (λ p. inbox i p links flows) (range_with_len 0 ins)
 
 -- what action a of leaf i would do now, if it is exposed and its guards aren't false
-abbrev pub effect_of : {X : Type 0} → List Link → List Flow → ℕ → ℕ → Option (Leaf X) → Option X → Option (Effect X)
+abbrev pub effect_of : {X : Type 0} → List Link → List Flow → ℕ → ℕ → Option (Leaf X) → Option X
+    → Option (Effect X)
 effect_of links flows i a None x = None
 effect_of links flows i a (Some leaf) None = None
 effect_of links flows i a (Some leaf) (Some x) =
     leaf.behaviour.effect x (inboxes i leaf.behaviour.ins links flows) a
 
 abbrev pub effect_at : {X : Type 0} → Network X → State X → ℕ → ℕ → Option (Effect X)
-effect_at net s i a = effect_of net.links s.flows i a (slice_get net.leaves i) (slice_get s.actors i)
+effect_at net s i a =
+    effect_of net.links s.flows i a (slice_get net.leaves i) (slice_get s.actors i)
 
 -- the action of leaf i that is to fire now
-abbrev pub choice_of : {X : Type 0} → List Link → List Flow → ℕ → Option (Leaf X) → Option X → Choice
+abbrev pub choice_of : {X : Type 0} → List Link → List Flow → ℕ → Option (Leaf X) → Option X
+    → Choice
 choice_of links flows i None x = Waits
 choice_of links flows i (Some leaf) None = Waits
 choice_of links flows i (Some leaf) (Some x) =

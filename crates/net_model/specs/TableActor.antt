@@ -44,8 +44,10 @@ effect_of (BodyTraps cause) = TrapsInBody cause
 -- if so many tokens wait, the first action that has its tokens is the one that does something
 abbrev pub effect_in : List Row → ℕ → ℕ → Option (Effect (Unit {0}))
 effect_in [] waiting a = None
-effect_in (row ∷ rows) waiting zero = if nat_le row.takes waiting then Some (effect_of row.does) else None
-effect_in (row ∷ rows) waiting (suc a) = if nat_le row.takes waiting then None else effect_in rows waiting a
+effect_in (row ∷ rows) waiting zero = if nat_le row.takes waiting then Some (effect_of row.does)
+    else None
+effect_in (row ∷ rows) waiting (suc a) = if nat_le row.takes waiting then None
+    else effect_in rows waiting a
 
 abbrev pub choice_of : ℕ → Deed → Choice
 choice_of a Sends = Picks a
@@ -55,7 +57,8 @@ choice_of a (BodyTraps cause) = Picks a
 -- the same, for the rows from number a on
 abbrev pub choice_in : ℕ → List Row → ℕ → Choice
 choice_in a [] waiting = Waits
-choice_in a (row ∷ rows) waiting = if nat_le row.takes waiting then choice_of a row.does else choice_in (suc a) rows waiting
+choice_in a (row ∷ rows) waiting = if nat_le row.takes waiting then choice_of a row.does
+    else choice_in (suc a) rows waiting
 
 abbrev pub table_actor : List Row → Behaviour (Unit {0})
 table_actor rows = record {
@@ -87,7 +90,8 @@ abbrev pub table_capacity : ℕ
 table_capacity = 4
 
 -- the actor at work, with queues for four tokens and a journal for four firings
-abbrev pub table_cell : List (ℕ × Bool × Option Trap) → List ℤ → List ℤ → List ℕ → Bool → Cell (Unit {0})
+abbrev pub table_cell : List (ℕ × Bool × Option Trap) → List ℤ → List ℤ → List ℕ → Bool
+    → Cell (Unit {0})
 table_cell rows inbox outbox journal trapped = record {
   actor = table_actor (map row_of rows);
   state = tt;

@@ -32,7 +32,8 @@ after_delivery net s = record s { flows = each_flow delivered net.links s.flows 
 
 -- the state in which link l has this capacity
 abbrev pub grown : {X : Type 0} → State X → ℕ → ℕ → Option Flow → Option (State X)
-grown s l capacity (Some flow) = Some (record s { flows = slice_set s.flows l (record flow { capacity = capacity }) })
+grown s l capacity (Some flow) =
+    Some (record s { flows = slice_set s.flows l (record flow { capacity = capacity }) })
 grown s l capacity None = None
 
 -- The state after a line, or none if the line may not come. An end line but that of a trap changes
@@ -73,7 +74,8 @@ OnNext (Some next) P = P next
 abbrev pub PlaysFrom : {X : Type 0} → Network X → ℕ → State X → List Line → State X → Type 0
 PlaysFrom net grow s [] last = s ≡ last
 PlaysFrom net grow s (line ∷ lines) last =
-    LineIsTrue net grow s line lines × OnNext (goes net s line) (λ next. PlaysFrom net grow next lines last)
+    LineIsTrue net grow s line lines
+    × OnNext (goes net s line) (λ next. PlaysFrom net grow next lines last)
 
 -- the same from the start of a run over files
 abbrev pub Plays : {X : Type 0} → Network X → ℕ → List (List ℕ) → List Line → State X → Type 0
@@ -99,9 +101,11 @@ with_given i gives link (AtLeaf inst port) flow =
 with_given i gives link (AtNet port) flow = flow
 
 -- the flows that a line counts with: a trap in the body of an action counts as sending what it gives
-abbrev pub counted_flows : {X : Type 0} → Network X → State X → ℕ → ℕ → Option (Effect X) → List Flow
+abbrev pub counted_flows : {X : Type 0} → Network X → State X → ℕ → ℕ → Option (Effect X)
+    → List Flow
 counted_flows net s i a (Some (TrapsInBody c)) =
-    each_flow (λ link flow. with_given i (give_of (slice_get net.leaves i) a) link link.from flow) net.links s.flows
+    each_flow (λ link flow. with_given i (give_of (slice_get net.leaves i) a) link link.from flow)
+    net.links s.flows
 counted_flows net s i a (Some (TrapsInGuard c)) = s.flows
 counted_flows net s i a (Some (Fires x sent)) = s.flows
 counted_flows net s i a None = s.flows
@@ -153,7 +157,8 @@ instance_lines k (leaf ∷ leaves) =
 
 -- what stands before the first event
 abbrev pub head_text : {X : Type 0} → Network X → ℕ → List ℕ
-head_text net grow = line_text (Header (length net.leaves) (length net.links) grow) ++ instance_lines 0 net.leaves
+head_text net grow = line_text (Header (length net.leaves) (length net.links) grow)
+    ++ instance_lines 0 net.leaves
 
 -- the text of a trace with these event lines: of version 1 if no link may grow, else of version 2
 abbrev pub text : {X : Type 0} → Network X → ℕ → List Line → List ℕ

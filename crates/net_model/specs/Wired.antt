@@ -28,7 +28,8 @@ LeadsToPort net (AtNet port) = port < length net.outs
 
 -- Links are numbered by target: the inputs of leaf 0, those of leaf 1 and so on, and then the network's outputs.
 abbrev pub IsBefore : End → End → Type 0
-IsBefore (AtLeaf inst port) (AtLeaf other next) = (inst.0 < other.0) ⊎ ((inst.0 ≡ other.0) × (port < next))
+IsBefore (AtLeaf inst port) (AtLeaf other next) = (inst.0 < other.0)
+    ⊎ ((inst.0 ≡ other.0) × (port < next))
 IsBefore (AtLeaf inst port) (AtNet next) = Unit {0}
 IsBefore (AtNet port) (AtLeaf other next) = ⊥
 IsBefore (AtNet port) (AtNet next) = port < next

@@ -22,7 +22,8 @@ abbrev pub coming_on : List ℕ → Inputs → ℕ → Option (List ℕ)
 coming_on pulled feeds feed = coming pulled (feeds.left feed)
 
 -- they stayed the same
-abbrev pub KeepsComing : {S : Type 0} → (S → Inputs) → S → S → ℕ → (pulled_old pulled_new : List ℕ) → Type 0
+abbrev pub KeepsComing : {S : Type 0} → (S → Inputs) → S → S → ℕ → (pulled_old pulled_new : List ℕ)
+    → Type 0
 KeepsComing feeds old new feed pulled_old pulled_new =
     coming_on pulled_new (feeds new) feed ≡ coming_on pulled_old (feeds old) feed
 
@@ -49,4 +50,5 @@ GivesToken kind v (Some before) (Some after) =
 -- no token is to come, and so many bytes are
 abbrev pub EndsWith : Scalar → ℕ → Option (List ℕ) → Type 0
 EndsWith kind rest None = rest < token_bytes kind
-EndsWith kind rest (Some before) = (tokens kind before ≡ []) × (rest ≡ length before) × (rest ≡ rest_of kind before)
+EndsWith kind rest (Some before) = (tokens kind before ≡ []) × (rest ≡ length before)
+    × (rest ≡ rest_of kind before)

@@ -22,7 +22,8 @@ is_above order a b = cell order.count order.cells a b
 pub record IsStrict (n : ℕ) (cells : List Bool) : Type 0 where
   pub size : length cells ≡ n * n
   pub not_itself : (a : ℕ) → a < n → ¬ IsTrue (cell n cells a a)
-  pub carries : (a b c : ℕ) → a < n → b < n → c < n → IsTrue (cell n cells a b) → IsTrue (cell n cells b c) → IsTrue (cell n cells a c)
+  pub carries : (a b c : ℕ) → a < n → b < n → c < n → IsTrue (cell n cells a b)
+      → IsTrue (cell n cells b c) → IsTrue (cell n cells a c)
 
 -- a is above b by the table
 abbrev pub Above : ℕ → List Bool → ℕ → ℕ → Type 0

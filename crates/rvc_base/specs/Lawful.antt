@@ -11,7 +11,8 @@ tokens_on tokens p = slice_index_or tokens p []
 -- on each port the same first tokens, as many as `seen` says of it
 abbrev pub AgreeOn : {X : Type 0} → Behaviour X → (ℕ → ℕ) → List (List ℤ) → List (List ℤ) → Type 0
 AgreeOn actor seen tokens others =
-    (p : ℕ) → p < actor.ins → take (seen p) (tokens_on tokens p) ≡ take (seen p) (tokens_on others p)
+    (p : ℕ) → p < actor.ins → take (seen p) (tokens_on tokens p)
+    ≡ take (seen p) (tokens_on others p)
 
 -- An actor's effects and its choice are over the tokens before it, by port.
 pub record IsLawful {X : Type 0} (actor : Behaviour X) : Type 0 where
@@ -29,11 +30,13 @@ pub record IsLawful {X : Type 0} (actor : Behaviour X) : Type 0 where
       × (actor.choice state tokens ≡ actor.choice state others)
   -- the choice is an enabled action ..
   pub picks : (state : X) (tokens : List (List ℤ)) (a : ℕ) → actor.choice state tokens ≡ Picks a
-      → ((next : X) × (sent : List (List ℤ)) × (actor.effect state tokens a ≡ Some (Fires next sent)))
+      → ((next : X) × (sent : List (List ℤ))
+      × (actor.effect state tokens a ≡ Some (Fires next sent)))
       ⊎ ((cause : Trap) × (actor.effect state tokens a ≡ Some (TrapsInBody cause)))
   -- .. or an exposed one whose guards trap ..
   pub faults : (state : X) (tokens : List (List ℤ)) (a : ℕ) (cause : Trap)
-      → actor.choice state tokens ≡ Faults a cause → actor.effect state tokens a ≡ Some (TrapsInGuard cause)
+      → actor.choice state tokens ≡ Faults a cause
+      → actor.effect state tokens a ≡ Some (TrapsInGuard cause)
   -- .. and it is to wait only if no action has an effect
   pub waits : (state : X) (tokens : List (List ℤ)) → actor.choice state tokens ≡ Waits
       → (a : ℕ) → actor.effect state tokens a ≡ None

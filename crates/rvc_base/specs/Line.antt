@@ -17,4 +17,5 @@ pub record IsNext (n : ℕ) (Above : ℕ → ℕ → Type 0) (Stands : ℕ → T
 -- before it stand
 pub record IsLine (n : ℕ) (Above : ℕ → ℕ → Type 0) (line : List ℕ) : Type 0 where
   pub each : (a : ℕ) → a < n → Contains line a
-  pub next : (k : ℕ) → k < length line → IsNext n Above (Contains (take k line)) (slice_index line k)
+  pub next : (k : ℕ) → k < length line
+      → IsNext n Above (Contains (take k line)) (slice_index line k)

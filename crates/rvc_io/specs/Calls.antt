@@ -21,4 +21,9 @@ is_listed c = list_any (λ k. k == one_more c.made) c.failing
 -- one call more was made, and it failed or not
 abbrev pub after_call : Bool → CallCount → CallCount
 after_call failed c =
-    record { failing = c.failing; made = one_more c.made; faults = if failed then one_more c.faults else c.faults }
+    record {
+      failing = c.failing;
+      made = one_more c.made;
+      faults = if failed then one_more c.faults
+          else c.faults;
+    }

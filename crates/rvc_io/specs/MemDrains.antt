@@ -45,7 +45,12 @@ bytes_held d channel = unwrap_or (held_on d channel) []
 -- what is known of the channels, which is all
 abbrev pub channels_of : DrainsState → Channels
 channels_of d =
-    record { tells = true; held = bytes_held d; is_open = channel_is_open d; faults = d.calls.faults }
+    record {
+      tells = true;
+      held = bytes_held d;
+      is_open = channel_is_open d;
+      faults = d.calls.faults;
+    }
 
 -- an opening of the channel fails: it is listed, or there is no such channel
 abbrev pub opening_fails : DrainsState → ℕ → Bool

@@ -50,11 +50,17 @@ count_left f feed = length (bytes_left f feed)
 -- what is known of the feeds, which is all
 abbrev pub inputs_of : FeedsState → Inputs
 inputs_of f =
-    record { under = under f.files; left = left_on f; is_open = feed_is_open f; faults = f.calls.faults }
+    record {
+      under = under f.files;
+      left = left_on f;
+      is_open = feed_is_open f;
+      faults = f.calls.faults;
+    }
 
 -- an opening of the feed on this name fails: it is listed, there is no such feed, or no such file
 abbrev pub opening_fails : FeedsState → ℕ → List ℕ → Bool
-opening_fails f feed name = is_listed f.calls || nat_le (length f.left) feed || is_none (under f.files name)
+opening_fails f feed name =
+    is_listed f.calls || nat_le (length f.left) feed || is_none (under f.files name)
 
 -- how many bytes a call moves from these, into a buffer of this length
 abbrev pub moved : ℕ → ℕ → ℕ → ℕ

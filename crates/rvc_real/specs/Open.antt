@@ -24,7 +24,12 @@ channel_is_open d channel = (channel == 0) || is_open_at d.flags channel
 -- what is known of the feeds: none of their bytes
 abbrev pub inputs_of : OpenState → Inputs
 inputs_of f =
-    record { under = λ name. None; left = λ feed. None; is_open = feed_is_open f; faults = f.faults }
+    record {
+      under = λ name. None;
+      left = λ feed. None;
+      is_open = feed_is_open f;
+      faults = f.faults;
+    }
 
 -- what is known of the channels: none of their bytes
 abbrev pub channels_of : OpenState → Channels

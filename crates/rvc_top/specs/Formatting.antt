@@ -63,23 +63,34 @@ pub record HasFile (source : Told) (ports : List PortText) (tree : Tree) : Type 
 -- which rule of the lexis or of the grammar a text breaks, and where
 pub data BreaksRules (text : List ℕ) : Rule → ℕ → Type 0 where
   in_lexis : (rule : Rule) (at : ℕ) → faults text rule at → BreaksRules text rule at
-  in_grammar : (tokens : List Placed) (rule : Rule) (at : ℕ) → lexes text tokens → grammar.Breaks (length text) tokens rule at → BreaksRules text rule at
+  in_grammar : (tokens : List Placed) (rule : Rule) (at : ℕ) → lexes text tokens
+      → grammar.Breaks (length text) tokens rule at → BreaksRules text rule at
 
 -- a refusal names this file, and what its text breaks; running out of memory says nothing of it
 abbrev pub IsRightly : ℕ → List ℕ → Answer → Type 0
-IsRightly number text (Denied refusal) = (refusal.place.file ≡ number) × BreaksRules text refusal.rule refusal.place.offset
+IsRightly number text (Denied refusal) = (refusal.place.file ≡ number)
+    × BreaksRules text refusal.rule refusal.place.offset
 IsRightly number text Memory = Unit {0}
 
 -- the top can't be read: there is no such file, or it passes the limit
 pub data IsUnread (source : Told) (misses_old misses_new : ℕ) : Refusal → Type 0 where
-  lacks : HasRisen misses_old misses_new → IsLacking source → IsUnread source misses_old misses_new (record { rule = no_file; place = record { file = 0; offset = 0 } })
-  passes : IsTooLong source → IsUnread source misses_old misses_new (record { rule = file_too_long; place = record { file = 1; offset = max_file_bytes } })
+  lacks : HasRisen misses_old misses_new → IsLacking source
+      → IsUnread source misses_old misses_new
+      (record { rule = no_file; place = record { file = 0; offset = 0 } })
+  passes : IsTooLong source → IsUnread source misses_old misses_new
+      (record { rule = file_too_long; place = record { file = 1; offset = max_file_bytes } })
 
 -- the refusals of a printing: the top can't be read, its text breaks a rule, or a word names a port, of which there is none
-pub data IsUnprinted (ports : List PortText) (source : Told) (misses_old misses_new : ℕ) : Refusal → Type 0 where
-  unread : (refusal : Refusal) → IsUnread source misses_old misses_new refusal → IsUnprinted ports source misses_old misses_new refusal
-  breaks_rules : (text : List ℕ) (rule : Rule) (at : ℕ) → IsText source text → BreaksRules text rule at → IsUnprinted ports source misses_old misses_new (record { rule = rule; place = record { file = 1; offset = at } })
-  names_port : (text : List ℕ) (tree : Tree) (refusal : Refusal) → IsText source text → IsFile text tree → IsWrongWord [] ports refusal → IsUnprinted ports source misses_old misses_new refusal
+pub data IsUnprinted (ports : List PortText) (source : Told) (misses_old misses_new : ℕ) : Refusal
+    → Type 0 where
+  unread : (refusal : Refusal) → IsUnread source misses_old misses_new refusal
+      → IsUnprinted ports source misses_old misses_new refusal
+  breaks_rules : (text : List ℕ) (rule : Rule) (at : ℕ) → IsText source text
+      → BreaksRules text rule at → IsUnprinted ports source misses_old misses_new
+      (record { rule = rule; place = record { file = 1; offset = at } })
+  names_port : (text : List ℕ) (tree : Tree) (refusal : Refusal) → IsText source text
+      → IsFile text tree → IsWrongWord [] ports refusal
+      → IsUnprinted ports source misses_old misses_new refusal
 
 -- the answers of a printing, each fault with the count that rose
 abbrev pub IsPrinting : (file_faults_old file_faults faults_old faults : ℕ) → Status → Type 0

@@ -39,7 +39,8 @@ BreaksRule ports earlier word rule =
     ⊎ ((rule ≡ port_twice) × (is_port word.name ports ≡ true) × (is_named word.name earlier ≡ true))
 
 -- the first word that doesn't fit breaks this rule
-pub record IsWrong (ports : List (List ℕ)) (words : List PortText) (rule : Rule) (k : ℕ) : Type 0 where
+pub record IsWrong (ports : List (List ℕ)) (words : List PortText) (rule : Rule) (k : ℕ) :
+    Type 0 where
   pub before : (j : ℕ) → j < k → Fits ports words j
   pub word : PortText
   pub is_there : slice_get words k ≡ Some word
@@ -47,7 +48,8 @@ pub record IsWrong (ports : List (List ℕ)) (words : List PortText) (rule : Rul
 
 -- the refusal names the first word that doesn't fit, by its number among the port words, at the command line
 abbrev pub IsWrongWord : List (List ℕ) → List PortText → Refusal → Type 0
-IsWrongWord ports words refusal = (refusal.place.file ≡ 0) × IsWrong ports words refusal.rule refusal.place.offset
+IsWrongWord ports words refusal = (refusal.place.file ≡ 0)
+    × IsWrong ports words refusal.rule refusal.place.offset
 
 -- the file of the word that names a port; none if no word names it
 abbrev pub file_of : List ℕ → List PortText → Option (List ℕ)

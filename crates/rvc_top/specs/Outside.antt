@@ -22,7 +22,11 @@ Reports status result old new text =
 
 -- which status an end of a run becomes; if the report can't be written, it is a write fault
 abbrev pub Answers : RunEnd → Status → ℕ → ℕ → Type 0
-Answers end.Quiet result faults_old faults = (result ≡ Quiet) ⊎ ((result ≡ WriteFault 0) × HasRisen faults_old faults)
-Answers end.Budget result faults_old faults = ((n : ℕ) × (result ≡ Budget n)) ⊎ ((result ≡ WriteFault 0) × HasRisen faults_old faults)
-Answers (end.ReadFault feed) result faults_old faults = (result ≡ ReadFault (Feed feed)) ⊎ ((result ≡ WriteFault 0) × HasRisen faults_old faults)
-Answers (end.WriteFault channel) result faults_old faults = (result ≡ WriteFault channel) ⊎ ((result ≡ WriteFault 0) × HasRisen faults_old faults)
+Answers end.Quiet result faults_old faults = (result ≡ Quiet)
+    ⊎ ((result ≡ WriteFault 0) × HasRisen faults_old faults)
+Answers end.Budget result faults_old faults = ((n : ℕ) × (result ≡ Budget n))
+    ⊎ ((result ≡ WriteFault 0) × HasRisen faults_old faults)
+Answers (end.ReadFault feed) result faults_old faults = (result ≡ ReadFault (Feed feed))
+    ⊎ ((result ≡ WriteFault 0) × HasRisen faults_old faults)
+Answers (end.WriteFault channel) result faults_old faults = (result ≡ WriteFault channel)
+    ⊎ ((result ≡ WriteFault 0) × HasRisen faults_old faults)

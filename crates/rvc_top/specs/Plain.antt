@@ -35,7 +35,8 @@ is_all (Seed start) = false
 
 -- `run` by one worker, all instances in each round, in bursts of 64 firings, without growing links
 abbrev pub is_plain : JobText → Bool
-is_plain j = is_run j.verb && (j.workers == 1 && (is_all j.round && (j.burst == 64 && (j.grow == 0))))
+is_plain j =
+    is_run j.verb && (j.workers == 1 && (is_all j.round && (j.burst == 64 && (j.grow == 0))))
 
 abbrev pub plain_of : JobText → PlainText
 plain_of j = record { top = j.top; ports = j.ports; trace = j.trace; budget = j.budget }
@@ -53,4 +54,10 @@ formats j = if is_fmt j.verb then Some (format_of j) else None
 
 -- what a run says
 abbrev pub plain_text : PlainRun → PlainText
-plain_text r = record { top = string_bytes r.top; ports = map port_text r.ports.items; trace = string_bytes r.trace; budget = r.budget }
+plain_text r =
+    record {
+      top = string_bytes r.top;
+      ports = map port_text r.ports.items;
+      trace = string_bytes r.trace;
+      budget = r.budget;
+    }

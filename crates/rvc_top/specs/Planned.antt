@@ -39,7 +39,8 @@ IsActorFault (Budget firings) = ⊥
 IsActorFault OutOfMemory = Unit {0}
 
 -- the source spells the actor whose run is ready, and the words match its ports
-pub record IsPlanned (source : Told) (j : PlainText) (f : Form) (sum : Binary) (head : List ℕ) : Type 0 where
+pub record IsPlanned (source : Told) (j : PlainText) (f : Form) (sum : Binary) (head : List ℕ) :
+    Type 0 where
   pub text : List ℕ
   pub is_told : IsTold source text
   pub spelled : Spells text f
@@ -66,7 +67,9 @@ IsPerformed ffo ff fo fn (Budget firings) = Unit {0}
 IsPerformed ffo ff fo fn OutOfMemory = ⊥
 
 -- Each fault with the count that rose. A run isn't answered by how the program is used, nor as another verb's work.
-abbrev pub HasCause : (file_faults_old file_faults feed_faults_old feed_faults faults_old faults : ℕ) → Status → Type 0
+abbrev pub HasCause :
+    (file_faults_old file_faults feed_faults_old feed_faults faults_old faults : ℕ) → Status
+    → Type 0
 HasCause lo ln ffo ff fo fn Quiet = Unit {0}
 HasCause lo ln ffo ff fo fn Done = ⊥
 HasCause lo ln ffo ff fo fn (Usage cause) = ⊥
@@ -78,7 +81,9 @@ HasCause lo ln ffo ff fo fn (Budget firings) = Unit {0}
 HasCause lo ln ffo ff fo fn OutOfMemory = Unit {0}
 
 -- Each fault with the count that rose.
-abbrev pub IsCaused : (file_faults_old file_faults feed_faults_old feed_faults faults_old faults : ℕ) → Status → Type 0
+abbrev pub IsCaused :
+    (file_faults_old file_faults feed_faults_old feed_faults faults_old faults : ℕ) → Status
+    → Type 0
 IsCaused lo ln ffo ff fo fn Quiet = Unit {0}
 IsCaused lo ln ffo ff fo fn Done = Unit {0}
 IsCaused lo ln ffo ff fo fn (Usage cause) = Unit {0}

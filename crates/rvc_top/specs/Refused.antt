@@ -33,23 +33,38 @@ BreaksThere (Holding source) rule at = Breaks source rule at
 abbrev pub HasWrongWord : List PortText → Told → Refusal → Type 0
 HasWrongWord ports Untold refusal = (f : Form) × IsWrongWord (ports_of f) ports refusal
 HasWrongWord ports Lacking refusal = ⊥
-HasWrongWord ports (Holding source) refusal = (f : Form) × Spells source f × IsWrongWord (ports_of f) ports refusal
+HasWrongWord ports (Holding source) refusal = (f : Form) × Spells source f
+    × IsWrongWord (ports_of f) ports refusal
 
 -- the refusals of a run, by rule, file and offset
-pub data IsRefusal (j : PlainText) (source : Told) (misses_old misses_new : ℕ) : Refusal → Type 0 where
+pub data IsRefusal (j : PlainText) (source : Told) (misses_old misses_new : ℕ) : Refusal
+    → Type 0 where
   not_built : (IsTop j.top → ⊥) → IsRefusal j source misses_old misses_new not_built_here
-  wrong_word : (refusal : Refusal) → HasWrongWord j.ports source refusal → IsRefusal j source misses_old misses_new refusal
-  source_breaks : (rule : Rule) (at : ℕ) → BreaksThere source rule at → IsRefusal j source misses_old misses_new (record { rule = rule; place = record { file = 1; offset = at } })
-  no_file : HasRisen misses_old misses_new → IsLacking source → IsRefusal j source misses_old misses_new (record { rule = rules.no_file; place = record { file = 0; offset = 0 } })
-  too_long : IsTooLong source → IsRefusal j source misses_old misses_new (record { rule = rules.file_too_long; place = record { file = 1; offset = max_file_bytes } })
+  wrong_word : (refusal : Refusal) → HasWrongWord j.ports source refusal
+      → IsRefusal j source misses_old misses_new refusal
+  source_breaks : (rule : Rule) (at : ℕ) → BreaksThere source rule at
+      → IsRefusal j source misses_old misses_new
+      (record { rule = rule; place = record { file = 1; offset = at } })
+  no_file : HasRisen misses_old misses_new → IsLacking source
+      → IsRefusal j source misses_old misses_new
+      (record { rule = rules.no_file; place = record { file = 0; offset = 0 } })
+  too_long : IsTooLong source → IsRefusal j source misses_old misses_new
+      (record { rule = rules.file_too_long; place = record { file = 1; offset = max_file_bytes } })
 
 -- the refusals of a source that was read
 pub data IsActorRefusal (j : PlainText) (source : List ℕ) : Refusal → Type 0 where
-  breaks : (rule : Rule) (at : ℕ) → Breaks source rule at → IsActorRefusal j source (record { rule = rule; place = record { file = 1; offset = at } })
-  unmatched : (f : Form) (refusal : Refusal) → Spells source f → IsWrongWord (ports_of f) j.ports refusal → IsActorRefusal j source refusal
+  breaks : (rule : Rule) (at : ℕ) → Breaks source rule at
+      → IsActorRefusal j source (record { rule = rule; place = record { file = 1; offset = at } })
+  unmatched : (f : Form) (refusal : Refusal) → Spells source f
+      → IsWrongWord (ports_of f) j.ports refusal → IsActorRefusal j source refusal
 
 -- What refuses a job: it isn't built, or the run or the printing that it asks for is refused.
-pub data IsDenial (j : JobText) (file : List ℕ → Told) (misses_old misses_new : ℕ) : Refusal → Type 0 where
+pub data IsDenial (j : JobText) (file : List ℕ → Told) (misses_old misses_new : ℕ) : Refusal
+    → Type 0 where
   unbuilt : built j ≡ None → formats j ≡ None → IsDenial j file misses_old misses_new not_built_here
-  refused_run : (r : PlainText) (refusal : Refusal) → built j ≡ Some r → IsRefusal r (file r.top) misses_old misses_new refusal → IsDenial j file misses_old misses_new refusal
-  refused_format : (r : FormatText) (refusal : Refusal) → formats j ≡ Some r → IsUnprinted r.ports (file r.top) misses_old misses_new refusal → IsDenial j file misses_old misses_new refusal
+  refused_run : (r : PlainText) (refusal : Refusal) → built j ≡ Some r
+      → IsRefusal r (file r.top) misses_old misses_new refusal
+      → IsDenial j file misses_old misses_new refusal
+  refused_format : (r : FormatText) (refusal : Refusal) → formats j ≡ Some r
+      → IsUnprinted r.ports (file r.top) misses_old misses_new refusal
+      → IsDenial j file misses_old misses_new refusal

@@ -97,7 +97,8 @@ IsReported j Quiet held_old held = Unit {0}
 IsReported j Done held_old held = Unit {0}
 IsReported j (Usage cause) held_old held = held ≡ held_old ++ usage_text cause
 IsReported j (ReadFault place) held_old held = held ≡ held_old ++ last_line j (ReadFault place)
-IsReported j (WriteFault channel) held_old held = channel ≢ 0 → held ≡ held_old ++ last_line j (WriteFault channel)
+IsReported j (WriteFault channel) held_old held = channel ≢ 0
+    → held ≡ held_old ++ last_line j (WriteFault channel)
 IsReported j (Refused refusal) held_old held = held ≡ held_old ++ last_line j (Refused refusal)
 IsReported j (Budget firings) held_old held = Unit {0}
 IsReported j OutOfMemory held_old held = held ≡ held_old ++ memory_text
@@ -117,7 +118,8 @@ IsReportedPlainly OutOfMemory held_old held = held ≡ held_old ++ memory_text
 abbrev pub IsInputFile : Told → List PortText → List ℕ → Type 0
 IsInputFile Untold ports file = Unit {0}
 IsInputFile Lacking ports file = ⊥
-IsInputFile (Holding source) ports file = (f : Form) × Spells source f × (file_of f.input ports ≡ Some file)
+IsInputFile (Holding source) ports file = (f : Form) × Spells source f
+    × (file_of f.input ports ≡ Some file)
 
 -- a feed that couldn't be read has this input's file
 abbrev pub NamesInput : Told → List PortText → List ℕ → Status → Type 0
@@ -125,7 +127,8 @@ NamesInput source ports file (ReadFault (Feed feed)) = IsInputFile source ports 
 NamesInput source ports file _ = Unit {0}
 
 -- The report of a run, which names its source and, if its feed couldn't be read, the file of its input.
-pub record IsReportedOf (j : PlainText) (source : Told) (status : Status) (held_old held : List ℕ) : Type 0 where
+pub record IsReportedOf (j : PlainText) (source : Told) (status : Status) (held_old held : List ℕ) :
+    Type 0 where
   pub input : List ℕ
   pub is_input : NamesInput source j.ports input status
   pub reported : IsReported (naming j input) status held_old held
@@ -138,4 +141,5 @@ abbrev pub PlainReportIs : Status → Channels → Channels → Type 0
 PlainReportIs status old new = old.tells ≡ true → IsReportedPlainly status (old.held 0) (new.held 0)
 
 abbrev pub RunReportIs : PlainText → Told → Status → Channels → Channels → Type 0
-RunReportIs j source status old new = old.tells ≡ true → IsReportedOf j source status (old.held 0) (new.held 0)
+RunReportIs j source status old new = old.tells ≡ true
+    → IsReportedOf j source status (old.held 0) (new.held 0)

@@ -30,8 +30,10 @@ IsInput under (Some file) input = under file ≡ Some input
 IsInput under None input = input ≡ []
 
 -- the inputs of the actors that a source may be
-abbrev pub HasInputs : (under : List ℕ → Option (List ℕ)) → (source : List ℕ) → List PortText → (Form → List ℕ) → Type 0
-HasInputs under source ports input = (f : Form) → Spells source f → IsInput under (file_of f.input ports) (input f)
+abbrev pub HasInputs : (under : List ℕ → Option (List ℕ)) → (source : List ℕ) → List PortText
+    → (Form → List ℕ) → Type 0
+HasInputs under source ports input = (f : Form) → Spells source f
+    → IsInput under (file_of f.input ports) (input f)
 
 -- an output is written if a word gives it a file, else its channel isn't open
 abbrev pub Writes : Bool → Option (List ℕ) → (is_open : Bool) → Type 0
@@ -49,7 +51,8 @@ pub record IsRun (ports : List PortText) (source input : List ℕ) (end : Line) 
   pub plays : Plays (network_of form) 0 (input ∷ []) (moves ++ end ∷ []) last
   pub keeps : KeepsCapacities (network_of form) (input ∷ []) (moves ++ end ∷ [])
   pub trace_is : trace ≡ text (network_of form) 0 (moves ++ end ∷ [])
-  pub output_is : IsWritten (file_of form.output ports) output_open output (bytes_out (network_of form) last 0)
+  pub output_is :
+      IsWritten (file_of form.output ports) output_open output (bytes_out (network_of form) last 0)
   pub counted : Counted counts (moves ++ end ∷ []) last
 
 -- a run that ended, with its report
@@ -71,7 +74,8 @@ pub record IsCutRun (ports : List PortText) (source : List ℕ) (input : Form �
   pub plays : Plays (network_of form) 0 (input form ∷ []) moves last
   pub keeps : KeepsCapacities (network_of form) (input form ∷ []) moves
   pub trace_is : trace ≡ text (network_of form) 0 moves
-  pub output_is : IsWritten (file_of form.output ports) output_open output (bytes_out (network_of form) last 0)
+  pub output_is :
+      IsWritten (file_of form.output ports) output_open output (bytes_out (network_of form) last 0)
 
 -- prefixes of what belongs to lines that play, with or without an end
 pub record IsBrokenRun (ports : List PortText) (source : List ℕ) (input : Form → List ℕ) (trace : List ℕ) (output_open : Bool) (output : List ℕ) : Type 0 where
@@ -87,18 +91,25 @@ pub record IsBrokenRun (ports : List PortText) (source : List ℕ) (input : Form
 
 -- What the top call leaves, if the source and the channels are told, and for each actor that the source may be its
 -- input. After a fault the trace's channel holds something only if it was opened.
-abbrev pub Leaves : PlainText → (source : List ℕ) → (input : Form → List ℕ) → Status → (held_old held : ℕ → List ℕ) → (is_open : ℕ → Bool) → ℕ → Type 0
-Leaves j source input Quiet held_old held is_open limit = (firings : ℕ) × HasEnded j source input QuietLine Quiet held_old held is_open firings
+abbrev pub Leaves : PlainText → (source : List ℕ) → (input : Form → List ℕ) → Status
+    → (held_old held : ℕ → List ℕ) → (is_open : ℕ → Bool) → ℕ → Type 0
+Leaves j source input Quiet held_old held is_open limit = (firings : ℕ)
+    × HasEnded j source input QuietLine Quiet held_old held is_open firings
 Leaves j source input (Budget firings) held_old held is_open limit =
-    HasEnded j source input BudgetLine (Budget firings) held_old held is_open firings × (firings ≡ limit)
-Leaves j source input (ReadFault (Feed feed)) held_old held is_open limit = is_open 1 ≡ true → IsCutRun j.ports source input (held 1) (is_open 2) (held 2)
+    HasEnded j source input BudgetLine (Budget firings) held_old held is_open firings
+    × (firings ≡ limit)
+Leaves j source input (ReadFault (Feed feed)) held_old held is_open limit = is_open 1 ≡ true
+    → IsCutRun j.ports source input (held 1) (is_open 2) (held 2)
 Leaves j source input (ReadFault (File file)) held_old held is_open limit = Unit {0}
-Leaves j source input (WriteFault channel) held_old held is_open limit = is_open 1 ≡ true → IsBrokenRun j.ports source input (held 1) (is_open 2) (held 2)
+Leaves j source input (WriteFault channel) held_old held is_open limit = is_open 1 ≡ true
+    → IsBrokenRun j.ports source input (held 1) (is_open 2) (held 2)
 Leaves j source input Done held_old held is_open limit = Unit {0}
 Leaves j source input (Usage cause) held_old held is_open limit = Unit {0}
 Leaves j source input (Refused refusal) held_old held is_open limit = Unit {0}
 Leaves j source input OutOfMemory held_old held is_open limit = Unit {0}
 
 -- the same by what is known of the channels
-abbrev pub LeavesOn : PlainText → (source : List ℕ) → (input : Form → List ℕ) → Status → Channels → Channels → ℕ → Type 0
-LeavesOn j source input status old new limit = Leaves j source input status old.held new.held new.is_open limit
+abbrev pub LeavesOn : PlainText → (source : List ℕ) → (input : Form → List ℕ) → Status → Channels
+    → Channels → ℕ → Type 0
+LeavesOn j source input status old new limit =
+    Leaves j source input status old.held new.held new.is_open limit

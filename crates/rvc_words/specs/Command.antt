@@ -13,7 +13,8 @@ place id = record (new_rule id) { required = true }
 
 -- a last place that any number of words take
 abbrev pub last_place : Text → Rule
-last_place id = record (new_rule id) { range = Some (record { start_inclusive = 0; end_inclusive = usize_max }) }
+last_place id = record (new_rule id)
+    { range = Some (record { start_inclusive = 0; end_inclusive = usize_max }) }
 
 -- an option with a value, which may be given once
 abbrev pub option : Text → Rule
@@ -21,7 +22,8 @@ option name = record (new_rule name) { long = Some name }
 
 -- no flag for help or for a version
 abbrev pub without_flags : App → App
-without_flags = on_top (λ shape. record shape { disable_help_flag = true; disable_version_flag = true })
+without_flags =
+    on_top (λ shape. record shape { disable_help_flag = true; disable_version_flag = true })
 
 -- the places `VERB`, `TOP` and `PORTS`, and six options, in any order
 unfoldable pub rvc : App

@@ -30,7 +30,9 @@ is_digit b = nat_le 48 b && nat_le b 57
 unfoldable pub number : (least most : ℕ) → List ℕ → Option ℕ
 number least most word =
     let value = digits_value 10 word in
-    if not (is_empty word) && nat_le (length word) max_digits && list_all is_digit word && nat_le least value && nat_le value most
+    if not (is_empty word) && nat_le
+    (length word) max_digits && list_all is_digit word && nat_le least value && nat_le value
+    most
     then Some value else None
 
 -- an option's value, read by its form, or the default if the option isn't given

@@ -39,12 +39,14 @@ abbrev pub kept : {A : Type 0} → Bool → A → UsageCause → Result A UsageC
 kept true value cause = Ok value
 kept false value cause = Err cause
 
-abbrev pub and_then : {A B : Type 0} → Result A UsageCause → (A → Result B UsageCause) → Result B UsageCause
+abbrev pub and_then : {A B : Type 0} → Result A UsageCause → (A → Result B UsageCause)
+    → Result B UsageCause
 and_then (Ok value) next = next value
 and_then (Err cause) next = Err cause
 
 infixl 10 ◌>>=◌
-abbrev pub ◌>>=◌ : {A B : Type 0} → Result A UsageCause → (A → Result B UsageCause) → Result B UsageCause
+abbrev pub ◌>>=◌ : {A B : Type 0} → Result A UsageCause → (A → Result B UsageCause)
+    → Result B UsageCause
 r >>= next = and_then r next
 
 -- what the parts of a command ask for, or the first of them that isn't of its form
@@ -59,7 +61,17 @@ asked p = do
   round ← ok_or (given_or All round_of p.round) Round
   ports ← kept (list_all is_port p.ports) (map port p.ports) Port
   trace ← kept (not (lacks_trace verb p.trace)) p.trace Trace
-  Ok (record { verb = verb; top = top; ports = ports; trace = trace; workers = workers; round = round; burst = burst; budget = budget; grow = grow })
+  Ok (record {
+    verb = verb;
+    top = top;
+    ports = ports;
+    trace = trace;
+    workers = workers;
+    round = round;
+    burst = burst;
+    budget = budget;
+    grow = grow;
+  })
 
 -- what the words ask for, the program's name first, or why they are no job
 unfoldable pub job : List (List ℕ) → Result JobText UsageCause

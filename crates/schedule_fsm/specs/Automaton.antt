@@ -20,4 +20,5 @@ target fsm state action = entry fsm.actions fsm.targets state action
 -- what each automaton keeps: an entry for each state and action, and targets that are states
 pub record IsWhole (fsm : Automaton) : Type 0 where
   pub size : length fsm.targets ≡ fsm.states * fsm.actions
-  pub in_range : (state action to : ℕ) → state < fsm.states → action < fsm.actions → target fsm state action ≡ Some to → to < fsm.states
+  pub in_range : (state action to : ℕ) → state < fsm.states → action < fsm.actions
+      → target fsm state action ≡ Some to → to < fsm.states

@@ -13,5 +13,6 @@ IsCause steps Memory = Unit {0}
 
 -- the fault names the step's state and action, whose entry holds another target
 abbrev pub IsTaken : Step → Option ℕ → FsmFault → Type 0
-IsTaken step found (Ambiguous state action) = (state ≡ step.from) × (action ≡ step.action) × ((other : ℕ) × (found ≡ Some other) × (other ≢ step.to))
+IsTaken step found (Ambiguous state action) = (state ≡ step.from) × (action ≡ step.action)
+    × ((other : ℕ) × (found ≡ Some other) × (other ≢ step.to))
 IsTaken step found Memory = ⊥

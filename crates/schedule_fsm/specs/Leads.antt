@@ -14,8 +14,10 @@ IsFree free action = IsTrue (slice_index_or free action false)
 
 -- the action leads from this state to that one: a free action to the state itself, another one by a step
 abbrev pub Leads : List Step → List Bool → ℕ → ℕ → ℕ → Type 0
-Leads steps free state action to = (IsFree free action × (to ≡ state)) ⊎ StepLeads steps state action to
+Leads steps free state action to = (IsFree free action × (to ≡ state))
+    ⊎ StepLeads steps state action to
 
 -- steps lead from this state by this action to two states
 abbrev pub HasTwoTargets : List Step → ℕ → ℕ → Type 0
-HasTwoTargets steps state action = (one : ℕ) × (two : ℕ) × StepLeads steps state action one × StepLeads steps state action two × (one ≢ two)
+HasTwoTargets steps state action = (one : ℕ) × (two : ℕ) × StepLeads steps state action one
+    × StepLeads steps state action two × (one ≢ two)

@@ -23,6 +23,8 @@ pub record HasTold (reader : LineReader) (lines : List Line) (text : List ℕ) :
 -- What an answer says of a text that ends in the byte that was read: it is the lines that were told and this
 -- one, it begins lines and is none, or it begins no lines.
 abbrev pub TellsOn : LineReader → List Line → List ℕ → Step2 → Type 0
-TellsOn reader lines text (TheLine line) = HasTold reader (lines ++ line ∷ []) text × AreLines (lines ++ line ∷ []) text
-TellsOn reader lines text More = HasTold reader lines text × ((those : List Line) → AreLines those text → ⊥)
+TellsOn reader lines text (TheLine line) = HasTold reader (lines ++ line ∷ []) text
+    × AreLines (lines ++ line ∷ []) text
+TellsOn reader lines text More = HasTold reader lines text
+    × ((those : List Line) → AreLines those text → ⊥)
 TellsOn reader lines text Bad = ¬ BeginLines text

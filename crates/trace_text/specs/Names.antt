@@ -30,7 +30,8 @@ each_behind separator (name ∷ names) = (separator ∷ name) ++ each_behind sep
 -- one name or more, joined by the separator
 abbrev pub IsJoined : ℕ → List ℕ → Type 0
 IsJoined separator text =
-    (first : List ℕ) × (others : List (List ℕ)) × IsName first × AreNames others × (text ≡ first ++ each_behind separator others)
+    (first : List ℕ) × (others : List (List ℕ)) × IsName first × AreNames others
+    × (text ≡ first ++ each_behind separator others)
 
 abbrev pub slash : ℕ
 slash = 47

@@ -23,7 +23,8 @@ IsWritten Deliver = Unit {0}
 IsWritten (Grow link capacity) = (link < number_bound) × (capacity < number_bound)
 IsWritten Quiet = Unit {0}
 IsWritten (Trap inst action trap) = (inst < number_bound) × (action < action_bound)
-IsWritten (Stall inst action link) = (inst < number_bound) × (action < action_bound) × (link < number_bound)
+IsWritten (Stall inst action link) = (inst < number_bound) × (action < action_bound)
+    × (link < number_bound)
 IsWritten Budget = Unit {0}
 
 abbrev pub AreWritten : List Line → Type 0

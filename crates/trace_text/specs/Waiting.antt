@@ -42,7 +42,8 @@ IsNumber None = Unit {0}
 IsNumber (Some number) = number < number_bound
 
 -- the other digits of a number below the bound, and then what `after` says of it
-pub record Numbers (bound : ℕ) (so_far : Option ℕ) (after : ℕ → List ℕ → Type 0) (bytes : List ℕ) : Type 0 where
+pub record Numbers (bound : ℕ) (so_far : Option ℕ) (after : ℕ → List ℕ → Type 0) (bytes : List ℕ) :
+    Type 0 where
   pub fits : IsNumber so_far
   pub number : ℕ
   pub tail : List ℕ
@@ -89,30 +90,36 @@ stop_of field = 32
 
 -- the name of a trap
 abbrev pub NamesTrap : ℕ → ℕ → Line → List ℕ → Type 0
-NamesTrap inst action line bytes = (trap : TrapName) × Behind (trap_name trap) (Ends (Trap inst action trap) line) bytes
+NamesTrap inst action line bytes = (trap : TrapName)
+    × Behind (trap_name trap) (Ends (Trap inst action trap) line) bytes
 
 -- the end of a first line of version 2, whose limit of growth isn't 0
 abbrev pub IsLimited : ℕ → ℕ → Line → ℕ → List ℕ → Type 0
 IsLimited instances links line zero bytes = ⊥
-IsLimited instances links line (suc grow) bytes = IsAll (Header instances links (suc grow)) line bytes
+IsLimited instances links line (suc grow) bytes =
+    IsAll (Header instances links (suc grow)) line bytes
 
 -- what follows the number of a field and the byte that stops it
 abbrev pub follows : Field → Line → ℕ → List ℕ → Type 0
 follows (Links instances) line n = IsAll (Header instances n 0) line
 follows Instances line n = Numbers number_bound None (λ l. Then 10 (IsAll (Header n l 0) line))
 follows (Limit instances links) line n = IsLimited instances links line n
-follows (GrowingLinks instances) line n = Numbers number_bound None (λ g. Then 10 (IsLimited instances n line g))
+follows (GrowingLinks instances) line n = Numbers number_bound None
+    (λ g. Then 10 (IsLimited instances n line g))
 follows GrowingInstances line n =
-    Numbers number_bound None (λ l. Then 32 (Numbers number_bound None (λ g. Then 10 (IsLimited n l line g))))
+    Numbers number_bound None (λ l. Then 32
+    (Numbers number_bound None (λ g. Then 10 (IsLimited n l line g))))
 follows Instance line n = Named false slash (after_names Path n line)
 follows (FiringAction inst) line n = IsAll (Fire inst n) line
 follows FiringInst line n = Numbers action_bound None (λ a. Then 10 (IsAll (Fire n a) line))
 follows (TrappingAction inst) line n = NamesTrap inst n line
 follows TrappingInst line n = Numbers action_bound None (λ a. Then 32 (NamesTrap n a line))
 follows (StalledLink inst action) line n = IsAll (Stall inst action n) line
-follows (StalledAction inst) line n = Numbers number_bound None (λ l. Then 10 (IsAll (Stall inst n l) line))
+follows (StalledAction inst) line n = Numbers number_bound None
+    (λ l. Then 10 (IsAll (Stall inst n l) line))
 follows StalledInst line n =
-    Numbers action_bound None (λ a. Then 32 (Numbers number_bound None (λ l. Then 10 (IsAll (Stall n a l) line))))
+    Numbers action_bound None (λ a. Then 32
+    (Numbers number_bound None (λ l. Then 10 (IsAll (Stall n a l) line))))
 follows (GrownCapacity link) line n = IsAll (Grow link n) line
 follows GrownLink line n = Numbers number_bound None (λ c. Then 10 (IsAll (Grow n c) line))
 
@@ -127,7 +134,8 @@ front = codes "rvc-trace "
 
 abbrev pub Versions : Line → List ℕ → Type 0
 Versions line bytes =
-    Then 49 (Then 32 (InField Instances None line)) bytes ⊎ Then 50 (Then 32 (InField GrowingInstances None line)) bytes
+    Then 49 (Then 32 (InField Instances None line)) bytes
+    ⊎ Then 50 (Then 32 (InField GrowingInstances None line)) bytes
 
 -- The bytes that make this line of those that stand before the place.
 abbrev pub Waits : Place → Line → List ℕ → Type 0
@@ -136,8 +144,10 @@ Waits AfterR line bytes = Ends Deliver line bytes ⊎ Behind (drop 1 front) (Ver
 Waits (Front read) line bytes = Behind (drop read front) (Versions line) bytes
 Waits (Letter field) line bytes = Then 32 (InField field None line) bytes
 Waits (Number field so_far) line bytes = InField field so_far line bytes
-Waits (AtName inst part) line bytes = Named false (separator_of part) (after_names part inst line) bytes
-Waits (InName inst part) line bytes = Named true (separator_of part) (after_names part inst line) bytes
+Waits (AtName inst part) line bytes =
+    Named false (separator_of part) (after_names part inst line) bytes
+Waits (InName inst part) line bytes =
+    Named true (separator_of part) (after_names part inst line) bytes
 Waits (AtTrap inst action) line bytes = NamesTrap inst action line bytes
 Waits (InTrap inst action trap read) line bytes =
     Behind (drop read (trap_name trap)) (Ends (Trap inst action trap) line) bytes
@@ -152,8 +162,10 @@ IsAlive place = (line : Line) × (bytes : List ℕ) × Waits place line bytes
 
 -- a byte leads from a place to the next
 pub record Leads (place : Place) (byte : ℕ) (next : Place) : Type 0 where
-  pub onward : (line : Line) (bytes : List ℕ) → Waits place line (byte ∷ bytes) → Waits next line bytes
-  pub back : (line : Line) (bytes : List ℕ) → Waits next line bytes → Waits place line (byte ∷ bytes)
+  pub onward : (line : Line) (bytes : List ℕ) → Waits place line (byte ∷ bytes)
+      → Waits next line bytes
+  pub back : (line : Line) (bytes : List ℕ) → Waits next line bytes
+      → Waits place line (byte ∷ bytes)
   pub alive : IsAlive next
 
 -- a byte leads from the version in the first line to the next place
@@ -170,8 +182,10 @@ pub record StandsBehind (field : Field) (n : ℕ) (next : Place) : Type 0 where
 
 -- a place behind the names of a part, if the next byte is no part of them
 pub record LeadsOut (inst : ℕ) (part : Part) (byte : ℕ) (next : Place) : Type 0 where
-  pub onward : (line : Line) (bytes : List ℕ) → after_names part inst line (byte ∷ bytes) → Waits next line bytes
-  pub back : (line : Line) (bytes : List ℕ) → Waits next line bytes → after_names part inst line (byte ∷ bytes)
+  pub onward : (line : Line) (bytes : List ℕ) → after_names part inst line (byte ∷ bytes)
+      → Waits next line bytes
+  pub back : (line : Line) (bytes : List ℕ) → Waits next line bytes
+      → after_names part inst line (byte ∷ bytes)
   pub alive : IsAlive next
 
 abbrev pub IsDigit : ℕ → Type 0
@@ -180,11 +194,13 @@ IsDigit byte = (48 ≤ byte) × (byte < 58)
 -- the place behind the digits of a number, which are lost if it is too small
 abbrev pub IsWithin : Field → ℕ → Place → Type 0
 IsWithin field number next =
-    ((least_of field ≤ number) × (next ≡ Number field (Some number))) ⊎ ((number < least_of field) × (next ≡ Lost))
+    ((least_of field ≤ number) × (next ≡ Number field (Some number)))
+    ⊎ ((number < least_of field) × (next ≡ Lost))
 
 -- what one digit more makes of the digits so far
 abbrev pub SoFar : Option ℕ → ℕ → ℕ → Option ℕ → Type 0
 SoFar None digit most next = next ≡ Some digit
 SoFar (Some zero) digit most next = next ≡ None
 SoFar (Some (suc n)) digit most next =
-    MatchOption next (most < suc n * 10 + digit) (λ longer. (longer ≡ suc n * 10 + digit) × (longer ≤ most))
+    MatchOption next (most < suc n * 10 + digit)
+    (λ longer. (longer ≡ suc n * 10 + digit) × (longer ≤ most))
