@@ -16,6 +16,20 @@ use std::alloc::Global;
 ///
 /// `Refused` if the text has a fault, with the one that it has first (`refused`, `faulted`). `Memory` if memory runs
 /// out.
+///
+/// # Examples
+///
+/// ```
+/// let alloc = rt.alloc();
+/// let tokens = lex(alloc, 1, b"x := 0xFF;")?;
+/// assert_eq!(rt; tokens.len(), 4);
+/// assert!(rt; matches!(tokens[2].kind, TokenKind::Number(255)) && tokens[2].at == 5);
+///
+/// let Err(Front::Refused(refusal)) = lex(alloc, 1, b"x := $;") else {
+///     panic!(rt; "it has a fault")
+/// };
+/// assert_eq!(rt; refusal.place.offset, 5);
+/// ```
 pub fn lex(alloc: Global, file: u32, text: &[u8]) -> Result<Vec<Token>, Front>
     requires { length text.now < 2 ^ 32 }
     ensures listed { IfOk result (λ tokens. lexes text.now (plain_tokens tokens.items)) }

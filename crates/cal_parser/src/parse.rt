@@ -30,6 +30,21 @@ pub const MAX_HEIGHT: u32 = 256;
 /// it, or at `end` if all the tokens together spell none; with [`Rule::TOO_HIGH`] at a token such that no file of a
 /// height of at most [`MAX_HEIGHT`] has tokens that begin with those up to and including it (`refused`). `Memory` if
 /// memory runs out.
+///
+/// # Examples
+///
+/// ```
+/// let alloc = rt.alloc();
+/// let tokens = lex(alloc, 1, b"unit U : end")?;
+/// let file = parse_file(alloc, 1, &tokens, 12)?;
+/// assert!(rt; matches!(&file.body, Body::Unit(unit) if unit.members.is_empty()));
+///
+/// // Without `end` the tokens spell no file.
+/// let Err(Front::Refused(refusal)) = parse_file(alloc, 1, &tokens[..3], 8) else {
+///     panic!(rt; "it is refused")
+/// };
+/// assert!(rt; refusal.rule == Rule::SPELLS_NO_FILE && refusal.place.offset == 8);
+/// ```
 pub fn parse_file(alloc: Global, file: u32, tokens: &[Token], end: u32) -> Result<File, Front>
     ensures spelled { IfOk result (λ f. spells (plain_tokens tokens.now) (file_tree f)) }
     ensures low { IfOk result (λ f. height (file_tree f) ≤ max_height) }

@@ -26,6 +26,18 @@ use std::alloc::Global;
 /// # Errors
 ///
 /// `Memory` if memory runs out.
+///
+/// # Examples
+///
+/// ```
+/// let alloc = rt.alloc();
+/// let text = b"unit U : int X = (1+0xA) div 2; endunit";
+/// let tokens = lex(alloc, 1, text)?;
+/// let file = parse_file(alloc, 1, &tokens, text.len() as u32)?;
+/// let printed = print_file(alloc, &file)?;
+/// let canonical = b"unit U : int X = ( 1 + 10 ) / 2 ;\nend\n";
+/// assert!(rt; printed.as_slice() == canonical.as_slice());
+/// ```
 pub fn print_file(alloc: Global, file: &File) -> Result<Vec<u8>, Memory>
     ensures { IfOk result (λ text. text.items ≡ canon (file_tree file.now)) }
 {

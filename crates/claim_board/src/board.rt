@@ -18,6 +18,23 @@ use std::marker::Model;
 use std::snapshot::Snapshot;
 
 /// Pieces of work, each in its place, from which workers draw. Places are numbered from 0.
+///
+/// # Examples
+///
+/// Two pieces, of the numbers 3 and 4, whose work doubles the number:
+///
+/// ```
+/// let alloc = rt.alloc();
+/// let Ok((board, mut passes)) = Board::open(alloc, pieces, 1) else {
+///     panic!(rt; "no memory")
+/// };
+/// while let Some((place, mut piece)) = board.draw(&mut passes[0]) {
+///     piece.work();
+///     board.give_back(&mut passes[0], place, piece);
+/// }
+/// let pieces = board.close(passes);
+/// assert!(rt; pieces[0].number == 6 && pieces[1].number == 8);
+/// ```
 #[derive(Drop)]
 pub struct Board<P: Piece> {
     table: Table<Slot<P>, View<P>, Opening<P>, Claims<P>, Global>,

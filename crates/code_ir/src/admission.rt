@@ -22,6 +22,21 @@ use std::alloc::Global;
 ///
 /// `Bad` if a line is broken (`bad`). It names the first place that may not begin a body, or 0 if no body begins
 /// there; else an instruction that breaks a line. `Memory` if memory runs out.
+///
+/// # Examples
+///
+/// ```
+/// let alloc = rt.alloc();
+/// let instrs = [Instr::Load(0), Instr::Store(1, None), Instr::Done];
+/// let code = ActorCode {
+///     instrs: Vec::from_slice(alloc, &instrs)?,
+///     routines: Vec::new(alloc),
+///     entries: Vec::from_slice(alloc, &[0])?,
+///     cells: 2,
+/// };
+/// // With `cells: 1` it is `Bad { at: 1 }`, since there is no cell 1.
+/// assert!(rt; matches!(admit(alloc, code), Ok(admitted) if admitted.most_operands() == 1));
+/// ```
 pub fn admit(alloc: Global, code: ActorCode) -> Result<Admitted, CodeFault>
     requires sized { AllSized code.instrs.items }
     requires few { AreFew (code_of code) }

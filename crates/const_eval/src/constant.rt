@@ -48,6 +48,22 @@ pub enum ConstFault {
 /// that the environment lacks such that the expression has a kind and each function is of the kinds that it declares,
 /// that the items of each list among the constants are of one kind, and that no function calls itself, directly or
 /// indirectly.
+///
+/// # Examples
+///
+/// ```
+/// let alloc = rt.alloc();
+/// let mut env = Env::new(alloc);
+/// env.add_value("n", Value::Num(5))?;
+/// let form = ExprForm::Name(String::from_str(alloc, "n")?);
+/// let of = Box::new(alloc, Expr { form, at: 1 })?;
+/// let op = PrefixOp::Neg;
+/// let e = Expr { form: ExprForm::Prefix { op, of }, at: 0 };
+/// assert!(rt; matches!(eval_const(alloc, &env, &e), Ok(Value::Num(-5))));
+///
+/// env = Env::new(alloc);
+/// assert!(rt; matches!(eval_const(alloc, &env, &e), Err(ConstFault::NotConstant)));
+/// ```
 pub fn eval_const(alloc: Global, env: &Env, e: &Expr) -> Result<Value, ConstFault>
     ensures value { IfOk result (λ value. (left : ℕ)
         × (value_of (expr_tree e.now) (held env.now) ≡ Gives (value_view value) left)) }

@@ -13,6 +13,20 @@ use crate::line::Line;
 use crate::place::Place;
 
 /// A reader of lines. It takes no memory, and what it keeps has one size whatever it reads.
+///
+/// # Examples
+///
+/// ```
+/// let mut reader = LineReader::new();
+/// for byte in b"f 9 1" {
+///     assert_eq!(rt; reader.next(*byte), Step2::More);
+/// }
+/// assert_eq!(rt;
+///     reader.next(b'\n'),
+///     Step2::Line(Line::Fire { inst: 9, action: 1 })
+/// );
+/// assert_eq!(rt; reader.next(b'?'), Step2::Bad);
+/// ```
 #[derive(Clone, Copy, Debug)]
 pub struct LineReader {
     place: Place,
