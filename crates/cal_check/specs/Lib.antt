@@ -1,0 +1,10 @@
+pub mod Violations
+pub mod Constants
+pub mod Written
+pub mod Statements
+pub mod Routines
+pub mod Variables
+pub mod Ports
+pub mod Actions
+pub mod Schedules
+pub mod Actors
