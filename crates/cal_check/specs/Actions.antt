@@ -136,7 +136,8 @@ inside_broken guards vars body outputs around inner =
     ++ if_fine (names_behind vars inner) (λ behind.
     statement_broken body around.procs behind ++ outputs_broken outputs around.outs behind))
 
-abbrev pub behind_patterns : Option (List Pattern) → (List Pattern → List Violation) → List Violation
+abbrev pub behind_patterns : Option (List Pattern) → (List Pattern → List Violation)
+    → List Violation
 behind_patterns (Some qs) f = f qs
 behind_patterns None f = []
 
@@ -173,7 +174,8 @@ abbrev pub body_of : Tree → Tree
 body_of (tree.present ss) = ss
 body_of other = tree.nil
 
-abbrev pub action_with : Tree → Bool → List Pattern → Tree → Tree → Tree → Tree → Around → Names → Action
+abbrev pub action_with : Tree → Bool → List Pattern → Tree → Tree → Tree → Tree → Around → Names
+    → Action
 action_with tagged initialize qs outputs guards vars body around inner = record {
   tag = tag_parts tagged;
   patterns = qs;

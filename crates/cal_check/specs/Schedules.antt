@@ -105,7 +105,8 @@ priorities_broken (tree.cons m ms) acts = priorities_broken ms acts
 priorities_broken other acts = []
 
 abbrev pub pairs_in : Tree → Actor → List (ℕ × ℕ)
-pairs_in (tree.cons (tree.priority chains at) ms) actor = chains_pairs chains actor ++ pairs_in ms actor
+pairs_in (tree.cons (tree.priority chains at) ms) actor = chains_pairs chains actor
+    ++ pairs_in ms actor
 pairs_in (tree.cons m ms) actor = pairs_in ms actor
 pairs_in other actor = []
 

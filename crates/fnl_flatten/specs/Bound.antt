@@ -1,0 +1,53 @@
+-- Networks with their values, as they stand in each other: a tree whose leaves are actors (ISO/IEC 23001-4, FNL).
+-- Trusted: part of what a promise means.
+use Rattle.std.specs.Prelude.{ℕ, List}
+use Rattle.rvc_base.specs.declared.scalar.Scalar.{Scalar}
+
+-- what an instance is: a network, or an actor, by its number
+pub data Inner : Type 0 where
+  InnerNet : ℕ → Inner
+  InnerLeaf : ℕ → Inner
+
+pub record Part : Type 0 where
+  pub id : List ℕ
+  pub inner : Inner
+
+-- a port of a network, and the type of its tokens
+pub record Own : Type 0 where
+  pub name : List ℕ
+  pub kind : Scalar
+
+-- A connection: from a port of an instance, or one of the network's own inputs if no instance is named, to a port of an
+-- instance, or to one of its outputs. Its size is the largest that it asks for, or 0.
+pub record Wire : Type 0 where
+  pub src : List ℕ
+  pub src_port : List ℕ
+  pub dst : List ℕ
+  pub dst_port : List ℕ
+  pub size : ℕ
+  pub at : ℕ
+
+pub record Net : Type 0 where
+  pub file : ℕ
+  pub ins : List Own
+  pub outs : List Own
+  pub parts : List Part
+  pub wires : List Wire
+
+-- the top network is the first
+pub record Tree : Type 0 where
+  pub nets : List Net
+  -- the path and the class of each leaf
+  pub paths : List (List ℕ)
+  pub classes : List (List ℕ)
+
+-- a port of an actor, and the most tokens that a firing takes or gives there
+pub record HeadPort : Type 0 where
+  pub name : List ℕ
+  pub kind : Scalar
+  pub largest : ℕ
+
+-- the ports of the actor at a leaf
+pub record Head : Type 0 where
+  pub ins : List HeadPort
+  pub outs : List HeadPort

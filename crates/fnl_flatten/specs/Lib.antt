@@ -1,0 +1,5 @@
+pub mod Bound
+pub mod Joints
+pub mod Links
+pub mod Rules
+pub mod Flat

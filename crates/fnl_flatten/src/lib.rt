@@ -1,0 +1,9 @@
+//! Networks flattened: which actors there are, and which links join their ports.
+//!
+//! `specs/Links.antt` says which links there are: exactly the pairs of ends that a chain of connections joins.
+//! `specs/Rules.antt` says which rules connections break. No call answers them yet.
+#![tactic(auto)]
+
+mod laws;
+
+pub use laws::flat_networks_are_wired;
