@@ -3,6 +3,8 @@ use Rattle.std.proofs.Common.{◌≡◌, ℕ, zero, suc, ◌+◌, ◌<◌, ◌�
 use Rattle.std.specs.Prelude.{Some, slice_get, slice_index_or}
 use Rattle.std.proofs.lemmas.Bool.{cases_eq}
 use Rattle.std.proofs.lemmas.List.{length-map, drop_at}
+use Rattle.std.proofs.lemmas.Option.{slice_get-map}
+use Rattle.std.specs.Option.{option_map}
 use Rattle.rvc_base.specs.Storing.{conv}
 use Rattle.rvc_base.specs.Lawful.{tokens_on}
 use Rattle.net_model.specs.declared.wiring.End.{End}
@@ -90,6 +92,7 @@ start_working cells links waited can counted = record {
         since = λ inner. omega (arith, count, none, joined.waiting);
       });
   read = can.read;
+  few_given = can.few_given;
 }
 
 pub readers_at_start : {X : Type 0} (cells : List (Cell X)) (links : List Link) → CanWork cells links → (l : ℕ) (link : Link) → slice_get links l ≡ Some link → IsReader cells link.to
@@ -158,22 +161,34 @@ module _ {X : Type 0} (net : Network X) (cells : List (Cell X)) (inputs : List (
 
   all_held_given : (links : List Link) → ((l : ℕ) (link : Link) → slice_get links l ≡ Some link → IsWriter cells link.from × (sent_from cells link.from ≡ []))
       → AreHeld cells links (map (given_flow net cells inputs) links) (map capacity_of links)
-  all_held_given [] each = tt
-  all_held_given (link ∷ links) each =
-      let first = each zero link refl in
-      (held_given link first.0 first.1, all_held_given links (λ l. each (suc l)))
+  all_held_given links each = record {
+    count = length-map links (given_flow net cells inputs);
+    each = λ l link flow at there.
+        let is : given_flow net cells inputs link ≡ flow =
+        some_is (given_flow net cells inputs link) flow (sym (slice_get-map (given_flow net cells inputs) links l ∙ ap (option_map (given_flow net cells inputs)) at) ∙ there) in
+        let here = each l link at in
+        subst (λ n. IsHeld cells link flow n) (sym (capacity_at_start links l link at))
+        (subst (λ f. IsHeld cells link f link.capacity) is (held_given link here.0 here.1));
+  }
 
-pub start_stands : {X : Type 0} (cells : List (Cell X)) (links : List Link) → CanWork cells links → StandAtStart cells links (map capacity_of links)
-start_stands cells links can = λ net inputs is. record {
-  actors = refl;
-  inboxes = λ i cell at p low.
-      let here : tokens_of (slice_get cells i) p ≡ tokens_on cell.inboxes p = ap (λ o. tokens_of o p) at in
-      sym (inbox_given net cells inputs net.links i p
-      (λ none. here ∙ can.unlinked i cell at p low (λ l link there. none l link (ap (λ ls. slice_get ls l) is.links_are ∙ there)))
-      ∙ here);
-  flows = subst (λ ls. AreHeld cells net.links (map (given_flow net cells inputs) net.links) (map capacity_of ls)) is.links_are
-      (all_held_given net cells inputs net.links (λ l link at.
-      let joined = can.joined l link (sym (ap (λ ls. slice_get ls l) is.links_are) ∙ at) in
-      (joined.writer, none_sent_from cells can.all_out link.from joined.writer)));
-  untrapped = refl;
+pub start_stands : {X : Type 0} (cells : List (Cell X)) (links : List Link) (waited : List ℕ) → CanWork cells links
+    → StandAtStart (record { cells = cells; links = links; capacities = map capacity_of links; waited = waited })
+start_stands cells links waited can = λ net inputs is. record {
+  is_of = is;
+  stands = record {
+    actors = record {
+      count = length-map cells (λ cell. cell.state);
+      each = λ i cell at free. slice_get-map (λ c. c.state) cells i ∙ ap (option_map (λ c. c.state)) at;
+    };
+    inboxes = λ i cell at p low.
+        let here : tokens_of (slice_get cells i) p ≡ tokens_on cell.inboxes p = ap (λ o. tokens_of o p) at in
+        sym (inbox_given net cells inputs net.links i p
+        (λ none. here ∙ can.unlinked i cell at p low (λ l link there. none l link (ap (λ ls. slice_get ls l) is.links_are ∙ there)))
+        ∙ here);
+    flows = subst (λ ls. AreHeld cells net.links (map (given_flow net cells inputs) net.links) (map capacity_of ls)) is.links_are
+        (all_held_given net cells inputs net.links (λ l link at.
+        let joined = can.joined l link (sym (ap (λ ls. slice_get ls l) is.links_are) ∙ at) in
+        (joined.writer, none_sent_from cells can.all_out link.from joined.writer)));
+    untrapped = refl;
+  };
 }
