@@ -165,11 +165,14 @@ module _ {X : Type 0} (old new : List (Cell X)) (links : List Link) (capacities 
               of_input (AtLeaf inst port) us outside = cc
 
       pub fed_opened : IsOpened net.links waited s.flows s.flows → IsOpened net.links waited (slice_set s.flows l now) (slice_set s.flows l now)
-      fed_opened opened m other before that here inner there' that' =
-          let differ : m ≢ l = λ same.
-          (let other_is : other ≡ link = some_is other link (sym here ∙ (ap (slice_get net.links) same ∙ at_net)) in
-          let no : true ≡ false = sym input ∙ (sym (ap is_input other_is) ∙ inner) in cc) in
-          opened m other before that here inner (sym (get_set_other s.flows m l now differ) ∙ there') (sym (get_set_other s.flows m l now differ) ∙ that')
+      fed_opened opened = record {
+        whole = length-set s.flows l now ∙ opened.whole;
+        each = λ m other before that here inner there' that'.
+            let differ : m ≢ l = λ same.
+            (let other_is : other ≡ link = some_is other link (sym here ∙ (ap (slice_get net.links) same ∙ at_net)) in
+            let no : true ≡ false = sym input ∙ (sym (ap is_input other_is) ∙ inner) in cc) in
+            opened.each m other before that here inner (sym (get_set_other s.flows m l now differ) ∙ there') (sym (get_set_other s.flows m l now differ) ∙ that');
+      }
 
       -- the port holds so many more
       pub waits_after : length (tokens_of (slice_get new j) q) ≡ untaken flow + count

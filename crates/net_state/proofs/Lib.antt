@@ -12,3 +12,6 @@ pub mod Starting
 pub mod Reading
 pub mod Feeding
 pub mod Fed
+pub mod Firings
+pub mod Roomy
+pub mod Bursting

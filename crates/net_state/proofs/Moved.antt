@@ -239,20 +239,24 @@ pub opened_inside : {X : Type 0} (new : List (Cell X)) (links : List Link) (capa
     → AreHeld new links flows capacities → InboxesHold new links flows → ((l : ℕ) (link : Link) → slice_get links l ≡ Some link → IsReader new link.to)
     → ((l : ℕ) (link : Link) (flow : Flow) → slice_get links l ≡ Some link → is_input link ≡ false → slice_get flows l ≡ Some flow → flow.arrived ≡ length flow.sent)
     → IsOpened links waited flows flows
-opened_inside new links capacities waited flows counted apart held hold readers arrived l link before flow at inner there that =
-    let same : flow ≡ before = some_is flow before (sym that ∙ there) in
-    record {
-      all_arrived = arrived l link before at inner there;
-      none_since = ap (λ f. f.arrived) same;
-      waited_is = by_end link.to refl;
-    }
+opened_inside new links capacities waited flows counted apart held hold readers arrived = record {
+  whole = held.count;
+  each = λ l link before flow at inner there that.
+      let same : flow ≡ before = some_is flow before (sym that ∙ there) in
+      record {
+        all_arrived = arrived l link before at inner there;
+        none_since = ap (λ f. f.arrived) same;
+        waited_is = by_end l link before at there link.to refl;
+      };
+}
   where
-    by_end : (end : End) → link.to ≡ end → untaken before ≡ slice_index_or waited l 0
-    by_end (AtNet port) to =
+    by_end : (l : ℕ) (link : Link) (before : Flow) → slice_get links l ≡ Some link → slice_get flows l ≡ Some before → (end : End) → link.to ≡ end
+        → untaken before ≡ slice_index_or waited l 0
+    by_end l link before at there (AtNet port) to =
         let none : length (waiting_at new link.to) ≡ 0 = ap (λ e. length (waiting_at new e)) to in
         let gone : before.taken ≡ before.arrived = (held.each l link before at there).gone (ap is_outside to) in
         omega (arith, none, gone, counted.each l link at)
-    by_end (AtLeaf inst port) to =
+    by_end l link before at there (AtLeaf inst port) to =
         let on = on_cell (slice_get new inst.0) (λ cell. port < cell.actor.ins) (subst (IsReader new) to (readers l link at)) in
         let leads : is_leaf_port inst.0 port link.to ≡ true = ap (is_leaf_port inst.0 port) to ∙ is_own_port inst.0 port in
         let waits : length (waiting_at new link.to) ≡ length (waiting before) =

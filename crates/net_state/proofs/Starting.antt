@@ -12,10 +12,10 @@ use Rattle.net_model.specs.declared.wiring.End.TheVariants.{Leaf as AtLeaf, Net 
 use Rattle.net_model.specs.declared.wiring.Link.{Link}
 use Rattle.net_model.specs.Network.{Network, is_outside, is_leaf_port}
 use Rattle.net_model.specs.State.{waiting, inbox, fed_by}
-use Rattle.net_model.specs.Cell.{Cell, HasNothingOut}
+use Rattle.net_model.specs.Cell.{Cell, HasNothingOut, unread_room}
 use Rattle.net_model.specs.Ready.{OnCell, waiting_at, tokens_of, given_flow}
 use Rattle.net_state.specs.Moving.{IsWriter, sent_of, sent_from}
-use Rattle.net_state.specs.Held.{AreCounted, CanWork, FitsIn, HasRooms, HasShapeOf, HasWidths, IsReader, IsRoomTable, IsWorking, NoneLeads, capacity_of}
+use Rattle.net_state.specs.Held.{AreCounted, CanWork, FitsIn, HasRooms, HoldFew, HasShapeOf, HasWidths, IsReader, IsRoomTable, IsWorking, NoneLeads, capacity_of}
 use Rattle.net_state.specs.Standing.{AreHeld, IsHeld, LiesIn, StandAtStart}
 use Rattle.net_state.proofs.Gaining.{some_is, there_too}
 use Rattle.net_state.proofs.Coming.{by_bool, if_true, if_false, is_that_port, on_cell}
@@ -30,6 +30,12 @@ get_pushed (z ∷ xs) y zero x at = ((λ low. at), (λ same. absurd (omega (arit
 get_pushed (z ∷ xs) y (suc i) x at =
     let rest = get_pushed xs y i x at in
     ((λ low. rest.0 (omega (arith, low))), (λ same. rest.1 (omega (arith, same))), omega (arith, rest.2))
+
+pub few_more : (numbers : List ℕ) (n : ℕ) → HoldFew numbers → n ≤ unread_room → HoldFew (numbers ++ n ∷ [])
+few_more [] n few most zero = most
+few_more [] n few most (suc l) = omega arith
+few_more (first ∷ numbers) n few most zero = few zero
+few_more (first ∷ numbers) n few most (suc l) = few_more numbers n (λ k. few (suc k)) most l
 
 pub record IsTabling {X : Type 0} (n : ℕ) (cells : List (Cell X)) (table : List (List ℕ)) : Type 0 where
   pub rows : length table ≡ n
@@ -71,8 +77,8 @@ none_sent_from cells out (AtLeaf inst port) writer =
     ap (λ o. sent_of o port) on.1 ∙ (out inst.0 on.0 on.1).0 port on.2
 
 pub start_working : {X : Type 0} (cells : List (Cell X)) (links : List Link) (waited : List ℕ) → CanWork cells links → AreCounted cells links waited
-    → IsWorking cells links (map capacity_of links) waited
-start_working cells links waited can counted = record {
+    → HoldFew (map capacity_of links) → IsWorking cells links (map capacity_of links) waited
+start_working cells links waited can counted few = record {
   each_holds = length-map links capacity_of;
   each_waited = counted.as_many;
   apart = can.apart;
@@ -93,6 +99,7 @@ start_working cells links waited can counted = record {
       });
   read = can.read;
   few_given = can.few_given;
+  few_held = few;
 }
 
 pub readers_at_start : {X : Type 0} (cells : List (Cell X)) (links : List Link) → CanWork cells links → (l : ℕ) (link : Link) → slice_get links l ≡ Some link → IsReader cells link.to

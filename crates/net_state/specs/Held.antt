@@ -95,6 +95,10 @@ pub record FitsIn {X : Type 0} (cells : List (Cell X)) (capacity waited : ℕ) (
 abbrev pub GivesFew : {X : Type 0} → List (Cell X) → Type 0
 GivesFew {X} cells = (i : ℕ) (cell : Cell X) → slice_get cells i ≡ Some cell → (a p : ℕ) → cell.actor.give a p ≤ max_rate
 
+-- no capacity passes the room of a port that no link leaves
+abbrev pub HoldFew : List ℕ → Type 0
+HoldFew capacities = (l : ℕ) → slice_index_or capacities l 0 ≤ unread_room
+
 -- what holds of all that is held
 pub record IsWorking {X : Type 0} (cells : List (Cell X)) (links : List Link) (capacities waited : List ℕ) : Type 0 where
   pub each_holds : length capacities ≡ length links
@@ -106,6 +110,7 @@ pub record IsWorking {X : Type 0} (cells : List (Cell X)) (links : List Link) (c
   pub read : (i : ℕ) (cell : Cell X) → slice_get cells i ≡ Some cell
       → (p : ℕ) → p < cell.actor.outs → (0 < number_on cell.outbox_capacities p) ↔ IsLeft links i p
   pub few_given : GivesFew cells
+  pub few_held : HoldFew capacities
 
 -- the table has a row for each cell, and in it a place for each of its output ports
 pub record HasWidths {X : Type 0} (cells : List (Cell X)) (table : List (List ℕ)) : Type 0 where

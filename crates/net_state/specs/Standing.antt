@@ -69,10 +69,11 @@ pub record IsSince (opened flow : Flow) (waited : ℕ) : Type 0 where
   pub waited_is : untaken opened ≡ waited
 
 -- the network was opened by its last delivery, which led to the state `opened`; what waited then was counted
-abbrev pub IsOpened : List Link → List ℕ → List Flow → List Flow → Type 0
-IsOpened links waited opened flows = (l : ℕ) (link : Link) (before flow : Flow) → slice_get links l ≡ Some link
-    → is_input link ≡ false → slice_get opened l ≡ Some before → slice_get flows l ≡ Some flow
-    → IsSince before flow (slice_index_or waited l 0)
+pub record IsOpened (links : List Link) (waited : List ℕ) (opened flows : List Flow) : Type 0 where
+  pub whole : length opened ≡ length links
+  pub each : (l : ℕ) (link : Link) (before flow : Flow) → slice_get links l ≡ Some link
+      → is_input link ≡ false → slice_get opened l ≡ Some before → slice_get flows l ≡ Some flow
+      → IsSince before flow (slice_index_or waited l 0)
 
 -- the state stands in what is held, and it was `opened` by the last delivery
 pub record StandsSince {X : Type 0} (net : Network X) (held : Held (Cell X)) (opened s : State X) : Type 0 where

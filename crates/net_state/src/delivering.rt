@@ -1,7 +1,7 @@
 //! A delivery of inner and output links.
 
 ghost use Rattle.std.specs.Prelude.{◌≡◌, length, map, vec_items};
-ghost use Rattle.net_state.specs.Held.{AreCounted, CanWork, HasRooms, HasWidths, IsWorking, capacity_of, held_of};
+ghost use Rattle.net_state.specs.Held.{AreCounted, CanWork, HasRooms, HasWidths, HoldFew, IsWorking, capacity_of, held_of};
 ghost use Rattle.net_state.specs.Moving.{SameActors, SameMarks};
 ghost use Rattle.net_state.specs.Standing.{AreAllOut, LeadInside};
 
@@ -46,6 +46,7 @@ pub(crate) fn lay_out<A: Firing>(
 )
     requires can { CanWork (map A.cell cells.now) links.now }
     requires capacities { capacities.now ≡ map capacity_of links.now }
+    requires few { HoldFew capacities.now }
     requires as_many { length waited.old ≡ length links.now }
     requires widths { HasWidths (map A.cell cells.now) (map vec_items rooms.old) }
     ensures counted { AreCounted (map A.cell cells.now) links.now waited.new }

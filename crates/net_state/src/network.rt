@@ -6,13 +6,15 @@ ghost use Rattle.port_files.specs.Coming.{EndIsTrue};
 ghost use Rattle.net_state.specs.Filling.{AreArrivals, Fills, IsFull, IsInputLink, inflow};
 ghost use Rattle.net_state.specs.Held.{AreCounted, CanWork, capacity_of, room_of, seen};
 ghost use Rattle.net_state.specs.Moving.{IsFromCell, IsOutput, SameActors, SameMarks, carried_on};
+ghost use Rattle.net_state.specs.Working.{MayBurst, WorksAt};
 ghost use Rattle.net_state.specs.Standing.{AreAllOut, IsTrueOfUnarrived, LeadInside, StandAtStart};
 
 use crate::carrying::{sent_along, token_along};
 use crate::delivering::{deliver_inside, lay_out};
 use crate::filling::{Filled, fill_link};
 use crate::tables::{first_capacities, room_table, zeros};
-use net_model::{Firing, Link};
+use crate::working::burst_at;
+use net_model::{BurstEnd, Firing, Link};
 use port_files::TokenFeed;
 use rvc_base::{InstId, LinkId, Memory, Num};
 use rvc_io::{Failed, Feeds};
@@ -78,6 +80,23 @@ impl<A: Firing> NetState<A> {
         ensures { result ≡ room_of inst.0 port self.now.links self.now.capacities self.now.waited }
     {
         self.rooms[inst.0 as usize][port as usize]
+    }
+
+    /// Lets one cell make at most `limit` firings of the actions that selection gives, each with room on every
+    /// output port. Its journal names them, and the other cells stay.
+    ///
+    /// Each state that stands goes on by these firings, as the rounds of a run have it, up to the moment at which
+    /// the leaf halts. After a trap the cell holds no actor's state.
+    pub fn burst(&mut self, inst: InstId, limit: u32) -> BurstEnd
+        requires may { MayBurst (map A.cell self.old.cells) inst.0 limit }
+        ensures works { WorksAt inst.0 limit result (seen A.cell self.old) (seen A.cell self.new) }
+        ensures same_actors { SameActors (map A.cell self.old.cells) (map A.cell self.new.cells) }
+        ensures links { self.new.links ≡ self.old.links }
+        ensures capacities { self.new.capacities ≡ self.old.capacities }
+        ensures waited { self.new.waited ≡ self.old.waited }
+    {
+        let i = inst.0 as usize;
+        burst_at(&mut self.cells, i, limit, &self.rooms[i])
     }
 
     /// How many tokens were sent on a link from a cell and haven't arrived.

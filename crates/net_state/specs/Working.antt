@@ -1,0 +1,77 @@
+-- What the work of one cell does to the network.
+use Rattle.std.specs.Prelude.{◌≡◌, ◌≢◌, ℕ, ◌+◌, ◌≤◌, Bool, true, false, List, [], ◌++◌, length, slice_get, slice_set, slice_index_or, Option, None, Some}
+use Rattle.rvc_base.specs.Lawful.{IsLawful}
+use Rattle.net_model.specs.declared.firing.BurstEnd.{BurstEnd}
+use Rattle.net_model.specs.declared.firing.BurstEnd.TheVariants as burst
+use Rattle.net_model.specs.declared.wiring.Link.{Link}
+use Rattle.net_model.specs.Network.{Network, is_input}
+use Rattle.net_model.specs.State.{State}
+use Rattle.net_model.specs.Cell.{AreRooms, Bursts, Cell, FitsQueues}
+use Rattle.net_model.specs.Ready.{OnCell, waiting_at}
+use Rattle.net_model.specs.Paced.{Halt, IsBurst, NoRoom, Spent, Trapping, Waiting}
+use Rattle.net_state.specs.Held.{Held}
+use Rattle.net_state.specs.Standing.{AreAllOut, StandsSince}
+
+-- cell i is there and hasn't trapped
+abbrev pub MayWork : {X : Type 0} → List (Cell X) → ℕ → Type 0
+MayWork cells i = OnCell (slice_get cells i) (λ cell. cell.trapped ≡ false)
+
+-- .. and its journal has room for so many firings more
+abbrev pub MayBurst : {X : Type 0} → List (Cell X) → ℕ → ℕ → Type 0
+MayBurst cells i limit = OnCell (slice_get cells i)
+    (λ cell. (cell.trapped ≡ false) × (length cell.journal + limit ≤ cell.journal_room))
+
+abbrev pub HasRoomRow : {X : Type 0} → List (Cell X) → ℕ → List ℕ → Type 0
+HasRoomRow cells i rooms = OnCell (slice_get cells i) (λ cell. AreRooms cell rooms)
+
+-- cell i made a burst, and the others stayed
+pub record BurstsAt {X : Type 0} (i limit : ℕ) (rooms : List ℕ) (old : List (Cell X)) (end : BurstEnd) (new : List (Cell X)) : Type 0 where
+  pub before : Cell X
+  pub after : Cell X
+  pub at : slice_get old i ≡ Some before
+  pub is : new ≡ slice_set old i after
+  pub lawful : IsLawful before.actor
+  pub fits : FitsQueues before
+  pub bursts : Bursts rooms limit before end after
+
+-- the actions that a cell fired since its journal was emptied
+abbrev pub journal_of : {X : Type 0} → Option (Cell X) → List ℕ
+journal_of None = []
+journal_of (Some cell) = cell.journal
+
+-- why a leaf fires no more, by how its cell's burst ended
+abbrev pub halt_of : BurstEnd → Halt
+halt_of burst.Spent = Spent
+halt_of burst.Waits = Waiting
+halt_of (burst.NoRoom action port) = NoRoom
+halt_of (burst.Trap action cause) = Trapping action.0 cause
+
+abbrev pub traps : BurstEnd → Bool
+traps burst.Spent = false
+traps burst.Waits = false
+traps (burst.NoRoom action port) = false
+traps (burst.Trap action cause) = true
+
+-- A state goes on by the firings of leaf i, to one that stands; `opened` is the state after the last delivery.
+pub record GoesOn {X : Type 0} (net : Network X) (opened : State X) (i limit : ℕ) (s : State X) (actions : List ℕ) (halt : Halt) (new : Held (Cell X)) : Type 0 where
+  pub last : State X
+  pub bursts : IsBurst net opened i limit s actions halt last
+  pub stands : StandsSince net new opened last
+
+-- nothing that was sent inside waits to leave, and before inner links wait as many tokens as after the last delivery
+pub record IsAtRest {X : Type 0} (held : Held (Cell X)) : Type 0 where
+  pub all_out : AreAllOut held.cells
+  pub counted : (l : ℕ) (link : Link) → slice_get held.links l ≡ Some link → is_input link ≡ false
+      → slice_index_or held.waited l 0 ≡ length (waiting_at held.cells link.to)
+
+-- Cell i fired `actions`, at most `limit` of them, and its journal names them; the other cells stayed.
+pub record WorksAt {X : Type 0} (i limit : ℕ) (end : BurstEnd) (old new : Held (Cell X)) : Type 0 where
+  pub actions : List ℕ
+  pub few : length actions ≤ limit
+  pub noted : journal_of (slice_get new.cells i) ≡ journal_of (slice_get old.cells i) ++ actions
+  pub states : (net : Network X) (opened s : State X) → StandsSince net old opened s
+      → GoesOn net opened i limit s actions (halt_of end) new
+  pub elsewhere : (k : ℕ) → k ≢ i → slice_get new.cells k ≡ slice_get old.cells k
+  pub marked : OnCell (slice_get new.cells i) (λ cell. cell.trapped ≡ traps end)
+  -- where nothing fired the network is at rest as before
+  pub rests : actions ≡ [] → IsAtRest old → IsAtRest new
