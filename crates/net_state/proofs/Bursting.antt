@@ -1,32 +1,33 @@
 -- A burst of one cell: the state that it leads to, and what stays true of what is held.
-use Rattle.std.proofs.Common.{◌≡◌, ◌≢◌, ℕ, zero, suc, ◌+◌, ◌-◌, ◌<◌, ◌≤◌, Bool, true, false, List, [], ◌∷◌, ◌++◌, ℤ, length, map, drop, refl, sym, ap, subst, ◌∙◌, ⊎_elim, inl, inr, arith, length-append, length-drop, append-nil, append_assoc}
-use Rattle.std.specs.Prelude.{Option, None, Some, slice_get, slice_set, slice_index_or}
+use Rattle.std.proofs.Common.{◌≡◌, ◌≢◌, ℕ, zero, suc, ◌+◌, ◌-◌, ◌<◌, ◌≤◌, true, false, List, [], ◌∷◌, ◌++◌, ℤ, length, map, drop, refl, sym, ap, subst, ◌∙◌, ⊎_elim, inl, inr, arith, length-append, length-drop, append-nil, append_assoc}
+use Rattle.std.specs.Prelude.{Some, slice_get, slice_set, slice_index_or}
 use Rattle.std.proofs.lemmas.Bool.{cases_eq}
 use Rattle.std.proofs.lemmas.List.{length-set}
-use Rattle.rvc_base.specs.declared.trap.Trap.{Trap as TrapName}
 use Rattle.rvc_base.specs.Storing.{conv}
-use Rattle.rvc_base.specs.Behaviour.{Fires, TrapsInBody}
 use Rattle.rvc_base.specs.Lawful.{IsLawful, tokens_on}
 use Rattle.net_model.specs.declared.firing.BurstEnd.{BurstEnd}
 use Rattle.net_model.specs.declared.firing.BurstEnd.TheVariants as burst
+use Rattle.net_model.specs.declared.firing.Look.{Look}
+use Rattle.net_model.specs.declared.firing.Look.TheVariants as look
+use Rattle.net_model.specs.declared.firing.Tried.{Tried}
+use Rattle.net_model.specs.declared.firing.Tried.TheVariants as tried
 use Rattle.net_model.specs.declared.wiring.End.{End}
 use Rattle.net_model.specs.declared.wiring.End.TheVariants.{Leaf as AtLeaf, Net as AtNet}
 use Rattle.net_model.specs.declared.wiring.Link.{Link}
 use Rattle.net_model.specs.Network.{Network, is_outside, is_leaf_port}
-use Rattle.net_model.specs.State.{State, choice_at}
-use Rattle.net_model.specs.Event.{Fire, happens}
-use Rattle.net_model.specs.Cell.{AreRooms, Bursts, Cell, EndsBurst, FireInTurn, FiresChoice, FiresTo, FitsQueues, HasNothingOut, HasRoom, IsLeftByTrap, IsSame, IsSameActor, SameInboxes, SameOutboxes, TrapsNow, held_after, number_on}
-use Rattle.net_model.specs.Cell.{choice_of as cell_choice}
+use Rattle.net_model.specs.State.{State, choice_at, effect_at}
+use Rattle.net_model.specs.Cell.{AreRooms, Cell, EndsBurst, FireInTurn, FiresTo, FitsQueues, HasNothingOut, HasRoom, IsEnabled, IsLeftByTrap, IsSame, IsSameActor, Looks, Tries, SameInboxes, SameOutboxes, held_after, number_on}
+use Rattle.net_model.specs.Cell.{choice_of as cell_choice, effect_of as cell_effect}
 use Rattle.net_model.specs.Ready.{OnCell, tokens_of, waiting_at}
 use Rattle.net_model.specs.Trace.{OnNext}
-use Rattle.net_model.specs.Paced.{Halt, HaltsAt, IsBurst, TrapsIn}
+use Rattle.net_model.specs.Paced.{Halt, HaltsAt, HasRoomIn, IsBurst}
 use Rattle.net_model.proofs.Arriving.{set_twice}
-use Rattle.net_state.specs.Moving.{IsWriter, SameActors, sent_from, sent_of}
-use Rattle.net_state.specs.Held.{FitsIn, HasRooms, IsLeft, IsReader, IsWorking, held_of, room_of}
-use Rattle.net_state.specs.Standing.{AreAllOut, AreHeld, IsHeld, IsNetOf, IsOpened, LiesIn, Stands, StandsIn, StandsSince}
-use Rattle.net_state.specs.Working.{BurstsAt, GoesOn, IsAtRest, WorksAt, halt_of, journal_of, traps}
+use Rattle.net_state.specs.Moving.{IsWriter, SameActors, SameMarks, sent_from, sent_of}
+use Rattle.net_state.specs.Held.{HasRooms, IsLeft, IsReader, IsWorking, held_of}
+use Rattle.net_state.specs.Standing.{IsNetOf, IsOpened, LiesIn, Stands, StandsSince}
+use Rattle.net_state.specs.Working.{BurstsAt, GoesOn, IsAtRest, LookedAt, LooksAt, LooksIn, TriedAt, TriesAt, TriesIn, WorksAt, halt_of, journal_of, traps, tried_traps}
 use Rattle.net_state.proofs.Gaining.{actor_then, some_is, there_too, get_set_same, get_set_other, same_actor}
-use Rattle.net_state.proofs.Coming.{by_bool, is_own_port, is_that_port, on_cell, on_some}
+use Rattle.net_state.proofs.Coming.{is_own_port, is_that_port, on_cell, on_some}
 use Rattle.net_state.proofs.Kept.{moved_rooms, same_few, same_inbox, same_outbox, same_read, same_reader, same_writer}
 use Rattle.net_state.proofs.Narrowing.{same_shape}
 use Rattle.net_state.proofs.Firings.{actors_set, choice_is, effect_is, fired_net, fired_opened, fired_stands, fires_here, later}
@@ -189,11 +190,10 @@ module _ {X : Type 0} (cells : List (Cell X)) (i : ℕ) (cell new : Cell X) (at 
 
 module _ {X : Type 0} (cells : List (Cell X)) (links : List Link) (capacities waited : List ℕ) (working : IsWorking cells links capacities waited) (i a : ℕ)
     (cell new : Cell X) (at : slice_get cells i ≡ Some cell) (lawful : IsLawful cell.actor) (row : List ℕ) (is_row : IsRow links capacities waited i cell.actor.outs row)
-    (fires : FiresChoice row cell a new) where
+    (fired : FiresTo cell a new) (has_room : HasRoom cell row a) where
   -- all that is held stays so
   pub fired_working : IsWorking (slice_set cells i new) links capacities waited
   fired_working =
-      let fired = fires.fired in
       set_working cells i cell new at links capacities waited working fired.actor
       (λ p low.
       let few : length (tokens_on new.inboxes p) ≡ length (tokens_on cell.inboxes p) - cell.actor.need a p =
@@ -204,7 +204,7 @@ module _ {X : Type 0} (cells : List (Cell X)) (links : List Link) (capacities wa
       let sent : length (tokens_on new.outboxes p) ≡ length (tokens_on cell.outboxes p) + length (tokens_on fired.sent p) =
       ap (λ ts. length ts) (fired.read p low ((working.read i cell at p low).1 left)) ∙ length-append (tokens_on cell.outboxes p) (tokens_on fired.sent p) in
       let gives : length (tokens_on fired.sent p) ≡ cell.actor.give a p = lawful.gives cell.state fired.next cell.inboxes fired.sent a fired.effect p low in
-      let room : held_after cell a p ≤ number_on row p = fires.room p low in
+      let room : held_after cell a p ≤ number_on row p = has_room p low in
       let least = room_least i p links capacities waited l link working.each_holds working.each_waited there leaves in
       let from : link.from ≡ AtLeaf (record { 0 = i }) p = is_that_port i p link.from leaves in
       let before = (working.fits l link there).since (ap is_outside from) in
@@ -231,9 +231,9 @@ unread_fired cell new a fires unread p low none =
     let none_before : number_on cell.outbox_capacities p ≡ 0 = sym (fires.actor.same_outbox_capacities p low_before) ∙ none in
     fires.unread p low_before none_before ∙ unread p low_before none_before
 
-row_stays : (links : List Link) (capacities waited : List ℕ) (i outs later : ℕ) (row : List ℕ) → later ≡ outs → IsRow links capacities waited i outs row
-    → IsRow links capacities waited i later row
-row_stays links capacities waited i outs later row same is_row = subst (λ n. IsRow links capacities waited i n row) (sym same) is_row
+row_stays : (links : List Link) (capacities waited : List ℕ) (i outs now : ℕ) (row : List ℕ) → now ≡ outs → IsRow links capacities waited i outs row
+    → IsRow links capacities waited i now row
+row_stays links capacities waited i outs now row same is_row = subst (λ n. IsRow links capacities waited i n row) (sym same) is_row
 
 -- what stays of a cell through its firings
 pub record Ran {X : Type 0} (cells : List (Cell X)) (links : List Link) (capacities waited : List ℕ) (i : ℕ) (old last : Cell X) (actions : List ℕ) : Type 0 where
@@ -256,7 +256,7 @@ ran cells links capacities waited working i old last [] row at lawful unread is_
 ran cells links capacities waited working i old last (a ∷ actions) row at lawful unread is_row fired =
     let next = fired.0 in
     let actor = fired.1.fired.actor in
-    let rest = ran (slice_set cells i next) links capacities waited (fired_working cells links capacities waited working i a old next at lawful row is_row fired.1) i next last actions row
+    let rest = ran (slice_set cells i next) links capacities waited (fired_working cells links capacities waited working i a old next at lawful row is_row fired.1.fired fired.1.room) i next last actions row
     (get_set_same cells i old next at) (subst IsLawful (sym actor.same_actor) lawful) (unread_fired old next a fired.1.fired unread)
     (row_stays links capacities waited i old.actor.outs next.actor.outs row (ap (λ b. b.outs) actor.same_actor) is_row) fired.2 in
     record {
@@ -296,7 +296,7 @@ reached net cells links capacities waited opened s is stands since working i lim
     (fired_net net cells links capacities waited s is stands working i a old next at free lawful one.fired)
     (fired_stands net cells links capacities waited s is stands working i a old next at free lawful one.fired)
     (fired_opened net cells links capacities waited s is stands working i a old next at free lawful one.fired opened.flows since)
-    (fired_working cells links capacities waited working i a old next at lawful row is_row one) i (limit - 1) next last actions row
+    (fired_working cells links capacities waited working i a old next at lawful row is_row one.fired one.room) i (limit - 1) next last actions row
     (get_set_same cells i old next at) (one.fired.trapped ∙ free) (subst IsLawful (sym actor.same_actor) lawful)
     (row_stays links capacities waited i old.actor.outs next.actor.outs row (ap (λ b. b.outs) actor.same_actor) is_row) fired.2 (omega (arith, few)) in
     record {
@@ -434,15 +434,18 @@ module _ {X : Type 0} (cells : List (Cell X)) (links : List Link) (capacities wa
           let passes = passes_room (slice_set cells i b.bursts.last) links capacities waited ran_here.working i b.bursts.last at_last row row_last net reached_here.state opened
           reached_here.is_of reached_here.stands reached_here.since action.0 port ran_here.unread ends.2 in
           (omega (arith, ends.0), (action.0, passes.0, chosen_last ∙ ends.1, passes.1))
-      halts_here (burst.Trap action cause) ends = (omega (arith, ends.0), ⊎_elim
-          (λ faults. inl (chosen_last ∙ faults))
-          (λ body. inr (
-            chosen_last ∙ body.0,
-            has_room_in (slice_set cells i b.bursts.last) links capacities waited ran_here.working i b.bursts.last at_last row row_last net reached_here.state opened
-                reached_here.is_of reached_here.stands reached_here.since action.0 body.1,
-            effect_is net (slice_set cells i b.bursts.last) links capacities reached_here.state reached_here.is_of reached_here.stands i b.bursts.last at_last free_last lawful_last action.0 ∙ body.2,
-          ))
-          ends.1)
+      halts_here (burst.Trap action cause) ends = (
+        omega (arith, ends.0),
+        ⊎_elim
+            (λ faults. inl (chosen_last ∙ faults))
+            (λ body. inr (
+              chosen_last ∙ body.0,
+              has_room_in (slice_set cells i b.bursts.last) links capacities waited ran_here.working i b.bursts.last at_last row row_last net reached_here.state opened
+                  reached_here.is_of reached_here.stands reached_here.since action.0 body.1,
+              effect_is net (slice_set cells i b.bursts.last) links capacities reached_here.state reached_here.is_of reached_here.stands i b.bursts.last at_last free_last lawful_last action.0 ∙ body.2,
+            ))
+            ends.1,
+      )
 
       pub burst_goes : GoesOn net opened i limit s b.bursts.actions (halt_of end) (held_of new links capacities waited)
       burst_goes = record {
@@ -475,4 +478,151 @@ module _ {X : Type 0} (cells : List (Cell X)) (links : List Link) (capacities wa
           let still : b.before ≡ b.bursts.last = subst (λ names. FireInTurn row b.before names b.bursts.last) none b.bursts.fired in
           subst (λ cs. IsAtRest (held_of cs links capacities waited)) (sym b.is)
           (calm_rests cells links capacities waited working i b.before b.after b.at (subst (λ c. Calm c b.after) (sym still) calm_here) rest);
+    }
+
+  -- One look, and one action that is tried.
+
+  -- a cell whose tokens stay, among the others
+  module _ (cell new : Cell X) (at : slice_get cells i ≡ Some cell) (calm : Calm cell new) where
+    pub calm_since : (net : Network X) (opened s : State X) → StandsSince net (held_of cells links capacities waited) opened s
+        → StandsSince net (held_of (slice_set cells i new) links capacities waited) opened s
+    calm_since net opened s that = record {
+      now = record {
+        is_of = record { actors = that.now.is_of.actors ∙ sym (actors_set cells i cell new at calm.actor.same_actor); links_are = that.now.is_of.links_are };
+        stands = calm_stands cells i cell new at net links capacities s calm.actor calm.inboxes calm.outboxes calm.states
+            (λ l link there. (working.fits l link (sym (ap (λ ls. slice_get ls l) that.now.is_of.links_are) ∙ there)).writer) that.now.stands;
+      };
+      since = that.since;
+    }
+
+  module _ (result : Look) (new : List (Cell X)) (b : LookedAt i row cells result new) (free : b.before.trapped ≡ false) where
+    look_calm : Calm b.before b.after
+    look_calm = calm_same b.before b.after b.same
+
+    pub look_same : SameActors cells new
+    look_same = subst (SameActors cells) (sym b.is) (same_set cells i b.before b.after b.at b.same.actor)
+
+    pub look_working : IsWorking new links capacities waited
+    look_working = subst (λ cs. IsWorking cs links capacities waited) (sym b.is)
+        (calm_working cells i b.before b.after b.at links capacities waited working b.same.actor b.same.inboxes b.same.outboxes)
+
+    pub look_rooms : HasRooms new links capacities waited table
+    look_rooms = moved_rooms cells new links capacities waited waited table table look_same rooms (same_shape table) rooms.rooms
+
+    pub look_marks : SameMarks cells new
+    look_marks = subst (SameMarks cells) (sym b.is)
+        (λ k before after was is. set_cases cells i b.before b.after b.at k before after was is
+        (λ here before_is after_is. ap (λ c. c.trapped) after_is ∙ (b.same.trapped ∙ sym (ap (λ c. c.trapped) before_is)))
+        (λ differ after_is. ap (λ c. c.trapped) after_is))
+
+    module _ (net : Network X) (opened s : State X) (that : StandsSince net (held_of cells links capacities waited) opened s) where
+      chosen_now : choice_at net s i ≡ cell_choice b.before
+      chosen_now = choice_is net cells links capacities s that.now.is_of that.now.stands i b.before b.at free b.lawful
+
+      looks_by : (o : Look) → Looks row b.before o → LooksIn net opened s i o
+      looks_by look.Waits looks = chosen_now ∙ looks
+      looks_by (look.Ready action) looks =
+          (chosen_now ∙ looks.0, has_room_in cells links capacities waited working i b.before b.at row (row_is b.before b.at) net s opened that.now.is_of that.now.stands that.since action.0 looks.1)
+      looks_by (look.NoRoom action port) looks = (
+        chosen_now ∙ looks.0,
+        passes_room cells links capacities waited working i b.before b.at row (row_is b.before b.at) net s opened that.now.is_of that.now.stands that.since action.0 port
+            (unread_of b.before b.fits) looks.1,
+      )
+      looks_by (look.GuardTrap action cause) looks = chosen_now ∙ looks
+
+    pub looks_at : LooksAt i result (held_of cells links capacities waited) (held_of new links capacities waited)
+    looks_at = record {
+      states = λ net opened s that. (
+        looks_by net opened s that result b.looks,
+        subst (λ cs. StandsSince net (held_of cs links capacities waited) opened s) (sym b.is) (calm_since b.before b.after b.at look_calm net opened s that),
+      );
+      journal = ap (λ cs. journal_of (slice_get cs i)) b.is ∙ (ap (λ o. journal_of o) (get_set_same cells i b.before b.after b.at) ∙ (b.same.journal ∙ sym (ap (λ o. journal_of o) b.at)));
+      elsewhere = λ k differ. ap (λ cs. slice_get cs k) b.is ∙ get_set_other cells k i b.after differ;
+      rests = λ rest. subst (λ cs. IsAtRest (held_of cs links capacities waited)) (sym b.is) (calm_rests cells links capacities waited working i b.before b.after b.at look_calm rest);
+    }
+
+  module _ (a : ℕ) (result : Tried) (new : List (Cell X)) (b : TriedAt i row a cells result new) (free : b.before.trapped ≡ false) where
+    tried_actor : (t : Tried) → Tries row a b.before t b.after → IsSameActor b.before b.after
+    tried_actor tried.Fired tries = tries.1.actor
+    tried_actor (tried.Trap cause) tries = tries.1.actor
+    tried_actor tried.NotExposed tries = tries.1.actor
+    tried_actor (tried.NoRoom port) tries = tries.2.actor
+
+    tried_working_by : (t : Tried) → Tries row a b.before t b.after → IsWorking (slice_set cells i b.after) links capacities waited
+    tried_working_by tried.Fired tries =
+        fired_working cells links capacities waited working i a b.before b.after b.at b.lawful row (row_is b.before b.at) tries.1 tries.0
+    tried_working_by (tried.Trap cause) tries =
+        calm_working cells i b.before b.after b.at links capacities waited working tries.1.actor tries.1.inboxes tries.1.outboxes
+    tried_working_by tried.NotExposed tries =
+        calm_working cells i b.before b.after b.at links capacities waited working tries.1.actor tries.1.inboxes tries.1.outboxes
+    tried_working_by (tried.NoRoom port) tries =
+        calm_working cells i b.before b.after b.at links capacities waited working tries.2.actor tries.2.inboxes tries.2.outboxes
+
+    tried_journal : (t : Tried) → Tries row a b.before t b.after → b.after.journal ≡ b.before.journal
+    tried_journal tried.Fired tries = tries.2
+    tried_journal (tried.Trap cause) tries = tries.1.journal
+    tried_journal tried.NotExposed tries = tries.1.journal
+    tried_journal (tried.NoRoom port) tries = tries.2.journal
+
+    tried_marked : (t : Tried) → Tries row a b.before t b.after → b.after.trapped ≡ tried_traps t
+    tried_marked tried.Fired tries = tries.1.trapped ∙ free
+    tried_marked (tried.Trap cause) tries = tries.1.trapped
+    tried_marked tried.NotExposed tries = tries.1.trapped ∙ free
+    tried_marked (tried.NoRoom port) tries = tries.2.trapped ∙ free
+
+    pub tried_same : SameActors cells new
+    tried_same = subst (SameActors cells) (sym b.is) (same_set cells i b.before b.after b.at (tried_actor result b.tries))
+
+    pub tried_working : IsWorking new links capacities waited
+    tried_working = subst (λ cs. IsWorking cs links capacities waited) (sym b.is) (tried_working_by result b.tries)
+
+    pub tried_rooms : HasRooms new links capacities waited table
+    tried_rooms = moved_rooms cells new links capacities waited waited table table tried_same rooms (same_shape table) rooms.rooms
+
+    module _ (net : Network X) (opened s : State X) (that : StandsSince net (held_of cells links capacities waited) opened s) where
+      effect_now : effect_at net s i a ≡ cell_effect b.before a
+      effect_now = effect_is net cells links capacities s that.now.is_of that.now.stands i b.before b.at free b.lawful a
+
+      room_now : HasRoom b.before row a → HasRoomIn net opened s i a
+      room_now room = has_room_in cells links capacities waited working i b.before b.at row (row_is b.before b.at) net s opened that.now.is_of that.now.stands that.since a room
+
+      stays_by : Calm b.before b.after → StandsSince net (held_of (slice_set cells i b.after) links capacities waited) opened s
+      stays_by calm = calm_since b.before b.after b.at calm net opened s that
+
+      tries_by : (t : Tried) → Tries row a b.before t b.after → TriesIn net opened s i a t (held_of (slice_set cells i b.after) links capacities waited)
+      tries_by tried.Fired tries = (
+        room_now tries.0,
+        subst (λ o. OnNext o (λ next. StandsSince net (held_of (slice_set cells i b.after) links capacities waited) opened next))
+            (sym (fires_here net cells links capacities waited s that.now.is_of that.now.stands working i a b.before b.after b.at free b.lawful tries.1))
+            (record {
+              now = record {
+                is_of = fired_net net cells links capacities waited s that.now.is_of that.now.stands working i a b.before b.after b.at free b.lawful tries.1;
+                stands = fired_stands net cells links capacities waited s that.now.is_of that.now.stands working i a b.before b.after b.at free b.lawful tries.1;
+              };
+              since = fired_opened net cells links capacities waited s that.now.is_of that.now.stands working i a b.before b.after b.at free b.lawful tries.1 opened.flows that.since;
+            }),
+      )
+      tries_by (tried.Trap cause) tries = (
+        ⊎_elim
+            (λ guard. inl (effect_now ∙ guard))
+            (λ body. inr (room_now body.0, effect_now ∙ body.1))
+            tries.0,
+        stays_by (calm_trap b.before b.after tries.1),
+      )
+      tries_by tried.NotExposed tries = (effect_now ∙ tries.0, stays_by (calm_same b.before b.after tries.1))
+      tries_by (tried.NoRoom port) tries = (
+        subst IsEnabled (sym effect_now) tries.0,
+        passes_room cells links capacities waited working i b.before b.at row (row_is b.before b.at) net s opened that.now.is_of that.now.stands that.since a port
+            (unread_of b.before b.fits) tries.1,
+        stays_by (calm_same b.before b.after tries.2),
+      )
+
+    pub tries_at : TriesAt i a result (held_of cells links capacities waited) (held_of new links capacities waited)
+    tries_at = record {
+      states = λ net opened s that. subst (λ cs. TriesIn net opened s i a result (held_of cs links capacities waited)) (sym b.is) (tries_by net opened s that result b.tries);
+      journal = ap (λ cs. journal_of (slice_get cs i)) b.is
+          ∙ (ap (λ o. journal_of o) (get_set_same cells i b.before b.after b.at) ∙ (tried_journal result b.tries ∙ sym (ap (λ o. journal_of o) b.at)));
+      elsewhere = λ k differ. ap (λ cs. slice_get cs k) b.is ∙ get_set_other cells k i b.after differ;
+      marked = subst (λ cs. OnCell (slice_get cs i) (λ cell. cell.trapped ≡ tried_traps result)) (sym b.is)
+          (on_some (slice_get (slice_set cells i b.after) i) (λ cell. cell.trapped ≡ tried_traps result) b.after (get_set_same cells i b.before b.after b.at) (tried_marked result b.tries));
     }

@@ -1,31 +1,29 @@
 -- A firing of one cell: the state that it leads to.
-use Rattle.std.proofs.Common.{◌≡◌, ◌≢◌, ℕ, zero, suc, ◌+◌, ◌-◌, ◌<◌, ◌≤◌, min, Bool, true, false, List, [], ◌∷◌, ◌++◌, ℤ, length, map, take, drop, refl, sym, ap, subst, ◌∙◌, ⊎_elim, inl, inr, arith, append-nil, length-append, length-drop}
-use Rattle.std.specs.Prelude.{Option, None, Some, slice_get, slice_set, slice_index_or, if◌then◌else◌, ◌==◌, ◌↔◌, ◌⊎◌}
+use Rattle.std.proofs.Common.{◌≡◌, ◌≢◌, ℕ, zero, suc, ◌+◌, ◌-◌, ◌<◌, ◌≤◌, true, false, List, [], ◌∷◌, ◌++◌, ℤ, length, map, take, drop, refl, sym, ap, subst, ◌∙◌, ⊎_elim, arith, append-nil, length-append}
+use Rattle.std.specs.Prelude.{None, Some, slice_get, slice_set, slice_index_or, ◌==◌}
 use Rattle.std.specs.Option.{option_map}
 use Rattle.std.proofs.lemmas.Bool.{cases_eq, cases_lt, eq-eqb}
 use Rattle.std.proofs.lemmas.List.{length-map, length-set, take-append-le, drop-append-le, drop-drop, map-append}
 use Rattle.std.proofs.lemmas.List.FromFn.{get_or-map-range_with_len}
 use Rattle.std.proofs.lemmas.Option.{slice_get-map}
 use Rattle.rvc_base.specs.Storing.{conv}
-use Rattle.rvc_base.specs.Behaviour.{Behaviour, Effect, Fires}
+use Rattle.rvc_base.specs.Behaviour.{Behaviour, Fires}
 use Rattle.rvc_base.specs.Lawful.{AgreeOn, IsLawful, tokens_on}
 use Rattle.net_model.specs.declared.wiring.End.{End}
 use Rattle.net_model.specs.declared.wiring.End.TheVariants.{Leaf as AtLeaf, Net as AtNet}
 use Rattle.net_model.specs.declared.wiring.Link.{Link}
-use Rattle.net_model.specs.Network.{Leaf, Network, is_input, is_output, is_outside, is_leaf_port}
-use Rattle.net_model.specs.State.{Flow, State, untaken, waiting, inbox, inboxes, effect_of, effect_at, choice_of, choice_at, need_of, give_of}
+use Rattle.net_model.specs.Network.{Leaf, Network, is_outside, is_leaf_port}
+use Rattle.net_model.specs.State.{Flow, State, waiting, inbox, inboxes, effect_of, effect_at, choice_of, choice_at, need_of, give_of}
 use Rattle.net_model.specs.Event.{Fire, each_flow, sent_on, taken_from, after_firing, happens}
-use Rattle.net_model.specs.Cell.{Cell, FiresTo, HasRoom, IsSameActor, SameInboxes, SameOutboxes, held_after, number_on, unread_room}
+use Rattle.net_model.specs.Cell.{Cell, FiresTo}
 use Rattle.net_model.specs.Cell.{effect_of as cell_effect, choice_of as cell_choice}
-use Rattle.net_model.specs.Ready.{OnCell, tokens_of, waiting_at}
 use Rattle.net_model.proofs.Commuting.{fired, fires_so}
-use Rattle.net_state.specs.Moving.{AreApart, IsInput, IsOutput, IsWriter, SameActors, sent_from, sent_of}
-use Rattle.net_state.specs.Held.{FitsIn, IsLeft, IsReader, IsWorking, room_of}
-use Rattle.net_state.specs.Standing.{AreHeld, IsHeld, IsNetOf, IsOpened, LiesIn, Stands}
-use Rattle.net_state.proofs.Gaining.{some_is, there_too, get_set_same, get_set_other, not_eq, same_actor}
-use Rattle.net_state.proofs.Coming.{by_bool, if_true, if_false, is_own_port, is_that_port, on_cell, on_some}
+use Rattle.net_state.specs.Moving.{AreApart, IsWriter, sent_of}
+use Rattle.net_state.specs.Held.{IsLeft, IsReader, IsWorking}
+use Rattle.net_state.specs.Standing.{IsHeld, IsNetOf, IsOpened, LiesIn, Stands}
+use Rattle.net_state.proofs.Gaining.{some_is, there_too, get_set_same, get_set_other, not_eq}
+use Rattle.net_state.proofs.Coming.{if_true, if_false, is_own_port, is_that_port, on_cell}
 use Rattle.net_state.proofs.Flows.{changed_at, changed_count, inbox_at, inbox_changed, length_waiting}
-use Rattle.net_state.proofs.Kept.{same_few, same_inbox, same_outbox, same_read, same_reader, same_writer}
 
 -- What selection sees.
 

@@ -1,6 +1,6 @@
 -- Rooms of ports, and what they say of links.
-use Rattle.std.proofs.Common.{◌≡◌, ℕ, zero, suc, ◌+◌, ◌-◌, ◌<◌, ◌≤◌, min, Bool, true, false, List, [], ◌∷◌, ◌++◌, ℤ, length, map, drop, refl, sym, ap, subst, ◌∙◌, ⊎_elim, inl, inr, arith, length-drop}
-use Rattle.std.specs.Prelude.{Option, None, Some, slice_get, slice_index_or, if◌then◌else◌, ◌⊎◌}
+use Rattle.std.proofs.Common.{◌≡◌, ℕ, zero, suc, ◌+◌, ◌-◌, ◌<◌, ◌≤◌, min, true, false, List, [], ◌∷◌, length, map, drop, refl, sym, ap, subst, ◌∙◌, ⊎_elim, inl, inr, arith, length-drop}
+use Rattle.std.specs.Prelude.{Option, None, Some, slice_get, slice_index_or, ◌⊎◌}
 use Rattle.std.proofs.lemmas.Bool.{cases_lt}
 use Rattle.std.proofs.lemmas.List.{length-map}
 use Rattle.rvc_base.specs.Storing.{conv}
@@ -8,19 +8,19 @@ use Rattle.rvc_base.specs.Lawful.{tokens_on}
 use Rattle.net_model.specs.declared.wiring.End.{End}
 use Rattle.net_model.specs.declared.wiring.End.TheVariants.{Leaf as AtLeaf, Net as AtNet}
 use Rattle.net_model.specs.declared.wiring.Link.{Link}
-use Rattle.net_model.specs.Network.{Network, is_input, is_outside, is_leaf_port}
-use Rattle.net_model.specs.State.{Flow, State, untaken, give_of}
+use Rattle.net_model.specs.Network.{Network, is_outside, is_leaf_port}
+use Rattle.net_model.specs.State.{Flow, State, give_of}
 use Rattle.net_model.specs.Cell.{AreRooms, Cell, HasRoom, LacksRoomOn, held_after, number_on, unread_room}
 use Rattle.net_model.specs.Limits.{max_rate}
 use Rattle.net_model.specs.Ready.{OnCell, OutboxHolds}
 use Rattle.net_model.specs.Trace.{held_since}
 use Rattle.net_model.specs.Paced.{HasRoomIn, PassesLink, PassesOn, PassesRoom}
-use Rattle.net_state.specs.Moving.{IsWriter, sent_from, sent_of}
-use Rattle.net_state.specs.Held.{HoldFew, IsLeft, IsWorking, room_of}
-use Rattle.net_state.specs.Standing.{IsHeld, IsNetOf, IsOpened, LiesIn, Stands}
+use Rattle.net_state.specs.Moving.{IsWriter, sent_of}
+use Rattle.net_state.specs.Held.{HoldFew, IsWorking, room_of}
+use Rattle.net_state.specs.Standing.{IsNetOf, IsOpened, LiesIn, Stands}
 use Rattle.net_state.proofs.Gaining.{some_is, there_too}
 use Rattle.net_state.proofs.Coming.{by_bool, if_true, if_false, is_own_port, is_that_port, on_cell}
-use Rattle.net_state.proofs.Firings.{LeafOf, leaf_of, give_is}
+use Rattle.net_state.proofs.Firings.{leaf_of, give_is}
 
 -- no link leaves port p of cell i
 abbrev pub NoneLeaves : List Link → ℕ → ℕ → Type 0
@@ -220,12 +220,15 @@ module _ {X : Type 0} (cells : List (Cell X)) (links : List Link) (capacities wa
         let flow = there_too net.links s.flows some.l some.link (sym stands.flows.count) at_net in
         let held = held_now some.l p some.link before.0 flow.0 at_net before.1 flow.1 some.leaves in
         let gives_is : give_of (slice_get net.leaves i) a p ≡ cell.actor.give a p = give_is net i a p cell.actor (leaf_of net cells links is i cell at) in
-        let passes : PassesRoom (give_of (slice_get net.leaves i) a) i before.0 flow.0 (AtLeaf (record { 0 = i }) p) =
-        (refl, (let more : flow.0.capacity < held_since before.0 flow.0 + give_of (slice_get net.leaves i) a p =
-        omega (arith, held.0, held.1, gives_is, some.least, is_row p lacks.there, lacks.lacks) in more)) in
-        (some.l,
-        subst (λ o. PassesOn (give_of (slice_get net.leaves i) a) i o (slice_get opened.flows some.l) (slice_get s.flows some.l)) (sym at_net)
-        (subst (λ o. PassesOn (give_of (slice_get net.leaves i) a) i (Some some.link) o (slice_get s.flows some.l)) (sym before.1)
-        (subst (λ o. PassesOn (give_of (slice_get net.leaves i) a) i (Some some.link) (Some before.0) o) (sym flow.1)
-        (subst (PassesRoom (give_of (slice_get net.leaves i) a) i before.0 flow.0) (sym (is_that_port i p some.link.from some.leaves)) passes)))))
+        let passes : PassesRoom (give_of (slice_get net.leaves i) a) i before.0 flow.0 (AtLeaf (record { 0 = i }) p) = (
+          refl,
+          (let more : flow.0.capacity < held_since before.0 flow.0 + give_of (slice_get net.leaves i) a p =
+              omega (arith, held.0, held.1, gives_is, some.least, is_row p lacks.there, lacks.lacks) in more),
+        ) in (
+          some.l,
+          subst (λ o. PassesOn (give_of (slice_get net.leaves i) a) i o (slice_get opened.flows some.l) (slice_get s.flows some.l)) (sym at_net)
+              (subst (λ o. PassesOn (give_of (slice_get net.leaves i) a) i (Some some.link) o (slice_get s.flows some.l)) (sym before.1)
+              (subst (λ o. PassesOn (give_of (slice_get net.leaves i) a) i (Some some.link) (Some before.0) o) (sym flow.1)
+              (subst (PassesRoom (give_of (slice_get net.leaves i) a) i before.0 flow.0) (sym (is_that_port i p some.link.from some.leaves)) passes))),
+        ))
         (room_reached i p links capacities waited working.each_holds working.each_waited working.few_held)

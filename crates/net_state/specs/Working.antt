@@ -1,14 +1,21 @@
 -- What the work of one cell does to the network.
-use Rattle.std.specs.Prelude.{◌≡◌, ◌≢◌, ℕ, ◌+◌, ◌≤◌, Bool, true, false, List, [], ◌++◌, length, slice_get, slice_set, slice_index_or, Option, None, Some}
+use Rattle.std.specs.Prelude.{◌≡◌, ◌≢◌, ℕ, ◌+◌, ◌≤◌, ◌⊎◌, Bool, true, false, List, [], ◌++◌, length, slice_get, slice_set, slice_index_or, Option, None, Some}
+use Rattle.rvc_base.specs.Behaviour.{Faults, Picks, TrapsInBody, TrapsInGuard, Waits}
 use Rattle.rvc_base.specs.Lawful.{IsLawful}
 use Rattle.net_model.specs.declared.firing.BurstEnd.{BurstEnd}
 use Rattle.net_model.specs.declared.firing.BurstEnd.TheVariants as burst
+use Rattle.net_model.specs.declared.firing.Look.{Look}
+use Rattle.net_model.specs.declared.firing.Look.TheVariants as look
+use Rattle.net_model.specs.declared.firing.Tried.{Tried}
+use Rattle.net_model.specs.declared.firing.Tried.TheVariants as tried
 use Rattle.net_model.specs.declared.wiring.Link.{Link}
 use Rattle.net_model.specs.Network.{Network, is_input}
-use Rattle.net_model.specs.State.{State}
-use Rattle.net_model.specs.Cell.{AreRooms, Bursts, Cell, FitsQueues}
+use Rattle.net_model.specs.State.{State, choice_at, effect_at}
+use Rattle.net_model.specs.Event.{Fire, happens}
+use Rattle.net_model.specs.Trace.{OnNext}
+use Rattle.net_model.specs.Cell.{AreRooms, Bursts, Cell, FitsQueues, IsEnabled, IsSame, Looks, Tries}
 use Rattle.net_model.specs.Ready.{OnCell, waiting_at}
-use Rattle.net_model.specs.Paced.{Halt, IsBurst, NoRoom, Spent, Trapping, Waiting}
+use Rattle.net_model.specs.Paced.{Halt, HasRoomIn, IsBurst, PassesLink, NoRoom, Spent, Trapping, Waiting}
 use Rattle.net_state.specs.Held.{Held}
 use Rattle.net_state.specs.Standing.{AreAllOut, StandsSince}
 
@@ -75,3 +82,64 @@ pub record WorksAt {X : Type 0} (i limit : ℕ) (end : BurstEnd) (old new : Held
   pub marked : OnCell (slice_get new.cells i) (λ cell. cell.trapped ≡ traps end)
   -- where nothing fired the network is at rest as before
   pub rests : actions ≡ [] → IsAtRest old → IsAtRest new
+
+-- Looking, and actions that are tried.
+
+-- cell i was looked at, and nothing that is seen of the cells changed
+pub record LookedAt {X : Type 0} (i : ℕ) (rooms : List ℕ) (old : List (Cell X)) (look : Look) (new : List (Cell X)) : Type 0 where
+  pub before : Cell X
+  pub after : Cell X
+  pub at : slice_get old i ≡ Some before
+  pub is : new ≡ slice_set old i after
+  pub lawful : IsLawful before.actor
+  pub fits : FitsQueues before
+  pub looks : Looks rooms before look
+  pub same : IsSame before after
+
+-- an action of cell i was tried, and the other cells stayed
+pub record TriedAt {X : Type 0} (i : ℕ) (rooms : List ℕ) (a : ℕ) (old : List (Cell X)) (tried : Tried) (new : List (Cell X)) : Type 0 where
+  pub before : Cell X
+  pub after : Cell X
+  pub at : slice_get old i ≡ Some before
+  pub is : new ≡ slice_set old i after
+  pub lawful : IsLawful before.actor
+  pub fits : FitsQueues before
+  pub tries : Tries rooms a before tried after
+
+-- what leaf i would do next in a state
+abbrev pub LooksIn : {X : Type 0} → Network X → State X → State X → ℕ → Look → Type 0
+LooksIn net opened s i look.Waits = choice_at net s i ≡ Waits
+LooksIn net opened s i (look.Ready action) = (choice_at net s i ≡ Picks action.0) × HasRoomIn net opened s i action.0
+LooksIn net opened s i (look.NoRoom action port) =
+    (choice_at net s i ≡ Picks action.0) × ((l : ℕ) × PassesLink net opened s i action.0 l)
+LooksIn net opened s i (look.GuardTrap action cause) = choice_at net s i ≡ Faults action.0 cause
+
+pub record LooksAt {X : Type 0} (i : ℕ) (look : Look) (old new : Held (Cell X)) : Type 0 where
+  pub states : (net : Network X) (opened s : State X) → StandsSince net old opened s
+      → LooksIn net opened s i look × StandsSince net new opened s
+  pub journal : journal_of (slice_get new.cells i) ≡ journal_of (slice_get old.cells i)
+  pub elsewhere : (k : ℕ) → k ≢ i → slice_get new.cells k ≡ slice_get old.cells k
+  pub rests : IsAtRest old → IsAtRest new
+
+-- What came of action a of leaf i: a firing leads to the next state; else the state stays, also by a trap.
+abbrev pub TriesIn : {X : Type 0} → Network X → State X → State X → ℕ → ℕ → Tried → Held (Cell X) → Type 0
+TriesIn net opened s i a tried.Fired new =
+    HasRoomIn net opened s i a × OnNext (happens net s (Fire i a)) (λ next. StandsSince net new opened next)
+TriesIn net opened s i a (tried.Trap cause) new =
+    ((effect_at net s i a ≡ Some (TrapsInGuard cause)) ⊎ (HasRoomIn net opened s i a × (effect_at net s i a ≡ Some (TrapsInBody cause))))
+    × StandsSince net new opened s
+TriesIn net opened s i a tried.NotExposed new = (effect_at net s i a ≡ None) × StandsSince net new opened s
+TriesIn net opened s i a (tried.NoRoom port) new =
+    IsEnabled (effect_at net s i a) × ((l : ℕ) × PassesLink net opened s i a l) × StandsSince net new opened s
+
+abbrev pub tried_traps : Tried → Bool
+tried_traps tried.Fired = false
+tried_traps (tried.Trap cause) = true
+tried_traps tried.NotExposed = false
+tried_traps (tried.NoRoom port) = false
+
+pub record TriesAt {X : Type 0} (i a : ℕ) (tried : Tried) (old new : Held (Cell X)) : Type 0 where
+  pub states : (net : Network X) (opened s : State X) → StandsSince net old opened s → TriesIn net opened s i a tried new
+  pub journal : journal_of (slice_get new.cells i) ≡ journal_of (slice_get old.cells i)
+  pub elsewhere : (k : ℕ) → k ≢ i → slice_get new.cells k ≡ slice_get old.cells k
+  pub marked : OnCell (slice_get new.cells i) (λ cell. cell.trapped ≡ tried_traps tried)

@@ -6,17 +6,17 @@ ghost use Rattle.port_files.specs.Coming.{EndIsTrue};
 ghost use Rattle.net_state.specs.Filling.{AreArrivals, Fills, IsFull, IsInputLink, inflow};
 ghost use Rattle.net_state.specs.Held.{AreCounted, CanWork, capacity_of, room_of, seen};
 ghost use Rattle.net_state.specs.Moving.{IsFromCell, IsOutput, SameActors, SameMarks, carried_on};
-ghost use Rattle.net_state.specs.Working.{MayBurst, WorksAt};
+ghost use Rattle.net_state.specs.Working.{LooksAt, MayBurst, MayWork, TriesAt, WorksAt, journal_of};
 ghost use Rattle.net_state.specs.Standing.{AreAllOut, IsTrueOfUnarrived, LeadInside, StandAtStart};
 
 use crate::carrying::{sent_along, token_along};
 use crate::delivering::{deliver_inside, lay_out};
 use crate::filling::{Filled, fill_link};
 use crate::tables::{first_capacities, room_table, zeros};
-use crate::working::burst_at;
-use net_model::{BurstEnd, Firing, Link};
+use crate::working::{burst_at, look_at, try_at};
+use net_model::{BurstEnd, Firing, Link, Look, Tried};
 use port_files::TokenFeed;
-use rvc_base::{InstId, LinkId, Memory, Num};
+use rvc_base::{ActId, InstId, LinkId, Memory, Num};
 use rvc_io::{Failed, Feeds};
 use std::alloc::Global;
 use std::marker::Model;
@@ -97,6 +97,42 @@ impl<A: Firing> NetState<A> {
     {
         let i = inst.0 as usize;
         burst_at(&mut self.cells, i, limit, &self.rooms[i])
+    }
+
+    /// The actions that a cell fired in bursts since the last delivery, in order.
+    pub fn journal(&self, inst: InstId) -> &[u16]
+        requires there { inst.0 < length self.now.cells }
+        ensures { result.now ≡ journal_of (slice_get (map A.cell self.now.cells) inst.0) }
+    {
+        self.cells[inst.0 as usize].journal()
+    }
+
+    /// Says what a cell would do next. Nothing that is seen changes.
+    pub fn look(&mut self, inst: InstId) -> Look
+        requires may { MayWork (map A.cell self.old.cells) inst.0 }
+        ensures looks { LooksAt inst.0 result (seen A.cell self.old) (seen A.cell self.new) }
+        ensures same_actors { SameActors (map A.cell self.old.cells) (map A.cell self.new.cells) }
+        ensures same_marks { SameMarks (map A.cell self.old.cells) (map A.cell self.new.cells) }
+        ensures links { self.new.links ≡ self.old.links }
+        ensures capacities { self.new.capacities ≡ self.old.capacities }
+        ensures waited { self.new.waited ≡ self.old.waited }
+    {
+        let i = inst.0 as usize;
+        look_at(&mut self.cells, i, &self.rooms[i])
+    }
+
+    /// Fires a named action of a cell where it is exposed and enabled, has room and doesn't trap. No journal
+    /// names it.
+    pub fn try_fire(&mut self, inst: InstId, action: ActId) -> Tried
+        requires may { MayWork (map A.cell self.old.cells) inst.0 }
+        ensures tries { TriesAt inst.0 action.0 result (seen A.cell self.old) (seen A.cell self.new) }
+        ensures same_actors { SameActors (map A.cell self.old.cells) (map A.cell self.new.cells) }
+        ensures links { self.new.links ≡ self.old.links }
+        ensures capacities { self.new.capacities ≡ self.old.capacities }
+        ensures waited { self.new.waited ≡ self.old.waited }
+    {
+        let i = inst.0 as usize;
+        try_at(&mut self.cells, i, action, &self.rooms[i])
     }
 
     /// How many tokens were sent on a link from a cell and haven't arrived.

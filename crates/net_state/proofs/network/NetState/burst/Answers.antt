@@ -8,7 +8,7 @@ use Rattle.net_model.specs.Ready.{OnCell}
 use Rattle.net_state.specs.Held.{held_of, seen}
 use Rattle.net_state.specs.Moving.{SameActors}
 use Rattle.net_state.specs.Working.{BurstsAt, HasRoomRow, MayBurst, WorksAt}
-use Rattle.net_state.proofs.Coming.{on_cell, on_some, place_of}
+use Rattle.net_state.proofs.Coming.{on_cell, place_of}
 use Rattle.net_state.proofs.Slices.{written_back}
 use Rattle.net_state.proofs.Bursting.{burst_rooms, burst_same, burst_working, burst_works, rooms_of_cell}
 use Rattle.net_state.proofs.network.NetState.burst.Goals as goal
