@@ -2,3 +2,4 @@ pub mod Moving
 pub mod Held
 pub mod Standing
 pub mod Filling
+pub mod Working

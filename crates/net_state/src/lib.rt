@@ -9,6 +9,7 @@ mod places;
 mod rooms;
 mod tables;
 mod waiting;
+mod working;
 
 pub use filling::Filled;
 pub use network::NetState;

@@ -3,7 +3,7 @@
 ghost use Rattle.std.specs.Prelude.{◌≡◌, ◌<◌, ◌≤◌, IfOk, length, map, replicate, slice_get, vec_items, vec_len};
 ghost use Rattle.net_model.specs.declared.wiring.Link.{Link};
 ghost use Rattle.net_model.specs.Ready.{OnCell};
-ghost use Rattle.net_state.specs.Held.{HasWidths, capacity_of};
+ghost use Rattle.net_state.specs.Held.{HasWidths, HoldFew, capacity_of};
 
 use net_model::{Firing, Link};
 use rvc_base::Memory;
@@ -11,7 +11,8 @@ use std::alloc::Global;
 
 /// The capacities that links have at the start.
 pub(crate) fn first_capacities(alloc: Global, links: &[Link]) -> Result<Vec<u32>, Memory>
-    ensures { IfOk result (λ v. v.items ≡ map capacity_of links.now) }
+    ensures capacities { IfOk result (λ v. v.items ≡ map capacity_of links.now) }
+    ensures few { IfOk result (λ v. HoldFew v.items) }
 {
     let mut capacities = Vec::with_capacity(alloc, links.len())?;
     for l in 0..links.len() {
