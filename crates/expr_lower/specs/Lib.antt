@@ -9,3 +9,4 @@ pub mod Lowered
 pub mod Listed
 pub mod Truths
 pub mod Growing
+pub mod Words
