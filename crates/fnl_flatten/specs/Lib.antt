@@ -3,3 +3,4 @@ pub mod Joints
 pub mod Links
 pub mod Rules
 pub mod Flat
+pub mod Sound

@@ -1,6 +1,7 @@
 //! What holds of flat networks.
 
 ghost use Rattle.fnl_flatten.specs.Flat.{FlatAreWired};
+ghost use Rattle.fnl_flatten.specs.Sound.{LinksAreOne, OneLinkLeads};
 
 use net_model::Meaning;
 
@@ -8,4 +9,11 @@ use net_model::Meaning;
 /// network's own, it can hold what any action takes or gives at its ends, and links are in link order.
 pub fn flat_networks_are_wired<M: Meaning>()
     ensures { FlatAreWired M.State }
+{}
+
+/// Connected networks have one list of links, and one link leads to each port that is read: at most one connection
+/// leads to a port, so it has one chain from a port that is written.
+pub fn links_are_one()
+    ensures list { LinksAreOne }
+    ensures link { OneLinkLeads }
 {}

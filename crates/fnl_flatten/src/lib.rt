@@ -6,4 +6,4 @@
 
 mod laws;
 
-pub use laws::flat_networks_are_wired;
+pub use laws::{flat_networks_are_wired, links_are_one};
