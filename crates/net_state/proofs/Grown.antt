@@ -1,5 +1,5 @@
 -- A link that grows.
-use Rattle.std.proofs.Common.{◌≡◌, ℕ, ◌<◌, ◌≤◌, List, ℤ, length, refl, sym, ap, subst, ◌∙◌, ⊎_elim, arith}
+use Rattle.std.proofs.Common.{◌≡◌, ℕ, ◌<◌, ◌≤◌, List, length, refl, sym, ap, subst, ◌∙◌, ⊎_elim, arith}
 use Rattle.std.specs.Prelude.{Option, None, Some, slice_get, slice_set, slice_index_or}
 use Rattle.std.proofs.lemmas.Bool.{cases_eq}
 use Rattle.std.proofs.lemmas.List.{length-set, get_or-set_same, get_or-set_other}
@@ -7,17 +7,15 @@ use Rattle.std.proofs.lemmas.Option.{slice_get_within}
 use Rattle.net_model.specs.declared.wiring.End.{End}
 use Rattle.net_model.specs.declared.wiring.End.TheVariants.{Leaf as AtLeaf, Net as AtNet}
 use Rattle.net_model.specs.declared.wiring.Link.{Link}
-use Rattle.net_model.specs.Network.{Network}
-use Rattle.net_model.specs.State.{Flow, State, waiting, inbox}
+use Rattle.net_model.specs.State.{Flow, waiting}
 use Rattle.net_model.specs.Trace.{OnNext, grown}
 use Rattle.net_model.specs.Cell.{Cell, number_on, unread_room}
 use Rattle.net_model.specs.Ready.{InboxHolds, OnCell, OutboxHolds}
-use Rattle.net_state.specs.Held.{FitsIn, HasPlace, HasRooms, HasShapeOf, IsRoomTable, IsWorking, held_of}
+use Rattle.net_state.specs.Held.{FitsIn, HasRooms, HasShapeOf, IsRoomTable, IsWorking, held_of}
 use Rattle.net_state.specs.Standing.{IsHeld, StandsSince}
 use Rattle.net_state.specs.Working.{CanHold, GrewTo}
 use Rattle.net_state.proofs.Gaining.{some_is, there_too, get_set_same, get_set_other}
 use Rattle.net_state.proofs.Flows.{inbox_alike}
-use Rattle.net_state.proofs.Kept.{place_of_writer}
 
 on_less : {X : Type 0} (o : Option (Cell X)) (f : Cell X → ℕ) (m n : ℕ) → n ≤ m → OnCell o (λ cell. m ≤ f cell) → OnCell o (λ cell. n ≤ f cell)
 on_less None f m n less h = h

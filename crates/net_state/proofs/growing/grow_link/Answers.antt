@@ -1,7 +1,6 @@
-use Rattle.std.proofs.Common.{◌≡◌, ◌*◌, ◌≤◌, ◌<◌, min, arith, length, map, refl}
-use Rattle.std.specs.Prelude.{slice_index_or, vec_items}
+use Rattle.std.proofs.Common.{arith, map, refl}
+use Rattle.std.specs.Prelude.{vec_items}
 use Rattle.std.proofs.lemmas.Option.{slice_get-get_or}
-use Rattle.net_model.specs.Cell.{unread_room}
 use Rattle.net_state.proofs.Kept.{any_link, place_of_writer}
 use Rattle.net_state.proofs.Grown.{grown_fits, grown_rooms, grown_states, grown_working}
 use Rattle.net_state.proofs.growing.grow_link.Goals as goal
