@@ -112,6 +112,8 @@ module _ {X : Type 0} (cells : List (Cell X)) (i : ℕ) (cell new : Cell X) (at 
             outbox = same_outbox cells (slice_set cells i new) (same_set same) link.from (slice_index_or capacities l 0) fits.writer fits.outbox;
             inbox = same_inbox cells (slice_set cells i new) (same_set same) link.to (slice_index_or capacities l 0) fits.reader fits.inbox;
             waiting = omega (arith, fewer, fits.waiting);
+            counted = fits.counted;
+            grown = fits.grown;
             fewer = λ inner. omega (arith, fewer, fits.fewer inner);
             since = λ inner. sends_still l link there inner link.from refl;
           };

@@ -1,7 +1,7 @@
 -- An input link that is filled: the state that it leads to.
 use Rattle.std.proofs.Common.{◌≡◌, ◌≢◌, ℕ, ◌+◌, ◌-◌, ◌<◌, ◌≤◌, min, true, false, List, [], ◌++◌, ℤ, length, map, take, drop, refl, sym, ap, subst, ◌∙◌, ⊎_elim, arith, append-nil, length-append, length-drop}
 use Rattle.std.specs.Prelude.{Result, Ok, Err, IfOk, Option, None, Some, slice_get, slice_set, slice_index_or}
-use Rattle.std.proofs.lemmas.Bool.{cases_eq}
+use Rattle.std.proofs.lemmas.Bool.{cases_eq, cases_lt}
 use Rattle.std.proofs.lemmas.List.{length-map, length-set, length-take-le, drop-append-le, drop-drop, take-map, drop-map}
 use Rattle.std.proofs.Math.Seq.{take-add}
 use Rattle.rvc_base.specs.declared.scalar.Scalar.{Scalar}
@@ -18,14 +18,16 @@ use Rattle.net_model.specs.Cell.{Cell}
 use Rattle.net_model.specs.Ready.{tokens_of}
 use Rattle.net_model.specs.PortFile.{tokens}
 use Rattle.net_model.proofs.Arriving.{arrived, arrives_so}
-use Rattle.net_state.specs.Moving.{AreApart, EachGains, IsWriter, SameActors, SameMarks, only_to}
-use Rattle.net_state.specs.Held.{IsWorking, held_of}
-use Rattle.net_state.specs.Standing.{IsHeld, IsNetOf, IsOpened, LiesIn, Stands, StandsIn, unarrived}
+use Rattle.net_state.specs.Moving.{AreApart, EachGains, HasRoomUpTo, IsWriter, SameActors, SameMarks, only_to}
+use Rattle.net_state.specs.Held.{AreCounted, IsWorking, held_of}
+use Rattle.net_state.specs.Working.{IsAtRest}
+use Rattle.net_state.specs.Standing.{AreAllOut, IsHeld, IsNetOf, IsOpened, LiesIn, Stands, StandsIn, unarrived}
 use Rattle.net_state.specs.Filling.{AreArrivals, AreToCome, Arrives, AtPort, AtReader, Fills, Inflow, IsFed, IsFilled, IsFull, Takes}
 use Rattle.net_state.proofs.Gaining.{some_is, there_too, get_set_same, get_set_other, only_there}
 use Rattle.net_state.proofs.Coming.{by_bool, if_true, if_false, is_own_port, on_cell, sent_stays}
 use Rattle.net_state.proofs.Flows.{inbox_at, inbox_beside, length_waiting}
-use Rattle.net_state.proofs.Kept.{marks_of_gains, reader_of, same_of_gains}
+use Rattle.net_state.proofs.Kept.{marks_of_gains, reader_of, same_of_gains, waits_as_before}
+use Rattle.net_state.proofs.Feeding.{held_most}
 use Rattle.net_state.proofs.Moved.{same_part}
 
 -- what waits once so many more have arrived
@@ -303,3 +305,38 @@ module _ {X : Type 0} (old new : List (Cell X)) (links : List Link) (capacities 
       by_end (AtLeaf inst port) took =
           let come : ℕ → ℕ → List ℤ = only_to inst.0 port (map (conv link.kind) took.1.taken) in
           (same_of_gains come old new took.1.gains, marks_of_gains come old new took.1.gains)
+
+  -- a network at rest stays at rest
+  pub fill_rests : (told : ℕ → Type 0) → AtPort link (Took told) link.to → AtPort link (λ that j q. HasRoomUpTo new j q (slice_index_or capacities l 0)) link.to
+      → IsAtRest (held_of old links capacities waited) → IsAtRest (held_of new links capacities waited)
+  fill_rests told took room rest = by_end link.to refl took room
+    where
+      by_end : (end : End) → link.to ≡ end → AtPort link (Took told) end → AtPort link (λ that j q. HasRoomUpTo new j q (slice_index_or capacities l 0)) end
+          → IsAtRest (held_of new links capacities waited)
+      by_end (AtNet port) to took room = absurd took
+      by_end (AtLeaf inst port) to took room = record {
+        all_out = λ k after there.
+            let before = there_too new old k after took.1.gains.count there in
+            let gained = took.1.gains.each k before.0 after before.1 there in
+            let out = rest.all_out k before.0 before.1 in (
+              (λ p low. let low_before : p < before.0.actor.outs = subst (λ actor. p < actor.outs) gained.actor.same_actor low in gained.outboxes p low_before ∙ out.0 p low_before),
+              gained.journal ∙ out.1,
+            );
+        counted = λ m other there inner.
+            let differ : m ≢ l = λ same.
+            (let other_is : other ≡ link = some_is other link (sym there ∙ (ap (slice_get links) same ∙ at)) in
+            let no : true ≡ false = sym input ∙ (sym (ap is_input other_is) ∙ inner) in cc) in
+            let apart : other.to ≡ link.to → ⊥ = λ same. ⊎_elim
+            (λ low. working.apart m l other link low there at same)
+            (λ high. working.apart l m link other (omega (arith, differ, high)) at there (sym same))
+            (cases_lt m l) in
+            rest.counted m other there inner
+            ∙ sym (ap (λ us. length us)
+            (waits_as_before old new links capacities waited working l inst.0 port link (map (conv link.kind) took.1.taken) at to input took.1.gains
+            (held_most new inst.0 port (slice_index_or capacities l 0) room) other.to (working.fits m other there).reader apart));
+      }
+
+-- a delivery leaves the network at rest
+pub rests_delivered : {X : Type 0} (cells : List (Cell X)) (links : List Link) (capacities waited : List ℕ) → AreAllOut cells → AreCounted cells links waited
+    → IsAtRest (held_of cells links capacities waited)
+rests_delivered cells links capacities waited out counted = record { all_out = out; counted = λ l link there inner. counted.each l link there }

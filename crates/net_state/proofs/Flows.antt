@@ -93,3 +93,23 @@ inbox_changed f i p change (link ∷ links) (flow ∷ flows) none same =
     if_false (is_leaf_port i p link.to) (waiting (change link flow)) (inbox i p links (each_flow change links flows)) leads
     ∙ (inbox_changed f i p change links flows none (λ l. same (suc l))
     ∙ ap f (sym (if_false (is_leaf_port i p link.to) (waiting flow) (inbox i p links flows) leads))))
+
+-- what is the same of what waits on the links that lead to a port is the same of what is before it
+pub inbox_alike : {A : Type 0} (g : List ℤ → A) (i p : ℕ) (links : List Link) (flows others : List Flow) → length others ≡ length flows
+    → ((l : ℕ) (link : Link) (flow other : Flow) → slice_get links l ≡ Some link → slice_get flows l ≡ Some flow → slice_get others l ≡ Some other
+    → is_leaf_port i p link.to ≡ true → g (waiting other) ≡ g (waiting flow))
+    → g (inbox i p links others) ≡ g (inbox i p links flows)
+inbox_alike g i p [] flows others count same = refl
+inbox_alike g i p (link ∷ links) [] [] count same = refl
+inbox_alike g i p (link ∷ links) [] (other ∷ others) count same = absurd (omega (arith, count))
+inbox_alike g i p (link ∷ links) (flow ∷ flows) [] count same = absurd (omega (arith, count))
+inbox_alike g i p (link ∷ links) (flow ∷ flows) (other ∷ others) count same =
+    by_bool (is_leaf_port i p link.to)
+    (λ leads.
+    ap g (if_true (is_leaf_port i p link.to) (waiting other) (inbox i p links others) leads)
+    ∙ (same zero link flow other refl refl refl leads
+    ∙ ap g (sym (if_true (is_leaf_port i p link.to) (waiting flow) (inbox i p links flows) leads))))
+    (λ leads.
+    ap g (if_false (is_leaf_port i p link.to) (waiting other) (inbox i p links others) leads)
+    ∙ (inbox_alike g i p links flows others (omega (arith, count)) (λ l. same (suc l))
+    ∙ ap g (sym (if_false (is_leaf_port i p link.to) (waiting flow) (inbox i p links flows) leads))))

@@ -228,6 +228,8 @@ module _ {X : Type 0} (old mid new : List (Cell X)) (links : List Link) (capacit
         outbox = same_outbox old new moved_same link.from (slice_index_or capacities l 0) fits.writer fits.outbox;
         inbox = same_inbox old new moved_same link.to (slice_index_or capacities l 0) fits.reader fits.inbox;
         waiting = few;
+        counted = omega (arith, count, few);
+        grown = fits.grown;
         fewer = λ inner. omega (arith, count);
         since = λ inner.
             let none : length (sent_from new link.from) ≡ 0 = ap (λ ts. length ts) (none_from link.from (moved_writer l link at)) in
@@ -299,7 +301,7 @@ module _ {X : Type 0} (old new : List (Cell X)) (links : List Link) (capacities 
   filled_same = same_of_gains (only_to j q ts) old new gains
 
   -- elsewhere nothing came
-  waits_as_before : (end : End) → IsReader old end → (end ≡ link.to → ⊥) → waiting_at new end ≡ waiting_at old end
+  pub waits_as_before : (end : End) → IsReader old end → (end ≡ link.to → ⊥) → waiting_at new end ≡ waiting_at old end
   waits_as_before (AtNet port) reader differ = refl
   waits_as_before (AtLeaf inst port) reader differ =
       let on = on_cell (slice_get old inst.0) (λ cell. port < cell.actor.ins) reader in
@@ -342,6 +344,8 @@ module _ {X : Type 0} (old new : List (Cell X)) (links : List Link) (capacities 
             let waits : length (waiting_at new other.to) ≡ length (waiting_at old other.to) = ap (λ us. length us) (waits_as_before other.to fits.reader (apart_ends m other there differ)) in
             omega (arith, waits, fits.waiting))
             (cases_eq m l);
+        counted = fits.counted;
+        grown = fits.grown;
         fewer = λ inner.
             let waits : length (waiting_at new other.to) ≡ length (waiting_at old other.to) = ap (λ us. length us) (waits_as_before other.to fits.reader (apart_ends m other there (not_it m other there inner))) in
             omega (arith, waits, fits.fewer inner);

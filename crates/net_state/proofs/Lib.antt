@@ -15,3 +15,4 @@ pub mod Fed
 pub mod Firings
 pub mod Roomy
 pub mod Bursting
+pub mod Grown

@@ -94,6 +94,8 @@ start_working cells links waited can counted few = record {
         outbox = joined.outbox;
         inbox = joined.inbox;
         waiting = joined.waiting;
+        counted = omega (arith, count, joined.waiting);
+        grown = omega arith;
         fewer = λ inner. omega (arith, count);
         since = λ inner. omega (arith, count, none, joined.waiting);
       });

@@ -87,6 +87,8 @@ pub record FitsIn {X : Type 0} (cells : List (Cell X)) (capacity waited : ℕ) (
   pub outbox : OutboxHolds cells capacity link.from
   pub inbox : InboxHolds cells capacity link.to
   pub waiting : length (waiting_at cells link.to) ≤ capacity
+  pub counted : waited ≤ capacity
+  pub grown : link.capacity ≤ capacity
   -- on inner and output links: what waited at the last delivery and what was sent since is at most the capacity
   pub fewer : is_input link ≡ false → length (waiting_at cells link.to) ≤ waited
   pub since : is_input link ≡ false → waited + length (sent_from cells link.from) ≤ capacity

@@ -12,9 +12,9 @@ use Rattle.net_model.specs.declared.wiring.Link.{Link}
 use Rattle.net_model.specs.Network.{Network, is_input}
 use Rattle.net_model.specs.State.{State, choice_at, effect_at}
 use Rattle.net_model.specs.Event.{Fire, happens}
-use Rattle.net_model.specs.Trace.{OnNext}
+use Rattle.net_model.specs.Trace.{OnNext, grown}
 use Rattle.net_model.specs.Cell.{AreRooms, Bursts, Cell, FitsQueues, IsEnabled, IsSame, Looks, Tries}
-use Rattle.net_model.specs.Ready.{OnCell, waiting_at}
+use Rattle.net_model.specs.Ready.{InboxHolds, OnCell, OutboxHolds, waiting_at}
 use Rattle.net_model.specs.Paced.{Halt, HasRoomIn, IsBurst, PassesLink, NoRoom, Spent, Trapping, Waiting}
 use Rattle.net_state.specs.Held.{Held}
 use Rattle.net_state.specs.Standing.{AreAllOut, StandsSince}
@@ -143,3 +143,15 @@ pub record TriesAt {X : Type 0} (i a : ℕ) (tried : Tried) (old new : Held (Cel
   pub journal : journal_of (slice_get new.cells i) ≡ journal_of (slice_get old.cells i)
   pub elsewhere : (k : ℕ) → k ≢ i → slice_get new.cells k ≡ slice_get old.cells k
   pub marked : OnCell (slice_get new.cells i) (λ cell. cell.trapped ≡ tried_traps tried)
+
+-- Growth.
+
+-- the queues of a link can hold so many tokens
+abbrev pub CanHold : {X : Type 0} → List (Cell X) → ℕ → Option Link → Type 0
+CanHold cells n None = ⊥
+CanHold cells n (Some link) = OutboxHolds cells n link.from × InboxHolds cells n link.to
+
+-- link l grew to this capacity: each state goes on by its growth
+abbrev pub GrewTo : {X : Type 0} → ℕ → ℕ → Held (Cell X) → Held (Cell X) → Type 0
+GrewTo {X} l capacity old new = (net : Network X) (opened s : State X) → StandsSince net old opened s
+    → OnNext (grown s l capacity (slice_get s.flows l)) (λ next. StandsSince net new opened next)

@@ -4,6 +4,7 @@
 mod carrying;
 mod delivering;
 mod filling;
+mod growing;
 mod network;
 mod places;
 mod rooms;

@@ -1,17 +1,18 @@
 //! A network at work.
 
-ghost use Rattle.std.specs.Prelude.{◌≡◌, ◌<◌, true, IfOk, OnErr, Some, length, map, slice_get};
+ghost use Rattle.std.specs.Prelude.{◌≡◌, ◌<◌, ◌*◌, true, IfOk, OnErr, Some, length, map, min, slice_get, slice_index_or, slice_set};
 ghost use Rattle.rvc_io.specs.Feeds.{PullsOnly, ReadFails};
 ghost use Rattle.port_files.specs.Coming.{EndIsTrue};
 ghost use Rattle.net_state.specs.Filling.{AreArrivals, Fills, IsFull, IsInputLink, inflow};
 ghost use Rattle.net_state.specs.Held.{AreCounted, CanWork, capacity_of, room_of, seen};
 ghost use Rattle.net_state.specs.Moving.{IsFromCell, IsOutput, SameActors, SameMarks, carried_on};
-ghost use Rattle.net_state.specs.Working.{LooksAt, MayBurst, MayWork, TriesAt, WorksAt, journal_of};
+ghost use Rattle.net_state.specs.Working.{CanHold, GrewTo, IsAtRest, LooksAt, MayBurst, MayWork, TriesAt, WorksAt, journal_of};
 ghost use Rattle.net_state.specs.Standing.{AreAllOut, IsTrueOfUnarrived, LeadInside, StandAtStart};
 
 use crate::carrying::{sent_along, token_along};
 use crate::delivering::{deliver_inside, lay_out};
 use crate::filling::{Filled, fill_link};
+use crate::growing::grow_link;
 use crate::tables::{first_capacities, room_table, zeros};
 use crate::working::{burst_at, look_at, try_at};
 use net_model::{BurstEnd, Firing, Link, Look, Tried};
@@ -181,6 +182,8 @@ impl<A: Firing> NetState<A> {
         ensures filled { IfOk result (λ filled. IsFull link.0 filled.rest (seen A.cell self.new) (inflow tokens.new (F.feeds feeds.new) feed)) }
         ensures arrivals { IfOk result (λ filled. AreArrivals link.0 filled.tokens (seen A.cell self.old) (inflow tokens.old (F.feeds feeds.old) feed)) }
 
+        ensures rests { IsAtRest (seen A.cell self.old) → IsAtRest (seen A.cell self.new) }
+
         // What stays.
         ensures same_actors { SameActors (map A.cell self.old.cells) (map A.cell self.new.cells) }
         ensures same_marks { SameMarks (map A.cell self.old.cells) (map A.cell self.new.cells) }
@@ -203,12 +206,36 @@ impl<A: Firing> NetState<A> {
         )
     }
 
+    /// Lets a link grow: its present capacity is doubled, at most up to the limit, and the rooms are fixed anew.
+    /// Gives the new capacity. The link's queues can hold as many tokens as the limit says.
+    pub fn grow(&mut self, link: LinkId, limit: u32) -> u32
+        requires queues { CanHold (map A.cell self.old.cells) limit (slice_get self.old.links link.0) }
+        requires below { slice_index_or self.old.capacities link.0 0 < limit }
+        ensures doubled { result ≡ min (2 * slice_index_or self.old.capacities link.0 0) limit }
+        ensures capacities { self.new.capacities ≡ slice_set self.old.capacities link.0 result }
+        ensures states { GrewTo link.0 result (seen A.cell self.old) (seen A.cell self.new) }
+        ensures cells { self.new.cells ≡ self.old.cells }
+        ensures links { self.new.links ≡ self.old.links }
+        ensures waited { self.new.waited ≡ self.old.waited }
+    {
+        grow_link(
+            &self.cells,
+            &self.links,
+            &mut self.capacities,
+            &self.waited,
+            &mut self.rooms,
+            link.0 as usize,
+            limit,
+        )
+    }
+
     /// Delivers what was sent on links between two cells and on links to outputs of the network: all of it
     /// arrives, the outboxes and journals are empty then, and the rooms of output ports are fixed anew.
     ///
     /// What was sent to an output of the network is gone after it.
     pub fn deliver(&mut self)
         ensures states { LeadInside (seen A.cell self.old) (seen A.cell self.new) }
+        ensures rests { IsAtRest (seen A.cell self.new) }
         ensures all_out { AreAllOut (map A.cell self.new.cells) }
         ensures waited { AreCounted (map A.cell self.new.cells) self.new.links self.new.waited }
         ensures same_actors { SameActors (map A.cell self.old.cells) (map A.cell self.new.cells) }

@@ -10,7 +10,8 @@ use Rattle.port_files.specs.Coming.{coming_on}
 use Rattle.net_state.specs.Held.{held_of, seen}
 use Rattle.net_state.specs.Moving.{EachGains, HasRoomUpTo, IsInput, SameActors, SameMarks, only_to}
 use Rattle.net_state.specs.Filling.{AreArrivals, AtPort, Fills, Inflow, IsFilled, IsFull, IsInputLink, Takes, inflow}
-use Rattle.net_state.proofs.Fed.{fill_all, fill_full, fill_gains, fill_told}
+use Rattle.net_state.proofs.Fed.{fill_all, fill_full, fill_gains, fill_rests, fill_told}
+use Rattle.net_state.specs.Working.{IsAtRest}
 use Rattle.net_state.proofs.Slices.{written_back}
 use Rattle.net_state.proofs.Feeding.{at_port_as, kept_by_fill, on_input, reader_at}
 use Rattle.net_state.proofs.network.NetState.fill.Goals as goal
@@ -97,6 +98,10 @@ returns g c =
       arrivals = subst (λ h. IfOk c.fill_link.result (λ filled. AreArrivals c.args.link.0 filled.tokens (seen g.A.Firing.cell h) before)) c.self.view_is
           (fill_all here new c.self.inside.links.items c.self.inside.capacities.items c.self.inside.waited.items c.self.invariant.0 c.args.link.0 c.index.result.now at input
           before after c.fill_link.ensures.kind c.fill_link.result (λ filled. filled.tokens) (λ filled. filled.rest) took full);
+      rests = subst (λ h. IsAtRest (seen g.A.Firing.cell h) → IsAtRest (held_of new c.self.inside.links.items c.self.inside.capacities.items c.self.inside.waited.items)) c.self.view_is
+          (fill_rests here new c.self.inside.links.items c.self.inside.capacities.items c.self.inside.waited.items c.self.invariant.0 c.args.link.0 c.index.result.now at input
+          before after c.fill_link.ensures.kind (λ count. IfOk c.fill_link.result (λ filled. filled.tokens ≡ count)) took
+          (subst (λ n. AtPort c.index.result.now (λ (that : Link) (j : ℕ) (q : ℕ). HasRoomUpTo new j q n) c.index.result.now.to) capacity c.fill_link.ensures.within));
       same_actors = subst (λ h. SameActors (map g.A.Firing.cell h.cells) new) c.self.view_is facts.0;
       same_marks = subst (λ h. SameMarks (map g.A.Firing.cell h.cells) new) c.self.view_is facts.1;
       links = links_are;
