@@ -15,3 +15,7 @@ pub mod Literals
 pub mod Weights
 pub mod Back
 pub mod Admits
+pub mod Assigning
+pub mod Fewer
+pub mod Singles
+pub mod Scoping

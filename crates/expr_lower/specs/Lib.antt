@@ -10,3 +10,6 @@ pub mod Listed
 pub mod Truths
 pub mod Growing
 pub mod Words
+pub mod Changing
+pub mod Stating
+pub mod Executing
