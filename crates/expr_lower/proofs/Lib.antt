@@ -19,3 +19,6 @@ pub mod Assigning
 pub mod Fewer
 pub mod Singles
 pub mod Scoping
+pub mod Storing
+pub mod Performing
+pub mod Setting
