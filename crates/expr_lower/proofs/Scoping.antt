@@ -146,22 +146,22 @@ module _ (outer : List Name) (tokens : ℕ → List ℤ) (low high : ℕ) where
 
   -- ---- assignments
 
-  -- a value of the name's type that stands in its cells
-  abbrev pub NewAt : Name → List ℤ → Value → Type 0
-  NewAt x cells w = HasKind (kind_of_type x.shape) w × StandAt x.seat tokens cells (flat w)
+  -- a value of the name's type that stands in its cells; and whatever else is known where there is one
+  abbrev pub NewAt : Type 0 → Name → List ℤ → Value → Type 0
+  NewAt P x cells w = (HasKind (kind_of_type x.shape) w × StandAt x.seat tokens cells (flat w)) × P
 
   -- the environment after an assignment, where so many turns are left
-  abbrev pub Assigned : List Name → List ℤ → Env → ℕ → Env → ℕ → Type 0
-  Assigned inner cells env left next k = (k ≡ left) × HoldsInside inner cells next × (length next.locals ≡ length env.locals)
+  abbrev pub Assigned : Type 0 → List Name → List ℤ → Env → ℕ → Env → ℕ → Type 0
+  Assigned P inner cells env left next k = (k ≡ left) × HoldsInside inner cells next × (length next.locals ≡ length env.locals) × P
 
   -- what is put into the variable of a name, whatever it held
-  abbrev pub PutsAt : Name → List ℤ → List ℤ → Values → Value → ℕ → (Trap → Type 0) → Type 0
-  PutsAt x cells after places v left T = (u : Value) → HasKind (kind_of_type x.shape) u → StandAt x.seat tokens cells (flat u)
-      → Follows (put x.shape u places v left) (λ w k. (k ≡ left) × NewAt x after w) T
+  abbrev pub PutsAt : Type 0 → Name → List ℤ → List ℤ → Values → Value → ℕ → (Trap → Type 0) → Type 0
+  PutsAt P x cells after places v left T = (u : Value) → HasKind (kind_of_type x.shape) u → StandAt x.seat tokens cells (flat u)
+      → Follows (put x.shape u places v left) (λ w k. (k ≡ left) × NewAt P x after w) T
 
-  outermost : (cells after : List ℤ) (env next : Env) (text : List ℕ) (x : Name) (c : ℕ) → NamesApart outer → named text outer ≡ Some x → x.seat ≡ Cell c → Written c (scalars_of_type x.shape) cells after
-      → HoldsVars outer tokens cells env → EnvReplaced env next text (NewAt x after) → HoldsVars outer tokens after next
-  outermost cells after env next text x c apart e seat w (holds, stored) r = (held, kept)
+  outermost : (P : Type 0) (cells after : List ℤ) (env next : Env) (text : List ℕ) (x : Name) (c : ℕ) → NamesApart outer → named text outer ≡ Some x → x.seat ≡ Cell c → Written c (scalars_of_type x.shape) cells after
+      → HoldsVars outer tokens cells env → EnvReplaced env next text (NewAt P x after) → HoldsVars outer tokens after next
+  outermost P cells after env next text x c apart e seat w (holds, stored) r = (held, kept)
     where
       held : Holds outer tokens after next
       held other y f = go (bytes_eq text other) refl
@@ -173,8 +173,8 @@ module _ (outer : List Name) (tokens : ℕ → List ℤ) (low high : ℕ) where
               subst (λ t. HoldsName tokens after next t y) same (subst (λ (z : Name). HoldsName tokens after next text z) one (record {
                 value = r.value;
                 meant = found_value text (vars_of next) (Some (record r.old { value = r.value })) r.now;
-                of_type = r.new.0;
-                stands = r.new.1;
+                of_type = r.new.0.0;
+                stands = r.new.0.1;
               }))
             where
               one_name : (a b : Name) → Some a ≡ Some b → a ≡ b
@@ -203,60 +203,60 @@ module _ (outer : List Name) (tokens : ℕ → List ℤ) (low high : ℕ) where
               old_kept a b w h = let same : record a { value = w } ≡ b = cc in ap (λ (x : Var). x.kept) same
           go false h = stored other y u t f (sym (r.others other h) ∙ g) is
 
-  pub assigns : (n : ℕ) (inner : List Name) (cells after : List ℤ) (env : Env) (text : List ℕ) (x : Name) (c : ℕ) (places : Values) (v : Value) (left : ℕ) (T : Trap → Type 0)
-      → AreLaid n inner → named text (inner ++ outer) ≡ Some x → x.seat ≡ Cell c → Written c (scalars_of_type x.shape) cells after → PutsAt x cells after places v left T
-      → HoldsInside inner cells env → Follows (assign env text places v left) (Assigned inner after env left) T
-  assigns n [] cells after env text x c places v left T laid e seat w puts holds =
-      follows_more (assign env text places v left) (λ next k. (k ≡ left) × EnvReplaced env next text (NewAt x after)) T (Assigned [] after env left) T
-      (assign_follows env text places v left (NewAt x after) T (λ u t f g.
+  pub assigns : (P : Type 0) (n : ℕ) (inner : List Name) (cells after : List ℤ) (env : Env) (text : List ℕ) (x : Name) (c : ℕ) (places : Values) (v : Value) (left : ℕ) (T : Trap → Type 0)
+      → AreLaid n inner → named text (inner ++ outer) ≡ Some x → x.seat ≡ Cell c → Written c (scalars_of_type x.shape) cells after → PutsAt P x cells after places v left T
+      → HoldsInside inner cells env → Follows (assign env text places v left) (Assigned P inner after env left) T
+  assigns P n [] cells after env text x c places v left T laid e seat w puts holds =
+      follows_more (assign env text places v left) (λ next k. (k ≡ left) × EnvReplaced env next text (NewAt P x after)) T (Assigned P [] after env left) T
+      (assign_follows env text places v left (NewAt P x after) T (λ u t f g.
       let same : t ≡ x.shape = holds.1 text x u t e f g in
       let there = value_at_name [] cells env text x u holds.0 e f in
-      subst (λ s. Follows (put s u.value places v left) (λ w k. (k ≡ left) × NewAt x after w) T) (sym same) (puts u.value there.0 there.1)))
-      (λ next k p. (p.0, outermost cells after env next text x c laid.1 e seat w holds p.1, p.1.size))
+      subst (λ s. Follows (put s u.value places v left) (λ w k. (k ≡ left) × NewAt P x after w) T) (sym same) (puts u.value there.0 there.1)))
+      (λ next k p. (p.0, outermost P cells after env next text x c laid.1 e seat w holds p.1, p.1.size, p.1.new.1))
       (λ t h. h)
-  assigns n (y ∷ inner) cells after env text x c places v left T (d, at, le, typed, apart, laid) e seat w puts (u, rest, is, var, below) =
-      subst (λ (now : Env). Follows (assign now text places v left) (Assigned (y ∷ inner) after now left) T) (sym is)
+  assigns P n (y ∷ inner) cells after env text x c places v left T (d, at, le, typed, apart, laid) e seat w puts (u, rest, is, var, below) =
+      subst (λ (now : Env). Follows (assign now text places v left) (Assigned P (y ∷ inner) after now left) T) (sym is)
       (⊎_elim (λ (f : (bytes_eq y.text text ≡ true) × (y ≡ x)). top f.0 f.1)
-      (λ (f : (bytes_eq y.text text ≡ false) × (named text (inner ++ outer) ≡ Some x)). under f.0 f.1 (assigns d inner cells after rest text x c places v left T laid f.1 seat w puts below))
+      (λ (f : (bytes_eq y.text text ≡ false) × (named text (inner ++ outer) ≡ Some x)). under f.0 f.1 (assigns P d inner cells after rest text x c places v left T laid f.1 seat w puts below))
       (choose_name (bytes_eq y.text text) y (named text (inner ++ outer)) x e))
     where
-      top : bytes_eq y.text text ≡ true → y ≡ x → Follows (assign (with_local u rest) text places v left) (Assigned (y ∷ inner) after (with_local u rest) left) T
+      top : bytes_eq y.text text ≡ true → y ≡ x → Follows (assign (with_local u rest) text places v left) (Assigned P (y ∷ inner) after (with_local u rest) left) T
       top f same =
           let same_seat : Cell d ≡ Cell c = sym at ∙ ap (λ (z : Name). z.seat) same ∙ seat in
           let here : d ≡ c = cell_same d c same_seat in
           let size : scalars_of_type y.shape ≡ scalars_of_type x.shape = ap (λ (z : Name). scalars_of_type z.shape) same in
-          subst (λ (o : Out Env). Follows o (Assigned (y ∷ inner) after (with_local u rest) left) T) (sym (assign_top rest u text places v left (ap (λ n. bytes_eq n text) var.called ∙ f)))
-          (follows_then (assigned_to u places v left) (λ z k. Gives (with_local z rest) k) (λ z k. (k ≡ left) × ((w : Value) × NewAt x after w × (z ≡ record u { value = w }))) T (Assigned (y ∷ inner) after (with_local u rest) left) T
-          (assigned_to_follows u places v left (NewAt x after) T (λ t g.
+          subst (λ (o : Out Env). Follows o (Assigned P (y ∷ inner) after (with_local u rest) left) T) (sym (assign_top rest u text places v left (ap (λ n. bytes_eq n text) var.called ∙ f)))
+          (follows_then (assigned_to u places v left) (λ z k. Gives (with_local z rest) k) (λ z k. (k ≡ left) × ((w : Value) × NewAt P x after w × (z ≡ record u { value = w }))) T (Assigned P (y ∷ inner) after (with_local u rest) left) T
+          (assigned_to_follows u places v left (NewAt P x after) T (λ t g.
           let type_is : t ≡ x.shape = var.stored t g ∙ ap (λ (z : Name). z.shape) same in
-          subst (λ s. Follows (put s u.value places v left) (λ w k. (k ≡ left) × NewAt x after w) T) (sym type_is)
+          subst (λ s. Follows (put s u.value places v left) (λ w k. (k ≡ left) × NewAt P x after w) T) (sym type_is)
           (puts u.value (subst (λ (z : Name). HasKind (kind_of_type z.shape) u.value) same var.of_type) (subst (λ (z : Name). StandAt z.seat tokens cells (flat u.value)) same var.stands))))
           (λ z k p. (p.0, (z, rest, refl, new_var z p.1.0 p.1.1 p.1.2, inside_still d (d + scalars_of_type y.shape) inner cells after rest laid
-          (written_keeps c (scalars_of_type x.shape) d (d + scalars_of_type y.shape) low high cells after (omega (arith, here)) (omega (arith, here, size)) w) below), refl))
+          (written_keeps c (scalars_of_type x.shape) d (d + scalars_of_type y.shape) low high cells after (omega (arith, here)) (omega (arith, here, size)) w) below), refl, p.1.1.1))
           (λ t h. h))
         where
           cell_same : (a b : ℕ) → Cell a ≡ Cell b → a ≡ b
           cell_same a b h = cc
 
-          new_var : (z : Var) (w : Value) → NewAt x after w → z ≡ record u { value = w } → HoldsVar tokens after z y
+          new_var : (z : Var) (w : Value) → NewAt P x after w → z ≡ record u { value = w } → HoldsVar tokens after z y
           new_var z w new is = subst (λ (a : Var). HoldsVar tokens after a y) (sym is) (record {
             called = var.called;
             stored = var.stored;
-            of_type = subst (λ (a : Name). HasKind (kind_of_type a.shape) w) (sym same) new.0;
-            stands = subst (λ (a : Name). StandAt a.seat tokens after (flat w)) (sym same) new.1;
+            of_type = subst (λ (a : Name). HasKind (kind_of_type a.shape) w) (sym same) new.0.0;
+            stands = subst (λ (a : Name). StandAt a.seat tokens after (flat w)) (sym same) new.0.1;
           })
 
-      under : bytes_eq y.text text ≡ false → named text (inner ++ outer) ≡ Some x → Follows (assign rest text places v left) (Assigned inner after rest left) T
-          → Follows (assign (with_local u rest) text places v left) (Assigned (y ∷ inner) after (with_local u rest) left) T
+      under : bytes_eq y.text text ≡ false → named text (inner ++ outer) ≡ Some x → Follows (assign rest text places v left) (Assigned P inner after rest left) T
+          → Follows (assign (with_local u rest) text places v left) (Assigned P (y ∷ inner) after (with_local u rest) left) T
       under f g h =
           let low_seat : SeatIsBelow d (scalars_of_type x.shape) (Cell c) = subst (λ s. SeatIsBelow d (scalars_of_type x.shape) s) seat (laid_below d inner laid text x g) in
-          subst (λ (o : Out Env). Follows o (Assigned (y ∷ inner) after (with_local u rest) left) T) (sym (assign_under rest u text places v left (ap (λ n. bytes_eq n text) var.called ∙ f)))
-          (follows_then (assign rest text places v left) (λ next k. Gives (with_local u next) k) (Assigned inner after rest left) T (Assigned (y ∷ inner) after (with_local u rest) left) T h
+          subst (λ (o : Out Env). Follows o (Assigned P (y ∷ inner) after (with_local u rest) left) T) (sym (assign_under rest u text places v left (ap (λ n. bytes_eq n text) var.called ∙ f)))
+          (follows_then (assign rest text places v left) (λ next k. Gives (with_local u next) k) (Assigned P inner after rest left) T (Assigned P (y ∷ inner) after (with_local u rest) left) T h
           (λ next k p. (p.0, (u, next, refl, record {
             called = var.called;
             stored = var.stored;
             of_type = var.of_type;
             stands = seat_unwritten y.seat c (scalars_of_type x.shape) tokens cells after (flat u.value) w
                 (subst (λ s. SeatIsApart c (c + scalars_of_type x.shape) (length (flat u.value)) s) (sym at) (inr (omega (arith, low_seat)))) var.stands;
-          }, p.1), ap suc p.2))
+          }, p.1), ap suc p.2, p.3))
           (λ t h. h))
