@@ -22,3 +22,4 @@ pub mod Scoping
 pub mod Storing
 pub mod Performing
 pub mod Setting
+pub mod Executed

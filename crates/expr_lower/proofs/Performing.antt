@@ -153,32 +153,32 @@ module _ (outer : List Name) (w : World) (frames : List ℕ) where
   -- ---- conditions
 
   -- what is chosen, and what follows there
-  pub choose_moves : (inner : List Name) (M N : Env → ℕ → Out Env) (base n k m near there end : ℕ) (stack cells : List ℤ) (env : Env) (left : ℕ) (v : Value) (j : ℕ) → k ≤ m
+  pub choose_moves : (inner : List Name) (M N : Env → ℕ → Out Env) (base from n k m near there end : ℕ) (stack cells : List ℤ) (env : Env) (left : ℕ) (v : Value) (j : ℕ) → from ≤ n → k ≤ m
       → AreLaid outer w.tokens w.low w.high n inner → HoldsInside outer w.tokens w.low w.high inner cells env
       → Chooses w n k (state base stack frames cells left) near there v j
-      → ((now : List ℤ) → HoldsInside outer w.tokens w.low w.high inner now env → Follows (M env j) (Moves inner n m (state near stack frames now j) end (length env.locals)) (BreaksOff w (inner ++ outer) n m (state near stack frames now j)))
-      → ((now : List ℤ) → HoldsInside outer w.tokens w.low w.high inner now env → Follows (N env j) (Moves inner n m (state there stack frames now j) end (length env.locals)) (BreaksOff w (inner ++ outer) n m (state there stack frames now j)))
-      → Follows (chosen v (λ i. M env i) (λ i. N env i) j) (Moves inner n m (state base stack frames cells left) end (length env.locals)) (BreaksOff w (inner ++ outer) n m (state base stack frames cells left))
-  choose_moves inner M N base n k m near there end stack cells env left (Num z) j ge laid holds c first other = tt
-  choose_moves inner M N base n k m near there end stack cells env left (Items vs) j ge laid holds c first other = tt
-  choose_moves inner M N base n k m near there end stack cells env left (Truth true) j ge laid holds c first other =
-      move_after inner n n m m base near end (length env.locals) stack cells c.cells left j (M env j) (omega arith) (omega arith) (choice_reaches w n k base near there stack frames cells left true j c) (but_wider n m (omega arith) ge (keeps_but (inner ++ outer) c.keeps))
+      → ((now : List ℤ) → HoldsInside outer w.tokens w.low w.high inner now env → Follows (M env j) (Moves inner from m (state near stack frames now j) end (length env.locals)) (BreaksOff w (inner ++ outer) from m (state near stack frames now j)))
+      → ((now : List ℤ) → HoldsInside outer w.tokens w.low w.high inner now env → Follows (N env j) (Moves inner from m (state there stack frames now j) end (length env.locals)) (BreaksOff w (inner ++ outer) from m (state there stack frames now j)))
+      → Follows (chosen v (λ i. M env i) (λ i. N env i) j) (Moves inner from m (state base stack frames cells left) end (length env.locals)) (BreaksOff w (inner ++ outer) from m (state base stack frames cells left))
+  choose_moves inner M N base from n k m near there end stack cells env left (Num z) j le ge laid holds c first other = tt
+  choose_moves inner M N base from n k m near there end stack cells env left (Items vs) j le ge laid holds c first other = tt
+  choose_moves inner M N base from n k m near there end stack cells env left (Truth true) j le ge laid holds c first other =
+      move_after inner from from m m base near end (length env.locals) stack cells c.cells left j (M env j) (omega arith) (omega arith) (choice_reaches w n k base near there stack frames cells left true j c) (but_wider from m le ge (keeps_but (inner ++ outer) c.keeps))
       (first c.cells (inside_still outer w.tokens w.low w.high n k inner cells c.cells env laid c.keeps holds))
-  choose_moves inner M N base n k m near there end stack cells env left (Truth false) j ge laid holds c first other =
-      move_after inner n n m m base there end (length env.locals) stack cells c.cells left j (N env j) (omega arith) (omega arith) (choice_reaches w n k base near there stack frames cells left false j c) (but_wider n m (omega arith) ge (keeps_but (inner ++ outer) c.keeps))
+  choose_moves inner M N base from n k m near there end stack cells env left (Truth false) j le ge laid holds c first other =
+      move_after inner from from m m base there end (length env.locals) stack cells c.cells left j (N env j) (omega arith) (omega arith) (choice_reaches w n k base near there stack frames cells left false j c) (but_wider from m le ge (keeps_but (inner ++ outer) c.keeps))
       (other c.cells (inside_still outer w.tokens w.low w.high n k inner cells c.cells env laid c.keeps holds))
 
   -- a condition, and what follows it
-  pub test_moves : (inner : List Name) (M N : Env → ℕ → Out Env) (test : Tree) (base n k m there end : ℕ) (a : List Instr) (stack cells : List ℤ) (env : Env) (left : ℕ) → k ≤ m
+  pub test_moves : (inner : List Name) (M N : Env → ℕ → Out Env) (test : Tree) (base from n k m there end : ℕ) (a : List Instr) (stack cells : List ℤ) (env : Env) (left : ℕ) → from ≤ n → k ≤ m
       → IsTest (inner ++ outer) test base n there a k → StandsAt w.code.instrs base a → AreLaid outer w.tokens w.low w.high n inner → HoldsInside outer w.tokens w.low w.high inner cells env
-      → ((now : List ℤ) (j : ℕ) → j ≤ left → HoldsInside outer w.tokens w.low w.high inner now env → Follows (M env j) (Moves inner n m (state (base + length a) stack frames now j) end (length env.locals)) (BreaksOff w (inner ++ outer) n m (state (base + length a) stack frames now j)))
-      → ((now : List ℤ) (j : ℕ) → j ≤ left → HoldsInside outer w.tokens w.low w.high inner now env → Follows (N env j) (Moves inner n m (state there stack frames now j) end (length env.locals)) (BreaksOff w (inner ++ outer) n m (state there stack frames now j)))
-      → Follows (and_then (eval test w.calls env left) (λ v j. chosen v (λ i. M env i) (λ i. N env i) j)) (Moves inner n m (state base stack frames cells left) end (length env.locals)) (BreaksOff w (inner ++ outer) n m (state base stack frames cells left))
-  test_moves inner M N test base n k m there end a stack cells env left ge coded stands laid holds first other =
+      → ((now : List ℤ) (j : ℕ) → j ≤ left → HoldsInside outer w.tokens w.low w.high inner now env → Follows (M env j) (Moves inner from m (state (base + length a) stack frames now j) end (length env.locals)) (BreaksOff w (inner ++ outer) from m (state (base + length a) stack frames now j)))
+      → ((now : List ℤ) (j : ℕ) → j ≤ left → HoldsInside outer w.tokens w.low w.high inner now env → Follows (N env j) (Moves inner from m (state there stack frames now j) end (length env.locals)) (BreaksOff w (inner ++ outer) from m (state there stack frames now j)))
+      → Follows (and_then (eval test w.calls env left) (λ v j. chosen v (λ i. M env i) (λ i. N env i) j)) (Moves inner from m (state base stack frames cells left) end (length env.locals)) (BreaksOff w (inner ++ outer) from m (state base stack frames cells left))
+  test_moves inner M N test base from n k m there end a stack cells env left le ge coded stands laid holds first other =
       let s : State = state base stack frames cells left in
-      follows_then (eval test w.calls env left) (λ v j. chosen v (λ i. M env i) (λ i. N env i) j) (Chooses w n k s (base + length a) there) (CutsOff w n k s) (Moves inner n m s end (length env.locals)) (BreaksOff w (inner ++ outer) n m s)
+      follows_then (eval test w.calls env left) (λ v j. chosen v (λ i. M env i) (λ i. N env i) j) (Chooses w n k s (base + length a) there) (CutsOff w n k s) (Moves inner from m s end (length env.locals)) (BreaksOff w (inner ++ outer) from m s)
       (tests (inner ++ outer) w env frames coded stack cells left stands (laid_below outer w.tokens w.low w.high n inner laid) (laid_apart outer w.tokens w.low w.high n inner laid) (names_held outer w.tokens w.low w.high inner cells env holds))
       (λ v j c.
       let less : j ≤ left = reaches_fewer c.reaches in
-      choose_moves inner M N base n k m (base + length a) there end stack cells env left v j ge laid holds c (λ now h. first now j less h) (λ now h. other now j less h))
-      (λ c q. cut_breaks (inner ++ outer) n n k m s c (omega arith) ge q)
+      choose_moves inner M N base from n k m (base + length a) there end stack cells env left v j le ge laid holds c (λ now h. first now j less h) (λ now h. other now j less h))
+      (λ c q. cut_breaks (inner ++ outer) from n k m s c le ge q)
