@@ -23,3 +23,4 @@ pub mod Storing
 pub mod Performing
 pub mod Setting
 pub mod Executed
+pub mod FittedStmts
