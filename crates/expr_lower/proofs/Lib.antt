@@ -24,3 +24,6 @@ pub mod Performing
 pub mod Setting
 pub mod Executed
 pub mod FittedStmts
+pub mod AddingStmts
+pub mod StmtForms
+pub mod StmtRows

@@ -13,3 +13,5 @@ pub mod Words
 pub mod Changing
 pub mod Stating
 pub mod Executing
+pub mod StmtGrowing
+pub mod StmtWords

@@ -2,8 +2,6 @@ use Rattle.std.proofs.lemmas.Result.{on_ok_weaker}
 use Rattle.cal_ast.specs.View.{expr_tree}
 use Rattle.expr_lower.specs.Names.{names_view}
 use Rattle.expr_lower.proofs.Whole.{lowered}
-use Rattle.expr_lower.proofs.FittedStmts.{fits_all} --temp
-use Rattle.expr_lower.proofs.Executed.{executes} --temp
 use Rattle.expr_lower.proofs.lower.lower_expr.Goals as goal
 
 pub returns-clause-lowered : goal.returns-clause-lowered
