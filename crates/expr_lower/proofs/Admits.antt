@@ -1,11 +1,11 @@
 -- Code that fits, with an answer behind it, is admitted.
-use Rattle.std.proofs.Common.{◌≡◌, ℕ, zero, suc, ◌+◌, ◌-◌, ◌<◌, ◌≤◌, ◌⊎◌, inl, inr, ⊎_elim, List, [], ◌∷◌, ◌++◌, length, Bool, true, false, refl, sym, ap, ◌∙◌, subst, Option, None, Some, arith, length-append}
+use Rattle.std.proofs.Common.{◌≡◌, ℕ, zero, suc, ◌+◌, ◌-◌, ◌<◌, ◌≤◌, ◌⊎◌, inl, inr, ⊎_elim, List, [], ◌∷◌, ◌++◌, length, true, false, refl, sym, ap, ◌∙◌, subst, Some, arith, length-append}
 use Rattle.std.specs.Prelude.{slice_get, ◌==◌, ◌||◌, if◌then◌else◌}
 use Rattle.std.proofs.lemmas.Bool.Decides.{nat_tests}
 use Rattle.code_ir.specs.declared.instr.Instr.{Instr}
 use Rattle.code_ir.specs.declared.instr.Instr.TheVariants as op
-use Rattle.code_ir.specs.Code.{Code, begins, is_among, body_of, routine_of}
-use Rattle.code_ir.specs.Typing.{Way, begin, next, jump, pops, pushes, goes_on, target, IsAdmitted, IsTyped, FitsAlone, HasOneHeight, IsTarget, JumpsInside, StandsInBody, LeavesResults, CallsSmaller, NamesCells, HasSizes, AllSized}
+use Rattle.code_ir.specs.Code.{Code, is_among, body_of, routine_of}
+use Rattle.code_ir.specs.Typing.{Way, begin, next, jump, pops, pushes, goes_on, target, IsAdmitted, IsTyped, IsTarget, JumpsInside, StandsInBody, LeavesResults, HasSizes, AllSized}
 use Rattle.expr_lower.specs.Fitting.{IsInner, FitsAt, Fits, guard_of}
 use Rattle.expr_lower.proofs.Fitted.{get_append}
 

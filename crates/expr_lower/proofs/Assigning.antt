@@ -6,7 +6,7 @@ use Rattle.std.proofs.lemmas.Slice.Eq.{bytes_eq-Decides}
 use Rattle.rvc_base.specs.declared.trap.Trap.{Trap}
 use Rattle.cal_model.specs.Value.{Shape, Value, Values}
 use Rattle.cal_model.specs.Outcome.{Out, Gives, Traps, Lacks, Clashes, and_then}
-use Rattle.cal_model.specs.Env.{Var, Env, find, look_up, with_local, is_among, put, assigned_to, assigned, assign}
+use Rattle.cal_model.specs.Env.{Var, Env, find, with_local, is_among, put, assigned_to, assigned, assign}
 use Rattle.expr_lower.specs.Changing.{var_named}
 use Rattle.expr_lower.specs.Following.{Follows}
 use Rattle.expr_lower.proofs.Runs.{follows_then}

@@ -1,8 +1,6 @@
 -- Code of statements executes them.
-use Rattle.std.proofs.Common.{◌≡◌, ℕ, zero, suc, ◌+◌, ◌<◌, ◌≤◌, ℤ, List, [], ◌∷◌, ◌++◌, length, refl, sym, ap, ◌∙◌, subst, Some, arith, length-append}
+use Rattle.std.proofs.Common.{◌≡◌, ℕ, zero, suc, ◌+◌, ◌<◌, ◌≤◌, ℤ, List, [], ◌∷◌, ◌++◌, length, refl, sym, subst, Some, arith, length-append}
 use Rattle.std.specs.Prelude.{slice_get}
-use Rattle.rvc_base.specs.declared.trap.Trap.TheVariants.{TurnLimit}
-use Rattle.cal_ast.specs.Tree as tree
 use Rattle.cal_ast.specs.Tree.{Tree}
 use Rattle.cal_model.specs.Outcome.{Out, Gives, Traps, Lacks, Clashes, and_then, turn}
 use Rattle.cal_model.specs.Env.{Env}
@@ -22,10 +20,10 @@ use Rattle.expr_lower.specs.Placed.{StandsAt, World, state}
 use Rattle.expr_lower.specs.Following.{Follows}
 use Rattle.expr_lower.specs.Executing.{Arrives, BreaksOff, EndsLike, Executes}
 use Rattle.expr_lower.proofs.Fewer.{reaches_fewer}
-use Rattle.expr_lower.proofs.Runs.{reaches_join, ends_back, obeys, follows_then, follows_more, stands_left, stands_right}
+use Rattle.expr_lower.proofs.Runs.{ends_back, obeys, follows_then, follows_more, stands_left, stands_right}
 use Rattle.expr_lower.proofs.Scoping.{AreLaid, HoldsInside, laid_more}
 use Rattle.expr_lower.proofs.Coded.{grows, grows_test}
-use Rattle.expr_lower.proofs.Performing.{Moves, Performs, but_all, but_wider, apart_first, apart_last, moves_at, moves_wider, breaks_wider, move_after, jump_moves, stays, perform_none, perform_then, test_moves}
+use Rattle.expr_lower.proofs.Performing.{Moves, Performs, but_all, but_wider, apart_first, apart_last, moves_at, breaks_wider, move_after, jump_moves, stays, perform_none, perform_then, test_moves}
 use Rattle.expr_lower.proofs.Setting.{set_performs, set_item_performs}
 
 module _ (outer : List Name) (w : World) (frames : List ℕ) where

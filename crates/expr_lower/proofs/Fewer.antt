@@ -1,5 +1,5 @@
 -- A run never has more turns left than before.
-use Rattle.std.proofs.Common.{◌≡◌, ℕ, zero, suc, ◌+◌, ◌≤◌, ℤ, List, [], ◌∷◌, refl, sym, ap, ◌∙◌, subst, Option, None, Some, arith}
+use Rattle.std.proofs.Common.{◌≡◌, ℕ, zero, suc, ◌+◌, ◌≤◌, ℤ, List, [], ◌∷◌, subst, Option, None, Some, arith}
 use Rattle.std.specs.Prelude.{slice_get, if◌then◌else◌}
 use Rattle.rvc_base.specs.Arithmetic.{is_true}
 use Rattle.code_ir.specs.declared.instr.Instr.{Instr}
@@ -7,7 +7,7 @@ use Rattle.code_ir.specs.declared.instr.Routine.{Routine}
 use Rattle.code_ir.specs.declared.instr.Instr.TheVariants as op
 use Rattle.code_ir.specs.Code.{Code}
 use Rattle.code_ir.specs.Effect.{Effect, Leaves, Fails, LacksToken, Breaks, effect}
-use Rattle.code_ir.specs.Running.{State, Next, Goes, Over, Lacks, Stuck, go_on, jump_if_not, turn, call, return, answer, obey, step, Reaches, here, after}
+use Rattle.code_ir.specs.Running.{State, Goes, Stuck, go_on, jump_if_not, turn, return, answer, obey, Reaches, here, after}
 
 goes_to : (s t : State) → Goes s ≡ Goes t → s ≡ t
 goes_to s t e = cc

@@ -1,5 +1,5 @@
 -- What runs do for statements, put together.
-use Rattle.std.proofs.Common.{◌≡◌, ℕ, zero, suc, ◌+◌, ◌<◌, ◌≤◌, ◌⊎◌, inl, inr, ⊎_elim, ℤ, List, [], ◌∷◌, ◌++◌, length, Bool, true, false, refl, sym, ap, ◌∙◌, subst, Option, None, Some, arith, length-append}
+use Rattle.std.proofs.Common.{◌≡◌, ℕ, ◌+◌, ◌<◌, ◌≤◌, inl, inr, ⊎_elim, ℤ, List, [], ◌++◌, length, true, false, refl, ◌∙◌, subst, Some, arith, length-append}
 use Rattle.std.specs.Prelude.{slice_get}
 use Rattle.rvc_base.specs.declared.trap.Trap.{Trap}
 use Rattle.cal_ast.specs.Tree.{Tree}
@@ -13,7 +13,7 @@ use Rattle.code_ir.specs.Running.{State, Reaches, here, after}
 use Rattle.expr_lower.specs.declared.names.Seat.TheVariants.{Cell}
 use Rattle.expr_lower.specs.Names.{Name, named}
 use Rattle.expr_lower.specs.Held.{Keeps, SeatIsApart, AreApart}
-use Rattle.expr_lower.specs.Changing.{IsOfNone, KeepsBut}
+use Rattle.expr_lower.specs.Changing.{KeepsBut}
 use Rattle.expr_lower.specs.Coding.{IsTest}
 use Rattle.expr_lower.specs.Placed.{StandsAt, World, state}
 use Rattle.expr_lower.specs.Following.{Follows, Chooses, CutsOff}

@@ -1,13 +1,13 @@
 -- Names inside others, and the cells that hold their variables.
-use Rattle.std.proofs.Common.{◌≡◌, ℕ, suc, ◌+◌, ◌<◌, ◌≤◌, ◌⊎◌, inl, inr, ⊎_elim, ℤ, List, [], ◌∷◌, ◌++◌, length, Bool, true, false, refl, sym, ap, ◌∙◌, subst, Option, None, Some, arith}
+use Rattle.std.proofs.Common.{◌≡◌, ℕ, suc, ◌+◌, ◌<◌, ◌≤◌, ◌⊎◌, inl, inr, ⊎_elim, ℤ, List, [], ◌∷◌, ◌++◌, length, Bool, true, false, refl, sym, ap, ◌∙◌, subst, Option, Some, arith}
 use Rattle.std.specs.Prelude.{if◌then◌else◌, slice_get}
 use Rattle.std.proofs.lemmas.Option.{slice_get_within}
 use Rattle.std.specs.Str.{bytes_eq}
 use Rattle.std.proofs.lemmas.Slice.Eq.{bytes_eq-Decides}
 use Rattle.rvc_base.specs.declared.trap.Trap.{Trap}
 use Rattle.cal_model.specs.Value.{Shape, Value, Values, HasKind, IsType, kind_of_type, scalars_of_type}
-use Rattle.cal_model.specs.Outcome.{Out, Gives, and_then}
-use Rattle.cal_model.specs.Env.{Var, Env, find, look_up, with_local, put, assigned_to, assign}
+use Rattle.cal_model.specs.Outcome.{Out, Gives}
+use Rattle.cal_model.specs.Env.{Var, Env, look_up, with_local, put, assigned_to, assign}
 use Rattle.expr_lower.specs.declared.names.Seat.{Seat}
 use Rattle.expr_lower.specs.declared.names.Seat.TheVariants.{Cell, Tokens}
 use Rattle.expr_lower.specs.Flat.{flat}

@@ -8,23 +8,21 @@ use Rattle.rvc_base.specs.declared.trap.Trap.TheVariants.{IndexRange}
 use Rattle.rvc_base.specs.Storing.{conv, IsSize}
 use Rattle.cal_ast.specs.Tree as tree
 use Rattle.cal_ast.specs.Tree.{Tree}
-use Rattle.cal_model.specs.Value.{Shape, Single, Many, Value, Num, Truth, Items, Values, Nil, Cons, count, value_at, with_value, stored, HasKind, HaveKind, IsType, kind_of_scalar, kind_of_type, scalars_of_type}
-use Rattle.cal_model.specs.Outcome.{Out, Gives, Traps, Clashes, and_then}
-use Rattle.cal_model.specs.Env.{Env, put, item_at, with_item, assign}
+use Rattle.cal_model.specs.Value.{Shape, Single, Many, Value, Num, Truth, Items, Values, Nil, Cons, count, value_at, stored, HasKind, HaveKind, IsType, kind_of_scalar, kind_of_type, scalars_of_type}
+use Rattle.cal_model.specs.Outcome.{Gives, Traps, and_then}
+use Rattle.cal_model.specs.Env.{Env, put, with_item, assign}
 use Rattle.cal_model.specs.Expression.{eval, eval_all}
 use Rattle.cal_model.specs.Statement.{Runs, exec}
 use Rattle.code_ir.specs.declared.instr.Instr.{Instr}
 use Rattle.code_ir.specs.declared.instr.Instr.TheVariants as op
 use Rattle.code_ir.specs.Effect.{Leaves, Fails, effect}
 use Rattle.code_ir.specs.Running.{State, Reaches, here, after, stop, step, go_on}
-use Rattle.expr_lower.specs.declared.names.Seat.{Seat}
-use Rattle.expr_lower.specs.declared.names.Seat.TheVariants.{Cell, Tokens}
+use Rattle.expr_lower.specs.declared.names.Seat.TheVariants.{Cell}
 use Rattle.expr_lower.specs.Flat.{flat, flat_all}
 use Rattle.expr_lower.specs.Names.{Name, named}
 use Rattle.expr_lower.specs.Held.{StandAt, HoldsName, Keeps}
-use Rattle.expr_lower.specs.Changing.{KeepsBut}
 use Rattle.expr_lower.specs.Coding.{IsCode}
-use Rattle.expr_lower.specs.Placed.{StandsAt, World, state}
+use Rattle.expr_lower.specs.Placed.{World, state}
 use Rattle.expr_lower.specs.Following.{Follows, Pushes, CutsOff}
 use Rattle.expr_lower.specs.Executing.{BreaksOff}
 use Rattle.expr_lower.proofs.Effects.{same_number}
@@ -33,10 +31,10 @@ use Rattle.expr_lower.proofs.Listing.{single_flat, item_flat, item_within, item_
 use Rattle.expr_lower.proofs.Runs.{reaches_join, ends_join, obeys, follows_then, follows_more, follows_both, stands_left, stands_right}
 use Rattle.expr_lower.proofs.Singles.{IsSingleValue, singles}
 use Rattle.expr_lower.proofs.Storing.{single_stored, set_written, set_there, store_leaves, store_item_leaves, store_item_past, item_changed, item_count, item_kinds}
-use Rattle.expr_lower.proofs.Scoping.{Written, AreLaid, HoldsInside, NewAt, Assigned, PutsAt, laid_more, laid_below, laid_apart, laid_typed, names_held, inside_still, assigns}
+use Rattle.expr_lower.proofs.Scoping.{Written, AreLaid, HoldsInside, NewAt, Assigned, PutsAt, laid_below, laid_apart, laid_typed, names_held, inside_still, assigns}
 use Rattle.code_ir.proofs.Marks.{get-other}
 use Rattle.expr_lower.proofs.Coded.{does, grows}
-use Rattle.expr_lower.proofs.Performing.{Moves, Performs, moves_at, cut_breaks, breaks_after, but_written, but_wider, but_join, keeps_but}
+use Rattle.expr_lower.proofs.Performing.{Moves, Performs, cut_breaks, breaks_after, but_written, but_wider, but_join, keeps_but}
 
 at_first : (c : ℕ) (cells : List ℤ) (y : ℤ) (o : Option ℤ) → slice_get cells (c + 0) ≡ o → slice_get cells c ≡ o
 at_first c cells y o e = let same : c + 0 ≡ c = omega arith in subst (λ d. slice_get cells d ≡ o) same e

@@ -1,5 +1,5 @@
 -- Lowered expressions give single values.
-use Rattle.std.proofs.Common.{◌≡◌, ℕ, ℤ, pos, negsuc, List, Bool, true, false, refl, sym, ap, ◌∙◌, subst, Option, None, Some}
+use Rattle.std.proofs.Common.{◌≡◌, ℕ, ℤ, pos, negsuc, List, Bool, true, false, refl, sym, subst, Option, None, Some}
 use Rattle.std.specs.Prelude.{if◌then◌else◌, nat_le, ◌==◌, unsigned_abs, ◌+ℤ◌, ◌-ℤ◌, ◌*ℤ◌, neg_ℤ, int_div, int_rem, ◌^◌}
 use Rattle.std.specs.Int.{int_shr}
 use Rattle.rvc_base.specs.declared.scalar.Scalar.{Scalar}
@@ -11,20 +11,18 @@ use Rattle.cal_ast.specs.declared.expr.PrefixOp.{PrefixOp}
 use Rattle.cal_ast.specs.declared.expr.PrefixOp.TheVariants as prefixes
 use Rattle.cal_ast.specs.declared.expr.BinOp.{BinOp}
 use Rattle.cal_ast.specs.declared.expr.BinOp.TheVariants as binaries
-use Rattle.cal_ast.specs.Tree as tree
 use Rattle.cal_ast.specs.Tree.{Tree}
 use Rattle.cal_model.specs.Value.{Shape, Single, Many, Value, Num, Truth, Items, Values, value_at, HasKind, HaveKind, kind_of_type, kind_of_scalar}
-use Rattle.cal_model.specs.Outcome.{Out, Gives, Traps, Clashes, and_then, known}
+use Rattle.cal_model.specs.Outcome.{Out, Gives, Traps, and_then, known}
 use Rattle.cal_model.specs.Env.{Env}
 use Rattle.cal_model.specs.Expression.{Calls, eval, computed, prefixed, applied, of_numbers, of_truths, with_right, chosen, indexed}
 use Rattle.cal_model.proofs.Numbers.{is-num, rest-is-num, shifted-is-num, and-is-num, or-is-num, xor-is-num, not-is-num}
 use Rattle.code_ir.specs.declared.instr.Instr.{Instr}
-use Rattle.expr_lower.specs.Names.{Name, IsSingle, named}
+use Rattle.expr_lower.specs.Names.{Name, IsSingle}
 use Rattle.expr_lower.specs.Held.{HoldsName, Holds}
-use Rattle.expr_lower.specs.Listed.{list_named}
 use Rattle.expr_lower.specs.Following.{Follows}
 use Rattle.expr_lower.specs.declared.names.ItemList.{ItemList}
-use Rattle.expr_lower.specs.Coding.{IsCode, IsTest, number, too_great, negative, truth, variable, paren, prefix, binary, both, either, if_code, tested, both_tested, item, binary_instr}
+use Rattle.expr_lower.specs.Coding.{IsCode, IsTest, number, too_great, negative, truth, variable, paren, prefix, binary, both, either, if_code, tested, both_tested, item}
 use Rattle.expr_lower.proofs.Effects.{goes_right}
 use Rattle.expr_lower.proofs.Listing.{IsList, named_list, item_kind}
 use Rattle.expr_lower.proofs.Runs.{follows_then}

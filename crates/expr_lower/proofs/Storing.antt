@@ -1,29 +1,24 @@
 -- What is stored in cells of names.
-use Rattle.std.proofs.Common.{◌≡◌, ◌≢◌, ℕ, zero, suc, ◌+◌, ◌*◌, ◌<◌, ◌≤◌, ◌⊎◌, inl, inr, ⊎_elim, ℤ, pos, negsuc, List, [], ◌∷◌, ◌++◌, length, Bool, true, false, refl, sym, ap, ◌∙◌, subst, Option, None, Some, arith}
+use Rattle.std.proofs.Common.{◌≡◌, ◌≢◌, ℕ, zero, suc, ◌+◌, ◌<◌, ◌≤◌, ◌⊎◌, inl, inr, ⊎_elim, ℤ, pos, List, [], ◌∷◌, ◌++◌, length, Bool, true, false, refl, sym, ap, ◌∙◌, subst, Option, Some, arith}
 use Rattle.std.specs.Prelude.{if◌then◌else◌, slice_get, slice_set, nat_le, unsigned_abs, ◌==◌}
 use Rattle.std.proofs.lemmas.List.{length-set}
 use Rattle.std.proofs.lemmas.Option.{slice_get_within}
-use Rattle.std.proofs.lemmas.Bool.{cases_lt}
 use Rattle.std.proofs.lemmas.Bool.Decides.{nat_tests}
 use Rattle.rvc_base.specs.declared.scalar.Scalar.{Scalar}
 use Rattle.rvc_base.specs.declared.scalar.Scalar.TheVariants as scalar
-use Rattle.rvc_base.specs.declared.trap.Trap.{Trap}
 use Rattle.rvc_base.specs.declared.trap.Trap.TheVariants.{IndexRange}
 use Rattle.rvc_base.specs.Arithmetic as arithmetic
 use Rattle.rvc_base.specs.Arithmetic.{is_true}
 use Rattle.rvc_base.specs.Storing.{conv, IsSize}
-use Rattle.cal_model.specs.Value.{Shape, Single, Many, Value, Num, Truth, Items, Values, Nil, Cons, count, value_at, with_value, stored, HasKind, HaveKind, kind_of_scalar, kind_of_type, scalars_of_type}
-use Rattle.cal_model.specs.Outcome.{Out, Gives, Traps, Clashes, and_then}
-use Rattle.cal_model.specs.Env.{put, item_at, with_item}
+use Rattle.cal_model.specs.Value.{Single, Value, Num, Truth, Items, Values, Nil, Cons, count, with_value, stored, HasKind, HaveKind, kind_of_scalar}
 use Rattle.cal_model.proofs.Stored.{conv-in-range}
 use Rattle.cal_model.proofs.KindValues.{single-is-num}
 use Rattle.code_ir.specs.declared.instr.Instr.TheVariants as op
-use Rattle.code_ir.specs.Effect.{Effect, Leaves, Fails, Breaks, effect, stored as in_cell}
+use Rattle.code_ir.specs.Effect.{Leaves, Fails, Breaks, effect, stored as in_cell}
 use Rattle.code_ir.proofs.Marks.{get-set, get-other}
 use Rattle.expr_lower.specs.Flat.{flat, flat_all}
-use Rattle.expr_lower.specs.Following.{Follows}
 use Rattle.expr_lower.proofs.Effects.{same_number}
-use Rattle.expr_lower.proofs.Listing.{single_flat, item_within, item_past}
+use Rattle.expr_lower.proofs.Listing.{single_flat}
 use Rattle.expr_lower.proofs.Scoping.{Written}
 use Rattle.expr_lower.proofs.Singles.{IsSingleValue}
 

@@ -1,13 +1,12 @@
-use Rattle.std.proofs.Common.{◌≡◌, Err, ◌∷◌, [], ◌<◌, ◌≤◌, ◌+◌, ◌∙◌, List, length, map, take, subst, sym, ap, rules, arith}
+use Rattle.std.proofs.Common.{◌≡◌, Err, subst, sym, rules, arith}
 use Rattle.std.specs.Prelude.{IfErr, OnOk}
-use Rattle.cal_ast.specs.Tree as tree
-use Rattle.cal_ast.specs.Tree.{Tree, listed}
-use Rattle.cal_ast.specs.View.{body_tree, expr_tree, stmt_tree}
+use Rattle.cal_ast.specs.Tree.{Tree}
+use Rattle.cal_ast.specs.View.{expr_tree, stmt_tree}
 use Rattle.code_ir.specs.declared.instr.Instr.TheVariants as op
-use Rattle.expr_lower.specs.Names.{Name, names_view}
+use Rattle.expr_lower.specs.Names.{names_view}
 use Rattle.expr_lower.specs.StmtWords.{AddsStmt, IsFaultAmong, body_of}
 use Rattle.expr_lower.proofs.AddingStmts.{none_added, more_added, fault_among, alone_adds, fork_adds, while_adds, weight_item}
-use Rattle.expr_lower.proofs.StmtForms.{stmt_if, stmt_while, stmt_assign}
+use Rattle.expr_lower.proofs.StmtForms.{stmt_if, stmt_while}
 use Rattle.expr_lower.proofs.stmts.+lower_stmt.Goals as goal
 
 pub alone-returns-clause-ok : goal.alone-returns-clause-ok
