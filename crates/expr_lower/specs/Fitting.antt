@@ -1,5 +1,4 @@
 -- What the typing lines of code ask of a part of it.
--- Trusted: part of what a promise means.
 use Rattle.std.specs.Prelude.{◌≡◌, ℕ, ◌+◌, ◌-◌, ◌<◌, ◌≤◌, ◌⊎◌, true, List, [], ◌∷◌, ◌++◌, length, Some, slice_get}
 use Rattle.code_ir.specs.declared.instr.Instr.{Instr}
 use Rattle.code_ir.specs.declared.instr.Instr.TheVariants as op
@@ -13,13 +12,13 @@ IsInner op.Answer = ⊥
 IsInner op.Done = ⊥
 IsInner i = Unit {0}
 
--- an instruction at a place of a part of code that goes from base to end, if the stack has these heights; it may
--- also jump to `out`
+-- an instruction at a place of a part of code that goes from base to end, where the stack has these heights; it may
+-- also jump to `out`, and back only to a `Turn`
 pub record FitsAt (code : Code) (callable limit base end out : ℕ) (height : ℕ → ℕ) (p : ℕ) (i : Instr) : Type 0 where
   pub enough : pops i ≤ height p
   pub next : goes_on i ≡ true → height (p + 1) ≡ height p - pops i + pushes code i
   pub jump : (t : ℕ) → target i ≡ Some t → height t ≡ height p - pops i + pushes code i
-  pub inside : (t : ℕ) → target i ≡ Some t → (p < t) × ((t ≤ end) ⊎ (t ≡ out))
+  pub inside : (t : ℕ) → target i ≡ Some t → ((p < t) ⊎ (slice_get code.instrs t ≡ Some op.Turn)) × (base ≤ t) × ((t ≤ end) ⊎ (t ≡ out))
   pub cells : NamesCells limit i
   pub calls : CallsSmaller callable i
   pub inner : IsInner i

@@ -28,7 +28,7 @@ use rvc_base::Num;
 
 /// Appends code that evaluates an expression and pushes its value.
 #[cycle(lower)]
-fn lower(names: &[Named], e: &Expr, draft: &mut Draft) -> Result<(), LowerFault>
+pub(crate) fn lower(names: &[Named], e: &Expr, draft: &mut Draft) -> Result<(), LowerFault>
     ensures ok { OnOk result (Lowers names.now (expr_tree e.now) draft.old draft.new) }
     ensures whole { OnOk result (IsWhole names.now (expr_tree e.now)) }
     ensures fault { IfErr result (IsFaultOf names.now (expr_tree e.now) draft.new) }
@@ -285,7 +285,7 @@ fn choice(
 /// Appends a condition, which goes on if it is true. If it is false it is to jump elsewhere: `Done` stands for
 /// these jumps, until their target is known.
 #[cycle(lower)]
-fn lower_test(names: &[Named], e: &Expr, draft: &mut Draft) -> Result<(), LowerFault>
+pub(crate) fn lower_test(names: &[Named], e: &Expr, draft: &mut Draft) -> Result<(), LowerFault>
     ensures ok { OnOk result (Opens names.now (expr_tree e.now) draft.old draft.new) }
     ensures whole { OnOk result (IsWhole names.now (expr_tree e.now)) }
     ensures fault { IfErr result (IsFaultOf names.now (expr_tree e.now) draft.new) }
@@ -333,7 +333,7 @@ fn test_value(names: &[Named], e: &Expr, draft: &mut Draft) -> Result<(), LowerF
 
 /// Sets the targets of the jumps that stand from `start` to `exits` for a condition that is false, and that of the
 /// jump at `jump`.
-fn link(draft: &mut Draft, start: usize, exits: usize, out: u32, jump: usize, end: u32)
+pub(crate) fn link(draft: &mut Draft, start: usize, exits: usize, out: u32, jump: usize, end: u32)
     requires order { (start ≤ exits) × (exits ≤ jump) × (jump < length draft.old.instrs.items) }
     ensures linked { (before test first other : List Instr) (i : Instr)
         → draft.old.instrs.items ≡ before ++ (test ++ (first ++ i ∷ other))
@@ -345,6 +345,31 @@ fn link(draft: &mut Draft, start: usize, exits: usize, out: u32, jump: usize, en
 {
     aim(&mut draft.instrs[start..exits], out);
     draft.instrs[jump] = Instr::Jump(end);
+}
+
+/// Sets the targets of the jumps that stand from `start` to `exits` for a condition that is false.
+pub(crate) fn close(draft: &mut Draft, start: usize, exits: usize, out: u32)
+    requires order { (start ≤ exits) × (exits ≤ length draft.old.instrs.items) }
+    ensures closed { (before test rest : List Instr)
+        → draft.old.instrs.items ≡ before ++ (test ++ rest)
+        → start ≡ length before → exits ≡ start + length test
+        → draft.new.instrs.items ≡ before ++ (map (aimed out) test ++ rest) }
+    ensures routines { draft.new.routines.items ≡ draft.old.routines.items }
+    ensures cells { draft.new.cells ≡ draft.old.cells }
+{
+    aim(&mut draft.instrs[start..exits], out);
+}
+
+/// Sets the target of the jump at a place.
+pub(crate) fn jump_at(draft: &mut Draft, place: usize, target: u32)
+    requires inside { place < length draft.old.instrs.items }
+    ensures aimed { (before rest : List Instr) (i : Instr)
+        → draft.old.instrs.items ≡ before ++ i ∷ rest → place ≡ length before
+        → draft.new.instrs.items ≡ before ++ op.Jump target ∷ rest }
+    ensures routines { draft.new.routines.items ≡ draft.old.routines.items }
+    ensures cells { draft.new.cells ≡ draft.old.cells }
+{
+    draft.instrs[place] = Instr::Jump(target);
 }
 
 /// Sets the target of the jumps for which `Done` stands.
