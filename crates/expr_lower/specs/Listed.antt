@@ -1,4 +1,5 @@
 -- Names of lists of single values.
+-- Trusted: part of what a promise means.
 use Rattle.std.specs.Prelude.{List, Option, None, Some}
 use Rattle.rvc_base.specs.declared.scalar.Scalar.{Scalar}
 use Rattle.cal_ast.specs.Tree as tree

@@ -1,4 +1,5 @@
 -- Which statements are left out.
+-- Trusted: part of what a promise means.
 use Rattle.std.specs.Prelude.{ℕ, List, Option, None, Some}
 use Rattle.cal_ast.specs.Tree as tree
 use Rattle.cal_ast.specs.Tree.{Tree}

@@ -1,4 +1,5 @@
 -- The state of a network as its cells hold it.
+-- Trusted: part of what a promise means.
 use Rattle.std.specs.Prelude.{◌≡◌, ℕ, ◌≤◌, ◌<◌, true, false, List, [], ℤ, length, map, drop, slice_get, slice_index_or, Option, None, Some, if◌then◌else◌}
 use Rattle.rvc_base.specs.Storing.{conv}
 use Rattle.rvc_base.specs.Lawful.{tokens_on}

@@ -1,4 +1,5 @@
 -- What the work of one cell does to the network.
+-- Trusted: part of what a promise means.
 use Rattle.std.specs.Prelude.{◌≡◌, ◌≢◌, ℕ, ◌+◌, ◌≤◌, ◌⊎◌, Bool, true, false, List, [], ◌++◌, length, slice_get, slice_set, slice_index_or, Option, None, Some}
 use Rattle.rvc_base.specs.Behaviour.{Faults, Picks, TrapsInBody, TrapsInGuard, Waits}
 use Rattle.rvc_base.specs.Lawful.{IsLawful}
