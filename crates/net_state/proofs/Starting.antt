@@ -102,6 +102,7 @@ start_working cells links waited can counted few = record {
   read = can.read;
   few_given = can.few_given;
   few_held = few;
+  few_links = can.few_links;
 }
 
 pub readers_at_start : {X : Type 0} (cells : List (Cell X)) (links : List Link) → CanWork cells links → (l : ℕ) (link : Link) → slice_get links l ≡ Some link → IsReader cells link.to

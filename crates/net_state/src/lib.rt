@@ -5,6 +5,7 @@ mod carrying;
 mod delivering;
 mod filling;
 mod growing;
+mod lacking;
 mod network;
 mod places;
 mod rooms;
