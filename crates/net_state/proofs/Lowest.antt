@@ -1,7 +1,7 @@
 -- The lowest link on which an action lacks room.
-use Rattle.std.proofs.Common.{◌≡◌, ℕ, ◌+◌, ◌-◌, ◌<◌, ◌≤◌, List, length, refl, sym, ap, subst, ◌∙◌, ⊎_elim, arith}
+use Rattle.std.proofs.Common.{◌≡◌, ℕ, ◌+◌, ◌-◌, ◌<◌, ◌≤◌, List, length, refl, sym, subst, ⊎_elim, arith}
 use Rattle.std.specs.Prelude.{Option, None, Some, slice_get, slice_index_or}
-use Rattle.std.proofs.lemmas.Bool.{cases_eq, cases_lt}
+use Rattle.std.proofs.lemmas.Bool.{cases_eq}
 use Rattle.std.proofs.lemmas.Option.{slice_get_within}
 use Rattle.net_model.specs.declared.wiring.Link.{Link}
 use Rattle.net_model.specs.Cell.{Cell}

@@ -1,8 +1,8 @@
 -- A network at rest, with the rest of its feeds counted as arrived.
-use Rattle.std.proofs.Common.{◌≡◌, ◌≢◌, ℕ, zero, suc, ◌+◌, ◌-◌, ◌<◌, ◌≤◌, Bool, true, false, List, [], ◌∷◌, ◌++◌, ℤ, length, map, take, drop, refl, sym, ap, subst, ◌∙◌, ⊎_elim, inl, inr, arith, append-nil, length-drop}
+use Rattle.std.proofs.Common.{◌≡◌, ℕ, zero, suc, ◌+◌, ◌-◌, ◌<◌, ◌≤◌, Bool, true, false, List, [], ◌∷◌, ◌++◌, length, map, take, drop, refl, sym, ap, subst, ◌∙◌, ⊎_elim, arith, append-nil, length-drop}
 use Rattle.std.specs.Prelude.{Option, None, Some, slice_get, slice_index_or, if◌then◌else◌, nat_le}
 use Rattle.std.proofs.lemmas.Bool.{cases_eq, cases_lt, leb-true, le-leb}
-use Rattle.std.proofs.lemmas.List.{length-map, length-take-le, take-append-le, drop_all}
+use Rattle.std.proofs.lemmas.List.{length-map, take-append-le, drop_all}
 use Rattle.std.proofs.lemmas.List.FromFn.{get_or-map-range_with_len}
 use Rattle.rvc_base.specs.Storing.{conv}
 use Rattle.rvc_base.specs.Behaviour.{Behaviour}
@@ -10,25 +10,24 @@ use Rattle.rvc_base.specs.Lawful.{AgreeOn, IsLawful, tokens_on}
 use Rattle.net_model.specs.declared.wiring.End.{End}
 use Rattle.net_model.specs.declared.wiring.End.TheVariants.{Leaf as AtLeaf, Net as AtNet}
 use Rattle.net_model.specs.declared.wiring.Link.{Link}
-use Rattle.net_model.specs.Network.{Leaf, Network, is_input, is_output, is_outside, is_leaf_port}
+use Rattle.net_model.specs.Network.{Network, is_input, is_outside, is_leaf_port}
 use Rattle.net_model.specs.State.{Flow, State, untaken, waiting, inbox, inboxes, effect_of, effect_at, choice_of, choice_at, give_of}
-use Rattle.net_model.specs.Event.{each_flow}
 use Rattle.net_model.specs.Ends.{AllArrived, HasLessRoom, IsSettled, LacksOn, LacksRoom, all_fed, with_rest}
 use Rattle.net_model.specs.Wired.{CoversNeeds, HoldsNeeds, IsWired}
 use Rattle.net_model.specs.Limits.{max_rate}
 use Rattle.net_model.specs.Cell.{Cell, HasRoom, LacksRoomOn, held_after, number_on, unread_room}
 use Rattle.net_model.specs.Cell.{effect_of as cell_effect, choice_of as cell_choice}
-use Rattle.net_model.specs.Ready.{OnCell, tokens_of, waiting_at}
+use Rattle.net_model.specs.Ready.{tokens_of, waiting_at}
 use Rattle.net_state.specs.Moving.{AreApart, IsWriter, sent_of}
-use Rattle.net_state.specs.Held.{IsReader, IsWorking, held_of, room_of}
-use Rattle.net_state.specs.Standing.{IsHeld, IsNetOf, LiesIn, Stands}
+use Rattle.net_state.specs.Held.{IsReader, IsWorking, held_of}
+use Rattle.net_state.specs.Standing.{IsNetOf, LiesIn, Stands}
 use Rattle.net_state.specs.Working.{AreFed, IsAtRest, LacksFrom}
 use Rattle.net_state.proofs.Gaining.{some_is, there_too}
 use Rattle.net_state.proofs.Coming.{by_bool, if_true, if_false, is_own_port, is_that_port, on_cell}
 use Rattle.net_state.proofs.Flows.{changed_at, changed_count, changed_so, inbox_alike, inbox_at, length_waiting}
 use Rattle.net_state.proofs.Moved.{waiting_all}
 use Rattle.net_state.proofs.Firings.{LeafOf, leaf_of, give_is}
-use Rattle.net_state.proofs.Roomy.{IsRow, LeastLink, NoneLeaves, none_room, room_least, room_reached}
+use Rattle.net_state.proofs.Roomy.{IsRow, none_room, room_least, room_reached}
 
 -- the greatest of the first n numbers
 abbrev greatest : ℕ → (ℕ → ℕ) → ℕ
