@@ -18,3 +18,4 @@ pub mod Standstill
 pub mod Bursting
 pub mod Grown
 pub mod Lowest
+pub mod Readied

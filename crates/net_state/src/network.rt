@@ -3,6 +3,7 @@
 ghost use Rattle.std.specs.Prelude.{◌≡◌, ◌<◌, ◌*◌, ℕ, true, IfNone, IfOk, IfSome, OnErr, Some, length, map, min, slice_get, slice_index_or, slice_set};
 ghost use Rattle.rvc_io.specs.Feeds.{PullsOnly, ReadFails};
 ghost use Rattle.port_files.specs.Coming.{EndIsTrue};
+ghost use Rattle.net_state.specs.Beginning.{AreLawfulIn};
 ghost use Rattle.net_state.specs.Filling.{AreArrivals, Fills, IsFull, IsInputLink, inflow};
 ghost use Rattle.net_state.specs.Held.{AreCounted, CanWork, capacity_of, room_of, seen};
 ghost use Rattle.net_state.specs.Moving.{IsFromCell, IsOutput, SameActors, SameMarks, carried_on};
@@ -61,6 +62,7 @@ impl<A: Firing> NetState<A> {
         ensures capacities { IfOk result (λ n. n.capacities ≡ map capacity_of links.items) }
         ensures waited { IfOk result (λ n. AreCounted (map A.cell n.cells) n.links n.waited) }
         ensures states { IfOk result (λ n. StandAtStart (seen A.cell n)) }
+        ensures lawful { IfOk result (λ n. AreLawfulIn (seen A.cell n)) }
     {
         let capacities = first_capacities(alloc, &links)?;
         let mut waited = zeros(alloc, links.len())?;
