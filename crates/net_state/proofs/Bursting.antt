@@ -1,9 +1,10 @@
 -- A burst of one cell: the state that it leads to, and what stays true of what is held.
 use Rattle.std.proofs.Common.{◌≡◌, ◌≢◌, ℕ, zero, suc, ◌+◌, ◌-◌, ◌<◌, ◌≤◌, true, false, List, [], ◌∷◌, ◌++◌, ℤ, length, map, drop, refl, sym, ap, subst, ◌∙◌, ⊎_elim, inl, inr, arith, length-append, length-drop, append-nil, append_assoc}
-use Rattle.std.specs.Prelude.{Some, slice_get, slice_set, slice_index_or}
-use Rattle.std.proofs.lemmas.Bool.{cases_eq}
+use Rattle.std.specs.Prelude.{None, Some, slice_get, slice_set, slice_index_or}
+use Rattle.std.proofs.lemmas.Bool.{cases_eq, cases_lt}
 use Rattle.std.proofs.lemmas.List.{length-set}
 use Rattle.rvc_base.specs.Storing.{conv}
+use Rattle.rvc_base.specs.Behaviour.{Picks}
 use Rattle.rvc_base.specs.Lawful.{IsLawful, tokens_on}
 use Rattle.net_model.specs.declared.firing.BurstEnd.{BurstEnd}
 use Rattle.net_model.specs.declared.firing.BurstEnd.TheVariants as burst
@@ -19,19 +20,25 @@ use Rattle.net_model.specs.State.{State, choice_at, effect_at}
 use Rattle.net_model.specs.Cell.{AreRooms, Cell, EndsBurst, FireInTurn, FiresTo, FitsQueues, HasNothingOut, HasRoom, IsEnabled, IsLeftByTrap, IsSame, IsSameActor, Looks, Tries, SameInboxes, SameOutboxes, held_after, number_on}
 use Rattle.net_model.specs.Cell.{choice_of as cell_choice, effect_of as cell_effect}
 use Rattle.net_model.specs.Ready.{OnCell, tokens_of, waiting_at}
+use Rattle.net_model.specs.Ends.{all_fed}
+use Rattle.net_model.specs.Wired.{IsWired}
 use Rattle.net_model.specs.Trace.{OnNext}
 use Rattle.net_model.specs.Paced.{Halt, HaltsAt, HasRoomIn, IsBurst}
 use Rattle.net_model.proofs.Arriving.{set_twice}
 use Rattle.net_state.specs.Moving.{IsWriter, SameActors, SameMarks, sent_from, sent_of}
 use Rattle.net_state.specs.Held.{HasRooms, IsLeft, IsReader, IsWorking, held_of}
-use Rattle.net_state.specs.Standing.{IsNetOf, IsOpened, LiesIn, Stands, StandsSince}
-use Rattle.net_state.specs.Working.{BurstsAt, GoesOn, IsAtRest, LookedAt, LooksAt, LooksIn, TriedAt, TriesAt, TriesIn, WorksAt, halt_of, journal_of, traps, tried_traps}
+use Rattle.net_state.specs.Standing.{IsNetOf, IsOpened, LiesIn, Stands, StandsIn, StandsSince}
+use Rattle.net_state.specs.Working.{AreFed, BurstsAt, GoesOn, HasAction, IsAtRest, LookedAt, LooksAt, LooksFed, LooksIn, NamesAction, TriedAt, TriesAt, TriesIn, WorksAt, halt_of, journal_of, traps, tried_traps}
 use Rattle.net_state.proofs.Gaining.{actor_then, some_is, there_too, get_set_same, get_set_other, same_actor}
 use Rattle.net_state.proofs.Coming.{is_own_port, is_that_port, on_cell, on_some}
 use Rattle.net_state.proofs.Kept.{moved_rooms, same_few, same_inbox, same_outbox, same_read, same_reader, same_writer}
 use Rattle.net_state.proofs.Narrowing.{same_shape}
 use Rattle.net_state.proofs.Firings.{actors_set, choice_is, effect_is, fired_net, fired_opened, fired_stands, fires_here, later}
+use Rattle.net_state.proofs.Standstill.{choice_fed, effect_fed, lacks_link, none_lacks, settled}
 use Rattle.net_state.proofs.Roomy.{IsRow, are_rooms, has_room_in, passes_room, room_least}
+
+some_none : {A : Type 0} {x : A} → Some x ≡ None → ⊥
+some_none h = cc
 
 -- One cell is set.
 
@@ -120,6 +127,7 @@ module _ {X : Type 0} (cells : List (Cell X)) (i : ℕ) (cell new : Cell X) (at 
       read = same_read cells (slice_set cells i new) (same_set same) links working.read;
       few_given = same_few cells (slice_set cells i new) (same_set same) working.few_given;
       few_held = working.few_held;
+      few_links = working.few_links;
     }
 
   -- where its tokens are the same all that is held stays so
@@ -532,12 +540,45 @@ module _ {X : Type 0} (cells : List (Cell X)) (links : List Link) (capacities wa
       )
       looks_by (look.GuardTrap action cause) looks = chosen_now ∙ looks
 
+    module _ (rest : IsAtRest (held_of cells links capacities waited)) (net : Network X) (s : State X) (that : StandsIn net (held_of cells links capacities waited) s)
+        (wired : IsWired net) (fed : AreFed net s) where
+      fed_now : choice_at net (all_fed net s) i ≡ cell_choice b.before
+      fed_now = choice_fed net cells links capacities waited s that.is_of that.stands working rest wired fed i b.before b.at free b.lawful
+
+      fed_by : (o : Look) → Looks row b.before o → LooksFed net s i o
+      fed_by look.Waits looks = (
+        fed_now ∙ looks,
+        λ a. effect_fed net cells links capacities waited s that.is_of that.stands working rest wired fed i b.before b.at free b.lawful a ∙ b.lawful.waits b.before.state b.before.inboxes looks a,
+      )
+      fed_by (look.Ready action) looks =
+          (fed_now ∙ looks.0, none_lacks net cells links capacities waited s that.is_of that.stands working rest i b.before b.at row (row_is b.before b.at) action.0 looks.1)
+      fed_by (look.NoRoom action port) looks =
+          (fed_now ∙ looks.0, lacks_link net cells links capacities waited s that.is_of that.stands working rest i b.before b.at row (row_is b.before b.at) action.0 port looks.1)
+      fed_by (look.GuardTrap action cause) looks = fed_now ∙ looks
+
+    action_there : (a : ℕ) → (cell_effect b.before a ≡ None → ⊥) → HasAction cells i a
+    action_there a some = on_some (slice_get cells i) (λ cell. a < cell.actor.actions) b.before b.at
+        (⊎_elim (λ low. low) (λ high. absurd (some (b.lawful.no_effect_beyond b.before.state b.before.inboxes a (omega (arith, high))))) (cases_lt a b.before.actor.actions))
+
+    picked_there : (a : ℕ) → cell_choice b.before ≡ Picks a → HasAction cells i a
+    picked_there a picks = action_there a (λ none. ⊎_elim (λ fires. some_none (sym fires.2 ∙ none)) (λ body. some_none (sym body.1 ∙ none))
+        (b.lawful.picks b.before.state b.before.inboxes a picks))
+
+    named_by : (o : Look) → Looks row b.before o → NamesAction cells i o
+    named_by look.Waits looks = tt
+    named_by (look.Ready action) looks = picked_there action.0 looks.0
+    named_by (look.NoRoom action port) looks = picked_there action.0 looks.0
+    named_by (look.GuardTrap action cause) looks =
+        action_there action.0 (λ none. some_none (sym (b.lawful.faults b.before.state b.before.inboxes action.0 cause looks) ∙ none))
+
     pub looks_at : LooksAt i result (held_of cells links capacities waited) (held_of new links capacities waited)
     looks_at = record {
       states = λ net opened s that. (
         looks_by net opened s that result b.looks,
         subst (λ cs. StandsSince net (held_of cs links capacities waited) opened s) (sym b.is) (calm_since b.before b.after b.at look_calm net opened s that),
       );
+      ends = λ rest net s that wired fed. (settled net cells links capacities waited s that.is_of that.stands working rest, fed_by rest net s that wired fed result b.looks);
+      named = named_by result b.looks;
       journal = ap (λ cs. journal_of (slice_get cs i)) b.is ∙ (ap (λ o. journal_of o) (get_set_same cells i b.before b.after b.at) ∙ (b.same.journal ∙ sym (ap (λ o. journal_of o) b.at)));
       elsewhere = λ k differ. ap (λ cs. slice_get cs k) b.is ∙ get_set_other cells k i b.after differ;
       rests = λ rest. subst (λ cs. IsAtRest (held_of cs links capacities waited)) (sym b.is) (calm_rests cells links capacities waited working i b.before b.after b.at look_calm rest);

@@ -245,6 +245,7 @@ module _ {X : Type 0} (old mid new : List (Cell X)) (links : List Link) (capacit
     read = same_read old new moved_same links working.read;
     few_given = same_few old new moved_same working.few_given;
     few_held = working.few_held;
+    few_links = working.few_links;
   }
 
   -- the state that a delivery leads to, and opens
@@ -374,6 +375,7 @@ module _ {X : Type 0} (old new : List (Cell X)) (links : List Link) (capacities 
     read = same_read old new filled_same links working.read;
     few_given = same_few old new filled_same working.few_given;
     few_held = working.few_held;
+    few_links = working.few_links;
   }
 
   pub filled_rooms : (table : List (List ℕ)) → HasRooms old links capacities waited table → HasRooms new links capacities waited table

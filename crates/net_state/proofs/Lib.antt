@@ -14,5 +14,8 @@ pub mod Feeding
 pub mod Fed
 pub mod Firings
 pub mod Roomy
+pub mod Standstill
 pub mod Bursting
 pub mod Grown
+pub mod Lowest
+pub mod Readied

@@ -32,7 +32,7 @@ same_part part (before ∷ old) (after ∷ new) count same =
     ap (λ x. x ∷ map part new) (same zero before after refl refl) ∙ ap (λ xs. part before ∷ xs) rest
 
 -- what waits once all has arrived
-waiting_all : (sent : List ℤ) (arrived taken : ℕ) → taken ≤ arrived → arrived ≤ length sent
+pub waiting_all : (sent : List ℤ) (arrived taken : ℕ) → taken ≤ arrived → arrived ≤ length sent
     → drop taken (take (length sent) sent) ≡ drop taken (take arrived sent) ++ drop arrived sent
 waiting_all sent arrived taken before within =
     let len : length (take arrived sent) ≡ arrived = length-take-le arrived sent within in

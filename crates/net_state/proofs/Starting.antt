@@ -3,10 +3,10 @@ use Rattle.std.proofs.Common.{◌≡◌, ℕ, zero, suc, ◌+◌, ◌<◌, ◌�
 use Rattle.std.specs.Prelude.{Some, slice_get, slice_index_or}
 use Rattle.std.proofs.lemmas.Bool.{cases_eq}
 use Rattle.std.proofs.lemmas.List.{length-map, drop_at}
-use Rattle.std.proofs.lemmas.Option.{slice_get-map}
+use Rattle.std.proofs.lemmas.Option.{slice_get-map, slice_get_within}
 use Rattle.std.specs.Option.{option_map}
 use Rattle.rvc_base.specs.Storing.{conv}
-use Rattle.rvc_base.specs.Lawful.{tokens_on}
+use Rattle.rvc_base.specs.Lawful.{IsLawful, tokens_on}
 use Rattle.net_model.specs.declared.wiring.End.{End}
 use Rattle.net_model.specs.declared.wiring.End.TheVariants.{Leaf as AtLeaf, Net as AtNet}
 use Rattle.net_model.specs.declared.wiring.Link.{Link}
@@ -14,6 +14,7 @@ use Rattle.net_model.specs.Network.{Network, is_outside, is_leaf_port}
 use Rattle.net_model.specs.State.{waiting, inbox, fed_by}
 use Rattle.net_model.specs.Cell.{Cell, HasNothingOut, unread_room}
 use Rattle.net_model.specs.Ready.{OnCell, waiting_at, tokens_of, given_flow}
+use Rattle.net_state.specs.Beginning.{AreLawfulCells}
 use Rattle.net_state.specs.Moving.{IsWriter, sent_of, sent_from}
 use Rattle.net_state.specs.Held.{AreCounted, CanWork, FitsIn, HasRooms, HoldFew, HasShapeOf, HasWidths, IsReader, IsRoomTable, IsWorking, NoneLeads, capacity_of}
 use Rattle.net_state.specs.Standing.{AreHeld, IsHeld, LiesIn, StandAtStart}
@@ -40,13 +41,14 @@ few_more (first ∷ numbers) n few most (suc l) = few_more numbers n (λ k. few 
 pub record IsTabling {X : Type 0} (n : ℕ) (cells : List (Cell X)) (table : List (List ℕ)) : Type 0 where
   pub rows : length table ≡ n
   pub widths : (i : ℕ) (cell : Cell X) (row : List ℕ) → slice_get cells i ≡ Some cell → slice_get table i ≡ Some row → length row ≡ cell.actor.outs
+  pub lawful : (i : ℕ) (cell : Cell X) → i < n → slice_get cells i ≡ Some cell → IsLawful cell.actor
 
 pub tabling_starts : {X : Type 0} (cells : List (Cell X)) → IsTabling 0 cells []
-tabling_starts cells = record { rows = refl; widths = λ i cell row at is. cc }
+tabling_starts cells = record { rows = refl; widths = λ i cell row at is. cc; lawful = λ i cell low. absurd (omega (arith, low)) }
 
 pub tabling_more : {X : Type 0} (n outs : ℕ) (cells : List (Cell X)) (table : List (List ℕ)) (row : List ℕ) → IsTabling n cells table
-    → OnCell (slice_get cells n) (λ cell. outs ≡ cell.actor.outs) → length row ≡ outs → IsTabling (n + 1) cells (table ++ row ∷ [])
-tabling_more n outs cells table row so_far here len = record {
+    → OnCell (slice_get cells n) (λ cell. outs ≡ cell.actor.outs) → OnCell (slice_get cells n) (λ cell. IsLawful cell.actor) → length row ≡ outs → IsTabling (n + 1) cells (table ++ row ∷ [])
+tabling_more n outs cells table row so_far here law len = record {
   rows = length-append table (row ∷ []) ∙ (let one : length table + 1 ≡ n + 1 = omega (arith, so_far.rows) in one);
   widths = λ i cell that at is.
       let pushed = get_pushed table row i that is in
@@ -57,7 +59,15 @@ tabling_more n outs cells table row so_far here len = record {
       ap (λ r. length r) (pushed.1 same) ∙ (len ∙ (on.2 ∙ sym (ap (λ c. c.actor.outs) cell_is))))
       (λ differ. so_far.widths i cell that at (pushed.0 (omega (arith, differ, pushed.2))))
       (cases_eq i (length table));
+  lawful = λ i cell low at. ⊎_elim
+      (λ same. let on = on_cell (slice_get cells n) (λ c. IsLawful c.actor) law in
+      subst (λ c. IsLawful c.actor) (some_is on.0 cell (sym on.1 ∙ (ap (slice_get cells) (sym same) ∙ at))) on.2)
+      (λ differ. so_far.lawful i cell (omega (arith, low, differ)) at)
+      (cases_eq i n);
 }
+
+pub tabled_lawful : {X : Type 0} (n : ℕ) (cells : List (Cell X)) (table : List (List ℕ)) → IsTabling n cells table → n ≡ length cells → AreLawfulCells cells
+tabled_lawful n cells table so_far all i cell at = so_far.lawful i cell (omega (arith, all, slice_get_within cells i cell at)) at
 
 pub tabled_all : {X : Type 0} (n : ℕ) (cells : List (Cell X)) (table : List (List ℕ)) → IsTabling n cells table → n ≡ length cells → HasWidths cells table
 tabled_all n cells table so_far all = record { rows = so_far.rows ∙ all; widths = so_far.widths }
@@ -102,6 +112,7 @@ start_working cells links waited can counted few = record {
   read = can.read;
   few_given = can.few_given;
   few_held = few;
+  few_links = can.few_links;
 }
 
 pub readers_at_start : {X : Type 0} (cells : List (Cell X)) (links : List Link) → CanWork cells links → (l : ℕ) (link : Link) → slice_get links l ≡ Some link → IsReader cells link.to

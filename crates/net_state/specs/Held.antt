@@ -8,7 +8,7 @@ use Rattle.net_model.specs.declared.wiring.End.TheVariants.{Leaf as AtLeaf, Net 
 use Rattle.net_model.specs.declared.wiring.Link.{Link}
 use Rattle.net_model.specs.Network.{is_input, is_output, is_leaf_port}
 use Rattle.net_model.specs.Cell.{Cell, number_on, unread_room, HasNothingOut}
-use Rattle.net_model.specs.Limits.{max_rate}
+use Rattle.net_model.specs.Limits.{max_links, max_rate}
 use Rattle.net_model.specs.Ready.{OutboxHolds, InboxHolds, waiting_at}
 use Rattle.net_state.specs.Moving.{IsInput, IsWriter, AreApart, sent_from}
 
@@ -114,6 +114,7 @@ pub record IsWorking {X : Type 0} (cells : List (Cell X)) (links : List Link) (c
       → (p : ℕ) → p < cell.actor.outs → (0 < number_on cell.outbox_capacities p) ↔ IsLeft links i p
   pub few_given : GivesFew cells
   pub few_held : HoldFew capacities
+  pub few_links : length links ≤ max_links
 
 -- the table has a row for each cell, and in it a place for each of its output ports
 pub record HasWidths {X : Type 0} (cells : List (Cell X)) (table : List (List ℕ)) : Type 0 where
@@ -148,6 +149,7 @@ pub record CanWork {X : Type 0} (cells : List (Cell X)) (links : List Link) : Ty
   pub read : (i : ℕ) (cell : Cell X) → slice_get cells i ≡ Some cell
       → (p : ℕ) → p < cell.actor.outs → (0 < number_on cell.outbox_capacities p) ↔ IsLeft links i p
   pub few_given : GivesFew cells
+  pub few_links : length links ≤ max_links
   -- nothing was sent, and no journal names a firing
   pub all_out : (i : ℕ) (cell : Cell X) → slice_get cells i ≡ Some cell → HasNothingOut cell
   -- before an input port to which no link leads no token waits

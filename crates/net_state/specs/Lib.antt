@@ -3,3 +3,4 @@ pub mod Held
 pub mod Standing
 pub mod Filling
 pub mod Working
+pub mod Beginning

@@ -1,6 +1,5 @@
 -- What the work of one cell does to the network.
--- Trusted: part of what a promise means.
-use Rattle.std.specs.Prelude.{◌≡◌, ◌≢◌, ℕ, ◌+◌, ◌≤◌, ◌⊎◌, Bool, true, false, List, [], ◌++◌, length, slice_get, slice_set, slice_index_or, Option, None, Some}
+use Rattle.std.specs.Prelude.{◌≡◌, ◌≢◌, ℕ, ◌+◌, ◌-◌, ◌≤◌, ◌<◌, ◌⊎◌, ◌↔◌, Bool, true, false, List, [], ◌++◌, length, slice_get, slice_set, slice_index_or, Option, None, Some}
 use Rattle.rvc_base.specs.Behaviour.{Faults, Picks, TrapsInBody, TrapsInGuard, Waits}
 use Rattle.rvc_base.specs.Lawful.{IsLawful}
 use Rattle.net_model.specs.declared.firing.BurstEnd.{BurstEnd}
@@ -9,16 +8,20 @@ use Rattle.net_model.specs.declared.firing.Look.{Look}
 use Rattle.net_model.specs.declared.firing.Look.TheVariants as look
 use Rattle.net_model.specs.declared.firing.Tried.{Tried}
 use Rattle.net_model.specs.declared.firing.Tried.TheVariants as tried
+use Rattle.net_model.specs.declared.wiring.End.{End}
+use Rattle.net_model.specs.declared.wiring.End.TheVariants.{Leaf as AtLeaf, Net as AtNet}
 use Rattle.net_model.specs.declared.wiring.Link.{Link}
 use Rattle.net_model.specs.Network.{Network, is_input}
-use Rattle.net_model.specs.State.{State, choice_at, effect_at}
+use Rattle.net_model.specs.State.{Flow, State, choice_at, effect_at, untaken}
+use Rattle.net_model.specs.Ends.{IsSettled, LacksRoom, all_fed}
+use Rattle.net_model.specs.Wired.{IsWired}
 use Rattle.net_model.specs.Event.{Fire, happens}
 use Rattle.net_model.specs.Trace.{OnNext, grown}
 use Rattle.net_model.specs.Cell.{AreRooms, Bursts, Cell, FitsQueues, IsEnabled, IsSame, Looks, Tries}
 use Rattle.net_model.specs.Ready.{InboxHolds, OnCell, OutboxHolds, waiting_at}
 use Rattle.net_model.specs.Paced.{Halt, HasRoomIn, IsBurst, PassesLink, NoRoom, Spent, Trapping, Waiting}
 use Rattle.net_state.specs.Held.{Held}
-use Rattle.net_state.specs.Standing.{AreAllOut, StandsSince}
+use Rattle.net_state.specs.Standing.{AreAllOut, StandsIn, StandsSince}
 
 -- cell i is there and hasn't trapped
 abbrev pub MayWork : {X : Type 0} → List (Cell X) → ℕ → Type 0
@@ -84,6 +87,69 @@ pub record WorksAt {X : Type 0} (i limit : ℕ) (end : BurstEnd) (old new : Held
   -- where nothing fired the network is at rest as before
   pub rests : actions ≡ [] → IsAtRest old → IsAtRest new
 
+-- What ends judge.
+
+-- a link leads from port p of leaf i, and what is given there passes its room
+abbrev pub LacksFrom : (ℕ → ℕ) → ℕ → ℕ → End → Type 0
+LacksFrom gives i room (AtLeaf inst port) = (i ≡ inst.0) × (room < gives port)
+LacksFrom gives i room (AtNet port) = ⊥
+
+-- each input link holds its capacity, or all of its feed has arrived
+abbrev pub AreFed : {X : Type 0} → Network X → State X → Type 0
+AreFed net s = (l : ℕ) (link : Link) (flow : Flow) → slice_get net.links l ≡ Some link → slice_get s.flows l ≡ Some flow
+    → is_input link ≡ true → (untaken flow ≡ flow.capacity) ⊎ (flow.arrived ≡ length flow.sent)
+
+-- what leaf i would do next, with the rest of the feeds counted as arrived
+abbrev pub LooksFed : {X : Type 0} → Network X → State X → ℕ → Look → Type 0
+LooksFed net s i look.Waits =
+    (choice_at net (all_fed net s) i ≡ Waits) × ((a : ℕ) → effect_at net (all_fed net s) i a ≡ None)
+LooksFed net s i (look.Ready action) =
+    (choice_at net (all_fed net s) i ≡ Picks action.0) × ((l : ℕ) → LacksRoom net (all_fed net s) i action.0 l → ⊥)
+LooksFed net s i (look.NoRoom action port) =
+    (choice_at net (all_fed net s) i ≡ Picks action.0) × ((l : ℕ) × LacksRoom net (all_fed net s) i action.0 l)
+LooksFed net s i (look.GuardTrap action cause) = choice_at net (all_fed net s) i ≡ Faults action.0 cause
+
+-- what the ends of a run say of leaf i, in each state of a network that is wired and whose feeds came as far as they may
+abbrev pub EndsSee : {X : Type 0} → ℕ → Look → Held (Cell X) → Type 0
+EndsSee {X} i look held = (net : Network X) (s : State X) → StandsIn net held s → IsWired net → AreFed net s
+    → IsSettled net s × LooksFed net s i look
+
+-- what an action of a cell gives by port
+abbrev pub gives_of : {X : Type 0} → Option (Cell X) → ℕ → ℕ → ℕ
+gives_of None a p = 0
+gives_of (Some cell) a p = cell.actor.give a p
+
+-- action a of cell i lacks room on this link
+abbrev pub LacksOnLink : {X : Type 0} → List (Cell X) → ℕ → ℕ → ℕ → Option Link → Type 0
+LacksOnLink cells i a room None = ⊥
+LacksOnLink cells i a room (Some link) = LacksFrom (gives_of (slice_get cells i) a) i room link.from
+
+-- .. and so on link l of those that are held
+abbrev pub LacksAt : {X : Type 0} → Held (Cell X) → ℕ → ℕ → ℕ → Type 0
+LacksAt held i a l =
+    LacksOnLink held.cells i a (slice_index_or held.capacities l 0 - slice_index_or held.waited l 0) (slice_get held.links l)
+
+-- On links where this is told it is as the ends of a run have it, in each state that stands.
+abbrev pub LacksAsEnds : {X : Type 0} → Held (Cell X) → ℕ → ℕ → Type 0
+LacksAsEnds {X} held i a = (net : Network X) (s : State X) (l : ℕ) → StandsIn net held s
+    → LacksRoom net (all_fed net s) i a l ↔ LacksAt held i a l
+
+-- the lowest link on which action a of cell i lacks room
+pub record IsLowestLacking {X : Type 0} (held : Held (Cell X)) (i a l : ℕ) : Type 0 where
+  pub lacks : LacksAt held i a l
+  pub first : (m : ℕ) → m < l → LacksAt held i a m → ⊥
+
+-- cell i is there, and has action a
+abbrev pub HasAction : {X : Type 0} → List (Cell X) → ℕ → ℕ → Type 0
+HasAction cells i a = OnCell (slice_get cells i) (λ cell. a < cell.actor.actions)
+
+-- an action that is named is one of the cell's
+abbrev pub NamesAction : {X : Type 0} → List (Cell X) → ℕ → Look → Type 0
+NamesAction cells i look.Waits = Unit {0}
+NamesAction cells i (look.Ready action) = HasAction cells i action.0
+NamesAction cells i (look.NoRoom action port) = HasAction cells i action.0
+NamesAction cells i (look.GuardTrap action cause) = HasAction cells i action.0
+
 -- Looking, and actions that are tried.
 
 -- cell i was looked at, and nothing that is seen of the cells changed
@@ -118,6 +184,8 @@ LooksIn net opened s i (look.GuardTrap action cause) = choice_at net s i ≡ Fau
 pub record LooksAt {X : Type 0} (i : ℕ) (look : Look) (old new : Held (Cell X)) : Type 0 where
   pub states : (net : Network X) (opened s : State X) → StandsSince net old opened s
       → LooksIn net opened s i look × StandsSince net new opened s
+  pub ends : IsAtRest old → EndsSee i look old
+  pub named : NamesAction old.cells i look
   pub journal : journal_of (slice_get new.cells i) ≡ journal_of (slice_get old.cells i)
   pub elsewhere : (k : ℕ) → k ≢ i → slice_get new.cells k ≡ slice_get old.cells k
   pub rests : IsAtRest old → IsAtRest new

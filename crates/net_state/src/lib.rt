@@ -5,6 +5,8 @@ mod carrying;
 mod delivering;
 mod filling;
 mod growing;
+mod lacking;
+mod laws;
 mod network;
 mod places;
 mod rooms;
@@ -13,4 +15,5 @@ mod waiting;
 mod working;
 
 pub use filling::Filled;
+pub use laws::ready_networks_can_work;
 pub use network::NetState;

@@ -1,18 +1,20 @@
 //! A network at work.
 
-ghost use Rattle.std.specs.Prelude.{◌≡◌, ◌<◌, ◌*◌, true, IfOk, OnErr, Some, length, map, min, slice_get, slice_index_or, slice_set};
+ghost use Rattle.std.specs.Prelude.{◌≡◌, ◌<◌, ◌*◌, ℕ, true, IfNone, IfOk, IfSome, OnErr, Some, length, map, min, slice_get, slice_index_or, slice_set};
 ghost use Rattle.rvc_io.specs.Feeds.{PullsOnly, ReadFails};
 ghost use Rattle.port_files.specs.Coming.{EndIsTrue};
+ghost use Rattle.net_state.specs.Beginning.{AreLawfulIn};
 ghost use Rattle.net_state.specs.Filling.{AreArrivals, Fills, IsFull, IsInputLink, inflow};
 ghost use Rattle.net_state.specs.Held.{AreCounted, CanWork, capacity_of, room_of, seen};
 ghost use Rattle.net_state.specs.Moving.{IsFromCell, IsOutput, SameActors, SameMarks, carried_on};
-ghost use Rattle.net_state.specs.Working.{CanHold, GrewTo, IsAtRest, LooksAt, MayBurst, MayWork, TriesAt, WorksAt, journal_of};
+ghost use Rattle.net_state.specs.Working.{CanHold, GrewTo, HasAction, IsAtRest, IsLowestLacking, LacksAsEnds, LacksAt, LooksAt, MayBurst, MayWork, TriesAt, WorksAt, journal_of};
 ghost use Rattle.net_state.specs.Standing.{AreAllOut, IsTrueOfUnarrived, LeadInside, StandAtStart};
 
 use crate::carrying::{sent_along, token_along};
 use crate::delivering::{deliver_inside, lay_out};
 use crate::filling::{Filled, fill_link};
 use crate::growing::grow_link;
+use crate::lacking::lowest_lacking;
 use crate::tables::{first_capacities, room_table, zeros};
 use crate::working::{burst_at, look_at, try_at};
 use net_model::{BurstEnd, Firing, Link, Look, Tried};
@@ -64,6 +66,7 @@ impl<A: Firing> NetState<A> {
         ensures capacities { IfOk result (λ n. n.capacities ≡ map capacity_of links.items) }
         ensures waited { IfOk result (λ n. AreCounted (map A.cell n.cells) n.links n.waited) }
         ensures states { IfOk result (λ n. StandAtStart (seen A.cell n)) }
+        ensures lawful { IfOk result (λ n. AreLawfulIn (seen A.cell n)) }
     {
         let capacities = first_capacities(alloc, &links)?;
         let mut waited = zeros(alloc, links.len())?;
@@ -124,6 +127,25 @@ impl<A: Firing> NetState<A> {
     {
         let i = inst.0 as usize;
         look_at(&mut self.cells, i, &self.rooms[i])
+    }
+
+    /// The lowest link on which an action of a cell lacks room, as the ends of a run have it: what it gives passes
+    /// the present capacity less the tokens that wait. The network is at rest.
+    pub fn lacking(&self, inst: InstId, action: ActId) -> Option<LinkId>
+        requires action { HasAction (map A.cell self.now.cells) inst.0 action.0 }
+        requires rest { IsAtRest (seen A.cell self.now) }
+        ensures some { IfSome result (λ link. IsLowestLacking (seen A.cell self.now) inst.0 action.0 link.0) }
+        ensures none { IfNone result ((l : ℕ) → LacksAt (seen A.cell self.now) inst.0 action.0 l → ⊥) }
+        ensures as_ends { LacksAsEnds (seen A.cell self.now) inst.0 action.0 }
+    {
+        lowest_lacking(
+            &self.cells,
+            &self.links,
+            &self.capacities,
+            &self.waited,
+            inst,
+            action,
+        )
     }
 
     /// Fires a named action of a cell where it is exposed and enabled, has room and doesn't trap. No journal

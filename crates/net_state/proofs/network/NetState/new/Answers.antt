@@ -1,6 +1,8 @@
 use Rattle.std.proofs.Common.{map, take, drop, length, arith, sym, subst, rules, ◌≡◌, ◌++◌}
+use Rattle.net_state.specs.Beginning.{AreLawfulCells}
 use Rattle.net_state.specs.Standing.{StandAtStart}
 use Rattle.net_state.specs.Held.{capacity_of}
+use Rattle.net_state.proofs.Readied.{lawful_net}
 use Rattle.net_state.proofs.Slices.{written_back}
 use Rattle.net_state.proofs.Starting.{start_stands}
 use Rattle.net_state.proofs.network.NetState.new.Goals as goal
@@ -13,3 +15,8 @@ returns-clause-states g c =
     rw waited
     (subst (λ ns. StandAtStart (record { cells = map g.A.Firing.cell c.args.cells.items; links = c.args.links.items; capacities = ns; waited = c.lay_out.new.waited })) (sym same)
     (start_stands (map g.A.Firing.cell c.args.cells.items) c.args.links.items c.lay_out.new.waited c.requires.can_work))
+
+pub returns-clause-lawful : goal.returns-clause-lawful
+returns-clause-lawful g c =
+    let lawful : AreLawfulCells (map g.A.Firing.cell c.args.cells.items) = search rules in
+    lawful_net (map g.A.Firing.cell c.args.cells.items) c.args.links.items lawful
