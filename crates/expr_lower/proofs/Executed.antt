@@ -84,7 +84,7 @@ module _ (outer : List Name) (w : World) (frames : List ℕ) where
       (at_turn : slice_get w.code.instrs (base + 1) ≡ Some op.Turn) (at_body : StandsAt w.code.instrs (base + 2) b) (at_test : StandsAt w.code.instrs head a)
       (at_back : slice_get w.code.instrs (head + length a) ≡ Some (op.Jump (base + 1)))
       (laid : Laid n inner) (apart : AreApart n m w.low w.high) where
-    -- from the condition on, where the loop goes on as this does
+    -- from the condition on, if the loop goes on as this does
     from_test : (rest : Env → ℕ → Out Env) (stack cells : List ℤ) (env : Env) (left : ℕ) → Inside inner cells env
         → ((now : List ℤ) (next : Env) (i : ℕ) → i < left → Inside inner now next → Follows (rest next i) (Moves outer w frames inner n m (state head stack frames now i) out (length next.locals)) (BreaksOff w (inner ++ outer) n m (state head stack frames now i)))
         → Follows (and_then (eval test w.calls env left) (λ v j. chosen v (λ i. turn i (λ h. and_then (M env h) rest)) (λ i. Gives env i) j)) (Moves outer w frames inner n m (state head stack frames cells left) out (length env.locals)) (BreaksOff w (inner ++ outer) n m (state head stack frames cells left))

@@ -71,7 +71,7 @@ module _ (code : Code) (callable limit : ℕ) where
   abbrev Fit : ℕ → ℕ → List Instr → ℕ → ℕ → ℕ → Type 0
   Fit base h instrs k out e = Fits code callable limit base h instrs k out e
 
-  -- two parts side by side, of which the first may jump to `o` in the second, or past it where that may
+  -- two parts side by side, of which the first may jump to `o` in the second, or past it if that may
   pub fits_then : (base h k m o d out e : ℕ) (a b : List Instr) (x : Fit base h a k o d) (y : Fit (base + length a) k b m out e)
       → base + length a ≤ o → y.height o ≡ d → (o ≤ base + length a + length b) ⊎ (o ≡ out) → base + length a ≤ out
       → (z : Fit base h (a ++ b) m out e) × ((p : ℕ) → base + length a ≤ p → z.height p ≡ y.height p)
@@ -159,7 +159,7 @@ module _ (code : Code) (callable limit : ℕ) where
       one zero x e = let same : i ≡ x = cc in subst (λ y. FitsAt code callable limit base (base + 1) (base + 1) (glued (λ p. h) (λ p. k) (base + 1)) (base + 0) y) same fit
       one (suc j) x e = cc
 
-  -- a jump where a value is false
+  -- a jump if a value is false
   pub fits_branch : (base h out : ℕ) → base < out → Fit base (h + 1) (op.JumpIfNot out ∷ []) h out h
   fits_branch base h out less = record {
     height = glued (λ p. h + 1) (λ p. h) (base + 1);
@@ -289,7 +289,7 @@ module _ (code : Code) (callable limit : ℕ) where
   single_below n (Single t) (Tokens port first step) s h le = tt
   single_below n (Many k items) seat s h le = absurd s
 
-  -- a condition, a part that goes on where it is true, and a part to which it jumps where it is false
+  -- a condition, a part that goes on if it is true, and a part to which it jumps if it is false
   pub branch : (h k base out : ℕ) (a b c : List Instr) (x : Fit base h a h out h) (y : Plain (base + length a) h b k) (z : Plain (base + length a + length b) k c k)
       → base + length a + length b ≤ out → out ≤ base + length a + length b + length c → z.height out ≡ h
       → Plain base h (a ++ (b ++ c)) k
@@ -303,7 +303,7 @@ module _ (code : Code) (callable limit : ℕ) where
       let whole : end ≡ base + length (a ++ (b ++ c)) = omega (arith, size, all) in
       subst (λ o. Fits code callable limit base h (a ++ (b ++ c)) k o k) whole done.0
 
-  -- the same where the first part is one instruction
+  -- the same if the first part is one instruction
   short : (h base out : ℕ) (a : List Instr) (i : Instr) (c : List Instr) (x : Fit base h a h out h) (y : Plain (base + length a) h (i ∷ []) (h + 1)) (z : Plain (base + length a + 1) (h + 1) c (h + 1))
       → base + length a + 1 ≤ out → out ≤ base + length a + 1 + length c → z.height out ≡ h
       → Plain base h (a ++ (i ∷ c)) (h + 1)

@@ -146,11 +146,11 @@ module _ (outer : List Name) (tokens : ℕ → List ℤ) (low high : ℕ) where
 
   -- ---- assignments
 
-  -- a value of the name's type that stands in its cells; and whatever else is known where there is one
+  -- a value of the name's type that stands in its cells; and whatever else is known if there is one
   abbrev pub NewAt : Type 0 → Name → List ℤ → Value → Type 0
   NewAt P x cells w = (HasKind (kind_of_type x.shape) w × StandAt x.seat tokens cells (flat w)) × P
 
-  -- the environment after an assignment, where so many turns are left
+  -- the environment after an assignment, if so many turns are left
   abbrev pub Assigned : Type 0 → List Name → List ℤ → Env → ℕ → Env → ℕ → Type 0
   Assigned P inner cells env left next k = (k ≡ left) × HoldsInside inner cells next × (length next.locals ≡ length env.locals) × P
 

@@ -32,8 +32,8 @@ pub record BreaksOff (w : World) (names : List Name) (n m : ℕ) (s : State) (c 
   pub ends : Ends w.code w.tokens s (outcome.Trap c) cells
   pub keeps : KeepsBut names n m w.low w.high s.cells cells
 
--- How a run ends that goes as an execution does: where that gives an environment, as it ends from the place that it
--- goes on to, with cells that hold this environment; where it traps, by that trap.
+-- How a run ends that goes as an execution does: if that gives an environment, as it ends from the place that it
+-- goes on to, with cells that hold this environment; if it traps, by that trap.
 abbrev pub EndsLike : World → List Name → ℕ → ℕ → State → ℕ → Out Env → Outcome → List ℤ → Type 0
 EndsLike w names n m s end (Gives env left) o last =
     (cells : List ℤ) × KeepsBut names n m w.low w.high s.cells cells × HoldsVars names w.tokens cells env

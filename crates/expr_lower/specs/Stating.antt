@@ -23,7 +23,7 @@ mutual
         → named text names ≡ Some x → x.seat ≡ Cell c → x.shape ≡ Many size (Single t)
         → IsCode names index base n a k → IsCode names value (base + length a) k b m
         → IsStmt names (tree.assign (tree.ident text place) (tree.cons index tree.nil) value at) base n (a ++ (b ++ op.StoreAt c size (Some t) ∷ [])) m
-    -- the condition, and what is done where it is true
+    -- the condition, and what is done if it is true
     if_alone : (names : List Name) (test first : Tree) (at base n k m end : ℕ) (a b : List Instr)
         → IsTest names test base n end a k → AreStmts names first (base + length a) k b m → end ≡ base + length a + length b
         → IsStmt names (tree.if_stmt test first tree.absent at) base n (a ++ b) m
@@ -32,7 +32,7 @@ mutual
         → IsTest names test base n else_at a k → AreStmts names first (base + length a) k b h → AreStmts names other else_at h c m
         → else_at ≡ base + length a + length b + 1 → end ≡ else_at + length c
         → IsStmt names (tree.if_stmt test first (tree.present other) at) base n (a ++ (b ++ op.Jump end ∷ c)) m
-    -- A jump to the condition; a turn and the body; the condition, with a jump back to the turn where it is true.
+    -- A jump to the condition; a turn and the body; the condition, with a jump back to the turn if it is true.
     while_code : (names : List Name) (test body : Tree) (at base n k m head out : ℕ) (a b : List Instr)
         → AreStmts names body (base + 2) n b k → IsTest names test head k out a m
         → head ≡ base + 2 + length b → out ≡ head + length a + 1

@@ -155,7 +155,7 @@ fn branch(
     }
 }
 
-/// Appends an `if` without an `else`: the condition, and what is done where it is true.
+/// Appends an `if` without an `else`: the condition, and what is done if it is true.
 #[cycle(lower_stmt)]
 fn alone(
     names: &[Named],
@@ -244,7 +244,7 @@ fn repeat(
 ///
 /// # Errors
 ///
-/// `Memory` where an allocation was refused. `TooLong` where the draft has 2 to the power of 32 instructions.
+/// `Memory` if an allocation was refused. `TooLong` if the draft has 2 to the power of 32 instructions.
 /// `NotLowered` with the offset of the first part for which no code is made; of a `while` the body comes first.
 pub fn lower_stmts(names: &[Named], body: &[Stmt], draft: &mut Draft) -> Result<(), LowerFault>
     requires below { AreBelow draft.old.cells (names_view names.now) }

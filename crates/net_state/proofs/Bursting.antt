@@ -130,7 +130,7 @@ module _ {X : Type 0} (cells : List (Cell X)) (i : ℕ) (cell new : Cell X) (at 
       few_links = working.few_links;
     }
 
-  -- where its tokens are the same all that is held stays so
+  -- if its tokens are the same, all that is held stays so
   pub calm_working : (links : List Link) (capacities waited : List ℕ) → IsWorking cells links capacities waited → IsSameActor cell new → SameInboxes cell new → SameOutboxes cell new
       → IsWorking (slice_set cells i new) links capacities waited
   calm_working links capacities waited working same inboxes outboxes =

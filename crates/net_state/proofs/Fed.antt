@@ -225,7 +225,7 @@ module _ {X : Type 0} (old new : List (Cell X)) (links : List Link) (capacities 
         actors_stay : (arriving : ℕ → ℕ → List ℤ) → EachGains arriving old new → map (λ cell. cell.actor) new ≡ map (λ cell. cell.actor) old
         actors_stay arriving gains = same_part (λ cell. cell.actor) old new gains.count (λ i before after here there. (gains.each i before after here there).actor.same_actor)
 
-    -- where the link is full or its feed has ended, these are as many as arrive at a delivery
+    -- if the link is full or its feed has ended, these are as many as arrive at a delivery
     pub fill_arrivals : (rest : Option ℕ) → IsFilled kind j q (slice_index_or capacities l 0) rest new coming_new
         → (net : Network X) (s : State X) (other : Link) (flow : Flow) → StandsIn net (held_of old links capacities waited) s
         → IsFed s l (slice_get links l) (record { kind = kind; bytes = coming_old })

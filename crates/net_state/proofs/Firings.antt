@@ -96,7 +96,7 @@ need_is net i a p actor leaf = ap (λ o. need_of o a p) leaf.at ∙ ap (λ b. b.
 pub give_is : {X : Type 0} (net : Network X) (i a p : ℕ) (actor : Behaviour X) → LeafOf net i actor → give_of (slice_get net.leaves i) a p ≡ actor.give a p
 give_is net i a p actor leaf = ap (λ o. give_of o a p) leaf.at ∙ ap (λ b. b.give a p) leaf.is
 
--- where a cell is set whose actor is the same, all actors are
+-- if a cell is set whose actor is the same, all actors are
 pub actors_set : {X : Type 0} (cells : List (Cell X)) (i : ℕ) (cell new : Cell X) → slice_get cells i ≡ Some cell → new.actor ≡ cell.actor
     → map (λ c. c.actor) (slice_set cells i new) ≡ map (λ c. c.actor) cells
 actors_set [] i cell new at same = refl

@@ -1,4 +1,5 @@
 -- What is asked of cells and links at the start, where they are ready to be run.
+-- Trusted: part of what a promise means.
 use Rattle.std.specs.Prelude.{◌≡◌, ℕ, ◌<◌, List, [], slice_get, Some}
 use Rattle.rvc_base.specs.Storing.{IsSize}
 use Rattle.rvc_base.specs.Lawful.{IsLawful, tokens_on}

@@ -19,7 +19,7 @@ use Rattle.net_state.specs.Held.{Held}
 use Rattle.net_state.specs.Moving.{EachGains, only_to}
 use Rattle.net_state.specs.Standing.{IsOpened, StandsIn, unarrived}
 
--- what is to come on a feed: the type of its tokens, and the bytes, where they are told
+-- what is to come on a feed: the type of its tokens, and the bytes, if they are told
 pub record Inflow : Type 0 where
   pub kind : Scalar
   pub bytes : Option (List ℕ)
@@ -28,7 +28,7 @@ pub record Inflow : Type 0 where
 abbrev pub inflow : Reading → Inputs → ℕ → Inflow
 inflow reading feeds feed = record { kind = reading.kind; bytes = coming_on reading.pulled feeds feed }
 
--- these tokens are still to come, where the bytes to come are told
+-- these tokens are still to come, if the bytes to come are told
 abbrev pub AreToCome : Scalar → Option (List ℕ) → List ℤ → Type 0
 AreToCome kind None ts = ⊥
 AreToCome kind (Some bytes) ts = tokens kind bytes ≡ ts

@@ -109,7 +109,7 @@ pub record IsWorking {X : Type 0} (cells : List (Cell X)) (links : List Link) (c
   pub apart : AreApart links
   pub fits : (l : ℕ) (link : Link) → slice_get links l ≡ Some link
       → FitsIn cells (slice_index_or capacities l 0) (slice_index_or waited l 0) link
-  -- a port is without reader exactly where no link leaves it
+  -- a port is without reader exactly if no link leaves it
   pub read : (i : ℕ) (cell : Cell X) → slice_get cells i ≡ Some cell
       → (p : ℕ) → p < cell.actor.outs → (0 < number_on cell.outbox_capacities p) ↔ IsLeft links i p
   pub few_given : GivesFew cells

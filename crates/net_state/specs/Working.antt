@@ -1,4 +1,5 @@
 -- What the work of one cell does to the network.
+-- Trusted: part of what a promise means.
 use Rattle.std.specs.Prelude.{◌≡◌, ◌≢◌, ℕ, ◌+◌, ◌-◌, ◌≤◌, ◌<◌, ◌⊎◌, ◌↔◌, Bool, true, false, List, [], ◌++◌, length, slice_get, slice_set, slice_index_or, Option, None, Some}
 use Rattle.rvc_base.specs.Behaviour.{Faults, Picks, TrapsInBody, TrapsInGuard, Waits}
 use Rattle.rvc_base.specs.Lawful.{IsLawful}
@@ -84,7 +85,7 @@ pub record WorksAt {X : Type 0} (i limit : ℕ) (end : BurstEnd) (old new : Held
       → GoesOn net opened i limit s actions (halt_of end) new
   pub elsewhere : (k : ℕ) → k ≢ i → slice_get new.cells k ≡ slice_get old.cells k
   pub marked : OnCell (slice_get new.cells i) (λ cell. cell.trapped ≡ traps end)
-  -- where nothing fired the network is at rest as before
+  -- if nothing fired, the network is at rest as before
   pub rests : actions ≡ [] → IsAtRest old → IsAtRest new
 
 -- What ends judge.

@@ -148,7 +148,7 @@ impl<A: Firing> NetState<A> {
         )
     }
 
-    /// Fires a named action of a cell where it is exposed and enabled, has room and doesn't trap. No journal
+    /// Fires a named action of a cell if it is exposed and enabled, has room and doesn't trap. No journal
     /// names it.
     pub fn try_fire(&mut self, inst: InstId, action: ActId) -> Tried
         requires may { MayWork (map A.cell self.old.cells) inst.0 }

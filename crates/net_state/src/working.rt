@@ -29,7 +29,7 @@ pub(crate) fn look_at<A: Firing>(cells: &mut [A], i: usize, rooms: &[u32]) -> Lo
     cells[i].look(rooms)
 }
 
-/// Fires a named action of one cell where it may.
+/// Fires a named action of one cell if it may.
 pub(crate) fn try_at<A: Firing>(cells: &mut [A], i: usize, action: ActId, rooms: &[u32]) -> Tried
     requires there { i < length cells.old }
     requires may { MayWork (map A.cell cells.old) i }
