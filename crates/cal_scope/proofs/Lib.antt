@@ -1,2 +1,6 @@
+mod Judged
 mod Found
+mod Loops
+mod Each
+mod EachOf
 mod Rows

@@ -4,3 +4,4 @@ pub mod Expressions
 pub mod Statements
 pub mod Members
 pub mod View
+pub mod PortView

@@ -8,16 +8,28 @@
 //! out in full, or the first rule of scope that it breaks, with its place. No call does so yet.
 #![tactic(auto)]
 
+mod actions;
+mod copies;
+mod expr;
 mod fault;
 mod file_names;
 mod frames;
+mod made;
+mod made_stmt;
+mod member;
+mod members;
 mod name_set;
+mod ports;
+mod public;
 mod role;
+mod stmt;
 #[cfg(test)]
 mod tests;
+mod vars;
 
 pub use fault::ScopeFault;
 pub use file_names::FileNames;
 pub use frames::{Frame, Inside};
 pub use name_set::NameSet;
+pub use public::{resolve_expr, resolve_type};
 pub use role::Role;
