@@ -10,7 +10,7 @@ ghost use Rattle.cal_scope.specs.Judging.{Judges};
 ghost use Rattle.cal_scope.specs.Members.{action_resolved, declared_by_patterns, names_judged, output_resolved, outputs_resolved, pattern_names, pattern_resolved, patterns_resolved, port_judged};
 ghost use Rattle.cal_scope.specs.Names.{within};
 ghost use Rattle.cal_scope.specs.Statements.{else_resolved};
-ghost use Rattle.cal_scope.specs.View.{names_in, names_view};
+ghost use Rattle.cal_scope.specs.View.{names_view};
 ghost use Rattle.cal_scope.specs.PortView.{ports_view};
 
 use crate::copies::{equal_names, optional_name, optional_tag};
@@ -26,7 +26,7 @@ use rvc_base::Rule;
 
 /// A port that is named, if one is, is one of the wanted direction.
 fn port(port: &Option<Ident>, wanted: &NameSet, others: &NameSet) -> Result<(), ScopeFault>
-    ensures { Judges (λ _. tt) result (port_judged (optional (option_map ident_tree port.now)) (names_in wanted.now) (names_in others.now)) }
+    ensures { Judges (λ _. tt) result (port_judged (optional (option_map ident_tree port.now)) wanted.now others.now) }
 {
     let Some(port) = port else {
         return Ok(());
@@ -49,8 +49,8 @@ fn port(port: &Option<Ident>, wanted: &NameSet, others: &NameSet) -> Result<(), 
 
 /// Names of pattern variables, each declared once. They are added to those of the scope.
 fn pattern_variables(variables: &[Ident], here: &mut NameSet) -> Result<(), ScopeFault>
-    ensures judged { Judges (λ _. tt) result (names_judged (listed (map ident_tree variables.now)) (names_in here.old)) }
-    ensures here { OnOk result (names_in here.new ≡ declared_by (listed (map ident_tree variables.now)) (names_in here.old)) }
+    ensures judged { Judges (λ _. tt) result (names_judged (listed (map ident_tree variables.now)) here.old) }
+    ensures here { OnOk result (here.new ≡ declared_by (listed (map ident_tree variables.now)) here.old) }
 {
     let mut rest = variables;
     'names: while let Some((first, others)) = rest.split_first() {
@@ -70,8 +70,8 @@ fn pattern(
     p: &Pattern,
     here: &mut NameSet,
 ) -> Result<Pattern, ScopeFault>
-    ensures judged { Judges pattern_tree result (pattern_resolved (pattern_tree p.now) (ports_view ports.now) (names_in here.old) (names_view names.now)) }
-    ensures here { OnOk result (names_in here.new ≡ pattern_names (pattern_tree p.now) (names_in here.old)) }
+    ensures judged { Judges pattern_tree result (pattern_resolved (pattern_tree p.now) (ports_view ports.now) here.old (names_view names.now)) }
+    ensures here { OnOk result (here.new ≡ pattern_names (pattern_tree p.now) here.old) }
 {
     port(&p.port, &ports.ins, &ports.outs)?;
     pattern_variables(&p.names, here)?;
@@ -91,8 +91,8 @@ fn patterns(
     patterns: &[Pattern],
     here: &mut NameSet,
 ) -> Result<Vec<Pattern>, ScopeFault>
-    ensures judged { Judges (λ found. map pattern_tree found.items) result (patterns_resolved (listed (map pattern_tree patterns.now)) (ports_view ports.now) (names_in here.old) (names_view names.now)) }
-    ensures here { OnOk result (names_in here.new ≡ declared_by_patterns (listed (map pattern_tree patterns.now)) (names_in here.old)) }
+    ensures judged { Judges (λ found. map pattern_tree found.items) result (patterns_resolved (listed (map pattern_tree patterns.now)) (ports_view ports.now) here.old (names_view names.now)) }
+    ensures here { OnOk result (here.new ≡ declared_by_patterns (listed (map pattern_tree patterns.now)) here.old) }
 {
     let mut found = Vec::new(names.alloc);
     for p in patterns {
@@ -133,7 +133,7 @@ fn outputs(
 
 /// Expressions inside a scope.
 fn exprs_in(names: &Inside, here: &NameSet, list: &[Expr]) -> Result<Vec<Expr>, ScopeFault>
-    ensures { Judges (λ found. map expr_tree found.items) result (exprs_resolved (listed (map expr_tree list.now)) (within (names_in here.now) (names_view names.now))) }
+    ensures { Judges (λ found. map expr_tree found.items) result (exprs_resolved (listed (map expr_tree list.now)) (within here.now (names_view names.now))) }
 {
     let frame = Frame {
         names: here,
@@ -148,7 +148,7 @@ fn body_in(
     here: &NameSet,
     body: &Option<Vec<Stmt>>,
 ) -> Result<Option<Vec<Stmt>>, ScopeFault>
-    ensures { Judges body_tree result (else_resolved (body_tree body.now) (within (names_in here.now) (names_view names.now))) }
+    ensures { Judges body_tree result (else_resolved (body_tree body.now) (within here.now (names_view names.now))) }
 {
     let frame = Frame {
         names: here,
@@ -164,7 +164,7 @@ fn outputs_in(
     ports: &PortNames,
     list: &[Output],
 ) -> Result<Vec<Output>, ScopeFault>
-    ensures { Judges (λ found. map output_tree found.items) result (outputs_resolved (listed (map output_tree list.now)) (ports_view ports.now) (within (names_in here.now) (names_view names.now))) }
+    ensures { Judges (λ found. map output_tree found.items) result (outputs_resolved (listed (map output_tree list.now)) (ports_view ports.now) (within here.now (names_view names.now))) }
 {
     let frame = Frame {
         names: here,

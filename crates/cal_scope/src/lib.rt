@@ -31,5 +31,6 @@ pub use fault::ScopeFault;
 pub use file_names::FileNames;
 pub use frames::{Frame, Inside};
 pub use name_set::NameSet;
-pub use public::{resolve_expr, resolve_type};
+pub use ports::PortNames;
+pub use public::{resolve_expr, resolve_members, resolve_type};
 pub use role::Role;

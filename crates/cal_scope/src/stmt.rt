@@ -8,7 +8,7 @@ ghost use Rattle.cal_ast.specs.View.{body_tree, expr_tree, ident_tree, stmt_tree
 ghost use Rattle.cal_scope.specs.Judging.{Judges};
 ghost use Rattle.cal_scope.specs.Names.{within};
 ghost use Rattle.cal_scope.specs.Statements.{else_resolved, stmt_resolved, stmts_resolved};
-ghost use Rattle.cal_scope.specs.View.{names_in, names_view};
+ghost use Rattle.cal_scope.specs.View.{names_view};
 
 use crate::expr::{expr, exprs, type_expr};
 use crate::fault::ScopeFault;
@@ -142,7 +142,7 @@ pub(crate) fn stmts_in(
     here: &NameSet,
     body: &[Stmt],
 ) -> Result<Vec<Stmt>, ScopeFault>
-    ensures { Judges (λ found. map stmt_tree found.items) result (stmts_resolved (listed (map stmt_tree body.now)) (within (names_in here.now) (names_view names.now))) }
+    ensures { Judges (λ found. map stmt_tree found.items) result (stmts_resolved (listed (map stmt_tree body.now)) (within here.now (names_view names.now))) }
 {
     let frame = Frame {
         names: here,

@@ -9,7 +9,7 @@ ghost use Rattle.cal_scope.specs.Judging.{Judges};
 ghost use Rattle.cal_scope.specs.Members.{formal_resolved, formals_resolved};
 ghost use Rattle.cal_scope.specs.Names.{within};
 ghost use Rattle.cal_scope.specs.Statements.{var_resolved, vars_resolved};
-ghost use Rattle.cal_scope.specs.View.{names_in, names_view};
+ghost use Rattle.cal_scope.specs.View.{names_view};
 
 use crate::expr::{expr, type_expr};
 use crate::fault::ScopeFault;
@@ -44,8 +44,8 @@ pub(crate) fn vars(
     vars: &[VarDecl],
     here: &mut NameSet,
 ) -> Result<Vec<VarDecl>, ScopeFault>
-    ensures judged { Judges (λ found. map var_tree found.items) result (vars_resolved (listed (map var_tree vars.now)) (names_in here.old) (names_view names.now)) }
-    ensures here { OnOk result (names_in here.new ≡ declared_by (listed (map var_tree vars.now)) (names_in here.old)) }
+    ensures judged { Judges (λ found. map var_tree found.items) result (vars_resolved (listed (map var_tree vars.now)) here.old (names_view names.now)) }
+    ensures here { OnOk result (here.new ≡ declared_by (listed (map var_tree vars.now)) here.old) }
 {
     let mut found = Vec::new(names.alloc);
     for v in vars {
@@ -57,7 +57,7 @@ pub(crate) fn vars(
 
 /// A variable of a scope.
 pub(crate) fn var(names: &Inside, here: &NameSet, v: &VarDecl) -> Result<VarDecl, ScopeFault>
-    ensures { Judges var_tree result (var_resolved (var_tree v.now) (names_in here.now) (within (names_in here.now) (names_view names.now))) }
+    ensures { Judges var_tree result (var_resolved (var_tree v.now) here.now (within here.now (names_view names.now))) }
 {
     if here.has(v.name.text.as_str()) {
         return Err(twice(v.at));
@@ -84,8 +84,8 @@ pub(crate) fn formals(
     formals: &[PortDecl],
     here: &mut NameSet,
 ) -> Result<Vec<PortDecl>, ScopeFault>
-    ensures judged { Judges (λ found. map port_tree found.items) result (formals_resolved (listed (map port_tree formals.now)) (names_in here.old) (names_view names.now)) }
-    ensures here { OnOk result (names_in here.new ≡ declared_by (listed (map port_tree formals.now)) (names_in here.old)) }
+    ensures judged { Judges (λ found. map port_tree found.items) result (formals_resolved (listed (map port_tree formals.now)) here.old (names_view names.now)) }
+    ensures here { OnOk result (here.new ≡ declared_by (listed (map port_tree formals.now)) here.old) }
 {
     let mut found = Vec::new(names.alloc);
     for f in formals {
@@ -97,7 +97,7 @@ pub(crate) fn formals(
 
 /// A formal of a function or a procedure.
 fn formal(names: &Inside, here: &NameSet, f: &PortDecl) -> Result<PortDecl, ScopeFault>
-    ensures { Judges port_tree result (formal_resolved (port_tree f.now) (names_in here.now) (within (names_in here.now) (names_view names.now))) }
+    ensures { Judges port_tree result (formal_resolved (port_tree f.now) here.now (within here.now (names_view names.now))) }
 {
     if here.has(f.name.text.as_str()) {
         return Err(twice(f.at));

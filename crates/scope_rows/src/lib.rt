@@ -7,4 +7,6 @@
 #[cfg(test)]
 mod expressions;
 #[cfg(test)]
+mod members;
+#[cfg(test)]
 mod rows;

@@ -24,7 +24,7 @@ pub(crate) enum Asked {
 }
 
 /// The file that a text spells.
-fn file_of(alloc: Global, text: &[u8]) -> Result<File, Front> {
+pub(crate) fn file_of(alloc: Global, text: &[u8]) -> Result<File, Front> {
     if text.len() >= 1 << 32 {
         return Err(Front::Memory);
     }
@@ -34,7 +34,7 @@ fn file_of(alloc: Global, text: &[u8]) -> Result<File, Front> {
 
 /// The names that rows use: of the file the variable `n`, the function `f` and the procedure `p`, and of the unit
 /// `lib.U` the variable `k` and the function `g`.
-fn names_of(a: Global) -> Result<FileNames, Fail> {
+pub(crate) fn names_of(a: Global) -> Result<FileNames, Fail> {
     let mut names = FileNames::new(a);
     for &(name, role, full) in NAMES {
         if !names.has(name) {
@@ -53,7 +53,7 @@ const NAMES: &[(&str, Role, &str)] = &[
 ];
 
 /// The text of a file, in one line.
-fn printed(alloc: Global, file: &File) -> Result<String, Fail> {
+pub(crate) fn printed(alloc: Global, file: &File) -> Result<String, Fail> {
     let Ok(bytes) = print_file(alloc, file) else {
         return Ok(String::from_str(alloc, "Memory")?);
     };
@@ -66,7 +66,7 @@ fn printed(alloc: Global, file: &File) -> Result<String, Fail> {
 }
 
 /// A rule with its place in the text of the row.
-fn fault_shown(alloc: Global, fault: ScopeFault, before: &str) -> Result<String, Fail> {
+pub(crate) fn fault_shown(alloc: Global, fault: ScopeFault, before: &str) -> Result<String, Fail> {
     match fault {
         ScopeFault::Broken { rule, at } => {
             let place = at.saturating_sub(before.len() as u32);
