@@ -1,16 +1,19 @@
 -- Lists of variables, formals, statements, patterns, outputs and members as parts in order.
-use Rattle.std.proofs.Common.{◌≡◌, ℕ, List, [], ◌∷◌, map, refl, ap, ◌∙◌}
+use Rattle.std.proofs.Common.{◌≡◌, ℕ, false, List, [], ◌∷◌, map, refl, ap, ◌∙◌}
+use Rattle.std.specs.Prelude.{string_bytes, if◌then◌else◌}
+use Rattle.rvc_base.specs.Rules.{declared_twice}
+use Rattle.cal_ast.specs.Tree as tree
 use Rattle.cal_ast.specs.Tree.{Tree, listed}
-use Rattle.cal_ast.specs.View.{member_tree, output_tree, pattern_tree, port_tree, stmt_tree, var_tree}
+use Rattle.cal_ast.specs.View.{ident_tree, member_tree, optional_expr, output_tree, pattern_tree, port_tree, stmt_tree, type_tree, var_tree}
 use Rattle.cal_ast.specs.declared.action.Output.{Output}
 use Rattle.cal_ast.specs.declared.action.Pattern.{Pattern}
 use Rattle.cal_ast.specs.declared.member.Member.{Member}
 use Rattle.cal_ast.specs.declared.member.PortDecl.{PortDecl}
 use Rattle.cal_ast.specs.declared.member.VarDecl.{VarDecl}
 use Rattle.cal_ast.specs.declared.stmt.Stmt.{Stmt}
-use Rattle.cal_model.specs.Kinding.{Judged, Fine, and_so}
-use Rattle.cal_scope.specs.Names.{Names, with_name, within}
-use Rattle.cal_scope.specs.Expressions.{declared_name}
+use Rattle.cal_model.specs.Kinding.{Judged, Fine, Broken, and_so}
+use Rattle.cal_scope.specs.Names.{Names, is_among, with_name, within}
+use Rattle.cal_scope.specs.Expressions.{declared_name, optional_resolved, type_resolved}
 use Rattle.cal_scope.specs.Statements.{stmt_resolved, stmts_resolved, var_resolved, vars_resolved}
 use Rattle.cal_scope.specs.Members.{Ports, formal_resolved, formals_resolved, member_resolved, members_resolved, output_resolved, outputs_resolved, pattern_names, pattern_resolved, patterns_resolved, declared_by_patterns}
 use Rattle.cal_scope.proofs.Judged.{so_ext}
@@ -26,6 +29,14 @@ var_next v here = with_name (declared_name (var_tree v)) here
 pub vars_each : (vs : List VarDecl) (here : List (List ℕ)) (names : Names) → vars_resolved (listed (map var_tree vs)) here names ≡ each_in (var_part names) var_next vs here
 vars_each [] here names = refl
 vars_each (v ∷ vs) here names = so_ext (var_part names v here) _ _ (λ r. ap (λ o. and_so o (λ rs. Fine (r ∷ rs))) (vars_each vs (var_next v here) names))
+
+-- a name that its scope hasn't declared yet
+pub new_var : (v : VarDecl) (here : List (List ℕ)) (names : Names) → is_among (string_bytes v.name.text) here ≡ false → var_resolved (var_tree v) here names ≡ var_resolved (var_tree v) [] names
+new_var v here names h =
+    ap (λ b. if b then Broken declared_twice v.at else and_so (type_resolved (type_tree v.shape) names) (λ t. and_so (optional_resolved (optional_expr v.start) names) (λ e. Fine (tree.var t (ident_tree v.name) e v.changes v.at)))) h
+
+pub new_formal : (f : PortDecl) (here : List (List ℕ)) (names : Names) → is_among (string_bytes f.name.text) here ≡ false → formal_resolved (port_tree f) here names ≡ formal_resolved (port_tree f) [] names
+new_formal f here names h = ap (λ b. if b then Broken declared_twice f.at else and_so (type_resolved (type_tree f.shape) names) (λ t. Fine (tree.port t (ident_tree f.name) f.at))) h
 
 abbrev pub formal_part : Names → PortDecl → List (List ℕ) → Judged Tree
 formal_part names f here = formal_resolved (port_tree f) here (within here names)

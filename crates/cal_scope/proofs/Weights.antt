@@ -1,5 +1,5 @@
 -- How large a part is: the measure of the functions that go through trees.
-use Rattle.std.proofs.Common.{ℕ, zero, suc, ◌+◌, ◌<◌, List, [], ◌∷◌, map, length, get_or, absurd, arith}
+use Rattle.std.proofs.Common.{ℕ, zero, suc, ◌+◌, ◌<◌, List, [], ◌∷◌, map, length, get_or, arith}
 use Rattle.cal_ast.specs.Tree as tree
 use Rattle.cal_ast.specs.Tree.{Tree, listed}
 use Rattle.cal_ast.specs.View.{expr_tree, gen_tree, type_arg_tree}

@@ -1,38 +1,28 @@
 //! Members of an actor or a unit with each name written out in full.
 #![tactic(auto, using(crate::proofs::Judged::breaks_on))]
 
-ghost use Rattle.std.specs.Prelude.{◌≡◌, [], map};
+ghost use Rattle.std.specs.Prelude.{◌≡◌, map};
 ghost use Rattle.cal_ast.specs.Tree.{listed};
-ghost use Rattle.cal_ast.specs.View.{member_tree, var_tree};
+ghost use Rattle.cal_ast.specs.View.{member_tree};
 ghost use Rattle.cal_scope.specs.Judging.{Judges};
 ghost use Rattle.cal_scope.specs.Members.{member_resolved, members_resolved};
 ghost use Rattle.cal_scope.specs.PortView.{ports_view};
-ghost use Rattle.cal_scope.specs.Statements.{var_resolved};
 ghost use Rattle.cal_scope.specs.View.{names_view};
 
 use crate::actions::action;
 use crate::fault::ScopeFault;
 use crate::frames::Inside;
 use crate::members::{function, procedure};
-use crate::name_set::NameSet;
 use crate::ports::PortNames;
-use crate::vars::var;
-use cal_ast::{Member, VarDecl};
-
-/// A variable of an actor or a unit, which sees all names of its file.
-fn outer_var(names: &Inside, v: &VarDecl) -> Result<VarDecl, ScopeFault>
-    ensures { Judges var_tree result (var_resolved (var_tree v.now) [] (names_view names.now)) }
-{
-    let nothing = NameSet::new(names.alloc);
-    var(names, &nothing, v)
-}
+use crate::vars::first_var;
+use cal_ast::Member;
 
 /// A member.
 pub(crate) fn member(names: &Inside, ports: &PortNames, m: &Member) -> Result<Member, ScopeFault>
     ensures { Judges member_tree result (member_resolved (member_tree m.now) (ports_view ports.now) (names_view names.now)) }
 {
     match m {
-        Member::Var(v) => Ok(Member::Var(outer_var(names, v)?)),
+        Member::Var(v) => Ok(Member::Var(first_var(names, v)?)),
         Member::Function(f) => Ok(Member::Function(function(names, f)?)),
         Member::Procedure(p) => Ok(Member::Procedure(procedure(names, p)?)),
         Member::Action(a) => Ok(Member::Action(action(names, ports, a)?)),

@@ -1,4 +1,5 @@
 //! Variables, formals and parts that may be missing.
+#![tactic(auto, using(crate::proofs::Judged::breaks_on))]
 
 ghost use Rattle.std.specs.Prelude.{◌≡◌, [], OnOk, map};
 ghost use Rattle.cal_ast.specs.Tree.{listed};
@@ -55,8 +56,8 @@ pub(crate) fn vars(
     Ok(found)
 }
 
-/// A variable of a scope.
-pub(crate) fn var(names: &Inside, here: &NameSet, v: &VarDecl) -> Result<VarDecl, ScopeFault>
+/// A variable of a scope that has declared these names.
+fn var(names: &Inside, here: &NameSet, v: &VarDecl) -> Result<VarDecl, ScopeFault>
     ensures { Judges var_tree result (var_resolved (var_tree v.now) here.now (within here.now (names_view names.now))) }
 {
     if here.has(v.name.text.as_str()) {
@@ -66,12 +67,19 @@ pub(crate) fn var(names: &Inside, here: &NameSet, v: &VarDecl) -> Result<VarDecl
         names: here,
         outer: names.frame,
     };
-    let inside = names.under(&frame);
-    let shape = type_expr(&inside, &v.shape)?;
-    let start = optional(&inside, &v.start)?;
+    first_var(&names.under(&frame), v)
+}
+
+/// A variable whose name its scope hasn't declared yet, or that is no part of a scope inside a file.
+pub(crate) fn first_var(names: &Inside, v: &VarDecl) -> Result<VarDecl, ScopeFault>
+    ensures { Judges var_tree result (var_resolved (var_tree v.now) [] (names_view names.now)) }
+{
+    let shape = type_expr(names, &v.shape)?;
+    let start = optional(names, &v.start)?;
+    let name = v.name.copy(names.alloc)?;
     Ok(VarDecl {
         shape,
-        name: v.name.copy(names.alloc)?,
+        name,
         start,
         changes: v.changes,
         at: v.at,
@@ -95,7 +103,7 @@ pub(crate) fn formals(
     Ok(found)
 }
 
-/// A formal of a function or a procedure.
+/// A formal of a function or a procedure that has declared these names.
 fn formal(names: &Inside, here: &NameSet, f: &PortDecl) -> Result<PortDecl, ScopeFault>
     ensures { Judges port_tree result (formal_resolved (port_tree f.now) here.now (within here.now (names_view names.now))) }
 {
@@ -106,10 +114,18 @@ fn formal(names: &Inside, here: &NameSet, f: &PortDecl) -> Result<PortDecl, Scop
         names: here,
         outer: names.frame,
     };
-    let shape = type_expr(&names.under(&frame), &f.shape)?;
+    first_formal(&names.under(&frame), f)
+}
+
+/// A formal whose name isn't declared yet.
+fn first_formal(names: &Inside, f: &PortDecl) -> Result<PortDecl, ScopeFault>
+    ensures { Judges port_tree result (formal_resolved (port_tree f.now) [] (names_view names.now)) }
+{
+    let shape = type_expr(names, &f.shape)?;
+    let name = f.name.copy(names.alloc)?;
     Ok(PortDecl {
         shape,
-        name: f.name.copy(names.alloc)?,
+        name,
         at: f.at,
     })
 }

@@ -1,0 +1,11 @@
+use Rattle.std.proofs.Common.{◌≡◌, map}
+use Rattle.cal_ast.specs.Tree.{listed}
+use Rattle.cal_ast.specs.View.{ident_tree}
+use Rattle.cal_scope.specs.Expressions.{declared_by}
+use Rattle.cal_scope.specs.Members.{names_judged}
+use Rattle.cal_scope.proofs.actions.pattern_variables.Given as goal
+
+abbrev pub invariant-names : goal.invariant-names
+invariant-names l =
+    (names_judged (listed (map ident_tree l.rest.now)) l.here ≡ names_judged (listed (map ident_tree l.initial.rest.now)) l.initial.here)
+    × (declared_by (listed (map ident_tree l.rest.now)) l.here ≡ declared_by (listed (map ident_tree l.initial.rest.now)) l.initial.here)
