@@ -53,10 +53,10 @@ module _ {A S : Type 0} (f : A → S → Judged Tree) (next : A → S → S) whe
   judged_next xs n d s new first r done more h e g m inv =
       let rest = each_in f next (drop (n + 1) xs) (next (get_or xs n d) s) in (
         ap (λ u. with_rest f next more (drop (n + 1) xs) u) g
-        ∙ so_ext rest (λ rs. Fine (more ++ rs)) (λ rs. Fine (done ++ (r ∷ rs))) (λ rs. ap (λ ts. Fine (ts ++ rs)) m ∙ ap Fine (append_assoc done (r ∷ []) rs))
-        ∙ sym (so_so rest (λ rs. Fine (r ∷ rs)) (λ rs. Fine (done ++ rs)))
-        ∙ ap (λ o. and_so o (λ rs. Fine (done ++ rs))) (sym (opened xs n d s h ∙ so_fine (f (get_or xs n d) s) r _ e))
-        ∙ inv.0,
+            ∙ so_ext rest (λ rs. Fine (more ++ rs)) (λ rs. Fine (done ++ (r ∷ rs))) (λ rs. ap (λ ts. Fine (ts ++ rs)) m ∙ ap Fine (append_assoc done (r ∷ []) rs))
+            ∙ sym (so_so rest (λ rs. Fine (r ∷ rs)) (λ rs. Fine (done ++ rs)))
+            ∙ ap (λ o. and_so o (λ rs. Fine (done ++ rs))) (sym (opened xs n d s h ∙ so_fine (f (get_or xs n d) s) r _ e))
+            ∙ inv.0,
         ap (λ u. after next (drop (n + 1) xs) u) g ∙ sym (left xs n d s h) ∙ inv.1,
       )
 

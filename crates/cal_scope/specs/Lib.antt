@@ -1,4 +1,5 @@
 pub mod Names
+pub mod Globals
 pub mod Judging
 pub mod Expressions
 pub mod Statements

@@ -117,11 +117,7 @@ fn output(names: &Inside, ports: &PortNames, o: &Output) -> Result<Output, Scope
 }
 
 /// Outputs in order.
-fn outputs(
-    names: &Inside,
-    ports: &PortNames,
-    outputs: &[Output],
-) -> Result<Vec<Output>, ScopeFault>
+fn outputs(names: &Inside, ports: &PortNames, outputs: &[Output]) -> Result<Vec<Output>, ScopeFault>
     ensures { Judges (λ found. map output_tree found.items) result (outputs_resolved (listed (map output_tree outputs.now)) (ports_view ports.now) (names_view names.now)) }
 {
     let mut found = Vec::new(names.alloc);
@@ -174,11 +170,7 @@ fn outputs_in(
 }
 
 /// An action, whose pattern variables and locals are one scope.
-pub(crate) fn action(
-    names: &Inside,
-    ports: &PortNames,
-    a: &Action,
-) -> Result<Action, ScopeFault>
+pub(crate) fn action(names: &Inside, ports: &PortNames, a: &Action) -> Result<Action, ScopeFault>
     ensures { Judges action_tree result (action_resolved (action_tree a.now) (ports_view ports.now) (names_view names.now)) }
 {
     let mut here = NameSet::new(names.alloc);

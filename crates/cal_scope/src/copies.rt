@@ -7,7 +7,10 @@ use cal_ast::{Ident, Tag};
 use std::alloc::{AllocError, Global};
 
 /// An equal name, if there is one.
-pub(crate) fn optional_name(alloc: Global, name: &Option<Ident>) -> Result<Option<Ident>, AllocError>
+pub(crate) fn optional_name(
+    alloc: Global,
+    name: &Option<Ident>,
+) -> Result<Option<Ident>, AllocError>
     ensures { IfOk result (λ copied. option_map ident_tree copied ≡ option_map ident_tree name.now) }
 {
     match name {

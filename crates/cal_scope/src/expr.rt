@@ -41,13 +41,7 @@ pub(crate) fn expr(names: &Inside, e: &Expr) -> Result<Expr, ScopeFault>
 
 /// A condition and two branches.
 #[cycle(expr)]
-fn if_expr(
-    names: &Inside,
-    test: &Expr,
-    yes: &Expr,
-    no: &Expr,
-    at: u32,
-) -> Result<Expr, ScopeFault>
+fn if_expr(names: &Inside, test: &Expr, yes: &Expr, no: &Expr, at: u32) -> Result<Expr, ScopeFault>
     ensures { Judges expr_tree result (expr_resolved (tree.if_expr (expr_tree test.now) (expr_tree yes.now) (expr_tree no.now) at) (names_view names.now)) }
 {
     let test = expr(names, test)?;
@@ -68,13 +62,7 @@ fn index(names: &Inside, base: &Expr, place: &Expr, at: u32) -> Result<Expr, Sco
 
 /// An operation with two operands.
 #[cycle(expr)]
-fn binary(
-    names: &Inside,
-    op: BinOp,
-    left: &Expr,
-    right: &Expr,
-    at: u32,
-) -> Result<Expr, ScopeFault>
+fn binary(names: &Inside, op: BinOp, left: &Expr, right: &Expr, at: u32) -> Result<Expr, ScopeFault>
     ensures { Judges expr_tree result (expr_resolved (tree.binary op (expr_tree left.now) (expr_tree right.now) at) (names_view names.now)) }
 {
     let left = expr(names, left)?;
@@ -218,11 +206,7 @@ pub(crate) fn type_expr(names: &Inside, t: &TypeExpr) -> Result<TypeExpr, ScopeF
 
 /// A type inside a scope.
 #[cycle(expr)]
-pub(crate) fn type_in(
-    names: &Inside,
-    here: &NameSet,
-    t: &TypeExpr,
-) -> Result<TypeExpr, ScopeFault>
+pub(crate) fn type_in(names: &Inside, here: &NameSet, t: &TypeExpr) -> Result<TypeExpr, ScopeFault>
     ensures { Judges type_tree result (type_resolved (type_tree t.now) (within here.now (names_view names.now))) }
 {
     let frame = Frame {

@@ -19,6 +19,7 @@ mod made_stmt;
 mod member;
 mod members;
 mod name_set;
+mod own_names;
 mod ports;
 mod public;
 mod role;

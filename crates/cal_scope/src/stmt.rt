@@ -154,12 +154,7 @@ pub(crate) fn stmts_in(
 
 /// A block, whose statements see its variables.
 #[cycle(stmt)]
-fn block(
-    names: &Inside,
-    locals: &[VarDecl],
-    body: &[Stmt],
-    at: u32,
-) -> Result<Stmt, ScopeFault>
+fn block(names: &Inside, locals: &[VarDecl], body: &[Stmt], at: u32) -> Result<Stmt, ScopeFault>
     ensures { Judges stmt_tree result (stmt_resolved (tree.block (listed (map var_tree locals.now)) (listed (map stmt_tree body.now)) at) (names_view names.now)) }
 {
     let mut here = NameSet::new(names.alloc);

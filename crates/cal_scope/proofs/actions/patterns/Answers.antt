@@ -18,10 +18,10 @@ returns-in_err-pattern c =
     let same : c.from_residual.result ≡ Err c.in_err-pattern.field-0.0 = search rules in
     record {
       judged =
-        subst (λ r. Judges (λ found. map pattern_tree found.items) r (patterns_resolved (listed (map pattern_tree c.args.patterns.now)) (ports_view c.args.ports.now) c.args.here.now (names_view c.args.names.now))) (sym same)
-        (subst (λ o. Breaks c.in_err-pattern.field-0.0 o) (sym (patterns_each c.args.patterns.now (ports_view c.args.ports.now) c.args.here.now (names_view c.args.names.now)))
-        (judged_breaks (pattern_part (ports_view c.args.ports.now) (names_view c.args.names.now)) pattern_next c.args.patterns.now c.loop-p.p-index c.p-item.result c.loop-p.here c.args.here.now (map pattern_tree c.loop-p.found.items) c.in_err-pattern.field-0.0 (omega arith)
-        (subst (λ x. Breaks c.in_err-pattern.field-0.0 (pattern_part (ports_view c.args.ports.now) (names_view c.args.names.now) x c.loop-p.here)) c.p-item.is c.in_err-pattern.ensures.judged) c.loop-p.invariant));
+          subst (λ r. Judges (λ found. map pattern_tree found.items) r (patterns_resolved (listed (map pattern_tree c.args.patterns.now)) (ports_view c.args.ports.now) c.args.here.now (names_view c.args.names.now))) (sym same)
+          (subst (λ o. Breaks c.in_err-pattern.field-0.0 o) (sym (patterns_each c.args.patterns.now (ports_view c.args.ports.now) c.args.here.now (names_view c.args.names.now)))
+          (judged_breaks (pattern_part (ports_view c.args.ports.now) (names_view c.args.names.now)) pattern_next c.args.patterns.now c.loop-p.p-index c.p-item.result c.loop-p.here c.args.here.now (map pattern_tree c.loop-p.found.items) c.in_err-pattern.field-0.0 (omega arith)
+          (subst (λ x. Breaks c.in_err-pattern.field-0.0 (pattern_part (ports_view c.args.ports.now) (names_view c.args.names.now) x c.loop-p.here)) c.p-item.is c.in_err-pattern.ensures.judged) c.loop-p.invariant));
       here = search rules;
     }
 

@@ -53,10 +53,10 @@ generators-returns-in_err-generator t c =
     let same : c.from_residual.result ≡ Err c.in_err-generator.field-0.0 = search rules in
     record {
       judged =
-        subst (λ r. Judges (λ found. map gen_tree found.items) r (gens_resolved (listed (map gen_tree c.args.gens.now)) c.args.here.now (names_view c.args.names.now))) (sym same)
-        (subst (λ o. Breaks c.in_err-generator.field-0.0 o) (sym (gens_each c.args.gens.now c.args.here.now (names_view c.args.names.now)))
-        (judged_breaks (gen_part (names_view c.args.names.now)) gen_next c.args.gens.now c.loop-g.g-index c.g-item.result c.loop-g.here c.args.here.now (map gen_tree c.loop-g.found.items) c.in_err-generator.field-0.0 (omega arith)
-        (subst (λ g. Breaks c.in_err-generator.field-0.0 (gen_part (names_view c.args.names.now) g c.loop-g.here)) c.g-item.is c.in_err-generator.ensures) c.loop-g.invariant));
+          subst (λ r. Judges (λ found. map gen_tree found.items) r (gens_resolved (listed (map gen_tree c.args.gens.now)) c.args.here.now (names_view c.args.names.now))) (sym same)
+          (subst (λ o. Breaks c.in_err-generator.field-0.0 o) (sym (gens_each c.args.gens.now c.args.here.now (names_view c.args.names.now)))
+          (judged_breaks (gen_part (names_view c.args.names.now)) gen_next c.args.gens.now c.loop-g.g-index c.g-item.result c.loop-g.here c.args.here.now (map gen_tree c.loop-g.found.items) c.in_err-generator.field-0.0 (omega arith)
+          (subst (λ g. Breaks c.in_err-generator.field-0.0 (gen_part (names_view c.args.names.now) g c.loop-g.here)) c.g-item.is c.in_err-generator.ensures) c.loop-g.invariant));
       here = search rules;
     }
 

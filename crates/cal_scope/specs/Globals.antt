@@ -31,3 +31,7 @@ with_declared before other here = Fine here
 abbrev pub with_all_declared : List ℕ → Tree → List Global → Judged (List Global)
 with_all_declared before (tree.cons m ms) here = and_so (with_declared before m here) (λ next. with_all_declared before ms next)
 with_all_declared before other here = Fine here
+
+-- the names of an actor: of its parameters, and of its members
+abbrev pub names_of_actor : (params members : Tree) → Judged (List Global)
+names_of_actor params members = and_so (with_all_declared [] params []) (λ here. with_all_declared [] members here)

@@ -1,8 +1,8 @@
 use Rattle.std.proofs.Common.{◌≡◌, map}
 use Rattle.cal_ast.specs.Tree.{listed}
 use Rattle.cal_ast.specs.View.{member_tree}
-use Rattle.cal_scope.specs.Declared.{with_all_declared}
-use Rattle.cal_scope.proofs.declared.declare_members.Given as goal
+use Rattle.cal_scope.specs.Globals.{with_all_declared}
+use Rattle.cal_scope.proofs.own_names.declare_members.Given as goal
 
 abbrev pub invariant-members : goal.invariant-members
 invariant-members l = with_all_declared l.before (listed (map member_tree l.rest.now)) l.names ≡ with_all_declared l.initial.before (listed (map member_tree l.initial.rest.now)) l.initial.names

@@ -4,7 +4,7 @@
 ghost use Rattle.std.specs.Prelude.{◌≡◌, [], ◌++◌, IfOk, map, string_bytes};
 ghost use Rattle.cal_ast.specs.Tree.{listed};
 ghost use Rattle.cal_ast.specs.View.{member_tree, param_tree};
-ghost use Rattle.cal_scope.specs.Declared.{global, with_all_declared, with_declared, with_global};
+ghost use Rattle.cal_scope.specs.Globals.{global, names_of_actor, with_all_declared, with_declared, with_global};
 ghost use Rattle.cal_scope.specs.Judging.{Judges};
 
 use crate::fault::ScopeFault;
@@ -14,6 +14,41 @@ use crate::vars::twice;
 use cal_ast::{Ident, Member, Param};
 use rvc_base::Memory;
 use std::alloc::Global;
+
+impl FileNames {
+    /// The names that an actor's parameters and members declare.
+    ///
+    /// # Errors
+    ///
+    /// `Broken`: a name is declared twice; the place is that of the second declaration. `Memory`: an allocation was
+    /// refused.
+    pub fn of_actor(
+        alloc: Global,
+        params: &[Param],
+        members: &[Member],
+    ) -> Result<FileNames, ScopeFault>
+        ensures { Judges (λ names. names) result (names_of_actor (listed (map param_tree params.now)) (listed (map member_tree members.now))) }
+    {
+        let mut names = FileNames::new(alloc);
+        declare_params(&mut names, params)?;
+        declare_members(&mut names, "", members)?;
+        Ok(names)
+    }
+
+    /// The names that the members of a unit declare. What stands for one of them wherever it is used is the name behind
+    /// `before`, which is the unit's class and a dot.
+    ///
+    /// # Errors
+    ///
+    /// As those of [`FileNames::of_actor`].
+    pub fn of_unit(alloc: Global, before: &str, members: &[Member]) -> Result<FileNames, ScopeFault>
+        ensures { Judges (λ names. names) result (with_all_declared before.now (listed (map member_tree members.now)) []) }
+    {
+        let mut names = FileNames::new(alloc);
+        declare_members(&mut names, before, members)?;
+        Ok(names)
+    }
+}
 
 /// A name with a text before it.
 fn joined(alloc: Global, before: &str, name: &str) -> Result<String, Memory>
@@ -65,7 +100,7 @@ fn declare_member(names: &mut FileNames, before: &str, m: &Member) -> Result<(),
 }
 
 /// Adds the names of parameters in order.
-pub(crate) fn declare_params(names: &mut FileNames, params: &[Param]) -> Result<(), ScopeFault>
+fn declare_params(names: &mut FileNames, params: &[Param]) -> Result<(), ScopeFault>
     ensures { Judges (λ _. names.new) result (with_all_declared [] (listed (map param_tree params.now)) names.old) }
 {
     let mut rest = params;
@@ -77,7 +112,7 @@ pub(crate) fn declare_params(names: &mut FileNames, params: &[Param]) -> Result<
 }
 
 /// Adds the names that members declare in order.
-pub(crate) fn declare_members(
+fn declare_members(
     names: &mut FileNames,
     before: &str,
     members: &[Member],
