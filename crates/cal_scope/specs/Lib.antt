@@ -1,5 +1,6 @@
 pub mod Names
 pub mod Globals
+pub mod Asked
 pub mod Judging
 pub mod Expressions
 pub mod Statements

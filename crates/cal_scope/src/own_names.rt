@@ -1,9 +1,9 @@
 //! The names that a file's own declarations declare.
 #![tactic(auto, using(crate::proofs::Judged::breaks_on))]
 
-ghost use Rattle.std.specs.Prelude.{◌≡◌, [], ◌++◌, IfOk, map, string_bytes};
-ghost use Rattle.cal_ast.specs.Tree.{listed};
+ghost use Rattle.std.specs.Prelude.{◌≡◌, [], ◌++◌, IfOk, string_bytes};
 ghost use Rattle.cal_ast.specs.View.{member_tree, param_tree};
+ghost use Rattle.cal_scope.specs.Asked.{members_tree, params_tree};
 ghost use Rattle.cal_scope.specs.Globals.{global, names_of_actor, with_all_declared, with_declared, with_global};
 ghost use Rattle.cal_scope.specs.Judging.{Judges};
 
@@ -27,7 +27,7 @@ impl FileNames {
         params: &[Param],
         members: &[Member],
     ) -> Result<FileNames, ScopeFault>
-        ensures { Judges (λ names. names) result (names_of_actor (listed (map param_tree params.now)) (listed (map member_tree members.now))) }
+        ensures { Judges (λ names. names) result (names_of_actor (params_tree params.now) (members_tree members.now)) }
     {
         let mut names = FileNames::new(alloc);
         declare_params(&mut names, params)?;
@@ -42,7 +42,7 @@ impl FileNames {
     ///
     /// As those of [`FileNames::of_actor`].
     pub fn of_unit(alloc: Global, before: &str, members: &[Member]) -> Result<FileNames, ScopeFault>
-        ensures { Judges (λ names. names) result (with_all_declared before.now (listed (map member_tree members.now)) []) }
+        ensures { Judges (λ names. names) result (with_all_declared before.now (members_tree members.now) []) }
     {
         let mut names = FileNames::new(alloc);
         declare_members(&mut names, before, members)?;
@@ -101,7 +101,7 @@ fn declare_member(names: &mut FileNames, before: &str, m: &Member) -> Result<(),
 
 /// Adds the names of parameters in order.
 fn declare_params(names: &mut FileNames, params: &[Param]) -> Result<(), ScopeFault>
-    ensures { Judges (λ _. names.new) result (with_all_declared [] (listed (map param_tree params.now)) names.old) }
+    ensures { Judges (λ _. names.new) result (with_all_declared [] (params_tree params.now) names.old) }
 {
     let mut rest = params;
     'params: while let Some((first, others)) = rest.split_first() {
@@ -117,7 +117,7 @@ fn declare_members(
     before: &str,
     members: &[Member],
 ) -> Result<(), ScopeFault>
-    ensures { Judges (λ _. names.new) result (with_all_declared before.now (listed (map member_tree members.now)) names.old) }
+    ensures { Judges (λ _. names.new) result (with_all_declared before.now (members_tree members.now) names.old) }
 {
     let mut rest = members;
     'members: while let Some((first, others)) = rest.split_first() {

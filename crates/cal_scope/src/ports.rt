@@ -1,8 +1,7 @@
 //! The names of an actor's ports.
 
-ghost use Rattle.std.specs.Prelude.{◌≡◌, [], IfOk, map};
-ghost use Rattle.cal_ast.specs.Tree.{listed};
-ghost use Rattle.cal_ast.specs.View.{port_tree};
+ghost use Rattle.std.specs.Prelude.{◌≡◌, [], IfOk};
+ghost use Rattle.cal_scope.specs.Asked.{ports_tree};
 ghost use Rattle.cal_scope.specs.Expressions.{declared_by};
 ghost use Rattle.cal_scope.specs.Members.{ports_of};
 ghost use Rattle.cal_scope.specs.PortView.{ports_view};
@@ -26,7 +25,7 @@ impl PortNames {
     ///
     /// [`Memory`] if an allocation is refused.
     pub fn of(alloc: Global, ins: &[PortDecl], outs: &[PortDecl]) -> Result<PortNames, Memory>
-        ensures { IfOk result (λ ports. ports_view ports ≡ ports_of (listed (map port_tree ins.now)) (listed (map port_tree outs.now))) }
+        ensures { IfOk result (λ ports. ports_view ports ≡ ports_of (ports_tree ins.now) (ports_tree outs.now)) }
     {
         let ins = names_of(alloc, ins)?;
         let outs = names_of(alloc, outs)?;
@@ -36,7 +35,7 @@ impl PortNames {
 
 /// The names of ports.
 fn names_of(alloc: Global, ports: &[PortDecl]) -> Result<NameSet, Memory>
-    ensures { IfOk result (λ names. names ≡ declared_by (listed (map port_tree ports.now)) []) }
+    ensures { IfOk result (λ names. names ≡ declared_by (ports_tree ports.now) []) }
 {
     let mut names = NameSet::new(alloc);
     let mut rest = ports;

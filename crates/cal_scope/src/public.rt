@@ -1,8 +1,8 @@
 //! The calls for one part of a file.
 
-ghost use Rattle.std.specs.Prelude.{◌≡◌, [], map};
-ghost use Rattle.cal_ast.specs.Tree.{listed};
-ghost use Rattle.cal_ast.specs.View.{expr_tree, member_tree, type_tree};
+ghost use Rattle.std.specs.Prelude.{◌≡◌};
+ghost use Rattle.cal_ast.specs.View.{expr_tree, type_tree};
+ghost use Rattle.cal_scope.specs.Asked.{member_trees, members_tree, outermost};
 ghost use Rattle.cal_scope.specs.Expressions.{expr_resolved, type_resolved};
 ghost use Rattle.cal_scope.specs.Judging.{Judges};
 ghost use Rattle.cal_scope.specs.Members.{members_resolved};
@@ -23,7 +23,7 @@ use cal_ast::{Expr, Member, TypeExpr};
 /// `Broken`: the first rule of scope that it breaks, with the place: a name is unknown, or is used as what it isn't.
 /// `Memory`: an allocation was refused.
 pub fn resolve_expr(names: &FileNames, e: &Expr) -> Result<Expr, ScopeFault>
-    ensures { Judges expr_tree result (expr_resolved (expr_tree e.now) (record { locals = []; globals = names.now })) }
+    ensures { Judges expr_tree result (expr_resolved (expr_tree e.now) (outermost names.now)) }
 {
     expr(&Inside::outermost(names), e)
 }
@@ -34,7 +34,7 @@ pub fn resolve_expr(names: &FileNames, e: &Expr) -> Result<Expr, ScopeFault>
 ///
 /// As those of `resolve_expr`; the type's name is unknown where it is no type of the language.
 pub fn resolve_type(names: &FileNames, t: &TypeExpr) -> Result<TypeExpr, ScopeFault>
-    ensures { Judges type_tree result (type_resolved (type_tree t.now) (record { locals = []; globals = names.now })) }
+    ensures { Judges type_tree result (type_resolved (type_tree t.now) (outermost names.now)) }
 {
     type_expr(&Inside::outermost(names), t)
 }
@@ -50,7 +50,7 @@ pub fn resolve_members(
     ports: &PortNames,
     list: &[Member],
 ) -> Result<Vec<Member>, ScopeFault>
-    ensures { Judges (λ found. map member_tree found.items) result (members_resolved (listed (map member_tree list.now)) (ports_view ports.now) (record { locals = []; globals = names.now })) }
+    ensures { Judges member_trees result (members_resolved (members_tree list.now) (ports_view ports.now) (outermost names.now)) }
 {
     members(&Inside::outermost(names), ports, list)
 }

@@ -5,8 +5,12 @@
 #![tactic(auto)]
 
 #[cfg(test)]
+mod declared;
+#[cfg(test)]
 mod expressions;
 #[cfg(test)]
 mod members;
+#[cfg(test)]
+mod names;
 #[cfg(test)]
 mod rows;

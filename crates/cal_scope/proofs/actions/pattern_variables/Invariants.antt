@@ -7,5 +7,5 @@ use Rattle.cal_scope.proofs.actions.pattern_variables.Given as goal
 
 abbrev pub invariant-names : goal.invariant-names
 invariant-names l =
-    (names_judged (listed (map ident_tree l.rest.now)) l.here ≡ names_judged (listed (map ident_tree l.initial.rest.now)) l.initial.here)
-    × (declared_by (listed (map ident_tree l.rest.now)) l.here ≡ declared_by (listed (map ident_tree l.initial.rest.now)) l.initial.here)
+    (names_judged (listed (map ident_tree l.rest)) l.here ≡ names_judged (listed (map ident_tree l.initial.rest)) l.initial.here)
+    × (declared_by (listed (map ident_tree l.rest)) l.here ≡ declared_by (listed (map ident_tree l.initial.rest)) l.initial.here)

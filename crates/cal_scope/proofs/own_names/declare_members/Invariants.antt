@@ -5,4 +5,4 @@ use Rattle.cal_scope.specs.Globals.{with_all_declared}
 use Rattle.cal_scope.proofs.own_names.declare_members.Given as goal
 
 abbrev pub invariant-members : goal.invariant-members
-invariant-members l = with_all_declared l.before (listed (map member_tree l.rest.now)) l.names ≡ with_all_declared l.initial.before (listed (map member_tree l.initial.rest.now)) l.initial.names
+invariant-members l = with_all_declared l.before (listed (map member_tree l.rest)) l.names ≡ with_all_declared l.initial.before (listed (map member_tree l.initial.rest)) l.initial.names

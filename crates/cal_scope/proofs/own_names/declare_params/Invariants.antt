@@ -5,4 +5,4 @@ use Rattle.cal_scope.specs.Globals.{with_all_declared}
 use Rattle.cal_scope.proofs.own_names.declare_params.Given as goal
 
 abbrev pub invariant-params : goal.invariant-params
-invariant-params l = with_all_declared [] (listed (map param_tree l.rest.now)) l.names ≡ with_all_declared [] (listed (map param_tree l.initial.rest.now)) l.initial.names
+invariant-params l = with_all_declared [] (listed (map param_tree l.rest)) l.names ≡ with_all_declared [] (listed (map param_tree l.initial.rest)) l.initial.names

@@ -5,4 +5,4 @@ use Rattle.cal_scope.specs.Expressions.{declared_by}
 use Rattle.cal_scope.proofs.ports.names_of.Given as goal
 
 abbrev pub invariant-ports : goal.invariant-ports
-invariant-ports l = declared_by (listed (map port_tree l.rest.now)) l.names ≡ declared_by (listed (map port_tree l.initial.rest.now)) []
+invariant-ports l = declared_by (listed (map port_tree l.rest)) l.names ≡ declared_by (listed (map port_tree l.initial.rest)) []

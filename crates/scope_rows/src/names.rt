@@ -1,6 +1,6 @@
 //! What names stand for inside scopes, as rows.
 
-use crate::{FileNames, Frame, Inside, NameSet, Role, ScopeFault};
+use cal_scope::{FileNames, Frame, Inside, NameSet, Role, ScopeFault};
 use std::alloc::Global;
 use std::process::Abort;
 use std::test::Fail;
