@@ -2,12 +2,13 @@
 
 ghost use Rattle.std.specs.Prelude.{◌≡◌, [], ◌∷◌, ◌++◌, OnOk, OnErr, None, is_some, option_map};
 ghost use Rattle.cal_scope.specs.Names.{global_named};
-ghost use Rattle.cal_scope.specs.View.{globals_of, meaning_of};
+ghost use Rattle.cal_scope.specs.Meanings.{meaning_of};
 
 use crate::role::Role;
 use indexmap::IndexMap;
 use rvc_base::Memory;
 use std::alloc::Global;
+use std::marker::Model;
 
 /// What a name of a file stands for, and its text in full.
 #[derive(Drop)]
@@ -26,10 +27,20 @@ pub struct FileNames {
     named: IndexMap<String, Meaning>,
 }
 
+impl Model for FileNames {
+    ghost use Rattle.std.specs.Prelude.{List, map};
+    ghost use Rattle.cal_scope.specs.Names.{Global};
+    ghost use Rattle.cal_scope.specs.Meanings.{global_of};
+
+    ghost Value = { List Global };
+
+    ghost view = { λ names. map global_of names.named.entries };
+}
+
 impl FileNames {
     /// No names.
     pub fn new(alloc: Global) -> FileNames
-        ensures { globals_of result ≡ [] }
+        ensures { result ≡ [] }
     {
         FileNames {
             alloc,
@@ -44,7 +55,7 @@ impl FileNames {
 
     /// Whether the name is there.
     pub fn has(&self, name: &str) -> bool
-        ensures { result ≡ is_some (global_named name.now (globals_of self.now)) }
+        ensures { result ≡ is_some (global_named name.now self.now) }
     {
         self.meaning(name).is_some()
     }
@@ -55,9 +66,9 @@ impl FileNames {
     ///
     /// `Memory` if memory runs out; the names are as before then (`same`).
     pub fn add(&mut self, name: &str, role: Role, full: &str) -> Result<(), Memory>
-        requires { global_named name.now (globals_of self.old) ≡ None }
-        ensures added { OnOk result (globals_of self.new ≡ globals_of self.old ++ record { name = name.now; role = role; full = full.now } ∷ []) }
-        ensures same { OnErr result (globals_of self.new ≡ globals_of self.old) }
+        requires { global_named name.now self.old ≡ None }
+        ensures added { OnOk result (self.new ≡ self.old ++ record { name = name.now; role = role; full = full.now } ∷ []) }
+        ensures same { OnErr result (self.new ≡ self.old) }
     {
         let full = String::from_str(self.alloc, full)?;
         let name = String::from_str(self.alloc, name)?;
@@ -67,7 +78,7 @@ impl FileNames {
 
     /// What a name stands for.
     pub(crate) fn meaning(&self, name: &str) -> Option<&Meaning>
-        ensures { option_map (λ m. meaning_of name.now m.now) result ≡ global_named name.now (globals_of self.now) }
+        ensures { option_map (λ m. meaning_of name.now m.now) result ≡ global_named name.now self.now }
     {
         self.named.get(name)
     }
