@@ -1,4 +1,5 @@
 -- What the public calls are asked about: lists of parts as trees, and what is seen round which no scope stands.
+-- Trusted: part of what a promise means.
 use Rattle.std.specs.Prelude.{List, [], map, Vec}
 use Rattle.std.specs.declared.alloc.Global.{Global as Heap}
 use Rattle.cal_ast.specs.Tree.{Tree, listed}

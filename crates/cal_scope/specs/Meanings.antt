@@ -1,4 +1,5 @@
 -- What names of a file stand for, without where it lies in memory.
+-- Trusted: part of what a promise means.
 use Rattle.std.specs.Prelude.{ℕ, List, String, string_bytes}
 use Rattle.std.specs.declared.alloc.Global.{Global as Heap}
 use Rattle.cal_scope.specs.Names.{Global}

@@ -50,7 +50,8 @@ abbrev pub local : List ℕ → Global
 local name = record { name = name; role = Variable; full = name }
 
 abbrev pub meant_by : List ℕ → Names → Option Global
-meant_by name names = if is_among name names.locals then Some (local name) else global_named name names.globals
+meant_by name names = if is_among name names.locals then Some (local name)
+    else global_named name names.globals
 
 abbrev pub is_role : Role → Role → Bool
 is_role Variable Variable = true

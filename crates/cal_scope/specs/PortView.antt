@@ -1,4 +1,5 @@
 -- The names of an actor's ports, without where they lie in memory.
+-- Trusted: part of what a promise means.
 use Rattle.cal_scope.specs.Members.{Ports}
 use Rattle.cal_scope.specs.declared.ports.PortNames.{PortNames}
 

@@ -1,4 +1,5 @@
 -- What is seen, without where it lies in memory.
+-- Trusted: part of what a promise means.
 use Rattle.std.specs.Prelude.{ℕ, List, [], ◌++◌, Option, None, Some}
 use Rattle.std.specs.Borrow.{Bor}
 use Rattle.cal_scope.specs.Names.{Names}

@@ -26,7 +26,8 @@ use rvc_base::Rule;
 
 /// A port that is named, if one is, is one of the wanted direction.
 fn port(port: &Option<Ident>, wanted: &NameSet, others: &NameSet) -> Result<(), ScopeFault>
-    ensures { Judges (λ _. tt) result (port_judged (optional (option_map ident_tree port.now)) wanted.now others.now) }
+    ensures { Judges (λ _. tt) result
+        (port_judged (optional (option_map ident_tree port.now)) wanted.now others.now) }
 {
     let Some(port) = port else {
         return Ok(());
@@ -49,8 +50,10 @@ fn port(port: &Option<Ident>, wanted: &NameSet, others: &NameSet) -> Result<(), 
 
 /// Names of pattern variables, each declared once. They are added to those of the scope.
 fn pattern_variables(variables: &[Ident], here: &mut NameSet) -> Result<(), ScopeFault>
-    ensures judged { Judges (λ _. tt) result (names_judged (listed (map ident_tree variables.now)) here.old) }
-    ensures here { OnOk result (here.new ≡ declared_by (listed (map ident_tree variables.now)) here.old) }
+    ensures judged { Judges (λ _. tt) result
+        (names_judged (listed (map ident_tree variables.now)) here.old) }
+    ensures here { OnOk result (here.new
+        ≡ declared_by (listed (map ident_tree variables.now)) here.old) }
 {
     let mut rest = variables;
     'names: while let Some((first, others)) = rest.split_first() {
@@ -70,7 +73,9 @@ fn pattern(
     p: &Pattern,
     here: &mut NameSet,
 ) -> Result<Pattern, ScopeFault>
-    ensures judged { Judges pattern_tree result (pattern_resolved (pattern_tree p.now) (ports_view ports.now) here.old (names_view names.now)) }
+    ensures judged { Judges pattern_tree result
+        (pattern_resolved (pattern_tree p.now) (ports_view ports.now) here.old
+        (names_view names.now)) }
     ensures here { OnOk result (here.new ≡ pattern_names (pattern_tree p.now) here.old) }
 {
     port(&p.port, &ports.ins, &ports.outs)?;
@@ -91,8 +96,11 @@ fn patterns(
     patterns: &[Pattern],
     here: &mut NameSet,
 ) -> Result<Vec<Pattern>, ScopeFault>
-    ensures judged { Judges (λ found. map pattern_tree found.items) result (patterns_resolved (listed (map pattern_tree patterns.now)) (ports_view ports.now) here.old (names_view names.now)) }
-    ensures here { OnOk result (here.new ≡ declared_by_patterns (listed (map pattern_tree patterns.now)) here.old) }
+    ensures judged { Judges (λ found. map pattern_tree found.items) result
+        (patterns_resolved (listed (map pattern_tree patterns.now)) (ports_view ports.now) here.old
+        (names_view names.now)) }
+    ensures here { OnOk result (here.new
+        ≡ declared_by_patterns (listed (map pattern_tree patterns.now)) here.old) }
 {
     let mut found = Vec::new(names.alloc);
     for p in patterns {
@@ -103,7 +111,8 @@ fn patterns(
 
 /// An output.
 fn output(names: &Inside, ports: &PortNames, o: &Output) -> Result<Output, ScopeFault>
-    ensures { Judges output_tree result (output_resolved (output_tree o.now) (ports_view ports.now) (names_view names.now)) }
+    ensures { Judges output_tree result
+        (output_resolved (output_tree o.now) (ports_view ports.now) (names_view names.now)) }
 {
     port(&o.port, &ports.outs, &ports.ins)?;
     let values = exprs(names, &o.values)?;
@@ -118,7 +127,9 @@ fn output(names: &Inside, ports: &PortNames, o: &Output) -> Result<Output, Scope
 
 /// Outputs in order.
 fn outputs(names: &Inside, ports: &PortNames, outputs: &[Output]) -> Result<Vec<Output>, ScopeFault>
-    ensures { Judges (λ found. map output_tree found.items) result (outputs_resolved (listed (map output_tree outputs.now)) (ports_view ports.now) (names_view names.now)) }
+    ensures { Judges (λ found. map output_tree found.items) result
+        (outputs_resolved (listed (map output_tree outputs.now)) (ports_view ports.now)
+        (names_view names.now)) }
 {
     let mut found = Vec::new(names.alloc);
     for o in outputs {
@@ -129,7 +140,9 @@ fn outputs(names: &Inside, ports: &PortNames, outputs: &[Output]) -> Result<Vec<
 
 /// Expressions inside a scope.
 fn exprs_in(names: &Inside, here: &NameSet, list: &[Expr]) -> Result<Vec<Expr>, ScopeFault>
-    ensures { Judges (λ found. map expr_tree found.items) result (exprs_resolved (listed (map expr_tree list.now)) (within here.now (names_view names.now))) }
+    ensures { Judges (λ found. map expr_tree found.items) result
+        (exprs_resolved (listed (map expr_tree list.now))
+        (within here.now (names_view names.now))) }
 {
     let frame = Frame {
         names: here,
@@ -144,7 +157,8 @@ fn body_in(
     here: &NameSet,
     body: &Option<Vec<Stmt>>,
 ) -> Result<Option<Vec<Stmt>>, ScopeFault>
-    ensures { Judges body_tree result (else_resolved (body_tree body.now) (within here.now (names_view names.now))) }
+    ensures { Judges body_tree result
+        (else_resolved (body_tree body.now) (within here.now (names_view names.now))) }
 {
     let frame = Frame {
         names: here,
@@ -160,7 +174,9 @@ fn outputs_in(
     ports: &PortNames,
     list: &[Output],
 ) -> Result<Vec<Output>, ScopeFault>
-    ensures { Judges (λ found. map output_tree found.items) result (outputs_resolved (listed (map output_tree list.now)) (ports_view ports.now) (within here.now (names_view names.now))) }
+    ensures { Judges (λ found. map output_tree found.items) result
+        (outputs_resolved (listed (map output_tree list.now)) (ports_view ports.now)
+        (within here.now (names_view names.now))) }
 {
     let frame = Frame {
         names: here,
@@ -171,7 +187,8 @@ fn outputs_in(
 
 /// An action, whose pattern variables and locals are one scope.
 pub(crate) fn action(names: &Inside, ports: &PortNames, a: &Action) -> Result<Action, ScopeFault>
-    ensures { Judges action_tree result (action_resolved (action_tree a.now) (ports_view ports.now) (names_view names.now)) }
+    ensures { Judges action_tree result
+        (action_resolved (action_tree a.now) (ports_view ports.now) (names_view names.now)) }
 {
     let mut here = NameSet::new(names.alloc);
     let patterns = patterns(names, ports, &a.patterns, &mut here)?;

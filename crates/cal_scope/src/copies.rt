@@ -11,7 +11,8 @@ pub(crate) fn optional_name(
     alloc: Global,
     name: &Option<Ident>,
 ) -> Result<Option<Ident>, AllocError>
-    ensures { IfOk result (λ copied. option_map ident_tree copied ≡ option_map ident_tree name.now) }
+    ensures { IfOk result (λ copied. option_map ident_tree copied
+        ≡ option_map ident_tree name.now) }
 {
     match name {
         Some(name) => Ok(Some(name.copy(alloc)?)),

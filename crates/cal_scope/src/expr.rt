@@ -42,7 +42,9 @@ pub(crate) fn expr(names: &Inside, e: &Expr) -> Result<Expr, ScopeFault>
 /// A condition and two branches.
 #[cycle(expr)]
 fn if_expr(names: &Inside, test: &Expr, yes: &Expr, no: &Expr, at: u32) -> Result<Expr, ScopeFault>
-    ensures { Judges expr_tree result (expr_resolved (tree.if_expr (expr_tree test.now) (expr_tree yes.now) (expr_tree no.now) at) (names_view names.now)) }
+    ensures { Judges expr_tree result
+        (expr_resolved (tree.if_expr (expr_tree test.now) (expr_tree yes.now) (expr_tree no.now) at)
+        (names_view names.now)) }
 {
     let test = expr(names, test)?;
     let yes = expr(names, yes)?;
@@ -53,7 +55,9 @@ fn if_expr(names: &Inside, test: &Expr, yes: &Expr, no: &Expr, at: u32) -> Resul
 /// A place in a list.
 #[cycle(expr)]
 fn index(names: &Inside, base: &Expr, place: &Expr, at: u32) -> Result<Expr, ScopeFault>
-    ensures { Judges expr_tree result (expr_resolved (tree.index (expr_tree base.now) (expr_tree place.now) at) (names_view names.now)) }
+    ensures { Judges expr_tree result
+        (expr_resolved (tree.index (expr_tree base.now) (expr_tree place.now) at)
+        (names_view names.now)) }
 {
     let base = expr(names, base)?;
     let place = expr(names, place)?;
@@ -63,7 +67,9 @@ fn index(names: &Inside, base: &Expr, place: &Expr, at: u32) -> Result<Expr, Sco
 /// An operation with two operands.
 #[cycle(expr)]
 fn binary(names: &Inside, op: BinOp, left: &Expr, right: &Expr, at: u32) -> Result<Expr, ScopeFault>
-    ensures { Judges expr_tree result (expr_resolved (tree.binary op (expr_tree left.now) (expr_tree right.now) at) (names_view names.now)) }
+    ensures { Judges expr_tree result
+        (expr_resolved (tree.binary op (expr_tree left.now) (expr_tree right.now) at)
+        (names_view names.now)) }
 {
     let left = expr(names, left)?;
     let right = expr(names, right)?;
@@ -73,7 +79,9 @@ fn binary(names: &Inside, op: BinOp, left: &Expr, right: &Expr, at: u32) -> Resu
 /// A comprehension, whose item sees its generators.
 #[cycle(expr)]
 fn comp(names: &Inside, item: &Expr, gens: &[Gen], at: u32) -> Result<Expr, ScopeFault>
-    ensures { Judges expr_tree result (expr_resolved (tree.comp (expr_tree item.now) (listed (map gen_tree gens.now)) at) (names_view names.now)) }
+    ensures { Judges expr_tree result
+        (expr_resolved (tree.comp (expr_tree item.now) (listed (map gen_tree gens.now)) at)
+        (names_view names.now)) }
 {
     let mut here = NameSet::new(names.alloc);
     let gens = generators(names, gens, &mut here)?;
@@ -83,7 +91,8 @@ fn comp(names: &Inside, item: &Expr, gens: &[Gen], at: u32) -> Result<Expr, Scop
 
 /// A variable.
 fn variable(names: &Inside, name: &str, at: u32) -> Result<Expr, ScopeFault>
-    ensures { Judges expr_tree result (expr_resolved (tree.variable name.now at) (names_view names.now)) }
+    ensures { Judges expr_tree result
+        (expr_resolved (tree.variable name.now at) (names_view names.now)) }
 {
     let full = names.full_name(Role::Variable, name, at)?;
     Ok(made::variable(full, at))
@@ -92,7 +101,8 @@ fn variable(names: &Inside, name: &str, at: u32) -> Result<Expr, ScopeFault>
 /// An expression in parentheses.
 #[cycle(expr)]
 fn paren(names: &Inside, inner: &Expr, at: u32) -> Result<Expr, ScopeFault>
-    ensures { Judges expr_tree result (expr_resolved (tree.paren (expr_tree inner.now) at) (names_view names.now)) }
+    ensures { Judges expr_tree result
+        (expr_resolved (tree.paren (expr_tree inner.now) at) (names_view names.now)) }
 {
     let inner = expr(names, inner)?;
     Ok(made::paren(names.alloc, inner, at)?)
@@ -101,7 +111,8 @@ fn paren(names: &Inside, inner: &Expr, at: u32) -> Result<Expr, ScopeFault>
 /// A list.
 #[cycle(expr)]
 fn list(names: &Inside, items: &[Expr], at: u32) -> Result<Expr, ScopeFault>
-    ensures { Judges expr_tree result (expr_resolved (tree.list (listed (map expr_tree items.now)) at) (names_view names.now)) }
+    ensures { Judges expr_tree result
+        (expr_resolved (tree.list (listed (map expr_tree items.now)) at) (names_view names.now)) }
 {
     let items = exprs(names, items)?;
     Ok(made::list(items, at))
@@ -110,7 +121,9 @@ fn list(names: &Inside, items: &[Expr], at: u32) -> Result<Expr, ScopeFault>
 /// A call of a function.
 #[cycle(expr)]
 fn call(names: &Inside, name: &str, args: &[Expr], at: u32) -> Result<Expr, ScopeFault>
-    ensures { Judges expr_tree result (expr_resolved (tree.call name.now (listed (map expr_tree args.now)) at) (names_view names.now)) }
+    ensures { Judges expr_tree result
+        (expr_resolved (tree.call name.now (listed (map expr_tree args.now)) at)
+        (names_view names.now)) }
 {
     let full = names.full_name(Role::Function, name, at)?;
     let args = exprs(names, args)?;
@@ -120,7 +133,8 @@ fn call(names: &Inside, name: &str, args: &[Expr], at: u32) -> Result<Expr, Scop
 /// An expression inside a scope.
 #[cycle(expr)]
 pub(crate) fn expr_in(names: &Inside, here: &NameSet, e: &Expr) -> Result<Expr, ScopeFault>
-    ensures { Judges expr_tree result (expr_resolved (expr_tree e.now) (within here.now (names_view names.now))) }
+    ensures { Judges expr_tree result
+        (expr_resolved (expr_tree e.now) (within here.now (names_view names.now))) }
 {
     let frame = Frame {
         names: here,
@@ -133,7 +147,8 @@ pub(crate) fn expr_in(names: &Inside, here: &NameSet, e: &Expr) -> Result<Expr, 
 /// An operation with one operand.
 #[cycle(expr)]
 fn prefix(names: &Inside, op: PrefixOp, of: &Expr, at: u32) -> Result<Expr, ScopeFault>
-    ensures { Judges expr_tree result (expr_resolved (tree.prefix op (expr_tree of.now) at) (names_view names.now)) }
+    ensures { Judges expr_tree result
+        (expr_resolved (tree.prefix op (expr_tree of.now) at) (names_view names.now)) }
 {
     let of = expr(names, of)?;
     Ok(made::prefix(names.alloc, op, of, at)?)
@@ -142,7 +157,8 @@ fn prefix(names: &Inside, op: PrefixOp, of: &Expr, at: u32) -> Result<Expr, Scop
 /// Expressions in order.
 #[cycle(expr)]
 pub(crate) fn exprs(names: &Inside, exprs: &[Expr]) -> Result<Vec<Expr>, ScopeFault>
-    ensures { Judges (λ found. map expr_tree found.items) result (exprs_resolved (listed (map expr_tree exprs.now)) (names_view names.now)) }
+    ensures { Judges (λ found. map expr_tree found.items) result
+        (exprs_resolved (listed (map expr_tree exprs.now)) (names_view names.now)) }
 {
     let mut found = Vec::new(names.alloc);
     for e in exprs {
@@ -156,7 +172,8 @@ pub(crate) fn exprs(names: &Inside, exprs: &[Expr]) -> Result<Vec<Expr>, ScopeFa
 /// Generators in order, each of which sees those before it. Their names are added to those of the scope.
 #[cycle(expr)]
 fn generators(names: &Inside, gens: &[Gen], here: &mut NameSet) -> Result<Vec<Gen>, ScopeFault>
-    ensures judged { Judges (λ found. map gen_tree found.items) result (gens_resolved (listed (map gen_tree gens.now)) here.old (names_view names.now)) }
+    ensures judged { Judges (λ found. map gen_tree found.items) result
+        (gens_resolved (listed (map gen_tree gens.now)) here.old (names_view names.now)) }
     ensures here { OnOk result (here.new ≡ declared_by (listed (map gen_tree gens.now)) here.old) }
 {
     let mut found = Vec::new(names.alloc);
@@ -177,7 +194,8 @@ fn generator_name(g: &Gen) -> &str
 /// A generator inside those of the scope.
 #[cycle(expr)]
 fn generator(names: &Inside, here: &NameSet, g: &Gen) -> Result<Gen, ScopeFault>
-    ensures { Judges gen_tree result (gen_resolved (gen_tree g.now) (within here.now (names_view names.now))) }
+    ensures { Judges gen_tree result
+        (gen_resolved (gen_tree g.now) (within here.now (names_view names.now))) }
 {
     let shape = type_in(names, here, &g.shape)?;
     let from = expr_in(names, here, &g.from)?;
@@ -207,7 +225,8 @@ pub(crate) fn type_expr(names: &Inside, t: &TypeExpr) -> Result<TypeExpr, ScopeF
 /// A type inside a scope.
 #[cycle(expr)]
 pub(crate) fn type_in(names: &Inside, here: &NameSet, t: &TypeExpr) -> Result<TypeExpr, ScopeFault>
-    ensures { Judges type_tree result (type_resolved (type_tree t.now) (within here.now (names_view names.now))) }
+    ensures { Judges type_tree result
+        (type_resolved (type_tree t.now) (within here.now (names_view names.now))) }
 {
     let frame = Frame {
         names: here,
@@ -233,7 +252,8 @@ fn is_word(name: &str) -> bool
 /// The arguments of a type in order.
 #[cycle(expr)]
 fn type_args(names: &Inside, args: &[TypeArg]) -> Result<Vec<TypeArg>, ScopeFault>
-    ensures { Judges (λ found. map type_arg_tree found.items) result (type_args_resolved (listed (map type_arg_tree args.now)) (names_view names.now)) }
+    ensures { Judges (λ found. map type_arg_tree found.items) result
+        (type_args_resolved (listed (map type_arg_tree args.now)) (names_view names.now)) }
 {
     let mut found = Vec::new(names.alloc);
     for arg in args {
@@ -245,7 +265,8 @@ fn type_args(names: &Inside, args: &[TypeArg]) -> Result<Vec<TypeArg>, ScopeFaul
 /// An argument of a type.
 #[cycle(expr)]
 fn type_arg(names: &Inside, arg: &TypeArg) -> Result<TypeArg, ScopeFault>
-    ensures { Judges type_arg_tree result (type_arg_resolved (type_arg_tree arg.now) (names_view names.now)) }
+    ensures { Judges type_arg_tree result
+        (type_arg_resolved (type_arg_tree arg.now) (names_view names.now)) }
 {
     match arg {
         TypeArg::Shape { name, shape } => shape_arg(names, name, shape),
@@ -256,7 +277,9 @@ fn type_arg(names: &Inside, arg: &TypeArg) -> Result<TypeArg, ScopeFault>
 /// An argument that is a type.
 #[cycle(expr)]
 fn shape_arg(names: &Inside, name: &Ident, shape: &TypeExpr) -> Result<TypeArg, ScopeFault>
-    ensures { Judges type_arg_tree result (type_arg_resolved (tree.shape_arg (ident_tree name.now) (type_tree shape.now)) (names_view names.now)) }
+    ensures { Judges type_arg_tree result
+        (type_arg_resolved (tree.shape_arg (ident_tree name.now) (type_tree shape.now))
+        (names_view names.now)) }
 {
     let shape = type_expr(names, shape)?;
     let name = name.copy(names.alloc)?;
@@ -266,7 +289,9 @@ fn shape_arg(names: &Inside, name: &Ident, shape: &TypeExpr) -> Result<TypeArg, 
 /// An argument that is a value.
 #[cycle(expr)]
 fn value_arg(names: &Inside, name: &Ident, value: &Expr) -> Result<TypeArg, ScopeFault>
-    ensures { Judges type_arg_tree result (type_arg_resolved (tree.value_arg (ident_tree name.now) (expr_tree value.now)) (names_view names.now)) }
+    ensures { Judges type_arg_tree result
+        (type_arg_resolved (tree.value_arg (ident_tree name.now) (expr_tree value.now))
+        (names_view names.now)) }
 {
     let value = expr(names, value)?;
     let name = name.copy(names.alloc)?;

@@ -67,7 +67,8 @@ impl FileNames {
     /// `Memory` if memory runs out; the names are as before then (`same`).
     pub fn add(&mut self, name: &str, role: Role, full: &str) -> Result<(), Memory>
         requires { global_named name.now self.old ≡ None }
-        ensures added { OnOk result (self.new ≡ self.old ++ record { name = name.now; role = role; full = full.now } ∷ []) }
+        ensures added { OnOk result (self.new
+            ≡ self.old ++ record { name = name.now; role = role; full = full.now } ∷ []) }
         ensures same { OnErr result (self.new ≡ self.old) }
     {
         let full = String::from_str(self.alloc, full)?;
@@ -78,7 +79,8 @@ impl FileNames {
 
     /// What a name stands for.
     pub(crate) fn meaning(&self, name: &str) -> Option<&Meaning>
-        ensures { option_map (λ m. meaning_of name.now m.now) result ≡ global_named name.now self.now }
+        ensures { option_map (λ m. meaning_of name.now m.now) result
+            ≡ global_named name.now self.now }
     {
         self.named.get(name)
     }

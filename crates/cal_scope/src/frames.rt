@@ -49,7 +49,8 @@ impl<'a> Inside<'a> {
     where
         'a: 'b,
         requires { local_names (out-Frame frame.now).outer ≡ local_names self.now.frame }
-        ensures { names_view result ≡ within ((out-Frame frame.now).names.now) (names_view self.now) }
+        ensures { names_view result ≡ within ((out-Frame frame.now).names.now)
+            (names_view self.now) }
     {
         Inside {
             alloc: self.alloc,
@@ -96,7 +97,8 @@ fn local_name(alloc: Global, role: Role, name: &str, at: u32) -> Result<String, 
 
 /// The full name of a name of the file, if it may be used.
 fn meant(meaning: &Meaning, role: Role, at: u32) -> Result<String, ScopeFault>
-    ensures { (name : List ℕ) → Judges string_bytes result (full_name role at (Some (meaning_of name meaning.now))) }
+    ensures { (name : List ℕ) → Judges string_bytes result
+        (full_name role at (Some (meaning_of name meaning.now))) }
 {
     if role.is(meaning.role) {
         return Ok(meaning.full.clone()?);

@@ -41,7 +41,8 @@ pub(crate) fn variable(name: String, at: u32) -> Expr
 
 /// A call of a function.
 pub(crate) fn call(name: String, args: Vec<Expr>, at: u32) -> Expr
-    ensures { expr_tree result ≡ tree.call (string_bytes name) (listed (map expr_tree args.items)) at }
+    ensures { expr_tree result ≡ tree.call (string_bytes name)
+        (listed (map expr_tree args.items)) at }
 {
     Expr {
         form: ExprForm::Call { name, args },
@@ -65,7 +66,8 @@ pub(crate) fn if_expr(
     no: Expr,
     at: u32,
 ) -> Result<Expr, Memory>
-    ensures { IfOk result (λ e. expr_tree e ≡ tree.if_expr (expr_tree test) (expr_tree yes) (expr_tree no) at) }
+    ensures { IfOk result (λ e. expr_tree e
+        ≡ tree.if_expr (expr_tree test) (expr_tree yes) (expr_tree no) at) }
 {
     let form = ExprForm::If {
         test: Box::new(alloc, test)?,
@@ -87,7 +89,8 @@ pub(crate) fn list(items: Vec<Expr>, at: u32) -> Expr
 
 /// A comprehension.
 pub(crate) fn comp(alloc: Global, item: Expr, gens: Vec<Gen>, at: u32) -> Result<Expr, Memory>
-    ensures { IfOk result (λ e. expr_tree e ≡ tree.comp (expr_tree item) (listed (map gen_tree gens.items)) at) }
+    ensures { IfOk result (λ e. expr_tree e
+        ≡ tree.comp (expr_tree item) (listed (map gen_tree gens.items)) at) }
 {
     let form = ExprForm::Comp {
         item: Box::new(alloc, item)?,
@@ -126,7 +129,8 @@ pub(crate) fn binary(
     right: Expr,
     at: u32,
 ) -> Result<Expr, Memory>
-    ensures { IfOk result (λ e. expr_tree e ≡ tree.binary op (expr_tree left) (expr_tree right) at) }
+    ensures { IfOk result (λ e. expr_tree e
+        ≡ tree.binary op (expr_tree left) (expr_tree right) at) }
 {
     let form = ExprForm::Binary {
         op,
@@ -138,7 +142,8 @@ pub(crate) fn binary(
 
 /// A generator.
 pub(crate) fn generator(shape: TypeExpr, name: Ident, from: Expr, to: Expr, at: u32) -> Gen
-    ensures { gen_tree result ≡ tree.gen (type_tree shape) (ident_tree name) (expr_tree from) (expr_tree to) at }
+    ensures { gen_tree result ≡ tree.gen (type_tree shape) (ident_tree name) (expr_tree from)
+        (expr_tree to) at }
 {
     Gen {
         shape,
@@ -151,7 +156,8 @@ pub(crate) fn generator(shape: TypeExpr, name: Ident, from: Expr, to: Expr, at: 
 
 /// A type.
 pub(crate) fn type_of(name: Ident, args: Vec<TypeArg>, at: u32) -> TypeExpr
-    ensures { type_tree result ≡ tree.type_of (ident_tree name) (listed (map type_arg_tree args.items)) at }
+    ensures { type_tree result ≡ tree.type_of (ident_tree name)
+        (listed (map type_arg_tree args.items)) at }
 {
     TypeExpr { name, args, at }
 }

@@ -19,7 +19,8 @@ use cal_ast::Member;
 
 /// A member.
 pub(crate) fn member(names: &Inside, ports: &PortNames, m: &Member) -> Result<Member, ScopeFault>
-    ensures { Judges member_tree result (member_resolved (member_tree m.now) (ports_view ports.now) (names_view names.now)) }
+    ensures { Judges member_tree result
+        (member_resolved (member_tree m.now) (ports_view ports.now) (names_view names.now)) }
 {
     match m {
         Member::Var(v) => Ok(Member::Var(first_var(names, v)?)),
@@ -37,7 +38,9 @@ pub(crate) fn members(
     ports: &PortNames,
     list: &[Member],
 ) -> Result<Vec<Member>, ScopeFault>
-    ensures { Judges (λ found. map member_tree found.items) result (members_resolved (listed (map member_tree list.now)) (ports_view ports.now) (names_view names.now)) }
+    ensures { Judges (λ found. map member_tree found.items) result
+        (members_resolved (listed (map member_tree list.now)) (ports_view ports.now)
+        (names_view names.now)) }
 {
     let mut found = Vec::new(names.alloc);
     for m in list {

@@ -17,7 +17,8 @@ use cal_ast::{Function, Procedure};
 
 /// A function, whose formals and locals are one scope.
 pub(crate) fn function(names: &Inside, f: &Function) -> Result<Function, ScopeFault>
-    ensures { Judges function_tree result (function_resolved (function_tree f.now) (names_view names.now)) }
+    ensures { Judges function_tree result
+        (function_resolved (function_tree f.now) (names_view names.now)) }
 {
     let mut here = NameSet::new(names.alloc);
     let formals = formals(names, &f.formals, &mut here)?;
@@ -36,7 +37,8 @@ pub(crate) fn function(names: &Inside, f: &Function) -> Result<Function, ScopeFa
 
 /// A procedure, whose formals and locals are one scope.
 pub(crate) fn procedure(names: &Inside, p: &Procedure) -> Result<Procedure, ScopeFault>
-    ensures { Judges procedure_tree result (procedure_resolved (procedure_tree p.now) (names_view names.now)) }
+    ensures { Judges procedure_tree result
+        (procedure_resolved (procedure_tree p.now) (names_view names.now)) }
 {
     let mut here = NameSet::new(names.alloc);
     let formals = formals(names, &p.formals, &mut here)?;

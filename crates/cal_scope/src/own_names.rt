@@ -27,7 +27,8 @@ impl FileNames {
         params: &[Param],
         members: &[Member],
     ) -> Result<FileNames, ScopeFault>
-        ensures { Judges (λ names. names) result (names_of_actor (params_tree params.now) (members_tree members.now)) }
+        ensures { Judges (λ names. names) result
+            (names_of_actor (params_tree params.now) (members_tree members.now)) }
     {
         let mut names = FileNames::new(alloc);
         declare_params(&mut names, params)?;
@@ -42,7 +43,8 @@ impl FileNames {
     ///
     /// As those of [`FileNames::of_actor`].
     pub fn of_unit(alloc: Global, before: &str, members: &[Member]) -> Result<FileNames, ScopeFault>
-        ensures { Judges (λ names. names) result (with_all_declared before.now (members_tree members.now) []) }
+        ensures { Judges (λ names. names) result
+            (with_all_declared before.now (members_tree members.now) []) }
     {
         let mut names = FileNames::new(alloc);
         declare_members(&mut names, before, members)?;
@@ -67,7 +69,8 @@ fn declare(
     role: Role,
     at: u32,
 ) -> Result<(), ScopeFault>
-    ensures { Judges (λ _. names.new) result (with_global (global before.now (string_bytes name.now.text) role) at names.old) }
+    ensures { Judges (λ _. names.new) result
+        (with_global (global before.now (string_bytes name.now.text) role) at names.old) }
 {
     let text = name.text.as_str();
     if names.has(text) {
@@ -87,7 +90,8 @@ fn declare_param(names: &mut FileNames, p: &Param) -> Result<(), ScopeFault>
 
 /// Adds the name that a member declares, if it declares one.
 fn declare_member(names: &mut FileNames, before: &str, m: &Member) -> Result<(), ScopeFault>
-    ensures { Judges (λ _. names.new) result (with_declared before.now (member_tree m.now) names.old) }
+    ensures { Judges (λ _. names.new) result
+        (with_declared before.now (member_tree m.now) names.old) }
 {
     match m {
         Member::Var(v) => declare(names, before, &v.name, Role::Variable, v.at),
@@ -101,7 +105,8 @@ fn declare_member(names: &mut FileNames, before: &str, m: &Member) -> Result<(),
 
 /// Adds the names of parameters in order.
 fn declare_params(names: &mut FileNames, params: &[Param]) -> Result<(), ScopeFault>
-    ensures { Judges (λ _. names.new) result (with_all_declared [] (params_tree params.now) names.old) }
+    ensures { Judges (λ _. names.new) result
+        (with_all_declared [] (params_tree params.now) names.old) }
 {
     let mut rest = params;
     'params: while let Some((first, others)) = rest.split_first() {
@@ -117,7 +122,8 @@ fn declare_members(
     before: &str,
     members: &[Member],
 ) -> Result<(), ScopeFault>
-    ensures { Judges (λ _. names.new) result (with_all_declared before.now (members_tree members.now) names.old) }
+    ensures { Judges (λ _. names.new) result
+        (with_all_declared before.now (members_tree members.now) names.old) }
 {
     let mut rest = members;
     'members: while let Some((first, others)) = rest.split_first() {

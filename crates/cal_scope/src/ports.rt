@@ -25,7 +25,8 @@ impl PortNames {
     ///
     /// [`Memory`] if an allocation is refused.
     pub fn of(alloc: Global, ins: &[PortDecl], outs: &[PortDecl]) -> Result<PortNames, Memory>
-        ensures { IfOk result (λ ports. ports_view ports ≡ ports_of (ports_tree ins.now) (ports_tree outs.now)) }
+        ensures { IfOk result (λ ports. ports_view ports
+            ≡ ports_of (ports_tree ins.now) (ports_tree outs.now)) }
     {
         let ins = names_of(alloc, ins)?;
         let outs = names_of(alloc, outs)?;

@@ -50,7 +50,8 @@ pub fn resolve_members(
     ports: &PortNames,
     list: &[Member],
 ) -> Result<Vec<Member>, ScopeFault>
-    ensures { Judges member_trees result (members_resolved (members_tree list.now) (ports_view ports.now) (outermost names.now)) }
+    ensures { Judges member_trees result
+        (members_resolved (members_tree list.now) (ports_view ports.now) (outermost names.now)) }
 {
     members(&Inside::outermost(names), ports, list)
 }

@@ -52,7 +52,9 @@ fn assign(
     value: &Expr,
     at: u32,
 ) -> Result<Stmt, ScopeFault>
-    ensures { Judges stmt_tree result (stmt_resolved (tree.assign (ident_tree name.now) (listed (map expr_tree places.now)) (expr_tree value.now) at) (names_view names.now)) }
+    ensures { Judges stmt_tree result
+        (stmt_resolved (tree.assign (ident_tree name.now) (listed (map expr_tree places.now))
+        (expr_tree value.now) at) (names_view names.now)) }
 {
     let full = names.full_name(Role::Variable, name.text.as_str(), name.at)?;
     let places = exprs(names, places)?;
@@ -66,7 +68,9 @@ fn assign(
 
 /// A call of a procedure.
 fn call(names: &Inside, name: &Ident, args: &[Expr], at: u32) -> Result<Stmt, ScopeFault>
-    ensures { Judges stmt_tree result (stmt_resolved (tree.call_stmt (ident_tree name.now) (listed (map expr_tree args.now)) at) (names_view names.now)) }
+    ensures { Judges stmt_tree result
+        (stmt_resolved (tree.call_stmt (ident_tree name.now) (listed (map expr_tree args.now)) at)
+        (names_view names.now)) }
 {
     let full = names.full_name(Role::Procedure, name.text.as_str(), name.at)?;
     let args = exprs(names, args)?;
@@ -86,7 +90,9 @@ fn if_stmt(
     no: &Option<Vec<Stmt>>,
     at: u32,
 ) -> Result<Stmt, ScopeFault>
-    ensures { Judges stmt_tree result (stmt_resolved (tree.if_stmt (expr_tree test.now) (listed (map stmt_tree yes.now)) (body_tree no.now) at) (names_view names.now)) }
+    ensures { Judges stmt_tree result
+        (stmt_resolved (tree.if_stmt (expr_tree test.now) (listed (map stmt_tree yes.now))
+        (body_tree no.now) at) (names_view names.now)) }
 {
     let test = expr(names, test)?;
     let yes = stmts(names, yes)?;
@@ -97,7 +103,9 @@ fn if_stmt(
 /// A loop over a condition.
 #[cycle(stmt)]
 fn while_stmt(names: &Inside, test: &Expr, body: &[Stmt], at: u32) -> Result<Stmt, ScopeFault>
-    ensures { Judges stmt_tree result (stmt_resolved (tree.while_stmt (expr_tree test.now) (listed (map stmt_tree body.now)) at) (names_view names.now)) }
+    ensures { Judges stmt_tree result
+        (stmt_resolved (tree.while_stmt (expr_tree test.now) (listed (map stmt_tree body.now)) at)
+        (names_view names.now)) }
 {
     let test = expr(names, test)?;
     let body = stmts(names, body)?;
@@ -115,7 +123,10 @@ fn foreach_stmt(
     body: &[Stmt],
     at: u32,
 ) -> Result<Stmt, ScopeFault>
-    ensures { Judges stmt_tree result (stmt_resolved (tree.foreach_stmt (type_tree shape.now) (ident_tree name.now) (expr_tree from.now) (expr_tree to.now) (listed (map stmt_tree body.now)) at) (names_view names.now)) }
+    ensures { Judges stmt_tree result
+        (stmt_resolved (tree.foreach_stmt (type_tree shape.now) (ident_tree name.now)
+        (expr_tree from.now) (expr_tree to.now) (listed (map stmt_tree body.now)) at)
+        (names_view names.now)) }
 {
     let shape = type_expr(names, shape)?;
     let from = expr(names, from)?;
@@ -128,7 +139,9 @@ fn foreach_stmt(
 /// The body of a loop over a range.
 #[cycle(stmt)]
 fn loop_body(names: &Inside, name: &Ident, body: &[Stmt]) -> Result<Vec<Stmt>, ScopeFault>
-    ensures { Judges (λ found. map stmt_tree found.items) result (stmts_resolved (listed (map stmt_tree body.now)) (within (string_bytes name.now.text ∷ []) (names_view names.now))) }
+    ensures { Judges (λ found. map stmt_tree found.items) result
+        (stmts_resolved (listed (map stmt_tree body.now))
+        (within (string_bytes name.now.text ∷ []) (names_view names.now))) }
 {
     let mut here = NameSet::new(names.alloc);
     here.add(name.text.as_str())?;
@@ -142,7 +155,9 @@ pub(crate) fn stmts_in(
     here: &NameSet,
     body: &[Stmt],
 ) -> Result<Vec<Stmt>, ScopeFault>
-    ensures { Judges (λ found. map stmt_tree found.items) result (stmts_resolved (listed (map stmt_tree body.now)) (within here.now (names_view names.now))) }
+    ensures { Judges (λ found. map stmt_tree found.items) result
+        (stmts_resolved (listed (map stmt_tree body.now))
+        (within here.now (names_view names.now))) }
 {
     let frame = Frame {
         names: here,
@@ -155,7 +170,9 @@ pub(crate) fn stmts_in(
 /// A block, whose statements see its variables.
 #[cycle(stmt)]
 fn block(names: &Inside, locals: &[VarDecl], body: &[Stmt], at: u32) -> Result<Stmt, ScopeFault>
-    ensures { Judges stmt_tree result (stmt_resolved (tree.block (listed (map var_tree locals.now)) (listed (map stmt_tree body.now)) at) (names_view names.now)) }
+    ensures { Judges stmt_tree result
+        (stmt_resolved (tree.block (listed (map var_tree locals.now))
+        (listed (map stmt_tree body.now)) at) (names_view names.now)) }
 {
     let mut here = NameSet::new(names.alloc);
     let locals = vars(names, locals, &mut here)?;
@@ -166,7 +183,8 @@ fn block(names: &Inside, locals: &[VarDecl], body: &[Stmt], at: u32) -> Result<S
 /// Statements in order.
 #[cycle(stmt)]
 pub(crate) fn stmts(names: &Inside, body: &[Stmt]) -> Result<Vec<Stmt>, ScopeFault>
-    ensures { Judges (λ found. map stmt_tree found.items) result (stmts_resolved (listed (map stmt_tree body.now)) (names_view names.now)) }
+    ensures { Judges (λ found. map stmt_tree found.items) result
+        (stmts_resolved (listed (map stmt_tree body.now)) (names_view names.now)) }
 {
     let mut found = Vec::new(names.alloc);
     for s in body {

@@ -31,7 +31,8 @@ pub(crate) fn twice(at: u32) -> ScopeFault
 
 /// An expression that may be missing.
 pub(crate) fn optional(names: &Inside, e: &Option<Expr>) -> Result<Option<Expr>, ScopeFault>
-    ensures { Judges optional_expr result (optional_resolved (optional_expr e.now) (names_view names.now)) }
+    ensures { Judges optional_expr result
+        (optional_resolved (optional_expr e.now) (names_view names.now)) }
 {
     match e {
         Some(e) => Ok(Some(expr(names, e)?)),
@@ -45,7 +46,8 @@ pub(crate) fn vars(
     vars: &[VarDecl],
     here: &mut NameSet,
 ) -> Result<Vec<VarDecl>, ScopeFault>
-    ensures judged { Judges (λ found. map var_tree found.items) result (vars_resolved (listed (map var_tree vars.now)) here.old (names_view names.now)) }
+    ensures judged { Judges (λ found. map var_tree found.items) result
+        (vars_resolved (listed (map var_tree vars.now)) here.old (names_view names.now)) }
     ensures here { OnOk result (here.new ≡ declared_by (listed (map var_tree vars.now)) here.old) }
 {
     let mut found = Vec::new(names.alloc);
@@ -58,7 +60,8 @@ pub(crate) fn vars(
 
 /// A variable of a scope that has declared these names.
 fn var(names: &Inside, here: &NameSet, v: &VarDecl) -> Result<VarDecl, ScopeFault>
-    ensures { Judges var_tree result (var_resolved (var_tree v.now) here.now (within here.now (names_view names.now))) }
+    ensures { Judges var_tree result
+        (var_resolved (var_tree v.now) here.now (within here.now (names_view names.now))) }
 {
     if here.has(v.name.text.as_str()) {
         return Err(twice(v.at));
@@ -92,8 +95,10 @@ pub(crate) fn formals(
     formals: &[PortDecl],
     here: &mut NameSet,
 ) -> Result<Vec<PortDecl>, ScopeFault>
-    ensures judged { Judges (λ found. map port_tree found.items) result (formals_resolved (listed (map port_tree formals.now)) here.old (names_view names.now)) }
-    ensures here { OnOk result (here.new ≡ declared_by (listed (map port_tree formals.now)) here.old) }
+    ensures judged { Judges (λ found. map port_tree found.items) result
+        (formals_resolved (listed (map port_tree formals.now)) here.old (names_view names.now)) }
+    ensures here { OnOk result (here.new
+        ≡ declared_by (listed (map port_tree formals.now)) here.old) }
 {
     let mut found = Vec::new(names.alloc);
     for f in formals {
@@ -105,7 +110,8 @@ pub(crate) fn formals(
 
 /// A formal of a function or a procedure that has declared these names.
 fn formal(names: &Inside, here: &NameSet, f: &PortDecl) -> Result<PortDecl, ScopeFault>
-    ensures { Judges port_tree result (formal_resolved (port_tree f.now) here.now (within here.now (names_view names.now))) }
+    ensures { Judges port_tree result
+        (formal_resolved (port_tree f.now) here.now (within here.now (names_view names.now))) }
 {
     if here.has(f.name.text.as_str()) {
         return Err(twice(f.at));
@@ -119,7 +125,8 @@ fn formal(names: &Inside, here: &NameSet, f: &PortDecl) -> Result<PortDecl, Scop
 
 /// A formal whose name isn't declared yet.
 fn first_formal(names: &Inside, f: &PortDecl) -> Result<PortDecl, ScopeFault>
-    ensures { Judges port_tree result (formal_resolved (port_tree f.now) [] (names_view names.now)) }
+    ensures { Judges port_tree result
+        (formal_resolved (port_tree f.now) [] (names_view names.now)) }
 {
     let shape = type_expr(names, &f.shape)?;
     let name = f.name.copy(names.alloc)?;

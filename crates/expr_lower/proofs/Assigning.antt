@@ -142,27 +142,33 @@ assign_follows env text places v left New T h = go (is_among text env.locals) re
     go true e =
         follows_then (assigned env.locals text places v left) (λ xs k. Gives (record env { locals = xs }) k) (λ next k. (k ≡ left) × Replaced env.locals next text New) T (λ next k. (k ≡ left) × EnvReplaced env next text New) T
         (assigned_follows env.locals text places v left New T (λ u t f g. h u t (in_front text env.locals env.globals u f) g))
-        (λ xs k p. let r = p.1 in (p.0, record {
-          value = r.value;
-          new = r.new;
-          old = r.old;
-          was = in_front text env.locals env.globals r.old r.was;
-          now = in_front text xs env.globals (record r.old { value = r.value }) r.now;
-          others = λ other f. joined other xs env.globals ∙ ap (λ o. first_var o (var_named other env.globals)) (r.others other f) ∙ sym (joined other env.locals env.globals);
-          size = r.size;
-        })) (λ c t. t)
+        (λ xs k p. let r = p.1 in (
+          p.0,
+          record {
+            value = r.value;
+            new = r.new;
+            old = r.old;
+            was = in_front text env.locals env.globals r.old r.was;
+            now = in_front text xs env.globals (record r.old { value = r.value }) r.now;
+            others = λ other f. joined other xs env.globals ∙ ap (λ o. first_var o (var_named other env.globals)) (r.others other f) ∙ sym (joined other env.locals env.globals);
+            size = r.size;
+          },
+        )) (λ c t. t)
     go false e =
         follows_then (assigned env.globals text places v left) (λ xs k. Gives (record env { globals = xs }) k) (λ next k. (k ≡ left) × Replaced env.globals next text New) T (λ next k. (k ≡ left) × EnvReplaced env next text New) T
         (assigned_follows env.globals text places v left New T (λ u t f g. h u t (behind text env.locals env.globals e ∙ f) g))
-        (λ xs k p. let r = p.1 in (p.0, record {
-          value = r.value;
-          new = r.new;
-          old = r.old;
-          was = behind text env.locals env.globals e ∙ r.was;
-          now = behind text env.locals xs e ∙ r.now;
-          others = λ other f. joined other env.locals xs ∙ ap (λ o. first_var (var_named other env.locals) o) (r.others other f) ∙ sym (joined other env.locals env.globals);
-          size = refl;
-        })) (λ c t. t)
+        (λ xs k p. let r = p.1 in (
+          p.0,
+          record {
+            value = r.value;
+            new = r.new;
+            old = r.old;
+            was = behind text env.locals env.globals e ∙ r.was;
+            now = behind text env.locals xs e ∙ r.now;
+            others = λ other f. joined other env.locals xs ∙ ap (λ o. first_var (var_named other env.locals) o) (r.others other f) ∙ sym (joined other env.locals env.globals);
+            size = refl;
+          },
+        )) (λ c t. t)
 
 -- ---- one local more
 
@@ -176,6 +182,7 @@ assign_top env x text places v left e = top (bytes_eq x.name text) e ∙ merged 
     merged (Traps c) = refl
     merged Lacks = refl
     merged Clashes = refl
+
     top : (b : Bool) → b ≡ true
         → (if b || is_among text env.locals
         then and_then (if b then and_then (assigned_to x places v left) (λ y k. Gives (y ∷ env.locals) k) else and_then (assigned env.locals text places v left) (λ ys k. Gives (x ∷ ys) k)) (λ xs k. Gives (record (with_local x env) { locals = xs }) k)
@@ -194,11 +201,13 @@ assign_under env x text places v left e = top (bytes_eq x.name text) (is_among t
     local (Traps c) = refl
     local Lacks = refl
     local Clashes = refl
+
     global : (o : Out (List Var)) → and_then o (λ xs k. Gives (record (with_local x env) { globals = xs }) k) ≡ and_then (and_then o (λ xs k. Gives (record env { globals = xs }) k)) (λ next k. Gives (with_local x next) k)
     global (Gives a k) = refl
     global (Traps c) = refl
     global Lacks = refl
     global Clashes = refl
+
     top : (b a : Bool) → b ≡ false
         → (if b || a
         then and_then (if b then and_then (assigned_to x places v left) (λ y k. Gives (y ∷ env.locals) k) else and_then (assigned env.locals text places v left) (λ ys k. Gives (x ∷ ys) k)) (λ xs k. Gives (record (with_local x env) { locals = xs }) k)

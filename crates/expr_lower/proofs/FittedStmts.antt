@@ -146,7 +146,7 @@ module _ (code : Code) (callable limit : ℕ) where
         let size : length (a ++ b) ≡ length a + length b = length-append a b in
         let second = fits_all h (below_more n k names grown below) typed le (stands_right code.instrs base a b stands) d in
         let done = fits_then code callable limit base h h h end h (base + length a + length b) h a b (fits_test code callable limit names h below (omega (arith, more, le)) (omega (arith, e)) g) second
-            (omega (arith, e)) (ap second.height e ∙ second.last) (inl (omega (arith, e))) (omega arith) in
+        (omega (arith, e)) (ap second.height e ∙ second.last) (inl (omega (arith, e))) (omega arith) in
         let whole : base + length a + length b ≡ base + length (a ++ b) = omega (arith, size) in
         subst (λ o. Fits code callable limit base h (a ++ b) h o h) whole done.0
     fits_stmt h below typed le stands (if_else names test first other at base n k j m else_at end a b c g d q e f) =

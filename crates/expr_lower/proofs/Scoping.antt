@@ -133,16 +133,22 @@ module _ (outer : List Name) (tokens : ℕ → List ℤ) (low high : ℕ) where
 
   pub inside_still : (n m : ℕ) (inner : List Name) (before after : List ℤ) (env : Env) → AreLaid n inner → Keeps n m low high before after → HoldsInside inner before env → HoldsInside inner after env
   inside_still n m [] before after env laid keeps (holds, stored) = (holds_still outer tokens env keeps laid.0 laid.3 holds, stored)
-  inside_still n m (x ∷ inner) before after env (c, at, le, typed, apart, rest) keeps (v, under, is, var, below) = (v, under, is, record {
-    called = var.called;
-    stored = var.stored;
-    of_type = var.of_type;
-    stands =
-        let size = size_of x v.value var.of_type in
-        seat_stands x.seat n m low high tokens before after (flat v.value) keeps
-        (subst (λ s. SeatIsBelow n (length (flat v.value)) s) (sym at) (omega (arith, le, size)))
-        (subst (λ s. SeatIsApart low high (length (flat v.value)) s) (sym at) (subst (λ k. AreApart c (c + k) low high) size apart)) var.stands;
-  }, inside_still c m inner before after under rest (keeps_wider c m (omega (arith, le)) (omega arith) keeps) below)
+  inside_still n m (x ∷ inner) before after env (c, at, le, typed, apart, rest) keeps (v, under, is, var, below) = (
+    v,
+    under,
+    is,
+    record {
+      called = var.called;
+      stored = var.stored;
+      of_type = var.of_type;
+      stands =
+          let size = size_of x v.value var.of_type in
+          seat_stands x.seat n m low high tokens before after (flat v.value) keeps
+          (subst (λ s. SeatIsBelow n (length (flat v.value)) s) (sym at) (omega (arith, le, size)))
+          (subst (λ s. SeatIsApart low high (length (flat v.value)) s) (sym at) (subst (λ k. AreApart c (c + k) low high) size apart)) var.stands;
+    },
+    inside_still c m inner before after under rest (keeps_wider c m (omega (arith, le)) (omega arith) keeps) below,
+  )
 
   -- ---- assignments
 
@@ -231,8 +237,19 @@ module _ (outer : List Name) (tokens : ℕ → List ℤ) (low high : ℕ) where
           let type_is : t ≡ x.shape = var.stored t g ∙ ap (λ (z : Name). z.shape) same in
           subst (λ s. Follows (put s u.value places v left) (λ w k. (k ≡ left) × NewAt P x after w) T) (sym type_is)
           (puts u.value (subst (λ (z : Name). HasKind (kind_of_type z.shape) u.value) same var.of_type) (subst (λ (z : Name). StandAt z.seat tokens cells (flat u.value)) same var.stands))))
-          (λ z k p. (p.0, (z, rest, refl, new_var z p.1.0 p.1.1 p.1.2, inside_still d (d + scalars_of_type y.shape) inner cells after rest laid
-          (written_keeps c (scalars_of_type x.shape) d (d + scalars_of_type y.shape) low high cells after (omega (arith, here)) (omega (arith, here, size)) w) below), refl, p.1.1.1))
+          (λ z k p. (
+            p.0,
+            (
+              z,
+              rest,
+              refl,
+              new_var z p.1.0 p.1.1 p.1.2,
+              inside_still d (d + scalars_of_type y.shape) inner cells after rest laid
+                  (written_keeps c (scalars_of_type x.shape) d (d + scalars_of_type y.shape) low high cells after (omega (arith, here)) (omega (arith, here, size)) w) below,
+            ),
+            refl,
+            p.1.1.1,
+          ))
           (λ t h. h))
         where
           cell_same : (a b : ℕ) → Cell a ≡ Cell b → a ≡ b
@@ -252,11 +269,22 @@ module _ (outer : List Name) (tokens : ℕ → List ℤ) (low high : ℕ) where
           let low_seat : SeatIsBelow d (scalars_of_type x.shape) (Cell c) = subst (λ s. SeatIsBelow d (scalars_of_type x.shape) s) seat (laid_below d inner laid text x g) in
           subst (λ (o : Out Env). Follows o (Assigned P (y ∷ inner) after (with_local u rest) left) T) (sym (assign_under rest u text places v left (ap (λ n. bytes_eq n text) var.called ∙ f)))
           (follows_then (assign rest text places v left) (λ next k. Gives (with_local u next) k) (Assigned P inner after rest left) T (Assigned P (y ∷ inner) after (with_local u rest) left) T h
-          (λ next k p. (p.0, (u, next, refl, record {
-            called = var.called;
-            stored = var.stored;
-            of_type = var.of_type;
-            stands = seat_unwritten y.seat c (scalars_of_type x.shape) tokens cells after (flat u.value) w
-                (subst (λ s. SeatIsApart c (c + scalars_of_type x.shape) (length (flat u.value)) s) (sym at) (inr (omega (arith, low_seat)))) var.stands;
-          }, p.1), ap suc p.2, p.3))
+          (λ next k p. (
+            p.0,
+            (
+              u,
+              next,
+              refl,
+              record {
+                called = var.called;
+                stored = var.stored;
+                of_type = var.of_type;
+                stands = seat_unwritten y.seat c (scalars_of_type x.shape) tokens cells after (flat u.value) w
+                    (subst (λ s. SeatIsApart c (c + scalars_of_type x.shape) (length (flat u.value)) s) (sym at) (inr (omega (arith, low_seat)))) var.stands;
+              },
+              p.1,
+            ),
+            ap suc p.2,
+            p.3,
+          ))
           (λ t h. h))

@@ -85,11 +85,18 @@ module _ (outer : List Name) (w : World) (frames : List ℕ) (runs : Runs) where
   single_put : (x : Name) (t : Scalar) (c k : ℕ) (cells : List ℤ) (v : Value) (z y : ℤ) → x.shape ≡ Single t → x.seat ≡ Cell c → IsSize t → IsSingleValue v → flat v ≡ z ∷ [] → slice_get cells c ≡ Some y
       → PutsAt outer w.tokens w.low w.high (Unit {0}) x cells (slice_set cells c (conv t z)) Nil v k (λ d. ⊥)
   single_put x t c k cells v z y shape seat size one is there u kind stand =
-      let made = single_stored t v z size one is in
-      (refl, ((subst (λ s. HasKind (kind_of_type s) (stored s v)) (sym shape) made.0,
-      subst (λ s. StandAt x.seat w.tokens (slice_set cells c (conv t z)) (flat (stored s v))) (sym shape)
-      (subst (λ s. StandAt s w.tokens (slice_set cells c (conv t z)) (flat (stored (Single t) v))) (sym seat)
-      (stand_one c w.tokens (slice_set cells c (conv t z)) (flat (stored (Single t) v)) (conv t z) made.1 (set_there cells c y (conv t z) there)))), tt))
+      let made = single_stored t v z size one is in (
+        refl,
+        (
+          (
+            subst (λ s. HasKind (kind_of_type s) (stored s v)) (sym shape) made.0,
+            subst (λ s. StandAt x.seat w.tokens (slice_set cells c (conv t z)) (flat (stored s v))) (sym shape)
+                (subst (λ s. StandAt s w.tokens (slice_set cells c (conv t z)) (flat (stored (Single t) v))) (sym seat)
+                (stand_one c w.tokens (slice_set cells c (conv t z)) (flat (stored (Single t) v)) (conv t z) made.1 (set_there cells c y (conv t z) there))),
+          ),
+          tt,
+        ),
+      )
 
   -- the cell of a single variable is there
   single_there : (inner : List Name) (cells : List ℤ) (env : Env) (text : List ℕ) (x : Name) (t : Scalar) (c : ℕ) → Inside inner cells env → named text (inner ++ outer) ≡ Some x → x.seat ≡ Cell c → x.shape ≡ Single t
@@ -121,7 +128,7 @@ module _ (outer : List Name) (w : World) (frames : List ℕ) (runs : Runs) where
       let y = single_there inner p.cells env text x t c now e seat shape in
       let one : scalars_of_type x.shape ≡ 1 = ap scalars_of_type shape in
       let wrote : Written c (scalars_of_type x.shape) p.cells (slice_set p.cells c (conv t p.number)) =
-          subst (λ h. Written c h p.cells (slice_set p.cells c (conv t p.number))) (sym one) (let same : c + 0 ≡ c = omega arith in subst (λ d. Written c 1 p.cells (slice_set p.cells d (conv t p.number))) same (set_written p.cells c 1 0 (conv t p.number) (omega arith))) in
+      subst (λ h. Written c h p.cells (slice_set p.cells c (conv t p.number))) (sym one) (let same : c + 0 ≡ c = omega arith in subst (λ d. Written c 1 p.cells (slice_set p.cells d (conv t p.number))) same (set_written p.cells c 1 0 (conv t p.number) (omega arith))) in
       stores inner n m base (base + length code) (base + length (code ++ i ∷ [])) c text x (p.number ∷ stack) stack cells p.cells (slice_set p.cells c (conv t p.number)) Nil v env left k i
       (λ a. obeys w.code w.tokens (state (base + length code) (p.number ∷ stack) frames p.cells k) i there ∙ ap (go_on (state (base + length code) (p.number ∷ stack) frames p.cells k)) (store_leaves c (Some t) w.tokens stack p.cells p.number y.0 y.1))
       end (grows coded) laid e seat wrote (single_put x t c k p.cells v p.number y.0 shape seat size q.1 p.is y.1) p.reaches p.keeps holds)
@@ -161,11 +168,19 @@ module _ (outer : List Name) (w : World) (frames : List ℕ) (runs : Runs) where
           (λ a b. (b ≡ k) × ((HasKind (kind_of_type (Many size (Single t))) a × StandAt (Cell c) w.tokens (slice_set cells (c + j) (conv t z)) (flat a)) × Unit {0})) (λ d. ⊥)
       placed l None f = let past = item_past l.values j f in let many = l.as_many in absurd (omega (arith, past, many, less))
       placed l (Some old) f =
-          let made = single_stored t v z sized one is in
-          (refl, (((item_count l.values j (stored (Single t) v) ∙ l.as_many, item_kinds t l.values j (stored (Single t) v) l.kinds made.0), (λ h b g.
-          ⊎_elim (λ (q : (h ≡ j) × (conv t z ≡ b)). subst (λ d. slice_get (slice_set cells (c + j) (conv t z)) (c + d) ≡ Some b) (sym q.0) (set_there cells (c + j) y (conv t z) there ∙ ap Some q.1))
-          (λ (q : (h ≢ j) × (slice_get (flat_all l.values) h ≡ Some b)). other_stays h b q.0 (l.stands h b q.1))
-          (item_changed t l.values j (stored (Single t) v) (conv t z) l.kinds made.1 h b g))), tt))
+          let made = single_stored t v z sized one is in (
+            refl,
+            (
+              (
+                (item_count l.values j (stored (Single t) v) ∙ l.as_many, item_kinds t l.values j (stored (Single t) v) l.kinds made.0),
+                (λ h b g.
+                    ⊎_elim (λ (q : (h ≡ j) × (conv t z ≡ b)). subst (λ d. slice_get (slice_set cells (c + j) (conv t z)) (c + d) ≡ Some b) (sym q.0) (set_there cells (c + j) y (conv t z) there ∙ ap Some q.1))
+                    (λ (q : (h ≢ j) × (slice_get (flat_all l.values) h ≡ Some b)). other_stays h b q.0 (l.stands h b q.1))
+                    (item_changed t l.values j (stored (Single t) v) (conv t z) l.kinds made.1 h b g)),
+              ),
+              tt,
+            ),
+          )
         where
           other_stays : (h : ℕ) (b : ℤ) → h ≢ j → slice_get cells (c + h) ≡ Some b → slice_get (slice_set cells (c + j) (conv t z)) (c + h) ≡ Some b
           other_stays h b differ g = get-other cells (c + j) (c + h) (conv t z) (λ f. differ (omega (arith, f))) ∙ g

@@ -34,14 +34,18 @@ SeatsApart (Tokens port first step) size other n = Unit {0}
 
 -- no two of the names share a cell
 abbrev pub NamesApart : List Name → Type 0
-NamesApart names = (text other : List ℕ) (x y : Name) → named text names ≡ Some x → named other names ≡ Some y
-    → bytes_eq text other ≡ false → SeatsApart x.seat (scalars_of_type x.shape) y.seat (scalars_of_type y.shape)
+NamesApart names = (text other : List ℕ) (x y : Name) → named text names ≡ Some x
+    → named other names ≡ Some y
+    → bytes_eq text other ≡ false → SeatsApart x.seat (scalars_of_type x.shape) y.seat
+    (scalars_of_type y.shape)
 
 -- the cell is of none of the names
 abbrev pub IsOfNone : List Name → ℕ → Type 0
-IsOfNone names c = (text : List ℕ) (x : Name) → named text names ≡ Some x → SeatIsApart c (c + 1) (scalars_of_type x.shape) x.seat
+IsOfNone names c = (text : List ℕ) (x : Name) → named text names ≡ Some x
+    → SeatIsApart c (c + 1) (scalars_of_type x.shape) x.seat
 
 -- of the cells, only those of the names, those from n to m and those from low to high may have changed
 pub record KeepsBut (names : List Name) (n m low high : ℕ) (before after : List ℤ) : Type 0 where
   pub size : length after ≡ length before
-  pub cell : (c : ℕ) → (c < n) ⊎ (m ≤ c) → AreApart c (c + 1) low high → IsOfNone names c → slice_get after c ≡ slice_get before c
+  pub cell : (c : ℕ) → (c < n) ⊎ (m ≤ c) → AreApart c (c + 1) low high → IsOfNone names c
+      → slice_get after c ≡ slice_get before c

@@ -52,42 +52,59 @@ seat_instr (Tokens port first step) = op.Token port first
 
 -- the instruction that pushes the item of a list whose place is the top
 abbrev pub item_instr : ItemList → Instr
-item_instr l = elim l.seat [ Cell c ↦ op.LoadAt c l.size | Tokens port first step ↦ op.TokenAt port first step l.size ]
+item_instr l =
+    elim l.seat [
+      | Cell c ↦ op.LoadAt c l.size
+      | Tokens port first step ↦ op.TokenAt port first step
+          l.size
+    ]
 
 mutual
   -- Code of an expression that stands at a place. It pushes the value. Of the cells, it uses those from n to m.
   pub data IsCode (names : List Name) : Tree → ℕ → ℕ → List Instr → ℕ → Type 0 where
-    number : (k at base n : ℕ) → is_num (pos k) ≡ true → IsCode names (tree.number k at) base n (op.Const (pos k) ∷ []) n
+    number : (k at base n : ℕ) → is_num (pos k) ≡ true
+        → IsCode names (tree.number k at) base n (op.Const (pos k) ∷ []) n
     -- a literal that is no number traps
     too_great : (k at base n : ℕ) → is_num (pos k) ≡ false
-        → IsCode names (tree.number k at) base n (op.Const greatest_num ∷ op.Const (pos 1) ∷ op.Add ∷ []) n
+        → IsCode names (tree.number k at) base n
+        (op.Const greatest_num ∷ op.Const (pos 1) ∷ op.Add ∷ []) n
     negative : (k at base n place : ℕ) → is_num (pos k) ≡ true
-        → IsCode names (tree.prefix prefixes.Neg (tree.number k place) at) base n (op.Const (neg_ℤ (pos k)) ∷ []) n
-    truth : (b : Bool) (at base n : ℕ) → IsCode names (tree.truth b at) base n (op.Const (arithmetic.truth b) ∷ []) n
-    variable : (text : List ℕ) (at base n : ℕ) (x : Name) → named text names ≡ Some x → IsSingle x.shape
+        → IsCode names (tree.prefix prefixes.Neg (tree.number k place) at) base n
+        (op.Const (neg_ℤ (pos k)) ∷ []) n
+    truth : (b : Bool) (at base n : ℕ)
+        → IsCode names (tree.truth b at) base n (op.Const (arithmetic.truth b) ∷ []) n
+    variable : (text : List ℕ) (at base n : ℕ) (x : Name) → named text names ≡ Some x
+        → IsSingle x.shape
         → IsCode names (tree.variable text at) base n (seat_instr x.seat ∷ []) n
-    paren : (e : Tree) (at base n m : ℕ) (code : List Instr) → IsCode names e base n code m → IsCode names (tree.paren e at) base n code m
-    prefix : (o : PrefixOp) (e : Tree) (at base n m : ℕ) (code : List Instr) → IsCode names e base n code m
+    paren : (e : Tree) (at base n m : ℕ) (code : List Instr) → IsCode names e base n code m
+        → IsCode names (tree.paren e at) base n code m
+    prefix : (o : PrefixOp) (e : Tree) (at base n m : ℕ) (code : List Instr)
+        → IsCode names e base n code m
         → IsCode names (tree.prefix o e at) base n (code ++ prefix_instr o ∷ []) m
-    binary : (o : BinOp) (i : Instr) (l r : Tree) (at base n k m : ℕ) (a b : List Instr) → binary_instr o ≡ Some i
+    binary : (o : BinOp) (i : Instr) (l r : Tree) (at base n k m : ℕ) (a b : List Instr)
+        → binary_instr o ≡ Some i
         → IsCode names l base n a k → IsCode names r (base + length a) k b m
         → IsCode names (tree.binary o l r at) base n (a ++ (b ++ i ∷ [])) m
     -- the place, and then the item there
-    item : (e place : Tree) (at base n m : ℕ) (code : List Instr) (l : ItemList) → list_named names e ≡ Some l → IsCode names place base n code m
+    item : (e place : Tree) (at base n m : ℕ) (code : List Instr) (l : ItemList)
+        → list_named names e ≡ Some l → IsCode names place base n code m
         → IsCode names (tree.index e place at) base n (code ++ item_instr l ∷ []) m
     -- if the left side is false, the right one isn't evaluated
     both : (l r : Tree) (at base n k m out end : ℕ) (a b : List Instr) → is_truth names l ≡ true
         → IsTest names l base n out a k → IsCode names r (base + length a) k b m
         → out ≡ base + length a + length b + 1 → end ≡ out + 1
-        → IsCode names (tree.binary binaries.And l r at) base n (a ++ (b ++ op.Jump end ∷ op.Const (pos 0) ∷ [])) m
+        → IsCode names (tree.binary binaries.And l r at) base n
+        (a ++ (b ++ op.Jump end ∷ op.Const (pos 0) ∷ [])) m
     -- if the left side is true, the right one isn't evaluated
     either : (l r : Tree) (at base n k m right end : ℕ) (a b : List Instr) → is_truth names l ≡ true
         → IsTest names l base n right a k → IsCode names r right k b m
         → right ≡ base + length a + 2 → end ≡ right + length b
-        → IsCode names (tree.binary binaries.Or l r at) base n (a ++ (op.Const (pos 1) ∷ op.Jump end ∷ b)) m
+        → IsCode names (tree.binary binaries.Or l r at) base n
+        (a ++ (op.Const (pos 1) ∷ op.Jump end ∷ b)) m
     -- the condition, the first branch with a jump over the other, and the other branch
     if_code : (test first other : Tree) (at base n k h m else_at end : ℕ) (a b c : List Instr)
-        → IsTest names test base n else_at a k → IsCode names first (base + length a) k b h → IsCode names other else_at h c m
+        → IsTest names test base n else_at a k → IsCode names first (base + length a) k b h
+        → IsCode names other else_at h c m
         → else_at ≡ base + length a + length b + 1 → end ≡ else_at + length c
         → IsCode names (tree.if_expr test first other at) base n (a ++ (b ++ op.Jump end ∷ c)) m
 

@@ -36,28 +36,38 @@ pub record BreaksOff (w : World) (names : List Name) (n m : ℕ) (s : State) (c 
 -- goes on to, with cells that hold this environment; if it traps, by that trap.
 abbrev pub EndsLike : World → List Name → ℕ → ℕ → State → ℕ → Out Env → Outcome → List ℤ → Type 0
 EndsLike w names n m s end (Gives env left) o last =
-    (cells : List ℤ) × KeepsBut names n m w.low w.high s.cells cells × HoldsVars names w.tokens cells env
+    (cells : List ℤ) × KeepsBut names n m w.low w.high s.cells cells
+    × HoldsVars names w.tokens cells env
     × Ends w.code w.tokens (state end s.stack s.frames cells left) o last
-EndsLike w names n m s end (Traps c) o last = (o ≡ outcome.Trap c) × KeepsBut names n m w.low w.high s.cells last
+EndsLike w names n m s end (Traps c) o last = (o ≡ outcome.Trap c)
+    × KeepsBut names n m w.low w.high s.cells last
 EndsLike w names n m s end Lacks o last = Unit {0}
 EndsLike w names n m s end Clashes o last = Unit {0}
 
 -- Wherever these instructions stand, with cells that hold an environment, they do what executing the statements
 -- does: they leave cells that hold the environment that comes of it, or trap, after as many turns; and a run of them
 -- has no other end. Of the cells, they change only those of the names and those from n to m.
-pub record Executes (names : List Name) (body : Tree) (base n m : ℕ) (code : List Instr) : Type 0 where
-  pub goes : (w : World) (runs : Runs) (env : Env) (stack : List ℤ) (frames : List ℕ) (cells : List ℤ) (left : ℕ)
-      → StandsAt w.code.instrs base code → AllApart w.low w.high names → AreApart n m w.low w.high → HoldsVars names w.tokens cells env
+pub record Executes (names : List Name) (body : Tree) (base n m : ℕ) (code : List Instr) :
+    Type 0 where
+  pub goes : (w : World) (runs : Runs) (env : Env) (stack : List ℤ) (frames : List ℕ)
+      (cells : List ℤ) (left : ℕ)
+      → StandsAt w.code.instrs base code → AllApart w.low w.high names → AreApart n m w.low w.high
+      → HoldsVars names w.tokens cells env
       → Follows (exec_all body w.calls runs env left)
       (Arrives w names n m (state base stack frames cells left) (base + length code))
       (BreaksOff w names n m (state base stack frames cells left))
-  pub only : (w : World) (runs : Runs) (env : Env) (stack : List ℤ) (frames : List ℕ) (cells : List ℤ) (left : ℕ)
-      → StandsAt w.code.instrs base code → AllApart w.low w.high names → AreApart n m w.low w.high → HoldsVars names w.tokens cells env
-      → (o : Outcome) (last : List ℤ) → Ends w.code w.tokens (state base stack frames cells left) o last
-      → EndsLike w names n m (state base stack frames cells left) (base + length code) (exec_all body w.calls runs env left) o last
+  pub only : (w : World) (runs : Runs) (env : Env) (stack : List ℤ) (frames : List ℕ)
+      (cells : List ℤ) (left : ℕ)
+      → StandsAt w.code.instrs base code → AllApart w.low w.high names → AreApart n m w.low w.high
+      → HoldsVars names w.tokens cells env
+      → (o : Outcome) (last : List ℤ)
+      → Ends w.code w.tokens (state base stack frames cells left) o last
+      → EndsLike w names n m (state base stack frames cells left) (base + length code)
+      (exec_all body w.calls runs env left) o last
 
 -- The instructions execute the statements. In any code in which they stand they fit, at any height.
-pub record IsExecuted (names : List Name) (body : Tree) (base n : ℕ) (code : List Instr) (m : ℕ) : Type 0 where
+pub record IsExecuted (names : List Name) (body : Tree) (base n : ℕ) (code : List Instr) (m : ℕ) :
+    Type 0 where
   pub executes : Executes names body base n m code
   pub fits : (whole : Code) (callable h : ℕ) → StandsAt whole.instrs base code
       → Fits whole callable m base h code h (base + length code) h

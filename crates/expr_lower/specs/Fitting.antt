@@ -19,7 +19,8 @@ pub record FitsAt (code : Code) (callable limit base end out : ℕ) (height : �
   pub enough : pops i ≤ height p
   pub next : goes_on i ≡ true → height (p + 1) ≡ height p - pops i + pushes code i
   pub jump : (t : ℕ) → target i ≡ Some t → height t ≡ height p - pops i + pushes code i
-  pub inside : (t : ℕ) → target i ≡ Some t → ((p < t) ⊎ (slice_get code.instrs t ≡ Some op.Turn)) × (base ≤ t) × ((t ≤ end) ⊎ (t ≡ out))
+  pub inside : (t : ℕ) → target i ≡ Some t → ((p < t) ⊎ (slice_get code.instrs t ≡ Some op.Turn))
+      × (base ≤ t) × ((t ≤ end) ⊎ (t ≡ out))
   pub cells : NamesCells limit i
   pub calls : CallsSmaller callable i
   pub inner : IsInner i
@@ -27,13 +28,16 @@ pub record FitsAt (code : Code) (callable limit base end out : ℕ) (height : �
 
 -- Instructions that fit where they stand: run from the height h they lead to the height k after them, and to the
 -- height e at `out`. They name cells below a limit, and call routines whose numbers are below another.
-pub record Fits (code : Code) (callable limit base h : ℕ) (instrs : List Instr) (k out e : ℕ) : Type 0 where
+pub record Fits (code : Code) (callable limit base h : ℕ) (instrs : List Instr) (k out e : ℕ) :
+    Type 0 where
   pub height : ℕ → ℕ
   pub first : height base ≡ h
   pub last : height (base + length instrs) ≡ k
   pub exit : height out ≡ e
-  pub at : (j : ℕ) (i : Instr) → slice_get instrs j ≡ Some i → FitsAt code callable limit base (base + length instrs) out height (base + j) i
+  pub at : (j : ℕ) (i : Instr) → slice_get instrs j ≡ Some i
+      → FitsAt code callable limit base (base + length instrs) out height (base + j) i
 
 -- a guard's code: these instructions, and then the answer
 abbrev pub guard_of : List Instr → ℕ → Code
-guard_of instrs cells = record { instrs = instrs ++ op.Answer ∷ []; routines = []; entries = 0 ∷ []; cells = cells }
+guard_of instrs cells =
+    record { instrs = instrs ++ op.Answer ∷ []; routines = []; entries = 0 ∷ []; cells = cells }

@@ -34,11 +34,13 @@ pub record Pushes (w : World) (n m : ℕ) (s : State) (end : ℕ) (v : Value) (l
   pub keeps : Keeps n m w.low w.high s.cells cells
 
 -- The run goes on to one place if a value is true, and to another if it is false.
-pub record Chooses (w : World) (n m : ℕ) (s : State) (here there : ℕ) (v : Value) (left : ℕ) : Type 0 where
+pub record Chooses (w : World) (n m : ℕ) (s : State) (here there : ℕ) (v : Value) (left : ℕ) :
+    Type 0 where
   pub number : ℤ
   pub is : flat v ≡ number ∷ []
   pub cells : List ℤ
-  pub reaches : Reaches w.code w.tokens s (state (if is_true number then here else there) s.stack s.frames cells left)
+  pub reaches : Reaches w.code w.tokens s
+      (state (if is_true number then here else there) s.stack s.frames cells left)
   pub keeps : Keeps n m w.low w.high s.cells cells
 
 -- The run ends by a trap.
@@ -51,7 +53,8 @@ pub record CutsOff (w : World) (n m : ℕ) (s : State) (c : Trap) : Type 0 where
 -- on to; if it traps, by that trap.
 abbrev pub EndsAs : World → State → ℕ → Out Value → Outcome → List ℤ → Type 0
 EndsAs w s end (Gives v left) o last =
-    (number : ℤ) × (cells : List ℤ) × (flat v ≡ number ∷ []) × Ends w.code w.tokens (state end (number ∷ s.stack) s.frames cells left) o last
+    (number : ℤ) × (cells : List ℤ) × (flat v ≡ number ∷ [])
+    × Ends w.code w.tokens (state end (number ∷ s.stack) s.frames cells left) o last
 EndsAs w s end (Traps c) o last = o ≡ outcome.Trap c
 EndsAs w s end Lacks o last = Unit {0}
 EndsAs w s end Clashes o last = Unit {0}
@@ -59,13 +62,18 @@ EndsAs w s end Clashes o last = Unit {0}
 -- Wherever these instructions stand, with cells that hold an environment, they do what evaluating the expression
 -- does: they push the value or trap, after as many turns; and a run of them has no other end. They use the cells
 -- from n to m.
-pub record Evaluates (names : List Name) (e : Tree) (base n m : ℕ) (code : List Instr) : Type 0 where
+pub record Evaluates (names : List Name) (e : Tree) (base n m : ℕ) (code : List Instr) :
+    Type 0 where
   pub goes : (w : World) (env : Env) (stack : List ℤ) (frames : List ℕ) (cells : List ℤ) (left : ℕ)
-      → StandsAt w.code.instrs base code → AllApart w.low w.high names → Holds names w.tokens cells env
+      → StandsAt w.code.instrs base code → AllApart w.low w.high names
+      → Holds names w.tokens cells env
       → Follows (eval e w.calls env left)
       (Pushes w n m (state base stack frames cells left) (base + length code))
       (CutsOff w n m (state base stack frames cells left))
   pub only : (w : World) (env : Env) (stack : List ℤ) (frames : List ℕ) (cells : List ℤ) (left : ℕ)
-      → StandsAt w.code.instrs base code → AllApart w.low w.high names → Holds names w.tokens cells env
-      → (o : Outcome) (last : List ℤ) → Ends w.code w.tokens (state base stack frames cells left) o last
-      → EndsAs w (state base stack frames cells left) (base + length code) (eval e w.calls env left) o last
+      → StandsAt w.code.instrs base code → AllApart w.low w.high names
+      → Holds names w.tokens cells env
+      → (o : Outcome) (last : List ℤ)
+      → Ends w.code w.tokens (state base stack frames cells left) o last
+      → EndsAs w (state base stack frames cells left) (base + length code)
+      (eval e w.calls env left) o last

@@ -41,13 +41,16 @@ left_out names (tree.number k at) = None
 left_out names (tree.truth b at) = None
 left_out names (tree.variable text at) = left_out_name (named text names) at
 left_out names (tree.paren e at) = left_out names e
-left_out names (tree.if_expr test first other at) = left_out names test or_else (left_out names first or_else left_out names other)
+left_out names (tree.if_expr test first other at) =
+    left_out names test or_else (left_out names first or_else left_out names other)
 left_out names (tree.prefix o e at) = left_out names e
-left_out names (tree.binary o l r at) = if is_short o && not (is_truth names l) then Some at else left_out names l or_else left_out names r
+left_out names (tree.binary o l r at) = if is_short o && not (is_truth names l) then Some at
+    else left_out names l or_else left_out names r
 left_out names (tree.call name args at) = Some at
 left_out names (tree.list items at) = Some at
 left_out names (tree.comp item gens at) = Some at
-left_out names (tree.index base place at) = elim (list_named names base) [ None ↦ Some at | Some l ↦ left_out names place ]
+left_out names (tree.index base place at) =
+    elim (list_named names base) [ None ↦ Some at | Some l ↦ left_out names place ]
 left_out names other = Some 0
 
 -- why nothing was lowered: the place is that of the first part that is left out, and the draft has too many

@@ -15,10 +15,12 @@ at_seat (Tokens port first step) tokens cells k = slice_get (tokens port) (first
 
 -- these numbers stand at a seat
 abbrev pub StandAt : Seat → (ℕ → List ℤ) → List ℤ → List ℤ → Type 0
-StandAt seat tokens cells zs = (k : ℕ) (z : ℤ) → slice_get zs k ≡ Some z → at_seat seat tokens cells k ≡ Some z
+StandAt seat tokens cells zs = (k : ℕ) (z : ℤ) → slice_get zs k ≡ Some z
+    → at_seat seat tokens cells k ≡ Some z
 
 -- the text means a value of the name's type, which stands at the name's seat
-pub record HoldsName (tokens : ℕ → List ℤ) (cells : List ℤ) (env : Env) (text : List ℕ) (x : Name) : Type 0 where
+pub record HoldsName (tokens : ℕ → List ℤ) (cells : List ℤ) (env : Env) (text : List ℕ) (x : Name) :
+    Type 0 where
   pub value : Value
   pub meant : look_up text env ≡ Some value
   pub of_type : HasKind (kind_of_type x.shape) value
@@ -26,7 +28,8 @@ pub record HoldsName (tokens : ℕ → List ℤ) (cells : List ℤ) (env : Env) 
 
 -- the cells and the tokens hold what each of the names means in the environment
 abbrev pub Holds : List Name → (ℕ → List ℤ) → List ℤ → Env → Type 0
-Holds names tokens cells env = (text : List ℕ) (x : Name) → named text names ≡ Some x → HoldsName tokens cells env text x
+Holds names tokens cells env = (text : List ℕ) (x : Name) → named text names ≡ Some x
+    → HoldsName tokens cells env text x
 
 -- a range of cells ends before another begins
 abbrev pub AreApart : ℕ → ℕ → ℕ → ℕ → Type 0
@@ -39,7 +42,8 @@ SeatIsBelow n size (Tokens port first step) = Unit {0}
 
 -- .. so for each of the names
 abbrev pub AreBelow : ℕ → List Name → Type 0
-AreBelow n names = (text : List ℕ) (x : Name) → named text names ≡ Some x → SeatIsBelow n (scalars_of_type x.shape) x.seat
+AreBelow n names = (text : List ℕ) (x : Name) → named text names ≡ Some x
+    → SeatIsBelow n (scalars_of_type x.shape) x.seat
 
 -- none of the cells of a seat is among those from low to high
 abbrev pub SeatIsApart : ℕ → ℕ → ℕ → Seat → Type 0
@@ -48,9 +52,11 @@ SeatIsApart low high size (Tokens port first step) = Unit {0}
 
 -- .. so for each of the names
 abbrev pub AllApart : ℕ → ℕ → List Name → Type 0
-AllApart low high names = (text : List ℕ) (x : Name) → named text names ≡ Some x → SeatIsApart low high (scalars_of_type x.shape) x.seat
+AllApart low high names = (text : List ℕ) (x : Name) → named text names ≡ Some x
+    → SeatIsApart low high (scalars_of_type x.shape) x.seat
 
 -- of the cells, only those from n to m and those from low to high may have changed
 pub record Keeps (n m low high : ℕ) (before after : List ℤ) : Type 0 where
   pub size : length after ≡ length before
-  pub cell : (c : ℕ) → (c < n) ⊎ (m ≤ c) → AreApart c (c + 1) low high → slice_get after c ≡ slice_get before c
+  pub cell : (c : ℕ) → (c < n) ⊎ (m ≤ c) → AreApart c (c + 1) low high
+      → slice_get after c ≡ slice_get before c

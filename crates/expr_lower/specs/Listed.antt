@@ -17,12 +17,14 @@ single_of (Many size items) = None
 -- where the items of a list stand, if it is one of single values
 abbrev pub items_in : Seat → Shape → Option ItemList
 items_in seat (Single t) = None
-items_in seat (Many size items) = elim (single_of items) [ None ↦ None | Some t ↦ Some (record { seat = seat; size = size; kind = t }) ]
+items_in seat (Many size items) = elim (single_of items)
+    [ None ↦ None | Some t ↦ Some (record { seat = seat; size = size; kind = t }) ]
 
 abbrev pub items_of : Name → Option ItemList
 items_of x = items_in x.seat x.shape
 
 -- the list of single values that a tree names, if it names one
 abbrev pub list_named : List Name → Tree → Option ItemList
-list_named names (tree.variable text at) = elim (named text names) [ None ↦ None | Some x ↦ items_of x ]
+list_named names (tree.variable text at) =
+    elim (named text names) [ None ↦ None | Some x ↦ items_of x ]
 list_named names other = None

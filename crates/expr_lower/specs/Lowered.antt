@@ -24,7 +24,9 @@ pub record Adds (P : ℕ → ℕ → List Instr → ℕ → Type 0) (old new : D
   pub has : P (length old.instrs.items) old.cells code new.cells
 
 -- The instructions evaluate the expression and push its value. In any code they fit if one operand more fits.
-pub record IsLowered (names : List Name) (e : Tree) (base n : ℕ) (code : List Instr) (m : ℕ) : Type 0 where
+pub record IsLowered (names : List Name) (e : Tree) (base n : ℕ) (code : List Instr) (m : ℕ) :
+    Type 0 where
   pub cells : n ≤ m
   pub evaluates : Evaluates names e base n m code
-  pub fits : (whole : Code) (callable h : ℕ) → Fits whole callable m base h code (h + 1) (base + length code) (h + 1)
+  pub fits : (whole : Code) (callable h : ℕ)
+      → Fits whole callable m base h code (h + 1) (base + length code) (h + 1)

@@ -12,7 +12,8 @@ StandsAt all place [] = Unit {0}
 StandsAt all place (i ∷ instrs) = (slice_get all place ≡ Some i) × StandsAt all (place + 1) instrs
 
 abbrev pub state : ℕ → List ℤ → List ℕ → List ℤ → ℕ → State
-state place stack frames cells left = record { place = place; stack = stack; frames = frames; cells = cells; left = left }
+state place stack frames cells left =
+    record { place = place; stack = stack; frames = frames; cells = cells; left = left }
 
 -- What is round the instructions of an expression: all the code, the tokens, what functions give, and the cells
 -- from low to high, which the routines of the code use.

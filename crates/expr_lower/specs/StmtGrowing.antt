@@ -25,17 +25,28 @@ cell_named names text = elim (named text names) [ None ↦ None | Some x ↦ cel
 
 -- the cells of a list, if it stands in cells
 abbrev pub cells_of : ItemList → Option ListCells
-cells_of l = elim l.seat [ Cell c ↦ Some (record { cell = c; size = l.size; kind = l.kind }) | Tokens port first step ↦ None ]
+cells_of l =
+    elim l.seat [
+      | Cell c ↦ Some (record { cell = c; size = l.size; kind = l.kind })
+      | Tokens port
+          first step ↦ None
+    ]
 
 -- the cells of the list of single values that a text names, if it names one
 abbrev pub cells_named : List Name → List ℕ → Option ListCells
-cells_named names text = elim (list_named names (tree.variable text 0)) [ None ↦ None | Some l ↦ cells_of l ]
+cells_named names text =
+    elim (list_named names (tree.variable text 0)) [ None ↦ None | Some l ↦ cells_of l ]
 
 -- an assignment to the whole variable, or to one item of it
 abbrev pub left_out_set : List Name → List ℕ → Tree → Tree → ℕ → Option ℕ
-left_out_set names text tree.nil value at = elim (cell_named names text) [ None ↦ Some at | Some c ↦ left_out names value ]
+left_out_set names text tree.nil value at =
+    elim (cell_named names text) [ None ↦ Some at | Some c ↦ left_out names value ]
 left_out_set names text (tree.cons spot tree.nil) value at =
-    elim (cells_named names text) [ None ↦ Some at | Some c ↦ left_out names spot or_else left_out names value ]
+    elim (cells_named names text) [
+      | None ↦ Some at
+      | Some c ↦ left_out names spot or_else left_out
+          names value
+    ]
 left_out_set names text places value at = Some at
 
 abbrev mutual
@@ -43,10 +54,13 @@ abbrev mutual
   -- single values in a cell or an item of a list of them in cells, a call, a `foreach` or a block; or such a part of
   -- an expression. Of a `while` the body comes first, as in its code.
   pub left_out_stmt : List Name → Tree → Option ℕ
-  left_out_stmt names (tree.assign (tree.ident text place) places value at) = left_out_set names text places value at
+  left_out_stmt names (tree.assign (tree.ident text place) places value at) =
+      left_out_set names text places value at
   left_out_stmt names (tree.call_stmt name args at) = Some at
-  left_out_stmt names (tree.if_stmt test first other at) = left_out names test or_else (left_out_all names first or_else left_out_all names other)
-  left_out_stmt names (tree.while_stmt test body at) = left_out_all names body or_else left_out names test
+  left_out_stmt names (tree.if_stmt test first other at) =
+      left_out names test or_else (left_out_all names first or_else left_out_all names other)
+  left_out_stmt names (tree.while_stmt test body at) =
+      left_out_all names body or_else left_out names test
   left_out_stmt names (tree.foreach_stmt shape name from to body at) = Some at
   left_out_stmt names (tree.block vars body at) = Some at
   left_out_stmt names other = Some 0

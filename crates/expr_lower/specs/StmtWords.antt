@@ -23,13 +23,15 @@ abbrev pub body_of : List Stmt → Tree
 body_of body = listed (map stmt_tree body)
 
 abbrev pub set_of : Ident → List Expr → Expr → ℕ → Tree
-set_of name places value at = tree.assign (ident_tree name) (listed (map expr_tree places)) (expr_tree value) at
+set_of name places value at =
+    tree.assign (ident_tree name) (listed (map expr_tree places)) (expr_tree value) at
 
 abbrev pub alone_of : Expr → List Stmt → ℕ → Tree
 alone_of test first at = tree.if_stmt (expr_tree test) (body_of first) tree.absent at
 
 abbrev pub fork_of : Expr → List Stmt → List Stmt → ℕ → Tree
-fork_of test first other at = tree.if_stmt (expr_tree test) (body_of first) (tree.present (body_of other)) at
+fork_of test first other at =
+    tree.if_stmt (expr_tree test) (body_of first) (tree.present (body_of other)) at
 
 abbrev pub while_of : Expr → List Stmt → ℕ → Tree
 while_of test body at = tree.while_stmt (expr_tree test) (body_of body) at

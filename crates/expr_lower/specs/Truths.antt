@@ -41,7 +41,8 @@ is_truth_list (Some l) = is_truth_shape (Single l.kind)
 -- what it gives, if anything, is a truth value
 abbrev pub is_truth : List Name → Tree → Bool
 is_truth names (tree.truth b at) = true
-is_truth names (tree.variable text at) = elim (named text names) [ None ↦ false | Some x ↦ is_truth_shape x.shape ]
+is_truth names (tree.variable text at) =
+    elim (named text names) [ None ↦ false | Some x ↦ is_truth_shape x.shape ]
 is_truth names (tree.paren e at) = is_truth names e
 is_truth names (tree.if_expr test first other at) = is_truth names first && is_truth names other
 is_truth names (tree.index base place at) = is_truth_list (list_named names base)

@@ -56,4 +56,5 @@ IsFaultOf names e draft fault = IsFault (left_out (names_view names) e) draft fa
 
 -- the place of the first part of two expressions that is left out
 abbrev pub first_left_out : List Named → Expr → Expr → Option ℕ
-first_left_out names first second = left_out (names_view names) (expr_tree first) or_else left_out (names_view names) (expr_tree second)
+first_left_out names first second = left_out (names_view names) (expr_tree first) or_else left_out
+    (names_view names) (expr_tree second)

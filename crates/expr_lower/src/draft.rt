@@ -37,7 +37,8 @@ pub(crate) fn put_const(draft: &mut Draft, value: Num) -> Result<(), LowerFault>
 /// The place of the instruction that is appended next.
 pub(crate) fn next_place(draft: &Draft) -> Result<u32, LowerFault>
     ensures place { IfOk result (λ place. place ≡ length draft.now.instrs.items) }
-    ensures too_long { IfErr result (λ fault. (fault ≡ TooLong) × (2 ^ 32 ≤ length draft.now.instrs.items)) }
+    ensures too_long { IfErr result
+        (λ fault. (fault ≡ TooLong) × (2 ^ 32 ≤ length draft.now.instrs.items)) }
 {
     match u32::try_from(draft.instrs.len()) {
         Ok(place) => Ok(place),

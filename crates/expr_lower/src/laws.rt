@@ -9,7 +9,8 @@ ghost use Rattle.expr_lower.specs.Flat.{flat, of_flat};
 
 /// A value is read back from its numbers by its kind, whatever follows them.
 pub fn values_come_back()
-    ensures { (k : Kind) (v : Value) (rest : List ℤ) → HasKind k v → of_flat k (flat v ++ rest) ≡ v }
+    ensures { (k : Kind) (v : Value) (rest : List ℤ) → HasKind k v
+        → of_flat k (flat v ++ rest) ≡ v }
 {}
 
 /// Instructions that fit and leave one operand are, with an answer behind them, the code of a guard that is admitted.

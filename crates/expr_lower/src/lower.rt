@@ -86,9 +86,7 @@ fn paren(names: &[Named], inner: &Expr, draft: &mut Draft) -> Result<(), LowerFa
 
 /// Appends code that traps: a sum that is one greater than the greatest number.
 fn overflow(draft: &mut Draft) -> Result<(), LowerFault>
-    ensures added {
-        OnOk result (IsPut (op.Const greatest_num ∷ op.Const (pos 1) ∷ op.Add ∷ []) draft.old draft.new)
-    }
+    ensures added { OnOk result (IsPut (op.Const greatest_num ∷ op.Const (pos 1) ∷ op.Add ∷ []) draft.old draft.new) }
     ensures memory { IfErr result (λ fault. fault ≡ Memory) }
 {
     put(draft, Instr::Const(Num::MAX))?;
@@ -120,7 +118,8 @@ fn item(
     at: u32,
     draft: &mut Draft,
 ) -> Result<(), LowerFault>
-    ensures ok { OnOk result (Lowers names.now (index_of base.now place.now at) draft.old draft.new) }
+    ensures ok { OnOk result (Lowers names.now
+        (index_of base.now place.now at) draft.old draft.new) }
     ensures whole { OnOk result (IsWhole names.now (index_of base.now place.now at)) }
     ensures fault { IfErr result (IsFaultOf names.now (index_of base.now place.now at) draft.new) }
 {
@@ -156,13 +155,9 @@ fn binary(
     at: u32,
     draft: &mut Draft,
 ) -> Result<(), LowerFault>
-    ensures ok {
-        OnOk result (Lowers names.now (binary_of op left.now right.now at) draft.old draft.new)
-    }
+    ensures ok { OnOk result (Lowers names.now (binary_of op left.now right.now at) draft.old draft.new) }
     ensures whole { OnOk result (IsWhole names.now (binary_of op left.now right.now at)) }
-    ensures fault {
-        IfErr result (IsFaultOf names.now (binary_of op left.now right.now at) draft.new)
-    }
+    ensures fault { IfErr result (IsFaultOf names.now (binary_of op left.now right.now at) draft.new) }
 {
     match binary_instr(op) {
         Some(instr) => strict(names, instr, left, right, draft),

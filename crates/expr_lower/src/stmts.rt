@@ -66,13 +66,9 @@ fn set(
     at: u32,
     draft: &mut Draft,
 ) -> Result<(), LowerFault>
-    ensures ok {
-        OnOk result (AddsStmt names.now (set_of name.now places.now value.now at) draft.old draft.new)
-    }
+    ensures ok { OnOk result (AddsStmt names.now (set_of name.now places.now value.now at) draft.old draft.new) }
     ensures whole { OnOk result (IsWholeStmt names.now (set_of name.now places.now value.now at)) }
-    ensures fault {
-        IfErr result (IsFaultIn names.now (set_of name.now places.now value.now at) draft.new)
-    }
+    ensures fault { IfErr result (IsFaultIn names.now (set_of name.now places.now value.now at) draft.new) }
 {
     match places {
         [] => set_one(names, name, value, at, draft),
@@ -89,9 +85,7 @@ fn set_one(
     at: u32,
     draft: &mut Draft,
 ) -> Result<(), LowerFault>
-    ensures ok {
-        OnOk result (AddsStmt names.now (set_of name.now [] value.now at) draft.old draft.new)
-    }
+    ensures ok { OnOk result (AddsStmt names.now (set_of name.now [] value.now at) draft.old draft.new) }
     ensures whole { OnOk result (IsWholeStmt names.now (set_of name.now [] value.now at)) }
     ensures fault { IfErr result (IsFaultIn names.now (set_of name.now [] value.now at) draft.new) }
 {
@@ -111,15 +105,9 @@ fn set_item(
     at: u32,
     draft: &mut Draft,
 ) -> Result<(), LowerFault>
-    ensures ok {
-        OnOk result (AddsStmt names.now (set_of name.now (place.now ∷ []) value.now at) draft.old draft.new)
-    }
-    ensures whole {
-        OnOk result (IsWholeStmt names.now (set_of name.now (place.now ∷ []) value.now at))
-    }
-    ensures fault {
-        IfErr result (IsFaultIn names.now (set_of name.now (place.now ∷ []) value.now at) draft.new)
-    }
+    ensures ok { OnOk result (AddsStmt names.now (set_of name.now (place.now ∷ []) value.now at) draft.old draft.new) }
+    ensures whole { OnOk result (IsWholeStmt names.now (set_of name.now (place.now ∷ []) value.now at)) }
+    ensures fault { IfErr result (IsFaultIn names.now (set_of name.now (place.now ∷ []) value.now at) draft.new) }
 {
     let Some(to) = cells_named(names, name.text.as_str()) else {
         return Err(LowerFault::NotLowered { at });
@@ -141,13 +129,9 @@ fn branch(
     ensures ok { (at : ℕ)
         → OnOk result (AddsStmt names.now (tree.if_stmt (expr_tree test.now) (body_of yes.now) (body_tree no.now) at)
         draft.old draft.new) }
-    ensures whole {
-        OnOk result (IsWholeStmt names.now (tree.if_stmt (expr_tree test.now) (body_of yes.now) (body_tree no.now) 0))
-    }
-    ensures fault {
-        IfErr result (IsFaultIn names.now (tree.if_stmt (expr_tree test.now) (body_of yes.now) (body_tree no.now) 0)
-        draft.new)
-    }
+    ensures whole { OnOk result (IsWholeStmt names.now (tree.if_stmt (expr_tree test.now) (body_of yes.now) (body_tree no.now) 0)) }
+    ensures fault { IfErr result (IsFaultIn names.now (tree.if_stmt (expr_tree test.now) (body_of yes.now) (body_tree no.now) 0)
+        draft.new) }
 {
     match no {
         Some(no) => fork(names, test, yes, no, draft),
@@ -157,12 +141,7 @@ fn branch(
 
 /// Appends an `if` without an `else`: the condition, and what is done if it is true.
 #[cycle(lower_stmt)]
-fn alone(
-    names: &[Named],
-    test: &Expr,
-    yes: &[Stmt],
-    draft: &mut Draft,
-) -> Result<(), LowerFault>
+fn alone(names: &[Named], test: &Expr, yes: &[Stmt], draft: &mut Draft) -> Result<(), LowerFault>
     ensures ok { (at : ℕ)
         → OnOk result (AddsStmt names.now (alone_of test.now yes.now at) draft.old draft.new) }
     ensures whole { OnOk result (IsWholeStmt names.now (alone_of test.now yes.now 0)) }
@@ -189,7 +168,8 @@ fn fork(
     ensures ok { (at : ℕ)
         → OnOk result (AddsStmt names.now (fork_of test.now yes.now no.now at) draft.old draft.new) }
     ensures whole { OnOk result (IsWholeStmt names.now (fork_of test.now yes.now no.now 0)) }
-    ensures fault { IfErr result (IsFaultIn names.now (fork_of test.now yes.now no.now 0) draft.new) }
+    ensures fault { IfErr result (IsFaultIn names.now
+        (fork_of test.now yes.now no.now 0) draft.new) }
 {
     let start = draft.instrs.len();
     lower_test(names, test, draft)?;
@@ -206,12 +186,7 @@ fn fork(
 
 /// Appends a `while`: a jump to the condition, a turn and the body, and the condition with a jump back to the turn.
 #[cycle(lower_stmt)]
-fn repeat(
-    names: &[Named],
-    test: &Expr,
-    body: &[Stmt],
-    draft: &mut Draft,
-) -> Result<(), LowerFault>
+fn repeat(names: &[Named], test: &Expr, body: &[Stmt], draft: &mut Draft) -> Result<(), LowerFault>
     ensures ok { (at : ℕ)
         → OnOk result (AddsStmt names.now (while_of test.now body.now at) draft.old draft.new) }
     ensures whole { OnOk result (IsWholeStmt names.now (while_of test.now body.now 0)) }

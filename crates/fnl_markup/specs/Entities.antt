@@ -11,7 +11,8 @@ only letter next b = if b == letter then Some next else None
 -- the entity with one more letter, if one begins so
 abbrev pub longer : Entity → ℕ → Option Entity
 longer Ampersand b =
-    if b == 108 then Some L else (if b == 103 then Some G else (if b == 113 then Some Q else (if b == 97 then Some A else None)))
+    if b == 108 then Some L else (if b == 103 then Some G
+    else (if b == 113 then Some Q else (if b == 97 then Some A else None)))
 longer L b = only 116 Lt b
 longer G b = only 116 Gt b
 longer Q b = only 117 Qu b

@@ -22,7 +22,11 @@ pub data Ended : Type 0 where
 abbrev pub run : ℕ → State → List ℕ → Ended
 run at s [] = ended s None
 run at s (b ∷ bytes) =
-    elim (step at s b) [ Going next ↦ run (at + 1) next bytes | Fault rule place ↦ ended s (Some (fault rule place)) ]
+    elim (step at s b) [
+      | Going next ↦ run (at + 1) next bytes
+      | Fault rule place ↦ ended s
+          (Some (fault rule place))
+    ]
 
 abbrev pub is_content : Place → Bool
 is_content Content = true

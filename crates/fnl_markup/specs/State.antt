@@ -28,7 +28,20 @@ pub record State : Type 0 where
 
 -- nothing was read
 abbrev pub fresh : State
-fresh = record { place = Start; start = 0; declares = false; name = []; attributes = []; word = []; value = []; value_at = 0; opened = []; begun = false; tags = [] }
+fresh =
+    record {
+      place = Start;
+      start = 0;
+      declares = false;
+      name = [];
+      attributes = [];
+      word = [];
+      value = [];
+      value_at = 0;
+      opened = [];
+      begun = false;
+      tags = [];
+    }
 
 -- it goes on, or a rule is broken at an offset
 pub data Next : Type 0 where

@@ -34,7 +34,8 @@ content at s b =
 -- The text's start: a byte order mark, a declaration, or content.
 
 abbrev pub after_mark : ℕ → State → ℕ → Next
-after_mark at s b = if b == 60 then Going (record s { place = FirstLess; start = at }) else content at s b
+after_mark at s b = if b == 60 then Going (record s { place = FirstLess; start = at })
+    else content at s b
 
 abbrev pub start : ℕ → State → ℕ → Next
 start at s b = if b == 239 then goes s MarkOne else after_mark at s b
@@ -57,7 +58,8 @@ is_nil (name ∷ names) = false
 -- the tag that begins an element, and the tag that ends one
 
 abbrev pub with_opening : State → State
-with_opening s = record s { name = []; attributes = []; tags = s.tags ++ opens s.name s.attributes s.start ∷ [] }
+with_opening s =
+    record s { name = []; attributes = []; tags = s.tags ++ opens s.name s.attributes s.start ∷ [] }
 
 abbrev pub with_closing : ℕ → State → State
 with_closing at s = record s { tags = s.tags ++ closes at ∷ [] }
@@ -68,7 +70,8 @@ with_closing at s = record s { tags = s.tags ++ closes at ∷ [] }
 abbrev pub end_tag : ℕ → State → Next
 end_tag at s =
     if is_nil s.opened then stuck at
-    else Going (with_closing at (record s { place = EndName 0; name = last_name s.opened; opened = other_names s.opened }))
+    else Going (with_closing at (record s
+    { place = EndName 0; name = last_name s.opened; opened = other_names s.opened }))
 
 abbrev pub new_tag : ℕ → State → ℕ → Next
 new_tag at s b =
@@ -104,7 +107,8 @@ abbrev pub emptied : ℕ → State → State
 emptied at s = with_closing at (with_opening (record s { place = Slash }))
 
 abbrev pub ends_tag : ℕ → State → ℕ → Next
-ends_tag at s b = if b == 62 then Going (opened s) else (if b == 47 then Going (emptied at s) else stuck at)
+ends_tag at s b = if b == 62 then Going (opened s)
+    else (if b == 47 then Going (emptied at s) else stuck at)
 
 abbrev pub ends : ℕ → State → ℕ → Next
 ends at s b = if s.declares then only at s b 63 LastQuestion else ends_tag at s b
@@ -112,7 +116,8 @@ ends at s b = if s.declares then only at s b 63 LastQuestion else ends_tag at s 
 -- The last letter of the declaration's name.
 
 abbrev pub declaration : ℕ → State → ℕ → Next
-declaration at s b = if b == 108 then Going (record s { place = Quoted; declares = true }) else stuck at
+declaration at s b = if b == 108 then Going (record s { place = Quoted; declares = true })
+    else stuck at
 
 -- The end of the declaration: the encoding, if it is given, is UTF-8 in either case.
 
@@ -121,7 +126,8 @@ encodes (attribute name value at) = not (bytes_eq name (codes "encoding")) || st
 
 abbrev pub declared : State → Next
 declared s =
-    if list_all encodes s.attributes then Going (record s { place = Content; declares = false; attributes = [] })
+    if list_all encodes s.attributes
+    then Going (record s { place = Content; declares = false; attributes = [] })
     else Fault wrong_encoding s.start
 
 abbrev pub last_question : ℕ → State → ℕ → Next
@@ -152,12 +158,20 @@ word at s b =
 abbrev pub equal : ℕ → State → ℕ → Next
 equal at s b =
     if is_blank b then goes s Equal
-    else (if (b == 34) || (b == 39) then Going (record s { place = Value b; value = []; value_at = at + 1 }) else stuck at)
+    else (if (b == 34) || (b == 39)
+    then Going (record s { place = Value b; value = []; value_at = at + 1 }) else stuck at)
 
 -- Values go up to the same quote. Entities stand for characters in them, and `<` doesn't stand there.
 
 abbrev pub valued : State → State
-valued s = record s { place = Quoted; word = []; value = []; attributes = s.attributes ++ attribute s.word s.value s.value_at ∷ [] }
+valued s =
+    record s {
+      place = Quoted;
+      word = [];
+      value = [];
+      attributes = s.attributes
+          ++ attribute s.word s.value s.value_at ∷ [];
+    }
 
 abbrev pub longer_value : ℕ → State → ℕ → State
 longer_value quote s b = record s { place = Value quote; value = s.value ++ b ∷ [] }
@@ -179,7 +193,8 @@ entity_letter quote at s (Some read) = goes s (InEntity quote read)
 
 abbrev pub entity : ℕ → Entity → ℕ → State → ℕ → Next
 entity quote read at s b =
-    if b == 59 then entity_end quote at s (meaning read) else entity_letter quote at s (longer read b)
+    if b == 59 then entity_end quote at s (meaning read)
+    else entity_letter quote at s (longer read b)
 
 -- The end tag: the element's name, and blanks.
 

@@ -45,7 +45,8 @@ Ran end now (Err stops.Memory) = Unit {0}
 
 -- what a refusal says: a file, a rule and a place in it
 abbrev pub IsFault : ℕ → Broken → Refusal → Type 0
-IsFault file (fault rule at) refusal = (refusal.place.file ≡ file) × (refusal.rule ≡ rule) × (refusal.place.offset ≡ at)
+IsFault file (fault rule at) refusal = (refusal.place.file ≡ file) × (refusal.rule ≡ rule)
+    × (refusal.place.offset ≡ at)
 
 abbrev pub IsRefusal : ℕ → Option Broken → Option Refusal → Type 0
 IsRefusal file (Some broken) (Some refusal) = IsFault file broken refusal

@@ -22,7 +22,8 @@ NoneUnlinked {X} cells links = (i : ℕ) (cell : Cell X) → slice_get cells i �
 
 -- what holds of every actor holds of those of the cells
 abbrev pub AreLawfulCells : {X : Type 0} → List (Cell X) → Type 0
-AreLawfulCells {X} cells = (i : ℕ) (cell : Cell X) → slice_get cells i ≡ Some cell → IsLawful cell.actor
+AreLawfulCells {X} cells = (i : ℕ) (cell : Cell X) → slice_get cells i ≡ Some cell
+    → IsLawful cell.actor
 
 -- .. and of the leaves of their network
 abbrev pub AreLawfulIn : {X : Type 0} → Held (Cell X) → Type 0
@@ -30,5 +31,6 @@ AreLawfulIn {X} held = (net : Network X) → IsNetOf net held.cells held.links �
 
 -- cells that are ready to be run can work
 abbrev pub ReadyCanWork : (X : Type 0) → Type 0
-ReadyCanWork X = (net : Network X) (grow burst : ℕ) (cells : List (Cell X)) → IsNetOf net cells net.links → IsReady net grow burst cells
+ReadyCanWork X = (net : Network X) (grow burst : ℕ) (cells : List (Cell X))
+    → IsNetOf net cells net.links → IsReady net grow burst cells
     → HaveSizes net.links → NoneUnlinked cells net.links → CanWork cells net.links

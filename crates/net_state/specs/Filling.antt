@@ -26,7 +26,8 @@ pub record Inflow : Type 0 where
 
 -- what is to come on a feed that is read so far
 abbrev pub inflow : Reading → Inputs → ℕ → Inflow
-inflow reading feeds feed = record { kind = reading.kind; bytes = coming_on reading.pulled feeds feed }
+inflow reading feeds feed =
+    record { kind = reading.kind; bytes = coming_on reading.pulled feeds feed }
 
 -- these tokens are still to come, if the bytes to come are told
 abbrev pub AreToCome : Scalar → Option (List ℕ) → List ℤ → Type 0
@@ -38,12 +39,15 @@ pub record Takes {X : Type 0} (kind stored_in : Scalar) (j q count : ℕ) (old n
   pub taken : List ℤ
   pub count_is : length taken ≡ count
   pub gains : EachGains (only_to j q (map (conv stored_in) taken)) old new
-  pub first : (ts : List ℤ) → AreToCome kind coming_old ts → (taken ≡ take count ts) × (count ≤ length ts) × AreToCome kind coming_new (drop count ts)
+  pub first : (ts : List ℤ) → AreToCome kind coming_old ts → (taken ≡ take count ts)
+      × (count ≤ length ts) × AreToCome kind coming_new (drop count ts)
 
 -- The port holds as many as it may, or no token is left and `rest` bytes are.
-abbrev pub IsFilled : {X : Type 0} → Scalar → ℕ → ℕ → ℕ → Option ℕ → List (Cell X) → Option (List ℕ) → Type 0
+abbrev pub IsFilled : {X : Type 0} → Scalar → ℕ → ℕ → ℕ → Option ℕ → List (Cell X) → Option (List ℕ)
+    → Type 0
 IsFilled kind j q capacity None cells coming = length (tokens_of (slice_get cells j) q) ≡ capacity
-IsFilled kind j q capacity (Some rest) cells coming = (length (tokens_of (slice_get cells j) q) < capacity) × EndsWith kind rest coming
+IsFilled kind j q capacity (Some rest) cells coming =
+    (length (tokens_of (slice_get cells j) q) < capacity) × EndsWith kind rest coming
 
 -- Input links.
 
@@ -64,7 +68,8 @@ AtReader (Some link) P = AtPort link P link.to
 -- what was sent on link l and hasn't arrived is what is to come on its feed, as the link's reader stores it
 abbrev pub IsFed : {X : Type 0} → State X → ℕ → Option Link → Inflow → Type 0
 IsFed s l None feed = ⊥
-IsFed s l (Some link) feed = (ts : List ℤ) × AreToCome feed.kind feed.bytes ts × (unarrived (slice_get s.flows l) ≡ map (conv link.kind) ts)
+IsFed s l (Some link) feed = (ts : List ℤ) × AreToCome feed.kind feed.bytes ts
+    × (unarrived (slice_get s.flows l) ≡ map (conv link.kind) ts)
 
 -- The state goes on by the arrival of `count` tokens of link l, to one that stands.
 pub record Arrives {X : Type 0} (net : Network X) (s : State X) (l count : ℕ) (feed : Inflow) (new : Held (Cell X)) : Type 0 where
@@ -73,23 +78,29 @@ pub record Arrives {X : Type 0} (net : Network X) (s : State X) (l count : ℕ) 
   pub stands : StandsIn net new next
   pub fed : IsFed next l (slice_get new.links l) feed
   -- a state that was just opened stays so
-  pub opened : IsOpened net.links new.waited s.flows s.flows → IsOpened net.links new.waited next.flows next.flows
+  pub opened : IsOpened net.links new.waited s.flows s.flows
+      → IsOpened net.links new.waited next.flows next.flows
 
 -- Tokens of a feed came over link l: how many is `told`. Each state goes on whose unread tokens are the feed's.
 pub record Fills {X : Type 0} (l : ℕ) (before after : Inflow) (told : ℕ → Type 0) (old new : Held (Cell X)) : Type 0 where
   pub count : ℕ
   pub told_is : told count
   pub took : AtReader (slice_get old.links l)
-      (λ link j q. Takes before.kind link.kind j q count old.cells new.cells before.bytes after.bytes)
-  pub states : (net : Network X) (s : State X) → StandsIn net old s → IsFed s l (slice_get old.links l) before → Arrives net s l count after new
+      (λ link j q. Takes before.kind link.kind j q count old.cells new.cells before.bytes
+      after.bytes)
+  pub states : (net : Network X) (s : State X) → StandsIn net old s
+      → IsFed s l (slice_get old.links l) before → Arrives net s l count after new
 
 -- the link holds its capacity, or no token is left on its feed and `rest` bytes are
 abbrev pub IsFull : {X : Type 0} → ℕ → Option ℕ → Held (Cell X) → Inflow → Type 0
 IsFull l rest held feed = AtReader (slice_get held.links l)
-    (λ link j q. IsFilled feed.kind j q (slice_index_or held.capacities l 0) rest held.cells feed.bytes)
+    (λ link j q. IsFilled feed.kind j q
+    (slice_index_or held.capacities l 0) rest held.cells feed.bytes)
 
 -- so many tokens are those that arrive on link l at a delivery, in each state whose unread tokens are the feed's
 abbrev pub AreArrivals : {X : Type 0} → ℕ → ℕ → Held (Cell X) → Inflow → Type 0
-AreArrivals {X} l count held feed = (net : Network X) (s : State X) (link : Link) (flow : Flow) → StandsIn net held s
-    → IsFed s l (slice_get held.links l) feed → slice_get net.links l ≡ Some link → slice_get s.flows l ≡ Some flow
+AreArrivals {X} l count held feed = (net : Network X) (s : State X) (link : Link) (flow : Flow)
+    → StandsIn net held s
+    → IsFed s l (slice_get held.links l) feed → slice_get net.links l ≡ Some link
+    → slice_get s.flows l ≡ Some flow
     → count ≡ arrivals link flow

@@ -21,10 +21,17 @@ pub record Held (C : Type 0) : Type 0 where
 
 -- the same with all that is seen of each cell
 abbrev pub seen : {C X : Type 0} → (C → Cell X) → Held C → Held (Cell X)
-seen cell held = record { cells = map cell held.cells; links = held.links; capacities = held.capacities; waited = held.waited }
+seen cell held =
+    record {
+      cells = map cell held.cells;
+      links = held.links;
+      capacities = held.capacities;
+      waited = held.waited;
+    }
 
 abbrev pub held_of : {X : Type 0} → List (Cell X) → List Link → List ℕ → List ℕ → Held (Cell X)
-held_of cells links capacities waited = record { cells = cells; links = links; capacities = capacities; waited = waited }
+held_of cells links capacities waited =
+    record { cells = cells; links = links; capacities = capacities; waited = waited }
 
 -- The room of output port p of cell i, which is fixed at a delivery: the least of its links' present capacities,
 -- each less what waited then at the link's reading end. A port that no link leaves has room for any number.
@@ -39,17 +46,20 @@ room_of i p (link ∷ links) (capacity ∷ capacities) (count ∷ waited) =
 
 -- the rooms of all ports, a row for each cell
 abbrev pub IsRoomTable : List Link → List ℕ → List ℕ → List (List ℕ) → Type 0
-IsRoomTable links capacities waited table = (i p : ℕ) (row : List ℕ) → slice_get table i ≡ Some row → p < length row
+IsRoomTable links capacities waited table = (i p : ℕ) (row : List ℕ) → slice_get table i ≡ Some row
+    → p < length row
     → slice_index_or row p 0 ≡ room_of i p links capacities waited
 
 -- a table of the same shape
 pub record HasShapeOf (old new : List (List ℕ)) : Type 0 where
   pub rows : length new ≡ length old
-  pub widths : (i : ℕ) (before after : List ℕ) → slice_get old i ≡ Some before → slice_get new i ≡ Some after → length after ≡ length before
+  pub widths : (i : ℕ) (before after : List ℕ) → slice_get old i ≡ Some before
+      → slice_get new i ≡ Some after → length after ≡ length before
 
 -- in the first n rows each room is that of a port which no link leaves
 abbrev pub IsWide : ℕ → List (List ℕ) → Type 0
-IsWide n table = (i p : ℕ) (row : List ℕ) → i < n → slice_get table i ≡ Some row → p < length row → slice_index_or row p 0 ≡ unread_room
+IsWide n table = (i p : ℕ) (row : List ℕ) → i < n → slice_get table i ≡ Some row → p < length row
+    → slice_index_or row p 0 ≡ unread_room
 
 -- a port has its place in the table
 abbrev pub OnRow : Option (List ℕ) → (List ℕ → Type 0) → Type 0
@@ -63,24 +73,30 @@ HasPlace table (AtNet port) = Unit {0}
 -- the room at one place is at most this from now on
 pub record Narrows (end : End) (room : ℕ) (old new : List (List ℕ)) : Type 0 where
   pub shape : HasShapeOf old new
-  pub each : (i p : ℕ) (before after : List ℕ) → slice_get old i ≡ Some before → slice_get new i ≡ Some after → p < length before
-      → slice_index_or after p 0 ≡ (if is_leaf_port i p end then min room (slice_index_or before p 0) else slice_index_or before p 0)
+  pub each : (i p : ℕ) (before after : List ℕ) → slice_get old i ≡ Some before
+      → slice_get new i ≡ Some after → p < length before
+      → slice_index_or after p 0 ≡ (if is_leaf_port i p end
+      then min room (slice_index_or before p 0) else slice_index_or before p 0)
 
 abbrev pub IsReader : {X : Type 0} → List (Cell X) → End → Type 0
 IsReader cells (AtLeaf inst port) = IsInput cells inst.0 port
 IsReader cells (AtNet port) = Unit {0}
 
 -- for each link how many tokens wait at its reading end
-pub record AreCounted {X : Type 0} (cells : List (Cell X)) (links : List Link) (waited : List ℕ) : Type 0 where
+pub record AreCounted {X : Type 0} (cells : List (Cell X)) (links : List Link) (waited : List ℕ) :
+    Type 0 where
   pub as_many : length waited ≡ length links
-  pub each : (l : ℕ) (link : Link) → slice_get links l ≡ Some link → slice_index_or waited l 0 ≡ length (waiting_at cells link.to)
+  pub each : (l : ℕ) (link : Link) → slice_get links l ≡ Some link
+      → slice_index_or waited l 0 ≡ length (waiting_at cells link.to)
 
 -- a link leaves port p of cell i
 abbrev pub IsLeft : List Link → ℕ → ℕ → Type 0
-IsLeft links i p = (l : ℕ) × (link : Link) × (slice_get links l ≡ Some link) × (is_leaf_port i p link.from ≡ true)
+IsLeft links i p = (l : ℕ) × (link : Link) × (slice_get links l ≡ Some link)
+    × (is_leaf_port i p link.from ≡ true)
 
 -- what holds of a link and its queues
-pub record FitsIn {X : Type 0} (cells : List (Cell X)) (capacity waited : ℕ) (link : Link) : Type 0 where
+pub record FitsIn {X : Type 0} (cells : List (Cell X)) (capacity waited : ℕ) (link : Link) :
+    Type 0 where
   pub size : IsSize link.kind
   pub writer : IsWriter cells link.from
   pub reader : IsReader cells link.to
@@ -96,7 +112,8 @@ pub record FitsIn {X : Type 0} (cells : List (Cell X)) (capacity waited : ℕ) (
 
 -- no action gives more than an action may
 abbrev pub GivesFew : {X : Type 0} → List (Cell X) → Type 0
-GivesFew {X} cells = (i : ℕ) (cell : Cell X) → slice_get cells i ≡ Some cell → (a p : ℕ) → cell.actor.give a p ≤ max_rate
+GivesFew {X} cells = (i : ℕ) (cell : Cell X) → slice_get cells i ≡ Some cell → (a p : ℕ)
+    → cell.actor.give a p ≤ max_rate
 
 -- no capacity passes the room of a port that no link leaves
 abbrev pub HoldFew : List ℕ → Type 0
@@ -119,12 +136,14 @@ pub record IsWorking {X : Type 0} (cells : List (Cell X)) (links : List Link) (c
 -- the table has a row for each cell, and in it a place for each of its output ports
 pub record HasWidths {X : Type 0} (cells : List (Cell X)) (table : List (List ℕ)) : Type 0 where
   pub rows : length table ≡ length cells
-  pub widths : (i : ℕ) (cell : Cell X) (row : List ℕ) → slice_get cells i ≡ Some cell → slice_get table i ≡ Some row → length row ≡ cell.actor.outs
+  pub widths : (i : ℕ) (cell : Cell X) (row : List ℕ) → slice_get cells i ≡ Some cell
+      → slice_get table i ≡ Some row → length row ≡ cell.actor.outs
 
 -- the table of rooms fits the cells
 pub record HasRooms {X : Type 0} (cells : List (Cell X)) (links : List Link) (capacities waited : List ℕ) (table : List (List ℕ)) : Type 0 where
   pub rows : length table ≡ length cells
-  pub widths : (i : ℕ) (cell : Cell X) (row : List ℕ) → slice_get cells i ≡ Some cell → slice_get table i ≡ Some row → length row ≡ cell.actor.outs
+  pub widths : (i : ℕ) (cell : Cell X) (row : List ℕ) → slice_get cells i ≡ Some cell
+      → slice_get table i ≡ Some row → length row ≡ cell.actor.outs
   pub rooms : IsRoomTable links capacities waited table
 
 -- What is asked of cells and links at the start.
@@ -141,7 +160,8 @@ pub record IsJoinedTo {X : Type 0} (cells : List (Cell X)) (link : Link) : Type 
 
 -- no link leads to port p of cell i
 abbrev pub NoneLeads : List Link → ℕ → ℕ → Type 0
-NoneLeads links i p = (l : ℕ) (link : Link) → slice_get links l ≡ Some link → is_leaf_port i p link.to ≡ false
+NoneLeads links i p = (l : ℕ) (link : Link) → slice_get links l ≡ Some link
+    → is_leaf_port i p link.to ≡ false
 
 pub record CanWork {X : Type 0} (cells : List (Cell X)) (links : List Link) : Type 0 where
   pub apart : AreApart links

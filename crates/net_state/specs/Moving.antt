@@ -20,25 +20,30 @@ sent_of (Some cell) p = tokens_on cell.outboxes p
 -- the actors, the capacities of their queues and the rooms of their journals are the same
 pub record SameActors {X : Type 0} (old new : List (Cell X)) : Type 0 where
   pub count : length new ≡ length old
-  pub each : (i : ℕ) (before after : Cell X) → slice_get old i ≡ Some before → slice_get new i ≡ Some after → IsSameActor before after
+  pub each : (i : ℕ) (before after : Cell X) → slice_get old i ≡ Some before
+      → slice_get new i ≡ Some after → IsSameActor before after
 
 -- each cell is marked as trapped where it was
 abbrev pub SameMarks : {X : Type 0} → List (Cell X) → List (Cell X) → Type 0
-SameMarks {X} old new = (i : ℕ) (before after : Cell X) → slice_get old i ≡ Some before → slice_get new i ≡ Some after → after.trapped ≡ before.trapped
+SameMarks {X} old new = (i : ℕ) (before after : Cell X) → slice_get old i ≡ Some before
+    → slice_get new i ≡ Some after → after.trapped ≡ before.trapped
 
 -- tokens come in behind those before each port, and all else stays
 pub record Gains {X : Type 0} (arriving : ℕ → List ℤ) (old new : Cell X) : Type 0 where
   pub actor : IsSameActor old new
   pub state : new.state ≡ old.state
-  pub inboxes : (p : ℕ) → p < old.actor.ins → tokens_on new.inboxes p ≡ tokens_on old.inboxes p ++ arriving p
+  pub inboxes : (p : ℕ) → p < old.actor.ins
+      → tokens_on new.inboxes p ≡ tokens_on old.inboxes p ++ arriving p
   pub outboxes : SameOutboxes old new
   pub journal : new.journal ≡ old.journal
   pub trapped : new.trapped ≡ old.trapped
 
 -- the same of each cell: `arriving` gives the tokens by cell and port
-pub record EachGains {X : Type 0} (arriving : ℕ → ℕ → List ℤ) (old new : List (Cell X)) : Type 0 where
+pub record EachGains {X : Type 0} (arriving : ℕ → ℕ → List ℤ) (old new : List (Cell X)) :
+    Type 0 where
   pub count : length new ≡ length old
-  pub each : (i : ℕ) (before after : Cell X) → slice_get old i ≡ Some before → slice_get new i ≡ Some after
+  pub each : (i : ℕ) (before after : Cell X) → slice_get old i ≡ Some before
+      → slice_get new i ≡ Some after
       → Gains (arriving i) before after
 
 -- these tokens come to port q of cell j, and none elsewhere
@@ -60,12 +65,14 @@ HasRoomBefore cells j q count = OnCell (slice_get cells j) (λ cell. (q < cell.a
 -- cell i is cleared, and the others stay
 pub record ClearsAt {X : Type 0} (i : ℕ) (old new : List (Cell X)) : Type 0 where
   pub count : length new ≡ length old
-  pub here : (before after : Cell X) → slice_get old i ≡ Some before → slice_get new i ≡ Some after → Clears before after
+  pub here : (before after : Cell X) → slice_get old i ≡ Some before → slice_get new i ≡ Some after
+      → Clears before after
   pub elsewhere : (k : ℕ) → k ≢ i → slice_get new k ≡ slice_get old k
 
 pub record EachClears {X : Type 0} (old new : List (Cell X)) : Type 0 where
   pub count : length new ≡ length old
-  pub each : (i : ℕ) (before after : Cell X) → slice_get old i ≡ Some before → slice_get new i ≡ Some after → Clears before after
+  pub each : (i : ℕ) (before after : Cell X) → slice_get old i ≡ Some before
+      → slice_get new i ≡ Some after → Clears before after
 
 -- Links.
 
@@ -81,7 +88,8 @@ carried cells link = map (conv link.kind) (sent_from cells link.from)
 -- what comes over links to port p of cell i
 abbrev pub arriving : {X : Type 0} → List (Cell X) → List Link → ℕ → ℕ → List ℤ
 arriving cells [] i p = []
-arriving cells (link ∷ links) i p = if is_leaf_port i p link.to then carried cells link else arriving cells links i p
+arriving cells (link ∷ links) i p = if is_leaf_port i p link.to then carried cells link
+    else arriving cells links i p
 
 abbrev pub IsWriter : {X : Type 0} → List (Cell X) → End → Type 0
 IsWriter cells (AtLeaf inst port) = IsOutput cells inst.0 port
@@ -100,11 +108,13 @@ pub record CanCarry {X : Type 0} (cells : List (Cell X)) (link : Link) : Type 0 
 
 -- no two links lead to one place
 abbrev pub AreApart : List Link → Type 0
-AreApart links = (l m : ℕ) (link other : Link) → l < m → slice_get links l ≡ Some link → slice_get links m ≡ Some other
+AreApart links = (l m : ℕ) (link other : Link) → l < m → slice_get links l ≡ Some link
+    → slice_get links m ≡ Some other
     → link.to ≢ other.to
 
 abbrev pub CanCarryAll : {X : Type 0} → List (Cell X) → List Link → Type 0
-CanCarryAll cells links = (l : ℕ) (link : Link) → slice_get links l ≡ Some link → CanCarry cells link
+CanCarryAll cells links = (l : ℕ) (link : Link) → slice_get links l ≡ Some link
+    → CanCarry cells link
 
 -- a link that begins at a cell
 abbrev pub IsFromCell : Option Link → Type 0
@@ -118,9 +128,11 @@ carried_on cells (Some link) = carried cells link
 
 -- each link begins at a port that is there, and has a type of tokens
 abbrev pub WritersFit : {X : Type 0} → List (Cell X) → List Link → Type 0
-WritersFit cells links = (l : ℕ) (link : Link) → slice_get links l ≡ Some link → IsSize link.kind × IsWriter cells link.from
+WritersFit cells links = (l : ℕ) (link : Link) → slice_get links l ≡ Some link → IsSize link.kind
+    × IsWriter cells link.from
 
 -- port q is an input port of cell j; at most `capacity` tokens wait before it, and it can hold so many
 abbrev pub HasRoomUpTo : {X : Type 0} → List (Cell X) → ℕ → ℕ → ℕ → Type 0
 HasRoomUpTo cells j q capacity = OnCell (slice_get cells j) (λ cell. (q < cell.actor.ins)
-    × (length (tokens_on cell.inboxes q) ≤ capacity) × (capacity ≤ number_on cell.inbox_capacities q))
+    × (length (tokens_on cell.inboxes q) ≤ capacity)
+    × (capacity ≤ number_on cell.inbox_capacities q))

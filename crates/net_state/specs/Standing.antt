@@ -16,17 +16,20 @@ use Rattle.net_state.specs.Held.{Held}
 use Rattle.net_state.specs.Moving.{sent_of}
 
 -- The network whose leaves are these cells' actors, joined by these links. Its paths, classes and ports are any.
-pub record IsNetOf {X : Type 0} (net : Network X) (cells : List (Cell X)) (links : List Link) : Type 0 where
+pub record IsNetOf {X : Type 0} (net : Network X) (cells : List (Cell X)) (links : List Link) :
+    Type 0 where
   pub actors : map (λ leaf. leaf.behaviour) net.leaves ≡ map (λ cell. cell.actor) cells
   pub links_are : net.links ≡ links
 
 -- What was sent on a link and hasn't arrived lies in the writer's outbox. It is stored in the reader's type when it
 -- moves. What is to come from outside isn't held here.
 abbrev pub LiesIn : {X : Type 0} → List (Cell X) → Link → List ℤ → End → Type 0
-LiesIn cells link tokens (AtLeaf inst port) = tokens ≡ map (conv link.kind) (sent_of (slice_get cells inst.0) port)
+LiesIn cells link tokens (AtLeaf inst port) = tokens
+    ≡ map (conv link.kind) (sent_of (slice_get cells inst.0) port)
 LiesIn cells link tokens (AtNet port) = Unit {0}
 
-pub record IsHeld {X : Type 0} (cells : List (Cell X)) (link : Link) (flow : Flow) (capacity : ℕ) : Type 0 where
+pub record IsHeld {X : Type 0} (cells : List (Cell X)) (link : Link) (flow : Flow) (capacity : ℕ) :
+    Type 0 where
   pub lies : LiesIn cells link (drop flow.arrived flow.sent) link.from
   pub capacity_is : flow.capacity ≡ capacity
   pub arrived : flow.arrived ≤ length flow.sent
@@ -37,7 +40,8 @@ pub record IsHeld {X : Type 0} (cells : List (Cell X)) (link : Link) (flow : Flo
 -- the same of each link
 pub record AreHeld {X : Type 0} (cells : List (Cell X)) (links : List Link) (flows : List Flow) (capacities : List ℕ) : Type 0 where
   pub count : length flows ≡ length links
-  pub each : (l : ℕ) (link : Link) (flow : Flow) → slice_get links l ≡ Some link → slice_get flows l ≡ Some flow
+  pub each : (l : ℕ) (link : Link) (flow : Flow) → slice_get links l ≡ Some link
+      → slice_get flows l ≡ Some flow
       → IsHeld cells link flow (slice_index_or capacities l 0)
 
 -- the tokens before each input port are those that wait on the link that leads there
@@ -48,7 +52,8 @@ InboxesHold {X} cells links flows = (i : ℕ) (cell : Cell X) → slice_get cell
 -- each actor's state is that of its cell; a cell that trapped holds none
 pub record ActorsHold {X : Type 0} (cells : List (Cell X)) (actors : List X) : Type 0 where
   pub count : length actors ≡ length cells
-  pub each : (i : ℕ) (cell : Cell X) → slice_get cells i ≡ Some cell → cell.trapped ≡ false → slice_get actors i ≡ Some cell.state
+  pub each : (i : ℕ) (cell : Cell X) → slice_get cells i ≡ Some cell → cell.trapped ≡ false
+      → slice_get actors i ≡ Some cell.state
 
 -- the cells hold this state of the network
 pub record Stands {X : Type 0} (net : Network X) (cells : List (Cell X)) (capacities : List ℕ) (s : State X) : Type 0 where
@@ -58,7 +63,8 @@ pub record Stands {X : Type 0} (net : Network X) (cells : List (Cell X)) (capaci
   pub untrapped : s.trapped ≡ false
 
 -- the network is one of these cells and links, and they hold its state
-pub record StandsIn {X : Type 0} (net : Network X) (held : Held (Cell X)) (s : State X) : Type 0 where
+pub record StandsIn {X : Type 0} (net : Network X) (held : Held (Cell X)) (s : State X) :
+    Type 0 where
   pub is_of : IsNetOf net held.cells held.links
   pub stands : Stands net held.cells held.capacities s
 
@@ -77,7 +83,8 @@ pub record IsOpened (links : List Link) (waited : List ℕ) (opened flows : List
       → IsSince before flow (slice_index_or waited l 0)
 
 -- the state stands in what is held, and it was `opened` by the last delivery
-pub record StandsSince {X : Type 0} (net : Network X) (held : Held (Cell X)) (opened s : State X) : Type 0 where
+pub record StandsSince {X : Type 0} (net : Network X) (held : Held (Cell X)) (opened s : State X) :
+    Type 0 where
   pub now : StandsIn net held s
   pub since : IsOpened net.links held.waited opened.flows s.flows
 
@@ -101,7 +108,8 @@ AreAllOut {X} cells = (i : ℕ) (cell : Cell X) → slice_get cells i ≡ Some c
 
 -- the cells hold the state in which a run from them begins
 abbrev pub StandAtStart : {X : Type 0} → Held (Cell X) → Type 0
-StandAtStart {X} held = (net : Network X) (inputs : List (List ℕ)) → IsNetOf net held.cells held.links
+StandAtStart {X} held = (net : Network X) (inputs : List (List ℕ))
+    → IsNetOf net held.cells held.links
     → StandsIn net held (given_state net held.cells inputs)
 
 -- Reading what was sent.
@@ -113,4 +121,5 @@ unarrived (Some flow) = drop flow.arrived flow.sent
 
 -- this is true of what was sent on link l and hasn't arrived, in each state that the cells hold
 abbrev pub IsTrueOfUnarrived : {X : Type 0} → Held (Cell X) → ℕ → (List ℤ → Type 0) → Type 0
-IsTrueOfUnarrived {X} held l P = (net : Network X) (s : State X) → StandsIn net held s → P (unarrived (slice_get s.flows l))
+IsTrueOfUnarrived {X} held l P = (net : Network X) (s : State X) → StandsIn net held s
+    → P (unarrived (slice_get s.flows l))

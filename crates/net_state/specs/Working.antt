@@ -77,7 +77,8 @@ pub record IsAtRest {X : Type 0} (held : Held (Cell X)) : Type 0 where
       → slice_index_or held.waited l 0 ≡ length (waiting_at held.cells link.to)
 
 -- Cell i fired `actions`, at most `limit` of them, and its journal names them; the other cells stayed.
-pub record WorksAt {X : Type 0} (i limit : ℕ) (end : BurstEnd) (old new : Held (Cell X)) : Type 0 where
+pub record WorksAt {X : Type 0} (i limit : ℕ) (end : BurstEnd) (old new : Held (Cell X)) :
+    Type 0 where
   pub actions : List ℕ
   pub few : length actions ≤ limit
   pub noted : journal_of (slice_get new.cells i) ≡ journal_of (slice_get old.cells i) ++ actions
@@ -97,7 +98,8 @@ LacksFrom gives i room (AtNet port) = ⊥
 
 -- each input link holds its capacity, or all of its feed has arrived
 abbrev pub AreFed : {X : Type 0} → Network X → State X → Type 0
-AreFed net s = (l : ℕ) (link : Link) (flow : Flow) → slice_get net.links l ≡ Some link → slice_get s.flows l ≡ Some flow
+AreFed net s = (l : ℕ) (link : Link) (flow : Flow) → slice_get net.links l ≡ Some link
+    → slice_get s.flows l ≡ Some flow
     → is_input link ≡ true → (untaken flow ≡ flow.capacity) ⊎ (flow.arrived ≡ length flow.sent)
 
 -- what leaf i would do next, with the rest of the feeds counted as arrived
@@ -105,14 +107,18 @@ abbrev pub LooksFed : {X : Type 0} → Network X → State X → ℕ → Look �
 LooksFed net s i look.Waits =
     (choice_at net (all_fed net s) i ≡ Waits) × ((a : ℕ) → effect_at net (all_fed net s) i a ≡ None)
 LooksFed net s i (look.Ready action) =
-    (choice_at net (all_fed net s) i ≡ Picks action.0) × ((l : ℕ) → LacksRoom net (all_fed net s) i action.0 l → ⊥)
+    (choice_at net (all_fed net s) i ≡ Picks action.0)
+    × ((l : ℕ) → LacksRoom net (all_fed net s) i action.0 l → ⊥)
 LooksFed net s i (look.NoRoom action port) =
-    (choice_at net (all_fed net s) i ≡ Picks action.0) × ((l : ℕ) × LacksRoom net (all_fed net s) i action.0 l)
-LooksFed net s i (look.GuardTrap action cause) = choice_at net (all_fed net s) i ≡ Faults action.0 cause
+    (choice_at net (all_fed net s) i ≡ Picks action.0)
+    × ((l : ℕ) × LacksRoom net (all_fed net s) i action.0 l)
+LooksFed net s i (look.GuardTrap action cause) = choice_at net (all_fed net s) i
+    ≡ Faults action.0 cause
 
 -- what the ends of a run say of leaf i, in each state of a network that is wired and whose feeds came as far as they may
 abbrev pub EndsSee : {X : Type 0} → ℕ → Look → Held (Cell X) → Type 0
-EndsSee {X} i look held = (net : Network X) (s : State X) → StandsIn net held s → IsWired net → AreFed net s
+EndsSee {X} i look held = (net : Network X) (s : State X) → StandsIn net held s → IsWired net
+    → AreFed net s
     → IsSettled net s × LooksFed net s i look
 
 -- what an action of a cell gives by port
@@ -128,7 +134,8 @@ LacksOnLink cells i a room (Some link) = LacksFrom (gives_of (slice_get cells i)
 -- .. and so on link l of those that are held
 abbrev pub LacksAt : {X : Type 0} → Held (Cell X) → ℕ → ℕ → ℕ → Type 0
 LacksAt held i a l =
-    LacksOnLink held.cells i a (slice_index_or held.capacities l 0 - slice_index_or held.waited l 0) (slice_get held.links l)
+    LacksOnLink held.cells i a (slice_index_or held.capacities l 0 - slice_index_or held.waited l 0)
+    (slice_get held.links l)
 
 -- On links where this is told it is as the ends of a run have it, in each state that stands.
 abbrev pub LacksAsEnds : {X : Type 0} → Held (Cell X) → ℕ → ℕ → Type 0
@@ -177,7 +184,8 @@ pub record TriedAt {X : Type 0} (i : ℕ) (rooms : List ℕ) (a : ℕ) (old : Li
 -- what leaf i would do next in a state
 abbrev pub LooksIn : {X : Type 0} → Network X → State X → State X → ℕ → Look → Type 0
 LooksIn net opened s i look.Waits = choice_at net s i ≡ Waits
-LooksIn net opened s i (look.Ready action) = (choice_at net s i ≡ Picks action.0) × HasRoomIn net opened s i action.0
+LooksIn net opened s i (look.Ready action) = (choice_at net s i ≡ Picks action.0)
+    × HasRoomIn net opened s i action.0
 LooksIn net opened s i (look.NoRoom action port) =
     (choice_at net s i ≡ Picks action.0) × ((l : ℕ) × PassesLink net opened s i action.0 l)
 LooksIn net opened s i (look.GuardTrap action cause) = choice_at net s i ≡ Faults action.0 cause
@@ -192,15 +200,20 @@ pub record LooksAt {X : Type 0} (i : ℕ) (look : Look) (old new : Held (Cell X)
   pub rests : IsAtRest old → IsAtRest new
 
 -- What came of action a of leaf i: a firing leads to the next state; else the state stays, also by a trap.
-abbrev pub TriesIn : {X : Type 0} → Network X → State X → State X → ℕ → ℕ → Tried → Held (Cell X) → Type 0
+abbrev pub TriesIn : {X : Type 0} → Network X → State X → State X → ℕ → ℕ → Tried → Held (Cell X)
+    → Type 0
 TriesIn net opened s i a tried.Fired new =
-    HasRoomIn net opened s i a × OnNext (happens net s (Fire i a)) (λ next. StandsSince net new opened next)
+    HasRoomIn net opened s i a × OnNext (happens net s (Fire i a))
+    (λ next. StandsSince net new opened next)
 TriesIn net opened s i a (tried.Trap cause) new =
-    ((effect_at net s i a ≡ Some (TrapsInGuard cause)) ⊎ (HasRoomIn net opened s i a × (effect_at net s i a ≡ Some (TrapsInBody cause))))
+    ((effect_at net s i a ≡ Some (TrapsInGuard cause))
+    ⊎ (HasRoomIn net opened s i a × (effect_at net s i a ≡ Some (TrapsInBody cause))))
     × StandsSince net new opened s
-TriesIn net opened s i a tried.NotExposed new = (effect_at net s i a ≡ None) × StandsSince net new opened s
+TriesIn net opened s i a tried.NotExposed new = (effect_at net s i a ≡ None)
+    × StandsSince net new opened s
 TriesIn net opened s i a (tried.NoRoom port) new =
-    IsEnabled (effect_at net s i a) × ((l : ℕ) × PassesLink net opened s i a l) × StandsSince net new opened s
+    IsEnabled (effect_at net s i a) × ((l : ℕ) × PassesLink net opened s i a l)
+    × StandsSince net new opened s
 
 abbrev pub tried_traps : Tried → Bool
 tried_traps tried.Fired = false
@@ -209,7 +222,8 @@ tried_traps tried.NotExposed = false
 tried_traps (tried.NoRoom port) = false
 
 pub record TriesAt {X : Type 0} (i a : ℕ) (tried : Tried) (old new : Held (Cell X)) : Type 0 where
-  pub states : (net : Network X) (opened s : State X) → StandsSince net old opened s → TriesIn net opened s i a tried new
+  pub states : (net : Network X) (opened s : State X) → StandsSince net old opened s
+      → TriesIn net opened s i a tried new
   pub journal : journal_of (slice_get new.cells i) ≡ journal_of (slice_get old.cells i)
   pub elsewhere : (k : ℕ) → k ≢ i → slice_get new.cells k ≡ slice_get old.cells k
   pub marked : OnCell (slice_get new.cells i) (λ cell. cell.trapped ≡ tried_traps tried)
@@ -223,5 +237,6 @@ CanHold cells n (Some link) = OutboxHolds cells n link.from × InboxHolds cells 
 
 -- link l grew to this capacity: each state goes on by its growth
 abbrev pub GrewTo : {X : Type 0} → ℕ → ℕ → Held (Cell X) → Held (Cell X) → Type 0
-GrewTo {X} l capacity old new = (net : Network X) (opened s : State X) → StandsSince net old opened s
+GrewTo {X} l capacity old new = (net : Network X) (opened s : State X)
+    → StandsSince net old opened s
     → OnNext (grown s l capacity (slice_get s.flows l)) (λ next. StandsSince net new opened next)

@@ -22,8 +22,11 @@ pub(crate) fn carry<A: Firing>(
     requires from_there { from.0 < length cells.old }
     requires to_there { to.0 < length cells.old }
     requires from_output { IsOutput (map A.cell cells.old) from.0 out }
-    requires room { HasRoomBefore (map A.cell cells.old) to.0 port (length (sent_of (slice_get (map A.cell cells.old) from.0) out)) }
-    ensures gains { EachGains (only_to to.0 port (map (conv kind) (sent_of (slice_get (map A.cell cells.old) from.0) out))) (map A.cell cells.old) (map A.cell cells.new) }
+    requires room { HasRoomBefore (map A.cell cells.old) to.0 port
+        (length (sent_of (slice_get (map A.cell cells.old) from.0) out)) }
+    ensures gains { EachGains (only_to to.0 port
+        (map (conv kind) (sent_of (slice_get (map A.cell cells.old) from.0) out)))
+        (map A.cell cells.old) (map A.cell cells.new) }
 {
     let count = sent_on(cells, from, out);
     for k in 0..count {
@@ -35,7 +38,8 @@ pub(crate) fn carry<A: Firing>(
 /// Moves what was sent on a link between two cells to its reader. Of other links nothing moves.
 fn follow<A: Firing>(cells: &mut [A], link: &Link)
     requires { CanCarry (map A.cell cells.old) link.now }
-    ensures gains { EachGains (arriving (map A.cell cells.old) (link.now ∷ [])) (map A.cell cells.old) (map A.cell cells.new) }
+    ensures gains { EachGains (arriving (map A.cell cells.old) (link.now ∷ []))
+        (map A.cell cells.old) (map A.cell cells.new) }
 {
     if let End::Leaf {
         inst: from,
@@ -52,7 +56,8 @@ fn follow<A: Firing>(cells: &mut [A], link: &Link)
 pub(crate) fn carry_all<A: Firing>(cells: &mut [A], links: &[Link])
     requires can_carry { CanCarryAll (map A.cell cells.old) links.now }
     requires apart { AreApart links.now }
-    ensures gains { EachGains (arriving (map A.cell cells.old) links.now) (map A.cell cells.old) (map A.cell cells.new) }
+    ensures gains { EachGains (arriving (map A.cell cells.old) links.now) (map A.cell cells.old)
+        (map A.cell cells.new) }
 {
     let count = links.len();
     for k in 0..count {

@@ -20,7 +20,8 @@ pub(crate) fn deliver_inside<A: Firing>(
     rooms: &mut [Vec<u32>],
 )
     requires working { IsWorking (map A.cell cells.old) links.now capacities.now waited.old }
-    requires rooms { HasRooms (map A.cell cells.old) links.now capacities.now waited.old (map vec_items rooms.old) }
+    requires rooms { HasRooms (map A.cell cells.old) links.now capacities.now waited.old
+        (map vec_items rooms.old) }
     ensures states { LeadInside (held_of (map A.cell cells.old) links.now capacities.now waited.old)
         (held_of (map A.cell cells.new) links.now capacities.now waited.new) }
     ensures same_actors { SameActors (map A.cell cells.old) (map A.cell cells.new) }
@@ -28,7 +29,8 @@ pub(crate) fn deliver_inside<A: Firing>(
     ensures all_out { AreAllOut (map A.cell cells.new) }
     ensures counted { AreCounted (map A.cell cells.new) links.now waited.new }
     ensures working { IsWorking (map A.cell cells.new) links.now capacities.now waited.new }
-    ensures rooms { HasRooms (map A.cell cells.new) links.now capacities.now waited.new (map vec_items rooms.new) }
+    ensures rooms { HasRooms (map A.cell cells.new) links.now capacities.now waited.new
+        (map vec_items rooms.new) }
 {
     carry_all(cells, links);
     clear_all(cells);
@@ -51,7 +53,8 @@ pub(crate) fn lay_out<A: Firing>(
     requires widths { HasWidths (map A.cell cells.now) (map vec_items rooms.old) }
     ensures counted { AreCounted (map A.cell cells.now) links.now waited.new }
     ensures working { IsWorking (map A.cell cells.now) links.now capacities.now waited.new }
-    ensures rooms { HasRooms (map A.cell cells.now) links.now capacities.now waited.new (map vec_items rooms.new) }
+    ensures rooms { HasRooms (map A.cell cells.now) links.now capacities.now waited.new
+        (map vec_items rooms.new) }
 {
     count_waiting(cells, links, waited);
     fix_rooms(rooms, links, capacities, waited);

@@ -45,14 +45,18 @@ pub(crate) fn fill_port<A: Firing, F: Feeds>(
     requires size { IsSize inlet.now.kind }
     requires there { inlet.now.inst.0 < length cells.old }
     requires input { IsInput (map A.cell cells.old) inlet.now.inst.0 inlet.now.port }
-    requires room { HasRoomUpTo (map A.cell cells.old) inlet.now.inst.0 inlet.now.port inlet.now.capacity }
+    requires room { HasRoomUpTo (map A.cell cells.old) inlet.now.inst.0 inlet.now.port
+        inlet.now.capacity }
     requires open { (F.feeds feeds.old).is_open feed ≡ true }
     requires same_feed { EndIsTrue tokens.old ((F.feeds feeds.old).left feed) }
-    ensures took { (count : ℕ) × Takes tokens.old.kind inlet.now.kind inlet.now.inst.0 inlet.now.port count (map A.cell cells.old) (map A.cell cells.new)
+    ensures took { (count : ℕ) × Takes tokens.old.kind inlet.now.kind inlet.now.inst.0
+        inlet.now.port count (map A.cell cells.old) (map A.cell cells.new)
         (coming_on tokens.old.pulled (F.feeds feeds.old) feed) (coming_on tokens.new.pulled (F.feeds feeds.new) feed) × IfOk result (λ filled. filled.tokens ≡ count) }
-    ensures filled { IfOk result (λ filled. IsFilled tokens.old.kind inlet.now.inst.0 inlet.now.port inlet.now.capacity filled.rest (map A.cell cells.new)
+    ensures filled { IfOk result (λ filled. IsFilled tokens.old.kind inlet.now.inst.0 inlet.now.port
+        inlet.now.capacity filled.rest (map A.cell cells.new)
         (coming_on tokens.new.pulled (F.feeds feeds.new) feed)) }
-    ensures within { HasRoomUpTo (map A.cell cells.new) inlet.now.inst.0 inlet.now.port inlet.now.capacity }
+    ensures within { HasRoomUpTo (map A.cell cells.new) inlet.now.inst.0 inlet.now.port
+        inlet.now.capacity }
     ensures failed { OnErr result (ReadFails F.feeds feeds.old feeds.new) }
     ensures kind { tokens.new.kind ≡ tokens.old.kind }
     ensures still_same_feed { EndIsTrue tokens.new ((F.feeds feeds.new).left feed) }
@@ -88,14 +92,20 @@ pub(crate) fn fill_link<A: Firing, F: Feeds>(
     feeds: &mut F,
 ) -> Result<Filled, Failed>
     requires size { IsSize link.now.kind }
-    requires reader { AtPort link.now (λ that j q. IsInput (map A.cell cells.old) j q × HasRoomUpTo (map A.cell cells.old) j q capacity) link.now.to }
+    requires reader { AtPort link.now
+        (λ that j q. IsInput (map A.cell cells.old) j q
+        × HasRoomUpTo (map A.cell cells.old) j q capacity) link.now.to }
     requires open { (F.feeds feeds.old).is_open feed ≡ true }
     requires same_feed { EndIsTrue tokens.old ((F.feeds feeds.old).left feed) }
-    ensures took { AtPort link.now (λ that j q. (count : ℕ) × Takes tokens.old.kind that.kind j q count (map A.cell cells.old) (map A.cell cells.new)
+    ensures took { AtPort link.now
+        (λ that j q. (count : ℕ) × Takes tokens.old.kind that.kind j q count (map A.cell cells.old)
+        (map A.cell cells.new)
         (coming_on tokens.old.pulled (F.feeds feeds.old) feed) (coming_on tokens.new.pulled (F.feeds feeds.new) feed) × IfOk result (λ filled. filled.tokens ≡ count)) link.now.to }
-    ensures filled { IfOk result (λ filled. AtPort link.now (λ that j q. IsFilled tokens.old.kind j q capacity filled.rest (map A.cell cells.new)
+    ensures filled { IfOk result (λ filled. AtPort link.now
+        (λ that j q. IsFilled tokens.old.kind j q capacity filled.rest (map A.cell cells.new)
         (coming_on tokens.new.pulled (F.feeds feeds.new) feed)) link.now.to) }
-    ensures within { AtPort link.now (λ that j q. HasRoomUpTo (map A.cell cells.new) j q capacity) link.now.to }
+    ensures within { AtPort link.now
+        (λ that j q. HasRoomUpTo (map A.cell cells.new) j q capacity) link.now.to }
     ensures failed { OnErr result (ReadFails F.feeds feeds.old feeds.new) }
     ensures kind { tokens.new.kind ≡ tokens.old.kind }
     ensures still_same_feed { EndIsTrue tokens.new ((F.feeds feeds.new).left feed) }

@@ -27,15 +27,18 @@ pub(crate) fn grow_link<A: Firing>(
     limit: u32,
 ) -> u32
     requires working { IsWorking (map A.cell cells.now) links.now capacities.old waited.now }
-    requires rooms { HasRooms (map A.cell cells.now) links.now capacities.old waited.now (map vec_items rooms.old) }
+    requires rooms { HasRooms (map A.cell cells.now) links.now capacities.old waited.now
+        (map vec_items rooms.old) }
     requires queues { CanHold (map A.cell cells.now) limit (slice_get links.now l) }
     requires below { slice_index_or capacities.old l 0 < limit }
     ensures doubled { result ≡ min (2 * slice_index_or capacities.old l 0) limit }
     ensures capacities { capacities.new ≡ slice_set capacities.old l result }
-    ensures states { GrewTo l result (held_of (map A.cell cells.now) links.now capacities.old waited.now)
+    ensures states { GrewTo l result
+        (held_of (map A.cell cells.now) links.now capacities.old waited.now)
         (held_of (map A.cell cells.now) links.now capacities.new waited.now) }
     ensures working { IsWorking (map A.cell cells.now) links.now capacities.new waited.now }
-    ensures rooms { HasRooms (map A.cell cells.now) links.now capacities.new waited.now (map vec_items rooms.new) }
+    ensures rooms { HasRooms (map A.cell cells.now) links.now capacities.new waited.now
+        (map vec_items rooms.new) }
 {
     let capacity = doubled(capacities[l], limit);
     capacities[l] = capacity;

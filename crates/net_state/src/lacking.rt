@@ -43,8 +43,10 @@ fn lacks_on<A: Firing>(cells: &[A], from: &End, room: u32, inst: InstId, action:
     requires there { inst.0 < length cells.now }
     requires action { HasAction (map A.cell cells.now) inst.0 action.0 }
     requires writer { IsWriter (map A.cell cells.now) from.now }
-    ensures yes { result ≡ true → LacksFrom (gives_of (slice_get (map A.cell cells.now) inst.0) action.0) inst.0 room from.now }
-    ensures no { result ≡ false → LacksFrom (gives_of (slice_get (map A.cell cells.now) inst.0) action.0) inst.0 room from.now → ⊥ }
+    ensures yes { result ≡ true → LacksFrom
+        (gives_of (slice_get (map A.cell cells.now) inst.0) action.0) inst.0 room from.now }
+    ensures no { result ≡ false → LacksFrom
+        (gives_of (slice_get (map A.cell cells.now) inst.0) action.0) inst.0 room from.now → ⊥ }
 {
     match *from {
         End::Leaf { inst: writer, port } => {

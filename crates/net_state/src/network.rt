@@ -45,9 +45,17 @@ impl<A: Firing> Model for NetState<A> {
 
     ghost Value = { Held A };
 
-    ghost view = { λ n. record { cells = n.cells.items; links = n.links.items; capacities = n.capacities.items; waited = n.waited.items } };
+    ghost view = { λ n. record {
+      cells = n.cells.items;
+      links = n.links.items;
+      capacities = n.capacities.items;
+      waited = n.waited.items;
+    } };
 
-    ghost invariant = { λ n. IsWorking (map A.cell n.cells.items) n.links.items n.capacities.items n.waited.items × HasRooms (map A.cell n.cells.items) n.links.items n.capacities.items n.waited.items (map vec_items n.rooms.items) };
+    ghost invariant = { λ n. IsWorking
+        (map A.cell n.cells.items) n.links.items n.capacities.items n.waited.items
+        × HasRooms (map A.cell n.cells.items) n.links.items n.capacities.items n.waited.items
+        (map vec_items n.rooms.items) };
 }
 
 impl<A: Firing> NetState<A> {
@@ -134,8 +142,10 @@ impl<A: Firing> NetState<A> {
     pub fn lacking(&self, inst: InstId, action: ActId) -> Option<LinkId>
         requires action { HasAction (map A.cell self.now.cells) inst.0 action.0 }
         requires rest { IsAtRest (seen A.cell self.now) }
-        ensures some { IfSome result (λ link. IsLowestLacking (seen A.cell self.now) inst.0 action.0 link.0) }
-        ensures none { IfNone result ((l : ℕ) → LacksAt (seen A.cell self.now) inst.0 action.0 l → ⊥) }
+        ensures some { IfSome result (λ link. IsLowestLacking
+            (seen A.cell self.now) inst.0 action.0 link.0) }
+        ensures none { IfNone result ((l : ℕ) → LacksAt (seen A.cell self.now) inst.0 action.0 l
+            → ⊥) }
         ensures as_ends { LacksAsEnds (seen A.cell self.now) inst.0 action.0 }
     {
         lowest_lacking(
@@ -152,7 +162,8 @@ impl<A: Firing> NetState<A> {
     /// names it.
     pub fn try_fire(&mut self, inst: InstId, action: ActId) -> Tried
         requires may { MayWork (map A.cell self.old.cells) inst.0 }
-        ensures tries { TriesAt inst.0 action.0 result (seen A.cell self.old) (seen A.cell self.new) }
+        ensures tries { TriesAt inst.0 action.0 result (seen A.cell self.old)
+            (seen A.cell self.new) }
         ensures same_actors { SameActors (map A.cell self.old.cells) (map A.cell self.new.cells) }
         ensures links { self.new.links ≡ self.old.links }
         ensures capacities { self.new.capacities ≡ self.old.capacities }
@@ -165,8 +176,10 @@ impl<A: Firing> NetState<A> {
     /// How many tokens were sent on a link from a cell and haven't arrived.
     pub fn sent(&self, link: LinkId) -> u32
         requires from_cell { IsFromCell (slice_get self.now.links link.0) }
-        ensures count { result ≡ length (carried_on (map A.cell self.now.cells) (slice_get self.now.links link.0)) }
-        ensures states { IsTrueOfUnarrived (seen A.cell self.now) link.0 (λ tokens. result ≡ length tokens) }
+        ensures count { result ≡ length
+            (carried_on (map A.cell self.now.cells) (slice_get self.now.links link.0)) }
+        ensures states { IsTrueOfUnarrived (seen A.cell self.now) link.0
+            (λ tokens. result ≡ length tokens) }
     {
         sent_along(&self.cells, &self.links[link.0 as usize])
     }
@@ -174,9 +187,12 @@ impl<A: Firing> NetState<A> {
     /// The token at place `k` of these, counted from 0, as the link's reader stores it.
     pub fn sent_at(&self, link: LinkId, k: u32) -> Num
         requires from_cell { IsFromCell (slice_get self.now.links link.0) }
-        requires among { k < length (carried_on (map A.cell self.now.cells) (slice_get self.now.links link.0)) }
-        ensures token { slice_get (carried_on (map A.cell self.now.cells) (slice_get self.now.links link.0)) k ≡ Some result }
-        ensures states { IsTrueOfUnarrived (seen A.cell self.now) link.0 (λ tokens. slice_get tokens k ≡ Some result) }
+        requires among { k < length (carried_on (map A.cell self.now.cells)
+            (slice_get self.now.links link.0)) }
+        ensures token { slice_get (carried_on (map A.cell self.now.cells)
+            (slice_get self.now.links link.0)) k ≡ Some result }
+        ensures states { IsTrueOfUnarrived (seen A.cell self.now) link.0
+            (λ tokens. slice_get tokens k ≡ Some result) }
     {
         token_along(&self.cells, &self.links[link.0 as usize], k)
     }
@@ -199,10 +215,14 @@ impl<A: Firing> NetState<A> {
         requires input { IsInputLink (slice_get self.old.links link.0) }
         requires open { (F.feeds feeds.old).is_open feed ≡ true }
         requires same_feed { EndIsTrue tokens.old ((F.feeds feeds.old).left feed) }
-        ensures fills { Fills link.0 (inflow tokens.old (F.feeds feeds.old) feed) (inflow tokens.new (F.feeds feeds.new) feed)
+        ensures fills { Fills link.0 (inflow tokens.old (F.feeds feeds.old) feed)
+            (inflow tokens.new (F.feeds feeds.new) feed)
             (λ count. IfOk result (λ filled. filled.tokens ≡ count)) (seen A.cell self.old) (seen A.cell self.new) }
-        ensures filled { IfOk result (λ filled. IsFull link.0 filled.rest (seen A.cell self.new) (inflow tokens.new (F.feeds feeds.new) feed)) }
-        ensures arrivals { IfOk result (λ filled. AreArrivals link.0 filled.tokens (seen A.cell self.old) (inflow tokens.old (F.feeds feeds.old) feed)) }
+        ensures filled { IfOk result (λ filled. IsFull link.0 filled.rest (seen A.cell self.new)
+            (inflow tokens.new (F.feeds feeds.new) feed)) }
+        ensures arrivals { IfOk result
+            (λ filled. AreArrivals link.0 filled.tokens (seen A.cell self.old)
+            (inflow tokens.old (F.feeds feeds.old) feed)) }
 
         ensures rests { IsAtRest (seen A.cell self.old) → IsAtRest (seen A.cell self.new) }
 
@@ -231,7 +251,8 @@ impl<A: Firing> NetState<A> {
     /// Lets a link grow: its present capacity is doubled, at most up to the limit, and the rooms are fixed anew.
     /// Gives the new capacity. The link's queues can hold as many tokens as the limit says.
     pub fn grow(&mut self, link: LinkId, limit: u32) -> u32
-        requires queues { CanHold (map A.cell self.old.cells) limit (slice_get self.old.links link.0) }
+        requires queues { CanHold (map A.cell self.old.cells) limit
+            (slice_get self.old.links link.0) }
         requires below { slice_index_or self.old.capacities link.0 0 < limit }
         ensures doubled { result ≡ min (2 * slice_index_or self.old.capacities link.0 0) limit }
         ensures capacities { self.new.capacities ≡ slice_set self.old.capacities link.0 result }

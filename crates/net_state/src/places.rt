@@ -39,7 +39,8 @@ pub(crate) fn store_at<A: Firing>(
     requires size { IsSize kind }
     requires there { inst.0 < length cells.old }
     requires room { HasRoomBefore (map A.cell cells.old) inst.0 port 1 }
-    ensures { EachGains (only_to inst.0 port (conv kind token ∷ [])) (map A.cell cells.old) (map A.cell cells.new) }
+    ensures { EachGains (only_to inst.0 port (conv kind token ∷ [])) (map A.cell cells.old)
+        (map A.cell cells.new) }
 {
     cells[inst.0 as usize].accept(port, conv(kind, token));
 }

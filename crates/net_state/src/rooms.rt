@@ -11,8 +11,10 @@ use net_model::{End, Link};
 pub(crate) fn fix_rooms(table: &mut [Vec<u32>], links: &[Link], capacities: &[u32], waited: &[u32])
     requires each_holds { length capacities.now ≡ length links.now }
     requires each_waited { length waited.now ≡ length links.now }
-    requires fits { (l : ℕ) → l < length links.now → slice_index_or waited.now l 0 ≤ slice_index_or capacities.now l 0 }
-    requires places { (l : ℕ) (link : Link) → slice_get links.now l ≡ Some link → HasPlace (map vec_items table.old) link.from }
+    requires fits { (l : ℕ) → l < length links.now
+        → slice_index_or waited.now l 0 ≤ slice_index_or capacities.now l 0 }
+    requires places { (l : ℕ) (link : Link) → slice_get links.now l ≡ Some link
+        → HasPlace (map vec_items table.old) link.from }
     ensures shape { HasShapeOf (map vec_items table.old) (map vec_items table.new) }
     ensures rooms { IsRoomTable links.now capacities.now waited.now (map vec_items table.new) }
 {
@@ -54,7 +56,8 @@ fn narrow(table: &mut [Vec<u32>], from: &End, room: u32)
 /// Lets a port of a row have at most this room.
 fn narrow_row(row: &mut Vec<u32>, port: usize, room: u32)
     requires { port < vec_len row.old }
-    ensures { row.new.items ≡ slice_set row.old.items port (min room (slice_index_or row.old.items port 0)) }
+    ensures { row.new.items ≡ slice_set row.old.items port
+        (min room (slice_index_or row.old.items port 0)) }
 {
     row[port] = room.min(row[port]);
 }

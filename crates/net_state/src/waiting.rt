@@ -11,7 +11,8 @@ use net_model::{End, Firing, Link};
 /// Counts for each link how many tokens wait at its reading end.
 pub(crate) fn count_waiting<A: Firing>(cells: &[A], links: &[Link], waited: &mut [u32])
     requires as_many { length waited.old ≡ length links.now }
-    requires readers { (l : ℕ) (link : Link) → slice_get links.now l ≡ Some link → IsReader (map A.cell cells.now) link.to }
+    requires readers { (l : ℕ) (link : Link) → slice_get links.now l ≡ Some link
+        → IsReader (map A.cell cells.now) link.to }
     ensures { AreCounted (map A.cell cells.now) links.now waited.new }
 {
     for l in 0..links.len() {

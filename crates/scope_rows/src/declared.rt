@@ -52,11 +52,7 @@ const FILES: &[(&str, (&str, Role), &str)] = &[
         "In",
     ),
     // of a unit the class stands before the name
-    (
-        "unit U : int k = 1 ; end",
-        ("k", Role::Variable),
-        "lib.U.k",
-    ),
+    ("unit U : int k = 1 ; end", ("k", Role::Variable), "lib.U.k"),
     (
         "unit U : int k = 1 ; int k = 2 ; end",
         ("k", Role::Variable),

@@ -20,10 +20,7 @@ const EXPRESSIONS: &[(&str, &str)] = &[
     ("p(1)", "S5 at 0"),
     ("1 + p", "S5 at 4"),
     // inner names hide outer ones, and a generator doesn't see itself
-    (
-        "[k : for int k in 1 .. 2]",
-        "[ k : for int k in 1 .. 2 ]",
-    ),
+    ("[k : for int k in 1 .. 2]", "[ k : for int k in 1 .. 2 ]"),
     (
         "[k : for int k in 1 .. k]",
         "[ k : for int k in 1 .. lib.U.k ]",
@@ -32,10 +29,7 @@ const EXPRESSIONS: &[(&str, &str)] = &[
         "[k : for int k in 1 .. 2, for int i in k .. n]",
         "[ k : for int k in 1 .. 2 , for int i in k .. n ]",
     ),
-    (
-        "[1 : for int i in k .. j, for int j in 1 .. 2]",
-        "S1 at 23",
-    ),
+    ("[1 : for int i in k .. j, for int j in 1 .. 2]", "S1 at 23"),
     ("[j : for int i in 1 .. 2]", "S1 at 1"),
     ("[i : for int i in 1 .. i]", "S1 at 23"),
     ("[g(1) : for int g in 1 .. 2]", "S5 at 1"),

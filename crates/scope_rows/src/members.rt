@@ -25,18 +25,12 @@ const FUNCTIONS: &[(&str, &str)] = &[
         "function h ( int x ) --> int var int k = k + x : k end",
         "function h ( int x ) --> int var int k = lib.U.k + x : k end",
     ),
-    (
-        "function h ( int x , int x ) --> int : x end",
-        "S2 at 21",
-    ),
+    ("function h ( int x , int x ) --> int : x end", "S2 at 21"),
     (
         "function h ( int x ) --> int var int x = 1 : x end",
         "S2 at 33",
     ),
-    (
-        "function h ( int f ) --> int : f ( f ) end",
-        "S5 at 31",
-    ),
+    ("function h ( int f ) --> int : f ( f ) end", "S5 at 31"),
     (
         "procedure q ( int x ) begin n := g ( x ) ; p ( k ) ; end",
         "procedure q ( int x ) begin n := lib.U.g ( x ) ; p ( lib.U.k ) ; end",
@@ -89,10 +83,7 @@ const ACTIONS: &[(&str, &str)] = &[
         "a . b : action ==> guard lib.U.k = n var int k = lib.U.k do n := k ; end",
     ),
     ("action In : [ a , a ] ==> end", "S2 at 18"),
-    (
-        "action In : [ a ] ==> var int a = 1 end",
-        "S2 at 26",
-    ),
+    ("action In : [ a ] ==> var int a = 1 end", "S2 at 26"),
     ("action Out : [ a ] ==> end", "S5 at 7"),
     ("action Im : [ a ] ==> end", "S1 at 7"),
     ("action ==> In : [ 1 ] end", "S5 at 11"),

@@ -88,7 +88,12 @@ fn variable_of(file: &File) -> Option<&VarDecl> {
 }
 
 /// A variable with its start or its type resolved.
-fn resolved(a: Global, names: &FileNames, asked: Asked, v: &VarDecl) -> Result<VarDecl, ScopeFault> {
+fn resolved(
+    a: Global,
+    names: &FileNames,
+    asked: Asked,
+    v: &VarDecl,
+) -> Result<VarDecl, ScopeFault> {
     let mut copied = v.copy(a)?;
     match asked {
         Asked::Expression => {

@@ -59,7 +59,7 @@ lower_all-lower_stmt-requires t c =
 pub lower_all-returns-in_err-lower_stmt-clause-fault : goal.lower_all-returns-in_err-lower_stmt-clause-fault
 lower_all-returns-in_err-lower_stmt-clause-fault t c =
     let made : IsFaultAmong c.args.names.now (body_of c.args.body.now) c.lower_stmt.new.draft c.in_err-lower_stmt.field-0.0 =
-        fault_among stmt_tree (names_view c.args.names.now) c.args.body.now c.s-item.result c.loop-s.s-index c.lower_stmt.new.draft c.in_err-lower_stmt.field-0.0
-        c.loop-s-test.true c.s-item.is c.loop-s.invariant.whole c.in_err-lower_stmt.ensures.fault in
+    fault_among stmt_tree (names_view c.args.names.now) c.args.body.now c.s-item.result c.loop-s.s-index c.lower_stmt.new.draft c.in_err-lower_stmt.field-0.0
+    c.loop-s-test.true c.s-item.is c.loop-s.invariant.whole c.in_err-lower_stmt.ensures.fault in
     let same : c.from_residual.result ≡ Err c.in_err-lower_stmt.field-0.0 = search rules in
     subst (λ r. IfErr r (IsFaultAmong c.args.names.now (body_of c.args.body.now) c.lower_stmt.new.draft)) (sym same) made
