@@ -69,7 +69,7 @@ pub(crate) fn printed(alloc: Global, file: &File) -> Result<String, Fail> {
 pub(crate) fn fault_shown(alloc: Global, fault: ScopeFault, before: &str) -> Result<String, Fail> {
     match fault {
         ScopeFault::Broken { rule, at } => {
-            let place = at.saturating_sub(before.len() as u32);
+            let place = (at as usize).saturating_sub(before.len());
             Ok(format!(in alloc; "{rule} at {place}")?)
         }
         ScopeFault::Memory => Ok(String::from_str(alloc, "Memory")?),
