@@ -127,12 +127,17 @@ fn answer(a: Global, names: &FileNames, text: &str) -> Result<String, Fail> {
     }
 }
 
+/// What is wanted, as the file prints.
+fn wanted(a: Global, want: &str) -> Result<String, Fail> {
+    Ok(format!(in a; "{BEFORE}{want} end ")?)
+}
+
 /// Stops at the first row whose answer is another.
 fn hold(rt: &impl Abort, a: Global, rows: &[(&str, &str)]) -> Result<(), Fail> {
     let names = names_of(a)?;
     for &(text, want) in rows {
         let found = answer(a, &names, text)?;
-        let whole = format!(in a; "{BEFORE}{want} end ")?;
+        let whole = wanted(a, want)?;
         let holds = found.as_str() == want || found.as_str() == whole.as_str();
         assert!(rt; holds, "{text} gives {found}");
     }
