@@ -85,7 +85,7 @@ Links old new start exits out jump end = (before test first other : List Instr) 
     → old ≡ before ++ (test ++ (first ++ i ∷ other)) → start ≡ length before → exits ≡ start + length test → jump ≡ exits + length first
     → new ≡ before ++ (map (aimed out) test ++ (first ++ op.Jump end ∷ other))
 
-length_join : (old mid a : List Instr) → mid ≡ old ++ a → length mid ≡ length old + length a
+pub length_join : (old mid a : List Instr) → mid ≡ old ++ a → length mid ≡ length old + length a
 length_join old mid a e = ap length e ∙ length-append old a
 
 pub if_adds : (names : List Name) (test first other : Tree) (at : ℕ) (old d1 d2 d3 d4 new : Draft) (i : Instr) (start exits out jump end : ℕ)

@@ -1,11 +1,11 @@
 -- Code that fits, with an answer behind it, is admitted.
-use Rattle.std.proofs.Common.{◌≡◌, ℕ, zero, suc, ◌+◌, ◌-◌, ◌<◌, ◌≤◌, ◌⊎◌, inl, inr, ⊎_elim, List, [], ◌∷◌, ◌++◌, length, Bool, true, false, refl, sym, ap, ◌∙◌, subst, Option, None, Some, arith, length-append}
+use Rattle.std.proofs.Common.{◌≡◌, ℕ, zero, suc, ◌+◌, ◌-◌, ◌<◌, ◌≤◌, ◌⊎◌, inl, inr, ⊎_elim, List, [], ◌∷◌, ◌++◌, length, true, false, refl, sym, ap, ◌∙◌, subst, Some, arith, length-append}
 use Rattle.std.specs.Prelude.{slice_get, ◌==◌, ◌||◌, if◌then◌else◌}
 use Rattle.std.proofs.lemmas.Bool.Decides.{nat_tests}
 use Rattle.code_ir.specs.declared.instr.Instr.{Instr}
 use Rattle.code_ir.specs.declared.instr.Instr.TheVariants as op
-use Rattle.code_ir.specs.Code.{Code, begins, is_among, body_of, routine_of}
-use Rattle.code_ir.specs.Typing.{Way, begin, next, jump, pops, pushes, goes_on, target, IsAdmitted, IsTyped, FitsAlone, HasOneHeight, IsTarget, JumpsInside, StandsInBody, LeavesResults, CallsSmaller, NamesCells, HasSizes, AllSized}
+use Rattle.code_ir.specs.Code.{Code, is_among, body_of, routine_of}
+use Rattle.code_ir.specs.Typing.{Way, begin, next, jump, pops, pushes, goes_on, target, IsAdmitted, IsTyped, IsTarget, JumpsInside, StandsInBody, LeavesResults, HasSizes, AllSized}
 use Rattle.expr_lower.specs.Fitting.{IsInner, FitsAt, Fits, guard_of}
 use Rattle.expr_lower.proofs.Fitted.{get_append}
 
@@ -83,21 +83,21 @@ module _ (instrs : List Instr) (cells : ℕ) (fits : Fits (guard_of instrs cells
   zero_body p = refl
 
   jumps_inside : (p : ℕ) (i : Instr) → p < length instrs → FitsAt (guard_of instrs cells) 0 cells 0 (length instrs) (length instrs) fits.height p i → JumpsInside (guard_of instrs cells) p i
-  jumps_inside p (op.Jump t) less f = jump_inside t (f.inside t refl).0 (f.inside t refl).1
+  jumps_inside p (op.Jump t) less f = jump_inside t (f.inside t refl).0 (f.inside t refl).2
     where
-      jump_inside : (t : ℕ) → p < t → (t ≤ length instrs) ⊎ (t ≡ length instrs) → IsTarget (guard_of instrs cells) p t
+      jump_inside : (t : ℕ) → (p < t) ⊎ (slice_get (guard_of instrs cells).instrs t ≡ Some op.Turn) → (t ≤ length instrs) ⊎ (t ≡ length instrs) → IsTarget (guard_of instrs cells) p t
       jump_inside t more within = record {
         inside = ⊎_elim (λ (w : t ≤ length instrs). omega (arith, size)) (λ (w : t ≡ length instrs). omega (arith, size)) within;
         same_body = one_body instrs cells t ∙ sym (one_body instrs cells p);
-        turns = λ le. absurd (omega arith);
+        turns = λ le. ⊎_elim (λ (w : p < t). absurd (omega (arith, le, w))) (λ (w : slice_get (guard_of instrs cells).instrs t ≡ Some op.Turn). w) more;
       }
-  jumps_inside p (op.JumpIfNot t) less f = jump_inside t (f.inside t refl).0 (f.inside t refl).1
+  jumps_inside p (op.JumpIfNot t) less f = jump_inside t (f.inside t refl).0 (f.inside t refl).2
     where
-      jump_inside : (t : ℕ) → p < t → (t ≤ length instrs) ⊎ (t ≡ length instrs) → IsTarget (guard_of instrs cells) p t
+      jump_inside : (t : ℕ) → (p < t) ⊎ (slice_get (guard_of instrs cells).instrs t ≡ Some op.Turn) → (t ≤ length instrs) ⊎ (t ≡ length instrs) → IsTarget (guard_of instrs cells) p t
       jump_inside t more within = record {
         inside = ⊎_elim (λ (w : t ≤ length instrs). omega (arith, size)) (λ (w : t ≡ length instrs). omega (arith, size)) within;
         same_body = one_body instrs cells t ∙ sym (one_body instrs cells p);
-        turns = λ le. absurd (omega arith);
+        turns = λ le. ⊎_elim (λ (w : p < t). absurd (omega (arith, le, w))) (λ (w : slice_get (guard_of instrs cells).instrs t ≡ Some op.Turn). w) more;
       }
   jumps_inside p i less f = tt
 

@@ -3,14 +3,13 @@ use Rattle.std.proofs.Common.{◌≡◌, ℕ, zero, suc, ◌+◌, ◌*◌, ◌�
 use Rattle.std.specs.Prelude.{if◌then◌else◌, slice_get, neg_ℤ, nat_le}
 use Rattle.std.proofs.lemmas.Option.{slice_get_within, get_or_from_slice_get}
 use Rattle.std.proofs.lemmas.Bool.Decides.{nat_tests}
-use Rattle.rvc_base.specs.declared.scalar.Scalar.TheVariants as scalar
 use Rattle.rvc_base.specs.declared.trap.Trap.TheVariants.{Overflow}
 use Rattle.rvc_base.specs.Arithmetic as arithmetic
 use Rattle.rvc_base.specs.Width.{is_num, greatest_num}
 use Rattle.cal_ast.specs.declared.expr.PrefixOp.TheVariants as prefixes
 use Rattle.cal_ast.specs.Tree as tree
 use Rattle.cal_ast.specs.Tree.{Tree}
-use Rattle.cal_model.specs.Value.{Shape, Single, Many, Value, Num, Truth, Items, HasKind, kind_of_type}
+use Rattle.cal_model.specs.Value.{Value, Num, Truth}
 use Rattle.cal_model.specs.Outcome.{Out, Gives, Traps, Lacks, Clashes, and_then, known}
 use Rattle.cal_model.specs.Env.{Env}
 use Rattle.cal_model.specs.Expression.{eval, computed, prefixed}
@@ -23,7 +22,6 @@ use Rattle.code_ir.specs.Running.{State, Goes, step, Ends, stop, go, here}
 use Rattle.code_ir.proofs.Ends.{one-end}
 use Rattle.expr_lower.specs.declared.names.Seat.{Seat}
 use Rattle.expr_lower.specs.declared.names.Seat.TheVariants.{Cell, Tokens}
-use Rattle.expr_lower.specs.Flat.{flat}
 use Rattle.expr_lower.specs.Names.{Name, IsSingle, named}
 use Rattle.expr_lower.specs.Held.{StandAt, HoldsName, AreBelow}
 use Rattle.expr_lower.specs.Placed.{World, state}

@@ -46,13 +46,13 @@ glued_to f g mid p e h =
 
 -- an instruction still fits where the heights at the places that it leads to stay
 pub fits_like : (code : Code) (callable limit base end out from to far : ℕ) (f g : ℕ → ℕ) (p : ℕ) (i : Instr) → FitsAt code callable limit base end out f p i
-    → g p ≡ f p → (goes_on i ≡ true → g (p + 1) ≡ f (p + 1)) → ((t : ℕ) → p < t → (t ≤ end) ⊎ (t ≡ out) → (g t ≡ f t) × ((t ≤ to) ⊎ (t ≡ far)))
+    → g p ≡ f p → (goes_on i ≡ true → g (p + 1) ≡ f (p + 1)) → ((t : ℕ) → base ≤ t → (t ≤ end) ⊎ (t ≡ out) → (g t ≡ f t) × (from ≤ t) × ((t ≤ to) ⊎ (t ≡ far)))
     → FitsAt code callable limit from to far g p i
 fits_like code callable limit base end out from to far f g p i h here next jump = record {
   enough = subst (λ x. pops i ≤ x) (sym here) h.enough;
   next = λ on. next on ∙ h.next on ∙ ap (λ x. x - pops i + pushes code i) (sym here);
-  jump = λ t e. (jump t (h.inside t e).0 (h.inside t e).1).0 ∙ h.jump t e ∙ ap (λ x. x - pops i + pushes code i) (sym here);
-  inside = λ t e. ((h.inside t e).0, (jump t (h.inside t e).0 (h.inside t e).1).1);
+  jump = λ t e. (jump t (h.inside t e).1 (h.inside t e).2).0 ∙ h.jump t e ∙ ap (λ x. x - pops i + pushes code i) (sym here);
+  inside = λ t e. let in_it = jump t (h.inside t e).1 (h.inside t e).2 in ((h.inside t e).0, in_it.1, in_it.2);
   cells = h.cells;
   calls = h.calls;
   inner = h.inner;
@@ -104,9 +104,10 @@ module _ (code : Code) (callable limit : ℕ) where
           fits_like code callable limit base (base + length a) o base (base + length (a ++ b)) out x.height (glued x.height y.height (base + length a)) (base + j) i (x.at j i g)
           (glued_to x.height y.height (base + length a) (base + j) seam (omega arith))
           (λ on. glued_to x.height y.height (base + length a) (base + j + 1) seam (omega arith))
-          (λ t less into. ⊎_elim (λ (w : t ≤ base + length a). (glued_to x.height y.height (base + length a) t seam w, inl (omega (arith, size))))
+          (λ t less into. ⊎_elim (λ (w : t ≤ base + length a). (glued_to x.height y.height (base + length a) t seam w, less, inl (omega (arith, size))))
           (λ (w : t ≡ o). (
             glued_from x.height y.height (base + length a) t (omega arith) ∙ ap y.height w ∙ at_o ∙ sym x.exit ∙ ap x.height (sym w),
+            less,
             ⊎_elim (λ (v : o ≤ base + length a + length b). inl (omega (arith, size))) (λ (v : o ≡ out). inr (w ∙ v)) inside,
           )) into)
 
@@ -117,7 +118,7 @@ module _ (code : Code) (callable limit : ℕ) where
           (fits_like code callable limit (base + length a) (base + length a + length b) out base (base + length (a ++ b)) out y.height (glued x.height y.height (base + length a)) (base + length a + q) i (y.at q i g)
           (glued_from x.height y.height (base + length a) (base + length a + q) (omega arith))
           (λ on. glued_from x.height y.height (base + length a) (base + length a + q + 1) (omega arith))
-          (λ t less into. (glued_from x.height y.height (base + length a) t (omega arith), ⊎_elim (λ (w : t ≤ base + length a + length b). inl (omega (arith, size))) (λ (w : t ≡ out). inr w) into)))
+          (λ t less into. (glued_from x.height y.height (base + length a) t (omega (arith, less)), omega (arith, less), ⊎_elim (λ (w : t ≤ base + length a + length b). inl (omega (arith, size))) (λ (w : t ≡ out). inr w) into)))
 
   -- parts that don't jump out
   abbrev pub Plain : ℕ → ℕ → List Instr → ℕ → Type 0
@@ -175,7 +176,7 @@ module _ (code : Code) (callable limit : ℕ) where
             enough = omega arith;
             next = λ on. let after : glued (λ p. h + 1) (λ p. h) (base + 1) (base + 0 + 1) ≡ h = glued_from (λ p. h + 1) (λ p. h) (base + 1) (base + 0 + 1) (omega arith) in omega (arith, after, here);
             jump = λ t e. let same : out ≡ t = cc in let at : glued (λ p. h + 1) (λ p. h) (base + 1) t ≡ h = glued_from (λ p. h + 1) (λ p. h) (base + 1) t (omega arith) in omega (arith, at, here);
-            inside = λ t e. let same : out ≡ t = cc in (omega arith, inr (sym same));
+            inside = λ t e. let same : out ≡ t = cc in (inl (omega arith), omega arith, inr (sym same));
             cells = tt;
             calls = tt;
             inner = tt;
@@ -214,7 +215,7 @@ module _ (code : Code) (callable limit : ℕ) where
             enough = omega arith;
             next = λ on. cc;
             jump = λ t f. let at : t ≡ base + 1 + length c = cc in let h = far t at in omega (arith, h, here);
-            inside = λ t f. let at : t ≡ base + 1 + length c = cc in (omega arith, inl (omega arith));
+            inside = λ t f. let at : t ≡ base + 1 + length c = cc in (inl (omega arith), omega arith, inl (omega arith));
             cells = tt;
             calls = tt;
             inner = tt;
@@ -226,7 +227,7 @@ module _ (code : Code) (callable limit : ℕ) where
           (fits_like code callable limit (base + 1) (base + 1 + length c) (base + 1 + length c) base (base + length (op.Jump end ∷ c)) (base + length (op.Jump end ∷ c)) x.height (glued (λ p. k) x.height (base + 1)) (base + 1 + j) i (x.at j i g)
           (glued_from (λ p. k) x.height (base + 1) (base + 1 + j) (omega arith))
           (λ on. glued_from (λ p. k) x.height (base + 1) (base + 1 + j + 1) (omega arith))
-          (λ t less into. (glued_from (λ p. k) x.height (base + 1) t (omega arith), ⊎_elim (λ (w : t ≤ base + 1 + length c). inl (omega arith)) (λ (w : t ≡ base + 1 + length c). inl (omega arith)) into)))
+          (λ t less into. (glued_from (λ p. k) x.height (base + 1) t (omega (arith, less)), omega (arith, less), ⊎_elim (λ (w : t ≤ base + 1 + length c). inl (omega arith)) (λ (w : t ≡ base + 1 + length c). inl (omega arith)) into)))
 
   -- ---- forms
 
@@ -289,24 +290,24 @@ module _ (code : Code) (callable limit : ℕ) where
   single_below n (Many k items) seat s h le = absurd s
 
   -- a condition, a part that goes on where it is true, and a part to which it jumps where it is false
-  branch : (h base out place : ℕ) (a b c : List Instr) (x : Fit base h a h out h) (y : Plain (base + length a) h b (h + 1)) (z : Plain (base + length a + length b) (h + 1) c (h + 1))
+  pub branch : (h k base out : ℕ) (a b c : List Instr) (x : Fit base h a h out h) (y : Plain (base + length a) h b k) (z : Plain (base + length a + length b) k c k)
       → base + length a + length b ≤ out → out ≤ base + length a + length b + length c → z.height out ≡ h
-      → Plain base h (a ++ (b ++ c)) (h + 1)
-  branch h base out place a b c x y z ge le at_out =
+      → Plain base h (a ++ (b ++ c)) k
+  branch h k base out a b c x y z ge le at_out =
       let size : length (b ++ c) ≡ length b + length c = length-append b c in
       let all : length (a ++ (b ++ c)) ≡ length a + length (b ++ c) = length-append a (b ++ c) in
       let end : ℕ = base + length a + length b + length c in
-      let rest = fits_then (base + length a) h (h + 1) (h + 1) (base + length a + length b) (h + 1) end (h + 1) b c y z (omega arith) z.first (inl (omega arith)) (omega arith) in
+      let rest = fits_then (base + length a) h k k (base + length a + length b) k end k b c y z (omega arith) z.first (inl (omega arith)) (omega arith) in
       let at_rest : rest.0.height out ≡ h = rest.1 out ge ∙ at_out in
-      let done = fits_then base h h (h + 1) out h end (h + 1) a (b ++ c) x rest.0 (omega arith) at_rest (inl (omega (arith, size))) (omega arith) in
+      let done = fits_then base h h k out h end k a (b ++ c) x rest.0 (omega arith) at_rest (inl (omega (arith, size))) (omega arith) in
       let whole : end ≡ base + length (a ++ (b ++ c)) = omega (arith, size, all) in
-      subst (λ o. Fits code callable limit base h (a ++ (b ++ c)) (h + 1) o (h + 1)) whole done.0
+      subst (λ o. Fits code callable limit base h (a ++ (b ++ c)) k o k) whole done.0
 
   -- the same where the first part is one instruction
   short : (h base out : ℕ) (a : List Instr) (i : Instr) (c : List Instr) (x : Fit base h a h out h) (y : Plain (base + length a) h (i ∷ []) (h + 1)) (z : Plain (base + length a + 1) (h + 1) c (h + 1))
       → base + length a + 1 ≤ out → out ≤ base + length a + 1 + length c → z.height out ≡ h
       → Plain base h (a ++ (i ∷ c)) (h + 1)
-  short h base out a i c x y z ge le at_out = branch h base out out a (i ∷ []) c x y z ge le at_out
+  short h base out a i c x y z ge le at_out = branch h (h + 1) base out a (i ∷ []) c x y z ge le at_out
 
   module _ (names : List Name) where
     mutual
@@ -330,7 +331,7 @@ module _ (code : Code) (callable limit : ℕ) where
           let x = grows_test g in let y = grows d in
           let at_tail : base + length a + length b + 1 ≡ far = sym e in
           let tail = fits_jump (base + length a + length b) h (h + 1) end (op.Const (pos 0) ∷ []) (fits_const (base + length a + length b + 1) h (pos 0)) (omega arith) in
-          branch h base far far a b (op.Jump end ∷ op.Const (pos 0) ∷ []) (fits_test h below (omega (arith, x, y)) (omega arith) g) (fits h (below_more n k names x below) le d) tail.0
+          branch h (h + 1) base far a b (op.Jump end ∷ op.Const (pos 0) ∷ []) (fits_test h below (omega (arith, x, y)) (omega arith) g) (fits h (below_more n k names x below) le d) tail.0
           (omega arith) (omega arith) (tail.1 far (omega arith) ∙ ap (fits_const (base + length a + length b + 1) h (pos 0)).height e ∙ (fits_const (base + length a + length b + 1) h (pos 0)).first)
       fits h below le (either l r at base n k m right end a b t g d e f) =
           let x = grows_test g in let y = grows d in
@@ -344,7 +345,7 @@ module _ (code : Code) (callable limit : ℕ) where
           let wide : n ≤ j = omega (arith, x, y) in
           let third : Plain (base + length a + length b + 1) h c (h + 1) = subst (λ p. Plain p h c (h + 1)) e (fits h (below_more n j names wide below) le q) in
           let tail = fits_jump (base + length a + length b) h (h + 1) end c third (omega arith) in
-          branch h base else_at else_at a b (op.Jump end ∷ c) (fits_test h below (omega (arith, x, y, z)) (omega arith) g) (fits h (below_more n k names x below) (omega (arith, z)) d) tail.0
+          branch h (h + 1) base else_at a b (op.Jump end ∷ c) (fits_test h below (omega (arith, x, y, z)) (omega arith) g) (fits h (below_more n k names x below) (omega (arith, z)) d) tail.0
           (omega arith) (omega arith) (tail.1 else_at (omega arith) ∙ ap third.height e ∙ third.first)
 
       pub fits_test : {e : Tree} {base n far m : ℕ} {instrs : List Instr} (h : ℕ) → AreBelow n names → m ≤ limit → base + length instrs ≤ far → IsTest names e base n far instrs m → Fits code callable limit base h instrs h far h

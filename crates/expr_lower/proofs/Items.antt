@@ -1,5 +1,5 @@
 -- The code of an item of a list does what evaluating it does.
-use Rattle.std.proofs.Common.{◌≡◌, ℕ, zero, suc, ◌+◌, ◌*◌, ◌<◌, ◌≤◌, ℤ, pos, negsuc, List, [], ◌∷◌, ◌++◌, length, Bool, true, false, refl, sym, ap, ◌∙◌, subst, Option, None, Some, arith, length-append}
+use Rattle.std.proofs.Common.{◌≡◌, ℕ, ◌+◌, ◌*◌, ◌<◌, ◌≤◌, ℤ, pos, negsuc, List, [], ◌∷◌, ◌++◌, length, true, false, refl, sym, ap, ◌∙◌, subst, Option, None, Some, arith, length-append}
 use Rattle.std.specs.Prelude.{if◌then◌else◌, slice_get, nat_le}
 use Rattle.std.proofs.lemmas.Option.{slice_get_within, get_or_from_slice_get}
 use Rattle.std.proofs.lemmas.Bool.Decides.{nat_tests}
@@ -7,12 +7,12 @@ use Rattle.rvc_base.specs.declared.trap.Trap.TheVariants.{IndexRange}
 use Rattle.cal_ast.specs.Tree as tree
 use Rattle.cal_ast.specs.Tree.{Tree}
 use Rattle.cal_model.specs.Value.{Value, Num, Truth, Items, Values, count, value_at, HaveKind, kind_of_scalar}
-use Rattle.cal_model.specs.Outcome.{Out, Gives, Traps, Clashes, and_then}
+use Rattle.cal_model.specs.Outcome.{Out, Gives, Traps, and_then}
 use Rattle.cal_model.specs.Env.{Env}
 use Rattle.cal_model.specs.Expression.{eval, indexed}
 use Rattle.code_ir.specs.declared.instr.Instr.{Instr}
 use Rattle.code_ir.specs.declared.instr.Instr.TheVariants as op
-use Rattle.code_ir.specs.Effect.{Effect, Leaves, Fails, Breaks, effect, cell, with_cells, push_token}
+use Rattle.code_ir.specs.Effect.{Leaves, Fails, Breaks, effect, cell, push_token}
 use Rattle.code_ir.specs.Running.{State}
 use Rattle.expr_lower.specs.declared.names.ItemList.{ItemList}
 use Rattle.expr_lower.specs.declared.names.Seat.{Seat}
@@ -20,13 +20,13 @@ use Rattle.expr_lower.specs.declared.names.Seat.TheVariants.{Cell, Tokens}
 use Rattle.expr_lower.specs.Flat.{flat, flat_all}
 use Rattle.expr_lower.specs.Names.{Name}
 use Rattle.expr_lower.specs.Listed.{list_named}
-use Rattle.expr_lower.specs.Held.{StandAt, Holds}
-use Rattle.expr_lower.specs.Placed.{StandsAt, World, state}
+use Rattle.expr_lower.specs.Held.{StandAt}
+use Rattle.expr_lower.specs.Placed.{World, state}
 use Rattle.expr_lower.specs.Following.{Follows, Pushes, CutsOff}
 use Rattle.expr_lower.specs.Coding.{item_instr}
 use Rattle.expr_lower.proofs.Runs.{follows_then, stands_left, stands_right}
 use Rattle.expr_lower.proofs.Keeping.{holds_still}
-use Rattle.expr_lower.proofs.Effects.{Left, Acts, same_number}
+use Rattle.expr_lower.proofs.Effects.{Acts, same_number}
 use Rattle.expr_lower.proofs.Doing.{IsStraight, Does, acts_after, at_end}
 use Rattle.expr_lower.proofs.Listing.{IsList, named_list, item_flat, item_within, item_past}
 

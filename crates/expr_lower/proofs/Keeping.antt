@@ -56,7 +56,7 @@ scalars_same (Many n items) = ap (λ m. n * m) (scalars_same items)
 
 -- ---- what is held
 
-seat_stands : (seat : Seat) (n m low high : ℕ) (tokens : ℕ → List ℤ) (before after zs : List ℤ) → Keeps n m low high before after → SeatIsBelow n (length zs) seat → SeatIsApart low high (length zs) seat → StandAt seat tokens before zs → StandAt seat tokens after zs
+pub seat_stands : (seat : Seat) (n m low high : ℕ) (tokens : ℕ → List ℤ) (before after zs : List ℤ) → Keeps n m low high before after → SeatIsBelow n (length zs) seat → SeatIsApart low high (length zs) seat → StandAt seat tokens before zs → StandAt seat tokens after zs
 seat_stands (Cell c) n m low high tokens before after zs keeps below apart stands k z e =
     let within = slice_get_within zs k z e in
     keeps.cell (c + k) (inl (omega (arith, within, below))) (⊎_elim (λ (a : c + length zs ≤ low). inl (omega (arith, within))) (λ (a : high ≤ c). inr (omega arith)) apart) ∙ stands k z e

@@ -15,3 +15,15 @@ pub mod Literals
 pub mod Weights
 pub mod Back
 pub mod Admits
+pub mod Assigning
+pub mod Fewer
+pub mod Singles
+pub mod Scoping
+pub mod Storing
+pub mod Performing
+pub mod Setting
+pub mod Executed
+pub mod FittedStmts
+pub mod AddingStmts
+pub mod StmtForms
+pub mod StmtRows

@@ -1,17 +1,16 @@
 -- What the name of a list of single values means.
-use Rattle.std.proofs.Common.{◌≡◌, ℕ, zero, suc, ◌+◌, ◌<◌, ◌≤◌, ℤ, pos, negsuc, List, [], ◌∷◌, ◌++◌, length, Bool, true, false, refl, sym, ap, ◌∙◌, subst, Option, None, Some, arith}
+use Rattle.std.proofs.Common.{◌≡◌, ℕ, zero, suc, ◌<◌, ◌≤◌, ℤ, List, [], ◌∷◌, ◌++◌, refl, sym, ap, ◌∙◌, subst, Option, None, Some, arith}
 use Rattle.std.specs.Prelude.{slice_get}
 use Rattle.rvc_base.specs.declared.scalar.Scalar.{Scalar}
 use Rattle.rvc_base.specs.declared.scalar.Scalar.TheVariants as scalar
 use Rattle.rvc_base.specs.Arithmetic as arithmetic
 use Rattle.cal_ast.specs.Tree as tree
 use Rattle.cal_ast.specs.Tree.{Tree}
-use Rattle.cal_model.specs.Value.{Kind, BoolKind, Shape, Single, Many, Value, Num, Truth, Items, Values, Nil, Cons, count, value_at, HasKind, HaveKind, kind_of_type, kind_of_scalar}
+use Rattle.cal_model.specs.Value.{Kind, Shape, Single, Many, Value, Num, Truth, Items, Values, Nil, Cons, count, value_at, HasKind, HaveKind, kind_of_type, kind_of_scalar}
 use Rattle.cal_model.specs.Outcome.{Out, Gives, known}
-use Rattle.cal_model.specs.Env.{Env, look_up}
+use Rattle.cal_model.specs.Env.{Env}
 use Rattle.cal_model.specs.Expression.{Calls, eval}
 use Rattle.expr_lower.specs.declared.names.ItemList.{ItemList}
-use Rattle.expr_lower.specs.declared.names.Seat.{Seat}
 use Rattle.expr_lower.specs.Flat.{flat, flat_all}
 use Rattle.expr_lower.specs.Names.{Name, IsSingle, named}
 use Rattle.expr_lower.specs.Listed.{list_named, items_in}

@@ -13,12 +13,12 @@ IsInner op.Done = ⊥
 IsInner i = Unit {0}
 
 -- an instruction at a place of a part of code that goes from base to end, where the stack has these heights; it may
--- also jump to `out`
+-- also jump to `out`, and back only to a `Turn`
 pub record FitsAt (code : Code) (callable limit base end out : ℕ) (height : ℕ → ℕ) (p : ℕ) (i : Instr) : Type 0 where
   pub enough : pops i ≤ height p
   pub next : goes_on i ≡ true → height (p + 1) ≡ height p - pops i + pushes code i
   pub jump : (t : ℕ) → target i ≡ Some t → height t ≡ height p - pops i + pushes code i
-  pub inside : (t : ℕ) → target i ≡ Some t → (p < t) × ((t ≤ end) ⊎ (t ≡ out))
+  pub inside : (t : ℕ) → target i ≡ Some t → ((p < t) ⊎ (slice_get code.instrs t ≡ Some op.Turn)) × (base ≤ t) × ((t ≤ end) ⊎ (t ≡ out))
   pub cells : NamesCells limit i
   pub calls : CallsSmaller callable i
   pub inner : IsInner i

@@ -9,3 +9,9 @@ pub mod Lowered
 pub mod Listed
 pub mod Truths
 pub mod Growing
+pub mod Words
+pub mod Changing
+pub mod Stating
+pub mod Executing
+pub mod StmtGrowing
+pub mod StmtWords

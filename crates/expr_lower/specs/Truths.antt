@@ -1,5 +1,5 @@
 -- Expressions that are seen to give truth values.
-use Rattle.std.specs.Prelude.{ℕ, List, Bool, true, false, ◌&&◌, Option, None, Some}
+use Rattle.std.specs.Prelude.{List, Bool, true, false, ◌&&◌, Option, None, Some}
 use Rattle.rvc_base.specs.declared.scalar.Scalar.TheVariants as scalar
 use Rattle.cal_ast.specs.declared.expr.PrefixOp.{PrefixOp}
 use Rattle.cal_ast.specs.declared.expr.PrefixOp.TheVariants as prefixes

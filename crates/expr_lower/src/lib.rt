@@ -1,4 +1,5 @@
-//! Code for expressions: instructions that do what evaluating an expression does.
+//! Code for expressions and statements: instructions that do what evaluating an expression or executing statements
+//! does.
 //!
 //! Code is appended to a [`Draft`]. Names stand for cells or tokens that hold their values, number by number.
 #![tactic(auto)]
@@ -9,9 +10,11 @@ pub mod laws;
 mod lower;
 mod names;
 mod operators;
+mod stmts;
 mod truths;
 
 pub use draft::Draft;
 pub use fault::LowerFault;
 pub use lower::lower_expr;
 pub use names::{Named, Seat};
+pub use stmts::lower_stmts;

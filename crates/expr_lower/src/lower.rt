@@ -1,19 +1,20 @@
 //! Expressions as code: one small function a form.
 
-ghost use Rattle.std.specs.Prelude.{◌≡◌, ◌+◌, ◌<◌, ◌≤◌, ℕ, IfErr, IfOk, IfSome, List, None, OnOk, Some, [], ◌++◌, ◌∷◌, length, map, neg_ℤ, pos, true};
-ghost use Rattle.rvc_base.specs.Width.{greatest_num, is_num};
+ghost use Rattle.std.specs.Prelude.{◌≡◌, ◌+◌, ◌<◌, ◌≤◌, ℕ, List, [], ◌++◌, ◌∷◌, length, map};
+ghost use Rattle.std.specs.Prelude.{IfErr, None, OnOk, Some, pos};
+ghost use Rattle.rvc_base.specs.Width.{greatest_num};
 ghost use Rattle.cal_ast.specs.Tree as tree;
 ghost use Rattle.cal_ast.specs.View.{expr_tree};
-ghost use Rattle.cal_ast.specs.declared.expr.PrefixOp.TheVariants as prefixes;
-ghost use Rattle.cal_ast.specs.declared.expr.BinOp.TheVariants as binaries;
 ghost use Rattle.code_ir.specs.declared.instr.Instr.{Instr};
 ghost use Rattle.code_ir.specs.declared.instr.Instr.TheVariants as op;
 ghost use Rattle.expr_lower.specs.declared.fault.LowerFault.TheVariants.{Memory};
-ghost use Rattle.expr_lower.specs.Coding.{IsCode, IsOpenTest, aimed, binary_instr};
-ghost use Rattle.expr_lower.specs.Growing.{IsFault, left_out, ◌or_else◌};
+ghost use Rattle.expr_lower.specs.Coding.{IsCode, aimed, binary_instr};
+ghost use Rattle.expr_lower.specs.Growing.{IsFault};
 ghost use Rattle.expr_lower.specs.Held.{AreBelow};
-ghost use Rattle.expr_lower.specs.Lowered.{Adds, IsLowered, IsPut};
+ghost use Rattle.expr_lower.specs.Lowered.{Adds, IsPut};
 ghost use Rattle.expr_lower.specs.Names.{Name, names_view};
+ghost use Rattle.expr_lower.specs.Words.{AddsLowered, IsFaultOf, IsWhole, Lowers, Opens};
+ghost use Rattle.expr_lower.specs.Words.{and_of, binary_of, first_left_out, if_of, index_of, or_of};
 
 use crate::draft::{Draft, next_place, put, put_const};
 use crate::fault::LowerFault;
@@ -27,10 +28,10 @@ use rvc_base::Num;
 
 /// Appends code that evaluates an expression and pushes its value.
 #[cycle(lower)]
-fn lower(names: &[Named], e: &Expr, draft: &mut Draft) -> Result<(), LowerFault>
-    ensures ok { OnOk result (Adds (IsCode (names_view names.now) (expr_tree e.now)) draft.old draft.new) }
-    ensures whole { OnOk result (left_out (names_view names.now) (expr_tree e.now) ≡ None) }
-    ensures fault { IfErr result (IsFault (left_out (names_view names.now) (expr_tree e.now)) draft.new) }
+pub(crate) fn lower(names: &[Named], e: &Expr, draft: &mut Draft) -> Result<(), LowerFault>
+    ensures ok { OnOk result (Lowers names.now (expr_tree e.now) draft.old draft.new) }
+    ensures whole { OnOk result (IsWhole names.now (expr_tree e.now)) }
+    ensures fault { IfErr result (IsFaultOf names.now (expr_tree e.now) draft.new) }
 {
     match &e.form {
         ExprForm::Number(value) => number(*value, draft),
@@ -49,7 +50,8 @@ fn lower(names: &[Named], e: &Expr, draft: &mut Draft) -> Result<(), LowerFault>
 
 /// Appends a number as it is written.
 fn number(value: u128, draft: &mut Draft) -> Result<(), LowerFault>
-    ensures ok { (names : List Name) (at : ℕ) → OnOk result (Adds (IsCode names (tree.number value at)) draft.old draft.new) }
+    ensures ok { (names : List Name) (at : ℕ)
+        → OnOk result (Adds (IsCode names (tree.number value at)) draft.old draft.new) }
     ensures memory { IfErr result (λ fault. fault ≡ Memory) }
 {
     match Num::try_from(value) {
@@ -60,7 +62,8 @@ fn number(value: u128, draft: &mut Draft) -> Result<(), LowerFault>
 
 /// Appends a truth value: 0 or 1.
 fn truth(value: bool, draft: &mut Draft) -> Result<(), LowerFault>
-    ensures ok { (names : List Name) (at : ℕ) → OnOk result (Adds (IsCode names (tree.truth value at)) draft.old draft.new) }
+    ensures ok { (names : List Name) (at : ℕ)
+        → OnOk result (Adds (IsCode names (tree.truth value at)) draft.old draft.new) }
     ensures memory { IfErr result (λ fault. fault ≡ Memory) }
 {
     if value {
@@ -73,16 +76,19 @@ fn truth(value: bool, draft: &mut Draft) -> Result<(), LowerFault>
 /// Appends what stands in a pair of parentheses.
 #[cycle(lower)]
 fn paren(names: &[Named], inner: &Expr, draft: &mut Draft) -> Result<(), LowerFault>
-    ensures ok { (at : ℕ) → OnOk result (Adds (IsCode (names_view names.now) (tree.paren (expr_tree inner.now) at)) draft.old draft.new) }
-    ensures whole { OnOk result (left_out (names_view names.now) (expr_tree inner.now) ≡ None) }
-    ensures fault { IfErr result (IsFault (left_out (names_view names.now) (expr_tree inner.now)) draft.new) }
+    ensures ok { (at : ℕ)
+        → OnOk result (Lowers names.now (tree.paren (expr_tree inner.now) at) draft.old draft.new) }
+    ensures whole { OnOk result (IsWhole names.now (expr_tree inner.now)) }
+    ensures fault { IfErr result (IsFaultOf names.now (expr_tree inner.now) draft.new) }
 {
     lower(names, inner, draft)
 }
 
 /// Appends code that traps: a sum that is one greater than the greatest number.
 fn overflow(draft: &mut Draft) -> Result<(), LowerFault>
-    ensures added { OnOk result (IsPut (op.Const greatest_num ∷ op.Const (pos 1) ∷ op.Add ∷ []) draft.old draft.new) }
+    ensures added {
+        OnOk result (IsPut (op.Const greatest_num ∷ op.Const (pos 1) ∷ op.Add ∷ []) draft.old draft.new)
+    }
     ensures memory { IfErr result (λ fault. fault ≡ Memory) }
 {
     put(draft, Instr::Const(Num::MAX))?;
@@ -92,9 +98,9 @@ fn overflow(draft: &mut Draft) -> Result<(), LowerFault>
 
 /// Appends a variable, which must be that of a single value.
 fn variable(names: &[Named], text: &str, at: u32, draft: &mut Draft) -> Result<(), LowerFault>
-    ensures ok { OnOk result (Adds (IsCode (names_view names.now) (tree.variable text.now at)) draft.old draft.new) }
-    ensures whole { OnOk result (left_out (names_view names.now) (tree.variable text.now at) ≡ None) }
-    ensures fault { IfErr result (IsFault (left_out (names_view names.now) (tree.variable text.now at)) draft.new) }
+    ensures ok { OnOk result (Lowers names.now (tree.variable text.now at) draft.old draft.new) }
+    ensures whole { OnOk result (IsWhole names.now (tree.variable text.now at)) }
+    ensures fault { IfErr result (IsFaultOf names.now (tree.variable text.now at) draft.new) }
 {
     let Some(named) = find(names, text) else {
         return Err(LowerFault::NotLowered { at });
@@ -114,9 +120,9 @@ fn item(
     at: u32,
     draft: &mut Draft,
 ) -> Result<(), LowerFault>
-    ensures ok { OnOk result (Adds (IsCode (names_view names.now) (tree.index (expr_tree base.now) (expr_tree place.now) at)) draft.old draft.new) }
-    ensures whole { OnOk result (left_out (names_view names.now) (tree.index (expr_tree base.now) (expr_tree place.now) at) ≡ None) }
-    ensures fault { IfErr result (IsFault (left_out (names_view names.now) (tree.index (expr_tree base.now) (expr_tree place.now) at)) draft.new) }
+    ensures ok { OnOk result (Lowers names.now (index_of base.now place.now at) draft.old draft.new) }
+    ensures whole { OnOk result (IsWhole names.now (index_of base.now place.now at)) }
+    ensures fault { IfErr result (IsFaultOf names.now (index_of base.now place.now at) draft.new) }
 {
     let Some(list) = list_named(names, base) else {
         return Err(LowerFault::NotLowered { at });
@@ -128,9 +134,10 @@ fn item(
 /// Appends an operation with one operand. A minus sign before a literal is one number with it.
 #[cycle(lower)]
 fn operation(names: &[Named], op: PrefixOp, of: &Expr, draft: &mut Draft) -> Result<(), LowerFault>
-    ensures ok { (at : ℕ) → OnOk result (Adds (IsCode (names_view names.now) (tree.prefix op (expr_tree of.now) at)) draft.old draft.new) }
-    ensures whole { OnOk result (left_out (names_view names.now) (expr_tree of.now) ≡ None) }
-    ensures fault { IfErr result (IsFault (left_out (names_view names.now) (expr_tree of.now)) draft.new) }
+    ensures ok { (at : ℕ)
+        → OnOk result (Lowers names.now (tree.prefix op (expr_tree of.now) at) draft.old draft.new) }
+    ensures whole { OnOk result (IsWhole names.now (expr_tree of.now)) }
+    ensures fault { IfErr result (IsFaultOf names.now (expr_tree of.now) draft.new) }
 {
     if let Some(value) = negative(op, of) {
         return put_const(draft, value);
@@ -149,9 +156,13 @@ fn binary(
     at: u32,
     draft: &mut Draft,
 ) -> Result<(), LowerFault>
-    ensures ok { OnOk result (Adds (IsCode (names_view names.now) (tree.binary op (expr_tree left.now) (expr_tree right.now) at)) draft.old draft.new) }
-    ensures whole { OnOk result (left_out (names_view names.now) (tree.binary op (expr_tree left.now) (expr_tree right.now) at) ≡ None) }
-    ensures fault { IfErr result (IsFault (left_out (names_view names.now) (tree.binary op (expr_tree left.now) (expr_tree right.now) at)) draft.new) }
+    ensures ok {
+        OnOk result (Lowers names.now (binary_of op left.now right.now at) draft.old draft.new)
+    }
+    ensures whole { OnOk result (IsWhole names.now (binary_of op left.now right.now at)) }
+    ensures fault {
+        IfErr result (IsFaultOf names.now (binary_of op left.now right.now at) draft.new)
+    }
 {
     match binary_instr(op) {
         Some(instr) => strict(names, instr, left, right, draft),
@@ -174,9 +185,10 @@ fn strict(
     right: &Expr,
     draft: &mut Draft,
 ) -> Result<(), LowerFault>
-    ensures ok { (op : BinOp) (at : ℕ) → binary_instr op ≡ Some instr → OnOk result (Adds (IsCode (names_view names.now) (tree.binary op (expr_tree left.now) (expr_tree right.now) at)) draft.old draft.new) }
-    ensures whole { OnOk result (left_out (names_view names.now) (expr_tree left.now) or_else left_out (names_view names.now) (expr_tree right.now) ≡ None) }
-    ensures fault { IfErr result (IsFault (left_out (names_view names.now) (expr_tree left.now) or_else left_out (names_view names.now) (expr_tree right.now)) draft.new) }
+    ensures ok { (op : BinOp) (at : ℕ) → binary_instr op ≡ Some instr
+        → OnOk result (Lowers names.now (binary_of op left.now right.now at) draft.old draft.new) }
+    ensures whole { OnOk result (first_left_out names.now left.now right.now ≡ None) }
+    ensures fault { IfErr result (IsFault (first_left_out names.now left.now right.now) draft.new) }
 {
     lower(names, left, draft)?;
     lower(names, right, draft)?;
@@ -192,9 +204,9 @@ fn both(
     at: u32,
     draft: &mut Draft,
 ) -> Result<(), LowerFault>
-    ensures ok { OnOk result (Adds (IsCode (names_view names.now) (tree.binary binaries.And (expr_tree left.now) (expr_tree right.now) at)) draft.old draft.new) }
-    ensures whole { OnOk result (left_out (names_view names.now) (tree.binary binaries.And (expr_tree left.now) (expr_tree right.now) at) ≡ None) }
-    ensures fault { IfErr result (IsFault (left_out (names_view names.now) (tree.binary binaries.And (expr_tree left.now) (expr_tree right.now) at)) draft.new) }
+    ensures ok { OnOk result (Lowers names.now (and_of left.now right.now at) draft.old draft.new) }
+    ensures whole { OnOk result (IsWhole names.now (and_of left.now right.now at)) }
+    ensures fault { IfErr result (IsFaultOf names.now (and_of left.now right.now at) draft.new) }
 {
     if !is_truth(names, left) {
         return Err(LowerFault::NotLowered { at });
@@ -221,9 +233,9 @@ fn either(
     at: u32,
     draft: &mut Draft,
 ) -> Result<(), LowerFault>
-    ensures ok { OnOk result (Adds (IsCode (names_view names.now) (tree.binary binaries.Or (expr_tree left.now) (expr_tree right.now) at)) draft.old draft.new) }
-    ensures whole { OnOk result (left_out (names_view names.now) (tree.binary binaries.Or (expr_tree left.now) (expr_tree right.now) at) ≡ None) }
-    ensures fault { IfErr result (IsFault (left_out (names_view names.now) (tree.binary binaries.Or (expr_tree left.now) (expr_tree right.now) at)) draft.new) }
+    ensures ok { OnOk result (Lowers names.now (or_of left.now right.now at) draft.old draft.new) }
+    ensures whole { OnOk result (IsWhole names.now (or_of left.now right.now at)) }
+    ensures fault { IfErr result (IsFaultOf names.now (or_of left.now right.now at) draft.new) }
 {
     if !is_truth(names, left) {
         return Err(LowerFault::NotLowered { at });
@@ -250,9 +262,10 @@ fn choice(
     no: &Expr,
     draft: &mut Draft,
 ) -> Result<(), LowerFault>
-    ensures ok { (at : ℕ) → OnOk result (Adds (IsCode (names_view names.now) (tree.if_expr (expr_tree test.now) (expr_tree yes.now) (expr_tree no.now) at)) draft.old draft.new) }
-    ensures whole { OnOk result (left_out (names_view names.now) (expr_tree test.now) or_else (left_out (names_view names.now) (expr_tree yes.now) or_else left_out (names_view names.now) (expr_tree no.now)) ≡ None) }
-    ensures fault { IfErr result (IsFault (left_out (names_view names.now) (expr_tree test.now) or_else (left_out (names_view names.now) (expr_tree yes.now) or_else left_out (names_view names.now) (expr_tree no.now))) draft.new) }
+    ensures ok { (at : ℕ)
+        → OnOk result (Lowers names.now (if_of test.now yes.now no.now at) draft.old draft.new) }
+    ensures whole { OnOk result (IsWhole names.now (if_of test.now yes.now no.now 0)) }
+    ensures fault { IfErr result (IsFaultOf names.now (if_of test.now yes.now no.now 0) draft.new) }
 {
     let start = draft.instrs.len();
     lower_test(names, test, draft)?;
@@ -272,10 +285,10 @@ fn choice(
 /// Appends a condition, which goes on where it is true. Where it is false it is to jump elsewhere: `Done` stands for
 /// these jumps, until their target is known.
 #[cycle(lower)]
-fn lower_test(names: &[Named], e: &Expr, draft: &mut Draft) -> Result<(), LowerFault>
-    ensures ok { OnOk result (Adds (IsOpenTest (names_view names.now) (expr_tree e.now)) draft.old draft.new) }
-    ensures whole { OnOk result (left_out (names_view names.now) (expr_tree e.now) ≡ None) }
-    ensures fault { IfErr result (IsFault (left_out (names_view names.now) (expr_tree e.now)) draft.new) }
+pub(crate) fn lower_test(names: &[Named], e: &Expr, draft: &mut Draft) -> Result<(), LowerFault>
+    ensures ok { OnOk result (Opens names.now (expr_tree e.now) draft.old draft.new) }
+    ensures whole { OnOk result (IsWhole names.now (expr_tree e.now)) }
+    ensures fault { IfErr result (IsFaultOf names.now (expr_tree e.now) draft.new) }
 {
     match &e.form {
         ExprForm::Binary {
@@ -296,9 +309,9 @@ fn test_both(
     at: u32,
     draft: &mut Draft,
 ) -> Result<(), LowerFault>
-    ensures ok { OnOk result (Adds (IsOpenTest (names_view names.now) (tree.binary binaries.And (expr_tree left.now) (expr_tree right.now) at)) draft.old draft.new) }
-    ensures whole { OnOk result (left_out (names_view names.now) (tree.binary binaries.And (expr_tree left.now) (expr_tree right.now) at) ≡ None) }
-    ensures fault { IfErr result (IsFault (left_out (names_view names.now) (tree.binary binaries.And (expr_tree left.now) (expr_tree right.now) at)) draft.new) }
+    ensures ok { OnOk result (Opens names.now (and_of left.now right.now at) draft.old draft.new) }
+    ensures whole { OnOk result (IsWhole names.now (and_of left.now right.now at)) }
+    ensures fault { IfErr result (IsFaultOf names.now (and_of left.now right.now at) draft.new) }
 {
     if !is_truth(names, left) {
         return Err(LowerFault::NotLowered { at });
@@ -310,9 +323,9 @@ fn test_both(
 /// Appends a value, and a jump where it is false.
 #[cycle(lower)]
 fn test_value(names: &[Named], e: &Expr, draft: &mut Draft) -> Result<(), LowerFault>
-    ensures ok { OnOk result (Adds (IsOpenTest (names_view names.now) (expr_tree e.now)) draft.old draft.new) }
-    ensures whole { OnOk result (left_out (names_view names.now) (expr_tree e.now) ≡ None) }
-    ensures fault { IfErr result (IsFault (left_out (names_view names.now) (expr_tree e.now)) draft.new) }
+    ensures ok { OnOk result (Opens names.now (expr_tree e.now) draft.old draft.new) }
+    ensures whole { OnOk result (IsWhole names.now (expr_tree e.now)) }
+    ensures fault { IfErr result (IsFaultOf names.now (expr_tree e.now) draft.new) }
 {
     lower(names, e, draft)?;
     put(draft, Instr::Done)
@@ -320,17 +333,43 @@ fn test_value(names: &[Named], e: &Expr, draft: &mut Draft) -> Result<(), LowerF
 
 /// Sets the targets of the jumps that stand from `start` to `exits` for a condition that is false, and that of the
 /// jump at `jump`.
-fn link(draft: &mut Draft, start: usize, exits: usize, out: u32, jump: usize, end: u32)
+pub(crate) fn link(draft: &mut Draft, start: usize, exits: usize, out: u32, jump: usize, end: u32)
     requires order { (start ≤ exits) × (exits ≤ jump) × (jump < length draft.old.instrs.items) }
     ensures linked { (before test first other : List Instr) (i : Instr)
         → draft.old.instrs.items ≡ before ++ (test ++ (first ++ i ∷ other))
         → start ≡ length before → exits ≡ start + length test → jump ≡ exits + length first
-        → draft.new.instrs.items ≡ before ++ (map (aimed out) test ++ (first ++ op.Jump end ∷ other)) }
+        → draft.new.instrs.items
+        ≡ before ++ (map (aimed out) test ++ (first ++ op.Jump end ∷ other)) }
     ensures routines { draft.new.routines.items ≡ draft.old.routines.items }
     ensures cells { draft.new.cells ≡ draft.old.cells }
 {
     aim(&mut draft.instrs[start..exits], out);
     draft.instrs[jump] = Instr::Jump(end);
+}
+
+/// Sets the targets of the jumps that stand from `start` to `exits` for a condition that is false.
+pub(crate) fn close(draft: &mut Draft, start: usize, exits: usize, out: u32)
+    requires order { (start ≤ exits) × (exits ≤ length draft.old.instrs.items) }
+    ensures closed { (before test rest : List Instr)
+        → draft.old.instrs.items ≡ before ++ (test ++ rest)
+        → start ≡ length before → exits ≡ start + length test
+        → draft.new.instrs.items ≡ before ++ (map (aimed out) test ++ rest) }
+    ensures routines { draft.new.routines.items ≡ draft.old.routines.items }
+    ensures cells { draft.new.cells ≡ draft.old.cells }
+{
+    aim(&mut draft.instrs[start..exits], out);
+}
+
+/// Sets the target of the jump at a place.
+pub(crate) fn jump_at(draft: &mut Draft, place: usize, target: u32)
+    requires inside { place < length draft.old.instrs.items }
+    ensures aimed { (before rest : List Instr) (i : Instr)
+        → draft.old.instrs.items ≡ before ++ i ∷ rest → place ≡ length before
+        → draft.new.instrs.items ≡ before ++ op.Jump target ∷ rest }
+    ensures routines { draft.new.routines.items ≡ draft.old.routines.items }
+    ensures cells { draft.new.cells ≡ draft.old.cells }
+{
+    draft.instrs[place] = Instr::Jump(target);
 }
 
 /// Sets the target of the jumps for which `Done` stands.
@@ -368,9 +407,9 @@ fn aimed(instr: Instr, out: u32) -> Instr
 /// value, or an `and` or `or` whose left side isn't seen to be a truth value.
 pub fn lower_expr(names: &[Named], e: &Expr, draft: &mut Draft) -> Result<(), LowerFault>
     requires below { AreBelow draft.old.cells (names_view names.now) }
-    ensures lowered { OnOk result (Adds (IsLowered (names_view names.now) (expr_tree e.now)) draft.old draft.new) }
-    ensures whole { OnOk result (left_out (names_view names.now) (expr_tree e.now) ≡ None) }
-    ensures fault { IfErr result (IsFault (left_out (names_view names.now) (expr_tree e.now)) draft.new) }
+    ensures lowered { OnOk result (AddsLowered names.now (expr_tree e.now) draft.old draft.new) }
+    ensures whole { OnOk result (IsWhole names.now (expr_tree e.now)) }
+    ensures fault { IfErr result (IsFaultOf names.now (expr_tree e.now) draft.new) }
 {
     lower(names, e, draft)
 }

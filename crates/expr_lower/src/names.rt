@@ -6,6 +6,7 @@ ghost use Rattle.cal_ast.specs.View.{expr_tree};
 ghost use Rattle.cal_model.specs.View.{shape_view};
 ghost use Rattle.expr_lower.specs.Listed.{items_of, list_named, single_of};
 ghost use Rattle.expr_lower.specs.Names.{name_view, named, names_view};
+ghost use Rattle.expr_lower.specs.StmtGrowing.{cell_named, cell_of, cells_named};
 
 use cal_ast::{Expr, ExprForm};
 use cal_model::Shape;
@@ -34,6 +35,61 @@ pub(crate) struct ItemList {
     pub seat: Seat,
     pub size: u32,
     pub kind: Scalar,
+}
+
+/// The cell of a single value, and its type.
+#[derive(Clone, Copy)]
+pub(crate) struct OneCell {
+    pub cell: u32,
+    pub kind: Scalar,
+}
+
+/// The cells of a list, from the first on, and the type of its items.
+#[derive(Clone, Copy)]
+pub(crate) struct ListCells {
+    pub cell: u32,
+    pub size: u32,
+    pub kind: Scalar,
+}
+
+/// The cell of the single value that a text names, if it names one.
+pub(crate) fn cell_named(names: &[Named], text: &str) -> Option<OneCell>
+    ensures { result ≡ cell_named (names_view names.now) text.now }
+{
+    match find(names, text) {
+        Some(named) => cell_of(named),
+        None => None,
+    }
+}
+
+/// The cell of a single value.
+fn cell_of(named: &Named) -> Option<OneCell>
+    ensures { result ≡ cell_of named.now.seat (shape_view named.now.shape) }
+{
+    let Seat::Cell(cell) = named.seat else {
+        return None;
+    };
+    let kind = single(&named.shape)?;
+    Some(OneCell { cell, kind })
+}
+
+/// The cells of the list of single values that a text names, if it names one.
+pub(crate) fn cells_named(names: &[Named], text: &str) -> Option<ListCells>
+    ensures { result ≡ cells_named (names_view names.now) text.now }
+{
+    let list = list_called(names, text)?;
+    match list.seat {
+        Seat::Cell(cell) => Some(ListCells {
+            cell,
+            size: list.size,
+            kind: list.kind,
+        }),
+        Seat::Tokens {
+            port: _,
+            first: _,
+            step: _,
+        } => None,
+    }
 }
 
 /// The list of single values that an expression names, if it names one.

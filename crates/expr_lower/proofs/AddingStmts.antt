@@ -1,0 +1,321 @@
+-- Code of statements that was added to a draft, part by part.
+use Rattle.std.proofs.Common.{◌≡◌, ℕ, zero, suc, ◌+◌, ◌<◌, ◌≤◌, List, [], ◌∷◌, ◌++◌, length, map, take, drop, get_or, refl, sym, ap, ◌∙◌, subst, Option, None, Some, arith, append_assoc, length-append}
+use Rattle.std.proofs.lemmas.List.{append-nil, length-map, map-append, take_more, take_all, take-append-drop}
+use Rattle.cal_ast.specs.Tree as tree
+use Rattle.cal_ast.specs.Tree.{Tree, listed}
+use Rattle.cal_model.specs.Value.{Shape, Single, Many}
+use Rattle.code_ir.specs.declared.instr.Instr.{Instr}
+use Rattle.code_ir.specs.declared.instr.Instr.TheVariants as op
+use Rattle.expr_lower.specs.declared.draft.Draft.{Draft}
+use Rattle.expr_lower.specs.declared.fault.LowerFault.{LowerFault}
+use Rattle.expr_lower.specs.declared.fault.LowerFault.TheVariants.{Memory, TooLong, NotLowered}
+use Rattle.expr_lower.specs.declared.names.ItemList.{ItemList}
+use Rattle.expr_lower.specs.declared.names.ListCells.{ListCells}
+use Rattle.expr_lower.specs.declared.names.OneCell.{OneCell}
+use Rattle.expr_lower.specs.declared.names.Seat.{Seat}
+use Rattle.expr_lower.specs.declared.names.Seat.TheVariants.{Cell, Tokens}
+use Rattle.expr_lower.specs.Names.{Name, named}
+use Rattle.expr_lower.specs.Held.{AreBelow}
+use Rattle.expr_lower.specs.Changing.{AreTyped, NamesApart}
+use Rattle.expr_lower.specs.Coding.{IsCode, IsTest, IsOpenTest, aimed}
+use Rattle.expr_lower.specs.Executing.{IsExecuted}
+use Rattle.expr_lower.specs.Growing.{IsFault, ◌or_else◌}
+use Rattle.expr_lower.specs.Listed.{list_named}
+use Rattle.expr_lower.specs.Lowered.{Adds, IsPut}
+use Rattle.expr_lower.specs.Stating.{IsStmt, AreStmts, set, set_item, if_alone, if_else, while_code, none, one_more}
+use Rattle.expr_lower.specs.StmtGrowing.{cell_of, cell_named, cells_of, cells_named, left_out_set, left_out_stmt, left_out_all}
+use Rattle.expr_lower.proofs.Adding.{Links, length_join}
+use Rattle.expr_lower.proofs.Executed.{executes}
+use Rattle.expr_lower.proofs.FittedStmts.{fits_all}
+use Rattle.expr_lower.proofs.Listing.{IsListName, found}
+use Rattle.expr_lower.proofs.Weights.{weight}
+
+-- ---- statements in a row
+
+-- one statement more at the end
+all_more : (ts : List Tree) (t : Tree) {names : List Name} {base n k m : ℕ} {a b : List Instr} → AreStmts names (listed ts) base n a k → IsStmt names t (base + length a) k b m
+    → AreStmts names (listed (ts ++ t ∷ [])) base n (a ++ b) m
+all_more [] t {m = m} {b = b} (none names base n) h =
+    subst (λ is. AreStmts names (tree.cons t tree.nil) base n is m) (append-nil b)
+    (one_more names t tree.nil base n m m b [] (subst (λ p. IsStmt names t p n b m) (let e : base + 0 ≡ base = omega arith in e) h) (none names (base + length b) m))
+all_more (s ∷ ts) t {m = m} {b = b} (one_more names first rest base n j k c d g f) h =
+    let place : base + length (c ++ d) ≡ base + length c + length d = omega (arith, length-append c d) in
+    subst (λ is. AreStmts names (tree.cons s (listed (ts ++ t ∷ []))) base n is m) (sym (append_assoc c d b))
+    (one_more names s (listed (ts ++ t ∷ [])) base n j m c (d ++ b) g
+    (all_more ts t f (subst (λ p. IsStmt names t p k b m) place h)))
+
+-- what is left out of statements that are whole up to the last
+left_more : (names : List Name) (ts : List Tree) (t : Tree) → left_out_all names (listed ts) ≡ None → left_out_all names (listed (ts ++ t ∷ [])) ≡ left_out_stmt names t
+left_more names [] t e = none_after (left_out_stmt names t)
+  where
+    none_after : (o : Option ℕ) → o or_else None ≡ o
+    none_after None = refl
+    none_after (Some x) = refl
+left_more names (s ∷ ts) t e =
+    let parts = both_none (left_out_stmt names s) (left_out_all names (listed ts)) e in
+    ap (λ o. o or_else left_out_all names (listed (ts ++ t ∷ []))) parts.0 ∙ left_more names ts t parts.1
+  where
+    both_none : (a b : Option ℕ) → a or_else b ≡ None → (a ≡ None) × (b ≡ None)
+    both_none None b e = (refl, e)
+    both_none (Some x) b e = cc
+
+-- the statements that come later don't change what is the first that is left out
+left_first : (names : List Name) (ts us : List Tree) (at : ℕ) → left_out_all names (listed ts) ≡ Some at → left_out_all names (listed (ts ++ us)) ≡ Some at
+left_first names [] us at e = cc
+left_first names (s ∷ ts) us at e = go (left_out_stmt names s) (left_first names ts us at) e
+  where
+    go : (o : Option ℕ) → (left_out_all names (listed ts) ≡ Some at → left_out_all names (listed (ts ++ us)) ≡ Some at) → o or_else left_out_all names (listed ts) ≡ Some at → o or_else left_out_all names (listed (ts ++ us)) ≡ Some at
+    go None later e = later e
+    go (Some x) later e = e
+
+-- some of the statements are added
+pub record AreAdded (names : List Name) (ts : List Tree) (old new : Draft) : Type 0 where
+  pub added : Adds (AreStmts names (listed ts)) old new
+  pub whole : left_out_all names (listed ts) ≡ None
+
+pub none_added : (names : List Name) (old : Draft) → AreAdded names [] old old
+none_added names old = record {
+  added = record { code = []; is = sym (append-nil old.instrs.items); routines = refl; has = none names (length old.instrs.items) old.cells };
+  whole = refl;
+}
+
+pub more_added : {X : Type 0} (f : X → Tree) (names : List Name) (xs : List X) (x : X) (i : ℕ) (old mid new : Draft) → i < length xs → x ≡ get_or xs i x
+    → AreAdded names (map f (take i xs)) old mid → Adds (IsStmt names (f x)) mid new → left_out_stmt names (f x) ≡ None → AreAdded names (map f (take (i + 1) xs)) old new
+more_added f names xs x i old mid new small is before now whole =
+    let split : map f (take (i + 1) xs) ≡ map f (take i xs) ++ f x ∷ [] = ap (map f) (take_more xs i x small ∙ ap (λ y. take i xs ++ y ∷ []) (sym is)) ∙ map-append f (take i xs) (x ∷ []) in
+    let a = before.added in
+    let place : length mid.instrs.items ≡ length old.instrs.items + length a.code = length_join old.instrs.items mid.instrs.items a.code a.is in
+    subst (λ ts. AreAdded names ts old new) (sym split) (record {
+      added = record {
+        code = a.code ++ now.code;
+        is = now.is ∙ ap (λ is. is ++ now.code) a.is ∙ append_assoc old.instrs.items a.code now.code;
+        routines = now.routines ∙ a.routines;
+        has = all_more (map f (take i xs)) (f x) a.has (subst (λ p. IsStmt names (f x) p mid.cells now.code new.cells) place now.has);
+      };
+      whole = left_more names (map f (take i xs)) (f x) before.whole ∙ whole;
+    })
+
+pub all_added : {X : Type 0} (f : X → Tree) (names : List Name) (xs : List X) (i : ℕ) (old new : Draft) → length xs ≤ i → AreAdded names (map f (take i xs)) old new → AreAdded names (map f xs) old new
+all_added f names xs i old new large h = subst (λ ys. AreAdded names (map f ys) old new) (take_all i xs large) h
+
+-- the fault of a statement is that of all
+pub fault_among : {X : Type 0} (f : X → Tree) (names : List Name) (xs : List X) (x : X) (i : ℕ) (draft : Draft) (fault : LowerFault) → i < length xs → x ≡ get_or xs i x
+    → left_out_all names (listed (map f (take i xs))) ≡ None → IsFault (left_out_stmt names (f x)) draft fault → IsFault (left_out_all names (listed (map f xs))) draft fault
+fault_among f names xs x i draft Memory small is whole h = tt
+fault_among f names xs x i draft TooLong small is whole h = h
+fault_among f names xs x i draft (NotLowered at) small is whole h =
+    let split : map f (take (i + 1) xs) ≡ map f (take i xs) ++ f x ∷ [] = ap (map f) (take_more xs i x small ∙ ap (λ y. take i xs ++ y ∷ []) (sym is)) ∙ map-append f (take i xs) (x ∷ []) in
+    let first : left_out_all names (listed (map f (take (i + 1) xs))) ≡ Some at = ap (λ ts. left_out_all names (listed ts)) split ∙ left_more names (map f (take i xs)) (f x) whole ∙ h in
+    let all : map f (take (i + 1) xs) ++ map f (drop (i + 1) xs) ≡ map f xs = sym (map-append f (take (i + 1) xs) (drop (i + 1) xs)) ∙ ap (map f) (take-append-drop (i + 1) xs) in
+    ap (λ ts. left_out_all names (listed ts)) (sym all) ∙ left_first names (map f (take (i + 1) xs)) (map f (drop (i + 1) xs)) at first
+
+-- ---- assignments
+
+pub record IsCellOf (names : List Name) (text : List ℕ) (c : OneCell) : Type 0 where
+  pub x : Name
+  pub is : named text names ≡ Some x
+  pub seat : x.seat ≡ Cell c.cell
+  pub shape : x.shape ≡ Single c.kind
+
+pub cell_found : (names : List Name) (text : List ℕ) (c : OneCell) → cell_named names text ≡ Some c → IsCellOf names text c
+cell_found names text c e = go (named text names) refl e
+  where
+    at_seat : (x : Name) (seat : Seat) (shape : Shape) → x.seat ≡ seat → x.shape ≡ shape → named text names ≡ Some x → cell_of seat shape ≡ Some c → IsCellOf names text c
+    at_seat x (Cell d) (Single t) s p is h =
+        let made : OneCell = record { cell = d; kind = t } in
+        let same : made ≡ c = cc in
+        record { x = x; is = is; seat = s ∙ ap (λ (o : OneCell). Cell o.cell) same; shape = p ∙ ap (λ (o : OneCell). Single o.kind) same }
+    at_seat x (Cell d) (Many n items) s p is h = cc
+    at_seat x (Tokens port first step) shape s p is h = cc
+
+    go : (o : Option Name) → named text names ≡ o → elim o [ None ↦ None | Some x ↦ cell_of x.seat x.shape ] ≡ Some c → IsCellOf names text c
+    go None is h = cc
+    go (Some x) is h = at_seat x x.seat x.shape refl refl is h
+
+pub record AreCellsOf (names : List Name) (text : List ℕ) (c : ListCells) : Type 0 where
+  pub x : Name
+  pub is : named text names ≡ Some x
+  pub seat : x.seat ≡ Cell c.cell
+  pub shape : x.shape ≡ Many c.size (Single c.kind)
+
+pub cells_found : (names : List Name) (text : List ℕ) (c : ListCells) → cells_named names text ≡ Some c → AreCellsOf names text c
+cells_found names text c e = go (list_named names (tree.variable text 0)) refl e
+  where
+    same_text : (a b : List ℕ) (p : ℕ) → tree.variable a 0 ≡ tree.variable b p → a ≡ b
+    same_text a b p h = cc
+
+    at_seat : (l : ItemList) (seat : Seat) → l.seat ≡ seat → list_named names (tree.variable text 0) ≡ Some l
+        → elim seat [ Cell d ↦ Some (record { cell = d; size = l.size; kind = l.kind }) | Tokens port first step ↦ None ] ≡ Some c → AreCellsOf names text c
+    at_seat l (Cell d) s is h =
+        let f : IsListName names (tree.variable text 0) l = found names (tree.variable text 0) l is in
+        let made : ListCells = record { cell = d; size = l.size; kind = l.kind } in
+        let same : made ≡ c = cc in
+        let called : text ≡ f.text = same_text text f.text f.place f.tree_is in
+        record {
+          x = f.x;
+          is = subst (λ t. named t names ≡ Some f.x) (sym called) f.is;
+          seat = f.seat ∙ s ∙ ap (λ (o : ListCells). Cell o.cell) same;
+          shape = f.shape ∙ ap (λ (o : ListCells). Many o.size (Single o.kind)) same;
+        }
+    at_seat l (Tokens port first step) s is h = cc
+
+    go : (o : Option ItemList) → list_named names (tree.variable text 0) ≡ o → elim o [ None ↦ None | Some l ↦ cells_of l ] ≡ Some c → AreCellsOf names text c
+    go None is h = cc
+    go (Some l) is h = at_seat l l.seat refl is h
+
+pub set_adds : (names : List Name) (text : List ℕ) (value : Tree) (place at : ℕ) (c : OneCell) (old mid new : Draft) → cell_named names text ≡ Some c → Adds (IsCode names value) old mid
+    → IsPut (op.Store c.cell (Some c.kind) ∷ []) mid new → Adds (IsStmt names (tree.assign (tree.ident text place) tree.nil value at)) old new
+set_adds names text value place at c old mid new e a p =
+    let f : IsCellOf names text c = cell_found names text c e in
+    record {
+      code = a.code ++ op.Store c.cell (Some c.kind) ∷ [];
+      is = p.is ∙ ap (λ xs. xs ++ op.Store c.cell (Some c.kind) ∷ []) a.is ∙ append_assoc old.instrs.items a.code (op.Store c.cell (Some c.kind) ∷ []);
+      routines = p.routines ∙ a.routines;
+      has = subst (λ m. IsStmt names (tree.assign (tree.ident text place) tree.nil value at) (length old.instrs.items) old.cells (a.code ++ op.Store c.cell (Some c.kind) ∷ []) m) (sym p.cells)
+          (set names text value place at (length old.instrs.items) old.cells mid.cells c.cell a.code f.x c.kind f.is f.seat f.shape a.has);
+    }
+
+pub item_adds : (names : List Name) (text : List ℕ) (spot value : Tree) (place at : ℕ) (c : ListCells) (old d1 d2 new : Draft) → cells_named names text ≡ Some c
+    → Adds (IsCode names spot) old d1 → Adds (IsCode names value) d1 d2 → IsPut (op.StoreAt c.cell c.size (Some c.kind) ∷ []) d2 new
+    → Adds (IsStmt names (tree.assign (tree.ident text place) (tree.cons spot tree.nil) value at)) old new
+item_adds names text spot value place at c old d1 d2 new e a b p =
+    let f : AreCellsOf names text c = cells_found names text c e in
+    let i : Instr = op.StoreAt c.cell c.size (Some c.kind) in
+    let l1 = length_join old.instrs.items d1.instrs.items a.code a.is in
+    record {
+      code = a.code ++ (b.code ++ i ∷ []);
+      is = p.is ∙ ap (λ xs. xs ++ i ∷ []) (b.is ∙ ap (λ xs. xs ++ b.code) a.is) ∙ simp append_assoc;
+      routines = p.routines ∙ b.routines ∙ a.routines;
+      has = subst (λ m. IsStmt names (tree.assign (tree.ident text place) (tree.cons spot tree.nil) value at) (length old.instrs.items) old.cells (a.code ++ (b.code ++ i ∷ [])) m) (sym p.cells)
+          (set_item names text spot value place at (length old.instrs.items) old.cells d1.cells d2.cells c.cell c.size a.code b.code f.x c.kind f.is f.seat f.shape a.has
+          (subst (λ q. IsCode names value q d1.cells b.code d2.cells) l1 b.has));
+    }
+
+-- ---- branches and loops
+
+-- what `close` does
+abbrev pub Closes : List Instr → List Instr → ℕ → ℕ → ℕ → Type 0
+Closes old new start exits out = (before test rest : List Instr)
+    → old ≡ before ++ (test ++ rest) → start ≡ length before → exits ≡ start + length test → new ≡ before ++ (map (aimed out) test ++ rest)
+
+-- what `jump_at` does
+abbrev pub SetsJump : List Instr → List Instr → ℕ → ℕ → Type 0
+SetsJump old new place target = (before rest : List Instr) (i : Instr) → old ≡ before ++ i ∷ rest → place ≡ length before → new ≡ before ++ op.Jump target ∷ rest
+
+pub alone_adds : (names : List Name) (test first : Tree) (at : ℕ) (old d1 d2 new : Draft) (start exits end : ℕ)
+    → Adds (IsOpenTest names test) old d1 → Adds (AreStmts names first) d1 d2
+    → start ≡ length old.instrs.items → exits ≡ length d1.instrs.items → end ≡ length d2.instrs.items
+    → Closes d2.instrs.items new.instrs.items start exits end → new.routines.items ≡ d2.routines.items → new.cells ≡ d2.cells
+    → Adds (IsStmt names (tree.if_stmt test first tree.absent at)) old new
+alone_adds names test first at old d1 d2 new start exits end t f start_is exits_is end_is closes routines cells =
+    let l1 = length_join old.instrs.items d1.instrs.items t.code t.is in
+    let l2 = length_join d1.instrs.items d2.instrs.items f.code f.is in
+    let a : List Instr = map (aimed end) t.code in
+    let la : length a ≡ length t.code = length-map t.code (aimed end) in
+    let all : d2.instrs.items ≡ old.instrs.items ++ (t.code ++ f.code) = f.is ∙ ap (λ xs. xs ++ f.code) t.is ∙ append_assoc old.instrs.items t.code f.code in
+    let e1 : end ≡ length old.instrs.items + length a + length f.code = omega (arith, l1, l2, la) in
+    let at1 : length d1.instrs.items ≡ length old.instrs.items + length a = omega (arith, l1, la) in
+    record {
+      code = a ++ f.code;
+      is = closes old.instrs.items t.code f.code all start_is (omega (arith, l1));
+      routines = routines ∙ f.routines ∙ t.routines;
+      has = subst (λ m. IsStmt names (tree.if_stmt test first tree.absent at) (length old.instrs.items) old.cells (a ++ f.code) m) (sym cells)
+          (if_alone names test first at (length old.instrs.items) old.cells d1.cells d2.cells end a f.code (t.has end) (subst (λ x. AreStmts names first x d1.cells f.code d2.cells) at1 f.has) e1);
+    }
+
+pub fork_adds : (names : List Name) (test first other : Tree) (at : ℕ) (old d1 d2 d3 d4 new : Draft) (i : Instr) (start exits out jump end : ℕ)
+    → Adds (IsOpenTest names test) old d1 → Adds (AreStmts names first) d1 d2 → IsPut (i ∷ []) d2 d3 → Adds (AreStmts names other) d3 d4
+    → start ≡ length old.instrs.items → exits ≡ length d1.instrs.items → jump ≡ length d2.instrs.items → out ≡ length d3.instrs.items → end ≡ length d4.instrs.items
+    → Links d4.instrs.items new.instrs.items start exits out jump end → new.routines.items ≡ d4.routines.items → new.cells ≡ d4.cells
+    → Adds (IsStmt names (tree.if_stmt test first (tree.present other) at)) old new
+fork_adds names test first other at old d1 d2 d3 d4 new i start exits out jump end t f p o start_is exits_is jump_is out_is end_is links routines cells =
+    let l1 = length_join old.instrs.items d1.instrs.items t.code t.is in
+    let l2 = length_join d1.instrs.items d2.instrs.items f.code f.is in
+    let l3 = length_join d2.instrs.items d3.instrs.items (i ∷ []) p.is in
+    let l4 = length_join d3.instrs.items d4.instrs.items o.code o.is in
+    let a : List Instr = map (aimed out) t.code in
+    let la : length a ≡ length t.code = length-map t.code (aimed out) in
+    let all : d4.instrs.items ≡ (((old.instrs.items ++ t.code) ++ f.code) ++ i ∷ []) ++ o.code = cc (o.is, p.is, f.is, t.is) in
+    let flat : (((old.instrs.items ++ t.code) ++ f.code) ++ i ∷ []) ++ o.code ≡ old.instrs.items ++ (t.code ++ (f.code ++ i ∷ o.code)) = simp append_assoc in
+    let m1 : exits ≡ start + length t.code = omega (arith, l1) in
+    let m2 : jump ≡ exits + length f.code = omega (arith, l2) in
+    let e1 : out ≡ length old.instrs.items + length a + length f.code + 1 = omega (arith, l1, l2, l3, la) in
+    let e2 : end ≡ out + length o.code = omega (arith, l4) in
+    let at1 : length d1.instrs.items ≡ length old.instrs.items + length a = omega (arith, l1, la) in
+    record {
+      code = a ++ (f.code ++ op.Jump end ∷ o.code);
+      is = links old.instrs.items t.code f.code o.code i (all ∙ flat) start_is m1 m2;
+      routines = routines ∙ o.routines ∙ p.routines ∙ f.routines ∙ t.routines;
+      has = subst (λ m. IsStmt names (tree.if_stmt test first (tree.present other) at) (length old.instrs.items) old.cells (a ++ (f.code ++ op.Jump end ∷ o.code)) m) (sym cells)
+          (if_else names test first other at (length old.instrs.items) old.cells d1.cells d2.cells d4.cells out end a f.code o.code (t.has out)
+          (subst (λ x. AreStmts names first x d1.cells f.code d2.cells) at1 f.has)
+          (subst (λ x. AreStmts names other x d2.cells o.code d4.cells) (sym out_is) (subst (λ c. AreStmts names other (length d3.instrs.items) c o.code d4.cells) p.cells o.has))
+          e1 e2);
+    }
+
+pub while_adds : (names : List Name) (test body : Tree) (at : ℕ) (old d1 d2 d3 d4 d5 d6 new : Draft) (i : Instr) (start turn first head exits out : ℕ)
+    → IsPut (i ∷ []) old d1 → IsPut (op.Turn ∷ []) d1 d2 → Adds (AreStmts names body) d2 d3 → Adds (IsOpenTest names test) d3 d4 → IsPut (op.Jump turn ∷ []) d4 d5
+    → start ≡ length old.instrs.items → turn ≡ length d1.instrs.items → first ≡ length d3.instrs.items → head ≡ length d3.instrs.items → exits ≡ length d4.instrs.items → out ≡ length d5.instrs.items
+    → Closes d5.instrs.items d6.instrs.items first exits out → d6.routines.items ≡ d5.routines.items → d6.cells ≡ d5.cells
+    → SetsJump d6.instrs.items new.instrs.items start head → new.routines.items ≡ d6.routines.items → new.cells ≡ d6.cells
+    → Adds (IsStmt names (tree.while_stmt test body at)) old new
+while_adds names test body at old d1 d2 d3 d4 d5 d6 new i start turn first head exits out p q b t r start_is turn_is first_is head_is exits_is out_is closes routines cells sets routines_too cells_too =
+    let l1 = length_join old.instrs.items d1.instrs.items (i ∷ []) p.is in
+    let l2 = length_join d1.instrs.items d2.instrs.items (op.Turn ∷ []) q.is in
+    let l3 = length_join d2.instrs.items d3.instrs.items b.code b.is in
+    let l4 = length_join d3.instrs.items d4.instrs.items t.code t.is in
+    let l5 = length_join d4.instrs.items d5.instrs.items (op.Jump turn ∷ []) r.is in
+    let base : ℕ = length old.instrs.items in
+    let a : List Instr = map (aimed out) t.code in
+    let la : length a ≡ length t.code = length-map t.code (aimed out) in
+    let front : List Instr = old.instrs.items ++ (i ∷ op.Turn ∷ b.code) in
+    let all : d5.instrs.items ≡ ((((old.instrs.items ++ i ∷ []) ++ op.Turn ∷ []) ++ b.code) ++ t.code) ++ op.Jump turn ∷ [] = cc (r.is, t.is, b.is, q.is, p.is) in
+    let flat : ((((old.instrs.items ++ i ∷ []) ++ op.Turn ∷ []) ++ b.code) ++ t.code) ++ op.Jump turn ∷ [] ≡ front ++ (t.code ++ op.Jump turn ∷ []) = simp append_assoc in
+    let lf : length front ≡ length old.instrs.items + length (i ∷ op.Turn ∷ b.code) = length-append old.instrs.items (i ∷ op.Turn ∷ b.code) in
+    let closed : d6.instrs.items ≡ front ++ (a ++ op.Jump turn ∷ []) = closes front t.code (op.Jump turn ∷ []) (all ∙ flat) (omega (arith, l1, l2, l3, lf)) (omega (arith, l4)) in
+    let regroup : front ++ (a ++ op.Jump turn ∷ []) ≡ old.instrs.items ++ (i ∷ (op.Turn ∷ (b.code ++ (a ++ op.Jump turn ∷ [])))) = simp append_assoc in
+    let set_it : new.instrs.items ≡ old.instrs.items ++ (op.Jump head ∷ (op.Turn ∷ (b.code ++ (a ++ op.Jump turn ∷ [])))) = sets old.instrs.items (op.Turn ∷ (b.code ++ (a ++ op.Jump turn ∷ []))) i (closed ∙ regroup) start_is in
+    let turn_at : turn ≡ base + 1 = omega (arith, l1) in
+    let head_at : head ≡ base + 2 + length b.code = omega (arith, l1, l2, l3) in
+    let out_at : out ≡ head + length a + 1 = omega (arith, l4, l5, la) in
+    let body_at : length d2.instrs.items ≡ base + 2 = omega (arith, l1, l2) in
+    let cells_at : d2.cells ≡ old.cells = q.cells ∙ p.cells in
+    let end_cells : new.cells ≡ d4.cells = cells_too ∙ cells ∙ r.cells in
+    record {
+      code = op.Jump head ∷ op.Turn ∷ (b.code ++ (a ++ op.Jump turn ∷ []));
+      is = set_it;
+      routines = routines_too ∙ routines ∙ r.routines ∙ t.routines ∙ b.routines ∙ q.routines ∙ p.routines;
+      has = subst (λ m. IsStmt names (tree.while_stmt test body at) base old.cells (op.Jump head ∷ op.Turn ∷ (b.code ++ (a ++ op.Jump turn ∷ []))) m) (sym end_cells)
+          (subst (λ j. IsStmt names (tree.while_stmt test body at) base old.cells (op.Jump head ∷ op.Turn ∷ (b.code ++ (a ++ op.Jump j ∷ []))) d4.cells) (sym turn_at)
+          (while_code names test body at base old.cells d3.cells d4.cells head out a b.code
+          (subst (λ x. AreStmts names body x old.cells b.code d3.cells) body_at (subst (λ c. AreStmts names body (length d2.instrs.items) c b.code d3.cells) cells_at b.has))
+          (subst (λ x. IsTest names test x d3.cells out a d4.cells) (sym head_is) (t.has out))
+          head_at out_at));
+    }
+
+-- ---- all that is promised
+
+pub executed : (names : List Name) (body : Tree) (old new : Draft) → AreBelow old.cells names → NamesApart names → AreTyped names → Adds (AreStmts names body) old new → Adds (IsExecuted names body) old new
+executed names body old new below apart typed a = record {
+  code = a.code;
+  is = a.is;
+  routines = a.routines;
+  has = record {
+    executes = executes names body (length old.instrs.items) old.cells new.cells a.code below apart typed a.has;
+    fits = λ whole callable h stands. fits_all whole callable new.cells h below typed (omega arith) stands a.has;
+  };
+}
+
+-- an assignment with several indexes is left out
+pub many_left : (names : List Name) (text : List ℕ) (value : Tree) (at : ℕ) (ts : List Tree) → 2 ≤ length ts → left_out_set names text (listed ts) value at ≡ Some at
+many_left names text value at [] h = absurd (omega arith)
+many_left names text value at (x ∷ []) h = absurd (omega arith)
+many_left names text value at (x ∷ y ∷ ts) h = refl
+
+-- ---- measures
+
+-- a statement weighs less than a list in which it stands
+pub weight_item : {X : Type 0} (f : X → Tree) (xs : List X) (x : X) (i : ℕ) → i < length xs → x ≡ get_or xs i x → weight (f x) < weight (listed (map f xs))
+weight_item f [] x i small is = absurd (omega arith)
+weight_item f (y ∷ xs) x zero small is = subst (λ z. weight (f z) < 1 + weight (f y) + weight (listed (map f xs))) (sym is) (omega arith)
+weight_item f (y ∷ xs) x (suc i) small is = let later = weight_item f xs x i (omega (arith, small)) is in omega (arith, later)

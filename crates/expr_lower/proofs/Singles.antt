@@ -1,0 +1,209 @@
+-- Lowered expressions give single values.
+use Rattle.std.proofs.Common.{◌≡◌, ℕ, ℤ, pos, negsuc, List, Bool, true, false, refl, sym, subst, Option, None, Some}
+use Rattle.std.specs.Prelude.{if◌then◌else◌, nat_le, ◌==◌, unsigned_abs, ◌+ℤ◌, ◌-ℤ◌, ◌*ℤ◌, neg_ℤ, int_div, int_rem, ◌^◌}
+use Rattle.std.specs.Int.{int_shr}
+use Rattle.rvc_base.specs.declared.scalar.Scalar.{Scalar}
+use Rattle.rvc_base.specs.declared.scalar.Scalar.TheVariants as scalar
+use Rattle.rvc_base.specs.declared.trap.Trap.TheVariants.{Overflow, ShiftRange, DivideByZero, IndexRange}
+use Rattle.rvc_base.specs.Arithmetic as arithmetic
+use Rattle.rvc_base.specs.Width.{is_num, IsNum, max_shift}
+use Rattle.cal_ast.specs.declared.expr.PrefixOp.{PrefixOp}
+use Rattle.cal_ast.specs.declared.expr.PrefixOp.TheVariants as prefixes
+use Rattle.cal_ast.specs.declared.expr.BinOp.{BinOp}
+use Rattle.cal_ast.specs.declared.expr.BinOp.TheVariants as binaries
+use Rattle.cal_ast.specs.Tree.{Tree}
+use Rattle.cal_model.specs.Value.{Shape, Single, Many, Value, Num, Truth, Items, Values, value_at, HasKind, HaveKind, kind_of_type, kind_of_scalar}
+use Rattle.cal_model.specs.Outcome.{Out, Gives, Traps, and_then, known}
+use Rattle.cal_model.specs.Env.{Env}
+use Rattle.cal_model.specs.Expression.{Calls, eval, computed, prefixed, applied, of_numbers, of_truths, with_right, chosen, indexed}
+use Rattle.cal_model.proofs.Numbers.{is-num, rest-is-num, shifted-is-num, and-is-num, or-is-num, xor-is-num, not-is-num}
+use Rattle.code_ir.specs.declared.instr.Instr.{Instr}
+use Rattle.expr_lower.specs.Names.{Name, IsSingle}
+use Rattle.expr_lower.specs.Held.{HoldsName, Holds}
+use Rattle.expr_lower.specs.Following.{Follows}
+use Rattle.expr_lower.specs.declared.names.ItemList.{ItemList}
+use Rattle.expr_lower.specs.Coding.{IsCode, IsTest, number, too_great, negative, truth, variable, paren, prefix, binary, both, either, if_code, tested, both_tested, item}
+use Rattle.expr_lower.proofs.Effects.{goes_right}
+use Rattle.expr_lower.proofs.Listing.{IsList, named_list, item_kind}
+use Rattle.expr_lower.proofs.Runs.{follows_then}
+
+-- a truth value, or a number of the language
+abbrev pub IsSingleValue : Value → Type 0
+IsSingleValue (Num z) = IsNum z
+IsSingleValue (Truth b) = Unit {0}
+IsSingleValue (Items vs) = ⊥
+
+-- what the outcome gives, if anything, is a single value
+abbrev pub OnlySingles : Out Value → Type 0
+OnlySingles o = Follows o (λ v m. IsSingleValue v) (λ c. Unit {0})
+
+single_then : (o : Out Value) (f : Value → ℕ → Out Value) → OnlySingles o → ((v : Value) (m : ℕ) → IsSingleValue v → OnlySingles (f v m)) → OnlySingles (and_then o f)
+single_then o f h g = follows_then o f (λ v m. IsSingleValue v) (λ c. Unit {0}) (λ v m. IsSingleValue v) (λ c. Unit {0}) h g (λ c t. tt)
+
+-- ---- operators
+
+whole_single : (z : ℤ) (left : ℕ) → OnlySingles (computed (arithmetic.whole z) left)
+whole_single z left = go (is_num z) refl
+  where
+    go : (b : Bool) → is_num z ≡ b → OnlySingles (computed (if b then arithmetic.Gives z else arithmetic.Traps Overflow) left)
+    go true e = is-num z e
+    go false e = tt
+
+div_single : (a b : ℤ) (left : ℕ) → OnlySingles (computed (arithmetic.div a b) left)
+div_single a b left = go (unsigned_abs b == 0)
+  where
+    go : (c : Bool) → OnlySingles (computed (if c then arithmetic.Traps DivideByZero else arithmetic.whole (int_div a b)) left)
+    go true = tt
+    go false = whole_single (int_div a b) left
+
+rem_single : (a b : ℤ) (left : ℕ) → IsNum a → IsNum b → OnlySingles (computed (arithmetic.rem a b) left)
+rem_single a b left x y = go (unsigned_abs b == 0)
+  where
+    go : (c : Bool) → OnlySingles (computed (if c then arithmetic.Traps DivideByZero else arithmetic.Gives (int_rem a b)) left)
+    go true = tt
+    go false = rest-is-num a b x
+
+shl_single : (a b : ℤ) (left : ℕ) → OnlySingles (computed (arithmetic.shl a b) left)
+shl_single a (pos n) left = go (nat_le n max_shift)
+  where
+    go : (c : Bool) → OnlySingles (computed (if c then arithmetic.whole (a *ℤ pos (2 ^ n)) else arithmetic.Traps ShiftRange) left)
+    go true = whole_single (a *ℤ pos (2 ^ n)) left
+    go false = tt
+shl_single a (negsuc n) left = tt
+
+shr_single : (a b : ℤ) (left : ℕ) → IsNum a → OnlySingles (computed (arithmetic.shr a b) left)
+shr_single a (pos n) left h = go (nat_le n max_shift)
+  where
+    go : (c : Bool) → OnlySingles (computed (if c then arithmetic.Gives (int_shr a n) else arithmetic.Traps ShiftRange) left)
+    go true = shifted-is-num a n h
+    go false = tt
+shr_single a (negsuc n) left h = tt
+
+prefix_single : (o : PrefixOp) (v : Value) (left : ℕ) → IsSingleValue v → OnlySingles (prefixed o v left)
+prefix_single prefixes.Not (Num z) left h = tt
+prefix_single prefixes.Not (Truth b) left h = tt
+prefix_single prefixes.Not (Items vs) left h = tt
+prefix_single prefixes.Neg (Num z) left h = whole_single (neg_ℤ z) left
+prefix_single prefixes.Neg (Truth b) left h = tt
+prefix_single prefixes.Neg (Items vs) left h = tt
+prefix_single prefixes.BitNot (Num z) left h = not-is-num z h
+prefix_single prefixes.BitNot (Truth b) left h = tt
+prefix_single prefixes.BitNot (Items vs) left h = tt
+
+numbers_single : (o : BinOp) (a b : ℤ) (left : ℕ) → IsNum a → IsNum b → OnlySingles (of_numbers o a b left)
+numbers_single binaries.Or a b left x y = tt
+numbers_single binaries.And a b left x y = tt
+numbers_single binaries.BitOr a b left x y = or-is-num a b x y
+numbers_single binaries.BitXor a b left x y = xor-is-num a b x y
+numbers_single binaries.BitAnd a b left x y = and-is-num a b x
+numbers_single binaries.Eq a b left x y = tt
+numbers_single binaries.Ne a b left x y = tt
+numbers_single binaries.Lt a b left x y = tt
+numbers_single binaries.Le a b left x y = tt
+numbers_single binaries.Gt a b left x y = tt
+numbers_single binaries.Ge a b left x y = tt
+numbers_single binaries.Shl a b left x y = shl_single a b left
+numbers_single binaries.Shr a b left x y = shr_single a b left x
+numbers_single binaries.Add a b left x y = whole_single (a +ℤ b) left
+numbers_single binaries.Sub a b left x y = whole_single (a -ℤ b) left
+numbers_single binaries.Mul a b left x y = whole_single (a *ℤ b) left
+numbers_single binaries.Div a b left x y = div_single a b left
+numbers_single binaries.Mod a b left x y = rem_single a b left x y
+
+truths_single : (o : BinOp) (a b : Bool) (left : ℕ) → OnlySingles (of_truths o a b left)
+truths_single binaries.And a b left = tt
+truths_single binaries.Or a b left = tt
+truths_single binaries.Eq a b left = tt
+truths_single binaries.Ne a b left = tt
+truths_single o a b left = tt
+
+applied_single : (o : BinOp) (v w : Value) (left : ℕ) → IsSingleValue v → IsSingleValue w → OnlySingles (applied o v w left)
+applied_single o (Num a) (Num b) left x y = numbers_single o a b left x y
+applied_single o (Truth a) (Truth b) left x y = truths_single o a b left
+applied_single o (Num a) (Truth b) left x y = tt
+applied_single o (Num a) (Items ws) left x y = tt
+applied_single o (Truth a) (Num b) left x y = tt
+applied_single o (Truth a) (Items ws) left x y = tt
+applied_single o (Items vs) w left x y = tt
+
+right_single : (o : BinOp) (v : Value) (right : ℕ → Out Value) (left : ℕ) → IsSingleValue v → ((m : ℕ) → OnlySingles (right m)) → OnlySingles (and_then (right left) (λ w m. applied o v w m))
+right_single o v right left h g = single_then (right left) (λ w m. applied o v w m) (g left) (λ w m i. applied_single o v w m h i)
+
+and_single : (v : Value) (right : ℕ → Out Value) (left : ℕ) → IsSingleValue v → ((m : ℕ) → OnlySingles (right m)) → OnlySingles (with_right binaries.And v right left)
+and_single (Truth false) right left h g = tt
+and_single (Truth true) right left h g = right_single binaries.And (Truth true) right left h g
+and_single (Num z) right left h g = right_single binaries.And (Num z) right left h g
+and_single (Items vs) right left h g = right_single binaries.And (Items vs) right left h g
+
+or_single : (v : Value) (right : ℕ → Out Value) (left : ℕ) → IsSingleValue v → ((m : ℕ) → OnlySingles (right m)) → OnlySingles (with_right binaries.Or v right left)
+or_single (Truth true) right left h g = tt
+or_single (Truth false) right left h g = right_single binaries.Or (Truth false) right left h g
+or_single (Num z) right left h g = right_single binaries.Or (Num z) right left h g
+or_single (Items vs) right left h g = right_single binaries.Or (Items vs) right left h g
+
+chosen_single : (v : Value) (f g : ℕ → Out Value) (left : ℕ) → ((m : ℕ) → OnlySingles (f m)) → ((m : ℕ) → OnlySingles (g m)) → OnlySingles (chosen v f g left)
+chosen_single (Truth true) f g left a b = a left
+chosen_single (Truth false) f g left a b = b left
+chosen_single (Num z) f g left a b = tt
+chosen_single (Items vs) f g left a b = tt
+
+-- ---- variables and items
+
+pub kind_single : (t : Scalar) (v : Value) → HasKind (kind_of_scalar t) v → IsSingleValue v
+kind_single scalar.Bool (Num z) h = absurd h
+kind_single scalar.Bool (Truth b) h = tt
+kind_single scalar.Bool (Items vs) h = absurd h
+kind_single (scalar.Int n) (Num z) h = h
+kind_single (scalar.Int n) (Truth b) h = tt
+kind_single (scalar.Int n) (Items vs) h = absurd h
+kind_single (scalar.Uint n) (Num z) h = h
+kind_single (scalar.Uint n) (Truth b) h = tt
+kind_single (scalar.Uint n) (Items vs) h = absurd h
+
+shape_single : (t : Shape) (v : Value) → IsSingle t → HasKind (kind_of_type t) v → IsSingleValue v
+shape_single (Single t) v s h = kind_single t v h
+shape_single (Many n items) v s h = absurd s
+
+item_single : (l : ItemList) (vs : Values) (i : Value) (left : ℕ) → HaveKind (kind_of_scalar l.kind) vs → OnlySingles (indexed (Items vs) i left)
+item_single l vs (Truth b) left h = tt
+item_single l vs (Items us) left h = tt
+item_single l vs (Num (negsuc k)) left h = tt
+item_single l vs (Num (pos k)) left h = go (value_at vs k) refl
+  where
+    go : (o : Option Value) → value_at vs k ≡ o → OnlySingles (elim o [ None ↦ Traps IndexRange | Some v ↦ Gives v left ])
+    go None e = tt
+    go (Some v) e = kind_single l.kind v (item_kind (kind_of_scalar l.kind) vs k v h e)
+
+-- ---- all forms
+
+module _ (names : List Name) (tokens : ℕ → List ℤ) (cells : List ℤ) (env : Env) (calls : Calls) (holds : Holds names tokens cells env) where
+  mutual
+    pub singles : {e : Tree} {base n m : ℕ} {code : List Instr} → IsCode names e base n code m → (left : ℕ) → OnlySingles (eval e calls env left)
+    singles (number k at base n h) left = whole_single (pos k) left
+    singles (too_great k at base n h) left = whole_single (pos k) left
+    singles (negative k at base n place h) left = single_then (computed (arithmetic.whole (pos k)) left) (λ v m. prefixed prefixes.Neg v m) (whole_single (pos k) left) (λ v m i. prefix_single prefixes.Neg v m i)
+    singles (truth b at base n) left = tt
+    singles (variable text at base n x e s) left =
+        let h : HoldsName tokens cells env text x = holds text x e in
+        subst (λ (o : Option Value). OnlySingles (known o left)) (sym h.meant) (shape_single x.shape h.value s h.of_type)
+    singles (paren e at base n m code h) left = singles h left
+    singles (prefix o e at base n m code h) left = single_then (eval e calls env left) (λ v m. prefixed o v m) (singles h left) (λ v m i. prefix_single o v m i)
+    singles (binary o i l r at base n k m a b e h g) left =
+        single_then (eval l calls env left) (λ v m. with_right o v (λ k. eval r calls env k) m) (singles h left) (λ v m s.
+        subst OnlySingles (sym (goes_right o i v (λ k. eval r calls env k) m e)) (right_single o v (λ k. eval r calls env k) m s (λ k. singles g k)))
+    singles (item e place at base n m code l g h) left =
+        let list : IsList tokens cells (eval e calls env left) left l = named_list names tokens cells env e l calls left g holds in
+        subst (λ (o : Out Value). OnlySingles (and_then o (λ v h. and_then (eval place calls env h) (λ x k. indexed v x k)))) (sym list.gives)
+        (single_then (eval place calls env left) (λ x k. indexed (Items list.values) x k) (singles h left) (λ x k s. item_single l list.values x k list.kinds))
+    singles (both l r at base n k m far end a b t h g e f) left =
+        single_then (eval l calls env left) (λ v m. with_right binaries.And v (λ k. eval r calls env k) m) (singles_test h left) (λ v m s. and_single v (λ k. eval r calls env k) m s (λ k. singles g k))
+    singles (either l r at base n k m right end a b t h g e f) left =
+        single_then (eval l calls env left) (λ v m. with_right binaries.Or v (λ k. eval r calls env k) m) (singles_test h left) (λ v m s. or_single v (λ k. eval r calls env k) m s (λ k. singles g k))
+    singles (if_code test first other at base n k j m else_at end a b c h g d e f) left =
+        single_then (eval test calls env left) (λ v m. chosen v (λ k. eval first calls env k) (λ k. eval other calls env k) m) (singles_test h left)
+        (λ v m s. chosen_single v (λ k. eval first calls env k) (λ k. eval other calls env k) m (λ k. singles g k) (λ k. singles d k))
+
+    singles_test : {e : Tree} {base n far m : ℕ} {code : List Instr} → IsTest names e base n far code m → (left : ℕ) → OnlySingles (eval e calls env left)
+    singles_test (tested e base n m far code h) left = singles h left
+    singles_test (both_tested l r at base n k m far a b t h g) left =
+        single_then (eval l calls env left) (λ v m. with_right binaries.And v (λ k. eval r calls env k) m) (singles_test h left) (λ v m s. and_single v (λ k. eval r calls env k) m s (λ k. singles_test g k))

@@ -1,0 +1,9 @@
+use Rattle.std.proofs.lemmas.Result.{on_ok_weaker}
+use Rattle.expr_lower.specs.Names.{names_view}
+use Rattle.expr_lower.specs.StmtWords.{body_of}
+use Rattle.expr_lower.proofs.AddingStmts.{executed}
+use Rattle.expr_lower.proofs.stmts.lower_stmts.Goals as goal
+
+pub returns-clause-lowered : goal.returns-clause-lowered
+returns-clause-lowered c =
+    on_ok_weaker c.lower_all.result (executed (names_view c.args.names.now) (body_of c.args.body.now) c.args.draft.now c.lower_all.new.draft c.requires.below c.requires.apart c.requires.typed) c.lower_all.ensures.ok

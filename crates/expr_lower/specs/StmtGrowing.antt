@@ -1,0 +1,59 @@
+-- Which statements are left out.
+use Rattle.std.specs.Prelude.{ℕ, List, Option, None, Some}
+use Rattle.cal_ast.specs.Tree as tree
+use Rattle.cal_ast.specs.Tree.{Tree}
+use Rattle.cal_model.specs.Value.{Shape, Single, Many}
+use Rattle.expr_lower.specs.declared.names.ItemList.{ItemList}
+use Rattle.expr_lower.specs.declared.names.ListCells.{ListCells}
+use Rattle.expr_lower.specs.declared.names.OneCell.{OneCell}
+use Rattle.expr_lower.specs.declared.names.Seat.{Seat}
+use Rattle.expr_lower.specs.declared.names.Seat.TheVariants.{Cell, Tokens}
+use Rattle.expr_lower.specs.Growing.{left_out, ◌or_else◌}
+use Rattle.expr_lower.specs.Listed.{list_named}
+use Rattle.expr_lower.specs.Names.{Name, named}
+
+-- the cell of a single value
+abbrev pub cell_of : Seat → Shape → Option OneCell
+cell_of (Cell c) (Single t) = Some (record { cell = c; kind = t })
+cell_of (Cell c) (Many n items) = None
+cell_of (Tokens port first step) shape = None
+
+-- the cell of the single value that a text names, if it names one
+abbrev pub cell_named : List Name → List ℕ → Option OneCell
+cell_named names text = elim (named text names) [ None ↦ None | Some x ↦ cell_of x.seat x.shape ]
+
+-- the cells of a list, if it stands in cells
+abbrev pub cells_of : ItemList → Option ListCells
+cells_of l = elim l.seat [ Cell c ↦ Some (record { cell = c; size = l.size; kind = l.kind }) | Tokens port first step ↦ None ]
+
+-- the cells of the list of single values that a text names, if it names one
+abbrev pub cells_named : List Name → List ℕ → Option ListCells
+cells_named names text = elim (list_named names (tree.variable text 0)) [ None ↦ None | Some l ↦ cells_of l ]
+
+-- an assignment to the whole variable, or to one item of it
+abbrev pub left_out_set : List Name → List ℕ → Tree → Tree → ℕ → Option ℕ
+left_out_set names text tree.nil value at = elim (cell_named names text) [ None ↦ Some at | Some c ↦ left_out names value ]
+left_out_set names text (tree.cons spot tree.nil) value at =
+    elim (cells_named names text) [ None ↦ Some at | Some c ↦ left_out names spot or_else left_out names value ]
+left_out_set names text places value at = Some at
+
+abbrev mutual
+  -- The place of the first part of a statement for which no code is made: an assignment to what isn't a variable of
+  -- single values in a cell or an item of a list of them in cells, a call, a `foreach` or a block; or such a part of
+  -- an expression. Of a `while` the body comes first, as in its code.
+  pub left_out_stmt : List Name → Tree → Option ℕ
+  left_out_stmt names (tree.assign (tree.ident text place) places value at) = left_out_set names text places value at
+  left_out_stmt names (tree.call_stmt name args at) = Some at
+  left_out_stmt names (tree.if_stmt test first other at) = left_out names test or_else (left_out_all names first or_else left_out_all names other)
+  left_out_stmt names (tree.while_stmt test body at) = left_out_all names body or_else left_out names test
+  left_out_stmt names (tree.foreach_stmt shape name from to body at) = Some at
+  left_out_stmt names (tree.block vars body at) = Some at
+  left_out_stmt names other = Some 0
+
+  -- .. of statements; those of an `else` may be absent
+  pub left_out_all : List Name → Tree → Option ℕ
+  left_out_all names tree.nil = None
+  left_out_all names (tree.cons s rest) = left_out_stmt names s or_else left_out_all names rest
+  left_out_all names tree.absent = None
+  left_out_all names (tree.present body) = left_out_all names body
+  left_out_all names other = Some 0

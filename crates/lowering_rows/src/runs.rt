@@ -1,0 +1,54 @@
+//! What the code of statements does. At first `a` is 0, `b` 1, and `x` the list 2, 3, 4, 5.
+
+use crate::rows::{Asked, hold};
+use std::test::Fail;
+
+#[test]
+fn assignments(rt: HostRuntime) -> Result<(), Fail> {
+    let rows = [
+        ("", "Done 0 1 2 3 4 5"),
+        ("a := 200;", "Done -56 1 2 3 4 5"),
+        ("b := 200;", "Done 0 200 2 3 4 5"),
+        ("x[b] := 128;", "Done 0 1 2 -128 4 5"),
+        ("x[4] := 1;", "Trap(IndexRange) 0 1 2 3 4 5"),
+        ("a := 7; x[-1] := 1;", "Trap(IndexRange) 7 1 2 3 4 5"),
+        ("x[9] := 1 / 0;", "Trap(DivideByZero) 0 1 2 3 4 5"),
+        ("x[a] := x[a + 1]; a := x[0];", "Done 3 1 3 3 4 5"),
+    ];
+    hold(&rt, rt.alloc(), Asked::Run, &rows)
+}
+
+#[test]
+fn branches_and_loops(rt: HostRuntime) -> Result<(), Fail> {
+    let rows = [
+        ("if a < b then a := 9; end", "Done 9 1 2 3 4 5"),
+        ("if b < a then a := 9; end", "Done 0 1 2 3 4 5"),
+        ("if b < a then a := 9; else a := 8; end", "Done 8 1 2 3 4 5"),
+        (
+            "while a < 4 do x[a] := a * a; a := a + 1; end",
+            "Done 4 1 0 1 4 9",
+        ),
+        (
+            "while a < 4 and x[a] < 4 do a := a + 1; end",
+            "Done 2 1 2 3 4 5",
+        ),
+        (
+            "while b > 0 do b := b - 1; while a < 2 do a := a + 1; end end",
+            "Done 2 0 2 3 4 5",
+        ),
+        (
+            "while a < 4 do a := a + 1; x[a] := 0; end",
+            "Trap(IndexRange) 4 1 2 0 0 0",
+        ),
+    ];
+    hold(&rt, rt.alloc(), Asked::Run, &rows)
+}
+
+#[test]
+fn turns(rt: HostRuntime) -> Result<(), Fail> {
+    let rows = [(
+        "while true do b := b + 1; end",
+        "Trap(TurnLimit) 0 1048577 2 3 4 5",
+    )];
+    hold(&rt, rt.alloc(), Asked::Run, &rows)
+}
