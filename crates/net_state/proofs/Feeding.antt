@@ -1,7 +1,7 @@
 -- Tokens of a feed that come before a port.
-use Rattle.std.proofs.Common.{◌≡◌, ◌≢◌, ℕ, suc, ◌+◌, ◌-◌, ◌<◌, ◌≤◌, Bool, true, false, List, [], ◌∷◌, ◌++◌, ℤ, length, map, take, drop, refl, sym, ap, subst, ◌∙◌, ⊎_elim, inl, inr, arith, length-append, length-drop}
+use Rattle.std.proofs.Common.{◌≡◌, ℕ, suc, ◌+◌, ◌-◌, ◌<◌, ◌≤◌, true, false, List, [], ◌∷◌, ◌++◌, ℤ, length, map, take, drop, refl, sym, ap, subst, ◌∙◌, ⊎_elim, inl, inr, arith, length-append, length-drop}
 use Rattle.std.specs.Prelude.{Option, None, Some, slice_get, slice_index_or}
-use Rattle.std.proofs.lemmas.List.{length-map, map-append, drop-drop}
+use Rattle.std.proofs.lemmas.List.{map-append, drop-drop}
 use Rattle.std.proofs.Math.Seq.{take-add}
 use Rattle.rvc_base.specs.declared.scalar.Scalar.{Scalar}
 use Rattle.rvc_base.specs.Storing.{conv}
@@ -14,10 +14,10 @@ use Rattle.net_model.specs.declared.wiring.End.TheVariants.{Leaf as AtLeaf, Net 
 use Rattle.net_model.specs.declared.wiring.Link.{Link}
 use Rattle.net_model.specs.Network.{is_input, is_outside}
 use Rattle.net_model.specs.PortFile.{tokens}
-use Rattle.net_model.specs.Ready.{OnCell, tokens_of}
-use Rattle.port_files.specs.Coming.{GivesToken, EndsWith, NothingLeft}
+use Rattle.net_model.specs.Ready.{tokens_of}
+use Rattle.port_files.specs.Coming.{GivesToken, EndsWith}
 use Rattle.net_state.specs.Moving.{EachGains, HasRoomBefore, HasRoomUpTo, IsInput, only_to}
-use Rattle.net_state.specs.Filling.{AreToCome, AtPort, AtReader, IsFilled, IsInputLink, Takes}
+use Rattle.net_state.specs.Filling.{AreToCome, AtPort, AtReader, IsInputLink, Takes}
 use Rattle.net_state.specs.Held.{HasRooms, IsWorking}
 use Rattle.net_state.proofs.Kept.{filled_working, filled_rooms, reader_of, room_up_to}
 use Rattle.net_state.proofs.Gaining.{there_too, each_gains_nothing, each_gains_then, each_gains_as, only_none, only_more, only_there}

@@ -9,24 +9,22 @@ use Rattle.net_model.specs.declared.wiring.End.{End}
 use Rattle.net_model.specs.declared.wiring.End.TheVariants.{Leaf as AtLeaf, Net as AtNet}
 use Rattle.net_model.specs.declared.wiring.Link.{Link}
 use Rattle.net_model.specs.Network.{is_input, is_outside, is_leaf_port}
-use Rattle.net_model.specs.Cell.{Cell, number_on, IsSameActor}
+use Rattle.net_model.specs.Cell.{Cell, number_on}
+use Rattle.net_model.specs.Limits.{max_rate}
 use Rattle.net_model.specs.Ready.{OnCell, OutboxHolds, InboxHolds, waiting_at, tokens_of}
-use Rattle.net_state.specs.Moving.{EachGains, only_to, EachClears, IsInput, IsOutput, IsWriter, AreApart, HasRoomAt, HasRoomUpTo, CanCarry, sent_from, carried, arriving}
-use Rattle.net_state.specs.Held.{AreCounted, FitsIn, HasPlace, HasRooms, OnRow, HasShapeOf, IsLeft, IsReader, IsRoomTable, IsWorking}
+use Rattle.net_state.specs.Moving.{SameActors, SameMarks, EachGains, only_to, EachClears, IsInput, IsOutput, IsWriter, AreApart, HasRoomAt, HasRoomUpTo, CanCarry, sent_from, carried, arriving}
+use Rattle.net_state.specs.Held.{AreCounted, FitsIn, GivesFew, HasPlace, HasRooms, OnRow, HasShapeOf, IsLeft, IsReader, IsRoomTable, IsWorking, held_of}
 use Rattle.net_state.proofs.Gaining.{some_is, there_too, actor_then, other_cell, other_port}
 use Rattle.net_state.proofs.Narrowing.{same_shape}
 use Rattle.std.proofs.lemmas.Bool.{cases_eq, cases_lt}
 use Rattle.net_state.proofs.Coming.{on_cell, on_some, sent_from_stays, by_bool, is_own_port, is_that_port, if_true, if_false}
-use Rattle.net_state.proofs.Moved.{none_sent, moved_inbox, moved_count}
+use Rattle.net_model.specs.Event.{each_flow}
+use Rattle.net_state.specs.Standing.{AreHeld, InboxesHold, IsOpened, LeadInside, Stands, after_inside, inside_delivered}
+use Rattle.net_state.proofs.Moved.{none_sent, moved_inbox, moved_count, inside_arrived, inside_stands, net_stays, opened_inside}
 
 -- any link, for reading a list within its length
 abbrev pub any_link : Link
 any_link = record { from = AtNet 0; to = AtNet 0; capacity = 0; kind = Truth }
-
--- the actors and the capacities of their queues are the same
-pub record SameActors {X : Type 0} (old new : List (Cell X)) : Type 0 where
-  pub count : length new ≡ length old
-  pub each : (i : ℕ) (before after : Cell X) → slice_get old i ≡ Some before → slice_get new i ≡ Some after → IsSameActor before after
 
 pub same_of_gains : {X : Type 0} (arriving : ℕ → ℕ → List ℤ) (old new : List (Cell X)) → EachGains arriving old new → SameActors old new
 same_of_gains arriving old new gains = record {
@@ -39,6 +37,14 @@ same_of_clears old new clears = record {
   count = clears.count;
   each = λ i before after at there. (clears.each i before after at there).actor;
 }
+
+pub marks_of_gains : {X : Type 0} (arriving : ℕ → ℕ → List ℤ) (old new : List (Cell X)) → EachGains arriving old new → SameMarks old new
+marks_of_gains arriving old new gains i before after at there = (gains.each i before after at there).trapped
+
+pub marks_of_delivery : {X : Type 0} (arriving : ℕ → ℕ → List ℤ) (old mid new : List (Cell X)) → EachGains arriving old mid → EachClears mid new → SameMarks old new
+marks_of_delivery arriving old mid new gains clears i before after at there =
+    let between = there_too old mid i before (sym gains.count) at in
+    (clears.each i between.0 after between.1 there).trapped ∙ (gains.each i before between.0 at between.1).trapped
 
 pub same_then : {X : Type 0} (a b c : List (Cell X)) → SameActors a b → SameActors b c → SameActors a c
 same_then a b c one two = record {
@@ -98,6 +104,11 @@ module _ {X : Type 0} (old new : List (Cell X)) (same : SameActors old new) wher
       let is = same.each i before.0 after before.1 there in
       let low_before : p < before.0.actor.outs = subst (λ actor. p < actor.outs) is.same_actor low in
       subst (λ n. (0 < n) ↔ IsLeft links i p) (sym (is.same_outbox_capacities p low_before)) (read i before.0 before.1 p low_before)
+
+  pub same_few : GivesFew old → GivesFew new
+  same_few few i after there =
+      let before = there_too new old i after same.count there in
+      subst (λ actor. (a p : ℕ) → actor.give a p ≤ max_rate) (sym (same.each i before.0 after before.1 there).same_actor) (few i before.0 before.1)
 
   -- the table of rooms fits them too
   pub same_widths : (table later : List (List ℕ)) → length table ≡ length old
@@ -217,6 +228,8 @@ module _ {X : Type 0} (old mid new : List (Cell X)) (links : List Link) (capacit
         outbox = same_outbox old new moved_same link.from (slice_index_or capacities l 0) fits.writer fits.outbox;
         inbox = same_inbox old new moved_same link.to (slice_index_or capacities l 0) fits.reader fits.inbox;
         waiting = few;
+        counted = omega (arith, count, few);
+        grown = fits.grown;
         fewer = λ inner. omega (arith, count);
         since = λ inner.
             let none : length (sent_from new link.from) ≡ 0 = ap (λ ts. length ts) (none_from link.from (moved_writer l link at)) in
@@ -230,7 +243,27 @@ module _ {X : Type 0} (old mid new : List (Cell X)) (links : List Link) (capacit
     apart = working.apart;
     fits = moved_fits;
     read = same_read old new moved_same links working.read;
+    few_given = same_few old new moved_same working.few_given;
+    few_held = working.few_held;
+    few_links = working.few_links;
   }
+
+  -- the state that a delivery leads to, and opens
+  pub leads_inside : LeadInside (held_of old links capacities waited) (held_of new links capacities later)
+  leads_inside net s that =
+      let stands : Stands net new capacities (after_inside net s) =
+      inside_stands old mid new links gains clears net capacities s that.is_of that.stands moved_writer in
+      record {
+        now = record { is_of = net_stays old mid new links gains clears net that.is_of; stands = stands };
+        since = subst (λ ls. IsOpened ls later (after_inside net s).flows (after_inside net s).flows) (sym that.is_of.links_are)
+            (opened_inside new links capacities later (after_inside net s).flows counted working.apart
+            (subst (λ ls. AreHeld new ls (after_inside net s).flows capacities) that.is_of.links_are stands.flows)
+            (subst (λ ls. InboxesHold new ls (after_inside net s).flows) that.is_of.links_are stands.inboxes)
+            (λ l link at. (moved_fits l link at).reader)
+            (λ l link flow at inner there. inside_arrived old links s.flows capacities
+            (subst (λ ls. AreHeld old ls s.flows capacities) that.is_of.links_are that.stands.flows) l link flow at inner
+            (subst (λ ls. slice_get (each_flow inside_delivered ls s.flows) l ≡ Some flow) that.is_of.links_are there)));
+      }
 
 -- rooms that are fixed anew after a delivery
 pub moved_rooms : {X : Type 0} (old new : List (Cell X)) (links : List Link) (capacities waited later : List ℕ) (table fixed : List (List ℕ))
@@ -269,7 +302,7 @@ module _ {X : Type 0} (old new : List (Cell X)) (links : List Link) (capacities 
   filled_same = same_of_gains (only_to j q ts) old new gains
 
   -- elsewhere nothing came
-  waits_as_before : (end : End) → IsReader old end → (end ≡ link.to → ⊥) → waiting_at new end ≡ waiting_at old end
+  pub waits_as_before : (end : End) → IsReader old end → (end ≡ link.to → ⊥) → waiting_at new end ≡ waiting_at old end
   waits_as_before (AtNet port) reader differ = refl
   waits_as_before (AtLeaf inst port) reader differ =
       let on = on_cell (slice_get old inst.0) (λ cell. port < cell.actor.ins) reader in
@@ -312,6 +345,8 @@ module _ {X : Type 0} (old new : List (Cell X)) (links : List Link) (capacities 
             let waits : length (waiting_at new other.to) ≡ length (waiting_at old other.to) = ap (λ us. length us) (waits_as_before other.to fits.reader (apart_ends m other there differ)) in
             omega (arith, waits, fits.waiting))
             (cases_eq m l);
+        counted = fits.counted;
+        grown = fits.grown;
         fewer = λ inner.
             let waits : length (waiting_at new other.to) ≡ length (waiting_at old other.to) = ap (λ us. length us) (waits_as_before other.to fits.reader (apart_ends m other there (not_it m other there inner))) in
             omega (arith, waits, fits.fewer inner);
@@ -338,6 +373,9 @@ module _ {X : Type 0} (old new : List (Cell X)) (links : List Link) (capacities 
     apart = working.apart;
     fits = filled_fits;
     read = same_read old new filled_same links working.read;
+    few_given = same_few old new filled_same working.few_given;
+    few_held = working.few_held;
+    few_links = working.few_links;
   }
 
   pub filled_rooms : (table : List (List ℕ)) → HasRooms old links capacities waited table → HasRooms new links capacities waited table

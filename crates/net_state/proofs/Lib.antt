@@ -3,6 +3,7 @@ pub mod Viewed
 pub mod Coming
 pub mod Clearing
 pub mod Narrowing
+pub mod Flows
 pub mod Moved
 pub mod Counting
 pub mod Kept
@@ -10,3 +11,11 @@ pub mod Slices
 pub mod Starting
 pub mod Reading
 pub mod Feeding
+pub mod Fed
+pub mod Firings
+pub mod Roomy
+pub mod Standstill
+pub mod Bursting
+pub mod Grown
+pub mod Lowest
+pub mod Readied

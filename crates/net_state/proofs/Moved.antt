@@ -1,6 +1,6 @@
 -- A delivery of inner and output links: the state that the cells hold after it.
 use Rattle.std.proofs.Common.{◌≡◌, ℕ, zero, suc, ◌+◌, ◌-◌, ◌<◌, ◌≤◌, min, true, false, List, [], ◌∷◌, ◌++◌, ℤ, length, map, take, drop, refl, sym, ap, subst, ◌∙◌, arith, append-nil}
-use Rattle.std.specs.Prelude.{Some, slice_get, if◌then◌else◌}
+use Rattle.std.specs.Prelude.{Some, slice_get, slice_index_or, if◌then◌else◌}
 use Rattle.std.proofs.lemmas.List.{take_all, drop-append-le, drop_all, length-take-le, take-append-drop}
 use Rattle.rvc_base.specs.Storing.{conv}
 use Rattle.rvc_base.specs.Lawful.{tokens_on}
@@ -12,10 +12,13 @@ use Rattle.net_model.specs.State.{Flow, State, waiting, untaken, inbox}
 use Rattle.net_model.specs.Event.{each_flow}
 use Rattle.net_model.specs.Trace.{arrivals, delivered}
 use Rattle.net_model.specs.Cell.{Cell}
-use Rattle.net_state.specs.Moving.{EachGains, EachClears, sent_of, sent_from, carried, arriving, IsWriter, IsOutput}
-use Rattle.net_state.specs.Standing.{AreAllOut, IsNetOf, LiesIn, IsHeld, AreHeld, Stands, inside_delivered, after_inside}
-use Rattle.net_state.proofs.Gaining.{there_too}
-use Rattle.net_state.proofs.Coming.{by_bool, is_that_port, if_true, if_false, on_cell}
+use Rattle.net_state.specs.Moving.{AreApart, EachGains, EachClears, sent_of, sent_from, carried, arriving, IsWriter, IsOutput}
+use Rattle.net_state.specs.Standing.{AreAllOut, InboxesHold, IsNetOf, IsOpened, LiesIn, IsHeld, AreHeld, Stands, inside_delivered, after_inside}
+use Rattle.net_state.proofs.Gaining.{some_is, there_too}
+use Rattle.net_state.proofs.Coming.{by_bool, is_own_port, is_that_port, if_true, if_false, on_cell}
+use Rattle.net_model.specs.Ready.{tokens_of, waiting_at}
+use Rattle.net_state.specs.Held.{AreCounted, IsReader}
+use Rattle.net_state.proofs.Flows.{changed_at, changed_count, inbox_at, length_waiting}
 
 -- a part that stays is the same of all cells
 pub same_part : {X Y : Type 0} (part : Cell X → Y) (old new : List (Cell X)) → length new ≡ length old
@@ -29,7 +32,7 @@ same_part part (before ∷ old) (after ∷ new) count same =
     ap (λ x. x ∷ map part new) (same zero before after refl refl) ∙ ap (λ xs. part before ∷ xs) rest
 
 -- what waits once all has arrived
-waiting_all : (sent : List ℤ) (arrived taken : ℕ) → taken ≤ arrived → arrived ≤ length sent
+pub waiting_all : (sent : List ℤ) (arrived taken : ℕ) → taken ≤ arrived → arrived ≤ length sent
     → drop taken (take (length sent) sent) ≡ drop taken (take arrived sent) ++ drop arrived sent
 waiting_all sent arrived taken before within =
     let len : length (take arrived sent) ≡ arrived = length-take-le arrived sent within in
@@ -76,28 +79,29 @@ not_output i p link leads = ap is_outside (is_that_port i p link.to leads)
 pub inbox_delivered : {X : Type 0} (cells : List (Cell X)) (i p : ℕ) (links : List Link) (flows : List Flow) (capacities : List ℕ)
     → AreHeld cells links flows capacities
     → inbox i p links (each_flow inside_delivered links flows) ≡ inbox i p links flows ++ arriving cells links i p
-inbox_delivered cells i p [] [] capacities held = refl
-inbox_delivered cells i p [] (flow ∷ flows) capacities held = refl
-inbox_delivered cells i p (link ∷ links) [] capacities held = absurd (none capacities held)
-  where
-    none : (caps : List ℕ) → AreHeld cells (link ∷ links) [] caps → ⊥
-    none [] h = h
-    none (c ∷ caps) h = h
-inbox_delivered cells i p (link ∷ links) (flow ∷ flows) [] held = absurd held
-inbox_delivered cells i p (link ∷ links) (flow ∷ flows) (capacity ∷ capacities) held =
+inbox_delivered cells i p [] flows capacities held = refl
+inbox_delivered cells i p (link ∷ links) [] capacities held = absurd (omega (arith, held.count))
+inbox_delivered cells i p (link ∷ links) (flow ∷ flows) capacities held =
     by_bool (is_leaf_port i p link.to)
     (λ leads.
     if_true (is_leaf_port i p link.to) (waiting (inside_delivered link flow)) (inbox i p links (each_flow inside_delivered links flows)) leads
-    ∙ (waits_more cells link flow capacity held.0 (not_output i p link leads)
+    ∙ (waits_more cells link flow (slice_index_or capacities zero 0) (held.each zero link flow refl refl) (not_output i p link leads)
     ∙ (ap (λ ts. ts ++ carried cells link) (sym (if_true (is_leaf_port i p link.to) (waiting flow) (inbox i p links flows) leads))
     ∙ ap (λ ts. (if is_leaf_port i p link.to then waiting flow else inbox i p links flows) ++ ts)
     (sym (if_true (is_leaf_port i p link.to) (carried cells link) (arriving cells links i p) leads)))))
     (λ leads.
     if_false (is_leaf_port i p link.to) (waiting (inside_delivered link flow)) (inbox i p links (each_flow inside_delivered links flows)) leads
-    ∙ (inbox_delivered cells i p links flows capacities held.1
+    ∙ (inbox_delivered cells i p links flows (drop 1 capacities) (record {
+      count = omega (arith, held.count);
+      each = λ l other that at there. subst (λ n. IsHeld cells other that n) (next_number capacities l) (held.each (suc l) other that at there);
+    })
     ∙ (ap (λ ts. ts ++ arriving cells links i p) (sym (if_false (is_leaf_port i p link.to) (waiting flow) (inbox i p links flows) leads))
     ∙ ap (λ ts. (if is_leaf_port i p link.to then waiting flow else inbox i p links flows) ++ ts)
     (sym (if_false (is_leaf_port i p link.to) (carried cells link) (arriving cells links i p) leads)))))
+  where
+    next_number : (numbers : List ℕ) (l : ℕ) → slice_index_or numbers (suc l) 0 ≡ slice_index_or (drop 1 numbers) l 0
+    next_number [] l = refl
+    next_number (n ∷ numbers) l = refl
 
 -- Links after a delivery.
 
@@ -147,15 +151,14 @@ held_delivered old new link flow capacity held none writer = by_from link.from r
 pub all_held_delivered : {X : Type 0} (old new : List (Cell X)) (links : List Link) (flows : List Flow) (capacities : List ℕ)
     → AreHeld old links flows capacities → NoneSent new → ((l : ℕ) (link : Link) → slice_get links l ≡ Some link → IsWriter new link.from)
     → AreHeld new links (each_flow inside_delivered links flows) capacities
-all_held_delivered old new [] [] [] held none writers = tt
-all_held_delivered old new [] [] (capacity ∷ capacities) held none writers = absurd held
-all_held_delivered old new [] (flow ∷ flows) capacities held none writers = absurd held
-all_held_delivered old new (link ∷ links) [] capacities held none writers = absurd held
-all_held_delivered old new (link ∷ links) (flow ∷ flows) [] held none writers = absurd held
-all_held_delivered old new (link ∷ links) (flow ∷ flows) (capacity ∷ capacities) held none writers = (
-  held_delivered old new link flow capacity held.0 none (writers zero link refl),
-  all_held_delivered old new links flows capacities held.1 none (λ m. writers (suc m)),
-)
+all_held_delivered old new links flows capacities held none writers = record {
+  count = changed_count inside_delivered links flows held.count;
+  each = λ l link flow at there.
+      let was = changed_at inside_delivered links flows l flow there in
+      let same : was.link ≡ link = some_is was.link link (sym was.at_link ∙ at) in
+      subst (λ f. IsHeld new link f (slice_index_or capacities l 0)) (sym (was.is ∙ ap (λ k. inside_delivered k was.flow) same))
+      (held_delivered old new link was.flow (slice_index_or capacities l 0) (held.each l link was.flow at was.at_flow) none (writers l link at));
+}
 
 -- The whole.
 
@@ -198,7 +201,14 @@ module _ {X : Type 0} (old mid new : List (Cell X)) (links : List Link) (gains :
   pub inside_stands : (net : Network X) (capacities : List ℕ) (s : State X) → IsNetOf net old links → Stands net old capacities s
       → ((l : ℕ) (link : Link) → slice_get links l ≡ Some link → IsWriter new link.from) → Stands net new capacities (after_inside net s)
   inside_stands net capacities s is stands writers = record {
-    actors = stands.actors ∙ sym (same_part (λ cell. cell.state) old new moved_count same_state);
+    actors = record {
+      count = stands.actors.count ∙ sym moved_count;
+      each = λ i after there free.
+          let before = there_too new old i after moved_count there in
+          let cell = between i before.0 before.1 in
+          let marked : after.trapped ≡ before.0.trapped = (clears.each i cell.0 after cell.1 there).trapped ∙ (gains.each i before.0 cell.0 before.1 cell.1).trapped in
+          stands.actors.each i before.0 before.1 (sym marked ∙ free) ∙ ap Some (sym (same_state i before.0 after before.1 there));
+    };
     inboxes = λ i after there p low.
         let before = there_too new old i after moved_count there in
         let low_before : p < before.0.actor.ins = subst (λ actor. p < actor.ins) (moved_actor i before.0 after before.1 there) low in
@@ -210,6 +220,51 @@ module _ {X : Type 0} (old mid new : List (Cell X)) (links : List Link) (gains :
         (λ l link at. writers l link (ap (λ ls. slice_get ls l) (sym is.links_are) ∙ at));
     untrapped = stands.untrapped;
   }
+
+-- all has arrived then on inner and output links
+pub inside_arrived : {X : Type 0} (cells : List (Cell X)) (links : List Link) (flows : List Flow) (capacities : List ℕ) → AreHeld cells links flows capacities
+    → (l : ℕ) (link : Link) (flow : Flow) → slice_get links l ≡ Some link → is_input link ≡ false → slice_get (each_flow inside_delivered links flows) l ≡ Some flow
+    → flow.arrived ≡ length flow.sent
+inside_arrived cells links flows capacities held l link flow at inner there =
+    let was = changed_at inside_delivered links flows l flow there in
+    let same : was.link ≡ link = some_is was.link link (sym was.at_link ∙ at) in
+    let is : flow ≡ delivered link was.flow =
+    was.is ∙ (ap (λ k. inside_delivered k was.flow) same ∙ if_false (is_input link) was.flow (delivered link was.flow) inner) in
+    ap (λ f. f.arrived) is
+    ∙ (ap (λ n. was.flow.arrived + n) (arrives_inside link was.flow inner)
+    ∙ (all_arrived was.flow (held.each l link was.flow at was.at_flow).arrived ∙ sym (ap (λ f. length f.sent) is)))
+
+-- what a delivery opens
+pub opened_inside : {X : Type 0} (new : List (Cell X)) (links : List Link) (capacities waited : List ℕ) (flows : List Flow) → AreCounted new links waited → AreApart links
+    → AreHeld new links flows capacities → InboxesHold new links flows → ((l : ℕ) (link : Link) → slice_get links l ≡ Some link → IsReader new link.to)
+    → ((l : ℕ) (link : Link) (flow : Flow) → slice_get links l ≡ Some link → is_input link ≡ false → slice_get flows l ≡ Some flow → flow.arrived ≡ length flow.sent)
+    → IsOpened links waited flows flows
+opened_inside new links capacities waited flows counted apart held hold readers arrived = record {
+  whole = held.count;
+  each = λ l link before flow at inner there that.
+      let same : flow ≡ before = some_is flow before (sym that ∙ there) in
+      record {
+        all_arrived = arrived l link before at inner there;
+        none_since = ap (λ f. f.arrived) same;
+        waited_is = by_end l link before at there link.to refl;
+      };
+}
+  where
+    by_end : (l : ℕ) (link : Link) (before : Flow) → slice_get links l ≡ Some link → slice_get flows l ≡ Some before → (end : End) → link.to ≡ end
+        → untaken before ≡ slice_index_or waited l 0
+    by_end l link before at there (AtNet port) to =
+        let none : length (waiting_at new link.to) ≡ 0 = ap (λ e. length (waiting_at new e)) to in
+        let gone : before.taken ≡ before.arrived = (held.each l link before at there).gone (ap is_outside to) in
+        omega (arith, none, gone, counted.each l link at)
+    by_end l link before at there (AtLeaf inst port) to =
+        let on = on_cell (slice_get new inst.0) (λ cell. port < cell.actor.ins) (subst (IsReader new) to (readers l link at)) in
+        let leads : is_leaf_port inst.0 port link.to ≡ true = ap (is_leaf_port inst.0 port) to ∙ is_own_port inst.0 port in
+        let waits : length (waiting_at new link.to) ≡ length (waiting before) =
+        ap (λ e. length (waiting_at new e)) to
+        ∙ (ap (λ o. length (tokens_of o port)) on.1
+        ∙ ap (λ ts. length ts) (hold inst.0 on.0 on.1 port on.2 ∙ inbox_at inst.0 port links flows l link before apart at there leads)) in
+        let many : length (waiting before) ≡ before.arrived - before.taken = length_waiting before (held.each l link before at there).arrived in
+        omega (arith, waits, many, counted.each l link at)
 
 pub moved_all_out : {X : Type 0} (mid new : List (Cell X)) → EachClears mid new → AreAllOut new
 moved_all_out mid new clears = λ i cell at.

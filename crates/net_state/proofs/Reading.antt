@@ -1,5 +1,5 @@
 -- What was sent on a link, read from its cell.
-use Rattle.std.proofs.Common.{◌≡◌, ℕ, zero, suc, ◌<◌, true, false, List, [], ◌∷◌, ℤ, length, map, drop, refl, sym, ap, subst, ◌∙◌}
+use Rattle.std.proofs.Common.{◌≡◌, ℕ, ◌<◌, true, false, List, ℤ, length, map, drop, refl, sym, ap, subst, ◌∙◌}
 use Rattle.std.specs.Prelude.{Option, None, Some, slice_get}
 use Rattle.rvc_base.specs.Storing.{conv}
 use Rattle.net_model.specs.declared.wiring.End.{End}
@@ -9,11 +9,11 @@ use Rattle.net_model.specs.Network.{is_input, is_outside}
 use Rattle.net_model.specs.State.{Flow}
 use Rattle.net_model.specs.Cell.{Cell}
 use Rattle.net_state.specs.Moving.{IsFromCell, WritersFit, sent_of, sent_from, carried, carried_on}
-use Rattle.net_state.specs.Held.{IsWorking}
+use Rattle.net_state.specs.Held.{Held, IsWorking}
 use Rattle.std.specs.Option.{option_map}
 use Rattle.std.proofs.lemmas.Option.{slice_get-map, slice_get_within}
 use Rattle.net_state.specs.Standing.{AreHeld, IsTrueOfUnarrived, LiesIn, unarrived}
-use Rattle.net_state.proofs.Gaining.{some_is}
+use Rattle.net_state.proofs.Gaining.{there_too}
 
 lies_carried : {X : Type 0} (cells : List (Cell X)) (link : Link) (tokens : List ℤ) (end : End) → link.from ≡ end → is_input link ≡ false
     → LiesIn cells link tokens end → tokens ≡ carried cells link
@@ -22,20 +22,14 @@ lies_carried cells link tokens (AtLeaf inst port) from inner lies = lies ∙ sym
 
 pub unarrived_is : {X : Type 0} (cells : List (Cell X)) (links : List Link) (flows : List Flow) (capacities : List ℕ) (l : ℕ) (link : Link)
     → AreHeld cells links flows capacities → slice_get links l ≡ Some link → is_input link ≡ false → unarrived (slice_get flows l) ≡ carried cells link
-unarrived_is cells [] flows capacities l link held at inner = cc
-unarrived_is cells (head ∷ links) [] [] l link held at inner = absurd held
-unarrived_is cells (head ∷ links) [] (capacity ∷ capacities) l link held at inner = absurd held
-unarrived_is cells (head ∷ links) (flow ∷ flows) [] l link held at inner = absurd held
-unarrived_is cells (head ∷ links) (flow ∷ flows) (capacity ∷ capacities) zero link held at inner =
-    let same : head ≡ link = some_is head link at in
-    lies_carried cells head (drop flow.arrived flow.sent) head.from refl (ap is_input same ∙ inner) held.0.lies ∙ ap (carried cells) same
-unarrived_is cells (head ∷ links) (flow ∷ flows) (capacity ∷ capacities) (suc l) link held at inner =
-    unarrived_is cells links flows capacities l link held.1 at inner
+unarrived_is cells links flows capacities l link held at inner =
+    let on = there_too links flows l link (sym held.count) at in
+    ap unarrived on.1 ∙ lies_carried cells link (drop on.0.arrived on.0.sent) link.from refl inner (held.each l link on.0 at on.1).lies
 
-pub true_of_unarrived : {X : Type 0} (cells : List (Cell X)) (links : List Link) (capacities : List ℕ) (l : ℕ) (link : Link) (P : List ℤ → Type 0)
-    → slice_get links l ≡ Some link → is_input link ≡ false → P (carried cells link) → IsTrueOfUnarrived cells links capacities l P
-true_of_unarrived cells links capacities l link P at inner holds = λ net s is stands.
-    subst P (sym (unarrived_is cells net.links s.flows capacities l link stands.flows (ap (λ ls. slice_get ls l) is.links_are ∙ at) inner)) holds
+pub true_of_unarrived : {X : Type 0} (held : Held (Cell X)) (l : ℕ) (link : Link) (P : List ℤ → Type 0)
+    → slice_get held.links l ≡ Some link → is_input link ≡ false → P (carried held.cells link) → IsTrueOfUnarrived held l P
+true_of_unarrived held l link P at inner holds = λ net s stands.
+    subst P (sym (unarrived_is held.cells net.links s.flows held.capacities l link stands.stands.flows (ap (λ ls. slice_get ls l) stands.is_of.links_are ∙ at) inner)) holds
 
 -- The same for the link at a place of a list.
 
@@ -43,11 +37,11 @@ pub on_link : (o : Option Link) → IsFromCell o → (link : Link) × (o ≡ Som
 on_link None h = absurd h
 on_link (Some link) h = (link, refl, h)
 
-pub true_of_unarrived_on : {X : Type 0} (cells : List (Cell X)) (links : List Link) (capacities : List ℕ) (l : ℕ) (P : List ℤ → Type 0)
-    → IsFromCell (slice_get links l) → P (carried_on cells (slice_get links l)) → IsTrueOfUnarrived cells links capacities l P
-true_of_unarrived_on cells links capacities l P from holds =
-    let on = on_link (slice_get links l) from in
-    true_of_unarrived cells links capacities l on.0 P on.1 on.2 (subst (λ o. P (carried_on cells o)) on.1 holds)
+pub true_of_unarrived_on : {X : Type 0} (held : Held (Cell X)) (l : ℕ) (P : List ℤ → Type 0)
+    → IsFromCell (slice_get held.links l) → P (carried_on held.cells (slice_get held.links l)) → IsTrueOfUnarrived held l P
+true_of_unarrived_on held l P from holds =
+    let on = on_link (slice_get held.links l) from in
+    true_of_unarrived held l on.0 P on.1 on.2 (subst (λ o. P (carried_on held.cells o)) on.1 holds)
 
 pub writers_of : {X : Type 0} (cells : List (Cell X)) (links : List Link) (capacities waited : List ℕ) → IsWorking cells links capacities waited → WritersFit cells links
 writers_of cells links capacities waited working = λ l link at. ((working.fits l link at).size, (working.fits l link at).writer)

@@ -3,17 +3,20 @@ use Rattle.std.proofs.Common.{◌≡◌, ℕ, zero, suc, ◌+◌, ◌<◌, ◌�
 use Rattle.std.specs.Prelude.{Some, slice_get, slice_index_or}
 use Rattle.std.proofs.lemmas.Bool.{cases_eq}
 use Rattle.std.proofs.lemmas.List.{length-map, drop_at}
+use Rattle.std.proofs.lemmas.Option.{slice_get-map, slice_get_within}
+use Rattle.std.specs.Option.{option_map}
 use Rattle.rvc_base.specs.Storing.{conv}
-use Rattle.rvc_base.specs.Lawful.{tokens_on}
+use Rattle.rvc_base.specs.Lawful.{IsLawful, tokens_on}
 use Rattle.net_model.specs.declared.wiring.End.{End}
 use Rattle.net_model.specs.declared.wiring.End.TheVariants.{Leaf as AtLeaf, Net as AtNet}
 use Rattle.net_model.specs.declared.wiring.Link.{Link}
 use Rattle.net_model.specs.Network.{Network, is_outside, is_leaf_port}
 use Rattle.net_model.specs.State.{waiting, inbox, fed_by}
-use Rattle.net_model.specs.Cell.{Cell, HasNothingOut}
+use Rattle.net_model.specs.Cell.{Cell, HasNothingOut, unread_room}
 use Rattle.net_model.specs.Ready.{OnCell, waiting_at, tokens_of, given_flow}
+use Rattle.net_state.specs.Beginning.{AreLawfulCells}
 use Rattle.net_state.specs.Moving.{IsWriter, sent_of, sent_from}
-use Rattle.net_state.specs.Held.{AreCounted, CanWork, FitsIn, HasRooms, HasShapeOf, HasWidths, IsReader, IsRoomTable, IsWorking, NoneLeads, capacity_of}
+use Rattle.net_state.specs.Held.{AreCounted, CanWork, FitsIn, HasRooms, HoldFew, HasShapeOf, HasWidths, IsReader, IsRoomTable, IsWorking, NoneLeads, capacity_of}
 use Rattle.net_state.specs.Standing.{AreHeld, IsHeld, LiesIn, StandAtStart}
 use Rattle.net_state.proofs.Gaining.{some_is, there_too}
 use Rattle.net_state.proofs.Coming.{by_bool, if_true, if_false, is_that_port, on_cell}
@@ -29,16 +32,23 @@ get_pushed (z ∷ xs) y (suc i) x at =
     let rest = get_pushed xs y i x at in
     ((λ low. rest.0 (omega (arith, low))), (λ same. rest.1 (omega (arith, same))), omega (arith, rest.2))
 
+pub few_more : (numbers : List ℕ) (n : ℕ) → HoldFew numbers → n ≤ unread_room → HoldFew (numbers ++ n ∷ [])
+few_more [] n few most zero = most
+few_more [] n few most (suc l) = omega arith
+few_more (first ∷ numbers) n few most zero = few zero
+few_more (first ∷ numbers) n few most (suc l) = few_more numbers n (λ k. few (suc k)) most l
+
 pub record IsTabling {X : Type 0} (n : ℕ) (cells : List (Cell X)) (table : List (List ℕ)) : Type 0 where
   pub rows : length table ≡ n
   pub widths : (i : ℕ) (cell : Cell X) (row : List ℕ) → slice_get cells i ≡ Some cell → slice_get table i ≡ Some row → length row ≡ cell.actor.outs
+  pub lawful : (i : ℕ) (cell : Cell X) → i < n → slice_get cells i ≡ Some cell → IsLawful cell.actor
 
 pub tabling_starts : {X : Type 0} (cells : List (Cell X)) → IsTabling 0 cells []
-tabling_starts cells = record { rows = refl; widths = λ i cell row at is. cc }
+tabling_starts cells = record { rows = refl; widths = λ i cell row at is. cc; lawful = λ i cell low. absurd (omega (arith, low)) }
 
 pub tabling_more : {X : Type 0} (n outs : ℕ) (cells : List (Cell X)) (table : List (List ℕ)) (row : List ℕ) → IsTabling n cells table
-    → OnCell (slice_get cells n) (λ cell. outs ≡ cell.actor.outs) → length row ≡ outs → IsTabling (n + 1) cells (table ++ row ∷ [])
-tabling_more n outs cells table row so_far here len = record {
+    → OnCell (slice_get cells n) (λ cell. outs ≡ cell.actor.outs) → OnCell (slice_get cells n) (λ cell. IsLawful cell.actor) → length row ≡ outs → IsTabling (n + 1) cells (table ++ row ∷ [])
+tabling_more n outs cells table row so_far here law len = record {
   rows = length-append table (row ∷ []) ∙ (let one : length table + 1 ≡ n + 1 = omega (arith, so_far.rows) in one);
   widths = λ i cell that at is.
       let pushed = get_pushed table row i that is in
@@ -49,7 +59,15 @@ tabling_more n outs cells table row so_far here len = record {
       ap (λ r. length r) (pushed.1 same) ∙ (len ∙ (on.2 ∙ sym (ap (λ c. c.actor.outs) cell_is))))
       (λ differ. so_far.widths i cell that at (pushed.0 (omega (arith, differ, pushed.2))))
       (cases_eq i (length table));
+  lawful = λ i cell low at. ⊎_elim
+      (λ same. let on = on_cell (slice_get cells n) (λ c. IsLawful c.actor) law in
+      subst (λ c. IsLawful c.actor) (some_is on.0 cell (sym on.1 ∙ (ap (slice_get cells) (sym same) ∙ at))) on.2)
+      (λ differ. so_far.lawful i cell (omega (arith, low, differ)) at)
+      (cases_eq i n);
 }
+
+pub tabled_lawful : {X : Type 0} (n : ℕ) (cells : List (Cell X)) (table : List (List ℕ)) → IsTabling n cells table → n ≡ length cells → AreLawfulCells cells
+tabled_lawful n cells table so_far all i cell at = so_far.lawful i cell (omega (arith, all, slice_get_within cells i cell at)) at
 
 pub tabled_all : {X : Type 0} (n : ℕ) (cells : List (Cell X)) (table : List (List ℕ)) → IsTabling n cells table → n ≡ length cells → HasWidths cells table
 tabled_all n cells table so_far all = record { rows = so_far.rows ∙ all; widths = so_far.widths }
@@ -69,8 +87,8 @@ none_sent_from cells out (AtLeaf inst port) writer =
     ap (λ o. sent_of o port) on.1 ∙ (out inst.0 on.0 on.1).0 port on.2
 
 pub start_working : {X : Type 0} (cells : List (Cell X)) (links : List Link) (waited : List ℕ) → CanWork cells links → AreCounted cells links waited
-    → IsWorking cells links (map capacity_of links) waited
-start_working cells links waited can counted = record {
+    → HoldFew (map capacity_of links) → IsWorking cells links (map capacity_of links) waited
+start_working cells links waited can counted few = record {
   each_holds = length-map links capacity_of;
   each_waited = counted.as_many;
   apart = can.apart;
@@ -86,10 +104,15 @@ start_working cells links waited can counted = record {
         outbox = joined.outbox;
         inbox = joined.inbox;
         waiting = joined.waiting;
+        counted = omega (arith, count, joined.waiting);
+        grown = omega arith;
         fewer = λ inner. omega (arith, count);
         since = λ inner. omega (arith, count, none, joined.waiting);
       });
   read = can.read;
+  few_given = can.few_given;
+  few_held = few;
+  few_links = can.few_links;
 }
 
 pub readers_at_start : {X : Type 0} (cells : List (Cell X)) (links : List Link) → CanWork cells links → (l : ℕ) (link : Link) → slice_get links l ≡ Some link → IsReader cells link.to
@@ -158,22 +181,34 @@ module _ {X : Type 0} (net : Network X) (cells : List (Cell X)) (inputs : List (
 
   all_held_given : (links : List Link) → ((l : ℕ) (link : Link) → slice_get links l ≡ Some link → IsWriter cells link.from × (sent_from cells link.from ≡ []))
       → AreHeld cells links (map (given_flow net cells inputs) links) (map capacity_of links)
-  all_held_given [] each = tt
-  all_held_given (link ∷ links) each =
-      let first = each zero link refl in
-      (held_given link first.0 first.1, all_held_given links (λ l. each (suc l)))
+  all_held_given links each = record {
+    count = length-map links (given_flow net cells inputs);
+    each = λ l link flow at there.
+        let is : given_flow net cells inputs link ≡ flow =
+        some_is (given_flow net cells inputs link) flow (sym (slice_get-map (given_flow net cells inputs) links l ∙ ap (option_map (given_flow net cells inputs)) at) ∙ there) in
+        let here = each l link at in
+        subst (λ n. IsHeld cells link flow n) (sym (capacity_at_start links l link at))
+        (subst (λ f. IsHeld cells link f link.capacity) is (held_given link here.0 here.1));
+  }
 
-pub start_stands : {X : Type 0} (cells : List (Cell X)) (links : List Link) → CanWork cells links → StandAtStart cells links (map capacity_of links)
-start_stands cells links can = λ net inputs is. record {
-  actors = refl;
-  inboxes = λ i cell at p low.
-      let here : tokens_of (slice_get cells i) p ≡ tokens_on cell.inboxes p = ap (λ o. tokens_of o p) at in
-      sym (inbox_given net cells inputs net.links i p
-      (λ none. here ∙ can.unlinked i cell at p low (λ l link there. none l link (ap (λ ls. slice_get ls l) is.links_are ∙ there)))
-      ∙ here);
-  flows = subst (λ ls. AreHeld cells net.links (map (given_flow net cells inputs) net.links) (map capacity_of ls)) is.links_are
-      (all_held_given net cells inputs net.links (λ l link at.
-      let joined = can.joined l link (sym (ap (λ ls. slice_get ls l) is.links_are) ∙ at) in
-      (joined.writer, none_sent_from cells can.all_out link.from joined.writer)));
-  untrapped = refl;
+pub start_stands : {X : Type 0} (cells : List (Cell X)) (links : List Link) (waited : List ℕ) → CanWork cells links
+    → StandAtStart (record { cells = cells; links = links; capacities = map capacity_of links; waited = waited })
+start_stands cells links waited can = λ net inputs is. record {
+  is_of = is;
+  stands = record {
+    actors = record {
+      count = length-map cells (λ cell. cell.state);
+      each = λ i cell at free. slice_get-map (λ c. c.state) cells i ∙ ap (option_map (λ c. c.state)) at;
+    };
+    inboxes = λ i cell at p low.
+        let here : tokens_of (slice_get cells i) p ≡ tokens_on cell.inboxes p = ap (λ o. tokens_of o p) at in
+        sym (inbox_given net cells inputs net.links i p
+        (λ none. here ∙ can.unlinked i cell at p low (λ l link there. none l link (ap (λ ls. slice_get ls l) is.links_are ∙ there)))
+        ∙ here);
+    flows = subst (λ ls. AreHeld cells net.links (map (given_flow net cells inputs) net.links) (map capacity_of ls)) is.links_are
+        (all_held_given net cells inputs net.links (λ l link at.
+        let joined = can.joined l link (sym (ap (λ ls. slice_get ls l) is.links_are) ∙ at) in
+        (joined.writer, none_sent_from cells can.all_out link.from joined.writer)));
+    untrapped = refl;
+  };
 }

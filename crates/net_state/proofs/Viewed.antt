@@ -4,7 +4,12 @@ use Rattle.std.specs.Prelude.{Some, slice_get, slice_set, slice_index_or}
 use Rattle.std.proofs.lemmas.List.{map-set, length-set}
 use Rattle.std.proofs.lemmas.Option.{slice_get-get_or, slice_get-map}
 use Rattle.std.specs.Option.{option_map}
-use Rattle.net_model.specs.Cell.{Cell, Accepts, Clears}
+use Rattle.net_model.specs.Cell.{Accepts, Bursts, Cell, Clears, FitsQueues, IsSame, Looks, Tries}
+use Rattle.net_model.specs.declared.firing.Look.{Look}
+use Rattle.net_model.specs.declared.firing.Tried.{Tried}
+use Rattle.net_model.specs.declared.firing.BurstEnd.{BurstEnd}
+use Rattle.rvc_base.specs.Lawful.{IsLawful}
+use Rattle.net_state.specs.Working.{BurstsAt, LookedAt, TriedAt}
 use Rattle.net_state.specs.Moving.{EachGains, ClearsAt, only_to}
 use Rattle.net_state.proofs.Gaining.{some_is, get_set_same, get_set_other, each_gains_at, gains_token}
 
@@ -33,3 +38,50 @@ module _ {C X : Type 0} (view : C → Cell X) where
             subst (λ c. Clears c after) old_is (subst (Clears (view (slice_index_or cells i d))) new_is clears);
         elsewhere = λ k differ. get_set_other (map view cells) k i (view new) differ;
       })
+
+  -- a burst of the cell at a place; what is known of it was told by two readings
+  pub bursts_at : (cells : List C) (i limit : ℕ) (rooms : List ℕ) (d e new : C) (end : BurstEnd) → i < length cells → IsLawful (view (slice_index_or cells i d)).actor
+      → FitsQueues (view (slice_index_or cells i d)) → Bursts rooms limit (view (slice_index_or cells i e)) end (view new)
+      → BurstsAt i limit rooms (map view cells) end (map view (slice_set cells i new))
+  bursts_at cells i limit rooms d e new end low lawful fits bursts =
+      let same : view (slice_index_or cells i d) ≡ view (slice_index_or cells i e) = some_is _ _ (sym (viewed cells i d low) ∙ viewed cells i e low) in
+      record {
+        before = view (slice_index_or cells i d);
+        after = view new;
+        at = viewed cells i d low;
+        is = map-set view cells i new;
+        lawful = lawful;
+        fits = fits;
+        bursts = subst (λ cell. Bursts rooms limit cell end (view new)) (sym same) bursts;
+      }
+
+  pub looked_at : (cells : List C) (i : ℕ) (rooms : List ℕ) (d e new : C) (look : Look) → i < length cells → IsLawful (view (slice_index_or cells i d)).actor
+      → FitsQueues (view (slice_index_or cells i d)) → Looks rooms (view (slice_index_or cells i e)) look → IsSame (view (slice_index_or cells i e)) (view new)
+      → LookedAt i rooms (map view cells) look (map view (slice_set cells i new))
+  looked_at cells i rooms d e new look low lawful fits looks still =
+      let same : view (slice_index_or cells i d) ≡ view (slice_index_or cells i e) = some_is _ _ (sym (viewed cells i d low) ∙ viewed cells i e low) in
+      record {
+        before = view (slice_index_or cells i d);
+        after = view new;
+        at = viewed cells i d low;
+        is = map-set view cells i new;
+        lawful = lawful;
+        fits = fits;
+        looks = subst (λ cell. Looks rooms cell look) (sym same) looks;
+        same = subst (λ cell. IsSame cell (view new)) (sym same) still;
+      }
+
+  pub tried_at : (cells : List C) (i : ℕ) (rooms : List ℕ) (a : ℕ) (d e new : C) (tried : Tried) → i < length cells → IsLawful (view (slice_index_or cells i d)).actor
+      → FitsQueues (view (slice_index_or cells i d)) → Tries rooms a (view (slice_index_or cells i e)) tried (view new)
+      → TriedAt i rooms a (map view cells) tried (map view (slice_set cells i new))
+  tried_at cells i rooms a d e new tried low lawful fits tries =
+      let same : view (slice_index_or cells i d) ≡ view (slice_index_or cells i e) = some_is _ _ (sym (viewed cells i d low) ∙ viewed cells i e low) in
+      record {
+        before = view (slice_index_or cells i d);
+        after = view new;
+        at = viewed cells i d low;
+        is = map-set view cells i new;
+        lawful = lawful;
+        fits = fits;
+        tries = subst (λ cell. Tries rooms a cell tried (view new)) (sym same) tries;
+      }

@@ -1,5 +1,5 @@
 -- What is held of a network at work: its cells, its links, and how much each link can hold now.
-use Rattle.std.specs.Prelude.{◌≡◌, ℕ, ◌+◌, ◌-◌, ◌≤◌, ◌<◌, ◌↔◌, min, true, false, List, [], ◌∷◌, length, slice_get, slice_index_or, Option, None, Some, if◌then◌else◌}
+use Rattle.std.specs.Prelude.{◌≡◌, ℕ, ◌+◌, ◌-◌, ◌≤◌, ◌<◌, ◌↔◌, min, true, false, List, [], ◌∷◌, length, map, slice_get, slice_index_or, Option, None, Some, if◌then◌else◌}
 use Rattle.rvc_base.specs.Storing.{IsSize}
 use Rattle.rvc_base.specs.Lawful.{tokens_on}
 use Rattle.net_model.specs.declared.wiring.End.{End}
@@ -7,6 +7,7 @@ use Rattle.net_model.specs.declared.wiring.End.TheVariants.{Leaf as AtLeaf, Net 
 use Rattle.net_model.specs.declared.wiring.Link.{Link}
 use Rattle.net_model.specs.Network.{is_input, is_output, is_leaf_port}
 use Rattle.net_model.specs.Cell.{Cell, number_on, unread_room, HasNothingOut}
+use Rattle.net_model.specs.Limits.{max_links, max_rate}
 use Rattle.net_model.specs.Ready.{OutboxHolds, InboxHolds, waiting_at}
 use Rattle.net_state.specs.Moving.{IsInput, IsWriter, AreApart, sent_from}
 
@@ -16,6 +17,13 @@ pub record Held (C : Type 0) : Type 0 where
   pub links : List Link
   pub capacities : List ℕ
   pub waited : List ℕ
+
+-- the same with all that is seen of each cell
+abbrev pub seen : {C X : Type 0} → (C → Cell X) → Held C → Held (Cell X)
+seen cell held = record { cells = map cell held.cells; links = held.links; capacities = held.capacities; waited = held.waited }
+
+abbrev pub held_of : {X : Type 0} → List (Cell X) → List Link → List ℕ → List ℕ → Held (Cell X)
+held_of cells links capacities waited = record { cells = cells; links = links; capacities = capacities; waited = waited }
 
 -- The room of output port p of cell i, which is fixed at a delivery: the least of its links' present capacities,
 -- each less what waited then at the link's reading end. A port that no link leaves has room for any number.
@@ -79,9 +87,19 @@ pub record FitsIn {X : Type 0} (cells : List (Cell X)) (capacity waited : ℕ) (
   pub outbox : OutboxHolds cells capacity link.from
   pub inbox : InboxHolds cells capacity link.to
   pub waiting : length (waiting_at cells link.to) ≤ capacity
+  pub counted : waited ≤ capacity
+  pub grown : link.capacity ≤ capacity
   -- on inner and output links: what waited at the last delivery and what was sent since is at most the capacity
   pub fewer : is_input link ≡ false → length (waiting_at cells link.to) ≤ waited
   pub since : is_input link ≡ false → waited + length (sent_from cells link.from) ≤ capacity
+
+-- no action gives more than an action may
+abbrev pub GivesFew : {X : Type 0} → List (Cell X) → Type 0
+GivesFew {X} cells = (i : ℕ) (cell : Cell X) → slice_get cells i ≡ Some cell → (a p : ℕ) → cell.actor.give a p ≤ max_rate
+
+-- no capacity passes the room of a port that no link leaves
+abbrev pub HoldFew : List ℕ → Type 0
+HoldFew capacities = (l : ℕ) → slice_index_or capacities l 0 ≤ unread_room
 
 -- what holds of all that is held
 pub record IsWorking {X : Type 0} (cells : List (Cell X)) (links : List Link) (capacities waited : List ℕ) : Type 0 where
@@ -93,6 +111,9 @@ pub record IsWorking {X : Type 0} (cells : List (Cell X)) (links : List Link) (c
   -- a port is without reader exactly where no link leaves it
   pub read : (i : ℕ) (cell : Cell X) → slice_get cells i ≡ Some cell
       → (p : ℕ) → p < cell.actor.outs → (0 < number_on cell.outbox_capacities p) ↔ IsLeft links i p
+  pub few_given : GivesFew cells
+  pub few_held : HoldFew capacities
+  pub few_links : length links ≤ max_links
 
 -- the table has a row for each cell, and in it a place for each of its output ports
 pub record HasWidths {X : Type 0} (cells : List (Cell X)) (table : List (List ℕ)) : Type 0 where
@@ -126,6 +147,8 @@ pub record CanWork {X : Type 0} (cells : List (Cell X)) (links : List Link) : Ty
   pub joined : (l : ℕ) (link : Link) → slice_get links l ≡ Some link → IsJoinedTo cells link
   pub read : (i : ℕ) (cell : Cell X) → slice_get cells i ≡ Some cell
       → (p : ℕ) → p < cell.actor.outs → (0 < number_on cell.outbox_capacities p) ↔ IsLeft links i p
+  pub few_given : GivesFew cells
+  pub few_links : length links ≤ max_links
   -- nothing was sent, and no journal names a firing
   pub all_out : (i : ℕ) (cell : Cell X) → slice_get cells i ≡ Some cell → HasNothingOut cell
   -- before an input port to which no link leads no token waits

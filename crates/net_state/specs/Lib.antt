@@ -2,3 +2,5 @@ pub mod Moving
 pub mod Held
 pub mod Standing
 pub mod Filling
+pub mod Working
+pub mod Beginning

@@ -14,6 +14,17 @@ abbrev pub sent_of : {X : Type 0} → Option (Cell X) → ℕ → List ℤ
 sent_of None p = []
 sent_of (Some cell) p = tokens_on cell.outboxes p
 
+-- What stays.
+
+-- the actors, the capacities of their queues and the rooms of their journals are the same
+pub record SameActors {X : Type 0} (old new : List (Cell X)) : Type 0 where
+  pub count : length new ≡ length old
+  pub each : (i : ℕ) (before after : Cell X) → slice_get old i ≡ Some before → slice_get new i ≡ Some after → IsSameActor before after
+
+-- each cell is marked as trapped where it was
+abbrev pub SameMarks : {X : Type 0} → List (Cell X) → List (Cell X) → Type 0
+SameMarks {X} old new = (i : ℕ) (before after : Cell X) → slice_get old i ≡ Some before → slice_get new i ≡ Some after → after.trapped ≡ before.trapped
+
 -- tokens come in behind those before each port, and all else stays
 pub record Gains {X : Type 0} (arriving : ℕ → List ℤ) (old new : Cell X) : Type 0 where
   pub actor : IsSameActor old new

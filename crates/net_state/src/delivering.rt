@@ -1,8 +1,9 @@
 //! A delivery of inner and output links.
 
 ghost use Rattle.std.specs.Prelude.{◌≡◌, length, map, vec_items};
-ghost use Rattle.net_state.specs.Held.{AreCounted, CanWork, HasRooms, HasWidths, IsWorking, capacity_of};
-ghost use Rattle.net_state.specs.Standing.{AreAllOut, StandAfterInside};
+ghost use Rattle.net_state.specs.Held.{AreCounted, CanWork, HasRooms, HasWidths, HoldFew, IsWorking, capacity_of, held_of};
+ghost use Rattle.net_state.specs.Moving.{SameActors, SameMarks};
+ghost use Rattle.net_state.specs.Standing.{AreAllOut, LeadInside};
 
 use crate::carrying::carry_all;
 use crate::places::clear_all;
@@ -20,7 +21,10 @@ pub(crate) fn deliver_inside<A: Firing>(
 )
     requires working { IsWorking (map A.cell cells.old) links.now capacities.now waited.old }
     requires rooms { HasRooms (map A.cell cells.old) links.now capacities.now waited.old (map vec_items rooms.old) }
-    ensures states { StandAfterInside (map A.cell cells.old) (map A.cell cells.new) links.now capacities.now }
+    ensures states { LeadInside (held_of (map A.cell cells.old) links.now capacities.now waited.old)
+        (held_of (map A.cell cells.new) links.now capacities.now waited.new) }
+    ensures same_actors { SameActors (map A.cell cells.old) (map A.cell cells.new) }
+    ensures same_marks { SameMarks (map A.cell cells.old) (map A.cell cells.new) }
     ensures all_out { AreAllOut (map A.cell cells.new) }
     ensures counted { AreCounted (map A.cell cells.new) links.now waited.new }
     ensures working { IsWorking (map A.cell cells.new) links.now capacities.now waited.new }
@@ -42,6 +46,7 @@ pub(crate) fn lay_out<A: Firing>(
 )
     requires can { CanWork (map A.cell cells.now) links.now }
     requires capacities { capacities.now ≡ map capacity_of links.now }
+    requires few { HoldFew capacities.now }
     requires as_many { length waited.old ≡ length links.now }
     requires widths { HasWidths (map A.cell cells.now) (map vec_items rooms.old) }
     ensures counted { AreCounted (map A.cell cells.now) links.now waited.new }

@@ -4,11 +4,16 @@
 mod carrying;
 mod delivering;
 mod filling;
+mod growing;
+mod lacking;
+mod laws;
 mod network;
 mod places;
 mod rooms;
 mod tables;
 mod waiting;
+mod working;
 
 pub use filling::Filled;
+pub use laws::ready_networks_can_work;
 pub use network::NetState;

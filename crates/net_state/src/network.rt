@@ -1,30 +1,35 @@
 //! A network at work.
 
-ghost use Rattle.std.specs.Prelude.{◌≡◌, ◌<◌, ℕ, true, IfOk, OnErr, Some, length, map, slice_get, slice_index_or};
+ghost use Rattle.std.specs.Prelude.{◌≡◌, ◌<◌, ◌*◌, ℕ, true, IfNone, IfOk, IfSome, OnErr, Some, length, map, min, slice_get, slice_index_or, slice_set};
 ghost use Rattle.rvc_io.specs.Feeds.{PullsOnly, ReadFails};
-ghost use Rattle.port_files.specs.Coming.{EndIsTrue, coming_on};
-ghost use Rattle.net_state.specs.Filling.{AtReader, IsFilled, IsInputLink, Takes};
-ghost use Rattle.net_state.specs.Held.{AreCounted, CanWork, capacity_of, room_of};
-ghost use Rattle.net_state.specs.Moving.{IsFromCell, IsOutput, carried_on};
-ghost use Rattle.net_state.specs.Standing.{AreAllOut, IsTrueOfUnarrived, StandAfterInside, StandAtStart};
+ghost use Rattle.port_files.specs.Coming.{EndIsTrue};
+ghost use Rattle.net_state.specs.Beginning.{AreLawfulIn};
+ghost use Rattle.net_state.specs.Filling.{AreArrivals, Fills, IsFull, IsInputLink, inflow};
+ghost use Rattle.net_state.specs.Held.{AreCounted, CanWork, capacity_of, room_of, seen};
+ghost use Rattle.net_state.specs.Moving.{IsFromCell, IsOutput, SameActors, SameMarks, carried_on};
+ghost use Rattle.net_state.specs.Working.{CanHold, GrewTo, HasAction, IsAtRest, IsLowestLacking, LacksAsEnds, LacksAt, LooksAt, MayBurst, MayWork, TriesAt, WorksAt, journal_of};
+ghost use Rattle.net_state.specs.Standing.{AreAllOut, IsTrueOfUnarrived, LeadInside, StandAtStart};
 
 use crate::carrying::{sent_along, token_along};
 use crate::delivering::{deliver_inside, lay_out};
 use crate::filling::{Filled, fill_link};
+use crate::growing::grow_link;
+use crate::lacking::lowest_lacking;
 use crate::tables::{first_capacities, room_table, zeros};
-use net_model::{Firing, Link};
+use crate::working::{burst_at, look_at, try_at};
+use net_model::{BurstEnd, Firing, Link, Look, Tried};
 use port_files::TokenFeed;
-use rvc_base::{InstId, LinkId, Memory, Num};
+use rvc_base::{ActId, InstId, LinkId, Memory, Num};
 use rvc_io::{Failed, Feeds};
 use std::alloc::Global;
 use std::marker::Model;
 
 /// The cells of a network, its links, and how many tokens each link can hold now.
 ///
-/// Contracts see the cells as values of `A`, the links, their present capacities, and how many tokens waited at
-/// the reading end of each link after the last delivery. What it says of the network's state is said of every
-/// state that the cells hold: the actors' states, the tokens that wait on each link, and those that were sent and
-/// haven't arrived.
+/// Contracts see the cells, the links, their present capacities, and how many tokens waited at the reading end of
+/// each link after the last delivery. What it says of the network's state is said of every state that stands in
+/// the cells: they hold the actors' states, the tokens that wait on each link, and those that were sent and haven't
+/// arrived.
 #[derive(Drop)]
 pub struct NetState<A: Firing> {
     cells: Vec<A>,
@@ -55,8 +60,9 @@ impl<A: Firing> NetState<A> {
         ensures cells { IfOk result (λ n. n.cells ≡ cells.items) }
         ensures links { IfOk result (λ n. n.links ≡ links.items) }
         ensures capacities { IfOk result (λ n. n.capacities ≡ map capacity_of links.items) }
-        ensures waited { IfOk result (λ n. AreCounted (map A.cell cells.items) links.items n.waited) }
-        ensures states { IfOk result (λ n. StandAtStart (map A.cell n.cells) n.links n.capacities) }
+        ensures waited { IfOk result (λ n. AreCounted (map A.cell n.cells) n.links n.waited) }
+        ensures states { IfOk result (λ n. StandAtStart (seen A.cell n)) }
+        ensures lawful { IfOk result (λ n. AreLawfulIn (seen A.cell n)) }
     {
         let capacities = first_capacities(alloc, &links)?;
         let mut waited = zeros(alloc, links.len())?;
@@ -80,11 +86,83 @@ impl<A: Firing> NetState<A> {
         self.rooms[inst.0 as usize][port as usize]
     }
 
+    /// Lets one cell make at most `limit` firings of the actions that selection gives, each with room on every
+    /// output port. Its journal names them, and the other cells stay.
+    ///
+    /// Each state that stands goes on by these firings, as the rounds of a run have it, up to the moment at which
+    /// the leaf halts. After a trap the cell holds no actor's state.
+    pub fn burst(&mut self, inst: InstId, limit: u32) -> BurstEnd
+        requires may { MayBurst (map A.cell self.old.cells) inst.0 limit }
+        ensures works { WorksAt inst.0 limit result (seen A.cell self.old) (seen A.cell self.new) }
+        ensures same_actors { SameActors (map A.cell self.old.cells) (map A.cell self.new.cells) }
+        ensures links { self.new.links ≡ self.old.links }
+        ensures capacities { self.new.capacities ≡ self.old.capacities }
+        ensures waited { self.new.waited ≡ self.old.waited }
+    {
+        let i = inst.0 as usize;
+        burst_at(&mut self.cells, i, limit, &self.rooms[i])
+    }
+
+    /// The actions that a cell fired in bursts since the last delivery, in order.
+    pub fn journal(&self, inst: InstId) -> &[u16]
+        requires there { inst.0 < length self.now.cells }
+        ensures { result.now ≡ journal_of (slice_get (map A.cell self.now.cells) inst.0) }
+    {
+        self.cells[inst.0 as usize].journal()
+    }
+
+    /// Says what a cell would do next. Nothing that is seen changes.
+    pub fn look(&mut self, inst: InstId) -> Look
+        requires may { MayWork (map A.cell self.old.cells) inst.0 }
+        ensures looks { LooksAt inst.0 result (seen A.cell self.old) (seen A.cell self.new) }
+        ensures same_actors { SameActors (map A.cell self.old.cells) (map A.cell self.new.cells) }
+        ensures same_marks { SameMarks (map A.cell self.old.cells) (map A.cell self.new.cells) }
+        ensures links { self.new.links ≡ self.old.links }
+        ensures capacities { self.new.capacities ≡ self.old.capacities }
+        ensures waited { self.new.waited ≡ self.old.waited }
+    {
+        let i = inst.0 as usize;
+        look_at(&mut self.cells, i, &self.rooms[i])
+    }
+
+    /// The lowest link on which an action of a cell lacks room, as the ends of a run have it: what it gives passes
+    /// the present capacity less the tokens that wait. The network is at rest.
+    pub fn lacking(&self, inst: InstId, action: ActId) -> Option<LinkId>
+        requires action { HasAction (map A.cell self.now.cells) inst.0 action.0 }
+        requires rest { IsAtRest (seen A.cell self.now) }
+        ensures some { IfSome result (λ link. IsLowestLacking (seen A.cell self.now) inst.0 action.0 link.0) }
+        ensures none { IfNone result ((l : ℕ) → LacksAt (seen A.cell self.now) inst.0 action.0 l → ⊥) }
+        ensures as_ends { LacksAsEnds (seen A.cell self.now) inst.0 action.0 }
+    {
+        lowest_lacking(
+            &self.cells,
+            &self.links,
+            &self.capacities,
+            &self.waited,
+            inst,
+            action,
+        )
+    }
+
+    /// Fires a named action of a cell where it is exposed and enabled, has room and doesn't trap. No journal
+    /// names it.
+    pub fn try_fire(&mut self, inst: InstId, action: ActId) -> Tried
+        requires may { MayWork (map A.cell self.old.cells) inst.0 }
+        ensures tries { TriesAt inst.0 action.0 result (seen A.cell self.old) (seen A.cell self.new) }
+        ensures same_actors { SameActors (map A.cell self.old.cells) (map A.cell self.new.cells) }
+        ensures links { self.new.links ≡ self.old.links }
+        ensures capacities { self.new.capacities ≡ self.old.capacities }
+        ensures waited { self.new.waited ≡ self.old.waited }
+    {
+        let i = inst.0 as usize;
+        try_at(&mut self.cells, i, action, &self.rooms[i])
+    }
+
     /// How many tokens were sent on a link from a cell and haven't arrived.
     pub fn sent(&self, link: LinkId) -> u32
         requires from_cell { IsFromCell (slice_get self.now.links link.0) }
         ensures count { result ≡ length (carried_on (map A.cell self.now.cells) (slice_get self.now.links link.0)) }
-        ensures states { IsTrueOfUnarrived (map A.cell self.now.cells) self.now.links self.now.capacities link.0 (λ tokens. result ≡ length tokens) }
+        ensures states { IsTrueOfUnarrived (seen A.cell self.now) link.0 (λ tokens. result ≡ length tokens) }
     {
         sent_along(&self.cells, &self.links[link.0 as usize])
     }
@@ -94,7 +172,7 @@ impl<A: Firing> NetState<A> {
         requires from_cell { IsFromCell (slice_get self.now.links link.0) }
         requires among { k < length (carried_on (map A.cell self.now.cells) (slice_get self.now.links link.0)) }
         ensures token { slice_get (carried_on (map A.cell self.now.cells) (slice_get self.now.links link.0)) k ≡ Some result }
-        ensures states { IsTrueOfUnarrived (map A.cell self.now.cells) self.now.links self.now.capacities link.0 (λ tokens. slice_get tokens k ≡ Some result) }
+        ensures states { IsTrueOfUnarrived (seen A.cell self.now) link.0 (λ tokens. slice_get tokens k ≡ Some result) }
     {
         token_along(&self.cells, &self.links[link.0 as usize], k)
     }
@@ -117,10 +195,16 @@ impl<A: Firing> NetState<A> {
         requires input { IsInputLink (slice_get self.old.links link.0) }
         requires open { (F.feeds feeds.old).is_open feed ≡ true }
         requires same_feed { EndIsTrue tokens.old ((F.feeds feeds.old).left feed) }
-        ensures took { AtReader (slice_get self.old.links link.0) (λ that j q. (count : ℕ) × Takes tokens.old.kind that.kind j q count (map A.cell self.old.cells) (map A.cell self.new.cells)
-            (coming_on tokens.old.pulled (F.feeds feeds.old) feed) (coming_on tokens.new.pulled (F.feeds feeds.new) feed) × IfOk result (λ filled. filled.tokens ≡ count)) }
-        ensures filled { IfOk result (λ filled. AtReader (slice_get self.old.links link.0) (λ that j q. IsFilled tokens.old.kind j q (slice_index_or self.old.capacities link.0 0) filled.rest (map A.cell self.new.cells)
-            (coming_on tokens.new.pulled (F.feeds feeds.new) feed))) }
+        ensures fills { Fills link.0 (inflow tokens.old (F.feeds feeds.old) feed) (inflow tokens.new (F.feeds feeds.new) feed)
+            (λ count. IfOk result (λ filled. filled.tokens ≡ count)) (seen A.cell self.old) (seen A.cell self.new) }
+        ensures filled { IfOk result (λ filled. IsFull link.0 filled.rest (seen A.cell self.new) (inflow tokens.new (F.feeds feeds.new) feed)) }
+        ensures arrivals { IfOk result (λ filled. AreArrivals link.0 filled.tokens (seen A.cell self.old) (inflow tokens.old (F.feeds feeds.old) feed)) }
+
+        ensures rests { IsAtRest (seen A.cell self.old) → IsAtRest (seen A.cell self.new) }
+
+        // What stays.
+        ensures same_actors { SameActors (map A.cell self.old.cells) (map A.cell self.new.cells) }
+        ensures same_marks { SameMarks (map A.cell self.old.cells) (map A.cell self.new.cells) }
         ensures links { self.new.links ≡ self.old.links }
         ensures capacities { self.new.capacities ≡ self.old.capacities }
         ensures waited { self.new.waited ≡ self.old.waited }
@@ -140,14 +224,40 @@ impl<A: Firing> NetState<A> {
         )
     }
 
+    /// Lets a link grow: its present capacity is doubled, at most up to the limit, and the rooms are fixed anew.
+    /// Gives the new capacity. The link's queues can hold as many tokens as the limit says.
+    pub fn grow(&mut self, link: LinkId, limit: u32) -> u32
+        requires queues { CanHold (map A.cell self.old.cells) limit (slice_get self.old.links link.0) }
+        requires below { slice_index_or self.old.capacities link.0 0 < limit }
+        ensures doubled { result ≡ min (2 * slice_index_or self.old.capacities link.0 0) limit }
+        ensures capacities { self.new.capacities ≡ slice_set self.old.capacities link.0 result }
+        ensures states { GrewTo link.0 result (seen A.cell self.old) (seen A.cell self.new) }
+        ensures cells { self.new.cells ≡ self.old.cells }
+        ensures links { self.new.links ≡ self.old.links }
+        ensures waited { self.new.waited ≡ self.old.waited }
+    {
+        grow_link(
+            &self.cells,
+            &self.links,
+            &mut self.capacities,
+            &self.waited,
+            &mut self.rooms,
+            link.0 as usize,
+            limit,
+        )
+    }
+
     /// Delivers what was sent on links between two cells and on links to outputs of the network: all of it
     /// arrives, the outboxes and journals are empty then, and the rooms of output ports are fixed anew.
     ///
     /// What was sent to an output of the network is gone after it.
     pub fn deliver(&mut self)
-        ensures states { StandAfterInside (map A.cell self.old.cells) (map A.cell self.new.cells) self.old.links self.old.capacities }
+        ensures states { LeadInside (seen A.cell self.old) (seen A.cell self.new) }
+        ensures rests { IsAtRest (seen A.cell self.new) }
         ensures all_out { AreAllOut (map A.cell self.new.cells) }
         ensures waited { AreCounted (map A.cell self.new.cells) self.new.links self.new.waited }
+        ensures same_actors { SameActors (map A.cell self.old.cells) (map A.cell self.new.cells) }
+        ensures same_marks { SameMarks (map A.cell self.old.cells) (map A.cell self.new.cells) }
         ensures links { self.new.links ≡ self.old.links }
         ensures capacities { self.new.capacities ≡ self.old.capacities }
     {

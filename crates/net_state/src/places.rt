@@ -3,10 +3,11 @@
 ghost use Rattle.std.specs.Prelude.{◌≡◌, ◌≤◌, ◌<◌, [], ◌∷◌, length, map, slice_get, Some};
 ghost use Rattle.rvc_base.specs.Storing.{IsSize, conv};
 ghost use Rattle.net_model.specs.Ready.{tokens_of};
+ghost use Rattle.net_state.specs.Working.{HasAction, gives_of};
 ghost use Rattle.net_state.specs.Moving.{ClearsAt, EachClears, EachGains, HasRoomBefore, IsInput, IsOutput, only_to, sent_of};
 
 use net_model::Firing;
-use rvc_base::{InstId, Num, Scalar, conv};
+use rvc_base::{ActId, InstId, Num, Scalar, conv};
 
 /// How many tokens were sent on an output port of a cell and haven't left yet.
 pub(crate) fn sent_on<A: Firing>(cells: &[A], inst: InstId, port: u32) -> u32
@@ -50,6 +51,16 @@ pub(crate) fn held_at<A: Firing>(cells: &[A], inst: InstId, port: u32) -> u32
     ensures { result ≡ length (tokens_of (slice_get (map A.cell cells.now) inst.0) port) }
 {
     cells[inst.0 as usize].held(port)
+}
+
+/// How many tokens an action of a cell gives on an output port.
+pub(crate) fn give_at<A: Firing>(cells: &[A], inst: InstId, action: ActId, port: u32) -> u32
+    requires there { inst.0 < length cells.now }
+    requires action { HasAction (map A.cell cells.now) inst.0 action.0 }
+    requires output { IsOutput (map A.cell cells.now) inst.0 port }
+    ensures { result ≡ gives_of (slice_get (map A.cell cells.now) inst.0) action.0 port }
+{
+    cells[inst.0 as usize].give(action, port)
 }
 
 /// Empties the outboxes and the journal of one cell.

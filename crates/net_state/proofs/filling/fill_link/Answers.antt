@@ -1,4 +1,4 @@
-use Rattle.std.proofs.Common.{map, arith, length, ◌<◌}
+use Rattle.std.proofs.Common.{map, arith, ◌<◌}
 use Rattle.std.proofs.lemmas.List.{length-map}
 use Rattle.net_state.proofs.Coming.{place_of}
 use Rattle.net_state.proofs.filling.fill_link.Goals as goal

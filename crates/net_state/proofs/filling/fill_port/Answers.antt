@@ -1,9 +1,9 @@
-use Rattle.std.proofs.Common.{FitsSigned, rules, ◌≡◌, ◌<◌, ◌≤◌, ◌∷◌, [], ◌∙◌, arith, length, map, subst, ap, sym, refl}
+use Rattle.std.proofs.Common.{FitsSigned, rules, ◌<◌, ◌∷◌, [], ◌∙◌, arith, length, map, subst, refl}
 use Rattle.std.specs.Prelude.{slice_get}
 use Rattle.std.proofs.lemmas.Int.{to_z-of_z}
 use Rattle.rvc_base.specs.Storing.{conv}
 use Rattle.rvc_base.specs.Width.{num_width}
-use Rattle.port_files.specs.Coming.{GivesToken, coming_on}
+use Rattle.port_files.specs.Coming.{coming_on}
 use Rattle.net_model.specs.Ready.{tokens_of}
 use Rattle.net_state.specs.Moving.{EachGains, only_to}
 use Rattle.net_state.proofs.Feeding.{ends_as, held_most, input_of, nearer, one_more, pulls_nothing, pulls_then, risen_after, takes_same, taking_more, taking_starts}

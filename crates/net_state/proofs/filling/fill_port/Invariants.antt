@@ -1,4 +1,4 @@
-use Rattle.std.specs.Prelude.{◌≡◌, ◌-◌, true, length, map, slice_get}
+use Rattle.std.specs.Prelude.{◌-◌, length, map, slice_get}
 use Rattle.rvc_io.specs.Feeds.{PullsOnly}
 use Rattle.net_model.specs.Ready.{tokens_of}
 use Rattle.port_files.specs.Coming.{EndIsTrue, coming_on}

@@ -1,6 +1,7 @@
 use Rattle.std.proofs.Common.{◌≡◌, map, length, ap, sym, subst, refl, ◌∙◌}
 use Rattle.std.specs.Prelude.{slice_get, Some}
 use Rattle.std.proofs.lemmas.Option.{slice_get_read}
+use Rattle.net_state.specs.Held.{seen}
 use Rattle.net_state.specs.Moving.{IsFromCell, IsWriter, carried, carried_on}
 use Rattle.net_state.proofs.Reading.{carried_at, place_of_link, true_of_unarrived_on}
 use Rattle.net_state.proofs.network.NetState.sent.Goals as goal
@@ -29,6 +30,6 @@ returns g c =
     c.sent_along.ensures ∙ ap (λ ts. length ts) is in
     record {
       count = count;
-      states = true_of_unarrived_on (map g.A.Firing.cell c.args.self.now.cells) c.args.self.now.links c.args.self.now.capacities c.args.link.0
+      states = true_of_unarrived_on (seen g.A.Firing.cell c.args.self.now) c.args.link.0
           (λ tokens. c.sent_along.result ≡ length tokens) c.requires.from_cell count;
     }

@@ -3,6 +3,7 @@ use Rattle.std.specs.Prelude.{slice_get, Some}
 use Rattle.std.proofs.lemmas.Int.{to_z-of_z}
 use Rattle.rvc_base.specs.Width.{num_width}
 use Rattle.std.proofs.lemmas.Option.{slice_get_read}
+use Rattle.net_state.specs.Held.{seen}
 use Rattle.net_state.specs.Moving.{IsFromCell, IsWriter, carried, carried_on}
 use Rattle.net_state.proofs.Reading.{carried_at, place_of_link, true_of_unarrived_on}
 use Rattle.net_state.proofs.network.NetState.sent_at.Goals as goal
@@ -38,8 +39,8 @@ returns g c =
     sym (ap (λ ts. slice_get ts c.args.k) is) ∙ c.token_along.ensures in
     record {
       token = token ∙ ap Some (sym (to_z-of_z num_width c.token_along.result fits));
-      states = λ net s that stands.
-          true_of_unarrived_on (map g.A.Firing.cell c.args.self.now.cells) c.args.self.now.links c.args.self.now.capacities c.args.link.0
-          (λ tokens. slice_get tokens c.args.k ≡ Some c.token_along.result) c.requires.from_cell token net s that stands
+      states = λ net s stands.
+          true_of_unarrived_on (seen g.A.Firing.cell c.args.self.now) c.args.link.0
+          (λ tokens. slice_get tokens c.args.k ≡ Some c.token_along.result) c.requires.from_cell token net s stands
           ∙ ap Some (sym (to_z-of_z num_width c.token_along.result fits));
     }
