@@ -11,7 +11,7 @@ use Rattle.std.specs.declared.alloc.Global.{Global as Heap}
 use Rattle.indexmap.specs.IndexMap.{IndexMap, insert_entry}
 use Rattle.indexmap.proofs.CallerLemmas.{insert_entry-new}
 use Rattle.cal_scope.specs.Names.{Global, global_named, is_among, with_name}
-use Rattle.cal_scope.specs.View.{global_of, meaning_of}
+use Rattle.cal_scope.specs.Meanings.{global_of, meaning_of}
 use Rattle.cal_scope.specs.declared.file_names.Meaning.{Meaning}
 
 grouped : (a b c : Bool) → (a || (b || c)) ≡ ((a || b) || c)

@@ -1,6 +1,11 @@
 pub mod Names
+pub mod Globals
+pub mod Brought
+pub mod Asked
 pub mod Judging
 pub mod Expressions
 pub mod Statements
 pub mod Members
+pub mod Meanings
 pub mod View
+pub mod PortView

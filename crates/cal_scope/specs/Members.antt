@@ -44,6 +44,10 @@ pub record Ports : Type 0 where
   pub ins : List (List ℕ)
   pub outs : List (List ℕ)
 
+-- the names of the ports of a header
+abbrev pub ports_of : (ins outs : Tree) → Ports
+ports_of ins outs = record { ins = declared_by ins []; outs = declared_by outs [] }
+
 -- a port that is named, if one is: one of the direction that is wanted
 abbrev pub port_judged : Tree → (wanted others : List (List ℕ)) → Judged (Unit {0})
 port_judged (tree.present (tree.ident name place)) wanted others =

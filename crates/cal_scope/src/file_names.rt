@@ -1,13 +1,15 @@
 //! The names of a file: what it declares, and what it imports.
 
-ghost use Rattle.std.specs.Prelude.{◌≡◌, [], ◌∷◌, ◌++◌, OnOk, OnErr, None, is_some, option_map};
+ghost use Rattle.std.specs.Prelude.{◌≡◌, [], ◌∷◌, ◌++◌, OnOk, OnErr, None, is_some, map, option_map};
 ghost use Rattle.cal_scope.specs.Names.{global_named};
-ghost use Rattle.cal_scope.specs.View.{globals_of, meaning_of};
+ghost use Rattle.cal_scope.specs.Meanings.{global_of, meaning_of};
 
 use crate::role::Role;
 use indexmap::IndexMap;
+use indexmap::map::Slice;
 use rvc_base::Memory;
 use std::alloc::Global;
+use std::marker::Model;
 
 /// What a name of a file stands for, and its text in full.
 #[derive(Drop)]
@@ -26,10 +28,20 @@ pub struct FileNames {
     named: IndexMap<String, Meaning>,
 }
 
+impl Model for FileNames {
+    ghost use Rattle.std.specs.Prelude.{List, map};
+    ghost use Rattle.cal_scope.specs.Names.{Global};
+    ghost use Rattle.cal_scope.specs.Meanings.{global_of};
+
+    ghost Value = { List Global };
+
+    ghost view = { λ names. map global_of names.named.entries };
+}
+
 impl FileNames {
     /// No names.
     pub fn new(alloc: Global) -> FileNames
-        ensures { globals_of result ≡ [] }
+        ensures { result ≡ [] }
     {
         FileNames {
             alloc,
@@ -44,7 +56,7 @@ impl FileNames {
 
     /// Whether the name is there.
     pub fn has(&self, name: &str) -> bool
-        ensures { result ≡ is_some (global_named name.now (globals_of self.now)) }
+        ensures { result ≡ is_some (global_named name.now self.now) }
     {
         self.meaning(name).is_some()
     }
@@ -55,9 +67,9 @@ impl FileNames {
     ///
     /// `Memory`: an allocation was refused, and the names are as before.
     pub fn add(&mut self, name: &str, role: Role, full: &str) -> Result<(), Memory>
-        requires { global_named name.now (globals_of self.old) ≡ None }
-        ensures added { OnOk result (globals_of self.new ≡ globals_of self.old ++ record { name = name.now; role = role; full = full.now } ∷ []) }
-        ensures same { OnErr result (globals_of self.new ≡ globals_of self.old) }
+        requires { global_named name.now self.old ≡ None }
+        ensures added { OnOk result (self.new ≡ self.old ++ record { name = name.now; role = role; full = full.now } ∷ []) }
+        ensures same { OnErr result (self.new ≡ self.old) }
     {
         let full = String::from_str(self.alloc, full)?;
         let name = String::from_str(self.alloc, name)?;
@@ -67,8 +79,15 @@ impl FileNames {
 
     /// What a name stands for.
     pub(crate) fn meaning(&self, name: &str) -> Option<&Meaning>
-        ensures { option_map (λ m. meaning_of name.now m.now) result ≡ global_named name.now (globals_of self.now) }
+        ensures { option_map (λ m. meaning_of name.now m.now) result ≡ global_named name.now self.now }
     {
         self.named.get(name)
+    }
+
+    /// The names with what they stand for, in the order in which they were added.
+    pub(crate) fn entries(&self) -> Slice<'_, String, Meaning>
+        ensures { map global_of result ≡ self.now }
+    {
+        self.named.as_slice()
     }
 }

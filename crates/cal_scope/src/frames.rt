@@ -3,7 +3,8 @@
 ghost use Rattle.std.specs.Prelude.{◌≡◌, ℕ, List, [], ◌++◌, Some, string_bytes};
 ghost use Rattle.cal_scope.specs.Judging.{Judges};
 ghost use Rattle.cal_scope.specs.Names.{full_name, is_among, local, used_as, within};
-ghost use Rattle.cal_scope.specs.View.{globals_of, local_names, meaning_of, names_in, names_view};
+ghost use Rattle.cal_scope.specs.Meanings.{meaning_of};
+ghost use Rattle.cal_scope.specs.View.{local_names, names_view};
 
 use crate::fault::ScopeFault;
 use crate::file_names::{FileNames, Meaning};
@@ -34,7 +35,7 @@ impl<'a> Inside<'a> {
 
     /// What a part sees round which no scope stands.
     pub fn outermost(file: &'a FileNames) -> Inside<'a>
-        ensures { names_view result ≡ record { locals = []; globals = globals_of file.now } }
+        ensures { names_view result ≡ record { locals = []; globals = file.now } }
     {
         Inside {
             alloc: file.alloc(),
@@ -48,7 +49,7 @@ impl<'a> Inside<'a> {
     where
         'a: 'b,
         requires { local_names (out-Frame frame.now).outer ≡ local_names self.now.frame }
-        ensures { names_view result ≡ within (names_in (out-Frame frame.now).names.now) (names_view self.now) }
+        ensures { names_view result ≡ within ((out-Frame frame.now).names.now) (names_view self.now) }
     {
         Inside {
             alloc: self.alloc,

@@ -4,20 +4,34 @@
 //! file imports. Inner names hide outer ones, and a file's own declaration hides an import. [`FileNames`] holds the
 //! names of a file, [`NameSet`] those of one scope, and [`Inside`] is what a part sees.
 //!
-//! `specs/` says what resolving an expression, a type, a statement and a member gives: the part with each name written
-//! out in full, or the first rule of scope that it breaks, with its place. No call does so yet.
+//! [`resolve_members`] gives the members of a file with each name written out in full, or the first rule of scope that
+//! they break, with its place; [`resolve_expr`] and [`resolve_type`] do so for one part. `specs/` says what each part is
+//! then. No call goes from file to file along imports yet.
 #![tactic(auto)]
 
+mod actions;
+mod copies;
+mod expr;
 mod fault;
 mod file_names;
 mod frames;
+mod imported;
+mod made;
+mod made_stmt;
+mod member;
+mod members;
 mod name_set;
+mod own_names;
+mod ports;
+mod public;
 mod role;
-#[cfg(test)]
-mod tests;
+mod stmt;
+mod vars;
 
 pub use fault::ScopeFault;
 pub use file_names::FileNames;
 pub use frames::{Frame, Inside};
 pub use name_set::NameSet;
+pub use ports::PortNames;
+pub use public::{resolve_expr, resolve_members, resolve_type};
 pub use role::Role;

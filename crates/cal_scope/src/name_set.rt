@@ -2,11 +2,11 @@
 
 ghost use Rattle.std.specs.Prelude.{◌≡◌, [], OnErr, OnOk};
 ghost use Rattle.cal_scope.specs.Names.{is_among, with_name};
-ghost use Rattle.cal_scope.specs.View.{names_in};
 
 use indexmap::IndexSet;
 use rvc_base::Memory;
 use std::alloc::Global;
+use std::marker::Model;
 
 /// The names that one scope declares, with an index, so that a look-up takes the same time however many they are.
 ///
@@ -17,10 +17,18 @@ pub struct NameSet {
     names: IndexSet<String>,
 }
 
+impl Model for NameSet {
+    ghost use Rattle.std.specs.Prelude.{ℕ, List, map, string_bytes};
+
+    ghost Value = { List (List ℕ) };
+
+    ghost view = { λ set. map string_bytes set.names.keys };
+}
+
 impl NameSet {
     /// No names.
     pub fn new(alloc: Global) -> NameSet
-        ensures { names_in result ≡ [] }
+        ensures { result ≡ [] }
     {
         NameSet {
             alloc,
@@ -30,7 +38,7 @@ impl NameSet {
 
     /// Whether the name is among them: whether one more declaration of it would be the second in its scope.
     pub fn has(&self, name: &str) -> bool
-        ensures { result ≡ is_among name.now (names_in self.now) }
+        ensures { result ≡ is_among name.now self.now }
     {
         self.names.contains(name)
     }
@@ -41,8 +49,8 @@ impl NameSet {
     ///
     /// [`Memory`] if an allocation is refused; the names are as before.
     pub fn add(&mut self, name: &str) -> Result<(), Memory>
-        ensures added { OnOk result (names_in self.new ≡ with_name name.now (names_in self.old)) }
-        ensures same { OnErr result (names_in self.new ≡ names_in self.old) }
+        ensures added { OnOk result (self.new ≡ with_name name.now self.old) }
+        ensures same { OnErr result (self.new ≡ self.old) }
     {
         let name = String::from_str(self.alloc, name)?;
         self.names.insert(name)?;

@@ -1,6 +1,6 @@
-//! What the names of a file stand for, as rows.
+//! What names stand for inside scopes, as rows.
 
-use crate::{FileNames, Inside, NameSet, Role, ScopeFault};
+use cal_scope::{FileNames, Frame, Inside, NameSet, Role, ScopeFault};
 use std::alloc::Global;
 use std::process::Abort;
 use std::test::Fail;
@@ -25,6 +25,16 @@ const OUTSIDE: &[(&str, Role, &str)] = &[
     ("k", Role::Function, "S5 at 7"),
     ("p", Role::Function, "S5 at 7"),
     ("f", Role::Procedure, "S5 at 7"),
+];
+
+/// Uses inside a scope of `i`, which stands inside one of `g`.
+const INSIDE: &[(&str, Role, &str)] = &[
+    ("i", Role::Variable, "i"),
+    ("g", Role::Variable, "g"),
+    ("g", Role::Function, "S5 at 7"),
+    ("k", Role::Variable, "lib.U.k"),
+    ("f", Role::Function, "f"),
+    ("j", Role::Variable, "S1 at 7"),
 ];
 
 fn file_names(a: Global) -> Result<FileNames, Fail> {
@@ -73,6 +83,41 @@ fn scope_of(a: Global, name: &str) -> Result<NameSet, Fail> {
     let mut names = NameSet::new(a);
     names.add(name)?;
     Ok(names)
+}
+
+/// The rows inside one scope more.
+fn hold_within(
+    rt: &impl Abort,
+    a: Global,
+    names: &Inside,
+    here: &NameSet,
+    rows: &[(&str, Role, &str)],
+) -> Result<(), Fail> {
+    let frame = Frame {
+        names: here,
+        outer: names.frame,
+    };
+    let inside = names.under(&frame);
+    hold(rt, a, &inside, rows)
+}
+
+/// The rows inside a scope of `i`, which stands inside another.
+fn hold_inside(rt: &impl Abort, a: Global, names: &Inside, round: &NameSet) -> Result<(), Fail> {
+    let frame = Frame {
+        names: round,
+        outer: names.frame,
+    };
+    let inside = names.under(&frame);
+    let here = scope_of(a, "i")?;
+    hold_within(rt, a, &inside, &here, INSIDE)
+}
+
+#[test]
+fn inner_names_hide_outer_ones(rt: HostRuntime) -> Result<(), Fail> {
+    let a = rt.alloc();
+    let names = file_names(a)?;
+    let round = scope_of(a, "g")?;
+    hold_inside(&rt, a, &Inside::outermost(&names), &round)
 }
 
 #[test]
