@@ -16,3 +16,12 @@ mod NeverBoth
 mod SameTrees
 mod Exclusions
 mod NoFailures
+mod Corners
+mod Places
+mod FailingRows
+mod ScalarRanges
+mod Keys
+mod Firsts
+mod Memo
+mod Automata
+mod Answering

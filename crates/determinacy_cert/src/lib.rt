@@ -6,12 +6,24 @@
 //! certification rule admits are stable.
 #![tactic(auto)]
 
+mod certifier;
+mod comparison;
 mod fault;
+mod form;
+mod found;
+mod guards;
+mod interval;
+mod key;
 mod laws;
+mod pairing;
+mod range;
+mod table;
+#[cfg(test)]
+mod tests;
 
+pub use certifier::certify;
 pub use fault::{CertFault, Reason};
 pub use laws::{
     as_many_firings_are_all, certified_actors_are_stable, certified_networks_are_determinate,
-    no_failure_where_certified, no_quiet_run_besides_a_trap, quiet_runs_agree,
-    runs_lead_towards_quiet,
+    no_failure_where_certified, no_quiet_run_besides_a_trap, quiet_runs_agree, runs_lead_towards_quiet,
 };
