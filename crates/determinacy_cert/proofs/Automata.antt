@@ -24,7 +24,7 @@ use Rattle.determinacy_cert.proofs.NoFailures.{in_list}
 pub step_as : Move → Step
 step_as m = record { from = m.from; action = m.action; to = m.to }
 
-step_is : (moves : List BoundMove) → map step_of moves ≡ map step_as (map move_view moves)
+pub step_is : (moves : List BoundMove) → map step_of moves ≡ map step_as (map move_view moves)
 step_is [] = refl
 step_is (m ∷ moves) = ap (λ xs. step_of m ∷ xs) (step_is moves)
 
@@ -82,20 +82,21 @@ target_there (n ∷ ms) s a to h = go (n.from == s && n.action == a) refl h
         member_here (step_as n) _ (map step_as ms) (step_same n s a to (eqb-true n.from s both.0) (eqb-true n.action a both.1) last)
     go false e k = member_behind (step_as n) _ (map step_as ms) (target_there ms s a to k)
 
-record IsMoved (ms : List Move) (s a : ℕ) : Type 0 where
+pub record IsMoved (ms : List Move) (s a to : ℕ) : Type 0 where
   pub move : Move
   pub member : Contains ms move
   pub from : move.from ≡ s
   pub action : move.action ≡ a
+  pub to : move.to ≡ to
 
-step_moves : (ms : List Move) (s a to : ℕ) → StepLeads (map step_as ms) s a to → IsMoved ms s a
+pub step_moves : (ms : List Move) (s a to : ℕ) → StepLeads (map step_as ms) s a to → IsMoved ms s a to
 step_moves [] s a to h = absurd (no_member _ h)
 step_moves (n ∷ ms) s a to h =
     ⊎_elim
     (λ (same : step_as n ≡ record { from = s; action = a; to = to }).
-      record { move = n; member = member_here n n ms refl; from = ap (λ k. k.from) same; action = ap (λ k. k.action) same })
+    record { move = n; member = member_here n n ms refl; from = ap (λ k. k.from) same; action = ap (λ k. k.action) same })
     (λ (behind : StepLeads (map step_as ms) s a to).
-      let m = step_moves ms s a to behind in record { move = m.move; member = member_behind n m.move ms m.member; from = m.from; action = m.action })
+    let m = step_moves ms s a to behind in record { move = m.move; member = member_behind n m.move ms m.member; from = m.from; action = m.action })
     (member_cases (step_as n) _ (map step_as ms) h)
 
 -- ---- eligible actions
@@ -104,7 +105,7 @@ pub free_as : (stateless : Bool) (acts : List BoundAction) → map (λ act. is_f
 free_as stateless [] = refl
 free_as stateless (x ∷ acts) = ap (λ xs. is_free stateless (action_view x) ∷ xs) (free_as stateless acts)
 
-free_at : (stateless : Bool) (acts : List Action) (a : ℕ) (act : Action) → slice_get acts a ≡ Some act → slice_index_or (map (is_free stateless) acts) a false ≡ is_free stateless act
+pub free_at : (stateless : Bool) (acts : List Action) (a : ℕ) (act : Action) → slice_get acts a ≡ Some act → slice_index_or (map (is_free stateless) acts) a false ≡ is_free stateless act
 free_at stateless [] a act h = absurd (grind arith)
 free_at stateless (x ∷ acts) zero act h = let e : x ≡ act = cc in ap (is_free stateless) e
 free_at stateless (x ∷ acts) (suc a) act h = free_at stateless acts a act h
@@ -142,8 +143,8 @@ module _ (actor : Actor) (moves : Each (IsMove actor) actor.moves) (s a : ℕ) (
   moved_leads false false true p h = refl
   moved_leads false false false p h = h
 
-  tagged : IsMoved actor.moves s a → act.initialize ≡ false
-  tagged m =
+  tagged : (to : ℕ) → IsMoved actor.moves s a to → act.initialize ≡ false
+  tagged to m =
       let move = each_member (IsMove actor) actor.moves m.move moves m.member in
       let at_a : IsTagged (slice_get actor.actions a) = subst (λ k. IsTagged (slice_get actor.actions k)) m.action move.tagged in
       let here : IsTagged (Some act) = subst IsTagged is at_a in
@@ -153,14 +154,14 @@ module _ (actor : Actor) (moves : Each (IsMove actor) actor.moves) (s a : ℕ) (
       → Leads (map step_as actor.moves) free s a to → eligible actor s a ≡ true
   leads_then free to h f (inl p) =
       let one : is_free (is_empty actor.states) act ≡ true =
-          sym (free_at (is_empty actor.states) actor.actions a act is) ∙ ap (λ xs. slice_index_or xs a false) (sym f) ∙ p.0 in
+      sym (free_at (is_empty actor.states) actor.actions a act is) ∙ ap (λ xs. slice_index_or xs a false) (sym f) ∙ p.0 in
       eligible_as actor s a act h is ∙ free_leads act.initialize (is_empty act.tag) (is_empty actor.states) one
   leads_then free to h f (inr p) =
       let m = step_moves actor.moves s a to p in
       eligible_as actor s a act h is
-      ∙ moved_leads act.initialize (is_empty act.tag) (is_empty actor.states) (tagged m) (target_some actor.moves s a m.move m.member m.from m.action)
+      ∙ moved_leads act.initialize (is_empty act.tag) (is_empty actor.states) (tagged to m) (target_some actor.moves s a m.move m.member m.from m.action)
 
-  record LeadsTo (free : List Bool) : Type 0 where
+  pub record LeadsTo (free : List Bool) : Type 0 where
     pub to : ℕ
     pub leads : Leads (map step_as actor.moves) free s a to
 

@@ -23,9 +23,9 @@ same_steps (suc zero) k far more h = absurd (omega arith)
 same_steps (suc (suc n)) k far more h =
     one_test (bytes_eq (places_from (suc (suc n)) k far) (places_from (suc (suc n)) k more)) (far == more)
     (λ e.
-      let lists = (bytes_eq-Decides (places_from (suc (suc n)) k far) (places_from (suc (suc n)) k more)).0 e in
-      let seconds : k + far ≡ k + more = second_is k (k + far) (k + more) _ _ lists in
-      eq-eqb far more (omega arith))
+    let lists = (bytes_eq-Decides (places_from (suc (suc n)) k far) (places_from (suc (suc n)) k more)).0 e in
+    let seconds : k + far ≡ k + more = second_is k (k + far) (k + more) _ _ lists in
+    eq-eqb far more (omega arith))
     (λ e.
-      let same : far ≡ more = eqb-true far more e in
-      (bytes_eq-Decides (places_from (suc (suc n)) k far) (places_from (suc (suc n)) k more)).1 (ap (places_from (suc (suc n)) k) same))
+    let same : far ≡ more = eqb-true far more e in
+    (bytes_eq-Decides (places_from (suc (suc n)) k far) (places_from (suc (suc n)) k more)).1 (ap (places_from (suc (suc n)) k) same))

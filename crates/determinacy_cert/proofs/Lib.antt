@@ -24,4 +24,6 @@ mod Keys
 mod Firsts
 mod Memo
 mod Automata
+mod Tables
+mod Literals
 mod Answering

@@ -10,11 +10,11 @@ pub set_says : (cells : List Bool) (k : ℕ) (v : Bool) (P : ℕ → Type 0) →
 set_says cells k v P inside says before i within h =
     ⊎_elim
     (λ (same : i ≡ k).
-      let here : get_or (set cells k v) k false ≡ v = get_or-set_same cells k v false inside in
-      subst P (sym same) (says (sym here ∙ ap (λ j. get_or (set cells k v) j false) (sym same) ∙ h)))
+    let here : get_or (set cells k v) k false ≡ v = get_or-set_same cells k v false inside in
+    subst P (sym same) (says (sym here ∙ ap (λ j. get_or (set cells k v) j false) (sym same) ∙ h)))
     (λ (other : i ≢ k).
-      let there : get_or (set cells k v) i false ≡ get_or cells i false = get_or-set_other cells k i v false other in
-      before i within (sym there ∙ h))
+    let there : get_or (set cells k v) i false ≡ get_or cells i false = get_or-set_other cells k i v false other in
+    before i within (sym there ∙ h))
     (cases_eq i k)
 
 -- .. by rows and columns
@@ -24,15 +24,15 @@ pub set_in_rows : (cells : List Bool) (n a b : ℕ) (v : Bool) (R : ℕ → ℕ 
 set_in_rows cells n a b v R size in_a in_b says before c d in_c in_d h =
     ⊎_elim
     (λ (same : c * n + d ≡ a * n + b).
-      let both : (c ≡ a) × (d ≡ b) = same_from_place c d a b n in_d in_b same in
-      let below = mul-add-lt a n b n in_a in_b in
-      let inside : a * n + b < length cells = omega (arith, below, size) in
-      let here : get_or (set cells (a * n + b) v) (a * n + b) false ≡ v = get_or-set_same cells (a * n + b) v false inside in
-      subst (λ x. R x d) (sym both.0) (subst (λ y. R a y) (sym both.1)
-      (says (sym here ∙ ap (λ j. get_or (set cells (a * n + b) v) j false) (sym same) ∙ h))))
+    let both : (c ≡ a) × (d ≡ b) = same_from_place c d a b n in_d in_b same in
+    let below = mul-add-lt a n b n in_a in_b in
+    let inside : a * n + b < length cells = omega (arith, below, size) in
+    let here : get_or (set cells (a * n + b) v) (a * n + b) false ≡ v = get_or-set_same cells (a * n + b) v false inside in
+    subst (λ x. R x d) (sym both.0) (subst (λ y. R a y) (sym both.1)
+    (says (sym here ∙ ap (λ j. get_or (set cells (a * n + b) v) j false) (sym same) ∙ h))))
     (λ (other : c * n + d ≢ a * n + b).
-      let there : get_or (set cells (a * n + b) v) (c * n + d) false ≡ get_or cells (c * n + d) false = get_or-set_other cells (a * n + b) (c * n + d) v false other in
-      before c d in_c in_d (sym there ∙ h))
+    let there : get_or (set cells (a * n + b) v) (c * n + d) false ≡ get_or cells (c * n + d) false = get_or-set_other cells (a * n + b) (c * n + d) v false other in
+    before c d in_c in_d (sym there ∙ h))
     (cases_eq (c * n + d) (a * n + b))
 
 pub none_set : (m i : ℕ) → i < m → get_or (replicate m false) i false ≡ true → ⊥

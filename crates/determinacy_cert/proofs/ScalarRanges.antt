@@ -81,7 +81,7 @@ scalars_next vs k v found x next whole inside is x_is next_is h =
     let one_on : suc k ≡ k + 1 = omega arith in
     let front : drop k vs ≡ v ∷ drop (k + 1) vs = drop-cons vs k v inside ∙ ap (λ w. w ∷ drop (suc k) vs) (sym is) ∙ ap (λ j. v ∷ drop j vs) one_on in
     let scalars : scalars_of (drop k vs) ≡ joined x (scalars_of (drop (k + 1) vs)) =
-        ap scalars_of front ∙ joined_as (scalars_range (value_view v)) (scalars_of (drop (k + 1) vs)) ∙ ap (λ o. joined o (scalars_of (drop (k + 1) vs))) (sym x_is) in
+    ap scalars_of front ∙ joined_as (scalars_range (value_view v)) (scalars_of (drop (k + 1) vs)) ∙ ap (λ o. joined o (scalars_of (drop (k + 1) vs))) (sym x_is) in
     ap (λ o. joined o (scalars_of (drop (k + 1) vs))) next_is ∙ joined_assoc found x (scalars_of (drop (k + 1) vs)) ∙ ap (joined found) (sym scalars) ∙ h
 
 pub scalars_end : (vs : List Value) (k : ℕ) (found whole : Option Interval) → length vs ≤ k → joined found (scalars_of (drop k vs)) ≡ whole → found ≡ whole

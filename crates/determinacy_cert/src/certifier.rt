@@ -15,7 +15,7 @@ use crate::fault::{CertFault, Reason};
 use crate::found::Names;
 use crate::guards::guards_judged;
 use crate::pairing::guards_exclude;
-use crate::table::{Table, table};
+use crate::table::{Table, make_table};
 use cal_model::{Bound, BoundAction, BoundPattern, need};
 use rvc_base::ActId;
 use std::alloc::{AllocError, Global};
@@ -53,7 +53,7 @@ pub fn certify(alloc: Global, b: &Bound) -> Result<(), CertFault>
     ensures certified { IfOk result (λ _. IsCertified (actor_of b.now)) }
     ensures uncertified { IfErr result (IsCause (actor_of b.now)) }
 {
-    let table = table(alloc, b)?;
+    let table = make_table(alloc, b)?;
     let mut known = nothing_known(alloc, table.actions)?;
     match first_failure(&table, &mut known) {
         None => Ok(()),
@@ -224,13 +224,7 @@ fn pairs_failure_of(t: &Table<'_>, known: &mut Known, state: u16, a: u16) -> Opt
 }
 
 /// The failure of a pair of which the first action is eligible.
-fn pair_failure(
-    t: &Table<'_>,
-    known: &mut Known,
-    state: u16,
-    a: u16,
-    b: u16,
-) -> Option<Failure>
+fn pair_failure(t: &Table<'_>, known: &mut Known, state: u16, a: u16, b: u16) -> Option<Failure>
     requires table { IsTable t.now }
     requires state { state ≤ t.now.states }
     requires one { a < t.now.actions }

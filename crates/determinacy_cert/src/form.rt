@@ -13,12 +13,7 @@ use cal_model::BoundPattern;
 /// Whether both trees are equal, ignoring offsets, once each pattern variable is replaced by the tokens that it stands
 /// for. Lists, calls and comprehensions count as different.
 #[cycle(same)]
-pub(crate) fn same(
-    e: &Expr,
-    patterns: &[BoundPattern],
-    f: &Expr,
-    others: &[BoundPattern],
-) -> bool
+pub(crate) fn same(e: &Expr, patterns: &[BoundPattern], f: &Expr, others: &[BoundPattern]) -> bool
     ensures { result ≡ same (expr_tree e.now) (map pattern_view patterns.now) (expr_tree f.now) (map pattern_view others.now) }
 {
     match &e.form {
@@ -57,12 +52,7 @@ fn is_truth(flag: bool, f: &Expr) -> bool
 }
 
 /// Whether the expression is a name that stands for the same.
-fn is_name(
-    name: &str,
-    patterns: &[BoundPattern],
-    f: &Expr,
-    others: &[BoundPattern],
-) -> bool
+fn is_name(name: &str, patterns: &[BoundPattern], f: &Expr, others: &[BoundPattern]) -> bool
     ensures { result ≡ same (tree.variable name.now 0) (map pattern_view patterns.now) (expr_tree f.now) (map pattern_view others.now) }
 {
     match &f.form {
@@ -73,12 +63,7 @@ fn is_name(
 
 /// Whether the other expression has parentheses round an equal one.
 #[cycle(same)]
-fn same_paren(
-    inner: &Expr,
-    patterns: &[BoundPattern],
-    f: &Expr,
-    others: &[BoundPattern],
-) -> bool
+fn same_paren(inner: &Expr, patterns: &[BoundPattern], f: &Expr, others: &[BoundPattern]) -> bool
     ensures { result ≡ same (tree.paren (expr_tree inner.now) 0) (map pattern_view patterns.now) (expr_tree f.now) (map pattern_view others.now) }
 {
     match &f.form {

@@ -25,5 +25,6 @@ pub use certifier::certify;
 pub use fault::{CertFault, Reason};
 pub use laws::{
     as_many_firings_are_all, certified_actors_are_stable, certified_networks_are_determinate,
-    no_failure_where_certified, no_quiet_run_besides_a_trap, quiet_runs_agree, runs_lead_towards_quiet,
+    no_failure_where_certified, no_quiet_run_besides_a_trap, quiet_runs_agree,
+    runs_lead_towards_quiet,
 };

@@ -90,8 +90,7 @@ fn compare_apart(
 {
     let Some(one) = one else { return false };
     let Some(two) = two else { return false };
-    never_both(one.op, one.number, two.op, two.number)
-        && same(one.left, patterns, two.left, others)
+    never_both(one.op, one.number, two.op, two.number) && same(one.left, patterns, two.left, others)
 }
 
 /// Whether the second is `not` the first.

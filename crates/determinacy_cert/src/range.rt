@@ -48,9 +48,15 @@ fn of_name(name: &str, names: Names<'_>) -> Option<Interval>
 fn of_if(test: &Expr, yes: &Expr, no: &Expr, names: Names<'_>) -> Option<Interval>
     ensures { option_map interval_view result ≡ range (tree.if_expr (expr_tree test.now) (expr_tree yes.now) (expr_tree no.now) 0) (names_view names.entry) }
 {
-    let Some(_) = range(test, names) else { return None };
-    let Some(i) = range(yes, names) else { return None };
-    let Some(j) = range(no, names) else { return None };
+    let Some(_) = range(test, names) else {
+        return None
+    };
+    let Some(i) = range(yes, names) else {
+        return None
+    };
+    let Some(j) = range(no, names) else {
+        return None
+    };
     Some(hull(i, j))
 }
 
@@ -70,8 +76,12 @@ fn of_index(base: &Expr, place: &Expr, names: Names<'_>) -> Option<Interval>
 fn item_of<'a>(base: &Expr, place: &Expr, names: Names<'a>) -> Option<Found<'a>>
     ensures { option_map found_view result ≡ option_map unnamed (indexed (tree.index (expr_tree base.now) (expr_tree place.now) 0) (names_view names.entry)) }
 {
-    let Some(list) = indexed(base, names) else { return None };
-    let Some(i) = range(place, names) else { return None };
+    let Some(list) = indexed(base, names) else {
+        return None
+    };
+    let Some(i) = range(place, names) else {
+        return None
+    };
     item(list, i)
 }
 
@@ -92,7 +102,11 @@ fn indexed<'a>(e: &Expr, names: Names<'a>) -> Option<Found<'a>>
 fn of_binary(op: BinOp, left: &Expr, right: &Expr, names: Names<'_>) -> Option<Interval>
     ensures { option_map interval_view result ≡ range (tree.binary op (expr_tree left.now) (expr_tree right.now) 0) (names_view names.entry) }
 {
-    let Some(i) = range(left, names) else { return None };
-    let Some(j) = range(right, names) else { return None };
+    let Some(i) = range(left, names) else {
+        return None
+    };
+    let Some(j) = range(right, names) else {
+        return None
+    };
     of_both(op, i, j)
 }

@@ -25,7 +25,7 @@ pub(crate) struct Table<'a> {
 }
 
 /// The automaton and the order of an actor.
-pub(crate) fn table<'a>(alloc: Global, actor: &'a Bound) -> Result<Table<'a>, CertFault>
+pub(crate) fn make_table<'a>(alloc: Global, actor: &'a Bound) -> Result<Table<'a>, CertFault>
     requires { IsSound (actor_of actor.now) }
     ensures table { IfOk result IsTable }
     ensures same { IfOk result (λ t. actor_of t.actor.now ≡ actor_of actor.now) }
@@ -63,10 +63,12 @@ fn automaton(alloc: Global, actor: &Bound, states: u16) -> Result<Fsm, CertFault
     let free = free_actions(alloc, &actor.actions, actor.states.is_empty())?;
     match build(alloc, &steps, &free, states) {
         Ok(fsm) => Ok(fsm),
-        Err(FsmFault::Ambiguous {
-            state: _,
-            action: _,
-        }) => unreachable!(),
+        Err(
+            FsmFault::Ambiguous {
+                state: _,
+                action: _,
+            },
+        ) => unreachable!(),
         Err(FsmFault::Memory) => Err(CertFault::Memory),
     }
 }
