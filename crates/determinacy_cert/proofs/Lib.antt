@@ -25,5 +25,5 @@ mod Firsts
 mod Memo
 mod Automata
 mod Tables
-mod Literals
+mod Listed
 mod Answering

@@ -9,9 +9,17 @@ use Rattle.cal_model.specs.Certified.{Ranged, ranged, ranged_names, ranged_patte
 use Rattle.determinacy_cert.specs.Deciding.{Named, last_place, named_in}
 use Rattle.determinacy_cert.specs.Viewing.{unnamed}
 
+-- a name is at the next place behind, or at the first one
+abbrev last_by : Option ℕ → Bool → Option ℕ
+last_by o b = elim o [ Some k ↦ Some (suc k) | None ↦ if b then Some 0 else None ]
+
+-- it is in a later pattern, or in this one
+abbrev named_by : Option Named → Pattern → Option ℕ → Option Named
+named_by o q p = elim o [ Some found ↦ Some found | None ↦ elim p [ None ↦ None | Some k ↦ Some (record { pattern = q; place = k }) ] ]
+
 -- ---- what is known of a name
 
-pub token_of : Shape → Ranged
+abbrev pub token_of : Shape → Ranged
 token_of t = record { name = []; shape = t; value = None }
 
 -- a name is a token if it stands among these, else what it is otherwise
@@ -21,7 +29,7 @@ token_or t (Some k) rest = Some (token_of t)
 
 names_settle : (t : Shape) (x : Ranged) (rest : Option Ranged) (o : Option ℕ) (b : Bool) → unnamed x ≡ token_of t
     → token_or t o (option_map unnamed (if b then Some x else rest))
-    ≡ token_or t (elim o [ Some k ↦ Some (suc k) | None ↦ if b then Some 0 else None ]) (option_map unnamed rest)
+    ≡ token_or t (last_by o b) (option_map unnamed rest)
 names_settle t x rest None true h = ap (λ y. Some y) h
 names_settle t x rest None false h = refl
 names_settle t x rest (Some k) b h = refl
@@ -45,7 +53,7 @@ named_or actor (Some found) rest = Some (token_of (shape_in actor found.pattern)
 
 patterns_settle : (actor : Actor) (q : Pattern) (o : Option Named) (p : Option ℕ) (rest : Option Ranged)
     → named_or actor o (token_or (shape_in actor q) p rest)
-    ≡ named_or actor (elim o [ Some found ↦ Some found | None ↦ elim p [ None ↦ None | Some k ↦ Some (record { pattern = q; place = k }) ] ]) rest
+    ≡ named_or actor (named_by o q p) rest
 patterns_settle actor q None None rest = refl
 patterns_settle actor q None (Some k) rest = refl
 patterns_settle actor q (Some found) p rest = refl
@@ -84,9 +92,12 @@ abbrev key_from : Pattern → ℕ → Option ℕ → Option (List ℕ)
 key_from q k None = None
 key_from q k (Some j) = Some (token_key q.port q.repeat (length q.names) (k + j))
 
+abbrev key_by : Option (List ℕ) → Option (List ℕ) → Option (List ℕ)
+key_by o w = elim o [ Some key ↦ Some key | None ↦ w ]
+
 among_settle : (q : Pattern) (k : ℕ) (o : Option ℕ) (b : Bool)
-    → elim (key_from q (suc k) o) [ Some key ↦ Some key | None ↦ if b then Some (token_key q.port q.repeat (length q.names) k) else None ]
-    ≡ key_from q k (elim o [ Some j ↦ Some (suc j) | None ↦ if b then Some 0 else None ])
+    → key_by (key_from q (suc k) o) (if b then Some (token_key q.port q.repeat (length q.names) k) else None)
+    ≡ key_from q k (last_by o b)
 among_settle q k None true = let e : k ≡ k + 0 = omega arith in ap (λ j. Some (token_key q.port q.repeat (length q.names) j)) e
 among_settle q k None false = refl
 among_settle q k (Some j) b = let e : suc k + j ≡ k + suc j = omega arith in ap (λ i. Some (token_key q.port q.repeat (length q.names) i)) e
@@ -94,35 +105,35 @@ among_settle q k (Some j) b = let e : suc k + j ≡ k + suc j = omega arith in a
 among_found : (name : List ℕ) (q : Pattern) (k : ℕ) (names : List (List ℕ)) → key_among name q k names ≡ key_from q k (last_place name names)
 among_found name q k [] = refl
 among_found name q k (other ∷ names) =
-    ap (λ o. elim o [ Some key ↦ Some key | None ↦ if bytes_eq other name then Some (token_key q.port q.repeat (length q.names) k) else None ]) (among_found name q (suc k) names)
+    ap (λ o. key_by o (if bytes_eq other name then Some (token_key q.port q.repeat (length q.names) k) else None)) (among_found name q (suc k) names)
     ∙ among_settle q k (last_place name names) (bytes_eq other name)
 
 key_settle : (q : Pattern) (o : Option Named) (p : Option ℕ)
-    → elim (option_map key_at o) [ Some key ↦ Some key | None ↦ key_from q 0 p ]
-    ≡ option_map key_at (elim o [ Some found ↦ Some found | None ↦ elim p [ None ↦ None | Some k ↦ Some (record { pattern = q; place = k }) ] ])
+    → key_by (option_map key_at o) (key_from q 0 p)
+    ≡ option_map key_at (named_by o q p)
 key_settle q None None = refl
-key_settle q None (Some k) = refl
+key_settle q None (Some k) = let same : 0 + k ≡ k = omega arith in ap (λ j. Some (token_key q.port q.repeat (length q.names) j)) same
 key_settle q (Some found) p = refl
 
 pub key_found : (name : List ℕ) (qs : List Pattern) → key_in name qs ≡ option_map key_at (named_in name qs)
 key_found name [] = refl
 key_found name (q ∷ qs) =
-    ap (λ o. elim o [ Some key ↦ Some key | None ↦ key_among name q 0 q.names ]) (key_found name qs)
-    ∙ ap (λ w. elim (option_map key_at (named_in name qs)) [ Some key ↦ Some key | None ↦ w ]) (among_found name q 0 q.names)
+    ap (λ o. key_by o (key_among name q 0 q.names)) (key_found name qs)
+    ∙ ap (key_by (option_map key_at (named_in name qs))) (among_found name q 0 q.names)
     ∙ key_settle q (named_in name qs) (last_place name q.names)
 
 -- ---- loops from the last on
 
-last_with : (o : Option ℕ) (b : Bool) → o ≡ None → b ≡ true → elim o [ Some k ↦ Some (suc k) | None ↦ if b then Some 0 else None ] ≡ Some 0
+last_with : (o : Option ℕ) (b : Bool) → o ≡ None → b ≡ true → last_by o b ≡ Some 0
 last_with None true p q = refl
 last_with None false p q = cc
 last_with (Some k) b p q = cc
 
-last_after : (o : Option ℕ) (b : Bool) (i : ℕ) → o ≡ Some i → elim o [ Some k ↦ Some (suc k) | None ↦ if b then Some 0 else None ] ≡ Some (suc i)
+last_after : (o : Option ℕ) (b : Bool) (i : ℕ) → o ≡ Some i → last_by o b ≡ Some (suc i)
 last_after None b i p = cc
 last_after (Some k) b i p = let e : k ≡ i = cc in ap (λ j. Some (suc j)) e
 
-last_without : (o : Option ℕ) (b : Bool) → o ≡ None → b ≡ false → elim o [ Some k ↦ Some (suc k) | None ↦ if b then Some 0 else None ] ≡ None
+last_without : (o : Option ℕ) (b : Bool) → o ≡ None → b ≡ false → last_by o b ≡ None
 last_without None true p q = cc
 last_without None false p q = refl
 last_without (Some k) b p q = cc
@@ -140,22 +151,24 @@ module _ {A : Type 0} (view : A → List ℕ) (name : List ℕ) where
   not_here (y ∷ xs) zero x h b e = last_without (last_place name (map view xs)) (bytes_eq (view y) name) e b
   not_here (y ∷ xs) (suc i) x h b e = not_here xs i x (omega arith) b e
 
-abbrev in_pattern : Pattern → Option ℕ → Option Named
-in_pattern q None = None
-in_pattern q (Some k) = Some (record { pattern = q; place = k })
+abbrev pub named_at : Pattern → ℕ → Option Named
+named_at q k = Some (record { pattern = q; place = k })
 
 named_with : (o : Option Named) (q : Pattern) (p : Option ℕ) (k : ℕ) → o ≡ None → p ≡ Some k
-    → elim o [ Some found ↦ Some found | None ↦ elim p [ None ↦ None | Some j ↦ Some (record { pattern = q; place = j }) ] ] ≡ Some (record { pattern = q; place = k })
+    → named_by o q p ≡ Some (record { pattern = q; place = k })
 named_with None q None k e h = cc
 named_with None q (Some j) k e h = let s : j ≡ k = cc in ap (λ i. Some (record { pattern = q; place = i })) s
 named_with (Some found) q p k e h = cc
 
-named_after : (o : Option Named) (x : Named) (r : Option Named) → o ≡ Some x → elim o [ Some found ↦ Some found | None ↦ r ] ≡ Some x
+abbrev later_or : Option Named → Option Named → Option Named
+later_or o r = elim o [ Some found ↦ Some found | None ↦ r ]
+
+named_after : (o : Option Named) (x : Named) (r : Option Named) → o ≡ Some x → later_or o r ≡ Some x
 named_after None x r e = cc
 named_after (Some found) x r e = e
 
 named_without : (o : Option Named) (q : Pattern) (p : Option ℕ) → o ≡ None → p ≡ None
-    → elim o [ Some found ↦ Some found | None ↦ elim p [ None ↦ None | Some j ↦ Some (record { pattern = q; place = j }) ] ] ≡ None
+    → named_by o q p ≡ None
 named_without None q None e h = refl
 named_without None q (Some j) e h = cc
 named_without (Some found) q p e h = cc

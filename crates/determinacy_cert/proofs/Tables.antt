@@ -93,7 +93,7 @@ module _ (actor : Actor) (moves : List BoundMove) (h : Each (IsMove actor) (map 
       (λ m is f.
       let t = tagged_action actor m.action is.tagged in
       let one : is_free (is_empty actor.states) t.act ≡ true =
-          sym (free_at (is_empty actor.states) actor.actions m.action t.act t.is) ∙ ap (λ xs. slice_index_or xs m.action false) (sym e) ∙ f in
+      sym (free_at (is_empty actor.states) actor.actions m.action t.act t.is) ∙ ap (λ xs. slice_index_or xs m.action false) (sym e) ∙ f in
       not_free t.act.initialize (is_empty t.act.tag) (is_empty actor.states) (not_empty t.act.tag t.tag) (some_there actor.states m.from is.from) one) moves h
 
 pub no_two_targets : (actor : Actor) (s a : ℕ) → LeadToOne actor.moves → HasTwoTargets (map step_as actor.moves) s a → ⊥
@@ -113,15 +113,15 @@ module _ (actor : Actor) (moves : Each (IsMove actor) actor.moves) (fsm : Automa
         states = e;
         actions = f ∙ many;
         leads = λ s a in_s in_a.
-          let act = there actor.actions a in_a in
-          ( (λ h.
-            let to = some_is (target fsm s a) h in
-            let led : Leads steps free s a to.0 = (leads s a to.0 in_s (omega arith)).0 to.1 in
-            leads_then actor moves s a act.0 act.1 free to.0 in_s q (subst (λ xs. Leads xs free s a to.0) p led))
-          , (λ h.
-            let led = then_leads actor moves s a act.0 act.1 free in_s q h in
-            is_there (target fsm s a) led.to ((leads s a led.to in_s (omega arith)).1 (subst (λ xs. Leads xs free s a led.to) (sym p) led.leads)))
-          );
+            let act = there actor.actions a in_a in (
+              (λ h.
+                  let to = some_is (target fsm s a) h in
+                  let led : Leads steps free s a to.0 = (leads s a to.0 in_s (omega arith)).0 to.1 in
+                  leads_then actor moves s a act.0 act.1 free to.0 in_s q (subst (λ xs. Leads xs free s a to.0) p led)),
+              (λ h.
+                  let led = then_leads actor moves s a act.0 act.1 free in_s q h in
+                  is_there (target fsm s a) led.to ((leads s a led.to in_s (omega arith)).1 (subst (λ xs. Leads xs free s a led.to) (sym p) led.leads))),
+            );
       }
 
 -- ---- priorities

@@ -67,7 +67,7 @@ failure_view f = record { state = f.state; a = f.a; b = f.b; reason = f.reason }
 -- Ok where there is no failure, else the first; out of memory says nothing
 abbrev pub Answers : Result (Unit {0}) CertFault → List Failure → Type 0
 Answers (Ok u) listed = listed ≡ []
-Answers (Err (Uncertified state a b reason)) listed = first listed ≡ Some (record { state = state; a = a.field-0; b = b.field-0; reason = reason })
+Answers (Err (Uncertified state a b reason)) listed = first listed ≡ Some (record { state = state; a = a.0; b = b.0; reason = reason })
 Answers (Err Memory) listed = Unit {0}
 
 -- the actor isn't certified; out of memory says nothing

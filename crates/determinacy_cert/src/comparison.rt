@@ -1,6 +1,6 @@
 //! Comparisons of an expression with a number, and which of them no number meets both.
 
-ghost use Rattle.std.specs.Prelude.{◌≡◌, ◌+ℤ◌, int_le, int_lt, option_map, pos};
+ghost use Rattle.std.specs.Prelude.{◌≡◌, ◌+◌, ◌+ℤ◌, int_le, int_lt, nat_lt, option_map, pos};
 ghost use Rattle.std.specs.Ordering.{int_eq};
 ghost use Rattle.cal_ast.specs.Tree as tree;
 ghost use Rattle.cal_ast.specs.View.{expr_tree};
@@ -86,9 +86,34 @@ fn is_below(one: Literal, other: Literal) -> bool
     match one.is_negated {
         true => match other.is_negated {
             true => other.size < one.size,
-            false => 0 < one.size || 0 < other.size,
+            false => is_sum_above(one.size, other.size, 0),
         },
-        false => !other.is_negated && one.size < other.size,
+        false => match other.is_negated {
+            true => false,
+            false => one.size < other.size,
+        },
+    }
+}
+
+/// Whether the sum of both sizes is above a bound.
+fn is_sum_above(size: u128, other: u128, bound: u128) -> bool
+    ensures { result ≡ nat_lt bound (size + other) }
+{
+    if bound < size {
+        true
+    } else {
+        bound - size < other
+    }
+}
+
+/// Whether the one size is more than 1 below the other.
+fn is_far_below(size: u128, other: u128) -> bool
+    ensures { result ≡ nat_lt (size + 1) other }
+{
+    if size < other {
+        1 < other - size
+    } else {
+        false
     }
 }
 
@@ -98,10 +123,13 @@ fn has_between(one: Literal, other: Literal) -> bool
 {
     match one.is_negated {
         true => match other.is_negated {
-            true => other.size < one.size && 1 < one.size - other.size,
-            false => 1 < one.size || 1 < other.size || (one.size == 1 && other.size == 1),
+            true => is_far_below(other.size, one.size),
+            false => is_sum_above(one.size, other.size, 1),
         },
-        false => !other.is_negated && one.size < other.size && 1 < other.size - one.size,
+        false => match other.is_negated {
+            true => false,
+            false => is_far_below(one.size, other.size),
+        },
     }
 }
 
@@ -109,7 +137,16 @@ fn has_between(one: Literal, other: Literal) -> bool
 fn is_equal(one: Literal, other: Literal) -> bool
     ensures { result ≡ int_eq (literal_view one) (literal_view other) }
 {
-    one.size == other.size && (one.is_negated == other.is_negated || one.size == 0)
+    match one.is_negated {
+        true => match other.is_negated {
+            true => one.size == other.size,
+            false => !is_sum_above(one.size, other.size, 0),
+        },
+        false => match other.is_negated {
+            true => !is_sum_above(one.size, other.size, 0),
+            false => one.size == other.size,
+        },
+    }
 }
 
 /// Whether no whole number meets both comparisons.

@@ -106,11 +106,9 @@ pub(crate) fn named_in<'a>(name: &str, patterns: &'a [BoundPattern]) -> Option<N
     let mut index = patterns.len();
     'backwards: while index > 0 {
         index -= 1;
-        if let Some(place) = last_place(name, &patterns[index].names) {
-            return Some(Named {
-                pattern: &patterns[index],
-                place,
-            });
+        let pattern = &patterns[index];
+        if let Some(place) = last_place(name, &pattern.names) {
+            return Some(Named { pattern, place });
         }
     }
     None
