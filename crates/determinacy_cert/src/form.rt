@@ -11,20 +11,21 @@ use cal_ast::{BinOp, Expr, ExprForm, PrefixOp};
 use cal_model::BoundPattern;
 
 /// Whether both trees are equal, ignoring offsets, once each pattern variable is replaced by the tokens that it stands
-/// for. Lists, calls and comprehensions count as different.
+/// for. Lists, calls and comprehensions count as different. The recursion goes down the first tree.
 #[cycle(same)]
-pub(crate) fn same(e: &Expr, patterns: &[BoundPattern], f: &Expr, others: &[BoundPattern]) -> bool
-    ensures { result ≡ same (expr_tree e.now) (map pattern_view patterns.now) (expr_tree f.now) (map pattern_view others.now) }
+pub(crate) fn same(f: &Expr, others: &[BoundPattern], e: &Expr, patterns: &[BoundPattern]) -> bool
+    ensures { result ≡ same (expr_tree e.now) (map pattern_view patterns.now)
+        (expr_tree f.now) (map pattern_view others.now) }
 {
     match &e.form {
         ExprForm::Number(number) => is_number(*number, f),
         ExprForm::Bool(flag) => is_truth(*flag, f),
         ExprForm::Name(name) => is_name(name.as_str(), patterns, f, others),
-        ExprForm::Paren(inner) => same_paren(inner, patterns, f, others),
-        ExprForm::If { test, yes, no } => same_if(test, yes, no, patterns, f, others),
-        ExprForm::Index { base, place } => same_index(base, place, patterns, f, others),
-        ExprForm::Prefix { op, of } => same_prefix(*op, of, patterns, f, others),
-        ExprForm::Binary { op, left, right } => same_binary(*op, left, right, patterns, f, others),
+        ExprForm::Paren(inner) => same_paren(f, others, inner, patterns),
+        ExprForm::If { test, yes, no } => same_if(f, others, test, yes, no, patterns),
+        ExprForm::Index { base, place } => same_index(f, others, base, place, patterns),
+        ExprForm::Prefix { op, of } => same_prefix(f, others, *op, of, patterns),
+        ExprForm::Binary { op, left, right } => same_binary(f, others, *op, left, right, patterns),
         ExprForm::Call { name: _, args: _ } => false,
         ExprForm::List(_) => false,
         ExprForm::Comp { item: _, gens: _ } => false,
@@ -53,7 +54,8 @@ fn is_truth(flag: bool, f: &Expr) -> bool
 
 /// Whether the expression is a name that stands for the same.
 fn is_name(name: &str, patterns: &[BoundPattern], f: &Expr, others: &[BoundPattern]) -> bool
-    ensures { result ≡ same (tree.variable name.now 0) (map pattern_view patterns.now) (expr_tree f.now) (map pattern_view others.now) }
+    ensures { result ≡ same (tree.variable name.now 0) (map pattern_view patterns.now)
+        (expr_tree f.now) (map pattern_view others.now) }
 {
     match &f.form {
         ExprForm::Name(other) => same_names(name, patterns, other.as_str(), others),
@@ -63,11 +65,12 @@ fn is_name(name: &str, patterns: &[BoundPattern], f: &Expr, others: &[BoundPatte
 
 /// Whether the other expression has parentheses round an equal one.
 #[cycle(same)]
-fn same_paren(inner: &Expr, patterns: &[BoundPattern], f: &Expr, others: &[BoundPattern]) -> bool
-    ensures { result ≡ same (tree.paren (expr_tree inner.now) 0) (map pattern_view patterns.now) (expr_tree f.now) (map pattern_view others.now) }
+fn same_paren(f: &Expr, others: &[BoundPattern], inner: &Expr, patterns: &[BoundPattern]) -> bool
+    ensures { result ≡ same (tree.paren (expr_tree inner.now) 0) (map pattern_view patterns.now)
+        (expr_tree f.now) (map pattern_view others.now) }
 {
     match &f.form {
-        ExprForm::Paren(other) => same(inner, patterns, other, others),
+        ExprForm::Paren(other) => same(other, others, inner, patterns),
         _ => false,
     }
 }
@@ -75,14 +78,15 @@ fn same_paren(inner: &Expr, patterns: &[BoundPattern], f: &Expr, others: &[Bound
 /// Whether the other expression is an `if` with an equal condition and equal branches.
 #[cycle(same)]
 fn same_if(
+    f: &Expr,
+    others: &[BoundPattern],
     test: &Expr,
     yes: &Expr,
     no: &Expr,
     patterns: &[BoundPattern],
-    f: &Expr,
-    others: &[BoundPattern],
 ) -> bool
-    ensures { result ≡ same (tree.if_expr (expr_tree test.now) (expr_tree yes.now) (expr_tree no.now) 0) (map pattern_view patterns.now) (expr_tree f.now) (map pattern_view others.now) }
+    ensures { result ≡ same (tree.if_expr (expr_tree test.now) (expr_tree yes.now) (expr_tree no.now) 0) (map pattern_view patterns.now)
+        (expr_tree f.now) (map pattern_view others.now) }
 {
     match &f.form {
         ExprForm::If {
@@ -90,9 +94,9 @@ fn same_if(
             yes: other_yes,
             no: other_no,
         } => {
-            same(test, patterns, other_test, others)
-                && same(yes, patterns, other_yes, others)
-                && same(no, patterns, other_no, others)
+            same(other_test, others, test, patterns)
+                && same(other_yes, others, yes, patterns)
+                && same(other_no, others, no, patterns)
         }
         _ => false,
     }
@@ -101,20 +105,21 @@ fn same_if(
 /// Whether the other expression is an index with an equal base and an equal place.
 #[cycle(same)]
 fn same_index(
+    f: &Expr,
+    others: &[BoundPattern],
     base: &Expr,
     place: &Expr,
     patterns: &[BoundPattern],
-    f: &Expr,
-    others: &[BoundPattern],
 ) -> bool
-    ensures { result ≡ same (tree.index (expr_tree base.now) (expr_tree place.now) 0) (map pattern_view patterns.now) (expr_tree f.now) (map pattern_view others.now) }
+    ensures { result ≡ same (tree.index (expr_tree base.now) (expr_tree place.now) 0) (map pattern_view patterns.now)
+        (expr_tree f.now) (map pattern_view others.now) }
 {
     match &f.form {
         ExprForm::Index {
             base: other_base,
             place: other_place,
         } => {
-            same(base, patterns, other_base, others) && same(place, patterns, other_place, others)
+            same(other_base, others, base, patterns) && same(other_place, others, place, patterns)
         }
         _ => false,
     }
@@ -123,19 +128,20 @@ fn same_index(
 /// Whether the other expression is the same operation on an equal operand.
 #[cycle(same)]
 fn same_prefix(
+    f: &Expr,
+    others: &[BoundPattern],
     op: PrefixOp,
     of: &Expr,
     patterns: &[BoundPattern],
-    f: &Expr,
-    others: &[BoundPattern],
 ) -> bool
-    ensures { result ≡ same (tree.prefix op (expr_tree of.now) 0) (map pattern_view patterns.now) (expr_tree f.now) (map pattern_view others.now) }
+    ensures { result ≡ same (tree.prefix op (expr_tree of.now) 0) (map pattern_view patterns.now)
+        (expr_tree f.now) (map pattern_view others.now) }
 {
     match &f.form {
         ExprForm::Prefix {
             op: other_op,
             of: other,
-        } => same_prefix_op(op, *other_op) && same(of, patterns, other, others),
+        } => same_prefix_op(op, *other_op) && same(other, others, of, patterns),
         _ => false,
     }
 }
@@ -143,14 +149,15 @@ fn same_prefix(
 /// Whether the other expression is the same operation on equal operands.
 #[cycle(same)]
 fn same_binary(
+    f: &Expr,
+    others: &[BoundPattern],
     op: BinOp,
     left: &Expr,
     right: &Expr,
     patterns: &[BoundPattern],
-    f: &Expr,
-    others: &[BoundPattern],
 ) -> bool
-    ensures { result ≡ same (tree.binary op (expr_tree left.now) (expr_tree right.now) 0) (map pattern_view patterns.now) (expr_tree f.now) (map pattern_view others.now) }
+    ensures { result ≡ same (tree.binary op (expr_tree left.now) (expr_tree right.now) 0) (map pattern_view patterns.now)
+        (expr_tree f.now) (map pattern_view others.now) }
 {
     match &f.form {
         ExprForm::Binary {
@@ -159,8 +166,8 @@ fn same_binary(
             right: other_right,
         } => {
             same_op(op, *other_op)
-                && same(left, patterns, other_left, others)
-                && same(right, patterns, other_right, others)
+                && same(other_left, others, left, patterns)
+                && same(other_right, others, right, patterns)
         }
         _ => false,
     }

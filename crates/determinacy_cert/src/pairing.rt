@@ -90,7 +90,7 @@ fn compare_apart(
 {
     let Some(one) = one else { return false };
     let Some(two) = two else { return false };
-    never_both(one.op, one.number, two.op, two.number) && same(one.left, patterns, two.left, others)
+    never_both(one.op, one.number, two.op, two.number) && same(two.left, others, one.left, patterns)
 }
 
 /// Whether the second is `not` the first.
@@ -101,7 +101,7 @@ fn is_not_of(e: &Expr, patterns: &[BoundPattern], f: &Expr, others: &[BoundPatte
         ExprForm::Prefix {
             op: PrefixOp::Not,
             of,
-        } => same(e, patterns, of, others),
+        } => same(of, others, e, patterns),
         _ => false,
     }
 }
