@@ -26,4 +26,5 @@ mod Memo
 mod Automata
 mod Tables
 mod Listed
+mod Forms
 mod Answering

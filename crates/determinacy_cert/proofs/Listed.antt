@@ -43,10 +43,37 @@ module _ {E : Type 0} (view : E → Tree) (f : Tree → Bool) (gs : List E) wher
 
   -- the conjuncts of this guard are passed
   pub passed : (k : ℕ) (g : E) (whole : Bool) → k < length gs → g ≡ get_or gs k g → any_of f (conjuncts (view g)) ≡ false → found_from k ≡ whole → found_from (k + 1) ≡ whole
-  passed k g whole inside is no h = sym (later_any f (conjuncts (view g)) (all_conjuncts (map view (drop (k + 1) gs))) no) ∙ sym (front k g inside is) ∙ h
+  passed k g whole inside is n h = sym (later_any f (conjuncts (view g)) (all_conjuncts (map view (drop (k + 1) gs))) n) ∙ sym (front k g inside is) ∙ h
 
-  pub found : (k : ℕ) (g : E) (whole : Bool) → k < length gs → g ≡ get_or gs k g → any_of f (conjuncts (view g)) ≡ true → found_from k ≡ whole → true ≡ whole
-  found k g whole inside is yes h = sym (first_any f (conjuncts (view g)) (all_conjuncts (map view (drop (k + 1) gs))) yes) ∙ sym (front k g inside is) ∙ h
+  pub found_at : (k : ℕ) (g : E) (whole : Bool) → k < length gs → g ≡ get_or gs k g → any_of f (conjuncts (view g)) ≡ true → found_from k ≡ whole → true ≡ whole
+  found_at k g whole inside is y h = sym (first_any f (conjuncts (view g)) (all_conjuncts (map view (drop (k + 1) gs))) y) ∙ sym (front k g inside is) ∙ h
 
   pub none_found : (k : ℕ) (whole : Bool) → length gs ≤ k → found_from k ≡ whole → false ≡ whole
-  none_found k whole past h = ap (λ xs. any_of f (all_conjuncts (map view xs))) (sym (drop_all gs k past)) ∙ h
+  none_found k whole past h = ap (λ xs. any_of f (all_conjuncts (map view xs))) (sym (drop_all k gs past)) ∙ h
+
+-- ---- `or`
+
+pub or_first : (a b c : Bool) → a ≡ true → true ≡ (a || b || c)
+or_first true b c h = refl
+or_first false b c h = cc
+
+pub or_second : (a b c : Bool) → b ≡ true → true ≡ (a || b || c)
+or_second true b c h = refl
+or_second false true c h = refl
+or_second false false c h = cc
+
+pub or_third : (a b c r : Bool) → a ≡ false → b ≡ false → r ≡ c → r ≡ (a || b || c)
+or_third false false c r p q h = h
+or_third true b c r p q h = cc
+or_third false true c r p q h = cc
+
+-- the conjuncts of an `and`
+pub either_side : (f : Tree → Bool) (l r : Tree) (at : ℕ) (b : Bool) → any_of f (conjuncts l) ≡ false → b ≡ any_of f (conjuncts r) → b ≡ any_of f (conjuncts (tree.binary And l r at))
+either_side f l r at b n h = h ∙ sym (later_any f (conjuncts l) (conjuncts r) n)
+
+pub first_side : (f : Tree → Bool) (l r : Tree) (at : ℕ) → any_of f (conjuncts l) ≡ true → true ≡ any_of f (conjuncts (tree.binary And l r at))
+first_side f l r at y = sym (first_any f (conjuncts l) (conjuncts r) y)
+
+-- what is one conjunct
+pub one_side : (f : Tree → Bool) (t : Tree) (b : Bool) → conjuncts t ≡ t ∷ [] → b ≡ f t → b ≡ any_of f (conjuncts t)
+one_side f t b e h = h ∙ sym (any_one f t) ∙ sym (ap (any_of f) e)

@@ -1,11 +1,11 @@
 -- Names by the patterns in which they stand last.
 use Rattle.std.proofs.Common.{◌≡◌, ℕ, zero, suc, ◌+◌, ◌-◌, ◌<◌, ◌≤◌, Bool, true, false, List, [], ◌∷◌, ◌++◌, map, length, drop, get_or, refl, sym, ap, subst, ◌∙◌, append_assoc, arith}
-use Rattle.std.specs.Prelude.{Option, None, Some, option_map, if◌then◌else◌}
+use Rattle.std.specs.Prelude.{Option, None, Some, option_map, if◌then◌else◌, pos, ◌-ℤ◌}
 use Rattle.std.specs.Str.{bytes_eq}
-use Rattle.cal_model.specs.Value.{Shape, Value}
+use Rattle.cal_model.specs.Value.{Shape, Single, Many, Value}
 use Rattle.cal_model.specs.Actor.{Pattern, Actor}
 use Rattle.cal_model.specs.Selection.{kind_of_port}
-use Rattle.cal_model.specs.Certified.{Ranged, ranged, ranged_names, ranged_patterns, shape_of_tokens, key_among, key_in, token_key}
+use Rattle.cal_model.specs.Certified.{Interval, Ranged, item_ranged, lies_within, on_interval, on_ranged, range_of_name, ranged, ranged_names, ranged_patterns, shape_of_tokens, key_among, key_in, token_key}
 use Rattle.determinacy_cert.specs.Deciding.{Named, last_place, named_in}
 use Rattle.determinacy_cert.specs.Viewing.{unnamed}
 
@@ -185,3 +185,40 @@ module _ {A : Type 0} (view : A → Pattern) (name : List ℕ) where
   not_in [] i x h b e = absurd (omega arith)
   not_in (y ∷ xs) zero x h b e = named_without (named_in name (map view xs)) (view y) (last_place name (view y).names) e b
   not_in (y ∷ xs) (suc i) x h b e = not_in xs i x (omega arith) b e
+
+-- ---- what stands in a list, whatever its name
+
+abbrev some_item : Bool → Ranged → Option Ranged
+some_item b x = if b then Some x else None
+
+abbrev item_by : Interval → Ranged → Shape → Option Ranged
+item_by i x (Single u) = None
+item_by i x (Many n items) = some_item (lies_within i (pos 0) (pos n -ℤ pos 1)) (record x { shape = items })
+
+item_settle : (i : Interval) (x : Ranged) (t : Shape) → item_by i (unnamed x) t ≡ option_map unnamed (item_by i x t)
+item_settle i x (Single u) = refl
+item_settle i x (Many n items) = go (lies_within i (pos 0) (pos n -ℤ pos 1))
+  where
+    go : (b : Bool) → some_item b (record (unnamed x) { shape = items }) ≡ option_map unnamed (some_item b (record x { shape = items }))
+    go true = refl
+    go false = refl
+
+item_named : (i : Interval) (x : Ranged) → item_ranged i (unnamed x) ≡ option_map unnamed (item_ranged i x)
+item_named i x = item_settle i x x.shape
+
+pub item_found : (o : Option Ranged) (p : Option Interval)
+    → on_ranged (option_map unnamed o) (λ x. on_interval p (λ i. item_ranged i x)) ≡ option_map unnamed (on_ranged o (λ x. on_interval p (λ i. item_ranged i x)))
+item_found None p = refl
+item_found (Some x) None = refl
+item_found (Some x) (Some i) = item_named i x
+
+numbers_named : (o : Option Ranged) → on_ranged (option_map unnamed o) (λ y. range_of_name y) ≡ on_ranged o (λ y. range_of_name y)
+numbers_named None = refl
+numbers_named (Some y) = refl
+
+pub numbers_found : (o : Option Ranged) (p : Option Interval)
+    → on_ranged (option_map unnamed o) (λ x. on_interval p (λ i. on_ranged (item_ranged i x) (λ y. range_of_name y)))
+    ≡ on_ranged o (λ x. on_interval p (λ i. on_ranged (item_ranged i x) (λ y. range_of_name y)))
+numbers_found None p = refl
+numbers_found (Some x) None = refl
+numbers_found (Some x) (Some i) = ap (λ o. on_ranged o (λ y. range_of_name y)) (item_named i x) ∙ numbers_named (item_ranged i x)

@@ -213,6 +213,11 @@ never_both op n other m = false
 
 -- ---- conjuncts that exclude each other
 
+-- the operator between conjuncts
+abbrev pub is_and : BinOp → Bool
+is_and And = true
+is_and op = false
+
 -- a conjunct `left op number`
 pub record Comparison : Type 0 where
   pub left : Tree

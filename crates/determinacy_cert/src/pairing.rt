@@ -4,7 +4,7 @@ ghost use Rattle.std.specs.Prelude.{◌≡◌, map, option_map};
 ghost use Rattle.cal_ast.specs.View.{expr_tree};
 ghost use Rattle.cal_model.specs.Certified.{all_conjuncts, conjuncts};
 ghost use Rattle.cal_model.specs.View.{action_view, pattern_view};
-ghost use Rattle.determinacy_cert.specs.Deciding.{any_of, compare_apart, denied, exclude, guards_exclude, is_not_of};
+ghost use Rattle.determinacy_cert.specs.Deciding.{any_of, compare_apart, denied, exclude, guards_exclude, is_and, is_not_of};
 ghost use Rattle.determinacy_cert.specs.Viewing.{comparison_view};
 
 use crate::comparison::{Comparison, compared, never_both};
@@ -30,11 +30,13 @@ fn excludes_any(e: &Expr, one: &BoundAction, two: &BoundAction) -> bool
     ensures { result ≡ any_of (λ c. any_of (λ d. exclude c (action_view one.now).patterns d (action_view two.now).patterns) (all_conjuncts (action_view two.now).guards)) (conjuncts (expr_tree e.now)) }
 {
     match &e.form {
-        ExprForm::Binary {
-            op: BinOp::And,
-            left,
-            right,
-        } => excludes_any(left, one, two) || excludes_any(right, one, two),
+        ExprForm::Binary { op, left, right } => {
+            if is_and(*op) {
+                excludes_any(left, one, two) || excludes_any(right, one, two)
+            } else {
+                excludes_a_guard(e, one, two)
+            }
+        }
         _ => excludes_a_guard(e, one, two),
     }
 }
@@ -57,12 +59,24 @@ fn excludes(e: &Expr, patterns: &[BoundPattern], f: &Expr, others: &[BoundPatter
     ensures { result ≡ any_of (λ d. exclude (expr_tree e.now) (map pattern_view patterns.now) d (map pattern_view others.now)) (conjuncts (expr_tree f.now)) }
 {
     match &f.form {
-        ExprForm::Binary {
-            op: BinOp::And,
-            left,
-            right,
-        } => excludes(e, patterns, left, others) || excludes(e, patterns, right, others),
+        ExprForm::Binary { op, left, right } => {
+            if is_and(*op) {
+                excludes(e, patterns, left, others) || excludes(e, patterns, right, others)
+            } else {
+                exclude(e, patterns, f, others)
+            }
+        }
         _ => exclude(e, patterns, f, others),
+    }
+}
+
+/// Whether the operator stands between conjuncts.
+fn is_and(op: BinOp) -> bool
+    ensures { result ≡ is_and op }
+{
+    match op {
+        BinOp::And => true,
+        _ => false,
     }
 }
 
