@@ -21,7 +21,7 @@ use Rattle.determinacy_cert.proofs.NoFailures.{in_list}
 
 -- ---- moves as steps
 
-pub step_as : Move → Step
+abbrev pub step_as : Move → Step
 step_as m = record { from = m.from; action = m.action; to = m.to }
 
 pub step_is : (moves : List BoundMove) → map step_of moves ≡ map step_as (map move_view moves)
@@ -35,13 +35,13 @@ member_cases x y xs h = go h.0 h.1 h.2
   where
     go : (k : ℕ) → k < length (x ∷ xs) → slice_index_or (x ∷ xs) k y ≡ y → (x ≡ y) ⊎ Contains xs y
     go zero p e = inl e
-    go (suc k) p e = inr (k, (omega arith, e))
+    go (suc k) p e = inr (k, omega arith, e)
 
 member_here : {A : Type 0} (x y : A) (xs : List A) → x ≡ y → Contains (x ∷ xs) y
-member_here x y xs e = (0, (omega arith, e))
+member_here x y xs e = (0, omega arith, e)
 
 member_behind : {A : Type 0} (x y : A) (xs : List A) → Contains xs y → Contains (x ∷ xs) y
-member_behind x y xs h = (suc h.0, (let p = h.1 in omega arith, h.2))
+member_behind x y xs h = (suc h.0, (let p = h.1 in omega arith), h.2)
 
 no_member : {A : Type 0} (y : A) → Contains [] y → ⊥
 no_member y h = let p = h.1 in omega arith
@@ -70,24 +70,25 @@ target_some (n ∷ ms) s a m h p q =
 step_same : (n : Move) (s a to : ℕ) → n.from ≡ s → n.action ≡ a → n.to ≡ to → step_as n ≡ record { from = s; action = a; to = to }
 step_same n s a to p q r = rw (sym p, sym q, sym r) refl
 
+target_by : (n : Move) (ms : List Move) (s a to : ℕ) (b : Bool) → (n.from == s && n.action == a) ≡ b → (eligibility.target ms s a ≡ Some to → StepLeads (map step_as ms) s a to)
+    → (if b then Some n.to else eligibility.target ms s a) ≡ Some to → StepLeads (map step_as (n ∷ ms)) s a to
+target_by n ms s a to true e behind k =
+    let both = two_true (n.from == s) (n.action == a) e in
+    let last : n.to ≡ to = cc in
+    member_here (step_as n) _ (map step_as ms) (step_same n s a to (eqb-true n.from s both.0) (eqb-true n.action a both.1) last)
+target_by n ms s a to false e behind k = member_behind (step_as n) _ (map step_as ms) (behind k)
+
 -- a target is that of a move
 target_there : (ms : List Move) (s a to : ℕ) → eligibility.target ms s a ≡ Some to → StepLeads (map step_as ms) s a to
 target_there [] s a to h = absurd (cc)
-target_there (n ∷ ms) s a to h = go (n.from == s && n.action == a) refl h
-  where
-    go : (b : Bool) → (n.from == s && n.action == a) ≡ b → (if b then Some n.to else eligibility.target ms s a) ≡ Some to → StepLeads (map step_as (n ∷ ms)) s a to
-    go true e k =
-        let both = two_true (n.from == s) (n.action == a) e in
-        let last : n.to ≡ to = cc in
-        member_here (step_as n) _ (map step_as ms) (step_same n s a to (eqb-true n.from s both.0) (eqb-true n.action a both.1) last)
-    go false e k = member_behind (step_as n) _ (map step_as ms) (target_there ms s a to k)
+target_there (n ∷ ms) s a to h = target_by n ms s a to (n.from == s && n.action == a) refl (λ k. target_there ms s a to k) h
 
-pub record IsMoved (ms : List Move) (s a to : ℕ) : Type 0 where
+pub record IsMoved (ms : List Move) (s a end : ℕ) : Type 0 where
   pub move : Move
   pub member : Contains ms move
   pub from : move.from ≡ s
   pub action : move.action ≡ a
-  pub to : move.to ≡ to
+  pub to : move.to ≡ end
 
 pub step_moves : (ms : List Move) (s a to : ℕ) → StepLeads (map step_as ms) s a to → IsMoved ms s a to
 step_moves [] s a to h = absurd (no_member _ h)

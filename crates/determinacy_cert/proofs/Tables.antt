@@ -1,6 +1,7 @@
 -- What the automaton and the order of a sound actor ask for, and what they are then.
 use Rattle.std.proofs.Common.{◌≡◌, ◌≢◌, ℕ, zero, suc, ◌<◌, ◌≤◌, Bool, true, false, List, [], ◌∷◌, map, length, All, Contains, refl, sym, ap, subst, ◌∙◌, arith}
-use Rattle.std.specs.Prelude.{◌↔◌, IsTrue, IsSome, not, ◌&&◌, ◌||◌, Option, None, Some, is_some, if◌then◌else◌, slice_get, slice_index_or}
+use Rattle.std.specs.Prelude.{◌↔◌, IsTrue, IsSome, not, ◌&&◌, ◌||◌, ◌==◌, Option, None, Some, is_some, if◌then◌else◌, slice_get, slice_index_or}
+use Rattle.std.proofs.lemmas.Bool.{eqb-true, eq-eqb}
 use Rattle.std.proofs.lemmas.List.{length-map}
 use Rattle.rvc_base.specs.Chain.{IsAbove, ChainLeads}
 use Rattle.rvc_base.specs.Line.{IsLine}
@@ -45,6 +46,17 @@ is_there (Some y) x h = refl
 not_empty : {A : Type 0} (xs : List A) → xs ≢ [] → is_empty xs ≡ false
 not_empty [] h = absurd (h refl)
 not_empty (x ∷ xs) h = refl
+
+above_zero : (n : ℕ) → 0 < n → (n == 0) ≡ false
+above_zero n h = go (n == 0) refl
+  where
+    go : (b : Bool) → (n == 0) ≡ b → b ≡ false
+    go true e = let none = eqb-true n 0 e in absurd (omega arith)
+    go false e = refl
+
+pub empty_is : {A B : Type 0} (f : A → B) (xs : List A) (n : ℕ) → n ≡ length xs → (n == 0) ≡ is_empty (map f xs)
+empty_is f [] n h = eq-eqb n 0 h
+empty_is f (x ∷ xs) n h = above_zero n (omega arith)
 
 some_there : {A : Type 0} (xs : List A) (k : ℕ) → k < length xs → is_empty xs ≡ false
 some_there [] k h = absurd (omega arith)
