@@ -95,9 +95,9 @@ step_moves [] s a to h = absurd (no_member _ h)
 step_moves (n ∷ ms) s a to h =
     ⊎_elim
     (λ (same : step_as n ≡ record { from = s; action = a; to = to }).
-    record { move = n; member = member_here n n ms refl; from = ap (λ k. k.from) same; action = ap (λ k. k.action) same })
+    record { move = n; member = member_here n n ms refl; from = ap (λ k. k.from) same; action = ap (λ k. k.action) same; to = ap (λ k. k.to) same })
     (λ (behind : StepLeads (map step_as ms) s a to).
-    let m = step_moves ms s a to behind in record { move = m.move; member = member_behind n m.move ms m.member; from = m.from; action = m.action })
+    let m = step_moves ms s a to behind in record { move = m.move; member = member_behind n m.move ms m.member; from = m.from; action = m.action; to = m.to })
     (member_cases (step_as n) _ (map step_as ms) h)
 
 -- ---- eligible actions
