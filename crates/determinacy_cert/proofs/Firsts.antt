@@ -3,16 +3,16 @@ use Rattle.std.proofs.Common.{◌≡◌, ℕ, zero, suc, ◌+◌, ◌-◌, ◌<�
 use Rattle.std.specs.Prelude.{Option, None, Some, option_map}
 use Rattle.determinacy_cert.specs.Failing.{each_from, first}
 
-pub first_of : {A : Type 0} → Option A → List A → Option A
-first_of None ys = first ys
-first_of (Some x) ys = Some x
+abbrev pub first_or : {A : Type 0} → Option A → List A → Option A
+first_or None ys = first ys
+first_or (Some x) ys = Some x
 
-pub first_both : {A : Type 0} (xs ys : List A) → first (xs ++ ys) ≡ first_of (first xs) ys
+pub first_both : {A : Type 0} (xs ys : List A) → first (xs ++ ys) ≡ first_or (first xs) ys
 first_both [] ys = refl
 first_both (x ∷ xs) ys = refl
 
-first_with : {A : Type 0} (o : Option A) (xs ys : List A) → first xs ≡ o → first (xs ++ ys) ≡ first_of o ys
-first_with o xs ys h = first_both xs ys ∙ ap (λ w. first_of w ys) h
+first_with : {A : Type 0} (o : Option A) (xs ys : List A) → first xs ≡ o → first (xs ++ ys) ≡ first_or o ys
+first_with o xs ys h = first_both xs ys ∙ ap (λ w. first_or w ys) h
 
 one_more : (n a : ℕ) → a < n → n - a ≡ suc (n - (a + 1))
 one_more n a h = omega arith

@@ -25,6 +25,7 @@ mod Firsts
 mod Memo
 mod Automata
 mod Tables
+mod Pairs
 mod Listed
 mod Forms
 mod Answering

@@ -24,10 +24,15 @@ guards_judged actor act =
 abbrev pub action_judged : Actor → ℕ → Option Reason
 action_judged actor a = elim (slice_get actor.actions a) [ None ↦ None | Some act ↦ guards_judged actor act ]
 
--- `above` tells which action is above which
+-- One action is above the other and needs no more tokens on any port, or their guards exclude each other. `above` tells
+-- which action is above which.
+abbrev pub settled : Actor → (ℕ → ℕ → Bool) → ℕ → ℕ → Action → Action → Bool
+settled actor above a b one two =
+    (above a b && needs_no_more actor a b one.patterns) || (above b a && needs_no_more actor b a two.patterns) || guards_exclude one two
+
 abbrev pub two_judged : Actor → (ℕ → ℕ → Bool) → ℕ → ℕ → Action → Action → Option Reason
 two_judged actor above a b one two =
-    if (above a b && needs_no_more actor a b one.patterns) || (above b a && needs_no_more actor b a two.patterns) || guards_exclude one two then None
+    if settled actor above a b one two then None
     else if above a b || above b a then Some C1
     else Some C2
 

@@ -1,6 +1,6 @@
 //! The certification rule, sought through all states.
 
-ghost use Rattle.std.specs.Prelude.{◌≡◌, ◌<◌, ◌≤◌, ◌*◌, ◌&&◌, true, false, IfErr, IfOk, length, map, option_map, replicate};
+ghost use Rattle.std.specs.Prelude.{◌≡◌, ◌<◌, ◌≤◌, ◌*◌, ◌&&◌, ◌||◌, true, false, IfErr, IfOk, length, map, option_map, replicate};
 ghost use Rattle.priority_order.specs.Ranking.{is_above};
 ghost use Rattle.cal_model.specs.Certified.{IsCertified};
 ghost use Rattle.cal_model.specs.Eligible.{eligible, has_initialize};
@@ -8,7 +8,7 @@ ghost use Rattle.cal_model.specs.Selection.{Priorities};
 ghost use Rattle.cal_model.specs.Sound.{IsSound};
 ghost use Rattle.cal_model.specs.View.{action_view, actor_of, pattern_view};
 ghost use Rattle.determinacy_cert.specs.Deciding.{needs_no_more};
-ghost use Rattle.determinacy_cert.specs.Failing.{action_failures, action_judged, all_states, each_from, failures, first, pair_failures, pair_judged, pairs_failures, state_failures};
+ghost use Rattle.determinacy_cert.specs.Failing.{action_failures, action_judged, all_states, each_from, failures, first, pair_failures, pair_judged, pairs_failures, settled, state_failures};
 ghost use Rattle.determinacy_cert.specs.Judging.{Answers, HavePorts, IsCause, IsKnown, IsTable, failure_view};
 
 use crate::fault::{CertFault, Reason};
@@ -273,17 +273,45 @@ fn two_judged(t: &Table<'_>, a: u16, b: u16) -> Option<Reason>
 {
     let one = &t.actor.actions[usize::from(a)];
     let two = &t.actor.actions[usize::from(b)];
-    if is_modest(t, a, b, &one.patterns)
-        || is_modest(t, b, a, &two.patterns)
-        || guards_exclude(one, two)
-    {
+    if is_settled(t, a, b, one, two) {
         return None;
     }
-    if t.order.above(a, b) || t.order.above(b, a) {
+    if is_ranked(t, a, b) {
         Some(Reason::C1)
     } else {
         Some(Reason::C2)
     }
+}
+
+/// Whether one of these actions, `a` and `b`, is above the other and needs no more, or their guards exclude each other.
+fn is_settled(t: &Table<'_>, a: u16, b: u16, one: &BoundAction, two: &BoundAction) -> bool
+    requires table { IsTable t.now }
+    requires a { a < t.now.actions }
+    requires b { b < t.now.actions }
+    requires ports { HavePorts (actor_of t.now.actor.now) (action_view one.now).patterns }
+    requires other_ports { HavePorts (actor_of t.now.actor.now) (action_view two.now).patterns }
+    ensures { result ≡ settled (actor_of t.now.actor.now) (is_above t.now.order) a b (action_view one.now) (action_view two.now) }
+{
+    if is_modest(t, a, b, &one.patterns) {
+        return true;
+    }
+    if is_modest(t, b, a, &two.patterns) {
+        return true;
+    }
+    guards_exclude(one, two)
+}
+
+/// Whether one of both actions is above the other.
+fn is_ranked(t: &Table<'_>, a: u16, b: u16) -> bool
+    requires table { IsTable t.now }
+    requires a { a < t.now.actions }
+    requires b { b < t.now.actions }
+    ensures { result ≡ (is_above t.now.order a b || is_above t.now.order b a) }
+{
+    if t.order.above(a, b) {
+        return true;
+    }
+    t.order.above(b, a)
 }
 
 /// Whether `a` is above `b` and needs no more tokens than it on any port that these patterns name.
