@@ -19,6 +19,9 @@ each_same : {A : Type 0} (n k : ℕ) (f g : ℕ → List A) → ((i : ℕ) → f
 each_same zero k f g h = refl
 each_same (suc n) k f g h = ap (λ xs. xs ++ each_from n (suc k) f) (h k) ∙ ap (λ ys. g k ++ ys) (each_same n (suc k) f g h)
 
+abbrev pair_by : Actor → (ℕ → ℕ → Bool) → ℕ → ℕ → Option Action → Option Action → Option Reason
+pair_by actor above a b o r = elim o [ None ↦ None | Some one ↦ elim r [ None ↦ None | Some two ↦ two_judged actor above a b one two ] ]
+
 module _ (actor : Actor) (above other : ℕ → ℕ → Bool) (agree : (a b : ℕ) → a < length actor.actions → b < length actor.actions → above a b ≡ other a b) where
   two_same : (a b : ℕ) (one two : Action) → slice_get actor.actions a ≡ Some one → slice_get actor.actions b ≡ Some two → two_judged actor above a b one two ≡ two_judged actor other a b one two
   two_same a b one two is there =
@@ -28,8 +31,7 @@ module _ (actor : Actor) (above other : ℕ → ℕ → Bool) (agree : (a b : �
       ∙ ap (λ y. if (other a b && needs_no_more actor a b one.patterns) || (y && needs_no_more actor b a two.patterns) || guards_exclude one two then None else if other a b || y then Some C1 else Some C2) (agree b a in_b in_a)
 
   pair_same : (a b : ℕ) (o r : Option Action) → slice_get actor.actions a ≡ o → slice_get actor.actions b ≡ r
-      → elim o [ None ↦ None | Some one ↦ elim r [ None ↦ None | Some two ↦ two_judged actor above a b one two ] ]
-      ≡ elim o [ None ↦ None | Some one ↦ elim r [ None ↦ None | Some two ↦ two_judged actor other a b one two ] ]
+      → pair_by actor above a b o r ≡ pair_by actor other a b o r
   pair_same a b None r is there = refl
   pair_same a b (Some one) None is there = refl
   pair_same a b (Some one) (Some two) is there = two_same a b one two is there
@@ -47,7 +49,7 @@ module _ (actor : Actor) (above other : ℕ → ℕ → Bool) (agree : (a b : �
   failures_same = each_same (all_states actor) 0 (λ s. state_failures actor above s) (λ s. state_failures actor other s) state_same
 
 module _ (actor : Actor) (order : Ranking) (is : IsPriority actor order) where
-  priorities : Priorities actor
+  abbrev priorities : Priorities actor
   priorities = record { above = is_above order; line = order.line; is_above = is.above; is_line = is.line }
 
   agree : (p : Priorities actor) (a b : ℕ) → a < length actor.actions → b < length actor.actions → is_above order a b ≡ p.above a b
