@@ -16,3 +16,16 @@ mod NeverBoth
 mod SameTrees
 mod Exclusions
 mod NoFailures
+mod Corners
+mod Places
+mod FailingRows
+mod ScalarRanges
+mod Keys
+mod Firsts
+mod Memo
+mod Automata
+mod Tables
+mod Pairs
+mod Listed
+mod Forms
+mod Answering

@@ -14,26 +14,26 @@ use Rattle.determinacy_cert.specs.Deciding.{fails, never_below, never_up_to, nev
 
 -- ---- tests of whole numbers
 
-lt_if : (a b : ℤ) → int_lt a b ≡ true → a <ℤ b
+pub lt_if : (a b : ℤ) → int_lt a b ≡ true → a <ℤ b
 lt_if a b h = lt_z_yes (T_from_true (int_lt a b) h)
 
-lt_not : (a b : ℤ) → int_lt a b ≡ false → b ≤ℤ a
+pub lt_not : (a b : ℤ) → int_lt a b ≡ false → b ≤ℤ a
 lt_not a b h = lt_z_no (T_from_true (not (int_lt a b)) (ap not h))
 
-le_if : (a b : ℤ) → int_le a b ≡ true → a ≤ℤ b
+pub le_if : (a b : ℤ) → int_le a b ≡ true → a ≤ℤ b
 le_if a b h = le_z_yes (T_from_true (int_le a b) h)
 
-le_not : (a b : ℤ) → int_le a b ≡ false → b <ℤ a
+pub le_not : (a b : ℤ) → int_le a b ≡ false → b <ℤ a
 le_not a b h = go (int_lt b a) refl
   where
     go : (t : Bool) → int_lt b a ≡ t → b <ℤ a
     go true e = lt_if b a e
     go false e = let other : a ≤ℤ b = lt_not b a e in absurd (subst T h other.le)
 
-eq_if : (a b : ℤ) → int_eq a b ≡ true → a ≡ b
+pub eq_if : (a b : ℤ) → int_eq a b ≡ true → a ≡ b
 eq_if a b h = (Decides-int_eq a b).0 h
 
-eq_not : (a b : ℤ) → int_eq a b ≡ false → a ≢ b
+pub eq_not : (a b : ℤ) → int_eq a b ≡ false → a ≢ b
 eq_not a b h same = let t : int_eq a b ≡ true = (Decides-int_eq a b).1 same in cc
 
 not_true : (b : Bool) → not b ≡ true → b ≡ false
@@ -44,7 +44,7 @@ not_false : (b : Bool) → not b ≡ false → b ≡ true
 not_false true h = refl
 not_false false h = cc
 
-by_false : (b : Bool) → (b ≡ false → ⊥) → b ≡ true
+pub by_false : (b : Bool) → (b ≡ false → ⊥) → b ≡ true
 by_false true h = refl
 by_false false h = absurd (h refl)
 

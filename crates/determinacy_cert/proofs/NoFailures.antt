@@ -51,7 +51,7 @@ failed_none : (s a b : ℕ) (o : Option Reason) → o ≡ None → failed s a b 
 failed_none s a b None h = refl
 failed_none s a b (Some r) h = cc
 
-in_list : {A : Type 0} (xs : List A) (k : ℕ) (x : A) → slice_get xs k ≡ Some x → k < length xs
+pub in_list : {A : Type 0} (xs : List A) (k : ℕ) (x : A) → slice_get xs k ≡ Some x → k < length xs
 in_list [] k x h = absurd (grind arith)
 in_list (y ∷ xs) zero x h = omega arith
 in_list (y ∷ xs) (suc k) x h = let e = in_list xs k x h in omega arith

@@ -15,7 +15,8 @@ use Rattle.determinacy_cert.specs.Failing.{failures}
 
 -- what a sound and certified actor does isn't undone by tokens that come later
 abbrev pub CertifiedAreStable : Type 0
-CertifiedAreStable = (actor : Actor) (p : Priorities actor) → IsSound actor → IsCertified actor → IsStable (behaviour actor p)
+CertifiedAreStable = (actor : Actor) (p : Priorities actor) → IsSound actor → IsCertified actor
+    → IsStable (behaviour actor p)
 
 -- this is the behaviour of a sound and certified actor
 pub record IsOfCertified (b : Behaviour State) : Type 0 where
@@ -27,7 +28,8 @@ pub record IsOfCertified (b : Behaviour State) : Type 0 where
 
 -- .. as that of each leaf is
 abbrev pub AreCertified : Network State → Type 0
-AreCertified net = (i : ℕ) (leaf : Leaf State) → slice_get net.leaves i ≡ Some leaf → IsOfCertified leaf.behaviour
+AreCertified net = (i : ℕ) (leaf : Leaf State) → slice_get net.leaves i ≡ Some leaf
+    → IsOfCertified leaf.behaviour
 
 -- a wired network of such actors has one result, however it is scheduled
 abbrev pub CertifiedAreDeterminate : Type 0
@@ -35,4 +37,5 @@ CertifiedAreDeterminate = (net : Network State) → IsWired net → AreCertified
 
 -- an actor is certified exactly if the list of its failures is empty
 abbrev pub NoFailureWhereCertified : Type 0
-NoFailureWhereCertified = (actor : Actor) (p : Priorities actor) → (failures actor p.above ≡ []) ↔ IsCertified actor
+NoFailureWhereCertified = (actor : Actor) (p : Priorities actor) → (failures actor p.above ≡ [])
+    ↔ IsCertified actor

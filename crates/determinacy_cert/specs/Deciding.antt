@@ -31,7 +31,8 @@ joined (Some i) (Some j) = Some (hull i j)
 -- the place at which a name stands last
 abbrev pub last_place : List ℕ → List (List ℕ) → Option ℕ
 last_place name [] = None
-last_place name (other ∷ names) = elim (last_place name names) [ Some k ↦ Some (suc k) | None ↦ if bytes_eq other name then Some 0 else None ]
+last_place name (other ∷ names) = elim (last_place name names)
+    [ Some k ↦ Some (suc k) | None ↦ if bytes_eq other name then Some 0 else None ]
 
 -- a pattern, and the place of a name in it
 pub record Named : Type 0 where
@@ -43,7 +44,8 @@ abbrev pub named_in : List ℕ → List Pattern → Option Named
 named_in name [] = None
 named_in name (q ∷ qs) = elim (named_in name qs) [
   | Some found ↦ Some found
-  | None ↦ elim (last_place name q.names) [ None ↦ None | Some k ↦ Some (record { pattern = q; place = k }) ]
+  | None ↦ elim (last_place name q.names)
+      [ None ↦ None | Some k ↦ Some (record { pattern = q; place = k }) ]
 ]
 
 -- ---- guards
@@ -147,14 +149,25 @@ same_names name (Some key) other None = false
 abbrev pub same : Tree → List Pattern → Tree → List Pattern → Bool
 same (tree.number n at) qs u rs = elim (as_number u) [ None ↦ false | Some m ↦ n == m ]
 same (tree.truth b at) qs u rs = elim (as_truth u) [ None ↦ false | Some c ↦ same_truth b c ]
-same (tree.variable name at) qs u rs = elim (as_variable u) [ None ↦ false | Some other ↦ same_names name (key_in name qs) other (key_in other rs) ]
+same (tree.variable name at) qs u rs = elim (as_variable u)
+    [ None ↦ false | Some other ↦ same_names name (key_in name qs) other (key_in other rs) ]
 same (tree.paren e at) qs u rs = elim (as_paren u) [ None ↦ false | Some f ↦ same e qs f rs ]
 same (tree.if_expr test first other at) qs u rs =
-    elim (as_if u) [ None ↦ false | Some p ↦ (same test qs p.0 rs && same first qs p.1 rs) && same other qs p.2 rs ]
-same (tree.index base place at) qs u rs = elim (as_index u) [ None ↦ false | Some p ↦ same base qs p.0 rs && same place qs p.1 rs ]
-same (tree.prefix op e at) qs u rs = elim (as_prefix u) [ None ↦ false | Some p ↦ (prefix_number op == prefix_number p.0) && same e qs p.1 rs ]
+    elim (as_if u) [
+      | None ↦ false
+      | Some p ↦
+          (same test qs p.0 rs && same first qs p.1 rs) && same other qs p.2 rs
+    ]
+same (tree.index base place at) qs u rs =
+    elim (as_index u) [ None ↦ false | Some p ↦ same base qs p.0 rs && same place qs p.1 rs ]
+same (tree.prefix op e at) qs u rs = elim (as_prefix u)
+    [ None ↦ false | Some p ↦ (prefix_number op == prefix_number p.0) && same e qs p.1 rs ]
 same (tree.binary op l r at) qs u rs =
-    elim (as_binary u) [ None ↦ false | Some p ↦ ((op_number op == op_number p.0) && same l qs p.1 rs) && same r qs p.2 rs ]
+    elim (as_binary u) [
+      | None ↦ false
+      | Some p ↦
+          ((op_number op == op_number p.0) && same l qs p.1 rs) && same r qs p.2 rs
+    ]
 same other qs u rs = false
 
 -- ---- comparisons that no whole number meets both
@@ -214,6 +227,11 @@ never_both op n other m = false
 
 -- ---- conjuncts that exclude each other
 
+-- the operator between conjuncts
+abbrev pub is_and : BinOp → Bool
+is_and And = true
+is_and op = false
+
 -- a conjunct `left op number`
 pub record Comparison : Type 0 where
   pub left : Tree
@@ -222,15 +240,18 @@ pub record Comparison : Type 0 where
 
 abbrev pub compared_by : BinOp → Tree → Option ℤ → Option Comparison
 compared_by op e None = None
-compared_by op e (Some n) = if is_comparison op then Some (record { left = e; op = op; number = n }) else None
+compared_by op e (Some n) = if is_comparison op then Some (record { left = e; op = op; number = n })
+    else None
 
 abbrev pub compared : Tree → Option Comparison
 compared (tree.binary op e right at) = compared_by op e (literal right)
 compared other = None
 
 -- they compare the same with numbers, and no whole number meets both
-abbrev pub compare_apart : Option Comparison → List Pattern → Option Comparison → List Pattern → Bool
-compare_apart (Some x) qs (Some y) rs = never_both x.op x.number y.op y.number && same x.left qs y.left rs
+abbrev pub compare_apart : Option Comparison → List Pattern → Option Comparison → List Pattern
+    → Bool
+compare_apart (Some x) qs (Some y) rs =
+    never_both x.op x.number y.op y.number && same x.left qs y.left rs
 compare_apart None qs other rs = false
 compare_apart (Some x) qs None rs = false
 
@@ -250,7 +271,8 @@ is_not_of c qs None rs = false
 is_not_of c qs (Some inner) rs = same c qs inner rs
 
 abbrev pub exclude : Tree → List Pattern → Tree → List Pattern → Bool
-exclude c qs d rs = (compare_apart (compared c) qs (compared d) rs || is_not_of c qs (denied d) rs) || is_not_of d rs (denied c) qs
+exclude c qs d rs = (compare_apart (compared c) qs (compared d) rs || is_not_of c qs (denied d) rs)
+    || is_not_of d rs (denied c) qs
 
 abbrev pub any_of : {A : Type 0} → (A → Bool) → List A → Bool
 any_of f [] = false
@@ -259,11 +281,13 @@ any_of f (x ∷ xs) = f x || any_of f xs
 -- a conjunct of the one's guards and one of the other's exclude each other
 abbrev pub guards_exclude : Action → Action → Bool
 guards_exclude one two =
-    any_of (λ c. any_of (λ d. exclude c one.patterns d two.patterns) (all_conjuncts two.guards)) (all_conjuncts one.guards)
+    any_of (λ c. any_of (λ d. exclude c one.patterns d two.patterns) (all_conjuncts two.guards))
+    (all_conjuncts one.guards)
 
 -- ---- tokens
 
 -- on each port that these patterns name, action a needs no more tokens than b
 abbrev pub needs_no_more : Actor → ℕ → ℕ → List Pattern → Bool
 needs_no_more actor a b [] = true
-needs_no_more actor a b (q ∷ qs) = nat_le (need actor a q.port) (need actor b q.port) && needs_no_more actor a b qs
+needs_no_more actor a b (q ∷ qs) =
+    nat_le (need actor a q.port) (need actor b q.port) && needs_no_more actor a b qs

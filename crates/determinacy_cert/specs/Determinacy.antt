@@ -33,30 +33,38 @@ pub record IsQuietRun {X : Type 0} (net : Network X) (inputs : List (List ℕ)) 
 
 -- each leaf's firings in any run begin those of a quiet run
 abbrev pub FiringsArePrefixes : (X : Type 0) → Type 0
-FiringsArePrefixes X = (net : Network X) (inputs : List (List ℕ)) (events all : List Event) (s q : State X) → IsDeterminate net
-    → LeadsTo net inputs events s → IsQuietRun net inputs all q → (i : ℕ) → IsPrefix (firings_of i events) (firings_of i all)
+FiringsArePrefixes X = (net : Network X) (inputs : List (List ℕ)) (events all : List Event)
+    (s q : State X) → IsDeterminate net
+    → LeadsTo net inputs events s → IsQuietRun net inputs all q → (i : ℕ)
+    → IsPrefix (firings_of i events) (firings_of i all)
 
 -- what was sent on each link in any run begins what a quiet run sent there
 abbrev pub SentArePrefixes : (X : Type 0) → Type 0
-SentArePrefixes X = (net : Network X) (inputs : List (List ℕ)) (events all : List Event) (s q : State X) → IsDeterminate net
+SentArePrefixes X = (net : Network X) (inputs : List (List ℕ)) (events all : List Event)
+    (s q : State X) → IsDeterminate net
     → LeadsTo net inputs events s → IsQuietRun net inputs all q → SentGrows net s q
 
 -- two quiet runs sent the same on each link
 abbrev pub QuietRunsAgree : (X : Type 0) → Type 0
-QuietRunsAgree X = (net : Network X) (inputs : List (List ℕ)) (all others : List Event) (q r : State X) → IsDeterminate net
+QuietRunsAgree X = (net : Network X) (inputs : List (List ℕ)) (all others : List Event)
+    (q r : State X) → IsDeterminate net
     → IsQuietRun net inputs all q → IsQuietRun net inputs others r
     → (l : ℕ) → l < length net.links → sent_on_link q l ≡ sent_on_link r l
 
 -- if a run traps, there is no quiet run
 abbrev pub NoQuietRunBesides : (X : Type 0) → Type 0
-NoQuietRunBesides X = (net : Network X) (inputs : List (List ℕ)) (events all : List Event) (s q : State X) → IsDeterminate net
+NoQuietRunBesides X = (net : Network X) (inputs : List (List ℕ)) (events all : List Event)
+    (s q : State X) → IsDeterminate net
     → LeadsTo net inputs events s → s.trapped ≡ true → IsQuietRun net inputs all q → ⊥
 
 -- no run fires more often than a quiet one, and one that fires as often is quiet once all is delivered
-pub record AsManyFirings {X : Type 0} (net : Network X) (s : State X) (events all : List Event) : Type 0 where
+pub record AsManyFirings {X : Type 0} (net : Network X) (s : State X) (events all : List Event) :
+    Type 0 where
   pub most : length (firings_in events) ≤ length (firings_in all)
-  pub all_made : length (firings_in events) ≡ length (firings_in all) → IsSettled net s → IsQuiet net s
+  pub all_made : length (firings_in events) ≡ length (firings_in all) → IsSettled net s
+      → IsQuiet net s
 
 abbrev pub AsManyFiringsAreAll : (X : Type 0) → Type 0
-AsManyFiringsAreAll X = (net : Network X) (inputs : List (List ℕ)) (events all : List Event) (s q : State X) → IsDeterminate net
+AsManyFiringsAreAll X = (net : Network X) (inputs : List (List ℕ)) (events all : List Event)
+    (s q : State X) → IsDeterminate net
     → LeadsTo net inputs events s → IsQuietRun net inputs all q → AsManyFirings net s events all

@@ -20,15 +20,23 @@ pub record Failure : Type 0 where
 -- the guards of an action
 abbrev pub guards_judged : Actor → Action → Option Reason
 guards_judged actor act =
-    if are_bare act.guards then (if have_ranges (guard_names actor act) act.guards then None else Some C4) else Some C3
+    if are_bare act.guards then (if have_ranges (guard_names actor act) act.guards then None
+    else Some C4) else Some C3
 
 abbrev pub action_judged : Actor → ℕ → Option Reason
-action_judged actor a = elim (slice_get actor.actions a) [ None ↦ None | Some act ↦ guards_judged actor act ]
+action_judged actor a =
+    elim (slice_get actor.actions a) [ None ↦ None | Some act ↦ guards_judged actor act ]
 
--- `above` tells which action is above which
+-- One action is above the other and needs no more tokens on any port, or their guards exclude each other. `above` tells
+-- which action is above which.
+abbrev pub settled : Actor → (ℕ → ℕ → Bool) → ℕ → ℕ → Action → Action → Bool
+settled actor above a b one two =
+    (above a b && needs_no_more actor a b one.patterns) ||
+    (above b a && needs_no_more actor b a two.patterns) || guards_exclude one two
+
 abbrev pub two_judged : Actor → (ℕ → ℕ → Bool) → ℕ → ℕ → Action → Action → Option Reason
 two_judged actor above a b one two =
-    if (above a b && needs_no_more actor a b one.patterns) || (above b a && needs_no_more actor b a two.patterns) || guards_exclude one two then None
+    if settled actor above a b one two then None
     else if above a b || above b a then Some C1
     else Some C2
 
@@ -36,7 +44,8 @@ abbrev pub pair_judged : Actor → (ℕ → ℕ → Bool) → ℕ → ℕ → Op
 pair_judged actor above a b =
     elim (slice_get actor.actions a) [
       | None ↦ None
-      | Some one ↦ elim (slice_get actor.actions b) [ None ↦ None | Some two ↦ two_judged actor above a b one two ]
+      | Some one ↦ elim (slice_get actor.actions b)
+          [ None ↦ None | Some two ↦ two_judged actor above a b one two ]
     ]
 
 -- ---- the failures, in order
@@ -54,16 +63,19 @@ abbrev pub action_failures : Actor → ℕ → ℕ → List Failure
 action_failures actor s a = if eligible actor s a then failed s a a (action_judged actor a) else []
 
 abbrev pub pair_failures : Actor → (ℕ → ℕ → Bool) → ℕ → ℕ → ℕ → List Failure
-pair_failures actor above s a b = if eligible actor s a && eligible actor s b then failed s a b (pair_judged actor above a b) else []
+pair_failures actor above s a b = if eligible actor s a && eligible actor s b
+    then failed s a b (pair_judged actor above a b) else []
 
 -- those of the pairs whose first action is a
 abbrev pub pairs_failures : Actor → (ℕ → ℕ → Bool) → ℕ → ℕ → List Failure
-pairs_failures actor above s a = each_from (length actor.actions - suc a) (suc a) (λ b. pair_failures actor above s a b)
+pairs_failures actor above s a = each_from (length actor.actions - suc a) (suc a)
+    (λ b. pair_failures actor above s a b)
 
 -- in a state first each eligible action, then the pairs of them
 abbrev pub state_failures : Actor → (ℕ → ℕ → Bool) → ℕ → List Failure
 state_failures actor above s =
-    each_from (length actor.actions) 0 (λ a. action_failures actor s a) ++ each_from (length actor.actions) 0 (λ a. pairs_failures actor above s a)
+    each_from (length actor.actions) 0 (λ a. action_failures actor s a)
+    ++ each_from (length actor.actions) 0 (λ a. pairs_failures actor above s a)
 
 -- the states of the schedule, and the fresh one if there is an `initialize`
 abbrev pub all_states : Actor → ℕ

@@ -1,4 +1,6 @@
 pub mod Determinacy
 pub mod Certifying
+pub mod Viewing
 pub mod Deciding
 pub mod Failing
+pub mod Judging

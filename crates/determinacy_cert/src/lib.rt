@@ -6,9 +6,22 @@
 //! certification rule admits are stable.
 #![tactic(auto)]
 
+mod certifier;
+mod comparison;
 mod fault;
+mod form;
+mod found;
+mod guards;
+mod interval;
+mod key;
 mod laws;
+mod pairing;
+mod range;
+mod table;
+#[cfg(test)]
+mod tests;
 
+pub use certifier::certify;
 pub use fault::{CertFault, Reason};
 pub use laws::{
     as_many_firings_are_all, certified_actors_are_stable, certified_networks_are_determinate,
