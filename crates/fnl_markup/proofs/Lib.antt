@@ -2,3 +2,5 @@ mod Runs
 mod Names
 mod Stuck
 mod Fronts
+mod Grows
+mod Before

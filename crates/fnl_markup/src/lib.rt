@@ -16,6 +16,6 @@ mod tests;
 mod text;
 mod word;
 
-pub use laws::no_markup_begins_so;
+pub use laws::{no_markup_begins_so, same_tags_before};
 pub use tag::{Attribute, Markup, Tag};
 pub use text::read_markup;
