@@ -1,17 +1,17 @@
 -- No network begins with the bytes up to the place of an F1.
-use Rattle.std.proofs.Common.{◌≡◌, ℕ, ◌+◌, ◌<◌, Bool, true, false, List, [], ◌∷◌, ◌++◌, length, take, Option, Some, None, refl, sym, ap, ◌∙◌, subst, ⊎_elim, arith}
+use Rattle.std.proofs.Common.{◌≡◌, ℕ, ◌+◌, Bool, true, false, List, [], ◌∷◌, ◌++◌, length, take, Option, Some, None, refl, sym, ap, ◌∙◌, subst, ⊎_elim, arith}
 use Rattle.std.specs.Prelude.{if◌then◌else◌, nat_le}
 use Rattle.std.proofs.lemmas.Bool.{cases_lt}
 use Rattle.std.proofs.lemmas.List.{take_all, length-take-le}
 use Rattle.rvc_base.specs.declared.refusal.Rule.{Rule}
 use Rattle.rvc_base.specs.Rules.{spells_no_network}
-use Rattle.fnl_markup.specs.Tags.{Attribute, Tag, opens, closes}
+use Rattle.fnl_markup.specs.Tags.{Tag, opens, closes}
 use Rattle.fnl_markup.specs.Markup.{Broken, fault, IsMarkup, broken_of, tags_of}
 use Rattle.fnl_read.specs.Net.{Net}
 use Rattle.fnl_read.specs.Frames.{State, fresh, Next, Going, Fault}
 use Rattle.fnl_read.specs.Closing.{closed}
 use Rattle.fnl_read.specs.Elements.{step, run, net_in}
-use Rattle.fnl_read.specs.Network.{Answer, Network, Broke, found_in, first_of, network}
+use Rattle.fnl_read.specs.Network.{Network, Broke, found_in, first_of, network}
 use Rattle.fnl_read.proofs.Running.{fault_stays, run_append}
 use Rattle.fnl_read.proofs.Stuck.{opened_never, closed_here}
 

@@ -1,7 +1,7 @@
 -- A number that needs more than 128 bits.
-use Rattle.std.proofs.Common.{◌≡◌, ℕ, ◌<◌, ◌≤◌, ◌^◌, Bool, true, false, Option, Some, None, refl, arith}
+use Rattle.std.proofs.Common.{◌≡◌, ℕ, ◌<◌, ◌≤◌, ◌^◌, true, false, Some, None, refl, arith}
 use Rattle.std.proofs.lemmas.Bool.Decides.{nat_tests}
-use Rattle.std.specs.Prelude.{if◌then◌else◌, nat_lt, MatchOption}
+use Rattle.std.specs.Prelude.{if◌then◌else◌, nat_lt}
 
 pub too_big : (n : ℕ) → 2 ^ 128 ≤ n → (if nat_lt n (2 ^ 128) then Some n else None) ≡ None
 too_big n h = let test : nat_lt n (2 ^ 128) ≡ false = grind (arith, nat_tests) in rw test refl

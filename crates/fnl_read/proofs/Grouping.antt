@@ -1,5 +1,5 @@
 -- Steps of grouping.
-use Rattle.std.proofs.Common.{◌≡◌, ℕ, suc, ◌<◌, Bool, true, false, List, [], ◌∷◌, length, Option, None, Some, refl, sym, ap, ◌∙◌, arith}
+use Rattle.std.proofs.Common.{◌≡◌, ℕ, ◌<◌, true, false, List, [], ◌∷◌, length, None, Some, refl, sym, ap, ◌∙◌, arith}
 use Rattle.cal_ast.specs.Tree.{Tree}
 use Rattle.cal_ast.specs.declared.expr.BinOp.{BinOp}
 use Rattle.fnl_read.specs.Frames.{Pending, pending}

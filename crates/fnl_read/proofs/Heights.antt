@@ -1,7 +1,7 @@
 -- The height of a list that gets one part more.
-use Rattle.std.proofs.Common.{◌≡◌, ◌≤◌, ℕ, List, [], ◌∷◌, ◌++◌, map, max, sym, ap, ◌∙◌, arith}
+use Rattle.std.proofs.Common.{◌≡◌, ℕ, List, [], ◌∷◌, ◌++◌, map, max, sym, ap, ◌∙◌, arith}
 use Rattle.cal_ast.specs.Tree.{Tree, listed}
-use Rattle.cal_grammar.specs.Operators.{height, max_height}
+use Rattle.cal_grammar.specs.Operators.{height}
 
 height-pushed : {A : Type 0} (f : A → Tree) (xs : List A) (x : A) → max (height (listed (map f xs))) (height (f x)) ≡ height (listed (map f (xs ++ x ∷ [])))
 height-pushed f [] x = omega arith

@@ -1,5 +1,5 @@
 -- What is not made is handed on; what is popped.
-use Rattle.std.proofs.Common.{◌≡◌, ℕ, Bool, true, false, List, ◌∷◌, Option, None, Some, Err, refl, subst}
+use Rattle.std.proofs.Common.{◌≡◌, ℕ, true, false, List, ◌∷◌, Option, None, Some, Err, refl, subst}
 use Rattle.cal_ast.specs.declared.expr.BinOp.{BinOp}
 use Rattle.fnl_read.specs.Frames.{Pending}
 use Rattle.fnl_read.specs.Operations.{is_due}

@@ -1,5 +1,5 @@
 -- A row of operands that isn't grouped.
-use Rattle.std.proofs.Common.{◌≡◌, ◌<◌, ℕ, List, [], ◌∷◌, length, Some, Err, sym, ap, ◌∙◌, arith}
+use Rattle.std.proofs.Common.{◌<◌, ℕ, List, [], ◌∷◌, length, Some, Err, sym, ap, ◌∙◌, arith}
 use Rattle.cal_ast.specs.Tree.{Tree}
 use Rattle.fnl_read.specs.Closing.{end_expr, end_sequence}
 use Rattle.fnl_read.specs.Frames.{Pending, State, Fault}

@@ -9,7 +9,7 @@ use Rattle.cal_ast.specs.declared.expr.BinOp.{BinOp}
 use Rattle.fnl_markup.specs.Tags.{Attribute, attribute}
 use Rattle.fnl_read.specs.Net.{Parameter}
 use Rattle.fnl_read.specs.Frames.{Frame, outside, in_network, in_port, in_decl, in_instance, in_parameter, in_connection, in_size, in_type, in_value, in_shape, in_list, in_unary, in_sequence, in_empty, in_passed, Class, a_class, Pending, State, Next, Going, Fault}
-use Rattle.fnl_read.specs.Given.{Text, text_at, Literal, given, either_given, name_given, tag_given, end_given, entry_given, literal_given, kind_given}
+use Rattle.fnl_read.specs.Given.{Text, text_at, Literal, given, name_given, literal_given}
 use Rattle.fnl_read.specs.Operators.{binary_in, prefix_in}
 use Rattle.fnl_read.specs.Operations.{before_operator, grouped, made}
 use Rattle.fnl_read.specs.Allowed.{element_named, allows}

@@ -1,10 +1,9 @@
 -- What comes of the tags of a text.
 -- Trusted: part of what a promise means.
-use Rattle.std.specs.Prelude.{ℕ, List, [], ◌∷◌, Option, None, Some}
-use Rattle.rvc_base.specs.declared.refusal.Rule.{Rule}
+use Rattle.std.specs.Prelude.{List, [], ◌∷◌, Option, None}
 use Rattle.fnl_markup.specs.Tags.{Tag, opens, closes}
 use Rattle.fnl_read.specs.Net.{Net}
-use Rattle.fnl_read.specs.Frames.{Frame, outside, State, fresh, Next, Going, Fault}
+use Rattle.fnl_read.specs.Frames.{Frame, outside, State, Next, Going, Fault}
 use Rattle.fnl_read.specs.Opening.{opened}
 use Rattle.fnl_read.specs.Closing.{closed}
 

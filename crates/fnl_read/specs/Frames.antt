@@ -1,6 +1,6 @@
 -- What a reader of elements has at hand: of each element that is open, what was read of it.
 -- Trusted: part of what a promise means.
-use Rattle.std.specs.Prelude.{ℕ, List, [], ◌∷◌, Bool, Option, None, Some}
+use Rattle.std.specs.Prelude.{ℕ, List, [], Bool, Option, None}
 use Rattle.rvc_base.specs.declared.refusal.Rule.{Rule}
 use Rattle.cal_ast.specs.Tree.{Tree}
 use Rattle.cal_ast.specs.declared.expr.PrefixOp.{PrefixOp}

@@ -3,7 +3,7 @@
 -- `at` is the offset of the `<` of an element. Types and expressions are trees of the language; a
 -- value that is missing is `absent`.
 -- Trusted: part of what a promise means.
-use Rattle.std.specs.Prelude.{ℕ, List, [], ◌∷◌, ◌++◌, Bool}
+use Rattle.std.specs.Prelude.{ℕ, List, [], Bool}
 use Rattle.cal_ast.specs.Tree.{Tree}
 
 pub data Port : Type 0 where

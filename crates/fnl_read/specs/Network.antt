@@ -1,13 +1,13 @@
 -- The network that a text spells, or the rule that it breaks first.
 -- Trusted: part of what a promise means.
-use Rattle.std.specs.Prelude.{◌≡◌, ℕ, List, length, Bool, if◌then◌else◌, nat_le, Option, None, Some}
+use Rattle.std.specs.Prelude.{◌≡◌, ℕ, List, length, if◌then◌else◌, nat_le, Option, None, Some}
 use Rattle.rvc_base.specs.declared.refusal.Rule.{Rule}
 use Rattle.rvc_base.specs.declared.refusal.Front.{Front as Refusing}
 use Rattle.rvc_base.specs.declared.refusal.Front.TheVariants.{Refused, Memory}
 use Rattle.rvc_base.specs.Rules.{spells_no_network}
 use Rattle.fnl_markup.specs.Markup.{Broken, fault, tags_of, broken_of}
 use Rattle.fnl_read.specs.Net.{Net}
-use Rattle.fnl_read.specs.Frames.{State, fresh, Next, Going, Fault}
+use Rattle.fnl_read.specs.Frames.{fresh, Next, Going, Fault}
 use Rattle.fnl_read.specs.Elements.{run, net_in}
 
 pub data Answer : Type 0 where

@@ -3,7 +3,6 @@
 use Rattle.std.specs.Prelude.{ℕ, List, [], ◌∷◌, Option, None, Some, option_map, if◌then◌else◌, codes}
 use Rattle.std.specs.Str.{bytes_eq}
 use Rattle.cal_ast.specs.declared.expr.PrefixOp.{PrefixOp}
-use Rattle.cal_ast.specs.declared.expr.PrefixOp.TheVariants as prefixes
 use Rattle.cal_ast.specs.declared.expr.BinOp.{BinOp}
 use Rattle.cal_ast.specs.declared.expr.BinOp.TheVariants as binaries
 use Rattle.cal_lexer.specs.Lexeme.{Lexeme}

@@ -1,6 +1,6 @@
 -- What the values of the code stand for.
 -- Trusted: part of what a promise means.
-use Rattle.std.specs.Prelude.{ℕ, List, [], ◌∷◌, map, Option, None, Some, option_map, string_bytes, Vec}
+use Rattle.std.specs.Prelude.{List, map, option_map, string_bytes, Vec}
 use Rattle.std.specs.declared.alloc.Global.{Global}
 use Rattle.cal_ast.specs.Tree.{Tree}
 use Rattle.cal_ast.specs.View.{expr_tree, type_tree, type_arg_tree, ident_tree, optional_expr}

@@ -1,4 +1,4 @@
-use Rattle.std.proofs.Common.{◌≡◌, ◌∷◌, ◌∙◌, Some, ap}
+use Rattle.std.proofs.Common.{◌∷◌, ◌∙◌, Some, ap}
 use Rattle.fnl_read.specs.Frames.{pending}
 use Rattle.fnl_read.specs.Stack.{stack}
 use Rattle.fnl_read.specs.Views.{pending_of, tall_tree}

@@ -1,4 +1,4 @@
-use Rattle.std.proofs.Common.{◌≡◌, ◌∙◌, map}
+use Rattle.std.proofs.Common.{◌∙◌, map}
 use Rattle.rvc_base.specs.Rules.{unknown_element}
 use Rattle.fnl_markup.specs.Tags.{plain_attribute}
 use Rattle.fnl_read.specs.Opening.{open_op}
