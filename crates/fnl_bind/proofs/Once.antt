@@ -11,18 +11,28 @@ use Rattle.fnl_bind.specs.Sound.{if_same, once_from, if_net, if_leaf, net_parts,
 -- ---- counts add up
 
 once_append : (k n m x : ℕ) → once_from k (n + m) x ≡ once_from k n x + once_from (k + n) m x
-once_append k zero m x = ap (λ j. once_from j m x) (omega arith)
+once_append k zero m x =
+    let less : 0 + m ≡ m = omega arith in
+    let there : k + 0 ≡ k = omega arith in
+    let one : once_from k (0 + m) x ≡ once_from k m x = ap (λ n. once_from k n x) less in
+    let other : once_from (k + 0) m x ≡ once_from k m x = ap (λ j. once_from j m x) there in
+    omega (arith, one, other)
 once_append k (suc n) m x =
+    let more : suc n + m ≡ suc (n + m) = omega arith in
+    let opened : once_from k (suc n + m) x ≡ if_same k x + once_from (suc k) (n + m) x =
+        ap (λ n. once_from k n x) more in
     let rest = once_append (suc k) n m x in
-    let moved : once_from (suc k + n) m x ≡ once_from (k + suc n) m x = ap (λ j. once_from j m x) (omega arith) in
-    omega (arith, rest, moved)
+    let there : suc k + n ≡ k + suc n = omega arith in
+    let moved : once_from (suc k + n) m x ≡ once_from (k + suc n) m x =
+        ap (λ j. once_from j m x) there in
+    omega (arith, opened, rest, moved)
 
 net_count_append : (m : ℕ) (xs ys : List BoundNet) → net_count m (xs ++ ys) ≡ net_count m xs + net_count m ys
-net_count_append m [] ys = refl
+net_count_append m [] ys = omega arith
 net_count_append m (x ∷ xs) ys = let rest = net_count_append m xs ys in omega (arith, rest)
 
 leaf_count_append : (m : ℕ) (xs ys : List BoundNet) → leaf_count m (xs ++ ys) ≡ leaf_count m xs + leaf_count m ys
-leaf_count_append m [] ys = refl
+leaf_count_append m [] ys = omega arith
 leaf_count_append m (x ∷ xs) ys = let rest = leaf_count_append m xs ys in omega (arith, rest)
 
 once_of_both : {A : Type 0} → (k x : ℕ) (xs ys : List A)
@@ -67,7 +77,7 @@ nothing_fills net leaf = record {
 net_joins : (net leaf : ℕ) (g : Grown) → Grows net leaf g → Joins net leaf (InnerNet net) g
 net_joins net leaf g grows = record {
   nets = grows.nets;
-  leaves = grows.leaves;
+  leaves = λ l. let same = grows.leaves l in omega (arith, same);
   behind = λ k small. small;
   down = grows.down;
 }

@@ -11,6 +11,8 @@ use Rattle.cal_ast.specs.Tree.{Tree, listed}
 use Rattle.cal_model.specs.Value.{Value, Num, Truth, Items, Nil, Cons}
 use Rattle.cal_check.specs.Variables.{Spot, Found, Given}
 use Rattle.fnl_read.specs.Net.{Net, Port, a_port, Decl, a_decl, Parameter, a_parameter, Instance, an_instance, Size, a_size, Connection, a_connection}
+use Rattle.cal_check.specs.Violations.{violation}
+use Rattle.fnl_bind.specs.Scopes.{ports_broken}
 use Rattle.fnl_bind.specs.Bound.{Inner, InnerNet, InnerLeaf, Part, BoundNet, Leaf}
 use Rattle.fnl_bind.specs.Library.{Entry}
 use Rattle.fnl_bind.specs.Trees.{violations, bound, instances_at, passing}
@@ -358,10 +360,10 @@ abbrev inputs : ℕ → List Port
 inputs zero = []
 inputs (suc n) = a_port true (byte 10) (suc n ∷ []) n ∷ inputs n
 
-too_many_inputs : breaks (net (inputs 33) [] [] []) ≡ found rules.too_many_ports 3 ∷ []
+too_many_inputs : ports_broken (net (inputs 33) [] [] []) ≡ violation rules.too_many_ports 3
 too_many_inputs = refl
 
-enough_inputs : breaks (net (inputs 32) [] [] []) ≡ []
+enough_inputs : ports_broken (net (inputs 32) [] [] []) ≡ []
 enough_inputs = refl
 
 -- so many instances of a class, at 1, 2 and so on, the last first

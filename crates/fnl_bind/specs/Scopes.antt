@@ -97,11 +97,15 @@ circles (i ∷ is) above =
 
 -- ---- all of these
 
+-- too many ports of one direction
+abbrev pub ports_broken : Net → List Violation
+ports_broken net =
+    unless (nat_le (length (ports_of true net.ports)) max_ports) too_many_ports net.at
+    ++ unless (nat_le (length (ports_of false net.ports)) max_ports) too_many_ports net.at
+
 -- a network that stands in networks of these classes, its own among them
 abbrev pub scope_broken : Net → List (List ℕ) → List Violation
 scope_broken net above =
     named_twice (keyed_ports net.ports) ++ (named_twice (keyed_decls net.decls)
     ++ (named_twice (keyed_instances net.instances)
-    ++ (unless (nat_le (length (ports_of true net.ports)) max_ports) too_many_ports net.at
-    ++ (unless (nat_le (length (ports_of false net.ports)) max_ports) too_many_ports net.at
-    ++ (unknown_names net ++ circles net.instances above)))))
+    ++ (ports_broken net ++ (unknown_names net ++ circles net.instances above))))
