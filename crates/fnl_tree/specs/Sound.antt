@@ -1,6 +1,8 @@
 -- Trees in which each network and each actor stands once, and whose names are told apart: such trees binding gives.
 -- Trusted: part of what a promise means.
-use Rattle.std.specs.Prelude.{◌≡◌, ◌≢◌, ℕ, zero, suc, ◌<◌, ◌≤◌, List, [], ◌∷◌, ◌++◌, length, map, All, AllPairs, Some, slice_get}
+use Rattle.std.specs.Prelude.{◌≡◌, ◌≢◌, ℕ, zero, suc, ◌+◌, ◌<◌, ◌≤◌, List, [], ◌∷◌, ◌++◌, length, map, All, AllPairs, Some, slice_get}
+use Rattle.cal_model.specs.Sound.{max_ports}
+use Rattle.net_model.specs.Limits.{max_instances}
 use Rattle.fnl_tree.specs.Tree.{Inner, InnerNet, InnerLeaf, Part, Own, Wire, Net, Tree}
 
 -- a part stands in network n, at this place
@@ -44,11 +46,13 @@ AreDistinct names = AllPairs (λ a b. a ≢ b) names
 abbrev pub max_buffer_size : ℕ
 max_buffer_size = 1048576
 
--- names of ports in one direction and of instances are told apart, and sizes are within their limit
+-- names of ports in one direction and of instances are told apart, and ports and sizes are within their limits
 pub record IsNetSound (net : Net) : Type 0 where
   pub ins : AreDistinct (map (λ p. p.name) net.ins)
   pub outs : AreDistinct (map (λ p. p.name) net.outs)
   pub parts : AreDistinct (map (λ p. p.id) net.parts)
+  pub few_ins : length net.ins ≤ max_ports
+  pub few_outs : length net.outs ≤ max_ports
   pub sizes : All (λ w. w.size ≤ max_buffer_size) net.wires
 
 pub record IsSound (tree : Tree) : Type 0 where
@@ -64,3 +68,5 @@ pub record IsSound (tree : Tree) : Type 0 where
   pub nets_stand : (n : ℕ) → 0 < n → n < length tree.nets → StandsSomewhere tree (InnerNet n)
   pub leaves_stand : (l : ℕ) → l < length tree.leaves → StandsSomewhere tree (InnerLeaf l)
   pub nets : All IsNetSound tree.nets
+  -- the top is no instance
+  pub few : length tree.nets + length tree.leaves ≤ suc max_instances
