@@ -2,7 +2,8 @@
 use Rattle.std.proofs.Common.{◌≡◌, ℕ, zero, suc, Bool, true, false, List, [], ◌∷◌, ◌++◌, refl, subst}
 use Rattle.std.specs.Prelude.{Some, slice_get, if◌then◌else◌, ◌&&◌}
 use Rattle.rvc_base.specs.Rules.{no_ends}
-use Rattle.fnl_flatten.specs.Bound.{Wire, Net, Tree, Head}
+use Rattle.fnl_tree.specs.Tree.{Wire, Net, Tree}
+use Rattle.fnl_flatten.specs.Head.{Head}
 use Rattle.fnl_flatten.specs.Joints.{Joint, is_nameless, source, target}
 use Rattle.fnl_flatten.specs.Links.{Leads, Chain, last, more}
 use Rattle.fnl_flatten.specs.Rules.{found, is_direct, ends_broken, wire_broken, wires_broken, seconds_broken, net_broken, nets_broken, violations}

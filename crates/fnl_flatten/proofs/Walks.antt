@@ -5,11 +5,12 @@ use Rattle.std.proofs.Math.Nat.{le-max_left, le-max_right, max-le}
 use Rattle.net_model.specs.declared.wiring.End.{End}
 use Rattle.net_model.specs.declared.wiring.End.TheVariants.{Leaf as AtLeaf, Net as AtNet}
 use Rattle.net_model.specs.declared.wiring.Link.{Link}
-use Rattle.fnl_flatten.specs.Bound.{Net, Tree, Head}
+use Rattle.fnl_tree.specs.Tree.{Net, Tree}
+use Rattle.fnl_flatten.specs.Head.{Head}
 use Rattle.fnl_flatten.specs.Joints.{Joint, LeafPort, OwnPort, source, target, kind_of, rate_at}
 use Rattle.fnl_flatten.specs.Links.{Leads, Chain, last, more, writing_end, reading_end, capacity_for, IsLink}
 use Rattle.fnl_flatten.specs.Rules.{wires_broken, seconds_broken, net_broken, nets_broken, violations}
-use Rattle.fnl_flatten.specs.Sound.{IsSound}
+use Rattle.fnl_tree.specs.Sound.{IsSound}
 use Rattle.fnl_flatten.proofs.Writers.{leading, one_network, no_writer, one_wire}
 
 -- ---- one connection leads to a joint

@@ -1,6 +1,7 @@
-pub mod Bound
+pub mod Head
+pub mod View
 pub mod Joints
 pub mod Links
 pub mod Rules
 pub mod Flat
-pub mod Sound
+pub mod LinkLaws

@@ -6,7 +6,8 @@ use Rattle.net_model.specs.declared.wiring.End.TheVariants.{Leaf as AtLeaf, Net 
 use Rattle.net_model.specs.declared.wiring.Link.{Link}
 use Rattle.net_model.specs.Limits.{max_links}
 use Rattle.net_model.specs.Wired.{IsBefore}
-use Rattle.fnl_flatten.specs.Bound.{Wire, Net, Tree, Head}
+use Rattle.fnl_tree.specs.Tree.{Wire, Net, Tree}
+use Rattle.fnl_flatten.specs.Head.{Head}
 use Rattle.fnl_flatten.specs.Joints.{Joint, LeafPort, OwnPort, source, target, kind_of, rate_at}
 
 -- a connection of some network leads from one joint to another, and asks for this size

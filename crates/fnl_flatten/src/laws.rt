@@ -1,7 +1,7 @@
 //! What holds of flat networks.
 
 ghost use Rattle.fnl_flatten.specs.Flat.{FlatAreWired};
-ghost use Rattle.fnl_flatten.specs.Sound.{LinksAreOne, OneLinkLeads};
+ghost use Rattle.fnl_flatten.specs.LinkLaws.{LinksAreOne, OneLinkLeads};
 
 use net_model::Meaning;
 

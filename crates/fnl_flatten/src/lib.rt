@@ -4,6 +4,10 @@
 //! `specs/Rules.antt` says which rules connections break. No call answers them yet.
 #![tactic(auto)]
 
+mod head;
+mod joint;
 mod laws;
 
+pub use head::{Head, HeadPort};
+pub use joint::Joint;
 pub use laws::{flat_networks_are_wired, links_are_one};
