@@ -1,7 +1,7 @@
 pub mod Places
 pub mod Chains
 pub mod Wired
-pub mod Writers
+pub mod OneWriter
 pub mod Walks
 pub mod OneList
 mod Rows

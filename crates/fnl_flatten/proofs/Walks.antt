@@ -11,7 +11,7 @@ use Rattle.fnl_flatten.specs.Joints.{Joint, LeafPort, OwnPort, source, target, k
 use Rattle.fnl_flatten.specs.Links.{Leads, Chain, last, more, writing_end, reading_end, capacity_for, IsLink}
 use Rattle.fnl_flatten.specs.Rules.{wires_broken, seconds_broken, net_broken, nets_broken, violations}
 use Rattle.fnl_tree.specs.Sound.{IsSound}
-use Rattle.fnl_flatten.proofs.Writers.{leading, one_network, no_writer, one_wire}
+use Rattle.fnl_flatten.proofs.OneWriter.{leading, one_network, no_writer, one_wire}
 
 -- ---- one connection leads to a joint
 

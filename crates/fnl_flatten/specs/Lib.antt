@@ -1,5 +1,8 @@
 pub mod Head
 pub mod View
+pub mod Whole
+pub mod Named
+pub mod Arrows
 pub mod Joints
 pub mod Links
 pub mod Rules

@@ -4,9 +4,15 @@
 //! `specs/Rules.antt` says which rules connections break. No call answers them yet.
 #![tactic(auto)]
 
+mod ends;
+mod fault;
+mod find;
 mod head;
 mod joint;
 mod laws;
+mod names;
+mod part_names;
+mod writers;
 
 pub use head::{Head, HeadPort};
 pub use joint::Joint;
