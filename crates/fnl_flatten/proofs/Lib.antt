@@ -4,4 +4,5 @@ pub mod Wired
 pub mod OneWriter
 pub mod Walks
 pub mod OneList
+pub mod Lookups
 mod Rows

@@ -4,11 +4,13 @@
 //! `specs/Rules.antt` says which rules connections break. No call answers them yet.
 #![tactic(auto)]
 
+mod arrows;
 mod ends;
 mod fault;
 mod find;
 mod head;
 mod joint;
+mod kinds;
 mod laws;
 mod names;
 mod part_names;
