@@ -5,4 +5,5 @@ pub mod OneWriter
 pub mod Walks
 pub mod OneList
 pub mod Lookups
+pub mod EnteredUpTo
 mod Rows

@@ -6,6 +6,7 @@
 
 mod arrows;
 mod ends;
+mod entering;
 mod fault;
 mod find;
 mod head;
