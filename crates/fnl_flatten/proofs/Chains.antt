@@ -43,7 +43,7 @@ nets_fine tree heads m (x ∷ nets) (suc k) net at h =
     nets_fine tree heads (suc m) nets k net at (both_empty (net_broken tree heads m x) (nets_broken tree heads (suc m) nets) h).1
 
 -- a connection of a tree that breaks no rule names an instance
-none_direct : (tree : Tree) (heads : List Head) → violations tree heads ≡ [] → (k : ℕ) (net : Net) (p : ℕ) (w : Wire)
+pub none_direct : (tree : Tree) (heads : List Head) → violations tree heads ≡ [] → (k : ℕ) (net : Net) (p : ℕ) (w : Wire)
     → slice_get tree.nets k ≡ Some net → slice_get net.wires p ≡ Some w → is_direct w ≡ false
 none_direct tree heads h k net p w at_net at_wire =
     let found = nets_fine tree heads 0 tree.nets k net at_net h in

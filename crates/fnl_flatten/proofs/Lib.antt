@@ -6,4 +6,6 @@ pub mod Walks
 pub mod OneList
 pub mod Lookups
 pub mod EnteredUpTo
+pub mod TopEnds
+pub mod Walking
 mod Rows

@@ -24,11 +24,11 @@ IsOwnOutput n (LeafPort l input p) = ⊥
 IsOwnOutput n (OwnPort m true p) = ⊥
 IsOwnOutput n (OwnPort m false p) = n ≡ m
 
-mapped : {A : Type 0} (P : A → Type 0) (f : ℕ → A) (o : Option ℕ) (j : A) → ((p : ℕ) → P (f p)) → option_map f o ≡ Some j → P j
+pub mapped : {A : Type 0} (P : A → Type 0) (f : ℕ → A) (o : Option ℕ) (j : A) → ((p : ℕ) → P (f p)) → option_map f o ≡ Some j → P j
 mapped P f None j each found = cc
 mapped P f (Some p) j each found = let same : f p ≡ j = cc in subst P same (each p)
 
-own_output_is : (n : ℕ) (net : Net) (name : List ℕ) (j : Joint) → own_output n net name ≡ Some j → IsOwnOutput n j
+pub own_output_is : (n : ℕ) (net : Net) (name : List ℕ) (j : Joint) → own_output n net name ≡ Some j → IsOwnOutput n j
 own_output_is n net name j found = mapped (IsOwnOutput n) (λ p. OwnPort n false p) (place_of name (own_names net.outs)) j (λ p. refl) found
 
 -- an instance's input tells which instance it is, and leads inwards
@@ -36,7 +36,7 @@ pub record IsInputOf (inner : Inner) (j : Joint) : Type 0 where
   pub same : inner ≡ inner_of j
   pub inward : IsInward j
 
-input_is : (tree : Tree) (heads : List Head) (inner : Inner) (name : List ℕ) (j : Joint)
+pub input_is : (tree : Tree) (heads : List Head) (inner : Inner) (name : List ℕ) (j : Joint)
     → part_input tree heads (Some inner) name ≡ Some j → IsInputOf inner j
 input_is tree heads (InnerNet m) name j found = go (slice_get tree.nets m) found
   where
@@ -50,7 +50,7 @@ input_is tree heads (InnerLeaf l) name j found = go (slice_get heads l) found
     go (Some head) h = mapped (IsInputOf (InnerLeaf l)) (λ p. LeafPort l true p) (place_of name (head_names head.ins)) j (λ p. record { same = refl; inward = tt }) h
 
 -- a name means a part
-named_part : (id : List ℕ) (parts : List Part) (inner : Inner) → part_named id parts ≡ Some inner
+pub named_part : (id : List ℕ) (parts : List Part) (inner : Inner) → part_named id parts ≡ Some inner
     → (k : ℕ) × (part : Part) × (slice_get parts k ≡ Some part) × (part.inner ≡ inner)
 named_part id [] inner found = cc
 named_part id (p ∷ parts) inner found = go (bytes_eq p.id id) (named_part id parts inner) found
@@ -134,7 +134,7 @@ side_same : (b : Bool) → same_side b b ≡ true
 side_same true = refl
 side_same false = refl
 
-is_same_itself : (j : Joint) → is_same j j ≡ true
+pub is_same_itself : (j : Joint) → is_same j j ≡ true
 is_same_itself (LeafPort l input p) = rw (eq-eqb l l refl, side_same input, eq-eqb p p refl)
 is_same_itself (OwnPort l input p) = rw (eq-eqb l l refl, side_same input, eq-eqb p p refl)
 

@@ -3,6 +3,7 @@ pub mod View
 pub mod Whole
 pub mod Named
 pub mod Arrows
+pub mod Origins
 pub mod Joints
 pub mod Links
 pub mod Rules

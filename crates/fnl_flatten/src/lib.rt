@@ -13,7 +13,9 @@ mod head;
 mod joint;
 mod kinds;
 mod laws;
+mod link_ends;
 mod names;
+mod origin;
 mod part_names;
 mod writers;
 
