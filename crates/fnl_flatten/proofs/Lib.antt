@@ -8,4 +8,5 @@ pub mod Lookups
 pub mod EnteredUpTo
 pub mod TopEnds
 pub mod Walking
+pub mod Linking
 mod Rows

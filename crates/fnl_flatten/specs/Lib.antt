@@ -4,6 +4,7 @@ pub mod Whole
 pub mod Named
 pub mod Arrows
 pub mod Origins
+pub mod Readers
 pub mod Joints
 pub mod Links
 pub mod Rules

@@ -13,10 +13,12 @@ mod head;
 mod joint;
 mod kinds;
 mod laws;
+mod link;
 mod link_ends;
 mod names;
 mod origin;
 mod part_names;
+mod readers;
 mod writers;
 
 pub use head::{Head, HeadPort};
