@@ -9,4 +9,6 @@ pub mod EnteredUpTo
 pub mod TopEnds
 pub mod Walking
 pub mod Linking
+pub mod Joined
+pub mod Copies
 mod Rows

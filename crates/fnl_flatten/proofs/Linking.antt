@@ -142,19 +142,19 @@ leaf_below tree heads whole l head at =
 -- ---- the links are those of the tree
 
 -- one of these joints
-abbrev IsIn : List Joint → Joint → Type 0
+abbrev pub IsIn : List Joint → Joint → Type 0
 IsIn joints j = (k : ℕ) × (slice_get joints k ≡ Some j)
 
-in_left : (xs ys : List Joint) (j : Joint) → IsIn xs j → IsIn (xs ++ ys) j
+pub in_left : (xs ys : List Joint) (j : Joint) → IsIn xs j → IsIn (xs ++ ys) j
 in_left [] ys j (k, at) = cc
 in_left (x ∷ xs) ys j (zero, at) = (0, at)
 in_left (x ∷ xs) ys j (suc k, at) = let later = in_left xs ys j (k, at) in (suc later.0, later.1)
 
-in_right : (xs ys : List Joint) (j : Joint) → IsIn ys j → IsIn (xs ++ ys) j
+pub in_right : (xs ys : List Joint) (j : Joint) → IsIn ys j → IsIn (xs ++ ys) j
 in_right [] ys j at = at
 in_right (x ∷ xs) ys j at = let later = in_right xs ys j at in (suc later.0, later.1)
 
-each_link : (tree : Tree) (heads : List Head) {joints : List Joint} {links : List Link} → LinksOf tree heads joints links
+pub each_link : (tree : Tree) (heads : List Head) {joints : List Joint} {links : List Link} → LinksOf tree heads joints links
     → (l : ℕ) (link : Link) → slice_get links l ≡ Some link → IsLink tree heads link
 each_link tree heads done l link at = cc
 each_link tree heads (none lacks they) l link at = each_link tree heads they l link at
@@ -165,7 +165,7 @@ each_link tree heads (one is they) (suc l) link at = each_link tree heads they l
 contains_next : (x link : Link) (links : List Link) → Contains links link → Contains (x ∷ links) link
 contains_next x link links has = (suc has.0, omega (arith, has.1), has.2)
 
-all_links : (tree : Tree) (heads : List Head) → IsSound tree → violations tree heads ≡ []
+pub all_links : (tree : Tree) (heads : List Head) → IsSound tree → violations tree heads ≡ []
     → {joints : List Joint} {links : List Link} → LinksOf tree heads joints links
     → (link : Link) → IsLink tree heads link → (j : Joint) → IsIn joints j → reading_end j ≡ Some link.to → Contains links link
 all_links tree heads sound fine done link is j (k, at) to = cc
@@ -199,7 +199,7 @@ abbrev pub AreInOrder : List Joint → Type 0
 AreInOrder [] = Unit {0}
 AreInOrder (j ∷ joints) = ((k : Joint) → IsIn joints k → LeadsBefore j k) × AreInOrder joints
 
-in_order : (tree : Tree) (heads : List Head) {joints : List Joint} {links : List Link} → LinksOf tree heads joints links → AreInOrder joints
+pub in_order : (tree : Tree) (heads : List Head) {joints : List Joint} {links : List Link} → LinksOf tree heads joints links → AreInOrder joints
     → (l m : ℕ) (link other : Link) → l < m → slice_get links l ≡ Some link → slice_get links m ≡ Some other → IsBefore link.to other.to
 in_order tree heads done sorted l m link other less at there = cc
 in_order tree heads (none lacks they) sorted l m link other less at there = in_order tree heads they sorted.1 l m link other less at there

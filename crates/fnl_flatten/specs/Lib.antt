@@ -5,6 +5,7 @@ pub mod Named
 pub mod Arrows
 pub mod Origins
 pub mod Readers
+pub mod Flattened
 pub mod Joints
 pub mod Links
 pub mod Rules

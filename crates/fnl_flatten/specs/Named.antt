@@ -2,6 +2,8 @@
 -- Not trusted: no promise is read with it.
 use Rattle.std.specs.Prelude.{◌≡◌, ℕ, ◌≤◌, List, length, Contains, string_bytes, String}
 use Rattle.std.specs.declared.alloc.Global.{Global}
+use Rattle.rvc_base.specs.declared.refusal.Front.{Front}
+use Rattle.rvc_base.specs.declared.refusal.Front.TheVariants.{Refused, Memory as NoMemory}
 use Rattle.cal_model.specs.Sound.{max_ports}
 use Rattle.fnl_tree.specs.declared.tree.Inner.{Inner as DeclaredInner}
 use Rattle.fnl_tree.specs.declared.tree.Net.{Net as DeclaredNet}
@@ -33,3 +35,9 @@ pub record HasFewEnds (head : DeclaredHead) : Type 0 where
 abbrev pub IsCause : List Found → Fault → Type 0
 IsCause broken (Broken rule file at) = Contains broken (record { rule = rule; file = file; at = at })
 IsCause broken Memory = Unit {0}
+
+-- a fault as it is answered
+abbrev pub IsFrontOf : Fault → Front → Type 0
+IsFrontOf (Broken rule file at) answer =
+    answer ≡ Refused (record { rule = rule; place = record { file = file; offset = at } })
+IsFrontOf Memory answer = answer ≡ NoMemory

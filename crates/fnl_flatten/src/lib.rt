@@ -1,7 +1,7 @@
 //! Networks flattened: which actors there are, and which links join their ports.
 //!
 //! `specs/Links.antt` says which links there are: exactly the pairs of ends that a chain of connections joins.
-//! `specs/Rules.antt` says which rules connections break. No call answers them yet.
+//! `specs/Rules.antt` says which rules connections break. [`flatten`] answers the links, or a rule that is broken.
 #![tactic(auto)]
 
 mod arrows;
@@ -9,10 +9,12 @@ mod ends;
 mod entering;
 mod fault;
 mod find;
+mod flat;
 mod head;
 mod joint;
 mod kinds;
 mod laws;
+mod limits;
 mod link;
 mod link_ends;
 mod names;
@@ -21,6 +23,7 @@ mod part_names;
 mod readers;
 mod writers;
 
+pub use flat::{Flat, flatten};
 pub use head::{Head, HeadPort};
 pub use joint::Joint;
 pub use laws::{flat_networks_are_wired, links_are_one};

@@ -1,4 +1,5 @@
-use Rattle.std.proofs.Common.{◌≡◌, [], ◌∷◌, subst, rules}
+use Rattle.std.proofs.Common.{◌≡◌, [], ◌∷◌, subst, arith, rules}
+use Rattle.std.proofs.lemmas.Grind.{common_steps}
 use Rattle.fnl_tree.specs.View.{tree_of}
 use Rattle.fnl_flatten.specs.View.{heads_of}
 use Rattle.fnl_flatten.proofs.Linking.{AddedUpTo, added_all, added_more}
@@ -14,6 +15,6 @@ joints-preserved c =
 
 pub returns : goal.returns
 returns c =
-    let empty : c.joints.rest.now ≡ [] = search rules in
+    let empty : c.joints.rest.now ≡ [] = grind (arith, common_steps) in
     added_all (tree_of c.args.tree.now) (heads_of c.args.heads.now) c.args.joints.now c.joints.links.items
     (subst (λ js. AddedUpTo (tree_of c.args.tree.now) (heads_of c.args.heads.now) js c.args.joints.now c.joints.links.items) empty c.joints.invariant)
