@@ -11,4 +11,5 @@ pub mod Walking
 pub mod Linking
 pub mod Joined
 pub mod Copies
+pub mod FlatAnswers
 mod Rows

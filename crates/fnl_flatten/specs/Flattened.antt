@@ -8,13 +8,15 @@ use Rattle.rvc_base.specs.declared.refusal.Rule.{Rule}
 use Rattle.rvc_base.specs.Rules.{too_many_links, too_much_capacity}
 use Rattle.net_model.specs.declared.wiring.Link.{Link}
 use Rattle.net_model.specs.Limits.{max_links}
+use Rattle.net_model.specs.Network.{Leaf, Network}
 use Rattle.net_model.specs.Ready.{port_of as own_port}
 use Rattle.fnl_tree.specs.Tree.{Net, Tree, paths, classes}
 use Rattle.fnl_flatten.specs.declared.flat.Flat.{Flat}
-use Rattle.fnl_flatten.specs.Flat.{port_of}
+use Rattle.fnl_flatten.specs.Flat.{HasHead, IsFlat, port_of}
 use Rattle.fnl_flatten.specs.Head.{Head}
 use Rattle.fnl_flatten.specs.Links.{AreJoined, AreLinks, capacities, max_capacity}
-use Rattle.fnl_flatten.specs.Rules.{Found, violations}
+use Rattle.fnl_flatten.specs.Rules.{violations}
+use Rattle.fnl_flatten.specs.Whole.{IsWhole}
 
 -- The tree breaks no rule. The links are exactly those that chains join, and paths, classes and ports are the tree's.
 pub record IsFlattened (tree : Tree) (heads : List Head) (flat : Flat) : Type 0 where
@@ -26,6 +28,22 @@ pub record IsFlattened (tree : Tree) (heads : List Head) (flat : Flat) : Type 0 
   pub is_top : slice_get tree.nets 0 ≡ Some top
   pub ins : map own_port flat.ins.items ≡ map port_of top.ins
   pub outs : map own_port flat.outs.items ≡ map port_of top.outs
+
+-- the actors at these paths have the ports that are told, and links and ports are those of the answer
+pub record StandsFor {X : Type 0} (heads : List Head) (flat : Flat) (net : Network X) : Type 0 where
+  pub paths : map (λ leaf. leaf.path) net.leaves ≡ map string_bytes flat.paths.items
+  pub classes : map (λ leaf. leaf.class) net.leaves ≡ map string_bytes flat.classes.items
+  pub behaviours : (l : ℕ) (leaf : Leaf X) (head : Head) → slice_get net.leaves l ≡ Some leaf
+      → slice_get heads l ≡ Some head → HasHead head leaf.behaviour
+  pub links : net.links ≡ flat.links.items
+  pub ins : net.ins ≡ map own_port flat.ins.items
+  pub outs : net.outs ≡ map own_port flat.outs.items
+
+-- a network that an answer stands for is the flat network of the tree
+abbrev pub AnswersAreFlat : Type 0 → Type 0
+AnswersAreFlat X = (tree : Tree) (heads : List Head) (flat : Flat) (net : Network X)
+    → IsWhole tree heads → IsFlattened tree heads flat → StandsFor heads flat net
+    → IsFlat tree heads net
 
 -- ---- refusals
 

@@ -26,4 +26,4 @@ mod writers;
 pub use flat::{Flat, flatten};
 pub use head::{Head, HeadPort};
 pub use joint::Joint;
-pub use laws::{flat_networks_are_wired, links_are_one};
+pub use laws::{answers_are_flat_networks, flat_networks_are_wired, links_are_one};
