@@ -84,7 +84,7 @@ absent (Some i) h = cc
 pub added_part : {S : Type 0} (m : IndexMap (String Heap) DeclaredInner S) (k : String Heap) (v : DeclaredInner)
     → part_named (string_bytes k) (map part_entry m.entries) ≡ None
     → map part_entry (insert_entry (λ a b. bytes_eq (string_bytes a) (string_bytes b)) m.entries k v)
-        ≡ map part_entry m.entries ++ record { id = string_bytes k; inner = inner_of v } ∷ []
+    ≡ map part_entry m.entries ++ record { id = string_bytes k; inner = inner_of v } ∷ []
 added_part m k v h =
     let none : lookup (λ x. bytes_eq (string_bytes k) (string_bytes x)) m.entries ≡ None = absent _ (found_part (string_bytes k) m.entries ∙ h) in
     ap (map part_entry) (insert_entry-new (λ a b. bytes_eq (string_bytes a) (string_bytes b)) m k v none)

@@ -37,12 +37,7 @@ fn is_direct(wire: &Wire) -> bool
 }
 
 /// These ends, or the rule that they break.
-fn met(
-    tree: &Tree,
-    heads: &[Head],
-    from: Option<Joint>,
-    to: Option<Joint>,
-) -> Result<Arrow, Rule>
+fn met(tree: &Tree, heads: &[Head], from: Option<Joint>, to: Option<Joint>) -> Result<Arrow, Rule>
     requires { IsWhole (tree_of tree.now) (heads_of heads.now) }
     ensures from { IfOk result (λ a. from ≡ Some a.from) }
     ensures to { IfOk result (λ a. to ≡ Some a.to) }
@@ -50,7 +45,7 @@ fn met(
         → ends_broken (tree_of tree.now) (heads_of heads.now) net w from to ≡ []) }
     ensures broken { IfErr result (λ rule. (net : NetSpec) (w : WireSpec)
         → ends_broken (tree_of tree.now) (heads_of heads.now) net w from to
-            ≡ found rule net w) }
+        ≡ found rule net w) }
 {
     let Some(from) = from else {
         return Err(Rule::UNKNOWN_END);

@@ -45,18 +45,18 @@ fn enter_wire(
     requires named { NameAlike names.now (map part_of net.now.parts.items) }
     ensures entered { OnOk result (writers.new ≡ writers.old
         ++ wire_entry (tree_of tree.now) (heads_of heads.now) number (net_of net.now)
-            (wire_of wire.now)) }
+        (wire_of wire.now)) }
     ensures fine { OnOk result (wire_broken (tree_of tree.now) (heads_of heads.now) number
         (net_of net.now) (wire_of wire.now) ≡ []) }
     ensures once { OnOk result (second_broken (net_of net.now) (wire_of wire.now)
         (joints.target (tree_of tree.now) (heads_of heads.now) number (net_of net.now)
-            (wire_of wire.now)) (written writers.old) ≡ []) }
+        (wire_of wire.now)) (written writers.old) ≡ []) }
     ensures broken { IfErr result (IsCause
         (wire_broken (tree_of tree.now) (heads_of heads.now) number (net_of net.now)
-            (wire_of wire.now)
+        (wire_of wire.now)
         ++ second_broken (net_of net.now) (wire_of wire.now)
-            (joints.target (tree_of tree.now) (heads_of heads.now) number (net_of net.now)
-                (wire_of wire.now)) (written writers.old))) }
+        (joints.target (tree_of tree.now) (heads_of heads.now) number (net_of net.now)
+        (wire_of wire.now)) (written writers.old))) }
 {
     let arrow = match joined(tree, heads, number, net, names, wire) {
         Ok(arrow) => arrow,
@@ -87,16 +87,16 @@ fn enter_wires(
     requires named { NameAlike names.now (map part_of net.now.parts.items) }
     ensures entered { OnOk result (writers.new ≡ writers.old
         ++ wires_entries (tree_of tree.now) (heads_of heads.now) number (net_of net.now)
-            (net_of net.now).wires) }
+        (net_of net.now).wires) }
     ensures fine { OnOk result (wires_broken (tree_of tree.now) (heads_of heads.now) number
         (net_of net.now) (net_of net.now).wires ≡ []) }
     ensures once { OnOk result (again_broken (tree_of tree.now) (heads_of heads.now) number
         (net_of net.now) (net_of net.now).wires (written writers.old) ≡ []) }
     ensures broken { IfErr result (IsCause
         (wires_broken (tree_of tree.now) (heads_of heads.now) number (net_of net.now)
-            (net_of net.now).wires
+        (net_of net.now).wires
         ++ again_broken (tree_of tree.now) (heads_of heads.now) number (net_of net.now)
-            (net_of net.now).wires (written writers.old))) }
+        (net_of net.now).wires (written writers.old))) }
 {
     let mut rest = net.wires.as_slice();
     'wires: while let Some((wire, others)) = rest.split_first() {
@@ -119,16 +119,16 @@ fn enter_net(
     requires few { HasFewPorts net.now }
     ensures entered { OnOk result (writers.new ≡ writers.old
         ++ wires_entries (tree_of tree.now) (heads_of heads.now) number (net_of net.now)
-            (net_of net.now).wires) }
+        (net_of net.now).wires) }
     ensures fine { OnOk result (wires_broken (tree_of tree.now) (heads_of heads.now) number
         (net_of net.now) (net_of net.now).wires ≡ []) }
     ensures once { OnOk result (again_broken (tree_of tree.now) (heads_of heads.now) number
         (net_of net.now) (net_of net.now).wires (written writers.old) ≡ []) }
     ensures broken { IfErr result (IsCause
         (wires_broken (tree_of tree.now) (heads_of heads.now) number (net_of net.now)
-            (net_of net.now).wires
+        (net_of net.now).wires
         ++ again_broken (tree_of tree.now) (heads_of heads.now) number (net_of net.now)
-            (net_of net.now).wires (written writers.old))) }
+        (net_of net.now).wires (written writers.old))) }
 {
     let names = PartNames::new(alloc, &net.parts)?;
     enter_wires(tree, heads, number, net, &names, writers)

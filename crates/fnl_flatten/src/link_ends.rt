@@ -32,11 +32,7 @@ fn top_input(net: u32, input: bool, port: u32) -> Option<End>
     if net > 0 {
         return None;
     }
-    if input {
-        Some(End::Net { port })
-    } else {
-        None
-    }
+    if input { Some(End::Net { port }) } else { None }
 }
 
 /// The end of a link that the joint is, if tokens go there: an input of an actor, or an output of the top network.
@@ -64,9 +60,5 @@ fn top_output(net: u32, input: bool, port: u32) -> Option<End>
     if net > 0 {
         return None;
     }
-    if input {
-        None
-    } else {
-        Some(End::Net { port })
-    }
+    if input { None } else { Some(End::Net { port }) }
 }

@@ -15,12 +15,7 @@ use crate::writers::{Writer, Writers};
 use fnl_tree::Tree;
 
 /// The writing end from which a chain of connections leads to a joint, and the largest size that one of them asks for.
-pub(crate) fn origin(
-    tree: &Tree,
-    heads: &[Head],
-    writers: &Writers,
-    joint: Joint,
-) -> Option<Writer>
+pub(crate) fn origin(tree: &Tree, heads: &[Head], writers: &Writers, joint: Joint) -> Option<Writer>
     requires whole { IsWhole (tree_of tree.now) (heads_of heads.now) }
     requires fine { violations (tree_of tree.now) (heads_of heads.now) ≡ [] }
     requires entered { writers.now ≡ entries_of (tree_of tree.now) (heads_of heads.now) }

@@ -3,7 +3,7 @@
 use Rattle.std.specs.Prelude.{◌≡◌, ◌≢◌, ℕ, zero, suc, ◌+◌, ◌<◌, ◌≤◌, List, [], ◌∷◌, ◌++◌, length, map, All, AllPairs, Some, slice_get}
 use Rattle.cal_model.specs.Sound.{max_ports}
 use Rattle.net_model.specs.Limits.{max_instances}
-use Rattle.fnl_tree.specs.Tree.{Inner, InnerNet, InnerLeaf, Part, Own, Wire, Net, Tree}
+use Rattle.fnl_tree.specs.Tree.{Inner, InnerNet, InnerLeaf, Part, Net, Tree}
 
 -- a part stands in network n, at this place
 pub record IsPart (tree : Tree) (n place : ℕ) (part : Part) : Type 0 where
