@@ -6,6 +6,7 @@ pub mod Arrows
 pub mod Origins
 pub mod Readers
 pub mod Flattened
+pub mod Seen
 pub mod Joints
 pub mod Links
 pub mod Rules

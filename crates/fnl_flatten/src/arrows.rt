@@ -1,12 +1,11 @@
 //! A connection and the rules of its ends.
 
 ghost use Rattle.std.specs.Prelude.{◌≡◌, [], IfErr, IfOk, Some, map};
-ghost use Rattle.fnl_tree.specs.Tree.{Net as NetSpec, Wire as WireSpec};
 ghost use Rattle.fnl_tree.specs.View.{net_of, part_of, tree_of, wire_of};
-ghost use Rattle.fnl_flatten.specs.Joints as joints;
 ghost use Rattle.fnl_flatten.specs.Named.{HasFewPorts, NameAlike};
 ghost use Rattle.fnl_flatten.specs.Rules as rules;
-ghost use Rattle.fnl_flatten.specs.Rules.{ends_broken, found, wire_broken};
+ghost use Rattle.fnl_flatten.specs.Rules.{found};
+ghost use Rattle.fnl_flatten.specs.Seen.{BreaksAt, MeetsAll, begins_at, ends_at, ends_break};
 ghost use Rattle.fnl_flatten.specs.View.{heads_of};
 ghost use Rattle.fnl_flatten.specs.Whole.{IsWhole};
 
@@ -41,11 +40,8 @@ fn met(tree: &Tree, heads: &[Head], from: Option<Joint>, to: Option<Joint>) -> R
     requires { IsWhole (tree_of tree.now) (heads_of heads.now) }
     ensures from { IfOk result (λ a. from ≡ Some a.from) }
     ensures to { IfOk result (λ a. to ≡ Some a.to) }
-    ensures fine { IfOk result (λ _. (net : NetSpec) (w : WireSpec)
-        → ends_broken (tree_of tree.now) (heads_of heads.now) net w from to ≡ []) }
-    ensures broken { IfErr result (λ rule. (net : NetSpec) (w : WireSpec)
-        → ends_broken (tree_of tree.now) (heads_of heads.now) net w from to
-        ≡ found rule net w) }
+    ensures fine { IfOk result (λ _. MeetsAll tree.now heads.now from to) }
+    ensures broken { IfErr result (λ rule. BreaksAt tree.now heads.now from to rule) }
 {
     let Some(from) = from else {
         return Err(Rule::UNKNOWN_END);
@@ -72,14 +68,14 @@ pub(crate) fn joined(
     requires whole { IsWhole (tree_of tree.now) (heads_of heads.now) }
     requires few { HasFewPorts net.now }
     requires named { NameAlike names.now (map part_of net.now.parts.items) }
-    ensures from { IfOk result (λ a. joints.source (tree_of tree.now) (heads_of heads.now) number
-        (net_of net.now) (wire_of wire.now) ≡ Some a.from) }
-    ensures to { IfOk result (λ a. joints.target (tree_of tree.now) (heads_of heads.now) number
-        (net_of net.now) (wire_of wire.now) ≡ Some a.to) }
-    ensures fine { IfOk result (λ _. wire_broken (tree_of tree.now) (heads_of heads.now) number
-        (net_of net.now) (wire_of wire.now) ≡ []) }
-    ensures broken { IfErr result (λ rule. wire_broken (tree_of tree.now) (heads_of heads.now)
-        number (net_of net.now) (wire_of wire.now)
+    ensures from { IfOk result
+        (λ a. begins_at tree.now heads.now number net.now wire.now ≡ Some a.from) }
+    ensures to { IfOk result
+        (λ a. ends_at tree.now heads.now number net.now wire.now ≡ Some a.to) }
+    ensures fine { IfOk result
+        (λ _. ends_break tree.now heads.now number net.now wire.now ≡ []) }
+    ensures broken { IfErr result
+        (λ rule. ends_break tree.now heads.now number net.now wire.now
         ≡ found rule (net_of net.now) (wire_of wire.now)) }
 {
     if is_direct(wire) {

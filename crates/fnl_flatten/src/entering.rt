@@ -1,11 +1,11 @@
 //! All connections of a tree, with the rules that they break.
 
 ghost use Rattle.std.specs.Prelude.{◌≡◌, [], ◌++◌, IfErr, IfOk, OnOk, map};
-ghost use Rattle.fnl_tree.specs.View.{net_of, part_of, tree_of, wire_of};
-ghost use Rattle.fnl_flatten.specs.Arrows.{again_broken, entries_of, wire_entry, wires_entries, written};
-ghost use Rattle.fnl_flatten.specs.Joints as joints;
+ghost use Rattle.fnl_tree.specs.View.{part_of, tree_of};
+ghost use Rattle.fnl_flatten.specs.Arrows.{entries_of};
 ghost use Rattle.fnl_flatten.specs.Named.{HasFewPorts, IsCause, NameAlike};
-ghost use Rattle.fnl_flatten.specs.Rules.{second_broken, violations, wire_broken, wires_broken};
+ghost use Rattle.fnl_flatten.specs.Rules.{violations};
+ghost use Rattle.fnl_flatten.specs.Seen.{all_break, all_ends_break, all_join, all_write_again, breaks, ends_break, joins, writes_again};
 ghost use Rattle.fnl_flatten.specs.View.{heads_of};
 ghost use Rattle.fnl_flatten.specs.Whole.{IsWhole};
 
@@ -43,20 +43,13 @@ fn enter_wire(
     requires whole { IsWhole (tree_of tree.now) (heads_of heads.now) }
     requires few { HasFewPorts net.now }
     requires named { NameAlike names.now (map part_of net.now.parts.items) }
-    ensures entered { OnOk result (writers.new ≡ writers.old
-        ++ wire_entry (tree_of tree.now) (heads_of heads.now) number (net_of net.now)
-        (wire_of wire.now)) }
-    ensures fine { OnOk result (wire_broken (tree_of tree.now) (heads_of heads.now) number
-        (net_of net.now) (wire_of wire.now) ≡ []) }
-    ensures once { OnOk result (second_broken (net_of net.now) (wire_of wire.now)
-        (joints.target (tree_of tree.now) (heads_of heads.now) number (net_of net.now)
-        (wire_of wire.now)) (written writers.old) ≡ []) }
-    ensures broken { IfErr result (IsCause
-        (wire_broken (tree_of tree.now) (heads_of heads.now) number (net_of net.now)
-        (wire_of wire.now)
-        ++ second_broken (net_of net.now) (wire_of wire.now)
-        (joints.target (tree_of tree.now) (heads_of heads.now) number (net_of net.now)
-        (wire_of wire.now)) (written writers.old))) }
+    ensures entered { OnOk result (writers.new
+        ≡ writers.old ++ joins tree.now heads.now number net.now wire.now) }
+    ensures fine { OnOk result (ends_break tree.now heads.now number net.now wire.now ≡ []) }
+    ensures once { OnOk result
+        (writes_again tree.now heads.now number net.now wire.now writers.old ≡ []) }
+    ensures broken { IfErr result
+        (IsCause (breaks tree.now heads.now number net.now wire.now writers.old)) }
 {
     let arrow = match joined(tree, heads, number, net, names, wire) {
         Ok(arrow) => arrow,
@@ -85,18 +78,13 @@ fn enter_wires(
     requires whole { IsWhole (tree_of tree.now) (heads_of heads.now) }
     requires few { HasFewPorts net.now }
     requires named { NameAlike names.now (map part_of net.now.parts.items) }
-    ensures entered { OnOk result (writers.new ≡ writers.old
-        ++ wires_entries (tree_of tree.now) (heads_of heads.now) number (net_of net.now)
-        (net_of net.now).wires) }
-    ensures fine { OnOk result (wires_broken (tree_of tree.now) (heads_of heads.now) number
-        (net_of net.now) (net_of net.now).wires ≡ []) }
-    ensures once { OnOk result (again_broken (tree_of tree.now) (heads_of heads.now) number
-        (net_of net.now) (net_of net.now).wires (written writers.old) ≡ []) }
-    ensures broken { IfErr result (IsCause
-        (wires_broken (tree_of tree.now) (heads_of heads.now) number (net_of net.now)
-        (net_of net.now).wires
-        ++ again_broken (tree_of tree.now) (heads_of heads.now) number (net_of net.now)
-        (net_of net.now).wires (written writers.old))) }
+    ensures entered { OnOk result
+        (writers.new ≡ writers.old ++ all_join tree.now heads.now number net.now) }
+    ensures fine { OnOk result (all_ends_break tree.now heads.now number net.now ≡ []) }
+    ensures once { OnOk result
+        (all_write_again tree.now heads.now number net.now writers.old ≡ []) }
+    ensures broken { IfErr result
+        (IsCause (all_break tree.now heads.now number net.now writers.old)) }
 {
     let mut rest = net.wires.as_slice();
     'wires: while let Some((wire, others)) = rest.split_first() {
@@ -117,18 +105,13 @@ fn enter_net(
 ) -> Result<(), Fault>
     requires whole { IsWhole (tree_of tree.now) (heads_of heads.now) }
     requires few { HasFewPorts net.now }
-    ensures entered { OnOk result (writers.new ≡ writers.old
-        ++ wires_entries (tree_of tree.now) (heads_of heads.now) number (net_of net.now)
-        (net_of net.now).wires) }
-    ensures fine { OnOk result (wires_broken (tree_of tree.now) (heads_of heads.now) number
-        (net_of net.now) (net_of net.now).wires ≡ []) }
-    ensures once { OnOk result (again_broken (tree_of tree.now) (heads_of heads.now) number
-        (net_of net.now) (net_of net.now).wires (written writers.old) ≡ []) }
-    ensures broken { IfErr result (IsCause
-        (wires_broken (tree_of tree.now) (heads_of heads.now) number (net_of net.now)
-        (net_of net.now).wires
-        ++ again_broken (tree_of tree.now) (heads_of heads.now) number (net_of net.now)
-        (net_of net.now).wires (written writers.old))) }
+    ensures entered { OnOk result
+        (writers.new ≡ writers.old ++ all_join tree.now heads.now number net.now) }
+    ensures fine { OnOk result (all_ends_break tree.now heads.now number net.now ≡ []) }
+    ensures once { OnOk result
+        (all_write_again tree.now heads.now number net.now writers.old ≡ []) }
+    ensures broken { IfErr result
+        (IsCause (all_break tree.now heads.now number net.now writers.old)) }
 {
     let names = PartNames::new(alloc, &net.parts)?;
     enter_wires(tree, heads, number, net, &names, writers)
