@@ -1,5 +1,5 @@
 -- Copies one after the other.
-use Rattle.std.proofs.Common.{◌≡◌, List, [], ◌∷◌, ◌++◌, map, refl, sym, ap, ◌∙◌}
+use Rattle.std.proofs.Common.{◌≡◌, List, [], ◌∷◌, ◌++◌, map, ap, ◌∙◌}
 use Rattle.std.proofs.lemmas.List.{map-append, append_assoc}
 
 pub more_copies : {A B : Type 0} (f : A → B) (old new : List A) (x : A) (y : B) (rest whole : List B) → new ≡ old ++ x ∷ [] → f x ≡ y

@@ -1,17 +1,13 @@
 -- What flattening answers is the flat network of the tree.
-use Rattle.std.proofs.Common.{◌≡◌, ℕ, ◌<◌, ◌≤◌, List, length, map, sym, subst, ap, ◌∙◌, arith}
+use Rattle.std.proofs.Common.{◌≡◌, ◌<◌, List, length, sym, subst, ap, ◌∙◌, arith}
 use Rattle.std.proofs.lemmas.List.{length-map}
 use Rattle.std.proofs.lemmas.Option.{slice_get_within}
-use Rattle.std.specs.Prelude.{string_bytes}
-use Rattle.net_model.specs.Limits.{max_instances}
 use Rattle.net_model.specs.Network.{Network}
-use Rattle.fnl_tree.specs.Tree.{Tree, paths}
+use Rattle.fnl_tree.specs.Tree.{Tree}
 use Rattle.fnl_flatten.specs.declared.flat.Flat.{Flat}
-use Rattle.fnl_flatten.specs.Flat.{IsFlat}
 use Rattle.fnl_flatten.specs.Flattened.{AnswersAreFlat, IsFlattened, StandsFor}
 use Rattle.fnl_flatten.specs.Head.{Head}
 use Rattle.fnl_flatten.specs.Links.{AreLinks}
-use Rattle.fnl_flatten.specs.Whole.{IsWhole}
 
 as_many : {X : Type 0} (tree : Tree) (heads : List Head) (flat : Flat) (net : Network X) → IsFlattened tree heads flat
     → StandsFor heads flat net → length net.leaves ≡ length tree.leaves

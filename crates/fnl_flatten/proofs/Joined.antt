@@ -1,5 +1,5 @@
 -- The links to the reading ends of a tree are its links.
-use Rattle.std.proofs.Common.{◌≡◌, ◌⊎◌, inl, inr, ℕ, zero, suc, ◌+◌, ◌<◌, ◌≤◌, Bool, true, false, List, [], ◌∷◌, ◌++◌, length, refl, sym, ap, subst, ◌∙◌, arith}
+use Rattle.std.proofs.Common.{◌≡◌, ◌⊎◌, inl, inr, ℕ, zero, suc, ◌+◌, ◌<◌, ◌≤◌, true, false, List, [], ◌∷◌, ◌++◌, length, refl, sym, ap, subst, ◌∙◌, arith}
 use Rattle.std.proofs.lemmas.List.{append_assoc}
 use Rattle.std.specs.Prelude.{Option, None, Some, slice_get}
 use Rattle.net_model.specs.Wired.{IsBefore}
@@ -10,7 +10,7 @@ use Rattle.fnl_tree.specs.Sound.{IsSound}
 use Rattle.fnl_tree.specs.Tree.{Net, Tree}
 use Rattle.fnl_flatten.specs.Head.{Head}
 use Rattle.fnl_flatten.specs.Joints.{Joint, LeafPort, OwnPort}
-use Rattle.fnl_flatten.specs.Links.{IsLink, AreJoined, reading_end}
+use Rattle.fnl_flatten.specs.Links.{AreJoined, reading_end}
 use Rattle.fnl_flatten.specs.Readers.{inputs_from, outputs_from, leaf_readers, readers_of, LinksOf}
 use Rattle.fnl_flatten.specs.Rules.{violations}
 use Rattle.fnl_flatten.proofs.Chains.{end_there}

@@ -1,26 +1,23 @@
 -- Links to reading ends, one after the other.
-use Rattle.std.proofs.Common.{◌≡◌, ◌⊎◌, inl, inr, ℕ, zero, suc, ◌+◌, ◌-◌, ◌<◌, ◌≤◌, Bool, true, false, List, [], ◌∷◌, ◌++◌, length, drop, refl, sym, ap, subst, ◌∙◌, add-one, arith}
+use Rattle.std.proofs.Common.{◌≡◌, inl, inr, ℕ, zero, suc, ◌+◌, ◌-◌, ◌<◌, ◌≤◌, true, false, List, [], ◌∷◌, ◌++◌, length, drop, refl, sym, ap, subst, ◌∙◌, add-one, arith}
 use Rattle.std.proofs.Math.Seq.{drop-cons}
 use Rattle.std.proofs.lemmas.List.{append_assoc, append-nil}
 use Rattle.std.proofs.lemmas.Option.{slice_get_within, get_or_from_slice_get}
-use Rattle.std.specs.Prelude.{Option, None, Some, is_some, slice_get, Contains}
+use Rattle.std.specs.Prelude.{None, Some, is_some, slice_get, Contains}
 use Rattle.net_model.specs.Limits.{max_instances}
 use Rattle.net_model.specs.Wired.{IsBefore}
 use Rattle.net_model.specs.declared.wiring.End.{End}
-use Rattle.net_model.specs.declared.wiring.End.TheVariants.{Leaf as AtLeaf, Net as AtNet}
 use Rattle.net_model.specs.declared.wiring.Link.{Link}
 use Rattle.fnl_tree.specs.Sound.{IsSound}
-use Rattle.fnl_tree.specs.Tree.{Net, Tree}
+use Rattle.fnl_tree.specs.Tree.{Tree}
 use Rattle.fnl_flatten.specs.declared.writers.Writer.{Writer}
 use Rattle.fnl_flatten.specs.Head.{Head}
-use Rattle.fnl_flatten.specs.Joints.{Joint, LeafPort, OwnPort, kind_of, rate_at}
-use Rattle.fnl_flatten.specs.Links.{Chain, IsLink, AreJoined, capacity_for, reading_end, writing_end}
+use Rattle.fnl_flatten.specs.Joints.{Joint, LeafPort, OwnPort, kind_of}
+use Rattle.fnl_flatten.specs.Links.{Chain, IsLink, reading_end, writing_end}
 use Rattle.fnl_flatten.specs.Origins.{IsOrigin, HasNoOrigin}
-use Rattle.fnl_flatten.specs.Readers.{inputs_from, outputs_from, leaf_readers, readers_of, HasNoLink, HasNoEnd, IsLinkFrom, IsLinkTo, IsAdded, LinksOf, done, none, one}
+use Rattle.fnl_flatten.specs.Readers.{inputs_from, outputs_from, leaf_readers, HasNoLink, HasNoEnd, IsLinkFrom, IsLinkTo, IsAdded, LinksOf, done, none, one}
 use Rattle.fnl_flatten.specs.Rules.{violations}
 use Rattle.fnl_flatten.specs.Whole.{IsWhole}
-use Rattle.fnl_flatten.proofs.Chains.{end_there}
-use Rattle.fnl_flatten.proofs.Places.{IsThere}
 use Rattle.fnl_flatten.proofs.Walks.{one_link, reads_one}
 
 -- ---- the link to a joint

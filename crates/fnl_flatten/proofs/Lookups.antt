@@ -1,6 +1,6 @@
 -- Look-ups of networks, actors, parts and joints.
-use Rattle.std.proofs.Common.{◌≡◌, ℕ, ◌<◌, ◌≤◌, Bool, true, false, cond, ◌&&◌, List, [], ◌∷◌, ◌++◌, map, length, get_or, refl, sym, ap, subst, ◌∙◌, arith}
-use Rattle.std.proofs.lemmas.List.{map-append, length-map, append_assoc}
+use Rattle.std.proofs.Common.{◌≡◌, ℕ, Bool, true, false, cond, List, [], ◌∷◌, ◌++◌, map, length, refl, sym, ap, subst, ◌∙◌, arith}
+use Rattle.std.proofs.lemmas.List.{map-append, length-map}
 use Rattle.std.proofs.lemmas.List.Elements.{All-get_or}
 use Rattle.std.proofs.lemmas.Bool.Decides.{same_from_decides}
 use Rattle.std.proofs.lemmas.Option.{slice_get_within, get_or_from_slice_get}
@@ -15,7 +15,7 @@ use Rattle.indexmap.proofs.CallerLemmas.{insert_entry-new}
 use Rattle.fnl_tree.specs.declared.tree.Inner.{Inner as DeclaredInner}
 use Rattle.fnl_tree.specs.declared.tree.Net.{Net as DeclaredNet}
 use Rattle.fnl_tree.specs.Sound.{IsNetSound}
-use Rattle.fnl_tree.specs.Tree.{Inner, Part}
+use Rattle.fnl_tree.specs.Tree.{Part}
 use Rattle.fnl_tree.specs.View.{inner_of, own_of, net_of}
 use Rattle.fnl_flatten.specs.declared.head.Head.{Head as DeclaredHead}
 use Rattle.fnl_flatten.specs.declared.writers.Writer.{Writer}

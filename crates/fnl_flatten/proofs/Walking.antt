@@ -1,22 +1,21 @@
 -- A walk against the direction of connections, from a joint to the writing end whose tokens come there.
-use Rattle.std.proofs.Common.{◌≡◌, ◌⊎◌, inl, inr, ℕ, zero, suc, ◌+◌, ◌-◌, ◌<◌, ◌≤◌, Bool, true, false, ◌&&◌, ◌||◌, List, [], ◌∷◌, ◌++◌, map, length, refl, sym, ap, subst, ◌∙◌, drop, arith}
+use Rattle.std.proofs.Common.{◌≡◌, ◌⊎◌, inl, inr, ℕ, zero, suc, ◌+◌, ◌-◌, ◌<◌, ◌≤◌, Bool, true, false, ◌&&◌, List, [], ◌∷◌, ◌++◌, length, refl, sym, ap, subst, ◌∙◌, arith}
 use Rattle.std.proofs.lemmas.Option.{slice_get_within}
 use Rattle.std.proofs.Math.Nat.{le-max_left, max-le}
-use Rattle.std.specs.Prelude.{Option, None, Some, if◌then◌else◌, is_some, slice_get, max, option_map}
+use Rattle.std.specs.Prelude.{Option, None, Some, if◌then◌else◌, is_some, slice_get, max}
 use Rattle.net_model.specs.declared.wiring.End.{End}
-use Rattle.fnl_tree.specs.Sound.{IsPart, IsBehind, IsSound}
-use Rattle.fnl_tree.specs.Tree.{Inner, InnerNet, InnerLeaf, Part, Wire, Net, Tree}
+use Rattle.fnl_tree.specs.Sound.{IsBehind, IsSound}
+use Rattle.fnl_tree.specs.Tree.{Inner, InnerNet, InnerLeaf, Wire, Net, Tree}
 use Rattle.fnl_flatten.specs.declared.writers.Writer.{Writer}
 use Rattle.fnl_flatten.specs.Arrows.{Entry, entry_of, wire_entry, wires_entries, nets_entries, entries_of, writer_of}
 use Rattle.fnl_flatten.specs.Head.{Head, head_names}
 use Rattle.fnl_flatten.specs.Joints.{Joint, LeafPort, OwnPort, place_of, own_names, is_nameless, part_named, net_output, leaf_output, part_output, part_input, own_input, own_output, source, target}
 use Rattle.fnl_flatten.specs.Links.{Leads, Chain, last, more, writing_end}
 use Rattle.fnl_flatten.specs.Origins.{IsOrigin, HasNoOrigin, rank}
-use Rattle.fnl_flatten.specs.Rules.{is_same, is_direct, violations}
+use Rattle.fnl_flatten.specs.Rules.{is_same, violations}
 use Rattle.fnl_flatten.proofs.Chains.{none_direct}
 use Rattle.fnl_flatten.proofs.EnteredUpTo.{joint_is}
 use Rattle.fnl_flatten.proofs.OneWriter.{inner_of, is_same_itself, mapped, named_part, IsOwnOutput, own_output_is, IsInputOf, input_is}
-use Rattle.fnl_flatten.proofs.Places.{IsInward}
 use Rattle.fnl_flatten.proofs.Walks.{one_before, Walk, step, then_on, walk_of}
 
 -- ---- what writes to a joint leads to it

@@ -1,6 +1,6 @@
 -- The connections of a tree by where they lead, in the order in which they are met.
 -- Not trusted: no promise is read with it.
-use Rattle.std.specs.Prelude.{◌≡◌, ℕ, suc, Bool, List, [], ◌∷◌, ◌++◌, Option, None, Some, map, if◌then◌else◌}
+use Rattle.std.specs.Prelude.{ℕ, suc, List, [], ◌∷◌, ◌++◌, Option, None, Some, map, if◌then◌else◌}
 use Rattle.fnl_tree.specs.Tree.{Wire, Net, Tree}
 use Rattle.fnl_flatten.specs.declared.writers.Writer.{Writer}
 use Rattle.fnl_flatten.specs.Head.{Head}

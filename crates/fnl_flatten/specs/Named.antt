@@ -7,7 +7,7 @@ use Rattle.rvc_base.specs.declared.refusal.Front.TheVariants.{Refused, Memory as
 use Rattle.cal_model.specs.Sound.{max_ports}
 use Rattle.fnl_tree.specs.declared.tree.Inner.{Inner as DeclaredInner}
 use Rattle.fnl_tree.specs.declared.tree.Net.{Net as DeclaredNet}
-use Rattle.fnl_tree.specs.Tree.{Part, Net}
+use Rattle.fnl_tree.specs.Tree.{Part}
 use Rattle.fnl_tree.specs.View.{inner_of}
 use Rattle.fnl_flatten.specs.declared.fault.Fault.{Fault}
 use Rattle.fnl_flatten.specs.declared.fault.Fault.TheVariants.{Broken, Memory}

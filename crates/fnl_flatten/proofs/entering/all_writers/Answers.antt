@@ -1,4 +1,4 @@
-use Rattle.std.proofs.Common.{◌≡◌, ℕ, ◌≤◌, ◌<◌, Err, None, Some, map, length, sym, subst, ap, ◌∙◌, slice_get, arith, rules}
+use Rattle.std.proofs.Common.{◌≡◌, ◌≤◌, ◌<◌, Err, None, map, length, sym, subst, slice_get, arith, rules}
 use Rattle.std.proofs.lemmas.List.{length-map}
 use Rattle.std.specs.Prelude.{IfErr}
 use Rattle.net_model.specs.Limits.{max_instances}

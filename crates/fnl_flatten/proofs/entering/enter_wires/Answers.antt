@@ -1,4 +1,4 @@
-use Rattle.std.proofs.Common.{◌≡◌, Err, ◌∷◌, ◌++◌, map, sym, subst, ap, ◌∙◌, rules}
+use Rattle.std.proofs.Common.{◌≡◌, Err, ◌∷◌, ◌++◌, map, sym, subst, rules}
 use Rattle.std.specs.Prelude.{IfErr}
 use Rattle.fnl_tree.specs.View.{net_of, tree_of, wire_of}
 use Rattle.fnl_flatten.specs.Arrows.{again_broken, written}

@@ -1,4 +1,4 @@
-use Rattle.std.proofs.Common.{◌≡◌, map, option_map, slice_get, ap, ◌∙◌}
+use Rattle.std.proofs.Common.{map, slice_get, ap, ◌∙◌}
 use Rattle.fnl_tree.specs.View.{net_of}
 use Rattle.fnl_flatten.proofs.Lookups.{few_ports}
 use Rattle.fnl_flatten.proofs.find.net_at.Goals as goal

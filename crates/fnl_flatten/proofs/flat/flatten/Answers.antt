@@ -1,4 +1,4 @@
-use Rattle.std.proofs.Common.{◌≡◌, sym, subst, rules}
+use Rattle.std.proofs.Common.{sym, subst, rules}
 use Rattle.fnl_tree.specs.View.{net_of, tree_of}
 use Rattle.fnl_flatten.specs.Flattened.{IsWithin}
 use Rattle.fnl_flatten.specs.Links.{AreLinks}

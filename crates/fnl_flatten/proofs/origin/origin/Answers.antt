@@ -2,7 +2,6 @@ use Rattle.std.proofs.Common.{◌≡◌, true, false, None, Some, sym, subst, ap
 use Rattle.std.specs.Prelude.{max}
 use Rattle.fnl_tree.specs.View.{tree_of}
 use Rattle.fnl_flatten.specs.Arrows.{entries_of, writer_of}
-use Rattle.fnl_flatten.specs.Links.{writing_end}
 use Rattle.fnl_flatten.specs.View.{heads_of}
 use Rattle.fnl_flatten.proofs.Walking.{Walked, falls, walked_more, walked_none, walked_origin, walked_out, writer_leads}
 use Rattle.fnl_flatten.proofs.origin.origin.Goals as goal

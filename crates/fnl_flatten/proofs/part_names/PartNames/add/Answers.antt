@@ -1,4 +1,4 @@
-use Rattle.std.proofs.Common.{◌≡◌, true, false, [], ◌∷◌, ◌++◌, None, map, sym, ap, subst, ◌∙◌, rules, is_some}
+use Rattle.std.proofs.Common.{◌≡◌, true, false, [], ◌∷◌, ◌++◌, None, map, sym, ap, ◌∙◌, rules, is_some}
 use Rattle.std.proofs.lemmas.List.{append_assoc}
 use Rattle.std.specs.Prelude.{string_bytes}
 use Rattle.fnl_tree.specs.View.{inner_of, part_of}
