@@ -13,7 +13,8 @@ use Rattle.cal_check.specs.Variables.{Spot, Found, Given}
 use Rattle.fnl_read.specs.Net.{Net, Port, a_port, Decl, a_decl, Parameter, a_parameter, Instance, an_instance, Size, a_size, Connection, a_connection}
 use Rattle.cal_check.specs.Violations.{violation}
 use Rattle.fnl_bind.specs.Scopes.{ports_broken}
-use Rattle.fnl_bind.specs.Bound.{Inner, InnerNet, InnerLeaf, Part, BoundNet, Leaf}
+use Rattle.rvc_base.specs.declared.refusal.Place.{Place as FilePlace}
+use Rattle.fnl_tree.specs.Tree.{Inner, InnerNet, InnerLeaf, Part, Net as BoundNet, Leaf}
 use Rattle.fnl_bind.specs.Library.{Entry}
 use Rattle.fnl_bind.specs.Trees.{violations, bound, instances_at, passing}
 
@@ -82,8 +83,8 @@ alone n = entry (codes "T") 1 n ∷ []
 abbrev breaks : Net → List Found
 breaks n = violations (alone n) (codes "T")
 
-abbrev spot : ℕ → ℕ → Spot
-spot file at = record { file = file; at = at }
+abbrev spot : ℕ → ℕ → FilePlace
+spot file at = record { file = file; offset = at }
 
 abbrev found_in : ℕ → Rule → ℕ → Found
 found_in file rule at = record { violation = record { rule = rule; at = at }; file = file }

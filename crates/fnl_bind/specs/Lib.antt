@@ -1,8 +1,7 @@
-pub mod Bound
 pub mod Library
 pub mod Scopes
 pub mod Values
 pub mod Networks
 pub mod Trees
-pub mod Views
+pub mod Answers
 pub mod Sound

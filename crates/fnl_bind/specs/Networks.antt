@@ -3,13 +3,14 @@
 -- Its declarations are judged as those of an actor are: each sees those before it, a parameter has the value that it is
 -- given or else its default, and a value is stored in the declared type.
 -- Not trusted: no promise is read with it.
-use Rattle.std.specs.Prelude.{ℕ, suc, ◌+◌, Bool, true, false, List, [], ◌∷◌, ◌++◌, length, codes, Option, None, Some, if◌then◌else◌}
+use Rattle.std.specs.Prelude.{ℕ, suc, ◌+◌, Bool, true, false, List, [], ◌∷◌, ◌++◌, length, map, codes, Option, None, Some, if◌then◌else◌}
 use Rattle.cal_model.specs.Kinding.{Names}
 use Rattle.cal_check.specs.Violations.{Violation, said}
 use Rattle.cal_check.specs.Variables.{Spot, Found, found_in, Given, VarDecl, Valued, none_yet, seen, valued}
 use Rattle.cal_check.specs.Actors.{given_wrongly, is_empty}
 use Rattle.fnl_read.specs.Net.{Net, Instance}
-use Rattle.fnl_bind.specs.Bound.{Inner, InnerNet, InnerLeaf, Part, BoundNet, Leaf}
+use Rattle.rvc_base.specs.declared.refusal.Place.{Place as FilePlace}
+use Rattle.fnl_tree.specs.Tree.{Binding, Inner, InnerNet, InnerLeaf, Part, Net as BoundNet, Leaf}
 use Rattle.fnl_bind.specs.Library.{Entry, network_of, ports_of, var_decls, params_of, instance_id, instance_class, instance_class_at, instance_parameters, instance_at}
 use Rattle.fnl_bind.specs.Scopes.{scope_broken}
 use Rattle.fnl_bind.specs.Values.{values_broken, all_given, ends_of, wires_of}
@@ -81,13 +82,23 @@ net_under p i e gs = record {
   path = path_under p.path (instance_id i);
 }
 
+abbrev pub offset_in : Place → ℕ → FilePlace
+offset_in p at = record { file = p.entry.file; offset = at }
+
+abbrev pub binding_of : Given → Binding
+binding_of g = record {
+  name = g.name;
+  value = g.value;
+  place = record { file = g.place.file; offset = g.place.at };
+}
+
 abbrev pub leaf_under : Place → Instance → List Given → Leaf
 leaf_under p i gs = record {
   path = path_under p.path (instance_id i);
   class = instance_class i;
-  class_at = spot_in p (instance_class_at i);
-  instance_at = spot_in p (instance_at i);
-  bindings = gs;
+  class_at = offset_in p (instance_class_at i);
+  instance_at = offset_in p (instance_at i);
+  bindings = map binding_of gs;
 }
 
 abbrev pub standing_as : Place → Instance → Option Entry → Option (List Given) → Standing

@@ -1,7 +1,7 @@
 -- Trees in which each network but the top, and each actor, is one part, and stands in a network before it.
 -- Not trusted: no promise is read with it.
 use Rattle.std.specs.Prelude.{◌≡◌, ℕ, zero, suc, ◌+◌, ◌<◌, ◌==◌, List, [], ◌∷◌, length, Some, if◌then◌else◌}
-use Rattle.fnl_bind.specs.Bound.{Inner, InnerNet, InnerLeaf, Part, BoundNet, BoundTree}
+use Rattle.fnl_tree.specs.Tree.{Inner, InnerNet, InnerLeaf, Part, Net as BoundNet, Tree as BoundTree}
 use Rattle.fnl_bind.specs.Library.{Entry, network_of}
 use Rattle.fnl_bind.specs.Trees.{bound}
 

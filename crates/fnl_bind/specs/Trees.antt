@@ -10,7 +10,7 @@ use Rattle.net_model.specs.Limits.{max_instances}
 use Rattle.cal_check.specs.Violations.{violation}
 use Rattle.cal_check.specs.Variables.{Spot, Found, found_in}
 use Rattle.fnl_read.specs.Net.{Instance}
-use Rattle.fnl_bind.specs.Bound.{Inner, InnerNet, InnerLeaf, Part, BoundNet, Leaf, BoundTree}
+use Rattle.fnl_tree.specs.Tree.{Inner, InnerNet, InnerLeaf, Part, Net as BoundNet, Leaf, Tree as BoundTree}
 use Rattle.fnl_bind.specs.Library.{Entry, network_of, is_among, instance_id, instance_class, instance_at}
 use Rattle.fnl_bind.specs.Networks.{Place, Standing, StandsNet, StandsLeaf, StandsNot, standing, own_found, net_with}
 

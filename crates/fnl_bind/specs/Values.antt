@@ -16,7 +16,7 @@ use Rattle.cal_check.specs.Constants.{has_kind}
 use Rattle.cal_check.specs.Routines.{single_type}
 use Rattle.cal_check.specs.Variables.{Given}
 use Rattle.fnl_read.specs.Net.{Port, a_port, Parameter, a_parameter, Instance, Size, a_size, Connection, a_connection}
-use Rattle.fnl_bind.specs.Bound.{NetEnd, Wire}
+use Rattle.fnl_tree.specs.Tree.{Own as NetEnd, Wire}
 use Rattle.fnl_bind.specs.Library.{ports_of, instance_parameters}
 
 -- ---- ports

@@ -5,7 +5,6 @@
 #![tactic(auto)]
 
 mod laws;
-mod tree;
 
 pub use laws::bound_trees_are_sound;
-pub use tree::{Inner, Leaf, LeafValue, Net, NetEnd, Part, Tree, Wire};
+pub use fnl_tree::{Inner, Leaf, LeafValue, Net, NetEnd, Part, Tree, Wire};
