@@ -2,7 +2,8 @@
 use Rattle.std.proofs.Common.{◌≡◌, ℕ, zero, suc, Bool, true, false, List, [], ◌∷◌, ◌++◌, refl, subst}
 use Rattle.std.specs.Prelude.{Some, slice_get, if◌then◌else◌, ◌&&◌}
 use Rattle.rvc_base.specs.Rules.{no_ends}
-use Rattle.fnl_flatten.specs.Bound.{Wire, Net, Tree, Head}
+use Rattle.fnl_tree.specs.Tree.{Wire, Net, Tree}
+use Rattle.fnl_flatten.specs.Head.{Head}
 use Rattle.fnl_flatten.specs.Joints.{Joint, is_nameless, source, target}
 use Rattle.fnl_flatten.specs.Links.{Leads, Chain, last, more}
 use Rattle.fnl_flatten.specs.Rules.{found, is_direct, ends_broken, wire_broken, wires_broken, seconds_broken, net_broken, nets_broken, violations}
@@ -42,7 +43,7 @@ nets_fine tree heads m (x ∷ nets) (suc k) net at h =
     nets_fine tree heads (suc m) nets k net at (both_empty (net_broken tree heads m x) (nets_broken tree heads (suc m) nets) h).1
 
 -- a connection of a tree that breaks no rule names an instance
-none_direct : (tree : Tree) (heads : List Head) → violations tree heads ≡ [] → (k : ℕ) (net : Net) (p : ℕ) (w : Wire)
+pub none_direct : (tree : Tree) (heads : List Head) → violations tree heads ≡ [] → (k : ℕ) (net : Net) (p : ℕ) (w : Wire)
     → slice_get tree.nets k ≡ Some net → slice_get net.wires p ≡ Some w → is_direct w ≡ false
 none_direct tree heads h k net p w at_net at_wire =
     let found = nets_fine tree heads 0 tree.nets k net at_net h in

@@ -5,9 +5,10 @@ use Rattle.net_model.specs.declared.wiring.End.{End}
 use Rattle.net_model.specs.declared.wiring.End.TheVariants.{Leaf as AtLeaf, Net as AtNet}
 use Rattle.net_model.specs.declared.wiring.Link.{Link}
 use Rattle.net_model.specs.Wired.{IsBefore}
-use Rattle.fnl_flatten.specs.Bound.{Tree, Head}
+use Rattle.fnl_tree.specs.Tree.{Tree}
+use Rattle.fnl_flatten.specs.Head.{Head}
 use Rattle.fnl_flatten.specs.Links.{AreLinks}
-use Rattle.fnl_flatten.specs.Sound.{LinksAreOne, OneLinkLeads}
+use Rattle.fnl_flatten.specs.LinkLaws.{LinksAreOne, OneLinkLeads}
 use Rattle.fnl_flatten.proofs.Walks.{one_link}
 
 -- ---- the order

@@ -3,8 +3,9 @@ use Rattle.std.proofs.Common.{◌≡◌, ℕ, suc, ◌+◌, ◌<◌, Bool, true,
 use Rattle.std.specs.Prelude.{Option, None, Some, option_map, slice_get, if◌then◌else◌}
 use Rattle.std.specs.Str.{bytes_eq}
 use Rattle.std.proofs.lemmas.List.{length-map}
-use Rattle.fnl_flatten.specs.Bound.{Inner, InnerNet, InnerLeaf, Own, Wire, Net, Tree, HeadPort, Head}
-use Rattle.fnl_flatten.specs.Joints.{Joint, LeafPort, OwnPort, place_from, place_of, own_names, head_names, is_nameless, part_named, net_output, net_input, leaf_output, leaf_input, part_output, part_input, own_input, own_output, source, target}
+use Rattle.fnl_tree.specs.Tree.{Inner, InnerNet, InnerLeaf, Own, Wire, Net, Tree}
+use Rattle.fnl_flatten.specs.Head.{HeadPort, Head, head_names}
+use Rattle.fnl_flatten.specs.Joints.{Joint, LeafPort, OwnPort, place_from, place_of, own_names, is_nameless, part_named, net_output, net_input, leaf_output, leaf_input, part_output, part_input, own_input, own_output, source, target}
 
 -- ---- a place of a name is below their number
 

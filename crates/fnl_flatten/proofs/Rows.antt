@@ -7,7 +7,8 @@ use Rattle.rvc_base.specs.Rules as rules
 use Rattle.rvc_base.specs.declared.refusal.Rule.{Rule}
 use Rattle.net_model.specs.declared.wiring.End.TheVariants.{Leaf as AtLeaf}
 use Rattle.net_model.specs.declared.wiring.Link.{Link}
-use Rattle.fnl_flatten.specs.Bound.{InnerNet, InnerLeaf, Own, Wire, Net, Tree, HeadPort, Head}
+use Rattle.fnl_tree.specs.Tree.{InnerNet, InnerLeaf, Own, Wire, Net, Leaf, Tree}
+use Rattle.fnl_flatten.specs.Head.{HeadPort, Head}
 use Rattle.fnl_flatten.specs.Joints.{LeafPort, OwnPort}
 use Rattle.fnl_flatten.specs.Links.{Leads, last, more, IsLink}
 use Rattle.fnl_flatten.specs.Rules.{Found, violations}
@@ -23,6 +24,16 @@ port name kind largest = record { name = name; kind = kind; largest = largest }
 abbrev wire : List ℕ → List ℕ → List ℕ → List ℕ → ℕ → ℕ → Wire
 wire src src_port dst dst_port size at =
     record { src = src; src_port = src_port; dst = dst; dst_port = dst_port; size = size; at = at }
+
+-- an actor without parameters
+abbrev leaf : List ℕ → List ℕ → Leaf
+leaf path class = record {
+  path = path;
+  class = class;
+  class_at = record { file = 1; offset = 0 };
+  instance_at = record { file = 1; offset = 0 };
+  bindings = [];
+}
 
 -- an actor with a port In and a port Out
 abbrev head : Scalar → ℕ → Head
@@ -43,6 +54,7 @@ byte = scalar.Uint 8
 abbrev top : Net
 top = record {
   file = 1;
+  path = [];
   ins = own (codes "In") word ∷ [];
   outs = own (codes "Out") byte ∷ [];
   parts = record { id = codes "rl"; inner = InnerLeaf 0 } ∷ record { id = codes "blk"; inner = InnerNet 1 } ∷ [];
@@ -54,6 +66,7 @@ top = record {
 abbrev block : Net
 block = record {
   file = 2;
+  path = codes "blk";
   ins = own (codes "In") word ∷ [];
   outs = own (codes "Out") byte ∷ [];
   parts = record { id = codes "z"; inner = InnerLeaf 1 } ∷ record { id = codes "s"; inner = InnerLeaf 2 } ∷ [];
@@ -65,8 +78,8 @@ block = record {
 abbrev decoder : Tree
 decoder = record {
   nets = top ∷ block ∷ [];
-  paths = codes "rl" ∷ codes "blk/z" ∷ codes "blk/s" ∷ [];
-  classes = codes "dec.Rld" ∷ codes "dec.Zigzag" ∷ codes "dec.Sat" ∷ [];
+  leaves = leaf (codes "rl") (codes "dec.Rld") ∷ leaf (codes "blk/z") (codes "dec.Zigzag")
+      ∷ leaf (codes "blk/s") (codes "dec.Sat") ∷ [];
 }
 
 abbrev heads : List Head
@@ -152,13 +165,13 @@ abbrev alone : List Wire → Tree
 alone wires = record {
   nets = record {
     file = 1;
+    path = [];
     ins = own (codes "In") byte ∷ [];
     outs = own (codes "Out") byte ∷ [];
     parts = record { id = codes "a"; inner = InnerLeaf 0 } ∷ [];
     wires = wires;
   } ∷ [];
-  paths = codes "a" ∷ [];
-  classes = codes "A" ∷ [];
+  leaves = leaf (codes "a") (codes "A") ∷ [];
 }
 
 abbrev at_file : Rule → ℕ → Found

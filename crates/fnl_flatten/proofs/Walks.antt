@@ -5,12 +5,13 @@ use Rattle.std.proofs.Math.Nat.{le-max_left, le-max_right, max-le}
 use Rattle.net_model.specs.declared.wiring.End.{End}
 use Rattle.net_model.specs.declared.wiring.End.TheVariants.{Leaf as AtLeaf, Net as AtNet}
 use Rattle.net_model.specs.declared.wiring.Link.{Link}
-use Rattle.fnl_flatten.specs.Bound.{Net, Tree, Head}
+use Rattle.fnl_tree.specs.Tree.{Net, Tree}
+use Rattle.fnl_flatten.specs.Head.{Head}
 use Rattle.fnl_flatten.specs.Joints.{Joint, LeafPort, OwnPort, source, target, kind_of, rate_at}
 use Rattle.fnl_flatten.specs.Links.{Leads, Chain, last, more, writing_end, reading_end, capacity_for, IsLink}
 use Rattle.fnl_flatten.specs.Rules.{wires_broken, seconds_broken, net_broken, nets_broken, violations}
-use Rattle.fnl_flatten.specs.Sound.{IsSound}
-use Rattle.fnl_flatten.proofs.Writers.{leading, one_network, no_writer, one_wire}
+use Rattle.fnl_tree.specs.Sound.{IsSound}
+use Rattle.fnl_flatten.proofs.OneWriter.{leading, one_network, no_writer, one_wire}
 
 -- ---- one connection leads to a joint
 
@@ -42,7 +43,7 @@ none_second tree heads h n net at =
 some_same : {A : Type 0} (a b : A) (o : Option A) → o ≡ Some a → o ≡ Some b → a ≡ b
 some_same a b o one other = let both : Some a ≡ Some b = sym one ∙ other in cc
 
-one_before : (tree : Tree) (heads : List Head) → IsSound tree → violations tree heads ≡ [] → (i j k : Joint) (r s : ℕ)
+pub one_before : (tree : Tree) (heads : List Head) → IsSound tree → violations tree heads ≡ [] → (i j k : Joint) (r s : ℕ)
     → Leads tree heads i k r → Leads tree heads j k s → (i ≡ j) × (r ≡ s)
 one_before tree heads sound h i j k r s one other =
     let number : one.number ≡ other.number = one_network tree sound one.number other.number k
@@ -68,7 +69,7 @@ one_before tree heads sound h i j k r s one other =
 
 -- ---- chains by their last connection
 
-data Walk (tree : Tree) (heads : List Head) (j : Joint) : Joint → ℕ → Type 0 where
+pub data Walk (tree : Tree) (heads : List Head) (j : Joint) : Joint → ℕ → Type 0 where
   step : {k : Joint} {size : ℕ} → Leads tree heads j k size → Walk tree heads j k size
   then_on : {k l : Joint} {size rest : ℕ} → Walk tree heads j k size → Leads tree heads k l rest → Walk tree heads j l (max size rest)
 
@@ -94,7 +95,7 @@ begun_by leads (step next) = then_on (step leads) next
 begun_by {tree} {heads} {i} {j} {k} {s} leads (then_on {size} {rest} walk next) =
     subst (λ n. Walk tree heads i k n) (grouped s size rest) (then_on (begun_by leads walk) next)
 
-walk_of : {tree : Tree} {heads : List Head} {j k : Joint} {s : ℕ} → Chain tree heads j k s → Walk tree heads j k s
+pub walk_of : {tree : Tree} {heads : List Head} {j k : Joint} {s : ℕ} → Chain tree heads j k s → Walk tree heads j k s
 walk_of (last leads) = step leads
 walk_of (more leads chain) = begun_by leads (walk_of chain)
 
@@ -130,7 +131,7 @@ abbrev port_in : End → ℕ
 port_in (AtLeaf inst port) = port
 port_in (AtNet port) = port
 
-reads_one : (j k : Joint) (e : End) → reading_end j ≡ Some e → reading_end k ≡ Some e → j ≡ k
+pub reads_one : (j k : Joint) (e : End) → reading_end j ≡ Some e → reading_end k ≡ Some e → j ≡ k
 reads_one (LeafPort l true p) (LeafPort m true q) e one other =
     let same : AtLeaf (record { 0 = l }) p ≡ AtLeaf (record { 0 = m }) q = some_same (AtLeaf (record { 0 = l }) p) (AtLeaf (record { 0 = m }) q) (Some e) (sym one) (sym other) in
     ap (λ n. LeafPort n true p) (ap leaf_in same) ∙ ap (λ n. LeafPort m true n) (ap port_in same)

@@ -10,7 +10,8 @@ use Rattle.net_model.specs.declared.wiring.Link.{Link}
 use Rattle.net_model.specs.Limits.{max_rate}
 use Rattle.net_model.specs.Network.{Leaf, Network, is_outside, kind_at}
 use Rattle.net_model.specs.Wired.{IsWired, IsJoined, HasInput, HasOutput, ComesFromPort, LeadsToPort, HasKindOf, CoversNeeds, CoversGives, HoldsNeeds, HoldsGives}
-use Rattle.fnl_flatten.specs.Bound.{Own, Tree, Head}
+use Rattle.fnl_tree.specs.Tree.{Own, Tree}
+use Rattle.fnl_flatten.specs.Head.{Head}
 use Rattle.fnl_flatten.specs.Joints.{Joint, LeafPort, OwnPort, own_kind, net_kind, kind_of, leaf_rate, rate_at}
 use Rattle.fnl_flatten.specs.Links.{writing_end, reading_end, default_capacity, capacity_for, IsLink}
 use Rattle.fnl_flatten.specs.Flat.{port_of, HasHead, IsFlat}

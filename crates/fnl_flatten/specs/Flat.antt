@@ -5,7 +5,8 @@ use Rattle.rvc_base.specs.Behaviour.{Behaviour}
 use Rattle.net_model.specs.Limits.{max_instances, max_rate}
 use Rattle.net_model.specs.Network.{NetPort, Leaf, Network}
 use Rattle.net_model.specs.Wired.{IsWired}
-use Rattle.fnl_flatten.specs.Bound.{Own, Net, Tree, Head}
+use Rattle.fnl_tree.specs.Tree.{Own, Net, Tree, paths, classes}
+use Rattle.fnl_flatten.specs.Head.{Head}
 use Rattle.fnl_flatten.specs.Joints.{leaf_rate}
 use Rattle.fnl_flatten.specs.Links.{AreLinks}
 use Rattle.fnl_flatten.specs.Rules.{violations}
@@ -26,8 +27,8 @@ pub record HasHead {X : Type 0} (head : Head) (b : Behaviour X) : Type 0 where
 -- top's.
 pub record IsFlat {X : Type 0} (tree : Tree) (heads : List Head) (net : Network X) : Type 0 where
   pub conforms : violations tree heads ≡ []
-  pub paths : map (λ leaf. leaf.path) net.leaves ≡ tree.paths
-  pub classes : map (λ leaf. leaf.class) net.leaves ≡ tree.classes
+  pub paths : map (λ leaf. leaf.path) net.leaves ≡ paths tree
+  pub classes : map (λ leaf. leaf.class) net.leaves ≡ classes tree
   pub count : length net.leaves ≡ length heads
   pub few : length net.leaves ≤ max_instances
   pub behaviours : (l : ℕ) (leaf : Leaf X) (head : Head) → slice_get net.leaves l ≡ Some leaf

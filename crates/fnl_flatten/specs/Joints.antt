@@ -3,13 +3,10 @@
 use Rattle.std.specs.Prelude.{ℕ, suc, Bool, true, false, List, [], ◌∷◌, map, option_map, Option, None, Some, slice_get, if◌then◌else◌}
 use Rattle.std.specs.Str.{bytes_eq}
 use Rattle.rvc_base.specs.declared.scalar.Scalar.{Scalar}
-use Rattle.fnl_flatten.specs.Bound.{Inner, InnerNet, InnerLeaf, Part, Own, Wire, Net, Tree, HeadPort, Head}
-
--- A port of a leaf, or a network's own port: an input or an output, by its number. A network's port is one joint for
--- the connections inside it and for those outside.
-pub data Joint : Type 0 where
-  LeafPort : (leaf : ℕ) (input : Bool) (port : ℕ) → Joint
-  OwnPort : (net : ℕ) (input : Bool) (port : ℕ) → Joint
+pub use Rattle.fnl_flatten.specs.declared.joint.Joint.{Joint}
+pub use Rattle.fnl_flatten.specs.declared.joint.Joint.TheVariants.{Leaf as LeafPort, Own as OwnPort}
+use Rattle.fnl_tree.specs.Tree.{Inner, InnerNet, InnerLeaf, Part, Own, Wire, Net, Tree}
+use Rattle.fnl_flatten.specs.Head.{HeadPort, Head, head_names}
 
 -- ---- names
 
@@ -23,9 +20,6 @@ place_of name names = place_from 0 name names
 
 abbrev pub own_names : List Own → List (List ℕ)
 own_names ports = map (λ p. p.name) ports
-
-abbrev pub head_names : List HeadPort → List (List ℕ)
-head_names ports = map (λ p. p.name) ports
 
 abbrev pub is_nameless : List ℕ → Bool
 is_nameless [] = true

@@ -1,6 +1,14 @@
-pub mod Bound
+pub mod Head
+pub mod View
+pub mod Whole
+pub mod Named
+pub mod Arrows
+pub mod Origins
+pub mod Readers
+pub mod Flattened
+pub mod Seen
 pub mod Joints
 pub mod Links
 pub mod Rules
 pub mod Flat
-pub mod Sound
+pub mod LinkLaws

@@ -6,7 +6,8 @@ use Rattle.net_model.specs.declared.wiring.End.TheVariants.{Leaf as AtLeaf, Net 
 use Rattle.net_model.specs.declared.wiring.Link.{Link}
 use Rattle.net_model.specs.Limits.{max_links}
 use Rattle.net_model.specs.Wired.{IsBefore}
-use Rattle.fnl_flatten.specs.Bound.{Wire, Net, Tree, Head}
+use Rattle.fnl_tree.specs.Tree.{Wire, Net, Tree}
+use Rattle.fnl_flatten.specs.Head.{Head}
 use Rattle.fnl_flatten.specs.Joints.{Joint, LeafPort, OwnPort, source, target, kind_of, rate_at}
 
 -- a connection of some network leads from one joint to another, and asks for this size
@@ -71,7 +72,14 @@ capacities (link ∷ links) = link.capacity + capacities links
 abbrev pub max_capacity : ℕ
 max_capacity = 16777216
 
--- These are the links: exactly the pairs that a chain joins, in link order.
+-- These are exactly the pairs that a chain joins, in link order.
+pub record AreJoined (tree : Tree) (heads : List Head) (links : List Link) : Type 0 where
+  pub each : (l : ℕ) (link : Link) → slice_get links l ≡ Some link → IsLink tree heads link
+  pub all : (link : Link) → IsLink tree heads link → Contains links link
+  pub in_order : (l m : ℕ) (link other : Link) → l < m → slice_get links l ≡ Some link
+      → slice_get links m ≡ Some other → IsBefore link.to other.to
+
+-- These are the links: exactly the pairs that a chain joins, in link order, and within their limits.
 pub record AreLinks (tree : Tree) (heads : List Head) (links : List Link) : Type 0 where
   pub each : (l : ℕ) (link : Link) → slice_get links l ≡ Some link → IsLink tree heads link
   pub all : (link : Link) → IsLink tree heads link → Contains links link

@@ -5,7 +5,8 @@ use Rattle.rvc_base.specs.declared.refusal.Rule.{Rule}
 use Rattle.rvc_base.specs.declared.scalar.Scalar.{Scalar}
 use Rattle.rvc_base.specs.declared.scalar.Scalar.TheVariants as scalar
 use Rattle.rvc_base.specs.Rules.{no_ends, unknown_end, bool_meets_number, second_writer}
-use Rattle.fnl_flatten.specs.Bound.{Wire, Net, Tree, Head}
+use Rattle.fnl_tree.specs.Tree.{Wire, Net, Tree}
+use Rattle.fnl_flatten.specs.Head.{Head}
 use Rattle.fnl_flatten.specs.Joints.{Joint, LeafPort, OwnPort, is_nameless, source, target, kind_of}
 
 -- a rule that is broken, with the file and the offset at which it is

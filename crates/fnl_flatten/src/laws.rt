@@ -1,7 +1,8 @@
 //! What holds of flat networks.
 
 ghost use Rattle.fnl_flatten.specs.Flat.{FlatAreWired};
-ghost use Rattle.fnl_flatten.specs.Sound.{LinksAreOne, OneLinkLeads};
+ghost use Rattle.fnl_flatten.specs.Flattened.{AnswersAreFlat};
+ghost use Rattle.fnl_flatten.specs.LinkLaws.{LinksAreOne, OneLinkLeads};
 
 use net_model::Meaning;
 
@@ -9,6 +10,12 @@ use net_model::Meaning;
 /// network's own, it can hold what any action takes or gives at its ends, and links are in link order.
 pub fn flat_networks_are_wired<M: Meaning>()
     ensures { FlatAreWired M.State }
+{}
+
+/// A network that an answer of `flatten` stands for is the flat network of the tree: its actors have the ports that were
+/// told, its links are exactly those that chains of connections join, and it is wired.
+pub fn answers_are_flat_networks<M: Meaning>()
+    ensures { AnswersAreFlat M.State }
 {}
 
 /// Connected networks have one list of links, and one link leads to each port that is read: at most one connection

@@ -1,7 +1,9 @@
 -- Networks with their values, as they stand in each other: a tree whose leaves are actors (ISO/IEC 23001-4, FNL).
 -- Trusted: part of what a promise means.
-use Rattle.std.specs.Prelude.{ℕ, List}
+use Rattle.std.specs.Prelude.{ℕ, List, map}
+use Rattle.rvc_base.specs.declared.refusal.Place.{Place}
 use Rattle.rvc_base.specs.declared.scalar.Scalar.{Scalar}
+use Rattle.cal_model.specs.Value.{Value}
 
 -- what an instance is: a network, or an actor, by its number
 pub data Inner : Type 0 where
@@ -29,25 +31,35 @@ pub record Wire : Type 0 where
 
 pub record Net : Type 0 where
   pub file : ℕ
+  -- the instances that lead to it
+  pub path : List ℕ
   pub ins : List Own
   pub outs : List Own
   pub parts : List Part
   pub wires : List Wire
 
+-- the value of a parameter, and where it is given
+pub record Binding : Type 0 where
+  pub name : List ℕ
+  pub value : Value
+  pub place : Place
+
+-- an actor of the network
+pub record Leaf : Type 0 where
+  pub path : List ℕ
+  pub class : List ℕ
+  pub class_at : Place
+  pub instance_at : Place
+  pub bindings : List Binding
+
 -- the top network is the first
 pub record Tree : Type 0 where
   pub nets : List Net
-  -- the path and the class of each leaf
-  pub paths : List (List ℕ)
-  pub classes : List (List ℕ)
+  pub leaves : List Leaf
 
--- a port of an actor, and the most tokens that a firing takes or gives there
-pub record HeadPort : Type 0 where
-  pub name : List ℕ
-  pub kind : Scalar
-  pub largest : ℕ
+-- the path and the class of each leaf
+abbrev pub paths : Tree → List (List ℕ)
+paths tree = map (λ leaf. leaf.path) tree.leaves
 
--- the ports of the actor at a leaf
-pub record Head : Type 0 where
-  pub ins : List HeadPort
-  pub outs : List HeadPort
+abbrev pub classes : Tree → List (List ℕ)
+classes tree = map (λ leaf. leaf.class) tree.leaves

@@ -4,11 +4,12 @@ use Rattle.std.specs.Prelude.{Option, None, Some, option_map, slice_get, if◌th
 use Rattle.std.specs.Str.{bytes_eq}
 use Rattle.std.proofs.lemmas.Bool.{eq-eqb, cases_lt}
 use Rattle.net_model.specs.declared.wiring.End.{End}
-use Rattle.fnl_flatten.specs.Bound.{Inner, InnerNet, InnerLeaf, Part, Wire, Net, Tree, Head}
-use Rattle.fnl_flatten.specs.Joints.{Joint, LeafPort, OwnPort, place_of, own_names, head_names, is_nameless, part_named, net_input, leaf_input, part_input, own_output, target}
+use Rattle.fnl_tree.specs.Tree.{Inner, InnerNet, InnerLeaf, Part, Wire, Net, Tree}
+use Rattle.fnl_flatten.specs.Head.{Head, head_names}
+use Rattle.fnl_flatten.specs.Joints.{Joint, LeafPort, OwnPort, place_of, own_names, is_nameless, part_named, net_input, leaf_input, part_input, own_output, target}
 use Rattle.fnl_flatten.specs.Links.{Leads, writing_end}
 use Rattle.fnl_flatten.specs.Rules.{found, is_same, same_side, is_written, second_broken, with_target, seconds_broken}
-use Rattle.fnl_flatten.specs.Sound.{IsPart, IsSound}
+use Rattle.fnl_tree.specs.Sound.{IsPart, IsBehind, IsSound}
 use Rattle.fnl_flatten.proofs.Places.{IsInward}
 
 -- ---- what a joint tells of its owner
@@ -23,11 +24,11 @@ IsOwnOutput n (LeafPort l input p) = ⊥
 IsOwnOutput n (OwnPort m true p) = ⊥
 IsOwnOutput n (OwnPort m false p) = n ≡ m
 
-mapped : {A : Type 0} (P : A → Type 0) (f : ℕ → A) (o : Option ℕ) (j : A) → ((p : ℕ) → P (f p)) → option_map f o ≡ Some j → P j
+pub mapped : {A : Type 0} (P : A → Type 0) (f : ℕ → A) (o : Option ℕ) (j : A) → ((p : ℕ) → P (f p)) → option_map f o ≡ Some j → P j
 mapped P f None j each found = cc
 mapped P f (Some p) j each found = let same : f p ≡ j = cc in subst P same (each p)
 
-own_output_is : (n : ℕ) (net : Net) (name : List ℕ) (j : Joint) → own_output n net name ≡ Some j → IsOwnOutput n j
+pub own_output_is : (n : ℕ) (net : Net) (name : List ℕ) (j : Joint) → own_output n net name ≡ Some j → IsOwnOutput n j
 own_output_is n net name j found = mapped (IsOwnOutput n) (λ p. OwnPort n false p) (place_of name (own_names net.outs)) j (λ p. refl) found
 
 -- an instance's input tells which instance it is, and leads inwards
@@ -35,7 +36,7 @@ pub record IsInputOf (inner : Inner) (j : Joint) : Type 0 where
   pub same : inner ≡ inner_of j
   pub inward : IsInward j
 
-input_is : (tree : Tree) (heads : List Head) (inner : Inner) (name : List ℕ) (j : Joint)
+pub input_is : (tree : Tree) (heads : List Head) (inner : Inner) (name : List ℕ) (j : Joint)
     → part_input tree heads (Some inner) name ≡ Some j → IsInputOf inner j
 input_is tree heads (InnerNet m) name j found = go (slice_get tree.nets m) found
   where
@@ -49,7 +50,7 @@ input_is tree heads (InnerLeaf l) name j found = go (slice_get heads l) found
     go (Some head) h = mapped (IsInputOf (InnerLeaf l)) (λ p. LeafPort l true p) (place_of name (head_names head.ins)) j (λ p. record { same = refl; inward = tt }) h
 
 -- a name means a part
-named_part : (id : List ℕ) (parts : List Part) (inner : Inner) → part_named id parts ≡ Some inner
+pub named_part : (id : List ℕ) (parts : List Part) (inner : Inner) → part_named id parts ≡ Some inner
     → (k : ℕ) × (part : Part) × (slice_get parts k ≡ Some part) × (part.inner ≡ inner)
 named_part id [] inner found = cc
 named_part id (p ∷ parts) inner found = go (bytes_eq p.id id) (named_part id parts inner) found
@@ -63,7 +64,7 @@ named_part id (p ∷ parts) inner found = go (bytes_eq p.id id) (named_part id p
 -- where a connection leads: to its network's own output, or to an input of a part of it
 pub data Leading (tree : Tree) (n : ℕ) (j : Joint) : Type 0 where
   out : IsOwnOutput n j → Leading tree n j
-  into : (part : Part) → IsPart tree n part → IsInputOf part.inner j → Leading tree n j
+  into : (place : ℕ) (part : Part) → IsPart tree n place part → IsInputOf part.inner j → Leading tree n j
 
 into_part : (tree : Tree) (heads : List Head) (n : ℕ) (net : Net) (w : Wire) (j : Joint) (inner : Option Inner)
     → slice_get tree.nets n ≡ Some net → part_named w.dst net.parts ≡ inner
@@ -72,7 +73,7 @@ into_part tree heads n net w j None at named found = cc
 into_part tree heads n net w j (Some inner) at named found =
     let part = named_part w.dst net.parts inner named in
     let is = input_is tree heads inner w.dst_port j found in
-    into part.1 (record { net = net; place = part.0; is_net = at; is_part = part.2 })
+    into part.0 part.1 (record { net = net; is_net = at; is_part = part.2 })
     (record { same = part.3 ∙ is.same; inward = is.inward })
 
 pub leading : (tree : Tree) (heads : List Head) (n : ℕ) (net : Net) (w : Wire) (j : Joint)
@@ -96,19 +97,25 @@ own_once n m (OwnPort k false p) one other = one ∙ sym other
 -- two connections to one joint stand in one network
 pub one_network : (tree : Tree) → IsSound tree → (n m : ℕ) (j : Joint) → Leading tree n j → Leading tree m j → n ≡ m
 one_network tree sound n m j (out own) (out other) = own_once n m j own other
-one_network tree sound n m j (out own) (into part is input) = absurd (never_both n j own input.inward)
-one_network tree sound n m j (into part is input) (out own) = absurd (never_both m j own input.inward)
-one_network tree sound n m j (into part is input) (into that it other) =
-    sound.one_place n m part that is it (input.same ∙ sym other.same)
+one_network tree sound n m j (out own) (into place part is input) = absurd (never_both n j own input.inward)
+one_network tree sound n m j (into place part is input) (out own) = absurd (never_both m j own input.inward)
+one_network tree sound n m j (into place part is input) (into other_place that it other) =
+    (sound.once n m place other_place part that is it (input.same ∙ sym other.same)).0
 
 -- ---- writing ends
+
+-- the top stands in no network
+never_top : (tree : Tree) → IsSound tree → (n place : ℕ) (part : Part) → IsPart tree n place part → part.inner ≡ InnerNet 0 → ⊥
+never_top tree sound n place part it is =
+    let behind : IsBehind tree n (InnerNet 0) = subst (IsBehind tree n) is (sound.behind n place part it) in
+    absurd (omega (arith, behind.0))
 
 not_written : (tree : Tree) → IsSound tree → (n : ℕ) (j : Joint) (e : End) → writing_end j ≡ Some e → Leading tree n j → ⊥
 not_written tree sound n (LeafPort l true p) e is leads = cc
 not_written tree sound n (LeafPort l false p) e is (out own) = own
-not_written tree sound n (LeafPort l false p) e is (into part it input) = input.inward
+not_written tree sound n (LeafPort l false p) e is (into place part it input) = input.inward
 not_written tree sound n (OwnPort zero true p) e is (out own) = own
-not_written tree sound n (OwnPort zero true p) e is (into part it input) = sound.top_alone n part it input.same
+not_written tree sound n (OwnPort zero true p) e is (into place part it input) = never_top tree sound n place part it input.same
 not_written tree sound n (OwnPort zero false p) e is leads = cc
 not_written tree sound n (OwnPort (suc m) input p) e is leads = cc
 
@@ -127,7 +134,7 @@ side_same : (b : Bool) → same_side b b ≡ true
 side_same true = refl
 side_same false = refl
 
-is_same_itself : (j : Joint) → is_same j j ≡ true
+pub is_same_itself : (j : Joint) → is_same j j ≡ true
 is_same_itself (LeafPort l input p) = rw (eq-eqb l l refl, side_same input, eq-eqb p p refl)
 is_same_itself (OwnPort l input p) = rw (eq-eqb l l refl, side_same input, eq-eqb p p refl)
 

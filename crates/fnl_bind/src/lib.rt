@@ -1,0 +1,10 @@
+//! Binding: networks with their values, as they stand in each other, from a top network down.
+//!
+//! `specs/Trees.antt` says which rules networks break and what tree they make if they break none;
+//! `proofs/Rows.antt` has worked rows. No call answers it yet.
+#![tactic(auto)]
+
+mod laws;
+
+pub use laws::bound_trees_are_sound;
+pub use fnl_tree::{Inner, Leaf, LeafValue, Net, NetEnd, Part, Tree, Wire};

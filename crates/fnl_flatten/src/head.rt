@@ -1,0 +1,20 @@
+//! The ports of actors.
+
+use rvc_base::Scalar;
+
+/// The ports of the actor at a leaf.
+#[derive(Debug, Drop)]
+pub struct Head {
+    pub ins: Vec<HeadPort>,
+    pub outs: Vec<HeadPort>,
+}
+
+/// A port of an actor.
+#[derive(Debug, Drop)]
+pub struct HeadPort {
+    pub name: String,
+    /// The type of its tokens.
+    pub kind: Scalar,
+    /// The most tokens that a firing takes or gives there.
+    pub largest: u32,
+}

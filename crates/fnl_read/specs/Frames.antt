@@ -1,0 +1,54 @@
+-- What a reader of elements has at hand: of each element that is open, what was read of it.
+-- Trusted: part of what a promise means.
+use Rattle.std.specs.Prelude.{ℕ, List, [], Bool, Option, None}
+use Rattle.rvc_base.specs.declared.refusal.Rule.{Rule}
+use Rattle.cal_ast.specs.Tree.{Tree}
+use Rattle.cal_ast.specs.declared.expr.PrefixOp.{PrefixOp}
+use Rattle.cal_ast.specs.declared.expr.BinOp.{BinOp}
+use Rattle.fnl_read.specs.Net.{Net, Parameter, Size}
+
+-- the class of an instance, and the offset of its element
+pub data Class : Type 0 where
+  a_class : (name : List ℕ) (at : ℕ) → Class
+
+-- an operand that waits for what stands behind its operator
+pub data Pending : Type 0 where
+  pending : (left : Tree) (op : BinOp) → Pending
+
+pub data Frame : Type 0 where
+  -- before the network, or behind it
+  outside : Option Net → Frame
+  in_network : Net → Frame
+  in_port : (input : Bool) (name : List ℕ) (shape : Option Tree) (at : ℕ) → Frame
+  in_decl : (param : Bool) (name : List ℕ) (shape value : Option Tree) (at : ℕ) → Frame
+  in_instance : (id : List ℕ) (class : Option Class) (parameters : List Parameter) (at : ℕ) → Frame
+  in_parameter : (name : List ℕ) (value : Option Tree) (at : ℕ) → Frame
+  in_connection : (src src_port dst dst_port : List ℕ) (sizes : List Size) (at : ℕ) → Frame
+  -- an attribute `bufferSize` of a connection
+  in_size : (value : Option Tree) (at : ℕ) → Frame
+  in_type : (name : Tree) (args : List Tree) (at : ℕ) → Frame
+  -- an entry of a type: an expression, or a type
+  in_value : (name : Tree) (value : Option Tree) → Frame
+  in_shape : (name : Tree) (shape : Option Tree) → Frame
+  in_list : (items : List Tree) (at : ℕ) → Frame
+  in_unary : (op : Option PrefixOp) (operand : Option Tree) (at : ℕ) → Frame
+  -- a `BinOpSeq`: the operands that wait, the last first, and the one that no operator followed yet
+  in_sequence : (waiting : List Pending) (operand : Option Tree) (at : ℕ) → Frame
+  -- an element that has nothing inside
+  in_empty : Frame
+  -- an attribute that is passed over, or what stands in it
+  in_passed : Frame
+
+pub record State : Type 0 where
+  pub top : Frame
+  -- the elements round it, the innermost first
+  pub below : List Frame
+
+-- nothing was read
+abbrev pub fresh : State
+fresh = record { top = outside None; below = [] }
+
+-- it goes on, or a rule is broken at an offset
+pub data Next : Type 0 where
+  Going : State → Next
+  Fault : (rule : Rule) (at : ℕ) → Next

@@ -1,0 +1,14 @@
+pub mod Stack
+pub mod Net
+pub mod Frames
+pub mod Given
+pub mod Literals
+pub mod Operators
+pub mod Operations
+pub mod Allowed
+pub mod Opening
+pub mod Closing
+pub mod Elements
+pub mod Views
+pub mod Network
+pub mod Stepped

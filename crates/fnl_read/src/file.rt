@@ -1,0 +1,107 @@
+//! Reading a file.
+
+ghost use Rattle.std.specs.Prelude.{◌≡◌, ◌<◌, ◌^◌, ℕ, IfErr, IfOk, List, Option, length, option_map};
+ghost use Rattle.fnl_markup.specs.Markup.{Broken};
+ghost use Rattle.fnl_markup.specs.Stepped.{IsRefusal};
+ghost use Rattle.fnl_markup.specs.Tags.{plain_tags};
+ghost use Rattle.fnl_read.specs.Elements.{net_in, run};
+ghost use Rattle.fnl_read.specs.Frames.{Fault, Frame as Open, Going, fresh};
+ghost use Rattle.fnl_read.specs.Network.{Network, IsRightly, first_of, network};
+ghost use Rattle.fnl_read.specs.Stepped.{Stepped, at_end};
+ghost use Rattle.rvc_base.specs.declared.refusal.Front.TheVariants as fronts;
+ghost use Rattle.fnl_read.specs.Views.{frame_of, net_of, state_of};
+
+use crate::frame::Frame;
+use crate::net::NetFile;
+use crate::reader::Reader;
+use crate::stop::Stop;
+use fnl_markup::{Tag, read_markup};
+use rvc_base::{Front, Place, Refusal, Rule};
+use std::alloc::Global;
+
+/// The network that a text spells, which is the file of this number.
+///
+/// # Errors
+///
+/// `Refused` with the rule that the text breaks first, and its place; and `Memory`.
+pub fn read_network(alloc: Global, file: u32, text: &[u8]) -> Result<NetFile, Front>
+    requires { length text.now < 2 ^ 32 }
+    ensures read { IfOk result (λ net. network text.now ≡ Network (net_of net)) }
+    ensures refused { IfErr result (IsRightly file (network text.now)) }
+{
+    let Ok(markup) = read_markup(alloc, file, text) else {
+        return Err(Front::Memory);
+    };
+    let mut reader = Reader::new(alloc);
+    match read_tags(&mut reader, &markup.tags) {
+        Err(Stop::Memory) => Err(Front::Memory),
+        Err(Stop::Broken(rule, at)) => Err(first_of(file, rule, at, markup.broken)),
+        Ok(()) => finish(file, text.len(), reader.top, markup.broken),
+    }
+}
+
+/// Takes all tags of a text.
+fn read_tags(reader: &mut Reader, tags: &[Tag]) -> Result<(), Stop>
+    requires { state_of reader.old ≡ fresh }
+    ensures { Stepped (run (Going fresh) (plain_tags tags.now)) reader.new result }
+{
+    for tag in tags {
+        reader.step(tag)?;
+    }
+    Ok(())
+}
+
+/// Of a rule that the elements break, and one that the markup breaks, the one at the earlier place.
+fn first_of(file: u32, rule: Rule, at: u32, broken: Option<Refusal>) -> Front
+    ensures { (meant : Option Broken) (size : ℕ) → IsRefusal file meant broken
+        → IsRightly file (first_of (Fault rule at) meant size) result }
+{
+    match broken {
+        Some(other) => {
+            if at <= other.place.offset {
+                refused(file, rule, at)
+            } else {
+                Front::Refused(other)
+            }
+        }
+        None => refused(file, rule, at),
+    }
+}
+
+/// The network that was read, in a text of so many bytes, unless the markup breaks a rule.
+fn finish(file: u32, size: usize, top: Frame, broken: Option<Refusal>) -> Result<NetFile, Front>
+    requires { size < 2 ^ 32 }
+    ensures read { (meant : Option Broken) (below : List Open) → IsRefusal file meant broken
+        → IfOk result (λ net. at_end top below meant size ≡ Network (net_of net)) }
+    ensures refused { (meant : Option Broken) (below : List Open) → IsRefusal file meant broken
+        → IfErr result (IsRightly file (at_end top below meant size)) }
+{
+    if let Some(refusal) = broken {
+        return Err(Front::Refused(refusal));
+    }
+    match net_in(top) {
+        Some(net) => Ok(net),
+        None => Err(refused(file, Rule::SPELLS_NO_NETWORK, size as u32)),
+    }
+}
+
+/// The network that was read, if it ended.
+fn net_in(frame: Frame) -> Option<NetFile>
+    ensures { option_map net_of result ≡ net_in (frame_of frame) }
+{
+    match frame {
+        Frame::Outside(net) => net,
+        _ => None,
+    }
+}
+
+/// A rule that is broken in a file, at an offset.
+fn refused(file: u32, rule: Rule, offset: u32) -> Front
+    ensures { result ≡ fronts.Refused
+        (record { rule = rule; place = record { file = file; offset = offset } }) }
+{
+    Front::Refused(Refusal {
+        rule,
+        place: Place { file, offset },
+    })
+}

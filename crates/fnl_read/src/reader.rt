@@ -1,0 +1,143 @@
+//! A reader of elements, which takes one tag at a time.
+
+ghost use Rattle.std.specs.Prelude.{◌≡◌};
+ghost use Rattle.fnl_markup.specs.Tags.{plain};
+ghost use Rattle.fnl_read.specs.Elements.{step};
+ghost use Rattle.fnl_read.specs.Frames.{fresh};
+ghost use Rattle.fnl_read.specs.Opening as meant;
+ghost use Rattle.fnl_read.specs.Stepped.{Opens, Stepped};
+ghost use Rattle.fnl_read.specs.Views.{frame_of, state_of};
+ghost use Rattle.fnl_read.specs.declared.frame.Frame.TheVariants as frames;
+
+use crate::allowed::allows;
+use crate::element::{Element, element_named};
+use crate::frame::Frame;
+use crate::stop::{Stop, too_deep, unknown};
+use fnl_markup::{Attribute, Tag};
+use rvc_base::Rule;
+use std::alloc::Global;
+use std::mem;
+
+/// The most elements that are open at a place.
+const MAX_DEPTH: usize = 64;
+
+/// What a reader has at hand between two tags.
+#[derive(Drop)]
+pub(crate) struct Reader {
+    pub(crate) alloc: Global,
+    /// The innermost element that is open.
+    pub(crate) top: Frame,
+    /// The elements round it, the innermost last.
+    pub(crate) below: Vec<Frame>,
+}
+
+impl Reader {
+    /// A reader that has read nothing.
+    pub(crate) fn new(alloc: Global) -> Reader
+        ensures { state_of result ≡ fresh }
+    {
+        Reader {
+            alloc,
+            top: Frame::Outside(None),
+            below: Vec::new(alloc),
+        }
+    }
+
+    /// Takes the next tag.
+    pub(crate) fn step(&mut self, tag: &Tag) -> Result<(), Stop>
+        ensures { Stepped (step (plain tag.now) (state_of self.old)) self.new result }
+    {
+        match tag {
+            Tag::Opens {
+                name,
+                attributes,
+                at,
+            } => self.open(name, attributes, *at),
+            Tag::Closes { at } => self.close(*at),
+        }
+    }
+
+    /// An element begins.
+    fn open(&mut self, name: &[u8], attributes: &[Attribute], at: u32) -> Result<(), Stop>
+        ensures { Opens (meant.opened name.now) attributes.now at self.old self.new result }
+    {
+        if self.is_passing() {
+            return self.enter(Frame::Passed, None, at);
+        }
+        let Some(e) = element_named(name) else {
+            return Err(unknown(at));
+        };
+        if !allows(&self.top, e) {
+            return Err(unknown(at));
+        }
+        self.open_element(e, attributes, at)
+    }
+
+    fn is_passing(&self) -> bool
+        ensures { result ≡ meant.is_passed (frame_of self.now.top) }
+    {
+        match &self.top {
+            Frame::Passed => true,
+            _ => false,
+        }
+    }
+
+    /// An element begins that is allowed.
+    fn open_element(&mut self, e: Element, attributes: &[Attribute], at: u32) -> Result<(), Stop>
+        ensures { Opens (meant.open_element e) attributes.now at self.old self.new result }
+    {
+        match e {
+            Element::Xdf => self.open_network(attributes, at),
+            Element::Port => self.open_port(attributes, at),
+            Element::Decl => self.open_decl(attributes, at),
+            Element::Instance => self.open_instance(attributes, at),
+            Element::Class => self.open_class(attributes, at),
+            Element::Parameter => self.open_parameter(attributes, at),
+            Element::Connection => self.open_connection(attributes, at),
+            Element::Attribute => self.open_attribute(attributes, at),
+            Element::Type => self.open_type(attributes, at),
+            Element::Entry => self.open_entry(attributes, at),
+            Element::Expr => self.open_expr(attributes, at),
+            Element::Op => self.open_op(attributes, at),
+        }
+    }
+
+    /// One element more is open, in which a name may be too long, at a place.
+    #[tactic(auto, using(crate::proofs::Stacks::stack_push, crate::proofs::Stacks::stack_size))]
+    pub(crate) fn enter(&mut self, frame: Frame, long: Option<u32>, at: u32) -> Result<(), Stop>
+        ensures { Stepped (meant.enter (frame_of frame) long at (state_of self.old))
+            self.new result }
+    {
+        if self.below.len() >= MAX_DEPTH {
+            return Err(too_deep(at));
+        }
+        if let Some(place) = long {
+            return Err(Stop::Broken(Rule::NAME_TOO_LONG, place));
+        }
+        let round = mem::replace(&mut self.top, frame);
+        self.below.push(round)?;
+        Ok(())
+    }
+
+    /// An element that has nothing inside, with what becomes of the element round it.
+    pub(crate) fn enter_empty(
+        &mut self,
+        round: Frame,
+        long: Option<u32>,
+        at: u32,
+    ) -> Result<(), Stop>
+        ensures { Stepped (meant.enter_empty (frame_of round) long at (state_of self.old))
+            self.new result }
+    {
+        self.top = round;
+        self.enter(Frame::Empty, long, at)
+    }
+
+    /// The innermost element, which is taken away.
+    pub(crate) fn take_top(&mut self) -> Frame
+        ensures taken { result ≡ self.old.top }
+        ensures left { self.new ≡ record self.old { top = frames.Empty } }
+    {
+        mem::replace(&mut self.top, Frame::Empty)
+    }
+}
