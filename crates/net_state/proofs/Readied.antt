@@ -81,6 +81,10 @@ module _ {X : Type 0} (net : Network X) (cells : List (Cell X)) (is : IsNetOf ne
     few_given = λ i cell at a p.
         let leaf = leaf_of net cells net.links is i cell at in
         subst (λ b. b.give a p ≤ max_rate) leaf.is (ready.wired.few_given i leaf.leaf leaf.at a p);
+    few_cells =
+        let count : length net.leaves ≡ length cells =
+        sym (length-map net.leaves (λ leaf. leaf.behaviour)) ∙ (ap (λ bs. length bs) is.actors ∙ length-map cells (λ cell. cell.actor)) in
+        omega (arith, count, ready.wired.few_leaves);
     few_links = ready.wired.few_links;
     all_out = λ i cell at. (ready.fresh i cell at).nothing_out;
     unlinked = unlinked;
