@@ -1,5 +1,5 @@
 -- Cells that are ready to be run can work.
-use Rattle.std.proofs.Common.{◌≡◌, ℕ, ◌<◌, ◌≤◌, List, length, map, refl, sym, ap, subst, ◌∙◌, ⊎_elim, arith}
+use Rattle.std.proofs.Common.{◌≡◌, ℕ, ◌<◌, ◌≤◌, List, length, refl, sym, ap, subst, ◌∙◌, ⊎_elim, arith}
 use Rattle.std.specs.Prelude.{Option, None, Some, slice_get}
 use Rattle.std.proofs.lemmas.List.{length-map}
 use Rattle.net_model.specs.declared.wiring.End.{End}
@@ -8,7 +8,7 @@ use Rattle.net_model.specs.declared.wiring.Link.{Link}
 use Rattle.net_model.specs.Network.{Leaf, Network}
 use Rattle.net_model.specs.Cell.{Cell}
 use Rattle.net_model.specs.Limits.{max_rate}
-use Rattle.net_model.specs.Ready.{IsReady, OnCell}
+use Rattle.net_model.specs.Ready.{IsReady}
 use Rattle.net_model.specs.Wired.{ComesFromPort, HasInput, HasOutput, IsBefore, LeadsToPort}
 use Rattle.rvc_base.specs.Lawful.{IsLawful}
 use Rattle.net_model.specs.Laws.{AreLawful}

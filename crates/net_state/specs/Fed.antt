@@ -1,6 +1,6 @@
 -- What filling did, by what the code holds: the cells, the reader of tokens, and the feeds.
 -- Trusted: part of what a promise means.
-use Rattle.std.specs.Prelude.{◌≡◌, ℕ, List, map, slice_get, Result, IfOk}
+use Rattle.std.specs.Prelude.{◌≡◌, ℕ, List, map, Result, IfOk}
 use Rattle.rvc_base.specs.declared.scalar.Scalar.{Scalar}
 use Rattle.rvc_io.specs.Feeds.{Inputs}
 use Rattle.net_model.specs.declared.wiring.Link.{Link}

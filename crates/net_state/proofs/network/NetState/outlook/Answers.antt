@@ -1,10 +1,5 @@
-use Rattle.std.proofs.Common.{◌≡◌, ℕ, arith, ap, sym, subst, length, map}
-use Rattle.std.specs.Prelude.{slice_get, None}
+use Rattle.std.proofs.Common.{◌≡◌, arith, length, map}
 use Rattle.std.proofs.lemmas.List.{length-map}
-use Rattle.net_model.specs.Network.{Network}
-use Rattle.net_state.specs.Held.{seen}
-use Rattle.net_state.specs.Surveyed.{LacksFirst, Told}
-use Rattle.net_state.specs.declared.outlook.Survey.TheVariants as survey
 use Rattle.net_state.proofs.Surveying.{leaf_beyond, quiet_here, stalls_here}
 use Rattle.net_state.proofs.network.NetState.outlook.Goals as goal
 

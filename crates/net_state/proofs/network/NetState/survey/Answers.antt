@@ -1,4 +1,4 @@
-use Rattle.std.proofs.Common.{◌≡◌, ◌<◌, ◌+◌, ◌≤◌, ℕ, arith, ap, sym, subst, refl, ◌∙◌, length, map}
+use Rattle.std.proofs.Common.{◌≡◌, ◌<◌, ◌+◌, arith, ap, sym, subst, length, map}
 use Rattle.std.proofs.lemmas.List.{length-map}
 use Rattle.net_state.specs.Held.{seen}
 use Rattle.net_state.specs.Surveyed.{AreSettled, Tells}

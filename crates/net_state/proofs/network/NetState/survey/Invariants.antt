@@ -1,6 +1,4 @@
-use Rattle.std.specs.Prelude.{◌≡◌, map, length}
 use Rattle.net_state.specs.Held.{seen}
-use Rattle.net_state.specs.Working.{IsAtRest}
 use Rattle.net_state.proofs.Surveying.{IsSurvey}
 use Rattle.net_state.proofs.network.NetState.survey.Given as goal
 
