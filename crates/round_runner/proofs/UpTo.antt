@@ -1,5 +1,5 @@
 -- How far the bursts of a round were made.
-use Rattle.std.proofs.Common.{◌≡◌, ◌≢◌, ℕ, zero, suc, ◌+◌, ◌-◌, ◌*◌, ◌<◌, ◌≤◌, Bool, true, false, List, [], ◌∷◌, ◌++◌, length, map, take, drop, min, sum, refl, sym, ap, subst, ◌∙◌, ⊎_elim, inl, inr, arith, append_assoc, append-nil, length-append}
+use Rattle.std.proofs.Common.{◌≡◌, ℕ, zero, suc, ◌+◌, ◌-◌, ◌*◌, ◌<◌, ◌≤◌, Bool, true, false, List, [], ◌∷◌, ◌++◌, length, map, take, drop, min, sum, refl, sym, ap, subst, ◌∙◌, ⊎_elim, arith, append_assoc, append-nil, length-append}
 use Rattle.std.specs.Prelude.{Option, None, Some, nat_le, slice_get, slice_index_or, if◌then◌else◌}
 use Rattle.std.specs.List.{range_with_len}
 use Rattle.std.proofs.lemmas.Bool.{cases_eq, cases_lt, leb-true, le-leb}
@@ -15,16 +15,15 @@ use Rattle.net_model.specs.Network.{Network}
 use Rattle.net_model.specs.State.{State}
 use Rattle.net_model.specs.Cell.{Cell, IsSameActor}
 use Rattle.net_model.specs.Paced.{AreBursts, Halt, IsBurst, Share, Spent, Waiting, NoRoom, Trapping, Unpicked, count_of, count_picked, first_trap, limit_of}
-use Rattle.net_model.specs.Ready.{OnCell}
 use Rattle.net_state.specs.Held.{Held}
 use Rattle.net_state.specs.Moving.{SameActors}
 use Rattle.net_state.specs.Standing.{StandsSince}
 use Rattle.net_state.specs.Working.{GoesOn, MayBurst, WorksAt, halt_of, journal_of}
 use Rattle.net_state.proofs.Coming.{on_some}
-use Rattle.net_state.proofs.Gaining.{same_actor, some_is, there_too}
+use Rattle.net_state.proofs.Gaining.{same_actor, some_is}
 use Rattle.net_state.proofs.Kept.{same_then}
 use Rattle.round_runner.specs.declared.bursting.Trapped.{Trapped}
-use Rattle.round_runner.specs.Bursting.{AreFresh, Bursted, Fires, IsFresh, first_of, trap_line, trapped_by}
+use Rattle.round_runner.specs.Bursting.{AreFresh, Bursted, first_of, trap_line, trapped_by}
 
 -- Lists by place.
 

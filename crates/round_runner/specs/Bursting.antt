@@ -2,8 +2,6 @@
 -- Trusted: part of what a promise means.
 use Rattle.std.specs.Prelude.{◌≡◌, ℕ, ◌≤◌, false, List, [], length, slice_get, slice_index_or, Bool, Option, None, Some}
 use Rattle.rvc_base.specs.declared.ids.InstId.{InstId}
-use Rattle.rvc_base.specs.declared.ids.ActId.{ActId}
-use Rattle.rvc_base.specs.declared.trap.Trap.{Trap as TrapName}
 use Rattle.trace_text.specs.declared.line.Line.{Line}
 use Rattle.trace_text.specs.declared.line.Line.TheVariants.{Trap as TrapLine}
 use Rattle.net_model.specs.declared.firing.BurstEnd.{BurstEnd}
@@ -11,11 +9,12 @@ use Rattle.net_model.specs.declared.firing.BurstEnd.TheVariants as burst
 use Rattle.net_model.specs.Network.{Network}
 use Rattle.net_model.specs.State.{State}
 use Rattle.net_model.specs.Cell.{Cell}
-use Rattle.net_model.specs.Paced.{AreBursts, Halt, Share, count_of, first_trap}
-use Rattle.net_state.specs.Held.{Held}
+use Rattle.net_model.specs.Paced.{AreBursts, Halt, Share, count_of, count_picked, first_trap}
+use Rattle.net_state.specs.Held.{Held, seen}
 use Rattle.net_state.specs.Moving.{SameActors}
 use Rattle.net_state.specs.Standing.{StandsSince}
 use Rattle.net_state.specs.Working.{journal_of}
+use Rattle.round_runner.specs.declared.bursting.Bursts.{Bursts}
 use Rattle.round_runner.specs.declared.bursting.Trapped.{Trapped}
 
 -- the line of a trap, if a cell trapped
@@ -64,3 +63,14 @@ pub record Bursted {X : Type 0} (share : Share) (marks : List Bool) (fired : ℕ
   pub states : (net : Network X) (opened : State X) → StandsSince net old opened opened
       → Fires net share marks opened bursts halts new
   pub same_actors : SameActors old.cells new.cells
+
+-- the share of each picked leaf, by the marks
+abbrev pub shares : ℕ → ℕ → List Bool → Share
+shares burst left marks =
+    record { burst = burst; left = left; picks = count_picked marks }
+
+-- the same as it is answered
+abbrev pub BurstedBy : {C X : Type 0} → (C → Cell X) → ℕ → ℕ → List Bool → Bursts → Held C → Held C
+    → Type 0
+BurstedBy cell burst left marks made old new = Bursted (shares burst left marks) marks made.fired
+    made.trap (seen cell old) (seen cell new)

@@ -1,9 +1,7 @@
 //! The bursts of a round.
 
 ghost use Rattle.std.specs.Prelude.{◌≡◌, ◌≤◌, ◌<◌, ◌+◌, ◌^◌, length, map};
-ghost use Rattle.net_model.specs.Paced.{count_picked};
-ghost use Rattle.net_state.specs.Held.{seen};
-ghost use Rattle.round_runner.specs.Bursting.{AreFresh, Bursted, first_of, trapped_by};
+ghost use Rattle.round_runner.specs.Bursting.{AreFresh, BurstedBy, first_of, trapped_by};
 
 use crate::choosing::count_marks;
 use crate::limits::limit_for;
@@ -35,8 +33,7 @@ pub fn burst_each<A: Firing>(net: &mut NetState<A>, marks: &[bool], burst: u32, 
     requires as_many { length marks.now ≡ length net.old.cells }
     requires few { length marks.now ≤ 1024 }
     requires fresh { AreFresh burst (map A.cell net.old.cells) }
-    ensures bursted { Bursted (record { burst = burst; left = left; picks = count_picked marks.now })
-        marks.now result.fired result.trap (seen A.cell net.old) (seen A.cell net.new) }
+    ensures bursted { BurstedBy A.cell burst left marks.now result net.old net.new }
     ensures within { result.fired ≤ left }
     ensures links { net.new.links ≡ net.old.links }
     ensures capacities { net.new.capacities ≡ net.old.capacities }

@@ -1,5 +1,4 @@
-use Rattle.std.proofs.Common.{suc, ◌≡◌, ◌<◌, ◌+◌, ◌≤◌, Bool, true, false, ℕ, length, take, ap, sym, subst, ◌∙◌, arith}
-use Rattle.std.specs.Prelude.{slice_get, slice_index_or, Some}
+use Rattle.std.proofs.Common.{suc, ◌≡◌, ◌<◌, ◌+◌, ◌≤◌, true, false, length, take, ap, sym, ◌∙◌, arith}
 use Rattle.net_model.specs.Paced.{count_picked}
 use Rattle.round_runner.proofs.Marks.{few_marked, take_all}
 use Rattle.round_runner.proofs.UpTo.{at_mark, picked_among, picked_before, picked_more, picked_same}

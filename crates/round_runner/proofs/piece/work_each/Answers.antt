@@ -1,5 +1,5 @@
-use Rattle.std.proofs.Common.{◌≡◌, ◌<◌, ◌+◌, ◌≤◌, true, false, ℕ, length, sym, subst, arith}
-use Rattle.std.specs.Prelude.{slice_get, slice_index_or, Some}
+use Rattle.std.proofs.Common.{◌<◌, ◌+◌, true, false, length, sym, subst, arith}
+use Rattle.std.specs.Prelude.{slice_index_or}
 use Rattle.std.proofs.lemmas.Option.{slice_get-get_or}
 use Rattle.round_runner.proofs.Stepping.{IsStepUpTo, step_all, step_none, step_other, step_worked, unmarked_here}
 use Rattle.round_runner.proofs.UpTo.{at_mark}
