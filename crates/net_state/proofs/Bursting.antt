@@ -28,7 +28,7 @@ use Rattle.net_model.proofs.Arriving.{set_twice}
 use Rattle.net_state.specs.Moving.{IsWriter, SameActors, SameMarks, sent_from, sent_of}
 use Rattle.net_state.specs.Held.{HasRooms, IsLeft, IsReader, IsWorking, held_of}
 use Rattle.net_state.specs.Standing.{IsNetOf, IsOpened, LiesIn, Stands, StandsIn, StandsSince}
-use Rattle.net_state.specs.Working.{AreFed, BurstsAt, GoesOn, HasAction, IsAtRest, LookedAt, LooksAt, LooksFed, LooksIn, NamesAction, TriedAt, TriesAt, TriesIn, WorksAt, halt_of, journal_of, traps, tried_traps}
+use Rattle.net_state.specs.Working.{AreFed, BurstsAt, DoesSome, EndsSeeHalt, GoesOn, HasAction, IsAtRest, LookedAt, LooksAt, LooksFed, LooksIn, NamesAction, NamesLacking, TriedAt, TriesAt, TriesIn, WorksAt, halt_of, journal_of, traps, tried_traps}
 use Rattle.net_state.proofs.Gaining.{actor_then, some_is, there_too, get_set_same, get_set_other, same_actor}
 use Rattle.net_state.proofs.Coming.{is_own_port, is_that_port, on_cell, on_some}
 use Rattle.net_state.proofs.Kept.{moved_rooms, same_few, same_inbox, same_outbox, same_read, same_reader, same_writer}
@@ -127,6 +127,7 @@ module _ {X : Type 0} (cells : List (Cell X)) (i : ℕ) (cell new : Cell X) (at 
       read = same_read cells (slice_set cells i new) (same_set same) links working.read;
       few_given = same_few cells (slice_set cells i new) (same_set same) working.few_given;
       few_held = working.few_held;
+      few_cells = omega (arith, (same_set same).count, working.few_cells);
       few_links = working.few_links;
     }
 
@@ -385,6 +386,14 @@ calm_rests cells links capacities waited working i cell new at calm rest = recor
       ∙ sym (waits_set cells i cell new at (λ m n. m ≡ n) (λ p low. ap (λ ts. length ts) (calm.inboxes p low)) (λ n. refl) link.to (working.fits l link there).reader);
 }
 
+-- an action that selection gives is one of the actor's
+picked_low : {X : Type 0} (cell : Cell X) → IsLawful cell.actor → (a : ℕ) → cell_choice cell ≡ Picks a → a < cell.actor.actions
+picked_low cell lawful a picks = ⊎_elim (λ low. low)
+    (λ high.
+    let none : cell_effect cell a ≡ None = lawful.no_effect_beyond cell.state cell.inboxes a (omega (arith, high)) in
+    absurd (⊎_elim (λ fires. some_none (sym fires.2 ∙ none)) (λ body. some_none (sym body.1 ∙ none)) (lawful.picks cell.state cell.inboxes a picks)))
+    (cases_lt a cell.actor.actions)
+
 module _ {X : Type 0} (cells : List (Cell X)) (links : List Link) (capacities waited : List ℕ) (working : IsWorking cells links capacities waited) (table : List (List ℕ))
     (rooms : HasRooms cells links capacities waited table) (i : ℕ) (row : List ℕ) (row_at : slice_get table i ≡ Some row) where
   pub row_is : (cell : Cell X) → slice_get cells i ≡ Some cell → IsRow links capacities waited i cell.actor.outs row
@@ -476,34 +485,21 @@ module _ {X : Type 0} (cells : List (Cell X)) (links : List Link) (capacities wa
         };
       }
 
-    pub burst_works : WorksAt i limit end (held_of cells links capacities waited) (held_of new links capacities waited)
-    burst_works = record {
-      actions = b.bursts.actions;
-      few = b.bursts.few;
-      noted = ap (λ o. journal_of o) at_new ∙ (calm_here.journal ∙ (ran_here.noted ∙ ap (λ js. js ++ b.bursts.actions) (sym (ap (λ o. journal_of o) b.at))));
-      states = burst_goes;
-      elsewhere = λ k differ. ap (λ cs. slice_get cs k) b.is ∙ get_set_other cells k i b.after differ;
-      marked = on_some (slice_get new i) (λ cell. cell.trapped ≡ traps end) b.after at_new (marked_end row limit (length b.bursts.actions) b.bursts.last end b.after b.bursts.ends free_last);
-      rests = λ none rest.
-          let still : b.before ≡ b.bursts.last = subst (λ names. FireInTurn row b.before names b.bursts.last) none b.bursts.fired in
-          subst (λ cs. IsAtRest (held_of cs links capacities waited)) (sym b.is)
-          (calm_rests cells links capacities waited working i b.before b.after b.at (subst (λ c. Calm c b.after) (sym still) calm_here) rest);
-    }
-
   -- One look, and one action that is tried.
 
   -- a cell whose tokens stay, among the others
   module _ (cell new : Cell X) (at : slice_get cells i ≡ Some cell) (calm : Calm cell new) where
+    pub calm_now : (net : Network X) (s : State X) → StandsIn net (held_of cells links capacities waited) s
+        → StandsIn net (held_of (slice_set cells i new) links capacities waited) s
+    calm_now net s that = record {
+      is_of = record { actors = that.is_of.actors ∙ sym (actors_set cells i cell new at calm.actor.same_actor); links_are = that.is_of.links_are };
+      stands = calm_stands cells i cell new at net links capacities s calm.actor calm.inboxes calm.outboxes calm.states
+          (λ l link there. (working.fits l link (sym (ap (λ ls. slice_get ls l) that.is_of.links_are) ∙ there)).writer) that.stands;
+    }
+
     pub calm_since : (net : Network X) (opened s : State X) → StandsSince net (held_of cells links capacities waited) opened s
         → StandsSince net (held_of (slice_set cells i new) links capacities waited) opened s
-    calm_since net opened s that = record {
-      now = record {
-        is_of = record { actors = that.now.is_of.actors ∙ sym (actors_set cells i cell new at calm.actor.same_actor); links_are = that.now.is_of.links_are };
-        stands = calm_stands cells i cell new at net links capacities s calm.actor calm.inboxes calm.outboxes calm.states
-            (λ l link there. (working.fits l link (sym (ap (λ ls. slice_get ls l) that.now.is_of.links_are) ∙ there)).writer) that.now.stands;
-      };
-      since = that.since;
-    }
+    calm_since net opened s that = record { now = calm_now net s that.now; since = that.since }
 
   module _ (result : Look) (new : List (Cell X)) (b : LookedAt i row cells result new) (free : b.before.trapped ≡ false) where
     look_calm : Calm b.before b.after
@@ -545,16 +541,26 @@ module _ {X : Type 0} (cells : List (Cell X)) (links : List Link) (capacities wa
       fed_now : choice_at net (all_fed net s) i ≡ cell_choice b.before
       fed_now = choice_fed net cells links capacities waited s that.is_of that.stands working rest wired fed i b.before b.at free b.lawful
 
+      does_some : (a : ℕ) → (cell_effect b.before a ≡ None → ⊥) → DoesSome net (all_fed net s) i a
+      does_some a some none = some (sym (effect_fed net cells links capacities waited s that.is_of that.stands working rest wired fed i b.before b.at free b.lawful a) ∙ none)
+
       fed_by : (o : Look) → Looks row b.before o → LooksFed net s i o
       fed_by look.Waits looks = (
         fed_now ∙ looks,
         λ a. effect_fed net cells links capacities waited s that.is_of that.stands working rest wired fed i b.before b.at free b.lawful a ∙ b.lawful.waits b.before.state b.before.inboxes looks a,
       )
-      fed_by (look.Ready action) looks =
-          (fed_now ∙ looks.0, none_lacks net cells links capacities waited s that.is_of that.stands working rest i b.before b.at row (row_is b.before b.at) action.0 looks.1)
+      fed_by (look.Ready action) looks = (
+        fed_now ∙ looks.0,
+        none_lacks net cells links capacities waited s that.is_of that.stands working rest i b.before b.at row (row_is b.before b.at) action.0 looks.1,
+        does_some action.0 (λ none. ⊎_elim (λ fires. some_none (sym fires.2 ∙ none)) (λ body. some_none (sym body.1 ∙ none))
+            (b.lawful.picks b.before.state b.before.inboxes action.0 looks.0)),
+      )
       fed_by (look.NoRoom action port) looks =
           (fed_now ∙ looks.0, lacks_link net cells links capacities waited s that.is_of that.stands working rest i b.before b.at row (row_is b.before b.at) action.0 port looks.1)
-      fed_by (look.GuardTrap action cause) looks = fed_now ∙ looks
+      fed_by (look.GuardTrap action cause) looks = (
+        fed_now ∙ looks,
+        does_some action.0 (λ none. some_none (sym (b.lawful.faults b.before.state b.before.inboxes action.0 cause looks) ∙ none)),
+      )
 
     action_there : (a : ℕ) → (cell_effect b.before a ≡ None → ⊥) → HasAction cells i a
     action_there a some = on_some (slice_get cells i) (λ cell. a < cell.actor.actions) b.before b.at
@@ -577,11 +583,59 @@ module _ {X : Type 0} (cells : List (Cell X)) (links : List Link) (capacities wa
         looks_by net opened s that result b.looks,
         subst (λ cs. StandsSince net (held_of cs links capacities waited) opened s) (sym b.is) (calm_since b.before b.after b.at look_calm net opened s that),
       );
+      stays = λ net s that. subst (λ cs. StandsIn net (held_of cs links capacities waited) s) (sym b.is) (calm_now b.before b.after b.at look_calm net s that);
       ends = λ rest net s that wired fed. (settled net cells links capacities waited s that.is_of that.stands working rest, fed_by rest net s that wired fed result b.looks);
       named = named_by result b.looks;
       journal = ap (λ cs. journal_of (slice_get cs i)) b.is ∙ (ap (λ o. journal_of o) (get_set_same cells i b.before b.after b.at) ∙ (b.same.journal ∙ sym (ap (λ o. journal_of o) b.at)));
       elsewhere = λ k differ. ap (λ cs. slice_get cs k) b.is ∙ get_set_other cells k i b.after differ;
       rests = λ rest. subst (λ cs. IsAtRest (held_of cs links capacities waited)) (sym b.is) (calm_rests cells links capacities waited working i b.before b.after b.at look_calm rest);
+    }
+
+  -- How a burst ended, as a look at the cell.
+  module _ (limit : ℕ) (end : BurstEnd) (new : List (Cell X)) (b : BurstsAt i limit row cells end new) (free : b.before.trapped ≡ false) where
+    abbrev as_look : b.before ≡ b.bursts.last → (o : Look) → Looks row b.bursts.last o → IsSame b.bursts.last b.after → LookedAt i row cells o new
+    as_look still o looks same = record {
+      before = b.before;
+      after = b.after;
+      at = b.at;
+      is = b.is;
+      lawful = b.lawful;
+      fits = b.fits;
+      looks = subst (λ c. Looks row c o) (sym still) looks;
+      same = subst (λ c. IsSame c b.after) (sym still) same;
+    }
+
+    burst_ends : b.before ≡ b.bursts.last → (e : BurstEnd) → EndsBurst row limit (length b.bursts.actions) b.bursts.last e b.after
+        → IsAtRest (held_of cells links capacities waited) → EndsSeeHalt i e (held_of cells links capacities waited)
+    burst_ends still burst.Spent ends rest = tt
+    burst_ends still burst.Waits ends rest = (looks_at look.Waits new (as_look still look.Waits ends.1 ends.2) free).ends rest
+    burst_ends still (burst.NoRoom action port) ends rest =
+        (looks_at (look.NoRoom action port) new (as_look still (look.NoRoom action port) (ends.1, ends.2) ends.3) free).ends rest
+    burst_ends still (burst.Trap action cause) ends rest = tt
+
+    burst_named : (e : BurstEnd) → EndsBurst row limit (length b.bursts.actions) b.bursts.last e b.after → NamesLacking cells i e
+    burst_named burst.Spent ends = tt
+    burst_named burst.Waits ends = tt
+    burst_named (burst.NoRoom action port) ends =
+        on_some (slice_get cells i) (λ cell. action.0 < cell.actor.actions) b.before b.at
+        (subst (λ actor. action.0 < actor.actions) (ran_here limit end new b free).actor.same_actor
+        (picked_low b.bursts.last (lawful_last limit end new b free) action.0 ends.1))
+    burst_named (burst.Trap action cause) ends = tt
+
+    pub burst_works : WorksAt i limit end (held_of cells links capacities waited) (held_of new links capacities waited)
+    burst_works = record {
+      actions = b.bursts.actions;
+      few = b.bursts.few;
+      noted = ap (λ o. journal_of o) (at_new limit end new b free) ∙ ((calm_here limit end new b free).journal ∙ ((ran_here limit end new b free).noted ∙ ap (λ js. js ++ b.bursts.actions) (sym (ap (λ o. journal_of o) b.at))));
+      states = (burst_goes limit end new b free);
+      elsewhere = λ k differ. ap (λ cs. slice_get cs k) b.is ∙ get_set_other cells k i b.after differ;
+      marked = on_some (slice_get new i) (λ cell. cell.trapped ≡ traps end) b.after (at_new limit end new b free) (marked_end row limit (length b.bursts.actions) b.bursts.last end b.after b.bursts.ends (free_last limit end new b free));
+      rests = λ none rest.
+          let still : b.before ≡ b.bursts.last = subst (λ names. FireInTurn row b.before names b.bursts.last) none b.bursts.fired in
+          subst (λ cs. IsAtRest (held_of cs links capacities waited)) (sym b.is)
+          (calm_rests cells links capacities waited working i b.before b.after b.at (subst (λ c. Calm c b.after) (sym still) (calm_here limit end new b free)) rest);
+      ends = λ none rest. burst_ends (subst (λ names. FireInTurn row b.before names b.bursts.last) none b.bursts.fired) end b.bursts.ends rest;
+      named = burst_named end b.bursts.ends;
     }
 
   module _ (a : ℕ) (result : Tried) (new : List (Cell X)) (b : TriedAt i row a cells result new) (free : b.before.trapped ≡ false) where

@@ -69,6 +69,7 @@ module _ {X : Type 0} (cells : List (Cell X)) (links : List Link) (capacities wa
         (cases_eq m l);
     read = working.read;
     few_given = working.few_given;
+    few_cells = working.few_cells;
     few_links = working.few_links;
     few_held = λ m. ⊎_elim
         (λ same.

@@ -245,6 +245,7 @@ module _ {X : Type 0} (old mid new : List (Cell X)) (links : List Link) (capacit
     read = same_read old new moved_same links working.read;
     few_given = same_few old new moved_same working.few_given;
     few_held = working.few_held;
+    few_cells = omega (arith, moved_same.count, working.few_cells);
     few_links = working.few_links;
   }
 
@@ -375,6 +376,7 @@ module _ {X : Type 0} (old new : List (Cell X)) (links : List Link) (capacities 
     read = same_read old new filled_same links working.read;
     few_given = same_few old new filled_same working.few_given;
     few_held = working.few_held;
+    few_cells = omega (arith, filled_same.count, working.few_cells);
     few_links = working.few_links;
   }
 

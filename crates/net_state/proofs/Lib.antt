@@ -19,3 +19,4 @@ pub mod Bursting
 pub mod Grown
 pub mod Lowest
 pub mod Readied
+pub mod Surveying

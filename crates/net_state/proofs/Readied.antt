@@ -1,5 +1,5 @@
 -- Cells that are ready to be run can work.
-use Rattle.std.proofs.Common.{◌≡◌, ℕ, ◌<◌, ◌≤◌, List, length, map, refl, sym, ap, subst, ◌∙◌, ⊎_elim, arith}
+use Rattle.std.proofs.Common.{◌≡◌, ℕ, ◌<◌, ◌≤◌, List, length, refl, sym, ap, subst, ◌∙◌, ⊎_elim, arith}
 use Rattle.std.specs.Prelude.{Option, None, Some, slice_get}
 use Rattle.std.proofs.lemmas.List.{length-map}
 use Rattle.net_model.specs.declared.wiring.End.{End}
@@ -8,7 +8,7 @@ use Rattle.net_model.specs.declared.wiring.Link.{Link}
 use Rattle.net_model.specs.Network.{Leaf, Network}
 use Rattle.net_model.specs.Cell.{Cell}
 use Rattle.net_model.specs.Limits.{max_rate}
-use Rattle.net_model.specs.Ready.{IsReady, OnCell}
+use Rattle.net_model.specs.Ready.{IsReady}
 use Rattle.net_model.specs.Wired.{ComesFromPort, HasInput, HasOutput, IsBefore, LeadsToPort}
 use Rattle.rvc_base.specs.Lawful.{IsLawful}
 use Rattle.net_model.specs.Laws.{AreLawful}
@@ -81,6 +81,10 @@ module _ {X : Type 0} (net : Network X) (cells : List (Cell X)) (is : IsNetOf ne
     few_given = λ i cell at a p.
         let leaf = leaf_of net cells net.links is i cell at in
         subst (λ b. b.give a p ≤ max_rate) leaf.is (ready.wired.few_given i leaf.leaf leaf.at a p);
+    few_cells =
+        let count : length net.leaves ≡ length cells =
+        sym (length-map net.leaves (λ leaf. leaf.behaviour)) ∙ (ap (λ bs. length bs) is.actors ∙ length-map cells (λ cell. cell.actor)) in
+        omega (arith, count, ready.wired.few_leaves);
     few_links = ready.wired.few_links;
     all_out = λ i cell at. (ready.fresh i cell at).nothing_out;
     unlinked = unlinked;

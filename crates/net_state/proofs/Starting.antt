@@ -112,6 +112,7 @@ start_working cells links waited can counted few = record {
   read = can.read;
   few_given = can.few_given;
   few_held = few;
+  few_cells = can.few_cells;
   few_links = can.few_links;
 }
 

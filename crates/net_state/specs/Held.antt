@@ -1,6 +1,7 @@
 -- What is held of a network at work: its cells, its links, and how much each link can hold now.
 -- Trusted: part of what a promise means.
-use Rattle.std.specs.Prelude.{◌≡◌, ℕ, ◌+◌, ◌-◌, ◌≤◌, ◌<◌, ◌↔◌, min, true, false, List, [], ◌∷◌, length, map, slice_get, slice_index_or, Option, None, Some, if◌then◌else◌}
+use Rattle.std.specs.Prelude.{◌≡◌, ℕ, ◌+◌, ◌-◌, ◌≤◌, ◌<◌, ◌↔◌, min, true, false, List, [], ◌∷◌, length, map, slice_get, slice_index_or, Option, None, Some, Vec, vec_items, if◌then◌else◌}
+use Rattle.std.specs.declared.alloc.Global.{Global}
 use Rattle.rvc_base.specs.Storing.{IsSize}
 use Rattle.rvc_base.specs.Lawful.{tokens_on}
 use Rattle.net_model.specs.declared.wiring.End.{End}
@@ -8,7 +9,7 @@ use Rattle.net_model.specs.declared.wiring.End.TheVariants.{Leaf as AtLeaf, Net 
 use Rattle.net_model.specs.declared.wiring.Link.{Link}
 use Rattle.net_model.specs.Network.{is_input, is_output, is_leaf_port}
 use Rattle.net_model.specs.Cell.{Cell, number_on, unread_room, HasNothingOut}
-use Rattle.net_model.specs.Limits.{max_links, max_rate}
+use Rattle.net_model.specs.Limits.{max_instances, max_links, max_rate}
 use Rattle.net_model.specs.Ready.{OutboxHolds, InboxHolds, waiting_at}
 use Rattle.net_state.specs.Moving.{IsInput, IsWriter, AreApart, sent_from}
 
@@ -69,6 +70,11 @@ OnRow (Some row) P = P row
 abbrev pub HasPlace : List (List ℕ) → End → Type 0
 HasPlace table (AtLeaf inst port) = OnRow (slice_get table inst.0) (λ row. port < length row)
 HasPlace table (AtNet port) = Unit {0}
+
+-- each link's writing end has its place
+abbrev pub HavePlaces : List (List ℕ) → List Link → Type 0
+HavePlaces table links = (l : ℕ) (link : Link) → slice_get links l ≡ Some link
+    → HasPlace table link.from
 
 -- the room at one place is at most this from now on
 pub record Narrows (end : End) (room : ℕ) (old new : List (List ℕ)) : Type 0 where
@@ -131,6 +137,7 @@ pub record IsWorking {X : Type 0} (cells : List (Cell X)) (links : List Link) (c
       → (p : ℕ) → p < cell.actor.outs → (0 < number_on cell.outbox_capacities p) ↔ IsLeft links i p
   pub few_given : GivesFew cells
   pub few_held : HoldFew capacities
+  pub few_cells : length cells ≤ max_instances
   pub few_links : length links ≤ max_links
 
 -- the table has a row for each cell, and in it a place for each of its output ports
@@ -145,6 +152,13 @@ pub record HasRooms {X : Type 0} (cells : List (Cell X)) (links : List Link) (ca
   pub widths : (i : ℕ) (cell : Cell X) (row : List ℕ) → slice_get cells i ≡ Some cell
       → slice_get table i ≡ Some row → length row ≡ cell.actor.outs
   pub rooms : IsRoomTable links capacities waited table
+
+-- .. and both hold
+abbrev pub KeepsRooms : {C X : Type 0} → (C → Cell X) → List C → List Link → List ℕ → List ℕ
+    → List (Vec ℕ Global) → Type 0
+KeepsRooms cell cells links capacities waited table =
+    IsWorking (map cell cells) links capacities waited
+    × HasRooms (map cell cells) links capacities waited (map vec_items table)
 
 -- What is asked of cells and links at the start.
 
@@ -169,6 +183,7 @@ pub record CanWork {X : Type 0} (cells : List (Cell X)) (links : List Link) : Ty
   pub read : (i : ℕ) (cell : Cell X) → slice_get cells i ≡ Some cell
       → (p : ℕ) → p < cell.actor.outs → (0 < number_on cell.outbox_capacities p) ↔ IsLeft links i p
   pub few_given : GivesFew cells
+  pub few_cells : length cells ≤ max_instances
   pub few_links : length links ≤ max_links
   -- nothing was sent, and no journal names a firing
   pub all_out : (i : ℕ) (cell : Cell X) → slice_get cells i ≡ Some cell → HasNothingOut cell

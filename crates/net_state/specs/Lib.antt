@@ -4,3 +4,5 @@ pub mod Standing
 pub mod Filling
 pub mod Working
 pub mod Beginning
+pub mod Fed
+pub mod Surveyed

@@ -1,6 +1,7 @@
 -- What moves between the cells of a network: tokens that come in, and outboxes that are emptied.
 -- Trusted: part of what a promise means.
 use Rattle.std.specs.Prelude.{◌≡◌, ◌≢◌, ℕ, ◌+◌, ◌≤◌, ◌<◌, ◌==◌, ◌&&◌, false, List, [], ◌∷◌, ◌++◌, ℤ, length, map, slice_get, Option, None, Some, if◌then◌else◌}
+use Rattle.rvc_base.specs.declared.scalar.Scalar.{Scalar}
 use Rattle.rvc_base.specs.Storing.{IsSize, conv}
 use Rattle.rvc_base.specs.Lawful.{tokens_on}
 use Rattle.net_model.specs.declared.wiring.End.{End}
@@ -14,6 +15,9 @@ use Rattle.net_model.specs.Ready.{OnCell}
 abbrev pub sent_of : {X : Type 0} → Option (Cell X) → ℕ → List ℤ
 sent_of None p = []
 sent_of (Some cell) p = tokens_on cell.outboxes p
+
+abbrev pub sent_by : {X : Type 0} → List (Cell X) → ℕ → ℕ → List ℤ
+sent_by cells i p = sent_of (slice_get cells i) p
 
 -- What stays.
 
@@ -49,6 +53,10 @@ pub record EachGains {X : Type 0} (arriving : ℕ → ℕ → List ℤ) (old new
 -- these tokens come to port q of cell j, and none elsewhere
 abbrev pub only_to : ℕ → ℕ → List ℤ → ℕ → ℕ → List ℤ
 only_to j q tokens i p = if (i == j) && (p == q) then tokens else []
+
+-- what was sent on port p of cell i came to port q of cell j, stored in the reader's type
+abbrev pub Carries : {X : Type 0} → ℕ → ℕ → ℕ → ℕ → Scalar → List (Cell X) → List (Cell X) → Type 0
+Carries i p j q kind old new = EachGains (only_to j q (map (conv kind) (sent_by old i p))) old new
 
 -- port p is an output port of cell i
 abbrev pub IsOutput : {X : Type 0} → List (Cell X) → ℕ → ℕ → Type 0
@@ -90,6 +98,10 @@ abbrev pub arriving : {X : Type 0} → List (Cell X) → List Link → ℕ → �
 arriving cells [] i p = []
 arriving cells (link ∷ links) i p = if is_leaf_port i p link.to then carried cells link
     else arriving cells links i p
+
+-- what was sent on links between cells came to its readers
+abbrev pub CarriesAlong : {X : Type 0} → List Link → List (Cell X) → List (Cell X) → Type 0
+CarriesAlong links old new = EachGains (arriving old links) old new
 
 abbrev pub IsWriter : {X : Type 0} → List (Cell X) → End → Type 0
 IsWriter cells (AtLeaf inst port) = IsOutput cells inst.0 port

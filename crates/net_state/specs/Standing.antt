@@ -12,7 +12,7 @@ use Rattle.net_model.specs.Event.{each_flow}
 use Rattle.net_model.specs.Trace.{delivered}
 use Rattle.net_model.specs.Cell.{Cell, HasNothingOut}
 use Rattle.net_model.specs.Ready.{given_state}
-use Rattle.net_state.specs.Held.{Held}
+use Rattle.net_state.specs.Held.{Held, held_of}
 use Rattle.net_state.specs.Moving.{sent_of}
 
 -- The network whose leaves are these cells' actors, joined by these links. Its paths, classes and ports are any.
@@ -101,6 +101,13 @@ after_inside net s = record s { flows = each_flow inside_delivered net.links s.f
 abbrev pub LeadInside : {X : Type 0} → Held (Cell X) → Held (Cell X) → Type 0
 LeadInside {X} old new = (net : Network X) (s : State X) → StandsIn net old s
     → StandsSince net new (after_inside net s) (after_inside net s)
+
+-- the same of cells and of what waited, where links and capacities stay
+abbrev pub Delivers : {X : Type 0} → List Link → List ℕ → List (Cell X) → List ℕ
+    → List (Cell X) → List ℕ → Type 0
+Delivers links capacities old waited_old new waited_new =
+    LeadInside (held_of old links capacities waited_old)
+    (held_of new links capacities waited_new)
 
 -- no cell has sent anything that hasn't left, and no journal names a firing
 abbrev pub AreAllOut : {X : Type 0} → List (Cell X) → Type 0

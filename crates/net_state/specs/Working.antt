@@ -3,6 +3,7 @@
 use Rattle.std.specs.Prelude.{◌≡◌, ◌≢◌, ℕ, ◌+◌, ◌-◌, ◌≤◌, ◌<◌, ◌⊎◌, ◌↔◌, Bool, true, false, List, [], ◌++◌, length, slice_get, slice_set, slice_index_or, Option, None, Some}
 use Rattle.rvc_base.specs.Behaviour.{Faults, Picks, TrapsInBody, TrapsInGuard, Waits}
 use Rattle.rvc_base.specs.Lawful.{IsLawful}
+use Rattle.rvc_base.specs.declared.ids.LinkId.{LinkId}
 use Rattle.net_model.specs.declared.firing.BurstEnd.{BurstEnd}
 use Rattle.net_model.specs.declared.firing.BurstEnd.TheVariants as burst
 use Rattle.net_model.specs.declared.firing.Look.{Look}
@@ -21,7 +22,7 @@ use Rattle.net_model.specs.Trace.{OnNext, grown}
 use Rattle.net_model.specs.Cell.{AreRooms, Bursts, Cell, FitsQueues, IsEnabled, IsSame, Looks, Tries}
 use Rattle.net_model.specs.Ready.{InboxHolds, OnCell, OutboxHolds, waiting_at}
 use Rattle.net_model.specs.Paced.{Halt, HasRoomIn, IsBurst, PassesLink, NoRoom, Spent, Trapping, Waiting}
-use Rattle.net_state.specs.Held.{Held}
+use Rattle.net_state.specs.Held.{Held, held_of}
 use Rattle.net_state.specs.Standing.{AreAllOut, StandsIn, StandsSince}
 
 -- cell i is there and hasn't trapped
@@ -76,19 +77,6 @@ pub record IsAtRest {X : Type 0} (held : Held (Cell X)) : Type 0 where
   pub counted : (l : ℕ) (link : Link) → slice_get held.links l ≡ Some link → is_input link ≡ false
       → slice_index_or held.waited l 0 ≡ length (waiting_at held.cells link.to)
 
--- Cell i fired `actions`, at most `limit` of them, and its journal names them; the other cells stayed.
-pub record WorksAt {X : Type 0} (i limit : ℕ) (end : BurstEnd) (old new : Held (Cell X)) :
-    Type 0 where
-  pub actions : List ℕ
-  pub few : length actions ≤ limit
-  pub noted : journal_of (slice_get new.cells i) ≡ journal_of (slice_get old.cells i) ++ actions
-  pub states : (net : Network X) (opened s : State X) → StandsSince net old opened s
-      → GoesOn net opened i limit s actions (halt_of end) new
-  pub elsewhere : (k : ℕ) → k ≢ i → slice_get new.cells k ≡ slice_get old.cells k
-  pub marked : OnCell (slice_get new.cells i) (λ cell. cell.trapped ≡ traps end)
-  -- if nothing fired, the network is at rest as before
-  pub rests : actions ≡ [] → IsAtRest old → IsAtRest new
-
 -- What ends judge.
 
 -- a link leads from port p of leaf i, and what is given there passes its room
@@ -102,6 +90,10 @@ AreFed net s = (l : ℕ) (link : Link) (flow : Flow) → slice_get net.links l �
     → slice_get s.flows l ≡ Some flow
     → is_input link ≡ true → (untaken flow ≡ flow.capacity) ⊎ (flow.arrived ≡ length flow.sent)
 
+-- the action fires or traps
+abbrev pub DoesSome : {X : Type 0} → Network X → State X → ℕ → ℕ → Type 0
+DoesSome net s i a = effect_at net s i a ≢ None
+
 -- what leaf i would do next, with the rest of the feeds counted as arrived
 abbrev pub LooksFed : {X : Type 0} → Network X → State X → ℕ → Look → Type 0
 LooksFed net s i look.Waits =
@@ -109,11 +101,13 @@ LooksFed net s i look.Waits =
 LooksFed net s i (look.Ready action) =
     (choice_at net (all_fed net s) i ≡ Picks action.0)
     × ((l : ℕ) → LacksRoom net (all_fed net s) i action.0 l → ⊥)
+    × DoesSome net (all_fed net s) i action.0
 LooksFed net s i (look.NoRoom action port) =
     (choice_at net (all_fed net s) i ≡ Picks action.0)
     × ((l : ℕ) × LacksRoom net (all_fed net s) i action.0 l)
-LooksFed net s i (look.GuardTrap action cause) = choice_at net (all_fed net s) i
-    ≡ Faults action.0 cause
+LooksFed net s i (look.GuardTrap action cause) =
+    (choice_at net (all_fed net s) i ≡ Faults action.0 cause)
+    × DoesSome net (all_fed net s) i action.0
 
 -- what the ends of a run say of leaf i, in each state of a network that is wired and whose feeds came as far as they may
 abbrev pub EndsSee : {X : Type 0} → ℕ → Look → Held (Cell X) → Type 0
@@ -131,6 +125,10 @@ abbrev pub LacksOnLink : {X : Type 0} → List (Cell X) → ℕ → ℕ → ℕ 
 LacksOnLink cells i a room None = ⊥
 LacksOnLink cells i a room (Some link) = LacksFrom (gives_of (slice_get cells i) a) i room link.from
 
+-- .. and so on a link with this writing end
+abbrev pub LacksOnEnd : {X : Type 0} → List (Cell X) → ℕ → ℕ → ℕ → End → Type 0
+LacksOnEnd cells i a room from = LacksFrom (gives_of (slice_get cells i) a) i room from
+
 -- .. and so on link l of those that are held
 abbrev pub LacksAt : {X : Type 0} → Held (Cell X) → ℕ → ℕ → ℕ → Type 0
 LacksAt held i a l =
@@ -147,6 +145,16 @@ pub record IsLowestLacking {X : Type 0} (held : Held (Cell X)) (i a l : ℕ) : T
   pub lacks : LacksAt held i a l
   pub first : (m : ℕ) → m < l → LacksAt held i a m → ⊥
 
+-- the same of cells and links and what they hold: this is the lowest one, and there is none
+abbrev pub LowestOf : {X : Type 0} → List (Cell X) → List Link → List ℕ → List ℕ → ℕ → ℕ → LinkId
+    → Type 0
+LowestOf cells links capacities waited i a link =
+    IsLowestLacking (held_of cells links capacities waited) i a link.0
+
+abbrev pub NoneLacks : {X : Type 0} → List (Cell X) → List Link → List ℕ → List ℕ → ℕ → ℕ → Type 0
+NoneLacks cells links capacities waited i a = (l : ℕ)
+    → LacksAt (held_of cells links capacities waited) i a l → ⊥
+
 -- cell i is there, and has action a
 abbrev pub HasAction : {X : Type 0} → List (Cell X) → ℕ → ℕ → Type 0
 HasAction cells i a = OnCell (slice_get cells i) (λ cell. a < cell.actor.actions)
@@ -157,6 +165,37 @@ NamesAction cells i look.Waits = Unit {0}
 NamesAction cells i (look.Ready action) = HasAction cells i action.0
 NamesAction cells i (look.NoRoom action port) = HasAction cells i action.0
 NamesAction cells i (look.GuardTrap action cause) = HasAction cells i action.0
+
+-- Bursts.
+
+-- what the ends of a run say of leaf i if its burst ended so without a firing
+abbrev pub EndsSeeHalt : {X : Type 0} → ℕ → BurstEnd → Held (Cell X) → Type 0
+EndsSeeHalt i burst.Spent held = Unit {0}
+EndsSeeHalt i burst.Waits held = EndsSee i look.Waits held
+EndsSeeHalt i (burst.NoRoom action port) held = EndsSee i (look.NoRoom action port) held
+EndsSeeHalt i (burst.Trap action cause) held = Unit {0}
+
+-- an action that lacks room is one of the cell's
+abbrev pub NamesLacking : {X : Type 0} → List (Cell X) → ℕ → BurstEnd → Type 0
+NamesLacking cells i burst.Spent = Unit {0}
+NamesLacking cells i burst.Waits = Unit {0}
+NamesLacking cells i (burst.NoRoom action port) = HasAction cells i action.0
+NamesLacking cells i (burst.Trap action cause) = Unit {0}
+
+-- Cell i fired `actions`, at most `limit` of them, and its journal names them; the other cells stayed.
+pub record WorksAt {X : Type 0} (i limit : ℕ) (end : BurstEnd) (old new : Held (Cell X)) :
+    Type 0 where
+  pub actions : List ℕ
+  pub few : length actions ≤ limit
+  pub noted : journal_of (slice_get new.cells i) ≡ journal_of (slice_get old.cells i) ++ actions
+  pub states : (net : Network X) (opened s : State X) → StandsSince net old opened s
+      → GoesOn net opened i limit s actions (halt_of end) new
+  pub elsewhere : (k : ℕ) → k ≢ i → slice_get new.cells k ≡ slice_get old.cells k
+  pub marked : OnCell (slice_get new.cells i) (λ cell. cell.trapped ≡ traps end)
+  -- if nothing fired, the network is at rest as before, and the end says what ends judge
+  pub rests : actions ≡ [] → IsAtRest old → IsAtRest new
+  pub ends : actions ≡ [] → IsAtRest old → EndsSeeHalt i end old
+  pub named : NamesLacking old.cells i end
 
 -- Looking, and actions that are tried.
 
@@ -193,6 +232,7 @@ LooksIn net opened s i (look.GuardTrap action cause) = choice_at net s i ≡ Fau
 pub record LooksAt {X : Type 0} (i : ℕ) (look : Look) (old new : Held (Cell X)) : Type 0 where
   pub states : (net : Network X) (opened s : State X) → StandsSince net old opened s
       → LooksIn net opened s i look × StandsSince net new opened s
+  pub stays : (net : Network X) (s : State X) → StandsIn net old s → StandsIn net new s
   pub ends : IsAtRest old → EndsSee i look old
   pub named : NamesAction old.cells i look
   pub journal : journal_of (slice_get new.cells i) ≡ journal_of (slice_get old.cells i)
@@ -240,3 +280,9 @@ abbrev pub GrewTo : {X : Type 0} → ℕ → ℕ → Held (Cell X) → Held (Cel
 GrewTo {X} l capacity old new = (net : Network X) (opened s : State X)
     → StandsSince net old opened s
     → OnNext (grown s l capacity (slice_get s.flows l)) (λ next. StandsSince net new opened next)
+
+-- the same of cells and links, whose capacities alone change
+abbrev pub GrewFrom : {X : Type 0} → ℕ → ℕ → List (Cell X) → List Link → List ℕ → List ℕ → List ℕ
+    → Type 0
+GrewFrom l capacity cells links waited old new =
+    GrewTo l capacity (held_of cells links old waited) (held_of cells links new waited)

@@ -1,8 +1,8 @@
 //! Tokens on their way from an output to an input.
 
 ghost use Rattle.std.specs.Prelude.{◌≡◌, ◌≤◌, ◌<◌, [], ◌∷◌, length, map, slice_get, Some};
-ghost use Rattle.rvc_base.specs.Storing.{IsSize, conv};
-ghost use Rattle.net_state.specs.Moving.{AreApart, CanCarry, CanCarryAll, EachGains, HasRoomBefore, IsOutput, IsWriter, arriving, carried, only_to, sent_of};
+ghost use Rattle.rvc_base.specs.Storing.{IsSize};
+ghost use Rattle.net_state.specs.Moving.{AreApart, CanCarry, CanCarryAll, Carries, CarriesAlong, HasRoomBefore, IsOutput, IsWriter, carried, sent_by};
 
 use crate::places::{sent_on, sent_token, store_at};
 use net_model::{End, Firing, Link};
@@ -23,10 +23,9 @@ pub(crate) fn carry<A: Firing>(
     requires to_there { to.0 < length cells.old }
     requires from_output { IsOutput (map A.cell cells.old) from.0 out }
     requires room { HasRoomBefore (map A.cell cells.old) to.0 port
-        (length (sent_of (slice_get (map A.cell cells.old) from.0) out)) }
-    ensures gains { EachGains (only_to to.0 port
-        (map (conv kind) (sent_of (slice_get (map A.cell cells.old) from.0) out)))
-        (map A.cell cells.old) (map A.cell cells.new) }
+        (length (sent_by (map A.cell cells.old) from.0 out)) }
+    ensures gains { Carries from.0 out to.0 port kind (map A.cell cells.old)
+        (map A.cell cells.new) }
 {
     let count = sent_on(cells, from, out);
     for k in 0..count {
@@ -38,8 +37,7 @@ pub(crate) fn carry<A: Firing>(
 /// Moves what was sent on a link between two cells to its reader. Of other links nothing moves.
 fn follow<A: Firing>(cells: &mut [A], link: &Link)
     requires { CanCarry (map A.cell cells.old) link.now }
-    ensures gains { EachGains (arriving (map A.cell cells.old) (link.now ∷ []))
-        (map A.cell cells.old) (map A.cell cells.new) }
+    ensures gains { CarriesAlong (link.now ∷ []) (map A.cell cells.old) (map A.cell cells.new) }
 {
     if let End::Leaf {
         inst: from,
@@ -56,8 +54,7 @@ fn follow<A: Firing>(cells: &mut [A], link: &Link)
 pub(crate) fn carry_all<A: Firing>(cells: &mut [A], links: &[Link])
     requires can_carry { CanCarryAll (map A.cell cells.old) links.now }
     requires apart { AreApart links.now }
-    ensures gains { EachGains (arriving (map A.cell cells.old) links.now) (map A.cell cells.old)
-        (map A.cell cells.new) }
+    ensures gains { CarriesAlong links.now (map A.cell cells.old) (map A.cell cells.new) }
 {
     let count = links.len();
     for k in 0..count {

@@ -1,9 +1,9 @@
 //! A delivery of inner and output links.
 
 ghost use Rattle.std.specs.Prelude.{◌≡◌, length, map, vec_items};
-ghost use Rattle.net_state.specs.Held.{AreCounted, CanWork, HasRooms, HasWidths, HoldFew, IsWorking, capacity_of, held_of};
+ghost use Rattle.net_state.specs.Held.{AreCounted, CanWork, HasRooms, HasWidths, HoldFew, IsWorking, capacity_of};
 ghost use Rattle.net_state.specs.Moving.{SameActors, SameMarks};
-ghost use Rattle.net_state.specs.Standing.{AreAllOut, LeadInside};
+ghost use Rattle.net_state.specs.Standing.{AreAllOut, Delivers};
 
 use crate::carrying::carry_all;
 use crate::places::clear_all;
@@ -22,8 +22,8 @@ pub(crate) fn deliver_inside<A: Firing>(
     requires working { IsWorking (map A.cell cells.old) links.now capacities.now waited.old }
     requires rooms { HasRooms (map A.cell cells.old) links.now capacities.now waited.old
         (map vec_items rooms.old) }
-    ensures states { LeadInside (held_of (map A.cell cells.old) links.now capacities.now waited.old)
-        (held_of (map A.cell cells.new) links.now capacities.now waited.new) }
+    ensures states { Delivers links.now capacities.now (map A.cell cells.old) waited.old
+        (map A.cell cells.new) waited.new }
     ensures same_actors { SameActors (map A.cell cells.old) (map A.cell cells.new) }
     ensures same_marks { SameMarks (map A.cell cells.old) (map A.cell cells.new) }
     ensures all_out { AreAllOut (map A.cell cells.new) }

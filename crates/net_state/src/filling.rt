@@ -1,11 +1,12 @@
 //! An input link is filled from its feed.
 
-ghost use Rattle.std.specs.Prelude.{◌≡◌, ◌≤◌, ◌<◌, ◌+◌, ℕ, true, length, map, slice_get, IfOk, OnErr};
+ghost use Rattle.std.specs.Prelude.{◌≡◌, ◌≤◌, ◌<◌, ◌+◌, ℕ, true, length, map, slice_get, OnErr};
 ghost use Rattle.rvc_base.specs.Storing.{IsSize};
 ghost use Rattle.rvc_io.specs.Feeds.{PullsOnly, ReadFails};
 ghost use Rattle.net_model.specs.Ready.{tokens_of};
-ghost use Rattle.port_files.specs.Coming.{EndIsTrue, coming_on};
-ghost use Rattle.net_state.specs.Filling.{AtPort, IsFilled, Takes};
+ghost use Rattle.port_files.specs.Coming.{EndIsTrue};
+ghost use Rattle.net_state.specs.Fed.{Fed, FedOn, FilledOn, FilledUp, IsReadBy};
+ghost use Rattle.net_state.specs.Filling.{AtPort};
 ghost use Rattle.net_state.specs.Moving.{HasRoomUpTo, IsInput};
 
 use crate::places::{held_at, store_at};
@@ -49,12 +50,10 @@ pub(crate) fn fill_port<A: Firing, F: Feeds>(
         inlet.now.capacity }
     requires open { (F.feeds feeds.old).is_open feed ≡ true }
     requires same_feed { EndIsTrue tokens.old ((F.feeds feeds.old).left feed) }
-    ensures took { (count : ℕ) × Takes tokens.old.kind inlet.now.kind inlet.now.inst.0
-        inlet.now.port count (map A.cell cells.old) (map A.cell cells.new)
-        (coming_on tokens.old.pulled (F.feeds feeds.old) feed) (coming_on tokens.new.pulled (F.feeds feeds.new) feed) × IfOk result (λ filled. filled.tokens ≡ count) }
-    ensures filled { IfOk result (λ filled. IsFilled tokens.old.kind inlet.now.inst.0 inlet.now.port
-        inlet.now.capacity filled.rest (map A.cell cells.new)
-        (coming_on tokens.new.pulled (F.feeds feeds.new) feed)) }
+    ensures took { Fed A.cell F.feeds inlet.now feed cells.old cells.new tokens.old tokens.new
+        feeds.old feeds.new result }
+    ensures filled { FilledUp A.cell F.feeds inlet.now feed tokens.old.kind cells.new tokens.new
+        feeds.new result }
     ensures within { HasRoomUpTo (map A.cell cells.new) inlet.now.inst.0 inlet.now.port
         inlet.now.capacity }
     ensures failed { OnErr result (ReadFails F.feeds feeds.old feeds.new) }
@@ -92,18 +91,13 @@ pub(crate) fn fill_link<A: Firing, F: Feeds>(
     feeds: &mut F,
 ) -> Result<Filled, Failed>
     requires size { IsSize link.now.kind }
-    requires reader { AtPort link.now
-        (λ that j q. IsInput (map A.cell cells.old) j q
-        × HasRoomUpTo (map A.cell cells.old) j q capacity) link.now.to }
+    requires reader { IsReadBy (map A.cell cells.old) capacity link.now }
     requires open { (F.feeds feeds.old).is_open feed ≡ true }
     requires same_feed { EndIsTrue tokens.old ((F.feeds feeds.old).left feed) }
-    ensures took { AtPort link.now
-        (λ that j q. (count : ℕ) × Takes tokens.old.kind that.kind j q count (map A.cell cells.old)
-        (map A.cell cells.new)
-        (coming_on tokens.old.pulled (F.feeds feeds.old) feed) (coming_on tokens.new.pulled (F.feeds feeds.new) feed) × IfOk result (λ filled. filled.tokens ≡ count)) link.now.to }
-    ensures filled { IfOk result (λ filled. AtPort link.now
-        (λ that j q. IsFilled tokens.old.kind j q capacity filled.rest (map A.cell cells.new)
-        (coming_on tokens.new.pulled (F.feeds feeds.new) feed)) link.now.to) }
+    ensures took { FedOn A.cell F.feeds link.now feed cells.old cells.new tokens.old tokens.new
+        feeds.old feeds.new result }
+    ensures filled { FilledOn A.cell F.feeds link.now capacity feed tokens.old.kind cells.new
+        tokens.new feeds.new result }
     ensures within { AtPort link.now
         (λ that j q. HasRoomUpTo (map A.cell cells.new) j q capacity) link.now.to }
     ensures failed { OnErr result (ReadFails F.feeds feeds.old feeds.new) }

@@ -2,8 +2,8 @@
 
 ghost use Rattle.std.specs.Prelude.{◌≡◌, ◌<◌, ◌≤◌, ◌*◌, length, map, min, slice_get, slice_index_or, slice_set, vec_items};
 ghost use Rattle.net_model.specs.Ready.{OnCell};
-ghost use Rattle.net_state.specs.Held.{HasRooms, IsWorking, held_of};
-ghost use Rattle.net_state.specs.Working.{CanHold, GrewTo};
+ghost use Rattle.net_state.specs.Held.{HasRooms, IsWorking};
+ghost use Rattle.net_state.specs.Working.{CanHold, GrewFrom};
 
 use crate::rooms::fix_rooms;
 use net_model::{Firing, Link};
@@ -33,9 +33,8 @@ pub(crate) fn grow_link<A: Firing>(
     requires below { slice_index_or capacities.old l 0 < limit }
     ensures doubled { result ≡ min (2 * slice_index_or capacities.old l 0) limit }
     ensures capacities { capacities.new ≡ slice_set capacities.old l result }
-    ensures states { GrewTo l result
-        (held_of (map A.cell cells.now) links.now capacities.old waited.now)
-        (held_of (map A.cell cells.now) links.now capacities.new waited.now) }
+    ensures states { GrewFrom l result (map A.cell cells.now) links.now waited.now capacities.old
+        capacities.new }
     ensures working { IsWorking (map A.cell cells.now) links.now capacities.new waited.now }
     ensures rooms { HasRooms (map A.cell cells.now) links.now capacities.new waited.now
         (map vec_items rooms.new) }

@@ -1,9 +1,9 @@
 //! The link on which an action lacks room.
 
 ghost use Rattle.std.specs.Prelude.{◌≡◌, ◌<◌, ℕ, true, false, IfNone, IfSome, length, map, nat_lt, slice_get};
-ghost use Rattle.net_state.specs.Held.{IsWorking, held_of};
+ghost use Rattle.net_state.specs.Held.{IsWorking};
 ghost use Rattle.net_state.specs.Moving.{IsOutput, IsWriter};
-ghost use Rattle.net_state.specs.Working.{HasAction, IsLowestLacking, LacksAt, LacksFrom, gives_of};
+ghost use Rattle.net_state.specs.Working.{HasAction, LacksOnEnd, LowestOf, NoneLacks};
 
 use crate::places::give_at;
 use net_model::{End, Firing, Link};
@@ -21,10 +21,10 @@ pub(crate) fn lowest_lacking<A: Firing>(
     requires there { inst.0 < length cells.now }
     requires action { HasAction (map A.cell cells.now) inst.0 action.0 }
     requires working { IsWorking (map A.cell cells.now) links.now capacities.now waited.now }
-    ensures some { IfSome result (λ link. IsLowestLacking
-        (held_of (map A.cell cells.now) links.now capacities.now waited.now) inst.0 action.0 link.0) }
-    ensures none { IfNone result ((l : ℕ) →
-        LacksAt (held_of (map A.cell cells.now) links.now capacities.now waited.now) inst.0 action.0 l → ⊥) }
+    ensures some { IfSome result (LowestOf (map A.cell cells.now) links.now capacities.now
+        waited.now inst.0 action.0) }
+    ensures none { IfNone result (NoneLacks (map A.cell cells.now) links.now capacities.now
+        waited.now inst.0 action.0) }
 {
     let mut l = 0u32;
     while (l as usize) < links.len() {
@@ -43,10 +43,9 @@ fn lacks_on<A: Firing>(cells: &[A], from: &End, room: u32, inst: InstId, action:
     requires there { inst.0 < length cells.now }
     requires action { HasAction (map A.cell cells.now) inst.0 action.0 }
     requires writer { IsWriter (map A.cell cells.now) from.now }
-    ensures yes { result ≡ true → LacksFrom
-        (gives_of (slice_get (map A.cell cells.now) inst.0) action.0) inst.0 room from.now }
-    ensures no { result ≡ false → LacksFrom
-        (gives_of (slice_get (map A.cell cells.now) inst.0) action.0) inst.0 room from.now → ⊥ }
+    ensures yes { result ≡ true → LacksOnEnd (map A.cell cells.now) inst.0 action.0 room from.now }
+    ensures no { result ≡ false
+        → LacksOnEnd (map A.cell cells.now) inst.0 action.0 room from.now → ⊥ }
 {
     match *from {
         End::Leaf { inst: writer, port } => {

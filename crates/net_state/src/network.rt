@@ -4,9 +4,11 @@ ghost use Rattle.std.specs.Prelude.{◌≡◌, ◌<◌, ◌*◌, ℕ, true, IfNo
 ghost use Rattle.rvc_io.specs.Feeds.{PullsOnly, ReadFails};
 ghost use Rattle.port_files.specs.Coming.{EndIsTrue};
 ghost use Rattle.net_state.specs.Beginning.{AreLawfulIn};
-ghost use Rattle.net_state.specs.Filling.{AreArrivals, Fills, IsFull, IsInputLink, inflow};
+ghost use Rattle.net_state.specs.Fed.{AllArriveOn, FillsOn, IsFullOn};
+ghost use Rattle.net_state.specs.Filling.{IsInputLink};
 ghost use Rattle.net_state.specs.Held.{AreCounted, CanWork, capacity_of, room_of, seen};
 ghost use Rattle.net_state.specs.Moving.{IsFromCell, IsOutput, SameActors, SameMarks, carried_on};
+ghost use Rattle.net_state.specs.Surveyed.{AreSettled, AreUntrapped, IsOutlook, NamesFound, StallsAt, StillStand, Tells};
 ghost use Rattle.net_state.specs.Working.{CanHold, GrewTo, HasAction, IsAtRest, IsLowestLacking, LacksAsEnds, LacksAt, LooksAt, MayBurst, MayWork, TriesAt, WorksAt, journal_of};
 ghost use Rattle.net_state.specs.Standing.{AreAllOut, IsTrueOfUnarrived, LeadInside, StandAtStart};
 
@@ -15,6 +17,7 @@ use crate::delivering::{deliver_inside, lay_out};
 use crate::filling::{Filled, fill_link};
 use crate::growing::grow_link;
 use crate::lacking::lowest_lacking;
+use crate::outlook::{Outlook, Survey, with_look};
 use crate::tables::{first_capacities, room_table, zeros};
 use crate::working::{burst_at, look_at, try_at};
 use net_model::{BurstEnd, Firing, Link, Look, Tried};
@@ -40,8 +43,7 @@ pub struct NetState<A: Firing> {
 }
 
 impl<A: Firing> Model for NetState<A> {
-    ghost use Rattle.std.specs.Prelude.{map, vec_items};
-    ghost use Rattle.net_state.specs.Held.{Held, IsWorking, HasRooms};
+    ghost use Rattle.net_state.specs.Held.{Held, KeepsRooms};
 
     ghost Value = { Held A };
 
@@ -52,10 +54,8 @@ impl<A: Firing> Model for NetState<A> {
       waited = n.waited.items;
     } };
 
-    ghost invariant = { λ n. IsWorking
-        (map A.cell n.cells.items) n.links.items n.capacities.items n.waited.items
-        × HasRooms (map A.cell n.cells.items) n.links.items n.capacities.items n.waited.items
-        (map vec_items n.rooms.items) };
+    ghost invariant = { λ n. KeepsRooms A.cell n.cells.items n.links.items n.capacities.items
+        n.waited.items n.rooms.items };
 }
 
 impl<A: Firing> NetState<A> {
@@ -98,6 +98,14 @@ impl<A: Firing> NetState<A> {
         self.rooms[inst.0 as usize][port as usize]
     }
 
+    /// How many tokens a link can hold now.
+    pub fn capacity(&self, link: LinkId) -> u32
+        requires there { link.0 < length self.now.links }
+        ensures { result ≡ slice_index_or self.now.capacities link.0 0 }
+    {
+        self.capacities[link.0 as usize]
+    }
+
     /// Lets one cell make at most `limit` firings of the actions that selection gives, each with room on every
     /// output port. Its journal names them, and the other cells stay.
     ///
@@ -135,6 +143,63 @@ impl<A: Firing> NetState<A> {
     {
         let i = inst.0 as usize;
         look_at(&mut self.cells, i, &self.rooms[i])
+    }
+
+    /// Looks at each cell.
+    fn survey(&mut self) -> Survey
+        requires untrapped { AreUntrapped (map A.cell self.old.cells) }
+        requires rest { IsAtRest (seen A.cell self.old) }
+        ensures tells { Tells (length self.old.cells) result (seen A.cell self.old) }
+        ensures settled { AreSettled (seen A.cell self.old) }
+        ensures named { NamesFound (map A.cell self.new.cells) result }
+        ensures still { StillStand (seen A.cell self.old) (seen A.cell self.new) }
+        ensures rests { IsAtRest (seen A.cell self.new) }
+        ensures same_actors { SameActors (map A.cell self.old.cells) (map A.cell self.new.cells) }
+        ensures same_marks { SameMarks (map A.cell self.old.cells) (map A.cell self.new.cells) }
+        ensures links { self.new.links ≡ self.old.links }
+        ensures capacities { self.new.capacities ≡ self.old.capacities }
+        ensures waited { self.new.waited ≡ self.old.waited }
+    {
+        let mut found = Survey::AllWait;
+        for k in 0..self.cells.len() {
+            let inst = InstId(k as u32);
+            let look = self.look(inst);
+            found = with_look(found, inst, look);
+        }
+        found
+    }
+
+    /// Says what the network does next, as the ends of a run judge it: it is at rest, no cell has trapped, and
+    /// each feed came as far as it may. Nothing that is seen changes.
+    pub fn outlook(&mut self) -> Outlook
+        requires untrapped { AreUntrapped (map A.cell self.old.cells) }
+        requires rest { IsAtRest (seen A.cell self.old) }
+        ensures outlook { IsOutlook result (seen A.cell self.old) }
+        ensures still { StillStand (seen A.cell self.old) (seen A.cell self.new) }
+        ensures rests { IsAtRest (seen A.cell self.new) }
+        ensures same_actors { SameActors (map A.cell self.old.cells) (map A.cell self.new.cells) }
+        ensures same_marks { SameMarks (map A.cell self.old.cells) (map A.cell self.new.cells) }
+        ensures links { self.new.links ≡ self.old.links }
+        ensures capacities { self.new.capacities ≡ self.old.capacities }
+        ensures waited { self.new.waited ≡ self.old.waited }
+    {
+        match self.survey() {
+            Survey::AllWait => Outlook::Quiet,
+            Survey::Moves { inst: _ } => Outlook::Going,
+            Survey::Lacks { inst, action } => self.stalled_at(inst, action),
+        }
+    }
+
+    /// Stalled at an action of a cell, on the lowest link on which it lacks room; going on if it has room on each.
+    fn stalled_at(&self, inst: InstId, action: ActId) -> Outlook
+        requires action { HasAction (map A.cell self.now.cells) inst.0 action.0 }
+        requires rest { IsAtRest (seen A.cell self.now) }
+        ensures { StallsAt inst.0 action.0 result (seen A.cell self.now) }
+    {
+        match self.lacking(inst, action) {
+            Some(link) => Outlook::Stalled { inst, action, link },
+            None => Outlook::Going,
+        }
     }
 
     /// The lowest link on which an action of a cell lacks room, as the ends of a run have it: what it gives passes
@@ -215,15 +280,11 @@ impl<A: Firing> NetState<A> {
         requires input { IsInputLink (slice_get self.old.links link.0) }
         requires open { (F.feeds feeds.old).is_open feed ≡ true }
         requires same_feed { EndIsTrue tokens.old ((F.feeds feeds.old).left feed) }
-        ensures fills { Fills link.0 (inflow tokens.old (F.feeds feeds.old) feed)
-            (inflow tokens.new (F.feeds feeds.new) feed)
-            (λ count. IfOk result (λ filled. filled.tokens ≡ count)) (seen A.cell self.old) (seen A.cell self.new) }
-        ensures filled { IfOk result (λ filled. IsFull link.0 filled.rest (seen A.cell self.new)
-            (inflow tokens.new (F.feeds feeds.new) feed)) }
-        ensures arrivals { IfOk result
-            (λ filled. AreArrivals link.0 filled.tokens (seen A.cell self.old)
-            (inflow tokens.old (F.feeds feeds.old) feed)) }
-
+        ensures fills { FillsOn A.cell F.feeds link.0 feed self.old self.new tokens.old tokens.new
+            feeds.old feeds.new result }
+        ensures filled { IsFullOn A.cell F.feeds link.0 feed self.new tokens.new feeds.new result }
+        ensures arrivals { AllArriveOn A.cell F.feeds link.0 feed self.old tokens.old feeds.old
+            result }
         ensures rests { IsAtRest (seen A.cell self.old) → IsAtRest (seen A.cell self.new) }
 
         // What stays.

@@ -3,7 +3,7 @@
 ghost use Rattle.std.specs.Prelude.{◌≡◌, ◌≤◌, ◌<◌, ◌-◌, ℕ, List, min, length, map, replicate, slice_get, slice_index_or, slice_set, vec_items, vec_len, Some};
 ghost use Rattle.net_model.specs.declared.wiring.Link.{Link};
 ghost use Rattle.net_model.specs.Cell.{unread_room};
-ghost use Rattle.net_state.specs.Held.{HasPlace, HasShapeOf, IsRoomTable, IsWide, Narrows};
+ghost use Rattle.net_state.specs.Held.{HasPlace, HasShapeOf, HavePlaces, IsRoomTable, IsWide, Narrows};
 
 use net_model::{End, Link};
 
@@ -13,8 +13,7 @@ pub(crate) fn fix_rooms(table: &mut [Vec<u32>], links: &[Link], capacities: &[u3
     requires each_waited { length waited.now ≡ length links.now }
     requires fits { (l : ℕ) → l < length links.now
         → slice_index_or waited.now l 0 ≤ slice_index_or capacities.now l 0 }
-    requires places { (l : ℕ) (link : Link) → slice_get links.now l ≡ Some link
-        → HasPlace (map vec_items table.old) link.from }
+    requires places { HavePlaces (map vec_items table.old) links.now }
     ensures shape { HasShapeOf (map vec_items table.old) (map vec_items table.new) }
     ensures rooms { IsRoomTable links.now capacities.now waited.now (map vec_items table.new) }
 {
