@@ -21,10 +21,11 @@ use Rattle.expr_lower.specs.Coding.{IsCode, IsTest, IsOpenTest, aimed}
 use Rattle.expr_lower.specs.Executing.{IsExecuted}
 use Rattle.expr_lower.specs.Growing.{IsFault, ◌or_else◌}
 use Rattle.expr_lower.specs.Listed.{list_named}
+use Rattle.expr_lower.specs.Linking.{Closes, Links, SetsJump}
 use Rattle.expr_lower.specs.Lowered.{Adds, IsPut}
 use Rattle.expr_lower.specs.Stating.{IsStmt, AreStmts, set, set_item, if_alone, if_else, while_code, none, one_more}
 use Rattle.expr_lower.specs.StmtGrowing.{cell_of, cell_named, cells_of, cells_named, left_out_set, left_out_stmt, left_out_all}
-use Rattle.expr_lower.proofs.Adding.{Links, length_join}
+use Rattle.expr_lower.proofs.Adding.{length_join}
 use Rattle.expr_lower.proofs.Executed.{executes}
 use Rattle.expr_lower.proofs.FittedStmts.{fits_all}
 use Rattle.expr_lower.proofs.Listing.{IsListName, found}
@@ -192,15 +193,6 @@ item_adds names text spot value place at c old d1 d2 new e a b p =
     }
 
 -- ---- branches and loops
-
--- what `close` does
-abbrev pub Closes : List Instr → List Instr → ℕ → ℕ → ℕ → Type 0
-Closes old new start exits out = (before test rest : List Instr)
-    → old ≡ before ++ (test ++ rest) → start ≡ length before → exits ≡ start + length test → new ≡ before ++ (map (aimed out) test ++ rest)
-
--- what `jump_at` does
-abbrev pub SetsJump : List Instr → List Instr → ℕ → ℕ → Type 0
-SetsJump old new place target = (before rest : List Instr) (i : Instr) → old ≡ before ++ i ∷ rest → place ≡ length before → new ≡ before ++ op.Jump target ∷ rest
 
 pub alone_adds : (names : List Name) (test first : Tree) (at : ℕ) (old d1 d2 new : Draft) (start exits end : ℕ)
     → Adds (IsOpenTest names test) old d1 → Adds (AreStmts names first) d1 d2

@@ -4,6 +4,7 @@ pub mod Held
 pub mod Placed
 pub mod Following
 pub mod Coding
+pub mod Linking
 pub mod Fitting
 pub mod Lowered
 pub mod Listed

@@ -1,9 +1,10 @@
 -- The words of the contracts of calls that lower statements, over names and statements as the code has them.
 -- Trusted: part of what a promise means.
-use Rattle.std.specs.Prelude.{◌≡◌, ℕ, List, map, None}
+use Rattle.std.specs.Prelude.{◌≡◌, ℕ, List, [], ◌∷◌, map, Option, None, Vec}
+use Rattle.std.specs.declared.alloc.Global.{Global}
 use Rattle.cal_ast.specs.Tree as tree
 use Rattle.cal_ast.specs.Tree.{Tree, listed}
-use Rattle.cal_ast.specs.View.{expr_tree, ident_tree, stmt_tree}
+use Rattle.cal_ast.specs.View.{body_tree, expr_tree, ident_tree, stmt_tree}
 use Rattle.cal_ast.specs.declared.expr.Expr.{Expr}
 use Rattle.cal_ast.specs.declared.ident.Ident.{Ident}
 use Rattle.cal_ast.specs.declared.stmt.Stmt.{Stmt}
@@ -25,6 +26,16 @@ body_of body = listed (map stmt_tree body)
 abbrev pub set_of : Ident → List Expr → Expr → ℕ → Tree
 set_of name places value at =
     tree.assign (ident_tree name) (listed (map expr_tree places)) (expr_tree value) at
+
+abbrev pub set_one_of : Ident → Expr → ℕ → Tree
+set_one_of name value at = set_of name [] value at
+
+abbrev pub set_item_of : Ident → Expr → Expr → ℕ → Tree
+set_item_of name place value at = set_of name (place ∷ []) value at
+
+abbrev pub branch_of : Expr → List Stmt → Option (Vec Stmt Global) → ℕ → Tree
+branch_of test first other at =
+    tree.if_stmt (expr_tree test) (body_of first) (body_tree other) at
 
 abbrev pub alone_of : Expr → List Stmt → ℕ → Tree
 alone_of test first at = tree.if_stmt (expr_tree test) (body_of first) tree.absent at

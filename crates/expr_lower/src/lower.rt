@@ -1,19 +1,18 @@
 //! Expressions as code: one small function a form.
 
-ghost use Rattle.std.specs.Prelude.{◌≡◌, ◌+◌, ◌<◌, ◌≤◌, ℕ, List, [], ◌++◌, ◌∷◌, length, map};
-ghost use Rattle.std.specs.Prelude.{IfErr, None, OnOk, Some, pos};
-ghost use Rattle.rvc_base.specs.Width.{greatest_num};
+ghost use Rattle.std.specs.Prelude.{◌≡◌, ◌<◌, ◌≤◌, ℕ, List, length, map};
+ghost use Rattle.std.specs.Prelude.{IfErr, None, OnOk};
 ghost use Rattle.cal_ast.specs.Tree as tree;
 ghost use Rattle.cal_ast.specs.View.{expr_tree};
-ghost use Rattle.code_ir.specs.declared.instr.Instr.{Instr};
-ghost use Rattle.code_ir.specs.declared.instr.Instr.TheVariants as op;
 ghost use Rattle.expr_lower.specs.declared.fault.LowerFault.TheVariants.{Memory};
-ghost use Rattle.expr_lower.specs.Coding.{IsCode, aimed, binary_instr};
+ghost use Rattle.expr_lower.specs.Coding.{aimed, one_too_great};
 ghost use Rattle.expr_lower.specs.Growing.{IsFault};
 ghost use Rattle.expr_lower.specs.Held.{AreBelow};
-ghost use Rattle.expr_lower.specs.Lowered.{Adds, IsPut};
+ghost use Rattle.expr_lower.specs.Linking.{Closes, Links, SetsJump};
+ghost use Rattle.expr_lower.specs.Lowered.{IsPut};
 ghost use Rattle.expr_lower.specs.Names.{Name, names_view};
-ghost use Rattle.expr_lower.specs.Words.{AddsLowered, IsFaultOf, IsWhole, Lowers, Opens};
+ghost use Rattle.expr_lower.specs.Words.{AddsCode, AddsLowered, Applies, IsFaultOf, IsWhole};
+ghost use Rattle.expr_lower.specs.Words.{Lowers, Opens};
 ghost use Rattle.expr_lower.specs.Words.{and_of, binary_of, first_left_out, if_of, index_of, or_of};
 
 use crate::draft::{Draft, next_place, put, put_const};
@@ -51,7 +50,7 @@ pub(crate) fn lower(names: &[Named], e: &Expr, draft: &mut Draft) -> Result<(), 
 /// Appends a number as it is written.
 fn number(value: u128, draft: &mut Draft) -> Result<(), LowerFault>
     ensures ok { (names : List Name) (at : ℕ)
-        → OnOk result (Adds (IsCode names (tree.number value at)) draft.old draft.new) }
+        → OnOk result (AddsCode names (tree.number value at) draft.old draft.new) }
     ensures memory { IfErr result (λ fault. fault ≡ Memory) }
 {
     match Num::try_from(value) {
@@ -63,7 +62,7 @@ fn number(value: u128, draft: &mut Draft) -> Result<(), LowerFault>
 /// Appends a truth value: 0 or 1.
 fn truth(value: bool, draft: &mut Draft) -> Result<(), LowerFault>
     ensures ok { (names : List Name) (at : ℕ)
-        → OnOk result (Adds (IsCode names (tree.truth value at)) draft.old draft.new) }
+        → OnOk result (AddsCode names (tree.truth value at) draft.old draft.new) }
     ensures memory { IfErr result (λ fault. fault ≡ Memory) }
 {
     if value {
@@ -86,7 +85,7 @@ fn paren(names: &[Named], inner: &Expr, draft: &mut Draft) -> Result<(), LowerFa
 
 /// Appends code that traps: a sum that is one greater than the greatest number.
 fn overflow(draft: &mut Draft) -> Result<(), LowerFault>
-    ensures added { OnOk result (IsPut (op.Const greatest_num ∷ op.Const (pos 1) ∷ op.Add ∷ []) draft.old draft.new) }
+    ensures added { OnOk result (IsPut one_too_great draft.old draft.new) }
     ensures memory { IfErr result (λ fault. fault ≡ Memory) }
 {
     put(draft, Instr::Const(Num::MAX))?;
@@ -118,8 +117,8 @@ fn item(
     at: u32,
     draft: &mut Draft,
 ) -> Result<(), LowerFault>
-    ensures ok { OnOk result (Lowers names.now
-        (index_of base.now place.now at) draft.old draft.new) }
+    ensures ok { OnOk result
+        (Lowers names.now (index_of base.now place.now at) draft.old draft.new) }
     ensures whole { OnOk result (IsWhole names.now (index_of base.now place.now at)) }
     ensures fault { IfErr result (IsFaultOf names.now (index_of base.now place.now at) draft.new) }
 {
@@ -155,9 +154,11 @@ fn binary(
     at: u32,
     draft: &mut Draft,
 ) -> Result<(), LowerFault>
-    ensures ok { OnOk result (Lowers names.now (binary_of op left.now right.now at) draft.old draft.new) }
+    ensures ok { OnOk result
+        (Lowers names.now (binary_of op left.now right.now at) draft.old draft.new) }
     ensures whole { OnOk result (IsWhole names.now (binary_of op left.now right.now at)) }
-    ensures fault { IfErr result (IsFaultOf names.now (binary_of op left.now right.now at) draft.new) }
+    ensures fault { IfErr result
+        (IsFaultOf names.now (binary_of op left.now right.now at) draft.new) }
 {
     match binary_instr(op) {
         Some(instr) => strict(names, instr, left, right, draft),
@@ -180,8 +181,8 @@ fn strict(
     right: &Expr,
     draft: &mut Draft,
 ) -> Result<(), LowerFault>
-    ensures ok { (op : BinOp) (at : ℕ) → binary_instr op ≡ Some instr
-        → OnOk result (Lowers names.now (binary_of op left.now right.now at) draft.old draft.new) }
+    ensures ok { OnOk result
+        (Applies names.now instr left.now right.now draft.old draft.new) }
     ensures whole { OnOk result (first_left_out names.now left.now right.now ≡ None) }
     ensures fault { IfErr result (IsFault (first_left_out names.now left.now right.now) draft.new) }
 {
@@ -330,11 +331,7 @@ fn test_value(names: &[Named], e: &Expr, draft: &mut Draft) -> Result<(), LowerF
 /// jump at `jump`.
 pub(crate) fn link(draft: &mut Draft, start: usize, exits: usize, out: u32, jump: usize, end: u32)
     requires order { (start ≤ exits) × (exits ≤ jump) × (jump < length draft.old.instrs.items) }
-    ensures linked { (before test first other : List Instr) (i : Instr)
-        → draft.old.instrs.items ≡ before ++ (test ++ (first ++ i ∷ other))
-        → start ≡ length before → exits ≡ start + length test → jump ≡ exits + length first
-        → draft.new.instrs.items
-        ≡ before ++ (map (aimed out) test ++ (first ++ op.Jump end ∷ other)) }
+    ensures linked { Links draft.old.instrs.items draft.new.instrs.items start exits out jump end }
     ensures routines { draft.new.routines.items ≡ draft.old.routines.items }
     ensures cells { draft.new.cells ≡ draft.old.cells }
 {
@@ -345,10 +342,7 @@ pub(crate) fn link(draft: &mut Draft, start: usize, exits: usize, out: u32, jump
 /// Sets the targets of the jumps that stand from `start` to `exits` for a condition that is false.
 pub(crate) fn close(draft: &mut Draft, start: usize, exits: usize, out: u32)
     requires order { (start ≤ exits) × (exits ≤ length draft.old.instrs.items) }
-    ensures closed { (before test rest : List Instr)
-        → draft.old.instrs.items ≡ before ++ (test ++ rest)
-        → start ≡ length before → exits ≡ start + length test
-        → draft.new.instrs.items ≡ before ++ (map (aimed out) test ++ rest) }
+    ensures closed { Closes draft.old.instrs.items draft.new.instrs.items start exits out }
     ensures routines { draft.new.routines.items ≡ draft.old.routines.items }
     ensures cells { draft.new.cells ≡ draft.old.cells }
 {
@@ -358,9 +352,7 @@ pub(crate) fn close(draft: &mut Draft, start: usize, exits: usize, out: u32)
 /// Sets the target of the jump at a place.
 pub(crate) fn jump_at(draft: &mut Draft, place: usize, target: u32)
     requires inside { place < length draft.old.instrs.items }
-    ensures aimed { (before rest : List Instr) (i : Instr)
-        → draft.old.instrs.items ≡ before ++ i ∷ rest → place ≡ length before
-        → draft.new.instrs.items ≡ before ++ op.Jump target ∷ rest }
+    ensures aimed { SetsJump draft.old.instrs.items draft.new.instrs.items place target }
     ensures routines { draft.new.routines.items ≡ draft.old.routines.items }
     ensures cells { draft.new.cells ≡ draft.old.cells }
 {

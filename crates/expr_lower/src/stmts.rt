@@ -1,14 +1,14 @@
 //! Statements as code: one small function a form.
 
-ghost use Rattle.std.specs.Prelude.{◌≡◌, ◌∷◌, [], ℕ, IfErr, OnOk};
-ghost use Rattle.cal_ast.specs.View.{body_tree, expr_tree, stmt_tree};
-ghost use Rattle.cal_ast.specs.Tree as tree;
+ghost use Rattle.std.specs.Prelude.{ℕ, IfErr, OnOk};
+ghost use Rattle.cal_ast.specs.View.{stmt_tree};
 ghost use Rattle.expr_lower.specs.Changing.{AreTyped, NamesApart};
 ghost use Rattle.expr_lower.specs.Held.{AreBelow};
 ghost use Rattle.expr_lower.specs.Names.{names_view};
 ghost use Rattle.expr_lower.specs.StmtWords.{AddsExecuted, AddsStmt, AddsStmts, AreWhole};
 ghost use Rattle.expr_lower.specs.StmtWords.{IsFaultAmong, IsFaultIn, IsWholeStmt};
-ghost use Rattle.expr_lower.specs.StmtWords.{alone_of, body_of, fork_of, set_of, while_of};
+ghost use Rattle.expr_lower.specs.StmtWords.{alone_of, body_of, branch_of, fork_of};
+ghost use Rattle.expr_lower.specs.StmtWords.{set_item_of, set_of, set_one_of, while_of};
 
 use crate::draft::{Draft, next_place, put};
 use crate::fault::LowerFault;
@@ -66,9 +66,11 @@ fn set(
     at: u32,
     draft: &mut Draft,
 ) -> Result<(), LowerFault>
-    ensures ok { OnOk result (AddsStmt names.now (set_of name.now places.now value.now at) draft.old draft.new) }
+    ensures ok { OnOk result
+        (AddsStmt names.now (set_of name.now places.now value.now at) draft.old draft.new) }
     ensures whole { OnOk result (IsWholeStmt names.now (set_of name.now places.now value.now at)) }
-    ensures fault { IfErr result (IsFaultIn names.now (set_of name.now places.now value.now at) draft.new) }
+    ensures fault { IfErr result
+        (IsFaultIn names.now (set_of name.now places.now value.now at) draft.new) }
 {
     match places {
         [] => set_one(names, name, value, at, draft),
@@ -85,9 +87,11 @@ fn set_one(
     at: u32,
     draft: &mut Draft,
 ) -> Result<(), LowerFault>
-    ensures ok { OnOk result (AddsStmt names.now (set_of name.now [] value.now at) draft.old draft.new) }
-    ensures whole { OnOk result (IsWholeStmt names.now (set_of name.now [] value.now at)) }
-    ensures fault { IfErr result (IsFaultIn names.now (set_of name.now [] value.now at) draft.new) }
+    ensures ok { OnOk result
+        (AddsStmt names.now (set_one_of name.now value.now at) draft.old draft.new) }
+    ensures whole { OnOk result (IsWholeStmt names.now (set_one_of name.now value.now at)) }
+    ensures fault { IfErr result
+        (IsFaultIn names.now (set_one_of name.now value.now at) draft.new) }
 {
     let Some(to) = cell_named(names, name.text.as_str()) else {
         return Err(LowerFault::NotLowered { at });
@@ -105,9 +109,12 @@ fn set_item(
     at: u32,
     draft: &mut Draft,
 ) -> Result<(), LowerFault>
-    ensures ok { OnOk result (AddsStmt names.now (set_of name.now (place.now ∷ []) value.now at) draft.old draft.new) }
-    ensures whole { OnOk result (IsWholeStmt names.now (set_of name.now (place.now ∷ []) value.now at)) }
-    ensures fault { IfErr result (IsFaultIn names.now (set_of name.now (place.now ∷ []) value.now at) draft.new) }
+    ensures ok { OnOk result
+        (AddsStmt names.now (set_item_of name.now place.now value.now at) draft.old draft.new) }
+    ensures whole { OnOk result
+        (IsWholeStmt names.now (set_item_of name.now place.now value.now at)) }
+    ensures fault { IfErr result
+        (IsFaultIn names.now (set_item_of name.now place.now value.now at) draft.new) }
 {
     let Some(to) = cells_named(names, name.text.as_str()) else {
         return Err(LowerFault::NotLowered { at });
@@ -127,11 +134,11 @@ fn branch(
     draft: &mut Draft,
 ) -> Result<(), LowerFault>
     ensures ok { (at : ℕ)
-        → OnOk result (AddsStmt names.now (tree.if_stmt (expr_tree test.now) (body_of yes.now) (body_tree no.now) at)
-        draft.old draft.new) }
-    ensures whole { OnOk result (IsWholeStmt names.now (tree.if_stmt (expr_tree test.now) (body_of yes.now) (body_tree no.now) 0)) }
-    ensures fault { IfErr result (IsFaultIn names.now (tree.if_stmt (expr_tree test.now) (body_of yes.now) (body_tree no.now) 0)
-        draft.new) }
+        → OnOk result
+        (AddsStmt names.now (branch_of test.now yes.now no.now at) draft.old draft.new) }
+    ensures whole { OnOk result (IsWholeStmt names.now (branch_of test.now yes.now no.now 0)) }
+    ensures fault { IfErr result
+        (IsFaultIn names.now (branch_of test.now yes.now no.now 0) draft.new) }
 {
     match no {
         Some(no) => fork(names, test, yes, no, draft),
@@ -168,8 +175,8 @@ fn fork(
     ensures ok { (at : ℕ)
         → OnOk result (AddsStmt names.now (fork_of test.now yes.now no.now at) draft.old draft.new) }
     ensures whole { OnOk result (IsWholeStmt names.now (fork_of test.now yes.now no.now 0)) }
-    ensures fault { IfErr result (IsFaultIn names.now
-        (fork_of test.now yes.now no.now 0) draft.new) }
+    ensures fault { IfErr result
+        (IsFaultIn names.now (fork_of test.now yes.now no.now 0) draft.new) }
 {
     let start = draft.instrs.len();
     lower_test(names, test, draft)?;

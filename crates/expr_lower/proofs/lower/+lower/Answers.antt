@@ -68,9 +68,9 @@ operation-returns-clause-ok t c = λ at.
     c.put.ensures.added
 
 pub strict-returns-clause-ok : goal.strict-returns-clause-ok
-strict-returns-clause-ok t c = λ o at e.
+strict-returns-clause-ok t c =
     on_ok_weaker c.put.result
-    (strict_adds (names_view c.args.names.now) o c.args.instr (expr_tree c.args.left.now) (expr_tree c.args.right.now) at c.args.draft.now c.lower.new.draft c.lower-2.new.draft c.put.new.draft e c.in_ok-lower.ensures.ok c.in_ok-lower-2.ensures.ok)
+    (λ p o at e. strict_adds (names_view c.args.names.now) o c.args.instr (expr_tree c.args.left.now) (expr_tree c.args.right.now) at c.args.draft.now c.lower.new.draft c.lower-2.new.draft c.put.new.draft e c.in_ok-lower.ensures.ok c.in_ok-lower-2.ensures.ok p)
     c.put.ensures.added
 
 pub test_both-returns-clause-ok : goal.test_both-returns-clause-ok
