@@ -8,11 +8,15 @@ pub mod Linking
 pub mod Fitting
 pub mod Lowered
 pub mod Listed
+pub mod Meant
+pub mod Seen
 pub mod Truths
 pub mod Growing
 pub mod Words
 pub mod Changing
 pub mod Stating
+pub mod Taking
 pub mod Executing
 pub mod StmtGrowing
 pub mod StmtWords
+pub mod SeenWords

@@ -25,3 +25,8 @@ abbrev pub SetsJump : List Instr → List Instr → ℕ → ℕ → Type 0
 SetsJump old new place target =
     (before rest : List Instr) (i : Instr) → old ≡ before ++ i ∷ rest → place ≡ length before
     → new ≡ before ++ op.Jump target ∷ rest
+
+abbrev pub SetsExit : List Instr → List Instr → ℕ → ℕ → Type 0
+SetsExit old new place target =
+    (before rest : List Instr) (i : Instr) → old ≡ before ++ i ∷ rest → place ≡ length before
+    → new ≡ before ++ op.JumpIfNot target ∷ rest
