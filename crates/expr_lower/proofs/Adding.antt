@@ -12,6 +12,7 @@ use Rattle.expr_lower.specs.declared.draft.Draft.{Draft}
 use Rattle.expr_lower.specs.Names.{Name}
 use Rattle.expr_lower.specs.Coding.{IsCode, IsTest, binary, both, either, if_code, tested, both_tested, IsOpenTest, aimed, binary_instr}
 use Rattle.expr_lower.specs.Truths.{is_truth}
+use Rattle.expr_lower.specs.Linking.{Links}
 use Rattle.expr_lower.specs.Lowered.{Adds, IsPut}
 use Rattle.expr_lower.proofs.Aimed.{unaimed}
 
@@ -78,12 +79,6 @@ tests_coded names l r at e base n k m a b first second out =
     (subst (λ x. IsTest names r (base + x) k out (map (aimed out) b) m) (sym (length-map a (aimed out))) (second out)))
 
 -- ---- forms with jumps
-
--- what `link` does
-abbrev pub Links : List Instr → List Instr → ℕ → ℕ → ℕ → ℕ → ℕ → Type 0
-Links old new start exits out jump end = (before test first other : List Instr) (i : Instr)
-    → old ≡ before ++ (test ++ (first ++ i ∷ other)) → start ≡ length before → exits ≡ start + length test → jump ≡ exits + length first
-    → new ≡ before ++ (map (aimed out) test ++ (first ++ op.Jump end ∷ other))
 
 pub length_join : (old mid a : List Instr) → mid ≡ old ++ a → length mid ≡ length old + length a
 length_join old mid a e = ap length e ∙ length-append old a

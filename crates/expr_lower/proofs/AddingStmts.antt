@@ -1,14 +1,16 @@
 -- Code of statements that was added to a draft, part by part.
-use Rattle.std.proofs.Common.{◌≡◌, ℕ, zero, suc, ◌+◌, ◌<◌, ◌≤◌, List, [], ◌∷◌, ◌++◌, length, map, take, drop, get_or, refl, sym, ap, ◌∙◌, subst, Option, None, Some, arith, append_assoc, length-append}
+use Rattle.std.proofs.Common.{◌≡◌, ℕ, zero, suc, ◌+◌, ◌<◌, ◌≤◌, List, [], ◌∷◌, ◌++◌, length, map, take, drop, get_or, Bool, refl, sym, ap, ◌∙◌, subst, Option, None, Some, arith, append_assoc, length-append}
 use Rattle.std.proofs.lemmas.List.{append-nil, length-map, map-append, take_more, take_all, take-append-drop}
+use Rattle.rvc_base.specs.declared.scalar.Scalar.{Scalar}
 use Rattle.cal_ast.specs.Tree as tree
 use Rattle.cal_ast.specs.Tree.{Tree, listed}
 use Rattle.cal_model.specs.Value.{Shape, Single, Many}
 use Rattle.code_ir.specs.declared.instr.Instr.{Instr}
 use Rattle.code_ir.specs.declared.instr.Instr.TheVariants as op
+use Rattle.expr_lower.specs.declared.counter.Counter.{Counter}
 use Rattle.expr_lower.specs.declared.draft.Draft.{Draft}
 use Rattle.expr_lower.specs.declared.fault.LowerFault.{LowerFault}
-use Rattle.expr_lower.specs.declared.fault.LowerFault.TheVariants.{Memory, TooLong, NotLowered}
+use Rattle.expr_lower.specs.declared.fault.LowerFault.TheVariants.{Memory, TooLong, TooManyCells, NotLowered}
 use Rattle.expr_lower.specs.declared.names.ItemList.{ItemList}
 use Rattle.expr_lower.specs.declared.names.ListCells.{ListCells}
 use Rattle.expr_lower.specs.declared.names.OneCell.{OneCell}
@@ -19,12 +21,17 @@ use Rattle.expr_lower.specs.Held.{AreBelow}
 use Rattle.expr_lower.specs.Changing.{AreTyped, NamesApart}
 use Rattle.expr_lower.specs.Coding.{IsCode, IsTest, IsOpenTest, aimed}
 use Rattle.expr_lower.specs.Executing.{IsExecuted}
-use Rattle.expr_lower.specs.Growing.{IsFault, ◌or_else◌}
+use Rattle.expr_lower.specs.Growing.{IsFault, left_out, ◌or_else◌}
 use Rattle.expr_lower.specs.Listed.{list_named}
+use Rattle.expr_lower.specs.Linking.{Closes, Links, SetsExit, SetsJump}
 use Rattle.expr_lower.specs.Lowered.{Adds, IsPut}
-use Rattle.expr_lower.specs.Stating.{IsStmt, AreStmts, set, set_item, if_alone, if_else, while_code, none, one_more}
-use Rattle.expr_lower.specs.StmtGrowing.{cell_of, cell_named, cells_of, cells_named, left_out_set, left_out_stmt, left_out_all}
-use Rattle.expr_lower.proofs.Adding.{Links, length_join}
+use Rattle.expr_lower.specs.Meant.{local, single_meant}
+use Rattle.expr_lower.specs.Stating.{IsStmt, AreStmts, set, set_item, if_alone, if_else, while_code, each_code, none, one_more, IsBlock, IsStart, variable_more}
+use Rattle.expr_lower.specs.Stating.{counter_at, each_bounds, each_head, each_less, each_next, each_tail, each_turn}
+use Rattle.expr_lower.specs.Taking.{HasOneMore, HasTaken}
+use Rattle.expr_lower.specs.StmtGrowing.{cell_of, cell_named, cells_of, cells_named, left_out_set, left_out_start, left_out_stmt, left_out_all, left_out_vars}
+use Rattle.expr_lower.proofs.Adding.{length_join}
+use Rattle.expr_lower.proofs.Erased.{any_cell, any_cell_vars}
 use Rattle.expr_lower.proofs.Executed.{executes}
 use Rattle.expr_lower.proofs.FittedStmts.{fits_all}
 use Rattle.expr_lower.proofs.Listing.{IsListName, found}
@@ -103,6 +110,7 @@ pub fault_among : {X : Type 0} (f : X → Tree) (names : List Name) (xs : List X
     → left_out_all names (listed (map f (take i xs))) ≡ None → IsFault (left_out_stmt names (f x)) draft fault → IsFault (left_out_all names (listed (map f xs))) draft fault
 fault_among f names xs x i draft Memory small is whole h = tt
 fault_among f names xs x i draft TooLong small is whole h = h
+fault_among f names xs x i draft TooManyCells small is whole h = h
 fault_among f names xs x i draft (NotLowered at) small is whole h =
     let split : map f (take (i + 1) xs) ≡ map f (take i xs) ++ f x ∷ [] = ap (map f) (take_more xs i x small ∙ ap (λ y. take i xs ++ y ∷ []) (sym is)) ∙ map-append f (take i xs) (x ∷ []) in
     let first : left_out_all names (listed (map f (take (i + 1) xs))) ≡ Some at = ap (λ ts. left_out_all names (listed ts)) split ∙ left_more names (map f (take i xs)) (f x) whole ∙ h in
@@ -192,15 +200,6 @@ item_adds names text spot value place at c old d1 d2 new e a b p =
     }
 
 -- ---- branches and loops
-
--- what `close` does
-abbrev pub Closes : List Instr → List Instr → ℕ → ℕ → ℕ → Type 0
-Closes old new start exits out = (before test rest : List Instr)
-    → old ≡ before ++ (test ++ rest) → start ≡ length before → exits ≡ start + length test → new ≡ before ++ (map (aimed out) test ++ rest)
-
--- what `jump_at` does
-abbrev pub SetsJump : List Instr → List Instr → ℕ → ℕ → Type 0
-SetsJump old new place target = (before rest : List Instr) (i : Instr) → old ≡ before ++ i ∷ rest → place ≡ length before → new ≡ before ++ op.Jump target ∷ rest
 
 pub alone_adds : (names : List Name) (test first : Tree) (at : ℕ) (old d1 d2 new : Draft) (start exits end : ℕ)
     → Adds (IsOpenTest names test) old d1 → Adds (AreStmts names first) d1 d2
@@ -292,6 +291,156 @@ while_adds names test body at old d1 d2 d3 d4 d5 d6 new i start turn first head 
           (subst (λ x. IsTest names test x d3.cells out a d4.cells) (sym head_is) (t.has out))
           head_at out_at));
     }
+
+-- ---- a `foreach`
+
+-- the instructions of all parts in a row, with the two jumps out of the loop
+arranged : (old a b h t c l x d10 d11 new : List Instr) (out first second : ℕ)
+    → d10 ≡ (((((((old ++ a) ++ b) ++ h) ++ op.JumpIfNot 0 ∷ []) ++ t) ++ c) ++ l) ++ (op.JumpIfNot 0 ∷ x)
+    → first ≡ length (((old ++ a) ++ b) ++ h) → second ≡ length ((((((old ++ a) ++ b) ++ h) ++ op.JumpIfNot 0 ∷ []) ++ t) ++ c) + length l
+    → SetsExit d10 d11 first out → SetsExit d11 new second out
+    → new ≡ old ++ (a ++ (b ++ ((h ++ op.JumpIfNot out ∷ t) ++ (c ++ (l ++ op.JumpIfNot out ∷ x)))))
+arranged old a b h t c l x d10 d11 new out first second all first_is second_is one two =
+    let front : List Instr = ((old ++ a) ++ b) ++ h in
+    let flat : (((((((old ++ a) ++ b) ++ h) ++ op.JumpIfNot 0 ∷ []) ++ t) ++ c) ++ l) ++ (op.JumpIfNot 0 ∷ x) ≡ front ++ op.JumpIfNot 0 ∷ (t ++ (c ++ (l ++ op.JumpIfNot 0 ∷ x))) = simp append_assoc in
+    let once : d11 ≡ front ++ op.JumpIfNot out ∷ (t ++ (c ++ (l ++ op.JumpIfNot 0 ∷ x))) = one front (t ++ (c ++ (l ++ op.JumpIfNot 0 ∷ x))) (op.JumpIfNot 0) (all ∙ flat) first_is in
+    let upto : List Instr = front ++ op.JumpIfNot out ∷ (t ++ (c ++ l)) in
+    let regroup : front ++ op.JumpIfNot out ∷ (t ++ (c ++ (l ++ op.JumpIfNot 0 ∷ x))) ≡ upto ++ op.JumpIfNot 0 ∷ x = simp append_assoc in
+    let a1 = length-append front (op.JumpIfNot out ∷ (t ++ (c ++ l))) in
+    let a2 = length-append t (c ++ l) in
+    let a3 = length-append c l in
+    let size : length upto ≡ length front + 1 + length t + length c + length l = omega (arith, a1, a2, a3) in
+    let b1 = length-append ((front ++ op.JumpIfNot 0 ∷ []) ++ t) c in
+    let b2 = length-append (front ++ op.JumpIfNot 0 ∷ []) t in
+    let b3 = length-append front (op.JumpIfNot 0 ∷ []) in
+    let reach : length (((front ++ op.JumpIfNot 0 ∷ []) ++ t) ++ c) ≡ length front + 1 + length t + length c = omega (arith, b1, b2, b3) in
+    let twice : new ≡ upto ++ op.JumpIfNot out ∷ x = two upto x (op.JumpIfNot 0) (once ∙ regroup) (omega (arith, second_is, size, reach)) in
+    twice ∙ simp append_assoc
+
+pub each_adds : (names : List Name) (shape from to body : Tree) (text : List ℕ) (place at : ℕ) (t : Scalar) (c : Counter) (old d1 d2 d3 d4 d5 d6 d7 d8 d9 d10 d11 new : Draft) (skip turn exit out : ℕ)
+    → single_meant shape ≡ Some t → HasTaken t old d1 c → Adds (IsCode names from) d1 d2 → Adds (IsCode names to) d2 d3
+    → IsPut (each_bounds c) d3 d4 → IsPut (op.JumpIfNot 0 ∷ []) d4 d5 → IsPut (each_turn c) d5 d6 → Adds (AreStmts (local text c.kind c.variable ∷ names) body) d6 d7
+    → IsPut (each_less c) d7 d8 → IsPut (op.JumpIfNot 0 ∷ []) d8 d9 → IsPut (each_next c turn) d9 d10
+    → skip ≡ length d4.instrs.items → turn ≡ length d5.instrs.items → exit ≡ length d8.instrs.items → out ≡ length d10.instrs.items
+    → SetsExit d10.instrs.items d11.instrs.items skip out → d11.routines.items ≡ d10.routines.items → d11.cells ≡ d10.cells
+    → SetsExit d11.instrs.items new.instrs.items exit out → new.routines.items ≡ d11.routines.items → new.cells ≡ d11.cells
+    → Adds (IsStmt names (tree.foreach_stmt shape (tree.ident text place) from to body at)) old new
+each_adds names shape from to body text place at t c old d1 d2 d3 d4 d5 d6 d7 d8 d9 d10 d11 new skip turn exit out meant taken f g p4 p5 p6 b p8 p9 p10 skip_is turn_is exit_is out_is one routines1 cells1 two routines2 cells2 =
+    let n : ℕ = old.cells in
+    let k : Counter = counter_at n t in
+    let base : ℕ = length old.instrs.items in
+    let q4 : IsPut (each_bounds k) d3 d4 = subst (λ x. IsPut (each_bounds x) d3 d4) taken.is p4 in
+    let q6 : IsPut (each_turn k) d5 d6 = subst (λ x. IsPut (each_turn x) d5 d6) taken.is p6 in
+    let q7 : Adds (AreStmts (local text t (n + 2) ∷ names) body) d6 d7 = subst (λ (x : Counter). Adds (AreStmts (local text x.kind x.variable ∷ names) body) d6 d7) taken.is b in
+    let q8 : IsPut (each_less k) d7 d8 = subst (λ x. IsPut (each_less x) d7 d8) taken.is p8 in
+    let q10 : IsPut (each_next k turn) d9 d10 = subst (λ x. IsPut (each_next x turn) d9 d10) taken.is p10 in
+    let i0 : List Instr = old.instrs.items in
+    let e2 : d2.instrs.items ≡ i0 ++ f.code = f.is ∙ ap (λ xs. xs ++ f.code) taken.instrs in
+    let e3 : d3.instrs.items ≡ (i0 ++ f.code) ++ g.code = g.is ∙ ap (λ xs. xs ++ g.code) e2 in
+    let e4 : d4.instrs.items ≡ ((i0 ++ f.code) ++ g.code) ++ each_bounds k = q4.is ∙ ap (λ xs. xs ++ each_bounds k) e3 in
+    let e5 : d5.instrs.items ≡ (((i0 ++ f.code) ++ g.code) ++ each_bounds k) ++ op.JumpIfNot 0 ∷ [] = p5.is ∙ ap (λ xs. xs ++ op.JumpIfNot 0 ∷ []) e4 in
+    let e6 : d6.instrs.items ≡ ((((i0 ++ f.code) ++ g.code) ++ each_bounds k) ++ op.JumpIfNot 0 ∷ []) ++ each_turn k = q6.is ∙ ap (λ xs. xs ++ each_turn k) e5 in
+    let e7 : d7.instrs.items ≡ (((((i0 ++ f.code) ++ g.code) ++ each_bounds k) ++ op.JumpIfNot 0 ∷ []) ++ each_turn k) ++ q7.code = q7.is ∙ ap (λ xs. xs ++ q7.code) e6 in
+    let e8 : d8.instrs.items ≡ ((((((i0 ++ f.code) ++ g.code) ++ each_bounds k) ++ op.JumpIfNot 0 ∷ []) ++ each_turn k) ++ q7.code) ++ each_less k = q8.is ∙ ap (λ xs. xs ++ each_less k) e7 in
+    let e10 : d10.instrs.items ≡ (((((((i0 ++ f.code) ++ g.code) ++ each_bounds k) ++ op.JumpIfNot 0 ∷ []) ++ each_turn k) ++ q7.code) ++ each_less k) ++ (op.JumpIfNot 0 ∷ each_next k turn) =
+    q10.is ∙ ap (λ xs. xs ++ each_next k turn) (p9.is ∙ ap (λ xs. xs ++ op.JumpIfNot 0 ∷ []) e8)
+    ∙ append_assoc (((((((i0 ++ f.code) ++ g.code) ++ each_bounds k) ++ op.JumpIfNot 0 ∷ []) ++ each_turn k) ++ q7.code) ++ each_less k) (op.JumpIfNot 0 ∷ []) (each_next k turn) in
+    let s2 : length d2.instrs.items ≡ base + length f.code = ap length e2 ∙ length-append i0 f.code in
+    let s3 : length d3.instrs.items ≡ base + length f.code + length g.code = ap length g.is ∙ length-append d2.instrs.items g.code ∙ ap (λ z. z + length g.code) s2 in
+    let s4 : length d4.instrs.items ≡ length d3.instrs.items + 5 = length_join d3.instrs.items d4.instrs.items (each_bounds k) q4.is in
+    let s5 : length d5.instrs.items ≡ length d4.instrs.items + 1 = length_join d4.instrs.items d5.instrs.items (op.JumpIfNot 0 ∷ []) p5.is in
+    let s6 : length d6.instrs.items ≡ length d5.instrs.items + 3 = length_join d5.instrs.items d6.instrs.items (each_turn k) q6.is in
+    let s7 : length d7.instrs.items ≡ length d6.instrs.items + length q7.code = length_join d6.instrs.items d7.instrs.items q7.code q7.is in
+    let s8 : length d8.instrs.items ≡ length d7.instrs.items + 3 = length_join d7.instrs.items d8.instrs.items (each_less k) q8.is in
+    let s9 : length d9.instrs.items ≡ length d8.instrs.items + 1 = length_join d8.instrs.items d9.instrs.items (op.JumpIfNot 0 ∷ []) p9.is in
+    let s10 : length d10.instrs.items ≡ length d9.instrs.items + 5 = length_join d9.instrs.items d10.instrs.items (each_next k turn) q10.is in
+    let turn_at : turn ≡ base + length f.code + length g.code + 6 = omega (arith, turn_is, s3, s4, s5) in
+    let start_at : length d6.instrs.items ≡ turn + 3 = omega (arith, turn_is, s6) in
+    let out_at : out ≡ length d6.instrs.items + length q7.code + 9 = omega (arith, out_is, s7, s8, s9, s10) in
+    let cells_at : d6.cells ≡ d3.cells = q6.cells ∙ p5.cells ∙ q4.cells in
+    let end_cells : new.cells ≡ d7.cells = cells2 ∙ cells1 ∙ q10.cells ∙ p9.cells ∙ q8.cells in
+    let code : List Instr = f.code ++ (g.code ++ (each_head n t out ++ (q7.code ++ each_tail n turn out))) in
+    record {
+      code = code;
+      is = arranged i0 f.code g.code (each_bounds k) (each_turn k) q7.code (each_less k) (each_next k turn) d10.instrs.items d11.instrs.items new.instrs.items out skip exit e10
+          (skip_is ∙ ap length e4) (exit_is ∙ s8 ∙ ap (λ z. z + 3) (ap length e7)) one two;
+      routines = routines2 ∙ routines1 ∙ q10.routines ∙ p9.routines ∙ q8.routines ∙ q7.routines ∙ q6.routines ∙ p5.routines ∙ q4.routines ∙ g.routines ∙ f.routines ∙ taken.routines;
+      has = subst (λ m. IsStmt names (tree.foreach_stmt shape (tree.ident text place) from to body at) base n code m) (sym end_cells)
+          (each_code names shape from to body text place at base n d2.cells d3.cells d7.cells turn (length d6.instrs.items) out f.code g.code q7.code t meant
+          (subst (λ p. IsCode names from p (n + 3) f.code d2.cells) (ap length taken.instrs) (subst (λ x. IsCode names from (length d1.instrs.items) x f.code d2.cells) taken.cells f.has))
+          (subst (λ p. IsCode names to p d2.cells g.code d3.cells) s2 g.has)
+          (subst (λ x. AreStmts (local text t (n + 2) ∷ names) body (length d6.instrs.items) x q7.code d7.cells) cells_at q7.has)
+          turn_at start_at out_at);
+    }
+
+abbrev each_left : Option Scalar → ℕ → (Scalar → Option ℕ) → Option ℕ
+each_left o at f = elim o [ None ↦ Some at | Some t ↦ f t ]
+
+-- a `foreach` of which nothing is left out before its body
+each_open : (names : List Name) (shape from to body : Tree) (text : List ℕ) (place at c : ℕ) (t k : Scalar) → single_meant shape ≡ Some t → k ≡ t
+    → left_out names from ≡ None → left_out names to ≡ None
+    → left_out_stmt names (tree.foreach_stmt shape (tree.ident text place) from to body at) ≡ left_out_all (local text k c ∷ names) body
+each_open names shape from to body text place at c t k meant is e f =
+    go (single_meant shape) meant
+    ∙ ap (λ x. x or_else (left_out names to or_else left_out_all (local text t 0 ∷ names) body)) e
+    ∙ ap (λ x. x or_else left_out_all (local text t 0 ∷ names) body) f
+    ∙ sym (any_cell names text t c body) ∙ ap (λ s. left_out_all (local text s c ∷ names) body) (sym is)
+  where
+    go : (o : Option Scalar) → o ≡ Some t
+        → each_left o at (λ s. left_out names from or_else (left_out names to or_else left_out_all (local text s 0 ∷ names) body))
+        ≡ left_out names from or_else (left_out names to or_else left_out_all (local text t 0 ∷ names) body)
+    go None h = cc
+    go (Some s) h = let same : s ≡ t = cc in ap (λ r. left_out names from or_else (left_out names to or_else left_out_all (local text r 0 ∷ names) body)) same
+
+-- .. and nothing at all
+pub each_whole : (names : List Name) (shape from to body : Tree) (text : List ℕ) (place at c : ℕ) (t k : Scalar) → single_meant shape ≡ Some t → k ≡ t
+    → left_out names from ≡ None → left_out names to ≡ None → left_out_all (local text k c ∷ names) body ≡ None
+    → left_out_stmt names (tree.foreach_stmt shape (tree.ident text place) from to body at) ≡ None
+each_whole names shape from to body text place at c t k meant is e f g =
+    each_open names shape from to body text place at c t k meant is e f ∙ g
+
+pub each_fault : (names : List Name) (shape from to body : Tree) (text : List ℕ) (place at c : ℕ) (t k : Scalar) (draft : Draft) (fault : LowerFault) → single_meant shape ≡ Some t → k ≡ t
+    → left_out names from ≡ None → left_out names to ≡ None → IsFault (left_out_all (local text k c ∷ names) body) draft fault
+    → IsFault (left_out_stmt names (tree.foreach_stmt shape (tree.ident text place) from to body at)) draft fault
+each_fault names shape from to body text place at c t k draft fault meant is e f h =
+    subst (λ o. IsFault o draft fault) (sym (each_open names shape from to body text place at c t k meant is e f)) h
+
+-- ---- blocks
+
+pub no_items : {X : Type 0} (xs : List X) → length xs ≡ 0 → xs ≡ []
+no_items [] e = refl
+no_items (x ∷ xs) e = absurd (omega (arith, e))
+
+pub variable_adds : (names : List Name) (shape start vars body : Tree) (text : List ℕ) (place at c : ℕ) (t : Scalar) (changes : Bool) (old d1 d2 new : Draft)
+    → single_meant shape ≡ Some t → HasOneMore old d1 c → Adds (IsStart names t c start) d1 d2 → Adds (IsBlock (local text t c ∷ names) vars body) d2 new
+    → Adds (IsBlock names (tree.cons (tree.var shape (tree.ident text place) start changes at) vars) body) old new
+variable_adds names shape start vars body text place at c t changes old d1 d2 new meant taken f g =
+    let n : ℕ = old.cells in
+    let base : ℕ = length old.instrs.items in
+    let f1 : Adds (IsStart names t n start) d1 d2 = subst (λ x. Adds (IsStart names t x start) d1 d2) taken.is f in
+    let g1 : Adds (IsBlock (local text t n ∷ names) vars body) d2 new = subst (λ x. Adds (IsBlock (local text t x ∷ names) vars body) d2 new) taken.is g in
+    let e2 : d2.instrs.items ≡ old.instrs.items ++ f1.code = f1.is ∙ ap (λ xs. xs ++ f1.code) taken.instrs in
+    let s2 : length d2.instrs.items ≡ base + length f1.code = ap length e2 ∙ length-append old.instrs.items f1.code in
+    record {
+      code = f1.code ++ g1.code;
+      is = g1.is ∙ ap (λ xs. xs ++ g1.code) e2 ∙ append_assoc old.instrs.items f1.code g1.code;
+      routines = g1.routines ∙ f1.routines ∙ taken.routines;
+      has = variable_more names shape start vars body text place at base n d2.cells new.cells f1.code g1.code t changes meant
+          (subst (λ p. IsStart names t n start p (n + 1) f1.code d2.cells) (ap length taken.instrs) (subst (λ x. IsStart names t n start (length d1.instrs.items) x f1.code d2.cells) taken.cells f1.has))
+          (subst (λ p. IsBlock (local text t n ∷ names) vars body p d2.cells g1.code new.cells) s2 g1.has);
+    }
+
+-- a block of which nothing is left out before what stands behind its first variable
+pub variable_open : (names : List Name) (shape start vars body : Tree) (text : List ℕ) (place at c : ℕ) (t : Scalar) (changes : Bool) → single_meant shape ≡ Some t → left_out_start names start ≡ None
+    → left_out_vars names (tree.cons (tree.var shape (tree.ident text place) start changes at) vars) (λ inner. left_out_all inner body) ≡ left_out_vars (local text t c ∷ names) vars (λ inner. left_out_all inner body)
+variable_open names shape start vars body text place at c t changes meant e =
+    go (single_meant shape) meant ∙ ap (λ x. x or_else left_out_vars (local text t 0 ∷ names) vars (λ inner. left_out_all inner body)) e ∙ sym (any_cell_vars names text t c vars body)
+  where
+    go : (o : Option Scalar) → o ≡ Some t
+        → each_left o at (λ s. left_out_start names start or_else left_out_vars (local text s 0 ∷ names) vars (λ inner. left_out_all inner body))
+        ≡ left_out_start names start or_else left_out_vars (local text t 0 ∷ names) vars (λ inner. left_out_all inner body)
+    go None h = cc
+    go (Some s) h = let same : s ≡ t = cc in ap (λ r. left_out_start names start or_else left_out_vars (local text r 0 ∷ names) vars (λ inner. left_out_all inner body)) same
 
 -- ---- all that is promised
 

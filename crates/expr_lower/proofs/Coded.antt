@@ -66,7 +66,7 @@ seat_straight : (seat : Seat) → IsStraight (seat_instr seat)
 seat_straight (Cell c) code tokens s = refl
 seat_straight (Tokens port first step) code tokens s = refl
 
-load_leaves : (c : ℕ) (tokens : ℕ → List ℤ) (stack cells : List ℤ) (z : ℤ) → slice_get cells c ≡ Some z → effect tokens (op.Load c) stack cells ≡ Leaves (z ∷ stack) cells
+pub load_leaves : (c : ℕ) (tokens : ℕ → List ℤ) (stack cells : List ℤ) (z : ℤ) → slice_get cells c ≡ Some z → effect tokens (op.Load c) stack cells ≡ Leaves (z ∷ stack) cells
 load_leaves c tokens stack cells z e =
     let inside : nat_le (c + 1) (length cells) ≡ true = let w = slice_get_within cells c z e in grind (arith, nat_tests, w) in
     ap (λ b. if b then Leaves (cell cells c ∷ stack) cells else Breaks) inside ∙ ap (λ x. Leaves (x ∷ stack) cells) (get_or_from_slice_get cells c z (pos 0) e)

@@ -1,6 +1,7 @@
 -- Code of statements fits where it stands.
-use Rattle.std.proofs.Common.{◌≡◌, ℕ, zero, suc, ◌+◌, ◌<◌, ◌≤◌, inl, inr, ⊎_elim, List, [], ◌∷◌, ◌++◌, length, refl, sym, ap, ◌∙◌, subst, Some, arith, append_assoc, length-append}
+use Rattle.std.proofs.Common.{◌≡◌, ℕ, pos, zero, suc, ◌+◌, ◌<◌, ◌≤◌, inl, inr, ⊎_elim, List, [], ◌∷◌, ◌++◌, length, refl, sym, ap, ◌∙◌, subst, Option, None, Some, arith, append_assoc, length-append, true, false, ◌⊎◌}
 use Rattle.std.specs.Prelude.{slice_get}
+use Rattle.std.specs.Str.{bytes_eq}
 use Rattle.rvc_base.specs.declared.scalar.Scalar.{Scalar}
 use Rattle.rvc_base.specs.Storing.{IsSize}
 use Rattle.cal_model.specs.Value.{Shape, Single, Many, IsType, scalars_of_type}
@@ -14,103 +15,19 @@ use Rattle.expr_lower.specs.Held.{AreBelow, SeatIsBelow}
 use Rattle.expr_lower.specs.Changing.{AreTyped}
 use Rattle.expr_lower.specs.Fitting.{FitsAt, Fits}
 use Rattle.expr_lower.specs.Placed.{StandsAt}
-use Rattle.expr_lower.specs.Stating.{IsStmt, AreStmts, set, set_item, if_alone, if_else, while_code, none, one_more}
+use Rattle.expr_lower.specs.Stating.{IsStmt, AreStmts, set, set_item, if_alone, if_else, while_code, each_code, each_head, each_tail, block_code, none, one_more, IsBlock, no_more, variable_more, IsStart, at_zero, at_value}
 use Rattle.expr_lower.proofs.Coded.{grows, grows_test}
-use Rattle.expr_lower.proofs.Executed.{grows_stmt, grows_all}
-use Rattle.expr_lower.proofs.Fitted.{Plain, branch, fits, fits_jump, fits_like, fits_one, fits_test, fits_then, get_append, glued, glued_before, glued_from, plain_then}
+use Rattle.expr_lower.proofs.Executed.{grows_stmt, grows_all, grows_block, grows_start}
+use Rattle.expr_lower.proofs.Fitted.{Plain, branch, fits, fits_const, fits_jump, fits_like, fits_one, fits_test, fits_then, get_append, glued, glued_before, glued_from, plain_then}
+use Rattle.expr_lower.proofs.FittedEach.{fits_each}
+use Rattle.expr_lower.proofs.FittedJumps.{fits_back, fits_goto, fits_none}
 use Rattle.expr_lower.proofs.Keeping.{below_more}
+use Rattle.expr_lower.proofs.MeantIs.{meant_sized}
+use Rattle.expr_lower.proofs.Scoping.{choose_name}
+use Rattle.expr_lower.specs.Meant.{local}
 use Rattle.expr_lower.proofs.Runs.{stands_left, stands_right}
 
 module _ (code : Code) (callable limit : ℕ) where
-  -- nothing
-  fits_none : (base h : ℕ) → Plain code callable limit base h [] h
-  fits_none base h = record {
-    height = λ p. h;
-    first = refl;
-    last = refl;
-    exit = refl;
-    at = λ j i g. cc;
-  }
-
-  -- a jump into the part behind it
-  fits_goto : (base h k t out e g : ℕ) (c : List Instr) (x : Fits code callable limit (base + 1) g c k out e) → base + 1 ≤ t → t ≤ base + 1 + length c → x.height t ≡ h → base + 1 ≤ out
-      → (z : Fits code callable limit base h (op.Jump t ∷ c) k out e) × ((p : ℕ) → base + 1 ≤ p → z.height p ≡ x.height p)
-  fits_goto base h k t out e g c x ge le at_t far = (
-    record {
-      height = glued (λ p. h) x.height (base + 1);
-      first = glued_before (λ p. h) x.height (base + 1) base (omega arith);
-      last = glued_from (λ p. h) x.height (base + 1) (base + length (op.Jump t ∷ c)) (omega arith) ∙ ap x.height whole ∙ x.last;
-      exit = glued_from (λ p. h) x.height (base + 1) out far ∙ x.exit;
-      at = λ j i g. one j i g;
-    },
-    λ p l. glued_from (λ p. h) x.height (base + 1) p l,
-  )
-    where
-      whole : base + length (op.Jump t ∷ c) ≡ base + 1 + length c
-      whole = omega arith
-
-      one : (j : ℕ) (i : Instr) → slice_get (op.Jump t ∷ c) j ≡ Some i → FitsAt code callable limit base (base + length (op.Jump t ∷ c)) out (glued (λ p. h) x.height (base + 1)) (base + j) i
-      one zero i g =
-          let same : op.Jump t ≡ i = cc in
-          let now : glued (λ p. h) x.height (base + 1) (base + 0) ≡ h = glued_before (λ p. h) x.height (base + 1) (base + 0) (omega arith) in
-          subst (λ y. FitsAt code callable limit base (base + length (op.Jump t ∷ c)) out (glued (λ p. h) x.height (base + 1)) (base + 0) y) same (record {
-            enough = omega arith;
-            next = λ on. cc;
-            jump = λ u f. let is : t ≡ u = cc in let there : glued (λ p. h) x.height (base + 1) u ≡ h = subst (λ q. glued (λ p. h) x.height (base + 1) q ≡ h) is (glued_from (λ p. h) x.height (base + 1) t ge ∙ at_t) in omega (arith, there, now);
-            inside = λ u f. let is : t ≡ u = cc in (inl (omega (arith, is, ge)), omega (arith, is, ge), inl (omega (arith, is, le)));
-            cells = tt;
-            calls = tt;
-            inner = tt;
-            sized = tt;
-          })
-      one (suc j) i g =
-          let place : base + 1 + j ≡ base + suc j = omega arith in
-          subst (λ p. FitsAt code callable limit base (base + length (op.Jump t ∷ c)) out (glued (λ p. h) x.height (base + 1)) p i) place
-          (fits_like code callable limit (base + 1) (base + 1 + length c) out base (base + length (op.Jump t ∷ c)) out x.height (glued (λ p. h) x.height (base + 1)) (base + 1 + j) i (x.at j i g)
-          (glued_from (λ p. h) x.height (base + 1) (base + 1 + j) (omega arith))
-          (λ on. glued_from (λ p. h) x.height (base + 1) (base + 1 + j + 1) (omega arith))
-          (λ u less into. (glued_from (λ p. h) x.height (base + 1) u less, omega (arith, less), ⊎_elim (λ (w : u ≤ base + 1 + length c). inl (omega (arith, w))) (λ (w : u ≡ out). inr w) into)))
-
-  -- a jump back to a turn, behind a part that may jump past it
-  fits_back : (base h back out : ℕ) (a : List Instr) (x : Fits code callable limit base h a h out h) → out ≡ base + length a + 1 → base ≤ back → back ≤ base + length a → x.height back ≡ h
-      → slice_get code.instrs back ≡ Some op.Turn → Plain code callable limit base h (a ++ op.Jump back ∷ []) h
-  fits_back base h back out a x out_is ge le at_back turns = record {
-    height = x.height;
-    first = x.first;
-    last = ap x.height whole ∙ x.exit;
-    exit = ap x.height whole ∙ x.exit;
-    at = λ j i g. ⊎_elim (λ (l : (j < length a) × (slice_get a j ≡ Some i)). before j i l.0 l.1)
-        (λ (l : (q : ℕ) × (j ≡ length a + q) × (slice_get (op.Jump back ∷ []) q ≡ Some i)). last_one j l.0 i l.1 l.2) (get_append a (op.Jump back ∷ []) j i g);
-  }
-    where
-      size : length (a ++ op.Jump back ∷ []) ≡ length a + 1
-      size = length-append a (op.Jump back ∷ [])
-
-      whole : base + length (a ++ op.Jump back ∷ []) ≡ out
-      whole = omega (arith, size, out_is)
-
-      before : (j : ℕ) (i : Instr) → j < length a → slice_get a j ≡ Some i → FitsAt code callable limit base (base + length (a ++ op.Jump back ∷ [])) (base + length (a ++ op.Jump back ∷ [])) x.height (base + j) i
-      before j i less g =
-          fits_like code callable limit base (base + length a) out base (base + length (a ++ op.Jump back ∷ [])) (base + length (a ++ op.Jump back ∷ [])) x.height x.height (base + j) i (x.at j i g) refl (λ on. refl)
-          (λ t low into. (refl, low, inl (⊎_elim (λ (w : t ≤ base + length a). let far = whole in omega (arith, w, size)) (λ (w : t ≡ out). omega (arith, w, whole)) into)))
-
-      last_one : (j q : ℕ) (i : Instr) → j ≡ length a + q → slice_get (op.Jump back ∷ []) q ≡ Some i → FitsAt code callable limit base (base + length (a ++ op.Jump back ∷ [])) (base + length (a ++ op.Jump back ∷ [])) x.height (base + j) i
-      last_one j zero i l g =
-          let same : op.Jump back ≡ i = cc in
-          let place : base + j ≡ base + length a = omega (arith, l) in
-          let now : x.height (base + j) ≡ h = ap x.height place ∙ x.last in
-          subst (λ y. FitsAt code callable limit base (base + length (a ++ op.Jump back ∷ [])) (base + length (a ++ op.Jump back ∷ [])) x.height (base + j) y) same (record {
-            enough = omega arith;
-            next = λ on. cc;
-            jump = λ t f. let is : back ≡ t = cc in let there : x.height t ≡ h = subst (λ u. x.height u ≡ h) is at_back in omega (arith, there, now);
-            inside = λ t f. let is : back ≡ t = cc in (inr (subst (λ u. slice_get code.instrs u ≡ Some op.Turn) is turns), omega (arith, is, ge), inl (omega (arith, is, le, size)));
-            cells = tt;
-            calls = tt;
-            inner = tt;
-            sized = tt;
-          })
-      last_one j (suc q) i l g = cc
-
   -- ---- forms
 
   fits_store : (base h c : ℕ) (t : Scalar) → c + 1 ≤ limit → IsSize t → Plain code callable limit base (h + 1) (op.Store c (Some t) ∷ []) h
@@ -124,6 +41,33 @@ module _ (code : Code) (callable limit : ℕ) where
   cells_there n c names text x s below le e seat shape =
       let there : SeatIsBelow n (scalars_of_type s) (Cell c) = subst (λ r. SeatIsBelow n (scalars_of_type r) (Cell c)) shape (subst (λ r. SeatIsBelow n (scalars_of_type x.shape) r) seat (below text x e)) in
       omega (arith, there, le)
+
+  -- a local more
+  local_below : (n j : ℕ) (names : List Name) (text : List ℕ) (t : Scalar) → n + 3 ≤ j → AreBelow n names → AreBelow j (local text t (n + 2) ∷ names)
+  local_below n j names text t le below other y e =
+      ⊎_elim (λ (f : (bytes_eq text other ≡ true) × (local text t (n + 2) ≡ y)). subst (λ (z : Name). SeatIsBelow j (scalars_of_type z.shape) z.seat) f.1 (omega (arith, le)))
+      (λ (f : (bytes_eq text other ≡ false) × (named other names ≡ Some y)). below_more n j names (omega (arith, le)) below other y f.1)
+      (choose_name (bytes_eq text other) (local text t (n + 2)) (named other names) y e)
+
+  local_typed : (c : ℕ) (names : List Name) (text : List ℕ) (t : Scalar) → IsSize t → AreTyped names → AreTyped (local text t c ∷ names)
+  local_typed c names text t sized typed other y e =
+      ⊎_elim (λ (f : (bytes_eq text other ≡ true) × (local text t c ≡ y)). subst (λ (z : Name). IsType z.shape) f.1 sized)
+      (λ (f : (bytes_eq text other ≡ false) × (named other names ≡ Some y)). typed other y f.1)
+      (choose_name (bytes_eq text other) (local text t c) (named other names) y e)
+
+  -- a local in the next cell
+  cell_below : (n k : ℕ) (names : List Name) (text : List ℕ) (t : Scalar) → n + 1 ≤ k → AreBelow n names → AreBelow k (local text t n ∷ names)
+  cell_below n k names text t le below other y e =
+      ⊎_elim (λ (f : (bytes_eq text other ≡ true) × (local text t n ≡ y)). subst (λ (z : Name). SeatIsBelow k (scalars_of_type z.shape) z.seat) f.1 (omega (arith, le)))
+      (λ (f : (bytes_eq text other ≡ false) × (named other names ≡ Some y)). below_more n k names (omega (arith, le)) below other y f.1)
+      (choose_name (bytes_eq text other) (local text t n) (named other names) y e)
+
+  fits_start : (names : List Name) (t : Scalar) (c : ℕ) {start : Tree} {base n m : ℕ} {a : List Instr} (h : ℕ) → IsSize t → c + 1 ≤ limit → AreBelow n names → m ≤ limit → IsStart names t c start base n a m → Plain code callable limit base h a h
+  fits_start names t c h sized room below le (at_zero base n) =
+      plain_then code callable limit base h (h + 1) h (op.Const (pos 0) ∷ []) (op.Store c None ∷ []) (fits_const code callable limit base h (pos 0))
+      (fits_one code callable limit (base + 1) (h + 1) h (op.Store c None) (omega arith) (omega arith) refl room tt tt tt)
+  fits_start names t c h sized room below le (at_value e base n m instrs g) =
+      plain_then code callable limit base h (h + 1) h instrs (op.Store c (Some t) ∷ []) (fits code callable limit names h below le g) (fits_store (base + length instrs) h c t room sized)
 
   mutual
     pub fits_stmt : {names : List Name} {s : Tree} {base n m : ℕ} {instrs : List Instr} (h : ℕ) → AreBelow n names → AreTyped names → m ≤ limit → StandsAt code.instrs base instrs → IsStmt names s base n instrs m → Plain code callable limit base h instrs h
@@ -172,13 +116,38 @@ module _ (code : Code) (callable limit : ℕ) where
         let loop = fits_then code callable limit (base + 1) h h h (base + 1 + length (op.Turn ∷ b)) h out h (op.Turn ∷ b) a turned tested (omega arith) tested.first (inl (omega arith)) (omega (arith, e, f)) in
         let size : length (b ++ a) ≡ length b + length a = length-append b a in
         let at_head : loop.0.height head ≡ h = loop.1 head (omega (arith, head_is)) ∙ ap tested.height head_is ∙ tested.first in
-        let entered = fits_goto base h h head out h h (op.Turn ∷ (b ++ a)) loop.0 (omega (arith, e)) (omega (arith, e, size)) at_head (omega (arith, e, f)) in
+        let entered = fits_goto code callable limit base h h head out h h (op.Turn ∷ (b ++ a)) loop.0 (omega (arith, e)) (omega (arith, e, size)) at_head (omega (arith, e, f)) in
         let whole : (op.Jump head ∷ op.Turn ∷ (b ++ a)) ++ back ≡ op.Jump head ∷ op.Turn ∷ (b ++ (a ++ back)) = ap (λ is. op.Jump head ∷ op.Turn ∷ is) (append_assoc b a back) in
         subst (λ is. Plain code callable limit base h is h) whole
-        (fits_back base h (base + 1) out (op.Jump head ∷ op.Turn ∷ (b ++ a)) entered.0 (omega (arith, e, f, size)) (omega arith) (omega (arith, size)) (entered.1 (base + 1) (omega arith) ∙ loop.0.first) stands.1.0)
+        (fits_back code callable limit base h (base + 1) out (op.Jump head ∷ op.Turn ∷ (b ++ a)) entered.0 (omega (arith, e, f, size)) (omega arith) (omega (arith, size)) (entered.1 (base + 1) (omega arith) ∙ loop.0.first) stands.1.0)
+    fits_stmt h below typed le stands (each_code names shape from to body text place at base n k j m turn start out a b c t e g d q f1 f2 f3) =
+        let x = grows g in let y = grows d in let z = grows_all q in
+        let few : n ≤ n + 3 = omega arith in
+        let wide : n ≤ k = omega (arith, x) in
+        let rest = stands_right code.instrs base a (b ++ (each_head n t out ++ (c ++ each_tail n turn out))) stands in
+        let last = stands_right code.instrs (base + length a) b (each_head n t out ++ (c ++ each_tail n turn out)) rest in
+        let at_turn : base + length a + length b + 1 + 1 + 1 + 1 + 1 + 1 ≡ turn = omega (arith, f1) in
+        let behind : base + length a + length b + length (each_head n t out) ≡ start = omega (arith, f1, f2) in
+        let there : StandsAt code.instrs start (c ++ each_tail n turn out) = subst (λ p. StandsAt code.instrs p (c ++ each_tail n turn out)) behind (stands_right code.instrs (base + length a + length b) (each_head n t out) (c ++ each_tail n turn out) last) in
+        let sized : IsSize t = meant_sized shape t e in
+        fits_each code callable limit base h n (base + length a + length b) turn start out a b c t (omega (arith, x, y, z, le)) sized
+        (fits code callable limit names h (below_more n (n + 3) names few below) (omega (arith, y, z, le)) g) (fits code callable limit names (h + 1) (below_more n k names wide below) (omega (arith, z, le)) d)
+        (fits_all h (local_below n j names text t (omega (arith, x, y)) below) (local_typed (n + 2) names text t sized typed) le (stands_left code.instrs start c (each_tail n turn out) there) q)
+        refl f1 f2 f3 (subst (λ p. slice_get code.instrs p ≡ Some op.Turn) at_turn last.1.1.1.1.1.1.0)
+    fits_stmt h below typed le stands (block_code names vars body at base n m code g) = fits_block h below typed le stands g
+
+    pub fits_block : {names : List Name} {vars body : Tree} {base n m : ℕ} {instrs : List Instr} (h : ℕ) → AreBelow n names → AreTyped names → m ≤ limit → StandsAt code.instrs base instrs → IsBlock names vars body base n instrs m → Plain code callable limit base h instrs h
+    fits_block h below typed le stands (no_more names body base n m instrs g) = fits_all h below typed le stands g
+    fits_block h below typed le stands (variable_more names shape start vars body text place at base n k m a b t changes e g d) =
+        let x = grows_start g in
+        let y = grows_block d in
+        let sized : IsSize t = meant_sized shape t e in
+        let wide : n ≤ n + 1 = omega arith in
+        plain_then code callable limit base h h h a b (fits_start names t n h sized (omega (arith, x, y, le)) (below_more n (n + 1) names wide below) (omega (arith, y, le)) g)
+        (fits_block h (cell_below n k names text t x below) (local_typed n names text t sized typed) le (stands_right code.instrs base a b stands) d)
 
     pub fits_all : {names : List Name} {ss : Tree} {base n m : ℕ} {instrs : List Instr} (h : ℕ) → AreBelow n names → AreTyped names → m ≤ limit → StandsAt code.instrs base instrs → AreStmts names ss base n instrs m → Plain code callable limit base h instrs h
-    fits_all h below typed le stands (none names base n) = fits_none base h
+    fits_all h below typed le stands (none names base n) = fits_none code callable limit base h
     fits_all h below typed le stands (one_more names s rest base n k m a b g d) =
         let grown = grows_stmt g in
         let more = grows_all d in

@@ -27,3 +27,12 @@ pub mod FittedStmts
 pub mod AddingStmts
 pub mod StmtForms
 pub mod StmtRows
+pub mod MeantIs
+pub mod Locals
+pub mod Counting
+pub mod Eaching
+pub mod FittedJumps
+pub mod FittedEach
+pub mod Erased
+pub mod Seeing
+pub mod Blocking

@@ -75,7 +75,7 @@ module _ (outer : List Name) (w : World) (frames : List ℕ) where
   -- executing and the code come to the same
   abbrev pub Performs : List Name → (Env → ℕ → Out Env) → ℕ → ℕ → List Instr → ℕ → Type 0
   Performs inner M base n code m = (stack cells : List ℤ) (env : Env) (left : ℕ) → StandsAt w.code.instrs base code
-      → AreLaid outer w.tokens w.low w.high n inner → AreApart n m w.low w.high → HoldsInside outer w.tokens w.low w.high inner cells env
+      → AreLaid outer w.tokens w.low w.high n inner → AreApart n m w.low w.high → m ≤ length cells → HoldsInside outer w.tokens w.low w.high inner cells env
       → Follows (M env left) (Moves inner n m (state base stack frames cells left) (base + length code) (length env.locals)) (BreaksOff w (inner ++ outer) n m (state base stack frames cells left))
 
   pub moves_at : (o : Out Env) (inner : List Name) (n m p q size : ℕ) (s : State) → p ≡ q → Follows o (Moves inner n m s p size) (BreaksOff w (inner ++ outer) n m s) → Follows o (Moves inner n m s q size) (BreaksOff w (inner ++ outer) n m s)
@@ -130,24 +130,24 @@ module _ (outer : List Name) (w : World) (frames : List ℕ) where
   -- ---- one after the other
 
   pub perform_none : (inner : List Name) (base n : ℕ) → Performs inner (λ env left. Gives env left) base n [] n
-  perform_none inner base n stack cells env left stands laid apart holds =
+  perform_none inner base n stack cells env left stands laid apart room holds =
       let s : State = state base stack frames cells left in
       let e : base ≡ base + 0 = omega arith in
       subst (λ p. Moves inner n n s p (length env.locals) env left) e (stays inner n n base stack cells left env holds)
 
   pub perform_then : (inner : List Name) (M N : Env → ℕ → Out Env) (base n k m : ℕ) (a b : List Instr) → n ≤ k → k ≤ m
       → Performs inner M base n a k → Performs inner N (base + length a) k b m → Performs inner (λ env left. and_then (M env left) N) base n (a ++ b) m
-  perform_then inner M N base n k m a b le ge first second stack cells env left stands laid apart holds =
+  perform_then inner M N base n k m a b le ge first second stack cells env left stands laid apart room holds =
       let s : State = state base stack frames cells left in
       let end : base + length a + length b ≡ base + length (a ++ b) = omega (arith, length-append a b) in
       follows_then (M env left) N (Moves inner n k s (base + length a) (length env.locals)) (BreaksOff w (inner ++ outer) n k s) (Moves inner n m s (base + length (a ++ b)) (length env.locals)) (BreaksOff w (inner ++ outer) n m s)
-      (first stack cells env left (stands_left w.code.instrs base a b stands) laid (apart_first n k m w.low w.high ge apart) holds)
+      (first stack cells env left (stands_left w.code.instrs base a b stands) laid (apart_first n k m w.low w.high ge apart) (omega (arith, ge, room)) holds)
       (λ next j p.
       let t : State = state (base + length a) stack frames p.cells j in
       moves_at (N next j) inner n m (base + length a + length b) (base + length (a ++ b)) (length env.locals) s end
       (move_after inner n k m m base (base + length a) (base + length a + length b) (length env.locals) stack cells p.cells left j (N next j) le (omega arith) p.reaches (but_wider n m (omega arith) ge p.keeps)
       (subst (λ z. Follows (N next j) (Moves inner k m t (base + length a + length b) z) (BreaksOff w (inner ++ outer) k m t)) p.as_many
-      (second stack p.cells next j (stands_right w.code.instrs base a b stands) (laid_more outer w.tokens w.low w.high n k inner le laid) (apart_last n k m w.low w.high le apart) p.holds))))
+      (second stack p.cells next j (stands_right w.code.instrs base a b stands) (laid_more outer w.tokens w.low w.high n k inner le laid) (apart_last n k m w.low w.high le apart) (let size = p.keeps.size in omega (arith, size, room)) p.holds))))
       (λ c b. breaks_wider (inner ++ outer) n n k m s c (omega arith) ge b)
 
   -- ---- conditions
@@ -156,23 +156,23 @@ module _ (outer : List Name) (w : World) (frames : List ℕ) where
   pub choose_moves : (inner : List Name) (M N : Env → ℕ → Out Env) (base from n k m near there end : ℕ) (stack cells : List ℤ) (env : Env) (left : ℕ) (v : Value) (j : ℕ) → from ≤ n → k ≤ m
       → AreLaid outer w.tokens w.low w.high n inner → HoldsInside outer w.tokens w.low w.high inner cells env
       → Chooses w n k (state base stack frames cells left) near there v j
-      → ((now : List ℤ) → HoldsInside outer w.tokens w.low w.high inner now env → Follows (M env j) (Moves inner from m (state near stack frames now j) end (length env.locals)) (BreaksOff w (inner ++ outer) from m (state near stack frames now j)))
-      → ((now : List ℤ) → HoldsInside outer w.tokens w.low w.high inner now env → Follows (N env j) (Moves inner from m (state there stack frames now j) end (length env.locals)) (BreaksOff w (inner ++ outer) from m (state there stack frames now j)))
+      → ((now : List ℤ) → length now ≡ length cells → HoldsInside outer w.tokens w.low w.high inner now env → Follows (M env j) (Moves inner from m (state near stack frames now j) end (length env.locals)) (BreaksOff w (inner ++ outer) from m (state near stack frames now j)))
+      → ((now : List ℤ) → length now ≡ length cells → HoldsInside outer w.tokens w.low w.high inner now env → Follows (N env j) (Moves inner from m (state there stack frames now j) end (length env.locals)) (BreaksOff w (inner ++ outer) from m (state there stack frames now j)))
       → Follows (chosen v (λ i. M env i) (λ i. N env i) j) (Moves inner from m (state base stack frames cells left) end (length env.locals)) (BreaksOff w (inner ++ outer) from m (state base stack frames cells left))
   choose_moves inner M N base from n k m near there end stack cells env left (Num z) j le ge laid holds c first other = tt
   choose_moves inner M N base from n k m near there end stack cells env left (Items vs) j le ge laid holds c first other = tt
   choose_moves inner M N base from n k m near there end stack cells env left (Truth true) j le ge laid holds c first other =
       move_after inner from from m m base near end (length env.locals) stack cells c.cells left j (M env j) (omega arith) (omega arith) (choice_reaches w n k base near there stack frames cells left true j c) (but_wider from m le ge (keeps_but (inner ++ outer) c.keeps))
-      (first c.cells (inside_still outer w.tokens w.low w.high n k inner cells c.cells env laid c.keeps holds))
+      (first c.cells c.keeps.size (inside_still outer w.tokens w.low w.high n k inner cells c.cells env laid c.keeps holds))
   choose_moves inner M N base from n k m near there end stack cells env left (Truth false) j le ge laid holds c first other =
       move_after inner from from m m base there end (length env.locals) stack cells c.cells left j (N env j) (omega arith) (omega arith) (choice_reaches w n k base near there stack frames cells left false j c) (but_wider from m le ge (keeps_but (inner ++ outer) c.keeps))
-      (other c.cells (inside_still outer w.tokens w.low w.high n k inner cells c.cells env laid c.keeps holds))
+      (other c.cells c.keeps.size (inside_still outer w.tokens w.low w.high n k inner cells c.cells env laid c.keeps holds))
 
   -- a condition, and what follows it
   pub test_moves : (inner : List Name) (M N : Env → ℕ → Out Env) (test : Tree) (base from n k m there end : ℕ) (a : List Instr) (stack cells : List ℤ) (env : Env) (left : ℕ) → from ≤ n → k ≤ m
       → IsTest (inner ++ outer) test base n there a k → StandsAt w.code.instrs base a → AreLaid outer w.tokens w.low w.high n inner → HoldsInside outer w.tokens w.low w.high inner cells env
-      → ((now : List ℤ) (j : ℕ) → j ≤ left → HoldsInside outer w.tokens w.low w.high inner now env → Follows (M env j) (Moves inner from m (state (base + length a) stack frames now j) end (length env.locals)) (BreaksOff w (inner ++ outer) from m (state (base + length a) stack frames now j)))
-      → ((now : List ℤ) (j : ℕ) → j ≤ left → HoldsInside outer w.tokens w.low w.high inner now env → Follows (N env j) (Moves inner from m (state there stack frames now j) end (length env.locals)) (BreaksOff w (inner ++ outer) from m (state there stack frames now j)))
+      → ((now : List ℤ) (j : ℕ) → length now ≡ length cells → j ≤ left → HoldsInside outer w.tokens w.low w.high inner now env → Follows (M env j) (Moves inner from m (state (base + length a) stack frames now j) end (length env.locals)) (BreaksOff w (inner ++ outer) from m (state (base + length a) stack frames now j)))
+      → ((now : List ℤ) (j : ℕ) → length now ≡ length cells → j ≤ left → HoldsInside outer w.tokens w.low w.high inner now env → Follows (N env j) (Moves inner from m (state there stack frames now j) end (length env.locals)) (BreaksOff w (inner ++ outer) from m (state there stack frames now j)))
       → Follows (and_then (eval test w.calls env left) (λ v j. chosen v (λ i. M env i) (λ i. N env i) j)) (Moves inner from m (state base stack frames cells left) end (length env.locals)) (BreaksOff w (inner ++ outer) from m (state base stack frames cells left))
   test_moves inner M N test base from n k m there end a stack cells env left le ge coded stands laid holds first other =
       let s : State = state base stack frames cells left in
@@ -180,5 +180,5 @@ module _ (outer : List Name) (w : World) (frames : List ℕ) where
       (tests (inner ++ outer) w env frames coded stack cells left stands (laid_below outer w.tokens w.low w.high n inner laid) (laid_apart outer w.tokens w.low w.high n inner laid) (names_held outer w.tokens w.low w.high inner cells env holds))
       (λ v j c.
       let less : j ≤ left = reaches_fewer c.reaches in
-      choose_moves inner M N base from n k m (base + length a) there end stack cells env left v j le ge laid holds c (λ now h. first now j less h) (λ now h. other now j less h))
+      choose_moves inner M N base from n k m (base + length a) there end stack cells env left v j le ge laid holds c (λ now size h. first now j size less h) (λ now size h. other now j size less h))
       (λ c q. cut_breaks (inner ++ outer) from n k m s c le ge q)

@@ -36,14 +36,14 @@ pub record Written (c size : ℕ) (before after : List ℤ) : Type 0 where
   pub length_same : length after ≡ length before
   pub cell : (d : ℕ) → (d < c) ⊎ (c + size ≤ d) → slice_get after d ≡ slice_get before d
 
-written_keeps : (c size n m low high : ℕ) (before after : List ℤ) → n ≤ c → c + size ≤ m → Written c size before after → Keeps n m low high before after
+pub written_keeps : (c size n m low high : ℕ) (before after : List ℤ) → n ≤ c → c + size ≤ m → Written c size before after → Keeps n m low high before after
 written_keeps c size n m low high before after le ge w = record {
   size = w.length_same;
   cell = λ d free apart. w.cell d (⊎_elim (λ (a : d < n). inl (omega (arith, a, le))) (λ (a : m ≤ d). inr (omega (arith, a, ge))) free);
 }
 
 -- what is written elsewhere leaves a seat
-seat_unwritten : (seat : Seat) (c size : ℕ) (tokens : ℕ → List ℤ) (before after zs : List ℤ) → Written c size before after → SeatIsApart c (c + size) (length zs) seat → StandAt seat tokens before zs → StandAt seat tokens after zs
+pub seat_unwritten : (seat : Seat) (c size : ℕ) (tokens : ℕ → List ℤ) (before after zs : List ℤ) → Written c size before after → SeatIsApart c (c + size) (length zs) seat → StandAt seat tokens before zs → StandAt seat tokens after zs
 seat_unwritten (Cell d) c size tokens before after zs w apart stands k z e =
     let within = slice_get_within zs k z e in
     w.cell (d + k) (⊎_elim (λ (a : d + length zs ≤ c). inl (omega (arith, within, a))) (λ (a : c + size ≤ d). inr (omega (arith, a))) apart) ∙ stands k z e

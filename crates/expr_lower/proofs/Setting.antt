@@ -40,7 +40,7 @@ at_first : (c : ℕ) (cells : List ℤ) (y : ℤ) (o : Option ℤ) → slice_get
 at_first c cells y o e = let same : c + 0 ≡ c = omega arith in subst (λ d. slice_get cells d ≡ o) same e
 
 -- a single value in cells
-stand_one : (c : ℕ) (tokens : ℕ → List ℤ) (cells zs : List ℤ) (z : ℤ) → zs ≡ z ∷ [] → slice_get cells c ≡ Some z → StandAt (Cell c) tokens cells zs
+pub stand_one : (c : ℕ) (tokens : ℕ → List ℤ) (cells zs : List ℤ) (z : ℤ) → zs ≡ z ∷ [] → slice_get cells c ≡ Some z → StandAt (Cell c) tokens cells zs
 stand_one c tokens cells zs z e f = subst (λ ys. StandAt (Cell c) tokens cells ys) (sym e) (only c tokens cells z f)
   where
     only : (c : ℕ) (tokens : ℕ → List ℤ) (cells : List ℤ) (z : ℤ) → slice_get cells c ≡ Some z → StandAt (Cell c) tokens cells (z ∷ [])
@@ -110,7 +110,7 @@ module _ (outer : List Name) (w : World) (frames : List ℕ) (runs : Runs) where
   pub set_performs : (inner : List Name) (text : List ℕ) (value : Tree) (place at base n m c : ℕ) (code : List Instr) (x : Name) (t : Scalar)
       → named text (inner ++ outer) ≡ Some x → x.seat ≡ Cell c → x.shape ≡ Single t → IsCode (inner ++ outer) value base n code m
       → Performs outer w frames inner (λ env left. exec (tree.assign (tree.ident text place) tree.nil value at) w.calls runs env left) base n (code ++ op.Store c (Some t) ∷ []) m
-  set_performs inner text value place at base n m c code x t e seat shape coded stack cells env left stands laid apart holds =
+  set_performs inner text value place at base n m c code x t e seat shape coded stack cells env left stands laid apart room holds =
       let names : List Name = inner ++ outer in
       let i : Instr = op.Store c (Some t) in
       let s : State = state base stack frames cells left in
@@ -289,7 +289,7 @@ module _ (outer : List Name) (w : World) (frames : List ℕ) (runs : Runs) where
   pub set_item_performs : (inner : List Name) (text : List ℕ) (spot value : Tree) (place at base n k m c size : ℕ) (a b : List Instr) (x : Name) (t : Scalar)
       → named text (inner ++ outer) ≡ Some x → x.seat ≡ Cell c → x.shape ≡ Many size (Single t) → IsCode (inner ++ outer) spot base n a k → IsCode (inner ++ outer) value (base + length a) k b m
       → Performs outer w frames inner (λ env left. exec (tree.assign (tree.ident text place) (tree.cons spot tree.nil) value at) w.calls runs env left) base n (a ++ (b ++ op.StoreAt c size (Some t) ∷ [])) m
-  set_item_performs inner text spot value place at base n k m c size a b x t e seat shape first second stack cells env left stands laid apart holds =
+  set_item_performs inner text spot value place at base n k m c size a b x t e seat shape first second stack cells env left stands laid apart room holds =
       let names : List Name = inner ++ outer in
       let i : Instr = op.StoreAt c size (Some t) in
       let s : State = state base stack frames cells left in

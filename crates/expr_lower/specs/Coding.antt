@@ -59,6 +59,10 @@ item_instr l =
           l.size
     ]
 
+-- code that traps: a sum that is one greater than the greatest number
+abbrev pub one_too_great : List Instr
+one_too_great = op.Const greatest_num ∷ op.Const (pos 1) ∷ op.Add ∷ []
+
 mutual
   -- Code of an expression that stands at a place. It pushes the value. Of the cells, it uses those from n to m.
   pub data IsCode (names : List Name) : Tree → ℕ → ℕ → List Instr → ℕ → Type 0 where
@@ -66,8 +70,7 @@ mutual
         → IsCode names (tree.number k at) base n (op.Const (pos k) ∷ []) n
     -- a literal that is no number traps
     too_great : (k at base n : ℕ) → is_num (pos k) ≡ false
-        → IsCode names (tree.number k at) base n
-        (op.Const greatest_num ∷ op.Const (pos 1) ∷ op.Add ∷ []) n
+        → IsCode names (tree.number k at) base n one_too_great n
     negative : (k at base n place : ℕ) → is_num (pos k) ≡ true
         → IsCode names (tree.prefix prefixes.Neg (tree.number k place) at) base n
         (op.Const (neg_ℤ (pos k)) ∷ []) n

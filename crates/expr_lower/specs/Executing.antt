@@ -1,6 +1,6 @@
 -- Runs of code that go as an execution does.
 -- Trusted: part of what a promise means.
-use Rattle.std.specs.Prelude.{◌≡◌, ℕ, ◌+◌, ℤ, List, length}
+use Rattle.std.specs.Prelude.{◌≡◌, ◌≤◌, ℕ, ◌+◌, ℤ, List, length}
 use Rattle.rvc_base.specs.declared.trap.Trap.{Trap}
 use Rattle.cal_ast.specs.Tree.{Tree}
 use Rattle.cal_model.specs.Outcome.{Out, Gives, Traps, Lacks, Clashes}
@@ -46,20 +46,20 @@ EndsLike w names n m s end Clashes o last = Unit {0}
 
 -- Wherever these instructions stand, with cells that hold an environment, they do what executing the statements
 -- does: they leave cells that hold the environment that comes of it, or trap, after as many turns; and a run of them
--- has no other end. Of the cells, they change only those of the names and those from n to m.
+-- has no other end. There are at least m cells; of these, they change only those of the names and those from n to m.
 pub record Executes (names : List Name) (body : Tree) (base n m : ℕ) (code : List Instr) :
     Type 0 where
   pub goes : (w : World) (runs : Runs) (env : Env) (stack : List ℤ) (frames : List ℕ)
       (cells : List ℤ) (left : ℕ)
       → StandsAt w.code.instrs base code → AllApart w.low w.high names → AreApart n m w.low w.high
-      → HoldsVars names w.tokens cells env
+      → m ≤ length cells → HoldsVars names w.tokens cells env
       → Follows (exec_all body w.calls runs env left)
       (Arrives w names n m (state base stack frames cells left) (base + length code))
       (BreaksOff w names n m (state base stack frames cells left))
   pub only : (w : World) (runs : Runs) (env : Env) (stack : List ℤ) (frames : List ℕ)
       (cells : List ℤ) (left : ℕ)
       → StandsAt w.code.instrs base code → AllApart w.low w.high names → AreApart n m w.low w.high
-      → HoldsVars names w.tokens cells env
+      → m ≤ length cells → HoldsVars names w.tokens cells env
       → (o : Outcome) (last : List ℤ)
       → Ends w.code w.tokens (state base stack frames cells left) o last
       → EndsLike w names n m (state base stack frames cells left) (base + length code)

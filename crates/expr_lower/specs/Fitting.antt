@@ -41,3 +41,8 @@ pub record Fits (code : Code) (callable limit base h : ℕ) (instrs : List Instr
 abbrev pub guard_of : List Instr → ℕ → Code
 guard_of instrs cells =
     record { instrs = instrs ++ op.Answer ∷ []; routines = []; entries = 0 ∷ []; cells = cells }
+
+-- these instructions fit as those of a guard, and leave the one operand that it answers
+abbrev pub FitsAsGuard : List Instr → ℕ → Type 0
+FitsAsGuard instrs cells =
+    Fits (guard_of instrs cells) 0 cells 0 0 instrs 1 (length instrs) 1

@@ -1,6 +1,6 @@
 -- What a call that adds to a draft answers.
 -- Trusted but for `IsOpposite` and `IsNegative`: part of what a promise means.
-use Rattle.std.specs.Prelude.{◌≡◌, ◌^◌, ◌≤◌, ℕ, ℤ, pos, neg_ℤ, Bool, true, false, not, ◌&&◌, if◌then◌else◌, List, length, Option, None, Some}
+use Rattle.std.specs.Prelude.{◌≡◌, ◌+◌, ◌^◌, ◌≤◌, ℕ, ℤ, pos, neg_ℤ, Bool, true, false, not, ◌&&◌, if◌then◌else◌, List, length, Option, None, Some}
 use Rattle.rvc_base.specs.Width.{is_num}
 use Rattle.cal_ast.specs.declared.expr.PrefixOp.{PrefixOp}
 use Rattle.cal_ast.specs.declared.expr.PrefixOp.TheVariants.{Neg}
@@ -11,7 +11,7 @@ use Rattle.cal_ast.specs.Tree.{Tree}
 use Rattle.cal_model.specs.Value.{Single, Many}
 use Rattle.expr_lower.specs.declared.draft.Draft.{Draft}
 use Rattle.expr_lower.specs.declared.fault.LowerFault.{LowerFault}
-use Rattle.expr_lower.specs.declared.fault.LowerFault.TheVariants.{Memory, TooLong, NotLowered}
+use Rattle.expr_lower.specs.declared.fault.LowerFault.TheVariants.{Memory, TooLong, TooManyCells, NotLowered}
 use Rattle.expr_lower.specs.Names.{Name, named}
 use Rattle.expr_lower.specs.Listed.{list_named}
 use Rattle.expr_lower.specs.Truths.{is_truth}
@@ -54,10 +54,11 @@ left_out names (tree.index base place at) =
 left_out names other = Some 0
 
 -- why nothing was lowered: the place is that of the first part that is left out, and the draft has too many
--- instructions for a jump to name their places
+-- instructions for a jump to name their places, or too many cells for three more
 abbrev pub IsFault : Option ℕ → Draft → LowerFault → Type 0
 IsFault left draft Memory = Unit {0}
 IsFault left draft TooLong = 2 ^ 32 ≤ length draft.instrs.items
+IsFault left draft TooManyCells = 2 ^ 32 ≤ draft.cells + 3
 IsFault left draft (NotLowered at) = left ≡ Some at
 
 -- ---- negative literals

@@ -1,15 +1,61 @@
 -- The code of each form of a statement. It stands at a place of the code, since jumps name places.
 -- Trusted: part of what a promise means.
-use Rattle.std.specs.Prelude.{◌≡◌, ℕ, ◌+◌, List, [], ◌∷◌, ◌++◌, length, Some}
+use Rattle.std.specs.Prelude.{◌≡◌, ℕ, ◌+◌, pos, Bool, List, [], ◌∷◌, ◌++◌, length, None, Some}
 use Rattle.rvc_base.specs.declared.scalar.Scalar.{Scalar}
 use Rattle.cal_ast.specs.Tree as tree
 use Rattle.cal_ast.specs.Tree.{Tree}
 use Rattle.cal_model.specs.Value.{Single, Many}
 use Rattle.code_ir.specs.declared.instr.Instr.{Instr}
 use Rattle.code_ir.specs.declared.instr.Instr.TheVariants as op
+use Rattle.expr_lower.specs.declared.counter.Counter.{Counter}
 use Rattle.expr_lower.specs.declared.names.Seat.TheVariants.{Cell}
 use Rattle.expr_lower.specs.Names.{Name, named}
 use Rattle.expr_lower.specs.Coding.{IsCode, IsTest}
+use Rattle.expr_lower.specs.Meant.{local, single_meant}
+
+-- ---- parts of the code of a `foreach`
+
+-- the cells of a `foreach` from n on: the number, the last one, and the variable
+abbrev pub counter_at : ℕ → Scalar → Counter
+counter_at n t = record { number = n; last = n + 1; variable = n + 2; kind = t }
+
+-- the bounds go to their cells, and are compared
+abbrev pub each_bounds : Counter → List Instr
+each_bounds c = op.Store c.last None ∷ op.Store c.number None ∷ op.Load c.number ∷ op.Load c.last
+    ∷ op.Le ∷ []
+
+-- a turn, and the variable gets the number
+abbrev pub each_turn : Counter → List Instr
+each_turn c = op.Turn ∷ op.Load c.number ∷ op.Store c.variable (Some c.kind) ∷ []
+
+-- whether the number isn't the last one
+abbrev pub each_less : Counter → List Instr
+each_less c = op.Load c.number ∷ op.Load c.last ∷ op.Lt ∷ []
+
+-- the next number, and a jump back to the turn
+abbrev pub each_next : Counter → ℕ → List Instr
+each_next c turn = op.Load c.number ∷ op.Const (pos 1) ∷ op.Add ∷ op.Store c.number None
+    ∷ op.Jump turn ∷ []
+
+-- what comes before the body, and leads to `out` if there is no number
+abbrev pub each_head : ℕ → Scalar → ℕ → List Instr
+each_head n t out = each_bounds (counter_at n t) ++ op.JumpIfNot out ∷ each_turn (counter_at n t)
+
+-- .. and behind it: at the last number it ends, so that the number is never one too great
+abbrev pub each_tail : ℕ → ℕ → ℕ → List Instr
+each_tail n turn out =
+    op.Load n ∷ op.Load (n + 1) ∷ op.Lt ∷ op.JumpIfNot out
+    ∷ op.Load n ∷ op.Const (pos 1) ∷ op.Add ∷ op.Store n None ∷ op.Jump turn ∷ []
+
+-- ---- the start of a local
+
+-- Code that gives a local of a type its start, in a cell.
+pub data IsStart (names : List Name) (t : Scalar) (c : ℕ) :
+    Tree → ℕ → ℕ → List Instr → ℕ → Type 0 where
+  at_zero : (base n : ℕ)
+      → IsStart names t c tree.absent base n (op.Const (pos 0) ∷ op.Store c None ∷ []) n
+  at_value : (e : Tree) (base n m : ℕ) (code : List Instr) → IsCode names e base n code m
+      → IsStart names t c (tree.present e) base n (code ++ op.Store c (Some t) ∷ []) m
 
 mutual
   -- Code of a statement that stands at a place. Of the cells, it uses those of the names and those from n to m.
@@ -48,6 +94,30 @@ mutual
         → head ≡ base + 2 + length b → out ≡ head + length a + 1
         → IsStmt names (tree.while_stmt test body at) base n
         (op.Jump head ∷ op.Turn ∷ (b ++ (a ++ op.Jump (base + 1) ∷ []))) m
+    -- The bounds; for each number from the first to the last a turn and the body, inside which the variable has a
+    -- cell of its own.
+    each_code : (names : List Name) (shape from to body : Tree) (text : List ℕ)
+        (place at base n k j m turn start out : ℕ) (a b c : List Instr) (t : Scalar)
+        → single_meant shape ≡ Some t
+        → IsCode names from base (n + 3) a k → IsCode names to (base + length a) k b j
+        → AreStmts (local text t (n + 2) ∷ names) body start j c m
+        → turn ≡ base + length a + length b + 6 → start ≡ turn + 3 → out ≡ start + length c + 9
+        → IsStmt names (tree.foreach_stmt shape (tree.ident text place) from to body at) base n
+        (a ++ (b ++ (each_head n t out ++ (c ++ each_tail n turn out)))) m
+    block_code : (names : List Name) (vars body : Tree) (at base n m : ℕ) (code : List Instr)
+        → IsBlock names vars body base n code m
+        → IsStmt names (tree.block vars body at) base n code m
+
+  -- code of the variables of a block, each of which is seen by those behind it, and of its statements
+  pub data IsBlock : List Name → Tree → Tree → ℕ → ℕ → List Instr → ℕ → Type 0 where
+    no_more : (names : List Name) (body : Tree) (base n m : ℕ) (code : List Instr)
+        → AreStmts names body base n code m → IsBlock names tree.nil body base n code m
+    variable_more : (names : List Name) (shape start vars body : Tree) (text : List ℕ)
+        (place at base n k m : ℕ) (a b : List Instr) (t : Scalar) (changes : Bool)
+        → single_meant shape ≡ Some t → IsStart names t n start base (n + 1) a k
+        → IsBlock (local text t n ∷ names) vars body (base + length a) k b m
+        → IsBlock names (tree.cons (tree.var shape (tree.ident text place) start changes at) vars)
+        body base n (a ++ b) m
 
   -- code of statements, one after the other
   pub data AreStmts : List Name → Tree → ℕ → ℕ → List Instr → ℕ → Type 0 where

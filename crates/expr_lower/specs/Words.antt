@@ -1,6 +1,6 @@
 -- The words of the contracts of calls that lower, over names and expressions as the code has them.
 -- Trusted: part of what a promise means.
-use Rattle.std.specs.Prelude.{◌≡◌, ℕ, List, Option, None}
+use Rattle.std.specs.Prelude.{◌≡◌, ℕ, List, None}
 use Rattle.cal_ast.specs.Tree as tree
 use Rattle.cal_ast.specs.Tree.{Tree}
 use Rattle.cal_ast.specs.View.{expr_tree}
@@ -11,8 +11,7 @@ use Rattle.expr_lower.specs.declared.draft.Draft.{Draft}
 use Rattle.expr_lower.specs.declared.fault.LowerFault.{LowerFault}
 use Rattle.expr_lower.specs.declared.names.Named.{Named}
 use Rattle.expr_lower.specs.Names.{names_view}
-use Rattle.expr_lower.specs.Coding.{IsCode, IsOpenTest}
-use Rattle.expr_lower.specs.Growing.{IsFault, left_out, ◌or_else◌}
+use Rattle.expr_lower.specs.Growing.{IsFault, left_out}
 use Rattle.expr_lower.specs.Lowered.{Adds, IsLowered}
 
 -- ---- expressions that are made of others
@@ -34,14 +33,6 @@ index_of base place at = tree.index (expr_tree base) (expr_tree place) at
 
 -- ---- what a call does
 
--- the code of an expression was added to a draft
-abbrev pub Lowers : List Named → Tree → Draft → Draft → Type 0
-Lowers names e old new = Adds (IsCode (names_view names) e) old new
-
--- the code of a condition was added whose jumps have no target yet
-abbrev pub Opens : List Named → Tree → Draft → Draft → Type 0
-Opens names e old new = Adds (IsOpenTest (names_view names) e) old new
-
 -- code was added that evaluates an expression and fits
 abbrev pub AddsLowered : List Named → Tree → Draft → Draft → Type 0
 AddsLowered names e old new = Adds (IsLowered (names_view names) e) old new
@@ -53,8 +44,3 @@ IsWhole names e = left_out (names_view names) e ≡ None
 -- why an expression isn't lowered
 abbrev pub IsFaultOf : List Named → Tree → Draft → LowerFault → Type 0
 IsFaultOf names e draft fault = IsFault (left_out (names_view names) e) draft fault
-
--- the place of the first part of two expressions that is left out
-abbrev pub first_left_out : List Named → Expr → Expr → Option ℕ
-first_left_out names first second = left_out (names_view names) (expr_tree first) or_else left_out
-    (names_view names) (expr_tree second)

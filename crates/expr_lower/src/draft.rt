@@ -26,6 +26,15 @@ pub(crate) fn put(draft: &mut Draft, instr: Instr) -> Result<(), LowerFault>
     Ok(())
 }
 
+/// Appends instructions.
+pub(crate) fn put_all(draft: &mut Draft, instrs: &[Instr]) -> Result<(), LowerFault>
+    ensures added { OnOk result (IsPut instrs.now draft.old draft.new) }
+    ensures memory { IfErr result (λ fault. fault ≡ Memory) }
+{
+    draft.instrs.extend_from_slice(instrs)?;
+    Ok(())
+}
+
 /// Appends an instruction that pushes a number.
 pub(crate) fn put_const(draft: &mut Draft, value: Num) -> Result<(), LowerFault>
     ensures added { OnOk result (IsPut (op.Const value ∷ []) draft.old draft.new) }

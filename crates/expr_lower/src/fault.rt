@@ -1,15 +1,17 @@
-//! Why an expression isn't lowered.
+//! Why an expression or a statement isn't lowered.
 
 use std::alloc::{AllocError, AllocFailed};
 
-/// Why an expression isn't lowered. The draft is given up after it.
+/// Why an expression or a statement isn't lowered. The draft is given up after it.
 #[derive(Clone, Copy, Debug, PartialEq, Eq)]
 pub enum LowerFault {
     /// An allocation was refused.
     Memory,
     /// The draft has so many instructions that a jump can't name each of their places.
     TooLong,
-    /// The part of the expression at this offset has a form for which no code is made.
+    /// The draft has so many cells that their numbers don't leave room for more.
+    TooManyCells,
+    /// The part at this offset has a form for which no code is made.
     NotLowered { at: u32 },
 }
 

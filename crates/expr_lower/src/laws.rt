@@ -1,10 +1,10 @@
 //! Laws of values in cells and of code that fits. Each is a function that does nothing: its contract is what is proved.
 
-ghost use Rattle.std.specs.Prelude.{◌≡◌, ◌++◌, ℕ, ℤ, List, length};
+ghost use Rattle.std.specs.Prelude.{◌≡◌, ◌++◌, ℕ, ℤ, List};
 ghost use Rattle.cal_model.specs.Value.{HasKind, Kind, Value};
 ghost use Rattle.code_ir.specs.declared.instr.Instr.{Instr};
 ghost use Rattle.code_ir.specs.Typing.{AllSized, IsAdmitted};
-ghost use Rattle.expr_lower.specs.Fitting.{Fits, guard_of};
+ghost use Rattle.expr_lower.specs.Fitting.{FitsAsGuard, guard_of};
 ghost use Rattle.expr_lower.specs.Flat.{flat, of_flat};
 
 /// A value is read back from its numbers by its kind, whatever follows them.
@@ -16,9 +16,7 @@ pub fn values_come_back()
 /// Instructions that fit and leave one operand are, with an answer behind them, the code of a guard that is admitted.
 pub fn fitting_guards_are_admitted()
     ensures admitted { (instrs : List Instr) (cells : ℕ)
-        → Fits (guard_of instrs cells) 0 cells 0 0 instrs 1 (length instrs) 1
-        → IsAdmitted (guard_of instrs cells) }
+        → FitsAsGuard instrs cells → IsAdmitted (guard_of instrs cells) }
     ensures sized { (instrs : List Instr) (cells : ℕ)
-        → Fits (guard_of instrs cells) 0 cells 0 0 instrs 1 (length instrs) 1
-        → AllSized (guard_of instrs cells).instrs }
+        → FitsAsGuard instrs cells → AllSized (guard_of instrs cells).instrs }
 {}

@@ -4,14 +4,17 @@
 //! Code is appended to a [`Draft`]. Names stand for cells or tokens that hold their values, number by number.
 #![tactic(auto)]
 
+mod counter;
 mod draft;
 mod fault;
 pub mod laws;
 mod lower;
 mod names;
 mod operators;
+mod scope;
 mod stmts;
 mod truths;
+mod types;
 
 pub use draft::Draft;
 pub use fault::LowerFault;

@@ -1,57 +1,56 @@
 //! Expressions as code: one small function a form.
 
-ghost use Rattle.std.specs.Prelude.{◌≡◌, ◌+◌, ◌<◌, ◌≤◌, ℕ, List, [], ◌++◌, ◌∷◌, length, map};
-ghost use Rattle.std.specs.Prelude.{IfErr, None, OnOk, Some, pos};
-ghost use Rattle.rvc_base.specs.Width.{greatest_num};
+ghost use Rattle.std.specs.Prelude.{◌≡◌, ◌<◌, ◌≤◌, ℕ, length, map};
+ghost use Rattle.std.specs.Prelude.{IfErr, None, OnOk};
 ghost use Rattle.cal_ast.specs.Tree as tree;
 ghost use Rattle.cal_ast.specs.View.{expr_tree};
-ghost use Rattle.code_ir.specs.declared.instr.Instr.{Instr};
-ghost use Rattle.code_ir.specs.declared.instr.Instr.TheVariants as op;
 ghost use Rattle.expr_lower.specs.declared.fault.LowerFault.TheVariants.{Memory};
-ghost use Rattle.expr_lower.specs.Coding.{IsCode, aimed, binary_instr};
+ghost use Rattle.expr_lower.specs.Coding.{aimed, one_too_great};
 ghost use Rattle.expr_lower.specs.Growing.{IsFault};
 ghost use Rattle.expr_lower.specs.Held.{AreBelow};
-ghost use Rattle.expr_lower.specs.Lowered.{Adds, IsPut};
-ghost use Rattle.expr_lower.specs.Names.{Name, names_view};
-ghost use Rattle.expr_lower.specs.Words.{AddsLowered, IsFaultOf, IsWhole, Lowers, Opens};
-ghost use Rattle.expr_lower.specs.Words.{and_of, binary_of, first_left_out, if_of, index_of, or_of};
+ghost use Rattle.expr_lower.specs.Linking.{Closes, Links, SetsExit, SetsJump};
+ghost use Rattle.expr_lower.specs.Lowered.{IsPut};
+ghost use Rattle.expr_lower.specs.Names.{names_view};
+ghost use Rattle.expr_lower.specs.SeenWords.{Applies, IsAll, IsWhy, Lowers, Opens, first_left_out};
+ghost use Rattle.expr_lower.specs.Words.{AddsLowered, IsFaultOf, IsWhole};
+ghost use Rattle.expr_lower.specs.Words.{and_of, binary_of, if_of, index_of, or_of};
 
 use crate::draft::{Draft, next_place, put, put_const};
 use crate::fault::LowerFault;
-use crate::names::{Named, find, list_named};
+use crate::names::{Named, list_named, one_named};
 use crate::operators::{binary_instr, item_instr, negative, prefix_instr, seat_instr};
+use crate::scope::Scope;
 use crate::truths::is_truth;
 use cal_ast::{BinOp, Expr, ExprForm, PrefixOp};
-use cal_model::Shape;
 use code_ir::Instr;
 use rvc_base::Num;
 
 /// Appends code that evaluates an expression and pushes its value.
 #[cycle(lower)]
-pub(crate) fn lower(names: &[Named], e: &Expr, draft: &mut Draft) -> Result<(), LowerFault>
-    ensures ok { OnOk result (Lowers names.now (expr_tree e.now) draft.old draft.new) }
-    ensures whole { OnOk result (IsWhole names.now (expr_tree e.now)) }
-    ensures fault { IfErr result (IsFaultOf names.now (expr_tree e.now) draft.new) }
+pub(crate) fn lower(scope: &Scope, e: &Expr, draft: &mut Draft) -> Result<(), LowerFault>
+    ensures ok { OnOk result (Lowers scope.now (expr_tree e.now) draft.old draft.new) }
+    ensures whole { OnOk result (IsAll scope.now (expr_tree e.now)) }
+    ensures fault { IfErr result (IsWhy scope.now (expr_tree e.now) draft.new) }
 {
     match &e.form {
         ExprForm::Number(value) => number(*value, draft),
         ExprForm::Bool(value) => truth(*value, draft),
-        ExprForm::Name(text) => variable(names, text.as_str(), e.at, draft),
-        ExprForm::Paren(inner) => paren(names, inner, draft),
-        ExprForm::If { test, yes, no } => choice(names, test, yes, no, draft),
-        ExprForm::Prefix { op, of } => operation(names, *op, of, draft),
-        ExprForm::Binary { op, left, right } => binary(names, *op, left, right, e.at, draft),
+        ExprForm::Name(text) => variable(scope, text.as_str(), e.at, draft),
+        ExprForm::Paren(inner) => paren(scope, inner, draft),
+        ExprForm::If { test, yes, no } => choice(scope, test, yes, no, draft),
+        ExprForm::Prefix { op, of } => operation(scope, *op, of, draft),
+        ExprForm::Binary { op, left, right } => binary(scope, *op, left, right, e.at, draft),
         ExprForm::Call { name: _, args: _ } => Err(LowerFault::NotLowered { at: e.at }),
         ExprForm::List(_) => Err(LowerFault::NotLowered { at: e.at }),
         ExprForm::Comp { item: _, gens: _ } => Err(LowerFault::NotLowered { at: e.at }),
-        ExprForm::Index { base, place } => item(names, base, place, e.at, draft),
+        ExprForm::Index { base, place } => item(scope, base, place, e.at, draft),
     }
 }
 
 /// Appends a number as it is written.
 fn number(value: u128, draft: &mut Draft) -> Result<(), LowerFault>
-    ensures ok { (names : List Name) (at : ℕ)
-        → OnOk result (Adds (IsCode names (tree.number value at)) draft.old draft.new) }
+    ensures ok { (scope : Scope) (at : ℕ)
+        → OnOk result (Lowers scope (tree.number value at) draft.old draft.new) }
     ensures memory { IfErr result (λ fault. fault ≡ Memory) }
 {
     match Num::try_from(value) {
@@ -62,8 +61,8 @@ fn number(value: u128, draft: &mut Draft) -> Result<(), LowerFault>
 
 /// Appends a truth value: 0 or 1.
 fn truth(value: bool, draft: &mut Draft) -> Result<(), LowerFault>
-    ensures ok { (names : List Name) (at : ℕ)
-        → OnOk result (Adds (IsCode names (tree.truth value at)) draft.old draft.new) }
+    ensures ok { (scope : Scope) (at : ℕ)
+        → OnOk result (Lowers scope (tree.truth value at) draft.old draft.new) }
     ensures memory { IfErr result (λ fault. fault ≡ Memory) }
 {
     if value {
@@ -75,18 +74,18 @@ fn truth(value: bool, draft: &mut Draft) -> Result<(), LowerFault>
 
 /// Appends what stands in a pair of parentheses.
 #[cycle(lower)]
-fn paren(names: &[Named], inner: &Expr, draft: &mut Draft) -> Result<(), LowerFault>
+fn paren(scope: &Scope, inner: &Expr, draft: &mut Draft) -> Result<(), LowerFault>
     ensures ok { (at : ℕ)
-        → OnOk result (Lowers names.now (tree.paren (expr_tree inner.now) at) draft.old draft.new) }
-    ensures whole { OnOk result (IsWhole names.now (expr_tree inner.now)) }
-    ensures fault { IfErr result (IsFaultOf names.now (expr_tree inner.now) draft.new) }
+        → OnOk result (Lowers scope.now (tree.paren (expr_tree inner.now) at) draft.old draft.new) }
+    ensures whole { OnOk result (IsAll scope.now (expr_tree inner.now)) }
+    ensures fault { IfErr result (IsWhy scope.now (expr_tree inner.now) draft.new) }
 {
-    lower(names, inner, draft)
+    lower(scope, inner, draft)
 }
 
 /// Appends code that traps: a sum that is one greater than the greatest number.
 fn overflow(draft: &mut Draft) -> Result<(), LowerFault>
-    ensures added { OnOk result (IsPut (op.Const greatest_num ∷ op.Const (pos 1) ∷ op.Add ∷ []) draft.old draft.new) }
+    ensures added { OnOk result (IsPut one_too_great draft.old draft.new) }
     ensures memory { IfErr result (λ fault. fault ≡ Memory) }
 {
     put(draft, Instr::Const(Num::MAX))?;
@@ -95,77 +94,76 @@ fn overflow(draft: &mut Draft) -> Result<(), LowerFault>
 }
 
 /// Appends a variable, which must be that of a single value.
-fn variable(names: &[Named], text: &str, at: u32, draft: &mut Draft) -> Result<(), LowerFault>
-    ensures ok { OnOk result (Lowers names.now (tree.variable text.now at) draft.old draft.new) }
-    ensures whole { OnOk result (IsWhole names.now (tree.variable text.now at)) }
-    ensures fault { IfErr result (IsFaultOf names.now (tree.variable text.now at) draft.new) }
+fn variable(scope: &Scope, text: &str, at: u32, draft: &mut Draft) -> Result<(), LowerFault>
+    ensures ok { OnOk result (Lowers scope.now (tree.variable text.now at) draft.old draft.new) }
+    ensures whole { OnOk result (IsAll scope.now (tree.variable text.now at)) }
+    ensures fault { IfErr result (IsWhy scope.now (tree.variable text.now at) draft.new) }
 {
-    let Some(named) = find(names, text) else {
+    let Some(one) = one_named(scope, text) else {
         return Err(LowerFault::NotLowered { at });
     };
-    match &named.shape {
-        Shape::Scalar(_) => put(draft, seat_instr(named.seat)),
-        Shape::List(_, _) => Err(LowerFault::NotLowered { at }),
-    }
+    put(draft, seat_instr(one.seat))
 }
 
 /// Appends an item of a list: its place, and the instruction that reads it.
 #[cycle(lower)]
 fn item(
-    names: &[Named],
+    scope: &Scope,
     base: &Expr,
     place: &Expr,
     at: u32,
     draft: &mut Draft,
 ) -> Result<(), LowerFault>
-    ensures ok { OnOk result (Lowers names.now
-        (index_of base.now place.now at) draft.old draft.new) }
-    ensures whole { OnOk result (IsWhole names.now (index_of base.now place.now at)) }
-    ensures fault { IfErr result (IsFaultOf names.now (index_of base.now place.now at) draft.new) }
+    ensures ok { OnOk result
+        (Lowers scope.now (index_of base.now place.now at) draft.old draft.new) }
+    ensures whole { OnOk result (IsAll scope.now (index_of base.now place.now at)) }
+    ensures fault { IfErr result (IsWhy scope.now (index_of base.now place.now at) draft.new) }
 {
-    let Some(list) = list_named(names, base) else {
+    let Some(list) = list_named(scope, base) else {
         return Err(LowerFault::NotLowered { at });
     };
-    lower(names, place, draft)?;
+    lower(scope, place, draft)?;
     put(draft, item_instr(list))
 }
 
 /// Appends an operation with one operand. A minus sign before a literal is one number with it.
 #[cycle(lower)]
-fn operation(names: &[Named], op: PrefixOp, of: &Expr, draft: &mut Draft) -> Result<(), LowerFault>
+fn operation(scope: &Scope, op: PrefixOp, of: &Expr, draft: &mut Draft) -> Result<(), LowerFault>
     ensures ok { (at : ℕ)
-        → OnOk result (Lowers names.now (tree.prefix op (expr_tree of.now) at) draft.old draft.new) }
-    ensures whole { OnOk result (IsWhole names.now (expr_tree of.now)) }
-    ensures fault { IfErr result (IsFaultOf names.now (expr_tree of.now) draft.new) }
+        → OnOk result (Lowers scope.now (tree.prefix op (expr_tree of.now) at) draft.old draft.new) }
+    ensures whole { OnOk result (IsAll scope.now (expr_tree of.now)) }
+    ensures fault { IfErr result (IsWhy scope.now (expr_tree of.now) draft.new) }
 {
     if let Some(value) = negative(op, of) {
         return put_const(draft, value);
     }
-    lower(names, of, draft)?;
+    lower(scope, of, draft)?;
     put(draft, prefix_instr(op))
 }
 
 /// Appends an operation with two operands.
 #[cycle(lower)]
 fn binary(
-    names: &[Named],
+    scope: &Scope,
     op: BinOp,
     left: &Expr,
     right: &Expr,
     at: u32,
     draft: &mut Draft,
 ) -> Result<(), LowerFault>
-    ensures ok { OnOk result (Lowers names.now (binary_of op left.now right.now at) draft.old draft.new) }
-    ensures whole { OnOk result (IsWhole names.now (binary_of op left.now right.now at)) }
-    ensures fault { IfErr result (IsFaultOf names.now (binary_of op left.now right.now at) draft.new) }
+    ensures ok { OnOk result
+        (Lowers scope.now (binary_of op left.now right.now at) draft.old draft.new) }
+    ensures whole { OnOk result (IsAll scope.now (binary_of op left.now right.now at)) }
+    ensures fault { IfErr result
+        (IsWhy scope.now (binary_of op left.now right.now at) draft.new) }
 {
     match binary_instr(op) {
-        Some(instr) => strict(names, instr, left, right, draft),
+        Some(instr) => strict(scope, instr, left, right, draft),
         None => {
             if op == BinOp::Or {
-                either(names, left, right, at, draft)
+                either(scope, left, right, at, draft)
             } else {
-                both(names, left, right, at, draft)
+                both(scope, left, right, at, draft)
             }
         }
     }
@@ -174,42 +172,42 @@ fn binary(
 /// Appends an operation whose operands are both evaluated.
 #[cycle(lower)]
 fn strict(
-    names: &[Named],
+    scope: &Scope,
     instr: Instr,
     left: &Expr,
     right: &Expr,
     draft: &mut Draft,
 ) -> Result<(), LowerFault>
-    ensures ok { (op : BinOp) (at : ℕ) → binary_instr op ≡ Some instr
-        → OnOk result (Lowers names.now (binary_of op left.now right.now at) draft.old draft.new) }
-    ensures whole { OnOk result (first_left_out names.now left.now right.now ≡ None) }
-    ensures fault { IfErr result (IsFault (first_left_out names.now left.now right.now) draft.new) }
+    ensures ok { OnOk result
+        (Applies scope.now instr left.now right.now draft.old draft.new) }
+    ensures whole { OnOk result (first_left_out scope.now left.now right.now ≡ None) }
+    ensures fault { IfErr result (IsFault (first_left_out scope.now left.now right.now) draft.new) }
 {
-    lower(names, left, draft)?;
-    lower(names, right, draft)?;
+    lower(scope, left, draft)?;
+    lower(scope, right, draft)?;
     put(draft, instr)
 }
 
 /// Appends an `and`, whose right side isn't evaluated if the left one is false.
 #[cycle(lower)]
 fn both(
-    names: &[Named],
+    scope: &Scope,
     left: &Expr,
     right: &Expr,
     at: u32,
     draft: &mut Draft,
 ) -> Result<(), LowerFault>
-    ensures ok { OnOk result (Lowers names.now (and_of left.now right.now at) draft.old draft.new) }
-    ensures whole { OnOk result (IsWhole names.now (and_of left.now right.now at)) }
-    ensures fault { IfErr result (IsFaultOf names.now (and_of left.now right.now at) draft.new) }
+    ensures ok { OnOk result (Lowers scope.now (and_of left.now right.now at) draft.old draft.new) }
+    ensures whole { OnOk result (IsAll scope.now (and_of left.now right.now at)) }
+    ensures fault { IfErr result (IsWhy scope.now (and_of left.now right.now at) draft.new) }
 {
-    if !is_truth(names, left) {
+    if !is_truth(scope, left) {
         return Err(LowerFault::NotLowered { at });
     }
     let start = draft.instrs.len();
-    lower_test(names, left, draft)?;
+    lower_test(scope, left, draft)?;
     let exits = draft.instrs.len();
-    lower(names, right, draft)?;
+    lower(scope, right, draft)?;
     let jump = draft.instrs.len();
     put(draft, Instr::Jump(0))?;
     let out = next_place(draft)?;
@@ -222,27 +220,27 @@ fn both(
 /// Appends an `or`, whose right side isn't evaluated if the left one is true.
 #[cycle(lower)]
 fn either(
-    names: &[Named],
+    scope: &Scope,
     left: &Expr,
     right: &Expr,
     at: u32,
     draft: &mut Draft,
 ) -> Result<(), LowerFault>
-    ensures ok { OnOk result (Lowers names.now (or_of left.now right.now at) draft.old draft.new) }
-    ensures whole { OnOk result (IsWhole names.now (or_of left.now right.now at)) }
-    ensures fault { IfErr result (IsFaultOf names.now (or_of left.now right.now at) draft.new) }
+    ensures ok { OnOk result (Lowers scope.now (or_of left.now right.now at) draft.old draft.new) }
+    ensures whole { OnOk result (IsAll scope.now (or_of left.now right.now at)) }
+    ensures fault { IfErr result (IsWhy scope.now (or_of left.now right.now at) draft.new) }
 {
-    if !is_truth(names, left) {
+    if !is_truth(scope, left) {
         return Err(LowerFault::NotLowered { at });
     }
     let start = draft.instrs.len();
-    lower_test(names, left, draft)?;
+    lower_test(scope, left, draft)?;
     let exits = draft.instrs.len();
     put(draft, Instr::Const(1))?;
     let jump = draft.instrs.len();
     put(draft, Instr::Jump(0))?;
     let out = next_place(draft)?;
-    lower(names, right, draft)?;
+    lower(scope, right, draft)?;
     let end = next_place(draft)?;
     link(draft, start, exits, out, jump, end);
     Ok(())
@@ -251,25 +249,25 @@ fn either(
 /// Appends an `if`: the condition, and a branch for each answer.
 #[cycle(lower)]
 fn choice(
-    names: &[Named],
+    scope: &Scope,
     test: &Expr,
     yes: &Expr,
     no: &Expr,
     draft: &mut Draft,
 ) -> Result<(), LowerFault>
     ensures ok { (at : ℕ)
-        → OnOk result (Lowers names.now (if_of test.now yes.now no.now at) draft.old draft.new) }
-    ensures whole { OnOk result (IsWhole names.now (if_of test.now yes.now no.now 0)) }
-    ensures fault { IfErr result (IsFaultOf names.now (if_of test.now yes.now no.now 0) draft.new) }
+        → OnOk result (Lowers scope.now (if_of test.now yes.now no.now at) draft.old draft.new) }
+    ensures whole { OnOk result (IsAll scope.now (if_of test.now yes.now no.now 0)) }
+    ensures fault { IfErr result (IsWhy scope.now (if_of test.now yes.now no.now 0) draft.new) }
 {
     let start = draft.instrs.len();
-    lower_test(names, test, draft)?;
+    lower_test(scope, test, draft)?;
     let exits = draft.instrs.len();
-    lower(names, yes, draft)?;
+    lower(scope, yes, draft)?;
     let jump = draft.instrs.len();
     put(draft, Instr::Jump(0))?;
     let out = next_place(draft)?;
-    lower(names, no, draft)?;
+    lower(scope, no, draft)?;
     let end = next_place(draft)?;
     link(draft, start, exits, out, jump, end);
     Ok(())
@@ -280,49 +278,49 @@ fn choice(
 /// Appends a condition, which goes on if it is true. If it is false it is to jump elsewhere: `Done` stands for
 /// these jumps, until their target is known.
 #[cycle(lower)]
-pub(crate) fn lower_test(names: &[Named], e: &Expr, draft: &mut Draft) -> Result<(), LowerFault>
-    ensures ok { OnOk result (Opens names.now (expr_tree e.now) draft.old draft.new) }
-    ensures whole { OnOk result (IsWhole names.now (expr_tree e.now)) }
-    ensures fault { IfErr result (IsFaultOf names.now (expr_tree e.now) draft.new) }
+pub(crate) fn lower_test(scope: &Scope, e: &Expr, draft: &mut Draft) -> Result<(), LowerFault>
+    ensures ok { OnOk result (Opens scope.now (expr_tree e.now) draft.old draft.new) }
+    ensures whole { OnOk result (IsAll scope.now (expr_tree e.now)) }
+    ensures fault { IfErr result (IsWhy scope.now (expr_tree e.now) draft.new) }
 {
     match &e.form {
         ExprForm::Binary {
             op: BinOp::And,
             left,
             right,
-        } => test_both(names, left, right, e.at, draft),
-        _ => test_value(names, e, draft),
+        } => test_both(scope, left, right, e.at, draft),
+        _ => test_value(scope, e, draft),
     }
 }
 
 /// Appends two conditions that must both be true.
 #[cycle(lower)]
 fn test_both(
-    names: &[Named],
+    scope: &Scope,
     left: &Expr,
     right: &Expr,
     at: u32,
     draft: &mut Draft,
 ) -> Result<(), LowerFault>
-    ensures ok { OnOk result (Opens names.now (and_of left.now right.now at) draft.old draft.new) }
-    ensures whole { OnOk result (IsWhole names.now (and_of left.now right.now at)) }
-    ensures fault { IfErr result (IsFaultOf names.now (and_of left.now right.now at) draft.new) }
+    ensures ok { OnOk result (Opens scope.now (and_of left.now right.now at) draft.old draft.new) }
+    ensures whole { OnOk result (IsAll scope.now (and_of left.now right.now at)) }
+    ensures fault { IfErr result (IsWhy scope.now (and_of left.now right.now at) draft.new) }
 {
-    if !is_truth(names, left) {
+    if !is_truth(scope, left) {
         return Err(LowerFault::NotLowered { at });
     }
-    lower_test(names, left, draft)?;
-    lower_test(names, right, draft)
+    lower_test(scope, left, draft)?;
+    lower_test(scope, right, draft)
 }
 
 /// Appends a value, and a jump if it is false.
 #[cycle(lower)]
-fn test_value(names: &[Named], e: &Expr, draft: &mut Draft) -> Result<(), LowerFault>
-    ensures ok { OnOk result (Opens names.now (expr_tree e.now) draft.old draft.new) }
-    ensures whole { OnOk result (IsWhole names.now (expr_tree e.now)) }
-    ensures fault { IfErr result (IsFaultOf names.now (expr_tree e.now) draft.new) }
+fn test_value(scope: &Scope, e: &Expr, draft: &mut Draft) -> Result<(), LowerFault>
+    ensures ok { OnOk result (Opens scope.now (expr_tree e.now) draft.old draft.new) }
+    ensures whole { OnOk result (IsAll scope.now (expr_tree e.now)) }
+    ensures fault { IfErr result (IsWhy scope.now (expr_tree e.now) draft.new) }
 {
-    lower(names, e, draft)?;
+    lower(scope, e, draft)?;
     put(draft, Instr::Done)
 }
 
@@ -330,11 +328,7 @@ fn test_value(names: &[Named], e: &Expr, draft: &mut Draft) -> Result<(), LowerF
 /// jump at `jump`.
 pub(crate) fn link(draft: &mut Draft, start: usize, exits: usize, out: u32, jump: usize, end: u32)
     requires order { (start ≤ exits) × (exits ≤ jump) × (jump < length draft.old.instrs.items) }
-    ensures linked { (before test first other : List Instr) (i : Instr)
-        → draft.old.instrs.items ≡ before ++ (test ++ (first ++ i ∷ other))
-        → start ≡ length before → exits ≡ start + length test → jump ≡ exits + length first
-        → draft.new.instrs.items
-        ≡ before ++ (map (aimed out) test ++ (first ++ op.Jump end ∷ other)) }
+    ensures linked { Links draft.old.instrs.items draft.new.instrs.items start exits out jump end }
     ensures routines { draft.new.routines.items ≡ draft.old.routines.items }
     ensures cells { draft.new.cells ≡ draft.old.cells }
 {
@@ -345,10 +339,7 @@ pub(crate) fn link(draft: &mut Draft, start: usize, exits: usize, out: u32, jump
 /// Sets the targets of the jumps that stand from `start` to `exits` for a condition that is false.
 pub(crate) fn close(draft: &mut Draft, start: usize, exits: usize, out: u32)
     requires order { (start ≤ exits) × (exits ≤ length draft.old.instrs.items) }
-    ensures closed { (before test rest : List Instr)
-        → draft.old.instrs.items ≡ before ++ (test ++ rest)
-        → start ≡ length before → exits ≡ start + length test
-        → draft.new.instrs.items ≡ before ++ (map (aimed out) test ++ rest) }
+    ensures closed { Closes draft.old.instrs.items draft.new.instrs.items start exits out }
     ensures routines { draft.new.routines.items ≡ draft.old.routines.items }
     ensures cells { draft.new.cells ≡ draft.old.cells }
 {
@@ -358,13 +349,22 @@ pub(crate) fn close(draft: &mut Draft, start: usize, exits: usize, out: u32)
 /// Sets the target of the jump at a place.
 pub(crate) fn jump_at(draft: &mut Draft, place: usize, target: u32)
     requires inside { place < length draft.old.instrs.items }
-    ensures aimed { (before rest : List Instr) (i : Instr)
-        → draft.old.instrs.items ≡ before ++ i ∷ rest → place ≡ length before
-        → draft.new.instrs.items ≡ before ++ op.Jump target ∷ rest }
+    ensures aimed { SetsJump draft.old.instrs.items draft.new.instrs.items place target }
     ensures routines { draft.new.routines.items ≡ draft.old.routines.items }
     ensures cells { draft.new.cells ≡ draft.old.cells }
 {
     draft.instrs[place] = Instr::Jump(target);
+}
+
+/// Sets the target of the jump at a place that is for a condition that is false.
+pub(crate) fn exit_at(draft: &mut Draft, place: usize, target: u32)
+    requires inside { place < length draft.old.instrs.items }
+    ensures aimed { SetsExit draft.old.instrs.items draft.new.instrs.items place target }
+    ensures size { length draft.new.instrs.items ≡ length draft.old.instrs.items }
+    ensures routines { draft.new.routines.items ≡ draft.old.routines.items }
+    ensures cells { draft.new.cells ≡ draft.old.cells }
+{
+    draft.instrs[place] = Instr::JumpIfNot(target);
 }
 
 /// Sets the target of the jumps for which `Done` stands.
@@ -406,5 +406,5 @@ pub fn lower_expr(names: &[Named], e: &Expr, draft: &mut Draft) -> Result<(), Lo
     ensures whole { OnOk result (IsWhole names.now (expr_tree e.now)) }
     ensures fault { IfErr result (IsFaultOf names.now (expr_tree e.now) draft.new) }
 {
-    lower(names, e, draft)
+    lower(&Scope::outermost(names), e, draft)
 }

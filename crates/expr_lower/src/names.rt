@@ -6,8 +6,10 @@ ghost use Rattle.cal_ast.specs.View.{expr_tree};
 ghost use Rattle.cal_model.specs.View.{shape_view};
 ghost use Rattle.expr_lower.specs.Listed.{items_of, list_named, single_of};
 ghost use Rattle.expr_lower.specs.Names.{name_view, named, names_view};
-ghost use Rattle.expr_lower.specs.StmtGrowing.{cell_named, cell_of, cells_named};
+ghost use Rattle.expr_lower.specs.Seen.{one_named, one_of, seen};
+ghost use Rattle.expr_lower.specs.StmtGrowing.{cell_named, cells_named};
 
+use crate::scope::{Scope, local_named};
 use cal_ast::{Expr, ExprForm};
 use cal_model::Shape;
 use rvc_base::Scalar;
@@ -37,6 +39,13 @@ pub(crate) struct ItemList {
     pub kind: Scalar,
 }
 
+/// Where a single value stands, and its type.
+#[derive(Clone, Copy)]
+pub(crate) struct OneSeat {
+    pub seat: Seat,
+    pub kind: Scalar,
+}
+
 /// The cell of a single value, and its type.
 #[derive(Clone, Copy)]
 pub(crate) struct OneCell {
@@ -53,31 +62,28 @@ pub(crate) struct ListCells {
 }
 
 /// The cell of the single value that a text names, if it names one.
-pub(crate) fn cell_named(names: &[Named], text: &str) -> Option<OneCell>
-    ensures { result ≡ cell_named (names_view names.now) text.now }
+pub(crate) fn cell_named(scope: &Scope, text: &str) -> Option<OneCell>
+    ensures { result ≡ cell_named (seen scope.now) text.now }
 {
-    match find(names, text) {
-        Some(named) => cell_of(named),
-        None => None,
+    let one = one_named(scope, text)?;
+    match one.seat {
+        Seat::Cell(cell) => Some(OneCell {
+            cell,
+            kind: one.kind,
+        }),
+        Seat::Tokens {
+            port: _,
+            first: _,
+            step: _,
+        } => None,
     }
 }
 
-/// The cell of a single value.
-fn cell_of(named: &Named) -> Option<OneCell>
-    ensures { result ≡ cell_of named.now.seat (shape_view named.now.shape) }
-{
-    let Seat::Cell(cell) = named.seat else {
-        return None;
-    };
-    let kind = single(&named.shape)?;
-    Some(OneCell { cell, kind })
-}
-
 /// The cells of the list of single values that a text names, if it names one.
-pub(crate) fn cells_named(names: &[Named], text: &str) -> Option<ListCells>
-    ensures { result ≡ cells_named (names_view names.now) text.now }
+pub(crate) fn cells_named(scope: &Scope, text: &str) -> Option<ListCells>
+    ensures { result ≡ cells_named (seen scope.now) text.now }
 {
-    let list = list_called(names, text)?;
+    let list = list_called(scope, text)?;
     match list.seat {
         Seat::Cell(cell) => Some(ListCells {
             cell,
@@ -92,18 +98,62 @@ pub(crate) fn cells_named(names: &[Named], text: &str) -> Option<ListCells>
     }
 }
 
+/// The single value that a text names, if it names one.
+pub(crate) fn one_named(scope: &Scope, text: &str) -> Option<OneSeat>
+    ensures { result ≡ one_named (seen scope.now) text.now }
+{
+    match local_named(text, scope.frame) {
+        Some(local) => Some(OneSeat {
+            seat: Seat::Cell(local.cell),
+            kind: local.kind,
+        }),
+        None => one_outside(scope.names, text),
+    }
+}
+
+/// The single value of a name, if it is that of one.
+fn one_outside(names: &[Named], text: &str) -> Option<OneSeat>
+    ensures { result ≡ one_named (names_view names.now) text.now }
+{
+    match find(names, text) {
+        Some(named) => one_of(named),
+        None => None,
+    }
+}
+
+/// Where the single value of a name stands, if it is that of one.
+fn one_of(named: &Named) -> Option<OneSeat>
+    ensures { result ≡ one_of (name_view named.now) }
+{
+    let kind = single(&named.shape)?;
+    Some(OneSeat {
+        seat: named.seat,
+        kind,
+    })
+}
+
 /// The list of single values that an expression names, if it names one.
-pub(crate) fn list_named(names: &[Named], e: &Expr) -> Option<ItemList>
-    ensures { result ≡ list_named (names_view names.now) (expr_tree e.now) }
+pub(crate) fn list_named(scope: &Scope, e: &Expr) -> Option<ItemList>
+    ensures { result ≡ list_named (seen scope.now) (expr_tree e.now) }
 {
     match &e.form {
-        ExprForm::Name(text) => list_called(names, text.as_str()),
+        ExprForm::Name(text) => list_called(scope, text.as_str()),
         _ => None,
     }
 }
 
+/// The list of single values that a text names, if it names one. A local is none.
+fn list_called(scope: &Scope, text: &str) -> Option<ItemList>
+    ensures { result ≡ list_named (seen scope.now) (tree.variable text.now 0) }
+{
+    match local_named(text, scope.frame) {
+        Some(_) => None,
+        None => list_outside(scope.names, text),
+    }
+}
+
 /// The list of single values of a name, if it is that of one.
-fn list_called(names: &[Named], text: &str) -> Option<ItemList>
+fn list_outside(names: &[Named], text: &str) -> Option<ItemList>
     ensures { result ≡ list_named (names_view names.now) (tree.variable text.now 0) }
 {
     match find(names, text) {
@@ -140,7 +190,7 @@ fn single(shape: &Shape) -> Option<Scalar>
 }
 
 /// The first of the names that is this text.
-pub(crate) fn find<'a>(names: &'a [Named], text: &str) -> Option<&'a Named>
+fn find<'a>(names: &'a [Named], text: &str) -> Option<&'a Named>
     ensures { option_map (λ x. name_view x.now) result ≡ named text.now (names_view names.now) }
 {
     let mut rest = names;

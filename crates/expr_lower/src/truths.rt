@@ -3,29 +3,29 @@
 ghost use Rattle.std.specs.Prelude.{◌≡◌};
 ghost use Rattle.cal_ast.specs.Tree as tree;
 ghost use Rattle.cal_ast.specs.View.{expr_tree};
-ghost use Rattle.expr_lower.specs.Names.{names_view};
 ghost use Rattle.expr_lower.specs.Truths.{is_truth, is_truth_binary, is_truth_list};
 ghost use Rattle.expr_lower.specs.Listed.{list_named};
+ghost use Rattle.expr_lower.specs.Seen.{seen};
 
-use crate::names::{Named, find, list_named};
+use crate::names::{list_named, one_named};
+use crate::scope::Scope;
 use cal_ast::{BinOp, Expr, ExprForm, PrefixOp};
-use cal_model::Shape;
 use rvc_base::Scalar;
 
 /// Whether what an expression gives, if it gives anything, is seen to be a truth value.
-pub(crate) fn is_truth(names: &[Named], e: &Expr) -> bool
-    ensures { result ≡ is_truth (names_view names.now) (expr_tree e.now) }
+pub(crate) fn is_truth(scope: &Scope, e: &Expr) -> bool
+    ensures { result ≡ is_truth (seen scope.now) (expr_tree e.now) }
 {
     match &e.form {
         ExprForm::Number(_) => false,
         ExprForm::Bool(_) => true,
-        ExprForm::Name(text) => is_truth_name(names, text.as_str()),
+        ExprForm::Name(text) => is_truth_name(scope, text.as_str()),
         ExprForm::Call { name: _, args: _ } => false,
-        ExprForm::Paren(inner) => is_truth(names, inner),
-        ExprForm::If { test: _, yes, no } => is_truth(names, yes) && is_truth(names, no),
+        ExprForm::Paren(inner) => is_truth(scope, inner),
+        ExprForm::If { test: _, yes, no } => is_truth(scope, yes) && is_truth(scope, no),
         ExprForm::List(_) => false,
         ExprForm::Comp { item: _, gens: _ } => false,
-        ExprForm::Index { base, place: _ } => is_truth_item(names, base),
+        ExprForm::Index { base, place: _ } => is_truth_item(scope, base),
         ExprForm::Prefix { op, of: _ } => *op == PrefixOp::Not,
         ExprForm::Binary {
             op,
@@ -36,20 +36,20 @@ pub(crate) fn is_truth(names: &[Named], e: &Expr) -> bool
 }
 
 /// Whether a variable has the type of truth values.
-fn is_truth_name(names: &[Named], text: &str) -> bool
-    ensures { result ≡ is_truth (names_view names.now) (tree.variable text.now 0) }
+fn is_truth_name(scope: &Scope, text: &str) -> bool
+    ensures { result ≡ is_truth (seen scope.now) (tree.variable text.now 0) }
 {
-    match find(names, text) {
-        Some(named) => matches!(&named.shape, Shape::Scalar(Scalar::Bool)),
+    match one_named(scope, text) {
+        Some(one) => matches!(one.kind, Scalar::Bool),
         None => false,
     }
 }
 
 /// Whether the items of a list have the type of truth values.
-fn is_truth_item(names: &[Named], base: &Expr) -> bool
-    ensures { result ≡ is_truth_list (list_named (names_view names.now) (expr_tree base.now)) }
+fn is_truth_item(scope: &Scope, base: &Expr) -> bool
+    ensures { result ≡ is_truth_list (list_named (seen scope.now) (expr_tree base.now)) }
 {
-    match list_named(names, base) {
+    match list_named(scope, base) {
         Some(list) => matches!(list.kind, Scalar::Bool),
         None => false,
     }

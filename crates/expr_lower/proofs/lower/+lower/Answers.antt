@@ -8,7 +8,8 @@ use Rattle.cal_ast.specs.declared.expr.BinOp.TheVariants as binaries
 use Rattle.code_ir.specs.declared.instr.Instr.TheVariants as op
 use Rattle.expr_lower.specs.Coding as coding
 use Rattle.expr_lower.specs.Coding.{IsCode, IsOpenTest, binary_instr, item_instr, prefix_instr}
-use Rattle.expr_lower.specs.Names.{Name, names_view}
+use Rattle.expr_lower.specs.Names.{Name}
+use Rattle.expr_lower.specs.Seen.{seen}
 use Rattle.expr_lower.specs.Lowered.{IsPut}
 use Rattle.expr_lower.proofs.Adding.{put_adds, same_adds, then_put, then_adds, strict_adds, test_coded, tests_coded, if_adds, both_adds, either_adds}
 use Rattle.expr_lower.proofs.Literals.{negative_coded}
@@ -16,7 +17,7 @@ use Rattle.expr_lower.proofs.lower.+lower.Goals as goal
 
 pub both-returns-clause-ok : goal.both-returns-clause-ok
 both-returns-clause-ok t c =
-    both_adds (names_view c.args.names.now) (expr_tree c.args.left.now) (expr_tree c.args.right.now) c.args.at c.args.draft.now c.lower_test.new.draft c.lower.new.draft c.put.new.draft c.put-2.new.draft c.link.new.draft (op.Jump 0)
+    both_adds (seen c.args.scope.now) (expr_tree c.args.left.now) (expr_tree c.args.right.now) c.args.at c.args.draft.now c.lower_test.new.draft c.lower.new.draft c.put.new.draft c.put-2.new.draft c.link.new.draft (op.Jump 0)
     c.len-start.result c.len-exits.result c.in_ok-out.out c.len-jump.result c.in_ok-end.end
     (sym c.is_truth.ensures ∙ c.if-not-is_truth.false)
     c.in_ok-lower_test.ensures.ok c.in_ok-lower.ensures.ok c.in_ok-put.ensures.added c.in_ok-put-2.ensures.added
@@ -25,7 +26,7 @@ both-returns-clause-ok t c =
 
 pub choice-returns-clause-ok : goal.choice-returns-clause-ok
 choice-returns-clause-ok t c = λ at.
-    if_adds (names_view c.args.names.now) (expr_tree c.args.test.now) (expr_tree c.args.yes.now) (expr_tree c.args.no.now) at c.args.draft.now c.lower_test.new.draft c.lower.new.draft c.put.new.draft c.lower-2.new.draft c.link.new.draft (op.Jump 0)
+    if_adds (seen c.args.scope.now) (expr_tree c.args.test.now) (expr_tree c.args.yes.now) (expr_tree c.args.no.now) at c.args.draft.now c.lower_test.new.draft c.lower.new.draft c.put.new.draft c.lower-2.new.draft c.link.new.draft (op.Jump 0)
     c.len-start.result c.len-exits.result c.in_ok-out.out c.len-jump.result c.in_ok-end.end
     c.in_ok-lower_test.ensures.ok c.in_ok-lower.ensures.ok c.in_ok-put.ensures.added c.in_ok-lower-2.ensures.ok
     (search rules) (search rules) (search rules) c.in_ok-out.ensures.place c.in_ok-end.ensures.place
@@ -33,7 +34,7 @@ choice-returns-clause-ok t c = λ at.
 
 pub either-returns-clause-ok : goal.either-returns-clause-ok
 either-returns-clause-ok t c =
-    either_adds (names_view c.args.names.now) (expr_tree c.args.left.now) (expr_tree c.args.right.now) c.args.at c.args.draft.now c.lower_test.new.draft c.put.new.draft c.put-2.new.draft c.lower.new.draft c.link.new.draft (op.Jump 0)
+    either_adds (seen c.args.scope.now) (expr_tree c.args.left.now) (expr_tree c.args.right.now) c.args.at c.args.draft.now c.lower_test.new.draft c.put.new.draft c.put-2.new.draft c.lower.new.draft c.link.new.draft (op.Jump 0)
     c.len-start.result c.len-exits.result c.in_ok-out.out c.len-jump.result c.in_ok-end.end
     (sym c.is_truth.ensures ∙ c.if-not-is_truth.false)
     c.in_ok-lower_test.ensures.ok c.in_ok-put.ensures.added c.in_ok-put-2.ensures.added c.in_ok-lower.ensures.ok
@@ -43,7 +44,7 @@ either-returns-clause-ok t c =
 pub paren-returns-clause-ok : goal.paren-returns-clause-ok
 paren-returns-clause-ok t c = λ at.
     on_ok_weaker c.lower.result
-    (same_adds (IsCode (names_view c.args.names.now) (expr_tree c.args.inner.now)) (IsCode (names_view c.args.names.now) (tree.paren (expr_tree c.args.inner.now) at)) c.args.draft.now c.lower.new.draft
+    (same_adds (IsCode (seen c.args.scope.now) (expr_tree c.args.inner.now)) (IsCode (seen c.args.scope.now) (tree.paren (expr_tree c.args.inner.now) at)) c.args.draft.now c.lower.new.draft
     (λ base n m code h. coding.paren (expr_tree c.args.inner.now) at base n m code h))
     c.lower.ensures.ok
 
@@ -52,14 +53,14 @@ operation-returns-in-Some-clause-ok t c = λ at.
     let fits : SFits num_width c.in-Some.value = search rules in
     let same : to_z num_width (of_z num_width c.in-Some.value) ≡ c.in-Some.value = to_z-of_z num_width c.in-Some.value fits in
     on_ok_weaker c.put_const.result
-    (λ (p : IsPut (op.Const (to_z num_width (of_z num_width c.in-Some.value)) ∷ []) c.args.draft.now c.put_const.new.draft). put_adds (IsCode (names_view c.args.names.now) (tree.prefix c.args.op (expr_tree c.args.of.now) at)) (op.Const c.in-Some.value ∷ []) c.args.draft.now c.put_const.new.draft
+    (λ (p : IsPut (op.Const (to_z num_width (of_z num_width c.in-Some.value)) ∷ []) c.args.draft.now c.put_const.new.draft). put_adds (IsCode (seen c.args.scope.now) (tree.prefix c.args.op (expr_tree c.args.of.now) at)) (op.Const c.in-Some.value ∷ []) c.args.draft.now c.put_const.new.draft
     (subst (λ z. IsPut (op.Const z ∷ []) c.args.draft.now c.put_const.new.draft) same p)
-    (λ base n. negative_coded (names_view c.args.names.now) c.args.op (expr_tree c.args.of.now) c.in-Some.value at base n c.in-Some.ensures))
+    (λ base n. negative_coded (seen c.args.scope.now) c.args.op (expr_tree c.args.of.now) c.in-Some.value at base n c.in-Some.ensures))
     c.put_const.ensures.added
 
 pub operation-returns-clause-ok : goal.operation-returns-clause-ok
 operation-returns-clause-ok t c = λ at.
-    let names : List Name = names_view c.args.names.now in
+    let names : List Name = seen c.args.scope.now in
     on_ok_weaker c.put.result
     (λ (p : IsPut (c.prefix_instr.result ∷ []) c.lower.new.draft c.put.new.draft).
     then_put (IsCode names (expr_tree c.args.of.now)) (IsCode names (tree.prefix c.args.op (expr_tree c.args.of.now) at)) (prefix_instr c.args.op ∷ []) c.args.draft.now c.lower.new.draft c.put.new.draft
@@ -68,14 +69,14 @@ operation-returns-clause-ok t c = λ at.
     c.put.ensures.added
 
 pub strict-returns-clause-ok : goal.strict-returns-clause-ok
-strict-returns-clause-ok t c = λ o at e.
+strict-returns-clause-ok t c =
     on_ok_weaker c.put.result
-    (strict_adds (names_view c.args.names.now) o c.args.instr (expr_tree c.args.left.now) (expr_tree c.args.right.now) at c.args.draft.now c.lower.new.draft c.lower-2.new.draft c.put.new.draft e c.in_ok-lower.ensures.ok c.in_ok-lower-2.ensures.ok)
+    (λ p o at e. strict_adds (seen c.args.scope.now) o c.args.instr (expr_tree c.args.left.now) (expr_tree c.args.right.now) at c.args.draft.now c.lower.new.draft c.lower-2.new.draft c.put.new.draft e c.in_ok-lower.ensures.ok c.in_ok-lower-2.ensures.ok p)
     c.put.ensures.added
 
 pub test_both-returns-clause-ok : goal.test_both-returns-clause-ok
 test_both-returns-clause-ok t c =
-    let names : List Name = names_view c.args.names.now in
+    let names : List Name = seen c.args.scope.now in
     on_ok_weaker c.lower_test-2.result
     (then_adds (IsOpenTest names (expr_tree c.args.left.now)) (IsOpenTest names (expr_tree c.args.right.now)) (IsOpenTest names (tree.binary binaries.And (expr_tree c.args.left.now) (expr_tree c.args.right.now) c.args.at)) c.args.draft.now c.lower_test.new.draft c.lower_test-2.new.draft
     (tests_coded names (expr_tree c.args.left.now) (expr_tree c.args.right.now) c.args.at (sym c.is_truth.ensures ∙ c.if-not-is_truth.false))
@@ -84,7 +85,7 @@ test_both-returns-clause-ok t c =
 
 pub test_value-returns-clause-ok : goal.test_value-returns-clause-ok
 test_value-returns-clause-ok t c =
-    let names : List Name = names_view c.args.names.now in
+    let names : List Name = seen c.args.scope.now in
     on_ok_weaker c.put.result
     (then_put (IsCode names (expr_tree c.args.e.now)) (IsOpenTest names (expr_tree c.args.e.now)) (op.Done ∷ []) c.args.draft.now c.lower.new.draft c.put.new.draft
     (λ base n m code h. test_coded names (expr_tree c.args.e.now) base n m code h) c.in_ok-lower.ensures.ok)
@@ -92,7 +93,7 @@ test_value-returns-clause-ok t c =
 
 pub item-returns-clause-ok : goal.item-returns-clause-ok
 item-returns-clause-ok t c =
-    let names : List Name = names_view c.args.names.now in
+    let names : List Name = seen c.args.scope.now in
     on_ok_weaker c.put.result
     (λ (p : IsPut (c.item_instr.result ∷ []) c.lower.new.draft c.put.new.draft).
     then_put (IsCode names (expr_tree c.args.place.now)) (IsCode names (tree.index (expr_tree c.args.base.now) (expr_tree c.args.place.now) c.args.at)) (item_instr c.in-Some.list ∷ []) c.args.draft.now c.lower.new.draft c.put.new.draft

@@ -1,0 +1,216 @@
+-- Which cells names have doesn't matter to what is left out.
+use Rattle.std.proofs.Common.{◌≡◌, ℕ, List, [], ◌∷◌, map, Bool, true, false, refl, sym, ap, ◌∙◌, Option, None, Some}
+use Rattle.std.specs.Prelude.{if◌then◌else◌, not, ◌&&◌}
+use Rattle.std.specs.Str.{bytes_eq}
+use Rattle.rvc_base.specs.declared.scalar.Scalar.{Scalar}
+use Rattle.cal_ast.specs.Tree as tree
+use Rattle.cal_ast.specs.Tree.{Tree}
+use Rattle.cal_model.specs.Value.{Shape, Single, Many}
+use Rattle.expr_lower.specs.declared.names.ItemList.{ItemList}
+use Rattle.expr_lower.specs.declared.names.ListCells.{ListCells}
+use Rattle.expr_lower.specs.declared.names.OneCell.{OneCell}
+use Rattle.expr_lower.specs.declared.names.Seat.{Seat}
+use Rattle.expr_lower.specs.declared.names.Seat.TheVariants.{Cell, Tokens}
+use Rattle.expr_lower.specs.Growing.{is_short, left_out, left_out_name, ◌or_else◌}
+use Rattle.expr_lower.specs.Listed.{items_in, items_of, list_named, single_of}
+use Rattle.expr_lower.specs.Meant.{local, single_meant}
+use Rattle.expr_lower.specs.Names.{Name, named}
+use Rattle.expr_lower.specs.StmtGrowing.{cell_of, cell_named, cells_of, cells_named, left_out_all, left_out_set, left_out_start, left_out_stmt, left_out_vars}
+use Rattle.expr_lower.specs.Truths.{is_truth, is_truth_list, is_truth_shape}
+
+-- a seat without its cell
+abbrev erase_seat : Seat → Seat
+erase_seat (Cell c) = Cell 0
+erase_seat (Tokens port first step) = Tokens port first step
+
+abbrev erase : Name → Name
+erase x = record { text = x.text; shape = x.shape; seat = erase_seat x.seat }
+
+abbrev erased : Option Name → Option Name
+erased None = None
+erased (Some x) = Some (erase x)
+
+abbrev erased_list : Option ItemList → Option ItemList
+erased_list None = None
+erased_list (Some l) = Some (record { seat = erase_seat l.seat; size = l.size; kind = l.kind })
+
+abbrev list_in_name : Option Name → Option ItemList
+list_in_name o = elim o [ None ↦ None | Some x ↦ items_of x ]
+
+abbrev cell_in_name : Option Name → Option OneCell
+cell_in_name o = elim o [ None ↦ None | Some x ↦ cell_of x.seat x.shape ]
+
+abbrev cells_in_list : Option ItemList → Option ListCells
+cells_in_list o = elim o [ None ↦ None | Some l ↦ cells_of l ]
+
+abbrev is_truth_name : Option Name → Bool
+is_truth_name o = elim o [ None ↦ false | Some x ↦ is_truth_shape x.shape ]
+
+-- a place if there is none, and else what comes of it
+abbrev left_or : {A : Type 0} → Option A → ℕ → Option ℕ → Option ℕ
+left_or o at x = elim o [ None ↦ Some at | Some a ↦ x ]
+
+abbrev left_each : Option Scalar → ℕ → (Scalar → Option ℕ) → Option ℕ
+left_each o at f = elim o [ None ↦ Some at | Some t ↦ f t ]
+
+-- ---- names
+
+named_erased : (text : List ℕ) (names : List Name) → named text (map erase names) ≡ erased (named text names)
+named_erased text [] = refl
+named_erased text (x ∷ xs) = go (bytes_eq x.text text) (named_erased text xs)
+  where
+    go : (b : Bool) → named text (map erase xs) ≡ erased (named text xs)
+        → (if b then Some (erase x) else named text (map erase xs)) ≡ erased (if b then Some x else named text xs)
+    go true h = refl
+    go false h = h
+
+items_erased : (seat : Seat) (shape : Shape) → items_in (erase_seat seat) shape ≡ erased_list (items_in seat shape)
+items_erased seat (Single t) = refl
+items_erased seat (Many n (Single t)) = refl
+items_erased seat (Many n (Many k items)) = refl
+
+list_erased : (names : List Name) (e : Tree) → list_named (map erase names) e ≡ erased_list (list_named names e)
+list_erased names (tree.variable text at) = ap list_in_name (named_erased text names) ∙ go (named text names)
+  where
+    go : (o : Option Name) → list_in_name (erased o) ≡ erased_list (list_in_name o)
+    go None = refl
+    go (Some x) = items_erased x.seat x.shape
+list_erased names other = refl
+
+truth_list : (o : Option ItemList) → is_truth_list (erased_list o) ≡ is_truth_list o
+truth_list None = refl
+truth_list (Some l) = refl
+
+truth_erased : (names : List Name) (e : Tree) → is_truth (map erase names) e ≡ is_truth names e
+truth_erased names (tree.truth b at) = refl
+truth_erased names (tree.variable text at) = ap is_truth_name (named_erased text names) ∙ go (named text names)
+  where
+    go : (o : Option Name) → is_truth_name (erased o) ≡ is_truth_name o
+    go None = refl
+    go (Some x) = refl
+truth_erased names (tree.paren e at) = truth_erased names e
+truth_erased names (tree.if_expr test first other at) =
+    ap (λ b. b && is_truth (map erase names) other) (truth_erased names first) ∙ ap (λ b. is_truth names first && b) (truth_erased names other)
+truth_erased names (tree.index base place at) = ap is_truth_list (list_erased names base) ∙ truth_list (list_named names base)
+truth_erased names (tree.prefix o e at) = refl
+truth_erased names (tree.binary o l r at) = refl
+truth_erased names other = refl
+
+-- ---- expressions
+
+both_same : {a b c d : Option ℕ} → a ≡ b → c ≡ d → a or_else c ≡ b or_else d
+both_same {b = b} {c = c} e f = ap (λ x. x or_else c) e ∙ ap (λ x. b or_else x) f
+
+out_erased : (names : List Name) (e : Tree) → left_out (map erase names) e ≡ left_out names e
+out_erased names (tree.number k at) = refl
+out_erased names (tree.truth b at) = refl
+out_erased names (tree.variable text at) = ap (λ o. left_out_name o at) (named_erased text names) ∙ go (named text names)
+  where
+    go : (o : Option Name) → left_out_name (erased o) at ≡ left_out_name o at
+    go None = refl
+    go (Some x) = refl
+out_erased names (tree.paren e at) = out_erased names e
+out_erased names (tree.if_expr test first other at) = both_same (out_erased names test) (both_same (out_erased names first) (out_erased names other))
+out_erased names (tree.prefix o e at) = out_erased names e
+out_erased names (tree.binary o l r at) =
+    ap (λ b. if is_short o && not b then Some at else left_out (map erase names) l or_else left_out (map erase names) r) (truth_erased names l)
+    ∙ ap (λ x. if is_short o && not (is_truth names l) then Some at else x) (both_same (out_erased names l) (out_erased names r))
+out_erased names (tree.call name args at) = refl
+out_erased names (tree.list items at) = refl
+out_erased names (tree.comp item gens at) = refl
+out_erased names (tree.index base place at) =
+    ap (λ o. left_or o at (left_out (map erase names) place)) (list_erased names base)
+    ∙ go (list_named names base) ∙ ap (λ x. left_or (list_named names base) at x) (out_erased names place)
+  where
+    go : (o : Option ItemList) → left_or (erased_list o) at (left_out (map erase names) place) ≡ left_or o at (left_out (map erase names) place)
+    go None = refl
+    go (Some l) = refl
+out_erased names other = refl
+
+-- ---- assignments
+
+cell_left : (seat : Seat) (shape : Shape) (at : ℕ) (x : Option ℕ) → left_or (cell_of (erase_seat seat) shape) at x ≡ left_or (cell_of seat shape) at x
+cell_left (Cell c) (Single t) at x = refl
+cell_left (Cell c) (Many n items) at x = refl
+cell_left (Tokens port first step) shape at x = refl
+
+cells_left : (l : ItemList) (seat : Seat) (at : ℕ) (x : Option ℕ) → left_or (cells_of (record { seat = erase_seat seat; size = l.size; kind = l.kind })) at x ≡ left_or (cells_of (record { seat = seat; size = l.size; kind = l.kind })) at x
+cells_left l (Cell c) at x = refl
+cells_left l (Tokens port first step) at x = refl
+
+named_cell : (names : List Name) (text : List ℕ) (at : ℕ) (x : Option ℕ) → left_or (cell_named (map erase names) text) at x ≡ left_or (cell_named names text) at x
+named_cell names text at x = ap (λ (o : Option Name). left_or (cell_in_name o) at x) (named_erased text names) ∙ go (named text names)
+  where
+    go : (o : Option Name) → left_or (cell_in_name (erased o)) at x ≡ left_or (cell_in_name o) at x
+    go None = refl
+    go (Some y) = cell_left y.seat y.shape at x
+
+named_cells : (names : List Name) (text : List ℕ) (at : ℕ) (x : Option ℕ) → left_or (cells_named (map erase names) text) at x ≡ left_or (cells_named names text) at x
+named_cells names text at x = ap (λ (o : Option ItemList). left_or (cells_in_list o) at x) (list_erased names (tree.variable text 0)) ∙ go (list_named names (tree.variable text 0))
+  where
+    go : (o : Option ItemList) → left_or (cells_in_list (erased_list o)) at x ≡ left_or (cells_in_list o) at x
+    go None = refl
+    go (Some l) = cells_left l l.seat at x
+
+set_erased : (names : List Name) (text : List ℕ) (places value : Tree) (at : ℕ) → left_out_set (map erase names) text places value at ≡ left_out_set names text places value at
+set_erased names text tree.nil value at =
+    named_cell names text at (left_out (map erase names) value) ∙ ap (λ x. left_or (cell_named names text) at x) (out_erased names value)
+set_erased names text (tree.cons spot tree.nil) value at =
+    named_cells names text at (left_out (map erase names) spot or_else left_out (map erase names) value)
+    ∙ ap (λ x. left_or (cells_named names text) at x) (both_same (out_erased names spot) (out_erased names value))
+set_erased names text places value at = refl
+
+-- ---- statements
+
+each_erased : (names : List Name) (text : List ℕ) (from to body : Tree) (at : ℕ) (o : Option Scalar)
+    → ((t : Scalar) → left_out_all (local text t 0 ∷ map erase names) body ≡ left_out_all (local text t 0 ∷ names) body)
+    → left_each o at (λ t. left_out (map erase names) from or_else (left_out (map erase names) to or_else left_out_all (local text t 0 ∷ map erase names) body))
+    ≡ left_each o at (λ t. left_out names from or_else (left_out names to or_else left_out_all (local text t 0 ∷ names) body))
+each_erased names text from to body at None h = refl
+each_erased names text from to body at (Some t) h = both_same (out_erased names from) (both_same (out_erased names to) (h t))
+
+start_erased : (names : List Name) (e : Tree) → left_out_start (map erase names) e ≡ left_out_start names e
+start_erased names tree.absent = refl
+start_erased names (tree.present e) = out_erased names e
+start_erased names other = refl
+
+vars_erased : (names : List Name) (vars : Tree) (body : List Name → Option ℕ) → ((inner : List Name) → body (map erase inner) ≡ body inner) → left_out_vars (map erase names) vars body ≡ left_out_vars names vars body
+vars_erased names tree.nil body h = h names
+vars_erased names (tree.cons (tree.var shape (tree.ident text place) start changes at) vars) body h = go (single_meant shape) (λ t. vars_erased (local text t 0 ∷ names) vars body h)
+  where
+    go : (o : Option Scalar) → ((t : Scalar) → left_out_vars (local text t 0 ∷ map erase names) vars body ≡ left_out_vars (local text t 0 ∷ names) vars body)
+        → left_each o at (λ t. left_out_start (map erase names) start or_else left_out_vars (local text t 0 ∷ map erase names) vars body)
+        ≡ left_each o at (λ t. left_out_start names start or_else left_out_vars (local text t 0 ∷ names) vars body)
+    go None later = refl
+    go (Some t) later = both_same (start_erased names start) (later t)
+vars_erased names other body h = refl
+
+mutual
+  stmt_erased : (names : List Name) (s : Tree) → left_out_stmt (map erase names) s ≡ left_out_stmt names s
+  stmt_erased names (tree.assign (tree.ident text place) places value at) = set_erased names text places value at
+  stmt_erased names (tree.call_stmt name args at) = refl
+  stmt_erased names (tree.if_stmt test first other at) = both_same (out_erased names test) (both_same (all_erased names first) (all_erased names other))
+  stmt_erased names (tree.while_stmt test body at) = both_same (all_erased names body) (out_erased names test)
+  stmt_erased names (tree.foreach_stmt shape (tree.ident text place) from to body at) =
+      each_erased names text from to body at (single_meant shape) (λ t. all_erased (local text t 0 ∷ names) body)
+  stmt_erased names (tree.block vars body at) =
+      vars_erased names vars (λ inner. left_out_all inner body) (λ inner. all_erased inner body)
+  stmt_erased names other = refl
+
+  all_erased : (names : List Name) (ss : Tree) → left_out_all (map erase names) ss ≡ left_out_all names ss
+  all_erased names tree.nil = refl
+  all_erased names (tree.cons s rest) = both_same (stmt_erased names s) (all_erased names rest)
+  all_erased names tree.absent = refl
+  all_erased names (tree.present body) = all_erased names body
+  all_erased names other = refl
+
+-- in any cell the local leaves out the same
+pub any_cell : (names : List Name) (text : List ℕ) (t : Scalar) (c : ℕ) (body : Tree) → left_out_all (local text t c ∷ names) body ≡ left_out_all (local text t 0 ∷ names) body
+any_cell names text t c body = sym (all_erased (local text t c ∷ names) body) ∙ all_erased (local text t 0 ∷ names) body
+
+-- .. and so do the variables of a block behind it
+pub any_cell_vars : (names : List Name) (text : List ℕ) (t : Scalar) (c : ℕ) (vars body : Tree)
+    → left_out_vars (local text t c ∷ names) vars (λ inner. left_out_all inner body) ≡ left_out_vars (local text t 0 ∷ names) vars (λ inner. left_out_all inner body)
+any_cell_vars names text t c vars body =
+    sym (vars_erased (local text t c ∷ names) vars (λ inner. left_out_all inner body) (λ inner. all_erased inner body))
+    ∙ vars_erased (local text t 0 ∷ names) vars (λ inner. left_out_all inner body) (λ inner. all_erased inner body)

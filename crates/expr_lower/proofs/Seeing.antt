@@ -1,0 +1,142 @@
+-- Single values that are named, as locals or outside them.
+use Rattle.std.proofs.Common.{◌≡◌, ℕ, List, ◌∷◌, ◌++◌, Bool, true, false, refl, sym, ap, ◌∙◌, Option, None, Some}
+use Rattle.std.specs.Prelude.{if◌then◌else◌}
+use Rattle.std.specs.Str.{bytes_eq}
+use Rattle.std.proofs.lemmas.Slice.Eq.{bytes_eq-Decides}
+use Rattle.rvc_base.specs.declared.scalar.Scalar.{Scalar}
+use Rattle.cal_ast.specs.Tree as tree
+use Rattle.cal_model.specs.Value.{Shape, Single, Many}
+use Rattle.expr_lower.specs.declared.names.ItemList.{ItemList}
+use Rattle.expr_lower.specs.declared.names.OneCell.{OneCell}
+use Rattle.expr_lower.specs.declared.names.OneSeat.{OneSeat}
+use Rattle.expr_lower.specs.declared.names.Seat.{Seat}
+use Rattle.expr_lower.specs.declared.names.Seat.TheVariants.{Cell, Tokens}
+use Rattle.expr_lower.specs.Growing.{left_out_name}
+use Rattle.expr_lower.specs.Listed.{items_of, list_named}
+use Rattle.expr_lower.specs.Meant.{local}
+use Rattle.expr_lower.specs.Names.{Name, named}
+use Rattle.expr_lower.specs.Seen.{IsHidden, IsNotLocal, one_in, one_of, one_named}
+use Rattle.expr_lower.specs.StmtGrowing.{cell_of, cell_named}
+use Rattle.expr_lower.specs.Truths.{is_truth, is_truth_shape}
+
+-- the words of the definitions, of what was found
+
+abbrev one_in_name : Option Name → Option OneSeat
+one_in_name o = elim o [ None ↦ None | Some x ↦ one_of x ]
+
+abbrev list_in_name : Option Name → Option ItemList
+list_in_name o = elim o [ None ↦ None | Some x ↦ items_of x ]
+
+abbrev cell_in_name : Option Name → Option OneCell
+cell_in_name o = elim o [ None ↦ None | Some x ↦ cell_of x.seat x.shape ]
+
+abbrev is_truth_name : Option Name → Bool
+is_truth_name o = elim o [ None ↦ false | Some x ↦ is_truth_shape x.shape ]
+
+abbrev left_shape : Shape → ℕ → Option ℕ
+left_shape t at = elim t [ Single u ↦ None | Many n items ↦ Some at ]
+
+-- what is made of a single value that was found
+
+abbrev pub cell_in : Option OneSeat → Option OneCell
+cell_in o = elim o [ None ↦ None | Some s ↦ cell_of s.seat (Single s.kind) ]
+
+abbrev pub is_truth_in : Option OneSeat → Bool
+is_truth_in o = elim o [ None ↦ false | Some s ↦ is_truth_shape (Single s.kind) ]
+
+-- ---- single values
+
+pub record IsOneOf (names : List Name) (text : List ℕ) (s : OneSeat) : Type 0 where
+  pub x : Name
+  pub is : named text names ≡ Some x
+  pub seat : x.seat ≡ s.seat
+  pub shape : x.shape ≡ Single s.kind
+
+pub one_found : (names : List Name) (text : List ℕ) (s : OneSeat) → one_named names text ≡ Some s → IsOneOf names text s
+one_found names text s e = go (named text names) refl e
+  where
+    at_shape : (x : Name) (shape : Shape) → x.shape ≡ shape → named text names ≡ Some x → one_in x.seat shape ≡ Some s → IsOneOf names text s
+    at_shape x (Single t) p is h =
+        let made : OneSeat = record { seat = x.seat; kind = t } in
+        let same : made ≡ s = cc in
+        record { x = x; is = is; seat = ap (λ (o : OneSeat). o.seat) same; shape = p ∙ ap (λ (o : OneSeat). Single o.kind) same }
+    at_shape x (Many n items) p is h = cc
+
+    go : (o : Option Name) → named text names ≡ o → one_in_name o ≡ Some s → IsOneOf names text s
+    go None is h = cc
+    go (Some x) is h = at_shape x x.shape refl is h
+
+-- a name of no single value is left out, and another isn't
+pub one_missing : (names : List Name) (text : List ℕ) (at : ℕ) → one_named names text ≡ None → left_out_name (named text names) at ≡ Some at
+one_missing names text at e = go (named text names) e
+  where
+    at_shape : (seat : Seat) (shape : Shape) → one_in seat shape ≡ None → left_shape shape at ≡ Some at
+    at_shape seat (Single t) h = cc
+    at_shape seat (Many n items) h = refl
+
+    go : (o : Option Name) → one_in_name o ≡ None → left_out_name o at ≡ Some at
+    go None h = refl
+    go (Some x) h = at_shape x.seat x.shape h
+
+pub one_there : (names : List Name) (text : List ℕ) (at : ℕ) (s : OneSeat) → one_named names text ≡ Some s → left_out_name (named text names) at ≡ None
+one_there names text at s e =
+    let f : IsOneOf names text s = one_found names text s e in
+    ap (λ o. left_out_name o at) f.is ∙ ap (λ (t : Shape). left_shape t at) f.shape
+
+-- the cell of what is named
+pub one_cell : (names : List Name) (text : List ℕ) → cell_named names text ≡ cell_in (one_named names text)
+one_cell names text = go (named text names)
+  where
+    at_shape : (seat : Seat) (shape : Shape) → cell_of seat shape ≡ cell_in (one_in seat shape)
+    at_shape seat (Single t) = refl
+    at_shape (Cell c) (Many n items) = refl
+    at_shape (Tokens port first step) (Many n items) = refl
+
+    go : (o : Option Name) → cell_in_name o ≡ cell_in (one_in_name o)
+    go None = refl
+    go (Some x) = at_shape x.seat x.shape
+
+-- whether it is seen to be a truth value
+pub one_truth : (names : List Name) (text : List ℕ) → is_truth names (tree.variable text 0) ≡ is_truth_in (one_named names text)
+one_truth names text = go (named text names)
+  where
+    at_shape : (seat : Seat) (shape : Shape) → is_truth_shape shape ≡ is_truth_in (one_in seat shape)
+    at_shape seat (Single t) = refl
+    at_shape seat (Many n items) = refl
+
+    go : (o : Option Name) → is_truth_name o ≡ is_truth_in (one_in_name o)
+    go None = refl
+    go (Some x) = at_shape x.seat x.shape
+
+-- ---- locals
+
+pub hidden_one : (text : List ℕ) (locals outer : List Name) (c : OneCell) → IsHidden text locals c → one_named (locals ++ outer) text ≡ Some (record { seat = Cell c.cell; kind = c.kind })
+hidden_one text locals outer c h = ap one_in_name (h outer)
+
+pub outside_one : (text : List ℕ) (locals outer : List Name) → IsNotLocal text locals → one_named (locals ++ outer) text ≡ one_named outer text
+outside_one text locals outer h = ap one_in_name (h outer)
+
+pub hidden_list : (text : List ℕ) (locals outer : List Name) (c : OneCell) → IsHidden text locals c → list_named (locals ++ outer) (tree.variable text 0) ≡ None
+hidden_list text locals outer c h = ap list_in_name (h outer)
+
+pub outside_list : (text : List ℕ) (locals outer : List Name) → IsNotLocal text locals → list_named (locals ++ outer) (tree.variable text 0) ≡ list_named outer (tree.variable text 0)
+outside_list text locals outer h = ap list_in_name (h outer)
+
+-- ---- a local, and those outside it
+
+pub local_here : (text n : List ℕ) (k : Scalar) (c : ℕ) (locals rest : List Name) → locals ≡ local n k c ∷ rest → bytes_eq n text ≡ true
+    → (outer : List Name) → named text (locals ++ outer) ≡ Some (local text k c)
+local_here text n k c locals rest is e outer =
+    ap (λ ls. named text (ls ++ outer)) is ∙ go (bytes_eq n text) e ∙ ap (λ t. Some (local t k c)) ((bytes_eq-Decides n text).0 e)
+  where
+    go : (b : Bool) → b ≡ true → (if b then Some (local n k c) else named text (rest ++ outer)) ≡ Some (local n k c)
+    go true h = refl
+    go false h = cc
+
+pub local_past : (text n : List ℕ) (k : Scalar) (c : ℕ) (locals rest : List Name) → locals ≡ local n k c ∷ rest → bytes_eq n text ≡ false
+    → (outer : List Name) → named text (locals ++ outer) ≡ named text (rest ++ outer)
+local_past text n k c locals rest is e outer = ap (λ ls. named text (ls ++ outer)) is ∙ go (bytes_eq n text) e
+  where
+    go : (b : Bool) → b ≡ false → (if b then Some (local n k c) else named text (rest ++ outer)) ≡ named text (rest ++ outer)
+    go true h = cc
+    go false h = refl

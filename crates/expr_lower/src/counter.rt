@@ -1,0 +1,114 @@
+//! The cells of a `foreach`, and the parts of its code that are the same for every body.
+
+ghost use Rattle.std.specs.Prelude.{◌≡◌, ◌+◌, ◌^◌, ◌≤◌, IfErr, IfOk, OnOk};
+ghost use Rattle.expr_lower.specs.declared.fault.LowerFault.TheVariants.{Memory, TooManyCells};
+ghost use Rattle.expr_lower.specs.Lowered.{IsPut};
+ghost use Rattle.expr_lower.specs.Stating.{each_bounds, each_less, each_next, each_turn};
+ghost use Rattle.expr_lower.specs.Taking.{HasOneMore, HasTaken};
+
+use crate::draft::{Draft, put_all};
+use crate::fault::LowerFault;
+use code_ir::Instr;
+use rvc_base::Scalar;
+
+/// The cells of a `foreach`: the number at which it is, the last one, and its variable, which is stored in its type.
+#[derive(Clone, Copy)]
+pub(crate) struct Counter {
+    pub number: u32,
+    pub last: u32,
+    pub variable: u32,
+    pub kind: Scalar,
+}
+
+/// Takes three cells more.
+pub(crate) fn take_cells(kind: Scalar, draft: &mut Draft) -> Result<Counter, LowerFault>
+    ensures taken { IfOk result (HasTaken kind draft.old draft.new) }
+    ensures fault { IfErr result
+        (λ fault. (fault ≡ TooManyCells) × (2 ^ 32 ≤ draft.new.cells + 3)) }
+{
+    let number = draft.cells;
+    let Some(after) = number.checked_add(3) else {
+        return Err(LowerFault::TooManyCells);
+    };
+    draft.cells = after;
+    Ok(Counter {
+        number,
+        last: number + 1,
+        variable: number + 2,
+        kind,
+    })
+}
+
+/// Takes a cell more.
+pub(crate) fn take_cell(draft: &mut Draft) -> Result<u32, LowerFault>
+    ensures taken { IfOk result (HasOneMore draft.old draft.new) }
+    ensures fault { IfErr result
+        (λ fault. (fault ≡ TooManyCells) × (2 ^ 32 ≤ draft.new.cells + 3)) }
+{
+    let cell = draft.cells;
+    let Some(after) = cell.checked_add(1) else {
+        return Err(LowerFault::TooManyCells);
+    };
+    draft.cells = after;
+    Ok(cell)
+}
+
+/// Appends the instructions that take the bounds from the stack, and compare them.
+pub(crate) fn put_bounds(c: Counter, draft: &mut Draft) -> Result<(), LowerFault>
+    ensures added { OnOk result (IsPut (each_bounds c) draft.old draft.new) }
+    ensures memory { IfErr result (λ fault. fault ≡ Memory) }
+{
+    put_all(
+        draft,
+        &[
+            Instr::Store(c.last, None),
+            Instr::Store(c.number, None),
+            Instr::Load(c.number),
+            Instr::Load(c.last),
+            Instr::Le,
+        ],
+    )
+}
+
+/// Appends a turn, and the instructions that put the number into the variable.
+pub(crate) fn put_turn(c: Counter, draft: &mut Draft) -> Result<(), LowerFault>
+    ensures added { OnOk result (IsPut (each_turn c) draft.old draft.new) }
+    ensures memory { IfErr result (λ fault. fault ≡ Memory) }
+{
+    put_all(
+        draft,
+        &[
+            Instr::Turn,
+            Instr::Load(c.number),
+            Instr::Store(c.variable, Some(c.kind)),
+        ],
+    )
+}
+
+/// Appends the instructions that say whether the number isn't the last one.
+pub(crate) fn put_less(c: Counter, draft: &mut Draft) -> Result<(), LowerFault>
+    ensures added { OnOk result (IsPut (each_less c) draft.old draft.new) }
+    ensures memory { IfErr result (λ fault. fault ≡ Memory) }
+{
+    put_all(
+        draft,
+        &[Instr::Load(c.number), Instr::Load(c.last), Instr::Lt],
+    )
+}
+
+/// Appends the instructions that go on to the next number, and back to the turn.
+pub(crate) fn put_next(c: Counter, turn: u32, draft: &mut Draft) -> Result<(), LowerFault>
+    ensures added { OnOk result (IsPut (each_next c turn) draft.old draft.new) }
+    ensures memory { IfErr result (λ fault. fault ≡ Memory) }
+{
+    put_all(
+        draft,
+        &[
+            Instr::Load(c.number),
+            Instr::Const(1),
+            Instr::Add,
+            Instr::Store(c.number, None),
+            Instr::Jump(turn),
+        ],
+    )
+}

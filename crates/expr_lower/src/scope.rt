@@ -1,0 +1,68 @@
+//! What a part sees: the locals round it, and the names outside them.
+
+ghost use Rattle.std.specs.Prelude.{◌≡◌, ◌∷◌, IfNone, IfSome, List};
+ghost use Rattle.expr_lower.specs.Names.{names_view};
+ghost use Rattle.expr_lower.specs.Seen.{IsHidden, IsNotLocal, local_in, locals_of, seen};
+
+use crate::names::{Named, OneCell};
+use rvc_base::Scalar;
+
+/// A local of a single value, and the locals outside it.
+#[derive(Clone, Copy, Drop)]
+pub(crate) struct Frame<'a> {
+    pub name: &'a str,
+    pub kind: Scalar,
+    pub cell: u32,
+    /// The local outside it, if one stands there.
+    pub outer: Option<&'a Frame<'a>>,
+}
+
+/// What a part sees: names, and the locals that hide them.
+#[derive(Clone, Copy)]
+pub(crate) struct Scope<'a> {
+    pub names: &'a [Named],
+    /// The innermost local, if one stands there.
+    pub frame: Option<&'a Frame<'a>>,
+}
+
+impl<'a> Scope<'a> {
+    ghost use Rattle.expr_lower.specs.declared.scope.Frame.{out-Frame};
+
+    /// What a part sees round which no locals stand.
+    pub(crate) fn outermost(names: &'a [Named]) -> Scope<'a>
+        ensures { seen result ≡ names_view names.entry.now }
+    {
+        Scope { names, frame: None }
+    }
+
+    /// What is seen inside one local more, which stands inside those that are seen here.
+    pub(crate) fn under<'b>(&self, frame: &'b Frame<'b>) -> Scope<'b>
+    where
+        'a: 'b,
+        requires { locals_of (out-Frame frame.now).outer ≡ locals_of self.now.frame }
+        ensures { seen result ≡ local_in (out-Frame frame.now) ∷ seen self.now }
+    {
+        Scope {
+            names: self.names,
+            frame: Some(frame),
+        }
+    }
+}
+
+/// The cell of the local that a text means, if it means one.
+pub(crate) fn local_named<'a>(text: &str, frame: Option<&'a Frame<'a>>) -> Option<OneCell>
+    ensures hidden { IfSome result (IsHidden text.now (locals_of frame.entry)) }
+    ensures outside { IfNone result (IsNotLocal text.now (locals_of frame.entry)) }
+{
+    let mut at = frame;
+    'outwards: while let Some(here) = at {
+        if here.name == text {
+            return Some(OneCell {
+                cell: here.cell,
+                kind: here.kind,
+            });
+        }
+        at = here.outer;
+    }
+    None
+}
