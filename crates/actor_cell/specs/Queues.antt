@@ -5,6 +5,7 @@ use Rattle.rvc_base.specs.Lawful.{tokens_on}
 use Rattle.token_ring.specs.Queue.{Queue}
 use Rattle.lowered_actor.specs.Actor.{Action, number_on}
 use Rattle.lowered_actor.specs.Facts.{cells_from}
+use Rattle.net_model.specs.Cell.{unread_room}
 
 -- a queue for no token, as behind a port that nobody reads
 abbrev pub no_queue : Queue
@@ -84,6 +85,15 @@ pub record AreFresh (capacities : List ℕ) (queues : List Queue) : Type 0 where
   pub size : length queues ≡ length capacities
   pub each : (p : ℕ) → p < length capacities
       → queue_on queues p ≡ record { tokens = []; capacity = number_on capacities p }
+
+-- a queue can hold so many tokens; if nobody reads it, the room is the one that is named then
+pub record MayHold (queue : Queue) (room : ℕ) : Type 0 where
+  pub read : 0 < queue.capacity → room ≤ queue.capacity
+  pub unread : queue.capacity ≡ 0 → room ≡ unread_room
+
+-- the same of the first n queues and rooms
+abbrev pub MayHoldEach : List Queue → List ℕ → ℕ → Type 0
+MayHoldEach queues rooms n = (p : ℕ) → p < n → MayHold (queue_on queues p) (number_on rooms p)
 
 -- what a queue holds once an action has given its tokens is within the room of its port
 abbrev pub IsInRoom : List Queue → List ℕ → List ℕ → ℕ → Type 0

@@ -29,33 +29,16 @@ pub struct Cell {
 }
 
 impl Model for Cell {
-    ghost use Rattle.std.specs.Prelude.{vec_capacity};
-    ghost use Rattle.std.specs.Arc.{arc_value};
-    ghost use Rattle.actor_cell.specs.Core.{Core, IsSound};
+    ghost use Rattle.actor_cell.specs.Core.{Core};
 
     ghost Value = { Core };
 
-    ghost view = { λ c. record {
-      actor = arc_value c.code;
-      at = c.state;
-      cells = c.cells;
-      inboxes = c.inboxes.items;
-      outboxes = c.outboxes.items;
-      journal = c.journal.items;
-      journal_room = vec_capacity c.journal;
-      trapped = c.trapped;
-    } };
+    ghost use Rattle.actor_cell.specs.Core.{IsSound};
+    ghost use Rattle.actor_cell.specs.View.{core_of};
 
-    ghost invariant = { λ c. IsSound (record {
-      actor = arc_value c.code;
-      at = c.state;
-      cells = c.cells;
-      inboxes = c.inboxes.items;
-      outboxes = c.outboxes.items;
-      journal = c.journal.items;
-      journal_room = vec_capacity c.journal;
-      trapped = c.trapped;
-    }) };
+    ghost view = { core_of };
+
+    ghost invariant = { λ c. IsSound (core_of c) };
 }
 
 impl Cell {

@@ -8,6 +8,7 @@
 mod acting;
 mod cell;
 mod firing;
+mod limits;
 mod making;
 mod outbox;
 mod rooms;

@@ -1,8 +1,8 @@
 //! The queues behind the outputs of an actor.
 
-ghost use Rattle.std.specs.Prelude.{◌≡◌, ◌+◌, ◌^◌, ◌≤◌, ◌<◌, ◌++◌, [], IfOk, Some, length, slice_get};
+ghost use Rattle.std.specs.Prelude.{◌≡◌, ◌+◌, ◌^◌, ◌≤◌, ◌<◌, ◌++◌, [], IfOk, IsTrue, Some, length, slice_get};
 ghost use Rattle.lowered_actor.specs.Facts.{cells_from};
-ghost use Rattle.actor_cell.specs.Queues.{HasRoomFor, sent_to};
+ghost use Rattle.actor_cell.specs.Queues.{HasRoomFor, MayHold, sent_to};
 
 use action_machine::Cells;
 use rvc_base::{Memory, Num};
@@ -63,6 +63,16 @@ impl Outbox {
         match &self.ring {
             Some(ring) => ring.at(k),
             None => unreachable!(),
+        }
+    }
+
+    /// Whether so many tokens are at most its capacity; if nobody reads the port, whether it is the room that is named then.
+    pub(crate) fn may_hold(&self, room: u32) -> bool
+        ensures { IsTrue result → MayHold self.now room }
+    {
+        match &self.ring {
+            Some(ring) => room <= ring.len() || room - ring.len() <= ring.room(),
+            None => room == u32::MAX,
         }
     }
 

@@ -1,11 +1,12 @@
 use Rattle.std.proofs.Common.{◌≡◌, ◌∙◌, ◌<◌, ◌++◌, length, take, drop, sym, ap, subst, arith, Some}
-use Rattle.std.specs.Prelude.{slice_get, vec_capacity}
+use Rattle.std.specs.Prelude.{slice_get}
 use Rattle.action_machine.specs.Kept.{IsMadeFor}
 use Rattle.schedule_fsm.specs.Automaton.{Automaton, target}
 use Rattle.lowered_actor.specs.Actor.{Actor, action_of}
 use Rattle.lowered_actor.specs.Facts.{IsLowered}
 use Rattle.net_model.specs.Cell.{FiresTo}
 use Rattle.actor_cell.specs.Queues.{tokens_before, AreSent, AreTaken, AreThere}
+use Rattle.actor_cell.specs.View.{core_of}
 use Rattle.actor_cell.specs.Core.{Core, IsSound, seen}
 use Rattle.actor_cell.specs.Acting.{HasRoomToSend, IsDone, IsToFire}
 use Rattle.actor_cell.proofs.Fired.{a-low, fired-sound, fired-to, there-of, written-back}
@@ -13,16 +14,7 @@ use Rattle.actor_cell.proofs.cell.Cell.fire.Goals as goal
 
 pub take_each-requires-clause-there : goal.take_each-requires-clause-there
 take_each-requires-clause-there c =
-    let old : Core = record {
-      actor = c.self.inside.code.value;
-      at = c.self.inside.state;
-      cells = c.self.inside.cells;
-      inboxes = c.self.inside.inboxes.items;
-      outboxes = c.self.inside.outboxes.items;
-      journal = c.self.inside.journal.items;
-      journal_room = vec_capacity c.self.inside.journal;
-      trapped = c.self.inside.trapped;
-    } in
+    let old : Core = core_of c.self.inside in
     let to_fire : IsToFire old c.args.a = subst (λ core. IsToFire core c.args.a) (sym c.self.view_is) c.requires.to_fire in
     let action = action_of c.action-action.result.now in
     let there : slice_get old.actor.actions c.args.a ≡ Some action = subst (λ (actor : Actor). slice_get actor.actions c.args.a ≡ Some action) c.deref-4.ensures c.action-action.ensures in
@@ -31,16 +23,7 @@ take_each-requires-clause-there c =
 
 pub next-self-inside-requires-clause-action_in_range : goal.next-self-inside-requires-clause-action_in_range
 next-self-inside-requires-clause-action_in_range c =
-    let old : Core = record {
-      actor = c.self.inside.code.value;
-      at = c.self.inside.state;
-      cells = c.self.inside.cells;
-      inboxes = c.self.inside.inboxes.items;
-      outboxes = c.self.inside.outboxes.items;
-      journal = c.self.inside.journal.items;
-      journal_room = vec_capacity c.self.inside.journal;
-      trapped = c.self.inside.trapped;
-    } in
+    let old : Core = core_of c.self.inside in
     let to_fire : IsToFire old c.args.a = subst (λ core. IsToFire core c.args.a) (sym c.self.view_is) c.requires.to_fire in
     let lowered : IsLowered old.actor = subst IsLowered c.deref-3.ensures c.code.ensures.facts in
     let low = a-low old c.args.a to_fire.able in
@@ -50,16 +33,7 @@ next-self-inside-requires-clause-action_in_range c =
 
 pub invariant_of-self-2 : goal.invariant_of-self-2
 invariant_of-self-2 c =
-    let old : Core = record {
-      actor = c.self.inside.code.value;
-      at = c.self.inside.state;
-      cells = c.self.inside.cells;
-      inboxes = c.self.inside.inboxes.items;
-      outboxes = c.self.inside.outboxes.items;
-      journal = c.self.inside.journal.items;
-      journal_room = vec_capacity c.self.inside.journal;
-      trapped = c.self.inside.trapped;
-    } in
+    let old : Core = core_of c.self.inside in
     let action = action_of c.action-action.result.now in
     let in_len : length c.take_each.new.rings ≡ c.self.inside.inboxes.len = omega (arith, c.take_each.auto.rings, c.deref_mut-2.ensures.len) in
     let out_len : length c.send_each.new.outboxes ≡ c.self.inside.outboxes.len = omega (arith, c.send_each.auto.outboxes, c.deref_mut.ensures.len) in
@@ -90,16 +64,7 @@ invariant_of-self-2 c =
 
 pub returns-clause-fired : goal.returns-clause-fired
 returns-clause-fired c =
-    let old : Core = record {
-      actor = c.self.inside.code.value;
-      at = c.self.inside.state;
-      cells = c.self.inside.cells;
-      inboxes = c.self.inside.inboxes.items;
-      outboxes = c.self.inside.outboxes.items;
-      journal = c.self.inside.journal.items;
-      journal_room = vec_capacity c.self.inside.journal;
-      trapped = c.self.inside.trapped;
-    } in
+    let old : Core = core_of c.self.inside in
     let action = action_of c.action-action.result.now in
     let in_len : length c.take_each.new.rings ≡ c.self.inside.inboxes.len = omega (arith, c.take_each.auto.rings, c.deref_mut-2.ensures.len) in
     let out_len : length c.send_each.new.outboxes ≡ c.self.inside.outboxes.len = omega (arith, c.send_each.auto.outboxes, c.deref_mut.ensures.len) in

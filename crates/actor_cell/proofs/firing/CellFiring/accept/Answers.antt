@@ -1,27 +1,19 @@
 use Rattle.std.proofs.Common.{◌≡◌, ◌++◌, ◌∷◌, ◌<◌, [], arith, ap, subst, ◌∙◌, length, rules, FitsSigned}
-use Rattle.std.specs.Prelude.{slice_set, vec_capacity}
+use Rattle.std.specs.Prelude.{slice_set}
 use Rattle.std.proofs.lemmas.Int.{to_z-of_z}
 use Rattle.std.proofs.lemmas.List.{get_or_default}
 use Rattle.rvc_base.specs.Width.{num_width}
 use Rattle.token_ring.specs.Queue.{Queue}
 use Rattle.net_model.specs.Cell.{Accepts}
 use Rattle.actor_cell.specs.Queues.{no_queue, queue_on}
+use Rattle.actor_cell.specs.View.{core_of}
 use Rattle.actor_cell.specs.Core.{Core, seen}
 use Rattle.actor_cell.proofs.Moved.{accepts-of}
 use Rattle.actor_cell.proofs.firing.CellFiring.accept.Goals as goal
 
 pub returns : goal.returns
 returns c =
-    let old : Core = record {
-      actor = c.self.inside.code.value;
-      at = c.self.inside.state;
-      cells = c.self.inside.cells;
-      inboxes = c.self.inside.inboxes.items;
-      outboxes = c.self.inside.outboxes.items;
-      journal = c.self.inside.journal.items;
-      journal_room = vec_capacity c.self.inside.journal;
-      trapped = c.self.inside.trapped;
-    } in
+    let old : Core = core_of c.self.inside in
     let ins = ap (λ (core : Core). core.actor.ins) c.self.view_is in
     let size = c.self.invariant.ins in
     let low : c.args.port < length old.inboxes = omega (arith, ins, size, c.requires.port) in

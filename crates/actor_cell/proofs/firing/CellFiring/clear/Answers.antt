@@ -2,6 +2,7 @@ use Rattle.std.proofs.Common.{◌≡◌, ◌++◌, arith, sym, subst, length, ta
 use Rattle.std.specs.Prelude.{vec_capacity}
 use Rattle.net_model.specs.Cell.{Clears}
 use Rattle.actor_cell.specs.Queues.{AreEmptied}
+use Rattle.actor_cell.specs.View.{core_of}
 use Rattle.actor_cell.specs.Core.{Core, seen}
 use Rattle.actor_cell.proofs.Fired.{written-back}
 use Rattle.actor_cell.proofs.Moved.{clears-of}
@@ -9,16 +10,7 @@ use Rattle.actor_cell.proofs.firing.CellFiring.clear.Goals as goal
 
 pub returns : goal.returns
 returns c =
-    let old : Core = record {
-      actor = c.self.inside.code.value;
-      at = c.self.inside.state;
-      cells = c.self.inside.cells;
-      inboxes = c.self.inside.inboxes.items;
-      outboxes = c.self.inside.outboxes.items;
-      journal = c.self.inside.journal.items;
-      journal_room = vec_capacity c.self.inside.journal;
-      trapped = c.self.inside.trapped;
-    } in
+    let old : Core = core_of c.self.inside in
     let out_len : length c.clear_each.new.outboxes ≡ c.self.inside.outboxes.len = omega (arith, c.clear_each.auto.outboxes, c.deref_mut.ensures.len) in
     let outs = written-back c.self.inside.outboxes.items c.clear_each.new.outboxes c.self.inside.outboxes.len out_len in
     let cleared = clears-of old c.clear_each.new.outboxes c.clear.new.self.items (vec_capacity c.clear.new.self)
