@@ -1,5 +1,5 @@
 -- What a cell keeps, and what networks see of it.
--- Trusted: part of what a promise means.
+-- Trusted but for `IsUntouched`: part of what a promise means.
 use Rattle.std.specs.Prelude.{◌≡◌, ℕ, ◌<◌, Bool, false, List, [], length}
 use Rattle.action_machine.specs.Kept.{Kept, IsMadeFor}
 use Rattle.token_ring.specs.Queue.{Queue}
