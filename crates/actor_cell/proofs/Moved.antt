@@ -1,15 +1,15 @@
 -- What comes into a cell and what leaves it, as networks see it.
-use Rattle.std.proofs.Common.{◌≡◌, ◌≢◌, ℕ, ◌<◌, ◌≤◌, ◌⊎◌, inl, inr, ℤ, List, [], ◌∷◌, ◌++◌, length, refl, sym, ap, subst, ◌∙◌, arith, Some}
+use Rattle.std.proofs.Common.{◌≡◌, ◌≢◌, ℕ, ◌<◌, ◌≤◌, ◌⊎◌, inl, inr, ℤ, false, List, [], ◌∷◌, ◌++◌, length, refl, sym, ap, subst, ◌∙◌, arith, Some}
 use Rattle.std.specs.Prelude.{slice_get, slice_index_or, slice_set}
 use Rattle.std.proofs.lemmas.List.{get_or-set_same, get_or-set_other, get_or_default}
 use Rattle.std.proofs.lemmas.Bool.{cases_lt}
 use Rattle.token_ring.specs.Queue.{Queue}
 use Rattle.lowered_actor.specs.Actor.{Action, Actor}
 use Rattle.lowered_actor.specs.Facts.{IsLowered}
-use Rattle.lowered_actor.specs.Meaning.{give}
+use Rattle.lowered_actor.specs.Meaning.{give, start_of}
 use Rattle.net_model.specs.Cell.{Accepts, Clears, FitsQueues}
-use Rattle.actor_cell.specs.Queues.{no_queue, queue_on, AreEmptied}
-use Rattle.actor_cell.specs.Core.{Core, seen, IsSound}
+use Rattle.actor_cell.specs.Queues.{no_queue, queue_on, AreEmptied, AreFresh}
+use Rattle.actor_cell.specs.Core.{Core, seen, state_in, IsAtStart, IsSound}
 use Rattle.actor_cell.proofs.Bodies.{fits-of}
 use Rattle.actor_cell.proofs.Ports.{tokens-at, capacity-at}
 use Rattle.actor_cell.proofs.Seen.{give-is}
@@ -28,6 +28,22 @@ fits-queues core sound = record {
       let tokens = ap length (tokens-at core.outboxes p) in
       let capacity = capacity-at core.outboxes p in
       omega (arith, within, tokens, capacity);
+}
+
+-- a cell with fresh queues in its first state
+pub at-start : (core : Core) (ins outs : List ℕ) (burst : ℕ) → state_in core ≡ start_of core.actor → AreFresh ins core.inboxes → AreFresh outs core.outboxes
+    → length ins ≡ core.actor.ins → length outs ≡ core.actor.outs → core.journal ≡ [] → core.journal_room ≡ burst → core.trapped ≡ false
+    → IsAtStart core.actor ins outs burst (seen core)
+at-start core ins outs burst state fresh_in fresh_out so_many_in so_many_out journal room untrapped = record {
+  is_of = refl;
+  state = state;
+  nothing_in = λ p low. tokens-at core.inboxes p ∙ ap (λ q. q.tokens) (fresh_in.each p (omega (arith, low, so_many_in)));
+  nothing_out = λ p low. tokens-at core.outboxes p ∙ ap (λ q. q.tokens) (fresh_out.each p (omega (arith, low, so_many_out)));
+  inbox_capacities = λ p low. capacity-at core.inboxes p ∙ ap (λ q. q.capacity) (fresh_in.each p (omega (arith, low, so_many_in)));
+  outbox_capacities = λ p low. capacity-at core.outboxes p ∙ ap (λ q. q.capacity) (fresh_out.each p (omega (arith, low, so_many_out)));
+  journal = journal;
+  journal_room = room;
+  untrapped = untrapped;
 }
 
 same-number : (q p : ℕ) → (q ≡ p) ⊎ (q ≢ p)

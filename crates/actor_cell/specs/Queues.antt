@@ -1,6 +1,6 @@
 -- The queues of a cell, port by port: what waits, what is taken, and what is sent.
--- Trusted for `no_queue`, `queue_on`, `tokens_of`, `capacities_of`, `AreWithin` and `AreFresh` alone: part of what a
--- promise means.
+-- Trusted for `no_queue`, `queue_on`, `tokens_of`, `capacities_of` and `AreWithin` alone: part of what a promise
+-- means.
 use Rattle.std.specs.Prelude.{◌≡◌, ℕ, ◌+◌, ◌≤◌, ◌<◌, ◌==◌, ℤ, List, [], ◌++◌, length, drop, map, slice_index_or, Option, None, Some, if◌then◌else◌}
 use Rattle.rvc_base.specs.Lawful.{tokens_on}
 use Rattle.token_ring.specs.Queue.{Queue}

@@ -2,7 +2,7 @@
 
 ghost use Rattle.std.specs.Prelude.{◌≡◌, ◌≤◌, ◌<◌, All, IfOk, length};
 ghost use Rattle.std.specs.Arc.{arc_value};
-ghost use Rattle.actor_cell.specs.Core.{IsAtStart};
+ghost use Rattle.actor_cell.specs.Core.{IsAtStart, seen};
 
 use crate::making::{first_cells, inboxes, outboxes};
 use crate::outbox::Outbox;
@@ -61,7 +61,8 @@ impl Cell {
         requires outs { length out_caps.now ≡ (arc_value code).outs }
         requires room_for_one { All (λ capacity. 1 ≤ capacity) in_caps.now }
         requires burst { 1 ≤ burst }
-        ensures { IfOk result (IsAtStart (arc_value code) in_caps.now out_caps.now burst) }
+        ensures { IfOk result (λ cell. IsAtStart (arc_value code) in_caps.now out_caps.now burst
+            (seen cell)) }
     {
         // it tells the facts of lowered actors
         let _code = code.code();
