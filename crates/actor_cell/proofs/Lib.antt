@@ -1,0 +1,9 @@
+pub mod Ports
+pub mod Fresh
+pub mod Bodies
+pub mod Seen
+pub mod Pushing
+pub mod Fired
+pub mod Moved
+pub mod Asking
+pub mod Turns

@@ -1,0 +1,5 @@
+use Rattle.actor_cell.proofs.Fresh.{AreFreshUpTo}
+use Rattle.actor_cell.proofs.making.inboxes.Given as goal
+
+abbrev pub invariant-loop-capacity : goal.invariant-loop-capacity
+invariant-loop-capacity l = AreFreshUpTo l.capacity-index l.capacities l.rings.items

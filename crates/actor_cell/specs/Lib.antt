@@ -1,0 +1,4 @@
+pub mod Queues
+pub mod Core
+pub mod Acting
+pub mod View
