@@ -1,0 +1,24 @@
+-- What holds of all traces, as statements.
+-- Trusted: part of what a promise means.
+use Rattle.std.specs.Prelude.{◌≡◌, ◌≢◌, ℕ, List, [], ◌∷◌, ◌++◌}
+use Rattle.std.specs.List.{concat}
+use Rattle.trace_text.specs.declared.line.Line.{Line}
+use Rattle.net_model.specs.State.{State}
+use Rattle.net_model.specs.Trace.{FitFlows}
+use Rattle.trace_replay.specs.Judging.{Trial, AtFirst, AtEnd, Lead, IsTrace}
+
+-- in the state in which the run begins no link holds more than its capacity
+abbrev pub StartFits : {X : Type 0} → Trial X → Type 0
+StartFits t = FitFlows t.net.links t.start.flows t.start.flows
+
+-- lines that lead from the beginning of a text to an end line are a trace
+abbrev pub LinesMakeTraces : (X : Type 0) → Type 0
+LinesMakeTraces X = (t : Trial X) (texts : List (List ℕ)) (end : Line) (last : State X) → StartFits t
+    → Lead t AtFirst texts (AtEnd end last)
+    → (lines : List Line) × IsTrace t (concat texts) lines end last
+
+-- a trace is lines that lead from its beginning to its end line
+abbrev pub TracesAreLines : (X : Type 0) → Type 0
+TracesAreLines X = (t : Trial X) (text : List ℕ) (lines : List Line) (end : Line) (last : State X)
+    → IsTrace t text lines end last
+    → (texts : List (List ℕ)) × (text ≡ concat texts) × Lead t AtFirst texts (AtEnd end last)

@@ -1,0 +1,14 @@
+//! What holds of all traces.
+//!
+//! Each law is the contract of a function that does nothing: it is proved with the crate, and can be cited.
+
+ghost use Rattle.trace_replay.specs.Laws.{LinesMakeTraces, TracesAreLines};
+
+use net_model::Meaning;
+
+/// Lines that lead from the beginning of a text to an end line are a trace with that end line, which plays from the
+/// start and keeps the capacities; and each such trace is lines that lead there.
+pub fn traces_are_runs<M: Meaning>()
+    ensures lines { LinesMakeTraces M.State }
+    ensures traces { TracesAreLines M.State }
+{}

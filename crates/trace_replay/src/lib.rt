@@ -1,0 +1,12 @@
+//! Replay of recorded traces: whether a text is a trace of a run, and if not, which line no run has and why.
+#![tactic(auto)]
+
+mod bytes;
+mod laws;
+mod scan;
+mod why;
+
+pub use bytes::TRACE_FEED;
+pub use laws::traces_are_runs;
+pub use scan::MAX_TRACE_BYTES;
+pub use why::Why;
