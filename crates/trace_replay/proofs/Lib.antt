@@ -1,3 +1,4 @@
 pub mod Limits
+pub mod Pulling
 pub mod Traces
 pub mod Scanned

@@ -1,6 +1,8 @@
 -- Lemmas on reading a line: what was read, whether it was expected, and what is still to come.
 use Rattle.std.proofs.Common.{◌≡◌, ◌≢◌, ℕ, zero, suc, ◌+◌, ◌-◌, ◌<◌, ◌≤◌, Bool, true, false, List, [], ◌∷◌, ◌++◌, length, take, drop, refl, sym, ap, subst, ◌∙◌, ⊎_elim, arith, append_assoc, append-nil, length-append}
-use Rattle.std.specs.Prelude.{Option, None, Some, slice_get, ◌&&◌}
+use Rattle.std.specs.Prelude.{Option, None, Some, Result, Ok, Err, IfOk, slice_get, ◌&&◌}
+use Rattle.rvc_io.specs.declared.Failed.{Failed}
+use Rattle.trace_replay.specs.declared.scan.Scanned.{Scanned}
 use Rattle.std.specs.List.{concat}
 use Rattle.trace_text.specs.declared.line.Line.{Line}
 use Rattle.trace_text.specs.declared.reader.LineReader.{LineReader}
@@ -12,7 +14,7 @@ use Rattle.trace_text.specs.ReadBack.{SpellEach, AreLines, BeginLines}
 use Rattle.port_files.specs.Coming.{NothingLeft}
 use Rattle.trace_replay.specs.Coming.{Passes, GivesByte}
 use Rattle.trace_replay.specs.Judging.{max_trace_bytes}
-use Rattle.trace_replay.specs.Scanning.{IsScanned, Scans, Tells}
+use Rattle.trace_replay.specs.Scanning.{IsFrontOf, IsPast, IsScanned, IsWithin, Scans, Tells}
 use Rattle.trace_replay.specs.declared.scan.Scanned.TheVariants.{Line as Whole, Bad as NoLine, Cut, TooLong}
 
 -- What passes.
@@ -28,10 +30,6 @@ passes_then text more (Some all) (Some rest) None p q = absurd q
 passes_then text more (Some all) (Some rest) (Some others) p q = p ∙ ap (λ a. text ++ a) q ∙ sym (append_assoc text more others)
 
 -- What was expected.
-
--- the text begins the one that is expected
-abbrev pub IsFrontOf : List ℕ → List ℕ → Type 0
-IsFrontOf expected text = (rest : List ℕ) × (expected ≡ text ++ rest)
 
 pub front_one_more : (expected text : List ℕ) (byte : ℕ) → IsFrontOf expected text → slice_get expected (length text) ≡ Some byte → IsFrontOf expected (text ++ byte ∷ [])
 front_one_more expected text byte (rest, is) at = of_rest rest is (sym (get_behind text rest) ∙ ap (λ e. slice_get e (length text)) (sym is) ∙ at)
@@ -115,53 +113,55 @@ scanning_starts expected reader begin before told = record {
   as_expected = (expected, refl);
 }
 
+-- what is told of a byte more, and of the whole text
+abbrev pub TellsMore : List ℕ → Bool → Bool → ℕ → ℕ → Type 0
+TellsMore expected same next at byte = (text : List ℕ) → length text ≡ at → Tells same (IsFrontOf expected text)
+    → Tells next (IsFrontOf expected (text ++ byte ∷ []))
+
+abbrev pub TellsWhole : List ℕ → Bool → Bool → ℕ → Type 0
+TellsWhole expected same whole count = (text : List ℕ) → length text ≡ count → Tells same (IsFrontOf expected text)
+    → Tells whole (text ≡ expected)
+
+-- what the reader tells of the text with this byte
+abbrev pub ReadsOn : LineReader → LineReader → ℕ → Step2 → Type 0
+ReadsOn reader next byte step = (lines : List Line) (text : List ℕ) → HasTold reader lines text
+    → TellsOn next lines (text ++ byte ∷ []) step
+
 -- a byte more is read
-pub scanning_more : (expected : List ℕ) (reader next : LineReader) (same this : Bool) (begin passed byte : ℕ) (before now after : Option (List ℕ))
-    → (is : IsScanning expected reader same begin passed before now) → GivesByte (Some byte) now after
-    → (this ≡ true → slice_get expected (passed - begin) ≡ Some byte) → (slice_get expected (passed - begin) ≡ Some byte → this ≡ true)
-    → TellsOn next [] (is.text ++ byte ∷ []) More
-    → IsScanning expected next (same && this) begin (passed + 1) before after
-scanning_more expected reader next same this begin passed byte before now after is gives is_so back tells =
-    let at : passed - begin ≡ length is.text = omega (arith, is.count) in
-    record {
-      text = is.text ++ byte ∷ [];
-      passes = passes_then is.text (byte ∷ []) before now after is.passes gives;
-      told = tells.0;
-      count = omega (arith, is.count, length-append is.text (byte ∷ []));
-      as_expected = tells_more same this expected is.text byte is.as_expected
-          (λ e. ap (slice_get expected) (sym at) ∙ is_so e) (λ e. back (ap (slice_get expected) at ∙ e));
-    }
-
--- it ends a line
-pub scanned_line : (expected : List ℕ) (reader next : LineReader) (same this full : Bool) (begin passed byte : ℕ) (line : Line) (before now after : Option (List ℕ))
-    → (is : IsScanning expected reader same begin passed before now) → GivesByte (Some byte) now after
-    → (this ≡ true → slice_get expected (passed - begin) ≡ Some byte) → (slice_get expected (passed - begin) ≡ Some byte → this ≡ true)
-    → (full ≡ true → length expected ≤ passed + 1 - begin) → (length expected ≤ passed + 1 - begin → full ≡ true)
-    → TellsOn next [] (is.text ++ byte ∷ []) (TheLine line)
-    → Scans expected begin (passed + 1) before after (Whole line ((same && this) && full))
-scanned_line expected reader next same this full begin passed byte line before now after is gives is_so back long short tells =
-    let at : passed - begin ≡ length is.text = omega (arith, is.count) in
-    let now_long : passed + 1 - begin ≡ length (is.text ++ byte ∷ []) = omega (arith, is.count, length-append is.text (byte ∷ [])) in
-    let as_expected : Tells (same && this) (IsFrontOf expected (is.text ++ byte ∷ [])) = tells_more same this expected is.text byte is.as_expected
-          (λ e. ap (slice_get expected) (sym at) ∙ is_so e) (λ e. back (ap (slice_get expected) at ∙ e)) in
-    record {
-      text = is.text ++ byte ∷ [];
-      passes = passes_then is.text (byte ∷ []) before now after is.passes gives;
-      is_scanned = (told_line line (is.text ++ byte ∷ []) tells.1,
-        tells_whole (same && this) full expected (is.text ++ byte ∷ []) as_expected
-          (λ e. subst (λ n. length expected ≤ n) now_long (long e)) (λ e. short (subst (λ n. length expected ≤ n) (sym now_long) e)));
-      count = omega (arith, is.count, length-append is.text (byte ∷ []));
-    }
-
--- it makes bytes that begin not_so line
-pub scanned_bad : (expected : List ℕ) (reader next : LineReader) (same : Bool) (begin passed byte : ℕ) (before now after : Option (List ℕ))
-    → (is : IsScanning expected reader same begin passed before now) → GivesByte (Some byte) now after
-    → TellsOn next [] (is.text ++ byte ∷ []) Bad
-    → Scans expected begin (passed + 1) before after NoLine
-scanned_bad expected reader next same begin passed byte before now after is gives tells = record {
+pub scanning_more : (expected : List ℕ) (reader next : LineReader) (same still : Bool) (begin passed byte : ℕ) (before now after : Option (List ℕ))
+    → IsScanning expected reader same begin passed before now → GivesByte (Some byte) now after
+    → TellsMore expected same still (passed - begin) byte → ReadsOn reader next byte More
+    → IsScanning expected next still begin (passed + 1) before after
+scanning_more expected reader next same still begin passed byte before now after is gives more reads = record {
   text = is.text ++ byte ∷ [];
   passes = passes_then is.text (byte ∷ []) before now after is.passes gives;
-  is_scanned = told_bad (is.text ++ byte ∷ []) tells;
+  told = (reads [] is.text is.told).0;
+  count = omega (arith, is.count, length-append is.text (byte ∷ []));
+  as_expected = more is.text (omega (arith, is.count)) is.as_expected;
+}
+
+-- it ends a line
+pub scanned_line : (expected : List ℕ) (reader next : LineReader) (same still whole : Bool) (begin passed byte : ℕ) (line : Line) (before now after : Option (List ℕ))
+    → IsScanning expected reader same begin passed before now → GivesByte (Some byte) now after
+    → TellsMore expected same still (passed - begin) byte → TellsWhole expected still whole (passed + 1 - begin) → ReadsOn reader next byte (TheLine line)
+    → Scans expected begin (passed + 1) before after (Whole line whole)
+scanned_line expected reader next same still whole begin passed byte line before now after is gives more all reads = record {
+  text = is.text ++ byte ∷ [];
+  passes = passes_then is.text (byte ∷ []) before now after is.passes gives;
+  is_scanned = (told_line line (is.text ++ byte ∷ []) (reads [] is.text is.told).1,
+    all (is.text ++ byte ∷ []) (omega (arith, is.count, length-append is.text (byte ∷ [])))
+      (more is.text (omega (arith, is.count)) is.as_expected));
+  count = omega (arith, is.count, length-append is.text (byte ∷ []));
+}
+
+-- it makes bytes that begin no line
+pub scanned_bad : (expected : List ℕ) (reader next : LineReader) (same : Bool) (begin passed byte : ℕ) (before now after : Option (List ℕ))
+    → IsScanning expected reader same begin passed before now → GivesByte (Some byte) now after → ReadsOn reader next byte Bad
+    → Scans expected begin (passed + 1) before after NoLine
+scanned_bad expected reader next same begin passed byte before now after is gives reads = record {
+  text = is.text ++ byte ∷ [];
+  passes = passes_then is.text (byte ∷ []) before now after is.passes gives;
+  is_scanned = told_bad (is.text ++ byte ∷ []) (reads [] is.text is.told);
   count = omega (arith, is.count, length-append is.text (byte ∷ []));
 }
 
@@ -189,3 +189,24 @@ scanned_long expected reader same begin passed byte before now after is gives fu
   is_scanned = (is.text, byte, refl, told_front reader is.text is.told, sym is.count ∙ full);
   count = omega (arith, is.count, length-append is.text (byte ∷ []));
 }
+
+-- the trace ends at its greatest length, or goes on past it
+pub past_scans : (scanned : Result Scanned Failed) (expected : List ℕ) (reader : LineReader) (same : Bool) (begin passed passed_new : ℕ) (before now after : Option (List ℕ))
+    → IsScanning expected reader same begin passed before now → passed ≡ max_trace_bytes
+    → IfOk scanned (λ s. IsPast passed passed_new now after s)
+    → IfOk scanned (λ s. Scans expected begin passed_new before after s)
+past_scans (Err failed) expected reader same begin passed passed_new before now after is full past = tt
+past_scans (Ok (Whole line whole)) expected reader same begin passed passed_new before now after is full past = absurd past
+past_scans (Ok NoLine) expected reader same begin passed passed_new before now after is full past = absurd past
+past_scans (Ok Cut) expected reader same begin passed passed_new before now after is full past =
+    subst (λ n. Scans expected begin n before after Cut) (sym past.1) (scanned_cut expected reader same begin passed before now after is past.0)
+past_scans (Ok TooLong) expected reader same begin passed passed_new before now after is full past =
+    subst (λ n. Scans expected begin n before after TooLong) (sym past.2) (scanned_long expected reader same begin passed past.0 before now after is past.1 full)
+
+pub past_within : (scanned : Result Scanned Failed) (passed passed_new : ℕ) (now after : Option (List ℕ)) → passed ≡ max_trace_bytes
+    → IfOk scanned (λ s. IsPast passed passed_new now after s) → IfOk scanned (λ s. IsWithin passed_new s)
+past_within (Err failed) passed passed_new now after full past = tt
+past_within (Ok (Whole line whole)) passed passed_new now after full past = absurd past
+past_within (Ok NoLine) passed passed_new now after full past = absurd past
+past_within (Ok Cut) passed passed_new now after full past = omega (arith, full, past.1)
+past_within (Ok TooLong) passed passed_new now after full past = tt

@@ -14,6 +14,10 @@ abbrev pub Tells : Bool → Type 0 → Type 0
 Tells true P = P
 Tells false P = P → ⊥
 
+-- the text begins the one that is expected
+abbrev pub IsFrontOf : List ℕ → List ℕ → Type 0
+IsFrontOf expected text = (rest : List ℕ) × (expected ≡ text ++ rest)
+
 -- This text was read, and it is a line, whose text was expected or not; it begins no line; it begins one, is none,
 -- and the trace ends; or the same, and the trace goes on past its greatest length.
 abbrev pub IsScanned : List ℕ → List ℕ → ℕ → Option (List ℕ) → Scanned → Type 0

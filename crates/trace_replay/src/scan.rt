@@ -1,11 +1,11 @@
 //! Reads a trace line by line.
 
-ghost use Rattle.std.specs.Prelude.{◌≡◌, ◌≤◌, ◌++◌, [], true, IfOk, OnErr, Some, length, slice_get};
+ghost use Rattle.std.specs.Prelude.{◌≡◌, ◌≤◌, ◌++◌, ◌∷◌, ℕ, List, [], true, IfOk, OnErr, Some, length, slice_get};
 ghost use Rattle.rvc_io.specs.Feeds.{PullsOnly, ReadFails};
 ghost use Rattle.port_files.specs.Coming.{coming_on};
 ghost use Rattle.trace_text.specs.Text.{line_feed};
 ghost use Rattle.trace_replay.specs.Judging.{max_trace_bytes};
-ghost use Rattle.trace_replay.specs.Scanning.{IsPast, IsWithin, Scans};
+ghost use Rattle.trace_replay.specs.Scanning.{IsFrontOf, IsPast, IsWithin, Scans, Tells};
 ghost use Rattle.trace_replay.specs.declared.bytes.TheConstants.{TRACE_FEED};
 
 use crate::bytes::TraceBytes;
@@ -83,12 +83,12 @@ impl TraceLines {
             let Some(byte) = next else {
                 return Ok(Scanned::Cut);
             };
-            same = same && is_expected(front, name, self.passed - begin, byte);
+            same = still_expected(same, front, name, self.passed - begin, byte);
             self.passed += 1;
             match reader.next(byte) {
                 Step2::More => {}
                 Step2::Line(line) => {
-                    let whole = same && is_long(front, name, self.passed - begin);
+                    let whole = is_whole(same, front, name, self.passed - begin);
                     return Ok(Scanned::Line(line, whole));
                 }
                 Step2::Bad => return Ok(Scanned::Bad),
@@ -116,6 +116,24 @@ impl TraceLines {
         self.passed += 1;
         Ok(Scanned::TooLong)
     }
+}
+
+/// Whether a text that was expected up to `at` still is with a byte more.
+fn still_expected(same: bool, front: &[u8], name: &[u8], at: u64, byte: u8) -> bool
+    ensures { (text : List ℕ) → length text ≡ at
+        → Tells same (IsFrontOf (front.now ++ name.now ++ line_feed) text)
+        → Tells result (IsFrontOf (front.now ++ name.now ++ line_feed) (text ++ byte ∷ [])) }
+{
+    same && is_expected(front, name, at, byte)
+}
+
+/// Whether a text of so many bytes, which was expected so far, is all that was expected.
+fn is_whole(same: bool, front: &[u8], name: &[u8], count: u64) -> bool
+    ensures { (text : List ℕ) → length text ≡ count
+        → Tells same (IsFrontOf (front.now ++ name.now ++ line_feed) text)
+        → Tells result (text ≡ front.now ++ name.now ++ line_feed) }
+{
+    same && is_long(front, name, count)
 }
 
 /// Whether this byte stands at a place of a text, which is two parts and a line feed.

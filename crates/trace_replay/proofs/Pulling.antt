@@ -1,0 +1,11 @@
+-- What pulls from one feed leave of the others.
+use Rattle.std.proofs.Common.{◌≡◌, ◌≢◌, ℕ, ◌≤◌, List, ◌∙◌, arith}
+use Rattle.rvc_io.specs.Feeds.{Inputs, PullsOnlyAt}
+
+pub pulls_then : (feed : ℕ) (old now new : Inputs) → PullsOnlyAt feed old now → PullsOnlyAt feed now new → PullsOnlyAt feed old new
+pulls_then feed old now new p q = record {
+  same_names = λ other. q.same_names other ∙ p.same_names other;
+  same_left = λ other differ. q.same_left other differ ∙ p.same_left other differ;
+  same_open = λ other. q.same_open other ∙ p.same_open other;
+  faults_stay = omega (arith, p.faults_stay, q.faults_stay);
+}
