@@ -2,3 +2,4 @@ pub mod Limits
 pub mod Pulling
 pub mod Traces
 pub mod Scanned
+pub mod Reached

@@ -150,19 +150,25 @@ abbrev pub IsOver : {X : Type 0} → Reached X → Type 0
 IsOver (AtEnd end last) = Unit {0}
 IsOver reached = ⊥
 
--- what stands behind the lines that lead on, within the greatest length; `longer` is whether more follows
-abbrev pub RestFails : {X : Type 0} → Trial X → Reached X → List ℕ → Bool → Why → Type 0
-RestFails t reached rest longer Form = (IsOver reached → ⊥)
-    × ((front : List ℕ) × (more : List ℕ) × (rest ≡ front ++ more)
-    × ((Begins front → ⊥)
-    ⊎ ((line : Line) × Spells line front × (is_of_table t.grow line ≡ false))))
-RestFails t reached rest longer After = IsOver reached × (rest ≢ [])
-RestFails t reached rest longer Cut = (IsOver reached → ⊥) × IsFront rest × (longer ≡ false)
-RestFails t reached rest longer TooLong = (longer ≡ true)
-    × ((IsOver reached × (rest ≡ [])) ⊎ ((IsOver reached → ⊥) × IsFront rest))
-RestFails t reached rest longer why = (text : List ℕ) × (more : List ℕ) × (line : Line)
-    × (rest ≡ text ++ more) × Spells line text
-    × (is_of_table t.grow line ≡ true) × LineFails t reached text line why
+-- Why what stands behind the lines that lead on doesn't, within the greatest length of a trace. `longer` is whether
+-- the text goes on past that.
+pub data RestFails {X : Type 0} (t : Trial X) (reached : Reached X) (rest : List ℕ) (longer : Bool) : Why → Type 0 where
+  -- its first bytes begin no line ..
+  BeginsNone : (IsOver reached → ⊥) → (front more : List ℕ) → rest ≡ front ++ more → (Begins front → ⊥)
+      → RestFails t reached rest longer Form
+  -- .. or are a line that a trace of this version hasn't
+  IsOfNoTable : (IsOver reached → ⊥) → (line : Line) → (text more : List ℕ) → rest ≡ text ++ more → Spells line text
+      → is_of_table t.grow line ≡ false → RestFails t reached rest longer Form
+  -- its first line may not come
+  MayNotCome : (line : Line) (why : Why) → (text more : List ℕ) → rest ≡ text ++ more → Spells line text
+      → is_of_table t.grow line ≡ true → LineFails t reached text line why → RestFails t reached rest longer why
+  -- it stands behind an end line
+  IsBehindEnd : IsOver reached → rest ≢ [] → RestFails t reached rest longer After
+  -- it is at most part of a line, and the text ends
+  IsCutOff : (IsOver reached → ⊥) → IsFront rest → longer ≡ false → RestFails t reached rest longer Cut
+  -- it is at most part of a line, and the text goes on past the greatest length
+  GoesPast : (IsOver reached → ⊥) → IsFront rest → longer ≡ true → RestFails t reached rest longer TooLong
+  EndsPast : IsOver reached → rest ≡ [] → longer ≡ true → RestFails t reached rest longer TooLong
 
 -- The text is no trace of a run: the lines before line n lead on, and with it they don't, for this cause.
 pub record IsNotRun {X : Type 0} (t : Trial X) (text : List ℕ) (n : ℕ) (why : Why) : Type 0 where

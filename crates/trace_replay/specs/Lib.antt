@@ -2,3 +2,4 @@ pub mod Judging
 pub mod Laws
 pub mod Coming
 pub mod Scanning
+pub mod Reading
