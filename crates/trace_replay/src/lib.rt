@@ -3,10 +3,11 @@
 
 mod bytes;
 mod laws;
+mod reading;
 mod scan;
 mod why;
 
 pub use bytes::TRACE_FEED;
 pub use laws::traces_are_runs;
 pub use scan::MAX_TRACE_BYTES;
-pub use why::Why;
+pub use why::{ReplayFault, Why};

@@ -22,3 +22,14 @@ pub enum Why {
     /// It passes the greatest length of a trace.
     TooLong,
 }
+
+/// Why a trace wasn't replayed.
+#[derive(Clone, Copy, Debug, PartialEq, Eq)]
+pub enum ReplayFault {
+    /// No run has this line with the lines before it. Lines are counted from 1.
+    NotRun { line: u64, why: Why },
+    /// The feed couldn't be read. 0 is the trace.
+    ReadFault { feed: u32 },
+    /// Memory ran out.
+    Memory,
+}
