@@ -3,3 +3,4 @@ pub mod Pulling
 pub mod Traces
 pub mod Scanned
 pub mod Reached
+pub mod Heads

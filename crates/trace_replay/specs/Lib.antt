@@ -3,3 +3,4 @@ pub mod Laws
 pub mod Coming
 pub mod Scanning
 pub mod Reading
+pub mod Head

@@ -2,6 +2,7 @@
 #![tactic(auto)]
 
 mod bytes;
+mod head;
 mod laws;
 mod reading;
 mod scan;

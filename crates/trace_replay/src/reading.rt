@@ -55,6 +55,13 @@ impl Trace {
         })
     }
 
+    /// The number of the last line that was read.
+    pub(crate) fn number(&self) -> u64
+        ensures { result ≡ self.now.count }
+    {
+        self.count
+    }
+
     /// Reads a line, and says whether its text is `front`, `name` and a line feed.
     ///
     /// # Errors

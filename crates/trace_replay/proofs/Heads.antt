@@ -1,0 +1,88 @@
+-- The first lines of a trace: read, or other ones.
+use Rattle.std.proofs.Common.{◌≡◌, ◌≢◌, ℕ, ◌+◌, ◌≤◌, Bool, true, false, List, [], ◌∷◌, ◌++◌, length, refl, sym, ap, subst, ◌∙◌, arith, append_assoc}
+use Rattle.std.specs.Prelude.{Option, codes}
+use Rattle.trace_text.specs.declared.line.Line.{Line}
+use Rattle.trace_text.specs.declared.line.Line.TheVariants.{Inst}
+use Rattle.trace_text.specs.Text.{line_text, line_feed}
+use Rattle.net_model.specs.Network.{Leaf}
+use Rattle.trace_replay.specs.Judging.{Trial, Reached, AtFirst, AtInstance, IsOver, IsNotRun, due, first_line, instance_text, is_of_table, max_trace_bytes}
+use Rattle.trace_replay.specs.Head.{name_of}
+use Rattle.trace_replay.specs.Reading.{HasReached, IsRead, IsStopBy, Stops, IsJudged}
+use Rattle.trace_replay.specs.Scanning.{IsWithin, Scans, Tells}
+use Rattle.trace_replay.specs.declared.why.Why.{Why}
+use Rattle.trace_replay.specs.declared.why.Why.TheVariants.{Form, Header}
+use Rattle.trace_replay.specs.declared.why.ReplayFault.{ReplayFault}
+use Rattle.trace_replay.specs.declared.why.ReplayFault.TheVariants.{NotRun, ReadFault, Memory}
+use Rattle.trace_replay.specs.declared.scan.Scanned.{Scanned}
+use Rattle.trace_replay.specs.declared.scan.Scanned.TheVariants.{Line as Whole, Bad, Cut, TooLong}
+use Rattle.trace_replay.proofs.Reached.{reached_more, not_run_line, not_run_version, not_run_bad, not_run_cut, not_run_long}
+
+-- what stopped the reading is judged
+stop_judged : {X : Type 0} (t : Trial X) (text expected : List ℕ) (n passed passed_new : ℕ) (reached : Reached X) (before after : Option (List ℕ)) (scanned : Scanned) (why : Why)
+    → HasReached t text n passed reached before → (IsOver reached → ⊥)
+    → Scans expected passed passed_new before after scanned → IsWithin passed_new scanned → IsStopBy t.grow scanned why
+    → IsNotRun t text (n + 1) why
+stop_judged t text expected n passed passed_new reached before after (Whole line same) why has not_over s within by =
+    subst (IsNotRun t text (n + 1)) (sym by.0) (not_run_version t text expected n passed passed_new reached before after line same has s within not_over by.1)
+stop_judged t text expected n passed passed_new reached before after Bad why has not_over s within by =
+    subst (IsNotRun t text (n + 1)) (sym by) (not_run_bad t text expected n passed passed_new reached before after has s within not_over)
+stop_judged t text expected n passed passed_new reached before after Cut why has not_over s within by =
+    subst (IsNotRun t text (n + 1)) (sym by) (not_run_cut t text expected n passed passed_new reached before after has s within not_over)
+stop_judged t text expected n passed passed_new reached before after TooLong why has not_over s within by =
+    subst (IsNotRun t text (n + 1)) (sym by) (not_run_long t text expected n passed passed_new reached before after has s not_over)
+
+pub stops_judged : {X : Type 0} (t : Trial X) (text expected : List ℕ) (grow n passed : ℕ) (reached : Reached X) (before after : Option (List ℕ)) (fault : ReplayFault)
+    → t.grow ≡ grow → HasReached t text n passed reached before → (IsOver reached → ⊥) → Stops expected grow (n + 1) passed before after fault
+    → IsJudged t text fault
+stops_judged t text expected grow n passed reached before after (NotRun line why) same has not_over stops =
+    subst (λ k. IsNotRun t text k why) (sym stops.0)
+    (stop_judged t text expected n passed stops.2 reached before after stops.1 why has not_over stops.3 stops.4 (subst (λ g. IsStopBy g stops.1 why) (sym same) stops.5))
+stops_judged t text expected grow n passed reached before after (ReadFault feed) same has not_over stops = tt
+stops_judged t text expected grow n passed reached before after Memory same has not_over stops = absurd stops
+
+-- the first line
+pub first_read : {X : Type 0} (t : Trial X) (text expected : List ℕ) (grow n n_new passed passed_new : ℕ) (before after : Option (List ℕ)) (line first : Line) (same : Bool)
+    → first ≡ first_line t → HasReached t text n passed AtFirst before → IsRead expected grow passed passed_new before after line same → n_new ≡ n + 1 → line ≡ first
+    → HasReached t text n_new passed_new (due 0 t.net.leaves t.start) after
+first_read t text expected grow n n_new passed passed_new before after line first same is_first has read more is =
+    subst (λ k. HasReached t text k passed_new (due 0 t.net.leaves t.start) after) (sym more)
+    (reached_more t text expected n passed passed_new AtFirst (due 0 t.net.leaves t.start) before after line same has read.scans (is ∙ is_first, refl))
+
+pub first_other : {X : Type 0} (t : Trial X) (text expected : List ℕ) (grow n n_new passed passed_new : ℕ) (before after : Option (List ℕ)) (line first : Line) (same : Bool)
+    → t.grow ≡ grow → first ≡ first_line t → HasReached t text n passed AtFirst before → IsRead expected grow passed passed_new before after line same → n_new ≡ n + 1 → line ≢ first
+    → IsNotRun t text n_new Header
+first_other t text expected grow n n_new passed passed_new before after line first same same_grow is_first has read more differs =
+    subst (λ k. IsNotRun t text k Header) (sym more)
+    (not_run_line t text expected n passed passed_new AtFirst before after line same Header has read.scans read.within
+      (subst (λ g. is_of_table g line ≡ true) (sym same_grow) read.of_table) (refl, λ is. differs (is ∙ sym is_first)))
+
+-- the line of an instance
+expected_is : {X : Type 0} (k : ℕ) (leaf : Leaf X) (name : List ℕ) → name_of leaf ≡ name → line_text (Inst k) ++ name ++ line_feed ≡ instance_text k leaf
+expected_is k leaf name same =
+    ap (λ a. line_text (Inst k) ++ a ++ line_feed) (sym same)
+    ∙ ap (λ a. a ++ line_feed)
+    (sym (append_assoc (line_text (Inst k)) (leaf.path ++ codes " ") leaf.class) ∙ ap (λ a. a ++ leaf.class) (sym (append_assoc (line_text (Inst k)) leaf.path (codes " "))))
+
+pub instance_read : {X : Type 0} (t : Trial X) (text name : List ℕ) (grow k n n_new passed passed_new : ℕ) (leaf : Leaf X) (leaves : List (Leaf X)) (before after : Option (List ℕ)) (line : Line) (same : Bool)
+    → name_of leaf ≡ name → HasReached t text n passed (AtInstance k leaf leaves) before
+    → IsRead (line_text (Inst k) ++ name ++ line_feed) grow passed passed_new before after line same → n_new ≡ n + 1 → (line ≡ Inst k) × (same ≡ true)
+    → HasReached t text n_new passed_new (due (k + 1) leaves t.start) after
+instance_read t text name grow k n n_new passed passed_new leaf leaves before after line same named has read more is =
+    let told : Tells true (read.scans.text ≡ line_text (Inst k) ++ name ++ line_feed) =
+    subst (λ b. Tells b (read.scans.text ≡ line_text (Inst k) ++ name ++ line_feed)) is.1 read.scans.is_scanned.1 in
+    subst (λ j. HasReached t text j passed_new (due (k + 1) leaves t.start) after) (sym more)
+    (reached_more t text (line_text (Inst k) ++ name ++ line_feed) n passed passed_new (AtInstance k leaf leaves) (due (k + 1) leaves t.start) before after line same has read.scans
+      ((is.0, told ∙ expected_is k leaf name named), refl))
+
+pub instance_other : {X : Type 0} (t : Trial X) (text name : List ℕ) (grow k n n_new passed passed_new : ℕ) (leaf : Leaf X) (leaves : List (Leaf X)) (before after : Option (List ℕ)) (line : Line) (same : Bool)
+    → t.grow ≡ grow → name_of leaf ≡ name → HasReached t text n passed (AtInstance k leaf leaves) before
+    → IsRead (line_text (Inst k) ++ name ++ line_feed) grow passed passed_new before after line same → n_new ≡ n + 1 → (line ≡ Inst k → same ≡ false)
+    → IsNotRun t text n_new Header
+instance_other t text name grow k n n_new passed passed_new leaf leaves before after line same same_grow named has read more differs =
+    subst (λ j. IsNotRun t text j Header) (sym more)
+    (not_run_line t text (line_text (Inst k) ++ name ++ line_feed) n passed passed_new (AtInstance k leaf leaves) before after line same Header has read.scans read.within
+      (subst (λ g. is_of_table g line ≡ true) (sym same_grow) read.of_table)
+      (refl, λ is.
+        let told : Tells false (read.scans.text ≡ line_text (Inst k) ++ name ++ line_feed) =
+        subst (λ b. Tells b (read.scans.text ≡ line_text (Inst k) ++ name ++ line_feed)) (differs is.0) read.scans.is_scanned.1 in
+        told (is.1 ∙ sym (expected_is k leaf name named))))
