@@ -4,6 +4,7 @@ ghost use Rattle.std.specs.Prelude.{◌≡◌, ◌≢◌, ◌+◌, ◌<◌, ◌�
 ghost use Rattle.rvc_io.specs.Feeds.{PullsOnly, ReadFails};
 ghost use Rattle.port_files.specs.Coming.{coming_on};
 ghost use Rattle.trace_text.specs.declared.line.Line.TheVariants.{Inst};
+ghost use Rattle.net_model.specs.Limits.{max_instances};
 ghost use Rattle.net_model.specs.Network.{Leaf};
 ghost use Rattle.trace_replay.specs.Judging.{AtEvents, AtFirst, AtInstance, Trial, due, first_line};
 ghost use Rattle.trace_replay.specs.Head.{IsHeadOf, name_of};
@@ -102,4 +103,76 @@ fn is_instance(line: &Line, k: u32, same: bool) -> bool
     ensures no { result ≡ false → (line.now ≡ Inst k) → same ≡ false }
 {
     same && is_line(line, &Line::Inst { inst: k })
+}
+
+/// Reads the lines of the instances, which have these paths and classes.
+pub(crate) fn read_instances<A: Firing, F: Feeds>(
+    trace: &mut Trace,
+    names: &[String],
+    feeds: &mut F,
+) -> Result<(), ReplayFault>
+    requires open { (F.feeds feeds.old).is_open TRACE_FEED ≡ true }
+    requires counted { IsCounted trace.old.count trace.old.lines.passed }
+    requires few { length names.now ≤ max_instances }
+    ensures read { OnOk result ((t : Trial A.State) (text : List ℕ) → t.grow ≡ trace.old.grow
+        → map name_of t.net.leaves ≡ map string_bytes names.now
+        → HasReached t text trace.old.count trace.old.lines.passed (due 0 t.net.leaves t.start)
+        (coming_on trace.old.lines.bytes (F.feeds feeds.old) TRACE_FEED)
+        → HasReached t text trace.new.count trace.new.lines.passed (AtEvents t.start t.start)
+        (coming_on trace.new.lines.bytes (F.feeds feeds.new) TRACE_FEED)) }
+    ensures judged { IfErr result (λ fault. (t : Trial A.State) (text : List ℕ)
+        → t.grow ≡ trace.old.grow → map name_of t.net.leaves ≡ map string_bytes names.now
+        → HasReached t text trace.old.count trace.old.lines.passed (due 0 t.net.leaves t.start)
+        (coming_on trace.old.lines.bytes (F.feeds feeds.old) TRACE_FEED) → IsJudged t text fault) }
+    ensures counted { OnOk result (IsCounted trace.new.count trace.new.lines.passed) }
+    ensures failed { OnReadFault result (ReadFails F.feeds feeds.old feeds.new) }
+    ensures grow { trace.new.grow ≡ trace.old.grow }
+    ensures elsewhere { PullsOnly F.feeds feeds.old feeds.new TRACE_FEED }
+{
+    let mut k = 0u32;
+    'names: while (k as usize) < names.len() {
+        match read_instance::<A, F>(trace, k, &names[k as usize], feeds) {
+            Ok(()) => {}
+            Err(fault) => return Err(fault),
+        }
+        k += 1;
+    }
+    Ok(())
+}
+
+/// Reads what stands before the first event: the first line, which is to be this one, and the lines of instances, which
+/// have these paths and classes.
+///
+/// # Errors
+///
+/// `NotRun` if a line is another one, with its number and why. `ReadFault` if bytes couldn't be pulled.
+pub(crate) fn read_head<A: Firing, F: Feeds>(
+    trace: &mut Trace,
+    first: &Line,
+    names: &[String],
+    feeds: &mut F,
+) -> Result<(), ReplayFault>
+    requires open { (F.feeds feeds.old).is_open TRACE_FEED ≡ true }
+    requires counted { IsCounted trace.old.count trace.old.lines.passed }
+    requires few { length names.now ≤ max_instances }
+    ensures read { OnOk result ((t : Trial A.State) (text : List ℕ)
+        → IsHeadOf t trace.old.grow first.now (map string_bytes names.now)
+        → HasReached t text trace.old.count trace.old.lines.passed AtFirst
+        (coming_on trace.old.lines.bytes (F.feeds feeds.old) TRACE_FEED)
+        → HasReached t text trace.new.count trace.new.lines.passed (AtEvents t.start t.start)
+        (coming_on trace.new.lines.bytes (F.feeds feeds.new) TRACE_FEED)) }
+    ensures judged { IfErr result (λ fault. (t : Trial A.State) (text : List ℕ)
+        → IsHeadOf t trace.old.grow first.now (map string_bytes names.now)
+        → HasReached t text trace.old.count trace.old.lines.passed AtFirst
+        (coming_on trace.old.lines.bytes (F.feeds feeds.old) TRACE_FEED) → IsJudged t text fault) }
+    ensures counted { OnOk result (IsCounted trace.new.count trace.new.lines.passed) }
+    ensures failed { OnReadFault result (ReadFails F.feeds feeds.old feeds.new) }
+    ensures grow { trace.new.grow ≡ trace.old.grow }
+    ensures elsewhere { PullsOnly F.feeds feeds.old feeds.new TRACE_FEED }
+{
+    match read_first::<A, F>(trace, first, feeds) {
+        Ok(()) => {}
+        Err(fault) => return Err(fault),
+    }
+    read_instances::<A, F>(trace, names, feeds)
 }
