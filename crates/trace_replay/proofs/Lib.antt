@@ -4,3 +4,4 @@ pub mod Traces
 pub mod Scanned
 pub mod Reached
 pub mod Heads
+pub mod Tried

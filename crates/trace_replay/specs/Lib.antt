@@ -4,3 +4,4 @@ pub mod Coming
 pub mod Scanning
 pub mod Reading
 pub mod Head
+pub mod Trying

@@ -6,6 +6,7 @@ mod head;
 mod laws;
 mod reading;
 mod scan;
+mod trying;
 mod why;
 
 pub use bytes::TRACE_FEED;
