@@ -1,3 +1,4 @@
+mod Rows
 pub mod Limits
 pub mod Pulling
 pub mod Traces
