@@ -54,7 +54,7 @@ pub first_other : {X : Type 0} (t : Trial X) (text expected : List ℕ) (grow n 
 first_other t text expected grow n n_new passed passed_new before after line first same same_grow is_first has read more differs =
     subst (λ k. IsNotRun t text k Header) (sym more)
     (not_run_line t text expected n passed passed_new AtFirst before after line same Header has read.scans read.within
-      (subst (λ g. is_of_table g line ≡ true) (sym same_grow) read.of_table) (refl, λ is. differs (is ∙ sym is_first)))
+    (subst (λ g. is_of_table g line ≡ true) (sym same_grow) read.of_table) (refl, λ is. differs (is ∙ sym is_first)))
 
 -- the line of an instance
 expected_is : {X : Type 0} (k : ℕ) (leaf : Leaf X) (name : List ℕ) → name_of leaf ≡ name → line_text (Inst k) ++ name ++ line_feed ≡ instance_text k leaf
@@ -72,7 +72,7 @@ instance_read t text name grow k n n_new passed passed_new leaf leaves before af
     subst (λ b. Tells b (read.scans.text ≡ line_text (Inst k) ++ name ++ line_feed)) is.1 read.scans.is_scanned.1 in
     subst (λ j. HasReached t text j passed_new (due (k + 1) leaves t.start) after) (sym more)
     (reached_more t text (line_text (Inst k) ++ name ++ line_feed) n passed passed_new (AtInstance k leaf leaves) (due (k + 1) leaves t.start) before after line same has read.scans
-      ((is.0, told ∙ expected_is k leaf name named), refl))
+    ((is.0, told ∙ expected_is k leaf name named), refl))
 
 pub instance_other : {X : Type 0} (t : Trial X) (text name : List ℕ) (grow k n n_new passed passed_new : ℕ) (leaf : Leaf X) (leaves : List (Leaf X)) (before after : Option (List ℕ)) (line : Line) (same : Bool)
     → t.grow ≡ grow → name_of leaf ≡ name → HasReached t text n passed (AtInstance k leaf leaves) before
@@ -81,11 +81,13 @@ pub instance_other : {X : Type 0} (t : Trial X) (text name : List ℕ) (grow k n
 instance_other t text name grow k n n_new passed passed_new leaf leaves before after line same same_grow named has read more differs =
     subst (λ j. IsNotRun t text j Header) (sym more)
     (not_run_line t text (line_text (Inst k) ++ name ++ line_feed) n passed passed_new (AtInstance k leaf leaves) before after line same Header has read.scans read.within
-      (subst (λ g. is_of_table g line ≡ true) (sym same_grow) read.of_table)
-      (refl, λ is.
-        let told : Tells false (read.scans.text ≡ line_text (Inst k) ++ name ++ line_feed) =
-        subst (λ b. Tells b (read.scans.text ≡ line_text (Inst k) ++ name ++ line_feed)) (differs is.0) read.scans.is_scanned.1 in
-        told (is.1 ∙ sym (expected_is k leaf name named))))
+    (subst (λ g. is_of_table g line ≡ true) (sym same_grow) read.of_table) (
+      refl,
+      λ is.
+          let told : Tells false (read.scans.text ≡ line_text (Inst k) ++ name ++ line_feed) =
+          subst (λ b. Tells b (read.scans.text ≡ line_text (Inst k) ++ name ++ line_feed)) (differs is.0) read.scans.is_scanned.1 in
+          told (is.1 ∙ sym (expected_is k leaf name named)),
+    ))
 
 -- The lines of all instances.
 

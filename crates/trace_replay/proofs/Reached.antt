@@ -60,7 +60,7 @@ reached_more t text expected n passed passed_new reached next before after line 
       lead = lead_more t has.texts AtFirst reached next s.text line has.lead s.is_scanned.0 on;
       number = omega (arith, has.number, length-append has.texts (s.text ∷ []));
       count = let whole : length (concat (has.texts ++ s.text ∷ [])) ≡ length (concat has.texts) + length s.text =
-            ap length (concat_more has.texts s.text) ∙ length-append (concat has.texts) s.text in
+          ap length (concat_more has.texts s.text) ∙ length-append (concat has.texts) s.text in
           omega (arith, has.count, s.count, whole);
       told = others.1;
       is_text = has.is_text ∙ ap (λ a. concat has.texts ++ a) others.2 ∙ sym (append_assoc (concat has.texts) s.text others.0)

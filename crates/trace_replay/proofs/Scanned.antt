@@ -37,6 +37,7 @@ front_one_more expected text byte (rest, is) at = of_rest rest is (sym (get_behi
     get_behind : (text rest : List ℕ) → slice_get (text ++ rest) (length text) ≡ slice_get rest 0
     get_behind [] rest = refl
     get_behind (b ∷ text) rest = get_behind text rest
+
     of_rest : (rest : List ℕ) → expected ≡ text ++ rest → slice_get rest 0 ≡ Some byte → IsFrontOf expected (text ++ byte ∷ [])
     of_rest [] is at = cc
     of_rest (b ∷ rest) is at =
@@ -148,9 +149,11 @@ pub scanned_line : (expected : List ℕ) (reader next : LineReader) (same still 
 scanned_line expected reader next same still whole begin passed byte line before now after is gives more all reads = record {
   text = is.text ++ byte ∷ [];
   passes = passes_then is.text (byte ∷ []) before now after is.passes gives;
-  is_scanned = (told_line line (is.text ++ byte ∷ []) (reads [] is.text is.told).1,
+  is_scanned = (
+    told_line line (is.text ++ byte ∷ []) (reads [] is.text is.told).1,
     all (is.text ++ byte ∷ []) (omega (arith, is.count, length-append is.text (byte ∷ [])))
-      (more is.text (omega (arith, is.count)) is.as_expected));
+        (more is.text (omega (arith, is.count)) is.as_expected),
+  );
   count = omega (arith, is.count, length-append is.text (byte ∷ []));
 }
 

@@ -131,24 +131,29 @@ events_make t opened s [] end last fits lead = cc
 events_make t opened s (text ∷ texts) end last fits (line, next, spells, (mid, may, is_next), rest) =
     by_bool (Events t opened s (concat (text ∷ texts)) end last) (is_end line)
     (λ is_so. one_end t opened s mid line end last text texts fits may spells is_so
-      (subst (λ r. Lead t r texts (AtEnd end last)) (is_next ∙ after_end line opened mid is_so) rest))
+    (subst (λ r. Lead t r texts (AtEnd end last)) (is_next ∙ after_end line opened mid is_so) rest))
     (λ not_so.
-      let more : Events t (opened_by line opened mid) mid (concat texts) end last =
-      events_make t (opened_by line opened mid) mid texts end last may.fits
-      (subst (λ r. Lead t r texts (AtEnd end last)) (is_next ∙ after_event line opened mid not_so) rest) in
-      let whole : IsWritten line × (text ≡ line_text line) = written_text t.net t.grow s line [] text may.true_there spells in
-      record {
-        lines = line ∷ more.lines;
-        is_text = ap (λ a. a ++ concat texts) whole.1 ∙ ap (λ a. line_text line ++ a) more.is_text;
-        written = (whole.0, more.written);
-        plays = (true_before t.net t.grow s line [] more.lines not_so may.true_there,
-          next_is (goes t.net s line) mid (λ u. PlaysFrom t.net t.grow u more.lines last) may.goes_so more.plays);
-        keeps = (fits, may.trap_fits,
-          next_is (goes t.net s line) mid (λ u. KeepsSince t.net (opened_by line opened u) u more.lines) may.goes_so more.keeps);
-        before = line ∷ more.before;
-        split = ap (λ a. line ∷ a) more.split;
-        ends = more.ends;
-      })
+    let more : Events t (opened_by line opened mid) mid (concat texts) end last =
+    events_make t (opened_by line opened mid) mid texts end last may.fits
+    (subst (λ r. Lead t r texts (AtEnd end last)) (is_next ∙ after_event line opened mid not_so) rest) in
+    let whole : IsWritten line × (text ≡ line_text line) = written_text t.net t.grow s line [] text may.true_there spells in
+    record {
+      lines = line ∷ more.lines;
+      is_text = ap (λ a. a ++ concat texts) whole.1 ∙ ap (λ a. line_text line ++ a) more.is_text;
+      written = (whole.0, more.written);
+      plays = (
+        true_before t.net t.grow s line [] more.lines not_so may.true_there,
+        next_is (goes t.net s line) mid (λ u. PlaysFrom t.net t.grow u more.lines last) may.goes_so more.plays,
+      );
+      keeps = (
+        fits,
+        may.trap_fits,
+        next_is (goes t.net s line) mid (λ u. KeepsSince t.net (opened_by line opened u) u more.lines) may.goes_so more.keeps,
+      );
+      before = line ∷ more.before;
+      split = ap (λ a. line ∷ a) more.split;
+      ends = more.ends;
+    })
 
 -- the texts are those of instances from k on, and then lines that play from the start
 record Heads {X : Type 0} (t : Trial X) (k : ℕ) (leaves : List (Leaf X)) (text : List ℕ) (end : Line) (last : State X) : Type 0 where
@@ -195,20 +200,22 @@ lines_make_traces {X} t (text ∷ texts) end last fits (line, next, spells, (is_
     let head : Heads t 0 t.net.leaves (concat texts) end last =
     heads_make t 0 t.net.leaves texts end last fits (subst (λ r. Lead t r texts (AtEnd end last)) is_next rest) in
     let whole : IsWritten (first_line t) × (text ≡ line_text (first_line t)) = subst (λ l. Spells l text) is_first spells in
-    let events : Events t t.start t.start head.behind end last = head.events in
-    (events.lines, record {
-      is_text = ap (λ a. a ++ concat texts) whole.1 ∙ ap (λ a. line_text (first_line t) ++ a) (head.is_text ∙ ap (λ a. instance_lines 0 t.net.leaves ++ a) events.is_text)
-          ∙ sym (append_assoc (line_text (first_line t)) (instance_lines 0 t.net.leaves) (flat_map line_text events.lines));
-      of_table = record {
-        first = whole.0;
-        instances = λ k leaf at. let here : 0 + k ≡ k = omega arith in
-            subst (λ n. Spells (Inst n) (instance_text n leaf)) here (head.instances k leaf at);
-        events = events.written;
-      };
-      plays = events.plays;
-      keeps = events.keeps;
-      ends = (events.before, events.split, events.ends);
-    })
+    let events : Events t t.start t.start head.behind end last = head.events in (
+      events.lines,
+      record {
+        is_text = ap (λ a. a ++ concat texts) whole.1 ∙ ap (λ a. line_text (first_line t) ++ a) (head.is_text ∙ ap (λ a. instance_lines 0 t.net.leaves ++ a) events.is_text)
+            ∙ sym (append_assoc (line_text (first_line t)) (instance_lines 0 t.net.leaves) (flat_map line_text events.lines));
+        of_table = record {
+          first = whole.0;
+          instances = λ k leaf at. let here : 0 + k ≡ k = omega arith in
+              subst (λ n. Spells (Inst n) (instance_text n leaf)) here (head.instances k leaf at);
+          events = events.written;
+        };
+        plays = events.plays;
+        keeps = events.keeps;
+        ends = (events.before, events.split, events.ends);
+      },
+    )
 
 -- From lines to texts.
 
@@ -247,27 +254,33 @@ events_lead t opened s (line ∷ lines) [] end last split ends written plays kee
     let is_true : LineIsTrue t.net t.grow s line [] = subst (λ a. LineIsTrue t.net t.grow s line a) none plays.0 in
     next_both (Lead t (AtEvents opened s) (map line_text (line ∷ lines)) (AtEnd end last)) (goes t.net s line) _ _
     (λ next so plays_on keeps_on.
-      let ended : next ≡ last = subst (λ a. PlaysFrom t.net t.grow next a last) none plays_on in
-      (line, after_line line opened next, spelled line written.0,
-        (next, may_come t opened s next line lines is_true so keeps.1 keeps_on, refl),
-        subst (λ a. Lead t (after_line line opened next) (map line_text a) (AtEnd end last)) (sym none)
-        (after_end line opened next is_so ∙ ap (λ a. AtEnd a next) same ∙ ap (λ u. AtEnd end u) ended)))
+    let ended : next ≡ last = subst (λ a. PlaysFrom t.net t.grow next a last) none plays_on in (
+      line,
+      after_line line opened next,
+      spelled line written.0,
+      (next, may_come t opened s next line lines is_true so keeps.1 keeps_on, refl),
+      subst (λ a. Lead t (after_line line opened next) (map line_text a) (AtEnd end last)) (sym none)
+          (after_end line opened next is_so ∙ ap (λ a. AtEnd a next) same ∙ ap (λ u. AtEnd end u) ended),
+    ))
     plays.1 keeps.2
 events_lead t opened s (line ∷ lines) (b ∷ before) end last split ends written plays keeps =
     let rest : lines ≡ before ++ end ∷ [] = cc in
     by_bool (Lead t (AtEvents opened s) (map line_text (line ∷ lines)) (AtEnd end last)) (is_end line)
     (λ is_so.
-      let none : lines ≡ [] = none_after t.net t.grow s line lines is_so plays.0 in
-      let not_so : [] ≡ before ++ end ∷ [] = sym none ∙ rest in
-      absurd (not_nothing before end not_so))
+    let none : lines ≡ [] = none_after t.net t.grow s line lines is_so plays.0 in
+    let not_so : [] ≡ before ++ end ∷ [] = sym none ∙ rest in
+    absurd (not_nothing before end not_so))
     (λ not_so.
-      next_both (Lead t (AtEvents opened s) (map line_text (line ∷ lines)) (AtEnd end last)) (goes t.net s line) _ _
-      (λ next so plays_on keeps_on.
-        (line, after_line line opened next, spelled line written.0,
-          (next, may_come t opened s next line lines (true_before t.net t.grow s line lines [] not_so plays.0) so keeps.1 keeps_on, refl),
-          subst (λ r. Lead t r (map line_text lines) (AtEnd end last)) (sym (after_event line opened next not_so))
-          (events_lead t (opened_by line opened next) next lines before end last rest ends written.1 plays_on keeps_on)))
-      plays.1 keeps.2)
+    next_both (Lead t (AtEvents opened s) (map line_text (line ∷ lines)) (AtEnd end last)) (goes t.net s line) _ _
+    (λ next so plays_on keeps_on. (
+      line,
+      after_line line opened next,
+      spelled line written.0,
+      (next, may_come t opened s next line lines (true_before t.net t.grow s line lines [] not_so plays.0) so keeps.1 keeps_on, refl),
+      subst (λ r. Lead t r (map line_text lines) (AtEnd end last)) (sym (after_event line opened next not_so))
+          (events_lead t (opened_by line opened next) next lines before end last rest ends written.1 plays_on keeps_on),
+    ))
+    plays.1 keeps.2)
   where
     not_nothing : (before : List Line) (end : Line) → [] ≡ before ++ end ∷ [] → ⊥
     not_nothing [] end h = cc
@@ -284,13 +297,15 @@ heads_lead : {X : Type 0} (t : Trial X) (k : ℕ) (leaves : List (Leaf X)) (text
     → Lead t (due k leaves t.start) (instance_texts k leaves ++ texts) (AtEnd end last)
 heads_lead t k [] texts end last instances lead = lead
 heads_lead t k (leaf ∷ leaves) texts end last instances lead =
-    let here : k + 0 ≡ k = omega arith in
-    (Inst k, due (k + 1) leaves t.start,
+    let here : k + 0 ≡ k = omega arith in (
+      Inst k,
+      due (k + 1) leaves t.start,
       subst (λ n. Spells (Inst n) (instance_text n leaf)) here (instances 0 leaf refl),
       ((refl, refl), refl),
       heads_lead t (k + 1) leaves texts end last
-      (λ j other at. let there : k + suc j ≡ k + 1 + j = omega arith in
-        subst (λ n. Spells (Inst n) (instance_text n other)) there (instances (suc j) other at)) lead)
+          (λ j other at. let there : k + suc j ≡ k + 1 + j = omega arith in
+          subst (λ n. Spells (Inst n) (instance_text n other)) there (instances (suc j) other at)) lead,
+    )
 
 concat_heads : {X : Type 0} (k : ℕ) (leaves : List (Leaf X)) (texts : List (List ℕ)) → concat (instance_texts k leaves ++ texts) ≡ instance_lines k leaves ++ concat texts
 concat_heads k [] texts = refl
@@ -305,11 +320,18 @@ traces_are_lines t text lines end last is_trace =
     let same : text ≡ concat (line_text (first_line t) ∷ (instance_texts 0 t.net.leaves ++ map line_text lines)) =
     is_trace.is_text ∙ append_assoc (line_text (first_line t)) (instance_lines 0 t.net.leaves) (flat_map line_text lines)
     ∙ sym (ap (λ a. line_text (first_line t) ++ a) (concat_heads 0 t.net.leaves (map line_text lines)
-      ∙ ap (λ a. instance_lines 0 t.net.leaves ++ a) (concat_events lines))) in
-    (line_text (first_line t) ∷ (instance_texts 0 t.net.leaves ++ map line_text lines), same,
-      (first_line t, due 0 t.net.leaves t.start, (is_trace.of_table.first, refl), (refl, refl),
+    ∙ ap (λ a. instance_lines 0 t.net.leaves ++ a) (concat_events lines))) in (
+      line_text (first_line t) ∷ (instance_texts 0 t.net.leaves ++ map line_text lines),
+      same,
+      (
+        first_line t,
+        due 0 t.net.leaves t.start,
+        (is_trace.of_table.first, refl),
+        (refl, refl),
         heads_lead t 0 t.net.leaves (map line_text lines) end last
-        (λ j leaf at. let here : j ≡ 0 + j = omega arith in
-          subst (λ n. Spells (Inst n) (instance_text n leaf)) here (is_trace.of_table.instances j leaf at))
-        (events_lead t t.start t.start lines is_trace.ends.0 end last is_trace.ends.1 is_trace.ends.2 is_trace.of_table.events
-          is_trace.plays is_trace.keeps)))
+            (λ j leaf at. let here : j ≡ 0 + j = omega arith in
+            subst (λ n. Spells (Inst n) (instance_text n leaf)) here (is_trace.of_table.instances j leaf at))
+            (events_lead t t.start t.start lines is_trace.ends.0 end last is_trace.ends.1 is_trace.ends.2 is_trace.of_table.events
+            is_trace.plays is_trace.keeps),
+      ),
+    )

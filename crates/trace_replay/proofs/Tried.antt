@@ -31,6 +31,7 @@ may_work {X} cells i low work = of_cell (slice_get cells i) refl
     some_there [] k less h = omega (arith, less)
     some_there (x ∷ xs) zero less h = cc
     some_there (x ∷ xs) (suc k) less h = some_there xs k (omega (arith, less)) h
+
     of_cell : (o : Option (Cell X)) → slice_get cells i ≡ o → OnCell o (λ cell. cell.trapped ≡ false)
     of_cell None at = some_there cells i low at
     of_cell (Some cell) at = work i cell at
@@ -106,6 +107,7 @@ comes_once net opened s i a e cause c so comes = ⊎_elim
   where
     of_guard : TrapComes net opened s i a (Some (TrapsInGuard cause)) c → cause ≡ c
     of_guard h = h
+
     of_body : TrapComes net opened s i a (Some (TrapsInBody cause)) c → cause ≡ c
     of_body h = h.0
 
@@ -155,5 +157,5 @@ fired_no_trap old new i a c tries net opened s stands comes =
     let is = tries.states net opened s stands in
     fires_is ⊥ (happens net s (Fire i a)) _
     (λ u h. let one : Fired net s u i a = fired_unless net s u i a s.trapped refl h in
-      fired_no_trap_of net opened s i a (effect_at net s i a) one.to one.sent c one.effect comes)
+    fired_no_trap_of net opened s i a (effect_at net s i a) one.to one.sent c one.effect comes)
     is.1

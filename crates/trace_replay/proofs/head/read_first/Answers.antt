@@ -25,5 +25,5 @@ returns-then-not-is_line-clause-judged g c = λ t text same first has.
     subst (IsJudged t text) (sym c.not_run.ensures)
     (subst (λ k. IsNotRun t text k Header) (sym c.number.ensures)
     (first_other t text line_feed c.args.trace.now.grow c.args.trace.now.count c.next_line.new.self.count c.args.trace.now.lines.passed c.next_line.new.self.lines.passed
-      (coming_on c.args.trace.now.lines.bytes (g.F.Feeds.feeds c.args.feeds.now) TRACE_FEED) (coming_on c.next_line.new.self.lines.bytes (g.F.Feeds.feeds c.next_line.new.feeds) TRACE_FEED)
-      c.in-Ok.read.line c.args.first.now c.in-Ok.read.same same first has c.in-Ok.ensures.read c.in-Ok.ensures.count (c.is_line.ensures.no c.if-not-is_line.true)))
+    (coming_on c.args.trace.now.lines.bytes (g.F.Feeds.feeds c.args.feeds.now) TRACE_FEED) (coming_on c.next_line.new.self.lines.bytes (g.F.Feeds.feeds c.next_line.new.feeds) TRACE_FEED)
+    c.in-Ok.read.line c.args.first.now c.in-Ok.read.same same first has c.in-Ok.ensures.read c.in-Ok.ensures.count (c.is_line.ensures.no c.if-not-is_line.true)))

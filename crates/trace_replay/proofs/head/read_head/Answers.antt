@@ -15,11 +15,13 @@ returns-clause-read g c =
     ok_after c.read_instances.result _ _
     (λ read. λ t text head has. read t text (head.grow_is ∙ sym c.read_first.ensures.grow) head.names_are (c.in-Ok.ensures.read t text head.grow_is head.first_is has))
     c.read_instances.ensures.read
+
 pub returns-clause-judged : goal.returns-clause-judged
 returns-clause-judged g c =
     err_after c.read_instances.result _ _
     (λ fault judged. λ t text head has. judged t text (head.grow_is ∙ sym c.read_first.ensures.grow) head.names_are (c.in-Ok.ensures.read t text head.grow_is head.first_is has))
     c.read_instances.ensures.judged
+
 pub returns-clause-failed : goal.returns-clause-failed
 returns-clause-failed g c =
     fault_after c.read_instances.result (ReadFails g.F.Feeds.feeds c.read_first.new.feeds c.read_instances.new.feeds) (ReadFails g.F.Feeds.feeds c.args.feeds.now c.read_instances.new.feeds)

@@ -16,11 +16,11 @@ returns-clause-read g c = λ t text leaf leaves same named has.
     let after = coming_on c.next_line.new.self.lines.bytes (g.F.Feeds.feeds c.next_line.new.feeds) TRACE_FEED in
     let front : c.as_slice.result.now ≡ line_text (Inst c.args.k) = c.as_slice.ensures.value ∙ c.write_front.ensures.text in
     let read : IsRead (line_text (Inst c.args.k) ++ string_bytes c.args.name.now ++ line_feed) c.args.trace.now.grow c.args.trace.now.lines.passed c.next_line.new.self.lines.passed before after
-        c.in-Ok.read.line c.in-Ok.read.same =
+    c.in-Ok.read.line c.in-Ok.read.same =
     subst (λ a. IsRead (a ++ string_bytes c.args.name.now ++ line_feed) c.args.trace.now.grow c.args.trace.now.lines.passed c.next_line.new.self.lines.passed before after
-        c.in-Ok.read.line c.in-Ok.read.same) front
+    c.in-Ok.read.line c.in-Ok.read.same) front
     (subst (λ b. IsRead (c.as_slice.result.now ++ b ++ line_feed) c.args.trace.now.grow c.args.trace.now.lines.passed c.next_line.new.self.lines.passed before after
-        c.in-Ok.read.line c.in-Ok.read.same) c.as_bytes.ensures.value c.in-Ok.ensures.read) in
+    c.in-Ok.read.line c.in-Ok.read.same) c.as_bytes.ensures.value c.in-Ok.ensures.read) in
     instance_read t text (string_bytes c.args.name.now) c.args.trace.now.grow c.args.k c.args.trace.now.count c.next_line.new.self.count c.args.trace.now.lines.passed c.next_line.new.self.lines.passed
     leaf leaves before after c.in-Ok.read.line c.in-Ok.read.same named has read c.in-Ok.ensures.count (c.is_instance.ensures.yes c.if-not-is_instance.false)
 
@@ -37,12 +37,12 @@ returns-then-not-is_instance-clause-judged g c = λ t text leaf leaves same name
     let after = coming_on c.next_line.new.self.lines.bytes (g.F.Feeds.feeds c.next_line.new.feeds) TRACE_FEED in
     let front : c.as_slice.result.now ≡ line_text (Inst c.args.k) = c.as_slice.ensures.value ∙ c.write_front.ensures.text in
     let read : IsRead (line_text (Inst c.args.k) ++ string_bytes c.args.name.now ++ line_feed) c.args.trace.now.grow c.args.trace.now.lines.passed c.next_line.new.self.lines.passed before after
-        c.in-Ok.read.line c.in-Ok.read.same =
+    c.in-Ok.read.line c.in-Ok.read.same =
     subst (λ a. IsRead (a ++ string_bytes c.args.name.now ++ line_feed) c.args.trace.now.grow c.args.trace.now.lines.passed c.next_line.new.self.lines.passed before after
-        c.in-Ok.read.line c.in-Ok.read.same) front
+    c.in-Ok.read.line c.in-Ok.read.same) front
     (subst (λ b. IsRead (c.as_slice.result.now ++ b ++ line_feed) c.args.trace.now.grow c.args.trace.now.lines.passed c.next_line.new.self.lines.passed before after
-        c.in-Ok.read.line c.in-Ok.read.same) c.as_bytes.ensures.value c.in-Ok.ensures.read) in
+    c.in-Ok.read.line c.in-Ok.read.same) c.as_bytes.ensures.value c.in-Ok.ensures.read) in
     subst (IsJudged t text) (sym c.not_run.ensures)
     (subst (λ k. IsNotRun t text k Header) (sym c.number.ensures)
     (instance_other t text (string_bytes c.args.name.now) c.args.trace.now.grow c.args.k c.args.trace.now.count c.next_line.new.self.count c.args.trace.now.lines.passed c.next_line.new.self.lines.passed
-      leaf leaves before after c.in-Ok.read.line c.in-Ok.read.same same named has read c.in-Ok.ensures.count (c.is_instance.ensures.no c.if-not-is_instance.true)))
+    leaf leaves before after c.in-Ok.read.line c.in-Ok.read.same same named has read c.in-Ok.ensures.count (c.is_instance.ensures.no c.if-not-is_instance.true)))
