@@ -2,6 +2,7 @@ mod Rows
 pub mod Limits
 pub mod Pulling
 pub mod Traces
+pub mod Excluded
 pub mod Scanned
 pub mod Reached
 pub mod Heads

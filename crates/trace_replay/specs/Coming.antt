@@ -1,5 +1,5 @@
 -- The bytes of a trace that are still to come, and what a call takes of them.
--- Trusted: part of what a promise means.
+-- Not trusted: no promise is read with it.
 use Rattle.std.specs.Prelude.{◌≡◌, ℕ, List, [], ◌∷◌, ◌++◌, Option, None, Some}
 use Rattle.port_files.specs.Coming.{NothingLeft}
 

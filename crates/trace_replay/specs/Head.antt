@@ -1,5 +1,5 @@
 -- The first lines of a trace.
--- Trusted: part of what a promise means.
+-- Not trusted: no promise is read with it.
 use Rattle.std.specs.Prelude.{◌≡◌, ℕ, List, ◌++◌, map, codes, string_bytes}
 use Rattle.net_model.specs.Network.{Leaf}
 use Rattle.trace_text.specs.declared.line.Line.{Line}

@@ -1,5 +1,5 @@
 -- What is read of a trace: one line, or why none.
--- Trusted: part of what a promise means.
+-- Not trusted: no promise is read with it.
 use Rattle.std.specs.Prelude.{◌≡◌, ℕ, ◌+◌, ◌≤◌, Bool, true, false, List, [], ◌∷◌, ◌++◌, length, Option, None, Some}
 use Rattle.trace_text.specs.declared.line.Line.{Line}
 use Rattle.trace_text.specs.Spelling.{Spells, Begins, IsFront}

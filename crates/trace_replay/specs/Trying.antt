@@ -1,5 +1,5 @@
 -- What a line that names an action of a leaf says of the network, and whether it is so.
--- Trusted: part of what a promise means.
+-- Not trusted: no promise is read with it.
 use Rattle.std.specs.Prelude.{◌≡◌, ℕ, false, List, slice_get, Some}
 use Rattle.rvc_base.specs.declared.trap.Trap.{Trap as TrapName}
 use Rattle.net_model.specs.Network.{Network}

@@ -2,7 +2,7 @@
 //!
 //! Each law is the contract of a function that does nothing: it is proved with the crate, and can be cited.
 
-ghost use Rattle.trace_replay.specs.Laws.{LinesMakeTraces, TracesAreLines};
+ghost use Rattle.trace_replay.specs.Laws.{LinesMakeTraces, TracesAreLines, WhatFailsMayNotCome};
 
 use net_model::Meaning;
 
@@ -11,4 +11,10 @@ use net_model::Meaning;
 pub fn traces_are_runs<M: Meaning>()
     ensures lines { LinesMakeTraces M.State }
     ensures traces { TracesAreLines M.State }
+{}
+
+/// A line of the run that fails for a cause may not come, if the network is wired, its actors are lawful and on no
+/// link fewer tokens were sent than at the last delivery. So the cause that is told is one.
+pub fn what_fails_may_not_come<M: Meaning>()
+    ensures { WhatFailsMayNotCome M.State }
 {}
