@@ -1,5 +1,5 @@
 -- What fails may not come.
-use Rattle.std.proofs.Common.{◌≡◌, ◌≢◌, ℕ, zero, suc, ◌+◌, ◌-◌, ◌<◌, ◌≤◌, ◌⊎◌, Bool, true, false, List, [], ◌∷◌, ◌++◌, ℤ, length, map, refl, sym, ap, subst, ◌∙◌, ⊎_elim, arith}
+use Rattle.std.proofs.Common.{◌≡◌, ℕ, zero, suc, ◌+◌, ◌<◌, ◌≤◌, Bool, true, false, List, [], ◌∷◌, ◌++◌, ℤ, length, map, refl, sym, ap, subst, ◌∙◌, arith}
 use Rattle.std.specs.Prelude.{Option, None, Some, slice_get, slice_index_or, if◌then◌else◌, ◌==◌, replicate, pos}
 use Rattle.std.proofs.lemmas.Bool.{eq-eqb, eqb-true}
 use Rattle.std.proofs.lemmas.List.{length-append, length-map, length-replicate}
@@ -9,20 +9,19 @@ use Rattle.rvc_base.specs.declared.trap.Trap.TheVariants.{Overflow, DivideByZero
 use Rattle.rvc_base.specs.Storing.{conv}
 use Rattle.rvc_base.specs.Behaviour.{Effect, Fires, TrapsInGuard, TrapsInBody}
 use Rattle.rvc_base.specs.Lawful.{IsLawful, tokens_on}
-use Rattle.trace_text.specs.declared.line.Line.{Line}
 use Rattle.trace_text.specs.declared.line.Line.TheVariants.{Header as FirstLine, Inst, Fire as FireLine, Deliver, Grow, Quiet, Trap as TrapLine, Stall, Budget}
 use Rattle.net_model.specs.declared.wiring.End.{End}
 use Rattle.net_model.specs.declared.wiring.End.TheVariants.{Leaf as AtLeaf, Net as AtNet}
 use Rattle.net_model.specs.declared.wiring.Link.{Link}
 use Rattle.net_model.specs.Network.{Leaf, Network, is_input, is_outside}
 use Rattle.net_model.specs.State.{Flow, State, effect_of, effect_at, give_of, need_of, inboxes}
-use Rattle.net_model.specs.Event.{Fire, Trap as TrapEvent, each_flow, after_firing, sent_on, happens, trap, number_of_trap}
+use Rattle.net_model.specs.Event.{Fire, each_flow, after_firing, sent_on, happens, trap, number_of_trap}
 use Rattle.net_model.specs.Trace.{FitFlows, held_since, with_given, counted_flows}
 use Rattle.net_model.specs.Wired.{ComesFromPort, HasOutput, IsWired}
 use Rattle.net_model.specs.Laws.{AreLawful}
-use Rattle.net_model.specs.Paced.{HasRoomIn, PassesRoom, PassesOn, PassesLink}
+use Rattle.net_model.specs.Paced.{PassesRoom, PassesOn, PassesLink}
 use Rattle.net_model.proofs.Commuting.{Fired, fired_unless}
-use Rattle.trace_replay.specs.Judging.{Trial, MayCome, EventFails, FiringFails, LacksRoomIn, TrapComes}
+use Rattle.trace_replay.specs.Judging.{FiringFails, LacksRoomIn, TrapComes}
 use Rattle.trace_replay.specs.Laws.{NoneIsLost, WhatFailsMayNotCome}
 use Rattle.trace_replay.specs.declared.why.Why.{Why}
 

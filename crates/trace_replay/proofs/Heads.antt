@@ -5,12 +5,12 @@ use Rattle.trace_text.specs.declared.line.Line.{Line}
 use Rattle.trace_text.specs.declared.line.Line.TheVariants.{Inst}
 use Rattle.trace_text.specs.Text.{line_text, line_feed}
 use Rattle.net_model.specs.Network.{Leaf}
-use Rattle.trace_replay.specs.Judging.{Trial, Reached, AtFirst, AtInstance, AtEvents, IsOver, IsNotRun, due, first_line, instance_text, is_of_table, max_trace_bytes}
+use Rattle.trace_replay.specs.Judging.{Trial, Reached, AtFirst, AtInstance, AtEvents, IsOver, IsNotRun, due, first_line, instance_text, is_of_table}
 use Rattle.trace_replay.specs.Head.{name_of}
 use Rattle.trace_replay.specs.Reading.{HasReached, IsRead, IsStopBy, OnReadFault, Stops, IsJudged}
 use Rattle.trace_replay.specs.Scanning.{IsWithin, Scans, Tells}
 use Rattle.trace_replay.specs.declared.why.Why.{Why}
-use Rattle.trace_replay.specs.declared.why.Why.TheVariants.{Form, Header}
+use Rattle.trace_replay.specs.declared.why.Why.TheVariants.{Header}
 use Rattle.trace_replay.specs.declared.why.ReplayFault.{ReplayFault}
 use Rattle.trace_replay.specs.declared.why.ReplayFault.TheVariants.{NotRun, ReadFault, Memory}
 use Rattle.trace_replay.specs.declared.scan.Scanned.{Scanned}

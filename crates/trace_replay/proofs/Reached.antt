@@ -1,18 +1,18 @@
 -- A trace that is read on by a line, and a line with which it isn't the trace of a run.
-use Rattle.std.proofs.Common.{◌≡◌, ◌≢◌, ℕ, zero, suc, ◌+◌, ◌-◌, ◌<◌, ◌≤◌, Bool, true, false, List, [], ◌∷◌, ◌++◌, length, take, refl, sym, ap, subst, ◌∙◌, ⊎_elim, arith, append_assoc, append-nil, length-append}
+use Rattle.std.proofs.Common.{◌≡◌, ℕ, zero, suc, ◌+◌, ◌-◌, ◌<◌, ◌≤◌, Bool, true, false, List, [], ◌∷◌, ◌++◌, length, take, refl, sym, ap, subst, ◌∙◌, ⊎_elim, arith, append_assoc, append-nil, length-append}
 use Rattle.std.specs.Prelude.{Option, None, Some}
 use Rattle.std.specs.List.{concat}
 use Rattle.std.proofs.lemmas.Bool.{cases_lt}
 use Rattle.std.proofs.Math.Seq.{take-append-add, take-append_seam}
 use Rattle.trace_text.specs.declared.line.Line.{Line}
-use Rattle.trace_text.specs.Spelling.{Spells, Begins, IsFront}
+use Rattle.trace_text.specs.Spelling.{Spells}
 use Rattle.port_files.specs.Coming.{NothingLeft}
 use Rattle.trace_replay.specs.Coming.{Passes}
-use Rattle.trace_replay.specs.Judging.{Trial, Reached, AtFirst, LeadsOn, Lead, LineFails, IsOver, RestFails, BeginsNone, IsOfNoTable, MayNotCome, IsBehindEnd, IsCutOff, GoesPast, EndsPast, IsNotRun, is_of_table, max_trace_bytes}
+use Rattle.trace_replay.specs.Judging.{Trial, Reached, AtFirst, LeadsOn, Lead, LineFails, IsOver, RestFails, BeginsNone, IsOfNoTable, MayNotCome, IsCutOff, GoesPast, IsNotRun, is_of_table, max_trace_bytes}
 use Rattle.trace_replay.specs.Reading.{HasReached}
 use Rattle.trace_replay.specs.Scanning.{Scans}
 use Rattle.trace_replay.specs.declared.why.Why.{Why}
-use Rattle.trace_replay.specs.declared.why.Why.TheVariants.{Form, After, Cut as CutOff, TooLong as Past}
+use Rattle.trace_replay.specs.declared.why.Why.TheVariants.{Form, Cut as CutOff, TooLong as Past}
 use Rattle.trace_replay.specs.declared.scan.Scanned.TheVariants.{Line as Whole, Bad, Cut, TooLong}
 
 -- Lines one after another.

@@ -1,12 +1,12 @@
 -- Rows of lines that may come or not, computed by the definitions.
-use Rattle.std.proofs.Common.{◌≡◌, ◌≢◌, ℕ, zero, suc, ◌<◌, ◌≤◌, true, false, List, [], ◌∷◌, pos, refl, inl, inr, ap, sym, arith}
-use Rattle.std.specs.Prelude.{None, Some}
-use Rattle.trace_text.specs.declared.line.Line.TheVariants.{Header as FirstLine, Inst, Fire, Deliver, Grow, Quiet, Trap as TrapLine, Stall, Budget}
+use Rattle.std.proofs.Common.{◌≡◌, ◌≢◌, ℕ, zero, suc, true, false, List, [], ◌∷◌, pos, refl, arith}
+use Rattle.std.specs.Prelude.{None}
+use Rattle.trace_text.specs.declared.line.Line.TheVariants.{Header as FirstLine, Inst, Fire, Deliver, Grow, Quiet, Trap as TrapLine, Budget}
 use Rattle.rvc_base.specs.declared.trap.Trap.TheVariants.{Overflow}
 use Rattle.net_model.specs.State.{State, start_of, effect_at}
 use Rattle.net_model.specs.Ends.{IsQuiet, all_fed}
 use Rattle.net_model.proofs.Rows.{inc_net, pair_net, pair_in, pair_last, pair_stalls, ring_net}
-use Rattle.trace_replay.specs.Judging.{Trial, AtFirst, AtEvents, AtEnd, MayCome, EventFails, LineFails, after_line, is_of_table}
+use Rattle.trace_replay.specs.Judging.{Trial, AtFirst, AtEnd, MayCome, EventFails, LineFails, after_line, is_of_table}
 use Rattle.trace_replay.specs.declared.why.Why.TheVariants.{Header, NotExposed, NoRoom, Trap, End}
 
 -- Two actors in a ring, each of which sends a byte if it has none.

@@ -1,5 +1,5 @@
 -- Lemmas on reading a line: what was read, whether it was expected, and what is still to come.
-use Rattle.std.proofs.Common.{◌≡◌, ◌≢◌, ℕ, zero, suc, ◌+◌, ◌-◌, ◌<◌, ◌≤◌, Bool, true, false, List, [], ◌∷◌, ◌++◌, length, take, drop, refl, sym, ap, subst, ◌∙◌, ⊎_elim, arith, append_assoc, append-nil, length-append}
+use Rattle.std.proofs.Common.{◌≡◌, ℕ, ◌+◌, ◌-◌, ◌≤◌, Bool, true, false, List, [], ◌∷◌, ◌++◌, length, refl, sym, ap, subst, ◌∙◌, arith, append_assoc, append-nil, length-append}
 use Rattle.std.specs.Prelude.{Option, None, Some, Result, Ok, Err, IfOk, slice_get, ◌&&◌}
 use Rattle.rvc_io.specs.declared.Failed.{Failed}
 use Rattle.trace_replay.specs.declared.scan.Scanned.{Scanned}
@@ -14,7 +14,7 @@ use Rattle.trace_text.specs.ReadBack.{SpellEach, AreLines, BeginLines}
 use Rattle.port_files.specs.Coming.{NothingLeft}
 use Rattle.trace_replay.specs.Coming.{Passes, GivesByte}
 use Rattle.trace_replay.specs.Judging.{max_trace_bytes}
-use Rattle.trace_replay.specs.Scanning.{IsFrontOf, IsPast, IsScanned, IsWithin, Scans, Tells}
+use Rattle.trace_replay.specs.Scanning.{IsFrontOf, IsPast, IsWithin, Scans, Tells}
 use Rattle.trace_replay.specs.declared.scan.Scanned.TheVariants.{Line as Whole, Bad as NoLine, Cut, TooLong}
 
 -- What passes.

@@ -1,5 +1,5 @@
 -- Lines that lead on are traces, and traces are such lines.
-use Rattle.std.proofs.Common.{◌≡◌, ℕ, zero, suc, ◌+◌, Bool, true, false, List, [], ◌∷◌, ◌++◌, length, map, refl, sym, ap, subst, ◌∙◌, arith, append_assoc}
+use Rattle.std.proofs.Common.{◌≡◌, ℕ, zero, suc, ◌+◌, Bool, true, false, List, [], ◌∷◌, ◌++◌, map, refl, sym, ap, subst, ◌∙◌, arith, append_assoc}
 use Rattle.std.specs.Prelude.{if◌then◌else◌, Option, None, Some, slice_get, flat_map}
 use Rattle.std.specs.List.{concat}
 use Rattle.trace_text.specs.declared.line.Line.{Line}
@@ -10,7 +10,7 @@ use Rattle.trace_text.specs.Spelling.{Spells}
 use Rattle.net_model.specs.Network.{Leaf, Network}
 use Rattle.net_model.specs.State.{State}
 use Rattle.net_model.specs.Trace.{goes, LineIsTrue, OnNext, PlaysFrom, FitFlows, TrapFits, opened_by, KeepsSince, instance_lines}
-use Rattle.trace_replay.specs.Judging.{Trial, Reached, AtFirst, AtInstance, AtEvents, AtEnd, first_line, instance_text, due, is_end, after_line, MayCome, LeadsOn, Lead, AreOfTable, IsTrace}
+use Rattle.trace_replay.specs.Judging.{Trial, AtEvents, AtEnd, first_line, instance_text, due, is_end, after_line, MayCome, Lead}
 use Rattle.trace_replay.specs.Laws.{StartFits, LinesMakeTraces, TracesAreLines}
 
 -- Options.

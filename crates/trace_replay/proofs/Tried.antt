@@ -1,26 +1,23 @@
 -- What came of an action that a line names.
-use Rattle.std.proofs.Common.{◌≡◌, ◌≢◌, ℕ, zero, suc, ◌<◌, ◌≤◌, ◌⊎◌, Bool, true, false, List, [], ◌∷◌, length, map, refl, sym, ap, subst, ◌∙◌, inl, inr, ⊎_elim, arith}
+use Rattle.std.proofs.Common.{◌≡◌, ℕ, zero, suc, ◌<◌, ◌≤◌, ◌⊎◌, false, List, [], ◌∷◌, length, map, refl, sym, ap, subst, ◌∙◌, inl, inr, ⊎_elim, arith}
 use Rattle.std.specs.Prelude.{Option, None, Some, slice_get}
 use Rattle.std.proofs.lemmas.Bool.{cases_eq}
 use Rattle.std.proofs.lemmas.List.{length-map}
 use Rattle.rvc_base.specs.declared.trap.Trap.{Trap as TrapName}
 use Rattle.rvc_base.specs.Behaviour.{Effect, Fires, TrapsInGuard, TrapsInBody}
-use Rattle.net_model.specs.declared.firing.Tried.{Tried}
 use Rattle.net_model.specs.declared.firing.Tried.TheVariants as tried
-use Rattle.net_model.specs.Network.{Leaf, Network}
+use Rattle.net_model.specs.Network.{Network}
 use Rattle.net_model.specs.State.{State, effect_of, effect_at}
-use Rattle.net_model.specs.Event.{Fire, fire, happens}
+use Rattle.net_model.specs.Event.{Fire, happens}
 use Rattle.net_model.specs.Trace.{OnNext}
 use Rattle.net_model.specs.Cell.{Cell, IsEnabled}
 use Rattle.net_model.specs.Ready.{OnCell}
-use Rattle.net_model.specs.Paced.{HasRoomIn, PassesLink}
+use Rattle.net_model.specs.Paced.{HasRoomIn}
 use Rattle.net_model.proofs.Commuting.{Fired, fired_unless}
 use Rattle.net_state.specs.Held.{Held}
-use Rattle.net_state.specs.Standing.{IsNetOf, StandsSince}
-use Rattle.net_state.specs.Working.{MayWork, TriesAt, TriesIn, tried_traps}
+use Rattle.net_state.specs.Working.{MayWork, TriesAt}
 use Rattle.trace_replay.specs.Judging.{FiringFails, LacksRoomIn, TrapComes}
-use Rattle.trace_replay.specs.Trying.{AllWork, FailsToFire, FiresOn, TrapsNotSo, TrapsSo}
-use Rattle.trace_replay.specs.declared.why.Why.{Why}
+use Rattle.trace_replay.specs.Trying.{AllWork, FailsToFire, TrapsNotSo, TrapsSo}
 use Rattle.trace_replay.specs.declared.why.Why.TheVariants.{NotExposed, NoRoom, Trap}
 
 -- a cell that is there may work

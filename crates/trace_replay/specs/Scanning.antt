@@ -1,7 +1,6 @@
 -- What is read of a trace: one line, or why none.
 -- Not trusted: no promise is read with it.
 use Rattle.std.specs.Prelude.{◌≡◌, ℕ, ◌+◌, ◌≤◌, Bool, true, false, List, [], ◌∷◌, ◌++◌, length, Option, None, Some}
-use Rattle.trace_text.specs.declared.line.Line.{Line}
 use Rattle.trace_text.specs.Spelling.{Spells, Begins, IsFront}
 use Rattle.port_files.specs.Coming.{NothingLeft}
 use Rattle.trace_replay.specs.Coming.{Passes, GivesByte}

@@ -1,4 +1,4 @@
-use Rattle.std.proofs.Common.{sym, subst, ◌+◌}
+use Rattle.std.proofs.Common.{sym, subst}
 use Rattle.port_files.specs.Coming.{coming_on}
 use Rattle.trace_text.specs.Text.{line_feed}
 use Rattle.trace_replay.specs.Judging.{AtFirst, IsNotRun}

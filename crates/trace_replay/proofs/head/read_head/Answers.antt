@@ -1,12 +1,6 @@
 use Rattle.std.proofs.Common.{◌∙◌, sym}
-use Rattle.std.specs.Prelude.{string_bytes}
 use Rattle.rvc_io.specs.Feeds.{ReadFails}
-use Rattle.port_files.specs.Coming.{coming_on}
 use Rattle.net_state.proofs.Feeding.{risen_after}
-use Rattle.trace_replay.specs.Judging.{AtEvents, AtFirst, Trial, due}
-use Rattle.trace_replay.specs.Head.{IsHeadOf, name_of}
-use Rattle.trace_replay.specs.Reading.{HasReached, IsJudged}
-use Rattle.trace_replay.specs.declared.bytes.TheConstants.{TRACE_FEED}
 use Rattle.trace_replay.proofs.Heads.{err_after, fault_after, ok_after}
 use Rattle.trace_replay.proofs.head.read_head.Goals as goal
 

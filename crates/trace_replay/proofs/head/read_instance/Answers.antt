@@ -1,10 +1,10 @@
-use Rattle.std.proofs.Common.{rules, sym, ap, subst, ◌+◌, ◌++◌, ◌≡◌, ◌∙◌}
+use Rattle.std.proofs.Common.{sym, subst, ◌++◌, ◌≡◌, ◌∙◌}
 use Rattle.std.specs.Prelude.{string_bytes}
 use Rattle.port_files.specs.Coming.{coming_on}
 use Rattle.trace_text.specs.declared.line.Line.TheVariants.{Inst}
 use Rattle.trace_text.specs.Text.{line_feed, line_text}
 use Rattle.trace_replay.specs.Judging.{AtInstance, IsNotRun}
-use Rattle.trace_replay.specs.Reading.{IsJudged, IsRead, Stops}
+use Rattle.trace_replay.specs.Reading.{IsJudged, IsRead}
 use Rattle.trace_replay.specs.declared.bytes.TheConstants.{TRACE_FEED}
 use Rattle.trace_replay.specs.declared.why.Why.TheVariants.{Header}
 use Rattle.trace_replay.proofs.Heads.{instance_other, instance_read, stops_judged}

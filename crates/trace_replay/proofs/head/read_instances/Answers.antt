@@ -1,4 +1,4 @@
-use Rattle.std.proofs.Common.{◌+◌, ◌-◌, ◌<◌, ◌≡◌, ◌∙◌, Some, Err, arith, drop, length, map, refl, sym}
+use Rattle.std.proofs.Common.{◌+◌, ◌<◌, ◌≡◌, ◌∙◌, Some, Err, arith, drop, length, map, refl, sym}
 use Rattle.std.specs.Prelude.{slice_get, string_bytes}
 use Rattle.rvc_io.specs.Feeds.{ReadFails}
 use Rattle.port_files.specs.Coming.{coming_on}

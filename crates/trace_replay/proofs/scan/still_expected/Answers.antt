@@ -1,4 +1,4 @@
-use Rattle.std.proofs.Common.{◌++◌, ◌∷◌, [], ◌∙◌, ap, sym, subst, true}
+use Rattle.std.proofs.Common.{◌++◌, ◌∙◌, ap, sym, subst, true}
 use Rattle.std.specs.Prelude.{slice_get}
 use Rattle.trace_text.specs.Text.{line_feed}
 use Rattle.trace_replay.specs.Scanning.{IsFrontOf, Tells}

@@ -1,4 +1,4 @@
-use Rattle.std.proofs.Common.{◌≡◌, ◌<◌, ◌≤◌, ◌∙◌, arith, length, map, refl}
+use Rattle.std.proofs.Common.{◌≡◌, ◌<◌, ◌≤◌, arith, length, map}
 use Rattle.std.proofs.lemmas.List.{length-map}
 use Rattle.net_state.specs.Held.{seen}
 use Rattle.trace_replay.proofs.Tried.{beyond_fails, may_work, none_is_fails, room_fails, still_work, trap_fails}

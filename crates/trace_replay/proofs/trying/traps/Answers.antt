@@ -1,4 +1,4 @@
-use Rattle.std.proofs.Common.{◌≡◌, ◌<◌, ◌≤◌, ◌∙◌, arith, length, map}
+use Rattle.std.proofs.Common.{◌≡◌, ◌<◌, ◌≤◌, arith, length, map}
 use Rattle.std.proofs.lemmas.List.{length-map}
 use Rattle.net_state.specs.Held.{seen}
 use Rattle.trace_replay.proofs.Tried.{beyond_no_trap, fired_no_trap, may_work, none_no_trap, room_no_trap, traps_other, traps_so}

@@ -1,5 +1,4 @@
-use Rattle.std.proofs.Common.{◌++◌, ◌<◌, ◌≤◌, ◌≡◌, arith, subst, None, Some}
-use Rattle.rvc_io.specs.Feeds.{PullsOnly}
+use Rattle.std.proofs.Common.{◌++◌, ◌<◌, ◌≡◌, arith, subst}
 use Rattle.port_files.specs.Coming.{coming_on}
 use Rattle.trace_text.specs.Text.{line_feed}
 use Rattle.trace_replay.specs.Coming.{GivesByte}
