@@ -136,7 +136,8 @@ pub not_run_bad : {X : Type 0} (t : Trial X) (text expected : List ℕ) (n passe
     → IsNotRun t text (n + 1) Form
 not_run_bad t text expected n passed passed_new reached before after has s within not_over =
     not_run t text s.text n passed reached before after Form has s.passes (omega (arith, s.count, within))
-    (λ more longer. BeginsNone not_over s.text more refl s.is_scanned)
+    (λ more longer. BeginsNone not_over s.is_scanned.0 s.is_scanned.1 more
+    (ap (λ a. a ++ more) s.is_scanned.2 ∙ append_assoc s.is_scanned.0 (s.is_scanned.1 ∷ []) more) s.is_scanned.3 s.is_scanned.4)
 
 -- the text ends
 nothing_is : (after : Option (List ℕ)) (others : List ℕ) → after ≡ Some others → NothingLeft after → others ≡ []

@@ -164,7 +164,7 @@ pub scanned_bad : (expected : List ℕ) (reader next : LineReader) (same : Bool)
 scanned_bad expected reader next same begin passed byte before now after is gives reads = record {
   text = is.text ++ byte ∷ [];
   passes = passes_then is.text (byte ∷ []) before now after is.passes gives;
-  is_scanned = told_bad (is.text ++ byte ∷ []) (reads [] is.text is.told);
+  is_scanned = (is.text, byte, refl, told_front reader is.text is.told, told_bad (is.text ++ byte ∷ []) (reads [] is.text is.told));
   count = omega (arith, is.count, length-append is.text (byte ∷ []));
 }
 

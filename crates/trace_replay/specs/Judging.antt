@@ -153,9 +153,9 @@ IsOver reached = ⊥
 -- Why what stands behind the lines that lead on doesn't, within the greatest length of a trace. `longer` is whether
 -- the text goes on past that.
 pub data RestFails {X : Type 0} (t : Trial X) (reached : Reached X) (rest : List ℕ) (longer : Bool) : Why → Type 0 where
-  -- its first bytes begin no line ..
-  BeginsNone : (IsOver reached → ⊥) → (front more : List ℕ) → rest ≡ front ++ more → (Begins front → ⊥)
-      → RestFails t reached rest longer Form
+  -- its first bytes begin a line and are none, and with the next byte they begin none ..
+  BeginsNone : (IsOver reached → ⊥) → (front : List ℕ) → (byte : ℕ) → (more : List ℕ) → rest ≡ front ++ byte ∷ more
+      → IsFront front → (Begins (front ++ byte ∷ []) → ⊥) → RestFails t reached rest longer Form
   -- .. or are a line that a trace of this version hasn't
   IsOfNoTable : (IsOver reached → ⊥) → (line : Line) → (text more : List ℕ) → rest ≡ text ++ more → Spells line text
       → is_of_table t.grow line ≡ false → RestFails t reached rest longer Form

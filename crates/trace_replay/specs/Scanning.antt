@@ -17,11 +17,13 @@ Tells false P = P → ⊥
 abbrev pub IsFrontOf : List ℕ → List ℕ → Type 0
 IsFrontOf expected text = (rest : List ℕ) × (expected ≡ text ++ rest)
 
--- This text was read, and it is a line, whose text was expected or not; it begins no line; it begins one, is none,
+-- This text was read, and it is a line, whose text was expected or not; it begins no line with its last byte; it begins one, is none,
 -- and the trace ends; or the same, and the trace goes on past its greatest length.
 abbrev pub IsScanned : List ℕ → List ℕ → ℕ → Option (List ℕ) → Scanned → Type 0
 IsScanned expected text passed after (Whole line same) = Spells line text × Tells same (text ≡ expected)
-IsScanned expected text passed after Bad = Begins text → ⊥
+IsScanned expected text passed after Bad = (front : List ℕ) × (byte : ℕ)
+    × (text ≡ front ++ byte ∷ []) × IsFront front
+    × (Begins (front ++ byte ∷ []) → ⊥)
 IsScanned expected text passed after Cut = IsFront text × NothingLeft after
 IsScanned expected text passed after TooLong = (front : List ℕ) × (byte : ℕ)
     × (text ≡ front ++ byte ∷ []) × IsFront front
