@@ -18,7 +18,7 @@ use Rattle.net_model.specs.State.{Flow, State, effect_of, effect_at, give_of, ne
 use Rattle.net_model.specs.Event.{Fire, each_flow, after_firing, sent_on, happens, trap, number_of_trap}
 use Rattle.net_model.specs.Trace.{FitFlows, held_since, with_given, counted_flows}
 use Rattle.net_model.specs.Wired.{ComesFromPort, HasOutput, IsWired}
-use Rattle.net_model.specs.Laws.{AreLawful}
+use Rattle.net_model.specs.Laws.{AreLawful, sent_of, sent_on_link}
 use Rattle.net_model.specs.Paced.{PassesRoom, PassesOn, PassesLink}
 use Rattle.net_model.proofs.Commuting.{Fired, fired_unless}
 use Rattle.trace_replay.specs.Judging.{FiringFails, LacksRoomIn, TrapComes}
@@ -48,6 +48,19 @@ each_at change (first ∷ links) (is ∷ flows) zero link flow at now =
     let two : is ≡ flow = cc in
     ap (λ a. Some (change a is)) one ∙ ap (λ f. Some (change link f)) two
 each_at change (first ∷ links) (is ∷ flows) (suc l) link flow at now = each_at change links flows l link flow at now
+
+get_low : {A : Type 0} (xs : List A) (l : ℕ) (x : A) → slice_get xs l ≡ Some x → l < length xs
+get_low [] l x at = cc
+get_low (y ∷ xs) zero x at = omega arith
+get_low (y ∷ xs) (suc l) x at = let less : l < length xs = get_low xs l x at in omega (arith, less)
+
+sent_kept : {X : Type 0} (net : Network X) (opened s : State X) (l : ℕ) (link : Link) (before flow : Flow) → NoneIsLost net opened s → slice_get net.links l ≡ Some link
+    → slice_get opened.flows l ≡ Some before → slice_get s.flows l ≡ Some flow → length before.sent ≤ length flow.sent
+sent_kept net opened s l link before flow kept at then_ now =
+    let less : length (sent_on_link opened l) ≤ length (sent_on_link s l) = kept l (get_low net.links l link at) in
+    let one : length (sent_on_link opened l) ≡ length before.sent = ap (λ o. length (sent_of o)) then_ in
+    let two : length (sent_on_link s l) ≡ length flow.sent = ap (λ o. length (sent_of o)) now in
+    omega (arith, less, one, two)
 
 -- a link whose room is passed
 record Passing {X : Type 0} (net : Network X) (opened s : State X) (i a l : ℕ) : Type 0 where
@@ -116,7 +129,7 @@ inner_from : (link : Link) (end : End) (inst : InstId) (port : ℕ) → link.fro
 inner_from link end inst port from = ap is_outside from
 
 -- a firing that passes a room passes the capacity then
-fire_excluded : {X : Type 0} (net : Network X) (opened s next : State X) (i a l : ℕ) → IsWired net → AreLawful net → NoneIsLost opened s
+fire_excluded : {X : Type 0} (net : Network X) (opened s next : State X) (i a l : ℕ) → IsWired net → AreLawful net → NoneIsLost net opened s
     → happens net s (Fire i a) ≡ Some next → FitFlows net.links opened.flows next.flows → PassesLink net opened s i a l → ⊥
 fire_excluded net opened s next i a l wired lawful kept h fits passes =
     let one : Fired net s next i a = fired_unless net s next i a s.trapped refl h in
@@ -134,7 +147,7 @@ fire_excluded net opened s next i a l wired lawful kept h fits passes =
     let sent : length (sent_on i one.sent p.link p.link.from) ≡ length (tokens_on one.sent p.port) = own_sent i p.port one.sent p.link p.inst p.link.from p.from p.own in
     let more : length (p.flow.sent ++ sent_on i one.sent p.link p.link.from) ≡ length p.flow.sent + length (sent_on i one.sent p.link p.link.from) =
     length-append p.flow.sent (sent_on i one.sent p.link p.link.from) in
-    omega (arith, within, count, sent, more, p.passes, kept l p.before p.flow p.then_ p.now)
+    omega (arith, within, count, sent, more, p.passes, sent_kept net opened s l p.link p.before p.flow kept p.at p.then_ p.now)
 
 -- a trap that counts as sending passes it too
 given_count : (i port : ℕ) (gives : ℕ → ℕ) (link : Link) (flow : Flow) (inst : InstId) (end : End) → end ≡ AtLeaf inst port → i ≡ inst.0
@@ -153,7 +166,7 @@ given_since i port gives link before flow inst end from own kept within =
     let count = given_count i port gives link flow inst end from own in
     omega (arith, within, count.0, count.1, kept)
 
-trap_excluded : {X : Type 0} (net : Network X) (opened s : State X) (i a l : ℕ) → NoneIsLost opened s
+trap_excluded : {X : Type 0} (net : Network X) (opened s : State X) (i a l : ℕ) → NoneIsLost net opened s
     → FitFlows net.links opened.flows (each_flow (λ link flow. with_given i (give_of (slice_get net.leaves i) a) link link.from flow) net.links s.flows)
     → PassesLink net opened s i a l → ⊥
 trap_excluded net opened s i a l kept fits passes =
@@ -163,7 +176,7 @@ trap_excluded net opened s i a l kept fits passes =
     let within = fit_at net.links opened.flows (each_flow (λ link flow. with_given i (give_of (slice_get net.leaves i) a) link link.from flow) net.links s.flows) l p.link p.before
     (with_given i (give_of (slice_get net.leaves i) a) p.link p.link.from p.flow) fits p.at p.then_ now (inner_from p.link p.link.from p.inst p.port p.from) in
     let most : held_since p.before p.flow + give_of (slice_get net.leaves i) a p.port ≤ p.flow.capacity =
-    given_since i p.port (give_of (slice_get net.leaves i) a) p.link p.before p.flow p.inst p.link.from p.from p.own (kept l p.before p.flow p.then_ p.now) within in
+    given_since i p.port (give_of (slice_get net.leaves i) a) p.link p.before p.flow p.inst p.link.from p.from p.own (sent_kept net opened s l p.link p.before p.flow kept p.at p.then_ p.now) within in
     omega (arith, most, p.passes)
 
 -- The cases.
@@ -206,7 +219,7 @@ trap_named c d mark next true is h = same_trap c d (eqb-true (number_of_trap c) 
 trap_named c d mark next false is h = cc
 
 -- if a trap happens and fits, it comes
-trap_comes_of : {X : Type 0} (net : Network X) (opened s next : State X) (i a : ℕ) (e : Option (Effect X)) (c : TrapName) → NoneIsLost opened s
+trap_comes_of : {X : Type 0} (net : Network X) (opened s next : State X) (i a : ℕ) (e : Option (Effect X)) (c : TrapName) → NoneIsLost net opened s
     → trap s c e ≡ Some next → FitFlows net.links opened.flows (counted_flows net s i a e) → TrapComes net opened s i a e c
 trap_comes_of net opened s next i a None c kept h fits = cc
 trap_comes_of net opened s next i a (Some (Fires to sent)) c kept h fits = cc

@@ -3,6 +3,7 @@ pub mod Limits
 pub mod Pulling
 pub mod Traces
 pub mod Excluded
+pub mod Judged
 pub mod Scanned
 pub mod Reached
 pub mod Heads

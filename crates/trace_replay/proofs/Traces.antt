@@ -84,10 +84,10 @@ fits_first : {X : Type 0} (net : Network X) (opened s : State X) (lines : List L
 fits_first net opened s [] h = h
 fits_first net opened s (line ∷ lines) h = h.0
 
-after_end : {X : Type 0} (line : Line) (opened next : State X) → is_end line ≡ true → after_line line opened next ≡ AtEnd line next
+pub after_end : {X : Type 0} (line : Line) (opened next : State X) → is_end line ≡ true → after_line line opened next ≡ AtEnd line next
 after_end line opened next is_so = subst (λ b. (if b then AtEnd line next else AtEvents (opened_by line opened next) next) ≡ AtEnd line next) (sym is_so) refl
 
-after_event : {X : Type 0} (line : Line) (opened next : State X) → is_end line ≡ false
+pub after_event : {X : Type 0} (line : Line) (opened next : State X) → is_end line ≡ false
     → after_line line opened next ≡ AtEvents (opened_by line opened next) next
 after_event line opened next not_so =
     subst (λ b. (if b then AtEnd line next else AtEvents (opened_by line opened next) next) ≡ AtEvents (opened_by line opened next) next) (sym not_so) refl

@@ -1,13 +1,14 @@
 -- What holds of all traces, as statements.
 -- Trusted: part of what a promise means.
-use Rattle.std.specs.Prelude.{◌≡◌, ℕ, ◌≤◌, List, length, slice_get, Some}
+use Rattle.std.specs.Prelude.{◌≡◌, ℕ, ◌<◌, ◌≤◌, List, length}
 use Rattle.std.specs.List.{concat}
 use Rattle.trace_text.specs.declared.line.Line.{Line}
-use Rattle.net_model.specs.State.{Flow, State}
+use Rattle.net_model.specs.Network.{Network}
+use Rattle.net_model.specs.State.{State}
 use Rattle.net_model.specs.Trace.{FitFlows}
 use Rattle.net_model.specs.Wired.{IsWired}
-use Rattle.net_model.specs.Laws.{AreLawful}
-use Rattle.trace_replay.specs.Judging.{Trial, AtFirst, AtEnd, MayCome, EventFails, Lead, IsTrace}
+use Rattle.net_model.specs.Laws.{AreLawful, sent_on_link}
+use Rattle.trace_replay.specs.Judging.{Trial, AtFirst, AtEnd, MayCome, EventFails, Lead, IsNotRun, IsTrace, max_trace_bytes}
 use Rattle.trace_replay.specs.declared.why.Why.{Why}
 
 -- in the state in which the run begins no link holds more than its capacity
@@ -27,12 +28,18 @@ TracesAreLines X = (t : Trial X) (text : List ℕ) (lines : List Line) (end : Li
     → (texts : List (List ℕ)) × (text ≡ concat texts) × Lead t AtFirst texts (AtEnd end last)
 
 -- on each link at least as many tokens were sent as when it was opened
-abbrev pub NoneIsLost : {X : Type 0} → State X → State X → Type 0
-NoneIsLost opened s = (l : ℕ) (before flow : Flow) → slice_get opened.flows l ≡ Some before
-    → slice_get s.flows l ≡ Some flow → length before.sent ≤ length flow.sent
+abbrev pub NoneIsLost : {X : Type 0} → Network X → State X → State X → Type 0
+NoneIsLost net opened s = (l : ℕ) → l < length net.links
+    → length (sent_on_link opened l) ≤ length (sent_on_link s l)
 
 -- a line of the run that fails may not come
 abbrev pub WhatFailsMayNotCome : (X : Type 0) → Type 0
 WhatFailsMayNotCome X = (t : Trial X) (opened s next : State X) (line : Line) (why : Why)
-    → IsWired t.net → AreLawful t.net → NoneIsLost opened s
+    → IsWired t.net → AreLawful t.net → NoneIsLost t.net opened s
     → EventFails t opened s line why → MayCome t opened s line next → ⊥
+
+-- A text that is a trace and not too long isn't told to be none.
+abbrev pub NoTraceIsNotRun : (X : Type 0) → Type 0
+NoTraceIsNotRun X = (t : Trial X) (text : List ℕ) (lines : List Line) (end : Line) (last : State X)
+    (n : ℕ) (why : Why) → IsWired t.net → AreLawful t.net → length text ≤ max_trace_bytes
+    → IsTrace t text lines end last → IsNotRun t text n why → ⊥

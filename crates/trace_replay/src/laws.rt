@@ -2,9 +2,10 @@
 //!
 //! Each law is the contract of a function that does nothing: it is proved with the crate, and can be cited.
 
-ghost use Rattle.trace_replay.specs.Laws.{LinesMakeTraces, TracesAreLines, WhatFailsMayNotCome};
+ghost use Rattle.trace_replay.specs.Laws.{LinesMakeTraces, NoTraceIsNotRun, TracesAreLines, WhatFailsMayNotCome};
 
-use net_model::Meaning;
+use net_model::{Meaning, sent_lists_only_grow};
+use trace_text::text_tells_a_line;
 
 /// Lines that lead from the beginning of a text to an end line are a trace with that end line, which plays from the
 /// start and keeps the capacities; and each such trace is lines that lead there.
@@ -18,3 +19,12 @@ pub fn traces_are_runs<M: Meaning>()
 pub fn what_fails_may_not_come<M: Meaning>()
     ensures { WhatFailsMayNotCome M.State }
 {}
+
+/// A text that is a trace of a run, and not longer than a trace may be, isn't told to be none, whatever the line and
+/// the cause, if the network is wired and its actors are lawful.
+pub fn no_trace_is_told_to_be_none<M: Meaning>()
+    ensures { NoTraceIsNotRun M.State }
+{
+    text_tells_a_line();
+    sent_lists_only_grow::<M>();
+}
