@@ -1,19 +1,19 @@
 -- No trace is told to be none.
 use Rattle.std.proofs.Common.{◌≡◌, ◌≢◌, ℕ, zero, suc, ◌+◌, ◌<◌, ◌≤◌, ◌⊎◌, Bool, true, false, List, [], ◌∷◌, ◌++◌, length, take, refl, sym, ap, subst, ◌∙◌, inl, inr, ⊎_elim, arith, append_assoc, append-nil, length-append}
-use Rattle.std.specs.Prelude.{Option, None, Some}
+use Rattle.std.specs.Prelude.{Some}
 use Rattle.std.specs.List.{concat}
 use Rattle.trace_text.specs.declared.line.Line.{Line}
 use Rattle.trace_text.specs.declared.line.Line.TheVariants.{Header as FirstLine, Inst, Fire, Deliver, Grow, Quiet, Trap as TrapLine, Stall, Budget}
 use Rattle.trace_text.specs.Spelling.{Spells, Begins, IsFront}
 use Rattle.trace_text.specs.Laws.{IsOneLine, FrontIsNoLine}
 use Rattle.net_model.specs.Network.{Network}
-use Rattle.net_model.specs.State.{State, capacity_at}
+use Rattle.net_model.specs.State.{State}
 use Rattle.net_model.specs.Event.{and_then}
 use Rattle.net_model.specs.Ends.{Grows}
 use Rattle.net_model.specs.Trace.{goes, opened_by}
 use Rattle.net_model.specs.Wired.{IsWired}
 use Rattle.net_model.specs.Laws.{AreLawful, LinesKeepSent, sent_on_link}
-use Rattle.trace_replay.specs.Judging.{Trial, Reached, AtFirst, AtInstance, AtEvents, AtEnd, MayCome, LeadsOn, Lead, LineFails, IsOver, RestFails, BeginsNone, IsOfNoTable, MayNotCome, IsBehindEnd, IsCutOff, GoesPast, EndsPast, IsNotRun, after_line, due, is_end, is_of_table, max_trace_bytes}
+use Rattle.trace_replay.specs.Judging.{Trial, Reached, AtFirst, AtInstance, AtEvents, AtEnd, LeadsOn, Lead, LineFails, IsOver, RestFails, BeginsNone, IsOfNoTable, MayNotCome, IsBehindEnd, IsCutOff, GoesPast, EndsPast, after_line, due, is_end, is_of_table, max_trace_bytes}
 use Rattle.trace_replay.specs.Laws.{NoneIsLost, NoTraceIsNotRun}
 use Rattle.trace_replay.specs.declared.why.Why.{Why}
 use Rattle.trace_replay.proofs.Traces.{traces_are_lines, after_end, after_event}
