@@ -4,6 +4,7 @@ pub mod Pulling
 pub mod Traces
 pub mod Excluded
 pub mod Judged
+pub mod Once
 pub mod Scanned
 pub mod Reached
 pub mod Heads
