@@ -1,5 +1,5 @@
 -- A text that is no trace is told so for one line and one cause.
-use Rattle.std.proofs.Common.{◌≡◌, ◌≢◌, ℕ, zero, suc, ◌+◌, ◌<◌, ◌≤◌, ◌⊎◌, Bool, true, false, List, [], ◌∷◌, ◌++◌, length, refl, sym, ap, subst, ◌∙◌, ⊎_elim, arith, append_assoc, append-nil}
+use Rattle.std.proofs.Common.{◌≡◌, ℕ, suc, ◌+◌, ◌<◌, ◌≤◌, Bool, true, false, List, [], ◌∷◌, ◌++◌, length, refl, sym, ap, subst, ◌∙◌, ⊎_elim, arith, append_assoc}
 use Rattle.std.specs.Prelude.{Option, None, Some}
 use Rattle.std.specs.List.{concat}
 use Rattle.rvc_base.specs.Behaviour.{Effect, Fires, TrapsInGuard, TrapsInBody}
@@ -11,10 +11,9 @@ use Rattle.net_model.specs.Network.{Network}
 use Rattle.net_model.specs.State.{State, effect_at}
 use Rattle.net_model.specs.Wired.{IsWired}
 use Rattle.net_model.specs.Laws.{AreLawful, LinesKeepSent}
-use Rattle.trace_replay.specs.Judging.{Trial, Reached, AtFirst, AtInstance, AtEvents, AtEnd, LeadsOn, Lead, LineFails, EventFails, FiringFails, IsOver, RestFails, BeginsNone, IsOfNoTable, MayNotCome, IsBehindEnd, IsCutOff, GoesPast, EndsPast, IsNotRun, is_of_table, max_trace_bytes}
+use Rattle.trace_replay.specs.Judging.{Trial, Reached, AtFirst, AtInstance, AtEvents, AtEnd, LeadsOn, Lead, LineFails, EventFails, FiringFails, IsOver, RestFails, BeginsNone, IsOfNoTable, MayNotCome, IsBehindEnd, IsCutOff, GoesPast, EndsPast, is_of_table, max_trace_bytes}
 use Rattle.trace_replay.specs.Laws.{IsToldOnce}
 use Rattle.trace_replay.specs.declared.why.Why.{Why}
-use Rattle.trace_replay.specs.declared.why.Why.TheVariants.{Form, Header, NotExposed, NoRoom, Trap, End, After, Cut, TooLong}
 use Rattle.trace_replay.proofs.Judged.{Same, cut, front_not, bad_not, no_growth_of, fails_not, one_next, next_kept, IsKept}
 
 -- A line fails for one cause.
