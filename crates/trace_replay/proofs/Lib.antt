@@ -1,0 +1,11 @@
+mod Rows
+pub mod Limits
+pub mod Pulling
+pub mod Traces
+pub mod Excluded
+pub mod Judged
+pub mod Once
+pub mod Scanned
+pub mod Reached
+pub mod Heads
+pub mod Tried

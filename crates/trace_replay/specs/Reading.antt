@@ -1,0 +1,68 @@
+-- How far a trace was read, and why it wasn't read on.
+-- Not trusted: no promise is read with it.
+use Rattle.std.specs.Prelude.{◌≡◌, ℕ, ◌≤◌, Bool, true, false, List, ◌++◌, length, Option, Some, Result, Ok, Err}
+use Rattle.std.specs.List.{concat}
+use Rattle.trace_text.specs.declared.line.Line.{Line}
+use Rattle.trace_replay.specs.Judging.{Trial, Reached, AtFirst, Lead, IsNotRun, is_of_table, max_trace_bytes}
+use Rattle.trace_replay.specs.Scanning.{IsWithin, Scans}
+use Rattle.trace_replay.specs.declared.bytes.TheConstants.{TRACE_FEED}
+use Rattle.trace_replay.specs.declared.scan.Scanned.{Scanned}
+use Rattle.trace_replay.specs.declared.scan.Scanned.TheVariants.{Line as Whole, Bad, Cut, TooLong}
+use Rattle.trace_replay.specs.declared.why.Why.{Why}
+use Rattle.trace_replay.specs.declared.why.Why.TheVariants.{Form, Cut as CutOff, TooLong as PastLength}
+use Rattle.trace_replay.specs.declared.why.ReplayFault.{ReplayFault}
+use Rattle.trace_replay.specs.declared.why.ReplayFault.TheVariants.{NotRun, ReadFault, Memory}
+
+-- Of the text n lines were read, which have led to what was reached; `passed` bytes were read, and these are to come.
+pub record HasReached {X : Type 0} (t : Trial X) (text : List ℕ) (n passed : ℕ) (reached : Reached X) (coming : Option (List ℕ)) : Type 0 where
+  pub texts : List (List ℕ)
+  pub rest : List ℕ
+  pub lead : Lead t AtFirst texts reached
+  pub number : n ≡ length texts
+  pub count : passed ≡ length (concat texts)
+  pub told : coming ≡ Some rest
+  pub is_text : text ≡ concat texts ++ rest
+
+-- no more lines than bytes were read, and no more bytes than a trace may have
+pub record IsCounted (n passed : ℕ) : Type 0 where
+  pub lines : n ≤ passed
+  pub within : passed ≤ max_trace_bytes
+
+-- a line was read that a trace of this version may have
+pub record IsRead (expected : List ℕ) (grow passed passed_new : ℕ) (before after : Option (List ℕ)) (line : Line) (same : Bool) : Type 0 where
+  pub scans : Scans expected passed passed_new before after (Whole line same)
+  pub of_table : is_of_table grow line ≡ true
+  pub within : passed_new ≤ max_trace_bytes
+
+-- why what was scanned is no line that a trace of this version may have
+abbrev pub IsStopBy : ℕ → Scanned → Why → Type 0
+IsStopBy grow (Whole line same) why = (why ≡ Form) × (is_of_table grow line ≡ false)
+IsStopBy grow Bad why = why ≡ Form
+IsStopBy grow Cut why = why ≡ CutOff
+IsStopBy grow TooLong why = why ≡ PastLength
+
+abbrev pub IsStop : ℕ → ℕ → Scanned → ReplayFault → Type 0
+IsStop grow number scanned (NotRun line why) = (line ≡ number) × IsStopBy grow scanned why
+IsStop grow number scanned (ReadFault feed) = ⊥
+IsStop grow number scanned Memory = ⊥
+
+-- the line with this number isn't one that a trace of this version may have, or the trace couldn't be read
+abbrev pub Stops : List ℕ → ℕ → ℕ → ℕ → Option (List ℕ) → Option (List ℕ) → ReplayFault → Type 0
+Stops expected grow number passed before after (NotRun line why) =
+    (line ≡ number) × (scanned : Scanned) × (passed_new : ℕ)
+    × Scans expected passed passed_new before after scanned × IsWithin passed_new scanned × IsStopBy grow scanned why
+Stops expected grow number passed before after (ReadFault feed) = feed ≡ TRACE_FEED
+Stops expected grow number passed before after Memory = ⊥
+
+-- this is so if bytes couldn't be read
+abbrev pub OnReadFault : {T : Type 0} → Result T ReplayFault → Type 0 → Type 0
+OnReadFault (Ok value) P = Unit {0}
+OnReadFault (Err (NotRun line why)) P = Unit {0}
+OnReadFault (Err (ReadFault feed)) P = P
+OnReadFault (Err Memory) P = Unit {0}
+
+-- an answer that the text is no trace of a run is true
+abbrev pub IsJudged : {X : Type 0} → Trial X → List ℕ → ReplayFault → Type 0
+IsJudged t text (NotRun line why) = IsNotRun t text line why
+IsJudged t text (ReadFault feed) = Unit {0}
+IsJudged t text Memory = Unit {0}

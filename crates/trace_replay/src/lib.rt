@@ -1,0 +1,17 @@
+//! Replay of recorded traces: whether a text is a trace of a run, and if not, which line no run has and why.
+#![tactic(auto)]
+
+mod bytes;
+mod head;
+mod laws;
+mod reading;
+mod scan;
+mod trying;
+mod why;
+
+pub use bytes::TRACE_FEED;
+pub use laws::{
+    no_trace_is_told_once, no_trace_is_told_to_be_none, traces_are_runs, what_fails_may_not_come,
+};
+pub use scan::MAX_TRACE_BYTES;
+pub use why::{ReplayFault, Why};
