@@ -11,3 +11,4 @@ mod SameNames
 mod SameParts
 mod SoundActions
 mod SoundHeader
+mod SoundRoutines

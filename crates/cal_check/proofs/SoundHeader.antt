@@ -34,7 +34,7 @@ yet-fine : {A : Type 0} (j : Judged A) (e : Tree) (a : A) → not_yet j e ≡ Fi
 yet-fine (Fine b) e a h = h
 yet-fine (Broken rule at) e a h = absurd (never (rule.0 == unknown_name.0) not_constant rule (constant_place at e) at a h)
 
-single-is : (j : Judged Shape) (at : ℕ) (t : Scalar) → single j at ≡ Fine t → j ≡ Fine (Single t)
+pub single-is : (j : Judged Shape) (at : ℕ) (t : Scalar) → single j at ≡ Fine t → j ≡ Fine (Single t)
 single-is (Fine (Single s)) at t h = ap (λ x. Fine (Single x)) (fine-is s t h)
 single-is (Fine (Many n items)) at t h = absurd (not-fine list_not_allowed at t h)
 single-is (Broken rule p) at t h = absurd (not-fine rule p t h)

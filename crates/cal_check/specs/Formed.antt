@@ -42,3 +42,8 @@ abbrev pub IsActionFormed : Tree → Type 0
 IsActionFormed (tree.action tagged initialize patterns outputs guards vars body at) =
     AreDeclared vars × AreFormed body × (initialize ≡ true → patterns ≡ tree.nil)
 IsActionFormed other = ⊥
+
+abbrev pub IsProcFormed : Tree → Type 0
+IsProcFormed (tree.procedure (tree.ident name place) formals vars body at) =
+    AreDeclared vars × AreFormed body
+IsProcFormed other = ⊥

@@ -9,14 +9,14 @@ use Rattle.cal_model.specs.Outcome.{Gives}
 use Rattle.cal_model.specs.Actor.{Action, Actor, Fun, Port, Proc}
 use Rattle.cal_model.specs.Call.{fun_named}
 use Rattle.cal_model.specs.Kinding.{Fine, Known, Names, constant, kind, meant_by, type_judged}
-use Rattle.cal_model.specs.Sound.{Each, AreDistinct, AreLocals, AreStatements, IsAction, IsPlain, max_ports, names_in_patterns, names_of, with_locals}
+use Rattle.cal_model.specs.Sound.{Each, AreDistinct, AreLocals, AreStatements, IsAction, IsPlain, IsProc, max_ports, names_in_patterns, names_of, with_locals}
 use Rattle.cal_check.specs.Violations.{all_broken, all_fine}
 use Rattle.cal_check.specs.Written.{written, statement_written}
 use Rattle.cal_check.specs.Statements.{names_behind, starts_broken, statement_broken}
-use Rattle.cal_check.specs.Routines.{locals_of}
+use Rattle.cal_check.specs.Routines.{locals_of, proc_broken, proc_judged}
 use Rattle.cal_check.specs.Actions.{Around, action_broken, action_of, each_guard, guards_written}
 use Rattle.cal_check.specs.Ports.{each_port, header_broken}
-use Rattle.cal_check.specs.Formed.{AreDeclared, AreFormed, IsActionFormed}
+use Rattle.cal_check.specs.Formed.{AreDeclared, AreFormed, IsActionFormed, IsProcFormed}
 
 -- what a constant expression gives is a number of the language, whatever is declared inside
 abbrev pub ConstantsFit : Names → Type 0
@@ -101,3 +101,10 @@ abbrev pub HeadersAreSound : Type 0
 HeadersAreSound = (ins outs : Tree) (at : ℕ) (names : Names) → header_broken ins outs at names ≡ []
     → (xs : List Port) × (ys : List Port) × (all_fine (each_port ins names) ≡ Some xs)
     × (all_fine (each_port outs names) ≡ Some ys) × IsHeader xs ys
+
+-- a procedure, over all names of the same kinds
+abbrev pub ProceduresAreSound : Type 0
+ProceduresAreSound = (p : Tree) (procs : List Proc) (names others : Names) (found : Proc)
+    → IsProcFormed p → ConstantsFit names → AreAlike names others
+    → proc_judged p names ≡ Fine found → proc_broken p procs names ≡ []
+    → AreDistinct (map (λ x. x.name) (found.formals ++ found.locals)) → IsProc procs others found

@@ -2,19 +2,21 @@
 //!
 //! Each law is the contract of a function that does nothing: it is proved with the crate, and can be cited.
 
-ghost use Rattle.cal_check.specs.Laws.{ActionsAreSound, GuardsAreSound, HeadersAreSound, LocalsAreSound, StatementsAreSound, WrittenKeepsKinds};
+ghost use Rattle.cal_check.specs.Laws.{ActionsAreSound, GuardsAreSound, HeadersAreSound, LocalsAreSound, ProceduresAreSound, StatementsAreSound, WrittenKeepsKinds};
 
 /// Writing out sizes and bounds keeps the kinds of expressions and types, if constants are numbers of the language.
 pub fn written_keeps_kinds()
     ensures { WrittenKeepsKinds }
 {}
 
-/// The ports of a header, and guards, locals, statements and actions that break no rule are sound once they are written
-/// out: over the names over which they are judged, and actions over all names of the same kinds.
+/// The ports of a header, and guards, locals, statements, actions and procedures that break no rule are sound once they
+/// are written out: over the names over which they are judged, and actions and procedures over all names of the same
+/// kinds.
 pub fn what_breaks_no_rule_is_sound()
     ensures header { HeadersAreSound }
     ensures guards { GuardsAreSound }
     ensures locals { LocalsAreSound }
     ensures statements { StatementsAreSound }
     ensures actions { ActionsAreSound }
+    ensures procedures { ProceduresAreSound }
 {}

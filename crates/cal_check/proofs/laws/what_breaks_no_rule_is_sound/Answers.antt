@@ -2,6 +2,7 @@ use Rattle.cal_check.proofs.SoundActions.{action-sound}
 use Rattle.cal_check.proofs.SoundGuards.{are-guards}
 use Rattle.cal_check.proofs.SoundHeader.{header-sound}
 use Rattle.cal_check.proofs.SoundLocals.{are-sound}
+use Rattle.cal_check.proofs.SoundRoutines.{proc-sound}
 use Rattle.cal_check.proofs.SoundStatements.{are-right}
 use Rattle.cal_check.proofs.laws.what_breaks_no_rule_is_sound.Goals as goal
 
@@ -19,3 +20,6 @@ returns-clause-actions c = action-sound
 
 pub returns-clause-header : goal.returns-clause-header
 returns-clause-header c = header-sound
+
+pub returns-clause-procedures : goal.returns-clause-procedures
+returns-clause-procedures c = proc-sound
