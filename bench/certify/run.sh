@@ -1,6 +1,7 @@
 #!/usr/bin/env bash
-# Certifies actors of 256 actions, all eligible in each state, and prints the milliseconds of each. The program is compiled with the checks of `rt try` and without its proof, which
-# would have to show that the actor is sound. It writes nothing into the checkout.
+# Certifies actors of 256 actions, all eligible in each state, and prints the milliseconds of each. The program is
+# compiled with the checks of `rt try` and without its proof, which would have to show that the actors are sound. It
+# writes nothing into the checkout.
 set -eu
 here=$(cd -- "$(dirname -- "${BASH_SOURCE[0]}")" && pwd)
 top=$(cd -- "$here/../.." && pwd)
