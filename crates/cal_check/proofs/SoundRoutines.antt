@@ -17,7 +17,7 @@ use Rattle.cal_check.specs.Constants.{stored_kind}
 use Rattle.cal_check.specs.Written.{behind_vars, statement_written, written}
 use Rattle.cal_check.specs.Statements.{names_behind, starts_broken, statement_broken}
 use Rattle.cal_check.specs.Routines.{Head, formal_judged, formal_of, formals_judged, fun_broken, fun_if, fun_inside, fun_judged, fun_of, head_judged, locals_of, proc_broken, proc_inside, proc_judged, proc_of, result_judged, single, single_type}
-use Rattle.cal_check.specs.Formed.{IsProcFormed}
+use Rattle.cal_check.specs.Formed.{AreDeclared, IsFunFormed, IsProcFormed}
 use Rattle.cal_check.specs.Laws.{AreAlike, ConstantsFit}
 use Rattle.cal_check.proofs.Fine.{if-none, none-of}
 use Rattle.cal_check.proofs.SameNames.{same}
@@ -89,3 +89,57 @@ proc-sound (tree.procedure (tree.ident name place) formals vars body at) procs n
     (proc-made name fs.0 vars body procs names m (are-formals formals names fs.0 fs.1) f fit alike inside
     (subst (λ x. AreDistinct (map (λ y. y.name) (x.formals ++ x.locals))) (sym same) d))
 proc-sound other procs names m q f fit alike e h d = absurd f
+
+-- ---- functions
+
+-- a head, and the size of its result
+head-is : (name formals result vars body : Tree) (at : ℕ) (names : Names) (head : Head) → head_judged (tree.function name formals result vars body at) names ≡ Fine head
+    → Each IsFormal head.formals × IsSize head.result
+head-is name formals result vars body at names head h =
+    let fs = split (formals_judged formals names) (λ fs. result_judged result fs names) head h in
+    let t = split (single_type result (with_locals fs.0 names)) (λ t. Fine (record { formals = fs.0; result = t })) head fs.2 in
+    subst (λ x. Each IsFormal x.formals × IsSize x.result) (fine-is (record { formals = fs.0; result = t.0 }) head t.2)
+    (are-formals formals names fs.0 fs.1, single-size result (with_locals fs.0 names) t.0 t.1)
+
+fun-made : (full : List ℕ) (head : Head) (vars body : Tree) (names m : Names) → Each IsFormal head.formals → IsSize head.result → AreDeclared vars → ConstantsFit names → AreAlike names m
+    → starts_broken vars (with_locals head.formals names)
+    ++ if_fine (names_behind vars (with_locals head.formals names)) (λ inner. broken (stored_kind (kind_of_scalar head.result) body inner)) ≡ []
+    → AreDistinct (map (λ x. x.name) (head.formals ++ locals_of vars (with_locals head.formals names)))
+    → IsFun m (fun_of full head vars body names) × (fun_if (names_behind vars (with_locals head.formals names)) full head vars body names ≡ fun_of full head vars body names)
+fun-made full head vars body names m formals size f fit alike h d =
+    let n : Names = with_locals head.formals names in
+    let fit_n : ConstantsFit n = fit-locals head.formals names fit in
+    let alike_n : AreAlike n (with_locals head.formals m) = with-locals-alike head.formals names m alike in
+    let two = none-of (starts_broken vars n) (if_fine (names_behind vars n) (λ inner. broken (stored_kind (kind_of_scalar head.result) body inner))) h in
+    let i = if-none (names_behind vars n) (λ inner. broken (stored_kind (kind_of_scalar head.result) body inner)) two.1 in
+    let s = are-sound vars n i.0 f fit_n i.1 two.0 in
+    let w = of-kind (kind_of_scalar head.result) body i.0 s.fit i.2 in
+    let m_inner : Names = with_locals (locals_of vars n) (with_locals head.formals m) in
+    let inner_alike : AreAlike i.0 m_inner =
+    subst (λ x. AreAlike x m_inner) s.is_with (with-locals-alike (locals_of vars n) n (with_locals head.formals m) alike_n) in (
+      record {
+        formals = formals;
+        locals = locals-same (locals_of vars n) n (with_locals head.formals m) alike_n s.are_locals;
+        distinct = d;
+        result = size;
+        body = subst (λ x. kind (written body x) m_inner ≡ Fine (kind_of_scalar head.result)) (sym s.is_behind)
+            (sym (same (written body i.0) i.0 m_inner inner_alike w.bare) ∙ w.same);
+        plain = subst (λ x. IsPlain (written body x)) (sym s.is_behind) w.bare;
+      },
+      ap (λ j. fun_if j full head vars body names) i.1,
+    )
+
+pub fun-sound : (full : List ℕ) (decl : Tree) (names m : Names) (g : Fun) → IsFunFormed decl → ConstantsFit names → AreAlike names m → fun_judged full decl names ≡ Fine g
+    → fun_broken decl names ≡ [] → AreDistinct (map (λ x. x.name) (g.formals ++ g.locals)) → IsFun m g
+fun-sound full (tree.function name formals result vars body at) names m g f fit alike e h d =
+    let decl : Tree = tree.function name formals result vars body at in
+    let head = split (head_judged decl names) (λ head. Fine (fun_if (names_behind vars (with_locals head.formals names)) full head vars body names)) g e in
+    let is = head-is name formals result vars body at names head.0 head.1 in
+    let inside = while-none (head_judged decl names) head.0 (λ head. fun_inside decl names head) head.1 h in
+    let found : fun_if (names_behind vars (with_locals head.0.formals names)) full head.0 vars body names ≡ g = fine-is _ g head.2 in
+    let two = none-of (starts_broken vars (with_locals head.0.formals names)) _ inside in
+    let i = if-none (names_behind vars (with_locals head.0.formals names)) (λ inner. broken (stored_kind (kind_of_scalar head.0.result) body inner)) two.1 in
+    let made : fun_of full head.0 vars body names ≡ g = sym (ap (λ j. fun_if j full head.0 vars body names) i.1) ∙ found in
+    let d_made = subst (λ x. AreDistinct (map (λ y. y.name) (x.formals ++ x.locals))) (sym made) d in
+    subst (λ x. IsFun m x) made (fun-made full head.0 vars body names m is.0 is.1 f fit alike inside d_made).0
+fun-sound full other names m g f fit alike e h d = absurd f

@@ -47,3 +47,7 @@ abbrev pub IsProcFormed : Tree → Type 0
 IsProcFormed (tree.procedure (tree.ident name place) formals vars body at) =
     AreDeclared vars × AreFormed body
 IsProcFormed other = ⊥
+
+abbrev pub IsFunFormed : Tree → Type 0
+IsFunFormed (tree.function name formals result vars body at) = AreDeclared vars
+IsFunFormed other = ⊥

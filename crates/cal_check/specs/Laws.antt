@@ -9,14 +9,14 @@ use Rattle.cal_model.specs.Outcome.{Gives}
 use Rattle.cal_model.specs.Actor.{Action, Actor, Fun, Port, Proc}
 use Rattle.cal_model.specs.Call.{fun_named}
 use Rattle.cal_model.specs.Kinding.{Fine, Known, Names, constant, kind, meant_by, type_judged}
-use Rattle.cal_model.specs.Sound.{Each, AreDistinct, AreLocals, AreStatements, IsAction, IsPlain, IsProc, max_ports, names_in_patterns, names_of, with_locals}
+use Rattle.cal_model.specs.Sound.{Each, AreDistinct, AreLocals, AreStatements, IsAction, IsFun, IsPlain, IsProc, max_ports, names_in_patterns, names_of, with_locals}
 use Rattle.cal_check.specs.Violations.{all_broken, all_fine}
 use Rattle.cal_check.specs.Written.{written, statement_written}
 use Rattle.cal_check.specs.Statements.{names_behind, starts_broken, statement_broken}
-use Rattle.cal_check.specs.Routines.{locals_of, proc_broken, proc_judged}
+use Rattle.cal_check.specs.Routines.{fun_broken, fun_judged, locals_of, proc_broken, proc_judged}
 use Rattle.cal_check.specs.Actions.{Around, action_broken, action_of, each_guard, guards_written}
 use Rattle.cal_check.specs.Ports.{each_port, header_broken}
-use Rattle.cal_check.specs.Formed.{AreDeclared, AreFormed, IsActionFormed, IsProcFormed}
+use Rattle.cal_check.specs.Formed.{AreDeclared, AreFormed, IsActionFormed, IsFunFormed, IsProcFormed}
 
 -- what a constant expression gives is a number of the language, whatever is declared inside
 abbrev pub ConstantsFit : Names → Type 0
@@ -108,3 +108,10 @@ ProceduresAreSound = (p : Tree) (procs : List Proc) (names others : Names) (foun
     → IsProcFormed p → ConstantsFit names → AreAlike names others
     → proc_judged p names ≡ Fine found → proc_broken p procs names ≡ []
     → AreDistinct (map (λ x. x.name) (found.formals ++ found.locals)) → IsProc procs others found
+
+-- a function, by the text that stands for it where it is used
+abbrev pub FunctionsAreSound : Type 0
+FunctionsAreSound = (name : List ℕ) (decl : Tree) (names others : Names) (found : Fun)
+    → IsFunFormed decl → ConstantsFit names → AreAlike names others
+    → fun_judged name decl names ≡ Fine found → fun_broken decl names ≡ []
+    → AreDistinct (map (λ x. x.name) (found.formals ++ found.locals)) → IsFun others found

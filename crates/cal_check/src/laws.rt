@@ -2,15 +2,15 @@
 //!
 //! Each law is the contract of a function that does nothing: it is proved with the crate, and can be cited.
 
-ghost use Rattle.cal_check.specs.Laws.{ActionsAreSound, GuardsAreSound, HeadersAreSound, LocalsAreSound, ProceduresAreSound, StatementsAreSound, WrittenKeepsKinds};
+ghost use Rattle.cal_check.specs.Laws.{ActionsAreSound, FunctionsAreSound, GuardsAreSound, HeadersAreSound, LocalsAreSound, ProceduresAreSound, StatementsAreSound, WrittenKeepsKinds};
 
 /// Writing out sizes and bounds keeps the kinds of expressions and types, if constants are numbers of the language.
 pub fn written_keeps_kinds()
     ensures { WrittenKeepsKinds }
 {}
 
-/// The ports of a header, and guards, locals, statements, actions and procedures that break no rule are sound once they
-/// are written out: over the names over which they are judged, and actions and procedures over all names of the same
+/// The ports of a header, and guards, locals, statements, actions, functions and procedures that break no rule are sound
+/// once they are written out: over the names over which they are judged, and the last three over all names of the same
 /// kinds.
 pub fn what_breaks_no_rule_is_sound()
     ensures header { HeadersAreSound }
@@ -18,5 +18,6 @@ pub fn what_breaks_no_rule_is_sound()
     ensures locals { LocalsAreSound }
     ensures statements { StatementsAreSound }
     ensures actions { ActionsAreSound }
+    ensures functions { FunctionsAreSound }
     ensures procedures { ProceduresAreSound }
 {}

@@ -2,7 +2,7 @@ use Rattle.cal_check.proofs.SoundActions.{action-sound}
 use Rattle.cal_check.proofs.SoundGuards.{are-guards}
 use Rattle.cal_check.proofs.SoundHeader.{header-sound}
 use Rattle.cal_check.proofs.SoundLocals.{are-sound}
-use Rattle.cal_check.proofs.SoundRoutines.{proc-sound}
+use Rattle.cal_check.proofs.SoundRoutines.{fun-sound, proc-sound}
 use Rattle.cal_check.proofs.SoundStatements.{are-right}
 use Rattle.cal_check.proofs.laws.what_breaks_no_rule_is_sound.Goals as goal
 
@@ -23,3 +23,6 @@ returns-clause-header c = header-sound
 
 pub returns-clause-procedures : goal.returns-clause-procedures
 returns-clause-procedures c = proc-sound
+
+pub returns-clause-functions : goal.returns-clause-functions
+returns-clause-functions c = fun-sound
