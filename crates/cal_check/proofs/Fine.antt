@@ -1,12 +1,12 @@
 -- Parts of which none is broken.
-use Rattle.std.proofs.Common.{◌≡◌, ℕ, Bool, true, false, List, [], ◌∷◌, ◌++◌, map, refl, sym, ap, ◌∙◌, Option, None, Some}
+use Rattle.std.proofs.Common.{◌≡◌, ℕ, Bool, true, false, List, [], ◌∷◌, ◌++◌, map, refl, sym, ap, ◌∙◌, Some}
 use Rattle.rvc_base.specs.declared.refusal.Rule.{Rule}
 use Rattle.cal_ast.specs.Tree.{Tree}
 use Rattle.cal_model.specs.Value.{Kind}
-use Rattle.cal_model.specs.Kinding.{Judged, Fine, Broken, Names, and_so, kind}
+use Rattle.cal_model.specs.Kinding.{Judged, Fine, Broken, Names, kind}
 use Rattle.cal_model.proofs.KindValues.{split, one-kind}
 use Rattle.cal_ast.specs.Places.{begins}
-use Rattle.cal_check.specs.Violations.{Violation, violation, unless, broken, fine, if_fine, while_fine, all_broken, and_all, all_fine}
+use Rattle.cal_check.specs.Violations.{Violation, unless, broken, fine, if_fine, all_broken, and_all, all_fine}
 use Rattle.cal_check.specs.Constants.{stored_kind}
 
 pub not-none : (v : Violation) (vs : List Violation) → v ∷ vs ≡ [] → ⊥

@@ -1,5 +1,5 @@
 -- What is written out keeps its kind, if what must be constant gives numbers of the language.
-use Rattle.std.proofs.Common.{◌≡◌, ℕ, zero, suc, ◌*◌, Bool, true, false, not, List, [], ◌∷◌, ◌++◌, ℤ, pos, negsuc, ◌-ℤ◌, refl, sym, ap, subst, ◌∙◌, arith, Option, None, Some}
+use Rattle.std.proofs.Common.{◌≡◌, ℕ, zero, suc, ◌*◌, Bool, true, false, List, [], ◌∷◌, ℤ, pos, negsuc, ◌-ℤ◌, refl, sym, ap, subst, ◌∙◌, arith, Option, None, Some}
 use Rattle.std.specs.Prelude.{if◌then◌else◌, neg_ℤ}
 use Rattle.std.proofs.lemmas.Int.{ints}
 use Rattle.rvc_base.specs.Arithmetic.{Computed, whole}
@@ -19,10 +19,10 @@ use Rattle.cal_model.specs.Env.{Env}
 use Rattle.cal_model.specs.Expression.{Calls, computed, prefixed, with_right, eval, span}
 use Rattle.cal_model.specs.Actor.{Local, Fun}
 use Rattle.cal_model.specs.Call.{fun_named}
-use Rattle.cal_model.specs.Kinding.{Judged, Fine, Broken, Known, Names, Argument, OfShape, OfSize, and_so, kind, kinds, arguments_fit, elements_in, type_judged, type_arguments, type_with, constant, constant_number, number_given, with_counters, with_known, counter, is_word, one_kind, counts, list_kind, list_of_kind, item_kind, branch_kind, prefix_kind, binary_kind}
+use Rattle.cal_model.specs.Kinding.{Judged, Fine, Broken, Names, Argument, OfShape, OfSize, and_so, kind, kinds, arguments_fit, elements_in, type_judged, type_arguments, type_with, constant, constant_number, number_given, with_counters, with_known, counter, is_word, one_kind, counts, list_kind, list_of_kind, item_kind, branch_kind, prefix_kind, binary_kind}
 use Rattle.cal_model.proofs.Numbers.{num-is, is-num}
 use Rattle.cal_model.proofs.KindValues.{not-fine, fine-is, split, tested}
-use Rattle.cal_check.specs.Written.{number_tree, by_number, constant_written, written, gens_written}
+use Rattle.cal_check.specs.Written.{number_tree, constant_written, written, gens_written}
 use Rattle.cal_check.specs.Laws.{ConstantsFit}
 use Rattle.cal_check.proofs.PlainTrees.{by-number, fun-called}
 

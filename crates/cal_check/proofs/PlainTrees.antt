@@ -1,5 +1,5 @@
 -- What is written out is plain: each size and each bound is a number.
-use Rattle.std.proofs.Common.{◌≡◌, ℕ, suc, Bool, true, false, List, [], ◌∷◌, ℤ, pos, negsuc, refl, sym, ap, subst, ◌∙◌, Option, None, Some}
+use Rattle.std.proofs.Common.{◌≡◌, ℕ, suc, Bool, true, false, List, [], ◌∷◌, ℤ, pos, negsuc, refl, sym, ap, subst, Option, None, Some}
 use Rattle.std.specs.Prelude.{if◌then◌else◌}
 use Rattle.rvc_base.specs.Width.{is_num}
 use Rattle.rvc_base.specs.Rules.{unknown_name, wrong_kind}

@@ -1,21 +1,21 @@
 -- A plain tree has one kind over all names of the same kinds: it needs no constant of them.
-use Rattle.std.proofs.Common.{◌≡◌, ℕ, ◌*◌, Bool, true, false, List, [], ◌∷◌, ◌++◌, ℤ, refl, sym, ap, subst, ◌∙◌, Option, None, Some}
+use Rattle.std.proofs.Common.{◌≡◌, ℕ, ◌*◌, Bool, true, false, List, [], ◌∷◌, refl, sym, ap, ◌∙◌, Option, None, Some}
 use Rattle.std.specs.Prelude.{if◌then◌else◌}
 use Rattle.std.specs.Str.{bytes_eq}
 use Rattle.rvc_base.specs.Turns.{max_turns}
-use Rattle.rvc_base.specs.Rules.{unknown_name, wrong_kind, wrong_number_of_arguments}
+use Rattle.rvc_base.specs.Rules.{unknown_name, wrong_number_of_arguments}
 use Rattle.cal_ast.specs.declared.expr.PrefixOp.TheVariants.{Neg}
 use Rattle.cal_ast.specs.declared.expr.BinOp.TheVariants.{Sub}
 use Rattle.cal_ast.specs.Places.{begins}
 use Rattle.cal_ast.specs.Tree as tree
 use Rattle.cal_ast.specs.Tree.{Tree}
-use Rattle.cal_model.specs.Value.{Kind, NumKind, Shape, Value, kind_of_scalar, kind_of_type}
+use Rattle.cal_model.specs.Value.{Kind, NumKind, Value, kind_of_scalar, kind_of_type}
 use Rattle.cal_model.specs.Outcome.{Out, Gives, Traps, Lacks, Clashes, and_then}
 use Rattle.cal_model.specs.Env.{Env}
 use Rattle.cal_model.specs.Expression.{Calls, applied, eval, prefixed, span, with_right}
 use Rattle.cal_model.specs.Actor.{Local, Fun}
 use Rattle.cal_model.specs.Call.{fun_named}
-use Rattle.cal_model.specs.Kinding.{Judged, Fine, Broken, Known, Names, Argument, OfShape, OfSize, and_so, kind, kinds, arguments_fit, elements_in, type_judged, type_arguments, type_with, constant_number, number_given, known_as, meant_by, with_counters, with_known, counter, is_word, one_kind, counts, list_kind, list_of_kind, item_kind, branch_kind, prefix_kind, binary_kind}
+use Rattle.cal_model.specs.Kinding.{Judged, Fine, Broken, Known, Names, OfShape, OfSize, and_so, kind, kinds, arguments_fit, elements_in, type_judged, type_arguments, type_with, constant_number, number_given, meant_by, with_counters, with_known, counter, is_word, one_kind, counts, list_kind, list_of_kind, item_kind, branch_kind, prefix_kind, binary_kind}
 use Rattle.cal_model.specs.Sound.{IsPlain, IsWrittenOut}
 use Rattle.cal_check.specs.Laws.{AreAlike, IsFunLike, IsKnownLike}
 

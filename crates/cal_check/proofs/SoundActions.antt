@@ -4,22 +4,22 @@ use Rattle.rvc_base.specs.Rules.{wrong_initialize}
 use Rattle.cal_ast.specs.Tree as tree
 use Rattle.cal_ast.specs.Tree.{Tree}
 use Rattle.cal_model.specs.Value.{Kind}
-use Rattle.cal_model.specs.Actor.{Action, Actor, Output, Pattern, Port}
+use Rattle.cal_model.specs.Actor.{Actor, Pattern}
 use Rattle.cal_model.specs.Selection.{kind_of_port}
-use Rattle.cal_model.specs.Kinding.{Fine, Known, Names, with_known}
-use Rattle.cal_model.specs.Sound.{AreDistinct, AreStatements, Each, IsAction, IsOutput, IsPlain, kind_of_tokens, names_in_patterns, names_of, with_locals, with_pattern, with_patterns}
-use Rattle.cal_check.specs.Violations.{Violation, all_broken, if_fine}
+use Rattle.cal_model.specs.Kinding.{Names, with_known}
+use Rattle.cal_model.specs.Sound.{AreDistinct, AreStatements, Each, IsAction, IsOutput, IsPlain, kind_of_tokens, names_of, with_locals, with_pattern, with_patterns}
+use Rattle.cal_check.specs.Violations.{Violation, all_broken}
 use Rattle.cal_check.specs.Written.{behind_vars, statement_written}
 use Rattle.cal_check.specs.Statements.{names_behind, starts_broken, statement_broken}
 use Rattle.cal_check.specs.Routines.{locals_of}
-use Rattle.cal_check.specs.Actions.{action_broken, action_if, action_of, action_with, behind_patterns, body_of, each_guard, guard_allowed, guards_written, inside_broken, is_without, or_none, outputs_broken, outputs_fine, patterns_broken, patterns_fine, with_all_patterns}
+use Rattle.cal_check.specs.Actions.{action_broken, action_if, action_of, action_with, behind_patterns, body_of, each_guard, guard_allowed, guards_written, inside_broken, or_none, outputs_broken, outputs_fine, patterns_broken, patterns_fine, with_all_patterns}
 use Rattle.cal_check.specs.Formed.{AreFormed, IsActionFormed}
 use Rattle.cal_check.specs.Laws.{AreAlike, ConstantsFit, HasDistinctNames, around_in}
 use Rattle.cal_check.proofs.Fine.{if-none, none-of, unless-true}
 use Rattle.cal_check.proofs.SoundGuards.{are-guards}
-use Rattle.cal_check.proofs.SoundLocals.{AreSound, are-sound}
-use Rattle.cal_check.proofs.SoundStatements.{AreRight, are-right}
-use Rattle.cal_check.proofs.SoundPorts.{AreOutputs, ArePatterns, outputs-sound, patterns-sound}
+use Rattle.cal_check.proofs.SoundLocals.{are-sound}
+use Rattle.cal_check.proofs.SoundStatements.{are-right}
+use Rattle.cal_check.proofs.SoundPorts.{ArePatterns, outputs-sound, patterns-sound}
 use Rattle.cal_check.proofs.SameParts.{each-of, guard-same, locals-same, output-same, statements-same, with-locals-alike, with-patterns-alike}
 
 -- ---- names inside

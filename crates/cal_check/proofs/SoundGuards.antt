@@ -1,10 +1,10 @@
 -- Guards of which none breaks a rule.
-use Rattle.std.proofs.Common.{◌≡◌, List, [], ◌∷◌}
+use Rattle.std.proofs.Common.{◌≡◌, []}
 use Rattle.cal_ast.specs.Tree as tree
 use Rattle.cal_ast.specs.Tree.{Tree}
 use Rattle.cal_model.specs.Value.{BoolKind}
-use Rattle.cal_model.specs.Kinding.{Fine, Names, kind}
-use Rattle.cal_model.specs.Sound.{Each, IsPlain}
+use Rattle.cal_model.specs.Kinding.{Names}
+use Rattle.cal_model.specs.Sound.{Each}
 use Rattle.cal_check.specs.Violations.{broken, all_broken}
 use Rattle.cal_check.specs.Actions.{each_guard, guards_written}
 use Rattle.cal_check.specs.Statements.{test_judged}

@@ -1,5 +1,5 @@
 -- Ports of a header of which none breaks a rule.
-use Rattle.std.proofs.Common.{◌≡◌, ℕ, suc, ◌≤◌, Bool, true, false, List, [], ◌∷◌, ◌++◌, length, map, refl, sym, ap, subst, ◌∙◌, Option, None, Some}
+use Rattle.std.proofs.Common.{◌≡◌, ℕ, suc, ◌≤◌, Bool, true, false, List, [], ◌∷◌, ◌++◌, length, map, refl, sym, ap, subst, ◌∙◌, Some}
 use Rattle.std.specs.Prelude.{nat_le, if◌then◌else◌, ◌==◌}
 use Rattle.std.proofs.lemmas.Bool.{leb-true}
 use Rattle.rvc_base.specs.declared.refusal.Rule.{Rule}
@@ -9,10 +9,10 @@ use Rattle.rvc_base.specs.Storing.{IsSize}
 use Rattle.cal_ast.specs.Places.{begins}
 use Rattle.cal_ast.specs.Tree as tree
 use Rattle.cal_ast.specs.Tree.{Tree}
-use Rattle.cal_model.specs.Value.{IsType, Shape, Single, Many}
+use Rattle.cal_model.specs.Value.{Shape, Single, Many}
 use Rattle.cal_model.specs.Actor.{Port}
 use Rattle.cal_model.specs.Rates.{parts}
-use Rattle.cal_model.specs.Kinding.{Judged, Fine, Broken, Names, and_so, type_judged}
+use Rattle.cal_model.specs.Kinding.{Judged, Fine, Broken, Names, type_judged}
 use Rattle.cal_model.specs.Sound.{AreDistinct, Each, max_ports}
 use Rattle.cal_model.proofs.KindValues.{not-fine, fine-is, split}
 use Rattle.cal_model.proofs.KindLaws.{judged-type}

@@ -1,19 +1,18 @@
 -- Variables that are declared inside, of which none breaks a rule.
-use Rattle.std.proofs.Common.{◌≡◌, ℕ, Bool, true, false, List, [], ◌∷◌, ◌++◌, refl, sym, ap, subst, ◌∙◌, Option, None, Some}
-use Rattle.cal_ast.specs.Places.{begins}
+use Rattle.std.proofs.Common.{◌≡◌, ℕ, Bool, List, [], ◌∷◌, refl, sym, ap, subst, ◌∙◌, Option, None}
 use Rattle.cal_ast.specs.Tree as tree
 use Rattle.cal_ast.specs.Tree.{Tree}
-use Rattle.cal_model.specs.Value.{Kind, Shape, IsType, kind_of_type}
+use Rattle.cal_model.specs.Value.{Shape, kind_of_type}
 use Rattle.cal_model.specs.Actor.{Local}
 use Rattle.cal_model.specs.Kinding.{Judged, Fine, Broken, Known, Names, kind, type_judged, with_known}
-use Rattle.cal_model.specs.Sound.{AreLocals, AreVars, IsPlain, IsVarStart, StartHasKind, kind_of_judged, known_local, names_of_vars, with_locals, with_vars_known}
+use Rattle.cal_model.specs.Sound.{AreLocals, AreVars, IsPlain, IsVarStart, StartHasKind, kind_of_judged, names_of_vars, with_locals, with_vars_known}
 use Rattle.cal_model.proofs.KindValues.{not-fine, fine-is, split}
 use Rattle.cal_model.proofs.KindLaws.{judged-type}
-use Rattle.cal_check.specs.Violations.{Violation, while_fine}
+use Rattle.cal_check.specs.Violations.{while_fine}
 use Rattle.cal_check.specs.Constants.{stored_kind}
 use Rattle.cal_check.specs.Written.{written, with_inner, vars_written, behind_vars}
-use Rattle.cal_check.specs.Statements.{behind, names_behind, start_broken, starts_broken, type_of_var, var_broken}
-use Rattle.cal_check.specs.Routines.{local_of, locals_of, shape_of, start_of}
+use Rattle.cal_check.specs.Statements.{behind, names_behind, start_broken, starts_broken, var_broken}
+use Rattle.cal_check.specs.Routines.{locals_of, shape_of, start_of}
 use Rattle.cal_check.specs.Formed.{AreDeclared, IsOptional}
 use Rattle.cal_check.specs.Laws.{ConstantsFit}
 use Rattle.cal_check.proofs.Fine.{broken-none, none-of, stored-is}

@@ -1,21 +1,20 @@
 -- Ports that patterns and outputs name, and what they send and take.
-use Rattle.std.proofs.Common.{◌≡◌, ℕ, zero, suc, ◌+◌, ◌<◌, ◌≤◌, Bool, true, false, List, [], ◌∷◌, ◌++◌, length, map, ℤ, pos, negsuc, refl, sym, ap, subst, ◌∙◌, arith, Option, None, Some}
-use Rattle.std.specs.Prelude.{if◌then◌else◌, nat_le, nat_lt, ◌&&◌, ◌==◌}
+use Rattle.std.proofs.Common.{◌≡◌, ℕ, suc, ◌+◌, ◌<◌, ◌≤◌, Bool, true, false, List, [], ◌∷◌, ◌++◌, length, map, ℤ, pos, negsuc, refl, sym, ap, subst, ◌∙◌, arith, Option, None, Some}
+use Rattle.std.specs.Prelude.{if◌then◌else◌, nat_le, nat_lt, ◌&&◌}
 use Rattle.std.specs.Str.{bytes_eq}
 use Rattle.std.proofs.lemmas.Bool.{ltb-true}
 use Rattle.rvc_base.specs.Rules.{unknown_name, wrong_kind, wrong_ports, wrong_repeat, port_named_twice}
 use Rattle.rvc_base.specs.declared.scalar.Scalar.{Scalar}
-use Rattle.cal_ast.specs.Places.{begins}
 use Rattle.cal_ast.specs.Tree as tree
 use Rattle.cal_ast.specs.Tree.{Tree}
 use Rattle.cal_model.specs.Value.{Kind}
 use Rattle.cal_model.specs.Actor.{Actor, Port, Pattern, Output}
 use Rattle.cal_model.specs.Rates.{parts, parts_times}
 use Rattle.cal_model.specs.Selection.{kind_of_port}
-use Rattle.cal_model.specs.Kinding.{Judged, Fine, Broken, Names, and_so, kind, kinds, constant_number}
-use Rattle.cal_model.specs.Sound.{AreAll, AreDistinct, Each, IsOutput, IsPattern, IsPlain, IsRepeat, kind_of_tokens, max_rate}
+use Rattle.cal_model.specs.Kinding.{Fine, Names, and_so, kind, kinds, constant_number}
+use Rattle.cal_model.specs.Sound.{AreAll, AreDistinct, Each, IsOutput, IsPattern, IsRepeat, kind_of_tokens, max_rate}
 use Rattle.cal_model.proofs.KindValues.{not-fine, fine-is, split, tested, both}
-use Rattle.cal_check.specs.Violations.{Keyed, all_broken, all_fine}
+use Rattle.cal_check.specs.Violations.{all_broken}
 use Rattle.cal_check.specs.Constants.{stored_kind}
 use Rattle.cal_check.specs.Written.{written}
 use Rattle.cal_check.specs.Ports.{Asked, each_asked, is_named, keyed_numbers, named_port, number_from, numbers_twice, port_of, ports_asked, ports_from}

@@ -1,29 +1,29 @@
 -- Functions and procedures of which none breaks a rule.
-use Rattle.std.proofs.Common.{◌≡◌, ℕ, List, [], ◌∷◌, ◌++◌, map, refl, sym, ap, subst, ◌∙◌, None}
-use Rattle.rvc_base.specs.Rules.{list_not_allowed, unknown_name}
+use Rattle.std.proofs.Common.{◌≡◌, ℕ, List, [], ◌∷◌, ◌++◌, map, refl, sym, ap, subst, ◌∙◌}
+use Rattle.rvc_base.specs.Rules.{unknown_name}
 use Rattle.rvc_base.specs.declared.scalar.Scalar.{Scalar}
 use Rattle.rvc_base.specs.Storing.{IsSize}
 use Rattle.cal_ast.specs.Places.{begins}
 use Rattle.cal_ast.specs.Tree as tree
 use Rattle.cal_ast.specs.Tree.{Tree}
-use Rattle.cal_model.specs.Value.{IsType, Shape, Single, Many, kind_of_scalar}
+use Rattle.cal_model.specs.Value.{Single, kind_of_scalar}
 use Rattle.cal_model.specs.Actor.{Fun, Local, Proc}
-use Rattle.cal_model.specs.Kinding.{Judged, Fine, Broken, Names, kind, type_judged, with_known}
+use Rattle.cal_model.specs.Kinding.{Judged, Fine, Names, kind, type_judged, with_known}
 use Rattle.cal_model.specs.Sound.{AreDistinct, AreStatements, Each, IsFormal, IsFun, IsPlain, IsProc, known_local, with_locals}
 use Rattle.cal_model.proofs.KindValues.{not-fine, fine-is, split}
 use Rattle.cal_model.proofs.KindLaws.{judged-type}
 use Rattle.cal_check.specs.Violations.{broken, if_fine, while_fine}
 use Rattle.cal_check.specs.Constants.{stored_kind}
-use Rattle.cal_check.specs.Written.{behind_vars, statement_written, written}
+use Rattle.cal_check.specs.Written.{statement_written, written}
 use Rattle.cal_check.specs.Statements.{names_behind, starts_broken, statement_broken}
-use Rattle.cal_check.specs.Routines.{Head, formal_judged, formal_of, formals_judged, fun_broken, fun_if, fun_inside, fun_judged, fun_of, head_judged, locals_of, proc_broken, proc_inside, proc_judged, proc_of, result_judged, single, single_type}
+use Rattle.cal_check.specs.Routines.{Head, formal_judged, formal_of, formals_judged, fun_broken, fun_if, fun_inside, fun_judged, fun_of, head_judged, locals_of, proc_broken, proc_inside, proc_judged, proc_of, result_judged, single_type}
 use Rattle.cal_check.specs.Formed.{AreDeclared, IsFunFormed, IsProcFormed}
 use Rattle.cal_check.specs.Laws.{AreAlike, ConstantsFit}
 use Rattle.cal_check.proofs.Fine.{if-none, none-of}
 use Rattle.cal_check.proofs.SameNames.{same}
 use Rattle.cal_check.proofs.SameParts.{locals-same, statements-same, with-locals-alike}
 use Rattle.cal_check.proofs.SoundHeader.{single-is}
-use Rattle.cal_check.proofs.SoundLocals.{AreSound, are-sound}
+use Rattle.cal_check.proofs.SoundLocals.{are-sound}
 use Rattle.cal_check.proofs.SoundStatements.{are-right, of-kind}
 
 -- ---- heads

@@ -1,6 +1,5 @@
 -- Statements of which none breaks a rule.
 use Rattle.std.proofs.Common.{◌≡◌, ℕ, Bool, true, false, List, [], ◌∷◌, ◌++◌, refl, sym, ap, subst, ◌∙◌, Option, None, Some}
-use Rattle.std.specs.Prelude.{if◌then◌else◌}
 use Rattle.rvc_base.specs.Rules.{unknown_name, wrong_kind, wrong_number_of_arguments, constant_assigned}
 use Rattle.rvc_base.specs.declared.scalar.Scalar.TheVariants as scalar
 use Rattle.cal_ast.specs.Places.{begins}
@@ -10,11 +9,11 @@ use Rattle.cal_model.specs.Value.{Kind, NumKind, BoolKind, ListKind, Shape, Sing
 use Rattle.cal_model.specs.Actor.{Proc}
 use Rattle.cal_model.specs.Statement.{proc_named}
 use Rattle.cal_model.specs.Kinding.{Judged, Fine, Broken, Known, Names, and_so, kind, kinds, arguments_fit, meant_by, type_judged, counts, with_known, counter}
-use Rattle.cal_model.specs.Sound.{AreDistinct, AreStatements, IsPlain, IsStatement, MayBeAssigned, kind_inside, names_of_vars, with_vars_known}
+use Rattle.cal_model.specs.Sound.{AreDistinct, AreStatements, IsPlain, IsStatement, MayBeAssigned, kind_inside, names_of_vars}
 use Rattle.cal_model.proofs.KindValues.{not-fine, fine-is, split}
-use Rattle.cal_check.specs.Violations.{Violation, broken, if_fine, unless}
+use Rattle.cal_check.specs.Violations.{broken, if_fine, unless}
 use Rattle.cal_check.specs.Constants.{stored_kind}
-use Rattle.cal_check.specs.Written.{written, statement_written, vars_written, behind_vars}
+use Rattle.cal_check.specs.Written.{written, statement_written, behind_vars}
 use Rattle.cal_check.specs.Statements.{as_many, assigned_kind, assignment_judged, call_judged, counter_judged, kind_at_places, may_be_assigned, names_behind, starts_broken, statement_broken, test_judged}
 use Rattle.cal_check.specs.Formed.{AreFormed, IsFormed}
 use Rattle.cal_check.specs.Laws.{ConstantsFit}
