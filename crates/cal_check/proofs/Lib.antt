@@ -1,1 +1,14 @@
 mod Rows
+mod Fine
+mod PlainTrees
+mod KeptKinds
+mod SoundLocals
+mod SoundStatements
+mod SoundGuards
+mod Distinct
+mod SoundPorts
+mod SameNames
+mod SameParts
+mod SoundActions
+mod SoundHeader
+mod SoundRoutines

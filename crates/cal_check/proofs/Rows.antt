@@ -266,6 +266,13 @@ list_formal : breaks (with_ports [] (tree.function (name (codes "f") 60)
     ≡ found 408 62 ∷ []
 list_formal = refl
 
+-- a size of a formal that isn't constant: it is said, though nothing else breaks a rule
+sized_by_a_variable : breaks (with_ports [] (var (codes "a") (tree.number 3 30) 20 ∷ tree.function (name (codes "f") 60)
+    (listed (formal (tree.type_of (name (codes "uint") 62) (listed (tree.value_arg (name (codes "size") 67) (tree.variable (codes "a") 72) ∷ [])) 62) 62 ∷ []))
+    (number 75) tree.nil (tree.number 1 95) 50 ∷ []))
+    ≡ found 409 72 ∷ []
+sized_by_a_variable = refl
+
 -- ---- actions, schedules and priorities
 
 abbrev tag_at : List ℕ → ℕ → Tree

@@ -2,7 +2,7 @@
 -- patterns, guards, output expressions).
 --
 -- Patterns are judged first, since all else sees their variables: if one breaks a rule, nothing behind them is judged.
--- Not trusted: no promise is read with it.
+-- Trusted: part of what a promise means.
 use Rattle.std.specs.Prelude.{ℕ, Bool, true, false, ◌&&◌, List, [], ◌∷◌, ◌++◌, nat_le, ℤ, pos, negsuc, Option, None, Some, if◌then◌else◌}
 use Rattle.rvc_base.specs.declared.scalar.Scalar.{Scalar}
 use Rattle.rvc_base.specs.Rules.{wrong_repeat, wrong_initialize}

@@ -382,13 +382,22 @@ behind_variables s gs owner around =
 abbrev pub has_heads : Source → Around → Bool
 has_heads s around = is_empty (heads_found s around.names)
 
+-- those that are said, or all if none is
+abbrev pub said_or_all : List Found → List Found → List Found
+said_or_all [] all = all
+said_or_all (f ∷ fs) all = f ∷ fs
+
+abbrev pub all_found : Source → List Given → Spot → Around → List Found
+all_found s gs owner around = (all_valued s gs owner).breaks ++ behind_variables s gs owner around
+
 -- The rules that an actor breaks, over the values that are given to its parameters; `owner` is the place of a parameter
 -- without value. Nothing is said of what isn't constant if some head breaks a rule, and nothing behind the variables
--- if one of them has no value that is of use.
+-- if one of them has no value that is of use; but all is said if else nothing were.
 abbrev pub violations_over : Source → List Given → Spot → Around → List Found
 violations_over s gs owner around =
-    all_said (not (has_heads s around)) ((all_valued s gs owner).breaks
-    ++ all_said (all_valued s gs owner).useless (behind_variables s gs owner around))
+    said_or_all (all_said (not (has_heads s around)) ((all_valued s gs owner).breaks
+    ++ all_said (all_valued s gs owner).useless (behind_variables s gs owner around)))
+    (all_found s gs owner around)
 
 abbrev pub violations : Source → List Given → Spot → List Found
 violations s gs owner = violations_over s gs owner (around_of s gs owner)

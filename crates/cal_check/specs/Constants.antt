@@ -2,7 +2,7 @@
 --
 -- A name that is declared later is known and isn't constant yet: an expression that must be constant and uses it isn't
 -- constant, and is named whole.
--- Not trusted: no promise is read with it.
+-- Trusted: part of what a promise means.
 use Rattle.std.specs.Prelude.{ℕ, Bool, true, false, ◌||◌, ◌==◌, List, [], ◌∷◌, ◌++◌, Option, None, Some, pos, if◌then◌else◌}
 use Rattle.rvc_base.specs.Rules.{unknown_name, constant_traps, not_constant}
 use Rattle.cal_ast.specs.Places.{begins}

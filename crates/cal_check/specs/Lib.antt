@@ -8,3 +8,5 @@ pub mod Ports
 pub mod Actions
 pub mod Schedules
 pub mod Actors
+pub mod Laws
+pub mod Formed

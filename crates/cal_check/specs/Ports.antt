@@ -1,6 +1,6 @@
 -- Ports of an actor's header, and which port a pattern or an output means (ISO/IEC 23001-4, RVC-CAL: ports, input
 -- patterns and output expressions).
--- Not trusted: no promise is read with it.
+-- Trusted: part of what a promise means.
 use Rattle.std.specs.Prelude.{ℕ, suc, Bool, true, false, List, [], ◌∷◌, ◌++◌, length, nat_le, nat_lt, ◌==◌, Option, None, Some, if◌then◌else◌}
 use Rattle.std.specs.Str.{bytes_eq}
 use Rattle.rvc_base.specs.Rules.{unknown_name, port_named_twice, wrong_ports, too_many_ports}

@@ -2,7 +2,7 @@
 --
 -- Statements don't depend on each other, so what each breaks is named. Variables that are declared inside go in order: if
 -- the type of one breaks a rule, nothing behind it is judged.
--- Not trusted: no promise is read with it.
+-- Trusted: part of what a promise means.
 use Rattle.std.specs.Prelude.{ℕ, Bool, List, [], ◌∷◌, ◌++◌, Option, None, Some, if◌then◌else◌}
 use Rattle.rvc_base.specs.Rules.{unknown_name, wrong_kind, constant_assigned, wrong_number_of_arguments}
 use Rattle.cal_ast.specs.Places.{begins}

@@ -1,5 +1,5 @@
 -- Rules that are broken, and lists of parts that are judged.
--- Not trusted: no promise is read with it.
+-- Trusted: part of what a promise means.
 use Rattle.std.specs.Prelude.{ℕ, Bool, true, false, List, [], ◌∷◌, ◌++◌, ◌==◌, Option, None, Some, if◌then◌else◌}
 use Rattle.rvc_base.specs.declared.refusal.Rule.{Rule}
 use Rattle.rvc_base.specs.Rules.{not_constant}

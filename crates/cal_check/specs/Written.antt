@@ -1,6 +1,6 @@
 -- Expressions, types and statements with their sizes and bounds written out: each size of a type and each bound of a
 -- generator is a number, with `-` before it if it is below 0. They have the same values.
--- Not trusted: no promise is read with it.
+-- Trusted: part of what a promise means.
 use Rattle.std.specs.Prelude.{ℕ, suc, None, ℤ, pos, negsuc, if◌then◌else◌}
 use Rattle.rvc_base.specs.Width.{is_num}
 use Rattle.cal_ast.specs.declared.expr.PrefixOp.TheVariants.{Neg}

@@ -1,5 +1,5 @@
 -- What the first failure says of the actor, whichever test of its priorities it was sought by.
-use Rattle.std.proofs.Common.{◌≡◌, ℕ, zero, suc, ◌+◌, ◌-◌, ◌<◌, ◌≤◌, Bool, true, false, List, [], ◌∷◌, ◌++◌, length, refl, sym, ap, subst, ◌∙◌, arith}
+use Rattle.std.proofs.Common.{◌≡◌, ℕ, zero, suc, ◌-◌, ◌<◌, Bool, List, [], ◌++◌, length, refl, sym, ap, ◌∙◌}
 use Rattle.std.specs.Prelude.{◌&&◌, ◌||◌, Option, None, Some, if◌then◌else◌, slice_get}
 use Rattle.priority_order.specs.Ranking.{Ranking, is_above}
 use Rattle.cal_model.specs.Actor.{Action, Actor}
@@ -9,7 +9,7 @@ use Rattle.cal_model.specs.Certified.{IsCertified}
 use Rattle.determinacy_cert.specs.declared.fault.Reason.{Reason}
 use Rattle.determinacy_cert.specs.declared.fault.Reason.TheVariants.{C1, C2}
 use Rattle.determinacy_cert.specs.Deciding.{guards_exclude, needs_no_more}
-use Rattle.determinacy_cert.specs.Failing.{Failure, two_judged, pair_judged, failed, each_from, action_failures, pair_failures, pairs_failures, state_failures, all_states, failures, first}
+use Rattle.determinacy_cert.specs.Failing.{Failure, two_judged, failed, each_from, action_failures, pair_failures, pairs_failures, state_failures, all_states, failures, first}
 use Rattle.determinacy_cert.specs.Judging.{IsPriority}
 use Rattle.determinacy_cert.proofs.Firsts.{no_first}
 use Rattle.determinacy_cert.proofs.Keys.{one_test}

@@ -1,23 +1,19 @@
 -- The automaton and the order that an actor's schedule and priorities make.
-use Rattle.std.proofs.Common.{◌≡◌, ◌≢◌, ℕ, zero, suc, ◌<◌, ◌≤◌, ◌⊎◌, inl, inr, Bool, true, false, List, [], ◌∷◌, map, length, All, Contains, refl, sym, ap, subst, ◌∙◌, arith, ⊎_elim}
-use Rattle.std.specs.Prelude.{◌↔◌, IsTrue, IsSome, not, ◌&&◌, ◌||◌, ◌==◌, max, Option, None, Some, is_some, if◌then◌else◌, slice_get, slice_index_or}
+use Rattle.std.proofs.Common.{◌≡◌, ℕ, zero, suc, ◌<◌, ◌⊎◌, inl, inr, Bool, true, false, List, [], ◌∷◌, map, length, Contains, refl, sym, ap, subst, ◌∙◌, arith, ⊎_elim}
+use Rattle.std.specs.Prelude.{not, ◌&&◌, ◌||◌, ◌==◌, Option, None, Some, is_some, if◌then◌else◌, slice_get, slice_index_or}
 use Rattle.std.proofs.lemmas.Bool.{eqb-true, eq-eqb}
-use Rattle.rvc_base.specs.Chain.{IsAbove}
-use Rattle.schedule_fsm.specs.Automaton.{Automaton, target}
 use Rattle.schedule_fsm.specs.declared.fsm.Step.{Step}
-use Rattle.schedule_fsm.specs.Leads.{Leads, IsFree, StepLeads, HasTwoTargets}
-use Rattle.cal_model.specs.declared.bound.Bound.{Bound}
+use Rattle.schedule_fsm.specs.Leads.{Leads, StepLeads}
 use Rattle.cal_model.specs.declared.bound.BoundMove.{BoundMove}
 use Rattle.cal_model.specs.declared.bound.BoundAction.{BoundAction}
 use Rattle.cal_model.specs.Actor.{Action, Actor, Move}
 use Rattle.cal_model.specs.Eligible.{eligible, is_empty, states_of, fresh, leads}
 use Rattle.cal_model.specs.Eligible as eligibility
-use Rattle.cal_model.specs.Sound.{Each, IsMove, IsTagged, LeadToOne}
-use Rattle.cal_model.specs.View.{action_view, move_view, actor_of}
+use Rattle.cal_model.specs.Sound.{Each, IsMove, IsTagged}
+use Rattle.cal_model.specs.View.{action_view, move_view}
 use Rattle.determinacy_cert.specs.Judging.{step_of, is_free}
 use Rattle.determinacy_cert.proofs.Ranges.{two_true}
 use Rattle.determinacy_cert.proofs.BareTrees.{both_true}
-use Rattle.determinacy_cert.proofs.NoFailures.{in_list}
 
 -- ---- moves as steps
 

@@ -1,12 +1,11 @@
 -- The tests of guards say what the rule says of them.
-use Rattle.std.proofs.Common.{◌≡◌, ℕ, Bool, true, false, List, [], ◌∷◌, refl}
+use Rattle.std.proofs.Common.{◌≡◌, Bool, true, false, List, [], ◌∷◌, refl}
 use Rattle.std.specs.Prelude.{◌&&◌, Option, None, Some, is_some, if◌then◌else◌}
 use Rattle.cal_ast.specs.Tree as tree
 use Rattle.cal_ast.specs.Tree.{Tree}
 use Rattle.cal_model.specs.Actor.{Action, Actor}
 use Rattle.cal_model.specs.Sound.{Each}
 use Rattle.cal_model.specs.Certified.{Interval, Ranged, IsBare, range, guard_names, HasTameGuards}
-use Rattle.determinacy_cert.specs.declared.fault.Reason.{Reason}
 use Rattle.determinacy_cert.specs.declared.fault.Reason.TheVariants.{C3, C4}
 use Rattle.determinacy_cert.specs.Deciding.{is_bare, are_bare, have_ranges}
 use Rattle.determinacy_cert.specs.Failing.{guards_judged}

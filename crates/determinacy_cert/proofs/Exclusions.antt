@@ -1,6 +1,6 @@
 -- The test of guards that exclude each other says what the rule says.
 use Rattle.std.proofs.Common.{◌≡◌, ℕ, ◌⊎◌, inl, inr, Bool, true, false, ℤ, List, [], ◌∷◌, ◌++◌, refl, sym, ap, subst, ◌∙◌}
-use Rattle.std.specs.Prelude.{◌&&◌, ◌||◌, neg_ℤ, pos, Option, None, Some, if◌then◌else◌}
+use Rattle.std.specs.Prelude.{◌||◌, Option, None, Some, if◌then◌else◌}
 use Rattle.cal_ast.specs.declared.expr.PrefixOp.{PrefixOp}
 use Rattle.cal_ast.specs.declared.expr.PrefixOp.TheVariants.{Not, Neg, BitNot}
 use Rattle.cal_ast.specs.declared.expr.BinOp.{BinOp}
@@ -10,7 +10,7 @@ use Rattle.cal_ast.specs.Tree as tree
 use Rattle.cal_ast.specs.Tree.{Tree}
 use Rattle.cal_model.specs.Actor.{Pattern, Action, Actor}
 use Rattle.cal_model.specs.Sound.{Each}
-use Rattle.cal_model.specs.Certified.{Interval, Ranged, range, guard_names, HasTameGuards, key_in, keyed, keyed_name, conjuncts, all_conjuncts, literal, Holds, is_comparison, Compares, CompareApart, IsNotOf, Exclude, AnyOf, GuardsExclude, IsBare}
+use Rattle.cal_model.specs.Certified.{Interval, Ranged, range, guard_names, HasTameGuards, key_in, keyed, conjuncts, all_conjuncts, literal, is_comparison, Compares, CompareApart, IsNotOf, Exclude, AnyOf, GuardsExclude, IsBare}
 use Rattle.determinacy_cert.specs.Deciding.{same, Comparison, compared_by, compared, compare_apart, denied_by, denied, is_not_of, exclude, any_of, guards_exclude, never_both}
 use Rattle.determinacy_cert.proofs.Ranges.{two_true}
 use Rattle.determinacy_cert.proofs.BareTrees.{both_true}

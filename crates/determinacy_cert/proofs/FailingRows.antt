@@ -1,15 +1,16 @@
 -- Worked examples of what the certification rule refuses, computed by its definition.
 use Rattle.std.proofs.Common.{◌≡◌, ℕ, refl, pos, List, [], ◌∷◌, Bool, true, false, codes}
-use Rattle.std.specs.Prelude.{Option, Some, None, ◌==◌, ◌&&◌}
+use Rattle.std.specs.Prelude.{Some, None, ◌==◌, ◌&&◌}
 use Rattle.rvc_base.specs.declared.scalar.Scalar.{Scalar}
 use Rattle.rvc_base.specs.declared.scalar.Scalar.TheVariants as scalar
 use Rattle.cal_ast.specs.Tree as tree
 use Rattle.cal_ast.specs.Tree.{Tree}
-use Rattle.cal_ast.specs.declared.expr.PrefixOp.TheVariants.{Not, Neg}
+use Rattle.cal_ast.specs.declared.expr.PrefixOp.TheVariants.{Not}
 use Rattle.cal_ast.specs.declared.expr.BinOp.{BinOp}
-use Rattle.cal_ast.specs.declared.expr.BinOp.TheVariants.{And, Eq, Ne, Lt, Le, Gt, Ge, Mul, Div}
+use Rattle.cal_ast.specs.declared.expr.BinOp.TheVariants.{Eq, Ne, Lt, Le, Gt, Ge, Mul, Div}
 use Rattle.cal_model.specs.Value.{Single, Num}
 use Rattle.cal_model.specs.Actor.{Port, Held, Pattern, Action, Actor, Move}
+use Rattle.cal_model.specs.Certified.{between, guard_names, range}
 use Rattle.determinacy_cert.specs.declared.fault.Reason.{Reason}
 use Rattle.determinacy_cert.specs.declared.fault.Reason.TheVariants.{C1, C2, C3, C4}
 use Rattle.determinacy_cert.specs.Deciding.{never_both, same, exclude}
@@ -66,6 +67,10 @@ squares_fail = refl
 
 squares_fit : failures (squares (scalar.Int 64)) unranked ≡ []
 squares_fit = refl
+
+-- a comparison is 0 or 1, whatever it compares
+compares_to_a_truth : range (two Lt (name_ (codes "a")) (n_ 7)) (guard_names (squares (scalar.Uint 64)) (act_ [] (takes_ 0 (codes "a" ∷ []) ∷ []) [])) ≡ Some (between (pos 0) (pos 1))
+compares_to_a_truth = refl
 
 -- a call is refused first, whatever else the guards do
 abbrev calls : Actor

@@ -1,5 +1,5 @@
 -- The trees of expressions by their forms.
-use Rattle.std.proofs.Common.{◌≡◌, ℕ, Bool, true, false, Global, Box, List, [], ◌∷◌, refl, sym, ap, ◌∙◌, rules}
+use Rattle.std.proofs.Common.{◌≡◌, ℕ, Bool, true, false, Global, Box, [], ◌∷◌, refl, sym, ap, ◌∙◌, rules}
 use Rattle.cal_ast.specs.Tree as tree
 use Rattle.cal_ast.specs.Tree.{Tree}
 use Rattle.cal_ast.specs.View.{expr_tree, form_tree}

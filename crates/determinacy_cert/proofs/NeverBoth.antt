@@ -1,5 +1,5 @@
 -- The table of comparisons says which of them no whole number meets both.
-use Rattle.std.proofs.Common.{◌≡◌, ◌≢◌, ℕ, Bool, true, false, ℤ, pos, ◌+ℤ◌, ◌-ℤ◌, ◌≤ℤ◌, ◌<ℤ◌, refl, sym, ap, subst, arith}
+use Rattle.std.proofs.Common.{◌≡◌, ◌≢◌, Bool, true, false, ℤ, pos, ◌+ℤ◌, ◌-ℤ◌, ◌≤ℤ◌, ◌<ℤ◌, refl, sym, ap, subst, arith}
 use Rattle.std.specs.Prelude.{int_le, int_lt, not, T}
 use Rattle.std.specs.Ordering.{int_eq}
 use Rattle.std.specs.Int.{int_min, int_max}
@@ -8,7 +8,7 @@ use Rattle.std.proofs.lemmas.Float.{T_from_true}
 use Rattle.std.proofs.lemmas.Bool.Decides.{Decides-int_eq}
 use Rattle.std.specs.Int.Signed.{lt_z_yes, lt_z_no, le_z_yes}
 use Rattle.cal_ast.specs.declared.expr.BinOp.{BinOp}
-use Rattle.cal_ast.specs.declared.expr.BinOp.TheVariants.{Or, And, BitOr, BitXor, BitAnd, Eq, Ne, Lt, Le, Gt, Ge, Shl, Shr, Add, Sub, Mul, Div, Mod}
+use Rattle.cal_ast.specs.declared.expr.BinOp.TheVariants.{Eq, Ne, Lt, Le, Gt, Ge}
 use Rattle.cal_model.specs.Certified.{Holds, is_comparison}
 use Rattle.determinacy_cert.specs.Deciding.{fails, never_below, never_up_to, never_above, never_from, never_besides, never_both}
 

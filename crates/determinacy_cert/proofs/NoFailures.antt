@@ -1,16 +1,16 @@
 -- No failure is listed if and only if the certification rule holds.
 use Rattle.std.proofs.Common.{◌≡◌, ◌≢◌, ℕ, zero, suc, ◌+◌, ◌-◌, ◌<◌, ◌≤◌, ◌⊎◌, inl, inr, Bool, true, false, List, [], ◌∷◌, ◌++◌, length, refl, sym, ap, subst, ◌∙◌, arith}
-use Rattle.std.specs.Prelude.{◌&&◌, ◌||◌, ◌==◌, nat_le, IsTrue, Option, None, Some, if◌then◌else◌, slice_get}
+use Rattle.std.specs.Prelude.{◌&&◌, ◌||◌, ◌==◌, nat_le, Option, None, Some, if◌then◌else◌, slice_get}
 use Rattle.std.proofs.lemmas.Bool.{eqb-true, leb-true, le-leb}
 use Rattle.cal_model.specs.Actor.{Pattern, Action, Actor}
 use Rattle.cal_model.specs.Rates.{need, taken_on}
 use Rattle.cal_model.specs.Eligible.{IsStateOf, eligible, states_of, has_initialize}
-use Rattle.cal_model.specs.Selection.{Above, Priorities}
+use Rattle.cal_model.specs.Selection.{Priorities}
 use Rattle.cal_model.specs.Certified.{HasTameGuards, GuardsExclude, IsModest, IsCertified}
 use Rattle.determinacy_cert.specs.declared.fault.Reason.{Reason}
 use Rattle.determinacy_cert.specs.declared.fault.Reason.TheVariants.{C1, C2}
 use Rattle.determinacy_cert.specs.Deciding.{guards_exclude, needs_no_more}
-use Rattle.determinacy_cert.specs.Failing.{Failure, guards_judged, action_judged, two_judged, pair_judged, failed, each_from, action_failures, pair_failures, pairs_failures, state_failures, all_states, failures}
+use Rattle.determinacy_cert.specs.Failing.{guards_judged, action_judged, two_judged, pair_judged, failed, each_from, action_failures, pair_failures, pairs_failures, state_failures, all_states, failures}
 use Rattle.determinacy_cert.proofs.Ranges.{two_true}
 use Rattle.determinacy_cert.proofs.BareTrees.{both_true, tame_if, tame_then}
 use Rattle.determinacy_cert.proofs.Exclusions.{either_true, left_true, right_true, guards_exclude_if, guards_exclude_then, exclude_both}

@@ -9,7 +9,7 @@ use Rattle.cal_model.specs.Sound.{Each, IsAction, IsPattern, IsSound}
 use Rattle.cal_model.specs.View.{action_view, actor_of}
 use Rattle.determinacy_cert.specs.declared.fault.Reason.{Reason}
 use Rattle.determinacy_cert.specs.declared.fault.Reason.TheVariants.{C1, C2}
-use Rattle.determinacy_cert.specs.Failing.{Failure, failed, pair_judged, settled, two_judged}
+use Rattle.determinacy_cert.specs.Failing.{failed, pair_judged, settled, two_judged}
 use Rattle.determinacy_cert.specs.Judging.{HavePorts}
 
 -- ---- an action of the code

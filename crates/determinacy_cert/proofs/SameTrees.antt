@@ -1,5 +1,5 @@
 -- The test of equal trees says what the rule says, of trees that have ranges.
-use Rattle.std.proofs.Common.{◌≡◌, ℕ, Bool, true, false, List, [], ◌∷◌, refl, sym, ap, subst, ◌∙◌, arith}
+use Rattle.std.proofs.Common.{◌≡◌, ℕ, Bool, true, false, List, refl, sym, ap, subst, ◌∙◌, arith}
 use Rattle.std.specs.Prelude.{◌&&◌, ◌==◌, if◌then◌else◌, Option, None, Some}
 use Rattle.std.specs.Str.{bytes_eq}
 use Rattle.std.proofs.lemmas.Bool.{eqb-true, eq-eqb}
@@ -12,7 +12,7 @@ use Rattle.cal_ast.specs.Apart.{unplaced, IsEqualApart}
 use Rattle.cal_ast.specs.Tree as tree
 use Rattle.cal_ast.specs.Tree.{Tree}
 use Rattle.cal_model.specs.Actor.{Pattern}
-use Rattle.cal_model.specs.Certified.{Interval, Ranged, range, indexed, on_interval, on_ranged, key_in, keyed, keyed_name}
+use Rattle.cal_model.specs.Certified.{Interval, Ranged, range, indexed, on_interval, on_ranged, key_in, keyed}
 use Rattle.determinacy_cert.specs.Deciding.{as_number, as_truth, as_variable, as_paren, as_if, as_index, as_prefix, as_binary, same, same_names, same_truth, prefix_number, op_number}
 use Rattle.determinacy_cert.proofs.Ranges.{two_true}
 use Rattle.determinacy_cert.proofs.BareTrees.{both_true}

@@ -1,11 +1,10 @@
 -- The range of the scalars of a list, item by item.
-use Rattle.std.proofs.Common.{◌≡◌, ℕ, suc, ◌+◌, ◌<◌, ◌≤◌, ℤ, ◌≤ℤ◌, List, [], ◌∷◌, map, length, drop, get_or, refl, sym, ap, subst, ◌∙◌, arith}
+use Rattle.std.proofs.Common.{◌≡◌, ℕ, suc, ◌+◌, ◌<◌, ◌≤◌, ℤ, ◌≤ℤ◌, List, ◌∷◌, map, length, drop, get_or, refl, sym, ap, ◌∙◌, arith}
 use Rattle.std.specs.Prelude.{Option, None, Some}
 use Rattle.std.specs.Int.{int_min, int_max}
 use Rattle.std.proofs.Math.Seq.{drop-cons}
 use Rattle.std.proofs.lemmas.Int.{ints, int_min_is, int_max_is}
 use Rattle.std.proofs.lemmas.List.{drop_all}
-use Rattle.cal_model.specs.Value.{Value as ModelValue, Values}
 use Rattle.cal_model.specs.View.{in_order, value_view}
 use Rattle.cal_model.specs.declared.value.Value.{Value}
 use Rattle.cal_model.specs.Certified.{Interval, between, hull, scalars_range, all_scalars_range}

@@ -1,24 +1,24 @@
 -- What the automaton and the order of a sound actor ask for, and what they are then.
-use Rattle.std.proofs.Common.{◌≡◌, ◌≢◌, ℕ, zero, suc, ◌<◌, ◌≤◌, Bool, true, false, List, [], ◌∷◌, map, length, All, Contains, refl, sym, ap, subst, ◌∙◌, arith}
-use Rattle.std.specs.Prelude.{◌↔◌, IsTrue, IsSome, not, ◌&&◌, ◌||◌, ◌==◌, Option, None, Some, is_some, if◌then◌else◌, slice_get, slice_index_or}
+use Rattle.std.proofs.Common.{◌≡◌, ◌≢◌, ℕ, zero, suc, ◌<◌, Bool, true, false, List, [], ◌∷◌, map, length, All, refl, sym, ap, subst, ◌∙◌, arith}
+use Rattle.std.specs.Prelude.{◌↔◌, IsTrue, not, ◌&&◌, ◌||◌, ◌==◌, Option, None, Some, is_some, slice_get, slice_index_or}
 use Rattle.std.proofs.lemmas.Bool.{eqb-true, eq-eqb}
 use Rattle.std.proofs.lemmas.List.{length-map}
-use Rattle.rvc_base.specs.Chain.{IsAbove, ChainLeads}
+use Rattle.rvc_base.specs.Chain.{IsAbove}
 use Rattle.rvc_base.specs.Line.{IsLine}
 use Rattle.schedule_fsm.specs.Automaton.{Automaton, target}
 use Rattle.schedule_fsm.specs.declared.fsm.Step.{Step}
-use Rattle.schedule_fsm.specs.Leads.{Leads, IsFree, StepLeads, HasTwoTargets}
+use Rattle.schedule_fsm.specs.Leads.{Leads, IsFree, HasTwoTargets}
 use Rattle.priority_order.specs.Ranking.{Ranking, is_above}
 use Rattle.priority_order.specs.Closed.{IsInRange}
 use Rattle.priority_order.specs.Cycle.{IsRing}
 use Rattle.cal_model.specs.declared.bound.BoundMove.{BoundMove}
 use Rattle.cal_model.specs.Actor.{Action, Actor, Move}
-use Rattle.cal_model.specs.Eligible.{eligible, is_empty, states_of}
+use Rattle.cal_model.specs.Eligible.{is_empty, states_of}
 use Rattle.cal_model.specs.Selection.{Above}
 use Rattle.cal_model.specs.Sound.{Each, IsMove, IsTagged, LeadToOne, AreTagged}
 use Rattle.cal_model.specs.View.{move_view}
 use Rattle.determinacy_cert.specs.Judging.{IsAutomaton, IsPriority, step_of, is_free}
-use Rattle.determinacy_cert.proofs.Automata.{step_as, IsMoved, step_moves, free_at, LeadsTo, leads_then, then_leads}
+use Rattle.determinacy_cert.proofs.Automata.{step_as, step_moves, free_at, leads_then, then_leads}
 use Rattle.determinacy_cert.proofs.NoFailures.{in_list}
 
 -- ---- lists

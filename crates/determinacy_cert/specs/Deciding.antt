@@ -1,6 +1,6 @@
 -- The parts of the certification rule as tests, each of which can be computed.
 -- Trusted: part of what a promise means.
-use Rattle.std.specs.Prelude.{ℕ, suc, Bool, true, false, not, ◌&&◌, ◌||◌, List, [], ◌∷◌, length, ℤ, pos, ◌+ℤ◌, int_le, int_lt, nat_le, if◌then◌else◌, Option, None, Some, is_some, ◌==◌}
+use Rattle.std.specs.Prelude.{◌≡◌, ℕ, suc, Bool, true, false, not, ◌&&◌, ◌||◌, List, [], ◌∷◌, ℤ, pos, ◌+ℤ◌, int_le, int_lt, nat_le, if◌then◌else◌, Option, None, Some, is_some, ◌==◌}
 use Rattle.std.specs.Str.{bytes_eq}
 use Rattle.std.specs.Ordering.{int_eq}
 use Rattle.rvc_base.specs.Width.{is_num}
@@ -12,7 +12,7 @@ use Rattle.cal_ast.specs.Tree as tree
 use Rattle.cal_ast.specs.Tree.{Tree}
 use Rattle.cal_model.specs.Actor.{Pattern, Action, Actor}
 use Rattle.cal_model.specs.Rates.{need}
-use Rattle.cal_model.specs.Certified.{Interval, Ranged, hull, range, key_in, literal, is_comparison, all_conjuncts}
+use Rattle.cal_model.specs.Certified.{Interval, Ranged, fitting, hull, just, on_interval, on_ranged, item_ranged, range, range_of_both, range_of_name, key_in, literal, is_comparison, all_conjuncts}
 
 -- ---- numbers
 
@@ -25,6 +25,35 @@ abbrev pub joined : Option Interval → Option Interval → Option Interval
 joined None j = j
 joined (Some i) None = Some i
 joined (Some i) (Some j) = Some (hull i j)
+
+-- the parts of an `if`, an index and an operation, whose ranges are known
+
+abbrev pub range_of_if : Option Interval → Option Interval → Option Interval → Option Interval
+range_of_if test first other =
+    on_interval test (λ c. on_interval first (λ i. on_interval other (λ j. Some (hull i j))))
+
+-- what stands in a list at a place
+abbrev pub item_at : Option Ranged → Option Interval → Option Ranged
+item_at list place = on_ranged list (λ x. on_interval place (λ i. item_ranged i x))
+
+abbrev pub range_of_item : Option Ranged → Option Interval → Option Interval
+range_of_item list place = on_ranged list
+    (λ x. on_interval place (λ i. on_ranged (item_ranged i x) (λ y. range_of_name y)))
+
+abbrev pub range_of_operands : BinOp → Option Interval → Option Interval → Option Interval
+range_of_operands op left right =
+    on_interval left (λ i. on_interval right (λ j. range_of_both op i j))
+
+-- ---- corners
+
+-- each of these is this number, if it is one of the language
+abbrev pub AreNumbered : (a b c d : Option ℤ) (w x y z : ℤ) → Type 0
+AreNumbered a b c d w x y z =
+    (a ≡ numbered w) × (b ≡ numbered x) × (c ≡ numbered y) × (d ≡ numbered z)
+
+-- the least interval that holds four numbers, if it lies within the numbers of the language
+abbrev pub corners_range : ℤ → ℤ → ℤ → ℤ → Option Interval
+corners_range w x y z = fitting (hull (hull (just w) (just x)) (hull (just y) (just z)))
 
 -- ---- names
 
@@ -278,11 +307,21 @@ abbrev pub any_of : {A : Type 0} → (A → Bool) → List A → Bool
 any_of f [] = false
 any_of f (x ∷ xs) = f x || any_of f xs
 
+-- one of these conjuncts excludes it
+abbrev pub is_excluded : Tree → List Pattern → List Tree → List Pattern → Bool
+is_excluded c qs others rs = any_of (λ d. exclude c qs d rs) others
+
+-- .. of an action's guards
+abbrev pub guards_exclude_one : Tree → List Pattern → Action → Bool
+guards_exclude_one c qs act = is_excluded c qs (all_conjuncts act.guards) act.patterns
+
+-- one of these conjuncts of an action and one of the other's guards exclude each other
+abbrev pub guards_exclude_any : List Tree → Action → Action → Bool
+guards_exclude_any cs one two = any_of (λ c. guards_exclude_one c one.patterns two) cs
+
 -- a conjunct of the one's guards and one of the other's exclude each other
 abbrev pub guards_exclude : Action → Action → Bool
-guards_exclude one two =
-    any_of (λ c. any_of (λ d. exclude c one.patterns d two.patterns) (all_conjuncts two.guards))
-    (all_conjuncts one.guards)
+guards_exclude one two = guards_exclude_any (all_conjuncts one.guards) one two
 
 -- ---- tokens
 

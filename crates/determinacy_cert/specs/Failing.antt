@@ -1,6 +1,6 @@
 -- What the certification rule refuses, in the order in which it is sought.
 -- Trusted but for `first`: part of what a promise means.
-use Rattle.std.specs.Prelude.{ℕ, zero, suc, ◌+◌, ◌-◌, Bool, ◌&&◌, ◌||◌, List, [], ◌∷◌, ◌++◌, length, if◌then◌else◌, Option, None, Some, slice_get}
+use Rattle.std.specs.Prelude.{ℕ, zero, suc, ◌-◌, Bool, ◌&&◌, ◌||◌, List, [], ◌∷◌, ◌++◌, length, if◌then◌else◌, Option, None, Some, slice_get}
 use Rattle.cal_model.specs.Actor.{Action, Actor}
 use Rattle.cal_model.specs.Eligible.{eligible, has_initialize, states_of}
 use Rattle.cal_model.specs.Certified.{guard_names}
@@ -71,11 +71,18 @@ abbrev pub pairs_failures : Actor → (ℕ → ℕ → Bool) → ℕ → ℕ →
 pairs_failures actor above s a = each_from (length actor.actions - suc a) (suc a)
     (λ b. pair_failures actor above s a b)
 
+-- those of the guards of the first n actions, and of the pairs whose first action is among these
+abbrev pub guards_failures : ℕ → Actor → ℕ → List Failure
+guards_failures n actor s = each_from n 0 (λ a. action_failures actor s a)
+
+abbrev pub all_pairs_failures : ℕ → Actor → (ℕ → ℕ → Bool) → ℕ → List Failure
+all_pairs_failures n actor above s = each_from n 0 (λ a. pairs_failures actor above s a)
+
 -- in a state first each eligible action, then the pairs of them
 abbrev pub state_failures : Actor → (ℕ → ℕ → Bool) → ℕ → List Failure
 state_failures actor above s =
-    each_from (length actor.actions) 0 (λ a. action_failures actor s a)
-    ++ each_from (length actor.actions) 0 (λ a. pairs_failures actor above s a)
+    guards_failures (length actor.actions) actor s
+    ++ all_pairs_failures (length actor.actions) actor above s
 
 -- the states of the schedule, and the fresh one if there is an `initialize`
 abbrev pub all_states : Actor → ℕ

@@ -1,6 +1,6 @@
 -- What the certifier is judged by stands for the actor's schedule and priorities.
 -- Trusted: part of what a promise means.
-use Rattle.std.specs.Prelude.{◌≡◌, ◌↔◌, ℕ, ◌+◌, ◌*◌, ◌<◌, IsTrue, IsSome, Bool, true, false, not, ◌&&◌, ◌||◌, List, [], length, slice_index_or, Option, None, Some, Result, Ok, Err}
+use Rattle.std.specs.Prelude.{◌≡◌, ◌↔◌, ℕ, ◌+◌, ◌*◌, ◌<◌, IsTrue, IsSome, Bool, true, false, not, ◌&&◌, ◌||◌, List, [], length, slice_index_or, Option, None, Some, option_map, Result, Ok, Err}
 use Rattle.rvc_base.specs.Line.{IsLine}
 use Rattle.schedule_fsm.specs.Automaton.{Automaton, target}
 use Rattle.schedule_fsm.specs.declared.fsm.Step.{Step}
@@ -18,6 +18,13 @@ use Rattle.determinacy_cert.specs.declared.certifier.Failure.{Failure as Declare
 use Rattle.determinacy_cert.specs.declared.fault.CertFault.{CertFault}
 use Rattle.determinacy_cert.specs.declared.fault.CertFault.TheVariants.{Uncertified, Memory}
 use Rattle.determinacy_cert.specs.Failing.{Failure, action_judged, pair_judged, first}
+
+-- the actor of a table, and which of its actions is above which
+abbrev pub actor_in : Table → Actor
+actor_in t = actor_of t.actor.now
+
+abbrev pub above_in : Table → ℕ → ℕ → Bool
+above_in t = is_above t.order
 
 abbrev pub step_of : BoundMove → Step
 step_of m = record { from = m.from; action = m.action; to = m.to }
@@ -68,6 +75,13 @@ pub record IsKnown (actor : Actor) (above : ℕ → ℕ → Bool) (known : Known
 
 abbrev pub failure_view : DeclaredFailure → Failure
 failure_view f = record { state = f.state; a = f.a; b = f.b; reason = f.reason }
+
+abbrev pub failure_if : Option DeclaredFailure → Option Failure
+failure_if f = option_map failure_view f
+
+-- .. of what is known of the actor of a table
+abbrev pub Knows : Table → Known → Type 0
+Knows t known = IsKnown (actor_in t) (above_in t) known
 
 -- Ok where there is no failure, else the first; out of memory says nothing
 abbrev pub Answers : Result (Unit {0}) CertFault → List Failure → Type 0

@@ -1,15 +1,15 @@
 //! The certification rule, sought through all states.
 
-ghost use Rattle.std.specs.Prelude.{◌≡◌, ◌<◌, ◌≤◌, ◌*◌, ◌&&◌, ◌||◌, true, false, IfErr, IfOk, length, map, option_map, replicate};
-ghost use Rattle.priority_order.specs.Ranking.{is_above};
+ghost use Rattle.std.specs.Prelude.{◌≡◌, ◌<◌, ◌≤◌, ◌*◌, ◌&&◌, ◌||◌, true, false, IfErr, IfOk, length, map, replicate};
 ghost use Rattle.cal_model.specs.Certified.{IsCertified};
 ghost use Rattle.cal_model.specs.Eligible.{eligible, has_initialize};
 ghost use Rattle.cal_model.specs.Selection.{Priorities};
 ghost use Rattle.cal_model.specs.Sound.{IsSound};
-ghost use Rattle.cal_model.specs.View.{action_view, actor_of, pattern_view};
+ghost use Rattle.cal_model.specs.View.{action_view, actor_of};
 ghost use Rattle.determinacy_cert.specs.Deciding.{needs_no_more};
-ghost use Rattle.determinacy_cert.specs.Failing.{action_failures, action_judged, all_states, each_from, failures, first, pair_failures, pair_judged, pairs_failures, settled, state_failures};
-ghost use Rattle.determinacy_cert.specs.Judging.{Answers, HavePorts, IsCause, IsKnown, IsTable, failure_view};
+ghost use Rattle.determinacy_cert.specs.Failing.{action_failures, action_judged, all_pairs_failures, all_states, failures, first, guards_failures, pair_failures, pair_judged, pairs_failures, settled, state_failures};
+ghost use Rattle.determinacy_cert.specs.Judging.{Answers, HavePorts, IsCause, IsTable, Knows, above_in, actor_in, failure_if};
+ghost use Rattle.determinacy_cert.specs.Viewing.{seen};
 
 use crate::fault::{CertFault, Reason};
 use crate::found::Names;
@@ -82,9 +82,9 @@ fn nothing_known(alloc: Global, actions: u16) -> Result<Known, AllocError>
 /// The first failure of all states.
 fn first_failure(t: &Table<'_>, known: &mut Known) -> Option<Failure>
     requires table { IsTable t.now }
-    requires known { IsKnown (actor_of t.now.actor.now) (is_above t.now.order) known.old }
-    ensures { option_map failure_view result
-        ≡ first (failures (actor_of t.now.actor.now) (is_above t.now.order)) }
+    requires known { Knows t.now known.old }
+    ensures { failure_if result
+        ≡ first (failures (actor_in t.now) (above_in t.now)) }
 {
     for state in 0..all_states(t) {
         if let Some(failure) = state_failure(t, known, state) {
@@ -97,7 +97,7 @@ fn first_failure(t: &Table<'_>, known: &mut Known) -> Option<Failure>
 /// How many states there are, with the fresh one of an actor with an `initialize`.
 fn all_states(t: &Table<'_>) -> u16
     requires { IsTable t.now }
-    ensures { result ≡ all_states (actor_of t.now.actor.now) }
+    ensures { result ≡ all_states (actor_in t.now) }
 {
     if has_initialize(&t.actor.actions) {
         t.states + 1
@@ -122,10 +122,10 @@ fn has_initialize(actions: &[BoundAction]) -> bool
 fn state_failure(t: &Table<'_>, known: &mut Known, state: u16) -> Option<Failure>
     requires table { IsTable t.now }
     requires state { state ≤ t.now.states }
-    requires known { IsKnown (actor_of t.now.actor.now) (is_above t.now.order) known.old }
-    ensures first { option_map failure_view result
-        ≡ first (state_failures (actor_of t.now.actor.now) (is_above t.now.order) state) }
-    ensures known { IsKnown (actor_of t.now.actor.now) (is_above t.now.order) known.new }
+    requires known { Knows t.now known.old }
+    ensures first { failure_if result
+        ≡ first (state_failures (actor_in t.now) (above_in t.now) state) }
+    ensures known { Knows t.now known.new }
 {
     match actions_failure(t, known, state) {
         Some(failure) => Some(failure),
@@ -137,11 +137,10 @@ fn state_failure(t: &Table<'_>, known: &mut Known, state: u16) -> Option<Failure
 fn actions_failure(t: &Table<'_>, known: &mut Known, state: u16) -> Option<Failure>
     requires table { IsTable t.now }
     requires state { state ≤ t.now.states }
-    requires known { IsKnown (actor_of t.now.actor.now) (is_above t.now.order) known.old }
-    ensures first { option_map failure_view result
-        ≡ first (each_from t.now.actions 0
-        (λ a. action_failures (actor_of t.now.actor.now) state a)) }
-    ensures known { IsKnown (actor_of t.now.actor.now) (is_above t.now.order) known.new }
+    requires known { Knows t.now known.old }
+    ensures first { failure_if result
+        ≡ first (guards_failures t.now.actions (actor_in t.now) state) }
+    ensures known { Knows t.now known.new }
 {
     for a in 0..t.actions {
         if let Some(failure) = action_failure(t, known, state, a) {
@@ -156,10 +155,10 @@ fn action_failure(t: &Table<'_>, known: &mut Known, state: u16, a: u16) -> Optio
     requires table { IsTable t.now }
     requires state { state ≤ t.now.states }
     requires action { a < t.now.actions }
-    requires known { IsKnown (actor_of t.now.actor.now) (is_above t.now.order) known.old }
-    ensures first { option_map failure_view result
-        ≡ first (action_failures (actor_of t.now.actor.now) state a) }
-    ensures known { IsKnown (actor_of t.now.actor.now) (is_above t.now.order) known.new }
+    requires known { Knows t.now known.old }
+    ensures first { failure_if result
+        ≡ first (action_failures (actor_in t.now) state a) }
+    ensures known { Knows t.now known.new }
 {
     if !t.eligible(state, a) {
         return None;
@@ -177,9 +176,9 @@ fn action_failure(t: &Table<'_>, known: &mut Known, state: u16, a: u16) -> Optio
 fn action_judged(t: &Table<'_>, known: &mut Known, a: u16) -> Option<Reason>
     requires table { IsTable t.now }
     requires action { a < t.now.actions }
-    requires known { IsKnown (actor_of t.now.actor.now) (is_above t.now.order) known.old }
-    ensures judged { result ≡ action_judged (actor_of t.now.actor.now) a }
-    ensures known { IsKnown (actor_of t.now.actor.now) (is_above t.now.order) known.new }
+    requires known { Knows t.now known.old }
+    ensures judged { result ≡ action_judged (actor_in t.now) a }
+    ensures known { Knows t.now known.new }
 {
     let place = usize::from(a);
     if known.tame[place] {
@@ -197,11 +196,10 @@ fn action_judged(t: &Table<'_>, known: &mut Known, a: u16) -> Option<Reason>
 fn pairs_failure(t: &Table<'_>, known: &mut Known, state: u16) -> Option<Failure>
     requires table { IsTable t.now }
     requires state { state ≤ t.now.states }
-    requires known { IsKnown (actor_of t.now.actor.now) (is_above t.now.order) known.old }
-    ensures first { option_map failure_view result
-        ≡ first (each_from t.now.actions 0
-        (λ a. pairs_failures (actor_of t.now.actor.now) (is_above t.now.order) state a)) }
-    ensures known { IsKnown (actor_of t.now.actor.now) (is_above t.now.order) known.new }
+    requires known { Knows t.now known.old }
+    ensures first { failure_if result
+        ≡ first (all_pairs_failures t.now.actions (actor_in t.now) (above_in t.now) state) }
+    ensures known { Knows t.now known.new }
 {
     for a in 0..t.actions {
         if let Some(failure) = pairs_failure_of(t, known, state, a) {
@@ -216,10 +214,10 @@ fn pairs_failure_of(t: &Table<'_>, known: &mut Known, state: u16, a: u16) -> Opt
     requires table { IsTable t.now }
     requires state { state ≤ t.now.states }
     requires action { a < t.now.actions }
-    requires known { IsKnown (actor_of t.now.actor.now) (is_above t.now.order) known.old }
-    ensures first { option_map failure_view result
-        ≡ first (pairs_failures (actor_of t.now.actor.now) (is_above t.now.order) state a) }
-    ensures known { IsKnown (actor_of t.now.actor.now) (is_above t.now.order) known.new }
+    requires known { Knows t.now known.old }
+    ensures first { failure_if result
+        ≡ first (pairs_failures (actor_in t.now) (above_in t.now) state a) }
+    ensures known { Knows t.now known.new }
 {
     if !t.eligible(state, a) {
         return None;
@@ -238,11 +236,11 @@ fn pair_failure(t: &Table<'_>, known: &mut Known, state: u16, a: u16, b: u16) ->
     requires state { state ≤ t.now.states }
     requires one { a < t.now.actions }
     requires two { b < t.now.actions }
-    requires eligible { eligible (actor_of t.now.actor.now) state a ≡ true }
-    requires known { IsKnown (actor_of t.now.actor.now) (is_above t.now.order) known.old }
-    ensures first { option_map failure_view result
-        ≡ first (pair_failures (actor_of t.now.actor.now) (is_above t.now.order) state a b) }
-    ensures known { IsKnown (actor_of t.now.actor.now) (is_above t.now.order) known.new }
+    requires eligible { eligible (actor_in t.now) state a ≡ true }
+    requires known { Knows t.now known.old }
+    ensures first { failure_if result
+        ≡ first (pair_failures (actor_in t.now) (above_in t.now) state a b) }
+    ensures known { Knows t.now known.new }
 {
     if !t.eligible(state, b) {
         return None;
@@ -261,9 +259,9 @@ fn pair_judged(t: &Table<'_>, known: &mut Known, a: u16, b: u16) -> Option<Reaso
     requires table { IsTable t.now }
     requires one { a < t.now.actions }
     requires two { b < t.now.actions }
-    requires known { IsKnown (actor_of t.now.actor.now) (is_above t.now.order) known.old }
-    ensures judged { result ≡ pair_judged (actor_of t.now.actor.now) (is_above t.now.order) a b }
-    ensures known { IsKnown (actor_of t.now.actor.now) (is_above t.now.order) known.new }
+    requires known { Knows t.now known.old }
+    ensures judged { result ≡ pair_judged (actor_in t.now) (above_in t.now) a b }
+    ensures known { Knows t.now known.new }
 {
     let place = usize::from(a) * usize::from(t.actions) + usize::from(b);
     if known.fine[place] {
@@ -279,7 +277,7 @@ fn two_judged(t: &Table<'_>, a: u16, b: u16) -> Option<Reason>
     requires table { IsTable t.now }
     requires one { a < t.now.actions }
     requires two { b < t.now.actions }
-    ensures { result ≡ pair_judged (actor_of t.now.actor.now) (is_above t.now.order) a b }
+    ensures { result ≡ pair_judged (actor_in t.now) (above_in t.now) a b }
 {
     let one = &t.actor.actions[usize::from(a)];
     let two = &t.actor.actions[usize::from(b)];
@@ -298,9 +296,9 @@ fn is_settled(t: &Table<'_>, a: u16, b: u16, one: &BoundAction, two: &BoundActio
     requires table { IsTable t.now }
     requires a { a < t.now.actions }
     requires b { b < t.now.actions }
-    requires ports { HavePorts (actor_of t.now.actor.now) (action_view one.now).patterns }
-    requires other_ports { HavePorts (actor_of t.now.actor.now) (action_view two.now).patterns }
-    ensures { result ≡ settled (actor_of t.now.actor.now) (is_above t.now.order) a b
+    requires ports { HavePorts (actor_in t.now) (action_view one.now).patterns }
+    requires other_ports { HavePorts (actor_in t.now) (action_view two.now).patterns }
+    ensures { result ≡ settled (actor_in t.now) (above_in t.now) a b
         (action_view one.now) (action_view two.now) }
 {
     if is_modest(t, a, b, &one.patterns) {
@@ -317,7 +315,7 @@ fn is_ranked(t: &Table<'_>, a: u16, b: u16) -> bool
     requires table { IsTable t.now }
     requires a { a < t.now.actions }
     requires b { b < t.now.actions }
-    ensures { result ≡ (is_above t.now.order a b || is_above t.now.order b a) }
+    ensures { result ≡ (above_in t.now a b || above_in t.now b a) }
 {
     if t.order.above(a, b) {
         return true;
@@ -330,9 +328,9 @@ fn is_modest(t: &Table<'_>, a: u16, b: u16, patterns: &[BoundPattern]) -> bool
     requires table { IsTable t.now }
     requires one { a < t.now.actions }
     requires two { b < t.now.actions }
-    requires ports { HavePorts (actor_of t.now.actor.now) (map pattern_view patterns.now) }
-    ensures { result ≡ (is_above t.now.order a b && needs_no_more (actor_of t.now.actor.now) a b
-        (map pattern_view patterns.now)) }
+    requires ports { HavePorts (actor_in t.now) (seen patterns.now) }
+    ensures { result ≡ (above_in t.now a b && needs_no_more (actor_in t.now) a b
+        (seen patterns.now)) }
 {
     t.order.above(a, b) && needs_no_more(t.actor, a, b, patterns)
 }
@@ -342,8 +340,8 @@ fn needs_no_more(actor: &Bound, a: u16, b: u16, patterns: &[BoundPattern]) -> bo
     requires sound { IsSound (actor_of actor.now) }
     requires one { a < length actor.now.actions.items }
     requires two { b < length actor.now.actions.items }
-    requires ports { HavePorts (actor_of actor.now) (map pattern_view patterns.now) }
-    ensures { result ≡ needs_no_more (actor_of actor.now) a b (map pattern_view patterns.now) }
+    requires ports { HavePorts (actor_of actor.now) (seen patterns.now) }
+    ensures { result ≡ needs_no_more (actor_of actor.now) a b (seen patterns.now) }
 {
     for pattern in patterns {
         if need(actor, a, pattern.port) > need(actor, b, pattern.port) {

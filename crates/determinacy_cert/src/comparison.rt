@@ -1,6 +1,6 @@
 //! Comparisons of an expression with a number, and which of them no number meets both.
 
-ghost use Rattle.std.specs.Prelude.{◌≡◌, ◌+◌, ◌+ℤ◌, int_le, int_lt, nat_lt, option_map, pos};
+ghost use Rattle.std.specs.Prelude.{◌≡◌, ◌+◌, ◌+ℤ◌, int_lt, nat_lt, option_map, pos};
 ghost use Rattle.std.specs.Ordering.{int_eq};
 ghost use Rattle.cal_ast.specs.Tree as tree;
 ghost use Rattle.cal_ast.specs.View.{expr_tree};

@@ -1,10 +1,10 @@
 //! Expressions by their outermost form, and equality of trees.
 
-ghost use Rattle.std.specs.Prelude.{◌≡◌, ◌==◌, [], map};
+ghost use Rattle.std.specs.Prelude.{◌≡◌, ◌==◌, []};
 ghost use Rattle.cal_ast.specs.Tree as tree;
 ghost use Rattle.cal_ast.specs.View.{expr_tree};
-ghost use Rattle.cal_model.specs.View.{pattern_view};
 ghost use Rattle.determinacy_cert.specs.Deciding.{op_number, prefix_number, same};
+ghost use Rattle.determinacy_cert.specs.Viewing.{binary_tree, if_tree, index_tree, is_same};
 
 use crate::key::same_names;
 use cal_ast::{BinOp, Expr, ExprForm, PrefixOp};
@@ -14,8 +14,7 @@ use cal_model::BoundPattern;
 /// for. Lists, calls and comprehensions count as different. The recursion goes down the first tree.
 #[cycle(same)]
 pub(crate) fn same(f: &Expr, others: &[BoundPattern], e: &Expr, patterns: &[BoundPattern]) -> bool
-    ensures { result ≡ same (expr_tree e.now) (map pattern_view patterns.now)
-        (expr_tree f.now) (map pattern_view others.now) }
+    ensures { result ≡ is_same (expr_tree e.now) patterns.now f.now others.now }
 {
     match &e.form {
         ExprForm::Number(number) => is_number(*number, f),
@@ -54,8 +53,7 @@ fn is_truth(flag: bool, f: &Expr) -> bool
 
 /// Whether the expression is a name that stands for the same.
 fn is_name(name: &str, patterns: &[BoundPattern], f: &Expr, others: &[BoundPattern]) -> bool
-    ensures { result ≡ same (tree.variable name.now 0) (map pattern_view patterns.now)
-        (expr_tree f.now) (map pattern_view others.now) }
+    ensures { result ≡ is_same (tree.variable name.now 0) patterns.now f.now others.now }
 {
     match &f.form {
         ExprForm::Name(other) => same_names(name, patterns, other.as_str(), others),
@@ -66,8 +64,7 @@ fn is_name(name: &str, patterns: &[BoundPattern], f: &Expr, others: &[BoundPatte
 /// Whether the other expression has parentheses round an equal one.
 #[cycle(same)]
 fn same_paren(f: &Expr, others: &[BoundPattern], inner: &Expr, patterns: &[BoundPattern]) -> bool
-    ensures { result ≡ same (tree.paren (expr_tree inner.now) 0) (map pattern_view patterns.now)
-        (expr_tree f.now) (map pattern_view others.now) }
+    ensures { result ≡ is_same (tree.paren (expr_tree inner.now) 0) patterns.now f.now others.now }
 {
     match &f.form {
         ExprForm::Paren(other) => same(other, others, inner, patterns),
@@ -85,9 +82,7 @@ fn same_if(
     no: &Expr,
     patterns: &[BoundPattern],
 ) -> bool
-    ensures { result ≡ same (tree.if_expr (expr_tree test.now) (expr_tree yes.now)
-        (expr_tree no.now) 0) (map pattern_view patterns.now)
-        (expr_tree f.now) (map pattern_view others.now) }
+    ensures { result ≡ is_same (if_tree test.now yes.now no.now) patterns.now f.now others.now }
 {
     match &f.form {
         ExprForm::If {
@@ -112,9 +107,7 @@ fn same_index(
     place: &Expr,
     patterns: &[BoundPattern],
 ) -> bool
-    ensures { result ≡ same (tree.index (expr_tree base.now) (expr_tree place.now) 0)
-        (map pattern_view patterns.now)
-        (expr_tree f.now) (map pattern_view others.now) }
+    ensures { result ≡ is_same (index_tree base.now place.now) patterns.now f.now others.now }
 {
     match &f.form {
         ExprForm::Index {
@@ -136,8 +129,7 @@ fn same_prefix(
     of: &Expr,
     patterns: &[BoundPattern],
 ) -> bool
-    ensures { result ≡ same (tree.prefix op (expr_tree of.now) 0) (map pattern_view patterns.now)
-        (expr_tree f.now) (map pattern_view others.now) }
+    ensures { result ≡ is_same (tree.prefix op (expr_tree of.now) 0) patterns.now f.now others.now }
 {
     match &f.form {
         ExprForm::Prefix {
@@ -158,9 +150,7 @@ fn same_binary(
     right: &Expr,
     patterns: &[BoundPattern],
 ) -> bool
-    ensures { result ≡ same (tree.binary op (expr_tree left.now) (expr_tree right.now) 0)
-        (map pattern_view patterns.now)
-        (expr_tree f.now) (map pattern_view others.now) }
+    ensures { result ≡ is_same (binary_tree op left.now right.now) patterns.now f.now others.now }
 {
     match &f.form {
         ExprForm::Binary {

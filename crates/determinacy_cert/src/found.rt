@@ -1,12 +1,12 @@
 //! The names that a guard may use, and the numbers that they stand for.
 
-ghost use Rattle.std.specs.Prelude.{◌≡◌, [], None, Some, if◌then◌else◌, map, option_map, string_bytes};
-ghost use Rattle.cal_model.specs.Certified.{all_scalars_range, item_ranged, range_of_name, ranged, ranged_vars, scalars_range, shape_of_tokens};
+ghost use Rattle.std.specs.Prelude.{◌≡◌, None, Some, if◌then◌else◌, map, option_map, string_bytes};
+ghost use Rattle.cal_model.specs.Certified.{all_scalars_range, item_ranged, range_of_name, ranged, ranged_vars, scalars_range};
 ghost use Rattle.cal_model.specs.Selection.{kind_of_port};
-ghost use Rattle.cal_model.specs.Value.{Many, Single};
+ghost use Rattle.cal_model.specs.Value.{Single};
 ghost use Rattle.cal_model.specs.View.{pattern_view, port_view, shape_view, value_view, values_view, var_view};
 ghost use Rattle.determinacy_cert.specs.Deciding.{joined, last_place, named_in};
-ghost use Rattle.determinacy_cert.specs.Viewing.{found_view, interval_view, named_view, names_view, typed_view, unnamed};
+ghost use Rattle.determinacy_cert.specs.Viewing.{found_if, found_view, interval_if, interval_view, listed_as, named_view, names_view, ranged_as, token_shape, typed_view, unnamed, value_if};
 
 use crate::interval::{Interval, hull, just, of_type, truth};
 use cal_model::{Bound, BoundAction, BoundPattern, BoundVar, Port, Shape, Value, Values};
@@ -45,7 +45,7 @@ pub(crate) struct Names<'a> {
 
 /// What is known of a name: inner names hide outer ones, and later ones earlier ones.
 pub(crate) fn find<'a>(name: &str, names: Names<'a>) -> Option<Found<'a>>
-    ensures { option_map found_view result
+    ensures { found_if result
         ≡ option_map unnamed (ranged name.now (names_view names.entry)) }
 {
     match named_in(name, &names.action.patterns) {
@@ -57,8 +57,7 @@ pub(crate) fn find<'a>(name: &str, names: Names<'a>) -> Option<Found<'a>>
 /// What is known of a pattern variable.
 fn token<'a>(ins: &[Port], named: Named<'a>) -> Found<'a>
     ensures of { typed_view result.of
-        ≡ shape_of_tokens (kind_of_port (map port_view ins.now) named.entry.pattern.now.port)
-        named.entry.pattern.now.repeat }
+        ≡ token_shape ins.now named.entry }
     ensures value { result.value ≡ None }
 {
     Found {
@@ -79,7 +78,7 @@ fn kind_of_port(ins: &[Port], port: u32) -> Scalar
 
 /// What is known of a variable or a constant of the actor.
 fn variable<'a>(name: &str, vars: &'a [BoundVar]) -> Option<Found<'a>>
-    ensures { option_map found_view result
+    ensures { found_if result
         ≡ option_map unnamed (ranged name.now (ranged_vars (map var_view vars.now))) }
 {
     let mut rest = vars;
@@ -95,7 +94,7 @@ fn variable<'a>(name: &str, vars: &'a [BoundVar]) -> Option<Found<'a>>
 /// What is known of this variable or constant.
 fn declared<'a>(var: &'a BoundVar) -> Found<'a>
     ensures of { typed_view result.of ≡ shape_view var.now.shape }
-    ensures value { option_map (λ v. value_view v.now) result.value
+    ensures value { value_if result.value
         ≡ (if var.now.changes then None else Some (value_view var.now.value)) }
 {
     Found {
@@ -135,7 +134,7 @@ fn last_place(name: &str, names: &[String]) -> Option<usize>
 
 /// The numbers of a single value of this type, or of the constant in which it stands. None for a list.
 pub(crate) fn numbers_of(x: Found<'_>) -> Option<Interval>
-    ensures { option_map interval_view result ≡ range_of_name (found_view x.entry) }
+    ensures { interval_if result ≡ range_of_name (found_view x.entry) }
 {
     match x.of {
         Typed::Tokens(t, None) => numbers_of_single(t, x.value),
@@ -149,13 +148,8 @@ pub(crate) fn numbers_of(x: Found<'_>) -> Option<Interval>
 
 /// The numbers of a single type, or of the constant that is known.
 fn numbers_of_single(t: Scalar, value: Option<&Value>) -> Option<Interval>
-    ensures { option_map interval_view result
-        ≡ range_of_name (record {
-          name = [];
-          shape = Single t;
-          value = option_map
-              (λ v. value_view v.now) value.entry;
-        }) }
+    ensures { interval_if result
+        ≡ range_of_name (ranged_as (Single t) (value_if value.entry)) }
 {
     match value {
         None => of_type(t),
@@ -165,7 +159,7 @@ fn numbers_of_single(t: Scalar, value: Option<&Value>) -> Option<Interval>
 
 /// What stands in a list at places within this interval.
 pub(crate) fn item<'a>(x: Found<'a>, i: Interval) -> Option<Found<'a>>
-    ensures { option_map found_view result ≡ item_ranged (interval_view i) (found_view x.entry) }
+    ensures { found_if result ≡ item_ranged (interval_view i) (found_view x.entry) }
 {
     match x.of {
         Typed::Tokens(_, None) => None,
@@ -184,14 +178,8 @@ fn within<'a>(
     items: Typed<'a>,
     value: Option<&'a Value>,
 ) -> Option<Found<'a>>
-    ensures { option_map found_view result
-        ≡ item_ranged (interval_view i)
-        (record {
-          name = [];
-          shape = Many size (typed_view items.entry);
-          value = option_map
-              (λ v. value_view v.now) value.entry;
-        }) }
+    ensures { found_if result
+        ≡ item_ranged (interval_view i) (listed_as size items.entry value.entry) }
 {
     if 0 <= i.low && i.high < Num::from(size) {
         Some(Found { of: items, value })
@@ -203,7 +191,7 @@ fn within<'a>(
 /// From the least to the greatest scalar of a value, if it has any.
 #[cycle(scalars)]
 fn scalars(value: &Value) -> Option<Interval>
-    ensures { option_map interval_view result ≡ scalars_range (value_view value.now) }
+    ensures { interval_if result ≡ scalars_range (value_view value.now) }
 {
     match value {
         Value::Num(number) => Some(just(*number)),
@@ -215,7 +203,7 @@ fn scalars(value: &Value) -> Option<Interval>
 /// From the least to the greatest scalar of all values of a list, if they have any.
 #[cycle(scalars)]
 fn all_scalars(values: &Values) -> Option<Interval>
-    ensures { option_map interval_view result ≡ all_scalars_range (values_view values.now) }
+    ensures { interval_if result ≡ all_scalars_range (values_view values.now) }
 {
     let mut found: Option<Interval> = None;
     for value in &values.items {
@@ -226,8 +214,8 @@ fn all_scalars(values: &Values) -> Option<Interval>
 
 /// The hull of both, or the one that there is.
 fn either(i: Option<Interval>, j: Option<Interval>) -> Option<Interval>
-    ensures { option_map interval_view result
-        ≡ joined (option_map interval_view i) (option_map interval_view j) }
+    ensures { interval_if result
+        ≡ joined (interval_if i) (interval_if j) }
 {
     match i {
         None => j,

@@ -1,12 +1,12 @@
 //! Intervals of numbers.
 
-ghost use Rattle.std.specs.Prelude.{◌≡◌, ◌≤◌, ◌+ℤ◌, ◌-ℤ◌, ◌*ℤ◌, ◌^◌, ℤ, option_map, pos};
+ghost use Rattle.std.specs.Prelude.{◌≡◌, ◌≤◌, ◌-ℤ◌, ◌^◌, ℤ, pos};
 ghost use Rattle.std.specs.Int.{int_max, int_min};
 ghost use Rattle.rvc_base.specs.Arithmetic.{truth};
 ghost use Rattle.rvc_base.specs.Width.{max_shift};
 ghost use Rattle.cal_model.specs.Certified.{all_numbers, between, fitting, hull, just, range_of_both, range_of_prefix, truths, type_range};
-ghost use Rattle.determinacy_cert.specs.Deciding.{numbered};
-ghost use Rattle.determinacy_cert.specs.Viewing.{interval_view};
+ghost use Rattle.determinacy_cert.specs.Deciding.{AreNumbered, corners_range, numbered};
+ghost use Rattle.determinacy_cert.specs.Viewing.{computed, interval_if, interval_view, range_of_corners};
 
 use cal_ast::{BinOp, PrefixOp};
 use rvc_base::{MAX_SHIFT, Num, Scalar};
@@ -69,7 +69,7 @@ fn greater(a: Num, b: Num) -> Num
 
 /// The interval of a number as it is written, if it is one of the language.
 pub(crate) fn literal(number: u128) -> Option<Interval>
-    ensures { option_map interval_view result ≡ fitting (just (pos number)) }
+    ensures { interval_if result ≡ fitting (just (pos number)) }
 {
     match Num::try_from(number) {
         Ok(number) => Some(just(number)),
@@ -86,7 +86,7 @@ pub(crate) fn truth(flag: bool) -> Interval
 
 /// What an operation with one operand gives for numbers of an interval.
 pub(crate) fn of_prefix(op: PrefixOp, i: Interval) -> Option<Interval>
-    ensures { option_map interval_view result ≡ range_of_prefix op (interval_view i) }
+    ensures { interval_if result ≡ range_of_prefix op (interval_view i) }
 {
     match op {
         PrefixOp::Not => Some(truths()),
@@ -97,7 +97,7 @@ pub(crate) fn of_prefix(op: PrefixOp, i: Interval) -> Option<Interval>
 
 /// The numbers with the other sign.
 fn negated(i: Interval) -> Option<Interval>
-    ensures { option_map interval_view result ≡ range_of_prefix PrefixOp.Neg (interval_view i) }
+    ensures { interval_if result ≡ range_of_prefix PrefixOp.Neg (interval_view i) }
 {
     from_ends(i.high.checked_neg(), i.low.checked_neg())
 }
@@ -105,7 +105,7 @@ fn negated(i: Interval) -> Option<Interval>
 /// The interval of two ends, if both are numbers of the language.
 fn from_ends(low: Option<Num>, high: Option<Num>) -> Option<Interval>
     ensures { (l h : ℤ) → low ≡ numbered l → high ≡ numbered h
-        → option_map interval_view result ≡ fitting (between l h) }
+        → interval_if result ≡ fitting (between l h) }
 {
     let Some(low) = low else { return None };
     let Some(high) = high else { return None };
@@ -114,13 +114,13 @@ fn from_ends(low: Option<Num>, high: Option<Num>) -> Option<Interval>
 
 /// What an operation with two operands gives for numbers of two intervals.
 pub(crate) fn of_both(op: BinOp, i: Interval, j: Interval) -> Option<Interval>
-    ensures { option_map interval_view result
+    ensures { interval_if result
         ≡ range_of_both op (interval_view i) (interval_view j) }
 {
     match op {
-        BinOp::Add => sums(i, j),
-        BinOp::Sub => differences(i, j),
-        BinOp::Mul => products(i, j),
+        BinOp::Add => at_ends(Linear::Sum, i, j),
+        BinOp::Sub => at_ends(Linear::Difference, i, j),
+        BinOp::Mul => at_ends(Linear::Product, i, j),
         BinOp::Div => quotients(i, j),
         BinOp::Mod => remainders(i, j),
         BinOp::Shr => shifted(i, j),
@@ -130,70 +130,41 @@ pub(crate) fn of_both(op: BinOp, i: Interval, j: Interval) -> Option<Interval>
     }
 }
 
-/// The hull of the sums at the ends.
-fn sums(i: Interval, j: Interval) -> Option<Interval>
-    ensures { option_map interval_view result
-        ≡ range_of_both BinOp.Add (interval_view i) (interval_view j) }
+/// The operations whose least and greatest results over two intervals are among those at the ends.
+#[derive(Clone, Copy)]
+enum Linear {
+    Sum,
+    Difference,
+    Product,
+}
+
+/// The hull of what the operation gives at the ends.
+fn at_ends(op: Linear, i: Interval, j: Interval) -> Option<Interval>
+    ensures { interval_if result ≡ range_of_corners op (interval_view i) (interval_view j) }
 {
     from_corners(
-        sum(i.low, j.low),
-        sum(i.low, j.high),
-        sum(i.high, j.low),
-        sum(i.high, j.high),
+        computed(op, i.low, j.low),
+        computed(op, i.low, j.high),
+        computed(op, i.high, j.low),
+        computed(op, i.high, j.high),
     )
 }
 
-/// The sum, if it is a number of the language.
-fn sum(a: Num, b: Num) -> Option<Num>
-    ensures { result ≡ numbered (a +ℤ b) }
+/// What the operation gives, if it is a number of the language.
+fn computed(op: Linear, a: Num, b: Num) -> Option<Num>
+    ensures { result ≡ numbered (computed op a b) }
 {
-    a.checked_add(b)
-}
-
-/// The hull of the differences at the ends.
-fn differences(i: Interval, j: Interval) -> Option<Interval>
-    ensures { option_map interval_view result
-        ≡ range_of_both BinOp.Sub (interval_view i) (interval_view j) }
-{
-    from_corners(
-        difference(i.low, j.low),
-        difference(i.low, j.high),
-        difference(i.high, j.low),
-        difference(i.high, j.high),
-    )
-}
-
-/// The difference, if it is a number of the language.
-fn difference(a: Num, b: Num) -> Option<Num>
-    ensures { result ≡ numbered (a -ℤ b) }
-{
-    a.checked_sub(b)
-}
-
-/// The hull of the products at the ends.
-fn products(i: Interval, j: Interval) -> Option<Interval>
-    ensures { option_map interval_view result
-        ≡ range_of_both BinOp.Mul (interval_view i) (interval_view j) }
-{
-    from_corners(
-        product(i.low, j.low),
-        product(i.low, j.high),
-        product(i.high, j.low),
-        product(i.high, j.high),
-    )
-}
-
-/// The product, if it is a number of the language.
-fn product(a: Num, b: Num) -> Option<Num>
-    ensures { result ≡ numbered (a *ℤ b) }
-{
-    a.checked_mul(b)
+    match op {
+        Linear::Sum => a.checked_add(b),
+        Linear::Difference => a.checked_sub(b),
+        Linear::Product => a.checked_mul(b),
+    }
 }
 
 /// The least interval that holds four numbers, if all are numbers of the language.
 fn from_corners(a: Option<Num>, b: Option<Num>, c: Option<Num>, d: Option<Num>) -> Option<Interval>
-    ensures { (w x y z : ℤ) → a ≡ numbered w → b ≡ numbered x → c ≡ numbered y → d ≡ numbered z
-        → option_map interval_view result ≡ fitting (hull (hull (just w) (just x)) (hull (just y) (just z))) }
+    ensures { (w x y z : ℤ) → AreNumbered a b c d w x y z
+        → interval_if result ≡ corners_range w x y z }
 {
     let Some(a) = a else { return None };
     let Some(b) = b else { return None };
@@ -204,7 +175,7 @@ fn from_corners(a: Option<Num>, b: Option<Num>, c: Option<Num>, d: Option<Num>) 
 
 /// The quotients by divisors above 0, which lie between the dividend and 0.
 fn quotients(i: Interval, j: Interval) -> Option<Interval>
-    ensures { option_map interval_view result
+    ensures { interval_if result
         ≡ range_of_both BinOp.Div (interval_view i) (interval_view j) }
 {
     if 0 < j.low {
@@ -216,7 +187,7 @@ fn quotients(i: Interval, j: Interval) -> Option<Interval>
 
 /// What quotients by divisors above 0 leave.
 fn remainders(i: Interval, j: Interval) -> Option<Interval>
-    ensures { option_map interval_view result
+    ensures { interval_if result
         ≡ range_of_both BinOp.Mod (interval_view i) (interval_view j) }
 {
     if 0 < j.low {
@@ -228,15 +199,16 @@ fn remainders(i: Interval, j: Interval) -> Option<Interval>
 
 /// What quotients by divisors up to this one leave.
 fn remainders_by(divisor: Num) -> Option<Interval>
-    ensures { option_map interval_view result
+    ensures { interval_if result
         ≡ fitting (between (pos 1 -ℤ divisor) (divisor -ℤ pos 1)) }
 {
-    from_ends(difference(1, divisor), difference(divisor, 1))
+    let least: Num = 1;
+    from_ends(least.checked_sub(divisor), divisor.checked_sub(1))
 }
 
 /// Numbers shifted down by counts that are allowed, which lie between the number and 0.
 fn shifted(i: Interval, j: Interval) -> Option<Interval>
-    ensures { option_map interval_view result
+    ensures { interval_if result
         ≡ range_of_both BinOp.Shr (interval_view i) (interval_view j) }
 {
     if 0 <= j.low && j.high <= Num::from(MAX_SHIFT) {
@@ -248,7 +220,7 @@ fn shifted(i: Interval, j: Interval) -> Option<Interval>
 
 /// The numbers of a type.
 pub(crate) fn of_type(t: Scalar) -> Option<Interval>
-    ensures { option_map interval_view result ≡ fitting (type_range t) }
+    ensures { interval_if result ≡ fitting (type_range t) }
 {
     match t {
         Scalar::Bool => Some(truths()),
@@ -259,7 +231,7 @@ pub(crate) fn of_type(t: Scalar) -> Option<Interval>
 
 /// The signed numbers of this size.
 fn signed(size: u8) -> Option<Interval>
-    ensures { option_map interval_view result ≡ fitting (type_range (Scalar.Int size)) }
+    ensures { interval_if result ≡ fitting (type_range (Scalar.Int size)) }
 {
     let greatest = greatest_of(if size == 0 { 0 } else { size - 1 })?;
     Some(between(-1 - greatest, greatest))
@@ -267,7 +239,7 @@ fn signed(size: u8) -> Option<Interval>
 
 /// The unsigned numbers of this size.
 fn unsigned(size: u8) -> Option<Interval>
-    ensures { option_map interval_view result ≡ fitting (type_range (Scalar.Uint size)) }
+    ensures { interval_if result ≡ fitting (type_range (Scalar.Uint size)) }
 {
     let greatest = greatest_of(size)?;
     Some(between(0, greatest))

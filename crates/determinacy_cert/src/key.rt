@@ -1,11 +1,8 @@
 //! What a name of a guard stands for: the tokens of a pattern variable, or the name itself.
 
-ghost use Rattle.std.specs.Prelude.{◌≡◌, length, map};
+ghost use Rattle.std.specs.Prelude.{◌≡◌};
 ghost use Rattle.std.specs.Str.{bytes_eq};
-ghost use Rattle.cal_model.specs.Certified.{key_in, places_from};
-ghost use Rattle.cal_model.specs.View.{pattern_view};
-ghost use Rattle.determinacy_cert.specs.Deciding.{same_names};
-ghost use Rattle.determinacy_cert.specs.Viewing.{key_of};
+ghost use Rattle.determinacy_cert.specs.Viewing.{are_same_names, first_places, key_of};
 
 use crate::found::{Named, named_in};
 use cal_model::BoundPattern;
@@ -17,9 +14,7 @@ pub(crate) fn same_names(
     other: &str,
     others: &[BoundPattern],
 ) -> bool
-    ensures { result ≡ same_names name.now
-        (key_in name.now (map pattern_view patterns.now)) other.now
-        (key_in other.now (map pattern_view others.now)) }
+    ensures { result ≡ are_same_names name.now patterns.now other.now others.now }
 {
     let one = named_in(name, patterns);
     let two = named_in(other, others);
@@ -56,9 +51,7 @@ fn same_tokens(one: Named<'_>, two: Named<'_>) -> bool
 
 /// Whether so many places are the same: the first ones, and the steps from each to the next.
 fn same_places(count: u32, one: Named<'_>, two: Named<'_>) -> bool
-    ensures { result ≡ bytes_eq (places_from count one.entry.place
-        (length one.entry.pattern.now.names.items))
-        (places_from count two.entry.place (length two.entry.pattern.now.names.items)) }
+    ensures { result ≡ bytes_eq (first_places count one.entry) (first_places count two.entry) }
 {
     if count == 0 {
         return true;

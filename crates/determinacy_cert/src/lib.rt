@@ -18,8 +18,6 @@ mod laws;
 mod pairing;
 mod range;
 mod table;
-#[cfg(test)]
-mod tests;
 
 pub use certifier::certify;
 pub use fault::{CertFault, Reason};

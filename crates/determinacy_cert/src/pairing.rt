@@ -1,11 +1,11 @@
 //! Conjuncts of guards, and which of them exclude each other.
 
-ghost use Rattle.std.specs.Prelude.{◌≡◌, map, option_map};
+ghost use Rattle.std.specs.Prelude.{◌≡◌};
 ghost use Rattle.cal_ast.specs.View.{expr_tree};
-ghost use Rattle.cal_model.specs.Certified.{all_conjuncts, conjuncts};
-ghost use Rattle.cal_model.specs.View.{action_view, pattern_view};
-ghost use Rattle.determinacy_cert.specs.Deciding.{any_of, compare_apart, denied, exclude, guards_exclude, is_and, is_not_of};
-ghost use Rattle.determinacy_cert.specs.Viewing.{comparison_view};
+ghost use Rattle.cal_model.specs.Certified.{conjuncts};
+ghost use Rattle.cal_model.specs.View.{action_view};
+ghost use Rattle.determinacy_cert.specs.Deciding.{compare_apart, denied, exclude, guards_exclude, guards_exclude_any, guards_exclude_one, is_and, is_excluded, is_not_of};
+ghost use Rattle.determinacy_cert.specs.Viewing.{compared_if, seen};
 
 use crate::comparison::{Comparison, compared, never_both};
 use crate::form::same;
@@ -27,9 +27,8 @@ pub(crate) fn guards_exclude(one: &BoundAction, two: &BoundAction) -> bool
 /// Whether a conjunct of this expression and one of the other's guards exclude each other.
 #[cycle(excludes_any)]
 fn excludes_any(e: &Expr, one: &BoundAction, two: &BoundAction) -> bool
-    ensures { result ≡ any_of (λ c. any_of
-        (λ d. exclude c (action_view one.now).patterns d (action_view two.now).patterns)
-        (all_conjuncts (action_view two.now).guards)) (conjuncts (expr_tree e.now)) }
+    ensures { result ≡ guards_exclude_any (conjuncts (expr_tree e.now)) (action_view one.now)
+        (action_view two.now) }
 {
     match &e.form {
         ExprForm::Binary { op, left, right } => {
@@ -45,8 +44,8 @@ fn excludes_any(e: &Expr, one: &BoundAction, two: &BoundAction) -> bool
 
 /// Whether the conjunct and one of the other's guards exclude each other.
 fn excludes_a_guard(e: &Expr, one: &BoundAction, two: &BoundAction) -> bool
-    ensures { result ≡ any_of (λ d. exclude (expr_tree e.now) (action_view one.now).patterns d
-        (action_view two.now).patterns) (all_conjuncts (action_view two.now).guards) }
+    ensures { result ≡ guards_exclude_one (expr_tree e.now) (action_view one.now).patterns
+        (action_view two.now) }
 {
     for guard in &two.guards {
         if excludes(e, &one.patterns, guard, &two.patterns) {
@@ -59,8 +58,8 @@ fn excludes_a_guard(e: &Expr, one: &BoundAction, two: &BoundAction) -> bool
 /// Whether the conjunct and a conjunct of this expression exclude each other.
 #[cycle(excludes)]
 fn excludes(e: &Expr, patterns: &[BoundPattern], f: &Expr, others: &[BoundPattern]) -> bool
-    ensures { result ≡ any_of (λ d. exclude (expr_tree e.now) (map pattern_view patterns.now) d
-        (map pattern_view others.now)) (conjuncts (expr_tree f.now)) }
+    ensures { result ≡ is_excluded (expr_tree e.now) (seen patterns.now)
+        (conjuncts (expr_tree f.now)) (seen others.now) }
 {
     match &f.form {
         ExprForm::Binary { op, left, right } => {
@@ -86,8 +85,8 @@ fn is_and(op: BinOp) -> bool
 
 /// Whether these conjuncts exclude each other.
 fn exclude(e: &Expr, patterns: &[BoundPattern], f: &Expr, others: &[BoundPattern]) -> bool
-    ensures { result ≡ exclude (expr_tree e.now) (map pattern_view patterns.now) (expr_tree f.now)
-        (map pattern_view others.now) }
+    ensures { result ≡ exclude (expr_tree e.now) (seen patterns.now) (expr_tree f.now)
+        (seen others.now) }
 {
     if compare_apart(compared(e), patterns, compared(f), others) {
         return true;
@@ -105,9 +104,8 @@ fn compare_apart(
     two: Option<Comparison<'_>>,
     others: &[BoundPattern],
 ) -> bool
-    ensures { result ≡ compare_apart (option_map comparison_view one.entry)
-        (map pattern_view patterns.now) (option_map comparison_view two.entry)
-        (map pattern_view others.now) }
+    ensures { result ≡ compare_apart (compared_if one.entry) (seen patterns.now)
+        (compared_if two.entry) (seen others.now) }
 {
     let Some(one) = one else { return false };
     let Some(two) = two else { return false };
@@ -116,8 +114,8 @@ fn compare_apart(
 
 /// Whether the second is `not` the first.
 fn is_not_of(e: &Expr, patterns: &[BoundPattern], f: &Expr, others: &[BoundPattern]) -> bool
-    ensures { result ≡ is_not_of (expr_tree e.now) (map pattern_view patterns.now)
-        (denied (expr_tree f.now)) (map pattern_view others.now) }
+    ensures { result ≡ is_not_of (expr_tree e.now) (seen patterns.now)
+        (denied (expr_tree f.now)) (seen others.now) }
 {
     match &f.form {
         ExprForm::Prefix {

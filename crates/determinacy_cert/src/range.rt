@@ -1,10 +1,11 @@
 //! The range of an expression: an interval that holds what it gives, if it can't trap.
 
-ghost use Rattle.std.specs.Prelude.{◌≡◌, Some, option_map};
+ghost use Rattle.std.specs.Prelude.{◌≡◌, option_map};
 ghost use Rattle.cal_ast.specs.Tree as tree;
 ghost use Rattle.cal_ast.specs.View.{expr_tree};
-ghost use Rattle.cal_model.specs.Certified.{hull, indexed, item_ranged, on_interval, on_ranged, range, range_of_both, range_of_name, range_of_prefix};
-ghost use Rattle.determinacy_cert.specs.Viewing.{found_view, interval_view, names_view, unnamed};
+ghost use Rattle.cal_model.specs.Certified.{indexed, on_interval, range, range_of_prefix};
+ghost use Rattle.determinacy_cert.specs.Deciding.{item_at, range_of_if, range_of_item, range_of_operands};
+ghost use Rattle.determinacy_cert.specs.Viewing.{found_if, interval_if, names_view, unnamed};
 
 use crate::found::{Found, Names, find, item, numbers_of};
 use crate::interval::{Interval, hull, literal, of_both, of_prefix, truth};
@@ -13,7 +14,7 @@ use cal_ast::{BinOp, Expr, ExprForm, PrefixOp};
 /// The range of an expression. None where it may trap, judged by the types and constants that it names.
 #[cycle(range)]
 pub(crate) fn range(e: &Expr, names: Names<'_>) -> Option<Interval>
-    ensures { option_map interval_view result ≡ range (expr_tree e.now) (names_view names.entry) }
+    ensures { interval_if result ≡ range (expr_tree e.now) (names_view names.entry) }
 {
     match &e.form {
         ExprForm::Number(number) => literal(*number),
@@ -37,7 +38,7 @@ pub(crate) fn range(e: &Expr, names: Names<'_>) -> Option<Interval>
 /// A name or an index on a name, as what is indexed.
 #[cycle(range)]
 fn indexed<'a>(e: &Expr, names: Names<'a>) -> Option<Found<'a>>
-    ensures { option_map found_view result
+    ensures { found_if result
         ≡ option_map unnamed (indexed (expr_tree e.now) (names_view names.entry)) }
 {
     match &e.form {
@@ -49,7 +50,7 @@ fn indexed<'a>(e: &Expr, names: Names<'a>) -> Option<Found<'a>>
 
 /// The range of a name.
 fn of_name(name: &str, names: Names<'_>) -> Option<Interval>
-    ensures { option_map interval_view result
+    ensures { interval_if result
         ≡ range (tree.variable name.now 0) (names_view names.entry) }
 {
     match find(name, names) {
@@ -60,9 +61,8 @@ fn of_name(name: &str, names: Names<'_>) -> Option<Interval>
 
 /// The hull of both branches, if the condition has a range too.
 fn of_if(test: Option<Interval>, yes: Option<Interval>, no: Option<Interval>) -> Option<Interval>
-    ensures { option_map interval_view result
-        ≡ on_interval (option_map interval_view test) (λ c. on_interval (option_map interval_view yes)
-        (λ i. on_interval (option_map interval_view no) (λ j. Some (hull i j)))) }
+    ensures { interval_if result
+        ≡ range_of_if (interval_if test) (interval_if yes) (interval_if no) }
 {
     let Some(_) = test else { return None };
     let Some(i) = yes else { return None };
@@ -72,9 +72,8 @@ fn of_if(test: Option<Interval>, yes: Option<Interval>, no: Option<Interval>) ->
 
 /// The range of what stands in a list, if the place is within it.
 fn of_index(list: Option<Found<'_>>, place: Option<Interval>) -> Option<Interval>
-    ensures { option_map interval_view result
-        ≡ on_ranged (option_map found_view list.entry) (λ x. on_interval (option_map interval_view place)
-        (λ i. on_ranged (item_ranged i x) (λ y. range_of_name y))) }
+    ensures { interval_if result
+        ≡ range_of_item (found_if list.entry) (interval_if place) }
 {
     match item_of(list, place) {
         Some(found) => numbers_of(found),
@@ -84,9 +83,8 @@ fn of_index(list: Option<Found<'_>>, place: Option<Interval>) -> Option<Interval
 
 /// What stands in a list, if the place is within it.
 fn item_of<'a>(list: Option<Found<'a>>, place: Option<Interval>) -> Option<Found<'a>>
-    ensures { option_map found_view result
-        ≡ on_ranged (option_map found_view list.entry) (λ x. on_interval (option_map interval_view place)
-        (λ i. item_ranged i x)) }
+    ensures { found_if result
+        ≡ item_at (found_if list.entry) (interval_if place) }
 {
     let Some(list) = list else { return None };
     let Some(i) = place else { return None };
@@ -95,8 +93,8 @@ fn item_of<'a>(list: Option<Found<'a>>, place: Option<Interval>) -> Option<Found
 
 /// The range of an operation with one operand.
 fn of_prefixed(op: PrefixOp, operand: Option<Interval>) -> Option<Interval>
-    ensures { option_map interval_view result
-        ≡ on_interval (option_map interval_view operand) (λ i. range_of_prefix op i) }
+    ensures { interval_if result
+        ≡ on_interval (interval_if operand) (λ i. range_of_prefix op i) }
 {
     match operand {
         Some(i) => of_prefix(op, i),
@@ -106,9 +104,8 @@ fn of_prefixed(op: PrefixOp, operand: Option<Interval>) -> Option<Interval>
 
 /// The range of an operation with two operands.
 fn of_binary(op: BinOp, left: Option<Interval>, right: Option<Interval>) -> Option<Interval>
-    ensures { option_map interval_view result
-        ≡ on_interval (option_map interval_view left) (λ i. on_interval (option_map interval_view right)
-        (λ j. range_of_both op i j)) }
+    ensures { interval_if result
+        ≡ range_of_operands op (interval_if left) (interval_if right) }
 {
     let Some(i) = left else { return None };
     let Some(j) = right else { return None };

@@ -1,4 +1,4 @@
-use Rattle.std.proofs.Common.{◌≡◌, List, [], None, Some, subst}
+use Rattle.std.proofs.Common.{◌≡◌, [], None, Some, subst}
 use Rattle.priority_order.specs.Ranking.{is_above}
 use Rattle.cal_model.specs.Actor.{Actor}
 use Rattle.cal_model.specs.Certified.{IsCertified}

@@ -1,4 +1,4 @@
-use Rattle.std.proofs.Common.{◌≡◌, ℕ, suc, ◌-◌, Bool, false, None, length, ap, sym, ◌∙◌}
+use Rattle.std.proofs.Common.{◌≡◌, ℕ, suc, ◌-◌, false, None, length, ap, sym, ◌∙◌}
 use Rattle.priority_order.specs.Ranking.{is_above}
 use Rattle.cal_model.specs.Actor.{Actor}
 use Rattle.cal_model.specs.Eligible.{eligible}

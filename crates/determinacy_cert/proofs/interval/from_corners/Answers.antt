@@ -5,7 +5,7 @@ use Rattle.determinacy_cert.proofs.Corners.{corners_hold}
 use Rattle.determinacy_cert.proofs.interval.from_corners.Goals as goal
 
 pub returns : goal.returns
-returns c = λ w x y z p q r s.
+returns c = λ w x y z given.
     let i : interval_view c.just.result ≡ just c.in-Some.a = search rules in
     let j : interval_view c.just-2.result ≡ just c.in-Some-b.b = search rules in
     let k : interval_view c.just-3.result ≡ just c.in-Some-c.c = search rules in
@@ -13,5 +13,5 @@ returns c = λ w x y z p q r s.
     corners_hold c.in-Some.a c.in-Some-b.b c.in-Some-c.c c.in-Some-d.d w x y z
     (interval_view c.just.result) (interval_view c.just-2.result) (interval_view c.just-3.result) (interval_view c.just-4.result)
     (interval_view c.hull.result) (interval_view c.hull-2.result) (interval_view c.hull-3.result)
-    (sym c.in-Some.is ∙ p) (sym c.in-Some-b.is ∙ q) (sym c.in-Some-c.is ∙ r) (sym c.in-Some-d.is ∙ s)
+    (sym c.in-Some.is ∙ given.0) (sym c.in-Some-b.is ∙ given.1) (sym c.in-Some-c.is ∙ given.2) (sym c.in-Some-d.is ∙ given.3)
     i j k l c.hull.ensures c.hull-2.ensures c.hull-3.ensures

@@ -1,4 +1,4 @@
-use Rattle.std.proofs.Common.{◌<◌, ap, ◌∙◌, ◌-◌, ◌-ℤ◌, ◌^◌, pos, arith}
+use Rattle.std.proofs.Common.{ap, ◌∙◌, ◌-◌, ◌-ℤ◌, ◌^◌, pos}
 use Rattle.determinacy_cert.specs.Deciding.{numbered}
 use Rattle.determinacy_cert.proofs.Corners.{great_power, power_less, unnumbered_is}
 use Rattle.determinacy_cert.proofs.interval.greatest_of.Goals as goal

@@ -1,4 +1,4 @@
-use Rattle.std.proofs.Common.{◌≡◌, None, Some, List, map, ap, ◌∙◌}
+use Rattle.std.proofs.Common.{None, Some, List, map, ap, ◌∙◌}
 use Rattle.std.specs.Str.{bytes_eq}
 use Rattle.cal_model.specs.Actor.{Pattern}
 use Rattle.cal_model.specs.View.{pattern_view}

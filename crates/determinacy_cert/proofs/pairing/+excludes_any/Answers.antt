@@ -1,4 +1,4 @@
-use Rattle.std.proofs.Common.{◌≡◌, Bool, false, true, refl, sym, ap, ◌∙◌, rules}
+use Rattle.std.proofs.Common.{◌≡◌, false, true, refl, sym, ap, ◌∙◌, rules}
 use Rattle.cal_ast.specs.Tree.{Tree}
 use Rattle.cal_ast.specs.View.{expr_tree}
 use Rattle.cal_ast.specs.declared.expr.Expr as exprs

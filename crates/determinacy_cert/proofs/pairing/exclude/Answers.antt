@@ -1,4 +1,4 @@
-use Rattle.std.proofs.Common.{◌≡◌, Bool, false, true, List, map, sym, ap, ◌∙◌}
+use Rattle.std.proofs.Common.{◌≡◌, List, map, sym, ap, ◌∙◌}
 use Rattle.std.specs.Prelude.{option_map}
 use Rattle.cal_ast.specs.View.{expr_tree}
 use Rattle.cal_model.specs.Actor.{Pattern}

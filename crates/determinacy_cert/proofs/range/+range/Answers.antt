@@ -1,6 +1,5 @@
 use Rattle.std.proofs.Common.{◌≡◌, sym, ap, ◌∙◌, List}
 use Rattle.std.specs.Prelude.{option_map}
-use Rattle.cal_ast.specs.Tree as tree
 use Rattle.cal_ast.specs.View.{expr_tree}
 use Rattle.cal_model.specs.Certified.{Ranged, indexed, item_ranged, on_interval, on_ranged, range, range_of_name}
 use Rattle.determinacy_cert.specs.Viewing.{found_view, interval_view, names_view, unnamed}

@@ -1,0 +1,117 @@
+-- What holds of the parts of an actor that break no rule, as statements: written out, they are sound.
+-- Trusted: part of what a promise means.
+use Rattle.std.specs.Prelude.{◌≡◌, ◌≤◌, ℤ, ℕ, ◌++◌, List, [], map, length, Option, None, Some}
+use Rattle.rvc_base.specs.Storing.{IsSize}
+use Rattle.rvc_base.specs.Width.{IsNum}
+use Rattle.cal_ast.specs.Tree.{Tree}
+use Rattle.cal_model.specs.Value.{Kind, BoolKind, Shape, Num}
+use Rattle.cal_model.specs.Outcome.{Gives}
+use Rattle.cal_model.specs.Actor.{Action, Actor, Fun, Port, Proc}
+use Rattle.cal_model.specs.Call.{fun_named}
+use Rattle.cal_model.specs.Kinding.{Fine, Known, Names, constant, kind, meant_by, type_judged}
+use Rattle.cal_model.specs.Sound.{Each, AreDistinct, AreLocals, AreStatements, IsAction, IsFun, IsPlain, IsProc, max_ports, names_in_patterns, names_of, with_locals}
+use Rattle.cal_check.specs.Violations.{all_broken, all_fine}
+use Rattle.cal_check.specs.Written.{written, statement_written}
+use Rattle.cal_check.specs.Statements.{names_behind, starts_broken, statement_broken}
+use Rattle.cal_check.specs.Routines.{fun_broken, fun_judged, locals_of, proc_broken, proc_judged}
+use Rattle.cal_check.specs.Actions.{Around, action_broken, action_of, each_guard, guards_written}
+use Rattle.cal_check.specs.Ports.{each_port, header_broken}
+use Rattle.cal_check.specs.Formed.{AreDeclared, AreFormed, IsActionFormed, IsFunFormed, IsProcFormed}
+
+-- what a constant expression gives is a number of the language, whatever is declared inside
+abbrev pub ConstantsFit : Names → Type 0
+ConstantsFit names = (locals : List Known) (e : Tree) (z : ℤ) (left : ℕ)
+    → constant e (record names { locals = locals }) ≡ Gives (Num z) left → IsNum z
+
+-- both names are of one kind and may both be assigned or not, or both are unknown
+abbrev pub IsKnownLike : Option Known → Option Known → Type 0
+IsKnownLike None None = Unit {0}
+IsKnownLike (Some x) (Some y) = (x.kind ≡ y.kind) × (x.changes ≡ y.changes)
+IsKnownLike None (Some y) = ⊥
+IsKnownLike (Some x) None = ⊥
+
+-- both functions have one head, or both are unknown
+abbrev pub IsFunLike : Option Fun → Option Fun → Type 0
+IsFunLike None None = Unit {0}
+IsFunLike (Some f) (Some g) = (f.formals ≡ g.formals) × (f.result ≡ g.result)
+IsFunLike None (Some g) = ⊥
+IsFunLike (Some f) None = ⊥
+
+-- names and functions by kinds alone, whatever constants there are
+pub record AreAlike (n m : Names) : Type 0 where
+  pub known : (name : List ℕ) → IsKnownLike (meant_by name n) (meant_by name m)
+  pub funs : (name : List ℕ) → IsFunLike (fun_named name n.funs) (fun_named name m.funs)
+
+-- an expression that has a kind has it once its sizes and bounds are written out, and these are numbers then
+pub record WrittenKeepsKinds : Type 0 where
+  pub of_expressions : (e : Tree) (names : Names) (k : Kind) → ConstantsFit names → kind e names ≡ Fine k
+      → kind (written e names) names ≡ Fine k
+  pub of_types : (shape : Tree) (names : Names) (t : Shape) → ConstantsFit names
+      → type_judged shape names ≡ Fine t → type_judged (written shape names) names ≡ Fine t
+  pub is_plain : (e : Tree) (names : Names) (k : Kind) → kind e names ≡ Fine k
+      → IsPlain (written e names)
+
+-- a test that is written out
+abbrev pub IsGuard : Names → Tree → Type 0
+IsGuard names g = (kind g names ≡ Fine BoolKind) × IsPlain g
+
+abbrev pub GuardsAreSound : Type 0
+GuardsAreSound = (guards : Tree) (names : Names) → ConstantsFit names
+    → all_broken (each_guard guards names) ≡ [] → Each (IsGuard names) (guards_written guards names)
+
+-- locals, and the names behind them
+abbrev pub LocalsAreSound : Type 0
+LocalsAreSound = (vars : Tree) (names inner : Names) → ConstantsFit names → AreDeclared vars
+    → names_behind vars names ≡ Fine inner → starts_broken vars names ≡ []
+    → AreLocals (locals_of vars names) names
+    × (with_locals (locals_of vars names) names ≡ inner)
+
+abbrev pub StatementsAreSound : Type 0
+StatementsAreSound = (ss : Tree) (procs : List Proc) (names : Names) → ConstantsFit names
+    → AreFormed ss → statement_broken ss procs names ≡ []
+    → AreStatements (statement_written ss names) procs names
+    × IsPlain (statement_written ss names)
+
+-- the pattern variables and the locals of an action have different names
+abbrev pub HasDistinctNames : Action → Type 0
+HasDistinctNames act =
+    AreDistinct (names_in_patterns act.patterns ++ map (λ x. x.name) act.locals)
+
+-- what the actions of an actor see, over these names
+abbrev pub around_in : Actor → Names → Around
+around_in actor names =
+    record { ins = actor.ins; outs = actor.outs; procs = actor.procs; names = names }
+
+-- an action that is judged over names of the same kinds as those of its actor
+abbrev pub ActionsAreSound : Type 0
+ActionsAreSound = (a : Tree) (actor : Actor) (names : Names) → IsActionFormed a
+    → ConstantsFit names → AreAlike names (names_of actor)
+    → action_broken a (around_in actor names) ≡ []
+    → HasDistinctNames (action_of a (around_in actor names))
+    → IsAction actor (action_of a (around_in actor names))
+
+-- ports of both directions: their names differ, their sizes are allowed, and they are few
+pub record IsHeader (ins outs : List Port) : Type 0 where
+  pub distinct : AreDistinct (map (λ p. p.name) (ins ++ outs))
+  pub sizes : Each (λ p. IsSize p.kind) (ins ++ outs)
+  pub few_ins : length ins ≤ max_ports
+  pub few_outs : length outs ≤ max_ports
+
+abbrev pub HeadersAreSound : Type 0
+HeadersAreSound = (ins outs : Tree) (at : ℕ) (names : Names) → header_broken ins outs at names ≡ []
+    → (xs : List Port) × (ys : List Port) × (all_fine (each_port ins names) ≡ Some xs)
+    × (all_fine (each_port outs names) ≡ Some ys) × IsHeader xs ys
+
+-- a procedure, over all names of the same kinds
+abbrev pub ProceduresAreSound : Type 0
+ProceduresAreSound = (p : Tree) (procs : List Proc) (names others : Names) (found : Proc)
+    → IsProcFormed p → ConstantsFit names → AreAlike names others
+    → proc_judged p names ≡ Fine found → proc_broken p procs names ≡ []
+    → AreDistinct (map (λ x. x.name) (found.formals ++ found.locals)) → IsProc procs others found
+
+-- a function, by the text that stands for it where it is used
+abbrev pub FunctionsAreSound : Type 0
+FunctionsAreSound = (name : List ℕ) (decl : Tree) (names others : Names) (found : Fun)
+    → IsFunFormed decl → ConstantsFit names → AreAlike names others
+    → fun_judged name decl names ≡ Fine found → fun_broken decl names ≡ []
+    → AreDistinct (map (λ x. x.name) (found.formals ++ found.locals)) → IsFun others found

@@ -1,0 +1,23 @@
+//! What holds of the parts of an actor that break no rule.
+//!
+//! Each law is the contract of a function that does nothing: it is proved with the crate, and can be cited.
+
+ghost use Rattle.cal_check.specs.Laws.{ActionsAreSound, FunctionsAreSound, GuardsAreSound, HeadersAreSound, LocalsAreSound, ProceduresAreSound, StatementsAreSound, WrittenKeepsKinds};
+
+/// Writing out sizes and bounds keeps the kinds of expressions and types, if constants are numbers of the language.
+pub fn written_keeps_kinds()
+    ensures { WrittenKeepsKinds }
+{}
+
+/// The ports of a header, and guards, locals, statements, actions, functions and procedures that break no rule are sound
+/// once they are written out: over the names over which they are judged, and the last three over all names of the same
+/// kinds.
+pub fn what_breaks_no_rule_is_sound()
+    ensures header { HeadersAreSound }
+    ensures guards { GuardsAreSound }
+    ensures locals { LocalsAreSound }
+    ensures statements { StatementsAreSound }
+    ensures actions { ActionsAreSound }
+    ensures functions { FunctionsAreSound }
+    ensures procedures { ProceduresAreSound }
+{}
