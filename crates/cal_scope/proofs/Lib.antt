@@ -1,6 +1,6 @@
-mod Judged
+pub mod Judged
 mod Found
-mod Loops
+pub mod Loops
 mod Weights
 mod StmtWeights
 mod Each

@@ -21,16 +21,21 @@ abbrev pub with_global : Global → (at : ℕ) → List Global → Judged (List 
 with_global g at here = if is_some (global_named g.name here) then Broken declared_twice at
     else Fine (here ++ g ∷ [])
 
+-- the names with one more, of a file
+abbrev pub with_named : (before name : List ℕ) → Role → (at : ℕ) → List Global
+    → Judged (List Global)
+with_named before name role at here = with_global (global before name role) at here
+
 -- the names with that of a declaration, if it declares one
 abbrev pub with_declared : List ℕ → Tree → List Global → Judged (List Global)
 with_declared before (tree.param shape (tree.ident name place) start at) here =
-    with_global (global before name Variable) at here
+    with_named before name Variable at here
 with_declared before (tree.var shape (tree.ident name place) start changes at) here =
-    with_global (global before name Variable) at here
+    with_named before name Variable at here
 with_declared before (tree.function (tree.ident name place) formals result vars body at) here =
-    with_global (global before name Function) at here
+    with_named before name Function at here
 with_declared before (tree.procedure (tree.ident name place) formals vars body at) here =
-    with_global (global before name Procedure) at here
+    with_named before name Procedure at here
 with_declared before other here = Fine here
 
 -- the names with those of declarations in order, each of which is to be new

@@ -6,5 +6,6 @@ pub mod Expressions
 pub mod Statements
 pub mod Members
 pub mod Meanings
+pub mod Resolving
 pub mod View
 pub mod PortView

@@ -2,7 +2,7 @@
 -- Trusted: part of what a promise means.
 use Rattle.std.specs.Prelude.{ℕ, List, [], ◌++◌, Option, None, Some}
 use Rattle.std.specs.Borrow.{Bor}
-use Rattle.cal_scope.specs.Names.{Names}
+use Rattle.cal_scope.specs.Names.{Names, within}
 use Rattle.cal_scope.specs.declared.frames.Frame.{Frame}
 use Rattle.cal_scope.specs.declared.frames.Frame.TheOpen.{Frame-F}
 use Rattle.cal_scope.specs.declared.frames.Frame.TheFolds.{fold-Frame}
@@ -25,3 +25,7 @@ local_names (Some x) = frame_names x.now
 
 abbrev pub names_view : Inside → Names
 names_view n = record { locals = local_names n.frame; globals = n.file.now }
+
+-- what is seen inside one scope more, of these names
+abbrev pub seen_in : List (List ℕ) → Inside → Names
+seen_in here n = within here (names_view n)

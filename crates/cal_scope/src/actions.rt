@@ -1,17 +1,15 @@
 //! Actions with each name written out in full.
 #![tactic(auto, using(crate::proofs::Judged::breaks_on))]
 
-ghost use Rattle.std.specs.Prelude.{◌≡◌, OnOk, map, option_map};
-ghost use Rattle.cal_ast.specs.Tree.{listed};
-ghost use Rattle.cal_ast.specs.View.{action_tree, body_tree, expr_tree, ident_tree, optional, output_tree, pattern_tree};
-ghost use Rattle.rvc_base.specs.Rules.{not_as_asked, unknown_name};
+ghost use Rattle.std.specs.Prelude.{◌≡◌, OnOk, option_map};
+ghost use Rattle.cal_ast.specs.View.{action_tree, body_tree, ident_tree, optional, output_tree, pattern_tree};
+ghost use Rattle.cal_scope.specs.Asked.{expr_trees, exprs_tree, names_tree, output_trees, pattern_trees, patterns_tree};
 ghost use Rattle.cal_scope.specs.Expressions.{declared_by, exprs_resolved};
 ghost use Rattle.cal_scope.specs.Judging.{Judges};
-ghost use Rattle.cal_scope.specs.Members.{action_resolved, declared_by_patterns, names_judged, output_resolved, outputs_resolved, pattern_names, pattern_resolved, patterns_resolved, port_judged};
-ghost use Rattle.cal_scope.specs.Names.{within};
+ghost use Rattle.cal_scope.specs.Members.{declared_by_patterns, names_judged, pattern_names, port_judged};
+ghost use Rattle.cal_scope.specs.PortView.{action_among, output_among, outputs_among, pattern_among, patterns_among};
 ghost use Rattle.cal_scope.specs.Statements.{else_resolved};
-ghost use Rattle.cal_scope.specs.View.{names_view};
-ghost use Rattle.cal_scope.specs.PortView.{ports_view};
+ghost use Rattle.cal_scope.specs.View.{names_view, seen_in};
 
 use crate::copies::{equal_names, optional_name, optional_tag};
 use crate::expr::exprs;
@@ -50,10 +48,8 @@ fn port(port: &Option<Ident>, wanted: &NameSet, others: &NameSet) -> Result<(), 
 
 /// Names of pattern variables, each declared once. They are added to those of the scope.
 fn pattern_variables(variables: &[Ident], here: &mut NameSet) -> Result<(), ScopeFault>
-    ensures judged { Judges (λ _. tt) result
-        (names_judged (listed (map ident_tree variables.now)) here.old) }
-    ensures here { OnOk result (here.new
-        ≡ declared_by (listed (map ident_tree variables.now)) here.old) }
+    ensures judged { Judges (λ _. tt) result (names_judged (names_tree variables.now) here.old) }
+    ensures here { OnOk result (here.new ≡ declared_by (names_tree variables.now) here.old) }
 {
     let mut rest = variables;
     'names: while let Some((first, others)) = rest.split_first() {
@@ -74,8 +70,7 @@ fn pattern(
     here: &mut NameSet,
 ) -> Result<Pattern, ScopeFault>
     ensures judged { Judges pattern_tree result
-        (pattern_resolved (pattern_tree p.now) (ports_view ports.now) here.old
-        (names_view names.now)) }
+        (pattern_among ports.now p.now here.old (names_view names.now)) }
     ensures here { OnOk result (here.new ≡ pattern_names (pattern_tree p.now) here.old) }
 {
     port(&p.port, &ports.ins, &ports.outs)?;
@@ -96,11 +91,9 @@ fn patterns(
     patterns: &[Pattern],
     here: &mut NameSet,
 ) -> Result<Vec<Pattern>, ScopeFault>
-    ensures judged { Judges (λ found. map pattern_tree found.items) result
-        (patterns_resolved (listed (map pattern_tree patterns.now)) (ports_view ports.now) here.old
-        (names_view names.now)) }
-    ensures here { OnOk result (here.new
-        ≡ declared_by_patterns (listed (map pattern_tree patterns.now)) here.old) }
+    ensures judged { Judges pattern_trees result (patterns_among ports.now patterns.now here.old (names_view names.now)) }
+    ensures here { OnOk result (here.new ≡ declared_by_patterns (patterns_tree patterns.now)
+        here.old) }
 {
     let mut found = Vec::new(names.alloc);
     for p in patterns {
@@ -112,7 +105,7 @@ fn patterns(
 /// An output.
 fn output(names: &Inside, ports: &PortNames, o: &Output) -> Result<Output, ScopeFault>
     ensures { Judges output_tree result
-        (output_resolved (output_tree o.now) (ports_view ports.now) (names_view names.now)) }
+        (output_among ports.now o.now (names_view names.now)) }
 {
     port(&o.port, &ports.outs, &ports.ins)?;
     let values = exprs(names, &o.values)?;
@@ -127,9 +120,7 @@ fn output(names: &Inside, ports: &PortNames, o: &Output) -> Result<Output, Scope
 
 /// Outputs in order.
 fn outputs(names: &Inside, ports: &PortNames, outputs: &[Output]) -> Result<Vec<Output>, ScopeFault>
-    ensures { Judges (λ found. map output_tree found.items) result
-        (outputs_resolved (listed (map output_tree outputs.now)) (ports_view ports.now)
-        (names_view names.now)) }
+    ensures { Judges output_trees result (outputs_among ports.now outputs.now (names_view names.now)) }
 {
     let mut found = Vec::new(names.alloc);
     for o in outputs {
@@ -140,9 +131,7 @@ fn outputs(names: &Inside, ports: &PortNames, outputs: &[Output]) -> Result<Vec<
 
 /// Expressions inside a scope.
 fn exprs_in(names: &Inside, here: &NameSet, list: &[Expr]) -> Result<Vec<Expr>, ScopeFault>
-    ensures { Judges (λ found. map expr_tree found.items) result
-        (exprs_resolved (listed (map expr_tree list.now))
-        (within here.now (names_view names.now))) }
+    ensures { Judges expr_trees result (exprs_resolved (exprs_tree list.now) (seen_in here.now names.now)) }
 {
     let frame = Frame {
         names: here,
@@ -158,7 +147,7 @@ fn body_in(
     body: &Option<Vec<Stmt>>,
 ) -> Result<Option<Vec<Stmt>>, ScopeFault>
     ensures { Judges body_tree result
-        (else_resolved (body_tree body.now) (within here.now (names_view names.now))) }
+        (else_resolved (body_tree body.now) (seen_in here.now names.now)) }
 {
     let frame = Frame {
         names: here,
@@ -174,9 +163,7 @@ fn outputs_in(
     ports: &PortNames,
     list: &[Output],
 ) -> Result<Vec<Output>, ScopeFault>
-    ensures { Judges (λ found. map output_tree found.items) result
-        (outputs_resolved (listed (map output_tree list.now)) (ports_view ports.now)
-        (within here.now (names_view names.now))) }
+    ensures { Judges output_trees result (outputs_among ports.now list.now (seen_in here.now names.now)) }
 {
     let frame = Frame {
         names: here,
@@ -188,7 +175,7 @@ fn outputs_in(
 /// An action, whose pattern variables and locals are one scope.
 pub(crate) fn action(names: &Inside, ports: &PortNames, a: &Action) -> Result<Action, ScopeFault>
     ensures { Judges action_tree result
-        (action_resolved (action_tree a.now) (ports_view ports.now) (names_view names.now)) }
+        (action_among ports.now a.now (names_view names.now)) }
 {
     let mut here = NameSet::new(names.alloc);
     let patterns = patterns(names, ports, &a.patterns, &mut here)?;

@@ -1,15 +1,15 @@
 //! Expressions and types with each name written out in full, in one cycle.
 #![tactic(auto, using(crate::proofs::Judged::breaks_on))]
 
-ghost use Rattle.std.specs.Prelude.{◌≡◌, [], IfOk, OnOk, map};
+ghost use Rattle.std.specs.Prelude.{◌≡◌, OnOk};
 ghost use Rattle.cal_ast.specs.Tree as tree;
-ghost use Rattle.cal_ast.specs.Tree.{listed};
 ghost use Rattle.cal_ast.specs.View.{expr_tree, gen_tree, ident_tree, type_arg_tree, type_tree};
-ghost use Rattle.cal_scope.specs.Expressions.{declared_by, declared_name, expr_resolved, exprs_resolved, gen_resolved, gens_resolved, type_arg_resolved, type_args_resolved, type_resolved};
 ghost use Rattle.cal_model.specs.Kinding.{is_word};
+ghost use Rattle.cal_scope.specs.Asked.{expr_trees, exprs_tree, gen_trees, gens_tree, if_expr_tree, type_arg_trees, type_args_tree};
+ghost use Rattle.cal_scope.specs.Expressions.{declared_by, declared_name, exprs_resolved, gen_resolved, gens_resolved, type_args_resolved, type_resolved};
 ghost use Rattle.cal_scope.specs.Judging.{Judges};
-ghost use Rattle.cal_scope.specs.Names.{within};
-ghost use Rattle.cal_scope.specs.View.{names_view};
+ghost use Rattle.cal_scope.specs.Resolving.{ResolvesExpr, ResolvesTypeArg};
+ghost use Rattle.cal_scope.specs.View.{names_view, seen_in};
 
 use crate::fault::ScopeFault;
 use crate::frames::{Frame, Inside};
@@ -22,7 +22,7 @@ use rvc_base::Rule;
 /// An expression.
 #[cycle(expr)]
 pub(crate) fn expr(names: &Inside, e: &Expr) -> Result<Expr, ScopeFault>
-    ensures { Judges expr_tree result (expr_resolved (expr_tree e.now) (names_view names.now)) }
+    ensures { ResolvesExpr result (expr_tree e.now) (names_view names.now) }
 {
     match &e.form {
         ExprForm::Number(value) => Ok(made::number(*value, e.at)),
@@ -42,9 +42,7 @@ pub(crate) fn expr(names: &Inside, e: &Expr) -> Result<Expr, ScopeFault>
 /// A condition and two branches.
 #[cycle(expr)]
 fn if_expr(names: &Inside, test: &Expr, yes: &Expr, no: &Expr, at: u32) -> Result<Expr, ScopeFault>
-    ensures { Judges expr_tree result
-        (expr_resolved (tree.if_expr (expr_tree test.now) (expr_tree yes.now) (expr_tree no.now) at)
-        (names_view names.now)) }
+    ensures { ResolvesExpr result (if_expr_tree test.now yes.now no.now at) (names_view names.now) }
 {
     let test = expr(names, test)?;
     let yes = expr(names, yes)?;
@@ -55,9 +53,8 @@ fn if_expr(names: &Inside, test: &Expr, yes: &Expr, no: &Expr, at: u32) -> Resul
 /// A place in a list.
 #[cycle(expr)]
 fn index(names: &Inside, base: &Expr, place: &Expr, at: u32) -> Result<Expr, ScopeFault>
-    ensures { Judges expr_tree result
-        (expr_resolved (tree.index (expr_tree base.now) (expr_tree place.now) at)
-        (names_view names.now)) }
+    ensures { ResolvesExpr result (tree.index (expr_tree base.now) (expr_tree place.now) at)
+        (names_view names.now) }
 {
     let base = expr(names, base)?;
     let place = expr(names, place)?;
@@ -67,9 +64,8 @@ fn index(names: &Inside, base: &Expr, place: &Expr, at: u32) -> Result<Expr, Sco
 /// An operation with two operands.
 #[cycle(expr)]
 fn binary(names: &Inside, op: BinOp, left: &Expr, right: &Expr, at: u32) -> Result<Expr, ScopeFault>
-    ensures { Judges expr_tree result
-        (expr_resolved (tree.binary op (expr_tree left.now) (expr_tree right.now) at)
-        (names_view names.now)) }
+    ensures { ResolvesExpr result (tree.binary op (expr_tree left.now) (expr_tree right.now) at)
+        (names_view names.now) }
 {
     let left = expr(names, left)?;
     let right = expr(names, right)?;
@@ -79,9 +75,8 @@ fn binary(names: &Inside, op: BinOp, left: &Expr, right: &Expr, at: u32) -> Resu
 /// A comprehension, whose item sees its generators.
 #[cycle(expr)]
 fn comp(names: &Inside, item: &Expr, gens: &[Gen], at: u32) -> Result<Expr, ScopeFault>
-    ensures { Judges expr_tree result
-        (expr_resolved (tree.comp (expr_tree item.now) (listed (map gen_tree gens.now)) at)
-        (names_view names.now)) }
+    ensures { ResolvesExpr result (tree.comp (expr_tree item.now) (gens_tree gens.now) at)
+        (names_view names.now) }
 {
     let mut here = NameSet::new(names.alloc);
     let gens = generators(names, gens, &mut here)?;
@@ -91,8 +86,7 @@ fn comp(names: &Inside, item: &Expr, gens: &[Gen], at: u32) -> Result<Expr, Scop
 
 /// A variable.
 fn variable(names: &Inside, name: &str, at: u32) -> Result<Expr, ScopeFault>
-    ensures { Judges expr_tree result
-        (expr_resolved (tree.variable name.now at) (names_view names.now)) }
+    ensures { ResolvesExpr result (tree.variable name.now at) (names_view names.now) }
 {
     let full = names.full_name(Role::Variable, name, at)?;
     Ok(made::variable(full, at))
@@ -101,8 +95,7 @@ fn variable(names: &Inside, name: &str, at: u32) -> Result<Expr, ScopeFault>
 /// An expression in parentheses.
 #[cycle(expr)]
 fn paren(names: &Inside, inner: &Expr, at: u32) -> Result<Expr, ScopeFault>
-    ensures { Judges expr_tree result
-        (expr_resolved (tree.paren (expr_tree inner.now) at) (names_view names.now)) }
+    ensures { ResolvesExpr result (tree.paren (expr_tree inner.now) at) (names_view names.now) }
 {
     let inner = expr(names, inner)?;
     Ok(made::paren(names.alloc, inner, at)?)
@@ -111,8 +104,7 @@ fn paren(names: &Inside, inner: &Expr, at: u32) -> Result<Expr, ScopeFault>
 /// A list.
 #[cycle(expr)]
 fn list(names: &Inside, items: &[Expr], at: u32) -> Result<Expr, ScopeFault>
-    ensures { Judges expr_tree result
-        (expr_resolved (tree.list (listed (map expr_tree items.now)) at) (names_view names.now)) }
+    ensures { ResolvesExpr result (tree.list (exprs_tree items.now) at) (names_view names.now) }
 {
     let items = exprs(names, items)?;
     Ok(made::list(items, at))
@@ -121,9 +113,8 @@ fn list(names: &Inside, items: &[Expr], at: u32) -> Result<Expr, ScopeFault>
 /// A call of a function.
 #[cycle(expr)]
 fn call(names: &Inside, name: &str, args: &[Expr], at: u32) -> Result<Expr, ScopeFault>
-    ensures { Judges expr_tree result
-        (expr_resolved (tree.call name.now (listed (map expr_tree args.now)) at)
-        (names_view names.now)) }
+    ensures { ResolvesExpr result (tree.call name.now (exprs_tree args.now) at) (names_view
+        names.now) }
 {
     let full = names.full_name(Role::Function, name, at)?;
     let args = exprs(names, args)?;
@@ -133,8 +124,7 @@ fn call(names: &Inside, name: &str, args: &[Expr], at: u32) -> Result<Expr, Scop
 /// An expression inside a scope.
 #[cycle(expr)]
 pub(crate) fn expr_in(names: &Inside, here: &NameSet, e: &Expr) -> Result<Expr, ScopeFault>
-    ensures { Judges expr_tree result
-        (expr_resolved (expr_tree e.now) (within here.now (names_view names.now))) }
+    ensures { ResolvesExpr result (expr_tree e.now) (seen_in here.now names.now) }
 {
     let frame = Frame {
         names: here,
@@ -147,8 +137,7 @@ pub(crate) fn expr_in(names: &Inside, here: &NameSet, e: &Expr) -> Result<Expr, 
 /// An operation with one operand.
 #[cycle(expr)]
 fn prefix(names: &Inside, op: PrefixOp, of: &Expr, at: u32) -> Result<Expr, ScopeFault>
-    ensures { Judges expr_tree result
-        (expr_resolved (tree.prefix op (expr_tree of.now) at) (names_view names.now)) }
+    ensures { ResolvesExpr result (tree.prefix op (expr_tree of.now) at) (names_view names.now) }
 {
     let of = expr(names, of)?;
     Ok(made::prefix(names.alloc, op, of, at)?)
@@ -157,8 +146,8 @@ fn prefix(names: &Inside, op: PrefixOp, of: &Expr, at: u32) -> Result<Expr, Scop
 /// Expressions in order.
 #[cycle(expr)]
 pub(crate) fn exprs(names: &Inside, exprs: &[Expr]) -> Result<Vec<Expr>, ScopeFault>
-    ensures { Judges (λ found. map expr_tree found.items) result
-        (exprs_resolved (listed (map expr_tree exprs.now)) (names_view names.now)) }
+    ensures { Judges expr_trees result (exprs_resolved (exprs_tree exprs.now) (names_view
+        names.now)) }
 {
     let mut found = Vec::new(names.alloc);
     for e in exprs {
@@ -172,9 +161,9 @@ pub(crate) fn exprs(names: &Inside, exprs: &[Expr]) -> Result<Vec<Expr>, ScopeFa
 /// Generators in order, each of which sees those before it. Their names are added to those of the scope.
 #[cycle(expr)]
 fn generators(names: &Inside, gens: &[Gen], here: &mut NameSet) -> Result<Vec<Gen>, ScopeFault>
-    ensures judged { Judges (λ found. map gen_tree found.items) result
-        (gens_resolved (listed (map gen_tree gens.now)) here.old (names_view names.now)) }
-    ensures here { OnOk result (here.new ≡ declared_by (listed (map gen_tree gens.now)) here.old) }
+    ensures judged { Judges gen_trees result (gens_resolved (gens_tree gens.now) here.old
+        (names_view names.now)) }
+    ensures here { OnOk result (here.new ≡ declared_by (gens_tree gens.now) here.old) }
 {
     let mut found = Vec::new(names.alloc);
     for g in gens {
@@ -195,7 +184,7 @@ fn generator_name(g: &Gen) -> &str
 #[cycle(expr)]
 fn generator(names: &Inside, here: &NameSet, g: &Gen) -> Result<Gen, ScopeFault>
     ensures { Judges gen_tree result
-        (gen_resolved (gen_tree g.now) (within here.now (names_view names.now))) }
+        (gen_resolved (gen_tree g.now) (seen_in here.now names.now)) }
 {
     let shape = type_in(names, here, &g.shape)?;
     let from = expr_in(names, here, &g.from)?;
@@ -226,7 +215,7 @@ pub(crate) fn type_expr(names: &Inside, t: &TypeExpr) -> Result<TypeExpr, ScopeF
 #[cycle(expr)]
 pub(crate) fn type_in(names: &Inside, here: &NameSet, t: &TypeExpr) -> Result<TypeExpr, ScopeFault>
     ensures { Judges type_tree result
-        (type_resolved (type_tree t.now) (within here.now (names_view names.now))) }
+        (type_resolved (type_tree t.now) (seen_in here.now names.now)) }
 {
     let frame = Frame {
         names: here,
@@ -252,8 +241,8 @@ fn is_word(name: &str) -> bool
 /// The arguments of a type in order.
 #[cycle(expr)]
 fn type_args(names: &Inside, args: &[TypeArg]) -> Result<Vec<TypeArg>, ScopeFault>
-    ensures { Judges (λ found. map type_arg_tree found.items) result
-        (type_args_resolved (listed (map type_arg_tree args.now)) (names_view names.now)) }
+    ensures { Judges type_arg_trees result (type_args_resolved (type_args_tree args.now) (names_view
+        names.now)) }
 {
     let mut found = Vec::new(names.alloc);
     for arg in args {
@@ -265,8 +254,7 @@ fn type_args(names: &Inside, args: &[TypeArg]) -> Result<Vec<TypeArg>, ScopeFaul
 /// An argument of a type.
 #[cycle(expr)]
 fn type_arg(names: &Inside, arg: &TypeArg) -> Result<TypeArg, ScopeFault>
-    ensures { Judges type_arg_tree result
-        (type_arg_resolved (type_arg_tree arg.now) (names_view names.now)) }
+    ensures { ResolvesTypeArg result (type_arg_tree arg.now) (names_view names.now) }
 {
     match arg {
         TypeArg::Shape { name, shape } => shape_arg(names, name, shape),
@@ -277,9 +265,8 @@ fn type_arg(names: &Inside, arg: &TypeArg) -> Result<TypeArg, ScopeFault>
 /// An argument that is a type.
 #[cycle(expr)]
 fn shape_arg(names: &Inside, name: &Ident, shape: &TypeExpr) -> Result<TypeArg, ScopeFault>
-    ensures { Judges type_arg_tree result
-        (type_arg_resolved (tree.shape_arg (ident_tree name.now) (type_tree shape.now))
-        (names_view names.now)) }
+    ensures { ResolvesTypeArg result (tree.shape_arg (ident_tree name.now) (type_tree shape.now))
+        (names_view names.now) }
 {
     let shape = type_expr(names, shape)?;
     let name = name.copy(names.alloc)?;
@@ -289,9 +276,8 @@ fn shape_arg(names: &Inside, name: &Ident, shape: &TypeExpr) -> Result<TypeArg, 
 /// An argument that is a value.
 #[cycle(expr)]
 fn value_arg(names: &Inside, name: &Ident, value: &Expr) -> Result<TypeArg, ScopeFault>
-    ensures { Judges type_arg_tree result
-        (type_arg_resolved (tree.value_arg (ident_tree name.now) (expr_tree value.now))
-        (names_view names.now)) }
+    ensures { ResolvesTypeArg result (tree.value_arg (ident_tree name.now) (expr_tree value.now))
+        (names_view names.now) }
 {
     let value = expr(names, value)?;
     let name = name.copy(names.alloc)?;

@@ -1,19 +1,21 @@
 //! The names of a file: what it declares, and what it imports.
 
-ghost use Rattle.std.specs.Prelude.{◌≡◌, [], ◌∷◌, ◌++◌, OnOk, OnErr, None, is_some, option_map};
+ghost use Rattle.std.specs.Prelude.{◌≡◌, [], ◌∷◌, ◌++◌, OnOk, OnErr, None, is_some, map, option_map};
 ghost use Rattle.cal_scope.specs.Names.{global_named};
-ghost use Rattle.cal_scope.specs.Meanings.{meaning_of};
+ghost use Rattle.cal_scope.specs.Meanings.{global_of, meaning_of};
 
 use crate::role::Role;
 use indexmap::IndexMap;
+use indexmap::map::Slice;
 use rvc_base::Memory;
 use std::alloc::Global;
 use std::marker::Model;
 
-/// What a name of a file stands for, and its text in full.
+/// What a name of a file stands for.
 #[derive(Drop)]
-pub(crate) struct Meaning {
+pub struct Meaning {
     pub role: Role,
+    /// The text that stands for it wherever it is used.
     pub full: String,
 }
 
@@ -77,11 +79,17 @@ impl FileNames {
         Ok(())
     }
 
-    /// What a name stands for.
-    pub(crate) fn meaning(&self, name: &str) -> Option<&Meaning>
+    /// What a name stands for, if it is there.
+    pub fn meaning(&self, name: &str) -> Option<&Meaning>
         ensures { option_map (λ m. meaning_of name.now m.now) result
             ≡ global_named name.now self.now }
     {
         self.named.get(name)
+    }
+    /// The names with what they stand for, in the order in which they were added.
+    pub fn entries(&self) -> Slice<'_, String, Meaning>
+        ensures { map global_of result ≡ self.now }
+    {
+        self.named.as_slice()
     }
 }

@@ -6,7 +6,7 @@
 //!
 //! [`resolve_members`] gives the members of a file with each name written out in full, or the first rule of scope that
 //! they break, with its place; [`resolve_expr`] and [`resolve_type`] do so for one part. `specs/` says what each part is
-//! then. No call goes from file to file along imports yet.
+//! then. What a file imports is added to its names by the crate above, which goes from file to file.
 #![tactic(auto)]
 
 mod actions;
@@ -28,7 +28,7 @@ mod stmt;
 mod vars;
 
 pub use fault::ScopeFault;
-pub use file_names::FileNames;
+pub use file_names::{FileNames, Meaning};
 pub use frames::{Frame, Inside};
 pub use name_set::NameSet;
 pub use ports::PortNames;

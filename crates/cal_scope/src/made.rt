@@ -1,9 +1,9 @@
 //! Expressions and types that are made of others.
 
-ghost use Rattle.std.specs.Prelude.{◌≡◌, IfOk, map, string_bytes};
+ghost use Rattle.std.specs.Prelude.{◌≡◌, IfOk, string_bytes};
 ghost use Rattle.cal_ast.specs.Tree as tree;
-ghost use Rattle.cal_ast.specs.Tree.{listed};
 ghost use Rattle.cal_ast.specs.View.{expr_tree, gen_tree, ident_tree, type_arg_tree, type_tree};
+ghost use Rattle.cal_scope.specs.Asked.{exprs_tree, gens_tree, if_expr_tree, type_args_tree};
 
 use cal_ast::{BinOp, Expr, ExprForm, Gen, Ident, PrefixOp, TypeArg, TypeExpr};
 use rvc_base::Memory;
@@ -41,8 +41,7 @@ pub(crate) fn variable(name: String, at: u32) -> Expr
 
 /// A call of a function.
 pub(crate) fn call(name: String, args: Vec<Expr>, at: u32) -> Expr
-    ensures { expr_tree result ≡ tree.call (string_bytes name)
-        (listed (map expr_tree args.items)) at }
+    ensures { expr_tree result ≡ tree.call (string_bytes name) (exprs_tree args.items) at }
 {
     Expr {
         form: ExprForm::Call { name, args },
@@ -67,7 +66,7 @@ pub(crate) fn if_expr(
     at: u32,
 ) -> Result<Expr, Memory>
     ensures { IfOk result (λ e. expr_tree e
-        ≡ tree.if_expr (expr_tree test) (expr_tree yes) (expr_tree no) at) }
+        ≡ if_expr_tree test yes no at) }
 {
     let form = ExprForm::If {
         test: Box::new(alloc, test)?,
@@ -79,7 +78,7 @@ pub(crate) fn if_expr(
 
 /// A list.
 pub(crate) fn list(items: Vec<Expr>, at: u32) -> Expr
-    ensures { expr_tree result ≡ tree.list (listed (map expr_tree items.items)) at }
+    ensures { expr_tree result ≡ tree.list (exprs_tree items.items) at }
 {
     Expr {
         form: ExprForm::List(items),
@@ -89,8 +88,7 @@ pub(crate) fn list(items: Vec<Expr>, at: u32) -> Expr
 
 /// A comprehension.
 pub(crate) fn comp(alloc: Global, item: Expr, gens: Vec<Gen>, at: u32) -> Result<Expr, Memory>
-    ensures { IfOk result (λ e. expr_tree e
-        ≡ tree.comp (expr_tree item) (listed (map gen_tree gens.items)) at) }
+    ensures { IfOk result (λ e. expr_tree e ≡ tree.comp (expr_tree item) (gens_tree gens.items) at) }
 {
     let form = ExprForm::Comp {
         item: Box::new(alloc, item)?,
@@ -156,8 +154,7 @@ pub(crate) fn generator(shape: TypeExpr, name: Ident, from: Expr, to: Expr, at: 
 
 /// A type.
 pub(crate) fn type_of(name: Ident, args: Vec<TypeArg>, at: u32) -> TypeExpr
-    ensures { type_tree result ≡ tree.type_of (ident_tree name)
-        (listed (map type_arg_tree args.items)) at }
+    ensures { type_tree result ≡ tree.type_of (ident_tree name) (type_args_tree args.items) at }
 {
     TypeExpr { name, args, at }
 }

@@ -1,12 +1,10 @@
 //! Members of an actor or a unit with each name written out in full.
 #![tactic(auto, using(crate::proofs::Judged::breaks_on))]
 
-ghost use Rattle.std.specs.Prelude.{◌≡◌, map};
-ghost use Rattle.cal_ast.specs.Tree.{listed};
 ghost use Rattle.cal_ast.specs.View.{member_tree};
+ghost use Rattle.cal_scope.specs.Asked.{member_trees};
 ghost use Rattle.cal_scope.specs.Judging.{Judges};
-ghost use Rattle.cal_scope.specs.Members.{member_resolved, members_resolved};
-ghost use Rattle.cal_scope.specs.PortView.{ports_view};
+ghost use Rattle.cal_scope.specs.PortView.{member_among, members_among};
 ghost use Rattle.cal_scope.specs.View.{names_view};
 
 use crate::actions::action;
@@ -20,7 +18,7 @@ use cal_ast::Member;
 /// A member.
 pub(crate) fn member(names: &Inside, ports: &PortNames, m: &Member) -> Result<Member, ScopeFault>
     ensures { Judges member_tree result
-        (member_resolved (member_tree m.now) (ports_view ports.now) (names_view names.now)) }
+        (member_among ports.now m.now (names_view names.now)) }
 {
     match m {
         Member::Var(v) => Ok(Member::Var(first_var(names, v)?)),
@@ -38,9 +36,7 @@ pub(crate) fn members(
     ports: &PortNames,
     list: &[Member],
 ) -> Result<Vec<Member>, ScopeFault>
-    ensures { Judges (λ found. map member_tree found.items) result
-        (members_resolved (listed (map member_tree list.now)) (ports_view ports.now)
-        (names_view names.now)) }
+    ensures { Judges member_trees result (members_among ports.now list.now (names_view names.now)) }
 {
     let mut found = Vec::new(names.alloc);
     for m in list {

@@ -1,6 +1,6 @@
 //! The names that one scope declares.
 
-ghost use Rattle.std.specs.Prelude.{◌≡◌, [], OnErr, OnOk};
+ghost use Rattle.std.specs.Prelude.{◌≡◌, [], OnErr, OnOk, map, string_bytes};
 ghost use Rattle.cal_scope.specs.Names.{is_among, with_name};
 
 use indexmap::IndexSet;
@@ -55,5 +55,12 @@ impl NameSet {
         let name = String::from_str(self.alloc, name)?;
         self.names.insert(name)?;
         Ok(())
+    }
+
+    /// The names in the order in which they were added.
+    pub fn names(&self) -> &[String]
+        ensures { map string_bytes result.now ≡ self.now }
+    {
+        self.names.as_slice()
     }
 }

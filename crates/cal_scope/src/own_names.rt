@@ -4,7 +4,7 @@
 ghost use Rattle.std.specs.Prelude.{◌≡◌, [], ◌++◌, IfOk, string_bytes};
 ghost use Rattle.cal_ast.specs.View.{member_tree, param_tree};
 ghost use Rattle.cal_scope.specs.Asked.{members_tree, params_tree};
-ghost use Rattle.cal_scope.specs.Globals.{global, names_of_actor, with_all_declared, with_declared, with_global};
+ghost use Rattle.cal_scope.specs.Globals.{names_of_actor, with_all_declared, with_declared, with_named};
 ghost use Rattle.cal_scope.specs.Judging.{Judges};
 
 use crate::fault::ScopeFault;
@@ -70,7 +70,7 @@ fn declare(
     at: u32,
 ) -> Result<(), ScopeFault>
     ensures { Judges (λ _. names.new) result
-        (with_global (global before.now (string_bytes name.now.text) role) at names.old) }
+        (with_named before.now (string_bytes name.now.text) role at names.old) }
 {
     let text = name.text.as_str();
     if names.has(text) {

@@ -1,12 +1,10 @@
 //! The calls for one part of a file.
 
-ghost use Rattle.std.specs.Prelude.{◌≡◌};
 ghost use Rattle.cal_ast.specs.View.{expr_tree, type_tree};
-ghost use Rattle.cal_scope.specs.Asked.{member_trees, members_tree, outermost};
+ghost use Rattle.cal_scope.specs.Asked.{member_trees, outermost};
 ghost use Rattle.cal_scope.specs.Expressions.{expr_resolved, type_resolved};
 ghost use Rattle.cal_scope.specs.Judging.{Judges};
-ghost use Rattle.cal_scope.specs.Members.{members_resolved};
-ghost use Rattle.cal_scope.specs.PortView.{ports_view};
+ghost use Rattle.cal_scope.specs.PortView.{members_among};
 
 use crate::expr::{expr, type_expr};
 use crate::fault::ScopeFault;
@@ -32,7 +30,7 @@ pub fn resolve_expr(names: &FileNames, e: &Expr) -> Result<Expr, ScopeFault>
 ///
 /// # Errors
 ///
-/// As those of `resolve_expr`; the type's name is unknown where it is no type of the language.
+/// As those of `resolve_expr`; the type's name is unknown if it is no type of the language.
 pub fn resolve_type(names: &FileNames, t: &TypeExpr) -> Result<TypeExpr, ScopeFault>
     ensures { Judges type_tree result (type_resolved (type_tree t.now) (outermost names.now)) }
 {
@@ -51,7 +49,7 @@ pub fn resolve_members(
     list: &[Member],
 ) -> Result<Vec<Member>, ScopeFault>
     ensures { Judges member_trees result
-        (members_resolved (members_tree list.now) (ports_view ports.now) (outermost names.now)) }
+        (members_among ports.now list.now (outermost names.now)) }
 {
     members(&Inside::outermost(names), ports, list)
 }

@@ -1,14 +1,15 @@
 //! Statements with each name written out in full, in one cycle.
 #![tactic(auto, using(crate::proofs::Judged::breaks_on))]
 
-ghost use Rattle.std.specs.Prelude.{◌≡◌, [], ◌∷◌, map, string_bytes};
+ghost use Rattle.std.specs.Prelude.{[], ◌∷◌, string_bytes};
 ghost use Rattle.cal_ast.specs.Tree as tree;
-ghost use Rattle.cal_ast.specs.Tree.{listed};
-ghost use Rattle.cal_ast.specs.View.{body_tree, expr_tree, ident_tree, stmt_tree, type_tree, var_tree};
+ghost use Rattle.cal_ast.specs.View.{body_tree, expr_tree, ident_tree, stmt_tree};
+ghost use Rattle.cal_scope.specs.Asked.{assign_tree, exprs_tree, foreach_tree, if_stmt_tree, stmts_tree, vars_tree};
 ghost use Rattle.cal_scope.specs.Judging.{Judges};
 ghost use Rattle.cal_scope.specs.Names.{within};
-ghost use Rattle.cal_scope.specs.Statements.{else_resolved, stmt_resolved, stmts_resolved};
-ghost use Rattle.cal_scope.specs.View.{names_view};
+ghost use Rattle.cal_scope.specs.Resolving.{ResolvesStmt, ResolvesStmts};
+ghost use Rattle.cal_scope.specs.Statements.{else_resolved};
+ghost use Rattle.cal_scope.specs.View.{names_view, seen_in};
 
 use crate::expr::{expr, exprs, type_expr};
 use crate::fault::ScopeFault;
@@ -22,7 +23,7 @@ use cal_ast::{Expr, Ident, Stmt, StmtForm, TypeExpr, VarDecl};
 /// A statement.
 #[cycle(stmt)]
 pub(crate) fn stmt(names: &Inside, s: &Stmt) -> Result<Stmt, ScopeFault>
-    ensures { Judges stmt_tree result (stmt_resolved (stmt_tree s.now) (names_view names.now)) }
+    ensures { ResolvesStmt result (stmt_tree s.now) (names_view names.now) }
 {
     match &s.form {
         StmtForm::Assign {
@@ -52,9 +53,8 @@ fn assign(
     value: &Expr,
     at: u32,
 ) -> Result<Stmt, ScopeFault>
-    ensures { Judges stmt_tree result
-        (stmt_resolved (tree.assign (ident_tree name.now) (listed (map expr_tree places.now))
-        (expr_tree value.now) at) (names_view names.now)) }
+    ensures { ResolvesStmt result (assign_tree name.now places.now value.now at) (names_view
+        names.now) }
 {
     let full = names.full_name(Role::Variable, name.text.as_str(), name.at)?;
     let places = exprs(names, places)?;
@@ -68,9 +68,8 @@ fn assign(
 
 /// A call of a procedure.
 fn call(names: &Inside, name: &Ident, args: &[Expr], at: u32) -> Result<Stmt, ScopeFault>
-    ensures { Judges stmt_tree result
-        (stmt_resolved (tree.call_stmt (ident_tree name.now) (listed (map expr_tree args.now)) at)
-        (names_view names.now)) }
+    ensures { ResolvesStmt result (tree.call_stmt (ident_tree name.now) (exprs_tree args.now) at)
+        (names_view names.now) }
 {
     let full = names.full_name(Role::Procedure, name.text.as_str(), name.at)?;
     let args = exprs(names, args)?;
@@ -90,9 +89,7 @@ fn if_stmt(
     no: &Option<Vec<Stmt>>,
     at: u32,
 ) -> Result<Stmt, ScopeFault>
-    ensures { Judges stmt_tree result
-        (stmt_resolved (tree.if_stmt (expr_tree test.now) (listed (map stmt_tree yes.now))
-        (body_tree no.now) at) (names_view names.now)) }
+    ensures { ResolvesStmt result (if_stmt_tree test.now yes.now no.now at) (names_view names.now) }
 {
     let test = expr(names, test)?;
     let yes = stmts(names, yes)?;
@@ -103,9 +100,8 @@ fn if_stmt(
 /// A loop over a condition.
 #[cycle(stmt)]
 fn while_stmt(names: &Inside, test: &Expr, body: &[Stmt], at: u32) -> Result<Stmt, ScopeFault>
-    ensures { Judges stmt_tree result
-        (stmt_resolved (tree.while_stmt (expr_tree test.now) (listed (map stmt_tree body.now)) at)
-        (names_view names.now)) }
+    ensures { ResolvesStmt result (tree.while_stmt (expr_tree test.now) (stmts_tree body.now) at)
+        (names_view names.now) }
 {
     let test = expr(names, test)?;
     let body = stmts(names, body)?;
@@ -123,10 +119,8 @@ fn foreach_stmt(
     body: &[Stmt],
     at: u32,
 ) -> Result<Stmt, ScopeFault>
-    ensures { Judges stmt_tree result
-        (stmt_resolved (tree.foreach_stmt (type_tree shape.now) (ident_tree name.now)
-        (expr_tree from.now) (expr_tree to.now) (listed (map stmt_tree body.now)) at)
-        (names_view names.now)) }
+    ensures { ResolvesStmt result (foreach_tree shape.now name.now from.now to.now body.now at)
+        (names_view names.now) }
 {
     let shape = type_expr(names, shape)?;
     let from = expr(names, from)?;
@@ -139,9 +133,8 @@ fn foreach_stmt(
 /// The body of a loop over a range.
 #[cycle(stmt)]
 fn loop_body(names: &Inside, name: &Ident, body: &[Stmt]) -> Result<Vec<Stmt>, ScopeFault>
-    ensures { Judges (λ found. map stmt_tree found.items) result
-        (stmts_resolved (listed (map stmt_tree body.now))
-        (within (string_bytes name.now.text ∷ []) (names_view names.now))) }
+    ensures { ResolvesStmts result (stmts_tree body.now) (within (string_bytes name.now.text ∷ [])
+        (names_view names.now)) }
 {
     let mut here = NameSet::new(names.alloc);
     here.add(name.text.as_str())?;
@@ -155,9 +148,7 @@ pub(crate) fn stmts_in(
     here: &NameSet,
     body: &[Stmt],
 ) -> Result<Vec<Stmt>, ScopeFault>
-    ensures { Judges (λ found. map stmt_tree found.items) result
-        (stmts_resolved (listed (map stmt_tree body.now))
-        (within here.now (names_view names.now))) }
+    ensures { ResolvesStmts result (stmts_tree body.now) (seen_in here.now names.now) }
 {
     let frame = Frame {
         names: here,
@@ -170,9 +161,8 @@ pub(crate) fn stmts_in(
 /// A block, whose statements see its variables.
 #[cycle(stmt)]
 fn block(names: &Inside, locals: &[VarDecl], body: &[Stmt], at: u32) -> Result<Stmt, ScopeFault>
-    ensures { Judges stmt_tree result
-        (stmt_resolved (tree.block (listed (map var_tree locals.now))
-        (listed (map stmt_tree body.now)) at) (names_view names.now)) }
+    ensures { ResolvesStmt result (tree.block (vars_tree locals.now) (stmts_tree body.now) at)
+        (names_view names.now) }
 {
     let mut here = NameSet::new(names.alloc);
     let locals = vars(names, locals, &mut here)?;
@@ -183,8 +173,7 @@ fn block(names: &Inside, locals: &[VarDecl], body: &[Stmt], at: u32) -> Result<S
 /// Statements in order.
 #[cycle(stmt)]
 pub(crate) fn stmts(names: &Inside, body: &[Stmt]) -> Result<Vec<Stmt>, ScopeFault>
-    ensures { Judges (λ found. map stmt_tree found.items) result
-        (stmts_resolved (listed (map stmt_tree body.now)) (names_view names.now)) }
+    ensures { ResolvesStmts result (stmts_tree body.now) (names_view names.now) }
 {
     let mut found = Vec::new(names.alloc);
     for s in body {

@@ -1,16 +1,15 @@
 //! Variables, formals and parts that may be missing.
 #![tactic(auto, using(crate::proofs::Judged::breaks_on))]
 
-ghost use Rattle.std.specs.Prelude.{◌≡◌, [], OnOk, map};
-ghost use Rattle.cal_ast.specs.Tree.{listed};
+ghost use Rattle.std.specs.Prelude.{◌≡◌, [], OnOk};
 ghost use Rattle.cal_ast.specs.View.{optional_expr, port_tree, var_tree};
-ghost use Rattle.rvc_base.specs.Rules.{declared_twice};
+ghost use Rattle.cal_scope.specs.Asked.{port_trees, ports_tree, var_trees, vars_tree};
 ghost use Rattle.cal_scope.specs.Expressions.{declared_by, optional_resolved};
 ghost use Rattle.cal_scope.specs.Judging.{Judges};
 ghost use Rattle.cal_scope.specs.Members.{formal_resolved, formals_resolved};
-ghost use Rattle.cal_scope.specs.Names.{within};
 ghost use Rattle.cal_scope.specs.Statements.{var_resolved, vars_resolved};
-ghost use Rattle.cal_scope.specs.View.{names_view};
+ghost use Rattle.cal_scope.specs.View.{names_view, seen_in};
+ghost use Rattle.rvc_base.specs.Rules.{declared_twice};
 
 use crate::expr::{expr, type_expr};
 use crate::fault::ScopeFault;
@@ -46,9 +45,9 @@ pub(crate) fn vars(
     vars: &[VarDecl],
     here: &mut NameSet,
 ) -> Result<Vec<VarDecl>, ScopeFault>
-    ensures judged { Judges (λ found. map var_tree found.items) result
-        (vars_resolved (listed (map var_tree vars.now)) here.old (names_view names.now)) }
-    ensures here { OnOk result (here.new ≡ declared_by (listed (map var_tree vars.now)) here.old) }
+    ensures judged { Judges var_trees result (vars_resolved (vars_tree vars.now) here.old
+        (names_view names.now)) }
+    ensures here { OnOk result (here.new ≡ declared_by (vars_tree vars.now) here.old) }
 {
     let mut found = Vec::new(names.alloc);
     for v in vars {
@@ -61,7 +60,7 @@ pub(crate) fn vars(
 /// A variable of a scope that has declared these names.
 fn var(names: &Inside, here: &NameSet, v: &VarDecl) -> Result<VarDecl, ScopeFault>
     ensures { Judges var_tree result
-        (var_resolved (var_tree v.now) here.now (within here.now (names_view names.now))) }
+        (var_resolved (var_tree v.now) here.now (seen_in here.now names.now)) }
 {
     if here.has(v.name.text.as_str()) {
         return Err(twice(v.at));
@@ -95,10 +94,9 @@ pub(crate) fn formals(
     formals: &[PortDecl],
     here: &mut NameSet,
 ) -> Result<Vec<PortDecl>, ScopeFault>
-    ensures judged { Judges (λ found. map port_tree found.items) result
-        (formals_resolved (listed (map port_tree formals.now)) here.old (names_view names.now)) }
-    ensures here { OnOk result (here.new
-        ≡ declared_by (listed (map port_tree formals.now)) here.old) }
+    ensures judged { Judges port_trees result (formals_resolved (ports_tree formals.now) here.old
+        (names_view names.now)) }
+    ensures here { OnOk result (here.new ≡ declared_by (ports_tree formals.now) here.old) }
 {
     let mut found = Vec::new(names.alloc);
     for f in formals {
@@ -111,7 +109,7 @@ pub(crate) fn formals(
 /// A formal of a function or a procedure that has declared these names.
 fn formal(names: &Inside, here: &NameSet, f: &PortDecl) -> Result<PortDecl, ScopeFault>
     ensures { Judges port_tree result
-        (formal_resolved (port_tree f.now) here.now (within here.now (names_view names.now))) }
+        (formal_resolved (port_tree f.now) here.now (seen_in here.now names.now)) }
 {
     if here.has(f.name.text.as_str()) {
         return Err(twice(f.at));

@@ -14,3 +14,5 @@ mod members;
 mod names;
 #[cfg(test)]
 mod rows;
+#[cfg(test)]
+mod scopes;

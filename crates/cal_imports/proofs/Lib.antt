@@ -1,0 +1,10 @@
+mod Answered
+mod Found
+mod HeaderParts
+mod Walks
+mod Stacks
+mod Sizes
+mod FoundNodes
+mod Behind
+mod Rows
+mod Ordered

@@ -1,0 +1,17 @@
+pub mod Answer
+pub mod Sources
+pub mod Asked
+pub mod View
+pub mod Brought
+pub mod OneFile
+pub mod Walk
+pub mod GraphView
+pub mod WalkView
+pub mod Behind
+pub mod Whole
+pub mod Calls
+pub mod CallsView
+pub mod Recursion
+pub mod Resolved
+pub mod CallOrder
+pub mod ScopeView
