@@ -20,11 +20,11 @@ once_append k zero m x =
 once_append k (suc n) m x =
     let more : suc n + m ≡ suc (n + m) = omega arith in
     let opened : once_from k (suc n + m) x ≡ if_same k x + once_from (suc k) (n + m) x =
-        ap (λ n. once_from k n x) more in
+    ap (λ n. once_from k n x) more in
     let rest = once_append (suc k) n m x in
     let there : suc k + n ≡ k + suc n = omega arith in
     let moved : once_from (suc k + n) m x ≡ once_from (k + suc n) m x =
-        ap (λ j. once_from j m x) there in
+    ap (λ j. once_from j m x) there in
     omega (arith, opened, rest, moved)
 
 net_count_append : (m : ℕ) (xs ys : List BoundNet) → net_count m (xs ++ ys) ≡ net_count m xs + net_count m ys

@@ -6,5 +6,5 @@
 
 mod laws;
 
-pub use laws::bound_trees_are_sound;
 pub use fnl_tree::{Inner, Leaf, LeafValue, Net, NetEnd, Part, Tree, Wire};
+pub use laws::bound_trees_are_sound;
