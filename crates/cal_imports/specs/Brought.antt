@@ -40,11 +40,15 @@ abbrev pub asked_brought : Option Global → (place at : ℕ) → List Global �
 asked_brought None place at here = Broken unknown_name place
 asked_brought (Some g) place at here = with_brought g at here
 
+abbrev pub one_brought : (name : List ℕ) → (place : ℕ) → (unit : List Global) → (at : ℕ)
+    → List Global → Judged (List Global)
+one_brought name place unit at here = asked_brought (global_named name unit) place at here
+
 -- what an import of a unit with these names brings: the name that stands last, or all
 abbrev pub with_last_brought : (last : Tree) → (unit : List Global) → (at : ℕ) → List Global
     → Judged (List Global)
 with_last_brought (tree.present (tree.ident name place)) unit at here =
-    asked_brought (global_named name unit) place at here
+    one_brought name place unit at here
 with_last_brought other unit at here = with_all_brought unit at here
 
 -- ---- what a file's own declarations declare

@@ -42,3 +42,11 @@ with_calls (tree.function name formals result vars body at) found =
 with_calls (tree.procedure name formals vars body at) found =
     with_calls body (with_calls vars (with_calls formals found))
 with_calls other found = found
+
+-- .. with those in two or three parts
+
+abbrev pub with_both : (first second : Tree) → List Edge → List Edge
+with_both first second found = with_calls second (with_calls first found)
+
+abbrev pub with_three : (first second third : Tree) → List Edge → List Edge
+with_three first second third found = with_calls third (with_both first second found)

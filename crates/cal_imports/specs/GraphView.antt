@@ -10,6 +10,10 @@ use Rattle.cal_imports.specs.declared.graph.Node.{Node}
 abbrev pub edge_of : Edge → walks.Edge
 edge_of e = record { to = string_bytes e.to; at = e.at }
 
+-- a node with these edges
+abbrev pub node_with : (name : List ℕ) → (file : ℕ) → List Edge → walks.Node
+node_with name file edges = record { name = name; file = file; edges = map edge_of edges }
+
 -- a node of a name
 abbrev pub node : (name : List ℕ) → Node → walks.Node
 node name n = record { name = name; file = n.file; edges = map edge_of n.edges.items }

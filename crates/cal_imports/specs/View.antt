@@ -2,11 +2,16 @@
 -- Trusted: part of what a promise means.
 use Rattle.std.specs.Prelude.{ℕ, List, map, String, string_bytes}
 use Rattle.std.specs.declared.alloc.Global.{Global as Heap}
+use Rattle.cal_ast.specs.Tree.{Tree}
 use Rattle.cal_ast.specs.View.{file_tree}
 use Rattle.cal_imports.specs.Sources.{Source}
 use Rattle.cal_imports.specs.declared.entry.Entry.{Entry}
 
--- a file under a class
+-- a file under a class, with its number
+abbrev pub new_source : (name : List ℕ) → (file : ℕ) → Tree → Source
+new_source name file whole = record { name = name; file = file; tree = whole }
+
+-- an entry under a class
 abbrev pub source : (name : List ℕ) → Entry → Source
 source name e = record { name = name; file = e.file; tree = file_tree e.tree }
 

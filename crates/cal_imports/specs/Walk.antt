@@ -63,20 +63,28 @@ entering n = record { name = n.name; file = n.file; rest = n.edges }
 abbrev pub with_open : List Open → Walk → Walk
 with_open os w = record { open_nodes = os; entered = w.entered; left = w.left }
 
+-- the same walk with one node more, inside those that are open
+abbrev pub with_inner : Open → Walk → Walk
+with_inner o w = with_open (o ∷ w.open_nodes) w
+
+-- a node is entered under its name, inside an open one
+abbrev pub with_entered : (name : List ℕ) → (target outside : Open) → Walk → Walk
+with_entered name target outside w = record {
+  open_nodes = target ∷ outside ∷ w.open_nodes;
+  entered = with_name name w.entered;
+  left = w.left;
+}
+
 -- The node of a name is entered, from an edge of an open node inside those that are open.
 abbrev pub entered_from : Option Node → Graph → Open → Edge → List Edge → Walk → Step
 entered_from None g o e es w = Stops g.missing o.file e.at
-entered_from (Some n) g o e es w = Goes (record {
-  open_nodes = entering n ∷ past o es ∷ w.open_nodes;
-  entered = with_name e.to w.entered;
-  left = w.left;
-})
+entered_from (Some n) g o e es w = Goes (with_entered e.to (entering n) (past o es) w)
 
 -- An edge of an open node is followed: a node that was left is passed over, one that was entered and not left is open,
 -- so the edge leads back, and any other is entered.
 abbrev pub followed : Graph → Open → Edge → List Edge → Walk → Step
 followed g o e es w =
-    if is_among e.to w.left then Goes (with_open (past o es ∷ w.open_nodes) w)
+    if is_among e.to w.left then Goes (with_inner (past o es) w)
     else if is_among e.to w.entered then Stops g.circle o.file e.at
     else entered_from (node_named e.to g.nodes) g o e es w
 

@@ -78,12 +78,15 @@ members_of (tree.actor name params ins outs members at) = members
 members_of other = tree.nil
 
 -- the declarations of a unit, which is to be what the import asks for
-abbrev pub unit_gathered : List Source → Option Source → Gathered → Answer Gathered
-unit_gathered files None g = Gives g
-unit_gathered files (Some s) g =
+abbrev pub source_gathered : List Source → Source → Gathered → Answer Gathered
+source_gathered files s g =
     and_then (as_asked true s)
     (λ _. and_then (source_resolved files s)
     (λ body. Gives (with_declarations s.name s.file (members_of body) g)))
+
+abbrev pub unit_gathered : List Source → Option Source → Gathered → Answer Gathered
+unit_gathered files None g = Gives g
+unit_gathered files (Some s) g = source_gathered files s g
 
 abbrev pub units_gathered : List Source → List (List ℕ) → Gathered → Answer Gathered
 units_gathered files [] g = Gives g

@@ -2,12 +2,11 @@
 #![tactic(auto, using(cal_scope::proofs::Judged::breaks_on))]
 
 ghost use Rattle.std.specs.Prelude.{◌≡◌, ◌∷◌, [], OnOk, map, option_map, string_bytes};
-ghost use Rattle.cal_ast.specs.View.{ident_tree, optional};
+ghost use Rattle.cal_imports.specs.Asked.{optional_name};
 ghost use Rattle.rvc_base.specs.Rules.{declared_twice};
 ghost use Rattle.cal_scope.specs.Judging.{Judges};
 ghost use Rattle.cal_scope.specs.Meanings.{global_of, meaning_of};
-ghost use Rattle.cal_scope.specs.Names.{global_named};
-ghost use Rattle.cal_imports.specs.Brought.{asked_brought, same_brought, with_all_brought, with_brought, with_last_brought, with_seen};
+ghost use Rattle.cal_imports.specs.Brought.{one_brought, same_brought, with_all_brought, with_brought, with_last_brought, with_seen};
 
 use cal_ast::Ident;
 use cal_scope::{FileNames, Meaning, ScopeFault};
@@ -69,7 +68,7 @@ fn bring_one(
     at: u32,
 ) -> Result<(), ScopeFault>
     ensures { Judges (λ _. names.new) result
-        (asked_brought (global_named (string_bytes name.now.text) unit.now) name.now.at at names.old) }
+        (one_brought (string_bytes name.now.text) name.now.at unit.now at names.old) }
 {
     match unit.meaning(name.text.as_str()) {
         Some(meaning) => bring(names, name.text.as_str(), meaning, at),
@@ -88,7 +87,7 @@ pub(crate) fn bring_last(
     at: u32,
 ) -> Result<(), ScopeFault>
     ensures { Judges (λ _. names.new) result
-        (with_last_brought (optional (option_map ident_tree last.now)) unit.now at names.old) }
+        (with_last_brought (optional_name last.now) unit.now at names.old) }
 {
     match last {
         Some(name) => bring_one(names, unit, name, at),

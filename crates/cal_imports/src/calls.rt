@@ -4,8 +4,8 @@ ghost use Rattle.std.specs.Prelude.{◌≡◌, [], OnOk};
 ghost use Rattle.cal_ast.specs.Tree as tree;
 ghost use Rattle.cal_ast.specs.View.{expr_tree, gen_tree, optional_expr, type_arg_tree, type_tree};
 ghost use Rattle.cal_scope.specs.Asked.{exprs_tree, gens_tree, type_args_tree};
-ghost use Rattle.cal_imports.specs.Calls.{with_call, with_calls};
-ghost use Rattle.cal_imports.specs.CallsView.{AddsCalls, calls_view};
+ghost use Rattle.cal_imports.specs.Calls.{with_both, with_call, with_three};
+ghost use Rattle.cal_imports.specs.CallsView.{AddsCalls, AddsTo, calls_view};
 
 use crate::graph::Edge;
 use cal_ast::{Expr, ExprForm, Gen, TypeArg, TypeExpr};
@@ -72,8 +72,7 @@ fn add_function_call(calls: &mut Calls, name: &str, args: &[Expr], at: u32) -> R
 /// Adds the calls in two expressions.
 #[cycle(expr_calls)]
 fn add_two(calls: &mut Calls, first: &Expr, second: &Expr) -> Result<(), Memory>
-    ensures { OnOk result (calls_view calls.new
-        ≡ with_calls (expr_tree second.now) (with_calls (expr_tree first.now) (calls_view calls.old))) }
+    ensures { AddsTo result (with_both (expr_tree first.now) (expr_tree second.now)) calls.old calls.new }
 {
     add_expr(calls, first)?;
     add_expr(calls, second)
@@ -82,8 +81,8 @@ fn add_two(calls: &mut Calls, first: &Expr, second: &Expr) -> Result<(), Memory>
 /// Adds the calls in a condition and two branches.
 #[cycle(expr_calls)]
 fn add_three(calls: &mut Calls, test: &Expr, yes: &Expr, no: &Expr) -> Result<(), Memory>
-    ensures { OnOk result (calls_view calls.new ≡ with_calls (expr_tree no.now)
-        (with_calls (expr_tree yes.now) (with_calls (expr_tree test.now) (calls_view calls.old)))) }
+    ensures { AddsTo result (with_three (expr_tree test.now) (expr_tree yes.now) (expr_tree no.now))
+        calls.old calls.new }
 {
     add_expr(calls, test)?;
     add_expr(calls, yes)?;
@@ -93,8 +92,7 @@ fn add_three(calls: &mut Calls, test: &Expr, yes: &Expr, no: &Expr) -> Result<()
 /// Adds the calls in a comprehension.
 #[cycle(expr_calls)]
 fn add_comp(calls: &mut Calls, item: &Expr, gens: &[Gen]) -> Result<(), Memory>
-    ensures { OnOk result (calls_view calls.new
-        ≡ with_calls (gens_tree gens.now) (with_calls (expr_tree item.now) (calls_view calls.old))) }
+    ensures { AddsTo result (with_both (expr_tree item.now) (gens_tree gens.now)) calls.old calls.new }
 {
     add_expr(calls, item)?;
     add_gens(calls, gens)

@@ -3,7 +3,7 @@
 ghost use Rattle.std.specs.Prelude.{◌≡◌, [], ◌∷◌, ◌++◌, IfOk, OnOk, OnErr, None, is_some, option_map};
 ghost use Rattle.cal_ast.specs.View.{file_tree};
 ghost use Rattle.cal_imports.specs.Sources.{source_named};
-ghost use Rattle.cal_imports.specs.View.{source, sources};
+ghost use Rattle.cal_imports.specs.View.{new_source, source, sources};
 
 use crate::entry::Entry;
 use cal_ast::File;
@@ -66,7 +66,7 @@ impl FileSet {
     pub fn add(&mut self, name: &str, file: u32, tree: File) -> Result<(), Memory>
         requires { source_named name.now (sources self.old) ≡ None }
         ensures added { OnOk result (sources self.new ≡ sources self.old
-            ++ record { name = name.now; file = file; tree = file_tree tree } ∷ []) }
+            ++ new_source name.now file (file_tree tree) ∷ []) }
         ensures same { OnErr result (self.new ≡ self.old) }
     {
         let name = String::from_str(self.alloc, name)?;

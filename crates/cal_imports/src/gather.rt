@@ -1,14 +1,14 @@
 //! An actor with what its imports lead to.
 #![tactic(auto, using(crate::proofs::Answered::refused_on))]
 
-ghost use Rattle.std.specs.Prelude.{◌≡◌, [], ◌∷◌, IfOk, OnOk, Some, map, string_bytes};
+ghost use Rattle.std.specs.Prelude.{◌≡◌, [], ◌∷◌, IfOk, OnOk, map, string_bytes};
 ghost use Rattle.cal_ast.specs.View.{file_body_tree};
 ghost use Rattle.cal_imports.specs.Answer.{Answers};
 ghost use Rattle.cal_imports.specs.Asked.{imports_tree};
 ghost use Rattle.cal_imports.specs.GraphView.{edge_of};
-ghost use Rattle.cal_imports.specs.ScopeView.{gathered_view, scope_view};
+ghost use Rattle.cal_imports.specs.ScopeView.{AnswersGathered, gathered_view, scope_view};
 ghost use Rattle.cal_imports.specs.View.{source, source_of, sources};
-ghost use Rattle.cal_imports.specs.Whole.{actor_gathered, file_node, import_edges, import_order, scope_of, unit_gathered, units_gathered, with_file_nodes};
+ghost use Rattle.cal_imports.specs.Whole.{actor_gathered, file_node, import_edges, import_order, scope_of, source_gathered, units_gathered, with_file_nodes};
 
 use crate::asked_for::as_asked;
 use crate::class_text::dotted;
@@ -93,15 +93,15 @@ fn gather_unit(
     set: &FileSet,
     name: &str,
     entry: &Entry,
-    gathered: &mut Gathered,
+    found: &mut Gathered,
 ) -> Result<(), ImportFault>
-    ensures { Answers (λ _. gathered_view gathered.new) result (unit_gathered (sources set.now)
-        (Some (source name.now entry.now)) (gathered_view gathered.old)) }
+    ensures { AnswersGathered result
+        (source_gathered (sources set.now) (source name.now entry.now)) found.old found.new }
 {
     as_asked(alloc, true, name, entry)?;
     match source(alloc, set, name, entry)? {
-        Body::Unit(unit) => gathered.add_members(alloc, name, entry.file, &unit.members)?,
-        Body::Actor(actor) => gathered.add_members(alloc, name, entry.file, &actor.members)?,
+        Body::Unit(unit) => found.add_members(alloc, name, entry.file, &unit.members)?,
+        Body::Actor(actor) => found.add_members(alloc, name, entry.file, &actor.members)?,
     }
     Ok(())
 }
@@ -111,15 +111,15 @@ fn gather_units(
     alloc: Global,
     set: &FileSet,
     names: &[String],
-    gathered: &mut Gathered,
+    found: &mut Gathered,
 ) -> Result<(), ImportFault>
-    ensures { Answers (λ _. gathered_view gathered.new) result (units_gathered (sources set.now)
-        (map string_bytes names.now) (gathered_view gathered.old)) }
+    ensures { AnswersGathered result
+        (units_gathered (sources set.now) (map string_bytes names.now)) found.old found.new }
 {
     let mut rest = names;
     'units: while let Some((first, others)) = rest.split_first() {
         if let Some(entry) = set.find(first.as_str()) {
-            gather_unit(alloc, set, first.as_str(), entry, gathered)?;
+            gather_unit(alloc, set, first.as_str(), entry, found)?;
         }
         rest = others;
     }

@@ -1,7 +1,7 @@
 //! Nodes and edges, by the names of the nodes.
 
 ghost use Rattle.std.specs.Prelude.{◌≡◌, [], OnErr, OnOk, is_some, map, option_map, string_bytes};
-ghost use Rattle.cal_imports.specs.GraphView.{edge_of, node, node_of};
+ghost use Rattle.cal_imports.specs.GraphView.{node, node_of, node_with};
 ghost use Rattle.cal_imports.specs.Walk.{node_named, with_node};
 
 use indexmap::IndexMap;
@@ -63,8 +63,7 @@ impl Nodes {
 
     /// Adds a node, unless one of its name is there.
     pub(crate) fn add(&mut self, name: &str, file: u32, edges: Vec<Edge>) -> Result<(), Memory>
-        ensures { OnOk result (self.new ≡ with_node
-            (record { name = name.now; file = file; edges = map edge_of edges.items }) self.old) }
+        ensures { OnOk result (self.new ≡ with_node (node_with name.now file edges.items) self.old) }
     {
         if self.find(name).is_some() {
             return Ok(());

@@ -60,10 +60,10 @@ fn bring_import(
     set: &FileSet,
     file: u32,
     import: &Import,
-    brought: &mut FileNames,
+    names: &mut FileNames,
 ) -> Result<(), ImportFault>
-    ensures { Answers (λ _. brought.new) result
-        (import_brought (sources set.now) file (import_tree import.now) brought.old) }
+    ensures { Answers (λ _. names.new) result
+        (import_brought (sources set.now) file (import_tree import.now) names.old) }
 {
     let class = dotted(alloc, &import.path)?;
     let Some(entry) = set.find(class.as_str()) else {
@@ -77,7 +77,7 @@ fn bring_import(
         entry.file,
         names_declared(alloc, class.as_str(), &entry.tree.body),
     )?;
-    in_file(file, bring_last(brought, &unit, &import.last, import.at))
+    in_file(file, bring_last(names, &unit, &import.last, import.at))
 }
 
 /// Adds what imports in a file of a number bring, in order.
@@ -85,15 +85,15 @@ fn bring_imports(
     alloc: Global,
     set: &FileSet,
     file: u32,
-    imports: &[Import],
-    brought: &mut FileNames,
+    list: &[Import],
+    names: &mut FileNames,
 ) -> Result<(), ImportFault>
-    ensures { Answers (λ _. brought.new) result
-        (imports_brought (sources set.now) file (imports_tree imports.now) brought.old) }
+    ensures { Answers (λ _. names.new) result
+        (imports_brought (sources set.now) file (imports_tree list.now) names.old) }
 {
-    let mut rest = imports;
+    let mut rest = list;
     'imports: while let Some((first, others)) = rest.split_first() {
-        bring_import(alloc, set, file, first, brought)?;
+        bring_import(alloc, set, file, first, names)?;
         rest = others;
     }
     Ok(())

@@ -38,19 +38,20 @@ fn add_function_node(
     nodes.add(name, file, calls.found)
 }
 
-/// Adds a procedure.
+/// Adds a procedure of a name.
 fn add_procedure_node(
     alloc: Global,
     nodes: &mut Nodes,
+    name: &str,
     file: u32,
     p: &Procedure,
 ) -> Result<(), Memory>
     ensures { OnOk result (nodes.new
-        ≡ with_node (routine_node (string_bytes p.now.name.text) file (procedure_tree p.now)) nodes.old) }
+        ≡ with_node (routine_node name.now file (procedure_tree p.now)) nodes.old) }
 {
     let mut calls = Calls::none(alloc);
     add_procedure(&mut calls, p)?;
-    nodes.add(p.name.text.as_str(), file, calls.found)
+    nodes.add(name, file, calls.found)
 }
 
 /// Adds a member that is a function or a procedure.
@@ -59,7 +60,7 @@ fn add_routine(alloc: Global, nodes: &mut Nodes, file: u32, m: &Member) -> Resul
 {
     match m {
         Member::Function(f) => add_function_node(alloc, nodes, f.name.text.as_str(), file, f),
-        Member::Procedure(p) => add_procedure_node(alloc, nodes, file, p),
+        Member::Procedure(p) => add_procedure_node(alloc, nodes, p.name.text.as_str(), file, p),
         Member::Var(_) => Ok(()),
         Member::Action(_) => Ok(()),
         Member::Schedule(_) => Ok(()),

@@ -1,9 +1,9 @@
 //! An actor with what its imports lead to.
 
-ghost use Rattle.std.specs.Prelude.{◌≡◌, [], ◌∷◌, ◌++◌, IfOk, OnOk, map, string_bytes};
+ghost use Rattle.std.specs.Prelude.{◌≡◌, [], ◌∷◌, ◌++◌, IfOk, string_bytes};
 ghost use Rattle.cal_ast.specs.View.{function_tree, member_tree, var_tree};
 ghost use Rattle.cal_scope.specs.Asked.{members_tree};
-ghost use Rattle.cal_imports.specs.ScopeView.{gathered_view, outer_fun, outer_var};
+ghost use Rattle.cal_imports.specs.ScopeView.{Gathers, gathered_view, outer_fun, outer_var, with_fun, with_var};
 ghost use Rattle.cal_imports.specs.Sources.{dot};
 ghost use Rattle.cal_imports.specs.Whole.{outer, with_declaration, with_declarations};
 
@@ -64,7 +64,7 @@ fn full_name(alloc: Global, class: &str, name: &Ident) -> Result<String, Memory>
 
 /// A variable of a unit.
 fn outer_var(alloc: Global, class: &str, file: u32, v: &VarDecl) -> Result<OuterVar, Memory>
-    ensures { IfOk result (λ found. outer_var found
+    ensures { IfOk result (λ o. outer_var o
         ≡ outer class.now file (string_bytes v.now.name.text) (var_tree v.now)) }
 {
     let name = full_name(alloc, class, &v.name)?;
@@ -74,7 +74,7 @@ fn outer_var(alloc: Global, class: &str, file: u32, v: &VarDecl) -> Result<Outer
 
 /// A function of a unit.
 fn outer_fun(alloc: Global, class: &str, file: u32, f: &Function) -> Result<OuterFun, Memory>
-    ensures { IfOk result (λ found. outer_fun found
+    ensures { IfOk result (λ o. outer_fun o
         ≡ outer class.now file (string_bytes f.now.name.text) (function_tree f.now)) }
 {
     let name = full_name(alloc, class, &f.name)?;
@@ -95,10 +95,7 @@ impl Gathered {
 
     /// Adds a variable.
     fn add_var(&mut self, v: OuterVar) -> Result<(), Memory>
-        ensures { OnOk result (gathered_view self.new ≡ record {
-          vars = (gathered_view self.old).vars ++ outer_var v ∷ [];
-          funs = (gathered_view self.old).funs;
-        }) }
+        ensures { Gathers result (with_var v) self.old self.new }
     {
         self.vars.push(v)?;
         Ok(())
@@ -106,10 +103,7 @@ impl Gathered {
 
     /// Adds a function.
     fn add_fun(&mut self, f: OuterFun) -> Result<(), Memory>
-        ensures { OnOk result (gathered_view self.new ≡ record {
-          vars = (gathered_view self.old).vars;
-          funs = (gathered_view self.old).funs ++ outer_fun f ∷ [];
-        }) }
+        ensures { Gathers result (with_fun f) self.old self.new }
     {
         self.funs.push(f)?;
         Ok(())
@@ -123,8 +117,7 @@ impl Gathered {
         file: u32,
         m: &Member,
     ) -> Result<(), Memory>
-        ensures { OnOk result (gathered_view self.new
-            ≡ with_declaration class.now file (member_tree m.now) (gathered_view self.old)) }
+        ensures { Gathers result (with_declaration class.now file (member_tree m.now)) self.old self.new }
     {
         match m {
             Member::Var(v) => self.add_var(outer_var(alloc, class, file, v)?),
@@ -144,8 +137,8 @@ impl Gathered {
         file: u32,
         members: &[Member],
     ) -> Result<(), Memory>
-        ensures { OnOk result (gathered_view self.new
-            ≡ with_declarations class.now file (members_tree members.now) (gathered_view self.old)) }
+        ensures { Gathers result (with_declarations class.now file (members_tree members.now)) self.old
+            self.new }
     {
         let mut rest = members;
         'members: while let Some((first, others)) = rest.split_first() {

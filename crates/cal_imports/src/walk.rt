@@ -1,11 +1,10 @@
 //! A walk along edges, depth first.
 
-ghost use Rattle.std.specs.Prelude.{◌≡◌, ◌∷◌, IfOk, OnOk, map};
-ghost use Rattle.cal_scope.specs.Names.{with_name};
+ghost use Rattle.std.specs.Prelude.{◌≡◌, IfOk, OnOk, map};
 ghost use Rattle.cal_imports.specs.Answer.{Answers};
 ghost use Rattle.cal_imports.specs.GraphView.{edge_of, node};
-ghost use Rattle.cal_imports.specs.Walk.{begun, entering, followed, leaving, left_inside, order_from, past, step, step_at, with_open};
-ghost use Rattle.cal_imports.specs.WalkView.{GoesTo, StepsTo, graph_view, open_of, walk_view};
+ghost use Rattle.cal_imports.specs.Walk.{begun, entering, leaving, order_from, past, step, with_inner};
+ghost use Rattle.cal_imports.specs.WalkView.{GoesTo, StepsTo, entered_under, following, graph_view, leaving_inside, open_of, stepping_at, walk_view};
 
 use crate::fault::{ImportFault, refused};
 use crate::graph::{Edge, Node, Nodes};
@@ -59,8 +58,7 @@ impl<'a> Walk<'a> {
 
 /// Opens a node inside those that are open.
 fn open_node<'a>(walk: &mut Walk<'a>, here: Open<'a>) -> Result<(), Memory>
-    ensures { OnOk result (walk_view walk.new
-        ≡ with_open (open_of here.entry ∷ (walk_view walk.old).open_nodes) (walk_view walk.old)) }
+    ensures { OnOk result (walk_view walk.new ≡ with_inner (open_of here.entry) (walk_view walk.old)) }
 {
     walk.open_nodes.push(here)?;
     Ok(())
@@ -102,11 +100,8 @@ fn enter<'a>(
     name: &'a str,
     target: &'a Node,
 ) -> Result<(), Memory>
-    ensures { OnOk result (walk_view walk.new ≡ record {
-      open_nodes = entering (node name.entry.now target.entry.now) ∷ open_of from.entry ∷ (walk_view walk.old).open_nodes;
-      entered = with_name name.entry.now walk.old.entered;
-      left = walk.old.left;
-    }) }
+    ensures { OnOk result (walk_view walk.new
+        ≡ entered_under name.entry.now target.entry.now from.entry walk.old) }
 {
     walk.entered.add(name)?;
     open_node(walk, from)?;
@@ -121,8 +116,8 @@ fn follow<'a>(
     edge: &'a Edge,
     rest: &'a [Edge],
 ) -> Result<(), ImportFault>
-    ensures { GoesTo result (walk_view walk.new) (followed (graph_view graph.entry) (open_of here.entry)
-        (edge_of edge.entry.now) (map edge_of rest.entry.now) (walk_view walk.old)) }
+    ensures { GoesTo result walk.new
+        (following graph.entry here.entry edge.entry.now rest.entry.now walk.old) }
 {
     let name = edge.to.as_str();
     if walk.left.has(name) {
@@ -143,8 +138,7 @@ fn follow<'a>(
 
 /// Leaves a node inside those that are open, if there are some; whether there are.
 fn leave_inside<'a>(walk: &mut Walk<'a>, name: &str) -> Result<bool, ImportFault>
-    ensures { StepsTo result (walk_view walk.new)
-        (left_inside (walk_view walk.old).open_nodes name.now (walk_view walk.old)) }
+    ensures { StepsTo result walk.new (leaving_inside name.now walk.old) }
 {
     if walk.open_nodes.is_empty() {
         return Ok(false);
@@ -155,8 +149,7 @@ fn leave_inside<'a>(walk: &mut Walk<'a>, name: &str) -> Result<bool, ImportFault
 
 /// A step from the innermost open node, inside those that are open; whether there is one.
 fn step_at<'a>(graph: Graph<'a>, walk: &mut Walk<'a>, here: Open<'a>) -> Result<bool, ImportFault>
-    ensures { StepsTo result (walk_view walk.new) (step_at (graph_view graph.entry) (open_of here.entry)
-        (map edge_of here.entry.rest.now) (walk_view walk.old)) }
+    ensures { StepsTo result walk.new (stepping_at graph.entry here.entry walk.old) }
 {
     match here.rest.split_first() {
         Some((edge, rest)) => {
@@ -169,7 +162,7 @@ fn step_at<'a>(graph: Graph<'a>, walk: &mut Walk<'a>, here: Open<'a>) -> Result<
 
 /// One step; whether there is one.
 fn step<'a>(graph: Graph<'a>, walk: &mut Walk<'a>) -> Result<bool, ImportFault>
-    ensures { StepsTo result (walk_view walk.new) (step (graph_view graph.entry) (walk_view walk.old)) }
+    ensures { StepsTo result walk.new (step (graph_view graph.entry) (walk_view walk.old)) }
 {
     match walk.open_nodes.pop() {
         Some(here) => step_at(graph, walk, here),

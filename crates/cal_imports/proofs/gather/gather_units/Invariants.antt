@@ -6,7 +6,7 @@ use Rattle.cal_imports.specs.View.{sources}
 use Rattle.cal_imports.proofs.gather.gather_units.Given as goal
 
 abbrev pub invariant-units : goal.invariant-units
-invariant-units l = units_gathered (sources l.set) (map string_bytes l.rest) (gathered_view l.gathered) ≡ units_gathered (sources l.initial.set) (map string_bytes l.initial.rest) (gathered_view l.initial.gathered)
+invariant-units l = units_gathered (sources l.set) (map string_bytes l.rest) (gathered_view l.found) ≡ units_gathered (sources l.initial.set) (map string_bytes l.initial.rest) (gathered_view l.initial.found)
 
 abbrev pub decreases-units : goal.decreases-units
 decreases-units l = length l.rest

@@ -5,7 +5,7 @@ use Rattle.cal_imports.specs.View.{sources}
 use Rattle.cal_imports.proofs.imports.bring_imports.Given as goal
 
 abbrev pub invariant-imports : goal.invariant-imports
-invariant-imports l = imports_brought (sources l.set) l.file (imports_tree l.rest) l.brought ≡ imports_brought (sources l.initial.set) l.initial.file (imports_tree l.initial.rest) l.initial.brought
+invariant-imports l = imports_brought (sources l.set) l.file (imports_tree l.rest) l.names ≡ imports_brought (sources l.initial.set) l.initial.file (imports_tree l.initial.rest) l.initial.names
 
 abbrev pub decreases-imports : goal.decreases-imports
 decreases-imports l = length l.rest
