@@ -1,5 +1,5 @@
 -- Code of statements that was added to a draft, part by part.
-use Rattle.std.proofs.Common.{◌≡◌, ℕ, zero, suc, ◌+◌, ◌<◌, ◌≤◌, List, [], ◌∷◌, ◌++◌, length, map, take, drop, get_or, refl, sym, ap, ◌∙◌, subst, Option, None, Some, arith, append_assoc, length-append}
+use Rattle.std.proofs.Common.{◌≡◌, ℕ, zero, suc, ◌+◌, ◌<◌, ◌≤◌, List, [], ◌∷◌, ◌++◌, length, map, take, drop, get_or, Bool, refl, sym, ap, ◌∙◌, subst, Option, None, Some, arith, append_assoc, length-append}
 use Rattle.std.proofs.lemmas.List.{append-nil, length-map, map-append, take_more, take_all, take-append-drop}
 use Rattle.rvc_base.specs.declared.scalar.Scalar.{Scalar}
 use Rattle.cal_ast.specs.Tree as tree
@@ -26,12 +26,12 @@ use Rattle.expr_lower.specs.Listed.{list_named}
 use Rattle.expr_lower.specs.Linking.{Closes, Links, SetsExit, SetsJump}
 use Rattle.expr_lower.specs.Lowered.{Adds, IsPut}
 use Rattle.expr_lower.specs.Meant.{local, single_meant}
-use Rattle.expr_lower.specs.Stating.{IsStmt, AreStmts, set, set_item, if_alone, if_else, while_code, each_code, none, one_more}
+use Rattle.expr_lower.specs.Stating.{IsStmt, AreStmts, set, set_item, if_alone, if_else, while_code, each_code, none, one_more, IsBlock, IsStart, variable_more}
 use Rattle.expr_lower.specs.Stating.{counter_at, each_bounds, each_head, each_less, each_next, each_tail, each_turn}
-use Rattle.expr_lower.specs.Taking.{HasTaken}
-use Rattle.expr_lower.specs.StmtGrowing.{cell_of, cell_named, cells_of, cells_named, left_out_set, left_out_stmt, left_out_all}
+use Rattle.expr_lower.specs.Taking.{HasOneMore, HasTaken}
+use Rattle.expr_lower.specs.StmtGrowing.{cell_of, cell_named, cells_of, cells_named, left_out_set, left_out_start, left_out_stmt, left_out_all, left_out_vars}
 use Rattle.expr_lower.proofs.Adding.{length_join}
-use Rattle.expr_lower.proofs.Erased.{any_cell}
+use Rattle.expr_lower.proofs.Erased.{any_cell, any_cell_vars}
 use Rattle.expr_lower.proofs.Executed.{executes}
 use Rattle.expr_lower.proofs.FittedStmts.{fits_all}
 use Rattle.expr_lower.proofs.Listing.{IsListName, found}
@@ -404,6 +404,43 @@ pub each_fault : (names : List Name) (shape from to body : Tree) (text : List �
     → IsFault (left_out_stmt names (tree.foreach_stmt shape (tree.ident text place) from to body at)) draft fault
 each_fault names shape from to body text place at c t k draft fault meant is e f h =
     subst (λ o. IsFault o draft fault) (sym (each_open names shape from to body text place at c t k meant is e f)) h
+
+-- ---- blocks
+
+pub no_items : {X : Type 0} (xs : List X) → length xs ≡ 0 → xs ≡ []
+no_items [] e = refl
+no_items (x ∷ xs) e = absurd (omega (arith, e))
+
+pub variable_adds : (names : List Name) (shape start vars body : Tree) (text : List ℕ) (place at c : ℕ) (t : Scalar) (changes : Bool) (old d1 d2 new : Draft)
+    → single_meant shape ≡ Some t → HasOneMore old d1 c → Adds (IsStart names t c start) d1 d2 → Adds (IsBlock (local text t c ∷ names) vars body) d2 new
+    → Adds (IsBlock names (tree.cons (tree.var shape (tree.ident text place) start changes at) vars) body) old new
+variable_adds names shape start vars body text place at c t changes old d1 d2 new meant taken f g =
+    let n : ℕ = old.cells in
+    let base : ℕ = length old.instrs.items in
+    let f1 : Adds (IsStart names t n start) d1 d2 = subst (λ x. Adds (IsStart names t x start) d1 d2) taken.is f in
+    let g1 : Adds (IsBlock (local text t n ∷ names) vars body) d2 new = subst (λ x. Adds (IsBlock (local text t x ∷ names) vars body) d2 new) taken.is g in
+    let e2 : d2.instrs.items ≡ old.instrs.items ++ f1.code = f1.is ∙ ap (λ xs. xs ++ f1.code) taken.instrs in
+    let s2 : length d2.instrs.items ≡ base + length f1.code = ap length e2 ∙ length-append old.instrs.items f1.code in
+    record {
+      code = f1.code ++ g1.code;
+      is = g1.is ∙ ap (λ xs. xs ++ g1.code) e2 ∙ append_assoc old.instrs.items f1.code g1.code;
+      routines = g1.routines ∙ f1.routines ∙ taken.routines;
+      has = variable_more names shape start vars body text place at base n d2.cells new.cells f1.code g1.code t changes meant
+          (subst (λ p. IsStart names t n start p (n + 1) f1.code d2.cells) (ap length taken.instrs) (subst (λ x. IsStart names t n start (length d1.instrs.items) x f1.code d2.cells) taken.cells f1.has))
+          (subst (λ p. IsBlock (local text t n ∷ names) vars body p d2.cells g1.code new.cells) s2 g1.has);
+    }
+
+-- a block of which nothing is left out before what stands behind its first variable
+pub variable_open : (names : List Name) (shape start vars body : Tree) (text : List ℕ) (place at c : ℕ) (t : Scalar) (changes : Bool) → single_meant shape ≡ Some t → left_out_start names start ≡ None
+    → left_out_vars names (tree.cons (tree.var shape (tree.ident text place) start changes at) vars) (λ inner. left_out_all inner body) ≡ left_out_vars (local text t c ∷ names) vars (λ inner. left_out_all inner body)
+variable_open names shape start vars body text place at c t changes meant e =
+    go (single_meant shape) meant ∙ ap (λ x. x or_else left_out_vars (local text t 0 ∷ names) vars (λ inner. left_out_all inner body)) e ∙ sym (any_cell_vars names text t c vars body)
+  where
+    go : (o : Option Scalar) → o ≡ Some t
+        → each_left o at (λ s. left_out_start names start or_else left_out_vars (local text s 0 ∷ names) vars (λ inner. left_out_all inner body))
+        ≡ left_out_start names start or_else left_out_vars (local text t 0 ∷ names) vars (λ inner. left_out_all inner body)
+    go None h = cc
+    go (Some s) h = let same : s ≡ t = cc in ap (λ r. left_out_start names start or_else left_out_vars (local text r 0 ∷ names) vars (λ inner. left_out_all inner body)) same
 
 -- ---- all that is promised
 

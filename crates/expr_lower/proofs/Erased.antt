@@ -15,7 +15,7 @@ use Rattle.expr_lower.specs.Growing.{is_short, left_out, left_out_name, ◌or_el
 use Rattle.expr_lower.specs.Listed.{items_in, items_of, list_named, single_of}
 use Rattle.expr_lower.specs.Meant.{local, single_meant}
 use Rattle.expr_lower.specs.Names.{Name, named}
-use Rattle.expr_lower.specs.StmtGrowing.{cell_of, cell_named, cells_of, cells_named, left_out_all, left_out_set, left_out_stmt}
+use Rattle.expr_lower.specs.StmtGrowing.{cell_of, cell_named, cells_of, cells_named, left_out_all, left_out_set, left_out_start, left_out_stmt, left_out_vars}
 use Rattle.expr_lower.specs.Truths.{is_truth, is_truth_list, is_truth_shape}
 
 -- a seat without its cell
@@ -169,6 +169,22 @@ each_erased : (names : List Name) (text : List ℕ) (from to body : Tree) (at : 
 each_erased names text from to body at None h = refl
 each_erased names text from to body at (Some t) h = both_same (out_erased names from) (both_same (out_erased names to) (h t))
 
+start_erased : (names : List Name) (e : Tree) → left_out_start (map erase names) e ≡ left_out_start names e
+start_erased names tree.absent = refl
+start_erased names (tree.present e) = out_erased names e
+start_erased names other = refl
+
+vars_erased : (names : List Name) (vars : Tree) (body : List Name → Option ℕ) → ((inner : List Name) → body (map erase inner) ≡ body inner) → left_out_vars (map erase names) vars body ≡ left_out_vars names vars body
+vars_erased names tree.nil body h = h names
+vars_erased names (tree.cons (tree.var shape (tree.ident text place) start changes at) vars) body h = go (single_meant shape) (λ t. vars_erased (local text t 0 ∷ names) vars body h)
+  where
+    go : (o : Option Scalar) → ((t : Scalar) → left_out_vars (local text t 0 ∷ map erase names) vars body ≡ left_out_vars (local text t 0 ∷ names) vars body)
+        → left_each o at (λ t. left_out_start (map erase names) start or_else left_out_vars (local text t 0 ∷ map erase names) vars body)
+        ≡ left_each o at (λ t. left_out_start names start or_else left_out_vars (local text t 0 ∷ names) vars body)
+    go None later = refl
+    go (Some t) later = both_same (start_erased names start) (later t)
+vars_erased names other body h = refl
+
 mutual
   stmt_erased : (names : List Name) (s : Tree) → left_out_stmt (map erase names) s ≡ left_out_stmt names s
   stmt_erased names (tree.assign (tree.ident text place) places value at) = set_erased names text places value at
@@ -177,7 +193,8 @@ mutual
   stmt_erased names (tree.while_stmt test body at) = both_same (all_erased names body) (out_erased names test)
   stmt_erased names (tree.foreach_stmt shape (tree.ident text place) from to body at) =
       each_erased names text from to body at (single_meant shape) (λ t. all_erased (local text t 0 ∷ names) body)
-  stmt_erased names (tree.block vars body at) = refl
+  stmt_erased names (tree.block vars body at) =
+      vars_erased names vars (λ inner. left_out_all inner body) (λ inner. all_erased inner body)
   stmt_erased names other = refl
 
   all_erased : (names : List Name) (ss : Tree) → left_out_all (map erase names) ss ≡ left_out_all names ss
@@ -190,3 +207,10 @@ mutual
 -- in any cell the local leaves out the same
 pub any_cell : (names : List Name) (text : List ℕ) (t : Scalar) (c : ℕ) (body : Tree) → left_out_all (local text t c ∷ names) body ≡ left_out_all (local text t 0 ∷ names) body
 any_cell names text t c body = sym (all_erased (local text t c ∷ names) body) ∙ all_erased (local text t 0 ∷ names) body
+
+-- .. and so do the variables of a block behind it
+pub any_cell_vars : (names : List Name) (text : List ℕ) (t : Scalar) (c : ℕ) (vars body : Tree)
+    → left_out_vars (local text t c ∷ names) vars (λ inner. left_out_all inner body) ≡ left_out_vars (local text t 0 ∷ names) vars (λ inner. left_out_all inner body)
+any_cell_vars names text t c vars body =
+    sym (vars_erased (local text t c ∷ names) vars (λ inner. left_out_all inner body) (λ inner. all_erased inner body))
+    ∙ vars_erased (local text t 0 ∷ names) vars (λ inner. left_out_all inner body) (λ inner. all_erased inner body)

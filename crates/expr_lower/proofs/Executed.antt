@@ -1,6 +1,7 @@
 -- Code of statements executes them.
 use Rattle.std.proofs.Common.{◌≡◌, ℕ, zero, suc, ◌+◌, ◌<◌, ◌≤◌, ℤ, List, [], ◌∷◌, ◌++◌, length, refl, sym, subst, Some, arith, length-append, ap}
 use Rattle.std.specs.Prelude.{slice_get}
+use Rattle.rvc_base.specs.declared.scalar.Scalar.{Scalar}
 use Rattle.cal_ast.specs.Tree.{Tree}
 use Rattle.cal_model.specs.Outcome.{Out, Gives, Traps, Lacks, Clashes, and_then, turn}
 use Rattle.cal_model.specs.Env.{Env}
@@ -15,7 +16,7 @@ use Rattle.expr_lower.specs.Names.{Name, named}
 use Rattle.expr_lower.specs.Held.{AreBelow, AllApart, AreApart}
 use Rattle.expr_lower.specs.Changing.{AreTyped, HoldsVars, KeepsBut, NamesApart}
 use Rattle.expr_lower.specs.Coding.{IsCode, IsTest}
-use Rattle.expr_lower.specs.Stating.{IsStmt, AreStmts, set, set_item, if_alone, if_else, while_code, each_code, none, one_more}
+use Rattle.expr_lower.specs.Stating.{IsStmt, AreStmts, set, set_item, if_alone, if_else, while_code, each_code, block_code, none, one_more, IsBlock, no_more, variable_more, IsStart, at_zero, at_value}
 use Rattle.expr_lower.specs.Placed.{StandsAt, World, state}
 use Rattle.expr_lower.specs.Following.{Follows}
 use Rattle.expr_lower.specs.Executing.{Arrives, BreaksOff, EndsLike, Executes}
@@ -25,6 +26,7 @@ use Rattle.expr_lower.proofs.Scoping.{AreLaid, HoldsInside, laid_more}
 use Rattle.expr_lower.proofs.Coded.{grows, grows_test}
 use Rattle.expr_lower.proofs.Performing.{Moves, Performs, but_all, but_wider, apart_first, apart_last, moves_at, breaks_wider, move_after, jump_moves, stays, perform_none, perform_then, test_moves}
 use Rattle.expr_lower.proofs.Setting.{set_performs, set_item_performs}
+use Rattle.expr_lower.proofs.Blocking.{block_more, block_none, blocked}
 use Rattle.expr_lower.proofs.Eaching.{each_performs}
 use Rattle.expr_lower.specs.Meant.{local}
 
@@ -150,6 +152,10 @@ module _ (outer : List Name) (w : World) (frames : List ℕ) where
 
 -- ---- cells
 
+pub grows_start : {names : List Name} {t : Scalar} {c : ℕ} {start : Tree} {base n m : ℕ} {code : List Instr} → IsStart names t c start base n code m → n ≤ m
+grows_start (at_zero base n) = omega arith
+grows_start (at_value e base n m code g) = grows g
+
 mutual
   pub grows_stmt : {names : List Name} {s : Tree} {base n m : ℕ} {code : List Instr} → IsStmt names s base n code m → n ≤ m
   grows_stmt (set names text value place at base n m c code x t e seat shape g) = grows g
@@ -158,6 +164,11 @@ mutual
   grows_stmt (if_else names test first other at base n k h m else_at end a b c g d q e f) = let x = grows_test g in let y = grows_all d in let z = grows_all q in omega (arith, x, y, z)
   grows_stmt (while_code names test body at base n k m head out a b d g e f) = let x = grows_all d in let y = grows_test g in omega (arith, x, y)
   grows_stmt (each_code names shape from to body text place at base n k j m turn_at start out a b c t e g d q f1 f2 f3) = let x = grows g in let y = grows d in let z = grows_all q in omega (arith, x, y, z)
+  grows_stmt (block_code names vars body at base n m code g) = grows_block g
+
+  pub grows_block : {names : List Name} {vars body : Tree} {base n m : ℕ} {code : List Instr} → IsBlock names vars body base n code m → n ≤ m
+  grows_block (no_more names body base n m code g) = grows_all g
+  grows_block (variable_more names shape start vars body text place at base n k m a b t changes e g d) = let x = grows_start g in let y = grows_block d in omega (arith, x, y)
 
   pub grows_all : {names : List Name} {ss : Tree} {base n m : ℕ} {code : List Instr} → AreStmts names ss base n code m → n ≤ m
   grows_all (none names base n) = omega arith
@@ -183,6 +194,15 @@ module _ (outer : List Name) (w : World) (frames : List ℕ) (runs : Runs) where
         each_performs outer w frames runs inner shape from to text (λ env left. exec_all body w.calls runs env left) base n k j j m turn_at start out a b c t e
         (subst (λ ns. IsCode ns from base (n + 3) a k) is g) (subst (λ ns. IsCode ns to (base + length a) k b j) is d) f1 f2 f3 (omega arith) (grows_all q)
         (performs_all (local text t (n + 2) ∷ inner) (ap (λ ns. local text t (n + 2) ∷ ns) is) q)
+    performs inner is (block_code names vars body at base n m code g) = performs_block inner is g
+
+    pub performs_block : {names : List Name} {vars body : Tree} {base n m : ℕ} {code : List Instr} (inner : List Name) → names ≡ inner ++ outer → IsBlock names vars body base n code m
+        → Performs outer w frames inner (blocked outer w frames runs vars (λ env left. exec_all body w.calls runs env left)) base n code m
+    performs_block inner is (no_more names body base n m code g) = block_none outer w frames runs inner (λ env left. exec_all body w.calls runs env left) base n m code (performs_all inner is g)
+    performs_block inner is (variable_more names shape start vars body text place at base n k m a b t changes e g d) =
+        let x = grows_start g in
+        block_more outer w frames runs inner (λ env left. exec_all body w.calls runs env left) shape start vars text place at base n k m a b t changes e x (grows_block d)
+        (subst (λ ns. IsStart ns t n start base (n + 1) a k) is g) (performs_block (local text t n ∷ inner) (ap (λ ns. local text t n ∷ ns) is) d)
 
     pub performs_all : {names : List Name} {ss : Tree} {base n m : ℕ} {code : List Instr} (inner : List Name) → names ≡ inner ++ outer → AreStmts names ss base n code m
         → Performs outer w frames inner (λ env left. exec_all ss w.calls runs env left) base n code m

@@ -1,5 +1,5 @@
 -- Code of statements fits where it stands.
-use Rattle.std.proofs.Common.{◌≡◌, ℕ, zero, suc, ◌+◌, ◌<◌, ◌≤◌, inl, inr, ⊎_elim, List, [], ◌∷◌, ◌++◌, length, refl, sym, ap, ◌∙◌, subst, Some, arith, append_assoc, length-append, true, false, ◌⊎◌}
+use Rattle.std.proofs.Common.{◌≡◌, ℕ, pos, zero, suc, ◌+◌, ◌<◌, ◌≤◌, inl, inr, ⊎_elim, List, [], ◌∷◌, ◌++◌, length, refl, sym, ap, ◌∙◌, subst, Option, None, Some, arith, append_assoc, length-append, true, false, ◌⊎◌}
 use Rattle.std.specs.Prelude.{slice_get}
 use Rattle.std.specs.Str.{bytes_eq}
 use Rattle.rvc_base.specs.declared.scalar.Scalar.{Scalar}
@@ -15,10 +15,10 @@ use Rattle.expr_lower.specs.Held.{AreBelow, SeatIsBelow}
 use Rattle.expr_lower.specs.Changing.{AreTyped}
 use Rattle.expr_lower.specs.Fitting.{FitsAt, Fits}
 use Rattle.expr_lower.specs.Placed.{StandsAt}
-use Rattle.expr_lower.specs.Stating.{IsStmt, AreStmts, set, set_item, if_alone, if_else, while_code, each_code, each_head, each_tail, none, one_more}
+use Rattle.expr_lower.specs.Stating.{IsStmt, AreStmts, set, set_item, if_alone, if_else, while_code, each_code, each_head, each_tail, block_code, none, one_more, IsBlock, no_more, variable_more, IsStart, at_zero, at_value}
 use Rattle.expr_lower.proofs.Coded.{grows, grows_test}
-use Rattle.expr_lower.proofs.Executed.{grows_stmt, grows_all}
-use Rattle.expr_lower.proofs.Fitted.{Plain, branch, fits, fits_jump, fits_like, fits_one, fits_test, fits_then, get_append, glued, glued_before, glued_from, plain_then}
+use Rattle.expr_lower.proofs.Executed.{grows_stmt, grows_all, grows_block, grows_start}
+use Rattle.expr_lower.proofs.Fitted.{Plain, branch, fits, fits_const, fits_jump, fits_like, fits_one, fits_test, fits_then, get_append, glued, glued_before, glued_from, plain_then}
 use Rattle.expr_lower.proofs.FittedEach.{fits_each}
 use Rattle.expr_lower.proofs.FittedJumps.{fits_back, fits_goto, fits_none}
 use Rattle.expr_lower.proofs.Keeping.{below_more}
@@ -54,6 +54,20 @@ module _ (code : Code) (callable limit : ℕ) where
       ⊎_elim (λ (f : (bytes_eq text other ≡ true) × (local text t c ≡ y)). subst (λ (z : Name). IsType z.shape) f.1 sized)
       (λ (f : (bytes_eq text other ≡ false) × (named other names ≡ Some y)). typed other y f.1)
       (choose_name (bytes_eq text other) (local text t c) (named other names) y e)
+
+  -- a local in the next cell
+  cell_below : (n k : ℕ) (names : List Name) (text : List ℕ) (t : Scalar) → n + 1 ≤ k → AreBelow n names → AreBelow k (local text t n ∷ names)
+  cell_below n k names text t le below other y e =
+      ⊎_elim (λ (f : (bytes_eq text other ≡ true) × (local text t n ≡ y)). subst (λ (z : Name). SeatIsBelow k (scalars_of_type z.shape) z.seat) f.1 (omega (arith, le)))
+      (λ (f : (bytes_eq text other ≡ false) × (named other names ≡ Some y)). below_more n k names (omega (arith, le)) below other y f.1)
+      (choose_name (bytes_eq text other) (local text t n) (named other names) y e)
+
+  fits_start : (names : List Name) (t : Scalar) (c : ℕ) {start : Tree} {base n m : ℕ} {a : List Instr} (h : ℕ) → IsSize t → c + 1 ≤ limit → AreBelow n names → m ≤ limit → IsStart names t c start base n a m → Plain code callable limit base h a h
+  fits_start names t c h sized room below le (at_zero base n) =
+      plain_then code callable limit base h (h + 1) h (op.Const (pos 0) ∷ []) (op.Store c None ∷ []) (fits_const code callable limit base h (pos 0))
+      (fits_one code callable limit (base + 1) (h + 1) h (op.Store c None) (omega arith) (omega arith) refl room tt tt tt)
+  fits_start names t c h sized room below le (at_value e base n m instrs g) =
+      plain_then code callable limit base h (h + 1) h instrs (op.Store c (Some t) ∷ []) (fits code callable limit names h below le g) (fits_store (base + length instrs) h c t room sized)
 
   mutual
     pub fits_stmt : {names : List Name} {s : Tree} {base n m : ℕ} {instrs : List Instr} (h : ℕ) → AreBelow n names → AreTyped names → m ≤ limit → StandsAt code.instrs base instrs → IsStmt names s base n instrs m → Plain code callable limit base h instrs h
@@ -120,6 +134,17 @@ module _ (code : Code) (callable limit : ℕ) where
         (fits code callable limit names h (below_more n (n + 3) names few below) (omega (arith, y, z, le)) g) (fits code callable limit names (h + 1) (below_more n k names wide below) (omega (arith, z, le)) d)
         (fits_all h (local_below n j names text t (omega (arith, x, y)) below) (local_typed (n + 2) names text t sized typed) le (stands_left code.instrs start c (each_tail n turn out) there) q)
         refl f1 f2 f3 (subst (λ p. slice_get code.instrs p ≡ Some op.Turn) at_turn last.1.1.1.1.1.1.0)
+    fits_stmt h below typed le stands (block_code names vars body at base n m code g) = fits_block h below typed le stands g
+
+    pub fits_block : {names : List Name} {vars body : Tree} {base n m : ℕ} {instrs : List Instr} (h : ℕ) → AreBelow n names → AreTyped names → m ≤ limit → StandsAt code.instrs base instrs → IsBlock names vars body base n instrs m → Plain code callable limit base h instrs h
+    fits_block h below typed le stands (no_more names body base n m instrs g) = fits_all h below typed le stands g
+    fits_block h below typed le stands (variable_more names shape start vars body text place at base n k m a b t changes e g d) =
+        let x = grows_start g in
+        let y = grows_block d in
+        let sized : IsSize t = meant_sized shape t e in
+        let wide : n ≤ n + 1 = omega arith in
+        plain_then code callable limit base h h h a b (fits_start names t n h sized (omega (arith, x, y, le)) (below_more n (n + 1) names wide below) (omega (arith, y, le)) g)
+        (fits_block h (cell_below n k names text t x below) (local_typed n names text t sized typed) le (stands_right code.instrs base a b stands) d)
 
     pub fits_all : {names : List Name} {ss : Tree} {base n m : ℕ} {instrs : List Instr} (h : ℕ) → AreBelow n names → AreTyped names → m ≤ limit → StandsAt code.instrs base instrs → AreStmts names ss base n instrs m → Plain code callable limit base h instrs h
     fits_all h below typed le stands (none names base n) = fits_none code callable limit base h

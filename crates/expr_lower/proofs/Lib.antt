@@ -35,3 +35,4 @@ pub mod FittedJumps
 pub mod FittedEach
 pub mod Erased
 pub mod Seeing
+pub mod Blocking

@@ -11,12 +11,17 @@ size (tree.prefix op e at) = 8 + size e
 size (tree.binary op l r at) = 8 + size l + size r
 size other = 1
 
+-- .. of the variables of a block
+abbrev pub spread : Tree → ℕ
+spread (tree.cons v vars) = 3 + spread vars
+spread other = 0
+
 -- .. of those of statements
 abbrev pub weight : Tree → ℕ
 weight (tree.if_stmt test first other at) = 8 + weight first + weight other
 weight (tree.while_stmt test body at) = 8 + weight body
 weight (tree.foreach_stmt shape name from to body at) = 8 + weight body
-weight (tree.block vars body at) = 8 + weight body
+weight (tree.block vars body at) = 8 + spread vars + weight body
 weight (tree.cons s rest) = 1 + weight s + weight rest
 weight (tree.present body) = 1 + weight body
 weight other = 1

@@ -1,8 +1,11 @@
 -- The words of the contracts of the parts that lower, over what they see.
 -- Not trusted: no promise is read with it.
-use Rattle.std.specs.Prelude.{◌≡◌, ℕ, List, ◌∷◌, Option, None, Some, string_bytes}
-use Rattle.cal_ast.specs.Tree.{Tree}
-use Rattle.cal_ast.specs.View.{expr_tree}
+use Rattle.std.specs.Prelude.{◌≡◌, ℕ, List, ◌∷◌, map, Option, None, Some, string_bytes}
+use Rattle.rvc_base.specs.declared.scalar.Scalar.{Scalar}
+use Rattle.cal_ast.specs.Tree.{Tree, listed}
+use Rattle.cal_ast.specs.View.{expr_tree, optional_expr, var_tree}
+use Rattle.cal_ast.specs.declared.member.VarDecl.{VarDecl}
+use Rattle.cal_ast.specs.declared.stmt.Stmt.{Stmt}
 use Rattle.cal_ast.specs.declared.expr.BinOp.{BinOp}
 use Rattle.cal_ast.specs.declared.expr.Expr.{Expr}
 use Rattle.cal_ast.specs.declared.ident.Ident.{Ident}
@@ -17,8 +20,9 @@ use Rattle.expr_lower.specs.Lowered.{Adds}
 use Rattle.expr_lower.specs.Meant.{local}
 use Rattle.expr_lower.specs.Names.{Name}
 use Rattle.expr_lower.specs.Seen.{seen}
-use Rattle.expr_lower.specs.Stating.{IsStmt, AreStmts}
-use Rattle.expr_lower.specs.StmtGrowing.{left_out_all, left_out_stmt}
+use Rattle.expr_lower.specs.Stating.{IsBlock, IsStart, IsStmt, AreStmts}
+use Rattle.expr_lower.specs.StmtGrowing.{left_out_all, left_out_start, left_out_stmt, left_out_vars}
+use Rattle.expr_lower.specs.StmtWords.{body_of}
 use Rattle.expr_lower.specs.Words.{binary_of}
 
 -- ---- expressions
@@ -91,3 +95,25 @@ IsAllOfBody name c scope body = left_out_all (in_each name c scope) body ≡ Non
 abbrev pub IsWhyNoBody : Ident → Counter → Scope → Tree → Draft → LowerFault → Type 0
 IsWhyNoBody name c scope body draft fault =
     IsFault (left_out_all (in_each name c scope) body) draft fault
+
+-- ---- blocks
+
+-- the variables of a block, and its statements
+abbrev pub AddsBlock : List Name → List VarDecl → List Stmt → Draft → Draft → Type 0
+AddsBlock names vars body old new =
+    Adds (IsBlock names (listed (map var_tree vars)) (body_of body)) old new
+
+abbrev pub left_out_block : List Name → List VarDecl → List Stmt → Option ℕ
+left_out_block names vars body =
+    left_out_vars names (listed (map var_tree vars)) (λ inner. left_out_all inner (body_of body))
+
+-- the start of a variable in a cell
+abbrev pub AddsStart : Scope → Scalar → ℕ → Option Expr → Draft → Draft → Type 0
+AddsStart scope t c e old new = Adds (IsStart (seen scope) t c (optional_expr e)) old new
+
+abbrev pub left_out_first : Scope → Option Expr → Option ℕ
+left_out_first scope e = left_out_start (seen scope) (optional_expr e)
+
+-- the names that are seen behind a variable
+abbrev pub behind : VarDecl → Scalar → ℕ → Scope → List Name
+behind v t c scope = local (string_bytes v.name.text) t c ∷ seen scope

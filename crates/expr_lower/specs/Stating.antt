@@ -1,6 +1,6 @@
 -- The code of each form of a statement. It stands at a place of the code, since jumps name places.
 -- Trusted: part of what a promise means.
-use Rattle.std.specs.Prelude.{◌≡◌, ℕ, ◌+◌, pos, List, [], ◌∷◌, ◌++◌, length, None, Some}
+use Rattle.std.specs.Prelude.{◌≡◌, ℕ, ◌+◌, pos, Bool, List, [], ◌∷◌, ◌++◌, length, None, Some}
 use Rattle.rvc_base.specs.declared.scalar.Scalar.{Scalar}
 use Rattle.cal_ast.specs.Tree as tree
 use Rattle.cal_ast.specs.Tree.{Tree}
@@ -46,6 +46,16 @@ abbrev pub each_tail : ℕ → ℕ → ℕ → List Instr
 each_tail n turn out =
     op.Load n ∷ op.Load (n + 1) ∷ op.Lt ∷ op.JumpIfNot out
     ∷ op.Load n ∷ op.Const (pos 1) ∷ op.Add ∷ op.Store n None ∷ op.Jump turn ∷ []
+
+-- ---- the start of a local
+
+-- Code that gives a local of a type its start, in a cell.
+pub data IsStart (names : List Name) (t : Scalar) (c : ℕ) :
+    Tree → ℕ → ℕ → List Instr → ℕ → Type 0 where
+  at_zero : (base n : ℕ)
+      → IsStart names t c tree.absent base n (op.Const (pos 0) ∷ op.Store c None ∷ []) n
+  at_value : (e : Tree) (base n m : ℕ) (code : List Instr) → IsCode names e base n code m
+      → IsStart names t c (tree.present e) base n (code ++ op.Store c (Some t) ∷ []) m
 
 mutual
   -- Code of a statement that stands at a place. Of the cells, it uses those of the names and those from n to m.
@@ -94,6 +104,20 @@ mutual
         → turn ≡ base + length a + length b + 6 → start ≡ turn + 3 → out ≡ start + length c + 9
         → IsStmt names (tree.foreach_stmt shape (tree.ident text place) from to body at) base n
         (a ++ (b ++ (each_head n t out ++ (c ++ each_tail n turn out)))) m
+    block_code : (names : List Name) (vars body : Tree) (at base n m : ℕ) (code : List Instr)
+        → IsBlock names vars body base n code m
+        → IsStmt names (tree.block vars body at) base n code m
+
+  -- code of the variables of a block, each of which is seen by those behind it, and of its statements
+  pub data IsBlock : List Name → Tree → Tree → ℕ → ℕ → List Instr → ℕ → Type 0 where
+    no_more : (names : List Name) (body : Tree) (base n m : ℕ) (code : List Instr)
+        → AreStmts names body base n code m → IsBlock names tree.nil body base n code m
+    variable_more : (names : List Name) (shape start vars body : Tree) (text : List ℕ)
+        (place at base n k m : ℕ) (a b : List Instr) (t : Scalar) (changes : Bool)
+        → single_meant shape ≡ Some t → IsStart names t n start base (n + 1) a k
+        → IsBlock (local text t n ∷ names) vars body (base + length a) k b m
+        → IsBlock names (tree.cons (tree.var shape (tree.ident text place) start changes at) vars)
+        body base n (a ++ b) m
 
   -- code of statements, one after the other
   pub data AreStmts : List Name → Tree → ℕ → ℕ → List Instr → ℕ → Type 0 where

@@ -50,10 +50,26 @@ left_out_set names text (tree.cons spot tree.nil) value at =
     ]
 left_out_set names text places value at = Some at
 
+-- the start of a local, which may be absent
+abbrev pub left_out_start : List Name → Tree → Option ℕ
+left_out_start names tree.absent = None
+left_out_start names (tree.present e) = left_out names e
+left_out_start names other = Some 0
+
+-- the variables of a block, and what sees them all
+abbrev pub left_out_vars : List Name → Tree → (List Name → Option ℕ) → Option ℕ
+left_out_vars names tree.nil body = body names
+left_out_vars names (tree.cons (tree.var shape (tree.ident text place) start changes at) vars) body =
+    elim (single_meant shape) [
+      | None ↦ Some at
+      | Some t ↦ left_out_start names start or_else left_out_vars (local text t 0 ∷ names) vars body
+    ]
+left_out_vars names other body = Some 0
+
 abbrev mutual
   -- The place of the first part of a statement for which no code is made: an assignment to what isn't a variable of
-  -- single values in a cell or an item of a list of them in cells, a call, a block, or a `foreach` whose type isn't
-  -- seen to be one of single values; or such a part of an expression. Of a `while` the body comes first, as in its
+  -- single values in a cell or an item of a list of them in cells, a call, or a `foreach` or a variable of a block
+  -- whose type isn't seen to be one of single values; or such a part of an expression. Of a `while` the body comes first, as in its
   -- code. Which cell a local has doesn't matter here.
   pub left_out_stmt : List Name → Tree → Option ℕ
   left_out_stmt names (tree.assign (tree.ident text place) places value at) =
@@ -69,7 +85,8 @@ abbrev mutual
         | Some t ↦ left_out names from or_else (left_out names to or_else left_out_all
             (local text t 0 ∷ names) body)
       ]
-  left_out_stmt names (tree.block vars body at) = Some at
+  left_out_stmt names (tree.block vars body at) =
+      left_out_vars names vars (λ inner. left_out_all inner body)
   left_out_stmt names other = Some 0
 
   -- .. of statements; those of an `else` may be absent

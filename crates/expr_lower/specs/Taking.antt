@@ -12,3 +12,10 @@ pub record HasTaken (kind : Scalar) (old new : Draft) (c : Counter) : Type 0 whe
   pub instrs : new.instrs.items ≡ old.instrs.items
   pub routines : new.routines.items ≡ old.routines.items
   pub cells : new.cells ≡ old.cells + 3
+
+-- one cell was added, and nothing else changed
+pub record HasOneMore (old new : Draft) (c : ℕ) : Type 0 where
+  pub is : c ≡ old.cells
+  pub instrs : new.instrs.items ≡ old.instrs.items
+  pub routines : new.routines.items ≡ old.routines.items
+  pub cells : new.cells ≡ old.cells + 1

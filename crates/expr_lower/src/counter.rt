@@ -4,7 +4,7 @@ ghost use Rattle.std.specs.Prelude.{◌≡◌, ◌+◌, ◌^◌, ◌≤◌, IfEr
 ghost use Rattle.expr_lower.specs.declared.fault.LowerFault.TheVariants.{Memory, TooManyCells};
 ghost use Rattle.expr_lower.specs.Lowered.{IsPut};
 ghost use Rattle.expr_lower.specs.Stating.{each_bounds, each_less, each_next, each_turn};
-ghost use Rattle.expr_lower.specs.Taking.{HasTaken};
+ghost use Rattle.expr_lower.specs.Taking.{HasOneMore, HasTaken};
 
 use crate::draft::{Draft, put_all};
 use crate::fault::LowerFault;
@@ -37,6 +37,20 @@ pub(crate) fn take_cells(kind: Scalar, draft: &mut Draft) -> Result<Counter, Low
         variable: number + 2,
         kind,
     })
+}
+
+/// Takes a cell more.
+pub(crate) fn take_cell(draft: &mut Draft) -> Result<u32, LowerFault>
+    ensures taken { IfOk result (HasOneMore draft.old draft.new) }
+    ensures fault { IfErr result
+        (λ fault. (fault ≡ TooManyCells) × (2 ^ 32 ≤ draft.new.cells + 3)) }
+{
+    let cell = draft.cells;
+    let Some(after) = cell.checked_add(1) else {
+        return Err(LowerFault::TooManyCells);
+    };
+    draft.cells = after;
+    Ok(cell)
 }
 
 /// Appends the instructions that take the bounds from the stack, and compare them.

@@ -1,25 +1,29 @@
 //! Statements as code: one small function a form.
 
-ghost use Rattle.std.specs.Prelude.{ℕ, IfErr, OnOk};
+ghost use Rattle.std.specs.Prelude.{◌≡◌, ◌∷◌, ℕ, IfErr, None, OnOk, Some};
 ghost use Rattle.cal_ast.specs.View.{stmt_tree};
 ghost use Rattle.expr_lower.specs.Changing.{AreTyped, NamesApart};
 ghost use Rattle.expr_lower.specs.Held.{AreBelow};
 ghost use Rattle.expr_lower.specs.Names.{names_view};
+ghost use Rattle.expr_lower.specs.Growing.{IsFault};
+ghost use Rattle.expr_lower.specs.Seen.{seen};
+ghost use Rattle.expr_lower.specs.SeenWords.{AddsBlock, AddsStart, behind, left_out_block, left_out_first};
 ghost use Rattle.expr_lower.specs.SeenWords.{AddsBody, AddsStmt, AddsStmts, AreAllOf, AreWhyNot};
 ghost use Rattle.expr_lower.specs.SeenWords.{IsAllOf, IsAllOfBody, IsWhyNoBody, IsWhyNot};
 ghost use Rattle.expr_lower.specs.StmtWords.{AddsExecuted, AreWhole, IsFaultAmong};
 ghost use Rattle.expr_lower.specs.StmtWords.{alone_of, body_of, branch_of, foreach_of, fork_of};
 ghost use Rattle.expr_lower.specs.StmtWords.{set_item_of, set_of, set_one_of, while_of};
 
-use crate::counter::{Counter, put_bounds, put_less, put_next, put_turn, take_cells};
-use crate::draft::{Draft, next_place, put};
+use crate::counter::{Counter, put_bounds, put_less, put_next, put_turn, take_cell, take_cells};
+use crate::draft::{Draft, next_place, put, put_all};
 use crate::fault::LowerFault;
 use crate::lower::{close, exit_at, jump_at, link, lower, lower_test};
 use crate::names::{Named, cell_named, cells_named};
 use crate::scope::{Frame, Scope};
 use crate::types::single_meant;
-use cal_ast::{Expr, Ident, Stmt, StmtForm, TypeExpr};
+use cal_ast::{Expr, Ident, Stmt, StmtForm, TypeExpr, VarDecl};
 use code_ir::Instr;
+use rvc_base::Scalar;
 
 /// Appends code that executes a statement.
 #[cycle(lower_stmt)]
@@ -44,7 +48,7 @@ fn lower_stmt(scope: &Scope, s: &Stmt, draft: &mut Draft) -> Result<(), LowerFau
             to,
             body,
         } => each(scope, shape, name, from, to, body, s.at, draft),
-        StmtForm::Block { vars: _, body: _ } => Err(LowerFault::NotLowered { at: s.at }),
+        StmtForm::Block { vars, body } => block(scope, vars, body, draft),
     }
 }
 
@@ -286,6 +290,111 @@ fn each_body(
     lower_all(&inner, body, draft)
 }
 
+/// Appends a block: its variables, each of which is seen by those behind it, and its statements.
+#[cycle(lower_stmt)]
+fn block(
+    scope: &Scope,
+    vars: &[VarDecl],
+    body: &[Stmt],
+    draft: &mut Draft,
+) -> Result<(), LowerFault>
+    ensures ok { OnOk result (AddsBlock (seen scope.now) vars.now body.now draft.old draft.new) }
+    ensures whole { OnOk result (left_out_block (seen scope.now) vars.now body.now ≡ None) }
+    ensures fault { IfErr result
+        (IsFault (left_out_block (seen scope.now) vars.now body.now) draft.new) }
+{
+    match vars.split_first() {
+        Some((first, rest)) => variable(scope, first, rest, body, draft),
+        None => lower_all(scope, body, draft),
+    }
+}
+
+/// Appends a variable of a block, and what sees it.
+#[cycle(lower_stmt)]
+fn variable(
+    scope: &Scope,
+    first: &VarDecl,
+    rest: &[VarDecl],
+    body: &[Stmt],
+    draft: &mut Draft,
+) -> Result<(), LowerFault>
+    ensures ok { OnOk result
+        (AddsBlock (seen scope.now) (first.now ∷ rest.now) body.now draft.old draft.new) }
+    ensures whole { OnOk result
+        (left_out_block (seen scope.now) (first.now ∷ rest.now) body.now ≡ None) }
+    ensures fault { IfErr result
+        (IsFault (left_out_block (seen scope.now) (first.now ∷ rest.now) body.now) draft.new) }
+{
+    let Some(kind) = single_meant(&first.shape) else {
+        return Err(LowerFault::NotLowered { at: first.at });
+    };
+    let cell = take_cell(draft)?;
+    start(scope, &first.start, cell, kind, draft)?;
+    behind(scope, first, kind, cell, rest, body, draft)
+}
+
+/// Appends what stands behind a variable of a block, and sees it.
+#[cycle(lower_stmt)]
+fn behind(
+    scope: &Scope,
+    first: &VarDecl,
+    kind: Scalar,
+    cell: u32,
+    rest: &[VarDecl],
+    body: &[Stmt],
+    draft: &mut Draft,
+) -> Result<(), LowerFault>
+    ensures ok { OnOk result
+        (AddsBlock (behind first.now kind cell scope.now) rest.now body.now draft.old draft.new) }
+    ensures whole { OnOk result
+        (left_out_block (behind first.now kind cell scope.now) rest.now body.now ≡ None) }
+    ensures fault { IfErr result
+        (IsFault (left_out_block (behind first.now kind cell scope.now) rest.now body.now) draft.new) }
+{
+    let frame = Frame {
+        name: first.name.text.as_str(),
+        kind,
+        cell,
+        outer: scope.frame,
+    };
+    let inner = scope.under(&frame);
+    block(&inner, rest, body, draft)
+}
+
+/// Appends the start of a variable, which is zero or false if none is written.
+fn start(
+    scope: &Scope,
+    value: &Option<Expr>,
+    cell: u32,
+    kind: Scalar,
+    draft: &mut Draft,
+) -> Result<(), LowerFault>
+    ensures ok { OnOk result (AddsStart scope.now kind cell value.now draft.old draft.new) }
+    ensures whole { OnOk result (left_out_first scope.now value.now ≡ None) }
+    ensures fault { IfErr result (IsFault (left_out_first scope.now value.now) draft.new) }
+{
+    match value {
+        Some(e) => given(scope, e, cell, kind, draft),
+        None => put_all(draft, &[Instr::Const(0), Instr::Store(cell, None)]),
+    }
+}
+
+/// Appends a value, and the instruction that stores it in a cell of a local.
+fn given(
+    scope: &Scope,
+    e: &Expr,
+    cell: u32,
+    kind: Scalar,
+    draft: &mut Draft,
+) -> Result<(), LowerFault>
+    ensures ok { OnOk result (AddsStart scope.now kind cell (Some e.now) draft.old draft.new) }
+    ensures whole { OnOk result (left_out_first scope.now (Some e.now) ≡ None) }
+    ensures fault { IfErr result (IsFault (left_out_first scope.now (Some e.now)) draft.new) }
+{
+    lower(scope, e, draft)?;
+    put(draft, Instr::Store(cell, Some(kind)))
+}
+
 /// Appends code that executes statements.
 ///
 /// `names` holds the names that the statements use; the first of several that are the same is meant. The code
@@ -293,8 +402,8 @@ fn each_body(
 /// the draft stays.
 ///
 /// Code is made for assignments to variables of single values and to items of lists of them, `if`, `while`, and
-/// `foreach` whose type is written without names, over the expressions for which
-/// [`lower_expr`](crate::lower_expr) makes code. A `foreach` uses three cells more, which are added to the draft.
+/// `foreach` and blocks whose types are written without names, over the expressions for which
+/// [`lower_expr`](crate::lower_expr) makes code. A `foreach` uses three cells more, and a variable of a block one; they are added to the draft.
 ///
 /// # Errors
 ///

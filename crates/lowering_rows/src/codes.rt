@@ -38,6 +38,10 @@ fn statements(rt: HostRuntime) -> Result<(), Fail> {
             "Const(0) Const(1) Store(7, None) Store(6, None) Load(6) Load(7) Le JumpIfNot(22) Turn Load(6) Store(8, Some(Int(32))) Load(8) Store(1, Some(Int(32))) Load(6) Load(7) Lt JumpIfNot(22) Load(6) Const(1) Add Store(6, None) Jump(8)",
         ),
         (
+            "begin var int c := a, bool t do b := c; end",
+            "Load(0) Store(6, Some(Int(32))) Const(0) Store(7, None) Load(6) Store(1, Some(Int(32)))",
+        ),
+        (
             "while a < 3 do a := a + 1; end",
             "Jump(6) Turn Load(0) Const(1) Add Store(0, Some(Int(8))) Load(0) Const(3) Lt JumpIfNot(11) Jump(1)",
         ),
@@ -58,7 +62,9 @@ fn what_is_left_out(rt: HostRuntime) -> Result<(), Fail> {
         ("foreach int i in f(0) .. g(1) do p(); end", "left out at 17"),
         ("foreach int i in 0 .. 1 do i := c; p(); end", "left out at 32"),
         ("foreach int x in 0 .. 1 do a := x[0]; end", "left out at 32"),
-        ("begin a := 1; end", "left out at 0"),
+        ("begin var List(type:int, size=2) l do end", "left out at 10"),
+        ("begin var int c := f(1) do end", "left out at 19"),
+        ("begin var int x do a := x[0]; end", "left out at 24"),
         ("c := 1;", "left out at 0"),
     ];
     hold(&rt, rt.alloc(), Asked::Code, &rows)

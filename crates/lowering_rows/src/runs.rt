@@ -94,6 +94,37 @@ fn ranges(rt: HostRuntime) -> Result<(), Fail> {
 }
 
 #[test]
+fn blocks(rt: HostRuntime) -> Result<(), Fail> {
+    let rows = [
+        ("begin a := 7; end", "Done 7 1 2 3 4 5"),
+        // variables see those before them, and are zero or false without a start
+        (
+            "begin var int c := b + 4, int d := c * c, int e, bool t do b := d + e; if t then a := 1; end end",
+            "Done 0 25 2 3 4 5",
+        ),
+        // they are stored in their types
+        (
+            "begin var int(size=8) c := 200 do b := c; c := c - 100; a := c; end",
+            "Done 100 -56 2 3 4 5",
+        ),
+        // they hide others, which are seen again behind the block
+        (
+            "begin var int a := 9, int a := a + 1 do b := a; end a := b;",
+            "Done 10 10 2 3 4 5",
+        ),
+        (
+            "foreach int i in 0 .. 2 do begin var int c := i * i do x[i] := c; end end",
+            "Done 0 1 0 1 4 5",
+        ),
+        (
+            "begin var int c := 1 / a do b := 9; end",
+            "Trap(DivideByZero) 0 1 2 3 4 5",
+        ),
+    ];
+    hold(&rt, rt.alloc(), Asked::Run, &rows)
+}
+
+#[test]
 fn turns(rt: HostRuntime) -> Result<(), Fail> {
     let rows = [
         (

@@ -1,17 +1,21 @@
-use Rattle.std.proofs.Common.{◌≡◌, ◌∷◌, [], length, ap, Err, Some, string_bytes, subst, sym, rules, arith}
+use Rattle.std.proofs.Common.{◌≡◌, ◌∷◌, [], length, map, ap, Err, None, Some, string_bytes, subst, sym, rules, arith}
 use Rattle.std.specs.Prelude.{IfErr, OnOk}
-use Rattle.cal_ast.specs.Tree.{Tree}
-use Rattle.cal_ast.specs.View.{expr_tree, stmt_tree, type_tree}
+use Rattle.std.proofs.lemmas.Result.{on_ok_weaker}
+use Rattle.cal_ast.specs.Tree as tree
+use Rattle.cal_ast.specs.Tree.{Tree, listed}
+use Rattle.cal_ast.specs.View.{expr_tree, optional_expr, stmt_tree, type_tree, var_tree}
+use Rattle.cal_ast.specs.declared.member.VarDecl.{VarDecl}
+use Rattle.expr_lower.specs.Growing.{IsFault}
 use Rattle.code_ir.specs.declared.instr.Instr.TheVariants as op
 use Rattle.expr_lower.specs.declared.counter.Counter.{Counter}
-use Rattle.expr_lower.specs.Stating.{each_next}
+use Rattle.expr_lower.specs.Stating.{AreStmts, IsBlock, IsStmt, block_code, each_next, no_more}
 use Rattle.expr_lower.specs.Meant.{single_meant}
 use Rattle.expr_lower.specs.Seen.{seen}
-use Rattle.expr_lower.specs.SeenWords.{AddsStmt, AreWhyNot, IsWhyNot}
+use Rattle.expr_lower.specs.SeenWords.{AddsBlock, AddsStmt, AreWhyNot, IsWhyNot, behind, left_out_block}
 use Rattle.expr_lower.specs.StmtWords.{body_of, foreach_of}
-use Rattle.expr_lower.proofs.Adding.{length_join}
-use Rattle.expr_lower.proofs.AddingStmts.{each_adds, each_fault, each_whole, none_added, more_added, fault_among, alone_adds, fork_adds, while_adds, weight_item}
-use Rattle.expr_lower.proofs.StmtForms.{stmt_foreach, stmt_if, stmt_while}
+use Rattle.expr_lower.proofs.Adding.{length_join, same_adds}
+use Rattle.expr_lower.proofs.AddingStmts.{each_adds, each_fault, each_whole, no_items, none_added, variable_adds, variable_open, more_added, fault_among, alone_adds, fork_adds, while_adds, weight_item}
+use Rattle.expr_lower.proofs.StmtForms.{stmt_block, stmt_foreach, stmt_if, stmt_while}
 use Rattle.expr_lower.proofs.stmts.+lower_stmt.Goals as goal
 
 pub alone-returns-clause-ok : goal.alone-returns-clause-ok
@@ -111,3 +115,49 @@ lower_all-returns-in_err-lower_stmt-clause-fault t c =
     c.loop-s-test.true c.s-item.is c.loop-s.invariant.whole c.in_err-lower_stmt.ensures.fault in
     let same : c.from_residual.result ≡ Err c.in_err-lower_stmt.field-0.0 = search rules in
     subst (λ r. IfErr r (AreWhyNot c.args.scope.now (body_of c.args.body.now) c.lower_stmt.new.draft)) (sym same) made
+
+pub lower_stmt-returns-in-Block-clause-ok : goal.lower_stmt-returns-in-Block-clause-ok
+lower_stmt-returns-in-Block-clause-ok t c =
+    subst (λ (s : Tree). OnOk c.block.result (AddsStmt c.args.scope.now s c.args.draft.now c.block.new.draft))
+    (sym (stmt_block c.args.s.now c.in-Block.vars c.in-Block.body c.deref-in-Block.result.now c.deref-in-Block-2.result.now c.in-Block.is c.deref-in-Block.ensures.value c.deref-in-Block-2.ensures.value))
+    (on_ok_weaker c.block.result (same_adds (IsBlock (seen c.args.scope.now) _ _) (IsStmt (seen c.args.scope.now) _) c.args.draft.now c.block.new.draft (λ base n m code h. block_code (seen c.args.scope.now) _ _ c.args.s.now.at base n m code h)) c.block.ensures.ok)
+
+pub lower_stmt-returns-in-Block-clause-fault : goal.lower_stmt-returns-in-Block-clause-fault
+lower_stmt-returns-in-Block-clause-fault t c =
+    subst (λ (s : Tree). IfErr c.block.result (IsWhyNot c.args.scope.now s c.block.new.draft))
+    (sym (stmt_block c.args.s.now c.in-Block.vars c.in-Block.body c.deref-in-Block.result.now c.deref-in-Block-2.result.now c.in-Block.is c.deref-in-Block.ensures.value c.deref-in-Block-2.ensures.value))
+    c.block.ensures.fault
+
+pub block-returns-in-None-clause-ok : goal.block-returns-in-None-clause-ok
+block-returns-in-None-clause-ok t c =
+    let size : length c.args.vars.now ≡ 0 = search rules in
+    let none : c.args.vars.now ≡ [] = no_items c.args.vars.now size in
+    subst (λ vs. OnOk c.lower_all.result (AddsBlock (seen c.args.scope.now) vs c.args.body.now c.args.draft.now c.lower_all.new.draft)) (sym none)
+    (on_ok_weaker c.lower_all.result
+    (same_adds (AreStmts (seen c.args.scope.now) (body_of c.args.body.now)) (IsBlock (seen c.args.scope.now) tree.nil (body_of c.args.body.now)) c.args.draft.now c.lower_all.new.draft (λ base n m code h. no_more (seen c.args.scope.now) (body_of c.args.body.now) base n m code h))
+    c.lower_all.ensures.ok)
+
+pub variable-returns-clause-ok : goal.variable-returns-clause-ok
+variable-returns-clause-ok t c =
+    let v : VarDecl = c.args.first.now in
+    let found : single_meant (type_tree v.shape) ≡ Some c.in-Some.kind = sym c.in-Some.ensures in
+    on_ok_weaker c.behind.result
+    (variable_adds (seen c.args.scope.now) (type_tree v.shape) (optional_expr v.start) (listed (map var_tree c.args.rest.now)) (body_of c.args.body.now) (string_bytes v.name.text) v.name.at v.at c.in_ok-cell.cell c.in-Some.kind v.changes
+    c.args.draft.now c.take_cell.new.draft c.start.new.draft c.behind.new.draft found c.in_ok-cell.ensures.taken c.in_ok-start.ensures.ok)
+    c.behind.ensures.ok
+
+pub variable-returns-clause-whole : goal.variable-returns-clause-whole
+variable-returns-clause-whole t c =
+    let v : VarDecl = c.args.first.now in
+    let found : single_meant (type_tree v.shape) ≡ Some c.in-Some.kind = sym c.in-Some.ensures in
+    let same : left_out_block (seen c.args.scope.now) (v ∷ c.args.rest.now) c.args.body.now ≡ left_out_block (behind v c.in-Some.kind c.in_ok-cell.cell c.args.scope.now) c.args.rest.now c.args.body.now =
+    variable_open (seen c.args.scope.now) (type_tree v.shape) (optional_expr v.start) (listed (map var_tree c.args.rest.now)) (body_of c.args.body.now) (string_bytes v.name.text) v.name.at v.at c.in_ok-cell.cell c.in-Some.kind v.changes found c.in_ok-start.ensures.whole in
+    subst (λ o. OnOk c.behind.result (o ≡ None)) (sym same) c.behind.ensures.whole
+
+pub variable-returns-clause-fault : goal.variable-returns-clause-fault
+variable-returns-clause-fault t c =
+    let v : VarDecl = c.args.first.now in
+    let found : single_meant (type_tree v.shape) ≡ Some c.in-Some.kind = sym c.in-Some.ensures in
+    let same : left_out_block (seen c.args.scope.now) (v ∷ c.args.rest.now) c.args.body.now ≡ left_out_block (behind v c.in-Some.kind c.in_ok-cell.cell c.args.scope.now) c.args.rest.now c.args.body.now =
+    variable_open (seen c.args.scope.now) (type_tree v.shape) (optional_expr v.start) (listed (map var_tree c.args.rest.now)) (body_of c.args.body.now) (string_bytes v.name.text) v.name.at v.at c.in_ok-cell.cell c.in-Some.kind v.changes found c.in_ok-start.ensures.whole in
+    subst (λ o. IfErr c.behind.result (IsFault o c.behind.new.draft)) (sym same) c.behind.ensures.fault

@@ -1,9 +1,9 @@
 use Rattle.std.proofs.Common.{◌+◌, map, take}
 use Rattle.cal_ast.specs.Tree.{listed}
-use Rattle.cal_ast.specs.View.{body_tree, stmt_tree}
+use Rattle.cal_ast.specs.View.{body_tree, stmt_tree, var_tree}
 use Rattle.expr_lower.specs.Seen.{seen}
 use Rattle.expr_lower.proofs.AddingStmts.{AreAdded}
-use Rattle.expr_lower.proofs.Weights.{weight}
+use Rattle.expr_lower.proofs.Weights.{spread, weight}
 use Rattle.expr_lower.proofs.stmts.+lower_stmt.Given as goal
 
 abbrev pub invariant-lower_all-loop-s : goal.invariant-lower_all-loop-s
@@ -32,3 +32,12 @@ decreases-each l = 4 + weight (listed (map stmt_tree l.body.now))
 
 abbrev pub decreases-each_body : goal.decreases-each_body
 decreases-each_body l = 2 + weight (listed (map stmt_tree l.body.now))
+
+abbrev pub decreases-block : goal.decreases-block
+decreases-block l = 4 + spread (listed (map var_tree l.vars.now)) + weight (listed (map stmt_tree l.body.now))
+
+abbrev pub decreases-variable : goal.decreases-variable
+decreases-variable l = 6 + spread (listed (map var_tree l.rest.now)) + weight (listed (map stmt_tree l.body.now))
+
+abbrev pub decreases-behind : goal.decreases-behind
+decreases-behind l = 5 + spread (listed (map var_tree l.rest.now)) + weight (listed (map stmt_tree l.body.now))
