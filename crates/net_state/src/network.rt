@@ -98,6 +98,14 @@ impl<A: Firing> NetState<A> {
         self.rooms[inst.0 as usize][port as usize]
     }
 
+    /// How many tokens a link can hold now.
+    pub fn capacity(&self, link: LinkId) -> u32
+        requires there { link.0 < length self.now.links }
+        ensures { result ≡ slice_index_or self.now.capacities link.0 0 }
+    {
+        self.capacities[link.0 as usize]
+    }
+
     /// Lets one cell make at most `limit` firings of the actions that selection gives, each with room on every
     /// output port. Its journal names them, and the other cells stay.
     ///

@@ -1,0 +1,88 @@
+//! Event lines on their way to the trace's channel.
+
+ghost use Rattle.std.specs.Prelude.{◌≡◌, ◌≤◌, true, OnErr, length, map};
+ghost use Rattle.rvc_io.specs.Channels.{WriteFails, WritesOnly};
+ghost use Rattle.trace_text.specs.Text.{line_text, IsWhole};
+ghost use Rattle.round_runner.specs.Firings.{firings_text, journal_text};
+ghost use Rattle.round_runner.specs.Writing.{Broke, Wrote};
+
+use crate::TRACE_CHANNEL;
+use arrayvec::ArrayVec;
+use channel_writer::ChannelWriter;
+use net_model::Firing;
+use net_state::NetState;
+use rvc_base::InstId;
+use rvc_io::{Drains, Failed};
+use trace_text::{Line, write_line};
+
+/// Writes a line behind what was written to the trace so far.
+///
+/// # Errors
+///
+/// `Failed` if a write failed (`failed`): the channel got a prefix of what was buffered and of the line (`front`).
+pub fn note<D: Drains>(line: &Line, trace: &mut ChannelWriter, drains: &mut D) -> Result<(), Failed>
+    requires open { (D.channels drains.old).is_open TRACE_CHANNEL ≡ true }
+    requires whole { IsWhole line.now }
+    ensures written { Wrote D.channels drains.old drains.new TRACE_CHANNEL trace.old trace.new
+        (line_text line.now) result }
+    ensures front { Broke D.channels drains.old drains.new TRACE_CHANNEL trace.old
+        (line_text line.now) result }
+    ensures failed { OnErr result (WriteFails D.channels drains.old drains.new) }
+    ensures elsewhere { WritesOnly D.channels drains.old drains.new TRACE_CHANNEL }
+{
+    let mut text = ArrayVec::<u8, 64>::new();
+    write_line(line, &mut text);
+    trace.write(drains, TRACE_CHANNEL, text.as_slice())
+}
+
+/// Writes a line for each firing that the cells' journals name, cell by cell.
+///
+/// # Errors
+///
+/// `Failed` if a write failed (`failed`): the channel got a prefix of what was buffered and of the lines (`front`).
+pub fn note_firings<A: Firing, D: Drains>(
+    net: &NetState<A>,
+    cells: u32,
+    trace: &mut ChannelWriter,
+    drains: &mut D,
+) -> Result<(), Failed>
+    requires all { cells ≡ length net.now.cells }
+    requires open { (D.channels drains.old).is_open TRACE_CHANNEL ≡ true }
+    ensures written { Wrote D.channels drains.old drains.new TRACE_CHANNEL trace.old trace.new
+        (firings_text (map A.cell net.now.cells)) result }
+    ensures front { Broke D.channels drains.old drains.new TRACE_CHANNEL trace.old
+        (firings_text (map A.cell net.now.cells)) result }
+    ensures failed { OnErr result (WriteFails D.channels drains.old drains.new) }
+    ensures elsewhere { WritesOnly D.channels drains.old drains.new TRACE_CHANNEL }
+{
+    for i in 0..cells {
+        let inst = InstId(i);
+        note_journal(inst, net.journal(inst), trace, drains)?;
+    }
+    Ok(())
+}
+
+/// Writes a line for each of these firings of an instance, in order.
+fn note_journal<D: Drains>(
+    inst: InstId,
+    actions: &[u16],
+    trace: &mut ChannelWriter,
+    drains: &mut D,
+) -> Result<(), Failed>
+    requires open { (D.channels drains.old).is_open TRACE_CHANNEL ≡ true }
+    ensures written { Wrote D.channels drains.old drains.new TRACE_CHANNEL trace.old trace.new
+        (journal_text inst.0 actions.now) result }
+    ensures front { Broke D.channels drains.old drains.new TRACE_CHANNEL trace.old
+        (journal_text inst.0 actions.now) result }
+    ensures failed { OnErr result (WriteFails D.channels drains.old drains.new) }
+    ensures elsewhere { WritesOnly D.channels drains.old drains.new TRACE_CHANNEL }
+{
+    for k in 0..actions.len() {
+        let line = Line::Fire {
+            inst: inst.0,
+            action: actions[k],
+        };
+        note(&line, trace, drains)?;
+    }
+    Ok(())
+}
