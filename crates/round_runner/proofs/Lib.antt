@@ -1,3 +1,4 @@
 mod Written
 mod UpTo
 mod Marks
+mod Stepping

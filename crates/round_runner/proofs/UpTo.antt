@@ -3,6 +3,7 @@ use Rattle.std.proofs.Common.{◌≡◌, ◌≢◌, ℕ, zero, suc, ◌+◌, ◌
 use Rattle.std.specs.Prelude.{Option, None, Some, nat_le, slice_get, slice_index_or, if◌then◌else◌}
 use Rattle.std.specs.List.{range_with_len}
 use Rattle.std.proofs.lemmas.Bool.{cases_eq, cases_lt, leb-true, le-leb}
+use Rattle.std.proofs.lemmas.Option.{slice_get-get_or}
 use Rattle.std.proofs.lemmas.List.FromFn.{map-range_with_len_more}
 use Rattle.std.proofs.lemmas.Grind.{fold-append}
 use Rattle.rvc_base.specs.declared.ids.InstId.{InstId}
@@ -26,6 +27,9 @@ use Rattle.round_runner.specs.declared.bursting.Trapped.{Trapped}
 use Rattle.round_runner.specs.Bursting.{AreFresh, Bursted, Fires, IsFresh, first_of, trap_line, trapped_by}
 
 -- Lists by place.
+
+pub at_mark : (marks : List Bool) (k : ℕ) (d b : Bool) → k < length marks → slice_index_or marks k d ≡ b → slice_get marks k ≡ Some b
+at_mark marks k d b low is = slice_get-get_or marks k d low ∙ ap Some is
 
 some_at : {A : Type 0} (xs : List A) (k : ℕ) → k < length xs → (x : A) × (slice_get xs k ≡ Some x)
 some_at [] k low = absurd (omega (arith, low))
@@ -74,7 +78,7 @@ abbrev pub picked_before : List Bool → ℕ → ℕ
 picked_before marks i = count_picked (take i marks)
 
 count_append : (marks more : List Bool) → count_picked (marks ++ more) ≡ count_picked marks + count_picked more
-count_append [] more = refl
+count_append [] more = omega arith
 count_append (true ∷ marks) more = let rest : count_picked (marks ++ more) ≡ count_picked marks + count_picked more = count_append marks more in omega (arith, rest)
 count_append (false ∷ marks) more = count_append marks more
 
@@ -275,6 +279,13 @@ module _ {X : Type 0} (share : Share) (marks : List Bool) (burst i k fired : ℕ
       let none : length here.0.journal ≡ 0 = ap (λ js. length js) cell.empty in
       on_some (slice_get now.cells i) (λ c. (c.trapped ≡ false) × (length c.journal + limit ≤ c.journal_room)) here.0 at (cell.untrapped, omega (arith, none, few, cell.room))
 
+  -- the next cell's journal names what it fired
+  noted_next : (limit : ℕ) (end : BurstEnd) (new : Held (Cell X)) (works : WorksAt i limit end now new) → journal_of (slice_get new.cells i) ≡ works.actions
+  noted_next limit end new works = works.noted ∙ ap (λ js. js ++ works.actions) (so_far.noted i ∙ index_beyond so_far.bursts [] i (omega (arith, so_far.count)))
+
+  pub noted_few : (limit : ℕ) (end : BurstEnd) (new : Held (Cell X)) → WorksAt i limit end now new → (count : ℕ) → count ≡ length (journal_of (slice_get new.cells i)) → count ≤ limit
+  noted_few limit end new works count counted = omega (arith, counted, ap (λ js. length js) (noted_next limit end new works), works.few)
+
   -- the burst of one that is picked
   pub bursting_more : (limit : ℕ) (end : BurstEnd) (new : Held (Cell X)) (fresh : AreFresh burst old.cells) → slice_get marks i ≡ Some true
       → limit ≡ limit_of share.burst share.left share.picks k fired → (works : WorksAt i limit end now new) → (count : ℕ) → count ≡ length (journal_of (slice_get new.cells i))
@@ -292,7 +303,7 @@ module _ {X : Type 0} (share : Share) (marks : List Bool) (burst i k fired : ℕ
         line_of_first trap (trapped_by (record { 0 = i }) end)
         ∙ (ap (λ line. or_line line (trap_line (trapped_by (record { 0 = i }) end))) so_far.trap_is
         ∙ (ap (λ line. or_line (first_trap 0 so_far.halts) line) (sym (trap_of_end (record { 0 = i }) end))
-        ∙ (ap (λ n. or_line (first_trap 0 so_far.halts) (first_trap n (halt_of end ∷ []))) (sym so_far.halted)
+        ∙ (ap (λ n. or_line (first_trap 0 so_far.halts) (first_trap n (halt_of end ∷ []))) (let e : i ≡ 0 + length so_far.halts = omega (arith, so_far.halted) in e)
         ∙ sym (trap_after 0 so_far.halts (halt_of end ∷ [])))));
     noted = λ j. ⊎_elim
         (λ is.
@@ -326,7 +337,7 @@ module _ {X : Type 0} (share : Share) (marks : List Bool) (burst i k fired : ℕ
   }
     where
       noted_here : journal_of (slice_get new.cells i) ≡ works.actions
-      noted_here = works.noted ∙ ap (λ js. js ++ works.actions) (so_far.noted i ∙ index_beyond so_far.bursts [] i (omega (arith, so_far.count)))
+      noted_here = noted_next limit end new works
 
       elsewhere_noted : (j : ℕ) → (j ≡ i → ⊥) → slice_index_or so_far.bursts j [] ≡ slice_index_or (so_far.bursts ++ works.actions ∷ []) j []
       elsewhere_noted j differ = ⊎_elim

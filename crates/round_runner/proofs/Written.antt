@@ -1,6 +1,6 @@
 -- How far the tokens of a link were written.
 use Rattle.std.proofs.Common.{◌≡◌, ℕ, zero, suc, ◌+◌, ◌<◌, ◌≤◌, true, List, [], ◌∷◌, ◌++◌, ℤ, length, map, take, drop, refl, sym, ap, subst, ◌∙◌, arith, append_assoc, append-nil}
-use Rattle.std.specs.Prelude.{Some, flat_map, slice_get}
+use Rattle.std.specs.Prelude.{Some, None, Ok, Err, Result, OnErr, flat_map, slice_get}
 use Rattle.std.proofs.lemmas.Grind.{flat_map-append}
 use Rattle.rvc_base.specs.declared.scalar.Scalar.{Scalar}
 use Rattle.rvc_io.specs.Channels.{Channels, WritesOnlyAt}
@@ -9,7 +9,9 @@ use Rattle.channel_writer.proofs.Chains.{writes-nothing, writes-then, breaks-the
 use Rattle.trace_text.specs.declared.line.Line.TheVariants.{Fire as FireLine}
 use Rattle.trace_text.specs.Text.{line_text}
 use Rattle.net_model.specs.Paced.{fire_lines}
-use Rattle.round_runner.specs.Firings.{journal_text}
+use Rattle.net_model.specs.Cell.{Cell}
+use Rattle.net_state.specs.Working.{journal_of}
+use Rattle.round_runner.specs.Firings.{journal_text, journals}
 use Rattle.round_runner.specs.Sending.{stored_bytes, stored_token}
 
 -- a text was written on a channel, and nothing else
@@ -52,6 +54,10 @@ module _ (channel : ℕ) (text pending_old pending : List ℕ) (old now new : Ch
       (append_assoc pending_old (text ++ more) rest ∙ ap (λ xs. pending_old ++ xs) (append_assoc text more rest))
       (front-longer (old.held channel) (new.held channel) (pending_old ++ (text ++ more)) rest here)
 
+pub on_err : {T E : Type 0} (r : Result T E) (P : Type 0) → P → OnErr r P
+on_err (Ok v) P p = tt
+on_err (Err e) P p = p
+
 -- A text of items one after another; that of an item may depend on its place.
 module _ {A : Type 0} (text : ℕ → List A → List ℕ) (one : ℕ → A → List ℕ) (none : (i : ℕ) → text i [] ≡ [])
     (more : (i : ℕ) (x : A) (xs : List A) → text i (x ∷ xs) ≡ one i x ++ text (suc i) xs) where
@@ -83,12 +89,15 @@ module _ {A : Type 0} (text : ℕ → List A → List ℕ) (one : ℕ → A → 
       ∙ (ap (λ ts. one i y ++ ts) (rest_by (suc i) xs k) ∙ sym (more i y xs))))
 
   pub text_next : (xs : List A) (k : ℕ) (x : A) → slice_get xs k ≡ Some x → text 0 (take k xs) ++ one k x ≡ text 0 (take (k + 1) xs)
-  text_next xs k x h = next_by 0 xs k x h ∙ ap (λ n. text 0 (take n xs)) (let e : suc k ≡ k + 1 = omega arith in e)
+  text_next xs k x h =
+      ap (λ n. text 0 (take k xs) ++ one n x) (let e : k ≡ 0 + k = omega arith in e)
+      ∙ (next_by 0 xs k x h ∙ ap (λ n. text 0 (take n xs)) (let e : suc k ≡ k + 1 = omega arith in e))
 
   pub text_all : (xs : List A) (k : ℕ) (x : A) → slice_get xs k ≡ Some x → text 0 (take k xs) ++ (one k x ++ text (k + 1) (drop (k + 1) xs)) ≡ text 0 xs
   text_all xs k x h =
       sym (append_assoc (text 0 (take k xs)) (one k x) (text (k + 1) (drop (k + 1) xs)))
-      ∙ (ap (λ ts. ts ++ text (k + 1) (drop (k + 1) xs)) (text_next xs k x h) ∙ rest_by 0 xs (k + 1))
+      ∙ (ap (λ ts. ts ++ text (k + 1) (drop (k + 1) xs)) (text_next xs k x h)
+      ∙ (ap (λ n. text 0 (take (k + 1) xs) ++ text n (drop (k + 1) xs)) (let e : k + 1 ≡ 0 + (k + 1) = omega arith in e) ∙ rest_by 0 xs (k + 1)))
 
 -- the bytes of tokens
 pub bytes_more : (kind : Scalar) (i : ℕ) (v : ℤ) (vs : List ℤ) → stored_bytes kind (v ∷ vs) ≡ stored_token kind v ++ stored_bytes kind vs
@@ -106,3 +115,9 @@ text_from i bursts = flat_map line_text (fire_lines i bursts)
 
 pub bursts_more : (i : ℕ) (actions : List ℕ) (bursts : List (List ℕ)) → text_from i (actions ∷ bursts) ≡ journal_text i actions ++ text_from (suc i) bursts
 bursts_more i actions bursts = flat_map-append line_text (map (FireLine i) actions) (fire_lines (suc i) bursts)
+
+-- the journal of a cell, among those of all
+pub journal_at : {X : Type 0} (cells : List (Cell X)) (i : ℕ) (actions : List ℕ) → i < length cells → actions ≡ journal_of (slice_get cells i) → slice_get (journals cells) i ≡ Some actions
+journal_at [] i actions low is = absurd (omega (arith, low))
+journal_at (cell ∷ cells) zero actions low is = ap Some (sym is)
+journal_at (cell ∷ cells) (suc i) actions low is = journal_at cells i actions (omega (arith, low)) is

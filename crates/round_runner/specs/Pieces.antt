@@ -7,8 +7,8 @@ use Rattle.claim_board.specs.Pieces.{IsWorked}
 
 -- A cell that is to make a burst: how often it may fire, the rooms of its output ports, and how the burst ended
 -- once it was made.
-pub record Turn (X : Type 0) : Type 0 where
-  pub cell : Cell X
+pub record Turn (C : Type 0) : Type 0 where
+  pub cell : C
   pub limit : ℕ
   pub rooms : List ℕ
   pub end : Option BurstEnd
@@ -16,16 +16,21 @@ pub record Turn (X : Type 0) : Type 0 where
 -- a burst may be made
 pub record MayTurn {X : Type 0} (cell : Cell X) (limit : ℕ) (rooms : List ℕ) : Type 0 where
   pub untrapped : cell.trapped ≡ false
-  pub rooms : AreRooms cell rooms
+  pub fits : AreRooms cell rooms
   pub journal : length cell.journal + limit ≤ cell.journal_room
 
 -- the burst was made, and ended so
-pub record Turns {X : Type 0} (old new : Turn X) : Type 0 where
+pub record Turns {C X : Type 0} (cell : C → Cell X) (old new : Turn C) : Type 0 where
   pub how : BurstEnd
   pub ended : new.end ≡ Some how
-  pub bursts : Bursts old.rooms old.limit old.cell how new.cell
+  pub bursts : Bursts old.rooms old.limit (cell old.cell) how (cell new.cell)
   pub limit : new.limit ≡ old.limit
   pub rooms : new.rooms ≡ old.rooms
+
+-- no piece is marked
+abbrev pub AreUnmarked : {P : Type 0} → (P → Bool) → List P → Type 0
+AreUnmarked {P} marked pieces = (place : ℕ) (piece : P) → slice_get pieces place ≡ Some piece
+    → marked piece ≡ false
 
 -- a piece at a place, by whether it is picked: it is worked from its start, or it stays
 abbrev pub StepsTo : {P X : Type 0} → (P → X) → (P → Bool) → (X → X → Type 0) → List P → Option Bool

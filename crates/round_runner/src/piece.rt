@@ -1,8 +1,7 @@
 //! Cells that make their bursts, as pieces of work.
 
-ghost use Rattle.std.specs.Prelude.{◌≡◌, ◌+◌, ◌≤◌, None, false, length};
-ghost use Rattle.std.specs.List.{All};
-ghost use Rattle.round_runner.specs.Pieces.{MayTurn, Steps, Turn};
+ghost use Rattle.std.specs.Prelude.{◌≡◌, None, length};
+ghost use Rattle.round_runner.specs.Pieces.{AreUnmarked, MayTurn, Steps};
 
 use claim_board::Piece;
 use net_model::{BurstEnd, Firing};
@@ -24,10 +23,10 @@ impl<A: Firing> Model for CellPiece<A> {
     ghost use Rattle.std.specs.Prelude.{◌≡◌, None};
     ghost use Rattle.round_runner.specs.Pieces.{MayTurn, Turn};
 
-    ghost Value = { Turn A.State };
+    ghost Value = { Turn A };
 
     ghost view = { λ p. record {
-      cell = A.cell p.cell;
+      cell = p.cell;
       limit = p.limit;
       rooms = p.rooms.items;
       end = p.end;
@@ -40,7 +39,7 @@ impl<A: Firing> CellPiece<A> {
     /// A cell that is to fire at most `limit` times, with these rooms.
     pub fn new(cell: A, limit: u32, rooms: Vec<u32>) -> CellPiece<A>
         requires may { MayTurn (A.cell cell) limit rooms.items }
-        ensures cell { result.cell ≡ A.cell cell }
+        ensures cell { result.cell ≡ cell }
         ensures limit { result.limit ≡ limit }
         ensures rooms { result.rooms ≡ rooms.items }
         ensures end { result.end ≡ None }
@@ -58,13 +57,13 @@ impl<A: Firing> Piece for CellPiece<A> {
     ghost use Rattle.std.specs.Prelude.{is_some};
     ghost use Rattle.round_runner.specs.Pieces.{Turn, Turns};
 
-    ghost State = { Turn A.State };
+    ghost State = { Turn A };
 
     ghost state = { λ p. p };
 
     ghost marked = { λ p. is_some p.end };
 
-    ghost gives = { Turns };
+    ghost gives = { Turns A.cell };
 
     fn work(&mut self) {
         self.end = Some(self.cell.burst(self.limit, &self.rooms));
@@ -74,7 +73,7 @@ impl<A: Firing> Piece for CellPiece<A> {
 /// Works each piece that is picked, once. The others stay.
 pub fn work_each<P: Piece>(pieces: &mut [P], picked: &[bool])
     requires as_many { length picked.now ≡ length pieces.old }
-    requires unmarked { All (λ p. P.marked p ≡ false) pieces.old }
+    requires unmarked { AreUnmarked P.marked pieces.old }
     ensures steps { Steps P.state P.marked P.gives picked.now pieces.old pieces.new }
 {
     for k in 0..pieces.len() {

@@ -1,0 +1,5 @@
+use Rattle.round_runner.proofs.Stepping.{IsStepUpTo}
+use Rattle.round_runner.proofs.piece.work_each.Given as goal
+
+abbrev pub invariant-loop-k : goal.invariant-loop-k
+invariant-loop-k g l = IsStepUpTo g.P.Piece.state g.P.Piece.marked g.P.Piece.gives l.picked l.initial.pieces l.k l.pieces
