@@ -1,5 +1,5 @@
 -- Marks of the instances that are picked, by place.
-use Rattle.std.proofs.Common.{◌≡◌, ℕ, zero, suc, ◌+◌, ◌<◌, ◌≤◌, Bool, true, false, List, [], ◌∷◌, length, take, refl, sym, ap, ◌∙◌, arith}
+use Rattle.std.proofs.Common.{◌≡◌, ℕ, zero, suc, ◌≤◌, Bool, true, false, List, [], ◌∷◌, length, take, refl, ap, arith}
 use Rattle.std.specs.Prelude.{Some, slice_get}
 use Rattle.net_model.specs.Paced.{count_picked, none_of}
 

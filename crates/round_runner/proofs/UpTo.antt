@@ -1,5 +1,5 @@
 -- How far the bursts of a round were made.
-use Rattle.std.proofs.Common.{◌≡◌, ◌≢◌, ℕ, zero, suc, ◌+◌, ◌-◌, ◌*◌, ◌<◌, ◌≤◌, Bool, true, false, List, [], ◌∷◌, ◌++◌, length, map, take, drop, min, sum, refl, sym, ap, subst, ◌∙◌, ⊎_elim, inl, inr, arith, append_assoc, append-nil, length-append}
+use Rattle.std.proofs.Common.{◌≡◌, ℕ, zero, suc, ◌+◌, ◌-◌, ◌*◌, ◌<◌, ◌≤◌, Bool, true, false, List, [], ◌∷◌, ◌++◌, length, map, take, drop, min, sum, refl, sym, ap, subst, ◌∙◌, ◌⊎◌, ⊎_elim, inl, inr, arith, append_assoc, append-nil, length-append}
 use Rattle.std.specs.Prelude.{Option, None, Some, nat_le, slice_get, slice_index_or, if◌then◌else◌}
 use Rattle.std.specs.List.{range_with_len}
 use Rattle.std.proofs.lemmas.Bool.{cases_eq, cases_lt, leb-true, le-leb}
@@ -14,17 +14,20 @@ use Rattle.net_model.specs.declared.firing.BurstEnd.TheVariants as burst
 use Rattle.net_model.specs.Network.{Network}
 use Rattle.net_model.specs.State.{State}
 use Rattle.net_model.specs.Cell.{Cell, IsSameActor}
-use Rattle.net_model.specs.Paced.{AreBursts, Halt, IsBurst, Share, Spent, Waiting, NoRoom, Trapping, Unpicked, count_of, count_picked, first_trap, limit_of}
-use Rattle.net_model.specs.Ready.{OnCell}
+use Rattle.net_model.specs.Paced.{AreBursts, HaltsAt, Halt, IsBurst, Share, Spent, Waiting, NoRoom, Trapping, Unpicked, count_of, count_picked, first_trap, limit_of}
 use Rattle.net_state.specs.Held.{Held}
 use Rattle.net_state.specs.Moving.{SameActors}
 use Rattle.net_state.specs.Standing.{StandsSince}
-use Rattle.net_state.specs.Working.{GoesOn, MayBurst, WorksAt, halt_of, journal_of}
-use Rattle.net_state.proofs.Coming.{on_some}
+use Rattle.net_model.specs.declared.firing.Look.TheVariants as look
+use Rattle.rvc_base.specs.declared.ids.ActId.{ActId}
+use Rattle.net_state.specs.Surveyed.{LacksNow}
+use Rattle.net_state.specs.Working.{EndsSeeHalt, GoesOn, HasAction, IsAtRest, LooksFed, MayBurst, NamesLacking, WorksAt, halt_of, journal_of}
+use Rattle.net_state.proofs.Coming.{on_cell, on_some}
 use Rattle.net_state.proofs.Gaining.{same_actor, some_is, there_too}
 use Rattle.net_state.proofs.Kept.{same_then}
+use Rattle.round_runner.specs.declared.bursting.Lacking.{Lacking}
 use Rattle.round_runner.specs.declared.bursting.Trapped.{Trapped}
-use Rattle.round_runner.specs.Bursting.{AreFresh, Bursted, Fires, IsFresh, first_of, trap_line, trapped_by}
+use Rattle.round_runner.specs.Bursting.{AreFresh, Bursted, Fires, Idle, IsFresh, NamesIts, Sees, first_of, lacking_by, trap_line, trapped_by}
 
 -- Lists by place.
 
@@ -205,6 +208,108 @@ or_none : (line : Option Line) → or_line line None ≡ line
 or_none None = refl
 or_none (Some line) = refl
 
+-- If nothing fired.
+
+empty_of : {A : Type 0} (xs : List A) → length xs ≡ 0 → xs ≡ []
+empty_of [] none = refl
+empty_of (x ∷ xs) none = absurd (omega (arith, none))
+
+first_none : {A : Type 0} (first second : Option A) → first_of first second ≡ None → first ≡ None
+first_none None second none = refl
+first_none (Some x) second none = cc
+
+second_none : {A : Type 0} (first second : Option A) → first_of first second ≡ None → second ≡ None
+second_none None second none = none
+second_none (Some x) second none = cc
+
+few_before : (marks : List Bool) (i : ℕ) → picked_before marks i ≤ i
+few_before [] zero = omega arith
+few_before [] (suc i) = omega arith
+few_before (mark ∷ marks) zero = omega arith
+few_before (true ∷ marks) (suc i) = let rest : picked_before marks i ≤ i = few_before marks i in omega (arith, rest)
+few_before (false ∷ marks) (suc i) = let rest : picked_before marks i ≤ i = few_before marks i in omega (arith, rest)
+
+take_whole : {A : Type 0} (xs : List A) (k : ℕ) → length xs ≤ k → take k xs ≡ xs
+take_whole [] zero few = refl
+take_whole [] (suc k) few = refl
+take_whole (x ∷ xs) zero few = absurd (omega (arith, few))
+take_whole (x ∷ xs) (suc k) few = ap (λ ys. x ∷ ys) (take_whole xs k (omega (arith, few)))
+
+-- what is found once one leaf more waits or lacks room
+waits_or_lacks : {X : Type 0} (net : Network X) (s : State X) (n : ℕ) → ((k : ℕ) → k < n → LooksFed net s k look.Waits ⊎ ((b : ℕ) × LacksNow net s k b))
+    → LooksFed net s n look.Waits ⊎ ((b : ℕ) × LacksNow net s n b) → (k : ℕ) → k < n + 1 → LooksFed net s k look.Waits ⊎ ((b : ℕ) × LacksNow net s k b)
+waits_or_lacks net s n all here k low = ⊎_elim
+    (λ same. subst (λ j. LooksFed net s j look.Waits ⊎ ((b : ℕ) × LacksNow net s j b)) (sym same) here)
+    (λ differ. all k (omega (arith, low, differ)))
+    (cases_eq k n)
+
+sees_waits : {X : Type 0} (net : Network X) (s : State X) (n : ℕ) (lacks : Option Lacking) → LooksFed net s n look.Waits → Sees n net s lacks → Sees (n + 1) net s (first_of lacks None)
+sees_waits net s n None here sees = λ k low. ⊎_elim
+    (λ same. subst (λ j. LooksFed net s j look.Waits) (sym same) here)
+    (λ differ. sees k (omega (arith, low, differ)))
+    (cases_eq k n)
+sees_waits net s n (Some lacking) here sees = record {
+  low = omega (arith, sees.low);
+  lacks = sees.lacks;
+  below = sees.below;
+  each = waits_or_lacks net s n sees.each (inl here);
+}
+
+sees_lacks : {X : Type 0} (net : Network X) (s : State X) (n : ℕ) (lacks : Option Lacking) (action : ActId) (port : ℕ) → LooksFed net s n (look.NoRoom action port) → Sees n net s lacks
+    → Sees (n + 1) net s (first_of lacks (Some (record { inst = record { 0 = n }; action = action })))
+sees_lacks net s n None action port here sees = record {
+  low = omega arith;
+  lacks = (port, here);
+  below = sees;
+  each = waits_or_lacks net s n (λ k low. inl (sees k low)) (inr (action.0, (port, here)));
+}
+sees_lacks net s n (Some lacking) action port here sees = record {
+  low = omega (arith, sees.low);
+  lacks = sees.lacks;
+  below = sees.below;
+  each = waits_or_lacks net s n sees.each (inr (action.0, (port, here)));
+}
+
+action_stays : {X : Type 0} (old new : List (Cell X)) → SameActors old new → (i a : ℕ) → HasAction old i a → HasAction new i a
+action_stays old new same i a has =
+    let on = on_cell (slice_get old i) (λ cell. a < cell.actor.actions) has in
+    let after = there_too old new i on.0 (sym same.count) on.1 in
+    on_some (slice_get new i) (λ cell. a < cell.actor.actions) after.0 after.1
+    (subst (λ actor. a < actor.actions) (sym (same.each i on.0 after.0 on.1 after.1).same_actor) on.2)
+
+named_stays : {X : Type 0} (old new : List (Cell X)) → SameActors old new → (lacks : Option Lacking) → NamesIts old lacks → NamesIts new lacks
+named_stays old new same None named = tt
+named_stays old new same (Some lacking) named = action_stays old new same lacking.inst.0 lacking.action.0 named
+
+named_then : {X : Type 0} (old new : List (Cell X)) → SameActors old new → (i : ℕ) (lacks more : Option Lacking) → NamesIts old lacks → NamesIts old more
+    → NamesIts new (first_of lacks more)
+named_then old new same i None more named next = named_stays old new same more next
+named_then old new same i (Some lacking) more named next = named_stays old new same (Some lacking) named
+
+idle_more : {X : Type 0} (i : ℕ) (lacks : Option Lacking) (old now new : Held (Cell X)) (end : BurstEnd) → Idle i lacks old now → trapped_by (record { 0 = i }) end ≡ None
+    → IsAtRest new → EndsSeeHalt i end now → NamesLacking now.cells i end → SameActors now.cells new.cells → (limit : ℕ) → 1 ≤ limit
+    → ((net : Network X) (opened : State X) → StandsSince net old opened opened → HaltsAt net opened i limit opened (halt_of end) × StandsSince net new opened opened)
+    → Idle (i + 1) (first_of lacks (lacking_by (record { 0 = i }) end)) old new
+idle_more i lacks old now new burst.Spent before untrapped rest ends named same limit enough goes = record {
+  rests = rest;
+  named = named_then now.cells new.cells same i lacks None before.named tt;
+  still = λ net opened that. (goes net opened that).1;
+  tells = λ net opened that wired fed. let none : limit ≡ 0 = (goes net opened that).0 in absurd (omega (arith, none, enough));
+}
+idle_more i lacks old now new burst.Waits before untrapped rest ends named same limit enough goes = record {
+  rests = rest;
+  named = named_then now.cells new.cells same i lacks None before.named tt;
+  still = λ net opened that. (goes net opened that).1;
+  tells = λ net opened that wired fed. sees_waits net opened i lacks (ends net opened (before.still net opened that).now wired fed).1 (before.tells net opened that wired fed);
+}
+idle_more i lacks old now new (burst.NoRoom action port) before untrapped rest ends named same limit enough goes = record {
+  rests = rest;
+  named = named_then now.cells new.cells same i lacks (Some (record { inst = record { 0 = i }; action = action })) before.named named;
+  still = λ net opened that. (goes net opened that).1;
+  tells = λ net opened that wired fed. sees_lacks net opened i lacks action port (ends net opened (before.still net opened that).now wired fed).1 (before.tells net opened that wired fed);
+}
+idle_more i lacks old now new (burst.Trap action cause) before untrapped rest ends named same limit enough goes = cc
+
 -- The bursts so far.
 
 -- the state goes on by the bursts so far; whatever bursts follow from there follow from the start
@@ -214,7 +319,7 @@ pub record FiresUpTo {X : Type 0} (net : Network X) (share : Share) (marks : Lis
   pub goes : (more : List (List ℕ)) (after : List Halt) (last : State X) → AreBursts net opened share (drop i marks) i k fired s more after last
       → AreBursts net opened share marks 0 0 0 opened (bursts ++ more) (halts ++ after) last
 
-pub record IsBursting {X : Type 0} (share : Share) (marks : List Bool) (burst i k fired : ℕ) (trap : Option Trapped) (old now : Held (Cell X)) : Type 0 where
+pub record IsBursting {X : Type 0} (share : Share) (marks : List Bool) (burst i k fired : ℕ) (trap : Option Trapped) (lacks : Option Lacking) (old now : Held (Cell X)) : Type 0 where
   pub bursts : List (List ℕ)
   pub halts : List Halt
   pub count : length bursts ≡ i
@@ -229,6 +334,7 @@ pub record IsBursting {X : Type 0} (share : Share) (marks : List Bool) (burst i 
   pub capacities : now.capacities ≡ old.capacities
   pub waited : now.waited ≡ old.waited
   pub states : (net : Network X) (opened : State X) → StandsSince net old opened opened → FiresUpTo net share marks i k fired opened bursts halts now
+  pub idle : 0 < share.left → fired ≡ 0 → trap ≡ None → k ≡ i → IsAtRest old → Idle i lacks old now
 
 same_all : {X : Type 0} (cells : List (Cell X)) → SameActors cells cells
 same_all cells = record {
@@ -243,7 +349,7 @@ journal_none burst cells fresh j = ⊎_elim
     (λ high. ap (λ o. journal_of o) (get_beyond cells j (omega (arith, high))))
     (cases_lt j (length cells))
 
-pub bursting_none : {X : Type 0} (share : Share) (marks : List Bool) (burst : ℕ) (held : Held (Cell X)) → AreFresh burst held.cells → IsBursting share marks burst 0 0 0 None held held
+pub bursting_none : {X : Type 0} (share : Share) (marks : List Bool) (burst : ℕ) (held : Held (Cell X)) → AreFresh burst held.cells → IsBursting share marks burst 0 0 0 None None held held
 bursting_none share marks burst held fresh = record {
   bursts = [];
   halts = [];
@@ -259,6 +365,12 @@ bursting_none share marks burst held fresh = record {
   capacities = refl;
   waited = refl;
   states = λ net opened that. record { s = opened; stands = that; goes = λ more after last goes. subst (λ ms. AreBursts net opened share ms 0 0 0 opened more after last) (drop_none marks) goes };
+  idle = λ some none untrapped all rest. record {
+    rests = rest;
+    named = tt;
+    still = λ net opened that. that;
+    tells = λ net opened that wired fed j low. absurd (omega (arith, low));
+  };
 }
   where
     take_none : {A : Type 0} (xs : List A) → take 0 xs ≡ []
@@ -269,7 +381,7 @@ bursting_none share marks burst held fresh = record {
     drop_none [] = refl
     drop_none (x ∷ xs) = refl
 
-module _ {X : Type 0} (share : Share) (marks : List Bool) (burst i k fired : ℕ) (trap : Option Trapped) (old now : Held (Cell X)) (so_far : IsBursting share marks burst i k fired trap old now) where
+module _ {X : Type 0} (share : Share) (marks : List Bool) (burst i k fired : ℕ) (trap : Option Trapped) (lacks : Option Lacking) (old now : Held (Cell X)) (so_far : IsBursting share marks burst i k fired trap lacks old now) where
   -- the next cell may make its burst
   pub may_burst : AreFresh burst old.cells → i < length old.cells → (limit : ℕ) → limit ≤ burst → MayBurst now.cells i limit
   may_burst fresh low limit few =
@@ -289,9 +401,9 @@ module _ {X : Type 0} (share : Share) (marks : List Bool) (burst i k fired : ℕ
   -- the burst of one that is picked
   pub bursting_more : (limit : ℕ) (end : BurstEnd) (new : Held (Cell X)) (fresh : AreFresh burst old.cells) → slice_get marks i ≡ Some true
       → limit ≡ limit_of share.burst share.left share.picks k fired → (works : WorksAt i limit end now new) → (count : ℕ) → count ≡ length (journal_of (slice_get new.cells i))
-      → SameActors now.cells new.cells → new.links ≡ now.links → new.capacities ≡ now.capacities → new.waited ≡ now.waited
-      → IsBursting share marks burst (i + 1) (k + 1) (fired + count) (first_of trap (trapped_by (record { 0 = i }) end)) old new
-  bursting_more limit end new fresh here limit_is works count counted same links capacities waited = record {
+      → SameActors now.cells new.cells → new.links ≡ now.links → new.capacities ≡ now.capacities → new.waited ≡ now.waited → (fired < share.left → 1 ≤ limit)
+      → IsBursting share marks burst (i + 1) (k + 1) (fired + count) (first_of trap (trapped_by (record { 0 = i }) end)) (first_of lacks (lacking_by (record { 0 = i }) end)) old new
+  bursting_more limit end new fresh here limit_is works count counted same links capacities waited enough = record {
     bursts = so_far.bursts ++ works.actions ∷ [];
     halts = so_far.halts ++ halt_of end ∷ [];
     count = length-append so_far.bursts (works.actions ∷ []) ∙ ap (λ n. n + 1) so_far.count;
@@ -326,14 +438,25 @@ module _ {X : Type 0} (share : Share) (marks : List Bool) (burst i k fired : ℕ
               subst (λ bs. AreBursts net opened share marks 0 0 0 opened bs ((so_far.halts ++ halt_of end ∷ []) ++ after) last) (sym (append_assoc so_far.bursts (works.actions ∷ []) more))
               (subst (λ hs. AreBursts net opened share marks 0 0 0 opened (so_far.bursts ++ works.actions ∷ more) hs last) (sym (append_assoc so_far.halts (halt_of end ∷ []) after))
               (before.goes (works.actions ∷ more) (halt_of end ∷ after) last
-              (subst (λ ms. AreBursts net opened share ms i k fired before.s (works.actions ∷ more) (halt_of end ∷ after) last) (sym (drop_at marks i true here))
-              (next.last,
-              subst (λ n. IsBurst net opened i n before.s works.actions (halt_of end) next.last) limit_is next.bursts,
-              subst (λ n. AreBursts net opened share (drop n marks) n (suc k) (fired + length works.actions) next.last more after last) (let e : i + 1 ≡ suc i = omega arith in e)
-              (subst (λ n. AreBursts net opened share (drop (i + 1) marks) (i + 1) n (fired + length works.actions) next.last more after last) (let e : k + 1 ≡ suc k = omega arith in e)
-              (subst (λ n. AreBursts net opened share (drop (i + 1) marks) (i + 1) (k + 1) n next.last more after last)
-              (let e : fired + count ≡ fired + length works.actions = omega (arith, counted, ap (λ js. length js) noted_here) in e) goes)))))) ;
+              (subst (λ ms. AreBursts net opened share ms i k fired before.s (works.actions ∷ more) (halt_of end ∷ after) last) (sym (drop_at marks i true here)) (
+                next.last,
+                subst (λ n. IsBurst net opened i n before.s works.actions (halt_of end) next.last) limit_is next.bursts,
+                subst (λ n. AreBursts net opened share (drop n marks) n (suc k) (fired + length works.actions) next.last more after last) (let e : i + 1 ≡ suc i = omega arith in e)
+                    (subst (λ n. AreBursts net opened share (drop (i + 1) marks) (i + 1) n (fired + length works.actions) next.last more after last) (let e : k + 1 ≡ suc k = omega arith in e)
+                    (subst (λ n. AreBursts net opened share (drop (i + 1) marks) (i + 1) (k + 1) n next.last more after last)
+                    (let e : fired + count ≡ fired + length works.actions = omega (arith, counted, ap (λ js. length js) noted_here) in e) goes)),
+              ))));
         };
+    idle = λ some none untrapped all rest.
+        let before : Idle i lacks old now = so_far.idle some (omega (arith, none)) (first_none trap (trapped_by (record { 0 = i }) end) untrapped) (omega (arith, all)) rest in
+        let nothing : works.actions ≡ [] = empty_of works.actions (omega (arith, none, counted, ap (λ js. length js) noted_here)) in
+        let goes : (net : Network X) (opened : State X) (that : StandsSince net old opened opened) → HaltsAt net opened i limit opened (halt_of end) × StandsSince net new opened opened =
+        (λ net opened that.
+        let next : GoesOn net opened i limit opened works.actions (halt_of end) new = works.states net opened opened (before.still net opened that) in
+        let halts : HaltsAt net opened i limit opened (halt_of end) × (opened ≡ next.last) = subst (λ acts. IsBurst net opened i limit opened acts (halt_of end) next.last) nothing next.bursts in
+        (halts.0, subst (λ s. StandsSince net new opened s) (sym halts.1) next.stands)) in
+        idle_more i lacks old now new end before (second_none trap (trapped_by (record { 0 = i }) end) untrapped) (works.rests nothing before.rests) (works.ends nothing before.rests) works.named same
+        limit (enough (omega (arith, some, none))) goes;
   }
     where
       noted_here : journal_of (slice_get new.cells i) ≡ works.actions
@@ -349,7 +472,7 @@ module _ {X : Type 0} (share : Share) (marks : List Bool) (burst i k fired : ℕ
           (cases_lt j i)
 
   -- one that isn't picked fires nothing
-  pub bursting_other : slice_get marks i ≡ Some false → IsBursting share marks burst (i + 1) k fired trap old now
+  pub bursting_other : slice_get marks i ≡ Some false → IsBursting share marks burst (i + 1) k fired trap lacks old now
   bursting_other here = record {
     bursts = so_far.bursts ++ [] ∷ [];
     halts = so_far.halts ++ Unpicked ∷ [];
@@ -379,6 +502,7 @@ module _ {X : Type 0} (share : Share) (marks : List Bool) (burst i k fired : ℕ
               (subst (λ ms. AreBursts net opened share ms i k fired before.s ([] ∷ more) (Unpicked ∷ after) last) (sym (drop_at marks i false here))
               (refl, refl, subst (λ n. AreBursts net opened share (drop n marks) n k fired before.s more after last) (let e : i + 1 ≡ suc i = omega arith in e) goes))));
         };
+    idle = λ some none untrapped all rest. absurd (omega (arith, all, so_far.picks, few_before marks i));
   }
     where
       none_more : (xs : List (List ℕ)) (j : ℕ) → length xs ≤ j → slice_index_or (xs ++ [] ∷ []) j [] ≡ []
@@ -386,6 +510,13 @@ module _ {X : Type 0} (share : Share) (marks : List Bool) (burst i k fired : ℕ
       none_more [] (suc j) high = refl
       none_more (x ∷ xs) zero high = absurd (omega (arith, high))
       none_more (x ∷ xs) (suc j) high = none_more xs j (omega (arith, high))
+
+  -- .. and so all are idle
+  pub idle_all : i ≡ length marks → 0 < share.left → fired ≡ 0 → trap ≡ None → count_picked marks ≡ length marks → IsAtRest old → Idle (length marks) lacks old now
+  idle_all all some none untrapped every rest =
+      let whole : take i marks ≡ marks = take_whole marks i (omega (arith, all)) in
+      let picks : k ≡ i = so_far.picks ∙ (ap count_picked whole ∙ (every ∙ sym all)) in
+      subst (λ n. Idle n lacks old now) all (so_far.idle some none untrapped picks rest)
 
   -- all bursts are made
   pub bursting_all : i ≡ length marks → Bursted share marks fired trap old now

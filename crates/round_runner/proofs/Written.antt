@@ -1,10 +1,10 @@
 -- How far the tokens of a link were written.
-use Rattle.std.proofs.Common.{◌≡◌, ℕ, zero, suc, ◌+◌, ◌<◌, ◌≤◌, true, List, [], ◌∷◌, ◌++◌, ℤ, length, map, take, drop, refl, sym, ap, subst, ◌∙◌, arith, append_assoc, append-nil}
-use Rattle.std.specs.Prelude.{Some, None, Ok, Err, Result, OnErr, flat_map, slice_get}
+use Rattle.std.proofs.Common.{◌≡◌, ℕ, zero, suc, ◌+◌, ◌<◌, true, List, [], ◌∷◌, ◌++◌, ℤ, length, map, take, drop, refl, sym, ap, subst, ◌∙◌, arith, append_assoc, append-nil}
+use Rattle.std.specs.Prelude.{Some, Ok, Err, Result, OnErr, flat_map, slice_get}
 use Rattle.std.proofs.lemmas.Grind.{flat_map-append}
 use Rattle.rvc_base.specs.declared.scalar.Scalar.{Scalar}
 use Rattle.rvc_io.specs.Channels.{Channels, WritesOnlyAt}
-use Rattle.channel_writer.specs.Held.{AppendsFront, HoldsFront, Writes, WritesOn}
+use Rattle.channel_writer.specs.Held.{AppendsFront, HoldsFront, WritesOn}
 use Rattle.channel_writer.proofs.Chains.{writes-nothing, writes-then, breaks-then, front-longer}
 use Rattle.trace_text.specs.declared.line.Line.TheVariants.{Fire as FireLine}
 use Rattle.trace_text.specs.Text.{line_text}
@@ -12,7 +12,7 @@ use Rattle.net_model.specs.Paced.{fire_lines}
 use Rattle.net_model.specs.Cell.{Cell}
 use Rattle.net_state.specs.Working.{journal_of}
 use Rattle.round_runner.specs.Firings.{journal_text, journals}
-use Rattle.round_runner.specs.Sending.{stored_bytes, stored_token}
+use Rattle.round_runner.specs.Sending.{stored_bytes, stored}
 
 -- a text was written on a channel, and nothing else
 pub record IsWritten (channel : ℕ) (text pending_old pending : List ℕ) (old now : Channels) : Type 0 where
@@ -100,7 +100,7 @@ module _ {A : Type 0} (text : ℕ → List A → List ℕ) (one : ℕ → A → 
       ∙ (ap (λ n. text 0 (take (k + 1) xs) ++ text n (drop (k + 1) xs)) (let e : k + 1 ≡ 0 + (k + 1) = omega arith in e) ∙ rest_by 0 xs (k + 1)))
 
 -- the bytes of tokens
-pub bytes_more : (kind : Scalar) (i : ℕ) (v : ℤ) (vs : List ℤ) → stored_bytes kind (v ∷ vs) ≡ stored_token kind v ++ stored_bytes kind vs
+pub bytes_more : (kind : Scalar) (i : ℕ) (v : ℤ) (vs : List ℤ) → stored_bytes kind (v ∷ vs) ≡ stored kind v ++ stored_bytes kind vs
 bytes_more kind i v vs = refl
 
 -- the lines of the firings of an instance, and of several

@@ -1,9 +1,7 @@
 -- The bursts of a round: how the leaves fire one after another, and what came of it.
 -- Trusted: part of what a promise means.
-use Rattle.std.specs.Prelude.{◌≡◌, ℕ, ◌≤◌, false, List, [], length, slice_get, slice_index_or, Bool, Option, None, Some}
+use Rattle.std.specs.Prelude.{◌≡◌, ℕ, ◌≤◌, ◌<◌, false, List, [], length, slice_get, slice_index_or, Bool, Option, None, Some}
 use Rattle.rvc_base.specs.declared.ids.InstId.{InstId}
-use Rattle.rvc_base.specs.declared.ids.ActId.{ActId}
-use Rattle.rvc_base.specs.declared.trap.Trap.{Trap as TrapName}
 use Rattle.trace_text.specs.declared.line.Line.{Line}
 use Rattle.trace_text.specs.declared.line.Line.TheVariants.{Trap as TrapLine}
 use Rattle.net_model.specs.declared.firing.BurstEnd.{BurstEnd}
@@ -11,12 +9,17 @@ use Rattle.net_model.specs.declared.firing.BurstEnd.TheVariants as burst
 use Rattle.net_model.specs.Network.{Network}
 use Rattle.net_model.specs.State.{State}
 use Rattle.net_model.specs.Cell.{Cell}
-use Rattle.net_model.specs.Paced.{AreBursts, Halt, Share, count_of, first_trap}
-use Rattle.net_state.specs.Held.{Held}
+use Rattle.net_model.specs.Wired.{IsWired}
+use Rattle.net_model.specs.Paced.{AreBursts, Halt, Share, count_of, count_picked, first_trap}
+use Rattle.net_state.specs.Held.{Held, seen}
 use Rattle.net_state.specs.Moving.{SameActors}
 use Rattle.net_state.specs.Standing.{StandsSince}
-use Rattle.net_state.specs.Working.{journal_of}
+use Rattle.net_state.specs.Working.{AreFed, HasAction, IsAtRest, LooksFed, journal_of}
+use Rattle.round_runner.specs.declared.bursting.Bursts.{Bursts}
+use Rattle.round_runner.specs.declared.bursting.Lacking.{Lacking}
 use Rattle.round_runner.specs.declared.bursting.Trapped.{Trapped}
+use Rattle.net_model.specs.declared.firing.Look.TheVariants as look
+use Rattle.net_state.specs.Surveyed.{LacksFirst}
 
 -- the line of a trap, if a cell trapped
 abbrev pub trap_line : Option Trapped → Option Line
@@ -31,10 +34,17 @@ trapped_by inst (burst.NoRoom action port) = None
 trapped_by inst (burst.Trap action trap) =
     Some (record { inst = inst; action = action; trap = trap })
 
+-- the action by whose lack of room a burst ended, if it did
+abbrev pub lacking_by : InstId → BurstEnd → Option Lacking
+lacking_by inst burst.Spent = None
+lacking_by inst burst.Waits = None
+lacking_by inst (burst.NoRoom action port) = Some (record { inst = inst; action = action })
+lacking_by inst (burst.Trap action trap) = None
+
 -- the first of two, if there is one
-abbrev pub first_of : Option Trapped → Option Trapped → Option Trapped
+abbrev pub first_of : {A : Type 0} → Option A → Option A → Option A
 first_of None second = second
-first_of (Some trapped) second = Some trapped
+first_of (Some first) second = Some first
 
 -- no cell has trapped, no journal names a firing, and each has room for a burst
 pub record IsFresh {X : Type 0} (burst : ℕ) (cell : Cell X) : Type 0 where
@@ -64,3 +74,42 @@ pub record Bursted {X : Type 0} (share : Share) (marks : List Bool) (fired : ℕ
   pub states : (net : Network X) (opened : State X) → StandsSince net old opened opened
       → Fires net share marks opened bursts halts new
   pub same_actors : SameActors old.cells new.cells
+
+-- the share of each picked leaf, by the marks
+abbrev pub shares : ℕ → ℕ → List Bool → Share
+shares burst left marks =
+    record { burst = burst; left = left; picks = count_picked marks }
+
+-- the same as it is answered
+abbrev pub BurstedBy : {C X : Type 0} → (C → Cell X) → ℕ → ℕ → List Bool → Bursts → Held C → Held C
+    → Type 0
+BurstedBy cell burst left marks made old new = Bursted (shares burst left marks) marks made.fired
+    made.trap (seen cell old) (seen cell new)
+
+-- If nothing fired.
+
+-- the first n leaves wait, or each waits or lacks room and this is the lowest that lacks it
+abbrev pub Sees : {X : Type 0} → ℕ → Network X → State X → Option Lacking → Type 0
+Sees n net s None = (k : ℕ) → k < n → LooksFed net s k look.Waits
+Sees n net s (Some lacking) = LacksFirst n net s lacking.inst.0 lacking.action.0
+
+-- an action that is named is one of the cell's
+abbrev pub NamesIts : {X : Type 0} → List (Cell X) → Option Lacking → Type 0
+NamesIts cells None = Unit {0}
+NamesIts cells (Some lacking) = HasAction cells lacking.inst.0 lacking.action.0
+
+-- The first n leaves made bursts without a firing or a trap: the network is at rest still, its states stand, and each
+-- of these leaves waits or lacks room, as ends judge.
+pub record Idle {X : Type 0} (n : ℕ) (lacks : Option Lacking) (old new : Held (Cell X)) : Type 0 where
+  pub rests : IsAtRest new
+  pub named : NamesIts new.cells lacks
+  pub still : (net : Network X) (opened : State X) → StandsSince net old opened opened
+      → StandsSince net new opened opened
+  pub tells : (net : Network X) (opened : State X) → StandsSince net old opened opened → IsWired net
+      → AreFed net opened → Sees n net opened lacks
+
+-- the same of all, if firings are left and all were picked
+abbrev pub IdleBy : {C X : Type 0} → (C → Cell X) → ℕ → List Bool → Bursts → Held C → Held C → Type 0
+IdleBy cell left marks made old new = 0 < left → made.fired ≡ 0 → made.trap ≡ None
+    → count_picked marks ≡ length marks → IsAtRest (seen cell old)
+    → Idle (length marks) made.lacks (seen cell old) (seen cell new)

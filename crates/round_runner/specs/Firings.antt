@@ -5,6 +5,7 @@ use Rattle.trace_text.specs.declared.line.Line.TheVariants.{Fire as FireLine}
 use Rattle.trace_text.specs.Text.{line_text}
 use Rattle.net_model.specs.Cell.{Cell}
 use Rattle.net_model.specs.Paced.{fire_lines}
+use Rattle.net_state.specs.Held.{Held}
 
 -- the firings of one instance
 abbrev pub journal_text : ℕ → List ℕ → List ℕ
@@ -16,3 +17,7 @@ journals cells = map (λ cell. cell.journal) cells
 
 abbrev pub firings_text : {X : Type 0} → List (Cell X) → List ℕ
 firings_text cells = flat_map line_text (fire_lines 0 (journals cells))
+
+-- .. of a network
+abbrev pub firings_of : {C X : Type 0} → (C → Cell X) → Held C → List ℕ
+firings_of cell held = firings_text (map cell held.cells)

@@ -1,6 +1,6 @@
 -- The burst step of a round: each picked piece of work is worked once, and the others stay.
 -- Trusted: part of what a promise means.
-use Rattle.std.specs.Prelude.{◌≡◌, ℕ, ◌+◌, ◌≤◌, Bool, true, false, List, length, slice_get, Option, None, Some, is_some}
+use Rattle.std.specs.Prelude.{◌≡◌, ℕ, ◌+◌, ◌≤◌, Bool, true, false, List, length, slice_get, Option, None, Some}
 use Rattle.net_model.specs.declared.firing.BurstEnd.{BurstEnd}
 use Rattle.net_model.specs.Cell.{AreRooms, Bursts, Cell}
 use Rattle.claim_board.specs.Pieces.{IsWorked}

@@ -1,7 +1,6 @@
 -- What a round does, by its answer, and what a run does.
 -- Trusted: part of what a promise means.
-use Rattle.std.specs.Prelude.{◌≡◌, ◌⊎◌, ℕ, suc, ◌+◌, ◌≤◌, ◌<◌, Bool, true, false, List, [], ◌∷◌, ◌++◌, ℤ, length, drop, flat_map, slice_index_or, option_to_list, Option, None, Some}
-use Rattle.rvc_base.specs.declared.scalar.Scalar.{Scalar}
+use Rattle.std.specs.Prelude.{◌≡◌, ◌⊎◌, ℕ, ◌+◌, ◌<◌, true, false, List, [], ◌++◌, ℤ, length, drop, flat_map, slice_index_or, option_to_list, Option, None, Some}
 use Rattle.rvc_io.specs.Channels.{Channels}
 use Rattle.rvc_io.specs.Feeds.{Inputs}
 use Rattle.channel_writer.specs.Held.{HoldsFront, Writes}
@@ -12,7 +11,7 @@ use Rattle.net_model.specs.Network.{Network, kind_at}
 use Rattle.net_model.specs.State.{State, sent_to}
 use Rattle.net_model.specs.Cell.{Cell}
 use Rattle.net_model.specs.Counted.{IsCounted}
-use Rattle.net_model.specs.Paced.{AreRounds, Block, Close, GoesOn, Widens, Ends, IsRound, Moment, Pace, count_of, lines_of}
+use Rattle.net_model.specs.Paced.{AreRounds, Block, GoesOn, Widens, Ends, IsRound, Moment, Pace, count_of, lines_of}
 use Rattle.net_model.specs.PortFile.{all_encoded}
 use Rattle.round_runner.specs.declared.outcome.RoundEnd.{RoundEnd}
 use Rattle.round_runner.specs.declared.outcome.RoundEnd.TheVariants as round
@@ -36,15 +35,18 @@ EachOut net run P s tokens = (p : ℕ) → slice_index_or run.writes p false ≡
     → P (2 + p) (out_bytes net p s (tokens p))
 
 -- a channel got a text, of which a part may be buffered; it got the whole; it got a prefix
-abbrev pub GetsSome : {C : Type 0} → Running C → Running C → Channels → Channels → ℕ → List ℕ → Type 0
+abbrev pub GetsSome : {C : Type 0} → Running C → Running C → Channels → Channels → ℕ → List ℕ
+    → Type 0
 GetsSome run new old now channel text =
     Writes (old.held channel) (run.pending channel) (now.held channel) (new.pending channel) text
 
-abbrev pub GetsAll : {C : Type 0} → Running C → Running C → Channels → Channels → ℕ → List ℕ → Type 0
+abbrev pub GetsAll : {C : Type 0} → Running C → Running C → Channels → Channels → ℕ → List ℕ
+    → Type 0
 GetsAll run new old now channel text =
     now.held channel ≡ old.held channel ++ (run.pending channel ++ text)
 
-abbrev pub GetsFront : {C : Type 0} → Running C → Running C → Channels → Channels → ℕ → List ℕ → Type 0
+abbrev pub GetsFront : {C : Type 0} → Running C → Running C → Channels → Channels → ℕ → List ℕ
+    → Type 0
 GetsFront run new old now channel text =
     HoldsFront (old.held channel) (now.held channel) (run.pending channel ++ text)
 

@@ -1,6 +1,6 @@
 -- A runner between two rounds, as contracts see it, and the state of the network at which it stands.
 -- Trusted: part of what a promise means.
-use Rattle.std.specs.Prelude.{◌≡◌, ℕ, suc, ◌+◌, Bool, true, false, List, [], ◌∷◌, ℤ, map, take, length, slice_get, slice_index_or, Option, None, Some, if◌then◌else◌}
+use Rattle.std.specs.Prelude.{◌≡◌, ℕ, suc, Bool, true, false, List, [], ◌∷◌, ℤ, map, take, slice_get, slice_index_or, Option, None, Some, if◌then◌else◌}
 use Rattle.rvc_base.specs.declared.scalar.Scalar.{Scalar}
 use Rattle.rvc_base.specs.declared.round_kind.RoundKind.{RoundKind}
 use Rattle.rvc_io.specs.Feeds.{Inputs}
@@ -15,7 +15,7 @@ use Rattle.net_model.specs.Cell.{Cell}
 use Rattle.net_model.specs.Counted.{rest_at}
 use Rattle.net_model.specs.Paced.{Moment, Pace}
 use Rattle.net_model.specs.PortFile.{rest_of}
-use Rattle.net_state.specs.Filling.{Inflow, IsFed, inflow}
+use Rattle.net_state.specs.Filling.{IsFed, inflow}
 use Rattle.net_state.specs.Held.{Held}
 use Rattle.net_state.specs.Standing.{IsNetOf, StandsIn, unarrived}
 use Rattle.round_runner.specs.declared.outcome.RunEnd.{RunEnd}

@@ -1,6 +1,6 @@
 -- What goes out to the outputs of a network: the bytes of the tokens that were sent on a link.
 -- Trusted: part of what a promise means.
-use Rattle.std.specs.Prelude.{◌≡◌, ℕ, true, List, ◌++◌, ℤ, map, flat_map, slice_get, Result, OnOk, OnErr}
+use Rattle.std.specs.Prelude.{ℕ, List, ◌++◌, ℤ, map, flat_map, slice_get, Result, OnOk, OnErr}
 use Rattle.rvc_base.specs.declared.scalar.Scalar.{Scalar}
 use Rattle.rvc_base.specs.Storing.{conv}
 use Rattle.rvc_io.specs.Channels.{Channels}
@@ -11,11 +11,11 @@ use Rattle.net_state.specs.Held.{Held}
 use Rattle.net_state.specs.Moving.{carried_on}
 
 -- the bytes of a token that is stored in a port's type, and of several
-abbrev pub stored_token : Scalar → ℤ → List ℕ
-stored_token kind token = encoded kind (conv kind token)
+abbrev pub stored : Scalar → ℤ → List ℕ
+stored kind token = encoded kind (conv kind token)
 
 abbrev pub stored_bytes : Scalar → List ℤ → List ℕ
-stored_bytes kind tokens = flat_map (stored_token kind) tokens
+stored_bytes kind tokens = flat_map (stored kind) tokens
 
 module _ {C X : Type 0} (cell : C → Cell X) where
   -- what was sent on link l and hasn't left

@@ -1,9 +1,7 @@
 //! The bursts of a round.
 
 ghost use Rattle.std.specs.Prelude.{◌≡◌, ◌≤◌, ◌<◌, ◌+◌, ◌^◌, length, map};
-ghost use Rattle.net_model.specs.Paced.{count_picked};
-ghost use Rattle.net_state.specs.Held.{seen};
-ghost use Rattle.round_runner.specs.Bursting.{AreFresh, Bursted, first_of, trapped_by};
+ghost use Rattle.round_runner.specs.Bursting.{AreFresh, BurstedBy, IdleBy, first_of, lacking_by, trapped_by};
 
 use crate::choosing::count_marks;
 use crate::limits::limit_for;
@@ -19,6 +17,13 @@ pub struct Trapped {
     pub trap: Trap,
 }
 
+/// A cell whose action lacks room.
+#[derive(Clone, Copy, Debug, PartialEq, Eq)]
+pub struct Lacking {
+    pub inst: InstId,
+    pub action: ActId,
+}
+
 /// What came of the bursts of a round.
 #[derive(Clone, Copy, Debug, PartialEq, Eq)]
 pub struct Bursts {
@@ -26,22 +31,22 @@ pub struct Bursts {
     pub fired: u64,
     /// The lowest cell that trapped.
     pub trap: Option<Trapped>,
+    /// The lowest cell whose burst ended because an action lacks room.
+    pub lacks: Option<Lacking>,
 }
 
 /// Lets each marked cell fire, one after another: its share of the firings that are left, and at most `burst` times.
-pub fn burst_each<A: Firing>(
-    net: &mut NetState<A>,
-    marks: &[bool],
-    burst: u32,
-    left: u64,
-) -> Bursts
+///
+/// If all were marked and nothing fired, the answer says how the network stands, as ends judge (`idle`): quiet if no
+/// cell lacks room, else stalled at the lowest that does.
+pub fn burst_each<A: Firing>(net: &mut NetState<A>, marks: &[bool], burst: u32, left: u64) -> Bursts
     requires bursts { 1 ≤ burst }
     requires most { burst ≤ 65536 }
     requires as_many { length marks.now ≡ length net.old.cells }
     requires few { length marks.now ≤ 1024 }
     requires fresh { AreFresh burst (map A.cell net.old.cells) }
-    ensures bursted { Bursted (record { burst = burst; left = left; picks = count_picked marks.now })
-        marks.now result.fired result.trap (seen A.cell net.old) (seen A.cell net.new) }
+    ensures bursted { BurstedBy A.cell burst left marks.now result net.old net.new }
+    ensures idle { IdleBy A.cell left marks.now result net.old net.new }
     ensures within { result.fired ≤ left }
     ensures links { net.new.links ≡ net.old.links }
     ensures capacities { net.new.capacities ≡ net.old.capacities }
@@ -51,6 +56,7 @@ pub fn burst_each<A: Firing>(
     let mut made = Bursts {
         fired: 0,
         trap: None,
+        lacks: None,
     };
     let mut k = 0u32;
     for i in 0..marks.len() {
@@ -71,7 +77,12 @@ fn with_burst(made: Bursts, inst: InstId, count: u64, end: BurstEnd) -> Bursts
     requires few { made.fired + count < 2 ^ 64 }
     ensures fired { result.fired ≡ made.fired + count }
     ensures trap { result.trap ≡ first_of made.trap (trapped_by inst end) }
+    ensures lacks { result.lacks ≡ first_of made.lacks (lacking_by inst end) }
 {
+    let lacks = match made.lacks {
+        Some(lacking) => Some(lacking),
+        None => lacking_by(inst, end),
+    };
     let trap = match made.trap {
         Some(trapped) => Some(trapped),
         None => trapped_by(inst, end),
@@ -79,6 +90,7 @@ fn with_burst(made: Bursts, inst: InstId, count: u64, end: BurstEnd) -> Bursts
     Bursts {
         fired: made.fired + count,
         trap,
+        lacks,
     }
 }
 
@@ -88,6 +100,16 @@ fn trapped_by(inst: InstId, end: BurstEnd) -> Option<Trapped>
 {
     match end {
         BurstEnd::Trap { action, trap } => Some(Trapped { inst, action, trap }),
+        _ => None,
+    }
+}
+
+/// The action by whose lack of room a burst ended, if it did.
+fn lacking_by(inst: InstId, end: BurstEnd) -> Option<Lacking>
+    ensures { result ≡ lacking_by inst end }
+{
+    match end {
+        BurstEnd::NoRoom { action, port: _ } => Some(Lacking { inst, action }),
         _ => None,
     }
 }

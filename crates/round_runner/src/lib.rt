@@ -11,7 +11,7 @@ mod outcome;
 mod piece;
 mod sending;
 
-pub use bursting::{Bursts, Trapped, burst_each};
+pub use bursting::{Bursts, Lacking, Trapped, burst_each};
 pub use choosing::{choose, count_marks};
 pub use limits::limit_for;
 pub use noting::{note, note_firings};

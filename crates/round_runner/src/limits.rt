@@ -15,6 +15,7 @@ pub fn limit_for(burst: u32, left: u64, picks: u32, k: u32, fired: u64) -> u32
     requires spent { fired ≤ left }
     ensures limit { result ≡ limit_of burst left picks k fired }
     ensures within { result ≤ burst }
+    ensures some { fired < left → 1 ≤ result }
     ensures together { picks ≤ left → allowed_together left picks burst ≤ left }
 {
     if u64::from(picks) <= left {

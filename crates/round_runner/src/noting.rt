@@ -3,8 +3,8 @@
 ghost use Rattle.std.specs.Prelude.{◌≡◌, ◌≤◌, true, OnErr, length, map};
 ghost use Rattle.rvc_io.specs.Channels.{WriteFails, WritesOnly};
 ghost use Rattle.trace_text.specs.Text.{line_text, IsWhole};
-ghost use Rattle.round_runner.specs.Firings.{firings_text, journal_text};
-ghost use Rattle.round_runner.specs.Writing.{Broke, Wrote};
+ghost use Rattle.round_runner.specs.Firings.{firings_of, journal_text};
+ghost use Rattle.round_runner.specs.Writing.{Noted, NotedFront};
 
 use crate::TRACE_CHANNEL;
 use arrayvec::ArrayVec;
@@ -23,9 +23,9 @@ use trace_text::{Line, write_line};
 pub fn note<D: Drains>(line: &Line, trace: &mut ChannelWriter, drains: &mut D) -> Result<(), Failed>
     requires open { (D.channels drains.old).is_open TRACE_CHANNEL ≡ true }
     requires whole { IsWhole line.now }
-    ensures written { Wrote D.channels drains.old drains.new TRACE_CHANNEL trace.old trace.new
+    ensures written { Noted D.channels drains.old drains.new trace.old trace.new
         (line_text line.now) result }
-    ensures front { Broke D.channels drains.old drains.new TRACE_CHANNEL trace.old
+    ensures front { NotedFront D.channels drains.old drains.new trace.old
         (line_text line.now) result }
     ensures failed { OnErr result (WriteFails D.channels drains.old drains.new) }
     ensures elsewhere { WritesOnly D.channels drains.old drains.new TRACE_CHANNEL }
@@ -48,10 +48,10 @@ pub fn note_firings<A: Firing, D: Drains>(
 ) -> Result<(), Failed>
     requires all { cells ≡ length net.now.cells }
     requires open { (D.channels drains.old).is_open TRACE_CHANNEL ≡ true }
-    ensures written { Wrote D.channels drains.old drains.new TRACE_CHANNEL trace.old trace.new
-        (firings_text (map A.cell net.now.cells)) result }
-    ensures front { Broke D.channels drains.old drains.new TRACE_CHANNEL trace.old
-        (firings_text (map A.cell net.now.cells)) result }
+    ensures written { Noted D.channels drains.old drains.new trace.old trace.new
+        (firings_of A.cell net.now) result }
+    ensures front { NotedFront D.channels drains.old drains.new trace.old
+        (firings_of A.cell net.now) result }
     ensures failed { OnErr result (WriteFails D.channels drains.old drains.new) }
     ensures elsewhere { WritesOnly D.channels drains.old drains.new TRACE_CHANNEL }
 {
@@ -70,9 +70,9 @@ fn note_journal<D: Drains>(
     drains: &mut D,
 ) -> Result<(), Failed>
     requires open { (D.channels drains.old).is_open TRACE_CHANNEL ≡ true }
-    ensures written { Wrote D.channels drains.old drains.new TRACE_CHANNEL trace.old trace.new
+    ensures written { Noted D.channels drains.old drains.new trace.old trace.new
         (journal_text inst.0 actions.now) result }
-    ensures front { Broke D.channels drains.old drains.new TRACE_CHANNEL trace.old
+    ensures front { NotedFront D.channels drains.old drains.new trace.old
         (journal_text inst.0 actions.now) result }
     ensures failed { OnErr result (WriteFails D.channels drains.old drains.new) }
     ensures elsewhere { WritesOnly D.channels drains.old drains.new TRACE_CHANNEL }

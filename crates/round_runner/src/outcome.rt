@@ -46,7 +46,11 @@ pub enum RunEnd {
     /// As many firings were made as were allowed, and there is more to do.
     Budget,
     /// A feed couldn't be read.
-    ReadFault { feed: u32 },
+    ReadFault {
+        feed: u32,
+    },
     /// A channel couldn't be written.
-    WriteFault { channel: u32 },
+    WriteFault {
+        channel: u32,
+    },
 }

@@ -4,7 +4,7 @@ ghost use Rattle.std.specs.Prelude.{◌≡◌, ◌≤◌, true, OnErr, IfOk, len
 ghost use Rattle.rvc_base.specs.Storing.{IsSize};
 ghost use Rattle.rvc_io.specs.Channels.{WriteFails, WritesOnly};
 ghost use Rattle.net_state.specs.Moving.{IsFromCell};
-ghost use Rattle.round_runner.specs.Sending.{FrontOn, SentOn, outgoing, stored_token};
+ghost use Rattle.round_runner.specs.Sending.{FrontOn, SentOn, outgoing, stored};
 ghost use Rattle.round_runner.specs.Writing.{Broke, Wrote};
 
 use channel_writer::ChannelWriter;
@@ -32,7 +32,7 @@ pub fn send_along<A: Firing, D: Drains>(
     requires size { IsSize kind }
     requires open { (D.channels drains.old).is_open channel ≡ true }
     ensures count { IfOk result (λ n. n ≡ length (outgoing A.cell net.now link.0)) }
-    ensures written { SentOn A.cell net.now link.0 kind D.channels channel drains.old drains.new
+    ensures sent { SentOn A.cell net.now link.0 kind D.channels channel drains.old drains.new
         writer.old writer.new result }
     ensures front { FrontOn A.cell net.now link.0 kind D.channels channel drains.old drains.new
         writer.old result }
@@ -58,9 +58,9 @@ fn write_token<D: Drains>(
     requires size { IsSize kind }
     requires open { (D.channels drains.old).is_open channel ≡ true }
     ensures written { Wrote D.channels drains.old drains.new channel writer.old writer.new
-        (stored_token kind token) result }
+        (stored kind token) result }
     ensures front { Broke D.channels drains.old drains.new channel writer.old
-        (stored_token kind token) result }
+        (stored kind token) result }
     ensures failed { OnErr result (WriteFails D.channels drains.old drains.new) }
     ensures elsewhere { WritesOnly D.channels drains.old drains.new channel }
 {

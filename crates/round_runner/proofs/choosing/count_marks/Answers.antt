@@ -1,5 +1,4 @@
-use Rattle.std.proofs.Common.{suc, ◌≡◌, ◌<◌, ◌+◌, ◌≤◌, Bool, true, false, ℕ, length, take, ap, sym, subst, ◌∙◌, arith}
-use Rattle.std.specs.Prelude.{slice_get, slice_index_or, Some}
+use Rattle.std.proofs.Common.{suc, ◌≡◌, ◌<◌, ◌+◌, ◌≤◌, true, false, length, take, ap, sym, ◌∙◌, arith}
 use Rattle.net_model.specs.Paced.{count_picked}
 use Rattle.round_runner.proofs.Marks.{few_marked, take_all}
 use Rattle.round_runner.proofs.UpTo.{at_mark, picked_among, picked_before, picked_more, picked_same}
@@ -18,12 +17,12 @@ loop-k-preserved c =
     let low : c.loop-k.k < length c.args.marks.now = c.loop-k-test.true in
     let e : suc c.loop-k.k ≡ c.loop-k.k + 1 = omega arith in
     elim c.if-marks-k.branch [
-      then-marks-k w ↦
-        let more : picked_before c.args.marks.now (suc c.loop-k.k) ≡ picked_before c.args.marks.now c.loop-k.k + 1 = picked_more c.args.marks.now c.loop-k.k (at_mark c.args.marks.now c.loop-k.k _ true low w.if-marks-k.true) in
-        w.count-is ∙ (ap (λ n. n + 1) c.loop-k.invariant ∙ (sym more ∙ ap (picked_before c.args.marks.now) e))
-    | else-marks-k w ↦
-        let more : picked_before c.args.marks.now (suc c.loop-k.k) ≡ picked_before c.args.marks.now c.loop-k.k = picked_same c.args.marks.now c.loop-k.k (at_mark c.args.marks.now c.loop-k.k _ false low w.if-marks-k.false) in
-        w.count-is ∙ (c.loop-k.invariant ∙ (sym more ∙ ap (picked_before c.args.marks.now) e))
+      | then-marks-k w ↦
+          let more : picked_before c.args.marks.now (suc c.loop-k.k) ≡ picked_before c.args.marks.now c.loop-k.k + 1 = picked_more c.args.marks.now c.loop-k.k (at_mark c.args.marks.now c.loop-k.k _ true low w.if-marks-k.true) in
+          w.count-is ∙ (ap (λ n. n + 1) c.loop-k.invariant ∙ (sym more ∙ ap (picked_before c.args.marks.now) e))
+      | else-marks-k w ↦
+          let more : picked_before c.args.marks.now (suc c.loop-k.k) ≡ picked_before c.args.marks.now c.loop-k.k = picked_same c.args.marks.now c.loop-k.k (at_mark c.args.marks.now c.loop-k.k _ false low w.if-marks-k.false) in
+          w.count-is ∙ (c.loop-k.invariant ∙ (sym more ∙ ap (picked_before c.args.marks.now) e))
     ]
 
 pub returns-clause-count : goal.returns-clause-count

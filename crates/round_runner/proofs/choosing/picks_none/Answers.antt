@@ -1,4 +1,4 @@
-use Rattle.std.proofs.Common.{suc, ◌≡◌, ◌<◌, ◌+◌, true, false, ℕ, length, take, sym, subst, arith}
+use Rattle.std.proofs.Common.{suc, ◌≡◌, ◌+◌, true, false, take, sym, subst, arith}
 use Rattle.net_model.specs.Paced.{none_of}
 use Rattle.round_runner.proofs.Marks.{none_more, some_marked}
 use Rattle.round_runner.proofs.UpTo.{at_mark}

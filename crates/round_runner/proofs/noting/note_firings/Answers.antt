@@ -1,7 +1,7 @@
-use Rattle.std.proofs.Common.{◌≡◌, ◌<◌, ◌+◌, ◌++◌, ℕ, List, length, map, take, drop, refl, sym, ap, subst, ◌∙◌, arith}
+use Rattle.std.proofs.Common.{◌≡◌, ◌+◌, ◌++◌, map, take, drop, refl, subst, arith}
 use Rattle.std.specs.Prelude.{slice_get, Some}
 use Rattle.std.proofs.lemmas.List.{length-map}
-use Rattle.channel_writer.specs.Held.{AppendsFront, WritesOn}
+use Rattle.channel_writer.specs.Held.{AppendsFront}
 use Rattle.round_runner.specs.Firings.{journal_text, journals}
 use Rattle.round_runner.proofs.Written.{IsWritten, bursts_more, journal_at, more_written, on_err, text_all, text_from, text_next, write_breaks}
 use Rattle.round_runner.proofs.noting.note_firings.Goals as goal

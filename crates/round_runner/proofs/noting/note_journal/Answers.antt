@@ -1,8 +1,6 @@
-use Rattle.std.proofs.Common.{◌≡◌, ◌<◌, ◌+◌, ◌++◌, ℕ, List, length, take, drop, refl, sym, ap, subst, ◌∙◌}
-use Rattle.std.specs.Prelude.{slice_get, slice_index_or, Some}
+use Rattle.std.proofs.Common.{◌+◌, ◌++◌, take, drop, refl, subst}
 use Rattle.std.proofs.lemmas.Option.{slice_get-get_or}
 use Rattle.channel_writer.specs.Held.{AppendsFront}
-use Rattle.trace_text.specs.Text.{line_text}
 use Rattle.round_runner.specs.Firings.{journal_text}
 use Rattle.round_runner.proofs.Written.{IsWritten, line_of, lines_more, more_written, on_err, text_all, text_next, write_breaks}
 use Rattle.round_runner.proofs.noting.note_journal.Goals as goal
