@@ -27,7 +27,7 @@ use Rattle.net_state.proofs.Gaining.{same_actor, some_is, there_too}
 use Rattle.net_state.proofs.Kept.{same_then}
 use Rattle.round_runner.specs.declared.bursting.Lacking.{Lacking}
 use Rattle.round_runner.specs.declared.bursting.Trapped.{Trapped}
-use Rattle.round_runner.specs.Bursting.{AreFresh, Bursted, Fires, Idle, IsFresh, NamesIts, Sees, first_of, lacking_by, trap_line, trapped_by}
+use Rattle.round_runner.specs.Bursting.{AreFresh, Bursted, Idle, NamesIts, Sees, first_of, lacking_by, trap_line, trapped_by}
 
 -- Lists by place.
 

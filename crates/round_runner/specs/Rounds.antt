@@ -156,7 +156,7 @@ AreBegunBy {X} net pace at blocks (Some final) last =
     × IsRound net pace reached final last
 
 -- A run from this state wrote these lines whole, or without its end.
-pub record Wrote {X : Type 0} (net : Network X) (inputs : List (List ℕ)) (s last : State X) (lines : List Line) (run new : Running (Cell X)) (old now : Channels) : Type 0 where
+pub record RunWrote {X : Type 0} (net : Network X) (inputs : List (List ℕ)) (s last : State X) (lines : List Line) (run new : Running (Cell X)) (old now : Channels) : Type 0 where
   pub trace : GetsAll run new old now 1 (text_of lines)
   pub outputs : EachOut net run (GetsAll run new old now) s (λ p. sent_to p net.links last.flows)
   pub counts : CountsOn net inputs s lines last run new
@@ -171,14 +171,14 @@ pub record Ended {X : Type 0} (net : Network X) (inputs : List (List ℕ)) (budg
   pub last : State X
   pub paced : AreBegunBy net (pace_of run budget) (moment_of run s budget) blocks (Some final) last
   pub answers : Answers (round.End how) final
-  pub wrote : Wrote net inputs s last (all_lines blocks ++ lines_of final) run new old now
+  pub wrote : RunWrote net inputs s last (all_lines blocks ++ lines_of final) run new old now
 
 -- a feed couldn't be read after these rounds
 pub record EndedEarly {X : Type 0} (net : Network X) (inputs : List (List ℕ)) (budget : ℕ) (s : State X) (run new : Running (Cell X)) (old now : Channels) : Type 0 where
   pub blocks : List Block
   pub last : State X
   pub begun : AreBegunBy net (pace_of run budget) (moment_of run s budget) blocks None last
-  pub wrote : Wrote net inputs s last (all_lines blocks) run new old now
+  pub wrote : RunWrote net inputs s last (all_lines blocks) run new old now
 
 -- a channel couldn't be written after these rounds, or in the last of them
 pub record EndedBroken {X : Type 0} (net : Network X) (budget : ℕ) (s : State X) (run new : Running (Cell X)) (old now : Channels) : Type 0 where
