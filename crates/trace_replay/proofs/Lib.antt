@@ -4,6 +4,9 @@ pub mod Pulling
 pub mod Traces
 pub mod Excluded
 pub mod Judged
+pub mod Delivered
+pub mod Starting
+pub mod Onward
 pub mod Scanned
 pub mod Reached
 pub mod Heads
