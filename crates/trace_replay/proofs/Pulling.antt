@@ -1,5 +1,6 @@
 -- What pulls from one feed leave of the others.
-use Rattle.std.proofs.Common.{ℕ, ◌∙◌, refl, arith}
+use Rattle.std.proofs.Common.{ℕ, ◌≤◌, ◌∙◌, refl, inl, inr, ⊎_elim, arith}
+use Rattle.rvc_io.specs.Count.{HasRisen}
 use Rattle.rvc_io.specs.Feeds.{Inputs, PullsOnlyAt}
 
 pub pulls_then : (feed : ℕ) (old now new : Inputs) → PullsOnlyAt feed old now → PullsOnlyAt feed now new → PullsOnlyAt feed old new
@@ -17,3 +18,7 @@ pulls_nothing feed feeds = record {
   same_open = λ other. refl;
   faults_stay = omega arith;
 }
+
+-- a count that has not fallen and then rose has risen
+pub risen_after : (old now new : ℕ) → old ≤ now → HasRisen now new → HasRisen old new
+risen_after old now new stay risen = ⊎_elim (λ more. inl (omega (arith, stay, more))) (λ last. inr last) risen

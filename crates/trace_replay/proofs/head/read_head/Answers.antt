@@ -1,7 +1,7 @@
 use Rattle.std.proofs.Common.{◌∙◌, sym}
 use Rattle.rvc_io.specs.Feeds.{ReadFails}
-use Rattle.net_state.proofs.Feeding.{risen_after}
 use Rattle.trace_replay.proofs.Heads.{err_after, fault_after, ok_after}
+use Rattle.trace_replay.proofs.Pulling.{risen_after}
 use Rattle.trace_replay.proofs.head.read_head.Goals as goal
 
 pub returns-clause-read : goal.returns-clause-read

@@ -2,10 +2,9 @@ use Rattle.std.proofs.Common.{◌+◌, ◌<◌, ◌≡◌, ◌∙◌, Some, Err,
 use Rattle.std.specs.Prelude.{slice_get, string_bytes}
 use Rattle.rvc_io.specs.Feeds.{ReadFails}
 use Rattle.port_files.specs.Coming.{coming_on}
-use Rattle.net_state.proofs.Feeding.{risen_after}
 use Rattle.trace_replay.specs.declared.bytes.TheConstants.{TRACE_FEED}
 use Rattle.trace_replay.proofs.Heads.{Here, at_index, due_here, due_none, due_start, fault_after, here}
-use Rattle.trace_replay.proofs.Pulling.{pulls_nothing, pulls_then}
+use Rattle.trace_replay.proofs.Pulling.{pulls_nothing, pulls_then, risen_after}
 use Rattle.trace_replay.proofs.head.read_instances.Goals as goal
 
 pub returns-clause-read : goal.returns-clause-read
