@@ -47,11 +47,11 @@ no_more line text x front other spells longer = ⊎_elim (λ none. none)
     (λ some. let no_line : IsFront text = front line text x longer some in absurd (no_line.1 other spells)) (nothing_or x)
 
 -- a text of lines has one first line
-record Same (these those a b : List ℕ) : Type 0 where
-  texts : these ≡ those
-  others : a ≡ b
+pub record Same (these those a b : List ℕ) : Type 0 where
+  pub texts : these ≡ those
+  pub others : a ≡ b
 
-cut : (this that : Line) (these those a b : List ℕ) → FrontIsNoLine → Spells this these → Spells that those → these ++ a ≡ those ++ b → Same these those a b
+pub cut : (this that : Line) (these those a b : List ℕ) → FrontIsNoLine → Spells this these → Spells that those → these ++ a ≡ those ++ b → Same these those a b
 cut this that these those a b front spells spells_that same = ⊎_elim
     (λ p. let none : p.0 ≡ [] = no_more that these p.0 front this spells (subst (Spells that) p.1 spells_that) in
     record {
@@ -66,7 +66,7 @@ cut this that these those a b front spells spells_that same = ⊎_elim
     (comparable these those a b same)
 
 -- bytes that begin a line and are none don't begin with a whole line
-front_not : (line : Line) (text x : List ℕ) → FrontIsNoLine → Spells line text → IsFront (text ++ x) → ⊥
+pub front_not : (line : Line) (text x : List ℕ) → FrontIsNoLine → Spells line text → IsFront (text ++ x) → ⊥
 front_not line text x front spells is_front =
     let begins : Begins (text ++ x) = is_front.0 in
     let whole : Spells begins.0 (text ++ (x ++ begins.1)) = subst (Spells begins.0) (append_assoc text x begins.1) begins.2 in
@@ -99,7 +99,7 @@ kept_next {X} net opened s next line grows kept so = of_line line so
     of_line (Inst k) so = later (Inst k) so
 
 -- on the way no token is lost
-abbrev IsKept : {X : Type 0} → Trial X → Reached X → Type 0
+abbrev pub IsKept : {X : Type 0} → Trial X → Reached X → Type 0
 IsKept t AtFirst = Unit {0}
 IsKept t (AtInstance k leaf leaves) = Unit {0}
 IsKept t (AtEvents opened s) = NoneIsLost t.net opened s
@@ -113,7 +113,7 @@ by_bool : (P : Type 0) (b : Bool) → (b ≡ true → P) → (b ≡ false → P)
 by_bool P true p q = p refl
 by_bool P false p q = q refl
 
-next_kept : {X : Type 0} (t : Trial X) (reached next : Reached X) (text : List ℕ) (line : Line) → LinesKeepSent X → IsKept t reached → LeadsOn t reached text line next → IsKept t next
+pub next_kept : {X : Type 0} (t : Trial X) (reached next : Reached X) (text : List ℕ) (line : Line) → LinesKeepSent X → IsKept t reached → LeadsOn t reached text line next → IsKept t next
 next_kept t AtFirst next text line grows kept on = subst (IsKept t) (sym on.1) (due_kept t 0 t.net.leaves)
 next_kept t (AtInstance k leaf leaves) next text line grows kept on = subst (IsKept t) (sym on.1) (due_kept t (k + 1) leaves)
 next_kept t (AtEvents opened s) next text line grows kept (last, may, is) = subst (IsKept t) (sym is)
@@ -123,7 +123,7 @@ next_kept t (AtEvents opened s) next text line grows kept (last, may, is) = subs
 next_kept t (AtEnd end last) next text line grows kept on = absurd on
 
 -- a line leads to one place
-one_next : {X : Type 0} (t : Trial X) (reached these those : Reached X) (text : List ℕ) (line : Line) → LeadsOn t reached text line these → LeadsOn t reached text line those → these ≡ those
+pub one_next : {X : Type 0} (t : Trial X) (reached these those : Reached X) (text : List ℕ) (line : Line) → LeadsOn t reached text line these → LeadsOn t reached text line those → these ≡ those
 one_next t AtFirst these those text line p q = p.1 ∙ sym q.1
 one_next t (AtInstance k leaf leaves) these those text line p q = p.1 ∙ sym q.1
 one_next t (AtEvents opened s) these those text line (last, may, is) (other, may_too, is_too) =
@@ -170,7 +170,7 @@ growth_not t (AtInstance k leaf leaves) next text l capacity limit on = cc
 growth_not t (AtEvents opened s) next text l capacity limit (last, may, is) = let grows : Grows t.net t.grow s l capacity = may.true_there in omega (arith, grows.below, limit)
 growth_not t (AtEnd end last) next text l capacity limit on = on
 
-no_growth_of : {X : Type 0} (t : Trial X) (reached next : Reached X) (text : List ℕ) (grow : ℕ) (line : Line) → t.grow ≡ grow → is_of_table grow line ≡ false → LeadsOn t reached text line next → ⊥
+pub no_growth_of : {X : Type 0} (t : Trial X) (reached next : Reached X) (text : List ℕ) (grow : ℕ) (line : Line) → t.grow ≡ grow → is_of_table grow line ≡ false → LeadsOn t reached text line next → ⊥
 no_growth_of t reached next text zero (Grow l capacity) limit none on = growth_not t reached next text l capacity limit on
 no_growth_of t reached next text zero (FirstLine n l g) limit none on = cc
 no_growth_of t reached next text zero (Inst k) limit none on = cc
@@ -191,7 +191,7 @@ no_growth_of t reached next text (suc g) (Stall i a l) limit none on = cc
 no_growth_of t reached next text (suc g) Budget limit none on = cc
 
 -- a line that fails doesn't lead on
-fails_not : {X : Type 0} (t : Trial X) (reached next : Reached X) (text : List ℕ) (line : Line) (why : Why) → IsWired t.net → AreLawful t.net → IsKept t reached
+pub fails_not : {X : Type 0} (t : Trial X) (reached next : Reached X) (text : List ℕ) (line : Line) (why : Why) → IsWired t.net → AreLawful t.net → IsKept t reached
     → LineFails t reached text line why → LeadsOn t reached text line next → ⊥
 fails_not t AtFirst next text line why wired lawful kept fails on = fails.1 on.0
 fails_not t (AtInstance k leaf leaves) next text line why wired lawful kept fails on = fails.1 on.0
@@ -210,7 +210,7 @@ end_not t reached rest why end last at none (GoesPast not_over is_front longer) 
 end_not t reached rest why end last at none (EndsPast over is longer) = cc
 
 -- before the first byte that makes bytes begin no line no whole line stands
-bad_not : (line : Line) (text a front : List ℕ) (byte : ℕ) (more : List ℕ) → FrontIsNoLine → Spells line text → text ++ a ≡ front ++ byte ∷ more → IsFront front
+pub bad_not : (line : Line) (text a front : List ℕ) (byte : ℕ) (more : List ℕ) → FrontIsNoLine → Spells line text → text ++ a ≡ front ++ byte ∷ more → IsFront front
     → (Begins (front ++ byte ∷ []) → ⊥) → ⊥
 bad_not line text a front byte more no_line spells same is_front bad = ⊎_elim
     (λ p. front_not line text p.0 no_line spells (subst IsFront p.1 is_front))

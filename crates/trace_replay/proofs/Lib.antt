@@ -4,6 +4,7 @@ pub mod Pulling
 pub mod Traces
 pub mod Excluded
 pub mod Judged
+pub mod Once
 pub mod Delivered
 pub mod Starting
 pub mod Onward
