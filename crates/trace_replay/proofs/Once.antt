@@ -12,6 +12,7 @@ use Rattle.net_model.specs.State.{State, effect_at}
 use Rattle.net_model.specs.Wired.{IsWired}
 use Rattle.net_model.specs.Laws.{AreLawful, LinesKeepSent}
 use Rattle.trace_replay.specs.Judging.{Trial, Reached, AtFirst, AtInstance, AtEvents, AtEnd, LeadsOn, Lead, LineFails, EventFails, FiringFails, IsOver, RestFails, BeginsNone, IsOfNoTable, MayNotCome, IsBehindEnd, IsCutOff, GoesPast, EndsPast, IsNotRun, is_of_table, max_trace_bytes}
+use Rattle.trace_replay.specs.Laws.{IsToldOnce}
 use Rattle.trace_replay.specs.declared.why.Why.{Why}
 use Rattle.trace_replay.specs.declared.why.Why.TheVariants.{Form, Header, NotExposed, NoRoom, Trap, End, After, Cut, TooLong}
 use Rattle.trace_replay.proofs.Judged.{Same, cut, front_not, bad_not, no_growth_of, fails_not, one_next, next_kept, IsKept}
@@ -153,3 +154,45 @@ module _ (front_law : FrontIsNoLine) (one : IsOneLine) where
   leads_not t reached next rest longer why text others line wired lawful kept is_text spells on (IsCutOff not_over is_front shorter) = whole_not_front line text others rest spells is_text is_front
   leads_not t reached next rest longer why text others line wired lawful kept is_text spells on (GoesPast not_over is_front long) = whole_not_front line text others rest spells is_text is_front
   leads_not t reached next rest longer why text others line wired lawful kept is_text spells on (EndsPast over none long) = over_not t reached next text line over on
+
+  -- two readings of one text
+  told_once : {X : Type 0} (t : Trial X) (from reached other : Reached X) (these those : List (List ℕ)) (rest behind : List ℕ) (longer : Bool) (why cause : Why)
+      → LinesKeepSent X → IsWired t.net → AreLawful t.net → IsKept t from → Lead t from these reached → Lead t from those other
+      → concat these ++ rest ≡ concat those ++ behind → RestFails t reached rest longer why → RestFails t other behind longer cause
+      → (length these ≡ length those) × (why ≡ cause)
+  told_once t from reached other [] [] rest behind longer why cause grows wired lawful kept lead lead_too same fails fails_too = (
+    refl,
+    rest_once t from rest longer why cause (subst (λ r. RestFails t r rest longer why) (sym lead) fails)
+        (subst (λ a. RestFails t from a longer cause) (sym same) (subst (λ r. RestFails t r behind longer cause) (sym lead_too) fails_too)),
+  )
+  told_once t from reached other [] (that ∷ those) rest behind longer why cause grows wired lawful kept lead (line, next, spells, on, more) same fails fails_too =
+      absurd (leads_not t from next rest longer why that (concat those ++ behind) line wired lawful kept (same ∙ append_assoc that (concat those) behind) spells on
+      (subst (λ r. RestFails t r rest longer why) (sym lead) fails))
+  told_once t from reached other (this ∷ these) [] rest behind longer why cause grows wired lawful kept (line, next, spells, on, more) lead_too same fails fails_too =
+      absurd (leads_not t from next behind longer cause this (concat these ++ rest) line wired lawful kept (sym same ∙ append_assoc this (concat these) rest) spells on
+      (subst (λ r. RestFails t r behind longer cause) (sym lead_too) fails_too))
+  told_once t from reached other (this ∷ these) (that ∷ those) rest behind longer why cause grows wired lawful kept (line, next, spells, on, more) (line_that, next_that, spells_that, on_that, more_that) same fails fails_too =
+      let here : Same this that (concat these ++ rest) (concat those ++ behind) =
+      cut line line_that this that (concat these ++ rest) (concat those ++ behind) front_law spells spells_that
+      (sym (append_assoc this (concat these) rest) ∙ same ∙ append_assoc that (concat those) behind) in
+      let line_same : line ≡ line_that = one line line_that that (subst (Spells line) here.texts spells) spells_that in
+      let on_too : LeadsOn t from that line_that next = subst (λ a. LeadsOn t from a line_that next) here.texts (subst (λ l. LeadsOn t from this l next) line_same on) in
+      let next_same : next ≡ next_that = one_next t from next next_that that line_that on_too on_that in
+      let others = told_once t next_that reached other these those rest behind longer why cause grows wired lawful (next_kept t from next_that that line_that grows kept on_that)
+      (subst (λ r. Lead t r these reached) next_same more) more_that here.others fails fails_too in
+      (ap suc others.0, others.1)
+
+  -- whether the text goes on past its greatest length is one
+  longer_once : (longer other : Bool) (n : ℕ) → (longer ≡ true → max_trace_bytes < n) → (longer ≡ false → n ≤ max_trace_bytes)
+      → (other ≡ true → max_trace_bytes < n) → (other ≡ false → n ≤ max_trace_bytes) → longer ≡ other
+  longer_once true true n p q r s = refl
+  longer_once false false n p q r s = refl
+  longer_once true false n p q r s = absurd (omega (arith, p refl, s refl))
+  longer_once false true n p q r s = absurd (omega (arith, q refl, r refl))
+
+  pub is_told_once : {X : Type 0} → LinesKeepSent X → IsToldOnce X
+  is_told_once grows t text n m why cause wired lawful this that =
+      let longer : this.longer ≡ that.longer = longer_once this.longer that.longer (length text) this.is_longer this.is_whole that.is_longer that.is_whole in
+      let both = told_once t AtFirst this.reached that.reached this.texts that.texts this.rest that.rest that.longer why cause grows wired lawful tt this.lead that.lead
+      (sym this.is_text ∙ that.is_text) (subst (λ b. RestFails t this.reached this.rest b why) longer this.fails) that.fails in
+      (this.number ∙ ap (λ k. k + 1) both.0 ∙ sym that.number, both.1)

@@ -43,3 +43,8 @@ abbrev pub NoTraceIsNotRun : (X : Type 0) → Type 0
 NoTraceIsNotRun X = (t : Trial X) (text : List ℕ) (lines : List Line) (end : Line) (last : State X)
     (n : ℕ) (why : Why) → IsWired t.net → AreLawful t.net → length text ≤ max_trace_bytes
     → IsTrace t text lines end last → IsNotRun t text n why → ⊥
+
+-- A text is told to be none for one line and one cause at most.
+abbrev pub IsToldOnce : (X : Type 0) → Type 0
+IsToldOnce X = (t : Trial X) (text : List ℕ) (n m : ℕ) (why cause : Why) → IsWired t.net
+    → AreLawful t.net → IsNotRun t text n why → IsNotRun t text m cause → (n ≡ m) × (why ≡ cause)

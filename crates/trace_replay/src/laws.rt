@@ -2,7 +2,7 @@
 //!
 //! Each law is the contract of a function that does nothing: it is proved with the crate, and can be cited.
 
-ghost use Rattle.trace_replay.specs.Laws.{LinesMakeTraces, NoTraceIsNotRun, TracesAreLines, WhatFailsMayNotCome};
+ghost use Rattle.trace_replay.specs.Laws.{IsToldOnce, LinesMakeTraces, NoTraceIsNotRun, TracesAreLines, WhatFailsMayNotCome};
 
 use net_model::{Meaning, sent_lists_only_grow};
 use trace_text::text_tells_a_line;
@@ -24,6 +24,15 @@ pub fn what_fails_may_not_come<M: Meaning>()
 /// the cause, if the network is wired and its actors are lawful.
 pub fn no_trace_is_told_to_be_none<M: Meaning>()
     ensures { NoTraceIsNotRun M.State }
+{
+    text_tells_a_line();
+    sent_lists_only_grow::<M>();
+}
+
+/// A text that is told to be no trace is told so for one line and one cause, if the network is wired and its actors
+/// are lawful.
+pub fn no_trace_is_told_once<M: Meaning>()
+    ensures { IsToldOnce M.State }
 {
     text_tells_a_line();
     sent_lists_only_grow::<M>();

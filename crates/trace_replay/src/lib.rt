@@ -10,6 +10,8 @@ mod trying;
 mod why;
 
 pub use bytes::TRACE_FEED;
-pub use laws::{no_trace_is_told_to_be_none, traces_are_runs, what_fails_may_not_come};
+pub use laws::{
+    no_trace_is_told_once, no_trace_is_told_to_be_none, traces_are_runs, what_fails_may_not_come,
+};
 pub use scan::MAX_TRACE_BYTES;
 pub use why::{ReplayFault, Why};
