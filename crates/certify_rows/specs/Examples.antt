@@ -1,4 +1,5 @@
 -- Actors of two actions, by what each takes and by its guard.
+-- Not trusted: no promise is read with it.
 use Rattle.std.specs.Prelude.{ℕ, Bool, true, false, List, [], ◌∷◌, codes, pos, None, Some}
 use Rattle.rvc_base.specs.declared.scalar.Scalar.TheVariants as scalar
 use Rattle.cal_ast.specs.Tree as tree

@@ -1,4 +1,5 @@
 -- What an expression is in a guard of an example.
+-- Not trusted: no promise is read with it.
 use Rattle.std.specs.Prelude.{ℕ, Bool, true, false, ◌||◌, ◌&&◌, List, codes, if◌then◌else◌}
 use Rattle.std.specs.Str.{bytes_eq}
 use Rattle.cal_ast.specs.declared.expr.PrefixOp.{PrefixOp}
