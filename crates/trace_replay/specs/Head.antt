@@ -1,9 +1,15 @@
 -- The first lines of a trace.
 -- Not trusted: no promise is read with it.
-use Rattle.std.specs.Prelude.{◌≡◌, ℕ, List, ◌++◌, map, codes}
+use Rattle.std.specs.Prelude.{◌≡◌, ℕ, ◌+◌, List, ◌++◌, map, codes}
+use Rattle.rvc_io.specs.Feeds.{Inputs}
+use Rattle.port_files.specs.Coming.{coming_on}
 use Rattle.net_model.specs.Network.{Leaf}
 use Rattle.trace_text.specs.declared.line.Line.{Line}
-use Rattle.trace_replay.specs.Judging.{Trial, first_line}
+use Rattle.trace_replay.specs.Judging.{Trial, Reached, AtEvents, AtFirst, AtInstance, due, first_line}
+use Rattle.trace_replay.specs.Reading.{HasReached, IsJudged}
+use Rattle.trace_replay.specs.declared.bytes.TheConstants.{TRACE_FEED}
+use Rattle.trace_replay.specs.declared.reading.Trace.{Trace}
+use Rattle.trace_replay.specs.declared.why.ReplayFault.{ReplayFault}
 
 -- the text of an instance's line behind its number
 abbrev pub name_of : {X : Type 0} → Leaf X → List ℕ
@@ -15,3 +21,56 @@ pub record IsHeadOf {X : Type 0} (t : Trial X) (grow : ℕ) (first : Line) (name
   pub grow_is : t.grow ≡ grow
   pub first_is : first ≡ first_line t
   pub names_are : map name_of t.net.leaves ≡ names
+
+-- what was read of the text has led to what was reached
+abbrev pub StandsAt : {X : Type 0} → Trial X → List ℕ → Trace → Inputs → Reached X → Type 0
+StandsAt t text trace feeds reached =
+    HasReached t text trace.count trace.lines.passed reached
+    (coming_on trace.lines.bytes feeds TRACE_FEED)
+
+-- The first line was read, which is this one.
+
+abbrev pub PassesFirst : (X : Type 0) → Line → Trace → Inputs → Trace → Inputs → Type 0
+PassesFirst X first old before new after = (t : Trial X) (text : List ℕ) → t.grow ≡ old.grow
+    → first ≡ first_line t → StandsAt t text old before AtFirst
+    → StandsAt t text new after (due 0 t.net.leaves t.start)
+
+abbrev pub JudgesFirst : (X : Type 0) → Line → Trace → Inputs → ReplayFault → Type 0
+JudgesFirst X first old before fault = (t : Trial X) (text : List ℕ) → t.grow ≡ old.grow
+    → first ≡ first_line t → StandsAt t text old before AtFirst → IsJudged t text fault
+
+-- The line of instance k was read, which has this name.
+
+abbrev pub PassesInstance : (X : Type 0) → ℕ → List ℕ → Trace → Inputs → Trace → Inputs → Type 0
+PassesInstance X k name old before new after = (t : Trial X) (text : List ℕ) (leaf : Leaf X)
+    (leaves : List (Leaf X)) → t.grow ≡ old.grow → name_of leaf ≡ name
+    → StandsAt t text old before (AtInstance k leaf leaves)
+    → StandsAt t text new after (due (k + 1) leaves t.start)
+
+abbrev pub JudgesInstance : (X : Type 0) → ℕ → List ℕ → Trace → Inputs → ReplayFault → Type 0
+JudgesInstance X k name old before fault = (t : Trial X) (text : List ℕ) (leaf : Leaf X)
+    (leaves : List (Leaf X)) → t.grow ≡ old.grow → name_of leaf ≡ name
+    → StandsAt t text old before (AtInstance k leaf leaves) → IsJudged t text fault
+
+-- The lines of all instances were read, which have these names.
+
+abbrev pub PassesNames : (X : Type 0) → List (List ℕ) → Trace → Inputs → Trace → Inputs → Type 0
+PassesNames X names old before new after = (t : Trial X) (text : List ℕ) → t.grow ≡ old.grow
+    → map name_of t.net.leaves ≡ names → StandsAt t text old before (due 0 t.net.leaves t.start)
+    → StandsAt t text new after (AtEvents t.start t.start)
+
+abbrev pub JudgesNames : (X : Type 0) → List (List ℕ) → Trace → Inputs → ReplayFault → Type 0
+JudgesNames X names old before fault = (t : Trial X) (text : List ℕ) → t.grow ≡ old.grow
+    → map name_of t.net.leaves ≡ names → StandsAt t text old before (due 0 t.net.leaves t.start)
+    → IsJudged t text fault
+
+-- All that stands before the first event was read.
+
+abbrev pub PassesHead : (X : Type 0) → Line → List (List ℕ) → Trace → Inputs → Trace → Inputs → Type 0
+PassesHead X first names old before new after = (t : Trial X) (text : List ℕ)
+    → IsHeadOf t old.grow first names → StandsAt t text old before AtFirst
+    → StandsAt t text new after (AtEvents t.start t.start)
+
+abbrev pub JudgesHead : (X : Type 0) → Line → List (List ℕ) → Trace → Inputs → ReplayFault → Type 0
+JudgesHead X first names old before fault = (t : Trial X) (text : List ℕ)
+    → IsHeadOf t old.grow first names → StandsAt t text old before AtFirst → IsJudged t text fault

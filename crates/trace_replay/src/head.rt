@@ -1,14 +1,11 @@
 //! The first line of a trace and the lines of its instances.
 
-ghost use Rattle.std.specs.Prelude.{◌≡◌, ◌≢◌, ◌+◌, ◌<◌, ◌≤◌, ◌++◌, ℕ, List, true, false, IfErr, OnOk, string_bytes, length, map};
+ghost use Rattle.std.specs.Prelude.{◌≡◌, ◌≢◌, ◌≤◌, true, false, IfErr, OnOk, string_bytes, length, map};
 ghost use Rattle.rvc_io.specs.Feeds.{PullsOnly, ReadFails};
-ghost use Rattle.port_files.specs.Coming.{coming_on};
 ghost use Rattle.trace_text.specs.declared.line.Line.TheVariants.{Inst};
 ghost use Rattle.net_model.specs.Limits.{max_instances};
-ghost use Rattle.net_model.specs.Network.{Leaf};
-ghost use Rattle.trace_replay.specs.Judging.{AtEvents, AtFirst, AtInstance, Trial, due, first_line};
-ghost use Rattle.trace_replay.specs.Head.{IsHeadOf, name_of};
-ghost use Rattle.trace_replay.specs.Reading.{HasReached, IsCounted, IsJudged, OnReadFault};
+ghost use Rattle.trace_replay.specs.Head.{JudgesFirst, JudgesHead, JudgesInstance, JudgesNames, PassesFirst, PassesHead, PassesInstance, PassesNames};
+ghost use Rattle.trace_replay.specs.Reading.{IsCounted, OnReadFault};
 ghost use Rattle.trace_replay.specs.declared.bytes.TheConstants.{TRACE_FEED};
 
 use crate::reading::{Trace, not_run};
@@ -34,16 +31,8 @@ pub(crate) fn read_first<A: Firing, F: Feeds>(
 ) -> Result<(), ReplayFault>
     requires open { (F.feeds feeds.old).is_open TRACE_FEED ≡ true }
     requires counted { IsCounted trace.old.count trace.old.lines.passed }
-    ensures read { OnOk result ((t : Trial A.State) (text : List ℕ) → t.grow ≡ trace.old.grow
-        → first.now ≡ first_line t
-        → HasReached t text trace.old.count trace.old.lines.passed AtFirst
-        (coming_on trace.old.lines.bytes (F.feeds feeds.old) TRACE_FEED)
-        → HasReached t text trace.new.count trace.new.lines.passed (due 0 t.net.leaves t.start)
-        (coming_on trace.new.lines.bytes (F.feeds feeds.new) TRACE_FEED)) }
-    ensures judged { IfErr result (λ fault. (t : Trial A.State) (text : List ℕ)
-        → t.grow ≡ trace.old.grow → first.now ≡ first_line t
-        → HasReached t text trace.old.count trace.old.lines.passed AtFirst
-        (coming_on trace.old.lines.bytes (F.feeds feeds.old) TRACE_FEED) → IsJudged t text fault) }
+    ensures read { OnOk result (PassesFirst A.State first.now trace.old (F.feeds feeds.old) trace.new (F.feeds feeds.new)) }
+    ensures judged { IfErr result (JudgesFirst A.State first.now trace.old (F.feeds feeds.old)) }
     ensures counted { OnOk result (IsCounted trace.new.count trace.new.lines.passed) }
     ensures failed { OnReadFault result (ReadFails F.feeds feeds.old feeds.new) }
     ensures grow { trace.new.grow ≡ trace.old.grow }
@@ -68,18 +57,9 @@ pub(crate) fn read_instance<A: Firing, F: Feeds>(
 ) -> Result<(), ReplayFault>
     requires open { (F.feeds feeds.old).is_open TRACE_FEED ≡ true }
     requires counted { IsCounted trace.old.count trace.old.lines.passed }
-    ensures read { OnOk result ((t : Trial A.State) (text : List ℕ) (leaf : Leaf A.State)
-        (leaves : List (Leaf A.State)) → t.grow ≡ trace.old.grow
-        → name_of leaf ≡ string_bytes name.now
-        → HasReached t text trace.old.count trace.old.lines.passed (AtInstance k leaf leaves)
-        (coming_on trace.old.lines.bytes (F.feeds feeds.old) TRACE_FEED)
-        → HasReached t text trace.new.count trace.new.lines.passed (due (k + 1) leaves t.start)
-        (coming_on trace.new.lines.bytes (F.feeds feeds.new) TRACE_FEED)) }
-    ensures judged { IfErr result (λ fault. (t : Trial A.State) (text : List ℕ)
-        (leaf : Leaf A.State) (leaves : List (Leaf A.State)) → t.grow ≡ trace.old.grow
-        → name_of leaf ≡ string_bytes name.now
-        → HasReached t text trace.old.count trace.old.lines.passed (AtInstance k leaf leaves)
-        (coming_on trace.old.lines.bytes (F.feeds feeds.old) TRACE_FEED) → IsJudged t text fault) }
+    ensures read { OnOk result (PassesInstance A.State k (string_bytes name.now) trace.old (F.feeds feeds.old)
+        trace.new (F.feeds feeds.new)) }
+    ensures judged { IfErr result (JudgesInstance A.State k (string_bytes name.now) trace.old (F.feeds feeds.old)) }
     ensures counted { OnOk result (IsCounted trace.new.count trace.new.lines.passed) }
     ensures failed { OnReadFault result (ReadFails F.feeds feeds.old feeds.new) }
     ensures grow { trace.new.grow ≡ trace.old.grow }
@@ -114,16 +94,9 @@ pub(crate) fn read_instances<A: Firing, F: Feeds>(
     requires open { (F.feeds feeds.old).is_open TRACE_FEED ≡ true }
     requires counted { IsCounted trace.old.count trace.old.lines.passed }
     requires few { length names.now ≤ max_instances }
-    ensures read { OnOk result ((t : Trial A.State) (text : List ℕ) → t.grow ≡ trace.old.grow
-        → map name_of t.net.leaves ≡ map string_bytes names.now
-        → HasReached t text trace.old.count trace.old.lines.passed (due 0 t.net.leaves t.start)
-        (coming_on trace.old.lines.bytes (F.feeds feeds.old) TRACE_FEED)
-        → HasReached t text trace.new.count trace.new.lines.passed (AtEvents t.start t.start)
-        (coming_on trace.new.lines.bytes (F.feeds feeds.new) TRACE_FEED)) }
-    ensures judged { IfErr result (λ fault. (t : Trial A.State) (text : List ℕ)
-        → t.grow ≡ trace.old.grow → map name_of t.net.leaves ≡ map string_bytes names.now
-        → HasReached t text trace.old.count trace.old.lines.passed (due 0 t.net.leaves t.start)
-        (coming_on trace.old.lines.bytes (F.feeds feeds.old) TRACE_FEED) → IsJudged t text fault) }
+    ensures read { OnOk result (PassesNames A.State (map string_bytes names.now) trace.old (F.feeds feeds.old)
+        trace.new (F.feeds feeds.new)) }
+    ensures judged { IfErr result (JudgesNames A.State (map string_bytes names.now) trace.old (F.feeds feeds.old)) }
     ensures counted { OnOk result (IsCounted trace.new.count trace.new.lines.passed) }
     ensures failed { OnReadFault result (ReadFails F.feeds feeds.old feeds.new) }
     ensures grow { trace.new.grow ≡ trace.old.grow }
@@ -155,16 +128,10 @@ pub(crate) fn read_head<A: Firing, F: Feeds>(
     requires open { (F.feeds feeds.old).is_open TRACE_FEED ≡ true }
     requires counted { IsCounted trace.old.count trace.old.lines.passed }
     requires few { length names.now ≤ max_instances }
-    ensures read { OnOk result ((t : Trial A.State) (text : List ℕ)
-        → IsHeadOf t trace.old.grow first.now (map string_bytes names.now)
-        → HasReached t text trace.old.count trace.old.lines.passed AtFirst
-        (coming_on trace.old.lines.bytes (F.feeds feeds.old) TRACE_FEED)
-        → HasReached t text trace.new.count trace.new.lines.passed (AtEvents t.start t.start)
-        (coming_on trace.new.lines.bytes (F.feeds feeds.new) TRACE_FEED)) }
-    ensures judged { IfErr result (λ fault. (t : Trial A.State) (text : List ℕ)
-        → IsHeadOf t trace.old.grow first.now (map string_bytes names.now)
-        → HasReached t text trace.old.count trace.old.lines.passed AtFirst
-        (coming_on trace.old.lines.bytes (F.feeds feeds.old) TRACE_FEED) → IsJudged t text fault) }
+    ensures read { OnOk result (PassesHead A.State first.now (map string_bytes names.now) trace.old (F.feeds feeds.old)
+        trace.new (F.feeds feeds.new)) }
+    ensures judged { IfErr result (JudgesHead A.State first.now (map string_bytes names.now)
+        trace.old (F.feeds feeds.old)) }
     ensures counted { OnOk result (IsCounted trace.new.count trace.new.lines.passed) }
     ensures failed { OnReadFault result (ReadFails F.feeds feeds.old feeds.new) }
     ensures grow { trace.new.grow ≡ trace.old.grow }
