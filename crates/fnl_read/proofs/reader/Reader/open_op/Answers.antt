@@ -6,8 +6,8 @@ use Rattle.fnl_read.specs.Views.{state_of}
 use Rattle.fnl_read.proofs.Operator.{no_operator, refuses}
 use Rattle.fnl_read.proofs.reader.Reader.open_op.Goals as goal
 
-pub returns : goal.returns
-returns c =
+pub returns-in_default : goal.returns-in-default
+returns-in_default c =
     let s = state_of c.args.self.now in
     let taken = c.take_top.ensures.taken in
     let attributes = map plain_attribute c.args.attributes.now in
