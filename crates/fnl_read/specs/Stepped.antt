@@ -1,7 +1,12 @@
 -- What the code answers, beside what it means.
 -- Not trusted: no promise is read with it.
-use Rattle.std.specs.Prelude.{◌≡◌, ℕ, List, [], ◌∷◌, map, Result, Ok, Err, Option, option_map}
+use Rattle.std.specs.Prelude.{◌≡◌, ℕ, List, [], ◌∷◌, map, Result, Ok, Err, IfOk, IfErr, Option, option_map}
 use Rattle.rvc_base.specs.Rules.{spells_no_network}
+use Rattle.rvc_base.specs.declared.refusal.Rule.{Rule}
+use Rattle.rvc_base.specs.declared.refusal.Refusal.{Refusal}
+use Rattle.rvc_base.specs.declared.refusal.Front.{Front}
+use Rattle.fnl_markup.specs.Markup.{Broken}
+use Rattle.fnl_markup.specs.Stepped.{IsRefusal}
 use Rattle.fnl_markup.specs.Tags.{Attribute, plain_attribute}
 use Rattle.fnl_markup.specs.declared.tag.Attribute.{Attribute as TheAttribute}
 use Rattle.fnl_expr.specs.declared.stop.Stop.{Stop}
@@ -15,6 +20,7 @@ use Rattle.fnl_read.specs.Views.{state_of}
 use Rattle.fnl_read.specs.Opening.{operator_in}
 use Rattle.fnl_read.specs.Closing.{ended_in}
 use Rattle.fnl_read.specs.Elements.{net_in}
+use Rattle.fnl_read.specs.Network.{Network, IsRightly, first_of}
 use Rattle.fnl_read.specs.declared.reader.Reader.{Reader}
 
 -- the reader went on as is meant, or stopped at the rule that is broken, or memory was refused
@@ -48,6 +54,23 @@ abbrev pub Brings : Next → Result (Option NetFile) Stop → Type 0
 Brings next (Ok net) = (s : State) × (next ≡ Going s) × Holds s net
 Brings next (Err (stops.Broken rule at)) = next ≡ Fault rule at
 Brings next (Err stops.Memory) = Unit {0}
+
+-- what is answered if the elements broke a rule at an offset, beside what the markup broke
+abbrev pub RefusesFirst : ℕ → Rule → ℕ → Option Refusal → Front → Type 0
+RefusesFirst file rule at broken answer =
+    (meant : Option Broken) (size : ℕ) → IsRefusal file meant broken
+    → IsRightly file (first_of (Fault rule at) meant size) answer
+
+-- what is answered if the elements broke no rule, in a text of a size: a network or a refusal
+abbrev pub FindsNet : ℕ → ℕ → Option NetFile → Option Refusal → Result NetFile Front → Type 0
+FindsNet file size net broken answer =
+    (meant : Option Broken) (s : State) → IsRefusal file meant broken → Holds s net
+    → IfOk answer (λ found. first_of (Going s) meant size ≡ Network (net_of found))
+
+abbrev pub RefusesEnd : ℕ → ℕ → Option NetFile → Option Refusal → Result NetFile Front → Type 0
+RefusesEnd file size net broken answer =
+    (meant : Option Broken) (s : State) → IsRefusal file meant broken → Holds s net
+    → IfErr answer (IsRightly file (first_of (Going s) meant size))
 
 -- the frame round the innermost one, or there is none
 abbrev pub Leaves : List Frame → List Frame → ℕ → Result TheFrame Stop → Type 0

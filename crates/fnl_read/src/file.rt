@@ -1,13 +1,11 @@
 //! Reading a file.
 
-ghost use Rattle.std.specs.Prelude.{◌≡◌, ◌<◌, ◌^◌, ℕ, IfErr, IfOk, Option, length};
-ghost use Rattle.fnl_markup.specs.Markup.{Broken};
-ghost use Rattle.fnl_markup.specs.Stepped.{IsRefusal};
+ghost use Rattle.std.specs.Prelude.{◌≡◌, ◌<◌, ◌^◌, ℕ, IfErr, IfOk, length};
 ghost use Rattle.fnl_markup.specs.Tags.{plain_tags};
 ghost use Rattle.fnl_read.specs.Elements.{run};
-ghost use Rattle.fnl_read.specs.States.{Fault, Going, State, fresh};
-ghost use Rattle.fnl_read.specs.Network.{Network, IsRightly, first_of, network};
-ghost use Rattle.fnl_read.specs.Stepped.{Brings, Holds, Stepped};
+ghost use Rattle.fnl_read.specs.States.{Going, fresh};
+ghost use Rattle.fnl_read.specs.Network.{Network, IsRightly, network};
+ghost use Rattle.fnl_read.specs.Stepped.{Brings, FindsNet, RefusesEnd, RefusesFirst, Stepped};
 ghost use Rattle.rvc_base.specs.declared.refusal.Front.TheVariants as fronts;
 ghost use Rattle.fnl_frames.specs.Views.{net_of};
 ghost use Rattle.fnl_read.specs.Views.{state_of};
@@ -69,8 +67,7 @@ fn read_tags(reader: &mut Reader, tags: &[Tag]) -> Result<(), Stop>
 
 /// Of a rule that the elements break, and one that the markup breaks, the one at the earlier place.
 fn first_of(file: u32, rule: Rule, at: u32, broken: Option<Refusal>) -> Front
-    ensures { (meant : Option Broken) (size : ℕ) → IsRefusal file meant broken
-        → IsRightly file (first_of (Fault rule at) meant size) result }
+    ensures { RefusesFirst file rule at broken result }
 {
     match broken {
         Some(other) => {
@@ -93,10 +90,8 @@ fn finish(
     broken: Option<Refusal>,
 ) -> Result<NetFile, Front>
     requires { size < 2 ^ 32 }
-    ensures read { (meant : Option Broken) (s : State) → IsRefusal file meant broken
-        → Holds s net → IfOk result (λ net. first_of (Going s) meant size ≡ Network (net_of net)) }
-    ensures refused { (meant : Option Broken) (s : State) → IsRefusal file meant broken
-        → Holds s net → IfErr result (IsRightly file (first_of (Going s) meant size)) }
+    ensures read { FindsNet file size net broken result }
+    ensures refused { RefusesEnd file size net broken result }
 {
     if let Some(refusal) = broken {
         return Err(Front::Refused(refusal));

@@ -102,6 +102,8 @@ impl Reader {
     }
 
     /// One element more is open, in which a name may be too long, at a place.
+    ///
+    /// It is put on the stack before it is tested: a reader that refused one is never used again.
     #[tactic(auto, using(fnl_expr::proofs::Stacks::stack_push, fnl_expr::proofs::Stacks::stack_size))]
     pub(crate) fn enter(&mut self, inner: Frame, long: Option<u32>, at: u32) -> Result<(), Stop>
         ensures { Stepped (meant.enter (frame_of inner) long at (state_of self.old))
