@@ -4,7 +4,7 @@ use Rattle.std.specs.Prelude.{ℕ, List, [], ◌∷◌, Bool, true, false, Optio
 use Rattle.rvc_base.specs.Rules.{spells_no_network, nests_too_deep}
 use Rattle.cal_ast.specs.Tree.{Tree, absent, present, listed, type_of, shape_arg, value_arg, list, prefix}
 use Rattle.cal_ast.specs.declared.expr.PrefixOp.{PrefixOp}
-use Rattle.fnl_frames.specs.Net.{Net, Port, a_port, Decl, a_decl, Parameter, a_parameter, Instance, an_instance, Size, a_size, Connection, a_connection}
+use Rattle.fnl_frames.specs.Net.{a_port, a_decl, Parameter, a_parameter, an_instance, a_size, a_connection}
 use Rattle.fnl_frames.specs.Frames.{Frame, outside, in_network, in_port, in_decl, in_instance, in_parameter, in_connection, in_size, in_type, in_value, in_shape, in_list, in_unary, in_sequence, in_empty, in_passed, Class, a_class}
 use Rattle.fnl_expr.specs.Operations.{Pending}
 use Rattle.fnl_read.specs.States.{State, Next, Going, Fault}
