@@ -7,8 +7,8 @@ use Rattle.rvc_base.specs.declared.refusal.Rule.{Rule}
 use Rattle.rvc_base.specs.Rules.{spells_no_network}
 use Rattle.fnl_markup.specs.Tags.{Tag, opens, closes}
 use Rattle.fnl_markup.specs.Markup.{Broken, fault, IsMarkup, broken_of, tags_of}
-use Rattle.fnl_read.specs.Net.{Net}
-use Rattle.fnl_read.specs.Frames.{State, fresh, Next, Going, Fault}
+use Rattle.fnl_frames.specs.Net.{Net}
+use Rattle.fnl_read.specs.States.{State, fresh, Next, Going, Fault}
 use Rattle.fnl_read.specs.Closing.{closed}
 use Rattle.fnl_read.specs.Elements.{step, run, net_in}
 use Rattle.fnl_read.specs.Network.{Network, Broke, found_in, first_of, network}

@@ -4,17 +4,17 @@ use Rattle.rvc_base.specs.declared.refusal.Rule.{Rule}
 use Rattle.rvc_base.specs.Rules.{unknown_element}
 use Rattle.cal_ast.specs.declared.expr.PrefixOp.{PrefixOp}
 use Rattle.fnl_markup.specs.Tags.{Attribute}
-use Rattle.fnl_read.specs.Frames.{State, Next, Fault}
+use Rattle.fnl_read.specs.States.{State, Next, Fault}
 use Rattle.fnl_read.specs.Opening.{operator_in}
 use Rattle.fnl_read.specs.Stepped.{Stepped}
-use Rattle.fnl_read.specs.Views.{frame_of}
+use Rattle.fnl_frames.specs.Views.{frame_of}
 use Rattle.fnl_read.specs.declared.reader.Reader.{Reader}
-use Rattle.fnl_read.specs.declared.stop.Stop.{Stop}
-use Rattle.fnl_read.specs.declared.stop.Stop.TheVariants as stops
-use Rattle.fnl_read.specs.declared.tall.TallExpr.{TallExpr}
-use Rattle.fnl_read.specs.declared.frame.Pending.{Pending as ThePending}
-use Rattle.fnl_read.specs.declared.frame.Frame.{Frame as TheFrame}
-use Rattle.fnl_read.specs.declared.frame.Frame.TheVariants as frames
+use Rattle.fnl_expr.specs.declared.stop.Stop.{Stop}
+use Rattle.fnl_expr.specs.declared.stop.Stop.TheVariants as stops
+use Rattle.fnl_expr.specs.declared.tall.TallExpr.{TallExpr}
+use Rattle.fnl_expr.specs.declared.operations.Pending.{Pending as ThePending}
+use Rattle.fnl_frames.specs.declared.frame.Frame.{Frame as TheFrame}
+use Rattle.fnl_frames.specs.declared.frame.Frame.TheVariants as frames
 
 abbrev pub NotUnary : TheFrame → Type 0
 NotUnary f = (op : Option PrefixOp) (operand : Option TallExpr) (there : ℕ) → f ≡ frames.Unary op operand there → ⊥

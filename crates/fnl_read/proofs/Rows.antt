@@ -2,13 +2,15 @@
 use Rattle.std.proofs.Common.{◌<◌, ℕ, List, [], ◌∷◌, length, Some, Err, sym, ap, ◌∙◌, arith}
 use Rattle.cal_ast.specs.Tree.{Tree}
 use Rattle.fnl_read.specs.Closing.{end_expr, end_sequence}
-use Rattle.fnl_read.specs.Frames.{Pending, State, Fault}
-use Rattle.fnl_read.specs.Operations.{grouped}
-use Rattle.fnl_read.specs.Stepped.{Makes, Stepped}
-use Rattle.fnl_read.specs.Views.{tall_tree}
+use Rattle.fnl_expr.specs.Operations.{Pending}
+use Rattle.fnl_read.specs.States.{State, Fault}
+use Rattle.fnl_expr.specs.Operations.{grouped}
+use Rattle.fnl_expr.specs.Answers.{Makes}
+use Rattle.fnl_read.specs.Stepped.{Stepped}
+use Rattle.fnl_expr.specs.Views.{tall_tree}
 use Rattle.fnl_read.specs.declared.reader.Reader.{Reader}
-use Rattle.fnl_read.specs.declared.stop.Stop.{Stop}
-use Rattle.fnl_read.specs.declared.stop.Stop.TheVariants as stops
+use Rattle.fnl_expr.specs.declared.stop.Stop.{Stop}
+use Rattle.fnl_expr.specs.declared.stop.Stop.TheVariants as stops
 
 pub ungrouped : (A : Type 0) → (ws : List Pending) (t : Tree) (there at : ℕ) (s : State) (now : Reader) (stop : Stop) → 0 < length ws
     → Makes tall_tree (grouped there ws t) there (Err stop) → Stepped {A = A} (end_sequence ws (Some t) there at s) now (Err stop)

@@ -5,12 +5,12 @@ use Rattle.std.proofs.lemmas.List.{map-append, take-append-drop}
 use Rattle.rvc_base.specs.declared.refusal.Rule.{Rule}
 use Rattle.fnl_markup.specs.Tags.{Tag, plain, plain_tags}
 use Rattle.fnl_markup.specs.declared.tag.Tag.{Tag as TheTag}
-use Rattle.fnl_read.specs.Frames.{State, fresh, Next, Going, Fault}
+use Rattle.fnl_read.specs.States.{State, fresh, Next, Going, Fault}
 use Rattle.fnl_read.specs.Elements.{step, run}
 use Rattle.fnl_read.specs.Stepped.{Stepped}
 use Rattle.fnl_read.specs.declared.reader.Reader.{Reader}
-use Rattle.fnl_read.specs.declared.stop.Stop.{Stop}
-use Rattle.fnl_read.specs.declared.stop.Stop.TheVariants as stops
+use Rattle.fnl_expr.specs.declared.stop.Stop.{Stop}
+use Rattle.fnl_expr.specs.declared.stop.Stop.TheVariants as stops
 
 pub fault_stays : (rule : Rule) (at : ℕ) (tags : List Tag) → run (Fault rule at) tags ≡ Fault rule at
 fault_stays rule at [] = refl

@@ -7,18 +7,22 @@ use Rattle.cal_ast.specs.Tree.{Tree, ident, variable, number, truth, prefix, bin
 use Rattle.cal_ast.specs.declared.expr.PrefixOp.{PrefixOp}
 use Rattle.cal_ast.specs.declared.expr.BinOp.{BinOp}
 use Rattle.fnl_markup.specs.Tags.{Attribute, attribute}
-use Rattle.fnl_read.specs.Net.{Parameter}
-use Rattle.fnl_read.specs.Frames.{Frame, outside, in_network, in_port, in_decl, in_instance, in_parameter, in_connection, in_size, in_type, in_value, in_shape, in_list, in_unary, in_sequence, in_empty, in_passed, Class, a_class, Pending, State, Next, Going, Fault}
-use Rattle.fnl_read.specs.Given.{Text, text_at, Literal, given, name_given, literal_given}
-use Rattle.fnl_read.specs.Operators.{binary_in, prefix_in}
-use Rattle.fnl_read.specs.Operations.{before_operator, grouped, made}
-use Rattle.fnl_read.specs.Allowed.{element_named, allows}
+use Rattle.fnl_frames.specs.Net.{Parameter}
+use Rattle.fnl_frames.specs.Frames.{Frame, outside, in_network, in_port, in_decl, in_instance, in_parameter, in_connection, in_size, in_type, in_value, in_shape, in_list, in_unary, in_sequence, in_empty, in_passed, Class, a_class}
+use Rattle.fnl_expr.specs.Operations.{Pending}
+use Rattle.fnl_read.specs.States.{State, Next, Going, Fault}
+use Rattle.fnl_expr.specs.Given.{Text, text_at, Literal, given, name_given, literal_given}
+use Rattle.fnl_expr.specs.Operators.{binary_in, prefix_in}
+use Rattle.fnl_expr.specs.Operations.{before_operator, grouped, made}
+use Rattle.fnl_frames.specs.Allowed.{element_named, allows}
 use Rattle.fnl_read.specs.Opening as opening
 use Rattle.fnl_read.specs.Closing as closing
-use Rattle.fnl_read.specs.declared.element.Element.{Element}
-use Rattle.fnl_read.specs.declared.element.Element.TheVariants as elements
-use Rattle.fnl_read.specs.declared.element.ExprKind.{ExprKind}
-use Rattle.fnl_read.specs.declared.element.ExprKind.TheVariants as kinds
+use Rattle.fnl_expr.specs.Given.{literal_tree}
+use Rattle.fnl_frames.specs.Attaching.{with_expr}
+use Rattle.fnl_frames.specs.declared.element.Element.{Element}
+use Rattle.fnl_frames.specs.declared.element.Element.TheVariants as elements
+use Rattle.fnl_expr.specs.declared.kind.ExprKind.{ExprKind}
+use Rattle.fnl_expr.specs.declared.kind.ExprKind.TheVariants as kinds
 
 abbrev number_of : Rule → ℕ
 number_of rule = rule.0
@@ -122,7 +126,7 @@ entry_with (Some by_value) (Some (text_at name place)) at s = enter (opening.ent
 
 literal_with : (literal : Option Literal) (at : ℕ) (s : State) → IsNever (opening.literal_with literal at s)
 literal_with None at s = wrong at
-literal_with (Some literal) at s = enter_empty (opening.with_expr (opening.literal_tree literal at) s.top) None at s
+literal_with (Some literal) at s = enter_empty (with_expr (literal_tree literal at) s.top) None at s
 
 variable_with : (name : Option Text) (at : ℕ) (s : State) → IsNever (opening.variable_with name at s)
 variable_with None at s = wrong at

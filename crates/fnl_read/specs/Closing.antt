@@ -1,13 +1,15 @@
 -- What the tag that ends an element brings, whose `/` stands at an offset.
 -- Trusted: part of what a promise means.
-use Rattle.std.specs.Prelude.{ℕ, List, [], ◌∷◌, ◌++◌, Bool, true, false, Option, None, Some}
+use Rattle.std.specs.Prelude.{ℕ, List, [], ◌∷◌, Bool, true, false, Option, None, Some}
 use Rattle.rvc_base.specs.Rules.{spells_no_network, nests_too_deep}
 use Rattle.cal_ast.specs.Tree.{Tree, absent, present, listed, type_of, shape_arg, value_arg, list, prefix}
 use Rattle.cal_ast.specs.declared.expr.PrefixOp.{PrefixOp}
-use Rattle.fnl_read.specs.Net.{Net, Port, a_port, Decl, a_decl, Parameter, a_parameter, Instance, an_instance, Size, a_size, Connection, a_connection}
-use Rattle.fnl_read.specs.Frames.{Frame, outside, in_network, in_port, in_decl, in_instance, in_parameter, in_connection, in_size, in_type, in_value, in_shape, in_list, in_unary, in_sequence, in_empty, in_passed, Class, a_class, Pending, State, Next, Going, Fault}
-use Rattle.fnl_read.specs.Operations.{made, grouped}
-use Rattle.fnl_read.specs.Opening.{with_expr}
+use Rattle.fnl_frames.specs.Net.{Net, Port, a_port, Decl, a_decl, Parameter, a_parameter, Instance, an_instance, Size, a_size, Connection, a_connection}
+use Rattle.fnl_frames.specs.Frames.{Frame, outside, in_network, in_port, in_decl, in_instance, in_parameter, in_connection, in_size, in_type, in_value, in_shape, in_list, in_unary, in_sequence, in_empty, in_passed, Class, a_class}
+use Rattle.fnl_expr.specs.Operations.{Pending}
+use Rattle.fnl_read.specs.States.{State, Next, Going, Fault}
+use Rattle.fnl_expr.specs.Operations.{made, grouped}
+use Rattle.fnl_frames.specs.Attaching.{with_net, with_port, with_decl, with_instance, with_connection, with_parameter, with_size, with_type, with_arg, with_expr}
 
 -- a child is missing, so no text goes on with this `/`
 abbrev pub stuck : ℕ → Next
@@ -21,51 +23,8 @@ out_to change (round ∷ below) at = Going (record { top = change round; below =
 abbrev pub leave : (Frame → Frame) → ℕ → State → Next
 leave change at s = out_to change s.below at
 
--- what becomes of the element round one that ends
-
 abbrev pub unchanged : Frame → Frame
 unchanged frame = frame
-
-abbrev pub with_net : Net → Frame → Frame
-with_net net (outside other) = outside (Some net)
-with_net net frame = frame
-
-abbrev pub with_port : Port → Frame → Frame
-with_port p (in_network net) = in_network (record net { ports = net.ports ++ p ∷ [] })
-with_port p frame = frame
-
-abbrev pub with_decl : Decl → Frame → Frame
-with_decl d (in_network net) = in_network (record net { decls = net.decls ++ d ∷ [] })
-with_decl d frame = frame
-
-abbrev pub with_instance : Instance → Frame → Frame
-with_instance i (in_network net) = in_network (record net { instances = net.instances ++ i ∷ [] })
-with_instance i frame = frame
-
-abbrev pub with_connection : Connection → Frame → Frame
-with_connection c (in_network net) =
-    in_network (record net { connections = net.connections ++ c ∷ [] })
-with_connection c frame = frame
-
-abbrev pub with_parameter : Parameter → Frame → Frame
-with_parameter p (in_instance id class parameters at) =
-    in_instance id class (parameters ++ p ∷ []) at
-with_parameter p frame = frame
-
-abbrev pub with_size : Size → Frame → Frame
-with_size z (in_connection src src_port dst dst_port sizes at) =
-    in_connection src src_port dst dst_port (sizes ++ z ∷ []) at
-with_size z frame = frame
-
-abbrev pub with_type : Tree → Frame → Frame
-with_type t (in_port input name shape at) = in_port input name (Some t) at
-with_type t (in_decl param name shape value at) = in_decl param name (Some t) value at
-with_type t (in_shape name shape) = in_shape name (Some t)
-with_type t frame = frame
-
-abbrev pub with_arg : Tree → Frame → Frame
-with_arg t (in_type name args at) = in_type name (args ++ t ∷ []) at
-with_arg t frame = frame
 
 -- an expression ends, which stands at an offset and may be too high
 abbrev pub end_expr : Option Tree → ℕ → ℕ → State → Next

@@ -2,8 +2,9 @@
 -- Trusted: part of what a promise means.
 use Rattle.std.specs.Prelude.{List, [], ◌∷◌, Option, None}
 use Rattle.fnl_markup.specs.Tags.{Tag, opens, closes}
-use Rattle.fnl_read.specs.Net.{Net}
-use Rattle.fnl_read.specs.Frames.{Frame, outside, State, Next, Going, Fault}
+use Rattle.fnl_frames.specs.Net.{Net}
+use Rattle.fnl_frames.specs.Frames.{Frame, outside}
+use Rattle.fnl_read.specs.States.{State, Next, Going, Fault}
 use Rattle.fnl_read.specs.Opening.{opened}
 use Rattle.fnl_read.specs.Closing.{closed}
 

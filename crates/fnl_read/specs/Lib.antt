@@ -1,11 +1,5 @@
-pub mod Stack
 pub mod Net
-pub mod Frames
-pub mod Given
-pub mod Literals
-pub mod Operators
-pub mod Operations
-pub mod Allowed
+pub mod States
 pub mod Opening
 pub mod Closing
 pub mod Elements

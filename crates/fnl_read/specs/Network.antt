@@ -6,8 +6,8 @@ use Rattle.rvc_base.specs.declared.refusal.Front.{Front as Refusing}
 use Rattle.rvc_base.specs.declared.refusal.Front.TheVariants.{Refused, Memory}
 use Rattle.rvc_base.specs.Rules.{spells_no_network}
 use Rattle.fnl_markup.specs.Markup.{Broken, fault, tags_of, broken_of}
-use Rattle.fnl_read.specs.Net.{Net}
-use Rattle.fnl_read.specs.Frames.{fresh, Next, Going, Fault}
+use Rattle.fnl_frames.specs.Net.{Net}
+use Rattle.fnl_read.specs.States.{fresh, Next, Going, Fault}
 use Rattle.fnl_read.specs.Elements.{run, net_in}
 
 pub data Answer : Type 0 where

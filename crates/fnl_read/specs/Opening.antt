@@ -1,23 +1,25 @@
 -- What the tag that begins an element brings.
 -- Trusted: part of what a promise means.
-use Rattle.std.specs.Prelude.{ℕ, List, [], ◌∷◌, ◌++◌, length, Bool, true, false, if◌then◌else◌, nat_le, Option, None, Some, codes}
+use Rattle.std.specs.Prelude.{ℕ, List, [], ◌∷◌, length, Bool, true, false, if◌then◌else◌, nat_le, Option, None, Some, codes}
 use Rattle.std.specs.Str.{bytes_eq}
 use Rattle.rvc_base.specs.Rules.{unknown_element, wrong_attribute, nests_too_deep, name_too_long}
-use Rattle.cal_ast.specs.Tree.{Tree, ident, number, truth, variable, prefix}
+use Rattle.cal_ast.specs.Tree.{Tree, ident, variable}
 use Rattle.cal_ast.specs.declared.expr.PrefixOp.{PrefixOp}
-use Rattle.cal_ast.specs.declared.expr.PrefixOp.TheVariants as prefixes
 use Rattle.cal_ast.specs.declared.expr.BinOp.{BinOp}
 use Rattle.fnl_markup.specs.Tags.{Attribute, attribute}
-use Rattle.fnl_read.specs.Net.{empty_net}
-use Rattle.fnl_read.specs.Frames.{Frame, in_network, in_port, in_decl, in_instance, in_parameter, in_connection, in_size, in_type, in_value, in_shape, in_list, in_unary, in_sequence, in_empty, in_passed, Class, a_class, Pending, State, Next, Going, Fault}
-use Rattle.fnl_read.specs.Given.{given, either_given, Text, text_at, name_given, tag_given, end_given, entry_given, type_given, long, earlier, Literal, a_number, a_truth, literal_given, kind_given}
-use Rattle.fnl_read.specs.Operators.{binary_given, prefix_given}
-use Rattle.fnl_read.specs.Operations.{before_operator}
-use Rattle.fnl_read.specs.Allowed.{element_named, allows}
-use Rattle.fnl_read.specs.declared.element.Element.{Element}
-use Rattle.fnl_read.specs.declared.element.Element.TheVariants as elements
-use Rattle.fnl_read.specs.declared.element.ExprKind.{ExprKind}
-use Rattle.fnl_read.specs.declared.element.ExprKind.TheVariants as kinds
+use Rattle.fnl_frames.specs.Net.{empty_net}
+use Rattle.fnl_frames.specs.Frames.{Frame, in_network, in_port, in_decl, in_instance, in_parameter, in_connection, in_size, in_type, in_value, in_shape, in_list, in_unary, in_sequence, in_empty, in_passed, a_class}
+use Rattle.fnl_expr.specs.Operations.{Pending}
+use Rattle.fnl_read.specs.States.{State, Next, Going, Fault}
+use Rattle.fnl_expr.specs.Given.{given, either_given, Text, text_at, name_given, tag_given, end_given, entry_given, type_given, long, earlier, Literal, literal_given, literal_tree, kind_given}
+use Rattle.fnl_expr.specs.Operators.{binary_given, prefix_given}
+use Rattle.fnl_expr.specs.Operations.{before_operator}
+use Rattle.fnl_frames.specs.Allowed.{element_named, allows}
+use Rattle.fnl_frames.specs.Attaching.{with_class, with_expr}
+use Rattle.fnl_frames.specs.declared.element.Element.{Element}
+use Rattle.fnl_frames.specs.declared.element.Element.TheVariants as elements
+use Rattle.fnl_expr.specs.declared.kind.ExprKind.{ExprKind}
+use Rattle.fnl_expr.specs.declared.kind.ExprKind.TheVariants as kinds
 
 -- an attribute is missing, given twice or not one of its values
 abbrev pub wrong : ℕ → Next
@@ -85,10 +87,6 @@ instance_with (Some (text_at id place)) at s =
 
 abbrev pub open_instance : List Attribute → ℕ → State → Next
 open_instance attributes at s = instance_with (name_given (codes "id") attributes) at s
-
-abbrev pub with_class : Class → Frame → Frame
-with_class class (in_instance id other parameters at) = in_instance id (Some class) parameters at
-with_class class frame = frame
 
 abbrev pub class_with : Option Text → ℕ → State → Next
 class_with None at s = wrong at
@@ -163,22 +161,6 @@ open_entry attributes at s =
     (entry_given attributes) at s
 
 -- expressions
-
--- the element round an expression, with it
-abbrev pub with_expr : Tree → Frame → Frame
-with_expr t (in_decl param name shape value at) = in_decl param name shape (Some t) at
-with_expr t (in_parameter name value at) = in_parameter name (Some t) at
-with_expr t (in_size value at) = in_size (Some t) at
-with_expr t (in_value name value) = in_value name (Some t)
-with_expr t (in_list items at) = in_list (items ++ t ∷ []) at
-with_expr t (in_unary op operand at) = in_unary op (Some t) at
-with_expr t (in_sequence waiting operand at) = in_sequence waiting (Some t) at
-with_expr t frame = frame
-
-abbrev pub literal_tree : Literal → ℕ → Tree
-literal_tree (a_number false value) at = number value at
-literal_tree (a_number true value) at = prefix prefixes.Neg (number value at) at
-literal_tree (a_truth value) at = truth value at
 
 abbrev pub literal_with : Option Literal → ℕ → State → Next
 literal_with None at s = wrong at

@@ -3,30 +3,29 @@
 ghost use Rattle.std.specs.Prelude.{◌≡◌, option_map};
 ghost use Rattle.cal_ast.specs.View.{expr_tree};
 ghost use Rattle.fnl_read.specs.Closing as meant;
-ghost use Rattle.fnl_read.specs.Opening.{with_expr};
-ghost use Rattle.fnl_read.specs.Stack.{stack};
+ghost use Rattle.fnl_frames.specs.Attaching.{with_expr};
+ghost use Rattle.fnl_expr.specs.Stack.{stack};
 ghost use Rattle.fnl_read.specs.Stepped.{Ends, Leaves, Stepped};
-ghost use Rattle.fnl_read.specs.Views.{frame_of, state_of, tall_tree};
-ghost use Rattle.fnl_read.specs.declared.frame.Frame.TheVariants as frames;
+ghost use Rattle.fnl_frames.specs.Views.{open_of};
+ghost use Rattle.fnl_read.specs.Views.{state_of};
+ghost use Rattle.fnl_expr.specs.Views.{tall_tree};
+ghost use Rattle.fnl_frames.specs.declared.frame.Frame.TheVariants as frames;
 
-use crate::attaching::{
-    with_arg, with_connection, with_decl, with_expr, with_instance, with_net, with_parameter,
+use crate::reader::Reader;
+use cal_ast::{Expr, Ident, PrefixOp, TypeArg, TypeExpr};
+use fnl_expr::{Pending, Stop, TallExpr, TallExprs, grouped, list, prefix, stuck};
+use fnl_frames::{
+    Class, Frame, NetConnection, NetDecl, NetFile, NetInstance, NetParameter, NetPort, NetSize,
+    Open, with_arg, with_connection, with_decl, with_expr, with_instance, with_net, with_parameter,
     with_port, with_size, with_type,
 };
-use crate::frame::{Class, Frame, Pending};
-use crate::net::{NetConnection, NetDecl, NetFile, NetInstance, NetParameter, NetPort, NetSize};
-use crate::operations::{grouped, list, prefix};
-use crate::reader::Reader;
-use crate::stop::{Stop, stuck};
-use crate::tall::{TallExpr, TallExprs};
-use cal_ast::{Expr, Ident, PrefixOp, TypeArg, TypeExpr};
 
 impl Reader {
     /// The innermost element ends, by a tag with its `/` at this offset.
     pub(crate) fn close(&mut self, at: u32) -> Result<(), Stop>
         ensures { Stepped (meant.closed at (state_of self.old)) self.new result }
     {
-        match self.take_top() {
+        match self.take_top().0 {
             Frame::Outside(_) => Err(stuck(at)),
             Frame::Network(net) => self.end_network(net, at),
             Frame::Port {
@@ -79,10 +78,10 @@ impl Reader {
     }
 
     /// The element round the innermost one, which is taken away.
-    #[tactic(auto, using(crate::proofs::Stacks::stack_push))]
-    fn leave(&mut self, at: u32) -> Result<Frame, Stop>
-        ensures { Leaves (stack frame_of self.old.below.items)
-            (stack frame_of self.new.below.items) at result }
+    #[tactic(auto, using(fnl_expr::proofs::Stacks::stack_push))]
+    fn leave(&mut self, at: u32) -> Result<Open, Stop>
+        ensures { Leaves (stack open_of self.old.below.items)
+            (stack open_of self.new.below.items) at result }
     {
         match self.below.pop() {
             Some(round) => Ok(round),

@@ -1,27 +1,17 @@
 //! Expressions and operators, where each begins.
 
-ghost use Rattle.std.specs.Prelude.{◌≡◌, IfOk, None, Some};
-ghost use Rattle.cal_ast.specs.Tree.{number, prefix, truth};
-ghost use Rattle.cal_ast.specs.declared.expr.PrefixOp.TheVariants as prefixes;
-ghost use Rattle.fnl_read.specs.Literals.{literal_of};
+ghost use Rattle.std.specs.Prelude.{None, Some};
+ghost use Rattle.fnl_frames.specs.declared.frame.Frame.TheVariants as frames;
 ghost use Rattle.fnl_read.specs.Opening as meant;
 ghost use Rattle.fnl_read.specs.Stepped.{Opens, Operates};
-ghost use Rattle.fnl_read.specs.Views.{tall_tree};
-ghost use Rattle.fnl_read.specs.declared.frame.Frame.TheVariants as frames;
 
-use crate::attaching::with_expr;
-use crate::element::ExprKind;
-use crate::frame::{Frame, Pending};
-use crate::given::{Form, kind_given, long, text_given};
-use crate::literal::{Literal, literal_given};
-use crate::operations::{before_operator, no_exprs};
-use crate::operators::{binary_given, prefix_given};
 use crate::reader::Reader;
-use crate::stop::{Stop, unknown, wrong};
-use crate::tall::TallExpr;
-use cal_ast::{Expr, ExprForm, PrefixOp};
+use fnl_expr::{
+    ExprKind, Form, Pending, Stop, TallExpr, before_operator, binary_given, expr_of_literal,
+    kind_given, literal_given, long, no_exprs, prefix_given, text_given, unknown, variable, wrong,
+};
+use fnl_frames::{Frame, Open, with_expr};
 use fnl_markup::Attribute;
-use std::alloc::{AllocError, Global};
 
 impl Reader {
     pub(crate) fn open_expr(&mut self, attributes: &[Attribute], at: u32) -> Result<(), Stop>
@@ -36,22 +26,22 @@ impl Reader {
             ExprKind::Var => self.open_variable(attributes, at),
             ExprKind::List => {
                 let items = no_exprs(alloc);
-                self.enter(Frame::List { items, at }, None, at)
+                self.enter(Open(Frame::List { items, at }), None, at)
             }
             ExprKind::Unary => {
-                let unary = Frame::Unary {
+                let unary = Open(Frame::Unary {
                     op: None,
                     operand: None,
                     at,
-                };
+                });
                 self.enter(unary, None, at)
             }
             ExprKind::Sequence => {
-                let sequence = Frame::Sequence {
+                let sequence = Open(Frame::Sequence {
                     waiting: Vec::new(alloc),
                     operand: None,
                     at,
-                };
+                });
                 self.enter(sequence, None, at)
             }
         }
@@ -63,7 +53,7 @@ impl Reader {
         let Some(literal) = literal_given(attributes) else {
             return Err(wrong(at));
         };
-        let value = literal_expr(self.alloc, literal, at)?;
+        let value = expr_of_literal(self.alloc, literal, at)?;
         let round = with_expr(self.take_top(), value)?;
         self.enter_empty(round, None, at)
     }
@@ -75,13 +65,7 @@ impl Reader {
             return Err(wrong(at));
         };
         let place = long(&name);
-        let value = TallExpr {
-            expr: Expr {
-                form: ExprForm::Name(name.text),
-                at,
-            },
-            high: 1,
-        };
+        let value = variable(name.text, at);
         let round = with_expr(self.take_top(), value)?;
         self.enter_empty(round, place, at)
     }
@@ -89,7 +73,7 @@ impl Reader {
     pub(crate) fn open_op(&mut self, attributes: &[Attribute], at: u32) -> Result<(), Stop>
         ensures { Opens meant.open_op attributes.now at self.old self.new result }
     {
-        match self.take_top() {
+        match self.take_top().0 {
             Frame::Unary {
                 operand,
                 at: there,
@@ -121,11 +105,11 @@ impl Reader {
         let Some(op) = prefix_given(attributes) else {
             return Err(wrong(at));
         };
-        let unary = Frame::Unary {
+        let unary = Open(Frame::Unary {
             op: Some(op),
             operand,
             at: there,
-        };
+        });
         self.enter_empty(unary, None, at)
     }
 
@@ -145,68 +129,11 @@ impl Reader {
             return Err(wrong(at));
         };
         let waiting = before_operator(self.alloc, op, waiting, operand, there)?;
-        let sequence = Frame::Sequence {
+        let sequence = Open(Frame::Sequence {
             waiting,
             operand: None,
             at: there,
-        };
+        });
         self.enter_empty(sequence, None, at)
     }
-}
-
-/// The expression that a literal at a place is.
-fn literal_expr(alloc: Global, literal: Literal, at: u32) -> Result<TallExpr, AllocError>
-    ensures { IfOk result (λ e. tall_tree e ≡ meant.literal_tree (literal_of literal) at) }
-{
-    match literal {
-        Literal::Number { negative, value } => {
-            if negative {
-                negated(alloc, value, at)
-            } else {
-                Ok(number(value, at))
-            }
-        }
-        Literal::Truth(value) => Ok(truth(value, at)),
-    }
-}
-
-fn number(value: u128, at: u32) -> TallExpr
-    ensures { tall_tree result ≡ number value at }
-{
-    TallExpr {
-        expr: Expr {
-            form: ExprForm::Number(value),
-            at,
-        },
-        high: 1,
-    }
-}
-
-fn truth(value: bool, at: u32) -> TallExpr
-    ensures { tall_tree result ≡ truth value at }
-{
-    TallExpr {
-        expr: Expr {
-            form: ExprForm::Bool(value),
-            at,
-        },
-        high: 1,
-    }
-}
-
-fn negated(alloc: Global, value: u128, at: u32) -> Result<TallExpr, AllocError>
-    ensures { IfOk result (λ e. tall_tree e ≡ prefix prefixes.Neg (number value at) at) }
-{
-    let of = Expr {
-        form: ExprForm::Number(value),
-        at,
-    };
-    let form = ExprForm::Prefix {
-        op: PrefixOp::Neg,
-        of: Box::new(alloc, of)?,
-    };
-    Ok(TallExpr {
-        expr: Expr { form, at },
-        high: 2,
-    })
 }

@@ -1,20 +1,21 @@
 //! Reading a file.
 
-ghost use Rattle.std.specs.Prelude.{◌≡◌, ◌<◌, ◌^◌, ℕ, IfErr, IfOk, List, Option, length, option_map};
+ghost use Rattle.std.specs.Prelude.{◌≡◌, ◌<◌, ◌^◌, ℕ, IfErr, IfOk, List, Option, length};
 ghost use Rattle.fnl_markup.specs.Markup.{Broken};
 ghost use Rattle.fnl_markup.specs.Stepped.{IsRefusal};
 ghost use Rattle.fnl_markup.specs.Tags.{plain_tags};
-ghost use Rattle.fnl_read.specs.Elements.{net_in, run};
-ghost use Rattle.fnl_read.specs.Frames.{Fault, Frame as Open, Going, fresh};
+ghost use Rattle.fnl_read.specs.Elements.{run};
+ghost use Rattle.fnl_read.specs.States.{Fault, Going, fresh};
+ghost use Rattle.fnl_frames.specs.Frames.{Frame as Open};
 ghost use Rattle.fnl_read.specs.Network.{Network, IsRightly, first_of, network};
 ghost use Rattle.fnl_read.specs.Stepped.{Stepped, at_end};
 ghost use Rattle.rvc_base.specs.declared.refusal.Front.TheVariants as fronts;
-ghost use Rattle.fnl_read.specs.Views.{frame_of, net_of, state_of};
+ghost use Rattle.fnl_frames.specs.Views.{net_of};
+ghost use Rattle.fnl_read.specs.Views.{state_of};
 
-use crate::frame::Frame;
-use crate::net::NetFile;
 use crate::reader::Reader;
-use crate::stop::Stop;
+use fnl_expr::Stop;
+use fnl_frames::NetFile;
 use fnl_markup::{Tag, read_markup};
 use rvc_base::{Front, Place, Refusal, Rule};
 use std::alloc::Global;
@@ -36,7 +37,7 @@ pub fn read_network(alloc: Global, file: u32, text: &[u8]) -> Result<NetFile, Fr
     match read_tags(&mut reader, &markup.tags) {
         Err(Stop::Memory) => Err(Front::Memory),
         Err(Stop::Broken(rule, at)) => Err(first_of(file, rule, at, markup.broken)),
-        Ok(()) => finish(file, text.len(), reader.top, markup.broken),
+        Ok(()) => finish(file, text.len(), reader, markup.broken),
     }
 }
 
@@ -69,29 +70,20 @@ fn first_of(file: u32, rule: Rule, at: u32, broken: Option<Refusal>) -> Front
 }
 
 /// The network that was read, in a text of so many bytes, unless the markup breaks a rule.
-fn finish(file: u32, size: usize, top: Frame, broken: Option<Refusal>) -> Result<NetFile, Front>
+fn finish(file: u32, size: usize, reader: Reader, broken: Option<Refusal>) -> Result<NetFile, Front>
     requires { size < 2 ^ 32 }
     ensures read { (meant : Option Broken) (below : List Open) → IsRefusal file meant broken
-        → IfOk result (λ net. at_end top below meant size ≡ Network (net_of net)) }
+        → IfOk result (λ net. at_end reader.top below meant size ≡ Network (net_of net)) }
     ensures refused { (meant : Option Broken) (below : List Open) → IsRefusal file meant broken
-        → IfErr result (IsRightly file (at_end top below meant size)) }
+        → IfErr result (IsRightly file (at_end reader.top below meant size)) }
 {
     if let Some(refusal) = broken {
         return Err(Front::Refused(refusal));
     }
-    match net_in(top) {
+    let mut reader = reader;
+    match reader.take_net() {
         Some(net) => Ok(net),
         None => Err(refused(file, Rule::SPELLS_NO_NETWORK, size as u32)),
-    }
-}
-
-/// The network that was read, if it ended.
-fn net_in(frame: Frame) -> Option<NetFile>
-    ensures { option_map net_of result ≡ net_in (frame_of frame) }
-{
-    match frame {
-        Frame::Outside(net) => net,
-        _ => None,
     }
 }
 

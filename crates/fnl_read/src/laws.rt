@@ -2,7 +2,7 @@
 
 ghost use Rattle.std.specs.Prelude.{◌≡◌, ◌+◌, ℕ, List, take};
 ghost use Rattle.rvc_base.specs.Rules.{spells_no_network};
-ghost use Rattle.fnl_read.specs.Net.{Net};
+ghost use Rattle.fnl_frames.specs.Net.{Net};
 ghost use Rattle.fnl_read.specs.Network.{Broke, Network, network};
 
 use fnl_markup::{no_markup_begins_so, same_tags_before};

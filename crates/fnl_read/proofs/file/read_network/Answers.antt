@@ -2,11 +2,12 @@ use Rattle.std.proofs.Common.{◌≡◌, ◌∙◌, Err, IfErr, length, ap, sym,
 use Rattle.fnl_markup.specs.Markup.{broken_of, tags_of}
 use Rattle.fnl_markup.specs.Tags.{plain_tags}
 use Rattle.fnl_read.specs.Elements.{run}
-use Rattle.fnl_read.specs.Frames.{Fault, Going, fresh}
+use Rattle.fnl_read.specs.States.{Fault, Going, fresh}
 use Rattle.fnl_read.specs.Network.{IsRightly, first_of}
-use Rattle.fnl_read.specs.Stack.{stack}
+use Rattle.fnl_expr.specs.Stack.{stack}
 use Rattle.fnl_read.specs.Stepped.{Stepped}
-use Rattle.fnl_read.specs.Views.{frame_of, state_of}
+use Rattle.fnl_frames.specs.Views.{open_of}
+use Rattle.fnl_read.specs.Views.{state_of}
 use Rattle.fnl_read.proofs.file.read_network.Goals as goal
 
 pub returns-in-Err-Broken-clause-refused : goal.returns-in-Err-Broken-clause-refused
@@ -26,4 +27,4 @@ returns-clause-refused c =
     let tags = ap plain_tags c.deref.ensures.value ∙ c.in-Ok.ensures.tags in
     let spelt : run (Going fresh) (tags_of text) ≡ Going (state_of reader) = ap (run (Going fresh)) (sym tags) ∙ c.in-Ok-read_tags.ensures in
     subst (λ next. IfErr c.finish.result (IsRightly c.args.file (first_of next (broken_of text) (length text)))) (sym spelt)
-    (c.finish.ensures.refused (broken_of text) (stack frame_of reader.below.items) c.in-Ok.ensures.broken)
+    (c.finish.ensures.refused (broken_of text) (stack open_of reader.below.items) c.in-Ok.ensures.broken)

@@ -2,7 +2,7 @@ use Rattle.std.proofs.Common.{◌≡◌, Err, rules, ap, sym, ◌∙◌, subst}
 use Rattle.std.proofs.lemmas.List.{take_all}
 use Rattle.fnl_markup.specs.Tags.{plain, plain_tags}
 use Rattle.fnl_read.specs.Elements.{step, run}
-use Rattle.fnl_read.specs.Frames.{Going, fresh}
+use Rattle.fnl_read.specs.States.{Going, fresh}
 use Rattle.fnl_read.specs.Stepped.{Stepped}
 use Rattle.fnl_read.specs.Views.{state_of}
 use Rattle.fnl_read.proofs.Running.{run_next, ran_into}

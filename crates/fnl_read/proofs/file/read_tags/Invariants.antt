@@ -1,7 +1,7 @@
 use Rattle.std.proofs.Common.{◌≡◌, take}
 use Rattle.fnl_markup.specs.Tags.{plain_tags}
 use Rattle.fnl_read.specs.Elements.{run}
-use Rattle.fnl_read.specs.Frames.{Going, fresh}
+use Rattle.fnl_read.specs.States.{Going, fresh}
 use Rattle.fnl_read.specs.Views.{state_of}
 use Rattle.fnl_read.proofs.file.read_tags.Given as goal
 

@@ -1,10 +1,11 @@
 use Rattle.std.proofs.Common.{rules, ◌≡◌, ◌<◌, length, Err, Some, option_map, sym, subst, arith}
 use Rattle.fnl_read.specs.Closing.{end_sequence}
-use Rattle.fnl_read.specs.Stack.{stack}
+use Rattle.fnl_expr.specs.Stack.{stack}
 use Rattle.fnl_read.specs.Stepped.{Stepped}
-use Rattle.fnl_read.specs.Views.{pending_of, state_of, tall_tree}
+use Rattle.fnl_expr.specs.Views.{pending_of, tall_tree}
+use Rattle.fnl_read.specs.Views.{state_of}
 use Rattle.fnl_read.proofs.Rows.{ungrouped}
-use Rattle.fnl_read.proofs.Stacks.{stack_size}
+use Rattle.fnl_expr.proofs.Stacks.{stack_size}
 use Rattle.fnl_read.proofs.reader.Reader.end_sequence.Goals as goal
 
 pub returns-in_err-value : goal.returns-in_err-value

@@ -1,0 +1,6 @@
+pub mod Stacks
+pub mod Named
+pub mod Grouping
+pub mod Making
+pub mod Digits
+pub mod Heights

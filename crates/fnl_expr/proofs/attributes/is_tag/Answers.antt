@@ -1,0 +1,13 @@
+use Rattle.std.proofs.Common.{lit<, rules, tests}
+use Rattle.std.proofs.lemmas.Iterator.Search.{all_from_yields_List}
+use Rattle.std.proofs.lemmas.Iterator.Splits.{YieldsList-from_str_split}
+use Rattle.cal_lexer.specs.Lexis.{is_name}
+use Rattle.fnl_expr.specs.Given.{is_tag}
+use Rattle.fnl_expr.proofs.attributes.is_tag.Goals as goal
+
+pub returns : goal.returns
+unfolding is_tag
+returns c =
+    all_from_yields_List is_name _ _ _ c.all.ensures.ran
+    (YieldsList-from_str_split 46 c.args.text.now (lit< tt) c.split.ensures.text c.split.ensures.has_more c.split.ensures.pattern)
+    (λ x b q k. search (rules, tests))

@@ -1,0 +1,7 @@
+pub mod Stack
+pub mod Given
+pub mod Literals
+pub mod Operators
+pub mod Operations
+pub mod Views
+pub mod Answers

@@ -1,7 +1,0 @@
-use Rattle.std.proofs.Common.{◌≡◌, [], map, take}
-use Rattle.fnl_markup.specs.Tags.{plain_attribute}
-use Rattle.fnl_read.specs.Given.{named}
-use Rattle.fnl_read.proofs.given.given.Given as goal
-
-abbrev pub invariant-loop-attribute : goal.invariant-loop-attribute
-invariant-loop-attribute l = named l.key (map plain_attribute (take l.attribute-index l.attributes)) ≡ []
