@@ -10,9 +10,8 @@ use Rattle.cal_ast.specs.Places.{begins}
 use Rattle.cal_ast.specs.declared.expr.BinOp.{BinOp}
 use Rattle.cal_ast.specs.declared.expr.BinOp.TheVariants as binaries
 use Rattle.cal_grammar.specs.Operators.{height, max_height}
-use Rattle.fnl_read.specs.Frames.{Pending, pending}
-use Rattle.fnl_read.specs.Operators.{level}
-use Rattle.fnl_read.specs.Operations.{fits, made, on, joined, is_due, before_operator, grouped}
+use Rattle.fnl_expr.specs.Operations.{Pending, pending, fits, made, on, joined, is_due, before_operator, grouped}
+use Rattle.fnl_expr.specs.Operators.{level}
 use Rattle.fnl_grammar.specs.Rows.{Item, operand, operator, loosest, Groups, the_operand, the_tighter, the_operation}
 use Rattle.fnl_grammar.proofs.Reading.{Read, read, reads, reads_on, then_reads, reads_append, never_read}
 

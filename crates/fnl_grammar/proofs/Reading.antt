@@ -2,8 +2,7 @@
 use Rattle.std.proofs.Common.{◌≡◌, ℕ, List, [], ◌∷◌, ◌++◌, Option, None, Some, refl, sym, ap, ◌∙◌}
 use Rattle.cal_ast.specs.Tree.{Tree}
 use Rattle.cal_ast.specs.declared.expr.BinOp.{BinOp}
-use Rattle.fnl_read.specs.Frames.{Pending}
-use Rattle.fnl_read.specs.Operations.{before_operator}
+use Rattle.fnl_expr.specs.Operations.{Pending, before_operator}
 use Rattle.fnl_grammar.specs.Rows.{Item, operand, operator}
 
 pub data Read : Type 0 where

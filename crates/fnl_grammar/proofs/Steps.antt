@@ -9,23 +9,25 @@ use Rattle.cal_ast.specs.Tree.{Tree, absent, present, ident, listed, variable, p
 use Rattle.cal_ast.specs.declared.expr.PrefixOp.{PrefixOp}
 use Rattle.cal_ast.specs.declared.expr.BinOp.{BinOp}
 use Rattle.fnl_markup.specs.Tags.{Attribute, attribute, Tag, opens, closes}
-use Rattle.fnl_read.specs.Net.{Net, Port, a_port, Decl, a_decl, Parameter, a_parameter, Instance, an_instance, Size, a_size, Connection, a_connection, empty_net}
-use Rattle.fnl_read.specs.Frames.{Frame, outside, in_network, in_port, in_decl, in_instance, in_parameter, in_connection, in_size, in_type, in_value, in_shape, in_list, in_unary, in_sequence, in_empty, in_passed, Class, a_class, Pending, State, Next, Going, Fault, fresh}
-use Rattle.fnl_read.specs.Given.{given, either_given, Text, text_at, long, has_short_names, earlier, name_given, tag_given, end_given, entry_given, type_given, Literal, literal_given, kind_given}
-use Rattle.fnl_read.specs.Operators.{binary_given, prefix_given}
-use Rattle.fnl_read.specs.Operations.{fits, made, grouped, before_operator}
-use Rattle.fnl_read.specs.Allowed.{element_named, allows}
-use Rattle.fnl_read.specs.Opening.{literal_tree, with_expr, with_class, is_passed}
-use Rattle.fnl_read.specs.Opening as opening
-use Rattle.fnl_read.specs.Closing.{closed, with_type, with_arg, with_port, with_decl, with_instance, with_connection, with_parameter, with_size}
-use Rattle.fnl_read.specs.Closing as closing
+use Rattle.fnl_expr.specs.Given.{given, either_given, Text, text_at, long, has_short_names, earlier, name_given, tag_given, end_given, entry_given, type_given, Literal, literal_given, kind_given, literal_tree}
+use Rattle.fnl_expr.specs.Operations.{Pending, fits, made, grouped, before_operator}
+use Rattle.fnl_expr.specs.Operators.{binary_given, prefix_given}
+use Rattle.fnl_frames.specs.Allowed.{element_named, allows}
+use Rattle.fnl_frames.specs.Attaching.{with_net, with_expr, with_class, with_type, with_arg, with_port, with_decl, with_instance, with_connection, with_parameter, with_size}
+use Rattle.fnl_frames.specs.Frames.{Frame, outside, in_network, in_port, in_decl, in_instance, in_parameter, in_connection, in_size, in_type, in_value, in_shape, in_list, in_unary, in_sequence, in_empty, in_passed, Class, a_class}
+use Rattle.fnl_frames.specs.Net.{Net, Port, a_port, Decl, a_decl, Parameter, a_parameter, Instance, an_instance, Size, a_size, Connection, a_connection, empty_net}
+use Rattle.fnl_read.specs.Closing.{closed}
 use Rattle.fnl_read.specs.Elements.{step, run}
+use Rattle.fnl_read.specs.Opening.{is_passed}
+use Rattle.fnl_read.specs.States.{State, Next, Going, Fault, fresh}
+use Rattle.fnl_read.specs.Opening as opening
+use Rattle.fnl_read.specs.Closing as closing
 use Rattle.rvc_base.specs.declared.refusal.Rule.{Rule}
 use Rattle.rvc_base.specs.Rules.{nests_too_deep, unknown_element}
-use Rattle.fnl_read.specs.declared.element.Element.{Element}
-use Rattle.fnl_read.specs.declared.element.Element.TheVariants as elements
-use Rattle.fnl_read.specs.declared.element.ExprKind.{ExprKind}
-use Rattle.fnl_read.specs.declared.element.ExprKind.TheVariants as kinds
+use Rattle.fnl_frames.specs.declared.element.Element.{Element}
+use Rattle.fnl_frames.specs.declared.element.Element.TheVariants as elements
+use Rattle.fnl_expr.specs.declared.kind.ExprKind.{ExprKind}
+use Rattle.fnl_expr.specs.declared.kind.ExprKind.TheVariants as kinds
 use Rattle.fnl_grammar.specs.Rows.{Item, operand, operator, loosest, Groups, AreSeveral}
 use Rattle.fnl_grammar.specs.Productions.{around, IsCalled, IsGiven, is_size_in, is_buffer_size, ArePassed, passed_none, passed_more, IsPassed, the_passed, IsPrefixOp, the_prefix_op, IsBinaryOp, the_binary_op, IsExpr, the_literal, the_variable, the_list, the_operation, the_sequence, AreItems, no_items, one_item_more, IsRow, the_first, the_next, IsType, the_type, AreEntries, no_entries, one_entry_more, IsEntry, the_value, the_shape, IsPort, the_port, HasDeclared, nothing_declared, type_declared, value_declared, IsDecl, the_param, the_decl, IsClass, the_class, IsParameter, the_parameter, InInstance, instance_empty, and_class, and_parameter, and_attribute, IsInstance, the_instance, IsSize, the_size, IsOther, the_other, InConnection, connection_empty, and_size, and_other, IsConnection, the_connection, InNetwork, network_empty, with_a_port, with_a_decl, with_an_instance, with_a_connection, with_an_attribute, IsNetwork, the_network}
 use Rattle.fnl_grammar.proofs.Reading.{Read, read, reads, reads_on, then_reads, reads_append}
@@ -87,7 +89,7 @@ partial_xdf (p_row0 {room = room} {at = at} {name = name} {attributes = attribut
 partial_xdf (p_row1 {room = room} {at = at} {name = name} {attributes = attributes} {inside = inside} {row = row} {ws = ws} {r = r} h1 h2 h3 h4) a p = absurd cc
 partial_xdf (p_row2 {room = room} {at = at} {name = name} {attributes = attributes} {before = before} {between = between} {row = row} {op = op} {ws = ws} h1 h2 h3 h4 h5) a p = absurd cc
 
-absorb_net : {room : ℕ} {f : Frame} {bs : List Frame} {tags more : List Tag} {net : Net} → Stands room f bs tags → allows f elements.Xdf ≡ true → is_passed f ≡ false → IsNetwork room more net → Stands room (closing.with_net net f) bs (tags ++ more)
+absorb_net : {room : ℕ} {f : Frame} {bs : List Frame} {tags more : List Tag} {net : Net} → Stands room f bs tags → allows f elements.Xdf ≡ true → is_passed f ≡ false → IsNetwork room more net → Stands room (with_net net f) bs (tags ++ more)
 absorb_net (at_bottom) a p k = at_end k
 absorb_net (at_end h) a p k = absurd cc
 absorb_net (within_passed s h) a p k = absurd cc
@@ -103,7 +105,7 @@ row_ends {at = at} {name = name} {attributes = attributes} {within = within} bef
 
 partial_ends : {room end : ℕ} {f g : Frame} {bs : List Frame} {kid : Kid} {before inside : List Tag} (next : State) → Stands (suc room) f bs before → Takes f kid → Partial room kid g inside
     → closed end (st g (f ∷ bs)) ≡ Going next → After ((before ++ inside) ++ (closes end ∷ [])) next
-partial_ends {end = end} {f = f} {bs = bs} {before = before} next s u (p_net {name = name} {attributes = attributes} {inside = within} {net = net} h1 h2 h3) e = let same : st (closing.with_net net f) bs ≡ next = cc in left before (opens name attributes net.at ∷ within) next (absorb_net s u.0 u.1 (the_network h1 h2 h3)) same
+partial_ends {end = end} {f = f} {bs = bs} {before = before} next s u (p_net {name = name} {attributes = attributes} {inside = within} {net = net} h1 h2 h3) e = let same : st (with_net net f) bs ≡ next = cc in left before (opens name attributes net.at ∷ within) next (absorb_net s u.0 u.1 (the_network h1 h2 h3)) same
 partial_ends {end = end} {f = f} {bs = bs} {before = before} next s u (p_port0 {at = at} {name = name} {text = text} {attributes = attributes} {input = input} h1 h2 h3) e = absurd cc
 partial_ends {end = end} {f = f} {bs = bs} {before = before} next s u (p_port1 {at = at} {name = name} {text = text} {attributes = attributes} {inside = within} {input = input} {shape = shape} h1 h2 h3 h4) e = let same : st (with_port (a_port input shape text at) f) bs ≡ next = cc in left before (opens name attributes at ∷ within) next (absorb_port s u.0 u.1 (the_port h1 h2 h3 h4)) same
 partial_ends {end = end} {f = f} {bs = bs} {before = before} next s u (p_decl {at = at} {name = name} {text = text} {attributes = attributes} {inside = within} {param = param} {shape = None} {value = value} h1 h2 h3 h4) e = absurd cc

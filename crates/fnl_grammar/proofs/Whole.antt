@@ -5,10 +5,11 @@ use Rattle.rvc_base.specs.declared.refusal.Rule.{Rule}
 use Rattle.rvc_base.specs.Rules.{spells_no_network}
 use Rattle.fnl_markup.specs.Tags.{Tag}
 use Rattle.fnl_markup.specs.Markup.{Broken, fault, IsMarkup, tags_of, broken_of}
-use Rattle.fnl_read.specs.Net.{Net}
-use Rattle.fnl_read.specs.Frames.{Frame, outside, in_network, in_port, in_decl, in_instance, in_parameter, in_connection, in_size, in_type, in_value, in_shape, in_list, in_unary, in_sequence, in_empty, in_passed, State, Next, Going, Fault, fresh}
+use Rattle.fnl_frames.specs.Frames.{Frame, outside, in_network, in_port, in_decl, in_instance, in_parameter, in_connection, in_size, in_type, in_value, in_shape, in_list, in_unary, in_sequence, in_empty, in_passed}
+use Rattle.fnl_frames.specs.Net.{Net}
 use Rattle.fnl_read.specs.Elements.{run, net_in}
 use Rattle.fnl_read.specs.Network.{Answer, Network, Broke, network, found_in, first_of}
+use Rattle.fnl_read.specs.States.{State, Next, Going, Fault, fresh}
 use Rattle.fnl_grammar.specs.Productions.{Spells, IsNetwork}
 use Rattle.fnl_grammar.specs.Laws.{SpellsNetwork, ReadIsSpelled, SpelledIsRead, SpellsOne, NoneGoesOn}
 use Rattle.fnl_grammar.proofs.Runs.{network_runs, st}

@@ -4,7 +4,7 @@ use Rattle.std.specs.Prelude.{◌≡◌, ◌+◌, ℕ, List, take}
 use Rattle.rvc_base.specs.Rules.{spells_no_network}
 use Rattle.fnl_markup.specs.Tags.{Tag}
 use Rattle.fnl_markup.specs.Markup.{IsMarkup}
-use Rattle.fnl_read.specs.Net.{Net}
+use Rattle.fnl_frames.specs.Net.{Net}
 use Rattle.fnl_read.specs.Network.{Broke, Network, network}
 use Rattle.fnl_grammar.specs.Productions.{Spells}
 

@@ -9,17 +9,16 @@ use Rattle.cal_ast.specs.Tree.{Tree, absent, present, ident, listed, variable, p
 use Rattle.cal_ast.specs.declared.expr.PrefixOp.{PrefixOp}
 use Rattle.cal_ast.specs.declared.expr.BinOp.{BinOp}
 use Rattle.fnl_markup.specs.Tags.{Attribute, attribute, Tag, opens, closes}
-use Rattle.fnl_read.specs.Net.{Net, Port, a_port, Decl, a_decl, Parameter, a_parameter, Instance, an_instance, Size, a_size, Connection, a_connection}
-use Rattle.fnl_read.specs.Frames.{Class, a_class}
-use Rattle.fnl_read.specs.Given.{given, either_given, Text, text_at, name_given, tag_given, end_given, entry_given, type_given, has_short_names, Literal, literal_given, kind_given}
-use Rattle.fnl_read.specs.Operators.{binary_given, prefix_given}
-use Rattle.fnl_read.specs.Operations.{fits}
-use Rattle.fnl_read.specs.Opening.{literal_tree}
-use Rattle.fnl_read.specs.Allowed.{element_named}
-use Rattle.fnl_read.specs.declared.element.Element.{Element}
-use Rattle.fnl_read.specs.declared.element.Element.TheVariants as elements
-use Rattle.fnl_read.specs.declared.element.ExprKind.{ExprKind}
-use Rattle.fnl_read.specs.declared.element.ExprKind.TheVariants as kinds
+use Rattle.fnl_expr.specs.Given.{given, either_given, Text, text_at, name_given, tag_given, end_given, entry_given, type_given, has_short_names, Literal, literal_given, kind_given, literal_tree}
+use Rattle.fnl_expr.specs.Operations.{fits}
+use Rattle.fnl_expr.specs.Operators.{binary_given, prefix_given}
+use Rattle.fnl_frames.specs.Allowed.{element_named}
+use Rattle.fnl_frames.specs.Frames.{Class, a_class}
+use Rattle.fnl_frames.specs.Net.{Net, Port, a_port, Decl, a_decl, Parameter, a_parameter, Instance, an_instance, Size, a_size, Connection, a_connection}
+use Rattle.fnl_frames.specs.declared.element.Element.{Element}
+use Rattle.fnl_frames.specs.declared.element.Element.TheVariants as elements
+use Rattle.fnl_expr.specs.declared.kind.ExprKind.{ExprKind}
+use Rattle.fnl_expr.specs.declared.kind.ExprKind.TheVariants as kinds
 use Rattle.fnl_grammar.specs.Rows.{Item, operand, operator, loosest, Groups, AreSeveral}
 
 -- ---- what the productions have in common

@@ -4,7 +4,7 @@ use Rattle.std.specs.Prelude.{◌≡◌, ℕ, suc, List, [], ◌∷◌, ◌++◌
 use Rattle.cal_ast.specs.Tree.{Tree, binary}
 use Rattle.cal_ast.specs.Places.{begins}
 use Rattle.cal_ast.specs.declared.expr.BinOp.{BinOp}
-use Rattle.fnl_read.specs.Operators.{level}
+use Rattle.fnl_expr.specs.Operators.{level}
 
 pub data Item : Type 0 where
   operand : Tree → Item
