@@ -16,7 +16,6 @@ use Rattle.fnl_frames.specs.declared.net.NetSize.{NetSize}
 use Rattle.fnl_frames.specs.declared.frame.Class.{Class as TheClass}
 use Rattle.fnl_frames.specs.declared.frame.Frame.{Frame as TheFrame}
 use Rattle.fnl_frames.specs.declared.frame.Frame.TheVariants as frames
-use Rattle.fnl_frames.specs.declared.frame.Open.{Open as TheOpen}
 
 abbrev pub port_of : NetPort → Port
 port_of p = a_port p.input (type_tree p.shape) (string_bytes p.name) p.at
@@ -78,6 +77,3 @@ frame_of (frames.Sequence waiting operand at) =
     in_sequence (stack pending_of waiting.items) (option_map tall_tree operand) at
 frame_of frames.Empty = in_empty
 frame_of frames.Passed = in_passed
-
-abbrev pub open_of : TheOpen → Frame
-open_of o = frame_of o.0

@@ -2,16 +2,16 @@
 
 ghost use Rattle.std.specs.Prelude.{◌≡◌};
 ghost use Rattle.fnl_frames.specs.Allowed as meant;
-ghost use Rattle.fnl_frames.specs.Views.{open_of};
+ghost use Rattle.fnl_frames.specs.Views.{frame_of};
 
 use crate::element::Element;
-use crate::frame::{Frame, Open};
+use crate::frame::Frame;
 
 /// Whether an element may stand next in what is open.
-pub fn allows(open: &Open, e: Element) -> bool
-    ensures { result ≡ meant.allows (open_of open.now) e }
+pub fn allows(frame: &Frame, e: Element) -> bool
+    ensures { result ≡ meant.allows (frame_of frame.now) e }
 {
-    match &open.0 {
+    match frame {
         Frame::Outside(net) => net.is_none() && is_xdf(e),
         Frame::Network(_) => in_a_network(e),
         Frame::Port { shape, .. } => shape.is_none() && is_type(e),

@@ -12,14 +12,7 @@ pub struct Class {
     pub at: u32,
 }
 
-/// An element that is open.
-///
-/// It is a struct of its own so that it is dropped by a call, and not by a match over all frames in
-/// each function that holds it.
-#[derive(Drop)]
-pub struct Open(pub Frame);
-
-/// What was read of an element that is open.
+/// An element that is open, and what was read of it.
 #[derive(Drop)]
 pub enum Frame {
     /// What stands before the network, or behind it.

@@ -16,5 +16,5 @@ pub use attaching::{
     with_parameter, with_port, with_size, with_type,
 };
 pub use element::{Element, element_named};
-pub use frame::{Class, Frame, Open};
+pub use frame::{Class, Frame};
 pub use net::{NetConnection, NetDecl, NetFile, NetInstance, NetParameter, NetPort, NetSize};

@@ -6,7 +6,7 @@ ghost use Rattle.fnl_read.specs.Closing as meant;
 ghost use Rattle.fnl_frames.specs.Attaching.{with_expr};
 ghost use Rattle.fnl_expr.specs.Stack.{stack};
 ghost use Rattle.fnl_read.specs.Stepped.{Ends, Leaves, Stepped};
-ghost use Rattle.fnl_frames.specs.Views.{open_of};
+ghost use Rattle.fnl_frames.specs.Views.{frame_of};
 ghost use Rattle.fnl_read.specs.Views.{state_of};
 ghost use Rattle.fnl_expr.specs.Views.{tall_tree};
 ghost use Rattle.fnl_frames.specs.declared.frame.Frame.TheVariants as frames;
@@ -16,7 +16,7 @@ use cal_ast::{Expr, Ident, PrefixOp, TypeArg, TypeExpr};
 use fnl_expr::{Pending, Stop, TallExpr, TallExprs, grouped, list, prefix, stuck};
 use fnl_frames::{
     Class, Frame, NetConnection, NetDecl, NetFile, NetInstance, NetParameter, NetPort, NetSize,
-    Open, with_arg, with_connection, with_decl, with_expr, with_instance, with_net, with_parameter,
+    with_arg, with_connection, with_decl, with_expr, with_instance, with_net, with_parameter,
     with_port, with_size, with_type,
 };
 
@@ -25,7 +25,7 @@ impl Reader {
     pub(crate) fn close(&mut self, at: u32) -> Result<(), Stop>
         ensures { Stepped (meant.closed at (state_of self.old)) self.new result }
     {
-        match self.take_top().0 {
+        match self.take_top() {
             Frame::Outside(_) => Err(stuck(at)),
             Frame::Network(net) => self.end_network(net, at),
             Frame::Port {
@@ -79,9 +79,9 @@ impl Reader {
 
     /// The element round the innermost one, which is taken away.
     #[tactic(auto, using(fnl_expr::proofs::Stacks::stack_push))]
-    fn leave(&mut self, at: u32) -> Result<Open, Stop>
-        ensures { Leaves (stack open_of self.old.below.items)
-            (stack open_of self.new.below.items) at result }
+    fn leave(&mut self, at: u32) -> Result<Frame, Stop>
+        ensures { Leaves (stack frame_of self.old.below.items)
+            (stack frame_of self.new.below.items) at result }
     {
         match self.below.pop() {
             Some(round) => Ok(round),
@@ -92,7 +92,8 @@ impl Reader {
     fn end_empty(&mut self, at: u32) -> Result<(), Stop>
         ensures { Stepped (meant.leave meant.unchanged at (state_of self.old)) self.new result }
     {
-        self.top = self.leave(at)?;
+        let round = self.leave(at)?;
+        self.set_top(round);
         Ok(())
     }
 
@@ -100,7 +101,7 @@ impl Reader {
         ensures { Ends (frames.Network net) at self.old self.new result }
     {
         let round = self.leave(at)?;
-        self.top = with_net(round, net);
+        self.set_top(with_net(round, net));
         Ok(())
     }
 
@@ -124,7 +125,7 @@ impl Reader {
             at: there,
         };
         let round = self.leave(at)?;
-        self.top = with_port(round, port)?;
+        self.set_top(with_port(round, port)?);
         Ok(())
     }
 
@@ -153,7 +154,7 @@ impl Reader {
             at: there,
         };
         let round = self.leave(at)?;
-        self.top = with_decl(round, decl)?;
+        self.set_top(with_decl(round, decl)?);
         Ok(())
     }
 
@@ -178,7 +179,7 @@ impl Reader {
             at: there,
         };
         let round = self.leave(at)?;
-        self.top = with_instance(round, instance)?;
+        self.set_top(with_instance(round, instance)?);
         Ok(())
     }
 
@@ -200,7 +201,7 @@ impl Reader {
             at: there,
         };
         let round = self.leave(at)?;
-        self.top = with_parameter(round, parameter)?;
+        self.set_top(with_parameter(round, parameter)?);
         Ok(())
     }
 
@@ -208,7 +209,7 @@ impl Reader {
         ensures { Ends (frames.Connection connection) at self.old self.new result }
     {
         let round = self.leave(at)?;
-        self.top = with_connection(round, connection)?;
+        self.set_top(with_connection(round, connection)?);
         Ok(())
     }
 
@@ -223,7 +224,7 @@ impl Reader {
             at: there,
         };
         let round = self.leave(at)?;
-        self.top = with_size(round, size)?;
+        self.set_top(with_size(round, size)?);
         Ok(())
     }
 
@@ -236,7 +237,7 @@ impl Reader {
             at: there,
         };
         let round = self.leave(at)?;
-        self.top = with_type(round, shape);
+        self.set_top(with_type(round, shape));
         Ok(())
     }
 
@@ -248,7 +249,7 @@ impl Reader {
         };
         let value = value.expr;
         let round = self.leave(at)?;
-        self.top = with_arg(round, TypeArg::Value { name, value })?;
+        self.set_top(with_arg(round, TypeArg::Value { name, value })?);
         Ok(())
     }
 
@@ -259,7 +260,7 @@ impl Reader {
             return Err(stuck(at));
         };
         let round = self.leave(at)?;
-        self.top = with_arg(round, TypeArg::Shape { name, shape })?;
+        self.set_top(with_arg(round, TypeArg::Shape { name, shape })?);
         Ok(())
     }
 
@@ -269,7 +270,7 @@ impl Reader {
             self.new result }
     {
         let round = self.leave(at)?;
-        self.top = with_expr(round, value)?;
+        self.set_top(with_expr(round, value)?);
         Ok(())
     }
 

@@ -10,7 +10,7 @@ use fnl_expr::{
     ExprKind, Form, Pending, Stop, TallExpr, before_operator, binary_given, expr_of_literal,
     kind_given, literal_given, long, no_exprs, prefix_given, text_given, unknown, variable, wrong,
 };
-use fnl_frames::{Frame, Open, with_expr};
+use fnl_frames::{Frame, with_expr};
 use fnl_markup::Attribute;
 
 impl Reader {
@@ -26,22 +26,22 @@ impl Reader {
             ExprKind::Var => self.open_variable(attributes, at),
             ExprKind::List => {
                 let items = no_exprs(alloc);
-                self.enter(Open(Frame::List { items, at }), None, at)
+                self.enter(Frame::List { items, at }, None, at)
             }
             ExprKind::Unary => {
-                let unary = Open(Frame::Unary {
+                let unary = Frame::Unary {
                     op: None,
                     operand: None,
                     at,
-                });
+                };
                 self.enter(unary, None, at)
             }
             ExprKind::Sequence => {
-                let sequence = Open(Frame::Sequence {
+                let sequence = Frame::Sequence {
                     waiting: Vec::new(alloc),
                     operand: None,
                     at,
-                });
+                };
                 self.enter(sequence, None, at)
             }
         }
@@ -73,7 +73,7 @@ impl Reader {
     pub(crate) fn open_op(&mut self, attributes: &[Attribute], at: u32) -> Result<(), Stop>
         ensures { Opens meant.open_op attributes.now at self.old self.new result }
     {
-        match self.take_top().0 {
+        match self.take_top() {
             Frame::Unary {
                 operand,
                 at: there,
@@ -87,7 +87,10 @@ impl Reader {
                 Some(operand) => self.open_binary(attributes, waiting, operand, there, at),
                 None => Err(unknown(at)),
             },
-            _ => Err(unknown(at)),
+            other => {
+                self.set_top(other);
+                Err(unknown(at))
+            }
         }
     }
 
@@ -105,11 +108,11 @@ impl Reader {
         let Some(op) = prefix_given(attributes) else {
             return Err(wrong(at));
         };
-        let unary = Open(Frame::Unary {
+        let unary = Frame::Unary {
             op: Some(op),
             operand,
             at: there,
-        });
+        };
         self.enter_empty(unary, None, at)
     }
 
@@ -129,11 +132,11 @@ impl Reader {
             return Err(wrong(at));
         };
         let waiting = before_operator(self.alloc, op, waiting, operand, there)?;
-        let sequence = Open(Frame::Sequence {
+        let sequence = Frame::Sequence {
             waiting,
             operand: None,
             at: there,
-        });
+        };
         self.enter_empty(sequence, None, at)
     }
 }

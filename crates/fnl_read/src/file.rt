@@ -1,14 +1,13 @@
 //! Reading a file.
 
-ghost use Rattle.std.specs.Prelude.{◌≡◌, ◌<◌, ◌^◌, ℕ, IfErr, IfOk, List, Option, length};
+ghost use Rattle.std.specs.Prelude.{◌≡◌, ◌<◌, ◌^◌, ℕ, IfErr, IfOk, Option, length};
 ghost use Rattle.fnl_markup.specs.Markup.{Broken};
 ghost use Rattle.fnl_markup.specs.Stepped.{IsRefusal};
 ghost use Rattle.fnl_markup.specs.Tags.{plain_tags};
 ghost use Rattle.fnl_read.specs.Elements.{run};
-ghost use Rattle.fnl_read.specs.States.{Fault, Going, fresh};
-ghost use Rattle.fnl_frames.specs.Frames.{Frame as Open};
+ghost use Rattle.fnl_read.specs.States.{Fault, Going, State, fresh};
 ghost use Rattle.fnl_read.specs.Network.{Network, IsRightly, first_of, network};
-ghost use Rattle.fnl_read.specs.Stepped.{Stepped, at_end};
+ghost use Rattle.fnl_read.specs.Stepped.{Brings, Holds, Stepped};
 ghost use Rattle.rvc_base.specs.declared.refusal.Front.TheVariants as fronts;
 ghost use Rattle.fnl_frames.specs.Views.{net_of};
 ghost use Rattle.fnl_read.specs.Views.{state_of};
@@ -33,12 +32,28 @@ pub fn read_network(alloc: Global, file: u32, text: &[u8]) -> Result<NetFile, Fr
     let Ok(markup) = read_markup(alloc, file, text) else {
         return Err(Front::Memory);
     };
-    let mut reader = Reader::new(alloc);
-    match read_tags(&mut reader, &markup.tags) {
+    match net_of_tags(alloc, &markup.tags) {
         Err(Stop::Memory) => Err(Front::Memory),
         Err(Stop::Broken(rule, at)) => Err(first_of(file, rule, at, markup.broken)),
-        Ok(()) => finish(file, text.len(), reader, markup.broken),
+        Ok(net) => finish(file, text.len(), net, markup.broken),
     }
+}
+
+/// The network that tags spell, if its element ended.
+fn net_of_tags(alloc: Global, tags: &[Tag]) -> Result<Option<NetFile>, Stop>
+    ensures { Brings (run (Going fresh) (plain_tags tags.now)) result }
+{
+    let mut reader = Reader::new(alloc);
+    read_net(&mut reader, tags)
+}
+
+/// The network that tags spell to a reader that has read nothing.
+fn read_net(reader: &mut Reader, tags: &[Tag]) -> Result<Option<NetFile>, Stop>
+    requires { state_of reader.old ≡ fresh }
+    ensures { Brings (run (Going fresh) (plain_tags tags.now)) result }
+{
+    read_tags(reader, tags)?;
+    Ok(reader.take_net())
 }
 
 /// Takes all tags of a text.
@@ -69,19 +84,24 @@ fn first_of(file: u32, rule: Rule, at: u32, broken: Option<Refusal>) -> Front
     }
 }
 
-/// The network that was read, in a text of so many bytes, unless the markup breaks a rule.
-fn finish(file: u32, size: usize, reader: Reader, broken: Option<Refusal>) -> Result<NetFile, Front>
+/// The network that was read, if it ended, in a text of so many bytes, unless the markup breaks a
+/// rule.
+fn finish(
+    file: u32,
+    size: usize,
+    net: Option<NetFile>,
+    broken: Option<Refusal>,
+) -> Result<NetFile, Front>
     requires { size < 2 ^ 32 }
-    ensures read { (meant : Option Broken) (below : List Open) → IsRefusal file meant broken
-        → IfOk result (λ net. at_end reader.top below meant size ≡ Network (net_of net)) }
-    ensures refused { (meant : Option Broken) (below : List Open) → IsRefusal file meant broken
-        → IfErr result (IsRightly file (at_end reader.top below meant size)) }
+    ensures read { (meant : Option Broken) (s : State) → IsRefusal file meant broken
+        → Holds s net → IfOk result (λ net. first_of (Going s) meant size ≡ Network (net_of net)) }
+    ensures refused { (meant : Option Broken) (s : State) → IsRefusal file meant broken
+        → Holds s net → IfErr result (IsRightly file (first_of (Going s) meant size)) }
 {
     if let Some(refusal) = broken {
         return Err(Front::Refused(refusal));
     }
-    let mut reader = reader;
-    match reader.take_net() {
+    match net {
         Some(net) => Ok(net),
         None => Err(refused(file, Rule::SPELLS_NO_NETWORK, size as u32)),
     }

@@ -4,12 +4,12 @@ ghost use Rattle.std.specs.Prelude.{◌≡◌};
 ghost use Rattle.cal_ast.specs.View.{ident_tree};
 ghost use Rattle.fnl_read.specs.Opening as meant;
 ghost use Rattle.fnl_read.specs.Stepped.{Opens};
-ghost use Rattle.fnl_frames.specs.Views.{open_of};
+ghost use Rattle.fnl_frames.specs.Views.{frame_of};
 
 use crate::reader::Reader;
 use cal_ast::Ident;
 use fnl_expr::{Form, Stop, earlier, either_given, given, is, long, text_given, wrong};
-use fnl_frames::{Class, Frame, NetConnection, NetFile, Open, with_class};
+use fnl_frames::{Class, Frame, NetConnection, NetFile, with_class};
 use fnl_markup::Attribute;
 
 impl Reader {
@@ -28,7 +28,7 @@ impl Reader {
             connections: Vec::new(self.alloc),
             at,
         };
-        self.enter(Open(Frame::Network(net)), place, at)
+        self.enter(Frame::Network(net), place, at)
     }
 
     pub(crate) fn open_port(&mut self, attributes: &[Attribute], at: u32) -> Result<(), Stop>
@@ -41,12 +41,12 @@ impl Reader {
             return Err(wrong(at));
         };
         let place = long(&name);
-        let port = Open(Frame::Port {
+        let port = Frame::Port {
             input,
             name: name.text,
             shape: None,
             at,
-        });
+        };
         self.enter(port, place, at)
     }
 
@@ -60,13 +60,13 @@ impl Reader {
             return Err(wrong(at));
         };
         let place = long(&name);
-        let decl = Open(Frame::Decl {
+        let decl = Frame::Decl {
             param,
             name: name.text,
             shape: None,
             value: None,
             at,
-        });
+        };
         self.enter(decl, place, at)
     }
 
@@ -77,12 +77,12 @@ impl Reader {
             return Err(wrong(at));
         };
         let place = long(&id);
-        let instance = Open(Frame::Instance {
+        let instance = Frame::Instance {
             id: id.text,
             class: None,
             parameters: Vec::new(self.alloc),
             at,
-        });
+        };
         self.enter(instance, place, at)
     }
 
@@ -108,11 +108,11 @@ impl Reader {
             return Err(wrong(at));
         };
         let place = long(&name);
-        let parameter = Open(Frame::Parameter {
+        let parameter = Frame::Parameter {
             name: name.text,
             value: None,
             at,
-        });
+        };
         self.enter(parameter, place, at)
     }
 
@@ -143,7 +143,7 @@ impl Reader {
             sizes: Vec::new(self.alloc),
             at,
         };
-        self.enter(Open(Frame::Connection(connection)), place, at)
+        self.enter(Frame::Connection(connection), place, at)
     }
 
     pub(crate) fn open_attribute(&mut self, attributes: &[Attribute], at: u32) -> Result<(), Stop>
@@ -152,8 +152,8 @@ impl Reader {
         let Some(name) = given(attributes, "name") else {
             return Err(wrong(at));
         };
-        let open = attribute_in(&self.top, &name.value, at);
-        self.enter(open, None, at)
+        let inner = attribute_in(&self.top, &name.value, at);
+        self.enter(inner, None, at)
     }
 
     pub(crate) fn open_type(&mut self, attributes: &[Attribute], at: u32) -> Result<(), Stop>
@@ -162,14 +162,14 @@ impl Reader {
         let Some(name) = text_given(self.alloc, attributes, "name", Form::Any)? else {
             return Err(wrong(at));
         };
-        let shape = Open(Frame::Type {
+        let shape = Frame::Type {
             name: Ident {
                 text: name.text,
                 at: name.at,
             },
             args: Vec::new(self.alloc),
             at,
-        });
+        };
         self.enter(shape, None, at)
     }
 
@@ -192,28 +192,28 @@ impl Reader {
 }
 
 /// An attribute that begins in what is open: a size of a connection, or one that is passed over.
-fn attribute_in(round: &Open, name: &[u8], at: u32) -> Open
-    ensures { open_of result ≡ meant.attribute_in (open_of round.now) name.now at }
+fn attribute_in(round: &Frame, name: &[u8], at: u32) -> Frame
+    ensures { frame_of result ≡ meant.attribute_in (frame_of round.now) name.now at }
 {
-    match &round.0 {
+    match round {
         Frame::Connection(_) => {
             if is(name, "bufferSize") {
-                Open(Frame::Size { value: None, at })
+                Frame::Size { value: None, at }
             } else {
-                Open(Frame::Passed)
+                Frame::Passed
             }
         }
-        _ => Open(Frame::Passed),
+        _ => Frame::Passed,
     }
 }
 
 /// An entry of a type: an expression, or a type.
-fn entry_frame(by_value: bool, name: Ident) -> Open
-    ensures { open_of result ≡ meant.entry_frame by_value (ident_tree name) }
+fn entry_frame(by_value: bool, name: Ident) -> Frame
+    ensures { frame_of result ≡ meant.entry_frame by_value (ident_tree name) }
 {
     if by_value {
-        Open(Frame::Value { name, value: None })
+        Frame::Value { name, value: None }
     } else {
-        Open(Frame::Shape { name, shape: None })
+        Frame::Shape { name, shape: None }
     }
 }

@@ -1,17 +1,17 @@
 //! A reader of elements, which takes one tag at a time.
 
-ghost use Rattle.std.specs.Prelude.{◌≡◌, option_map};
+ghost use Rattle.std.specs.Prelude.{◌≡◌};
 ghost use Rattle.fnl_markup.specs.Tags.{plain};
-ghost use Rattle.fnl_read.specs.Elements.{net_in, step};
+ghost use Rattle.fnl_read.specs.Elements.{step};
 ghost use Rattle.fnl_read.specs.States.{fresh};
 ghost use Rattle.fnl_read.specs.Opening as meant;
-ghost use Rattle.fnl_read.specs.Stepped.{Opens, Stepped};
-ghost use Rattle.fnl_frames.specs.Views.{net_of, open_of};
+ghost use Rattle.fnl_read.specs.Stepped.{Holds, Opens, Stepped};
+ghost use Rattle.fnl_frames.specs.Views.{frame_of};
 ghost use Rattle.fnl_read.specs.Views.{state_of};
 ghost use Rattle.fnl_frames.specs.declared.frame.Frame.TheVariants as frames;
 
 use fnl_expr::{Stop, too_deep, unknown};
-use fnl_frames::{Element, Frame, NetFile, Open, allows, element_named};
+use fnl_frames::{Element, Frame, NetFile, allows, element_named};
 use fnl_markup::{Attribute, Tag};
 use rvc_base::Rule;
 use std::alloc::Global;
@@ -25,9 +25,9 @@ const MAX_DEPTH: usize = 64;
 pub(crate) struct Reader {
     pub(crate) alloc: Global,
     /// The innermost element that is open.
-    pub(crate) top: Open,
+    pub(crate) top: Frame,
     /// The elements round it, the innermost last.
-    pub(crate) below: Vec<Open>,
+    pub(crate) below: Vec<Frame>,
 }
 
 impl Reader {
@@ -37,7 +37,7 @@ impl Reader {
     {
         Reader {
             alloc,
-            top: Open(Frame::Outside(None)),
+            top: Frame::Outside(None),
             below: Vec::new(alloc),
         }
     }
@@ -61,7 +61,7 @@ impl Reader {
         ensures { Opens (meant.opened name.now) attributes.now at self.old self.new result }
     {
         if self.is_passing() {
-            return self.enter(Open(Frame::Passed), None, at);
+            return self.enter(Frame::Passed, None, at);
         }
         let Some(e) = element_named(name) else {
             return Err(unknown(at));
@@ -73,9 +73,9 @@ impl Reader {
     }
 
     fn is_passing(&self) -> bool
-        ensures { result ≡ meant.is_passed (open_of self.now.top) }
+        ensures { result ≡ meant.is_passed (frame_of self.now.top) }
     {
-        match &self.top.0 {
+        match &self.top {
             Frame::Passed => true,
             _ => false,
         }
@@ -103,48 +103,58 @@ impl Reader {
 
     /// One element more is open, in which a name may be too long, at a place.
     #[tactic(auto, using(fnl_expr::proofs::Stacks::stack_push, fnl_expr::proofs::Stacks::stack_size))]
-    pub(crate) fn enter(&mut self, open: Open, long: Option<u32>, at: u32) -> Result<(), Stop>
-        ensures { Stepped (meant.enter (open_of open) long at (state_of self.old))
+    pub(crate) fn enter(&mut self, inner: Frame, long: Option<u32>, at: u32) -> Result<(), Stop>
+        ensures { Stepped (meant.enter (frame_of inner) long at (state_of self.old))
             self.new result }
     {
-        if self.below.len() >= MAX_DEPTH {
+        let depth = self.below.len();
+        let round = mem::replace(&mut self.top, inner);
+        self.below.push(round)?;
+        if depth >= MAX_DEPTH {
             return Err(too_deep(at));
         }
-        if let Some(place) = long {
-            return Err(Stop::Broken(Rule::NAME_TOO_LONG, place));
+        match long {
+            Some(place) => Err(Stop::Broken(Rule::NAME_TOO_LONG, place)),
+            None => Ok(()),
         }
-        let round = mem::replace(&mut self.top, open);
-        self.below.push(round)?;
-        Ok(())
     }
 
     /// An element that has nothing inside, with what becomes of the element round it.
     pub(crate) fn enter_empty(
         &mut self,
-        round: Open,
+        round: Frame,
         long: Option<u32>,
         at: u32,
     ) -> Result<(), Stop>
-        ensures { Stepped (meant.enter_empty (open_of round) long at (state_of self.old))
+        ensures { Stepped (meant.enter_empty (frame_of round) long at (state_of self.old))
             self.new result }
     {
-        self.top = round;
-        self.enter(Open(Frame::Empty), long, at)
+        self.set_top(round);
+        self.enter(Frame::Empty, long, at)
+    }
+
+    /// Puts an element in the place of the innermost one.
+    ///
+    /// What is in a `Frame` is dropped here, so that no other function has the code for it.
+    pub(crate) fn set_top(&mut self, top: Frame)
+        ensures { self.new ≡ record self.old { top = top } }
+    {
+        self.top = top;
     }
 
     /// The innermost element, which is taken away.
-    pub(crate) fn take_top(&mut self) -> Open
+    pub(crate) fn take_top(&mut self) -> Frame
         ensures taken { result ≡ self.old.top }
-        ensures left { self.new ≡ record self.old { top = record { 0 = frames.Empty } } }
+        ensures left { self.new ≡ record self.old { top = frames.Empty } }
     {
-        mem::replace(&mut self.top, Open(Frame::Empty))
+        mem::replace(&mut self.top, Frame::Empty)
     }
 
     /// The network that was read, which is taken out, if it ended.
     pub(crate) fn take_net(&mut self) -> Option<NetFile>
-        ensures { option_map net_of result ≡ net_in (open_of self.old.top) }
+        ensures { Holds (state_of self.old) result }
     {
-        match &mut self.top.0 {
+        match &mut self.top {
             Frame::Outside(net) => net.take(),
             _ => None,
         }

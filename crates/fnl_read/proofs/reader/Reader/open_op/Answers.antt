@@ -1,4 +1,4 @@
-use Rattle.std.proofs.Common.{◌∙◌, ap, map}
+use Rattle.std.proofs.Common.{◌∙◌, map}
 use Rattle.rvc_base.specs.Rules.{unknown_element}
 use Rattle.fnl_markup.specs.Tags.{plain_attribute}
 use Rattle.fnl_read.specs.Opening.{open_op}
@@ -9,9 +9,9 @@ use Rattle.fnl_read.proofs.reader.Reader.open_op.Goals as goal
 pub returns : goal.returns
 returns c =
     let s = state_of c.args.self.now in
-    let taken = ap (λ o. o.0) c.take_top.ensures.taken in
+    let taken = c.take_top.ensures.taken in
     let attributes = map plain_attribute c.args.attributes.now in
-    let none = no_operator c.args.self.now.top.0 attributes c.args.at s
+    let none = no_operator c.args.self.now.top attributes c.args.at s
     (λ op operand there e. c.in_default.not-Unary op operand there (taken ∙ e))
     (λ waiting operand there e. c.in_default.not-Sequence waiting operand there (taken ∙ e)) in
     refuses (Unit {0}) (open_op attributes c.args.at s) c.take_top.new.self c.unknown-in_default.result unknown_element c.args.at c.unknown-in_default.ensures none
