@@ -1,5 +1,5 @@
 -- A row that is grouped by its levels is grouped so by what reads it, and the other way round.
-use Rattle.std.proofs.Common.{◌≡◌, ◌⊎◌, inl, inr, ℕ, suc, ◌+◌, ◌-◌, max, ◌≤◌, ◌<◌, Bool, true, false, List, [], ◌∷◌, ◌++◌, Option, None, Some, refl, sym, ap, subst, ◌∙◌, arith}
+use Rattle.std.proofs.Common.{◌≡◌, ◌⊎◌, inl, inr, ℕ, zero, suc, ◌+◌, ◌-◌, max, ◌≤◌, ◌<◌, Bool, true, false, List, [], ◌∷◌, ◌++◌, Option, None, Some, refl, sym, ap, subst, ◌∙◌, arith}
 use Rattle.std.specs.Prelude.{nat_le, if◌then◌else◌}
 use Rattle.std.proofs.lemmas.Bool.{leb-true, le-leb}
 use Rattle.std.proofs.lemmas.Bool.Decides.{leb_tells}
@@ -85,17 +85,26 @@ joins op o l r t ws less h =
 
 -- ---- what is grouped is read so
 
--- what is read of a row after ws, with r last, is what one operand t after ws is
-record Collapses (n : ℕ) (row : List Item) (ws0 ws : List Pending) (r t : Tree) : Type 0 where
-  before : (op : BinOp) → n ≤ level op → before_operator op (ws ++ ws0) r ≡ before_operator op ws0 t
-  ending : (at : ℕ) (p : Pending) (others : List Pending) → ws0 ≡ p ∷ others → grouped at (ws ++ ws0) r ≡ grouped at ws0 t
-  whole : (at : ℕ) → ws0 ≡ [] → (row ≡ operand t ∷ []) ⊎ (Σ BinOp (λ op. Σ Tree (λ l. Σ Tree (λ x. Σ ℕ (λ p. (t ≡ binary op l x p) × (grouped at (ws ++ ws0) r ≡ made (binary op l x at)))))))
+-- what waits and the last operand are grouped as this operation, whatever its place is
+pub record IsWhole (at : ℕ) (ws : List Pending) (last t : Tree) : Type 0 where
+  pub op : BinOp
+  pub left : Tree
+  pub right : Tree
+  pub place : ℕ
+  pub is : t ≡ binary op left right place
+  pub so : grouped at ws last ≡ made (binary op left right at)
 
-record IsRead (n : ℕ) (row : List Item) (ws0 : List Pending) (t : Tree) : Type 0 where
-  ws : List Pending
-  last : Tree
-  is : reads row ws0 None ≡ Some (read (ws ++ ws0) (Some last))
-  so : Collapses n row ws0 ws last t
+-- what is read of a row after ws, with r last, is what one operand t after ws is
+pub record Collapses (n : ℕ) (row : List Item) (ws0 ws : List Pending) (r t : Tree) : Type 0 where
+  pub before : (op : BinOp) → n ≤ level op → before_operator op (ws ++ ws0) r ≡ before_operator op ws0 t
+  pub ending : (at : ℕ) (p : Pending) (others : List Pending) → ws0 ≡ p ∷ others → grouped at (ws ++ ws0) r ≡ grouped at ws0 t
+  pub whole : (at : ℕ) → ws0 ≡ [] → (row ≡ operand t ∷ []) ⊎ IsWhole at (ws ++ ws0) r t
+
+pub record IsRead (n : ℕ) (row : List Item) (ws0 : List Pending) (t : Tree) : Type 0 where
+  pub ws : List Pending
+  pub last : Tree
+  pub is : reads row ws0 None ≡ Some (read (ws ++ ws0) (Some last))
+  pub so : Collapses n row ws0 ws last t
 
 lift_read : (n : ℕ) (row : List Item) (ws0 : List Pending) (t : Tree) → IsRead n row ws0 t → IsRead (suc n) row ws0 t
 lift_read n row ws0 t h = record {
@@ -133,7 +142,7 @@ operation_read n row others op left right ws0 is_level fit above h k = record {
         ap (λ ws. grouped at ws k.last) split ∙ one ∙ two_wait at p rest e;
     whole = λ at e.
         let one : grouped at (k.ws ++ (pending left op ∷ ws0)) k.last ≡ grouped at (pending left op ∷ ws0) right = k.so.ending at (pending left op) ws0 refl in
-        inr (op, left, right, begins left, refl, ap (λ ws. grouped at ws k.last) split ∙ one ∙ one_waits at e);
+        inr (record { op = op; left = left; right = right; place = begins left; is = refl; so = ap (λ ws. grouped at ws k.last) split ∙ one ∙ one_waits at e });
   };
 }
   where
@@ -171,13 +180,13 @@ pub data Holds : List Item → List Pending → Type 0 where
       → Holds (row ++ (others ++ operator op ∷ [])) (pending l op ∷ ws)
 
 looser : (k n : ℕ) (row : List Item) (t : Tree) → Groups n row t → Groups (k + n) row t
-looser 0 n row t g = subst (λ m. Groups m row t) (omega arith) g
+looser zero n row t g = subst (λ m. Groups m row t) (omega arith) g
 looser (suc k) n row t g = subst (λ m. Groups m row t) (omega arith) (the_tighter (looser k n row t g))
 
 lifted : (m n : ℕ) (row : List Item) (t : Tree) → n ≤ m → Groups n row t → Groups m row t
 lifted m n row t less g = subst (λ k. Groups k row t) (omega (arith, less)) (looser (m - n) n row t g)
 
-level_some : (op : BinOp) → Σ ℕ (λ n. (level op ≡ suc n) × (level op ≤ loosest))
+level_some : (op : BinOp) → (n : ℕ) × (level op ≡ suc n) × (level op ≤ loosest)
 level_some binaries.Or = (9, refl, omega arith)
 level_some binaries.And = (8, refl, omega arith)
 level_some binaries.BitOr = (7, refl, omega arith)
@@ -224,34 +233,35 @@ waits_joined op o l r ws new due e = by_fit (fits (binary o l r (begins l))) ref
     by_fit true f = let one : made whole ≡ Some whole = made_of whole f in (f, ap (λ x. on x (λ t. before_operator op ws t)) (sym one) ∙ sym turns ∙ e)
     by_fit false f = let none : made whole ≡ None = rw f refl in let no : None ≡ Some new = ap (λ x. on x (λ t. before_operator op ws t)) (sym none) ∙ sym turns ∙ e in absurd cc
 
--- the operators that wait for one that isn't tighter are joined
-mutual
-  before_holds : (op : BinOp) (ws new : List Pending) (row others : List Item) (n : ℕ) (r : Tree)
-      → Holds row ws → Groups n others r → WaitsAbove n ws → n ≤ level op → before_operator op ws r ≡ Some new
-      → Holds (row ++ (others ++ operator op ∷ [])) new
-  before_holds op [] new row others n r held g above less e =
-      let same : pending r op ∷ [] ≡ new = cc in
-      subst (λ ws. Holds (row ++ (others ++ operator op ∷ [])) ws) same (holds_more held (lifted (level op) n others r less g) tt)
-  before_holds op (pending l o ∷ ws) new row others n r held g above less e =
-      by_test op l o ws new row others n r held g above less e (nat_le (level o) (level op)) refl
+-- what waits last joins an operator that isn't tighter, and else waits on
+hold_test : (op : BinOp) (l : Tree) (o : BinOp) (ws new : List Pending) (row others : List Item) (n : ℕ) (r : Tree)
+    → ((row_ others_ : List Item) (m : ℕ) (x : Tree) → Holds row_ ws → Groups m others_ x → WaitsAbove m ws → m ≤ level op → before_operator op ws x ≡ Some new → Holds (row_ ++ (others_ ++ operator op ∷ [])) new)
+    → Holds row (pending l o ∷ ws) → Groups n others r → n < level o → n ≤ level op → before_operator op (pending l o ∷ ws) r ≡ Some new
+    → (b : Bool) → nat_le (level o) (level op) ≡ b → Holds (row ++ (others ++ operator op ∷ [])) new
+hold_test op l o ws new row others n r go held g above less e false is =
+    let no : before_operator op (pending l o ∷ ws) r ≡ Some (pending r op ∷ pending l o ∷ ws) = rw is refl in
+    let same : pending r op ∷ pending l o ∷ ws ≡ new = cc in
+    let higher : level op < level o = less_of (level o) (level op) is in
+    subst (λ x. Holds (row ++ (others ++ operator op ∷ [])) x) same (holds_more held (lifted (level op) n others r less g) higher)
+hold_test op l o ws new row others n r go (holds_more {row = front} {others = first} held f looser_) g above less e true is =
+    let two = waits_joined op o l r ws new is e in
+    let due : level o ≤ level op = leb-true (level o) (level op) is in
+    let one : Groups (level o) (first ++ operator o ∷ others) (binary o l r (begins l)) = grouped_by o n first others l r f above g in
+    let so : Holds (front ++ ((first ++ operator o ∷ others) ++ operator op ∷ [])) new =
+      go front (first ++ operator o ∷ others) (level o) (binary o l r (begins l)) held one looser_ due two.1 in
+    let there : (front ++ (first ++ operator o ∷ [])) ++ (others ++ operator op ∷ []) ≡ front ++ ((first ++ operator o ∷ others) ++ operator op ∷ []) =
+      regroup front first (others ++ operator op ∷ []) o ∙ ap (λ x. front ++ x) (sym (append_assoc first (operator o ∷ others) (operator op ∷ []))) in
+    subst (λ x. Holds x new) (sym there) so
 
-  by_test : (op : BinOp) (l : Tree) (o : BinOp) (ws new : List Pending) (row others : List Item) (n : ℕ) (r : Tree)
-      → Holds row (pending l o ∷ ws) → Groups n others r → n < level o → n ≤ level op → before_operator op (pending l o ∷ ws) r ≡ Some new
-      → (b : Bool) → nat_le (level o) (level op) ≡ b → Holds (row ++ (others ++ operator op ∷ [])) new
-  by_test op l o ws new row others n r held g above less e false is =
-      let no : before_operator op (pending l o ∷ ws) r ≡ Some (pending r op ∷ pending l o ∷ ws) = rw is refl in
-      let same : pending r op ∷ pending l o ∷ ws ≡ new = cc in
-      let higher : level op < level o = less_of (level o) (level op) is in
-      subst (λ x. Holds (row ++ (others ++ operator op ∷ [])) x) same (holds_more held (lifted (level op) n others r less g) higher)
-  by_test op l o ws new row others n r (holds_more {row = front} {others = first} held f looser_) g above less e true is =
-      let two = waits_joined op o l r ws new is e in
-      let due : level o ≤ level op = leb-true (level o) (level op) is in
-      let one : Groups (level o) (first ++ operator o ∷ others) (binary o l r (begins l)) = grouped_by o n first others l r f above g in
-      let so : Holds (front ++ ((first ++ operator o ∷ others) ++ operator op ∷ [])) new =
-        before_holds op ws new front (first ++ operator o ∷ others) (level o) (binary o l r (begins l)) held one looser_ due two.1 in
-      let there : (front ++ (first ++ operator o ∷ [])) ++ (others ++ operator op ∷ []) ≡ front ++ ((first ++ operator o ∷ others) ++ operator op ∷ []) =
-        regroup front first (others ++ operator op ∷ []) o ∙ ap (λ x. front ++ x) (sym (append_assoc first (operator o ∷ others) (operator op ∷ []))) in
-      subst (λ x. Holds x new) (sym there) so
+-- the operators that wait for one that isn't tighter are joined
+before_holds : (op : BinOp) (ws new : List Pending) (row others : List Item) (n : ℕ) (r : Tree)
+    → Holds row ws → Groups n others r → WaitsAbove n ws → n ≤ level op → before_operator op ws r ≡ Some new
+    → Holds (row ++ (others ++ operator op ∷ [])) new
+before_holds op [] new row others n r held g above less e =
+    let same : pending r op ∷ [] ≡ new = cc in
+    subst (λ ws. Holds (row ++ (others ++ operator op ∷ [])) ws) same (holds_more held (lifted (level op) n others r less g) tt)
+before_holds op (pending l o ∷ ws) new row others n r held g above less e =
+    hold_test op l o ws new row others n r (λ row_ others_ m x a b c d f. before_holds op ws new row_ others_ m x a b c d f) held g above less e (nat_le (level o) (level op)) refl
 
 -- the whole row
 pub data IsGrouped : ℕ → List Item → Tree → Type 0 where
@@ -296,26 +306,26 @@ above_none : (ws : List Pending) → WaitsAbove 0 ws
 above_none [] = tt
 above_none (pending l op ∷ ws) = let some = level_some op in omega (arith, some.1)
 
-mutual
-  pub reads_holds : (row front : List Item) (ws0 ws : List Pending) (r : Tree) → Holds front ws0 → reads row ws0 None ≡ Some (read ws (Some r)) → ReadOf (front ++ row) ws r
-  reads_holds [] front ws0 ws r held e = absurd cc
-  reads_holds (operator op ∷ row) front ws0 ws r held e = absurd (never_read row (read ws (Some r)) e)
-  reads_holds (operand t ∷ []) front ws0 ws r held e =
-      let same : ws0 ≡ ws = cc in
-      let last : t ≡ r = cc in
-      record { before = front; is = ap (λ x. front ++ operand x ∷ []) last; held = subst (Holds front) same held }
-  reads_holds (operand t ∷ operand u ∷ row) front ws0 ws r held e = absurd (never_read row (read ws (Some r)) e)
-  reads_holds (operand t ∷ operator op ∷ row) front ws0 ws r held e = on_holds op row front ws0 ws t r held (before_operator op ws0 t) refl e
+turn_holds : (op : BinOp) (row front : List Item) (ws0 ws : List Pending) (t r : Tree)
+    → ((front_ : List Item) (new : List Pending) → Holds front_ new → reads row new None ≡ Some (read ws (Some r)) → ReadOf (front_ ++ row) ws r)
+    → Holds front ws0 → (found : Option (List Pending)) → before_operator op ws0 t ≡ found
+    → reads_on row found ≡ Some (read ws (Some r)) → ReadOf (front ++ operand t ∷ operator op ∷ row) ws r
+turn_holds op row front ws0 ws t r go held None is e = absurd (never_read row (read ws (Some r)) e)
+turn_holds op row front ws0 ws t r go held (Some new) is e =
+    let more : Holds (front ++ ((operand t ∷ []) ++ operator op ∷ [])) new = before_holds op ws0 new front (operand t ∷ []) 0 t held the_operand (above_none ws0) (omega arith) is in
+    let all = go (front ++ (operand t ∷ operator op ∷ [])) new more e in
+    subst (λ x. ReadOf x ws r) (append_assoc front (operand t ∷ operator op ∷ []) row) all
 
-  on_holds : (op : BinOp) (row front : List Item) (ws0 ws : List Pending) (t r : Tree) → Holds front ws0 → (found : Option (List Pending)) → before_operator op ws0 t ≡ found
-      → reads_on row (before_operator op ws0 t) ≡ Some (read ws (Some r)) → ReadOf (front ++ operand t ∷ operator op ∷ row) ws r
-  on_holds op row front ws0 ws t r held None is e = absurd (never_read row (read ws (Some r)) (ap (reads_on row) (sym is) ∙ e))
-  on_holds op row front ws0 ws t r held (Some new) is e =
-      let turns : reads row new None ≡ Some (read ws (Some r)) = ap (reads_on row) (sym is) ∙ e in
-      let above : WaitsAbove 0 ws0 = above_none ws0 in
-      let more : Holds (front ++ ((operand t ∷ []) ++ operator op ∷ [])) new = before_holds op ws0 new front (operand t ∷ []) 0 t held the_operand above (omega arith) is in
-      let all = reads_holds row (front ++ (operand t ∷ operator op ∷ [])) new ws r more turns in
-      subst (λ x. ReadOf x ws r) (append_assoc front (operand t ∷ operator op ∷ []) row) all
+pub reads_holds : (row front : List Item) (ws0 ws : List Pending) (r : Tree) → Holds front ws0 → reads row ws0 None ≡ Some (read ws (Some r)) → ReadOf (front ++ row) ws r
+reads_holds [] front ws0 ws r held e = absurd cc
+reads_holds (operator op ∷ row) front ws0 ws r held e = absurd (never_read row (read ws (Some r)) e)
+reads_holds (operand t ∷ []) front ws0 ws r held e =
+    let same : ws0 ≡ ws = cc in
+    let last : t ≡ r = cc in
+    record { before = front; is = ap (λ x. front ++ operand x ∷ []) last; held = subst (Holds front) same held }
+reads_holds (operand t ∷ operand u ∷ row) front ws0 ws r held e = absurd (never_read row (read ws (Some r)) e)
+reads_holds (operand t ∷ operator op ∷ row) front ws0 ws r held e =
+    turn_holds op row front ws0 ws t r (λ front_ new h k. reads_holds row front_ new ws r h k) held (before_operator op ws0 t) refl e
 
 -- a row that was read to its end and grouped
 pub read_is_grouped : (at : ℕ) (row : List Item) (ws : List Pending) (r t : Tree) → reads row [] None ≡ Some (read ws (Some r)) → grouped at ws r ≡ Some t → IsGrouped at row t

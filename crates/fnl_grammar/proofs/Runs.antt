@@ -7,6 +7,7 @@ use Rattle.std.proofs.lemmas.List.{append_assoc, append-nil}
 use Rattle.cal_ast.specs.Tree.{Tree, absent, present, ident, listed, variable, prefix, binary, list, type_of, shape_arg, value_arg}
 use Rattle.cal_ast.specs.declared.expr.PrefixOp.{PrefixOp}
 use Rattle.cal_ast.specs.declared.expr.BinOp.{BinOp}
+use Rattle.cal_ast.specs.declared.expr.BinOp.TheVariants as binaries
 use Rattle.fnl_markup.specs.Tags.{Attribute, attribute, Tag, opens, closes}
 use Rattle.fnl_expr.specs.Given.{given, either_given, Text, text_at, long, has_short_names, earlier, name_given, tag_given, end_given, entry_given, type_given, Literal, literal_given, kind_given, literal_tree}
 use Rattle.fnl_expr.specs.Operations.{Pending, fits, made, grouped, before_operator}
@@ -27,7 +28,7 @@ use Rattle.fnl_grammar.specs.Rows.{Item, operand, operator, loosest, Groups, Are
 use Rattle.fnl_grammar.specs.Productions
 use Rattle.fnl_grammar.specs.Productions.{around, IsCalled, IsGiven, is_size_in, is_buffer_size, ArePassed, passed_none, passed_more, IsPassed, the_passed, IsPrefixOp, the_prefix_op, IsBinaryOp, the_binary_op, IsExpr, the_literal, the_variable, the_list, the_operation, the_sequence, AreItems, no_items, one_item_more, IsRow, the_first, the_next, IsType, the_type, AreEntries, no_entries, one_entry_more, IsEntry, the_value, the_shape, IsPort, the_port, HasDeclared, nothing_declared, type_declared, value_declared, IsDecl, the_param, the_decl, IsClass, the_class, IsParameter, the_parameter, InInstance, instance_empty, and_class, and_parameter, and_attribute, IsInstance, the_instance, IsSize, the_size, IsOther, the_other, InConnection, connection_empty, and_size, and_other, IsConnection, the_connection, InNetwork, network_empty, with_a_port, with_a_decl, with_an_instance, with_a_connection, with_an_attribute, IsNetwork, the_network}
 use Rattle.fnl_grammar.proofs.Reading.{Read, read, reads, reads_on, then_reads, reads_append}
-use Rattle.fnl_grammar.proofs.Grouped.{is_read, IsRead}
+use Rattle.fnl_grammar.proofs.Grouped.{is_read, IsRead, IsWhole}
 
 abbrev pub st : Frame → List Frame → State
 st top below = record { top = top; below = below }
@@ -80,7 +81,7 @@ short text place h = rw h refl
 pub passed_run : {room : ℕ} {tags : List Tag} → ArePassed room tags → (bs : List Frame) (rest : List Tag) → length bs + room ≤ 64
     → run (Going (st in_passed bs)) (tags ++ rest) ≡ run (Going (st in_passed bs)) rest
 passed_run (passed_none) bs rest less = refl
-passed_run (passed_more {room = room} {at = at} {end = end} {before = before} {inside = inside} {name = name} {attributes = attributes} h k) bs rest less =
+passed_run (passed_more {room = room} {before = before} {inside = inside} name attributes at end h k) bs rest less =
     parts_run before (around name attributes at inside end) rest in_passed in_passed in_passed bs (λ more. passed_run h bs more less)
     (element_runs name attributes at inside end rest in_passed in_passed in_passed in_passed bs (entering in_passed in_passed bs at room less) (λ more. passed_run k (in_passed ∷ bs) more (omega (arith, less))) refl)
 
@@ -119,6 +120,19 @@ sequence_closes : (end there : ℕ) (ws : List Pending) (r t : Tree) (f : Frame)
 sequence_closes end there [] r t f bs e = absurd cc
 sequence_closes end there (p ∷ ws) r t f bs e = ap (λ g. end_expr g there end (st (in_sequence (p ∷ ws) (Some r) there) (f ∷ bs))) e
 
+-- the parts of an operation
+abbrev op_in : Tree → BinOp
+op_in (binary op l r p) = op
+op_in t = binaries.Or
+
+abbrev left_in : Tree → Tree
+left_in (binary op l r p) = l
+left_in t = t
+
+abbrev right_in : Tree → Tree
+right_in (binary op l r p) = r
+right_in t = t
+
 -- what a row that is grouped is read as
 record Ready (at : ℕ) (row : List Item) (t : Tree) : Type 0 where
   ws : List Pending
@@ -129,28 +143,29 @@ record Ready (at : ℕ) (row : List Item) (t : Tree) : Type 0 where
 ready : (at place : ℕ) (row : List Item) (op : BinOp) (l r : Tree) → AreSeveral row → Groups loosest row (binary op l r place) → fits (binary op l r at) ≡ true → Ready at row (binary op l r at)
 ready at place row op l r several g fit = of_read (is_read loosest row (binary op l r place) g fit [] tt)
   where
-    of_whole : (h : IsRead loosest row [] (binary op l r place)) → (row ≡ operand (binary op l r place) ∷ []) ⊎ (Σ BinOp (λ o. Σ Tree (λ x. Σ Tree (λ y. Σ ℕ (λ p. (binary op l r place ≡ binary o x y p) × (grouped at (h.ws ++ []) h.last ≡ made (binary o x y at))))))) → Ready at row (binary op l r at)
+    of_whole : (h : IsRead loosest row [] (binary op l r place)) → (row ≡ operand (binary op l r place) ∷ []) ⊎ IsWhole at (h.ws ++ []) h.last (binary op l r place) → Ready at row (binary op l r at)
     of_whole h (inl one) = absurd (subst AreSeveral one several)
-    of_whole h (inr (o, x, y, p, same, whole)) =
-        let tree : binary o x y at ≡ binary op l r at = cc in
+    of_whole h (inr w) =
+        let same : binary op l r place ≡ binary w.op w.left w.right w.place = w.is in
+        let tree : binary w.op w.left w.right at ≡ binary op l r at = ap (λ x. binary (op_in x) (left_in x) (right_in x) at) (sym same) in
         record {
           ws = h.ws;
           last = h.last;
           is = h.is ∙ ap (λ w. Some (read w (Some h.last))) (append-nil h.ws);
-          whole = ap (λ w. grouped at w h.last) (sym (append-nil h.ws)) ∙ whole ∙ ap made tree ∙ made_is (binary op l r at) fit;
+          whole = ap (λ w. grouped at w h.last) (sym (append-nil h.ws)) ∙ w.so ∙ ap made tree ∙ made_is (binary op l r at) fit;
         }
     of_read : IsRead loosest row [] (binary op l r place) → Ready at row (binary op l r at)
     of_read h = of_whole h (h.so.whole at refl)
 
 prefix_op_runs : {room : ℕ} {tags : List Tag} {op : PrefixOp} → IsPrefixOp room tags op → (there : ℕ) (bs : List Frame) (rest : List Tag) → length bs + room ≤ 64
     → run (Going (st (in_unary None None there) bs)) (tags ++ rest) ≡ run (Going (st (in_unary (Some op) None there) bs)) rest
-prefix_op_runs (the_prefix_op {room = room} {at = at} {end = end} {name = name} {attributes = attributes} {op = op} c g) there bs rest less =
+prefix_op_runs (the_prefix_op {room = room} {at = at} {name = name} {attributes = attributes} {op = op} end c g) there bs rest less =
     empty_runs name attributes at end rest (in_unary None None there) (in_unary (Some op) None there) bs
     (opened_is name attributes at (in_unary None None there) bs elements.Op _ refl c refl (rw g (entering in_empty (in_unary (Some op) None there) bs at room less)))
 
 binary_op_runs : {room : ℕ} {tags : List Tag} {op : BinOp} → IsBinaryOp room tags op → (there : ℕ) (ws new : List Pending) (r : Tree) (bs : List Frame) (rest : List Tag) → before_operator op ws r ≡ Some new → length bs + room ≤ 64
     → run (Going (st (in_sequence ws (Some r) there) bs)) (tags ++ rest) ≡ run (Going (st (in_sequence new None there) bs)) rest
-binary_op_runs (the_binary_op {room = room} {at = at} {end = end} {name = name} {attributes = attributes} {op = op} c g) there ws new r bs rest turns less =
+binary_op_runs (the_binary_op {room = room} {at = at} {name = name} {attributes = attributes} {op = op} end c g) there ws new r bs rest turns less =
     empty_runs name attributes at end rest (in_sequence ws (Some r) there) (in_sequence new None there) bs
     (opened_is name attributes at (in_sequence ws (Some r) there) bs elements.Op _ refl c refl (rw (g, turns) (entering in_empty (in_sequence new None there) bs at room less)))
 
@@ -158,25 +173,25 @@ mutual
   pub expr_runs : {room : ℕ} {tags : List Tag} {t : Tree} → IsExpr room tags t → (f : Frame) (bs : List Frame) (rest : List Tag)
       → is_passed f ≡ false → allows f elements.Expr ≡ true → length bs + room ≤ 64
       → run (Going (st f bs)) (tags ++ rest) ≡ run (Going (st (with_expr t f) bs)) rest
-  expr_runs (the_literal {room = room} {at = at} {end = end} {name = name} {attributes = attributes} {l = l} c k g) f bs rest p a less =
+  expr_runs (the_literal {room = room} {at = at} {name = name} {attributes = attributes} {l = l} end c k g) f bs rest p a less =
       empty_runs name attributes at end rest f (with_expr (literal_tree l at) f) bs
       (opened_is name attributes at f bs elements.Expr _ p c a (rw (k, g) (entering in_empty (with_expr (literal_tree l at) f) bs at room less)))
-  expr_runs (the_variable {room = room} {at = at} {end = end} {name = name} {text = text} {attributes = attributes} c k g) f bs rest p a less =
+  expr_runs (the_variable {room = room} {at = at} {name = name} {text = text} {attributes = attributes} end c k g) f bs rest p a less =
       empty_runs name attributes at end rest f (with_expr (variable text at) f) bs
-      (opened_is name attributes at f bs elements.Expr _ p c a (rw (k, g.1.0, g.1.1) (entering in_empty (with_expr (variable text at) f) bs at room less)))
-  expr_runs (the_list {room = room} {at = at} {end = end} {name = name} {attributes = attributes} {inside = inside} {item = item} {items = items} c k h fit) f bs rest p a less =
+      (opened_is name attributes at f bs elements.Expr _ p c a (rw (k, g.is, g.short) (entering in_empty (with_expr (variable text at) f) bs at room less)))
+  expr_runs (the_list {room = room} {at = at} {name = name} {attributes = attributes} {inside = inside} {item = item} {items = items} end c k h fit) f bs rest p a less =
       element_runs name attributes at inside end rest f (in_list [] at) (in_list (item ∷ items) at) (with_expr (list (listed (item ∷ items)) at) f) bs
       (opened_is name attributes at f bs elements.Expr _ p c a (rw k (entering (in_list [] at) f bs at room less)))
       (λ more. items_run h [] at (f ∷ bs) more (omega (arith, less)))
       (rw (made_is (list (listed (item ∷ items)) at) fit) refl)
-  expr_runs (the_operation {room = room} {at = at} {end = end} {name = name} {attributes = attributes} {before = before} {inside = inside} {op = op} {t = t} c k o h fit) f bs rest p a less =
+  expr_runs (the_operation {room = room} {at = at} {name = name} {attributes = attributes} {before = before} {inside = inside} {op = op} {t = t} end c k o h fit) f bs rest p a less =
       element_runs name attributes at (before ++ inside) end rest f (in_unary None None at) (in_unary (Some op) (Some t) at) (with_expr (prefix op t at) f) bs
       (opened_is name attributes at f bs elements.Expr _ p c a (rw k (entering (in_unary None None at) f bs at room less)))
       (λ more. parts_run before inside more (in_unary None None at) (in_unary (Some op) None at) (in_unary (Some op) (Some t) at) (f ∷ bs)
         (λ rest_. prefix_op_runs o at (f ∷ bs) rest_ (omega (arith, less)))
         (expr_runs h (in_unary (Some op) None at) (f ∷ bs) more refl refl (omega (arith, less))))
       (rw (made_is (prefix op t at) fit) refl)
-  expr_runs (the_sequence {room = room} {at = at} {end = end} {place = place} {name = name} {attributes = attributes} {inside = inside} {row = row} {op = op} {left = left} {right = right} c k h several g fit) f bs rest p a less =
+  expr_runs (the_sequence {room = room} {at = at} {place = place} {name = name} {attributes = attributes} {inside = inside} {row = row} {op = op} {left = left} {right = right} end c k h several g fit) f bs rest p a less =
       let it = ready at place row op left right several g fit in
       element_runs name attributes at inside end rest f (in_sequence [] None at) (in_sequence it.ws (Some it.last) at) (with_expr (binary op left right at) f) bs
       (opened_is name attributes at f bs elements.Expr _ p c a (rw k (entering (in_sequence [] None at) f bs at room less)))
@@ -212,7 +227,7 @@ mutual
   pub type_runs : {room : ℕ} {tags : List Tag} {t : Tree} → IsType room tags t → (f : Frame) (bs : List Frame) (rest : List Tag)
       → is_passed f ≡ false → allows f elements.Type ≡ true → length bs + room ≤ 64
       → run (Going (st f bs)) (tags ++ rest) ≡ run (Going (st (with_type t f) bs)) rest
-  type_runs (the_type {room = room} {at = at} {end = end} {place = place} {name = name} {text = text} {attributes = attributes} {inside = inside} {args = args} c g h) f bs rest p a less =
+  type_runs (the_type {room = room} {at = at} {place = place} {name = name} {text = text} {attributes = attributes} {inside = inside} {args = args} end c g h) f bs rest p a less =
       element_runs name attributes at inside end rest f (in_type (ident text place) [] at) (in_type (ident text place) args at) (with_type (type_of (ident text place) (listed args) at) f) bs
       (opened_is name attributes at f bs elements.Type _ p c a (rw g (entering (in_type (ident text place) [] at) f bs at room less)))
       (λ more. entries_run h (ident text place) [] at (f ∷ bs) more (omega (arith, less)))
@@ -228,12 +243,12 @@ mutual
 
   entry_runs : {room : ℕ} {tags : List Tag} {arg : Tree} → IsEntry room tags arg → (name : Tree) (old : List Tree) (there : ℕ) (bs : List Frame) (rest : List Tag) → length bs + room ≤ 64
       → run (Going (st (in_type name old there) bs)) (tags ++ rest) ≡ run (Going (st (in_type name (old ++ arg ∷ []) there) bs)) rest
-  entry_runs (the_value {room = room} {at = at} {end = end} {place = place} {name = tag} {text = text} {attributes = attributes} {inside = inside} {t = t} c k g h) name old there bs rest less =
+  entry_runs (the_value {room = room} {at = at} {place = place} {name = tag} {text = text} {attributes = attributes} {inside = inside} {t = t} end c k g h) name old there bs rest less =
       element_runs tag attributes at inside end rest (in_type name old there) (in_value (ident text place) None) (in_value (ident text place) (Some t)) (in_type name (old ++ value_arg (ident text place) t ∷ []) there) bs
       (opened_is tag attributes at (in_type name old there) bs elements.Entry _ refl c refl (rw (k, g) (entering (in_value (ident text place) None) (in_type name old there) bs at room less)))
       (λ more. expr_runs h (in_value (ident text place) None) (in_type name old there ∷ bs) more refl refl (omega (arith, less)))
       refl
-  entry_runs (the_shape {room = room} {at = at} {end = end} {place = place} {name = tag} {text = text} {attributes = attributes} {inside = inside} {t = t} c k g h) name old there bs rest less =
+  entry_runs (the_shape {room = room} {at = at} {place = place} {name = tag} {text = text} {attributes = attributes} {inside = inside} {t = t} end c k g h) name old there bs rest less =
       element_runs tag attributes at inside end rest (in_type name old there) (in_shape (ident text place) None) (in_shape (ident text place) (Some t)) (in_type name (old ++ shape_arg (ident text place) t ∷ []) there) bs
       (opened_is tag attributes at (in_type name old there) bs elements.Entry _ refl c refl (rw (k, g) (entering (in_shape (ident text place) None) (in_type name old there) bs at room less)))
       (λ more. type_runs h (in_shape (ident text place) None) (in_type name old there ∷ bs) more refl refl (omega (arith, less)))
@@ -243,9 +258,9 @@ mutual
 
 port_runs : {room : ℕ} {tags : List Tag} {p : Port} → IsPort room tags p → (net : Net) (bs : List Frame) (rest : List Tag) → length bs + room ≤ 64
     → run (Going (st (in_network net) bs)) (tags ++ rest) ≡ run (Going (st (with_port p (in_network net)) bs)) rest
-port_runs (the_port {room = room} {at = at} {end = end} {name = name} {text = text} {attributes = attributes} {inside = inside} {input = input} {shape = shape} c k g h) net bs rest less =
+port_runs (the_port {room = room} {at = at} {name = name} {text = text} {attributes = attributes} {inside = inside} {input = input} {shape = shape} end c k g h) net bs rest less =
     element_runs name attributes at inside end rest (in_network net) (in_port input text None at) (in_port input text (Some shape) at) (with_port (a_port input shape text at) (in_network net)) bs
-    (opened_is name attributes at (in_network net) bs elements.Port _ refl c refl (rw (k, g.1.0, g.1.1) (entering (in_port input text None at) (in_network net) bs at room less)))
+    (opened_is name attributes at (in_network net) bs elements.Port _ refl c refl (rw (k, g.is, g.short) (entering (in_port input text None at) (in_network net) bs at room less)))
     (λ more. type_runs h (in_port input text None at) (in_network net ∷ bs) more refl refl (omega (arith, less)))
     refl
 
@@ -263,14 +278,14 @@ declared_run (value_declared {before = before} {inside = inside} {shape = shape}
 
 decl_runs : {room : ℕ} {tags : List Tag} {d : Decl} → IsDecl room tags d → (net : Net) (bs : List Frame) (rest : List Tag) → length bs + room ≤ 64
     → run (Going (st (in_network net) bs)) (tags ++ rest) ≡ run (Going (st (with_decl d (in_network net)) bs)) rest
-decl_runs (the_param {room = room} {at = at} {end = end} {name = name} {text = text} {attributes = attributes} {inside = inside} {shape = shape} c k g h) net bs rest less =
+decl_runs (the_param {room = room} {at = at} {name = name} {text = text} {attributes = attributes} {inside = inside} {shape = shape} end c k g h) net bs rest less =
     element_runs name attributes at inside end rest (in_network net) (in_decl true text None None at) (in_decl true text (Some shape) None at) (with_decl (a_decl true shape text absent at) (in_network net)) bs
-    (opened_is name attributes at (in_network net) bs elements.Decl _ refl c refl (rw (k, g.1.0, g.1.1) (entering (in_decl true text None None at) (in_network net) bs at room less)))
+    (opened_is name attributes at (in_network net) bs elements.Decl _ refl c refl (rw (k, g.is, g.short) (entering (in_decl true text None None at) (in_network net) bs at room less)))
     (λ more. declared_run h true text at (in_network net ∷ bs) more (omega (arith, less)))
     refl
-decl_runs (the_decl {room = room} {at = at} {end = end} {name = name} {text = text} {attributes = attributes} {inside = inside} {param = param} {shape = shape} {value = value} c k g h) net bs rest less =
+decl_runs (the_decl {room = room} {at = at} {name = name} {text = text} {attributes = attributes} {inside = inside} {param = param} {shape = shape} {value = value} end c k g h) net bs rest less =
     element_runs name attributes at inside end rest (in_network net) (in_decl param text None None at) (in_decl param text (Some shape) (Some value) at) (with_decl (a_decl param shape text (present value) at) (in_network net)) bs
-    (opened_is name attributes at (in_network net) bs elements.Decl _ refl c refl (rw (k, g.1.0, g.1.1) (entering (in_decl param text None None at) (in_network net) bs at room less)))
+    (opened_is name attributes at (in_network net) bs elements.Decl _ refl c refl (rw (k, g.is, g.short) (entering (in_decl param text None None at) (in_network net) bs at room less)))
     (λ more. declared_run h param text at (in_network net ∷ bs) more (omega (arith, less)))
     (closes_decl param)
   where
@@ -295,7 +310,7 @@ attribute_opens attributes at room f bs is e passes less = by_found (given (code
 attribute_runs : {room : ℕ} {tags : List Tag} → IsPassed room tags → (f : Frame) (bs : List Frame) (rest : List Tag)
     → is_passed f ≡ false → allows f elements.Attribute ≡ true → ((name : List ℕ) (at : ℕ) → attribute_in f name at ≡ in_passed) → length bs + room ≤ 64
     → run (Going (st f bs)) (tags ++ rest) ≡ run (Going (st f bs)) rest
-attribute_runs (the_passed {room = room} {at = at} {end = end} {inside = inside} {name = name} {attributes = attributes} {is = is} c e h) f bs rest p a passes less =
+attribute_runs (the_passed {room = room} {at = at} {inside = inside} {name = name} {attributes = attributes} {is = is} end c e h) f bs rest p a passes less =
     element_runs name attributes at inside end rest f in_passed in_passed f bs
     (opened_is name attributes at f bs elements.Attribute _ p c a (attribute_opens attributes at room f bs is e (λ text same. passes text at) less))
     (λ more. passed_run h (f ∷ bs) more (omega (arith, less)))
@@ -303,17 +318,17 @@ attribute_runs (the_passed {room = room} {at = at} {end = end} {inside = inside}
 
 class_runs : {room at : ℕ} {tags : List Tag} {text : List ℕ} → IsClass room tags text at → (id : List ℕ) (parameters : List Parameter) (there : ℕ) (bs : List Frame) (rest : List Tag) → length bs + room ≤ 64
     → run (Going (st (in_instance id None parameters there) bs)) (tags ++ rest) ≡ run (Going (st (in_instance id (Some (a_class text at)) parameters there) bs)) rest
-class_runs (the_class {room = room} {at = at} {end = end} {name = name} {text = text} {attributes = attributes} c g) id parameters there bs rest less =
+class_runs (the_class {room = room} {at = at} {name = name} {text = text} {attributes = attributes} end c g) id parameters there bs rest less =
     empty_runs name attributes at end rest (in_instance id None parameters there) (in_instance id (Some (a_class text at)) parameters there) bs
     (opened_is name attributes at (in_instance id None parameters there) bs elements.Class _ refl c refl
-      (rw (g.1.0, g.1.1) (entering in_empty (in_instance id (Some (a_class text at)) parameters there) bs at room less)))
+      (rw (g.is, g.short) (entering in_empty (in_instance id (Some (a_class text at)) parameters there) bs at room less)))
 
 parameter_runs : {room : ℕ} {tags : List Tag} {p : Parameter} → IsParameter room tags p → (id : List ℕ) (class : Option Class) (parameters : List Parameter) (there : ℕ) (bs : List Frame) (rest : List Tag) → length bs + room ≤ 64
     → run (Going (st (in_instance id class parameters there) bs)) (tags ++ rest) ≡ run (Going (st (in_instance id class (parameters ++ p ∷ []) there) bs)) rest
-parameter_runs (the_parameter {room = room} {at = at} {end = end} {name = name} {text = text} {attributes = attributes} {inside = inside} {t = t} c g h) id class parameters there bs rest less =
+parameter_runs (the_parameter {room = room} {at = at} {name = name} {text = text} {attributes = attributes} {inside = inside} {t = t} end c g h) id class parameters there bs rest less =
     element_runs name attributes at inside end rest (in_instance id class parameters there) (in_parameter text None at) (in_parameter text (Some t) at) (in_instance id class (parameters ++ a_parameter text t at ∷ []) there) bs
     (opened_is name attributes at (in_instance id class parameters there) bs elements.Parameter _ refl c refl
-      (rw (g.1.0, g.1.1) (entering (in_parameter text None at) (in_instance id class parameters there) bs at room less)))
+      (rw (g.is, g.short) (entering (in_parameter text None at) (in_instance id class parameters there) bs at room less)))
     (λ more. expr_runs h (in_parameter text None at) (in_instance id class parameters there ∷ bs) more refl refl (omega (arith, less)))
     refl
 
@@ -335,9 +350,9 @@ in_instance_runs (and_attribute {before = before} {inside = inside} {class = cla
 
 instance_runs : {room : ℕ} {tags : List Tag} {i : Instance} → IsInstance room tags i → (net : Net) (bs : List Frame) (rest : List Tag) → length bs + room ≤ 64
     → run (Going (st (in_network net) bs)) (tags ++ rest) ≡ run (Going (st (with_instance i (in_network net)) bs)) rest
-instance_runs (the_instance {room = room} {at = at} {end = end} {class_at = class_at} {name = name} {text = text} {class = class} {attributes = attributes} {inside = inside} {parameters = parameters} c g h) net bs rest less =
+instance_runs (the_instance {room = room} {at = at} {class_at = class_at} {name = name} {text = text} {class = class} {attributes = attributes} {inside = inside} {parameters = parameters} end c g h) net bs rest less =
     element_runs name attributes at inside end rest (in_network net) (in_instance text None [] at) (in_instance text (Some (a_class class class_at)) parameters at) (with_instance (an_instance text class class_at parameters at) (in_network net)) bs
-    (opened_is name attributes at (in_network net) bs elements.Instance _ refl c refl (rw (g.1.0, g.1.1) (entering (in_instance text None [] at) (in_network net) bs at room less)))
+    (opened_is name attributes at (in_network net) bs elements.Instance _ refl c refl (rw (g.is, g.short) (entering (in_instance text None [] at) (in_network net) bs at room less)))
     (λ more. in_instance_runs h text at (in_network net ∷ bs) more (omega (arith, less)))
     refl
 
@@ -356,14 +371,14 @@ size_opens attributes at room src src_port dst dst_port sizes there bs e less = 
 in_connection_runs : {room : ℕ} {tags : List Tag} {sizes : List Size} → InConnection room tags sizes → (src src_port dst dst_port : List ℕ) (there : ℕ) (bs : List Frame) (rest : List Tag) → length bs + room ≤ 64
     → run (Going (st (in_connection src src_port dst dst_port [] there) bs)) (tags ++ rest) ≡ run (Going (st (in_connection src src_port dst dst_port sizes there) bs)) rest
 in_connection_runs (connection_empty) src src_port dst dst_port there bs rest less = refl
-in_connection_runs (and_size {before = before} {sizes = sizes} h (the_size {room = room} {at = at} {end = end} {name = name} {attributes = attributes} {inside = inside} {t = t} c e k)) src src_port dst dst_port there bs rest less =
+in_connection_runs (and_size {before = before} {sizes = sizes} h (the_size {room = room} {at = at} {name = name} {attributes = attributes} {inside = inside} {t = t} end c e k)) src src_port dst dst_port there bs rest less =
     parts_run before (around name attributes at inside end) rest (in_connection src src_port dst dst_port [] there) (in_connection src src_port dst dst_port sizes there) (in_connection src src_port dst dst_port (sizes ++ a_size t at ∷ []) there) bs
     (λ more. in_connection_runs h src src_port dst dst_port there bs more less)
     (element_runs name attributes at inside end rest (in_connection src src_port dst dst_port sizes there) (in_size None at) (in_size (Some t) at) (in_connection src src_port dst dst_port (sizes ++ a_size t at ∷ []) there) bs
       (opened_is name attributes at (in_connection src src_port dst dst_port sizes there) bs elements.Attribute _ refl c refl (size_opens attributes at room src src_port dst dst_port sizes there bs e less))
       (λ more. expr_runs k (in_size None at) (in_connection src src_port dst dst_port sizes there ∷ bs) more refl refl (omega (arith, less)))
       refl)
-in_connection_runs (and_other {before = before} {sizes = sizes} h (the_other {room = room} {at = at} {end = end} {inside = inside} {name = name} {attributes = attributes} c e k)) src src_port dst dst_port there bs rest less =
+in_connection_runs (and_other {before = before} {sizes = sizes} h (the_other {room = room} {at = at} {inside = inside} {name = name} {attributes = attributes} end c e k)) src src_port dst dst_port there bs rest less =
     parts_run before (around name attributes at inside end) rest (in_connection src src_port dst dst_port [] there) (in_connection src src_port dst dst_port sizes there) (in_connection src src_port dst dst_port sizes there) bs
     (λ more. in_connection_runs h src src_port dst dst_port there bs more less)
     (element_runs name attributes at inside end rest (in_connection src src_port dst dst_port sizes there) in_passed in_passed (in_connection src src_port dst dst_port sizes there) bs
@@ -377,10 +392,10 @@ none_earlier a b c d ea eb ec ed = rw (ea, eb, ec, ed) refl
 
 connection_runs : {room : ℕ} {tags : List Tag} {k : Connection} → IsConnection room tags k → (net : Net) (bs : List Frame) (rest : List Tag) → length bs + room ≤ 64
     → run (Going (st (in_network net) bs)) (tags ++ rest) ≡ run (Going (st (with_connection k (in_network net)) bs)) rest
-connection_runs (the_connection {room = room} {at = at} {end = end} {name = name} {src = src} {src_port = src_port} {dst = dst} {dst_port = dst_port} {attributes = attributes} {inside = inside} {sizes = sizes} c g1 g2 g3 g4 h) net bs rest less =
+connection_runs (the_connection {room = room} {at = at} {name = name} {src = src} {src_port = src_port} {dst = dst} {dst_port = dst_port} {attributes = attributes} {inside = inside} {sizes = sizes} end c g1 g2 g3 g4 h) net bs rest less =
     element_runs name attributes at inside end rest (in_network net) (in_connection src src_port dst dst_port [] at) (in_connection src src_port dst dst_port sizes at) (with_connection (a_connection src src_port dst dst_port sizes at) (in_network net)) bs
     (opened_is name attributes at (in_network net) bs elements.Connection _ refl c refl
-      (rw (g1.1.0, g2.1.0, g3.1.0, g4.1.0, none_earlier _ _ _ _ (short src g1.0 g1.1.1) (short src_port g2.0 g2.1.1) (short dst g3.0 g3.1.1) (short dst_port g4.0 g4.1.1))
+      (rw (g1.is, g2.is, g3.is, g4.is, none_earlier _ _ _ _ (short src g1.place g1.short) (short src_port g2.place g2.short) (short dst g3.place g3.short) (short dst_port g4.place g4.short))
         (entering (in_connection src src_port dst dst_port [] at) (in_network net) bs at room less)))
     (λ more. in_connection_runs h src src_port dst dst_port at (in_network net ∷ bs) more (omega (arith, less)))
     refl
@@ -411,9 +426,9 @@ in_network_runs (with_an_attribute {before = before} {inside = inside} {ps = ps}
 
 -- the tags of a network are read as that network
 pub network_runs : {tags : List Tag} {net : Net} → IsNetwork 64 tags net → run (Going fresh) tags ≡ Going (st (outside (Some net)) [])
-network_runs (the_network {at = at} {end = end} {name = name} {text = text} {attributes = attributes} {inside = inside} {ps = ps} {ds = ds} {is = is} {cs = cs} c g h) =
+network_runs (the_network {at = at} {name = name} {text = text} {attributes = attributes} {inside = inside} {ps = ps} {ds = ds} {is = is} {cs = cs} end c g h) =
     ap (run (Going fresh)) (sym (append-nil (around name attributes at inside end)))
     ∙ element_runs name attributes at inside end [] (outside None) (in_network (empty_net text at)) (in_network (net_of text at ps ds is cs)) (outside (Some (net_of text at ps ds is cs))) []
-    (opened_is name attributes at (outside None) [] elements.Xdf _ refl c refl (rw (g.1.0, g.1.1) (entering (in_network (empty_net text at)) (outside None) [] at 63 (omega arith))))
+    (opened_is name attributes at (outside None) [] elements.Xdf _ refl c refl (rw (g.is, g.short) (entering (in_network (empty_net text at)) (outside None) [] at 63 (omega arith))))
     (λ more. in_network_runs h text at (outside None ∷ []) more (omega arith))
     refl

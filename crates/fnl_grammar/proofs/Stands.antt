@@ -1,5 +1,5 @@
 -- What was read stands in the elements that are open: each step of the reader keeps it.
-use Rattle.std.proofs.Common.{◌≡◌, ◌⊎◌, inl, inr, ℕ, suc, ◌+◌, ◌≤◌, ◌<◌, Bool, true, false, List, [], ◌∷◌, ◌++◌, length, Option, None, Some, refl, sym, ap, subst, ◌∙◌, arith}
+use Rattle.std.proofs.Common.{◌≡◌, ◌⊎◌, inl, inr, ℕ, zero, suc, ◌+◌, ◌≤◌, ◌<◌, Bool, true, false, List, [], ◌∷◌, ◌++◌, length, Option, None, Some, refl, sym, ap, subst, ◌∙◌, arith}
 use Rattle.std.specs.Prelude.{nat_le, if◌then◌else◌, codes}
 use Rattle.std.specs.Str.{bytes_eq}
 use Rattle.std.proofs.lemmas.Bool.{leb-true}
@@ -127,7 +127,7 @@ pub data Stands : ℕ → Frame → List Frame → List Tag → Type 0 where
       → Stands (suc room) f bs before → Takes f kid → Partial room kid g inside
       → Stands room g (f ∷ bs) (before ++ inside)
   -- what stands in what is passed over
-  within_passed : {room at : ℕ} {bs : List Frame} {before inside : List Tag} {name : List ℕ} {attributes : List Attribute}
+  within_passed : {room : ℕ} {bs : List Frame} {before inside : List Tag} (name : List ℕ) (attributes : List Attribute) (at : ℕ)
       → Stands (suc room) in_passed bs before → ArePassed room inside
       → Stands room in_passed (in_passed ∷ bs) (before ++ opens name attributes at ∷ inside)
   -- an element that has nothing inside and was counted already
@@ -138,7 +138,7 @@ pub depth : {room : ℕ} {f : Frame} {bs : List Frame} {tags : List Tag} → Sta
 depth (at_bottom) = refl
 depth (at_end h) = refl
 depth (on_top {bs = bs} s u k) = let h = depth s in omega (arith, h)
-depth (within_passed {bs = bs} s k) = let h = depth s in omega (arith, h)
+depth (within_passed {bs = bs} name attributes at s k) = let h = depth s in omega (arith, h)
 depth (around_nothing {bs = bs} k) = let h = depth (k 0) in omega (arith, h)
 
 -- more stands in the innermost element
@@ -189,10 +189,10 @@ partial_expr (p_row0 {room = room} {at = at} {name = name} {attributes = attribu
 partial_expr (p_row1 {room = room} {at = at} {name = name} {attributes = attributes} {inside = inside} {row = row} {ws = ws} {r = r} h1 h2 h3 h4) a p k = absurd cc
 partial_expr (p_row2 {room = room} {at = at} {name = name} {attributes = attributes} {before = before} {between = between} {row = row} {op = op} {ws = ws} h1 h2 h3 h4 h5) a p k = p_row2_next before between _ h1 h2 h3 h4 h5 k
 
-absorb_expr : {room : ℕ} {f : Frame} {bs : List Frame} {tags more : List Tag} {t : Tree} → Stands room f bs tags → allows f elements.Expr ≡ true → is_passed f ≡ false → IsExpr room more t → Stands room (with_expr t f) bs (tags ++ more)
+pub absorb_expr : {room : ℕ} {f : Frame} {bs : List Frame} {tags more : List Tag} {t : Tree} → Stands room f bs tags → allows f elements.Expr ≡ true → is_passed f ≡ false → IsExpr room more t → Stands room (with_expr t f) bs (tags ++ more)
 absorb_expr (at_bottom) a p k = absurd cc
 absorb_expr (at_end h) a p k = absurd cc
-absorb_expr (within_passed s h) a p k = absurd cc
+absorb_expr (within_passed name attributes at s h) a p k = absurd cc
 absorb_expr (around_nothing h) a p k = absurd cc
 absorb_expr (on_top {before = before} {inside = inside} s u h) a p k = grows before inside _ s u (partial_expr h a p k)
 
@@ -223,10 +223,10 @@ partial_type (p_row0 {room = room} {at = at} {name = name} {attributes = attribu
 partial_type (p_row1 {room = room} {at = at} {name = name} {attributes = attributes} {inside = inside} {row = row} {ws = ws} {r = r} h1 h2 h3 h4) a p k = absurd cc
 partial_type (p_row2 {room = room} {at = at} {name = name} {attributes = attributes} {before = before} {between = between} {row = row} {op = op} {ws = ws} h1 h2 h3 h4 h5) a p k = absurd cc
 
-absorb_type : {room : ℕ} {f : Frame} {bs : List Frame} {tags more : List Tag} {t : Tree} → Stands room f bs tags → allows f elements.Type ≡ true → is_passed f ≡ false → IsType room more t → Stands room (with_type t f) bs (tags ++ more)
+pub absorb_type : {room : ℕ} {f : Frame} {bs : List Frame} {tags more : List Tag} {t : Tree} → Stands room f bs tags → allows f elements.Type ≡ true → is_passed f ≡ false → IsType room more t → Stands room (with_type t f) bs (tags ++ more)
 absorb_type (at_bottom) a p k = absurd cc
 absorb_type (at_end h) a p k = absurd cc
-absorb_type (within_passed s h) a p k = absurd cc
+absorb_type (within_passed name attributes at s h) a p k = absurd cc
 absorb_type (around_nothing h) a p k = absurd cc
 absorb_type (on_top {before = before} {inside = inside} s u h) a p k = grows before inside _ s u (partial_type h a p k)
 
@@ -259,10 +259,10 @@ partial_entry (p_row0 {room = room} {at = at} {name = name} {attributes = attrib
 partial_entry (p_row1 {room = room} {at = at} {name = name} {attributes = attributes} {inside = inside} {row = row} {ws = ws} {r = r} h1 h2 h3 h4) a p k = absurd cc
 partial_entry (p_row2 {room = room} {at = at} {name = name} {attributes = attributes} {before = before} {between = between} {row = row} {op = op} {ws = ws} h1 h2 h3 h4 h5) a p k = absurd cc
 
-absorb_entry : {room : ℕ} {f : Frame} {bs : List Frame} {tags more : List Tag} {t : Tree} → Stands room f bs tags → allows f elements.Entry ≡ true → is_passed f ≡ false → IsEntry room more t → Stands room (with_arg t f) bs (tags ++ more)
+pub absorb_entry : {room : ℕ} {f : Frame} {bs : List Frame} {tags more : List Tag} {t : Tree} → Stands room f bs tags → allows f elements.Entry ≡ true → is_passed f ≡ false → IsEntry room more t → Stands room (with_arg t f) bs (tags ++ more)
 absorb_entry (at_bottom) a p k = absurd cc
 absorb_entry (at_end h) a p k = absurd cc
-absorb_entry (within_passed s h) a p k = absurd cc
+absorb_entry (within_passed name attributes at s h) a p k = absurd cc
 absorb_entry (around_nothing h) a p k = absurd cc
 absorb_entry (on_top {before = before} {inside = inside} s u h) a p k = grows before inside _ s u (partial_entry h a p k)
 
@@ -295,10 +295,10 @@ partial_class (p_row0 {room = room} {at = at} {name = name} {attributes = attrib
 partial_class (p_row1 {room = room} {at = at} {name = name} {attributes = attributes} {inside = inside} {row = row} {ws = ws} {r = r} h1 h2 h3 h4) a p k = absurd cc
 partial_class (p_row2 {room = room} {at = at} {name = name} {attributes = attributes} {before = before} {between = between} {row = row} {op = op} {ws = ws} h1 h2 h3 h4 h5) a p k = absurd cc
 
-absorb_class : {room : ℕ} {f : Frame} {bs : List Frame} {tags more : List Tag} {text : List ℕ} {at : ℕ} → Stands room f bs tags → allows f elements.Class ≡ true → is_passed f ≡ false → IsClass room more text at → Stands room (with_class (a_class text at) f) bs (tags ++ more)
+pub absorb_class : {room : ℕ} {f : Frame} {bs : List Frame} {tags more : List Tag} {text : List ℕ} {at : ℕ} → Stands room f bs tags → allows f elements.Class ≡ true → is_passed f ≡ false → IsClass room more text at → Stands room (with_class (a_class text at) f) bs (tags ++ more)
 absorb_class (at_bottom) a p k = absurd cc
 absorb_class (at_end h) a p k = absurd cc
-absorb_class (within_passed s h) a p k = absurd cc
+absorb_class (within_passed name attributes at s h) a p k = absurd cc
 absorb_class (around_nothing h) a p k = absurd cc
 absorb_class (on_top {before = before} {inside = inside} s u h) a p k = grows before inside _ s u (partial_class h a p k)
 
@@ -330,10 +330,10 @@ partial_parameter (p_row0 {room = room} {at = at} {name = name} {attributes = at
 partial_parameter (p_row1 {room = room} {at = at} {name = name} {attributes = attributes} {inside = inside} {row = row} {ws = ws} {r = r} h1 h2 h3 h4) a p k = absurd cc
 partial_parameter (p_row2 {room = room} {at = at} {name = name} {attributes = attributes} {before = before} {between = between} {row = row} {op = op} {ws = ws} h1 h2 h3 h4 h5) a p k = absurd cc
 
-absorb_parameter : {room : ℕ} {f : Frame} {bs : List Frame} {tags more : List Tag} {x : Parameter} → Stands room f bs tags → allows f elements.Parameter ≡ true → is_passed f ≡ false → IsParameter room more x → Stands room (with_parameter x f) bs (tags ++ more)
+pub absorb_parameter : {room : ℕ} {f : Frame} {bs : List Frame} {tags more : List Tag} {x : Parameter} → Stands room f bs tags → allows f elements.Parameter ≡ true → is_passed f ≡ false → IsParameter room more x → Stands room (with_parameter x f) bs (tags ++ more)
 absorb_parameter (at_bottom) a p k = absurd cc
 absorb_parameter (at_end h) a p k = absurd cc
-absorb_parameter (within_passed s h) a p k = absurd cc
+absorb_parameter (within_passed name attributes at s h) a p k = absurd cc
 absorb_parameter (around_nothing h) a p k = absurd cc
 absorb_parameter (on_top {before = before} {inside = inside} s u h) a p k = grows before inside _ s u (partial_parameter h a p k)
 
@@ -366,10 +366,10 @@ partial_port (p_row0 {room = room} {at = at} {name = name} {attributes = attribu
 partial_port (p_row1 {room = room} {at = at} {name = name} {attributes = attributes} {inside = inside} {row = row} {ws = ws} {r = r} h1 h2 h3 h4) a p k = absurd cc
 partial_port (p_row2 {room = room} {at = at} {name = name} {attributes = attributes} {before = before} {between = between} {row = row} {op = op} {ws = ws} h1 h2 h3 h4 h5) a p k = absurd cc
 
-absorb_port : {room : ℕ} {f : Frame} {bs : List Frame} {tags more : List Tag} {x : Port} → Stands room f bs tags → allows f elements.Port ≡ true → is_passed f ≡ false → IsPort room more x → Stands room (with_port x f) bs (tags ++ more)
+pub absorb_port : {room : ℕ} {f : Frame} {bs : List Frame} {tags more : List Tag} {x : Port} → Stands room f bs tags → allows f elements.Port ≡ true → is_passed f ≡ false → IsPort room more x → Stands room (with_port x f) bs (tags ++ more)
 absorb_port (at_bottom) a p k = absurd cc
 absorb_port (at_end h) a p k = absurd cc
-absorb_port (within_passed s h) a p k = absurd cc
+absorb_port (within_passed name attributes at s h) a p k = absurd cc
 absorb_port (around_nothing h) a p k = absurd cc
 absorb_port (on_top {before = before} {inside = inside} s u h) a p k = grows before inside _ s u (partial_port h a p k)
 
@@ -402,10 +402,10 @@ partial_decl (p_row0 {room = room} {at = at} {name = name} {attributes = attribu
 partial_decl (p_row1 {room = room} {at = at} {name = name} {attributes = attributes} {inside = inside} {row = row} {ws = ws} {r = r} h1 h2 h3 h4) a p k = absurd cc
 partial_decl (p_row2 {room = room} {at = at} {name = name} {attributes = attributes} {before = before} {between = between} {row = row} {op = op} {ws = ws} h1 h2 h3 h4 h5) a p k = absurd cc
 
-absorb_decl : {room : ℕ} {f : Frame} {bs : List Frame} {tags more : List Tag} {x : Decl} → Stands room f bs tags → allows f elements.Decl ≡ true → is_passed f ≡ false → IsDecl room more x → Stands room (with_decl x f) bs (tags ++ more)
+pub absorb_decl : {room : ℕ} {f : Frame} {bs : List Frame} {tags more : List Tag} {x : Decl} → Stands room f bs tags → allows f elements.Decl ≡ true → is_passed f ≡ false → IsDecl room more x → Stands room (with_decl x f) bs (tags ++ more)
 absorb_decl (at_bottom) a p k = absurd cc
 absorb_decl (at_end h) a p k = absurd cc
-absorb_decl (within_passed s h) a p k = absurd cc
+absorb_decl (within_passed name attributes at s h) a p k = absurd cc
 absorb_decl (around_nothing h) a p k = absurd cc
 absorb_decl (on_top {before = before} {inside = inside} s u h) a p k = grows before inside _ s u (partial_decl h a p k)
 
@@ -438,10 +438,10 @@ partial_instance (p_row0 {room = room} {at = at} {name = name} {attributes = att
 partial_instance (p_row1 {room = room} {at = at} {name = name} {attributes = attributes} {inside = inside} {row = row} {ws = ws} {r = r} h1 h2 h3 h4) a p k = absurd cc
 partial_instance (p_row2 {room = room} {at = at} {name = name} {attributes = attributes} {before = before} {between = between} {row = row} {op = op} {ws = ws} h1 h2 h3 h4 h5) a p k = absurd cc
 
-absorb_instance : {room : ℕ} {f : Frame} {bs : List Frame} {tags more : List Tag} {x : Instance} → Stands room f bs tags → allows f elements.Instance ≡ true → is_passed f ≡ false → IsInstance room more x → Stands room (with_instance x f) bs (tags ++ more)
+pub absorb_instance : {room : ℕ} {f : Frame} {bs : List Frame} {tags more : List Tag} {x : Instance} → Stands room f bs tags → allows f elements.Instance ≡ true → is_passed f ≡ false → IsInstance room more x → Stands room (with_instance x f) bs (tags ++ more)
 absorb_instance (at_bottom) a p k = absurd cc
 absorb_instance (at_end h) a p k = absurd cc
-absorb_instance (within_passed s h) a p k = absurd cc
+absorb_instance (within_passed name attributes at s h) a p k = absurd cc
 absorb_instance (around_nothing h) a p k = absurd cc
 absorb_instance (on_top {before = before} {inside = inside} s u h) a p k = grows before inside _ s u (partial_instance h a p k)
 
@@ -474,10 +474,10 @@ partial_connection (p_row0 {room = room} {at = at} {name = name} {attributes = a
 partial_connection (p_row1 {room = room} {at = at} {name = name} {attributes = attributes} {inside = inside} {row = row} {ws = ws} {r = r} h1 h2 h3 h4) a p k = absurd cc
 partial_connection (p_row2 {room = room} {at = at} {name = name} {attributes = attributes} {before = before} {between = between} {row = row} {op = op} {ws = ws} h1 h2 h3 h4 h5) a p k = absurd cc
 
-absorb_connection : {room : ℕ} {f : Frame} {bs : List Frame} {tags more : List Tag} {x : Connection} → Stands room f bs tags → allows f elements.Connection ≡ true → is_passed f ≡ false → IsConnection room more x → Stands room (with_connection x f) bs (tags ++ more)
+pub absorb_connection : {room : ℕ} {f : Frame} {bs : List Frame} {tags more : List Tag} {x : Connection} → Stands room f bs tags → allows f elements.Connection ≡ true → is_passed f ≡ false → IsConnection room more x → Stands room (with_connection x f) bs (tags ++ more)
 absorb_connection (at_bottom) a p k = absurd cc
 absorb_connection (at_end h) a p k = absurd cc
-absorb_connection (within_passed s h) a p k = absurd cc
+absorb_connection (within_passed name attributes at s h) a p k = absurd cc
 absorb_connection (around_nothing h) a p k = absurd cc
 absorb_connection (on_top {before = before} {inside = inside} s u h) a p k = grows before inside _ s u (partial_connection h a p k)
 
@@ -508,58 +508,58 @@ partial_size (p_row2 {room = room} {at = at} {name = name} {attributes = attribu
 
 
 partial_passed : {room : ℕ} {kid : Kid} {g : Frame} {inside more : List Tag} (is : Bool) → Partial room kid g inside → Takes g (passed_over is) → IsPassed room more → (is ≡ false → IsOther room more) → Partial room kid g (inside ++ more)
-partial_passed is (p_net {room = room} {name = name} {attributes = attributes} {inside = inside} {net = net} h1 h2 h3) u k o = p_net h1 h2 (with_an_attribute h3 k)
-partial_passed is (p_port0 {room = room} {at = at} {name = name} {text = text} {attributes = attributes} {input = input} h1 h2 h3) u k o = absurd u
-partial_passed is (p_port1 {room = room} {at = at} {name = name} {text = text} {attributes = attributes} {inside = inside} {input = input} {shape = shape} h1 h2 h3 h4) u k o = absurd u
-partial_passed is (p_decl {room = room} {at = at} {name = name} {text = text} {attributes = attributes} {inside = inside} {param = param} {shape = shape} {value = value} h1 h2 h3 h4) u k o = absurd u
-partial_passed is (p_inst {room = room} {at = at} {name = name} {text = text} {attributes = attributes} {inside = inside} {class = class} {parameters = parameters} h1 h2 h3) u k o = p_inst h1 h2 (and_attribute h3 k)
-partial_passed is (p_param0 {room = room} {at = at} {name = name} {text = text} {attributes = attributes} h1 h2) u k o = absurd u
-partial_passed is (p_param1 {room = room} {at = at} {name = name} {text = text} {attributes = attributes} {inside = inside} {t = t} h1 h2 h3) u k o = absurd u
+partial_passed size_is (p_net {room = room} {name = name} {attributes = attributes} {inside = inside} {net = net} h1 h2 h3) u k o = p_net h1 h2 (with_an_attribute h3 k)
+partial_passed size_is (p_port0 {room = room} {at = at} {name = name} {text = text} {attributes = attributes} {input = input} h1 h2 h3) u k o = absurd u
+partial_passed size_is (p_port1 {room = room} {at = at} {name = name} {text = text} {attributes = attributes} {inside = inside} {input = input} {shape = shape} h1 h2 h3 h4) u k o = absurd u
+partial_passed size_is (p_decl {room = room} {at = at} {name = name} {text = text} {attributes = attributes} {inside = inside} {param = param} {shape = shape} {value = value} h1 h2 h3 h4) u k o = absurd u
+partial_passed size_is (p_inst {room = room} {at = at} {name = name} {text = text} {attributes = attributes} {inside = inside} {class = class} {parameters = parameters} h1 h2 h3) u k o = p_inst h1 h2 (and_attribute h3 k)
+partial_passed size_is (p_param0 {room = room} {at = at} {name = name} {text = text} {attributes = attributes} h1 h2) u k o = absurd u
+partial_passed size_is (p_param1 {room = room} {at = at} {name = name} {text = text} {attributes = attributes} {inside = inside} {t = t} h1 h2 h3) u k o = absurd u
 partial_passed false (p_conn {room = room} {at = at} {name = name} {src = src} {src_port = src_port} {dst = dst} {dst_port = dst_port} {attributes = attributes} {inside = inside} {sizes = sizes} h1 h2 h3 h4 h5 h6) u k o = p_conn h1 h2 h3 h4 h5 (and_other h6 (o refl))
 partial_passed true (p_conn {room = room} {at = at} {name = name} {src = src} {src_port = src_port} {dst = dst} {dst_port = dst_port} {attributes = attributes} {inside = inside} {sizes = sizes} h1 h2 h3 h4 h5 h6) u k o = absurd u
-partial_passed is (p_size0 {room = room} {at = at} {name = name} {attributes = attributes} h1 h2) u k o = absurd u
-partial_passed is (p_size1 {room = room} {at = at} {name = name} {attributes = attributes} {inside = inside} {t = t} h1 h2 h3) u k o = absurd u
-partial_passed is (p_passed {room = room} {at = at} {name = name} {attributes = attributes} {inside = inside} {is = is} h1 h2 h3) u k o = absurd u
-partial_passed is (p_type {room = room} {at = at} {place = place} {name = name} {text = text} {attributes = attributes} {inside = inside} {args = args} h1 h2 h3) u k o = absurd u
-partial_passed is (p_value0 {room = room} {at = at} {place = place} {name = name} {text = text} {attributes = attributes} h1 h2 h3) u k o = absurd u
-partial_passed is (p_value1 {room = room} {at = at} {place = place} {name = name} {text = text} {attributes = attributes} {inside = inside} {t = t} h1 h2 h3 h4) u k o = absurd u
-partial_passed is (p_shape0 {room = room} {at = at} {place = place} {name = name} {text = text} {attributes = attributes} h1 h2 h3) u k o = absurd u
-partial_passed is (p_shape1 {room = room} {at = at} {place = place} {name = name} {text = text} {attributes = attributes} {inside = inside} {t = t} h1 h2 h3 h4) u k o = absurd u
-partial_passed is (p_list {room = room} {at = at} {name = name} {attributes = attributes} {inside = inside} {items = items} h1 h2 h3) u k o = absurd u
-partial_passed is (p_unary0 {room = room} {at = at} {name = name} {attributes = attributes} h1 h2) u k o = absurd u
-partial_passed is (p_unary1 {room = room} {at = at} {name = name} {attributes = attributes} {inside = inside} {op = op} h1 h2 h3) u k o = absurd u
-partial_passed is (p_unary2 {room = room} {at = at} {name = name} {attributes = attributes} {before = before} {inside = inside} {op = op} {t = t} h1 h2 h3 h4) u k o = absurd u
-partial_passed is (p_row0 {room = room} {at = at} {name = name} {attributes = attributes} h1 h2) u k o = absurd u
-partial_passed is (p_row1 {room = room} {at = at} {name = name} {attributes = attributes} {inside = inside} {row = row} {ws = ws} {r = r} h1 h2 h3 h4) u k o = absurd u
-partial_passed is (p_row2 {room = room} {at = at} {name = name} {attributes = attributes} {before = before} {between = between} {row = row} {op = op} {ws = ws} h1 h2 h3 h4 h5) u k o = absurd u
+partial_passed size_is (p_size0 {room = room} {at = at} {name = name} {attributes = attributes} h1 h2) u k o = absurd u
+partial_passed size_is (p_size1 {room = room} {at = at} {name = name} {attributes = attributes} {inside = inside} {t = t} h1 h2 h3) u k o = absurd u
+partial_passed size_is (p_passed {room = room} {at = at} {name = name} {attributes = attributes} {inside = inside} {is = is} h1 h2 h3) u k o = absurd u
+partial_passed size_is (p_type {room = room} {at = at} {place = place} {name = name} {text = text} {attributes = attributes} {inside = inside} {args = args} h1 h2 h3) u k o = absurd u
+partial_passed size_is (p_value0 {room = room} {at = at} {place = place} {name = name} {text = text} {attributes = attributes} h1 h2 h3) u k o = absurd u
+partial_passed size_is (p_value1 {room = room} {at = at} {place = place} {name = name} {text = text} {attributes = attributes} {inside = inside} {t = t} h1 h2 h3 h4) u k o = absurd u
+partial_passed size_is (p_shape0 {room = room} {at = at} {place = place} {name = name} {text = text} {attributes = attributes} h1 h2 h3) u k o = absurd u
+partial_passed size_is (p_shape1 {room = room} {at = at} {place = place} {name = name} {text = text} {attributes = attributes} {inside = inside} {t = t} h1 h2 h3 h4) u k o = absurd u
+partial_passed size_is (p_list {room = room} {at = at} {name = name} {attributes = attributes} {inside = inside} {items = items} h1 h2 h3) u k o = absurd u
+partial_passed size_is (p_unary0 {room = room} {at = at} {name = name} {attributes = attributes} h1 h2) u k o = absurd u
+partial_passed size_is (p_unary1 {room = room} {at = at} {name = name} {attributes = attributes} {inside = inside} {op = op} h1 h2 h3) u k o = absurd u
+partial_passed size_is (p_unary2 {room = room} {at = at} {name = name} {attributes = attributes} {before = before} {inside = inside} {op = op} {t = t} h1 h2 h3 h4) u k o = absurd u
+partial_passed size_is (p_row0 {room = room} {at = at} {name = name} {attributes = attributes} h1 h2) u k o = absurd u
+partial_passed size_is (p_row1 {room = room} {at = at} {name = name} {attributes = attributes} {inside = inside} {row = row} {ws = ws} {r = r} h1 h2 h3 h4) u k o = absurd u
+partial_passed size_is (p_row2 {room = room} {at = at} {name = name} {attributes = attributes} {before = before} {between = between} {row = row} {op = op} {ws = ws} h1 h2 h3 h4 h5) u k o = absurd u
 
 
-absorb_size : {room : ℕ} {f : Frame} {bs : List Frame} {tags more : List Tag} {x : Size} → Stands room f bs tags → Takes f a_size_of → IsSize room more x → Stands room (with_size x f) bs (tags ++ more)
+pub absorb_size : {room : ℕ} {f : Frame} {bs : List Frame} {tags more : List Tag} {x : Size} → Stands room f bs tags → Takes f a_size_of → IsSize room more x → Stands room (with_size x f) bs (tags ++ more)
 absorb_size (at_bottom) u k = absurd u
 absorb_size (at_end h) u k = absurd u
-absorb_size (within_passed s h) u k = absurd u
+absorb_size (within_passed name attributes at s h) u k = absurd u
 absorb_size (around_nothing h) u k = absurd u
 absorb_size (on_top {before = before} {inside = inside} s t h) u k = grows before inside _ s t (partial_size h u k)
 
-absorb_passed : {room : ℕ} {f : Frame} {bs : List Frame} {tags more : List Tag} (is : Bool) → Stands room f bs tags → Takes f (passed_over is) → IsPassed room more → (is ≡ false → IsOther room more) → Stands room f bs (tags ++ more)
+pub absorb_passed : {room : ℕ} {f : Frame} {bs : List Frame} {tags more : List Tag} (is : Bool) → Stands room f bs tags → Takes f (passed_over is) → IsPassed room more → (is ≡ false → IsOther room more) → Stands room f bs (tags ++ more)
 absorb_passed is (at_bottom) u k o = absurd u
 absorb_passed is (at_end h) u k o = absurd u
-absorb_passed is (within_passed s h) u k o = absurd u
+absorb_passed is (within_passed name attributes at s h) u k o = absurd u
 absorb_passed is (around_nothing h) u k o = absurd u
 absorb_passed is (on_top {before = before} {inside = inside} s t h) u k o = grows before inside _ s t (partial_passed is h u k o)
 
 -- what stands in what is passed over
-absorb_within : {room at end : ℕ} {bs : List Frame} {tags inside : List Tag} {name : List ℕ} {attributes : List Attribute}
+pub absorb_within : {room : ℕ} {bs : List Frame} {tags inside : List Tag} (name : List ℕ) (attributes : List Attribute) (at end : ℕ)
     → Stands (suc room) in_passed bs tags → ArePassed room inside → Stands (suc room) in_passed bs (tags ++ around name attributes at inside end)
-absorb_within (on_top {before = before} {inside = inside} s u (p_passed h1 h2 h3)) k = grows before inside _ s u (p_passed h1 h2 (passed_more h3 k))
-absorb_within {room} {at} {end} {tags = _} {inside = more} {name} {attributes} (within_passed {at = there} {bs = bs} {before = before} {inside = inside} {name = text} {attributes = given} s h) k =
-    subst (λ x. Stands (suc room) in_passed (in_passed ∷ bs) x) (sym (append_assoc before (opens text given there ∷ inside) (around name attributes at more end))) (within_passed s (passed_more h k))
+absorb_within name attributes at end (on_top {before = before} {inside = inside} s u (p_passed h1 h2 h3)) k = grows before inside _ s u (p_passed h1 h2 (passed_more name attributes at end h3 k))
+absorb_within {room} {inside = more} name attributes at end (within_passed {bs = bs} {before = before} {inside = inside} text attributes_ there s h) k =
+    subst (λ x. Stands (suc room) in_passed (in_passed ∷ bs) x) (sym (append_assoc before (opens text attributes_ there ∷ inside) (around name attributes at more end))) (within_passed text attributes_ there s (passed_more name attributes at end h k))
 
 -- an operator of a prefix, and one between two operands
-absorb_prefix : {room there : ℕ} {bs : List Frame} {tags more : List Tag} {op : PrefixOp} → Stands room (in_unary None None there) bs tags → IsPrefixOp room more op → Stands room (in_unary (Some op) None there) bs (tags ++ more)
+pub absorb_prefix : {room there : ℕ} {bs : List Frame} {tags more : List Tag} {op : PrefixOp} → Stands room (in_unary None None there) bs tags → IsPrefixOp room more op → Stands room (in_unary (Some op) None there) bs (tags ++ more)
 absorb_prefix (on_top {before = before} {inside = inside} s u (p_unary0 h1 h2)) k = grows before inside _ s u (p_unary1 h1 h2 k)
 
-absorb_binary : {room there : ℕ} {ws new : List Pending} {r : Tree} {bs : List Frame} {tags more : List Tag} {op : BinOp} → Stands room (in_sequence ws (Some r) there) bs tags → IsBinaryOp room more op → before_operator op ws r ≡ Some new → Stands room (in_sequence new None there) bs (tags ++ more)
+pub absorb_binary : {room there : ℕ} {ws new : List Pending} {r : Tree} {bs : List Frame} {tags more : List Tag} {op : BinOp} → Stands room (in_sequence ws (Some r) there) bs tags → IsBinaryOp room more op → before_operator op ws r ≡ Some new → Stands room (in_sequence new None there) bs (tags ++ more)
 absorb_binary {new = new} {op = op} (on_top {before = before} {inside = inside} s u (p_row1 {row = row} {ws = ws} {r = r} h1 h2 h3 h4)) k e =
     let is : reads (row ++ operator op ∷ []) [] None ≡ Some (read new None) = reads_append row (operator op ∷ []) [] None ∙ ap (λ x. then_reads x (operator op ∷ [])) h4 ∙ ap (reads_on []) e in
     grows before inside _ s u (p_row2 h1 h2 h3 k is)

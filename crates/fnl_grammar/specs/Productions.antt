@@ -32,8 +32,10 @@ abbrev pub IsCalled : List ℕ → Element → Type 0
 IsCalled name e = element_named name ≡ Some e
 
 -- a text is given, none of whose names is too long
-abbrev pub IsGiven : Option Text → List ℕ → Type 0
-IsGiven found text = Σ ℕ (λ place. (found ≡ Some (text_at text place)) × (has_short_names text ≡ true))
+pub record IsGiven (found : Option Text) (text : List ℕ) : Type 0 where
+  pub place : ℕ
+  pub is : found ≡ Some (text_at text place)
+  pub short : has_short_names text ≡ true
 
 -- whether an attribute's name is `bufferSize`, if it is given
 abbrev pub is_size_in : Option Attribute → Option Bool
@@ -48,56 +50,56 @@ is_buffer_size attributes = is_size_in (given (codes "name") attributes)
 -- any elements
 pub data ArePassed : ℕ → List Tag → Type 0 where
   passed_none : {room : ℕ} → ArePassed room []
-  passed_more : {room at end : ℕ} {before inside : List Tag} {name : List ℕ} {attributes : List Attribute}
-      → ArePassed (suc room) before → ArePassed room inside
+  passed_more : {room : ℕ} {before inside : List Tag} (name : List ℕ) (attributes : List Attribute) (at end : ℕ)
+        → ArePassed (suc room) before → ArePassed room inside
       → ArePassed (suc room) (before ++ around name attributes at inside end)
 
 -- Attribute = <Attribute name> any elements </Attribute>
 pub data IsPassed : ℕ → List Tag → Type 0 where
-  the_passed : {room at end : ℕ} {inside : List Tag} {name : List ℕ} {attributes : List Attribute} {is : Bool}
-      → IsCalled name elements.Attribute → is_buffer_size attributes ≡ Some is → ArePassed room inside
+  the_passed : {room at : ℕ} {inside : List Tag} {name : List ℕ} {attributes : List Attribute} {is : Bool} (end : ℕ)
+        → IsCalled name elements.Attribute → is_buffer_size attributes ≡ Some is → ArePassed room inside
       → IsPassed (suc room) (around name attributes at inside end)
 
 -- ---- expressions
 
 -- Op = <Op name/>
 pub data IsPrefixOp : ℕ → List Tag → PrefixOp → Type 0 where
-  the_prefix_op : {room at end : ℕ} {name : List ℕ} {attributes : List Attribute} {op : PrefixOp}
-      → IsCalled name elements.Op → prefix_given attributes ≡ Some op
+  the_prefix_op : {room at : ℕ} {name : List ℕ} {attributes : List Attribute} {op : PrefixOp} (end : ℕ)
+        → IsCalled name elements.Op → prefix_given attributes ≡ Some op
       → IsPrefixOp (suc room) (around name attributes at [] end) op
 
 pub data IsBinaryOp : ℕ → List Tag → BinOp → Type 0 where
-  the_binary_op : {room at end : ℕ} {name : List ℕ} {attributes : List Attribute} {op : BinOp}
-      → IsCalled name elements.Op → binary_given attributes ≡ Some op
+  the_binary_op : {room at : ℕ} {name : List ℕ} {attributes : List Attribute} {op : BinOp} (end : ℕ)
+        → IsCalled name elements.Op → binary_given attributes ≡ Some op
       → IsBinaryOp (suc room) (around name attributes at [] end) op
 
 mutual
   pub data IsExpr : ℕ → List Tag → Tree → Type 0 where
     -- Expr = <Expr kind="Literal" literal-kind value/>
-    the_literal : {room at end : ℕ} {name : List ℕ} {attributes : List Attribute} {l : Literal}
+    the_literal : {room at : ℕ} {name : List ℕ} {attributes : List Attribute} {l : Literal} (end : ℕ)
         → IsCalled name elements.Expr → kind_given attributes ≡ Some kinds.Literal
         → literal_given attributes ≡ Some l
         → IsExpr (suc room) (around name attributes at [] end) (literal_tree l at)
     --      | <Expr kind="Var" name/>
-    the_variable : {room at end : ℕ} {name text : List ℕ} {attributes : List Attribute}
+    the_variable : {room at : ℕ} {name text : List ℕ} {attributes : List Attribute} (end : ℕ)
         → IsCalled name elements.Expr → kind_given attributes ≡ Some kinds.Var
         → IsGiven (name_given (codes "name") attributes) text
         → IsExpr (suc room) (around name attributes at [] end) (variable text at)
     --      | <Expr kind="List"> Expr {Expr} </Expr>
-    the_list : {room at end : ℕ} {name : List ℕ} {attributes : List Attribute} {inside : List Tag}
-        {item : Tree} {items : List Tree}
+    the_list : {room at : ℕ} {name : List ℕ} {attributes : List Attribute} {inside : List Tag}
+        {item : Tree} {items : List Tree} (end : ℕ)
         → IsCalled name elements.Expr → kind_given attributes ≡ Some kinds.List
         → AreItems room inside (item ∷ items) → fits (list (listed (item ∷ items)) at) ≡ true
         → IsExpr (suc room) (around name attributes at inside end) (list (listed (item ∷ items)) at)
     --      | <Expr kind="UnaryOp"> Op Expr </Expr>
-    the_operation : {room at end : ℕ} {name : List ℕ} {attributes : List Attribute} {before inside : List Tag}
-        {op : PrefixOp} {t : Tree}
+    the_operation : {room at : ℕ} {name : List ℕ} {attributes : List Attribute} {before inside : List Tag}
+        {op : PrefixOp} {t : Tree} (end : ℕ)
         → IsCalled name elements.Expr → kind_given attributes ≡ Some kinds.Unary
         → IsPrefixOp room before op → IsExpr room inside t → fits (prefix op t at) ≡ true
         → IsExpr (suc room) (around name attributes at (before ++ inside) end) (prefix op t at)
     --      | <Expr kind="BinOpSeq"> Expr Op Expr {Op Expr} </Expr>
-    the_sequence : {room at end place : ℕ} {name : List ℕ} {attributes : List Attribute} {inside : List Tag}
-        {row : List Item} {op : BinOp} {left right : Tree}
+    the_sequence : {room at place : ℕ} {name : List ℕ} {attributes : List Attribute} {inside : List Tag}
+        {row : List Item} {op : BinOp} {left right : Tree} (end : ℕ)
         → IsCalled name elements.Expr → kind_given attributes ≡ Some kinds.Sequence
         → IsRow room inside row → AreSeveral row → Groups loosest row (binary op left right place)
         → fits (binary op left right at) ≡ true
@@ -122,8 +124,8 @@ mutual
 mutual
   -- Type = <Type name> {Entry} </Type>
   pub data IsType : ℕ → List Tag → Tree → Type 0 where
-    the_type : {room at end place : ℕ} {name text : List ℕ} {attributes : List Attribute} {inside : List Tag}
-        {args : List Tree}
+    the_type : {room at place : ℕ} {name text : List ℕ} {attributes : List Attribute} {inside : List Tag}
+        {args : List Tree} (end : ℕ)
         → IsCalled name elements.Type → type_given attributes ≡ Some (text_at text place)
         → AreEntries room inside args
         → IsType (suc room) (around name attributes at inside end) (type_of (ident text place) (listed args) at)
@@ -136,15 +138,15 @@ mutual
 
   pub data IsEntry : ℕ → List Tag → Tree → Type 0 where
     -- Entry = <Entry kind="Expr" name> Expr </Entry>
-    the_value : {room at end place : ℕ} {name text : List ℕ} {attributes : List Attribute} {inside : List Tag}
-        {t : Tree}
+    the_value : {room at place : ℕ} {name text : List ℕ} {attributes : List Attribute} {inside : List Tag}
+        {t : Tree} (end : ℕ)
         → IsCalled name elements.Entry
         → either_given (codes "kind") (codes "Expr") (codes "Type") attributes ≡ Some true
         → entry_given attributes ≡ Some (text_at text place) → IsExpr room inside t
         → IsEntry (suc room) (around name attributes at inside end) (value_arg (ident text place) t)
     --       | <Entry kind="Type" name> Type </Entry>
-    the_shape : {room at end place : ℕ} {name text : List ℕ} {attributes : List Attribute} {inside : List Tag}
-        {t : Tree}
+    the_shape : {room at place : ℕ} {name text : List ℕ} {attributes : List Attribute} {inside : List Tag}
+        {t : Tree} (end : ℕ)
         → IsCalled name elements.Entry
         → either_given (codes "kind") (codes "Expr") (codes "Type") attributes ≡ Some false
         → entry_given attributes ≡ Some (text_at text place) → IsType room inside t
@@ -154,9 +156,9 @@ mutual
 
 -- Port = <Port kind name> Type </Port>
 pub data IsPort : ℕ → List Tag → Port → Type 0 where
-  the_port : {room at end : ℕ} {name text : List ℕ} {attributes : List Attribute} {inside : List Tag}
-      {input : Bool} {shape : Tree}
-      → IsCalled name elements.Port
+  the_port : {room at : ℕ} {name text : List ℕ} {attributes : List Attribute} {inside : List Tag}
+      {input : Bool} {shape : Tree} (end : ℕ)
+        → IsCalled name elements.Port
       → either_given (codes "kind") (codes "Input") (codes "Output") attributes ≡ Some input
       → IsGiven (name_given (codes "name") attributes) text → IsType room inside shape
       → IsPort (suc room) (around name attributes at inside end) (a_port input shape text at)
@@ -174,14 +176,16 @@ pub data HasDeclared : ℕ → List Tag → Option Tree → Option Tree → Type
 -- Decl = <Decl kind="Param" name> Type [Expr] </Decl>
 --      | <Decl kind="Variable" name> Type Expr </Decl>
 pub data IsDecl : ℕ → List Tag → Decl → Type 0 where
-  the_param : {room at end : ℕ} {name text : List ℕ} {attributes : List Attribute} {inside : List Tag}
-      {shape : Tree} → IsCalled name elements.Decl
+  the_param : {room at : ℕ} {name text : List ℕ} {attributes : List Attribute} {inside : List Tag}
+      {shape : Tree} (end : ℕ)
+        → IsCalled name elements.Decl
       → either_given (codes "kind") (codes "Param") (codes "Variable") attributes ≡ Some true
       → IsGiven (name_given (codes "name") attributes) text
       → HasDeclared room inside (Some shape) None
       → IsDecl (suc room) (around name attributes at inside end) (a_decl true shape text absent at)
-  the_decl : {room at end : ℕ} {name text : List ℕ} {attributes : List Attribute} {inside : List Tag}
-      {param : Bool} {shape value : Tree} → IsCalled name elements.Decl
+  the_decl : {room at : ℕ} {name text : List ℕ} {attributes : List Attribute} {inside : List Tag}
+      {param : Bool} {shape value : Tree} (end : ℕ)
+        → IsCalled name elements.Decl
       → either_given (codes "kind") (codes "Param") (codes "Variable") attributes ≡ Some param
       → IsGiven (name_given (codes "name") attributes) text
       → HasDeclared room inside (Some shape) (Some value)
@@ -191,14 +195,15 @@ pub data IsDecl : ℕ → List Tag → Decl → Type 0 where
 
 -- Class = <Class name/>
 pub data IsClass : ℕ → List Tag → List ℕ → ℕ → Type 0 where
-  the_class : {room at end : ℕ} {name text : List ℕ} {attributes : List Attribute}
-      → IsCalled name elements.Class → IsGiven (tag_given (codes "name") attributes) text
+  the_class : {room at : ℕ} {name text : List ℕ} {attributes : List Attribute} (end : ℕ)
+        → IsCalled name elements.Class → IsGiven (tag_given (codes "name") attributes) text
       → IsClass (suc room) (around name attributes at [] end) text at
 
 -- Parameter = <Parameter name> Expr </Parameter>
 pub data IsParameter : ℕ → List Tag → Parameter → Type 0 where
-  the_parameter : {room at end : ℕ} {name text : List ℕ} {attributes : List Attribute} {inside : List Tag}
-      {t : Tree} → IsCalled name elements.Parameter → IsGiven (name_given (codes "name") attributes) text
+  the_parameter : {room at : ℕ} {name text : List ℕ} {attributes : List Attribute} {inside : List Tag}
+      {t : Tree} (end : ℕ)
+        → IsCalled name elements.Parameter → IsGiven (name_given (codes "name") attributes) text
       → IsExpr room inside t
       → IsParameter (suc room) (around name attributes at inside end) (a_parameter text t at)
 
@@ -217,9 +222,9 @@ pub data InInstance : ℕ → List Tag → Option Class → List Parameter → T
 
 -- Instance = <Instance id> any: Class, {Parameter}, {Attribute} </Instance>
 pub data IsInstance : ℕ → List Tag → Instance → Type 0 where
-  the_instance : {room at end class_at : ℕ} {name text class : List ℕ} {attributes : List Attribute}
-      {inside : List Tag} {parameters : List Parameter}
-      → IsCalled name elements.Instance → IsGiven (name_given (codes "id") attributes) text
+  the_instance : {room at class_at : ℕ} {name text class : List ℕ} {attributes : List Attribute}
+      {inside : List Tag} {parameters : List Parameter} (end : ℕ)
+        → IsCalled name elements.Instance → IsGiven (name_given (codes "id") attributes) text
       → InInstance room inside (Some (a_class class class_at)) parameters
       → IsInstance (suc room) (around name attributes at inside end) (an_instance text class class_at parameters at)
 
@@ -227,14 +232,14 @@ pub data IsInstance : ℕ → List Tag → Instance → Type 0 where
 
 -- Size = <Attribute name="bufferSize"> Expr </Attribute>
 pub data IsSize : ℕ → List Tag → Size → Type 0 where
-  the_size : {room at end : ℕ} {name : List ℕ} {attributes : List Attribute} {inside : List Tag} {t : Tree}
-      → IsCalled name elements.Attribute → is_buffer_size attributes ≡ Some true → IsExpr room inside t
+  the_size : {room at : ℕ} {name : List ℕ} {attributes : List Attribute} {inside : List Tag} {t : Tree} (end : ℕ)
+        → IsCalled name elements.Attribute → is_buffer_size attributes ≡ Some true → IsExpr room inside t
       → IsSize (suc room) (around name attributes at inside end) (a_size t at)
 
 -- an attribute of a connection that is passed over isn't a size
 pub data IsOther : ℕ → List Tag → Type 0 where
-  the_other : {room at end : ℕ} {inside : List Tag} {name : List ℕ} {attributes : List Attribute}
-      → IsCalled name elements.Attribute → is_buffer_size attributes ≡ Some false → ArePassed room inside
+  the_other : {room at : ℕ} {inside : List Tag} {name : List ℕ} {attributes : List Attribute} (end : ℕ)
+        → IsCalled name elements.Attribute → is_buffer_size attributes ≡ Some false → ArePassed room inside
       → IsOther (suc room) (around name attributes at inside end)
 
 -- any: {Size}, {Attribute}
@@ -249,9 +254,9 @@ pub data InConnection : ℕ → List Tag → List Size → Type 0 where
 
 -- Connection = <Connection src src-port dst dst-port> any: {Size}, {Attribute} </Connection>
 pub data IsConnection : ℕ → List Tag → Connection → Type 0 where
-  the_connection : {room at end : ℕ} {name src src_port dst dst_port : List ℕ} {attributes : List Attribute}
-      {inside : List Tag} {sizes : List Size}
-      → IsCalled name elements.Connection
+  the_connection : {room at : ℕ} {name src src_port dst dst_port : List ℕ} {attributes : List Attribute}
+      {inside : List Tag} {sizes : List Size} (end : ℕ)
+        → IsCalled name elements.Connection
       → IsGiven (end_given (codes "src") attributes) src
       → IsGiven (name_given (codes "src-port") attributes) src_port
       → IsGiven (end_given (codes "dst") attributes) dst
@@ -283,9 +288,9 @@ pub data InNetwork : ℕ → List Tag → List Port → List Decl → List Insta
 
 -- XDF = <XDF name> any: {Port}, {Decl}, {Instance}, {Connection}, {Attribute} </XDF>
 pub data IsNetwork : ℕ → List Tag → Net → Type 0 where
-  the_network : {room at end : ℕ} {name text : List ℕ} {attributes : List Attribute} {inside : List Tag}
-      {ps : List Port} {ds : List Decl} {is : List Instance} {cs : List Connection}
-      → IsCalled name elements.Xdf → IsGiven (name_given (codes "name") attributes) text
+  the_network : {room at : ℕ} {name text : List ℕ} {attributes : List Attribute} {inside : List Tag}
+      {ps : List Port} {ds : List Decl} {is : List Instance} {cs : List Connection} (end : ℕ)
+        → IsCalled name elements.Xdf → IsGiven (name_given (codes "name") attributes) text
       → InNetwork room inside ps ds is cs
       → IsNetwork (suc room) (around name attributes at inside end)
         (record { name = text; ports = ps; decls = ds; instances = is; connections = cs; at = at; })
