@@ -148,10 +148,13 @@ operation_read n row others op left right ws0 is_level fit above h k = record {
   where
     whole_tree : Tree
     whole_tree = binary op left right (begins left)
+
     split : (k.ws ++ (pending left op ∷ [])) ++ ws0 ≡ k.ws ++ (pending left op ∷ ws0)
     split = append_assoc k.ws (pending left op ∷ []) ws0
+
     two_wait : (at : ℕ) (p : Pending) (rest : List Pending) → ws0 ≡ p ∷ rest → grouped at (pending left op ∷ ws0) right ≡ grouped at ws0 whole_tree
     two_wait at p rest e = rw (e, made_of whole_tree fit) refl
+
     one_waits : (at : ℕ) → ws0 ≡ [] → grouped at (pending left op ∷ ws0) right ≡ made (binary op left right at)
     one_waits at e = rw e refl
 
@@ -227,8 +230,10 @@ waits_joined op o l r ws new due e = by_fit (fits (binary o l r (begins l))) ref
   where
     whole : Tree
     whole = binary o l r (begins l)
+
     turns : before_operator op (pending l o ∷ ws) r ≡ on (made whole) (λ t. before_operator op ws t)
     turns = rw due refl
+
     by_fit : (b : Bool) → fits whole ≡ b → (fits whole ≡ true) × (before_operator op ws whole ≡ Some new)
     by_fit true f = let one : made whole ≡ Some whole = made_of whole f in (f, ap (λ x. on x (λ t. before_operator op ws t)) (sym one) ∙ sym turns ∙ e)
     by_fit false f = let none : made whole ≡ None = rw f refl in let no : None ≡ Some new = ap (λ x. on x (λ t. before_operator op ws t)) (sym none) ∙ sym turns ∙ e in absurd cc
@@ -248,9 +253,9 @@ hold_test op l o ws new row others n r go (holds_more {row = front} {others = fi
     let due : level o ≤ level op = leb-true (level o) (level op) is in
     let one : Groups (level o) (first ++ operator o ∷ others) (binary o l r (begins l)) = grouped_by o n first others l r f above g in
     let so : Holds (front ++ ((first ++ operator o ∷ others) ++ operator op ∷ [])) new =
-      go front (first ++ operator o ∷ others) (level o) (binary o l r (begins l)) held one looser_ due two.1 in
+    go front (first ++ operator o ∷ others) (level o) (binary o l r (begins l)) held one looser_ due two.1 in
     let there : (front ++ (first ++ operator o ∷ [])) ++ (others ++ operator op ∷ []) ≡ front ++ ((first ++ operator o ∷ others) ++ operator op ∷ []) =
-      regroup front first (others ++ operator op ∷ []) o ∙ ap (λ x. front ++ x) (sym (append_assoc first (operator o ∷ others) (operator op ∷ []))) in
+    regroup front first (others ++ operator op ∷ []) o ∙ ap (λ x. front ++ x) (sym (append_assoc first (operator o ∷ others) (operator op ∷ []))) in
     subst (λ x. Holds x new) (sym there) so
 
 -- the operators that wait for one that isn't tighter are joined
@@ -274,6 +279,7 @@ ends_joined at p l o ws r t e = by_fit (fits (binary o l r (begins l))) refl
   where
     whole : Tree
     whole = binary o l r (begins l)
+
     by_fit : (b : Bool) → fits whole ≡ b → grouped at (p ∷ ws) whole ≡ Some t
     by_fit true f = let one : made whole ≡ Some whole = made_of whole f in ap (λ x. on x (λ t. grouped at (p ∷ ws) t)) (sym one) ∙ e
     by_fit false f = let none : made whole ≡ None = rw f refl in let no : None ≡ Some t = ap (λ x. on x (λ t. grouped at (p ∷ ws) t)) (sym none) ∙ e in absurd cc

@@ -100,6 +100,7 @@ turn row op t ws r e = by_row (reads row [] None) refl
   where
     two : List Item
     two = operator op ∷ operand t ∷ []
+
     of_turn : (w : List Pending) (x : Tree) → reads row [] None ≡ Some (read w (Some x)) → (found : Option (List Pending)) → before_operator op w x ≡ found
         → reads_on (operand t ∷ []) found ≡ Some (read ws (Some r)) → Turn row op t ws r
     of_turn w x is None f h = absurd cc
@@ -107,6 +108,7 @@ turn row op t ws r e = by_row (reads row [] None) refl
         let so : v ≡ ws = cc in
         let last : t ≡ r = cc in
         record { waiting = w; last = x; is = is; turns = f ∙ ap Some so; same = last }
+
     by_row : (found : Option Read) → reads row [] None ≡ found → Turn row op t ws r
     by_row None is = let no : None ≡ Some (read ws (Some r)) = ap (λ x. then_reads x two) (sym is) ∙ sym (reads_append row two [] None) ∙ e in absurd cc
     by_row (Some (read w None)) is = let no : None ≡ Some (read ws (Some r)) = ap (λ x. then_reads x two) (sym is) ∙ sym (reads_append row two [] None) ∙ e in absurd cc
@@ -154,6 +156,7 @@ ready at place row op l r several g fit = of_read (is_read loosest row (binary o
           is = h.is ∙ ap (λ w. Some (read w (Some h.last))) (append-nil h.ws);
           whole = ap (λ w. grouped at w h.last) (sym (append-nil h.ws)) ∙ w.so ∙ ap made tree ∙ made_is (binary op l r at) fit;
         }
+
     of_read : IsRead loosest row [] (binary op l r place) → Ready at row (binary op l r at)
     of_read h = of_whole h (h.so.whole at refl)
 
@@ -188,8 +191,8 @@ mutual
       element_runs name attributes at (before ++ inside) end rest f (in_unary None None at) (in_unary (Some op) (Some t) at) (with_expr (prefix op t at) f) bs
       (opened_is name attributes at f bs elements.Expr _ p c a (rw k (entering (in_unary None None at) f bs at room less)))
       (λ more. parts_run before inside more (in_unary None None at) (in_unary (Some op) None at) (in_unary (Some op) (Some t) at) (f ∷ bs)
-        (λ rest_. prefix_op_runs o at (f ∷ bs) rest_ (omega (arith, less)))
-        (expr_runs h (in_unary (Some op) None at) (f ∷ bs) more refl refl (omega (arith, less))))
+      (λ rest_. prefix_op_runs o at (f ∷ bs) rest_ (omega (arith, less)))
+      (expr_runs h (in_unary (Some op) None at) (f ∷ bs) more refl refl (omega (arith, less))))
       (rw (made_is (prefix op t at) fit) refl)
   expr_runs (the_sequence {room = room} {at = at} {place = place} {name = name} {attributes = attributes} {inside = inside} {row = row} {op = op} {left = left} {right = right} end c k h several g fit) f bs rest p a less =
       let it = ready at place row op left right several g fit in
@@ -218,8 +221,8 @@ mutual
       parts_run before (between ++ inside) rest (in_sequence [] None there) (in_sequence it.waiting (Some it.last) there) (in_sequence ws (Some r) there) bs
       (λ more. row_runs h there it.waiting it.last bs more it.is less)
       (parts_run between inside rest (in_sequence it.waiting (Some it.last) there) (in_sequence ws None there) (in_sequence ws (Some r) there) bs
-        (λ more. binary_op_runs o there it.waiting ws it.last bs more it.turns less)
-        (expr_runs k (in_sequence ws None there) bs rest refl refl less ∙ ap (λ x. run (Going (st (in_sequence ws (Some x) there) bs)) rest) it.same))
+      (λ more. binary_op_runs o there it.waiting ws it.last bs more it.turns less)
+      (expr_runs k (in_sequence ws None there) bs rest refl refl less ∙ ap (λ x. run (Going (st (in_sequence ws (Some x) there) bs)) rest) it.same))
 
 -- ---- types
 
@@ -321,14 +324,14 @@ class_runs : {room at : ℕ} {tags : List Tag} {text : List ℕ} → IsClass roo
 class_runs (the_class {room = room} {at = at} {name = name} {text = text} {attributes = attributes} end c g) id parameters there bs rest less =
     empty_runs name attributes at end rest (in_instance id None parameters there) (in_instance id (Some (a_class text at)) parameters there) bs
     (opened_is name attributes at (in_instance id None parameters there) bs elements.Class _ refl c refl
-      (rw (g.is, g.short) (entering in_empty (in_instance id (Some (a_class text at)) parameters there) bs at room less)))
+    (rw (g.is, g.short) (entering in_empty (in_instance id (Some (a_class text at)) parameters there) bs at room less)))
 
 parameter_runs : {room : ℕ} {tags : List Tag} {p : Parameter} → IsParameter room tags p → (id : List ℕ) (class : Option Class) (parameters : List Parameter) (there : ℕ) (bs : List Frame) (rest : List Tag) → length bs + room ≤ 64
     → run (Going (st (in_instance id class parameters there) bs)) (tags ++ rest) ≡ run (Going (st (in_instance id class (parameters ++ p ∷ []) there) bs)) rest
 parameter_runs (the_parameter {room = room} {at = at} {name = name} {text = text} {attributes = attributes} {inside = inside} {t = t} end c g h) id class parameters there bs rest less =
     element_runs name attributes at inside end rest (in_instance id class parameters there) (in_parameter text None at) (in_parameter text (Some t) at) (in_instance id class (parameters ++ a_parameter text t at ∷ []) there) bs
     (opened_is name attributes at (in_instance id class parameters there) bs elements.Parameter _ refl c refl
-      (rw (g.is, g.short) (entering (in_parameter text None at) (in_instance id class parameters there) bs at room less)))
+    (rw (g.is, g.short) (entering (in_parameter text None at) (in_instance id class parameters there) bs at room less)))
     (λ more. expr_runs h (in_parameter text None at) (in_instance id class parameters there ∷ bs) more refl refl (omega (arith, less)))
     refl
 
@@ -375,17 +378,17 @@ in_connection_runs (and_size {before = before} {sizes = sizes} h (the_size {room
     parts_run before (around name attributes at inside end) rest (in_connection src src_port dst dst_port [] there) (in_connection src src_port dst dst_port sizes there) (in_connection src src_port dst dst_port (sizes ++ a_size t at ∷ []) there) bs
     (λ more. in_connection_runs h src src_port dst dst_port there bs more less)
     (element_runs name attributes at inside end rest (in_connection src src_port dst dst_port sizes there) (in_size None at) (in_size (Some t) at) (in_connection src src_port dst dst_port (sizes ++ a_size t at ∷ []) there) bs
-      (opened_is name attributes at (in_connection src src_port dst dst_port sizes there) bs elements.Attribute _ refl c refl (size_opens attributes at room src src_port dst dst_port sizes there bs e less))
-      (λ more. expr_runs k (in_size None at) (in_connection src src_port dst dst_port sizes there ∷ bs) more refl refl (omega (arith, less)))
-      refl)
+    (opened_is name attributes at (in_connection src src_port dst dst_port sizes there) bs elements.Attribute _ refl c refl (size_opens attributes at room src src_port dst dst_port sizes there bs e less))
+    (λ more. expr_runs k (in_size None at) (in_connection src src_port dst dst_port sizes there ∷ bs) more refl refl (omega (arith, less)))
+    refl)
 in_connection_runs (and_other {before = before} {sizes = sizes} h (the_other {room = room} {at = at} {inside = inside} {name = name} {attributes = attributes} end c e k)) src src_port dst dst_port there bs rest less =
     parts_run before (around name attributes at inside end) rest (in_connection src src_port dst dst_port [] there) (in_connection src src_port dst dst_port sizes there) (in_connection src src_port dst dst_port sizes there) bs
     (λ more. in_connection_runs h src src_port dst dst_port there bs more less)
     (element_runs name attributes at inside end rest (in_connection src src_port dst dst_port sizes there) in_passed in_passed (in_connection src src_port dst dst_port sizes there) bs
-      (opened_is name attributes at (in_connection src src_port dst dst_port sizes there) bs elements.Attribute _ refl c refl
-        (attribute_opens attributes at room (in_connection src src_port dst dst_port sizes there) bs false e (λ text same. rw same refl) less))
-      (λ more. passed_run k (in_connection src src_port dst dst_port sizes there ∷ bs) more (omega (arith, less)))
-      refl)
+    (opened_is name attributes at (in_connection src src_port dst dst_port sizes there) bs elements.Attribute _ refl c refl
+    (attribute_opens attributes at room (in_connection src src_port dst dst_port sizes there) bs false e (λ text same. rw same refl) less))
+    (λ more. passed_run k (in_connection src src_port dst dst_port sizes there ∷ bs) more (omega (arith, less)))
+    refl)
 
 none_earlier : (a b c d : Option ℕ) → a ≡ None → b ≡ None → c ≡ None → d ≡ None → earlier (earlier a b) (earlier c d) ≡ None
 none_earlier a b c d ea eb ec ed = rw (ea, eb, ec, ed) refl
@@ -395,8 +398,8 @@ connection_runs : {room : ℕ} {tags : List Tag} {k : Connection} → IsConnecti
 connection_runs (the_connection {room = room} {at = at} {name = name} {src = src} {src_port = src_port} {dst = dst} {dst_port = dst_port} {attributes = attributes} {inside = inside} {sizes = sizes} end c g1 g2 g3 g4 h) net bs rest less =
     element_runs name attributes at inside end rest (in_network net) (in_connection src src_port dst dst_port [] at) (in_connection src src_port dst dst_port sizes at) (with_connection (a_connection src src_port dst dst_port sizes at) (in_network net)) bs
     (opened_is name attributes at (in_network net) bs elements.Connection _ refl c refl
-      (rw (g1.is, g2.is, g3.is, g4.is, none_earlier _ _ _ _ (short src g1.place g1.short) (short src_port g2.place g2.short) (short dst g3.place g3.short) (short dst_port g4.place g4.short))
-        (entering (in_connection src src_port dst dst_port [] at) (in_network net) bs at room less)))
+    (rw (g1.is, g2.is, g3.is, g4.is, none_earlier _ _ _ _ (short src g1.place g1.short) (short src_port g2.place g2.short) (short dst g3.place g3.short) (short dst_port g4.place g4.short))
+    (entering (in_connection src src_port dst dst_port [] at) (in_network net) bs at room less)))
     (λ more. in_connection_runs h src src_port dst dst_port at (in_network net ∷ bs) more (omega (arith, less)))
     refl
 

@@ -149,7 +149,6 @@ grows {room} {f} {g} {bs} {kid} before inside more s u k = subst (λ x. Stands r
 
 -- ---- an element more in what is open
 
-
 -- an operand behind an operator
 p_row2_next : {room at : ℕ} {name : List ℕ} {attributes : List Attribute} {row : List Item} {op : BinOp} {ws : List Pending} {t : Tree} (before between inside : List Tag)
     → IsCalled name elements.Expr → kind_given attributes ≡ Some kinds.Sequence → IsRow room before row → IsBinaryOp room between op → reads (row ++ operator op ∷ []) [] None ≡ Some (read ws None) → IsExpr room inside t
@@ -157,9 +156,8 @@ p_row2_next : {room at : ℕ} {name : List ℕ} {attributes : List Attribute} {r
 p_row2_next {room} {at} {name} {attributes} {row} {op} {ws} {t} before between inside c k h o e i =
     let two : (row ++ (operator op ∷ [])) ++ (operand t ∷ []) ≡ row ++ operator op ∷ operand t ∷ [] = append_assoc row (operator op ∷ []) (operand t ∷ []) in
     let is : reads (row ++ operator op ∷ operand t ∷ []) [] None ≡ Some (read ws (Some t)) =
-        ap (λ x. reads x [] None) (sym two) ∙ reads_append (row ++ (operator op ∷ [])) (operand t ∷ []) [] None ∙ ap (λ x. then_reads x (operand t ∷ [])) e in
+    ap (λ x. reads x [] None) (sym two) ∙ reads_append (row ++ (operator op ∷ [])) (operand t ∷ []) [] None ∙ ap (λ x. then_reads x (operand t ∷ [])) e in
     subst (λ x. Partial room (an_element elements.Expr) (in_sequence ws (Some t) at) (opens name attributes at ∷ x)) (sym (append_assoc before between inside)) (p_row1 c k (the_next h o i) is)
-
 
 partial_expr : {room : ℕ} {kid : Kid} {g : Frame} {inside more : List Tag} {t : Tree} → Partial room kid g inside → allows g elements.Expr ≡ true → is_passed g ≡ false → IsExpr room more t → Partial room kid (with_expr t g) (inside ++ more)
 partial_expr (p_net {room = room} {name = name} {attributes = attributes} {inside = inside} {net = net} h1 h2 h3) a p k = absurd cc
@@ -506,7 +504,6 @@ partial_size (p_row0 {room = room} {at = at} {name = name} {attributes = attribu
 partial_size (p_row1 {room = room} {at = at} {name = name} {attributes = attributes} {inside = inside} {row = row} {ws = ws} {r = r} h1 h2 h3 h4) u k = absurd u
 partial_size (p_row2 {room = room} {at = at} {name = name} {attributes = attributes} {before = before} {between = between} {row = row} {op = op} {ws = ws} h1 h2 h3 h4 h5) u k = absurd u
 
-
 partial_passed : {room : ℕ} {kid : Kid} {g : Frame} {inside more : List Tag} (is : Bool) → Partial room kid g inside → Takes g (passed_over is) → IsPassed room more → (is ≡ false → IsOther room more) → Partial room kid g (inside ++ more)
 partial_passed size_is (p_net {room = room} {name = name} {attributes = attributes} {inside = inside} {net = net} h1 h2 h3) u k o = p_net h1 h2 (with_an_attribute h3 k)
 partial_passed size_is (p_port0 {room = room} {at = at} {name = name} {text = text} {attributes = attributes} {input = input} h1 h2 h3) u k o = absurd u
@@ -532,7 +529,6 @@ partial_passed size_is (p_unary2 {room = room} {at = at} {name = name} {attribut
 partial_passed size_is (p_row0 {room = room} {at = at} {name = name} {attributes = attributes} h1 h2) u k o = absurd u
 partial_passed size_is (p_row1 {room = room} {at = at} {name = name} {attributes = attributes} {inside = inside} {row = row} {ws = ws} {r = r} h1 h2 h3 h4) u k o = absurd u
 partial_passed size_is (p_row2 {room = room} {at = at} {name = name} {attributes = attributes} {before = before} {between = between} {row = row} {op = op} {ws = ws} h1 h2 h3 h4 h5) u k o = absurd u
-
 
 pub absorb_size : {room : ℕ} {f : Frame} {bs : List Frame} {tags more : List Tag} {x : Size} → Stands room f bs tags → Takes f a_size_of → IsSize room more x → Stands room (with_size x f) bs (tags ++ more)
 absorb_size (at_bottom) u k = absurd u
@@ -563,4 +559,3 @@ pub absorb_binary : {room there : ℕ} {ws new : List Pending} {r : Tree} {bs : 
 absorb_binary {new = new} {op = op} (on_top {before = before} {inside = inside} s u (p_row1 {row = row} {ws = ws} {r = r} h1 h2 h3 h4)) k e =
     let is : reads (row ++ operator op ∷ []) [] None ≡ Some (read new None) = reads_append row (operator op ∷ []) [] None ∙ ap (λ x. then_reads x (operator op ∷ [])) h4 ∙ ap (reads_on []) e in
     grows before inside _ s u (p_row2 h1 h2 h3 k is)
-

@@ -33,7 +33,6 @@ use Rattle.fnl_grammar.specs.Productions.{around, IsCalled, IsGiven, is_size_in,
 use Rattle.fnl_grammar.proofs.Reading.{Read, read, reads, reads_on, then_reads, reads_append}
 use Rattle.fnl_grammar.proofs.Grouped.{is_made, IsGrouped, is_grouped, read_is_grouped}
 use Rattle.fnl_grammar.proofs.Runs.{st}
-
 use Rattle.fnl_grammar.proofs.Stands.{Kid, an_element, a_size_of, passed_over, Partial, p_net, p_port0, p_port1, p_decl, p_inst, p_param0, p_param1, p_conn, p_size0, p_size1, p_passed, p_type, p_value0, p_value1, p_shape0, p_shape1, p_list, p_unary0, p_unary1, p_unary2, p_row0, p_row1, p_row2, Takes, Stands, at_bottom, at_end, on_top, within_passed, around_nothing, depth, absorb_expr, absorb_type, absorb_entry, absorb_class, absorb_parameter, absorb_port, absorb_decl, absorb_instance, absorb_connection, absorb_size, absorb_passed, absorb_within, absorb_prefix, absorb_binary}
 
 -- what stands after a step
@@ -131,21 +130,21 @@ partial_ends {end = end} {f = f} {bs = bs} {before = before} next s u (p_value1 
 partial_ends {end = end} {f = f} {bs = bs} {before = before} next s u (p_shape0 {at = at} {place = place} {name = name} {text = text} {attributes = attributes} h1 h2 h3) e = absurd cc
 partial_ends {end = end} {f = f} {bs = bs} {before = before} next s u (p_shape1 {at = at} {place = place} {name = name} {text = text} {attributes = attributes} {inside = within} {t = t} h1 h2 h3 h4) e = let same : st (with_arg (shape_arg (ident text place) t) f) bs ≡ next = cc in left before (opens name attributes at ∷ within) next (absorb_entry s u.0 u.1 (the_shape end h1 h2 h3 h4)) same
 partial_ends {end = end} {f = f} {bs = bs} {before = before} next s u (p_list {at = at} {name = name} {attributes = attributes} {inside = within} {items = []} h1 h2 h3) e = absurd cc
-partial_ends {end = end} {f = f} {bs = bs} {before = before} next s u (p_list {at = at} {name = name} {attributes = attributes} {inside = within} {items = (item ∷ items)} h1 h2 h3) e = 
+partial_ends {end = end} {f = f} {bs = bs} {before = before} next s u (p_list {at = at} {name = name} {attributes = attributes} {inside = within} {items = (item ∷ items)} h1 h2 h3) e =
     let it = expr_left at end (in_list (item ∷ items) at) f bs next (made (list (listed (item ∷ items)) at)) e in
     let m = is_made (list (listed (item ∷ items)) at) it.0 it.1 in
     let same : st (with_expr (list (listed (item ∷ items)) at) f) bs ≡ next = ap (λ x. st (with_expr x f) bs) m.0 ∙ it.2 in
     left before (opens name attributes at ∷ within) next (absorb_expr s u.0 u.1 (the_list end h1 h2 h3 m.1)) same
 partial_ends {end = end} {f = f} {bs = bs} {before = before} next s u (p_unary0 {at = at} {name = name} {attributes = attributes} h1 h2) e = absurd cc
 partial_ends {end = end} {f = f} {bs = bs} {before = before} next s u (p_unary1 {at = at} {name = name} {attributes = attributes} {inside = within} {op = op} h1 h2 h3) e = absurd cc
-partial_ends {end = end} {f = f} {bs = bs} {before = before} next s u (p_unary2 {at = at} {name = name} {attributes = attributes} {before = first} {inside = within} {op = op} {t = t} h1 h2 h3 h4) e = 
+partial_ends {end = end} {f = f} {bs = bs} {before = before} next s u (p_unary2 {at = at} {name = name} {attributes = attributes} {before = first} {inside = within} {op = op} {t = t} h1 h2 h3 h4) e =
     let it = expr_left at end (in_unary (Some op) (Some t) at) f bs next (made (prefix op t at)) e in
     let m = is_made (prefix op t at) it.0 it.1 in
     let same : st (with_expr (prefix op t at) f) bs ≡ next = ap (λ x. st (with_expr x f) bs) m.0 ∙ it.2 in
     left before (opens name attributes at ∷ first ++ within) next (absorb_expr s u.0 u.1 (the_operation end h1 h2 h3 h4 m.1)) same
 partial_ends {end = end} {f = f} {bs = bs} {before = before} next s u (p_row0 {at = at} {name = name} {attributes = attributes} h1 h2) e = absurd cc
 partial_ends {end = end} {f = f} {bs = bs} {before = before} next s u (p_row1 {at = at} {name = name} {attributes = attributes} {inside = within} {row = row} {ws = []} {r = r} h1 h2 h3 h4) e = absurd cc
-partial_ends {end = end} {f = f} {bs = bs} {before = before} next s u (p_row1 {at = at} {name = name} {attributes = attributes} {inside = within} {row = row} {ws = (p ∷ ws)} {r = r} h1 h2 h3 h4) e = 
+partial_ends {end = end} {f = f} {bs = bs} {before = before} next s u (p_row1 {at = at} {name = name} {attributes = attributes} {inside = within} {row = row} {ws = (p ∷ ws)} {r = r} h1 h2 h3 h4) e =
     let it = expr_left at end (in_sequence (p ∷ ws) (Some r) at) f bs next (grouped at (p ∷ ws) r) e in
     row_ends name attributes before next s u h1 h2 h3 (several row p ws r h4) (read_is_grouped at row (p ∷ ws) r it.0 h4 it.1) it.2
 partial_ends {end = end} {f = f} {bs = bs} {before = before} next s u (p_row2 {at = at} {name = name} {attributes = attributes} {before = first} {between = between} {row = row} {op = op} {ws = ws} h1 h2 h3 h4 h5) e = absurd cc
@@ -181,6 +180,7 @@ entered g tl at f bs next e = by_test (nat_le 64 (length bs)) refl
     by_long : length bs < 64 → (tl_ : Option ℕ) → tl ≡ tl_ → opening.entered g tl_ (st f bs) ≡ Going next → Entered tl g f bs next
     by_long less None is h = record { fits = is; some = less; same = cc }
     by_long less (Some place) is h = absurd cc
+
     by_test : (b : Bool) → nat_le 64 (length bs) ≡ b → Entered tl g f bs next
     by_test true is = let no : Fault nests_too_deep at ≡ Going next = sym (rw is refl) ∙ e in absurd cc
     by_test false is = let h : opening.entered g tl (st f bs) ≡ Going next = sym (rw is refl) ∙ e in by_long (less_of is) tl refl h
@@ -334,6 +334,7 @@ attribute_begins {at = at} {f = f} {bs = bs} {tags = tags} {name = name} {attrib
   where
     size_is : is_buffer_size attributes ≡ Some (bytes_eq text (codes "bufferSize"))
     size_is = ap is_size_in g
+
     by_kind : Passes f text at (bytes_eq text (codes "bufferSize")) ⊎ Sizes f text at (bytes_eq text (codes "bufferSize")) → AfterTag tags (opens name attributes at) next
     by_kind (inl it) =
         let h = entered in_passed None at f bs next (ap (λ x. opening.enter x None at (st f bs)) (sym it.same) ∙ e) in
@@ -511,9 +512,11 @@ opened_after {room} {at} {f} {bs} {tags} {name} {attributes} next s e = by_passe
         → AfterTag tags (opens name attributes at) next
     by_allowed x c p true is h = element_begins next x s is p c h
     by_allowed x c p false is h = absurd cc
+
     by_name : is_passed f ≡ false → (found : Option Element) → element_named name ≡ found → opening.open_known found attributes at (st f bs) ≡ Going next → AfterTag tags (opens name attributes at) next
     by_name p None is h = absurd cc
     by_name p (Some x) is h = by_allowed x is p (allows f x) refl h
+
     by_passed : (b : Bool) → is_passed f ≡ b → AfterTag tags (opens name attributes at) next
     by_passed true is =
         let h : opening.enter in_passed None at (st f bs) ≡ Going next = sym (rw is refl) ∙ e in

@@ -51,13 +51,13 @@ is_buffer_size attributes = is_size_in (given (codes "name") attributes)
 pub data ArePassed : ℕ → List Tag → Type 0 where
   passed_none : {room : ℕ} → ArePassed room []
   passed_more : {room : ℕ} {before inside : List Tag} (name : List ℕ) (attributes : List Attribute) (at end : ℕ)
-        → ArePassed (suc room) before → ArePassed room inside
+      → ArePassed (suc room) before → ArePassed room inside
       → ArePassed (suc room) (before ++ around name attributes at inside end)
 
 -- Attribute = <Attribute name> any elements </Attribute>
 pub data IsPassed : ℕ → List Tag → Type 0 where
   the_passed : {room at : ℕ} {inside : List Tag} {name : List ℕ} {attributes : List Attribute} {is : Bool} (end : ℕ)
-        → IsCalled name elements.Attribute → is_buffer_size attributes ≡ Some is → ArePassed room inside
+      → IsCalled name elements.Attribute → is_buffer_size attributes ≡ Some is → ArePassed room inside
       → IsPassed (suc room) (around name attributes at inside end)
 
 -- ---- expressions
@@ -65,12 +65,12 @@ pub data IsPassed : ℕ → List Tag → Type 0 where
 -- Op = <Op name/>
 pub data IsPrefixOp : ℕ → List Tag → PrefixOp → Type 0 where
   the_prefix_op : {room at : ℕ} {name : List ℕ} {attributes : List Attribute} {op : PrefixOp} (end : ℕ)
-        → IsCalled name elements.Op → prefix_given attributes ≡ Some op
+      → IsCalled name elements.Op → prefix_given attributes ≡ Some op
       → IsPrefixOp (suc room) (around name attributes at [] end) op
 
 pub data IsBinaryOp : ℕ → List Tag → BinOp → Type 0 where
   the_binary_op : {room at : ℕ} {name : List ℕ} {attributes : List Attribute} {op : BinOp} (end : ℕ)
-        → IsCalled name elements.Op → binary_given attributes ≡ Some op
+      → IsCalled name elements.Op → binary_given attributes ≡ Some op
       → IsBinaryOp (suc room) (around name attributes at [] end) op
 
 mutual
@@ -158,7 +158,7 @@ mutual
 pub data IsPort : ℕ → List Tag → Port → Type 0 where
   the_port : {room at : ℕ} {name text : List ℕ} {attributes : List Attribute} {inside : List Tag}
       {input : Bool} {shape : Tree} (end : ℕ)
-        → IsCalled name elements.Port
+      → IsCalled name elements.Port
       → either_given (codes "kind") (codes "Input") (codes "Output") attributes ≡ Some input
       → IsGiven (name_given (codes "name") attributes) text → IsType room inside shape
       → IsPort (suc room) (around name attributes at inside end) (a_port input shape text at)
@@ -178,14 +178,14 @@ pub data HasDeclared : ℕ → List Tag → Option Tree → Option Tree → Type
 pub data IsDecl : ℕ → List Tag → Decl → Type 0 where
   the_param : {room at : ℕ} {name text : List ℕ} {attributes : List Attribute} {inside : List Tag}
       {shape : Tree} (end : ℕ)
-        → IsCalled name elements.Decl
+      → IsCalled name elements.Decl
       → either_given (codes "kind") (codes "Param") (codes "Variable") attributes ≡ Some true
       → IsGiven (name_given (codes "name") attributes) text
       → HasDeclared room inside (Some shape) None
       → IsDecl (suc room) (around name attributes at inside end) (a_decl true shape text absent at)
   the_decl : {room at : ℕ} {name text : List ℕ} {attributes : List Attribute} {inside : List Tag}
       {param : Bool} {shape value : Tree} (end : ℕ)
-        → IsCalled name elements.Decl
+      → IsCalled name elements.Decl
       → either_given (codes "kind") (codes "Param") (codes "Variable") attributes ≡ Some param
       → IsGiven (name_given (codes "name") attributes) text
       → HasDeclared room inside (Some shape) (Some value)
@@ -196,14 +196,14 @@ pub data IsDecl : ℕ → List Tag → Decl → Type 0 where
 -- Class = <Class name/>
 pub data IsClass : ℕ → List Tag → List ℕ → ℕ → Type 0 where
   the_class : {room at : ℕ} {name text : List ℕ} {attributes : List Attribute} (end : ℕ)
-        → IsCalled name elements.Class → IsGiven (tag_given (codes "name") attributes) text
+      → IsCalled name elements.Class → IsGiven (tag_given (codes "name") attributes) text
       → IsClass (suc room) (around name attributes at [] end) text at
 
 -- Parameter = <Parameter name> Expr </Parameter>
 pub data IsParameter : ℕ → List Tag → Parameter → Type 0 where
   the_parameter : {room at : ℕ} {name text : List ℕ} {attributes : List Attribute} {inside : List Tag}
       {t : Tree} (end : ℕ)
-        → IsCalled name elements.Parameter → IsGiven (name_given (codes "name") attributes) text
+      → IsCalled name elements.Parameter → IsGiven (name_given (codes "name") attributes) text
       → IsExpr room inside t
       → IsParameter (suc room) (around name attributes at inside end) (a_parameter text t at)
 
@@ -224,7 +224,7 @@ pub data InInstance : ℕ → List Tag → Option Class → List Parameter → T
 pub data IsInstance : ℕ → List Tag → Instance → Type 0 where
   the_instance : {room at class_at : ℕ} {name text class : List ℕ} {attributes : List Attribute}
       {inside : List Tag} {parameters : List Parameter} (end : ℕ)
-        → IsCalled name elements.Instance → IsGiven (name_given (codes "id") attributes) text
+      → IsCalled name elements.Instance → IsGiven (name_given (codes "id") attributes) text
       → InInstance room inside (Some (a_class class class_at)) parameters
       → IsInstance (suc room) (around name attributes at inside end) (an_instance text class class_at parameters at)
 
@@ -233,13 +233,13 @@ pub data IsInstance : ℕ → List Tag → Instance → Type 0 where
 -- Size = <Attribute name="bufferSize"> Expr </Attribute>
 pub data IsSize : ℕ → List Tag → Size → Type 0 where
   the_size : {room at : ℕ} {name : List ℕ} {attributes : List Attribute} {inside : List Tag} {t : Tree} (end : ℕ)
-        → IsCalled name elements.Attribute → is_buffer_size attributes ≡ Some true → IsExpr room inside t
+      → IsCalled name elements.Attribute → is_buffer_size attributes ≡ Some true → IsExpr room inside t
       → IsSize (suc room) (around name attributes at inside end) (a_size t at)
 
 -- an attribute of a connection that is passed over isn't a size
 pub data IsOther : ℕ → List Tag → Type 0 where
   the_other : {room at : ℕ} {inside : List Tag} {name : List ℕ} {attributes : List Attribute} (end : ℕ)
-        → IsCalled name elements.Attribute → is_buffer_size attributes ≡ Some false → ArePassed room inside
+      → IsCalled name elements.Attribute → is_buffer_size attributes ≡ Some false → ArePassed room inside
       → IsOther (suc room) (around name attributes at inside end)
 
 -- any: {Size}, {Attribute}
@@ -256,14 +256,14 @@ pub data InConnection : ℕ → List Tag → List Size → Type 0 where
 pub data IsConnection : ℕ → List Tag → Connection → Type 0 where
   the_connection : {room at : ℕ} {name src src_port dst dst_port : List ℕ} {attributes : List Attribute}
       {inside : List Tag} {sizes : List Size} (end : ℕ)
-        → IsCalled name elements.Connection
+      → IsCalled name elements.Connection
       → IsGiven (end_given (codes "src") attributes) src
       → IsGiven (name_given (codes "src-port") attributes) src_port
       → IsGiven (end_given (codes "dst") attributes) dst
       → IsGiven (name_given (codes "dst-port") attributes) dst_port
       → InConnection room inside sizes
       → IsConnection (suc room) (around name attributes at inside end)
-        (a_connection src src_port dst dst_port sizes at)
+      (a_connection src src_port dst dst_port sizes at)
 
 -- ---- networks
 
@@ -290,10 +290,10 @@ pub data InNetwork : ℕ → List Tag → List Port → List Decl → List Insta
 pub data IsNetwork : ℕ → List Tag → Net → Type 0 where
   the_network : {room at : ℕ} {name text : List ℕ} {attributes : List Attribute} {inside : List Tag}
       {ps : List Port} {ds : List Decl} {is : List Instance} {cs : List Connection} (end : ℕ)
-        → IsCalled name elements.Xdf → IsGiven (name_given (codes "name") attributes) text
+      → IsCalled name elements.Xdf → IsGiven (name_given (codes "name") attributes) text
       → InNetwork room inside ps ds is cs
       → IsNetwork (suc room) (around name attributes at inside end)
-        (record { name = text; ports = ps; decls = ds; instances = is; connections = cs; at = at; })
+      (record { name = text; ports = ps; decls = ds; instances = is; connections = cs; at = at })
 
 -- how many elements may stand one in another
 abbrev pub max_depth : ℕ
