@@ -1,0 +1,6 @@
+pub mod Reading
+pub mod Grouped
+pub mod Runs
+pub mod Stands
+pub mod Steps
+pub mod Whole
