@@ -1,1 +1,11 @@
-
+pub mod Broken
+pub mod MetBefore
+pub mod Judged
+pub mod Chains
+pub mod Seen
+pub mod SameActors
+pub mod Departing
+pub mod PairsInRange
+pub mod AskedParts
+pub mod PortNames
+pub mod Once

@@ -2,6 +2,7 @@
 -- Trusted: part of what a promise means.
 use Rattle.std.specs.Prelude.{ℕ, Bool, List, [], ◌∷◌, ◌++◌, length, map, nat_le, Option, Some, None, Vec, option_map}
 use Rattle.std.specs.declared.alloc.Global.{Global}
+use Rattle.std.specs.Borrow.{Bor}
 use Rattle.std.specs.Str.{bytes_eq}
 use Rattle.rvc_base.specs.Rules.{port_named_twice, too_many_actions, too_many_ports}
 use Rattle.cal_ast.specs.Tree.{Tree, listed}
@@ -74,6 +75,10 @@ actor_with actions states = record {
   moves = [];
   pairs = [];
 }
+
+-- a schedule, if there is one
+abbrev pub schedule_view : Option (Bor Schedule) → Option Tree
+schedule_view schedule = option_map (λ s. schedule_tree s.now) schedule
 
 -- what a schedule breaks, and too many states
 abbrev pub schedule_and_states_broken : Option Tree → Actor → ℕ → List Violation

@@ -1,10 +1,10 @@
 //! Which port each pattern or output of an action means.
 
-ghost use Rattle.std.specs.Prelude.{◌≡◌, ◌≤◌, ◌<◌, ℕ, List, [], ◌++◌, IfOk, Some, length, map, option_map, string_bytes};
-ghost use Rattle.cal_ast.specs.View.{output_tree, pattern_tree};
+ghost use Rattle.std.specs.Prelude.{◌≡◌, ◌≤◌, IfOk, length, option_map};
+ghost use Rattle.cal_ast.specs.View.{ident_tree, optional};
 ghost use Rattle.cal_model.specs.Kinding.{Fine};
 ghost use Rattle.cal_model.specs.Sound.{max_ports};
-ghost use Rattle.cal_check.specs.Ports.{asked_by, each_asked, is_named, named_port, number_from, numbers_twice, port_of, ports_asked};
+ghost use Rattle.cal_check.specs.Ports.{asked_name, each_asked, is_named, named_port, number_from, numbers_twice, port_of, ports_asked};
 ghost use Rattle.member_check.specs.Asking.{asked_broken, asked_view, asked_views, outputs_tree, patterns_tree, port_views};
 ghost use Rattle.member_check.specs.Judging.{Checks, Judges};
 
@@ -75,8 +75,10 @@ fn asked_by_patterns<'a>(
         ≡ each_asked (patterns_tree patterns.now)) }
 {
     let mut asked = Vec::new(alloc);
-    for p in patterns {
-        asked.push(asked_for(&p.port, p.at))?;
+    let mut rest = patterns;
+    'patterns: while let Some((first, others)) = rest.split_first() {
+        asked.push(asked_for(&first.port, first.at))?;
+        rest = others;
     }
     Ok(asked)
 }
@@ -87,8 +89,10 @@ fn asked_by_outputs<'a>(alloc: Global, outputs: &'a [Output]) -> Result<Vec<Aske
         ≡ each_asked (outputs_tree outputs.now)) }
 {
     let mut asked = Vec::new(alloc);
-    for o in outputs {
-        asked.push(asked_for(&o.port, o.at))?;
+    let mut rest = outputs;
+    'outputs: while let Some((first, others)) = rest.split_first() {
+        asked.push(asked_for(&first.port, first.at))?;
+        rest = others;
     }
     Ok(asked)
 }
@@ -96,7 +100,7 @@ fn asked_by_outputs<'a>(alloc: Global, outputs: &'a [Output]) -> Result<Vec<Aske
 /// What a part with such a port asks for.
 fn asked_for<'a>(port: &'a Option<Ident>, at: u32) -> AskedPort<'a>
     ensures { asked_view result
-        ≡ record { name = option_map (λ i. string_bytes i.text) port.now; at = at } }
+        ≡ record { name = asked_name (optional (option_map ident_tree port.now)); at = at } }
 {
     let name = match port {
         Some(port) => Some(port.text.as_str()),
@@ -126,7 +130,7 @@ fn each_port(alloc: Global, asked: &[AskedPort], ports: &[Port]) -> Result<Vec<u
     let named = is_named(asked);
     let mut numbers = Vec::new(alloc);
     for part in asked {
-        let number = port_meant(named, numbers.len(), *part, ports)?;
+        let number = port_meant(named, numbers.len(), part, ports)?;
         numbers.push(number)?;
     }
     Ok(numbers)
@@ -143,10 +147,10 @@ fn is_named(asked: &[AskedPort]) -> bool
 }
 
 /// The port of a part that stands behind so many others.
-fn port_meant(named: bool, k: usize, asked: AskedPort, ports: &[Port]) -> Result<u32, MemberFault>
+fn port_meant(named: bool, k: usize, asked: &AskedPort, ports: &[Port]) -> Result<u32, MemberFault>
     requires { length ports.now ≤ max_ports }
     ensures { Judges (λ number. number) result
-        (port_of named k (asked_view asked) (asked_view asked).name (port_views ports.now)) }
+        (port_of named k (asked_view asked.now) (asked_view asked.now).name (port_views ports.now)) }
 {
     match asked.name {
         Some(name) if named => named_port(name, ports, asked.at),
@@ -161,10 +165,14 @@ fn named_port(name: &str, ports: &[Port], at: u32) -> Result<u32, MemberFault>
     ensures { Judges (λ number. number) result
         (named_port (number_from 0 name.now (port_views ports.now)) at) }
 {
-    for k in 0..ports.len() {
-        if ports[k].name.as_str() == name {
-            return Ok(k as u32);
+    let mut number: u32 = 0;
+    let mut rest = ports;
+    'ports: while let Some((first, others)) = rest.split_first() {
+        if first.name.as_str() == name {
+            return Ok(number);
         }
+        number += 1;
+        rest = others;
     }
     Err(MemberFault::broken(Rule::UNKNOWN_NAME, at))
 }

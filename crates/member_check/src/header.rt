@@ -1,14 +1,16 @@
 //! The ports of an actor's header.
 
-ghost use Rattle.std.specs.Prelude.{◌≡◌, ◌++◌, ℕ, List, IfErr, OnOk};
+ghost use Rattle.std.specs.Prelude.{◌≡◌, [], ◌++◌, ℕ, List, IfErr, OnOk, nat_le};
 ghost use Rattle.std.specs.Str.{bytes_eq};
-ghost use Rattle.rvc_base.specs.Rules.{port_named_twice};
+ghost use Rattle.rvc_base.specs.Rules.{port_named_twice, too_many_ports};
 ghost use Rattle.cal_ast.specs.View.{port_tree, type_tree};
 ghost use Rattle.cal_model.specs.Kinding.{Fine, Names};
+ghost use Rattle.cal_model.specs.Rates.{parts};
+ghost use Rattle.cal_model.specs.Sound.{max_ports};
 ghost use Rattle.cal_model.specs.View.{port_view, shape_view};
 ghost use Rattle.cal_check.specs.Constants.{early_type};
 ghost use Rattle.cal_check.specs.Ports.{keyed_ports, port_judged};
-ghost use Rattle.cal_check.specs.Violations.{Keyed, twice};
+ghost use Rattle.cal_check.specs.Violations.{Keyed, twice, unless};
 ghost use Rattle.member_check.specs.Judging.{Checks, Judges, Refuses};
 ghost use Rattle.member_check.specs.Parts.{bare_header_broken, ports_tree};
 
@@ -36,10 +38,28 @@ pub fn check_ports(
 ) -> Result<(), MemberFault>
     ensures { Checks result (bare_header_broken (ports_tree ins.now) (ports_tree outs.now) at) }
 {
+    check_names(alloc, ins, outs)?;
+    check_few(ins, at)?;
+    check_few(outs, at)
+}
+
+/// Whether the names of ports differ over both directions.
+fn check_names(alloc: Global, ins: &[PortDecl], outs: &[PortDecl]) -> Result<(), MemberFault>
+    ensures { Checks result (twice bytes_eq port_named_twice []
+        (keyed_ports (ports_tree ins.now) ++ keyed_ports (ports_tree outs.now))) }
+{
     let mut names = NameIndex::new(alloc);
     name_once(&mut names, ins)?;
     name_once(&mut names, outs)?;
-    if ins.len() > MAX_PORTS || outs.len() > MAX_PORTS {
+    Ok(())
+}
+
+/// Whether there are at most 32 ports.
+fn check_few(ports: &[PortDecl], at: u32) -> Result<(), MemberFault>
+    ensures { Checks result (unless (nat_le (parts (ports_tree ports.now)) max_ports)
+        too_many_ports at) }
+{
+    if ports.len() > MAX_PORTS {
         return Err(MemberFault::broken(Rule::TOO_MANY_PORTS, at));
     }
     Ok(())

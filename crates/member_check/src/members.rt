@@ -1,16 +1,16 @@
 //! The members of an actor: its schedule, how many actions it has, and which of them are an `initialize`.
 
-ghost use Rattle.std.specs.Prelude.{◌≡◌, ◌∷◌, List, IfErr, IfOk, false, length, nat_le, option_map};
+ghost use Rattle.std.specs.Prelude.{◌≡◌, ◌∷◌, List, IfErr, IfOk, false, length, nat_le};
 ghost use Rattle.rvc_base.specs.Rules.{too_many_actions};
 ghost use Rattle.cal_ast.specs.Tree.{Tree};
-ghost use Rattle.cal_ast.specs.View.{action_tree, schedule_tree};
+ghost use Rattle.cal_ast.specs.View.{action_tree};
 ghost use Rattle.cal_model.specs.Sound.{max_actions};
 ghost use Rattle.cal_check.specs.Actions.{guard_allowed};
 ghost use Rattle.cal_check.specs.Actors.{actions_in, initialized_twice};
 ghost use Rattle.cal_check.specs.Schedules.{schedule_in};
 ghost use Rattle.cal_check.specs.Violations.{unless};
 ghost use Rattle.member_check.specs.Judging.{Checks, Refuses};
-ghost use Rattle.member_check.specs.Parts.{exprs_tree, members_tree};
+ghost use Rattle.member_check.specs.Parts.{exprs_tree, members_tree, schedule_view};
 
 use crate::fault::MemberFault;
 use cal_ast::{Action, Member, Schedule};
@@ -21,7 +21,7 @@ const MAX_ACTIONS: u16 = 256;
 
 /// The schedule among members: the first, if there is one.
 pub fn schedule_among(members: &[Member]) -> Option<&Schedule>
-    ensures { option_map (λ s. schedule_tree s.now) result ≡ schedule_in (members_tree members.now) }
+    ensures { schedule_view result ≡ schedule_in (members_tree members.now) }
 {
     let mut rest = members;
     'members: while let Some((first, others)) = rest.split_first() {

@@ -135,8 +135,10 @@ fn add_above(
 fn add_below(pairs: &mut Vec<(u16, u16)>, action: u16, lower: &[u16]) -> Result<(), AllocError>
     ensures { OnOk result (pairs.new.items ≡ pairs.old.items ++ map (λ b. (action, b)) lower.now) }
 {
-    for below in lower {
-        pairs.push((action, *below))?;
+    let mut rest = lower;
+    'lower: while let Some((first, others)) = rest.split_first() {
+        pairs.push((action, *first))?;
+        rest = others;
     }
     Ok(())
 }

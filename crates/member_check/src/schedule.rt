@@ -1,6 +1,6 @@
 //! The schedule of an actor: its states, and where it leads.
 
-ghost use Rattle.std.specs.Prelude.{◌≡◌, ◌≤◌, ◌++◌, IfErr, IfOk, List, OnOk, Some, [], false, length, map, not, option_map, string_bytes, true};
+ghost use Rattle.std.specs.Prelude.{◌≡◌, ◌≤◌, ◌++◌, IfErr, IfOk, List, OnOk, Some, [], false, length, map, not, string_bytes, true};
 ghost use Rattle.rvc_base.specs.Rules.{ambiguous_transition};
 ghost use Rattle.cal_ast.specs.View.{move_tree, schedule_tree};
 ghost use Rattle.cal_model.specs.Actor.{Actor};
@@ -9,7 +9,7 @@ ghost use Rattle.cal_model.specs.Tags.{is_seen, moves_by, moves_of, seen_in};
 ghost use Rattle.cal_check.specs.Schedules.{moves_broken, moves_in, moves_listed, some_departs, states_of, tags_broken, transition_of, transitions_of};
 ghost use Rattle.cal_check.specs.Violations.{unless};
 ghost use Rattle.member_check.specs.Judging.{Checks, Refuses};
-ghost use Rattle.member_check.specs.Parts.{action_views, actor_with, move_of_step, schedule_and_states_broken, tags_tree, transitions_tree};
+ghost use Rattle.member_check.specs.Parts.{action_views, actor_with, move_of_step, schedule_and_states_broken, schedule_view, tags_tree, transitions_tree};
 ghost use Rattle.member_check.specs.Targets.{AreSeen, IsSeen, Tells};
 
 use crate::fault::MemberFault;
@@ -48,15 +48,15 @@ pub fn check_schedule(
 ) -> Result<Scheduled, MemberFault>
     requires { length actions.now ≤ max_actions }
     ensures checked { (actor : Actor) → actor.actions ≡ action_views actions.now
-        → actor.states ≡ states_of (option_map (λ s. schedule_tree s.now) schedule)
+        → actor.states ≡ states_of (schedule_view schedule.entry)
         → Checks result (schedule_and_states_broken
-        (option_map (λ s. schedule_tree s.now) schedule) actor at) }
+        (schedule_view schedule.entry) actor at) }
     ensures states { IfOk result (λ s. map string_bytes s.states.items
-        ≡ states_of (option_map (λ s. schedule_tree s.now) schedule)) }
+        ≡ states_of (schedule_view schedule.entry)) }
     ensures moves { IfOk result (λ s. (actor : Actor) → actor.actions ≡ action_views actions.now
-        → actor.states ≡ states_of (option_map (λ s. schedule_tree s.now) schedule)
+        → actor.states ≡ states_of (schedule_view schedule.entry)
         → map move_of_step s.moves.items
-        ≡ moves_in (option_map (λ s. schedule_tree s.now) schedule) actor) }
+        ≡ moves_in (schedule_view schedule.entry) actor) }
 {
     match schedule {
         Some(schedule) => of_schedule(alloc, schedule, actions, at),
@@ -99,8 +99,10 @@ fn copied(alloc: Global, names: &[String]) -> Result<Vec<String>, AllocError>
     ensures { IfOk result (λ copied. map string_bytes copied.items ≡ map string_bytes names.now) }
 {
     let mut copied = Vec::new(alloc);
-    for name in names {
-        copied.push(name.clone()?)?;
+    let mut rest = names;
+    'names: while let Some((first, others)) = rest.split_first() {
+        copied.push(first.clone()?)?;
+        rest = others;
     }
     Ok(copied)
 }
@@ -195,12 +197,14 @@ fn add_steps(steps: &mut Vec<Step>, from: u16, actions: &[u16], to: u16) -> Resu
     ensures { OnOk result (map move_of_step steps.new.items
         ≡ map move_of_step steps.old.items ++ moves_by from actions.now to) }
 {
-    for action in actions {
+    let mut rest = actions;
+    'actions: while let Some((first, others)) = rest.split_first() {
         steps.push(Step {
             from,
-            action: *action,
+            action: *first,
             to,
         })?;
+        rest = others;
     }
     Ok(())
 }
