@@ -4,6 +4,7 @@ use Rattle.std.proofs.lemmas.List.{drop_all, map-append}
 use Rattle.rvc_base.specs.declared.refusal.Rule.{Rule}
 use Rattle.cal_model.specs.Actor.{Port}
 use Rattle.cal_model.specs.Kinding.{Fine, Broken, and_so}
+use Rattle.cal_model.proofs.KindValues.{fine-is, split}
 use Rattle.cal_check.specs.Ports.{Asked, port_of, ports_from}
 use Rattle.member_check.specs.Asking.{asked_view, asked_views}
 use Rattle.member_check.specs.declared.asked.AskedPort.{AskedPort}
@@ -58,3 +59,16 @@ pub ports-all : (named : Bool) (found : List ℕ) (asked : List AskedPort) (k : 
     → behind found (ports_from named (length found) (asked_views (drop k asked)) ports) ≡ Fine found
 ports-all named found asked k ports h =
     ap (λ xs. behind found (ports_from named (length found) (asked_views xs) ports)) (drop_all k asked h) ∙ behind-all found
+
+-- ---- how many
+
+pub ports-count : (named : Bool) (k : ℕ) (asked : List Asked) (ports : List Port) (ns : List ℕ) → ports_from named k asked ports ≡ Fine ns → length ns ≡ length asked
+ports-count named k [] ports ns h = sym (ap length (fine-is [] ns h))
+ports-count named k (a ∷ asked) ports ns h =
+    let p = split (port_of named k a a.name ports) (λ p. and_so (ports_from named (suc k) asked ports) (λ ps. Fine (p ∷ ps))) ns h in
+    let q = split (ports_from named (suc k) asked ports) (λ ps. Fine (p.0 ∷ ps)) ns p.2 in
+    sym (ap length (fine-is (p.0 ∷ q.0) ns q.2)) ∙ ap suc (ports-count named (suc k) asked ports q.0 q.1)
+
+pub views-count : (asked : List AskedPort) → length (asked_views asked) ≡ length asked
+views-count [] = refl
+views-count (a ∷ asked) = ap suc (views-count asked)

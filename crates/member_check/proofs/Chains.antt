@@ -1,5 +1,5 @@
 -- Chains of tags, from tag to tag.
-use Rattle.std.proofs.Common.{◌≡◌, ℕ, List, [], ◌∷◌, ◌++◌, refl, ap, ◌×◌}
+use Rattle.std.proofs.Common.{◌≡◌, ℕ, List, [], ◌∷◌, ◌++◌, refl, ap}
 use Rattle.cal_model.specs.Actor.{Action}
 use Rattle.cal_model.specs.Tags.{each_above, pairs_of, stands_from}
 use Rattle.member_check.specs.Parts.{actor_with}

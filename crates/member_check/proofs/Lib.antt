@@ -9,3 +9,4 @@ pub mod PairsInRange
 pub mod AskedParts
 pub mod PortNames
 pub mod Once
+pub mod Lists
