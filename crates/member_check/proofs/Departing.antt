@@ -217,3 +217,20 @@ all-departs from to before acts k h d = ap (λ xs. some_departs (moves_by from x
 pub all-told : (states columns from to : ℕ) (before : List Move) (acts : List ℕ) (k : ℕ) (table : List (Option ℕ)) → length acts ≤ k
     → Tells states columns table (before ++ moves_by from (take k acts) to) → Tells states columns table (before ++ moves_by from acts to)
 all-told states columns from to before acts k table h t = subst (λ xs. Tells states columns table (before ++ moves_by from xs to)) (take_all k acts h) t
+
+-- ---- before the first move
+
+no-entry : (table : List (Option ℕ)) (k : ℕ) → Each (λ x. x ≡ None) table → get_or table k None ≡ None
+no-entry [] k h = refl
+no-entry (x ∷ table) zero h = h.0
+no-entry (x ∷ table) (suc k) h = no-entry table k h.1
+
+pub tells-none : (states columns : ℕ) (table : List (Option ℕ)) → length table ≡ states * columns → Each (λ x. x ≡ None) table → Tells states columns table []
+tells-none states columns table size none = record {
+  size = size;
+  each = tt;
+  only = λ from action to f a e. absurd (never to (sym (no-entry table (from * columns + action) none) ∙ e));
+}
+  where
+    never : (n : ℕ) → ◌≡◌ {A = Option ℕ} None (Some n) → ⊥
+    never n e = cc

@@ -10,3 +10,5 @@ pub mod AskedParts
 pub mod PortNames
 pub mod Once
 pub mod Lists
+pub mod Meant
+pub mod Moves

@@ -1,5 +1,8 @@
 -- Lists, and lists of which each element keeps something.
 use Rattle.std.proofs.Common.{◌≡◌, ℕ, zero, suc, ◌<◌, ◌⊎◌, inl, inr, List, [], ◌∷◌, ◌++◌, length, refl, arith, Contains}
+use Rattle.std.specs.Prelude.{IfOk}
+use Rattle.std.specs.declared.result.Result.{Result}
+use Rattle.std.specs.declared.result.Result.TheVariants.{Ok, Err}
 use Rattle.cal_model.specs.Sound.{Each}
 
 pub none-left : {A : Type 0} (xs : List A) → length xs ≡ 0 → xs ≡ []
@@ -30,3 +33,9 @@ at-head x y xs e = (0, omega arith, e)
 
 pub in-rest : {A : Type 0} (x y : A) (xs : List A) → Contains xs x → Contains (y ∷ xs) x
 in-rest x y xs (k, h, e) = (suc k, omega arith, e)
+
+-- ---- answers
+
+pub if-ok-map : {A E : Type 0} (r : Result A E) (P Q : A → Type 0) → ((x : A) → P x → Q x) → IfOk r P → IfOk r Q
+if-ok-map (Ok a) P Q f h = f a h
+if-ok-map (Err e) P Q f h = tt

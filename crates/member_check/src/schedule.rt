@@ -1,11 +1,11 @@
 //! The schedule of an actor: its states, and where it leads.
 
-ghost use Rattle.std.specs.Prelude.{◌≡◌, ◌≤◌, ◌++◌, IfErr, IfOk, List, OnOk, Some, [], false, length, map, not, string_bytes, true};
+ghost use Rattle.std.specs.Prelude.{◌≡◌, ◌≤◌, ◌<◌, ◌++◌, IfErr, IfOk, List, OnOk, Some, [], false, length, map, not, string_bytes, true};
 ghost use Rattle.rvc_base.specs.Rules.{ambiguous_transition};
 ghost use Rattle.cal_ast.specs.View.{move_tree, schedule_tree};
 ghost use Rattle.cal_model.specs.Actor.{Actor};
-ghost use Rattle.cal_model.specs.Sound.{Each, max_actions, max_states};
-ghost use Rattle.cal_model.specs.Tags.{is_seen, moves_by, moves_of, seen_in};
+ghost use Rattle.cal_model.specs.Sound.{max_actions, max_states};
+ghost use Rattle.cal_model.specs.Tags.{is_seen, moves_by, moves_of, number_of_name};
 ghost use Rattle.cal_check.specs.Schedules.{moves_broken, moves_in, moves_listed, some_departs, states_of, tags_broken, transition_of, transitions_of};
 ghost use Rattle.cal_check.specs.Violations.{unless};
 ghost use Rattle.member_check.specs.Judging.{Checks, Refuses};
@@ -15,10 +15,10 @@ ghost use Rattle.member_check.specs.Targets.{AreSeen, IsSeen, Tells};
 use crate::fault::MemberFault;
 use crate::name_index::NameIndex;
 use crate::tags::{check_tags, meant_by_tags};
-use crate::targets::departs;
-use cal_ast::{Move, Schedule};
+use crate::targets::{departs, empty_table};
+use cal_ast::{Ident, Move, Schedule};
 use cal_model::BoundAction;
-use rvc_base::Rule;
+use rvc_base::{Memory, Rule};
 use schedule_fsm::Step;
 use std::alloc::{AllocError, Global};
 
@@ -108,7 +108,7 @@ fn copied(alloc: Global, names: &[String]) -> Result<Vec<String>, AllocError>
 }
 
 /// The states of a schedule in order of first appearance.
-fn states_of(alloc: Global, schedule: &Schedule) -> Result<NameIndex, MemberFault>
+fn states_of(alloc: Global, schedule: &Schedule) -> Result<NameIndex, Memory>
     ensures states { IfOk result (λ states. states ≡ states_of (Some (schedule_tree schedule.now))) }
     ensures seen { IfOk result (λ states. AreSeen states
         (transitions_of (transitions_tree schedule.now.moves.items))) }
@@ -141,7 +141,7 @@ fn moves_of(
         (transitions_of (transitions_tree moves.now))) }
 {
     let mut steps = Vec::new(alloc);
-    let mut targets = vec![in alloc; None; states.count() * actions.len()]?;
+    let mut targets = empty_table(alloc, states.count(), actions.len())?;
     let mut rest = moves;
     'moves: while let Some((first, others)) = rest.split_first() {
         add_moves(&mut steps, &mut targets, states, first, actions)?;
@@ -180,8 +180,8 @@ fn add_moves(
 {
     check_tags(&transition.tags, actions)?;
     let meant = meant_by_tags(*steps.allocator(), &transition.tags, actions)?;
-    let from = states.number(transition.from.text.as_str()) as u16;
-    let to = states.number(transition.to.text.as_str()) as u16;
+    let from = state_number(states, &transition.from);
+    let to = state_number(states, &transition.to);
     if departs(targets, actions.len(), from, &meant, to) {
         return Err(MemberFault::broken(
             Rule::AMBIGUOUS_TRANSITION,
@@ -190,6 +190,16 @@ fn add_moves(
     }
     add_steps(steps, from, &meant, to)?;
     Ok(())
+}
+
+/// The number of a state.
+fn state_number(states: &NameIndex, name: &Ident) -> u16
+    requires few { length states.now ≤ max_states }
+    requires seen { is_seen (string_bytes name.now.text) states.now ≡ true }
+    ensures number { result ≡ number_of_name (string_bytes name.now.text) states.now }
+    ensures in_range { result < length states.now }
+{
+    states.number(name.text.as_str()) as u16
 }
 
 /// Adds a step from one state to another by each of these actions.

@@ -1,10 +1,30 @@
 //! The table of where moves lead.
 
-ghost use Rattle.std.specs.Prelude.{◌≡◌, ◌≢◌, ◌<◌, ◌+◌, ◌*◌, ℕ, List, All, None, Some, ◌++◌, false, length, slice_index_or, slice_set, true};
+ghost use Rattle.std.specs.Prelude.{◌≡◌, ◌≢◌, ◌<◌, ◌≤◌, ◌+◌, ◌*◌, ℕ, List, All, IfOk, [], None, Some, ◌++◌, false, length, slice_index_or, slice_set, true};
 ghost use Rattle.cal_model.specs.Actor.{Move};
+ghost use Rattle.cal_model.specs.Sound.{max_actions, max_states};
 ghost use Rattle.cal_model.specs.Tags.{moves_by};
 ghost use Rattle.cal_check.specs.Schedules.{some_departs};
 ghost use Rattle.member_check.specs.Targets.{Tells};
+
+use std::alloc::{AllocError, Global};
+
+/// The table of so many states and columns that has no move.
+pub(crate) fn empty_table(
+    alloc: Global,
+    states: usize,
+    columns: usize,
+) -> Result<Vec<Option<u16>>, AllocError>
+    requires few_states { states ≤ max_states }
+    requires few_columns { columns ≤ max_actions }
+    ensures { IfOk result (λ table. Tells states columns table.items []) }
+{
+    let mut table = Vec::new(alloc);
+    for _place in 0..states * columns {
+        table.push(None)?;
+    }
+    Ok(table)
+}
 
 /// Enters into a table with so many columns that each of these actions leads from one state to another, until one leads
 /// elsewhere already. Whether one does.
