@@ -2,7 +2,8 @@
 use Rattle.std.proofs.Common.{◌≡◌, ℕ, Bool, true, false, List, [], ◌∷◌, ◌++◌, refl, sym, ap, subst, arith, Contains}
 use Rattle.std.proofs.lemmas.List.Elements.{Contains-append_left, Contains-append_right}
 use Rattle.std.specs.declared.result.Result.{Result}
-use Rattle.std.specs.declared.result.Result.TheVariants.{Err}
+use Rattle.std.specs.declared.result.Result.TheVariants.{Ok, Err}
+use Rattle.std.specs.Prelude.{IfErr, OnOk}
 use Rattle.rvc_base.specs.declared.refusal.Rule.{Rule}
 use Rattle.cal_check.specs.Violations.{Violation, violation, unless}
 use Rattle.member_check.specs.declared.fault.MemberFault.{MemberFault}
@@ -45,3 +46,11 @@ checks-behind r vs ws e h = subst (λ us. Checks r (us ++ ws)) (sym e) h
 
 pub checks-same : {A : Type 0} (r : Result A MemberFault) (vs ws : List Violation) → vs ≡ ws → Checks r vs → Checks r ws
 checks-same r vs ws e h = subst (λ us. Checks r us) e h
+
+pub checks-ok : {A : Type 0} (r : Result A MemberFault) (vs : List Violation) (Q : Type 0) → Checks r vs → (vs ≡ [] → Q) → OnOk r Q
+checks-ok (Ok a) vs Q h f = f h
+checks-ok (Err e) vs Q h f = tt
+
+pub checks-err : {A : Type 0} (r : Result A MemberFault) (vs : List Violation) (Q : MemberFault → Type 0) → Checks r vs → ((f : MemberFault) → Refuses f vs → Q f) → IfErr r Q
+checks-err (Ok a) vs Q h g = tt
+checks-err (Err e) vs Q h g = g e h

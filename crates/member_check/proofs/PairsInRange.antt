@@ -12,6 +12,7 @@ use Rattle.cal_model.specs.Tags.{each_above, pairs_of, stands_for, stands_from}
 use Rattle.cal_check.specs.Schedules.{chains_pairs, first_priority, pairs_in, tags_listed}
 use Rattle.cal_check.specs.Actions.{tag_parts}
 use Rattle.cal_model.specs.declared.bound.BoundAction.{BoundAction}
+use Rattle.priority_order.specs.Cycle.{IsRing}
 use Rattle.priority_order.specs.Closed.{IsInRange}
 use Rattle.member_check.specs.Parts.{action_views, actor_with, members_tree}
 use Rattle.member_check.proofs.Lists.{head-or-rest, in-none}
@@ -20,17 +21,17 @@ use Rattle.member_check.proofs.Meant.{actions-count, stands-below}
 abbrev AreBelow : ℕ → ℕ × ℕ → Type 0
 AreBelow n p = (p.0 < n) × (p.1 < n)
 
-below : (b : ℕ) (n a : ℕ) (lower : List ℕ) (p : ℕ × ℕ) → ((x : ℕ) → Contains lower x → x < n) → a < n → Contains (map (λ y. (a, y)) lower) p → AreBelow n p
-below b n a [] p f l h = absurd (in-none p h)
-below b n a (x ∷ lower) p f l h =
+below : (n a : ℕ) (lower : List ℕ) (p : ℕ × ℕ) → ((x : ℕ) → Contains lower x → x < n) → a < n → Contains (map (λ y. (a, y)) lower) p → AreBelow n p
+below n a [] p f l h = absurd (in-none p h)
+below n a (x ∷ lower) p f l h =
     ⊎_elim (λ (e : (a, x) ≡ p). subst (λ q. AreBelow n q) e (l, f x (0, omega arith, refl)))
-    (λ c. below b n a lower p (λ y d. f y (suc d.0, omega (arith, d.1), d.2)) l c)
+    (λ c. below n a lower p (λ y d. f y (suc d.0, omega (arith, d.1), d.2)) l c)
     (head-or-rest p (a, x) (map (λ y. (a, y)) lower) h)
 
 above : (n : ℕ) (higher lower : List ℕ) (p : ℕ × ℕ) → ((x : ℕ) → Contains higher x → x < n) → ((x : ℕ) → Contains lower x → x < n) → Contains (each_above higher lower) p → AreBelow n p
 above n [] lower p f g h = absurd (in-none p h)
 above n (a ∷ higher) lower p f g h =
-    ⊎_elim (λ c. below 0 n a lower p g (f a (0, omega arith, refl)) c)
+    ⊎_elim (λ c. below n a lower p g (f a (0, omega arith, refl)) c)
     (λ c. above n higher lower p (λ y d. f y (suc d.0, omega (arith, d.1), d.2)) g c)
     (Contains-append_cases (map (λ b. (a, b)) lower) (each_above higher lower) p h)
 
@@ -78,7 +79,6 @@ leads-none a b (x ∷ through) h = in-none (a, x) h.0
 pub none-above : (pairs : List (ℕ × ℕ)) (a : ℕ) → pairs ≡ [] → IsAbove pairs a a → ⊥
 none-above pairs a e h = let g = subst (λ ps. IsAbove ps a a) e h in leads-none a a g.0 g.1
 
--- ---- cycles
-
-ring-above : {A : Type 0} (pairs : List (A × A)) (a : A) (through : List A) → ChainLeads pairs a through a → IsAbove pairs a a
-ring-above pairs a through h = (through, h)
+pub no-cycle : (ms : Tree) (actor : Actor) (pairs : List (ℕ × ℕ)) (actions : List ℕ) → pairs ≡ pairs_in ms actor → first_priority ms ≡ None → IsRing pairs actions → ⊥
+no-cycle ms actor pairs [] e n h = h
+no-cycle ms actor pairs (a ∷ actions) e n h = none-above pairs a (e ∙ no-pairs ms actor n) (actions, h)
