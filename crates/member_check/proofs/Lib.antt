@@ -9,6 +9,6 @@ pub mod PairsInRange
 pub mod AskedParts
 pub mod PortNames
 pub mod Once
-pub mod Lists
+pub mod Mapped
 pub mod Meant
 pub mod Moves

@@ -9,7 +9,7 @@ use Rattle.cal_model.specs.Tags.{Transition, is_prefix_tag, may_be_meant, moves_
 use Rattle.cal_model.specs.declared.bound.BoundAction.{BoundAction}
 use Rattle.member_check.specs.Parts.{action_views, actor_with}
 use Rattle.member_check.specs.Targets.{Tells, meant_by_tags}
-use Rattle.member_check.proofs.Lists.{head-or-rest, in-none}
+use Rattle.cal_check.proofs.Lists.{head-or-rest, in-none}
 
 pub stands-below : (j a : ℕ) (tag : List (List ℕ)) (acts : List Action) → Contains (stands_from j tag acts) a → a < j + length acts
 stands-below j a tag [] h = absurd (in-none a h)

@@ -15,7 +15,7 @@ use Rattle.cal_model.specs.declared.bound.BoundAction.{BoundAction}
 use Rattle.priority_order.specs.Cycle.{IsRing}
 use Rattle.priority_order.specs.Closed.{IsInRange}
 use Rattle.member_check.specs.Parts.{action_views, actor_with, members_tree}
-use Rattle.member_check.proofs.Lists.{head-or-rest, in-none}
+use Rattle.cal_check.proofs.Lists.{head-or-rest, in-none}
 use Rattle.member_check.proofs.Meant.{actions-count, stands-below}
 
 abbrev AreBelow : ℕ → ℕ × ℕ → Type 0

@@ -6,10 +6,8 @@ use Rattle.std.specs.Str.{bytes_eq}
 use Rattle.std.specs.declared.alloc.Global.{Global as Heap}
 use Rattle.std.proofs.lemmas.List.{map-append}
 use Rattle.std.proofs.lemmas.Slice.Eq.{bytes_eq-Decides}
-use Rattle.cal_model.specs.Sound.{Each}
-use Rattle.cal_model.specs.Tags.{Transition, is_seen, number_of_name, seen_in, with_seen}
+use Rattle.cal_model.specs.Tags.{is_seen, number_of_name, with_seen}
 use Rattle.cal_check.specs.Violations.{is_met}
-use Rattle.member_check.specs.Targets.{AreSeen, IsSeen}
 
 -- ---- names side by side
 
@@ -20,9 +18,6 @@ eq-turned x y = go (bytes_eq x y) (bytes_eq y x) (λ h. (bytes_eq-Decides y x).1
     go true c f g = sym (f refl)
     go false true f g = g refl
     go false false f g = refl
-
-eq-itself : (x : List ℕ) → bytes_eq x x ≡ true
-eq-itself x = (bytes_eq-Decides x x).1 refl
 
 pub seen-keys : (name : List ℕ) (keys : List (String Heap)) → list_any (λ k. bytes_eq name (string_bytes k)) keys ≡ is_seen name (map string_bytes keys)
 seen-keys name [] = refl
@@ -55,15 +50,6 @@ seen-new name names h = ap (λ b. if b then names else names ++ name ∷ []) h
 
 -- ---- numbers
 
-pub number-below : (name : List ℕ) (names : List (List ℕ)) → is_seen name names ≡ true → number_of_name name names < length names
-number-below name [] h = absurd (cc)
-number-below name (x ∷ names) h = go (bytes_eq x name) h (number-below name names)
-  where
-    go : (b : Bool) → (b || is_seen name names) ≡ true → (is_seen name names ≡ true → number_of_name name names < length names)
-        → (if b then 0 else suc (number_of_name name names)) < suc (length names)
-    go true e ih = omega arith
-    go false e ih = let below = ih e in omega arith
-
 pub number-of-key : (name : List ℕ) (keys : List (String Heap)) → position_or_len (λ k. bytes_eq name (string_bytes k)) keys ≡ number_of_name name (map string_bytes keys)
 number-of-key name [] = refl
 number-of-key name (k ∷ keys) = go (bytes_eq name (string_bytes k)) (bytes_eq (string_bytes k) name) (eq-turned name (string_bytes k)) (number-of-key name keys)
@@ -81,52 +67,3 @@ found-at p keys i h = go (nat_lt (position_or_len p keys) (length keys)) h
     go : (b : Bool) → cond b (Some (position_or_len p keys)) None ≡ Some i → position_or_len p keys ≡ i
     go true e = cc
     go false e = absurd (cc)
-
--- ---- transitions
-
-either-true : (b c : Bool) → c ≡ true → (b || c) ≡ true
-either-true true c h = refl
-either-true false c h = h
-
-seen-front : (name : List ℕ) (xs ys : List (List ℕ)) → is_seen name xs ≡ true → is_seen name (xs ++ ys) ≡ true
-seen-front name [] ys h = absurd (cc)
-seen-front name (x ∷ xs) ys h = go (bytes_eq x name) h (seen-front name xs ys)
-  where
-    go : (b : Bool) → (b || is_seen name xs) ≡ true → (is_seen name xs ≡ true → is_seen name (xs ++ ys) ≡ true) → (b || is_seen name (xs ++ ys)) ≡ true
-    go true e ih = refl
-    go false e ih = ih e
-
-seen-last : (name : List ℕ) (xs : List (List ℕ)) → is_seen name (xs ++ name ∷ []) ≡ true
-seen-last name [] = ap (λ b. b || false) (eq-itself name)
-seen-last name (x ∷ xs) = either-true (bytes_eq x name) (is_seen name (xs ++ name ∷ [])) (seen-last name xs)
-
-stays-seen : (name other : List ℕ) (xs : List (List ℕ)) → is_seen name xs ≡ true → is_seen name (with_seen xs other) ≡ true
-stays-seen name other xs h = go (is_seen other xs)
-  where
-    go : (b : Bool) → is_seen name (if b then xs else xs ++ other ∷ []) ≡ true
-    go true = h
-    go false = seen-front name xs (other ∷ []) h
-
-is-seen : (name : List ℕ) (xs : List (List ℕ)) → is_seen name (with_seen xs name) ≡ true
-is-seen name xs = go (is_seen name xs) refl
-  where
-    go : (b : Bool) → is_seen name xs ≡ b → is_seen name (if b then xs else xs ++ name ∷ []) ≡ true
-    go true e = e
-    go false e = seen-last name xs
-
-seen-later : (name : List ℕ) (xs : List (List ℕ)) (ts : List Transition) → is_seen name xs ≡ true → is_seen name (seen_in xs ts) ≡ true
-seen-later name xs [] h = h
-seen-later name xs (t ∷ ts) h =
-    seen-later name (with_seen (with_seen xs t.from) t.to) ts (stays-seen name t.to (with_seen xs t.from) (stays-seen name t.from xs h))
-
--- the states that transitions name are seen behind them
-pub all-seen : (xs : List (List ℕ)) (ts : List Transition) → AreSeen (seen_in xs ts) ts
-all-seen xs [] = tt
-all-seen xs (t ∷ ts) =
-    let here : List (List ℕ) = with_seen (with_seen xs t.from) t.to in (
-      record {
-        from = seen-later t.from here ts (stays-seen t.from t.to (with_seen xs t.from) (is-seen t.from xs));
-        to = seen-later t.to here ts (is-seen t.to (with_seen xs t.from));
-      },
-      all-seen here ts,
-    )

@@ -26,9 +26,8 @@ pub record Tells (states columns : ℕ) (table : List (Option ℕ)) (moves : Lis
       → Contains moves (record { from = from; action = action; to = to })
 
 -- both states of a transition are among these
-pub record IsSeen (states : List (List ℕ)) (t : Transition) : Type 0 where
-  pub from : is_seen t.from states ≡ true
-  pub to : is_seen t.to states ≡ true
+abbrev pub IsSeen : List (List ℕ) → Transition → Type 0
+IsSeen states t = (is_seen t.from states ≡ true) × (is_seen t.to states ≡ true)
 
 abbrev pub AreSeen : List (List ℕ) → List Transition → Type 0
 AreSeen states ts = Each (IsSeen states) ts

@@ -6,7 +6,7 @@ use Rattle.cal_check.specs.Actions.{tag_parts}
 use Rattle.cal_check.specs.Schedules.{tags_listed}
 use Rattle.member_check.specs.Parts.{action_views, actor_with, tags_tree}
 use Rattle.member_check.proofs.Chains.{pairs-from, pairs_behind}
-use Rattle.member_check.proofs.Lists.{none-left}
+use Rattle.cal_check.proofs.Lists.{none-left}
 use Rattle.member_check.proofs.priorities.add_chain.Goals as goal
 
 pub returns : goal.returns

@@ -9,7 +9,7 @@ use Rattle.member_check.specs.Parts.{action_views, actor_with, chains_tree}
 use Rattle.member_check.specs.declared.fault.MemberFault.{MemberFault}
 use Rattle.member_check.proofs.Broken.{checks-err, checks-ok}
 use Rattle.member_check.proofs.Chains.{priority-added, priority-fine, priority-refused}
-use Rattle.member_check.proofs.Lists.{on-ok-map}
+use Rattle.member_check.proofs.Mapped.{on-ok-map}
 use Rattle.member_check.proofs.priorities.add_member.Goals as goal
 
 pub returns-in-Priority-clause-fine : goal.returns-in-Priority-clause-fine

@@ -2,7 +2,7 @@ use Rattle.std.proofs.Common.{◌≡◌, ◌++◌, [], sym, ap, ◌∙◌}
 use Rattle.std.proofs.lemmas.List.{append-nil}
 use Rattle.cal_check.specs.Schedules.{pairs_in}
 use Rattle.member_check.specs.Parts.{action_views, actor_with, members_tree}
-use Rattle.member_check.proofs.Lists.{none-left}
+use Rattle.cal_check.proofs.Lists.{none-left}
 use Rattle.member_check.proofs.PairsInRange.{in-range}
 use Rattle.member_check.proofs.SameActors.{pairs-same}
 use Rattle.member_check.proofs.priorities.pairs_of.Goals as goal

@@ -9,7 +9,7 @@ use Rattle.cal_check.specs.Violations.{unless}
 use Rattle.member_check.specs.Judging.{Checks}
 use Rattle.member_check.specs.Parts.{action_views, actor_with, move_of_step, schedule_and_states_broken, schedule_view}
 use Rattle.member_check.proofs.Broken.{checks-same}
-use Rattle.member_check.proofs.Lists.{if-ok-map}
+use Rattle.member_check.proofs.Mapped.{if-ok-map}
 use Rattle.member_check.proofs.SameActors.{moves-same, schedule-same}
 use Rattle.member_check.proofs.schedule.check_schedule.Goals as goal
 

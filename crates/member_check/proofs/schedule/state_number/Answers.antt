@@ -1,7 +1,7 @@
 use Rattle.std.proofs.Common.{◌≡◌, ◌<◌, true, length, sym, ap, subst, ◌∙◌, arith}
 use Rattle.std.specs.Prelude.{string_bytes}
 use Rattle.cal_model.specs.Tags.{is_seen, number_of_name}
-use Rattle.member_check.proofs.Seen.{number-below}
+use Rattle.cal_check.proofs.SeenStates.{number-below}
 use Rattle.member_check.proofs.schedule.state_number.Goals as goal
 
 pub overflow_cast-result : goal.overflow_cast-result

@@ -3,8 +3,8 @@ use Rattle.cal_model.specs.Tags.{seen_in}
 use Rattle.cal_check.specs.Schedules.{transitions_of}
 use Rattle.member_check.specs.Parts.{transitions_tree}
 use Rattle.member_check.specs.Targets.{AreSeen}
-use Rattle.member_check.proofs.Lists.{none-left}
-use Rattle.member_check.proofs.Seen.{all-seen}
+use Rattle.cal_check.proofs.Lists.{none-left}
+use Rattle.cal_check.proofs.SeenStates.{all-seen}
 use Rattle.member_check.proofs.schedule.states_of.Goals as goal
 
 pub returns-clause-seen : goal.returns-clause-seen
