@@ -15,4 +15,4 @@ mod SoundRoutines
 pub mod Lists
 pub mod SeenStates
 pub mod Departs
-mod SoundSchedules
+pub mod SoundSchedules

@@ -110,6 +110,11 @@ listed-moves actor (t ∷ ts) h =
     (by-tags actor (number_of_name t.from actor.states) t.tags (number_of_name t.to actor.states) (number-below t.from actor.states h.0.0) (number-below t.to actor.states h.0.1))
     (listed-moves actor ts h.1)
 
+pub moves-are : (schedule : Option Tree) (actor : Actor) → actor.states ≡ states_of schedule → Each (IsMove actor) (moves_in schedule actor)
+moves-are (Some (tree.schedule start moves at)) actor e =
+    listed-moves actor (transitions_of moves) (subst (λ names. Each (BothSeen names) (transitions_of moves)) (sym e) (all-seen (text_of start ∷ []) (transitions_of moves)))
+moves-are other actor e = tt
+
 -- ---- from one state an action leads to one state
 
 -- all moves of a transition lead to one state
@@ -166,7 +171,7 @@ pub schedule-sound : (schedule : Option Tree) (actor : Actor) → IsScheduleForm
 schedule-sound None actor formed e h = record { states = subst AreDistinct (sym e) tt; each = tt; one_target = none-lead }
 schedule-sound (Some (tree.schedule start moves at)) actor formed e h = record {
   states = subst AreDistinct (sym e) (distinct-seen (text_of start ∷ []) (transitions_of moves) (λ c. in-none (text_of start) c, tt));
-  each = listed-moves actor (transitions_of moves) (subst (λ names. Each (BothSeen names) (transitions_of moves)) (sym e) (all-seen (text_of start ∷ []) (transitions_of moves)));
+  each = moves-are (Some (tree.schedule start moves at)) actor e;
   one_target = lead-to-one moves [] actor formed none-lead h;
 }
 schedule-sound (Some other) actor formed e h = absurd (formed)

@@ -12,3 +12,4 @@ pub mod Once
 pub mod Mapped
 pub mod Meant
 pub mod Moves
+pub mod Ready

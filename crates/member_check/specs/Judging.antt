@@ -1,6 +1,6 @@
 -- What a call that judges answers, beside the rules that are broken.
 -- Trusted: part of what a promise means.
-use Rattle.std.specs.Prelude.{◌≡◌, ℕ, List, [], Contains, Option, Some}
+use Rattle.std.specs.Prelude.{◌≡◌, ◌⊎◌, ℕ, List, [], Contains, Option, Some}
 use Rattle.std.specs.declared.result.Result.{Result}
 use Rattle.std.specs.declared.result.Result.TheVariants.{Ok, Err}
 use Rattle.rvc_base.specs.Chain.{IsAbove}
@@ -35,3 +35,7 @@ abbrev pub IsCycleAt : List (ℕ × ℕ) → Option ℕ → MemberFault → Type
 IsCycleAt pairs first (fault.Broken rule at) =
     (rule ≡ priority_cycle) × (first ≡ Some at) × ((a : ℕ) × IsAbove pairs a a)
 IsCycleAt pairs first fault.Memory = Unit {0}
+
+-- one of these rules is broken, or an action is above itself
+abbrev pub BreaksPriorities : List Violation → List (ℕ × ℕ) → Option ℕ → MemberFault → Type 0
+BreaksPriorities vs pairs first f = Refuses f vs ⊎ IsCycleAt pairs first f

@@ -24,7 +24,7 @@ pub use asked::{output_ports, pattern_ports};
 pub use fault::MemberFault;
 pub use header::{check_ports, port_of};
 pub use members::{check_guards, check_initialize, count_actions, schedule_among};
-pub use priorities::{order_of, pairs_of};
+pub use priorities::check_priorities;
 pub use repeats::{check_rate, repeat_of};
 pub use schedule::{Scheduled, check_schedule};
 pub use tags::actions_meant;

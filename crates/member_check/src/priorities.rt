@@ -1,8 +1,7 @@
 //! Priorities: which action is declared above which, and the order that this makes.
 
-ghost use Rattle.std.specs.Prelude.{◌≡◌, ◌≤◌, ◌<◌, ◌↔◌, ◌++◌, ℕ, IfErr, IfOk, IsTrue, OnOk, [], length, map};
+ghost use Rattle.std.specs.Prelude.{◌≡◌, ◌≤◌, ◌++◌, ℕ, IfErr, IfOk, OnOk, [], length, map};
 ghost use Rattle.rvc_base.specs.Chain.{IsAbove};
-ghost use Rattle.rvc_base.specs.Line.{IsLine};
 ghost use Rattle.cal_ast.specs.Tree as tree;
 ghost use Rattle.cal_ast.specs.Tree.{Tree};
 ghost use Rattle.cal_ast.specs.View.{member_tree};
@@ -11,8 +10,7 @@ ghost use Rattle.cal_model.specs.Sound.{max_actions};
 ghost use Rattle.cal_model.specs.Tags.{each_above, pairs_of};
 ghost use Rattle.cal_check.specs.Schedules.{chains_broken, chains_pairs, first_priority, pairs_in, priorities_broken, tags_broken, tags_listed};
 ghost use Rattle.priority_order.specs.Closed.{IsInRange};
-ghost use Rattle.priority_order.specs.Ranking.{is_above};
-ghost use Rattle.member_check.specs.Judging.{Checks, IsCycleAt, Refuses};
+ghost use Rattle.member_check.specs.Judging.{BreaksPriorities, Checks, IsCycleAt, Refuses};
 ghost use Rattle.member_check.specs.Parts.{action_views, actor_with, chains_tree, members_tree, tags_tree};
 
 use crate::fault::MemberFault;
@@ -23,12 +21,38 @@ use priority_order::{Order, OrderFault, close};
 use rvc_base::Rule;
 use std::alloc::{AllocError, Global};
 
-/// Which action the priorities among members put above which, by their numbers, in text order.
+/// Which action the priorities among members put above which, by their numbers, in text order. No action is above
+/// itself.
 ///
 /// # Errors
 ///
-/// `Broken`: A3 at a tag that is the prefix of no action's tag. `Memory` if memory runs out.
-pub fn pairs_of(
+/// `Broken`: A3 at a tag that is the prefix of no action's tag, or A5 at the first word `priority` if some action is
+/// above itself. `Memory` if memory runs out.
+pub fn check_priorities(
+    alloc: Global,
+    members: &[Member],
+    actions: &[BoundAction],
+) -> Result<Vec<(u16, u16)>, MemberFault>
+    requires { length actions.now ≤ max_actions }
+    ensures tags { OnOk result
+        (priorities_broken (members_tree members.now) (action_views actions.now) ≡ []) }
+    ensures without_cycle { IfOk result (λ pairs. (a : ℕ) → ¬ IsAbove pairs.items a a) }
+    ensures broken { IfErr result (λ fault. (actor : Actor) → actor.actions ≡ action_views actions.now
+        → BreaksPriorities (priorities_broken (members_tree members.now) (action_views actions.now))
+        (pairs_in (members_tree members.now) actor) (first_priority (members_tree members.now)) fault) }
+
+    // what stands above what, as an order is made of it
+    ensures pairs { IfOk result (λ pairs. (actor : Actor) → actor.actions ≡ action_views actions.now
+        → pairs.items ≡ pairs_in (members_tree members.now) actor) }
+    ensures in_range { IfOk result (λ pairs. IsInRange pairs.items (length actions.now)) }
+{
+    let pairs = pairs_of(alloc, members, actions)?;
+    order_of(alloc, members, &pairs, actions.len() as u16)?;
+    Ok(pairs)
+}
+
+/// Which action the priorities among members put above which.
+fn pairs_of(
     alloc: Global,
     members: &[Member],
     actions: &[BoundAction],
@@ -143,12 +167,8 @@ fn add_below(pairs: &mut Vec<(u16, u16)>, action: u16, lower: &[u16]) -> Result<
     Ok(())
 }
 
-/// The order that pairs of the priorities among members make of so many actions.
-///
-/// # Errors
-///
-/// `Broken`: A5 at the first word `priority`, if some action is above itself. `Memory` if memory runs out.
-pub fn order_of(
+/// The order that pairs of the priorities among members make of so many actions, none of which is above itself.
+fn order_of(
     alloc: Global,
     members: &[Member],
     pairs: &[(u16, u16)],
@@ -156,10 +176,6 @@ pub fn order_of(
 ) -> Result<Order, MemberFault>
     requires in_range { IsInRange pairs.now actions }
     requires from_members { (actor : Actor) × (pairs.now ≡ pairs_in (members_tree members.now) actor) }
-    ensures count { IfOk result (λ order. order.count ≡ actions) }
-    ensures above { IfOk result (λ order. (a b : ℕ) → a < actions → b < actions
-        → IsTrue (is_above order a b) ↔ IsAbove pairs.now a b) }
-    ensures line { IfOk result (λ order. IsLine actions (IsAbove pairs.now) order.line) }
     ensures without_cycle { IfOk result (λ _. (a : ℕ) → ¬ IsAbove pairs.now a a) }
     ensures cycle { IfErr result
         (IsCycleAt pairs.now (first_priority (members_tree members.now))) }

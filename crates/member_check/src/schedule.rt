@@ -1,10 +1,10 @@
 //! The schedule of an actor: its states, and where it leads.
 
-ghost use Rattle.std.specs.Prelude.{◌≡◌, ◌≤◌, ◌<◌, ◌++◌, IfErr, IfOk, List, OnOk, Some, [], false, length, map, not, string_bytes, true};
+ghost use Rattle.std.specs.Prelude.{◌≡◌, ◌≤◌, ◌<◌, ◌++◌, All, IfErr, IfOk, List, OnOk, Some, [], false, length, map, not, slice_get, string_bytes, true};
 ghost use Rattle.rvc_base.specs.Rules.{ambiguous_transition};
 ghost use Rattle.cal_ast.specs.View.{move_tree, schedule_tree};
 ghost use Rattle.cal_model.specs.Actor.{Actor};
-ghost use Rattle.cal_model.specs.Sound.{max_actions, max_states};
+ghost use Rattle.cal_model.specs.Sound.{IsTagged, max_actions, max_states};
 ghost use Rattle.cal_model.specs.Tags.{is_seen, moves_by, moves_of, number_of_name};
 ghost use Rattle.cal_check.specs.Schedules.{moves_broken, moves_in, moves_listed, some_departs, states_of, tags_broken, transition_of, transitions_of};
 ghost use Rattle.cal_check.specs.Violations.{unless};
@@ -57,6 +57,14 @@ pub fn check_schedule(
         → actor.states ≡ states_of (schedule_view schedule.entry)
         → map move_of_step s.moves.items
         ≡ moves_in (schedule_view schedule.entry) actor) }
+
+    // the steps are such of which an automaton is built
+    ensures states_in_range { IfOk result (λ s. All (λ step. (step.from < length s.states.items)
+        × (step.to < length s.states.items)) s.moves.items) }
+    ensures actions_in_range { IfOk result
+        (λ s. All (λ step. step.action < length actions.now) s.moves.items) }
+    ensures tagged { IfOk result (λ s. All
+        (λ step. IsTagged (slice_get (action_views actions.now) step.action)) s.moves.items) }
 {
     match schedule {
         Some(schedule) => of_schedule(alloc, schedule, actions, at),
@@ -82,6 +90,12 @@ fn of_schedule(
     ensures moves { IfOk result (λ s. map move_of_step s.moves.items
         ≡ moves_in (Some (schedule_tree schedule.now))
         (actor_with (action_views actions.now) (states_of (Some (schedule_tree schedule.now))))) }
+    ensures states_in_range { IfOk result (λ s. All (λ step. (step.from < length s.states.items)
+        × (step.to < length s.states.items)) s.moves.items) }
+    ensures actions_in_range { IfOk result
+        (λ s. All (λ step. step.action < length actions.now) s.moves.items) }
+    ensures tagged { IfOk result (λ s. All
+        (λ step. IsTagged (slice_get (action_views actions.now) step.action)) s.moves.items) }
 {
     let states = states_of(alloc, schedule)?;
     if states.count() > MAX_STATES {
