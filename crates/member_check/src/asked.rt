@@ -84,7 +84,10 @@ fn asked_by_patterns<'a>(
 }
 
 /// What each output asks for.
-fn asked_by_outputs<'a>(alloc: Global, outputs: &'a [Output]) -> Result<Vec<AskedPort<'a>>, AllocError>
+fn asked_by_outputs<'a>(
+    alloc: Global,
+    outputs: &'a [Output],
+) -> Result<Vec<AskedPort<'a>>, AllocError>
     ensures { IfOk result (λ asked. asked_views asked.items
         ≡ each_asked (outputs_tree outputs.now)) }
 {

@@ -140,11 +140,7 @@ fn add_chain(
 }
 
 /// Adds each of the ones above each of the others.
-fn add_above(
-    pairs: &mut Vec<(u16, u16)>,
-    higher: &[u16],
-    lower: &[u16],
-) -> Result<(), AllocError>
+fn add_above(pairs: &mut Vec<(u16, u16)>, higher: &[u16], lower: &[u16]) -> Result<(), AllocError>
     ensures { OnOk result (pairs.new.items ≡ pairs.old.items ++ each_above higher.now lower.now) }
 {
     let mut rest = higher;

@@ -197,10 +197,7 @@ fn add_moves(
     let from = state_number(states, &transition.from);
     let to = state_number(states, &transition.to);
     if departs(targets, actions.len(), from, &meant, to) {
-        return Err(MemberFault::broken(
-            Rule::AMBIGUOUS_TRANSITION,
-            transition.at,
-        ));
+        return Err(MemberFault::broken(Rule::AMBIGUOUS_TRANSITION, transition.at));
     }
     add_steps(steps, from, &meant, to)?;
     Ok(())

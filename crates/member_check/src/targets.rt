@@ -51,7 +51,11 @@ pub(crate) fn departs(
     ensures size { length targets.new ≡ length targets.old }
 {
     for action in actions {
-        if enter(targets, usize::from(from) * columns + usize::from(*action), to) {
+        if enter(
+            targets,
+            usize::from(from) * columns + usize::from(*action),
+            to,
+        ) {
             return true;
         }
     }

@@ -18,8 +18,10 @@ departs-requires c =
     let acts = action_views c.args.actions.now in
     let meant = c.deref-3.result.now in
     let is : meant ≡ meant_by_tags tags acts = c.deref-3.ensures.value ∙ c.in_ok-meant.ensures ∙ ap (λ ts. meant_by_tags (tags_listed (tags_tree ts)) acts) c.deref-2.ensures.value in
-    record { in_table = in-table (length c.args.states.now) (length c.args.actions.now) c.state_number-from.result c.args.targets.now (map move_of_step c.args.steps.now.items) meant
-        c.requires.told c.state_number-from.ensures.in_range (meant-in tags c.args.actions.now meant is) }
+    record {
+      in_table = in-table (length c.args.states.now) (length c.args.actions.now) c.state_number-from.result c.args.targets.now (map move_of_step c.args.steps.now.items) meant
+          c.requires.told c.state_number-from.ensures.in_range (meant-in tags c.args.actions.now meant is);
+    }
 
 pub returns-then-departs : goal.returns-then-departs
 returns-then-departs c =
