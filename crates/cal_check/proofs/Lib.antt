@@ -12,3 +12,7 @@ mod SameParts
 mod SoundActions
 mod SoundHeader
 mod SoundRoutines
+pub mod Lists
+pub mod SeenStates
+pub mod Departs
+pub mod SoundSchedules

@@ -1,6 +1,6 @@
 -- Statements and variables as the grammar and the scopes leave them: names are identifiers, and those of one scope differ.
 -- Trusted: part of what a promise means.
-use Rattle.std.specs.Prelude.{◌≡◌, true}
+use Rattle.std.specs.Prelude.{◌≡◌, true, Option, None, Some}
 use Rattle.cal_ast.specs.Tree as tree
 use Rattle.cal_ast.specs.Tree.{Tree}
 use Rattle.cal_model.specs.Sound.{AreDistinct, names_of_vars}
@@ -51,3 +51,14 @@ IsProcFormed other = ⊥
 abbrev pub IsFunFormed : Tree → Type 0
 IsFunFormed (tree.function name formals result vars body at) = AreDeclared vars
 IsFunFormed other = ⊥
+
+-- the transitions of a schedule
+abbrev pub AreMoves : Tree → Type 0
+AreMoves tree.nil = Unit {0}
+AreMoves (tree.cons (tree.move from tags to at) moves) = AreMoves moves
+AreMoves other = ⊥
+
+abbrev pub IsScheduleFormed : Option Tree → Type 0
+IsScheduleFormed None = Unit {0}
+IsScheduleFormed (Some (tree.schedule start moves at)) = AreMoves moves
+IsScheduleFormed (Some other) = ⊥

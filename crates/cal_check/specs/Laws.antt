@@ -6,17 +6,18 @@ use Rattle.rvc_base.specs.Width.{IsNum}
 use Rattle.cal_ast.specs.Tree.{Tree}
 use Rattle.cal_model.specs.Value.{Kind, BoolKind, Shape, Num}
 use Rattle.cal_model.specs.Outcome.{Gives}
-use Rattle.cal_model.specs.Actor.{Action, Actor, Fun, Port, Proc}
+use Rattle.cal_model.specs.Actor.{Action, Actor, Fun, Move, Port, Proc}
 use Rattle.cal_model.specs.Call.{fun_named}
 use Rattle.cal_model.specs.Kinding.{Fine, Known, Names, constant, kind, meant_by, type_judged}
-use Rattle.cal_model.specs.Sound.{Each, AreDistinct, AreLocals, AreStatements, IsAction, IsFun, IsPlain, IsProc, max_ports, names_in_patterns, names_of, with_locals}
+use Rattle.cal_model.specs.Sound.{Each, AreDistinct, AreLocals, AreStatements, AreTagged, IsAction, IsFun, IsMove, IsPlain, IsProc, LeadToOne, max_ports, names_in_patterns, names_of, with_locals}
 use Rattle.cal_check.specs.Violations.{all_broken, all_fine}
 use Rattle.cal_check.specs.Written.{written, statement_written}
 use Rattle.cal_check.specs.Statements.{names_behind, starts_broken, statement_broken}
 use Rattle.cal_check.specs.Routines.{fun_broken, fun_judged, locals_of, proc_broken, proc_judged}
 use Rattle.cal_check.specs.Actions.{Around, action_broken, action_of, each_guard, guards_written}
 use Rattle.cal_check.specs.Ports.{each_port, header_broken}
-use Rattle.cal_check.specs.Formed.{AreDeclared, AreFormed, IsActionFormed, IsFunFormed, IsProcFormed}
+use Rattle.cal_check.specs.Schedules.{moves_in, pairs_in, schedule_broken, states_of}
+use Rattle.cal_check.specs.Formed.{AreDeclared, AreFormed, IsActionFormed, IsFunFormed, IsProcFormed, IsScheduleFormed}
 
 -- what a constant expression gives is a number of the language, whatever is declared inside
 abbrev pub ConstantsFit : Names → Type 0
@@ -115,3 +116,19 @@ FunctionsAreSound = (name : List ℕ) (decl : Tree) (names others : Names) (foun
     → IsFunFormed decl → ConstantsFit names → AreAlike names others
     → fun_judged name decl names ≡ Fine found → fun_broken decl names ≡ []
     → AreDistinct (map (λ x. x.name) (found.formals ++ found.locals)) → IsFun others found
+
+-- a schedule with these moves: its states differ, each move is of the actor, and from one state an action leads to one
+-- state
+pub record IsSchedule (actor : Actor) (moves : List Move) : Type 0 where
+  pub states : AreDistinct actor.states
+  pub each : Each (IsMove actor) moves
+  pub one_target : LeadToOne moves
+
+abbrev pub SchedulesAreSound : Type 0
+SchedulesAreSound = (schedule : Option Tree) (actor : Actor) → IsScheduleFormed schedule
+    → actor.states ≡ states_of schedule → schedule_broken schedule actor ≡ []
+    → IsSchedule actor (moves_in schedule actor)
+
+-- priorities speak of tagged actions alone
+abbrev pub PrioritiesAreSound : Type 0
+PrioritiesAreSound = (members : Tree) (actor : Actor) → Each (AreTagged actor) (pairs_in members actor)

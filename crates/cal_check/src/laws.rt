@@ -2,7 +2,7 @@
 //!
 //! Each law is the contract of a function that does nothing: it is proved with the crate, and can be cited.
 
-ghost use Rattle.cal_check.specs.Laws.{ActionsAreSound, FunctionsAreSound, GuardsAreSound, HeadersAreSound, LocalsAreSound, ProceduresAreSound, StatementsAreSound, WrittenKeepsKinds};
+ghost use Rattle.cal_check.specs.Laws.{ActionsAreSound, FunctionsAreSound, GuardsAreSound, HeadersAreSound, LocalsAreSound, PrioritiesAreSound, ProceduresAreSound, SchedulesAreSound, StatementsAreSound, WrittenKeepsKinds};
 
 /// Writing out sizes and bounds keeps the kinds of expressions and types, if constants are numbers of the language.
 pub fn written_keeps_kinds()
@@ -20,4 +20,6 @@ pub fn what_breaks_no_rule_is_sound()
     ensures actions { ActionsAreSound }
     ensures functions { FunctionsAreSound }
     ensures procedures { ProceduresAreSound }
+    ensures schedules { SchedulesAreSound }
+    ensures priorities { PrioritiesAreSound }
 {}

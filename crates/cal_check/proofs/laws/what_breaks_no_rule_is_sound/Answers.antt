@@ -4,6 +4,7 @@ use Rattle.cal_check.proofs.SoundHeader.{header-sound}
 use Rattle.cal_check.proofs.SoundLocals.{are-sound}
 use Rattle.cal_check.proofs.SoundRoutines.{fun-sound, proc-sound}
 use Rattle.cal_check.proofs.SoundStatements.{are-right}
+use Rattle.cal_check.proofs.SoundSchedules.{pairs-tagged, schedule-sound}
 use Rattle.cal_check.proofs.laws.what_breaks_no_rule_is_sound.Goals as goal
 
 pub returns-clause-guards : goal.returns-clause-guards
@@ -26,3 +27,9 @@ returns-clause-procedures c = proc-sound
 
 pub returns-clause-functions : goal.returns-clause-functions
 returns-clause-functions c = fun-sound
+
+pub returns-clause-schedules : goal.returns-clause-schedules
+returns-clause-schedules c = schedule-sound
+
+pub returns-clause-priorities : goal.returns-clause-priorities
+returns-clause-priorities c = pairs-tagged

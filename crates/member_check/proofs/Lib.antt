@@ -1,0 +1,15 @@
+pub mod Broken
+pub mod MetBefore
+pub mod Judged
+pub mod Chains
+pub mod Seen
+pub mod SameActors
+pub mod Departing
+pub mod PairsInRange
+pub mod AskedParts
+pub mod PortNames
+pub mod Once
+pub mod Mapped
+pub mod Meant
+pub mod Moves
+pub mod Ready

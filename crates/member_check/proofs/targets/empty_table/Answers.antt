@@ -1,0 +1,8 @@
+use Rattle.std.proofs.Common.{◌≡◌, ◌*◌, ◌≤◌, ℕ, [], ◌∷◌, None, sym, ap, refl, subst, arith}
+use Rattle.cal_model.specs.Sound.{Each, max_actions, max_states}
+use Rattle.member_check.proofs.Departing.{tells-none}
+use Rattle.cal_check.proofs.Lists.{each-append}
+use Rattle.member_check.proofs.targets.empty_table.Goals as goal
+
+pub returns : goal.returns
+returns c = tells-none c.args.states c.args.columns c.loop-place.table.items (omega (arith, c.loop-place.invariant.size, c.loop-place.auto._place-end, c.loop-place-test.false)) c.loop-place.invariant.none

@@ -1,0 +1,4 @@
+pub mod Judging
+pub mod Parts
+pub mod Asking
+pub mod Targets
