@@ -1,2 +1,6 @@
 mod Rows
 mod Once
+mod Counted
+mod InOrder
+mod Told
+mod Conforming

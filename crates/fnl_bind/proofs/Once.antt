@@ -1,4 +1,4 @@
--- The tree that networks make is sound: each part is numbered once.
+-- In the tree that networks make each part is numbered once.
 use Rattle.std.proofs.Common.{◌≡◌, ℕ, zero, suc, ◌+◌, ◌<◌, List, [], ◌∷◌, ◌++◌, length, Some, refl, sym, ap, subst, arith}
 use Rattle.std.proofs.lemmas.List.{length-append}
 use Rattle.fnl_read.specs.Net.{Instance}
@@ -6,7 +6,7 @@ use Rattle.fnl_tree.specs.Tree.{Inner, InnerNet, InnerLeaf, Part, Net as BoundNe
 use Rattle.fnl_bind.specs.Library.{Entry, instance_id}
 use Rattle.fnl_bind.specs.Networks.{Place, Standing, StandsNet, StandsLeaf, StandsNot, standing}
 use Rattle.fnl_bind.specs.Trees.{Grown, Filled, nothing_filled, with_part, filled_by, filled, net_before, grown_at, top_place, tree_of}
-use Rattle.fnl_bind.specs.Sound.{if_same, once_from, if_net, if_leaf, net_parts, leaf_parts, net_count, leaf_count, IsBehind, AreBehind, LeadDown, IsSound, BoundAreSound}
+use Rattle.fnl_bind.specs.Sound.{if_same, once_from, if_net, if_leaf, net_parts, leaf_parts, net_count, leaf_count, IsBehind, AreBehind, LeadDown, StandsOnce, BoundStandOnce}
 
 -- ---- counts add up
 
@@ -143,10 +143,10 @@ grown (suc n) library p net leaf =
     net_grows p net leaf (filled (grown_at n library) library p p.entry.net.instances (suc net) leaf)
     (fills (grown_at n library) (grown n library) library p p.entry.net.instances (suc net) leaf)
 
-top_is_sound : (library : List Entry) (top : Entry) → IsSound (tree_of library (Some top))
-top_is_sound library top =
+pub top_stands_once : (library : List Entry) (top : Entry) → StandsOnce (tree_of library (Some top))
+top_stands_once library top =
     let g = grown (length library) library (top_place top) 0 0 in
     record { nets = g.nets; leaves = g.leaves; down = g.down }
 
-pub bound_are_sound : BoundAreSound
-bound_are_sound library class top held = subst (λ e. IsSound (tree_of library e)) (sym held) (top_is_sound library top)
+pub bound_stand_once : BoundStandOnce
+bound_stand_once library class top held = subst (λ e. StandsOnce (tree_of library e)) (sym held) (top_stands_once library top)

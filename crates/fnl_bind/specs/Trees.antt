@@ -33,7 +33,7 @@ found_or_inside (f ∷ fs) inner library p = f ∷ fs
 
 -- at so many networks inside each other
 abbrev pub found_at : ℕ → List Entry → Place → List Found
-found_at zero library p = []
+found_at zero library p = own_found p
 found_at (suc n) library p = found_or_inside (own_found p) (found_at n library) library p
 
 -- ---- how many instances there are

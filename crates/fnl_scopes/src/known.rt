@@ -1,0 +1,119 @@
+//! Names that expressions and types use.
+#![tactic(auto, using(crate::proofs::Steps::in_first, crate::proofs::Steps::in_others))]
+
+ghost use Rattle.std.specs.Prelude.{◌≡◌, map};
+ghost use Rattle.cal_ast.specs.Tree as tree;
+ghost use Rattle.cal_ast.specs.Tree.{listed};
+ghost use Rattle.cal_ast.specs.View.{expr_tree, ident_tree, type_arg_tree, type_tree};
+ghost use Rattle.cal_model.specs.Kinding.{is_word};
+ghost use Rattle.fnl_bind.specs.Scopes.{unknown_in};
+ghost use Rattle.fnl_scopes.specs.Tested.{Tests};
+
+use cal_ast::{BinOp, Expr, ExprForm, TypeArg, TypeExpr};
+use cal_scope::{NameSet, ScopeFault};
+use rvc_base::Rule;
+
+/// A name that isn't declared.
+fn unknown(at: u32) -> ScopeFault
+    ensures { result ≡ ScopeFault.Broken Rule.UNKNOWN_NAME at }
+{
+    ScopeFault::Broken {
+        rule: Rule::UNKNOWN_NAME,
+        at,
+    }
+}
+
+/// That an expression uses declared names alone.
+#[cycle(known)]
+pub(crate) fn known_expr(e: &Expr, names: &NameSet) -> Result<(), ScopeFault>
+    ensures { Tests result (unknown_in (expr_tree e.now) names.now) }
+{
+    match &e.form {
+        ExprForm::Name(name) => known_name(name.as_str(), e.at, names),
+        ExprForm::List(items) => known_exprs(items, names),
+        ExprForm::Prefix { of, .. } => known_expr(of, names),
+        ExprForm::Binary { left, right, .. } => known_both(left, right, names),
+        _ => Ok(()),
+    }
+}
+
+/// That a name is declared.
+fn known_name(name: &str, at: u32, names: &NameSet) -> Result<(), ScopeFault>
+    ensures { Tests result (unknown_in (tree.variable name.now at) names.now) }
+{
+    if names.has(name) {
+        return Ok(());
+    }
+    Err(unknown(at))
+}
+
+/// The same of two operands.
+#[cycle(known)]
+fn known_both(left: &Expr, right: &Expr, names: &NameSet) -> Result<(), ScopeFault>
+    ensures { (op : BinOp) (at : ℕ) → Tests result
+        (unknown_in (tree.binary op (expr_tree left.now) (expr_tree right.now) at) names.now) }
+{
+    known_expr(left, names)?;
+    known_expr(right, names)
+}
+
+/// The same of expressions in order.
+#[cycle(known)]
+fn known_exprs(exprs: &[Expr], names: &NameSet) -> Result<(), ScopeFault>
+    ensures { Tests result (unknown_in (listed (map expr_tree exprs.now)) names.now) }
+{
+    let mut rest = exprs;
+    'exprs: while let Some((first, others)) = rest.split_first() {
+        known_expr(first, names)?;
+        rest = others;
+    }
+    Ok(())
+}
+
+/// That a type has the name of a type, and its arguments use declared names alone.
+#[cycle(known)]
+pub(crate) fn known_type(t: &TypeExpr, names: &NameSet) -> Result<(), ScopeFault>
+    ensures { Tests result (unknown_in (type_tree t.now) names.now) }
+{
+    if !is_word(t.name.text.as_str()) {
+        return Err(unknown(t.name.at));
+    }
+    known_args(&t.args, names)
+}
+
+/// Whether a name is that of a type.
+fn is_word(name: &str) -> bool
+    ensures { result ≡ is_word name.now }
+{
+    name == "bool"
+        || name == "int"
+        || name == "uint"
+        || name == "List"
+        || name == "float"
+        || name == "half"
+        || name == "String"
+}
+
+/// That the arguments of a type use declared names alone.
+#[cycle(known)]
+fn known_args(args: &[TypeArg], names: &NameSet) -> Result<(), ScopeFault>
+    ensures { Tests result (unknown_in (listed (map type_arg_tree args.now)) names.now) }
+{
+    let mut rest = args;
+    'args: while let Some((first, others)) = rest.split_first() {
+        known_arg(first, names)?;
+        rest = others;
+    }
+    Ok(())
+}
+
+/// That an argument of a type uses declared names alone.
+#[cycle(known)]
+fn known_arg(arg: &TypeArg, names: &NameSet) -> Result<(), ScopeFault>
+    ensures { Tests result (unknown_in (type_arg_tree arg.now) names.now) }
+{
+    match arg {
+        TypeArg::Shape { shape, .. } => known_type(shape, names),
+        TypeArg::Value { value, .. } => known_expr(value, names),
+    }
+}
