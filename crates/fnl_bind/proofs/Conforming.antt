@@ -1,11 +1,10 @@
 -- The tree of networks that break no rule can be flattened.
-use Rattle.std.proofs.Common.{◌≡◌, ◌≢◌, ℕ, zero, suc, ◌+◌, ◌<◌, ◌≤◌, ◌×◌, Bool, true, false, List, [], ◌∷◌, ◌++◌, length, map, Option, None, Some, refl, sym, ap, subst, ◌∙◌, arith}
+use Rattle.std.proofs.Common.{◌≡◌, ◌≢◌, ℕ, zero, suc, ◌+◌, ◌<◌, ◌≤◌, Bool, true, false, List, [], ◌∷◌, ◌++◌, length, map, Option, None, Some, inl, inr, refl, sym, ap, subst, ◌∙◌, arith}
 use Rattle.std.specs.Prelude.{All, AllPairs, slice_get, nat_le, ◌&&◌, max, ℤ, pos, negsuc, if◌then◌else◌}
 use Rattle.std.specs.Str.{bytes_eq}
 use Rattle.std.proofs.lemmas.Bool.{leb-true}
 use Rattle.std.proofs.lemmas.List.{length-append}
 use Rattle.std.proofs.lemmas.List.Elements.{All-nil, All-cons, All-append}
-use Rattle.std.proofs.lemmas.Option.{slice_get_cases}
 use Rattle.std.proofs.lemmas.Slice.Eq.{bytes_eq-Decides}
 use Rattle.rvc_base.specs.declared.refusal.Rule.{Rule}
 use Rattle.rvc_base.specs.Rules.{network_name_twice, too_many_ports, network_cycle, wrong_buffer_size}
@@ -55,17 +54,18 @@ end_named (a_port input shape name at) names e h = go (single_type shape names) 
 
 ends_named : (ps : List Port) (names : Names) (es : List Own) → all_fine (ends_judged ps names) ≡ Some es → map (λ e. e.name) es ≡ map port_name ps
 ends_named [] names es h = sym (ap (λ xs. map (λ e. e.name) xs) (counted.some_same [] es h))
-ends_named (p ∷ ps) names es h = go (fine (end_judged p names)) (all_fine (ends_judged ps names)) refl refl h
+ends_named (p ∷ ps) names es h = go (fine (end_judged p names)) (all_fine (ends_judged ps names)) refl (λ xs j. ends_named ps names xs j) h
   where
-    go : (o : Option Own) (r : Option (List Own)) → fine (end_judged p names) ≡ o → all_fine (ends_judged ps names) ≡ r → and_all o r ≡ Some es
+    go : (o : Option Own) (r : Option (List Own)) → fine (end_judged p names) ≡ o
+        → ((xs : List Own) → r ≡ Some xs → map (λ e. e.name) xs ≡ map port_name ps) → and_all o r ≡ Some es
         → map (λ e. e.name) es ≡ port_name p ∷ map port_name ps
-    go (Some x) (Some xs) i j h =
+    go (Some x) (Some xs) i f h =
         let s : x ∷ xs ≡ es = counted.some_same (x ∷ xs) es h in
         sym (ap (λ zs. map (λ e. e.name) zs) s)
         ∙ ap (λ n. n ∷ map (λ e. e.name) xs) (end_named p names x i)
-        ∙ ap (λ ns. port_name p ∷ ns) (ends_named ps names xs j)
-    go (Some x) None i j h = counted.none_here es h
-    go None r i j h = counted.none_here es h
+        ∙ ap (λ ns. port_name p ∷ ns) (f xs refl)
+    go (Some x) None i f h = counted.none_here es h
+    go None r i f h = counted.none_here es h
 
 length_same : {A B : Type 0} (f : A → B) (xs : List A) → length (map f xs) ≡ length xs
 length_same f [] = refl
@@ -136,16 +136,16 @@ one_size (a_size value at) names n h = kind_bound value at names (kind value nam
 
 all_sizes : (zs : List Size) (names : Names) (ns : List ℕ) → all_fine (sizes_judged zs names) ≡ Some ns → largest ns ≤ max_size_asked
 all_sizes [] names ns h = let s : [] ≡ ns = counted.some_same [] ns h in subst (λ xs. largest xs ≤ max_size_asked) s (omega arith)
-all_sizes (z ∷ zs) names ns h = go (fine (size_judged z names)) (all_fine (sizes_judged zs names)) refl refl h
+all_sizes (z ∷ zs) names ns h = go (fine (size_judged z names)) (all_fine (sizes_judged zs names)) refl (λ ms j. all_sizes zs names ms j) h
   where
-    go : (o : Option ℕ) (r : Option (List ℕ)) → fine (size_judged z names) ≡ o → all_fine (sizes_judged zs names) ≡ r → and_all o r ≡ Some ns
-        → largest ns ≤ max_size_asked
-    go (Some m) (Some ms) i j h =
+    go : (o : Option ℕ) (r : Option (List ℕ)) → fine (size_judged z names) ≡ o
+        → ((ms : List ℕ) → r ≡ Some ms → largest ms ≤ max_size_asked) → and_all o r ≡ Some ns → largest ns ≤ max_size_asked
+    go (Some m) (Some ms) i f h =
         let a = one_size z names m i in
-        let b = all_sizes zs names ms j in
+        let b = f ms refl in
         subst (λ xs. largest xs ≤ max_size_asked) (counted.some_same (m ∷ ms) ns h) (omega (arith, a, b))
-    go (Some m) None i j h = counted.none_here ns h
-    go None r i j h = counted.none_here ns h
+    go (Some m) None i f h = counted.none_here ns h
+    go None r i f h = counted.none_here ns h
 
 wire_bound : (c : Connection) (names : Names) → (wire_of c names).size ≤ max_buffer_size
 wire_bound (a_connection src src_port dst dst_port sizes at) names = go (all_fine (sizes_judged sizes names)) refl
@@ -155,8 +155,8 @@ wire_bound (a_connection src src_port dst dst_port sizes at) names = go (all_fin
     go (Some ns) e = all_sizes sizes names ns e
 
 wires_bound : (cs : List Connection) (names : Names) → All (λ w. w.size ≤ max_buffer_size) (wires_of cs names)
-wires_bound [] names = All-nil _
-wires_bound (c ∷ cs) names = All-cons _ (wire_of c names) (wires_of cs names) (wire_bound c names) (wires_bound cs names)
+wires_bound [] names = All-nil (λ w. w.size ≤ max_buffer_size)
+wires_bound (c ∷ cs) names = All-cons (λ w. w.size ≤ max_buffer_size) (wire_of c names) (wires_of cs names) (wire_bound c names) (wires_bound cs names)
 
 -- ---- one network that breaks no rule of scope
 
@@ -261,11 +261,12 @@ net_grows p spots f scope fill = record {
 -- the class of the network of a class
 class_of : (class : List ℕ) (es : List Entry) (e : Entry) → network_of class es ≡ Some e → e.class ≡ class
 class_of class [] e h = counted.none_here e h
-class_of class (x ∷ es) e h = go (bytes_eq x.class class) refl h
+class_of class (x ∷ es) e h = go (bytes_eq x.class class) refl (λ k. class_of class es e k) h
   where
-    go : (b : Bool) → bytes_eq x.class class ≡ b → (if b then Some x else network_of class es) ≡ Some e → e.class ≡ class
-    go true i h = ap (λ y. y.class) (sym (counted.some_same x e h)) ∙ (bytes_eq-Decides x.class class).0 i
-    go false i h = class_of class es e h
+    go : (b : Bool) → bytes_eq x.class class ≡ b → (network_of class es ≡ Some e → e.class ≡ class)
+        → (if b then Some x else network_of class es) ≡ Some e → e.class ≡ class
+    go true i f h = ap (λ y. y.class) (sym (counted.some_same x e h)) ∙ (bytes_eq-Decides x.class class).0 i
+    go false i f h = f h
 
 -- what an instance is breaks no rule, and what it breaks is found
 abbrev GrowsAt : ℕ → List Entry → Type 0
@@ -334,15 +335,17 @@ grown (suc n) library p net leaf none =
 
 -- ---- from the top
 
+past : {A : Type 0} (xs : List A) (n : ℕ) → slice_get xs n ≡ None → length xs ≤ n
+past [] n h = omega arith
+past (x ∷ xs) zero h = absurd (cc)
+past (x ∷ xs) (suc n) h = let r = past xs n h in omega (arith, r)
+
 few_spots : (spots : List Spot) → passing (slice_get spots max_instances) ≡ [] → length spots ≤ max_instances
-few_spots spots h = go (slice_get_cases spots max_instances).1
+few_spots spots h = past spots max_instances (none_passes (slice_get spots max_instances) h)
   where
-    go : _ → length spots ≤ max_instances
-    go (inl (x, below, is, other)) = absurd (some_passes (slice_get spots max_instances) x is h)
-    go (inr (past, none)) = past
-    some_passes : (o : Option Spot) (x : Spot) → o ≡ Some x → passing o ≡ [] → ⊥
-    some_passes None x e h = counted.none_here x e
-    some_passes (Some y) x e h = absurd (cc)
+    none_passes : (o : Option Spot) → passing o ≡ [] → o ≡ None
+    none_passes None h = refl
+    none_passes (Some y) h = absurd (cc)
 
 top_is_sound : (library : List Entry) (top : Entry) → violations_of library (Some top) ≡ [] → IsSound (tree_of library (Some top))
 top_is_sound library top h =

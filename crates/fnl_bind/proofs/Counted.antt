@@ -1,7 +1,7 @@
 -- Parts that are counted once stand in one place.
-use Rattle.std.proofs.Common.{◌≡◌, ℕ, zero, suc, ◌+◌, ◌<◌, ◌≤◌, Bool, true, false, List, [], ◌∷◌, length, Option, None, Some, ◌×◌, ◌⊎◌, inl, inr, refl, sym, ap, subst, ◌∙◌, arith}
+use Rattle.std.proofs.Common.{◌≡◌, ℕ, zero, suc, ◌+◌, ◌<◌, ◌≤◌, Bool, true, false, List, [], ◌∷◌, length, Option, None, Some, ◌⊎◌, inl, inr, refl, sym, ap, subst, ◌∙◌, arith}
 use Rattle.std.specs.Prelude.{slice_get, ◌==◌, if◌then◌else◌}
-use Rattle.std.proofs.lemmas.Option.{slice_get_within}
+use Rattle.std.proofs.lemmas.Bool.Decides.{Decides-eqb}
 use Rattle.fnl_tree.specs.Tree.{Inner, InnerNet, InnerLeaf, Part, Net as BoundNet, Tree as BoundTree}
 use Rattle.fnl_tree.specs.Sound as tree
 use Rattle.fnl_tree.specs.Sound.{IsPart, StandsSomewhere}
@@ -9,11 +9,11 @@ use Rattle.fnl_bind.specs.Sound.{if_same, once_from, if_net, if_leaf, net_parts,
 
 -- ---- how many parts are counted, by any count of one part
 
-tally : (Inner → ℕ) → List Part → ℕ
+abbrev tally : (Inner → ℕ) → List Part → ℕ
 tally c [] = 0
 tally c (p ∷ ps) = c p.inner + tally c ps
 
-tallies : (Inner → ℕ) → List BoundNet → ℕ
+abbrev tallies : (Inner → ℕ) → List BoundNet → ℕ
 tallies c [] = 0
 tallies c (n ∷ ns) = tally c n.parts + tallies c ns
 
@@ -73,99 +73,109 @@ two_nets c (z ∷ ns) (suc n) (suc m) x y l h i = let r = two_nets c ns n m x y 
 
 counted_part : (c : Inner → ℕ) (ps : List Part) → 0 < tally c ps → (j : ℕ) × (p : Part) × (slice_get ps j ≡ Some p) × (0 < c p.inner)
 counted_part c [] h = absurd (omega (arith, h))
-counted_part c (x ∷ ps) h = go (c x.inner) refl
+counted_part c (x ∷ ps) h = go (c x.inner) refl (λ l. counted_part c ps l)
   where
-    go : (k : ℕ) → c x.inner ≡ k → (j : ℕ) × (p : Part) × (slice_get (x ∷ ps) j ≡ Some p) × (0 < c p.inner)
-    go zero e = let r = counted_part c ps (omega (arith, h, e)) in (suc r.0, r.1, r.2, r.3)
-    go (suc k) e = (0, x, refl, omega (arith, e))
+    go : (k : ℕ) → c x.inner ≡ k → (0 < tally c ps → (j : ℕ) × (p : Part) × (slice_get ps j ≡ Some p) × (0 < c p.inner))
+        → (j : ℕ) × (p : Part) × (slice_get (x ∷ ps) j ≡ Some p) × (0 < c p.inner)
+    go zero e f = let r = f (omega (arith, h, e)) in (suc r.0, r.1, r.2, r.3)
+    go (suc k) e f = (0, x, refl, omega (arith, e))
 
 counted_net : (c : Inner → ℕ) (ns : List BoundNet) → 0 < tallies c ns → (n : ℕ) × (net : BoundNet) × (slice_get ns n ≡ Some net) × (0 < tally c net.parts)
 counted_net c [] h = absurd (omega (arith, h))
-counted_net c (x ∷ ns) h = go (tally c x.parts) refl
+counted_net c (x ∷ ns) h = go (tally c x.parts) refl (λ l. counted_net c ns l)
   where
-    go : (k : ℕ) → tally c x.parts ≡ k → (n : ℕ) × (net : BoundNet) × (slice_get (x ∷ ns) n ≡ Some net) × (0 < tally c net.parts)
-    go zero e = let r = counted_net c ns (omega (arith, h, e)) in (suc r.0, r.1, r.2, r.3)
-    go (suc k) e = (0, x, refl, omega (arith, e))
+    go : (k : ℕ) → tally c x.parts ≡ k → (0 < tallies c ns → (n : ℕ) × (net : BoundNet) × (slice_get ns n ≡ Some net) × (0 < tally c net.parts))
+        → (n : ℕ) × (net : BoundNet) × (slice_get (x ∷ ns) n ≡ Some net) × (0 < tally c net.parts)
+    go zero e f = let r = f (omega (arith, h, e)) in (suc r.0, r.1, r.2, r.3)
+    go (suc k) e f = (0, x, refl, omega (arith, e))
 
 -- ---- numbers in a row
 
+abbrev one_or_none : Bool → ℕ
+one_or_none b = if b then 1 else 0
+
+one_if : (b : Bool) → b ≡ true → one_or_none b ≡ 1
+one_if true h = refl
+one_if false h = absurd (cc)
+
+true_if : (b : Bool) → 0 < one_or_none b → b ≡ true
+true_if true h = refl
+true_if false h = absurd (omega (arith, h))
+
+few_if : (b : Bool) → one_or_none b ≤ 1
+few_if true = omega arith
+few_if false = omega arith
+
 same_counts : (n : ℕ) → if_same n n ≡ 1
-same_counts n = go (n == n) (grind arith)
-  where
-    go : (b : Bool) → b ≡ true → (if b then 1 else 0) ≡ 1
-    go b h = ap (λ x. if x then 1 else 0) h
+same_counts n = one_if (n == n) ((Decides-eqb n n).1 refl)
 
 counts_same : (n m : ℕ) → 0 < if_same n m → n ≡ m
-counts_same n m h = go (n == m) (λ e. grind (arith, e)) h
-  where
-    go : (b : Bool) → (b ≡ true → n ≡ m) → 0 < (if b then 1 else 0) → n ≡ m
-    go true f h = f refl
-    go false f h = absurd (omega (arith, h))
+counts_same n m h = (Decides-eqb n m).0 (true_if (n == m) h)
 
 few_same : (n m : ℕ) → if_same n m ≤ 1
-few_same n m = go (n == m)
-  where
-    go : (b : Bool) → (if b then 1 else 0) ≤ 1
-    go true = omega arith
-    go false = omega arith
+few_same n m = few_if (n == m)
+
+none_if : (k : ℕ) → (0 < k → ⊥) → k ≡ 0
+none_if zero f = refl
+none_if (suc k) f = absurd (f (omega arith))
 
 differ : (n m : ℕ) → n < m → if_same n m ≡ 0
-differ n m l = go (if_same n m) refl
-  where
-    go : (k : ℕ) → if_same n m ≡ k → if_same n m ≡ 0
-    go zero e = e
-    go (suc k) e = let s : n ≡ m = counts_same n m (omega (arith, e)) in absurd (omega (arith, l, s))
+differ n m l = none_if (if_same n m) (λ h. let s : n ≡ m = counts_same n m h in absurd (omega (arith, l, s)))
+
+differ_above : (n m : ℕ) → m < n → if_same n m ≡ 0
+differ_above n m l = none_if (if_same n m) (λ h. let s : n ≡ m = counts_same n m h in absurd (omega (arith, l, s)))
 
 -- m is one of n numbers from k on
+before_row : (k n m : ℕ) → m < k → once_from k n m ≡ 0
+before_row k zero m l = refl
+before_row k (suc n) m l =
+    let r = before_row (suc k) n m (omega (arith, l)) in
+    let d = differ_above k m l in
+    omega (arith, r, d)
+
+order : (k m : ℕ) → k ≤ m → (k < m) ⊎ (k ≡ m)
+order zero zero h = inr refl
+order zero (suc m) h = inl (omega arith)
+order (suc k) zero h = absurd (omega (arith, h))
+order (suc k) (suc m) h = more (order k m (omega (arith, h)))
+  where
+    more : (k < m) ⊎ (k ≡ m) → (suc k < suc m) ⊎ (suc k ≡ suc m)
+    more (inl l) = inl (omega (arith, l))
+    more (inr e) = inr (ap suc e)
+
 in_row : (k n m : ℕ) → k ≤ m → m < k + n → once_from k n m ≡ 1
 in_row k zero m h l = absurd (omega (arith, h, l))
-in_row k (suc n) m h l = go (if_same k m) refl
+in_row k (suc n) m h l = go (order k m h) (λ b. in_row (suc k) n m b (omega (arith, l)))
   where
-    before : (j i x : ℕ) → x < j → once_from j i x ≡ 0
-    before j zero x y = refl
-    before j (suc i) x y =
-        let r = before (suc j) i x (omega (arith, y)) in
-        let s : if_same j x ≡ 0 = away j x y in
-        omega (arith, r, s)
-      where
-        away : (j x : ℕ) → x < j → if_same j x ≡ 0
-        away j x y = at (if_same j x) refl
-          where
-            at : (i : ℕ) → if_same j x ≡ i → if_same j x ≡ 0
-            at zero e = e
-            at (suc i) e = let s : j ≡ x = counts_same j x (omega (arith, e)) in absurd (omega (arith, y, s))
-    go : (i : ℕ) → if_same k m ≡ i → once_from k (suc n) m ≡ 1
-    go zero e =
-        let apart : (k ≡ m) → ⊥ = λ s. let t : if_same k m ≡ 1 = subst (λ x. if_same k x ≡ 1) s (same_counts k) in absurd (omega (arith, t, e)) in
-        let r = in_row (suc k) n m (beyond apart) (omega (arith, l)) in
-        omega (arith, r, e)
-      where
-        beyond : ((k ≡ m) → ⊥) → suc k ≤ m
-        beyond f = grind (arith, f, h)
-    go (suc i) e =
-        let s : k ≡ m = counts_same k m (omega (arith, e)) in
-        let r = before (suc k) n m (omega (arith, s)) in
-        let t = few_same k m in
-        omega (arith, r, t, e)
+    go : (k < m) ⊎ (k ≡ m) → (suc k ≤ m → once_from (suc k) n m ≡ 1) → once_from k (suc n) m ≡ 1
+    go (inl below) f =
+        let r = f (omega (arith, below)) in
+        let d = differ k m below in
+        omega (arith, r, d)
+    go (inr same) f =
+        let r = before_row (suc k) n m (omega (arith, same)) in
+        let d : if_same k m ≡ 1 = subst (λ x. if_same k x ≡ 1) same (same_counts k) in
+        omega (arith, r, d)
 
 row_in : (k n m : ℕ) → 0 < once_from k n m → m < k + n
 row_in k zero m h = absurd (omega (arith, h))
-row_in k (suc n) m h = go (if_same k m) refl
+row_in k (suc n) m h = go (if_same k m) refl (λ l. row_in (suc k) n m l)
   where
-    go : (i : ℕ) → if_same k m ≡ i → m < k + suc n
-    go zero e = let r = row_in (suc k) n m (omega (arith, h, e)) in omega (arith, r)
-    go (suc i) e = let s : k ≡ m = counts_same k m (omega (arith, e)) in omega (arith, s)
+    go : (i : ℕ) → if_same k m ≡ i → (0 < once_from (suc k) n m → m < suc k + n) → m < k + suc n
+    go zero e f = let r = f (omega (arith, h, e)) in omega (arith, r)
+    go (suc i) e f = let s : k ≡ m = counts_same k m (omega (arith, e)) in omega (arith, s)
 
 row_once : (k n m : ℕ) → once_from k n m ≤ 1
 row_once k zero m = omega arith
-row_once k (suc n) m = go (if_same k m) refl
+row_once k (suc n) m = go (if_same k m) refl (row_once (suc k) n m)
   where
-    go : (i : ℕ) → if_same k m ≡ i → once_from k (suc n) m ≤ 1
-    go zero e = let r = row_once (suc k) n m in omega (arith, r, e)
-    go (suc i) e =
+    go : (i : ℕ) → if_same k m ≡ i → once_from (suc k) n m ≤ 1 → once_from k (suc n) m ≤ 1
+    go zero e r = omega (arith, r, e)
+    go (suc i) e r =
         let s : k ≡ m = counts_same k m (omega (arith, e)) in
-        let r = in_row k (suc n) m (omega (arith, s)) (omega (arith, s)) in
-        omega (arith, r)
+        let d : if_same k m ≡ 1 = subst (λ x. if_same k x ≡ 1) s (same_counts k) in
+        let z = before_row (suc k) n m (omega (arith, s)) in
+        omega (arith, z, d)
 
 -- ---- what stands behind
 
@@ -216,6 +226,9 @@ part_tallied t c n j p at =
     let all = net_counted c t.nets n at.net at.is_net in
     omega (arith, one, all)
 
+within : (n m : ℕ) → 0 < once_from 0 n m → m < n
+within n m h = let r = row_in 0 n m h in omega (arith, r)
+
 pub behind : (t : BoundTree) → StandsOnce t → (n j : ℕ) (p : Part) → IsPart t n j p → tree.IsBehind t n p.inner
 behind t h n j p at = go p.inner refl
   where
@@ -226,21 +239,30 @@ behind t h n j p at = go p.inner refl
         let all = h.nets m in
         let same = net_tallies m t.nets in
         let below : IsBehind n p.inner = behind_at n at.net.parts j p (subst (λ k. AreBehind k at.net.parts) (omega arith) (down_at 0 t.nets n at.net h.down at.is_net)) at.is_part in
-        (subst (λ x. IsBehind n x) e below, row_in 0 (length t.nets) m (omega (arith, count, one, all, same)))
+        (subst (λ x. IsBehind n x) e below, within (length t.nets) m (omega (arith, count, one, all, same)))
     go (InnerLeaf l) e =
         let count = part_tallied t (if_leaf l) n j p at in
         let one = counts_leaf l p.inner e in
         let all = h.leaves l in
         let same = leaf_tallies l t.nets in
-        row_in 0 (length t.leaves) l (omega (arith, count, one, all, same))
+        within (length t.leaves) l (omega (arith, count, one, all, same))
+
+either : (a b : ℕ) → (a < b) ⊎ ((b < a) ⊎ (a ≡ b))
+either zero zero = inr (inr refl)
+either zero (suc b) = inl (omega arith)
+either (suc a) zero = inr (inl (omega arith))
+either (suc a) (suc b) = more (either a b)
+  where
+    more : (a < b) ⊎ ((b < a) ⊎ (a ≡ b)) → (suc a < suc b) ⊎ ((suc b < suc a) ⊎ (suc a ≡ suc b))
+    more (inl l) = inl (omega (arith, l))
+    more (inr (inl l)) = inr (inl (omega (arith, l)))
+    more (inr (inr e)) = inr (inr (ap suc e))
 
 -- what is counted once stands at one place
 one_place : (t : BoundTree) (c : Inner → ℕ) → tallies c t.nets ≤ 1 → (n m j k : ℕ) (p q : Part) → IsPart t n j p → IsPart t m k q
     → c p.inner ≡ 1 → c q.inner ≡ 1 → (n ≡ m) × (j ≡ k)
-one_place t c few n m j k p q at there one other = nets (order n m)
+one_place t c few n m j k p q at there one other = nets (either n m)
   where
-    order : (a b : ℕ) → (a < b) ⊎ ((b < a) ⊎ (a ≡ b))
-    order a b = grind arith
     nets : (n < m) ⊎ ((m < n) ⊎ (n ≡ m)) → (n ≡ m) × (j ≡ k)
     nets (inl l) =
         let two = two_nets c t.nets n m at.net there.net l at.is_net there.is_net in
@@ -252,7 +274,7 @@ one_place t c few n m j k p q at there one other = nets (order n m)
         let x = part_counted c at.net.parts j p at.is_part in
         let y = part_counted c there.net.parts k q there.is_part in
         absurd (omega (arith, two, x, y, few, one, other))
-    nets (inr (inr e)) = (e, places (order j k))
+    nets (inr (inr e)) = (e, places (either j k))
       where
         one_net : at.net ≡ there.net
         one_net = some_same at.net there.net (sym at.is_net ∙ ap (slice_get t.nets) e ∙ there.is_net)

@@ -10,9 +10,15 @@ use Rattle.fnl_bind.specs.Networks.{Place, Standing, StandsNet, StandsLeaf, Stan
 use Rattle.fnl_bind.specs.Trees.{Grown, Filled, nothing_filled, with_part, filled_by, filled, net_before, grown_at}
 
 numbers_both : (k n m : ℕ) → numbers_from k (n + m) ≡ numbers_from k n ++ numbers_from (k + n) m
-numbers_both k zero m = ap (λ j. numbers_from j m) (omega arith)
+numbers_both k zero m =
+    let n : 0 + m ≡ m = omega arith in
+    let j : k ≡ k + 0 = omega arith in
+    ap (numbers_from k) n ∙ ap (λ i. numbers_from i m) j
 numbers_both k (suc n) m =
-    ap (λ ns. k ∷ ns) (numbers_both (suc k) n m ∙ ap (λ j. numbers_from (suc k) n ++ numbers_from j m) (omega arith))
+    let more : suc n + m ≡ suc (n + m) = omega arith in
+    let there : suc k + n ≡ k + suc n = omega arith in
+    ap (numbers_from k) more
+    ∙ ap (λ ns. k ∷ ns) (numbers_both (suc k) n m ∙ ap (λ j. numbers_from (suc k) n ++ numbers_from j m) there)
 
 -- these networks stand in the tree, the first under this number
 abbrev StandFrom : BoundTree → ℕ → List BoundNet → Type 0
@@ -24,8 +30,10 @@ first_in (z ∷ xs) ys zero x h = h
 first_in (z ∷ xs) ys (suc i) x h = first_in xs ys i x h
 
 then_in : {A : Type 0} (xs ys : List A) (i : ℕ) → slice_get (xs ++ ys) (length xs + i) ≡ slice_get ys i
-then_in [] ys i = refl
-then_in (z ∷ xs) ys i = then_in xs ys i
+then_in [] ys i = let e : 0 + i ≡ i = omega arith in ap (slice_get ys) e
+then_in (z ∷ xs) ys i =
+    let e : suc (length xs) + i ≡ suc (length xs + i) = omega arith in
+    ap (slice_get (z ∷ (xs ++ ys))) e ∙ then_in xs ys i
 
 first_stand : (t : BoundTree) (k : ℕ) (xs ys : List BoundNet) → StandFrom t k (xs ++ ys) → StandFrom t k xs
 first_stand t k xs ys h i x e = h i x (first_in xs ys i x e)
@@ -73,7 +81,7 @@ stands_fill t inner lead id StandsNot rest fill net leaf = fill net leaf
 
 all_fill : (t : BoundTree) (inner : Place → ℕ → ℕ → Grown) → ((p : Place) (net leaf : ℕ) → Leads t net leaf (inner p net leaf))
     → (library : List Entry) (p : Place) (is : List Instance) (net leaf : ℕ) → Fills t net leaf (filled inner library p is net leaf)
-all_fill t inner lead library p [] net leaf stand = LeavesOf.none
+all_fill t inner lead library p [] net leaf = λ stand. LeavesOf.none
 all_fill t inner lead library p (i ∷ is) net leaf =
     stands_fill t inner lead (instance_id i) (standing library p i) (filled inner library p is) (all_fill t inner lead library p is) net leaf
 
@@ -91,7 +99,7 @@ leads t (suc n) library p net leaf =
     (all_fill t (grown_at n library) (leads t n library) library p p.entry.net.instances (suc net) leaf)
 
 -- the whole tree, from its top down
-record HasOrder (t : BoundTree) : Type 0 where
+pub record HasOrder (t : BoundTree) : Type 0 where
   pub top : BoundNet
   pub is_top : slice_get t.nets 0 ≡ Some top
   pub in_order : LeavesOf t top.parts (numbers_from 0 (length t.leaves))
@@ -99,4 +107,4 @@ record HasOrder (t : BoundTree) : Type 0 where
 pub in_order : (n : ℕ) (library : List Entry) (p : Place) → HasOrder (record { nets = (grown_at n library p 0 0).nets; leaves = (grown_at n library p 0 0).leaves })
 in_order n library p =
     let lead = leads (record { nets = (grown_at n library p 0 0).nets; leaves = (grown_at n library p 0 0).leaves }) n library p 0 0 in
-    record { top = lead.top; is_top = lead.is_top; in_order = lead.leads (λ i x e. e) }
+    record { top = lead.top; is_top = lead.is_top; in_order = lead.leads (λ i x e. let z : i ≡ 0 + i = omega arith in subst (λ j. slice_get (grown_at n library p 0 0).nets j ≡ Some x) z e) }

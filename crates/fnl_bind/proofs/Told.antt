@@ -26,7 +26,7 @@ new_all n [] h = All-nil (λ x. n ≢ x)
 new_all n (x ∷ xs) h = All-cons (λ y. n ≢ y) x xs h.0 (new_all n xs h.1)
 
 pub told_pairs : (xs : List (List ℕ)) → AreTold xs → AllPairs (λ a b. a ≢ b) xs
-told_pairs [] h i j d less below = absurd (omega (arith, below))
+told_pairs [] h = λ i j d less below. absurd (omega (arith, below))
 told_pairs (x ∷ xs) h = AllPairs-cons (λ a b. a ≢ b) x xs (new_all x xs h.0) (told_pairs xs h.1)
 
 -- ---- from names that don't stand twice
@@ -48,7 +48,7 @@ met_here n met = ap (λ b. if b then true else is_met bytes_eq n met) (text_itse
 never_both : (b : Bool) → b ≡ true → b ≡ false → ⊥
 never_both b p q = let e : true ≡ false = sym p ∙ q in grind arith
 
-keys : List (Keyed (List ℕ)) → List (List ℕ)
+abbrev keys : List (Keyed (List ℕ)) → List (List ℕ)
 keys xs = map (λ x. x.key) xs
 
 -- what was met isn't met again
