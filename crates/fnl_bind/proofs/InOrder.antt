@@ -21,7 +21,7 @@ numbers_both k (suc n) m =
     ∙ ap (λ ns. k ∷ ns) (numbers_both (suc k) n m ∙ ap (λ j. numbers_from (suc k) n ++ numbers_from j m) there)
 
 -- these networks stand in the tree, the first under this number
-abbrev StandFrom : BoundTree → ℕ → List BoundNet → Type 0
+abbrev pub StandFrom : BoundTree → ℕ → List BoundNet → Type 0
 StandFrom t k ns = (i : ℕ) (x : BoundNet) → slice_get ns i ≡ Some x → slice_get t.nets (k + i) ≡ Some x
 
 first_in : {A : Type 0} (xs ys : List A) (i : ℕ) (x : A) → slice_get xs i ≡ Some x → slice_get (xs ++ ys) i ≡ Some x
@@ -43,19 +43,19 @@ then_stand t k xs ys h i x e =
     subst (λ j. slice_get t.nets j ≡ Some x) (omega arith) (h (length xs + i) x (then_in xs ys i ∙ e))
 
 -- the actors of a network, the first of which has this number
-record Leads (t : BoundTree) (net leaf : ℕ) (g : Grown) : Type 0 where
-  top : BoundNet
-  is_top : slice_get g.nets 0 ≡ Some top
-  leads : StandFrom t net g.nets → LeavesOf t top.parts (numbers_from leaf (length g.leaves))
+pub record Leads (t : BoundTree) (net leaf : ℕ) (g : Grown) : Type 0 where
+  pub top : BoundNet
+  pub is_top : slice_get g.nets 0 ≡ Some top
+  pub leads : StandFrom t net g.nets → LeavesOf t top.parts (numbers_from leaf (length g.leaves))
 
-abbrev Fills : BoundTree → ℕ → ℕ → Filled → Type 0
+abbrev pub Fills : BoundTree → ℕ → ℕ → Filled → Type 0
 Fills t net leaf f = StandFrom t net f.grown.nets → LeavesOf t f.parts (numbers_from leaf (length f.grown.leaves))
 
 numbers_of_both : (leaf : ℕ) (xs ys : List Leaf)
     → numbers_from leaf (length (xs ++ ys)) ≡ numbers_from leaf (length xs) ++ numbers_from (leaf + length xs) (length ys)
 numbers_of_both leaf xs ys = ap (numbers_from leaf) (length-append xs ys) ∙ numbers_both leaf (length xs) (length ys)
 
-net_leads : (t : BoundTree) (net leaf : ℕ) (id : List ℕ) (g : Grown) (f : Filled) → Leads t net leaf g
+pub net_leads : (t : BoundTree) (net leaf : ℕ) (id : List ℕ) (g : Grown) (f : Filled) → Leads t net leaf g
     → Fills t (net + length g.nets) (leaf + length g.leaves) f → Fills t net leaf (with_part id (InnerNet net) g f)
 net_leads t net leaf id g f lead fill stand =
     subst (λ ls. LeavesOf t (record { id = id; inner = InnerNet net } ∷ f.parts) ls) (sym (numbers_of_both leaf g.leaves f.grown.leaves))
@@ -63,7 +63,7 @@ net_leads t net leaf id g f lead fill stand =
     (lead.leads (first_stand t net g.nets f.grown.nets stand))
     (fill (then_stand t net g.nets f.grown.nets stand)))
 
-leaf_leads : (t : BoundTree) (net leaf : ℕ) (id : List ℕ) (l : Leaf) (f : Filled)
+pub leaf_leads : (t : BoundTree) (net leaf : ℕ) (id : List ℕ) (l : Leaf) (f : Filled)
     → Fills t (net + 0) (leaf + 1) f → Fills t net leaf (with_part id (InnerLeaf leaf) (record { nets = []; leaves = l ∷ [] }) f)
 leaf_leads t net leaf id l f fill stand =
     subst (λ ls. LeavesOf t (record { id = id; inner = InnerLeaf leaf } ∷ f.parts) ls) (sym (numbers_of_both leaf (l ∷ []) f.grown.leaves))

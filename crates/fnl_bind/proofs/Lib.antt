@@ -1,6 +1,6 @@
 mod Rows
-mod Once
-mod Counted
-mod InOrder
-mod Told
+pub mod Once
+pub mod Counted
+pub mod InOrder
+pub mod Told
 mod Conforming

@@ -49,24 +49,24 @@ down_append k (x ∷ xs) ys one other =
 
 -- ---- what grows and what is filled, the next network and the next actor having these numbers
 
-record Grows (net leaf : ℕ) (g : Grown) : Type 0 where
-  nets : (m : ℕ) → if_same net m + net_count m g.nets ≡ once_from net (length g.nets) m
-  leaves : (l : ℕ) → leaf_count l g.nets ≡ once_from leaf (length g.leaves) l
-  down : LeadDown net g.nets
+pub record Grows (net leaf : ℕ) (g : Grown) : Type 0 where
+  pub nets : (m : ℕ) → if_same net m + net_count m g.nets ≡ once_from net (length g.nets) m
+  pub leaves : (l : ℕ) → leaf_count l g.nets ≡ once_from leaf (length g.leaves) l
+  pub down : LeadDown net g.nets
 
-record Joins (net leaf : ℕ) (inner : Inner) (g : Grown) : Type 0 where
-  nets : (m : ℕ) → if_net m inner + net_count m g.nets ≡ once_from net (length g.nets) m
-  leaves : (l : ℕ) → if_leaf l inner + leaf_count l g.nets ≡ once_from leaf (length g.leaves) l
-  behind : (k : ℕ) → k < net → IsBehind k inner
-  down : LeadDown net g.nets
+pub record Joins (net leaf : ℕ) (inner : Inner) (g : Grown) : Type 0 where
+  pub nets : (m : ℕ) → if_net m inner + net_count m g.nets ≡ once_from net (length g.nets) m
+  pub leaves : (l : ℕ) → if_leaf l inner + leaf_count l g.nets ≡ once_from leaf (length g.leaves) l
+  pub behind : (k : ℕ) → k < net → IsBehind k inner
+  pub down : LeadDown net g.nets
 
-record Fills (net leaf : ℕ) (f : Filled) : Type 0 where
-  nets : (m : ℕ) → net_parts m f.parts + net_count m f.grown.nets ≡ once_from net (length f.grown.nets) m
-  leaves : (l : ℕ) → leaf_parts l f.parts + leaf_count l f.grown.nets ≡ once_from leaf (length f.grown.leaves) l
-  behind : (k : ℕ) → k < net → AreBehind k f.parts
-  down : LeadDown net f.grown.nets
+pub record Fills (net leaf : ℕ) (f : Filled) : Type 0 where
+  pub nets : (m : ℕ) → net_parts m f.parts + net_count m f.grown.nets ≡ once_from net (length f.grown.nets) m
+  pub leaves : (l : ℕ) → leaf_parts l f.parts + leaf_count l f.grown.nets ≡ once_from leaf (length f.grown.leaves) l
+  pub behind : (k : ℕ) → k < net → AreBehind k f.parts
+  pub down : LeadDown net f.grown.nets
 
-nothing_fills : (net leaf : ℕ) → Fills net leaf nothing_filled
+pub nothing_fills : (net leaf : ℕ) → Fills net leaf nothing_filled
 nothing_fills net leaf = record {
   nets = λ m. refl;
   leaves = λ l. refl;
@@ -74,7 +74,7 @@ nothing_fills net leaf = record {
   down = tt;
 }
 
-net_joins : (net leaf : ℕ) (g : Grown) → Grows net leaf g → Joins net leaf (InnerNet net) g
+pub net_joins : (net leaf : ℕ) (g : Grown) → Grows net leaf g → Joins net leaf (InnerNet net) g
 net_joins net leaf g grows = record {
   nets = grows.nets;
   leaves = λ l. let same = grows.leaves l in omega (arith, same);
@@ -82,7 +82,7 @@ net_joins net leaf g grows = record {
   down = grows.down;
 }
 
-leaf_joins : (net leaf : ℕ) (l : Leaf) → Joins net leaf (InnerLeaf leaf) (record { nets = []; leaves = l ∷ [] })
+pub leaf_joins : (net leaf : ℕ) (l : Leaf) → Joins net leaf (InnerLeaf leaf) (record { nets = []; leaves = l ∷ [] })
 leaf_joins net leaf l = record {
   nets = λ m. refl;
   leaves = λ m. refl;
@@ -90,7 +90,7 @@ leaf_joins net leaf l = record {
   down = tt;
 }
 
-part_fills : (net leaf : ℕ) (id : List ℕ) (inner : Inner) (g : Grown) (f : Filled) → Joins net leaf inner g
+pub part_fills : (net leaf : ℕ) (id : List ℕ) (inner : Inner) (g : Grown) (f : Filled) → Joins net leaf inner g
     → Fills (net + length g.nets) (leaf + length g.leaves) f → Fills net leaf (with_part id inner g f)
 part_fills net leaf id inner g f joins fills = record {
   nets = λ m.

@@ -1,5 +1,5 @@
 -- Trees in which each network but the top, and each actor, is one part, and stands in a network before it.
--- Not trusted: no promise is read with it.
+-- Trusted: part of what a promise means.
 use Rattle.std.specs.Prelude.{◌≡◌, ℕ, zero, suc, ◌+◌, ◌<◌, ◌==◌, List, [], ◌∷◌, length, Some, if◌then◌else◌}
 use Rattle.fnl_tree.specs.Tree.{Inner, InnerNet, InnerLeaf, Part, Net as BoundNet, Tree as BoundTree}
 use Rattle.fnl_tree.specs.Sound.{IsSound}

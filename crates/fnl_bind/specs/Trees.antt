@@ -3,7 +3,7 @@
 --
 -- A network stands in no network of its own class, so chains of networks inside each other are at most as long as there
 -- are networks.
--- Not trusted: no promise is read with it.
+-- Trusted: part of what a promise means.
 use Rattle.std.specs.Prelude.{ℕ, zero, suc, ◌+◌, List, [], ◌∷◌, ◌++◌, length, Option, None, Some, slice_get, if◌then◌else◌}
 use Rattle.rvc_base.specs.Rules.{too_many_instances}
 use Rattle.net_model.specs.Limits.{max_instances}

@@ -1,7 +1,7 @@
 //! Names that expressions and types use.
 #![tactic(auto, using(crate::proofs::Steps::in_first, crate::proofs::Steps::in_others))]
 
-ghost use Rattle.std.specs.Prelude.{◌≡◌, map};
+ghost use Rattle.std.specs.Prelude.{◌≡◌, ℕ, map};
 ghost use Rattle.cal_ast.specs.Tree as tree;
 ghost use Rattle.cal_ast.specs.Tree.{listed};
 ghost use Rattle.cal_ast.specs.View.{expr_tree, ident_tree, type_arg_tree, type_tree};
@@ -24,7 +24,7 @@ fn unknown(at: u32) -> ScopeFault
 }
 
 /// That an expression uses declared names alone.
-#[cycle(known)]
+#[cycle(expr)]
 pub(crate) fn known_expr(e: &Expr, names: &NameSet) -> Result<(), ScopeFault>
     ensures { Tests result (unknown_in (expr_tree e.now) names.now) }
 {
@@ -48,7 +48,7 @@ fn known_name(name: &str, at: u32, names: &NameSet) -> Result<(), ScopeFault>
 }
 
 /// The same of two operands.
-#[cycle(known)]
+#[cycle(expr)]
 fn known_both(left: &Expr, right: &Expr, names: &NameSet) -> Result<(), ScopeFault>
     ensures { (op : BinOp) (at : ℕ) → Tests result
         (unknown_in (tree.binary op (expr_tree left.now) (expr_tree right.now) at) names.now) }
@@ -58,7 +58,7 @@ fn known_both(left: &Expr, right: &Expr, names: &NameSet) -> Result<(), ScopeFau
 }
 
 /// The same of expressions in order.
-#[cycle(known)]
+#[cycle(expr)]
 fn known_exprs(exprs: &[Expr], names: &NameSet) -> Result<(), ScopeFault>
     ensures { Tests result (unknown_in (listed (map expr_tree exprs.now)) names.now) }
 {
@@ -71,7 +71,7 @@ fn known_exprs(exprs: &[Expr], names: &NameSet) -> Result<(), ScopeFault>
 }
 
 /// That a type has the name of a type, and its arguments use declared names alone.
-#[cycle(known)]
+#[cycle(shape)]
 pub(crate) fn known_type(t: &TypeExpr, names: &NameSet) -> Result<(), ScopeFault>
     ensures { Tests result (unknown_in (type_tree t.now) names.now) }
 {
@@ -95,7 +95,7 @@ fn is_word(name: &str) -> bool
 }
 
 /// That the arguments of a type use declared names alone.
-#[cycle(known)]
+#[cycle(shape)]
 fn known_args(args: &[TypeArg], names: &NameSet) -> Result<(), ScopeFault>
     ensures { Tests result (unknown_in (listed (map type_arg_tree args.now)) names.now) }
 {
@@ -108,7 +108,7 @@ fn known_args(args: &[TypeArg], names: &NameSet) -> Result<(), ScopeFault>
 }
 
 /// That an argument of a type uses declared names alone.
-#[cycle(known)]
+#[cycle(shape)]
 fn known_arg(arg: &TypeArg, names: &NameSet) -> Result<(), ScopeFault>
     ensures { Tests result (unknown_in (type_arg_tree arg.now) names.now) }
 {
