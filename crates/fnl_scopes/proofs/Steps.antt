@@ -2,8 +2,8 @@
 use Rattle.std.proofs.Common.{◌≡◌, List, [], ◌++◌, ap}
 use Rattle.std.proofs.lemmas.List.Elements.{Contains-append_left, Contains-append_right}
 use Rattle.cal_check.specs.Violations.{Violation}
-use Rattle.cal_scope.specs.declared.fault.ScopeFault.{ScopeFault}
-use Rattle.cal_scope.specs.declared.fault.ScopeFault.TheVariants.{Broken, Memory}
+use Rattle.fnl_scopes.specs.declared.fault.ScopeFault.{ScopeFault}
+use Rattle.fnl_scopes.specs.declared.fault.ScopeFault.TheVariants.{Broken, Memory}
 use Rattle.fnl_scopes.specs.Tested.{IsCause}
 
 pub in_first : (f : ScopeFault) (vs ws : List Violation) → IsCause vs f → IsCause (vs ++ ws) f

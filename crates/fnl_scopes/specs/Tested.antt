@@ -1,12 +1,11 @@
 -- What a test of rules answers.
 -- Not trusted: no promise is read with it.
-use Rattle.std.specs.Prelude.{◌≡◌, ℕ, List, [], map, Contains}
-use Rattle.std.specs.Borrow.{Bor}
+use Rattle.std.specs.Prelude.{◌≡◌, List, [], Contains}
 use Rattle.std.specs.declared.result.Result.{Result}
 use Rattle.std.specs.declared.result.Result.TheVariants.{Ok, Err}
 use Rattle.cal_check.specs.Violations.{Violation}
-use Rattle.cal_scope.specs.declared.fault.ScopeFault.{ScopeFault}
-use Rattle.cal_scope.specs.declared.fault.ScopeFault.TheVariants.{Broken, Memory}
+use Rattle.fnl_scopes.specs.declared.fault.ScopeFault.{ScopeFault}
+use Rattle.fnl_scopes.specs.declared.fault.ScopeFault.TheVariants.{Broken, Memory}
 
 -- the rule that a fault names is broken there
 abbrev pub IsCause : List Violation → ScopeFault → Type 0
@@ -17,7 +16,3 @@ IsCause broken Memory = Unit {0}
 abbrev pub Tests : {A : Type 0} → Result A ScopeFault → List Violation → Type 0
 Tests (Ok a) broken = broken ≡ []
 Tests (Err fault) broken = IsCause broken fault
-
--- texts without where they lie in memory
-abbrev pub texts : List (Bor (List ℕ)) → List (List ℕ)
-texts ts = map (λ t. t.now) ts

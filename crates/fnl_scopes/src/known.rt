@@ -1,16 +1,17 @@
 //! Names that expressions and types use.
 #![tactic(auto, using(crate::proofs::Steps::in_first, crate::proofs::Steps::in_others))]
 
-ghost use Rattle.std.specs.Prelude.{◌≡◌, ℕ, map};
+ghost use Rattle.std.specs.Prelude.{◌≡◌, ◌++◌, map};
 ghost use Rattle.cal_ast.specs.Tree as tree;
 ghost use Rattle.cal_ast.specs.Tree.{listed};
-ghost use Rattle.cal_ast.specs.View.{expr_tree, ident_tree, type_arg_tree, type_tree};
+ghost use Rattle.cal_ast.specs.View.{expr_tree, type_arg_tree, type_tree};
 ghost use Rattle.cal_model.specs.Kinding.{is_word};
 ghost use Rattle.fnl_bind.specs.Scopes.{unknown_in};
 ghost use Rattle.fnl_scopes.specs.Tested.{Tests};
 
-use cal_ast::{BinOp, Expr, ExprForm, TypeArg, TypeExpr};
-use cal_scope::{NameSet, ScopeFault};
+use cal_ast::{Expr, ExprForm, TypeArg, TypeExpr};
+use crate::fault::ScopeFault;
+use crate::name_set::NameSet;
 use rvc_base::Rule;
 
 /// A name that isn't declared.
@@ -50,8 +51,8 @@ fn known_name(name: &str, at: u32, names: &NameSet) -> Result<(), ScopeFault>
 /// The same of two operands.
 #[cycle(expr)]
 fn known_both(left: &Expr, right: &Expr, names: &NameSet) -> Result<(), ScopeFault>
-    ensures { (op : BinOp) (at : ℕ) → Tests result
-        (unknown_in (tree.binary op (expr_tree left.now) (expr_tree right.now) at) names.now) }
+    ensures { Tests result (unknown_in (expr_tree left.now) names.now
+        ++ unknown_in (expr_tree right.now) names.now) }
 {
     known_expr(left, names)?;
     known_expr(right, names)
@@ -100,7 +101,7 @@ fn known_args(args: &[TypeArg], names: &NameSet) -> Result<(), ScopeFault>
     ensures { Tests result (unknown_in (listed (map type_arg_tree args.now)) names.now) }
 {
     let mut rest = args;
-    'args: while let Some((first, others)) = rest.split_first() {
+    'each: while let Some((first, others)) = rest.split_first() {
         known_arg(first, names)?;
         rest = others;
     }

@@ -5,11 +5,13 @@
 #![tactic(auto)]
 
 mod circles;
+mod fault;
 mod known;
+mod name_set;
 mod once;
 mod parts;
 mod ports;
 mod scopes;
 
-pub use cal_scope::ScopeFault;
+pub use crate::fault::ScopeFault;
 pub use scopes::check_scopes;

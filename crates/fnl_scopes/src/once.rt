@@ -1,6 +1,6 @@
 //! Names that stand twice.
 
-ghost use Rattle.std.specs.Prelude.{◌≡◌, ◌∷◌, ◌++◌, [], List, IfErr, IfOk, OnOk, map};
+ghost use Rattle.std.specs.Prelude.{◌≡◌, ◌∷◌, ◌++◌, [], ℕ, List, IfErr, IfOk, OnOk, map};
 ghost use Rattle.cal_check.specs.Violations.{Keyed};
 ghost use Rattle.fnl_bind.specs.Library.{decl_names};
 ghost use Rattle.fnl_bind.specs.Scopes.{keyed_decls, keyed_instances, keyed_ports, named_twice};
@@ -8,7 +8,8 @@ ghost use Rattle.fnl_read.specs.Views.{decl_of, instance_of, port_of};
 ghost use Rattle.fnl_scopes.specs.Behind.{keyed, twice_behind};
 ghost use Rattle.fnl_scopes.specs.Tested.{IsCause, Tests};
 
-use cal_scope::{NameSet, ScopeFault};
+use crate::fault::ScopeFault;
+use crate::name_set::NameSet;
 use fnl_read::{NetDecl, NetInstance, NetPort};
 use rvc_base::Rule;
 use std::alloc::Global;

@@ -10,7 +10,8 @@ ghost use Rattle.fnl_scopes.specs.Tested.{Tests};
 
 use crate::known::{known_expr, known_type};
 use cal_ast::Expr;
-use cal_scope::{NameSet, ScopeFault};
+use crate::fault::ScopeFault;
+use crate::name_set::NameSet;
 use fnl_read::{NetConnection, NetDecl, NetFile, NetInstance, NetParameter, NetPort, NetSize};
 
 /// That a network uses declared names alone.

@@ -6,7 +6,7 @@ ghost use Rattle.fnl_bind.specs.Scopes.{ports_broken};
 ghost use Rattle.fnl_read.specs.Views.{net_of, port_of};
 ghost use Rattle.fnl_scopes.specs.Tested.{Tests};
 
-use cal_scope::ScopeFault;
+use crate::fault::ScopeFault;
 use fnl_read::{NetFile, NetPort};
 use rvc_base::Rule;
 

@@ -5,14 +5,14 @@ use Rattle.fnl_bind.specs.Scopes.{unknown_in}
 use Rattle.fnl_scopes.proofs.Sizes.{size}
 use Rattle.fnl_scopes.proofs.known.+shape.Given as goal
 
-abbrev pub invariant-known_args-args : goal.invariant-known_args-args
-invariant-known_args-args l = record {
+abbrev pub invariant-known_args-each : goal.invariant-known_args-each
+invariant-known_args-each l = record {
   same : unknown_in (listed (map type_arg_tree l.rest)) l.names ≡ unknown_in (listed (map type_arg_tree l.initial.rest)) l.names;
   smaller : size (listed (map type_arg_tree l.rest)) ≤ size (listed (map type_arg_tree l.initial.rest));
 }
 
-abbrev pub decreases-known_args-args : goal.decreases-known_args-args
-decreases-known_args-args l = length l.rest
+abbrev pub decreases-known_args-each : goal.decreases-known_args-each
+decreases-known_args-each l = length l.rest
 
 abbrev pub decreases-known_type : goal.decreases-known_type
 decreases-known_type l = size (type_tree l.t.now)
