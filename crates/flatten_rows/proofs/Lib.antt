@@ -1,2 +1,5 @@
 mod Walking
 mod Fine
+mod Weights
+mod WalkSteps
+mod Passing

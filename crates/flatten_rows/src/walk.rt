@@ -28,9 +28,10 @@ pub(crate) fn walk<'a>(
         (map net_of nets.now) (map leaf_of leaves.now)
         (map net_of rest.0.now) (map leaf_of rest.1.now)) }
 {
-    let Some((first, others)) = parts.split_first() else {
+    if parts.is_empty() {
         return Some((nets, leaves));
-    };
+    }
+    let (first, others) = parts.split_first()?;
     match first.inner {
         Inner::Leaf(l) => {
             let (_, behind) = leaves.split_first()?;

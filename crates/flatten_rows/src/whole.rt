@@ -39,10 +39,16 @@ fn is_numbered(tree: &Tree) -> bool
 fn is_sound(tree: &Tree) -> bool
     ensures { result ≡ true → IsSound (tree_of tree.now) }
 {
-    tree.nets.len() <= MAX_PLACES
-        && tree.leaves.len() <= MAX_PLACES - tree.nets.len()
-        && are_nets_fine(&tree.nets)
-        && is_numbered(tree)
+    if tree.nets.len() > MAX_PLACES {
+        return false;
+    }
+    if tree.leaves.len() > MAX_PLACES - tree.nets.len() {
+        return false;
+    }
+    if !are_nets_fine(&tree.nets) {
+        return false;
+    }
+    is_numbered(tree)
 }
 
 /// Whether a tree may be flattened over these ports of its actors: it is sound, and there are as many ports as actors,
@@ -50,5 +56,11 @@ fn is_sound(tree: &Tree) -> bool
 pub fn is_whole(tree: &Tree, heads: &[Head]) -> bool
     ensures { result ≡ true → IsWhole (tree_of tree.now) (heads_of heads.now) }
 {
-    heads.len() == tree.leaves.len() && are_heads_fine(heads) && is_sound(tree)
+    if heads.len() != tree.leaves.len() {
+        return false;
+    }
+    if !are_heads_fine(heads) {
+        return false;
+    }
+    is_sound(tree)
 }
