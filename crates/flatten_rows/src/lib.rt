@@ -6,11 +6,10 @@
 
 mod heads;
 mod nets;
+#[cfg(test)]
+mod networks;
 mod told;
 mod walk;
 mod whole;
-
-#[cfg(test)]
-mod networks;
 
 pub use whole::is_whole;

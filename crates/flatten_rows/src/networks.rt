@@ -3,8 +3,10 @@
 //! A network is a line `INPUTS ; OUTPUTS ; INSTANCES ; CONNECTIONS`, an actor's ports a line `INPUTS ; OUTPUTS`. A port is
 //! `name:type` or `name:type:rate`, an instance `id=n1` (a network) or `id=l0` (a leaf), a connection
 //! `from.port>to.port` or `from.port>to.port:size`, without the instance for the network's own port. Connection k of a
-//! network stands at offset 10 * (k + 1) of its file, which is numbered from 1.
+//! network stands at offset 10 * (k + 1) of its file, which is numbered from 1. A tree that may not be flattened over these
+//! ports is answered by `not whole`.
 
+use crate::is_whole;
 use fnl_flatten::{Flat, Head, HeadPort, flatten};
 use fnl_tree::{Inner, Leaf, Net, NetEnd, Part, Tree, Wire};
 use net_model::{End, Link};
@@ -171,6 +173,13 @@ fn answer(alloc: Global, found: Result<Flat, Front>) -> Result<String, Fail> {
     Ok(out)
 }
 
+fn flat(alloc: Global, tree: &Tree, heads: &[Head]) -> Result<String, Fail> {
+    if !is_whole(tree, heads) {
+        return Ok(String::from_str(alloc, "not whole")?);
+    }
+    answer(alloc, flatten(alloc, tree, heads))
+}
+
 fn tree(alloc: Global, nets: &[&str], leaves: usize) -> Result<Tree, Fail> {
     let mut found = Vec::new(alloc);
     let mut file = 0u32;
@@ -211,7 +220,7 @@ fn hold(rt: &impl Abort, alloc: Global, rows: &[Row]) -> Result<(), Fail> {
     for (nets, actors, expected) in rows {
         let tree = tree(alloc, nets, actors.len())?;
         let heads = heads(alloc, actors)?;
-        let found = answer(alloc, flatten(alloc, &tree, &heads))?;
+        let found = flat(alloc, &tree, &heads)?;
         assert_eq!(rt; found.as_str(), *expected);
     }
     Ok(())
@@ -374,20 +383,73 @@ fn chain(alloc: Global, count: u32, size: u32) -> Result<(Tree, Vec<Head>), Fail
     Ok((tree, found))
 }
 
+/// How many links a tree has, if it breaks no rule.
+fn link_count(alloc: Global, tree: &Tree, heads: &[Head]) -> Option<usize> {
+    if !is_whole(tree, heads) {
+        return None;
+    }
+    match flatten(alloc, tree, heads) {
+        Ok(flat) => Some(flat.links.len()),
+        Err(_) => None,
+    }
+}
+
 #[test]
 fn limits(rt: HostRuntime) -> Result<(), Fail> {
     let a = rt.alloc();
     let (tree, heads) = chain(a, 1000, 0)?;
-    assert!(rt; matches!(flatten(a, &tree, &heads), Ok(flat) if flat.links.len() == 4000));
+    assert_eq!(rt; link_count(a, &tree, &heads), Some(4000));
     let (tree, heads) = chain(a, 1024, 0)?;
-    assert!(rt; matches!(flatten(a, &tree, &heads), Ok(flat) if flat.links.len() == 4096));
+    assert_eq!(rt; link_count(a, &tree, &heads), Some(4096));
     let (tree, heads) = chain(a, 4, 1_048_576)?;
-    assert!(rt; matches!(flatten(a, &tree, &heads), Ok(flat) if flat.links.len() == 16));
+    assert_eq!(rt; link_count(a, &tree, &heads), Some(16));
     let (tree, heads) = chain(a, 5, 1_048_576)?;
-    let found = answer(a, flatten(a, &tree, &heads))?;
-    assert_eq!(rt; found.as_str(), "Z9 1 0");
+    assert_eq!(rt; flat(a, &tree, &heads)?.as_str(), "Z9 1 0");
     let (tree, heads) = chain(a, 1025, 0)?;
-    let found = answer(a, flatten(a, &tree, &heads))?;
-    assert_eq!(rt; found.as_str(), "Z8 1 0");
+    assert_eq!(rt; flat(a, &tree, &heads)?.as_str(), "not whole");
     Ok(())
 }
+
+#[test]
+fn more_links_than_the_limit(rt: HostRuntime) -> Result<(), Fail> {
+    let a = rt.alloc();
+    let (mut tree, heads) = chain(a, 1024, 0)?;
+    if let Some(top) = tree.nets.first_mut() {
+        top.wires.push(Wire {
+            src: String::from_str(a, "a1023")?,
+            src_port: String::from_str(a, "O0")?,
+            dst: String::new(a),
+            dst_port: String::from_str(a, "O0")?,
+            size: 0,
+            at: 0,
+        })?;
+    }
+    assert_eq!(rt; flat(a, &tree, &heads)?.as_str(), "Z8 1 0");
+    Ok(())
+}
+
+#[test]
+fn trees_that_are_not_whole(rt: HostRuntime) -> Result<(), Fail> {
+    hold(&rt, rt.alloc(), NOT_WHOLE)
+}
+
+const NOT_WHOLE: &[Row] = &[
+    // one actor or one network in two places, and one in none
+    (&[" ; ; a=l0 b=l0 ;"], &[COPY], "not whole"),
+    (&[" ; ; m=n1 n=n1 ;", " ; ; ;"], &[], "not whole"),
+    (&[" ; ; a=l0 ;"], &[COPY, COPY], "not whole"),
+    (&[" ; ; ;", " ; ; ;"], &[], "not whole"),
+    // a network in itself, actors out of order, an actor without ports
+    (&[" ; ; m=n0 ;"], &[], "not whole"),
+    (&[" ; ; a=l1 b=l0 ;"], &[COPY, COPY], "not whole"),
+    (
+        &[" ; ; m=n1 b=l0 ;", " ; ; c=l1 ;"],
+        &[COPY, COPY],
+        "not whole",
+    ),
+    (&[" ; ; a=l0 ;"], &["In:u8:1 In:u8:1 ; "], "not whole"),
+    // names that stand twice, and a size above the limit
+    (&["In:u8 In:u8 ; ; ;"], &[], "not whole"),
+    (&[" ; ; a=l0 a=l1 ;"], &[COPY, COPY], "not whole"),
+    (&["In:u8 ; ; a=l0 ; In>a.In:1048577"], &[COPY], "not whole"),
+];

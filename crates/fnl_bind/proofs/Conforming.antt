@@ -281,14 +281,14 @@ stands_fill : (n : ℕ) (library : List Entry) → GrowsAt n library → (p : Pl
     → found_standing (found_at n library) (standing_as p i o gs) ≡ [] → is_among (instance_class i) p.above ≡ false
     → (others : ℕ → ℕ → Filled) → ((net leaf : ℕ) → Fills ids rest (others net leaf)) → (net leaf : ℕ)
     → Fills (instance_id i ∷ ids)
-        (record { file = p.entry.file; at = instance_at i } ∷ (instances_under (instances_at n library) o p.above ++ rest))
-        (filled_by (grown_at n library) (instance_id i) (standing_as p i o gs) others net leaf)
+    (record { file = p.entry.file; at = instance_at i } ∷ (instances_under (instances_at n library) o p.above ++ rest))
+    (filled_by (grown_at n library) (instance_id i) (standing_as p i o gs) others net leaf)
 stands_fill n library grow p i ids rest (Some e) (Some gs) is none outside others fill net leaf =
     let g = grown_at n library (net_under p i e gs) net leaf in
     subst (λ inside. Fills (instance_id i ∷ ids) (record { file = p.entry.file; at = instance_at i } ∷ (inside ++ rest))
-        (filled_by (grown_at n library) (instance_id i) (StandsNet (net_under p i e gs)) others net leaf))
+    (filled_by (grown_at n library) (instance_id i) (StandsNet (net_under p i e gs)) others net leaf))
     (sym (ap (λ b. if b then [] else instances_at n library e (e.class ∷ p.above))
-        (ap (λ c. is_among c p.above) (class_of (instance_class i) library e is) ∙ outside)))
+    (ap (λ c. is_among c p.above) (class_of (instance_class i) library e is) ∙ outside)))
     (part_fills (instance_id i) ids (InnerNet net) (record { file = p.entry.file; at = instance_at i }) (instances_at n library e (e.class ∷ p.above)) rest
     g (others (net + length g.nets) (leaf + length g.leaves)) (grow (net_under p i e gs) net leaf none) (fill (net + length g.nets) (leaf + length g.leaves)))
 stands_fill n library grow p i ids rest None (Some gs) is none outside others fill net leaf =
@@ -302,7 +302,7 @@ stands_fill n library grow p i ids rest o None is none outside others fill net l
 all_fill : (n : ℕ) (library : List Entry) → GrowsAt n library → (p : Place) (is : List Instance) (net leaf : ℕ)
     → found_inside (found_at n library) library p is ≡ [] → circles is p.above ≡ []
     → Fills (map instance_id is) (instances_inside (instances_at n library) library p.entry.file is p.above)
-        (filled (grown_at n library) library p is net leaf)
+    (filled (grown_at n library) library p is net leaf)
 all_fill n library grow p [] net leaf none apart = nothing_fills []
 all_fill n library grow p (i ∷ is) net leaf none apart =
     let outside = not_above (is_among (instance_class i) p.above) p.above p.above (Rattle.fnl_bind.specs.Library.instance_class_at i) (circles is p.above) apart in

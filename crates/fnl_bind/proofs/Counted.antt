@@ -278,8 +278,10 @@ one_place t c few n m j k p q at there one other = nets (either n m)
       where
         one_net : at.net ≡ there.net
         one_net = some_same at.net there.net (sym at.is_net ∙ ap (slice_get t.nets) e ∙ there.is_net)
+
         here : slice_get at.net.parts k ≡ Some q
         here = ap (λ x. slice_get x.parts k) one_net ∙ there.is_part
+
         places : (j < k) ⊎ ((k < j) ⊎ (j ≡ k)) → j ≡ k
         places (inl l) =
             let two = two_parts c at.net.parts j k p q l at.is_part here in

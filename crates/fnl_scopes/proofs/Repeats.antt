@@ -57,7 +57,7 @@ pub is_twice : (name : List ℕ) (at : ℕ) (met : List (List ℕ)) (others : Li
     → Contains (twice_behind met (keyed name at ∷ others)) (record { rule = network_name_twice; at = at })
 is_twice name at met others h =
     subst (λ b. Contains (if b then (record { rule = network_name_twice; at = at } ∷ twice bytes_eq network_name_twice (reverse met) others)
-        else twice bytes_eq network_name_twice (name ∷ reverse met) others) (record { rule = network_name_twice; at = at }))
+    else twice bytes_eq network_name_twice (name ∷ reverse met) others) (record { rule = network_name_twice; at = at }))
     (sym (met-among name met ∙ h)) (0, omega arith, refl)
 
 -- another is met from then on
@@ -66,4 +66,4 @@ pub is_once : (name : List ℕ) (at : ℕ) (met : List (List ℕ)) (others : Lis
 is_once name at met others h =
     ap (λ ms. twice bytes_eq network_name_twice ms others) (reverse-append met (name ∷ []))
     ∙ sym (ap (λ b. if b then (record { rule = network_name_twice; at = at } ∷ twice bytes_eq network_name_twice (reverse met) others)
-        else twice bytes_eq network_name_twice (name ∷ reverse met) others) (met-among name met ∙ h))
+    else twice bytes_eq network_name_twice (name ∷ reverse met) others) (met-among name met ∙ h))

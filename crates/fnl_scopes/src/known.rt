@@ -9,9 +9,9 @@ ghost use Rattle.cal_model.specs.Kinding.{is_word};
 ghost use Rattle.fnl_bind.specs.Scopes.{unknown_in};
 ghost use Rattle.fnl_scopes.specs.Tested.{Tests};
 
-use cal_ast::{Expr, ExprForm, TypeArg, TypeExpr};
 use crate::fault::ScopeFault;
 use crate::name_set::NameSet;
+use cal_ast::{Expr, ExprForm, TypeArg, TypeExpr};
 use rvc_base::Rule;
 
 /// A name that isn't declared.

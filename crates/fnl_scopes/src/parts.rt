@@ -8,10 +8,10 @@ ghost use Rattle.fnl_bind.specs.Scopes.{unknown_in, unknown_in_connections, unkn
 ghost use Rattle.fnl_read.specs.Views.{connection_of, decl_of, instance_of, net_of, parameter_of, port_of, size_of};
 ghost use Rattle.fnl_scopes.specs.Tested.{Tests};
 
-use crate::known::{known_expr, known_type};
-use cal_ast::Expr;
 use crate::fault::ScopeFault;
+use crate::known::{known_expr, known_type};
 use crate::name_set::NameSet;
+use cal_ast::Expr;
 use fnl_read::{NetConnection, NetDecl, NetFile, NetInstance, NetParameter, NetPort, NetSize};
 
 /// That a network uses declared names alone.

@@ -7,10 +7,10 @@ ghost use Rattle.fnl_read.specs.Views.{net_of};
 ghost use Rattle.fnl_scopes.specs.Tested.{Tests};
 
 use crate::circles::no_circles;
+use crate::fault::ScopeFault;
 use crate::once::{decls_once, instances_once, ports_once};
 use crate::parts::known_names;
 use crate::ports::few_ports;
-use crate::fault::ScopeFault;
 use fnl_read::NetFile;
 use std::alloc::Global;
 

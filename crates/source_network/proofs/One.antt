@@ -10,7 +10,7 @@ use Rattle.cal_imports.specs.Sources.{name_of}
 use Rattle.cal_imports.specs.Whole.{Scope}
 use Rattle.cal_check.specs.Actors.{actor_given}
 use Rattle.fnl_tree.specs.Tree.{Leaf, Tree, Net}
-use Rattle.fnl_bind.specs.Library.{Entry}
+use Rattle.fnl_bind.specs.Library.{Entry, network_of}
 use Rattle.fnl_bind.specs.Trees.{bound}
 use Rattle.fnl_flatten.specs.Flat.{IsFlat, port_of}
 use Rattle.fnl_flatten.proofs.OneList.{links_are_one}
@@ -41,10 +41,10 @@ name_is_one files class name other h i =
     h.is_name ∙ ap (λ s. name_of s.actor) same ∙ sym i.is_name
 
 tree_is_one : (files : Files) (class : List _) (tree other : Tree) → IsTree files class tree → IsTree files class other → tree ≡ other
-tree_is_one files class tree other (of_network h none) (of_network i nothing) = refl
-tree_is_one files class tree other (of_network {top = top} h none) (of_actor i name actor) = never_both _ top i h
-tree_is_one files class tree other (of_actor h name actor) (of_network {top = top} i none) = never_both _ top h i
-tree_is_one files class tree other (of_actor {name = n} {actor = a} h named is) (of_actor {name = m} {actor = b} i other_named other_is) =
+tree_is_one files class _ _ (IsTree.of_network h none) (IsTree.of_network i nothing) = refl
+tree_is_one files class _ _ (IsTree.of_network {top = top} h none) (IsTree.of_actor i name actor) = never_both (network_of class files.networks) top i h
+tree_is_one files class _ _ (IsTree.of_actor h name actor) (IsTree.of_network {top = top} i none) = never_both (network_of class files.networks) top h i
+tree_is_one files class _ _ (IsTree.of_actor {name = n} {actor = a} h named is) (IsTree.of_actor {name = m} {actor = b} i other_named other_is) =
     let same : n ≡ m = name_is_one files class n m named other_named in
     let one : a ≡ b = actors_are_one files.sources (lone_leaf m class) a b (subst (λ x. IsActorOf files.sources (lone_leaf x class) a) same is) other_is in
     ap (λ x. lone_tree x class a) same ∙ ap (lone_tree m class) one
@@ -62,19 +62,19 @@ leaf_is_one one actor leaf x y h i =
         ∙ ap (λ a. record { path = y.path; class = y.class; behaviour = a }) r
 
 record AreSame (actors others : List Actor) (xs ys : List (NetLeaf State)) : Type 0 where
-  actors : actors ≡ others
-  leaves : xs ≡ ys
+  one_list : actors ≡ others
+  one_leaves : xs ≡ ys
 
 all_one : BehaviourIsOne → (files : Files) (leaves : List Leaf) (actors others : List Actor) (xs ys : List (NetLeaf State))
     → AreActors files leaves actors xs → AreActors files leaves others ys → AreSame actors others xs ys
-all_one one files [] [] [] [] [] h i = record { actors = refl; leaves = refl }
+all_one one files [] [] [] [] [] h i = record { one_list = refl; one_leaves = refl }
 all_one one files (leaf ∷ leaves) (a ∷ actors) (b ∷ others) (x ∷ xs) (y ∷ ys) h i =
     let same : a ≡ b = actors_are_one files.sources leaf a b h.0 i.0 in
     let rest = all_one one files leaves actors others xs ys h.1.1 i.1.1 in
     let leaf_same : x ≡ y = leaf_is_one one b leaf x y (subst (λ c. IsLeaf c leaf x) same h.1.0) i.1.0 in
     record {
-      actors = ap (λ c. c ∷ actors) same ∙ ap (λ cs. b ∷ cs) rest.actors;
-      leaves = ap (λ z. z ∷ xs) leaf_same ∙ ap (λ zs. y ∷ zs) rest.leaves;
+      one_list = ap (λ c. c ∷ actors) same ∙ ap (λ cs. b ∷ cs) rest.one_list;
+      one_leaves = ap (λ z. z ∷ xs) leaf_same ∙ ap (λ zs. y ∷ zs) rest.one_leaves;
     }
 all_one one files [] (a ∷ actors) others xs ys h i = absurd h
 all_one one files [] [] others (x ∷ xs) ys h i = absurd h
@@ -100,8 +100,8 @@ over_tree : BehaviourIsOne → (files : Files) (tree : Tree) (actors others : Li
 over_tree one files tree actors others net other h i f g =
     let same = all_one one files tree.leaves actors others net.leaves other.leaves h i in
     let top : f.top ≡ g.top = some_same f.top g.top (sym f.is_top ∙ g.is_top) in
-    let flat : IsFlat tree (map head_of others) net = subst (λ as. IsFlat tree (map head_of as) net) same.actors f in
-    network_same net other same.leaves
+    let flat : IsFlat tree (map head_of others) net = subst (λ list. IsFlat tree (map head_of list) net) same.one_list f in
+    network_same net other same.one_leaves
     (links_are_one tree (map head_of others) net.links other.links flat.links g.links)
     (f.ins ∙ ap (λ t. map port_of t.ins) top ∙ sym g.ins)
     (f.outs ∙ ap (λ t. map port_of t.outs) top ∙ sym g.outs)

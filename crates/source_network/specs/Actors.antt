@@ -32,6 +32,7 @@ var_of o = record {
     shape_of : Tree → Tree
     shape_of (tree.var shape name start changes at) = shape
     shape_of other = tree.nil
+
     start_of : Tree → Tree
     start_of (tree.var shape name start changes at) = start
     start_of other = tree.absent

@@ -12,7 +12,7 @@ pub returns-then-is_empty : goal.returns-then-is_empty
 returns-then-is_empty t c =
     let none : c.args.parts.now ≡ [] = empty c.args.parts.now ((Decides-eqb (length c.args.parts.now) 0).0 (sym c.is_empty.ensures ∙ c.if-is_empty.true)) in
     subst (λ ps. Goes (map part_of ps) (c.args.all.nets - length c.args.nets.now) (c.args.all.leaves - length c.args.leaves.now)
-        (map net_of c.args.nets.now) (map leaf_of c.args.leaves.now) (map net_of c.args.nets.now) (map leaf_of c.args.leaves.now)) (sym none)
+    (map net_of c.args.nets.now) (map leaf_of c.args.leaves.now) (map net_of c.args.nets.now) (map leaf_of c.args.leaves.now)) (sym none)
     (goes_none (c.args.all.nets - length c.args.nets.now) (c.args.all.leaves - length c.args.leaves.now) (map net_of c.args.nets.now) (map leaf_of c.args.leaves.now))
 
 pub walk-requires-in-Net-2 : goal.walk-requires-in-Net-2
@@ -42,8 +42,8 @@ returns-else-l-all t c =
     let number : c.in-Leaf.l.0 ≡ c.args.all.leaves - length c.args.leaves.now = search rules in
     if_some c.walk.result _ _
     (λ rest goes. step_leaf c.args.all.nets c.args.all.leaves c.args.parts.now c.in_ok-first.others.now c.in_ok-first.first.now c.args.nets.now c.args.leaves.now
-        c.in_ok-behind-in-Leaf.behind.now c.in_ok-behind-in-Leaf.field-0-0.now c.in-Leaf.l (map net_of rest.0.now) (map leaf_of rest.1.now)
-        parts inner leaves c.requires.leaves number goes)
+    c.in_ok-behind-in-Leaf.behind.now c.in_ok-behind-in-Leaf.field-0-0.now c.in-Leaf.l (map net_of rest.0.now) (map leaf_of rest.1.now)
+    parts inner leaves c.requires.leaves number goes)
     c.walk.ensures
 
 pub returns-in_ok-nets-in-Net : goal.returns-in_ok-nets-in-Net
@@ -54,10 +54,10 @@ returns-in_ok-nets-in-Net t c =
     let number : c.in-Net.n ≡ c.args.all.nets - length c.args.nets.now = search rules in
     let inside : c.deref.result.now ≡ c.in_ok-inside-in-Net.inside.now.parts.items = search rules in
     let goes = subst (λ ps. Goes (map part_of ps) (c.args.all.nets - length c.in_ok-inside-in-Net.behind.now) (c.args.all.leaves - length c.args.leaves.now)
-        (map net_of c.in_ok-inside-in-Net.behind.now) (map leaf_of c.args.leaves.now) (map net_of c.in_ok-nets-in-Net.nets.now) (map leaf_of c.in_ok-nets-in-Net.leaves.now))
-        inside c.in_ok-nets-in-Net.ensures in
+    (map net_of c.in_ok-inside-in-Net.behind.now) (map leaf_of c.args.leaves.now) (map net_of c.in_ok-nets-in-Net.nets.now) (map leaf_of c.in_ok-nets-in-Net.leaves.now))
+    inside c.in_ok-nets-in-Net.ensures in
     if_some c.walk-in-Net-2.result _ _
     (λ rest more. step_net c.args.all.nets c.args.all.leaves c.args.parts.now c.in_ok-first.others.now c.in_ok-first.first.now c.args.nets.now c.in_ok-inside-in-Net.behind.now
-        c.in_ok-nets-in-Net.nets.now c.args.leaves.now c.in_ok-nets-in-Net.leaves.now c.in_ok-inside-in-Net.inside.now c.in-Net.n (map net_of rest.0.now) (map leaf_of rest.1.now)
-        parts inner nets c.requires.nets c.requires.leaves number goes more)
+    c.in_ok-nets-in-Net.nets.now c.args.leaves.now c.in_ok-nets-in-Net.leaves.now c.in_ok-inside-in-Net.inside.now c.in-Net.n (map net_of rest.0.now) (map leaf_of rest.1.now)
+    parts inner nets c.requires.nets c.requires.leaves number goes more)
     c.walk-in-Net-2.ensures
