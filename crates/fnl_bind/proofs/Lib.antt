@@ -1,2 +1,6 @@
 mod Rows
-mod Once
+pub mod Once
+pub mod Counted
+pub mod InOrder
+pub mod Told
+mod Conforming

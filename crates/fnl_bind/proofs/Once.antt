@@ -1,4 +1,4 @@
--- The tree that networks make is sound: each part is numbered once.
+-- In the tree that networks make each part is numbered once.
 use Rattle.std.proofs.Common.{◌≡◌, ℕ, zero, suc, ◌+◌, ◌<◌, List, [], ◌∷◌, ◌++◌, length, Some, refl, sym, ap, subst, arith}
 use Rattle.std.proofs.lemmas.List.{length-append}
 use Rattle.fnl_read.specs.Net.{Instance}
@@ -6,7 +6,7 @@ use Rattle.fnl_tree.specs.Tree.{Inner, InnerNet, InnerLeaf, Part, Net as BoundNe
 use Rattle.fnl_bind.specs.Library.{Entry, instance_id}
 use Rattle.fnl_bind.specs.Networks.{Place, Standing, StandsNet, StandsLeaf, StandsNot, standing}
 use Rattle.fnl_bind.specs.Trees.{Grown, Filled, nothing_filled, with_part, filled_by, filled, net_before, grown_at, top_place, tree_of}
-use Rattle.fnl_bind.specs.Sound.{if_same, once_from, if_net, if_leaf, net_parts, leaf_parts, net_count, leaf_count, IsBehind, AreBehind, LeadDown, IsSound, BoundAreSound}
+use Rattle.fnl_bind.specs.Sound.{if_same, once_from, if_net, if_leaf, net_parts, leaf_parts, net_count, leaf_count, IsBehind, AreBehind, LeadDown, StandsOnce, BoundStandOnce}
 
 -- ---- counts add up
 
@@ -49,24 +49,24 @@ down_append k (x ∷ xs) ys one other =
 
 -- ---- what grows and what is filled, the next network and the next actor having these numbers
 
-record Grows (net leaf : ℕ) (g : Grown) : Type 0 where
-  nets : (m : ℕ) → if_same net m + net_count m g.nets ≡ once_from net (length g.nets) m
-  leaves : (l : ℕ) → leaf_count l g.nets ≡ once_from leaf (length g.leaves) l
-  down : LeadDown net g.nets
+pub record Grows (net leaf : ℕ) (g : Grown) : Type 0 where
+  pub nets : (m : ℕ) → if_same net m + net_count m g.nets ≡ once_from net (length g.nets) m
+  pub leaves : (l : ℕ) → leaf_count l g.nets ≡ once_from leaf (length g.leaves) l
+  pub down : LeadDown net g.nets
 
-record Joins (net leaf : ℕ) (inner : Inner) (g : Grown) : Type 0 where
-  nets : (m : ℕ) → if_net m inner + net_count m g.nets ≡ once_from net (length g.nets) m
-  leaves : (l : ℕ) → if_leaf l inner + leaf_count l g.nets ≡ once_from leaf (length g.leaves) l
-  behind : (k : ℕ) → k < net → IsBehind k inner
-  down : LeadDown net g.nets
+pub record Joins (net leaf : ℕ) (inner : Inner) (g : Grown) : Type 0 where
+  pub nets : (m : ℕ) → if_net m inner + net_count m g.nets ≡ once_from net (length g.nets) m
+  pub leaves : (l : ℕ) → if_leaf l inner + leaf_count l g.nets ≡ once_from leaf (length g.leaves) l
+  pub behind : (k : ℕ) → k < net → IsBehind k inner
+  pub down : LeadDown net g.nets
 
-record Fills (net leaf : ℕ) (f : Filled) : Type 0 where
-  nets : (m : ℕ) → net_parts m f.parts + net_count m f.grown.nets ≡ once_from net (length f.grown.nets) m
-  leaves : (l : ℕ) → leaf_parts l f.parts + leaf_count l f.grown.nets ≡ once_from leaf (length f.grown.leaves) l
-  behind : (k : ℕ) → k < net → AreBehind k f.parts
-  down : LeadDown net f.grown.nets
+pub record Fills (net leaf : ℕ) (f : Filled) : Type 0 where
+  pub nets : (m : ℕ) → net_parts m f.parts + net_count m f.grown.nets ≡ once_from net (length f.grown.nets) m
+  pub leaves : (l : ℕ) → leaf_parts l f.parts + leaf_count l f.grown.nets ≡ once_from leaf (length f.grown.leaves) l
+  pub behind : (k : ℕ) → k < net → AreBehind k f.parts
+  pub down : LeadDown net f.grown.nets
 
-nothing_fills : (net leaf : ℕ) → Fills net leaf nothing_filled
+pub nothing_fills : (net leaf : ℕ) → Fills net leaf nothing_filled
 nothing_fills net leaf = record {
   nets = λ m. refl;
   leaves = λ l. refl;
@@ -74,7 +74,7 @@ nothing_fills net leaf = record {
   down = tt;
 }
 
-net_joins : (net leaf : ℕ) (g : Grown) → Grows net leaf g → Joins net leaf (InnerNet net) g
+pub net_joins : (net leaf : ℕ) (g : Grown) → Grows net leaf g → Joins net leaf (InnerNet net) g
 net_joins net leaf g grows = record {
   nets = grows.nets;
   leaves = λ l. let same = grows.leaves l in omega (arith, same);
@@ -82,7 +82,7 @@ net_joins net leaf g grows = record {
   down = grows.down;
 }
 
-leaf_joins : (net leaf : ℕ) (l : Leaf) → Joins net leaf (InnerLeaf leaf) (record { nets = []; leaves = l ∷ [] })
+pub leaf_joins : (net leaf : ℕ) (l : Leaf) → Joins net leaf (InnerLeaf leaf) (record { nets = []; leaves = l ∷ [] })
 leaf_joins net leaf l = record {
   nets = λ m. refl;
   leaves = λ m. refl;
@@ -90,7 +90,7 @@ leaf_joins net leaf l = record {
   down = tt;
 }
 
-part_fills : (net leaf : ℕ) (id : List ℕ) (inner : Inner) (g : Grown) (f : Filled) → Joins net leaf inner g
+pub part_fills : (net leaf : ℕ) (id : List ℕ) (inner : Inner) (g : Grown) (f : Filled) → Joins net leaf inner g
     → Fills (net + length g.nets) (leaf + length g.leaves) f → Fills net leaf (with_part id inner g f)
 part_fills net leaf id inner g f joins fills = record {
   nets = λ m.
@@ -143,10 +143,10 @@ grown (suc n) library p net leaf =
     net_grows p net leaf (filled (grown_at n library) library p p.entry.net.instances (suc net) leaf)
     (fills (grown_at n library) (grown n library) library p p.entry.net.instances (suc net) leaf)
 
-top_is_sound : (library : List Entry) (top : Entry) → IsSound (tree_of library (Some top))
-top_is_sound library top =
+pub top_stands_once : (library : List Entry) (top : Entry) → StandsOnce (tree_of library (Some top))
+top_stands_once library top =
     let g = grown (length library) library (top_place top) 0 0 in
     record { nets = g.nets; leaves = g.leaves; down = g.down }
 
-pub bound_are_sound : BoundAreSound
-bound_are_sound library class top held = subst (λ e. IsSound (tree_of library e)) (sym held) (top_is_sound library top)
+pub bound_stand_once : BoundStandOnce
+bound_stand_once library class top held = subst (λ e. StandsOnce (tree_of library e)) (sym held) (top_stands_once library top)

@@ -1,5 +1,5 @@
 -- Networks by their classes, and their parts as they are read.
--- Not trusted: no promise is read with it.
+-- Trusted: part of what a promise means.
 use Rattle.std.specs.Prelude.{ℕ, Bool, true, false, List, [], ◌∷◌, map, Option, None, Some, if◌then◌else◌}
 use Rattle.std.specs.Str.{bytes_eq}
 use Rattle.cal_ast.specs.Tree.{Tree}

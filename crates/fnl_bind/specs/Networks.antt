@@ -2,7 +2,7 @@
 --
 -- Its declarations are judged as those of an actor are: each sees those before it, a parameter has the value that it is
 -- given or else its default, and a value is stored in the declared type.
--- Not trusted: no promise is read with it.
+-- Trusted: part of what a promise means.
 use Rattle.std.specs.Prelude.{ℕ, suc, ◌+◌, Bool, true, false, List, [], ◌∷◌, ◌++◌, length, map, codes, Option, None, Some, if◌then◌else◌}
 use Rattle.cal_model.specs.Kinding.{Names}
 use Rattle.cal_check.specs.Violations.{Violation, said}

@@ -1,6 +1,6 @@
 -- The rules that a network breaks whatever its values are: names that stand twice, names that are unknown, too many
 -- ports, and networks inside themselves (ISO/IEC 23001-4, FNL).
--- Not trusted: no promise is read with it.
+-- Trusted: part of what a promise means.
 use Rattle.std.specs.Prelude.{ℕ, List, [], ◌∷◌, ◌++◌, length, true, false, nat_le, if◌then◌else◌}
 use Rattle.std.specs.Str.{bytes_eq}
 use Rattle.rvc_base.specs.Rules.{unknown_name, too_many_ports, network_cycle, network_name_twice}

@@ -1,9 +1,10 @@
 -- Trees in which each network but the top, and each actor, is one part, and stands in a network before it.
--- Not trusted: no promise is read with it.
+-- Trusted: part of what a promise means.
 use Rattle.std.specs.Prelude.{◌≡◌, ℕ, zero, suc, ◌+◌, ◌<◌, ◌==◌, List, [], ◌∷◌, length, Some, if◌then◌else◌}
 use Rattle.fnl_tree.specs.Tree.{Inner, InnerNet, InnerLeaf, Part, Net as BoundNet, Tree as BoundTree}
+use Rattle.fnl_tree.specs.Sound.{IsSound}
 use Rattle.fnl_bind.specs.Library.{Entry, network_of}
-use Rattle.fnl_bind.specs.Trees.{bound}
+use Rattle.fnl_bind.specs.Trees.{bound, violations}
 
 -- ---- counts
 
@@ -59,16 +60,22 @@ abbrev pub LeadDown : ℕ → List BoundNet → Type 0
 LeadDown k [] = Unit {0}
 LeadDown k (n ∷ ns) = AreBehind k n.parts × LeadDown (suc k) ns
 
--- ---- sound trees
+-- ---- trees
 
-pub record IsSound (tree : BoundTree) : Type 0 where
+pub record StandsOnce (tree : BoundTree) : Type 0 where
   -- the top is no part; each other network is one, and no part is a network that there isn't
   pub nets : (m : ℕ) → if_same 0 m + net_count m tree.nets ≡ once_from 0 (length tree.nets) m
   -- each actor is one part, and no part is an actor that there isn't
   pub leaves : (l : ℕ) → leaf_count l tree.nets ≡ once_from 0 (length tree.leaves) l
   pub down : LeadDown 0 tree.nets
 
--- the tree that networks make is sound
+-- in the tree that networks make each network but the top, and each actor, stands once
+abbrev pub BoundStandOnce : Type 0
+BoundStandOnce = (library : List Entry) (class : List ℕ) (top : Entry)
+    → network_of class library ≡ Some top → StandsOnce (bound library class)
+
+-- if they break no rule, the tree can be flattened
 abbrev pub BoundAreSound : Type 0
 BoundAreSound = (library : List Entry) (class : List ℕ) (top : Entry)
-    → network_of class library ≡ Some top → IsSound (bound library class)
+    → network_of class library ≡ Some top → violations library class ≡ []
+    → IsSound (bound library class)

@@ -3,7 +3,7 @@
 --
 -- A network stands in no network of its own class, so chains of networks inside each other are at most as long as there
 -- are networks.
--- Not trusted: no promise is read with it.
+-- Trusted: part of what a promise means.
 use Rattle.std.specs.Prelude.{ℕ, zero, suc, ◌+◌, List, [], ◌∷◌, ◌++◌, length, Option, None, Some, slice_get, if◌then◌else◌}
 use Rattle.rvc_base.specs.Rules.{too_many_instances}
 use Rattle.net_model.specs.Limits.{max_instances}
@@ -33,7 +33,7 @@ found_or_inside (f ∷ fs) inner library p = f ∷ fs
 
 -- at so many networks inside each other
 abbrev pub found_at : ℕ → List Entry → Place → List Found
-found_at zero library p = []
+found_at zero library p = own_found p
 found_at (suc n) library p = found_or_inside (own_found p) (found_at n library) library p
 
 -- ---- how many instances there are

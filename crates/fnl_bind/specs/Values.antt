@@ -2,7 +2,7 @@
 --
 -- Declarations are evaluated in the order of the text, before all else. So the type of a port, the value of a parameter
 -- of an instance and the size of a connection see each of them.
--- Not trusted: no promise is read with it.
+-- Trusted: part of what a promise means.
 use Rattle.std.specs.Prelude.{ℕ, ◌&&◌, List, [], ◌∷◌, ◌++◌, map, max, true, nat_le, pos, negsuc, Option, None, Some, if◌then◌else◌}
 use Rattle.rvc_base.specs.declared.scalar.Scalar.{Scalar}
 use Rattle.rvc_base.specs.Rules.{constant_traps, not_constant, wrong_buffer_size}

@@ -1,0 +1,5 @@
+mod Walking
+mod Fine
+mod Weights
+mod WalkSteps
+mod Passing

@@ -1,0 +1,14 @@
+use Rattle.std.proofs.Common.{◌≡◌, true, length, map, sym, ◌∙◌, arith, rules}
+use Rattle.fnl_tree.specs.View.{leaf_of, tree_of}
+use Rattle.fnl_flatten.specs.View.{head_of, heads_of}
+use Rattle.flatten_rows.specs.Tested.{are_heads_fine}
+use Rattle.flatten_rows.proofs.Passing as passing
+use Rattle.flatten_rows.proofs.Weights.{as_many}
+use Rattle.flatten_rows.proofs.whole.is_whole.Goals as goal
+
+pub returns : goal.returns
+returns c =
+    let fine : are_heads_fine (heads_of c.args.heads.now) ≡ true = search rules in
+    let many : length c.args.heads.now ≡ length c.args.tree.now.leaves.items = search (rules, arith) in
+    λ sound. passing.whole (tree_of c.args.tree.now) (heads_of c.args.heads.now) (c.is_sound.ensures sound)
+    (as_many head_of c.args.heads.now ∙ many ∙ sym (as_many leaf_of c.args.tree.now.leaves.items)) fine

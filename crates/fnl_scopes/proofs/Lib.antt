@@ -1,0 +1,4 @@
+mod Steps
+mod Sizes
+mod Repeats
+mod Keys

@@ -1,0 +1,4 @@
+pub mod Actors
+pub mod Lone
+pub mod Source
+pub mod Laws
