@@ -1,0 +1,2 @@
+pub mod PatternRates
+pub mod Holding

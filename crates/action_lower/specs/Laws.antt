@@ -1,0 +1,18 @@
+-- What holds of all actions, as statements.
+-- Trusted: part of what a promise means.
+use Rattle.std.specs.Prelude.{◌≡◌, ℕ, true, ℤ, List, Some, slice_get}
+use Rattle.cal_model.specs.Actor.{Action, Actor}
+use Rattle.cal_model.specs.ActorState.{IsActorState, AreTokensOf}
+use Rattle.cal_model.specs.Selection.{State, has_its_tokens, seen_by}
+use Rattle.cal_model.specs.Sound.{IsSound}
+use Rattle.expr_lower.specs.Held.{Holds}
+use Rattle.action_lower.specs.Seats.{HoldVars, seen_seats, taken}
+
+-- In each state of an actor, whose variables the state cells hold, and over tokens of its ports, the state cells and
+-- the tokens that an action takes hold what each name means that its guards see.
+abbrev pub SeenIsHeld : Type 0
+SeenIsHeld = (actor : Actor) (x : State) (u : List (List ℤ)) (a : ℕ) (act : Action) (cells : List ℤ)
+    → IsSound actor → slice_get actor.actions a ≡ Some act
+    → IsActorState actor x → AreTokensOf actor u → has_its_tokens actor u a ≡ true
+    → HoldVars actor x cells
+    → Holds (seen_seats actor act) (taken actor u a) cells (seen_by actor x u act)

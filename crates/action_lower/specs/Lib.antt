@@ -1,0 +1,4 @@
+pub mod Seats
+pub mod Guarding
+pub mod GuardWords
+pub mod Laws

@@ -1,0 +1,11 @@
+//! Actions as code: the guards of an action become code that answers as they do.
+//!
+//! A name that an action sees stands for a value in cells or tokens. The actor's variables stand in its state cells,
+//! from cell 0 on, one after the other and scalar by scalar. A pattern variable stands in the tokens of its port: that
+//! at its place among the names of the pattern and, if the pattern is repeated, each further one as many places behind
+//! as there are names.
+#![tactic(auto)]
+
+pub mod laws;
+mod seats;
+mod shapes;
