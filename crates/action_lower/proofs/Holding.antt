@@ -72,7 +72,7 @@ module _ (tokens : ℕ → List ℤ) (cells : List ℤ) where
 
 -- ---- numbers side by side
 
-get-after : {X : Type 0} (xs ys : List X) (k : ℕ) → slice_get (xs ++ ys) (length xs + k) ≡ slice_get ys k
+pub get-after : {X : Type 0} (xs ys : List X) (k : ℕ) → slice_get (xs ++ ys) (length xs + k) ≡ slice_get ys k
 get-after [] ys k = let e : 0 + k ≡ k = omega arith in ap (slice_get ys) e
 get-after (x ∷ xs) ys k = let e : suc (length xs) + k ≡ suc (length xs + k) = omega arith in ap (slice_get (x ∷ (xs ++ ys))) e ∙ get-after xs ys k
 
@@ -97,14 +97,16 @@ vars-held tokens cells c [] (x ∷ xs) is types at = absurd is
 vars-held tokens cells c (h ∷ hs) [] is types at = absurd is
 vars-held tokens cells c (h ∷ hs) (x ∷ xs) is types at =
     let kind : HasKind (kind_of_type h.shape) x.value = of-type x.value h.shape types.0.0 is.0.value in
-    let size : length (flat x.value) ≡ scalars_of_type h.shape = flat_length (kind_of_type h.shape) x.value kind ∙ scalars_same h.shape in
-    (record {
-      name = is.0.name;
-      of_type = kind;
-      stands = λ k z e. at k z (get-before (flat x.value) (numbers_of_vars xs) k (slice_get_within (flat x.value) k z e) ∙ e);
-    }, vars-held tokens cells (c + scalars_of_type h.shape) hs xs is.1 types.1
-        (λ k z e. let f : c + (length (flat x.value) + k) ≡ c + scalars_of_type h.shape + k = omega (arith, size) in
-        ap (slice_get cells) (sym f) ∙ at (length (flat x.value) + k) z (get-after (flat x.value) (numbers_of_vars xs) k ∙ e)))
+    let size : length (flat x.value) ≡ scalars_of_type h.shape = flat_length (kind_of_type h.shape) x.value kind ∙ scalars_same h.shape in (
+      record {
+        name = is.0.name;
+        of_type = kind;
+        stands = λ k z e. at k z (get-before (flat x.value) (numbers_of_vars xs) k (slice_get_within (flat x.value) k z e) ∙ e);
+      },
+      vars-held tokens cells (c + scalars_of_type h.shape) hs xs is.1 types.1
+          (λ k z e. let f : c + (length (flat x.value) + k) ≡ c + scalars_of_type h.shape + k = omega (arith, size) in
+          ap (slice_get cells) (sym f) ∙ at (length (flat x.value) + k) z (get-after (flat x.value) (numbers_of_vars xs) k ∙ e)),
+    )
 
 -- ---- tokens
 

@@ -1,2 +1,6 @@
 pub mod PatternRates
 pub mod Holding
+pub mod BelowState
+pub mod GuardCode
+pub mod Answering
+pub mod ActionAt

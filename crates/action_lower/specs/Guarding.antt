@@ -22,15 +22,21 @@ use Rattle.action_lower.specs.Seats.{HoldVars, state_cells, taken}
 
 -- ---- code
 
--- Code of guards, one after the other, each the code of its expression and an answer. The entry of a guard is where
--- its code begins.
+-- code of a guard: that of its expression, and an answer
+pub record IsGuardCode (names : List Name) (g : Tree) (base n : ℕ) (code : List Instr) (m : ℕ) :
+    Type 0 where
+  pub body : List Instr
+  pub is : code ≡ body ++ op.Answer ∷ []
+  pub lowered : IsLowered names g base n body m
+
+-- code of guards, one after the other, and the entries of each, where its code begins
 pub data AreGuards (names : List Name) :
     List Tree → List ℕ → ℕ → ℕ → List Instr → ℕ → Type 0 where
   no_guard : (base n : ℕ) → AreGuards names [] [] base n [] n
   guard_more : (g : Tree) (guards : List Tree) (entries : List ℕ) (base n k m : ℕ)
-      (a b : List Instr) → IsLowered names g base n a k
-      → AreGuards names guards entries (base + length a + 1) k b m
-      → AreGuards names (g ∷ guards) (base ∷ entries) base n (a ++ op.Answer ∷ b) m
+      (a b : List Instr) → IsGuardCode names g base n a k
+      → AreGuards names guards entries (base + length a) k b m
+      → AreGuards names (g ∷ guards) (base ∷ entries) base n (a ++ b) m
 
 -- ---- answers
 

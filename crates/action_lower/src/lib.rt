@@ -6,6 +6,9 @@
 //! as there are names.
 #![tactic(auto)]
 
+mod guards;
 pub mod laws;
 mod seats;
 mod shapes;
+
+pub use guards::lower_guards;
