@@ -4,3 +4,4 @@ pub mod BelowState
 pub mod GuardCode
 pub mod Answering
 pub mod ActionAt
+pub mod Storing

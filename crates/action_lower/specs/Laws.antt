@@ -1,11 +1,14 @@
 -- What holds of all actions, as statements.
 -- Trusted: part of what a promise means.
 use Rattle.std.specs.Prelude.{◌≡◌, ℕ, true, ℤ, List, Some, slice_get}
-use Rattle.cal_model.specs.Actor.{Action, Actor}
+use Rattle.cal_model.specs.Actor.{Action, Actor, Output, Port}
 use Rattle.cal_model.specs.ActorState.{IsActorState, AreTokensOf}
 use Rattle.cal_model.specs.Selection.{State, has_its_tokens, seen_by}
 use Rattle.cal_model.specs.Sound.{IsSound}
-use Rattle.expr_lower.specs.Held.{Holds}
+use Rattle.code_ir.specs.declared.instr.Instr.{Instr}
+use Rattle.expr_lower.specs.Held.{AreBelow, Holds}
+use Rattle.expr_lower.specs.Names.{Name}
+use Rattle.action_lower.specs.Sending.{AreOutputs, SendsAs}
 use Rattle.action_lower.specs.Seats.{HoldVars, seen_seats, taken}
 
 -- In each state of an actor, whose variables the state cells hold, and over tokens of its ports, the state cells and
@@ -16,3 +19,10 @@ SeenIsHeld = (actor : Actor) (x : State) (u : List (List ℤ)) (a : ℕ) (act : 
     → IsActorState actor x → AreTokensOf actor u → has_its_tokens actor u a ≡ true
     → HoldVars actor x cells
     → Holds (seen_seats actor act) (taken actor u a) cells (seen_by actor x u act)
+
+-- Code of outputs of single values does what the outputs do.
+abbrev pub OutputsAreSent : Type 0
+OutputsAreSent = (names : List Name) (ports : List Port) (outs : List Output) (firsts : List ℕ)
+    (base n m : ℕ) (code : List Instr) → AreBelow n names
+    → AreOutputs names ports outs firsts base n code m
+    → SendsAs names ports outs firsts base n code m

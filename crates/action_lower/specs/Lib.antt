@@ -1,4 +1,5 @@
 pub mod Seats
 pub mod Guarding
 pub mod GuardWords
+pub mod Sending
 pub mod Laws

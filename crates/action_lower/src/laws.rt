@@ -1,9 +1,14 @@
-//! What holds of the names that actions see. The law is a function that does nothing: its contract is what is proved.
+//! What holds of the code of actions. Each law is a function that does nothing: its contract is what is proved.
 
-ghost use Rattle.action_lower.specs.Laws.{SeenIsHeld};
+ghost use Rattle.action_lower.specs.Laws.{OutputsAreSent, SeenIsHeld};
 
 /// The state cells and the tokens that an action takes hold what each name means that its guards see: in each state of
 /// a sound actor, over tokens of its ports.
 pub fn what_is_seen_is_held()
     ensures { SeenIsHeld }
+{}
+
+/// Code of outputs leaves the tokens that the outputs send, each stored in the type of its port, or traps as they do.
+pub fn outputs_are_sent()
+    ensures { OutputsAreSent }
 {}
