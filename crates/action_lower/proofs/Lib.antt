@@ -5,3 +5,4 @@ pub mod GuardCode
 pub mod Answering
 pub mod ActionAt
 pub mod Storing
+pub mod OutputCode

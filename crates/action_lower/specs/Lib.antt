@@ -2,4 +2,5 @@ pub mod Seats
 pub mod Guarding
 pub mod GuardWords
 pub mod Sending
+pub mod SendWords
 pub mod Laws

@@ -8,7 +8,9 @@
 
 mod guards;
 pub mod laws;
+mod outputs;
 mod seats;
 mod shapes;
 
 pub use guards::lower_guards;
+pub use outputs::lower_outputs;

@@ -54,7 +54,7 @@ fn put_patterns(
 }
 
 /// The type of the tokens of a port.
-fn kind_on(ports: &[Port], port: u32) -> Scalar
+pub(crate) fn kind_on(ports: &[Port], port: u32) -> Scalar
     ensures { result ≡ kind_of_port (map port_view ports.now) port }
 {
     match ports.get(port as usize) {
