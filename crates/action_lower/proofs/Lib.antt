@@ -6,3 +6,4 @@ pub mod Answering
 pub mod ActionAt
 pub mod Storing
 pub mod OutputCode
+pub mod FirstCells

@@ -6,11 +6,13 @@
 //! as there are names.
 #![tactic(auto)]
 
+mod first;
 mod guards;
 pub mod laws;
 mod outputs;
 mod seats;
 mod shapes;
 
+pub use first::first_cells;
 pub use guards::lower_guards;
 pub use outputs::lower_outputs;
