@@ -1,11 +1,10 @@
 -- An action of a `Bound`, as its actor has it, and the code of its guards.
-use Rattle.std.proofs.Common.{◌≡◌, ℕ, ◌<◌, ◌≤◌, List, map, length, slice_index_or, sym, ap, subst, ◌∙◌, None, Some}
+use Rattle.std.proofs.Common.{◌≡◌, ℕ, ◌<◌, ◌≤◌, List, length, slice_index_or, sym, ap, subst, ◌∙◌, None, Some}
 use Rattle.std.specs.Prelude.{option_map, slice_get}
 use Rattle.std.proofs.lemmas.Option.{slice_get-map, slice_get-get_or}
 use Rattle.cal_ast.specs.Tree.{Tree}
 use Rattle.cal_model.specs.declared.bound.Bound.{Bound}
 use Rattle.cal_model.specs.declared.bound.BoundAction.{BoundAction}
-use Rattle.cal_model.specs.Actor.{Action}
 use Rattle.cal_model.specs.Rates.{need, taken_on}
 use Rattle.cal_model.specs.Sound.{IsAction, IsSound, max_rate}
 use Rattle.cal_model.specs.View.{action_view, actor_of}

@@ -1,5 +1,5 @@
 -- Code of guards answers as the guards do.
-use Rattle.std.proofs.Common.{◌≡◌, ℕ, zero, suc, ◌+◌, ◌<◌, ◌≤◌, inl, inr, Bool, true, false, ℤ, List, [], ◌∷◌, ◌++◌, length, take, refl, sym, ap, subst, ◌∙◌, Option, None, Some, arith, append_assoc, length-append}
+use Rattle.std.proofs.Common.{◌≡◌, ℕ, zero, suc, ◌+◌, ◌<◌, ◌≤◌, inl, inr, Bool, ℤ, List, [], ◌∷◌, ◌++◌, length, take, refl, sym, ap, subst, ◌∙◌, Some, arith, append_assoc, length-append}
 use Rattle.std.specs.Prelude.{if◌then◌else◌, slice_get}
 use Rattle.rvc_base.specs.Arithmetic.{is_true, truth}
 use Rattle.rvc_base.specs.Turns.{max_turns}
@@ -10,19 +10,17 @@ use Rattle.cal_model.specs.Call.{calls_of}
 use Rattle.cal_model.specs.Expression.{eval}
 use Rattle.cal_model.specs.Keeping.{GivesOrTraps}
 use Rattle.cal_model.specs.Outcome.{Out, Gives, Traps, Lacks, Clashes}
-use Rattle.cal_model.specs.Selection.{State as ActorState, has_its_tokens, seen_by}
+use Rattle.cal_model.specs.Selection.{State as ActorState, seen_by}
 use Rattle.cal_model.specs.Sound.{IsSound}
 use Rattle.cal_model.specs.Value.{BoolKind, HasKind, Items, Num, Truth, Value, scalars_of_type}
 use Rattle.cal_model.specs.Laws.{GuardsAreTruths}
 use Rattle.code_ir.specs.declared.instr.Instr.{Instr}
 use Rattle.code_ir.specs.declared.instr.Instr.TheVariants as op
-use Rattle.code_ir.specs.declared.outcome.Outcome.{Outcome}
 use Rattle.code_ir.specs.declared.outcome.Outcome.TheVariants as outcome
 use Rattle.code_ir.specs.Code.{Code}
-use Rattle.code_ir.specs.Running.{Ends, Over, State, step, stop}
+use Rattle.code_ir.specs.Running.{Ends, Over, step, stop}
 use Rattle.code_ir.proofs.Ends.{one-end}
 use Rattle.expr_lower.specs.declared.draft.Draft.{Draft}
-use Rattle.expr_lower.specs.Flat.{flat}
 use Rattle.expr_lower.specs.Following.{CutsOff, Follows, Pushes}
 use Rattle.expr_lower.specs.Held.{AllApart, Keeps, SeatIsApart}
 use Rattle.expr_lower.specs.Lowered.{Adds}
@@ -33,7 +31,7 @@ use Rattle.expr_lower.specs.declared.names.Seat.TheVariants.{Cell, Tokens}
 use Rattle.expr_lower.proofs.Effects.{same_number, true_again}
 use Rattle.expr_lower.proofs.Runs.{ends_join, obeys, stands_left, stands_right}
 use Rattle.action_lower.specs.Guarding.{AnswersAs, AreGuards, AreGuardsOf, IsGuardCode, IsGuardOf, guard_more, no_guard}
-use Rattle.action_lower.specs.Seats.{HoldVars, seen_seats, state_cells, taken}
+use Rattle.action_lower.specs.Seats.{seen_seats, state_cells, taken}
 use Rattle.action_lower.proofs.Holding.{get-after, seen-is-held}
 
 -- ---- lists

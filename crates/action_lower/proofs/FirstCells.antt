@@ -1,11 +1,11 @@
 -- The numbers of values, one after the other.
-use Rattle.std.proofs.Common.{◌≡◌, ℕ, suc, ◌+◌, ◌<◌, ◌≤◌, ℤ, List, [], ◌∷◌, ◌++◌, length, map, take, refl, sym, ap, ◌∙◌, arith, append_assoc, append-nil, length-append}
+use Rattle.std.proofs.Common.{◌≡◌, ℕ, ◌+◌, ◌<◌, ◌≤◌, ℤ, List, [], ◌∷◌, ◌++◌, length, map, take, refl, sym, ap, ◌∙◌, arith, append_assoc, append-nil, length-append}
 use Rattle.std.specs.Prelude.{get_or}
 use Rattle.std.proofs.lemmas.List.{map-append, take_all, take_more}
 use Rattle.cal_model.specs.Actor.{Actor, Held}
 use Rattle.cal_model.specs.Selection.{first_vars, start_of}
 use Rattle.cal_model.specs.Sound.{Each, IsSound, scalars_of_vars}
-use Rattle.cal_model.specs.Value.{Cons, IsOf, IsType, Value, kind_of_type}
+use Rattle.cal_model.specs.Value.{IsOf, IsType, Value, kind_of_type}
 use Rattle.cal_model.specs.View.{in_order}
 use Rattle.cal_model.proofs.KindValues.{of-type}
 use Rattle.expr_lower.specs.Flat.{flat, flat_all}

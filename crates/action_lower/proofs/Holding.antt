@@ -1,5 +1,5 @@
 -- What the names of an action mean stands in its cells and tokens.
-use Rattle.std.proofs.Common.{◌≡◌, ℕ, zero, suc, ◌+◌, ◌*◌, ◌<◌, ◌≤◌, ◌⊎◌, inl, inr, Bool, true, false, ◌&&◌, ℤ, pos, List, [], ◌∷◌, ◌++◌, map, length, take, refl, sym, ap, subst, ◌∙◌, Option, None, Some, arith}
+use Rattle.std.proofs.Common.{◌≡◌, ℕ, zero, suc, ◌+◌, ◌*◌, ◌<◌, ◌≤◌, ◌⊎◌, inl, inr, Bool, true, false, ◌&&◌, ℤ, pos, List, [], ◌∷◌, ◌++◌, length, take, refl, sym, ap, subst, ◌∙◌, Option, None, Some, arith}
 use Rattle.std.specs.Prelude.{if◌then◌else◌, nat_le, slice_get, slice_index_or}
 use Rattle.std.specs.List.{range_with_len}
 use Rattle.std.specs.Str.{bytes_eq}
@@ -12,18 +12,18 @@ use Rattle.rvc_base.specs.declared.scalar.Scalar.TheVariants as scalar
 use Rattle.cal_model.specs.Actor.{Action, Actor, Held, Pattern, Port}
 use Rattle.cal_model.specs.ActorState.{AreTokensOf, AreTokensOn, AreVarsOf, IsActorState}
 use Rattle.cal_model.specs.Env.{Var, find}
-use Rattle.cal_model.specs.Rates.{need, parts_times, taken_on, times}
+use Rattle.cal_model.specs.Rates.{need, parts_times, taken_on}
 use Rattle.cal_model.specs.Selection.{State, has_its_tokens, has_its_tokens_on, kind_of_port, pattern_value, pattern_var, pattern_vars, pattern_vars_from, seen_by, token, tokens_from, tokens_on}
 use Rattle.cal_model.specs.Sound.{Each, IsAction, IsPattern, IsSound}
-use Rattle.cal_model.specs.Value.{HasKind, HaveKind, IsOf, IsType, Nil, Cons, Items, Single, Value, count, kind_of_scalar, kind_of_type, of_number, scalars_of_type}
+use Rattle.cal_model.specs.Value.{HasKind, HaveKind, IsOf, IsType, Value, count, kind_of_scalar, kind_of_type, of_number, scalars_of_type}
 use Rattle.cal_model.proofs.ActorStates.{first-sized}
 use Rattle.cal_model.proofs.KeptByFirings.{action-at}
 use Rattle.cal_model.proofs.KindValues.{of-type, single-is-num}
 use Rattle.code_ir.proofs.Tables.{get-before}
 use Rattle.expr_lower.specs.Flat.{flat, flat_all}
-use Rattle.expr_lower.specs.Held.{Holds, HoldsName, StandAt}
+use Rattle.expr_lower.specs.Held.{Holds, StandAt}
 use Rattle.expr_lower.specs.Names.{Name, named}
-use Rattle.expr_lower.specs.declared.names.Seat.TheVariants.{Cell, Tokens}
+use Rattle.expr_lower.specs.declared.names.Seat.TheVariants.{Tokens}
 use Rattle.expr_lower.proofs.Keeping.{flat_length, scalars_same}
 use Rattle.action_lower.specs.Seats.{HoldVars, numbers_of_vars, pattern_seat, pattern_seats, pattern_seats_from, pattern_shape, seen_seats, state_cells, taken, var_seats}
 use Rattle.action_lower.proofs.PatternRates.{TakesItsOwn, take-their-own}

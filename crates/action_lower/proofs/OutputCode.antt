@@ -1,5 +1,5 @@
 -- Code of outputs that is added to a draft.
-use Rattle.std.proofs.Common.{◌≡◌, ℕ, suc, ◌+◌, ◌<◌, ◌≤◌, ◌^◌, List, [], ◌∷◌, ◌++◌, length, map, take, drop, refl, sym, ap, subst, ◌∙◌, Option, None, Some, arith, append_assoc, append-nil, length-append}
+use Rattle.std.proofs.Common.{◌≡◌, ℕ, suc, ◌+◌, ◌<◌, ◌≤◌, List, [], ◌∷◌, ◌++◌, length, map, take, drop, refl, sym, ap, subst, ◌∙◌, Option, None, Some, arith, append_assoc, append-nil, length-append}
 use Rattle.std.specs.Prelude.{get_or}
 use Rattle.std.proofs.lemmas.List.{length-map, map-append, take_more, take-append-drop}
 use Rattle.rvc_base.specs.declared.scalar.Scalar.{Scalar}
@@ -22,7 +22,7 @@ use Rattle.expr_lower.specs.Names.{Name}
 use Rattle.expr_lower.proofs.Adding.{then_put}
 use Rattle.expr_lower.proofs.Keeping.{below_more}
 use Rattle.action_lower.specs.SendWords.{AddsOutput, AddsOutputs, AddsSent, HasTaken, IsSendFault, first_at, left_out_output, left_out_outputs, left_out_values}
-use Rattle.action_lower.specs.Sending.{AreOutputs, AreStored, IsOutputCode, IsStored, SendsAs, no_output, no_value, output_more, value_more}
+use Rattle.action_lower.specs.Sending.{AreOutputs, AreStored, IsOutputCode, IsStored, no_output, no_value, output_more, value_more}
 use Rattle.action_lower.proofs.Storing.{sends-as}
 
 first-taken : {X Y : Type 0} (f : X → Y) (xs : List X) (x : X) (i : ℕ) → i < length xs → x ≡ get_or xs i x → map f (take (i + 1) xs) ≡ map f (take i xs) ++ f x ∷ []
@@ -75,7 +75,7 @@ value-last names t e m b (value_more h es c base n j k a d first more) last =
     let place : base + length (a ++ d) ≡ base + length a + length d = omega (arith, length-append a d) in
     let cell : c + suc (length es) ≡ c + 1 + length es = omega arith in
     let rest : AreStored names t (es ++ e ∷ []) (c + 1) (base + length a) j (d ++ b) m =
-        value-last names t e m b more (subst (λ q. IsStored names t e q (base + length a + length d) k b m) cell (subst (λ p. IsStored names t e (c + suc (length es)) p k b m) place last)) in
+    value-last names t e m b more (subst (λ q. IsStored names t e q (base + length a + length d) k b m) cell (subst (λ p. IsStored names t e (c + suc (length es)) p k b m) place last)) in
     subst (λ code. AreStored names t (h ∷ (es ++ e ∷ [])) c base n code m) (sym (append_assoc a d b)) (value_more h (es ++ e ∷ []) c base n j m a (d ++ b) first rest)
 
 -- these values are added
@@ -145,21 +145,23 @@ value-fault names o draft (NotLowered at) once h = single-output names o once �
 pub output-added : (names : List Name) (ports : List Port) (o : BoundOutput) (es : List Tree) (kind : Scalar) (count first : ℕ) (old mid new : Draft) → o.repeat ≡ None → es ≡ map expr_tree o.values.items → count ≡ length es
     → kind ≡ kind_of_port ports o.port → HasTaken count first old mid → Adds (AreStored names kind es first) mid new → AddsOutput names ports (output_view o) first old new
 output-added names ports o es kind count first old mid new once values many of_port taken a =
-    let cells : mid.cells ≡ old.cells + length es = taken.cells ∙ ap (λ n. old.cells + n) many in
-    (taken.is, record {
-      code = a.code;
-      is = a.is ∙ ap (λ is. is ++ a.code) taken.instrs;
-      routines = a.routines ∙ taken.routines;
-      has = record {
-        parts = es;
-        values = ap listed (sym values);
-        once = once;
-        stored = subst (λ k. AreStored names k es old.cells (length old.instrs.items) (old.cells + length es) a.code new.cells) of_port
-            (subst (λ d. AreStored names kind es d (length old.instrs.items) (old.cells + length es) a.code new.cells) taken.is
-            (subst (λ n. AreStored names kind es first (length old.instrs.items) n a.code new.cells) cells
-            (subst (λ is. AreStored names kind es first (length is) mid.cells a.code new.cells) taken.instrs a.has)));
-      };
-    })
+    let cells : mid.cells ≡ old.cells + length es = taken.cells ∙ ap (λ n. old.cells + n) many in (
+      taken.is,
+      record {
+        code = a.code;
+        is = a.is ∙ ap (λ is. is ++ a.code) taken.instrs;
+        routines = a.routines ∙ taken.routines;
+        has = record {
+          parts = es;
+          values = ap listed (sym values);
+          once = once;
+          stored = subst (λ k. AreStored names k es old.cells (length old.instrs.items) (old.cells + length es) a.code new.cells) of_port
+              (subst (λ d. AreStored names kind es d (length old.instrs.items) (old.cells + length es) a.code new.cells) taken.is
+              (subst (λ n. AreStored names kind es first (length old.instrs.items) n a.code new.cells) cells
+              (subst (λ is. AreStored names kind es first (length is) mid.cells a.code new.cells) taken.instrs a.has)));
+        };
+      },
+    )
 
 -- ---- outputs
 
@@ -172,7 +174,7 @@ output-last names ports o m b (no_output base n) last =
 output-last names ports o m b (output_more h os firsts base n j k a d first more) last =
     let place : base + length (a ++ d) ≡ base + length a + length d = omega (arith, length-append a d) in
     let rest : AreOutputs names ports (os ++ o ∷ []) (firsts ++ k ∷ []) (base + length a) j (d ++ b) m =
-        output-last names ports o m b more (subst (λ p. IsOutputCode names ports o p k b m) place last) in
+    output-last names ports o m b more (subst (λ p. IsOutputCode names ports o p k b m) place last) in
     subst (λ code. AreOutputs names ports (h ∷ (os ++ o ∷ [])) (n ∷ (firsts ++ k ∷ [])) base n code m) (sym (append_assoc a d b)) (output_more h (os ++ o ∷ []) (firsts ++ k ∷ []) base n j m a (d ++ b) first rest)
 
 -- these outputs are added, with these first cells

@@ -1,11 +1,11 @@
 -- How many tokens an action takes from the port of each of its patterns.
-use Rattle.std.proofs.Common.{◌≡◌, ℕ, zero, suc, ◌*◌, ◌<◌, ◌≤◌, Bool, true, false, List, [], ◌∷◌, map, length, refl, sym, ap, subst, ◌∙◌, Option, None, Some, arith}
+use Rattle.std.proofs.Common.{◌≡◌, ℕ, suc, ◌*◌, ◌≤◌, Bool, true, false, List, [], ◌∷◌, map, length, refl, sym, ap, ◌∙◌, Option, None, Some, arith}
 use Rattle.std.specs.Prelude.{◌==◌, if◌then◌else◌, Contains}
 use Rattle.std.proofs.Math.Nat.{mul-le-mul_left}
 use Rattle.std.proofs.lemmas.Bool.Decides.{nat_tests}
-use Rattle.cal_model.specs.Actor.{Action, Actor, Pattern}
-use Rattle.cal_model.specs.Rates.{parts_times, taken_on, times}
-use Rattle.cal_model.specs.Sound.{AreDistinct, Each, IsAction, IsPattern, IsRepeat, max_rate}
+use Rattle.cal_model.specs.Actor.{Actor, Pattern}
+use Rattle.cal_model.specs.Rates.{parts_times, taken_on}
+use Rattle.cal_model.specs.Sound.{AreDistinct, Each, IsPattern, IsRepeat, max_rate}
 
 -- from the port of a pattern, as many as its names, repeated
 abbrev pub TakesItsOwn : List Pattern → Pattern → Type 0

@@ -1,19 +1,18 @@
 -- Code of what is sent does what the outputs do.
-use Rattle.std.proofs.Common.{◌≡◌, ℕ, zero, suc, ◌+◌, ◌<◌, ◌≤◌, ◌⊎◌, inl, inr, ⊎_elim, ℤ, pos, List, [], ◌∷◌, ◌++◌, map, length, refl, sym, ap, subst, ◌∙◌, None, Some, arith, length-append}
+use Rattle.std.proofs.Common.{◌≡◌, ℕ, zero, suc, ◌+◌, ◌<◌, ◌≤◌, inl, inr, ⊎_elim, ℤ, pos, List, [], ◌∷◌, ◌++◌, map, length, refl, sym, ap, subst, ◌∙◌, None, Some, arith, length-append}
 use Rattle.std.specs.Prelude.{slice_get, slice_index_or, slice_set}
 use Rattle.std.proofs.lemmas.Option.{slice_get-get_or, slice_get_within}
 use Rattle.rvc_base.specs.Arithmetic.{truth}
 use Rattle.rvc_base.specs.Storing.{conv}
 use Rattle.rvc_base.specs.declared.scalar.Scalar.{Scalar}
-use Rattle.rvc_base.specs.declared.trap.Trap.{Trap}
 use Rattle.cal_ast.specs.Tree.{Tree, listed}
 use Rattle.cal_model.specs.Actor.{Output, Port}
 use Rattle.cal_model.specs.Env.{Env}
 use Rattle.cal_model.specs.Expression.{eval, eval_all}
-use Rattle.cal_model.specs.Firing.{number_of, numbers_of, outputs, sent_numbers}
+use Rattle.cal_model.specs.Firing.{number_of, numbers_of, outputs}
 use Rattle.cal_model.specs.Outcome.{Out, Gives, Traps, Lacks, Clashes, and_then}
 use Rattle.cal_model.specs.Selection.{kind_of_port}
-use Rattle.cal_model.specs.Value.{Cons, Items, Nil, Num, Truth, Value, Values}
+use Rattle.cal_model.specs.Value.{Cons, Items, Num, Truth, Value, Values}
 use Rattle.code_ir.specs.declared.instr.Instr.{Instr}
 use Rattle.code_ir.specs.declared.instr.Instr.TheVariants as op
 use Rattle.code_ir.specs.Effect.{Leaves}
@@ -26,10 +25,10 @@ use Rattle.expr_lower.specs.Placed.{StandsAt, World, state}
 use Rattle.expr_lower.proofs.Effects.{same_number}
 use Rattle.expr_lower.proofs.Keeping.{below_more, holds_still, keeps_all, keeps_join, keeps_wider}
 use Rattle.expr_lower.proofs.Performing.{apart_first, apart_last}
-use Rattle.expr_lower.proofs.Runs.{ends_join, follows_both, follows_then, obeys, reaches_join, stands_left, stands_right}
+use Rattle.expr_lower.proofs.Runs.{ends_join, follows_then, obeys, reaches_join, stands_left, stands_right}
 use Rattle.expr_lower.proofs.Scoping.{Written, written_keeps}
 use Rattle.expr_lower.proofs.Storing.{set_there, set_written, store_leaves}
-use Rattle.action_lower.specs.Sending.{AreOutputs, AreSent, AreStored, GivesSingle, GiveSingles, IsOutputCode, IsSingleValue, IsStored, SendSingles, Sends, SendsAs, StandFrom, no_output, no_value, output_more, value_more}
+use Rattle.action_lower.specs.Sending.{AreOutputs, AreStored, GivesSingle, GiveSingles, IsSingleValue, IsStored, SendSingles, Sends, SendsAs, StandFrom, no_output, no_value, output_more, value_more}
 
 -- the number of a single value
 number-is : (v : Value) (z : ℤ) → IsSingleValue v → flat v ≡ z ∷ [] → number_of v ≡ z

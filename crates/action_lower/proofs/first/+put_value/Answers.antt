@@ -1,4 +1,4 @@
-use Rattle.std.proofs.Common.{◌≡◌, ◌∙◌, ◌++◌, ap, map, rules, subst, sym}
+use Rattle.std.proofs.Common.{◌≡◌, ◌∙◌, ◌++◌, ap, map, rules, sym}
 use Rattle.cal_model.specs.View.{in_order, value_view, values_view}
 use Rattle.cal_model.specs.declared.value.Value as values
 use Rattle.expr_lower.specs.Flat.{flat_all}

@@ -13,11 +13,11 @@ loop-x-preserved c =
 pub returns-clause-size : goal.returns-clause-size
 returns-clause-size c =
     let whole : c.loop-x.cells.items ≡ numbers_of_vars (start_of (actor_of c.args.b.now)).vars =
-        vars-all var_view c.deref-x-items.result.now c.loop-x.x-index c.loop-x.cells.items c.loop-x-test.false c.loop-x.invariant ∙ ap (λ xs. numbers_of_vars (first_vars (map var_view xs))) c.deref-x-items.ensures.value in
+    vars-all var_view c.deref-x-items.result.now c.loop-x.x-index c.loop-x.cells.items c.loop-x-test.false c.loop-x.invariant ∙ ap (λ xs. numbers_of_vars (first_vars (map var_view xs))) c.deref-x-items.ensures.value in
     first-size (actor_of c.args.b.now) c.loop-x.cells.items c.requires.sound whole
 
 pub returns-clause-hold : goal.returns-clause-hold
 returns-clause-hold c =
     let whole : c.loop-x.cells.items ≡ numbers_of_vars (start_of (actor_of c.args.b.now)).vars =
-        vars-all var_view c.deref-x-items.result.now c.loop-x.x-index c.loop-x.cells.items c.loop-x-test.false c.loop-x.invariant ∙ ap (λ xs. numbers_of_vars (first_vars (map var_view xs))) c.deref-x-items.ensures.value in
+    vars-all var_view c.deref-x-items.result.now c.loop-x.x-index c.loop-x.cells.items c.loop-x-test.false c.loop-x.invariant ∙ ap (λ xs. numbers_of_vars (first_vars (map var_view xs))) c.deref-x-items.ensures.value in
     first-hold (actor_of c.args.b.now) c.loop-x.cells.items c.requires.sound whole

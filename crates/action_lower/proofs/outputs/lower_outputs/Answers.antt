@@ -1,4 +1,4 @@
-use Rattle.std.proofs.Common.{◌≡◌, [], Err, ap, map, rules, subst, sym, take}
+use Rattle.std.proofs.Common.{◌≡◌, [], Err, map, rules, subst, sym, take}
 use Rattle.std.specs.Prelude.{IfErr}
 use Rattle.cal_model.specs.View.{output_view, port_view}
 use Rattle.std.proofs.lemmas.List.{take_all}
@@ -26,7 +26,7 @@ put_output-requires-clause-few c = few-at c.args.outputs.now c.output-item.resul
 pub returns-in_err-first-clause-fault : goal.returns-in_err-first-clause-fault
 returns-in_err-first-clause-fault c =
     let made = output-fault (names_view c.args.names.now) c.args.outputs.now c.output-item.result c.loop-output.output-index c.put_output.new.draft c.in_err-first.field-0.0
-        c.loop-output-test.true c.output-item.is c.loop-output.invariant.whole c.in_err-first.ensures.fault in
+    c.loop-output-test.true c.output-item.is c.loop-output.invariant.whole c.in_err-first.ensures.fault in
     let same : c.from_residual.result ≡ Err c.in_err-first.field-0.0 = search rules in
     subst (λ r. IfErr r (IsSendFault (left_out_outputs (names_view c.args.names.now) c.args.outputs.now) c.put_output.new.draft)) (sym same) made
 

@@ -1,4 +1,4 @@
-use Rattle.std.proofs.Common.{◌≡◌, ◌≤◌, ◌++◌, drop, length, map}
+use Rattle.std.proofs.Common.{◌≡◌, ◌≤◌, ◌++◌, drop, length}
 use Rattle.cal_model.specs.View.{pattern_view}
 use Rattle.expr_lower.specs.Names.{names_view}
 use Rattle.action_lower.specs.Seats.{pattern_seats_from}
