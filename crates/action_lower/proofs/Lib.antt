@@ -7,3 +7,4 @@ pub mod ActionAt
 pub mod Storing
 pub mod OutputCode
 pub mod FirstCells
+pub mod Declaring

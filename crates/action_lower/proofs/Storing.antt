@@ -45,13 +45,13 @@ module _ (names : List Name) (t : Scalar) (w : World) (env : Env) (stack : List 
     keeps : Keeps c m w.low w.high s.cells cells
     stand : StandFrom c (map (conv t) (numbers_of vs)) cells
 
-  record StoresOne (c m : ℕ) (s : State) (end : ℕ) (v : Value) (left : ℕ) : Type 0 where
-    cells : List ℤ
-    reaches : Reaches w.code w.tokens s (state end s.stack s.frames cells left)
-    keeps : Keeps c m w.low w.high s.cells cells
-    there : slice_get cells c ≡ Some (conv t (number_of v))
+  pub record StoresOne (c m : ℕ) (s : State) (end : ℕ) (v : Value) (left : ℕ) : Type 0 where
+    pub cells : List ℤ
+    pub reaches : Reaches w.code w.tokens s (state end s.stack s.frames cells left)
+    pub keeps : Keeps c m w.low w.high s.cells cells
+    pub there : slice_get cells c ≡ Some (conv t (number_of v))
 
-  one-stored : (e : Tree) (c base n m : ℕ) (part : List Instr) (cells : List ℤ) (left : ℕ) → IsStored names t e c base n part m → StandsAt w.code.instrs base part → c + 1 ≤ n → m ≤ length cells
+  pub one-stored : (e : Tree) (c base n m : ℕ) (part : List Instr) (cells : List ℤ) (left : ℕ) → IsStored names t e c base n part m → StandsAt w.code.instrs base part → c + 1 ≤ n → m ≤ length cells
       → Holds names w.tokens cells env → GivesSingle e w.calls env
       → Follows (eval e w.calls env left) (StoresOne c m (state base stack frames cells left) (base + length part)) (CutsOff w c m (state base stack frames cells left))
   one-stored e c base n m part cells left is stands le room holds single = go (eval e w.calls env left) (single left) (is.lowered.evaluates.goes w env stack frames cells left (stands_left w.code.instrs base is.body (op.Store c (Some t) ∷ []) there) apart holds)

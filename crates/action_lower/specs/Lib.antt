@@ -4,3 +4,4 @@ pub mod GuardWords
 pub mod Sending
 pub mod SendWords
 pub mod Laws
+pub mod Declaring
