@@ -1,5 +1,5 @@
 -- Code of locals does what declaring them does.
-use Rattle.std.proofs.Common.{◌≡◌, ℕ, zero, suc, ◌+◌, ◌<◌, ◌≤◌, ◌⊎◌, inl, inr, ⊎_elim, Bool, true, false, ℤ, pos, List, [], ◌∷◌, ◌++◌, length, refl, sym, ap, subst, ◌∙◌, Option, None, Some, arith, length-append}
+use Rattle.std.proofs.Common.{◌≡◌, ℕ, ◌+◌, ◌≤◌, inl, inr, ⊎_elim, Bool, true, false, ℤ, pos, List, [], ◌∷◌, ◌++◌, length, refl, sym, ap, subst, ◌∙◌, Option, None, Some, arith, length-append}
 use Rattle.std.specs.Prelude.{if◌then◌else◌, slice_get, slice_index_or, slice_set}
 use Rattle.std.specs.Str.{bytes_eq}
 use Rattle.std.proofs.lemmas.Option.{slice_get-get_or}
@@ -9,11 +9,11 @@ use Rattle.rvc_base.specs.declared.scalar.Scalar.TheVariants as scalar
 use Rattle.cal_ast.specs.Tree.{Tree}
 use Rattle.cal_model.specs.Actor.{Local}
 use Rattle.cal_model.specs.Call.{declared, first_value}
-use Rattle.cal_model.specs.Env.{Env, Var, find, variable, with_local}
+use Rattle.cal_model.specs.Env.{Env, find, variable, with_local}
 use Rattle.cal_model.specs.Expression.{eval}
 use Rattle.cal_model.specs.Firing.{number_of}
-use Rattle.cal_model.specs.Outcome.{Out, Gives, Traps, Lacks, Clashes, and_then}
-use Rattle.cal_model.specs.Value.{HasKind, Items, Num, Shape, Single, Truth, Value, kind_of_scalar, kind_of_type, of_number, scalars_of_type, stored, zero_of}
+use Rattle.cal_model.specs.Outcome.{Out, Gives, Traps, Lacks, Clashes}
+use Rattle.cal_model.specs.Value.{HasKind, Items, Num, Shape, Single, Truth, Value, kind_of_scalar, scalars_of_type, stored, zero_of}
 use Rattle.cal_model.proofs.KindValues.{zero-has-kind}
 use Rattle.code_ir.specs.declared.instr.Instr.{Instr}
 use Rattle.code_ir.specs.declared.instr.Instr.TheVariants as op
@@ -21,20 +21,19 @@ use Rattle.code_ir.specs.Effect.{Leaves}
 use Rattle.code_ir.specs.Running.{Reaches, State, after, go_on, here, step}
 use Rattle.expr_lower.specs.Flat.{flat}
 use Rattle.expr_lower.specs.Following.{CutsOff, Follows}
-use Rattle.expr_lower.specs.Held.{AllApart, AreApart, AreBelow, Holds, HoldsName, Keeps, SeatIsApart, SeatIsBelow, StandAt}
+use Rattle.expr_lower.specs.Held.{AllApart, AreApart, AreBelow, Holds, HoldsName, Keeps, SeatIsApart, SeatIsBelow}
 use Rattle.expr_lower.specs.Meant.{local}
 use Rattle.expr_lower.specs.Names.{Name, named}
 use Rattle.expr_lower.specs.Placed.{StandsAt, World, state}
-use Rattle.expr_lower.specs.declared.names.Seat.TheVariants.{Cell}
 use Rattle.expr_lower.proofs.Keeping.{below_more, holds_still, keeps_all, keeps_join, keeps_wider}
-use Rattle.expr_lower.proofs.Performing.{apart_first, apart_last}
+use Rattle.expr_lower.proofs.Performing.{apart_last}
 use Rattle.expr_lower.proofs.Runs.{ends_join, follows_both, follows_then, obeys, reaches_join, stands_left, stands_right}
 use Rattle.expr_lower.proofs.Scoping.{Written, written_keeps}
 use Rattle.expr_lower.proofs.Setting.{stand_one}
 use Rattle.expr_lower.proofs.Singles.{kind_single}
 use Rattle.expr_lower.proofs.Storing.{set_there, set_written, single_stored, store_leaves}
 use Rattle.action_lower.specs.Declaring.{AreDeclared, Declares, DeclaresAs, IsFirst, StartFits, StartsFit, at_start, at_zero, local_more, no_local}
-use Rattle.action_lower.specs.Sending.{IsSingleValue, IsStored}
+use Rattle.action_lower.specs.Sending.{IsSingleValue}
 use Rattle.action_lower.proofs.Storing.{StoresOne, one-stored}
 
 -- a value of a kind of single values is its number
@@ -85,13 +84,15 @@ module _ (w : World) (stack : List ℤ) (frames : List ℕ) where
       → (c + 1 ≤ m) × Follows (first_value (Single t) start w.calls env left) (First t c m (state base stack frames cells left) (base + length part)) (CutsOff w c m (state base stack frames cells left))
   first-stored names t env _ c base m _ cells left apart (at_zero _ _ _) stands room holds size fits =
       (omega arith, zero-stored t c base (c + 1) cells left stands (omega arith) room size)
-  first-stored names t env _ c base m part cells left apart (at_start e _ _ _ _ _ is) stands room holds size fits =
-      (is.lowered.cells, follows_then (eval e w.calls env left) (λ v k. Gives (stored (Single t) v) k)
-      (λ v j. StoresOne names t w env stack frames apart c m s (base + length part) v j × HasKind (kind_of_scalar t) v) (λ cause. CutsOff w c m s cause × Unit {0})
-      (First t c m s (base + length part)) (CutsOff w c m s)
-      (follows_both (eval e w.calls env left) (StoresOne names t w env stack frames apart c m s (base + length part)) (CutsOff w c m s) (λ v j. HasKind (kind_of_scalar t) v) (λ cause. Unit {0})
-      (one-stored names t w env stack frames apart e c base (c + 1) m part cells left is stands (omega arith) room holds single) (fits left))
-      (λ v j p. made v j p.0 p.1) (λ cause p. p.0))
+  first-stored names t env _ c base m part cells left apart (at_start e _ _ _ _ _ is) stands room holds size fits = (
+    is.lowered.cells,
+    follows_then (eval e w.calls env left) (λ v k. Gives (stored (Single t) v) k)
+        (λ v j. StoresOne names t w env stack frames apart c m s (base + length part) v j × HasKind (kind_of_scalar t) v) (λ cause. CutsOff w c m s cause × Unit {0})
+        (First t c m s (base + length part)) (CutsOff w c m s)
+        (follows_both (eval e w.calls env left) (StoresOne names t w env stack frames apart c m s (base + length part)) (CutsOff w c m s) (λ v j. HasKind (kind_of_scalar t) v) (λ cause. Unit {0})
+        (one-stored names t w env stack frames apart e c base (c + 1) m part cells left is stands (omega arith) room holds single) (fits left))
+        (λ v j p. made v j p.0 p.1) (λ cause p. p.0),
+  )
     where
       s : State
       s = state base stack frames cells left

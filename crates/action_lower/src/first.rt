@@ -8,7 +8,7 @@ ghost use Rattle.expr_lower.specs.Flat.{flat, flat_all};
 ghost use Rattle.action_lower.specs.Seats.{HoldVars, numbers_of_vars, state_cells};
 
 use cal_model::{Bound, Value, Values};
-use rvc_base::Num;
+use rvc_base::{Memory, Num};
 use std::alloc::{AllocError, Global};
 
 /// What the state cells of an actor hold at first: the values of its variables, one after the other and scalar by
@@ -16,8 +16,8 @@ use std::alloc::{AllocError, Global};
 ///
 /// # Errors
 ///
-/// Memory runs out.
-pub fn first_cells(alloc: Global, b: &Bound) -> Result<Vec<Num>, AllocError>
+/// `Memory` if memory runs out.
+pub fn first_cells(alloc: Global, b: &Bound) -> Result<Vec<Num>, Memory>
     requires sound { IsSound (actor_of b.now) }
     ensures numbers { IfOk result
         (λ cells. cells.items ≡ numbers_of_vars (start_of (actor_of b.now)).vars) }

@@ -1,4 +1,5 @@
-//! Actions as code: the guards of an action become code that answers as they do.
+//! Actions as code: the guards of an action become code that answers as they do, and its outputs of single values
+//! code that leaves the tokens that they send.
 //!
 //! A name that an action sees stands for a value in cells or tokens. The actor's variables stand in its state cells,
 //! from cell 0 on, one after the other and scalar by scalar. A pattern variable stands in the tokens of its port: that
