@@ -1,0 +1,79 @@
+-- Code of guards, and what it answers.
+-- Trusted: part of what a promise means.
+use Rattle.std.specs.Prelude.{◌≡◌, ℕ, ◌+◌, ℤ, true, List, [], ◌∷◌, ◌++◌, length, take, if◌then◌else◌, Option, None, Some}
+use Rattle.rvc_base.specs.Turns.{max_turns}
+use Rattle.cal_ast.specs.Tree.{Tree}
+use Rattle.cal_model.specs.Value.{Value, Num, Truth, Items}
+use Rattle.cal_model.specs.Outcome.{Out, Gives, Traps, Lacks, Clashes}
+use Rattle.cal_model.specs.Expression.{eval}
+use Rattle.cal_model.specs.Call.{calls_of}
+use Rattle.cal_model.specs.Actor.{Action, Actor}
+use Rattle.cal_model.specs.ActorState.{IsActorState, AreTokensOf}
+use Rattle.cal_model.specs.Selection.{State, has_its_tokens, seen_by}
+use Rattle.code_ir.specs.declared.instr.Instr.{Instr}
+use Rattle.code_ir.specs.declared.instr.Instr.TheVariants as op
+use Rattle.code_ir.specs.declared.outcome.Outcome.{Outcome}
+use Rattle.code_ir.specs.declared.outcome.Outcome.TheVariants as outcome
+use Rattle.code_ir.specs.Code.{Code}
+use Rattle.code_ir.specs.Running.{runs}
+use Rattle.expr_lower.specs.Names.{Name}
+use Rattle.expr_lower.specs.Lowered.{IsLowered}
+use Rattle.action_lower.specs.Seats.{HoldVars, state_cells, taken}
+
+-- ---- code
+
+-- code of a guard: that of its expression, and an answer
+pub record IsGuardCode (names : List Name) (g : Tree) (base n : ℕ) (code : List Instr) (m : ℕ) :
+    Type 0 where
+  pub body : List Instr
+  pub is : code ≡ body ++ op.Answer ∷ []
+  pub lowered : IsLowered names g base n body m
+
+-- code of guards, one after the other, and the entries of each, where its code begins
+pub data AreGuards (names : List Name) :
+    List Tree → List ℕ → ℕ → ℕ → List Instr → ℕ → Type 0 where
+  no_guard : (base n : ℕ) → AreGuards names [] [] base n [] n
+  guard_more : (g : Tree) (guards : List Tree) (entries : List ℕ) (base n k m : ℕ)
+      (a b : List Instr) → IsGuardCode names g base n a k
+      → AreGuards names guards entries (base + length a) k b m
+      → AreGuards names (g ∷ guards) (base ∷ entries) base n (a ++ b) m
+
+-- ---- answers
+
+-- how a run of a guard's code ends if this is what the guard comes to: a guard is a truth value, or traps
+abbrev pub guard_outcome : Out Value → Option Outcome
+guard_outcome (Gives (Truth b) left) = Some (if b then outcome.True else outcome.False)
+guard_outcome (Gives (Num z) left) = None
+guard_outcome (Gives (Items vs) left) = None
+guard_outcome (Traps cause) = Some (outcome.Trap cause)
+guard_outcome Lacks = None
+guard_outcome Clashes = None
+
+-- The code that begins at an entry, run on these cells and tokens, ends as the guard says, and in no other way. The
+-- state cells stay as they were.
+pub record AnswersAs (code : Code) (entry kept : ℕ) (cells : List ℤ) (tokens : ℕ → List ℤ) (says : Out Value) : Type 0 where
+  pub outcome : Outcome
+  pub said : guard_outcome says ≡ Some outcome
+  pub left : List ℤ
+  pub ends : runs code entry cells tokens outcome left
+  pub size : length left ≡ length cells
+  pub keeps : take kept left ≡ take kept cells
+  pub only : (o : Outcome) (last : List ℤ) → runs code entry cells tokens o last
+      → (o ≡ outcome) × (last ≡ left)
+
+-- The code that begins at an entry answers as a guard of an action: in each state of the actor, whose variables the
+-- state cells hold, over the tokens that the action takes of those before it.
+abbrev pub IsGuardOf : Actor → ℕ → Action → Code → Tree → ℕ → Type 0
+IsGuardOf actor a act code g entry =
+    (x : State) (u : List (List ℤ)) (cells : List ℤ)
+    → IsActorState actor x → AreTokensOf actor u → has_its_tokens actor u a ≡ true
+    → HoldVars actor x cells
+    → AnswersAs code entry (state_cells actor) cells (taken actor u a)
+    (eval g (calls_of actor.funs) (seen_by actor x u act) max_turns)
+
+-- guard by guard
+abbrev pub AreGuardsOf : Actor → ℕ → Action → Code → List Tree → List ℕ → Type 0
+AreGuardsOf actor a act code [] [] = Unit {0}
+AreGuardsOf actor a act code (g ∷ guards) (entry ∷ entries) =
+    IsGuardOf actor a act code g entry × AreGuardsOf actor a act code guards entries
+AreGuardsOf actor a act code guards entries = ⊥

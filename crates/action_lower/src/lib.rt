@@ -1,0 +1,19 @@
+//! Actions as code: the guards of an action become code that answers as they do, and its outputs of single values
+//! code that leaves the tokens that they send.
+//!
+//! A name that an action sees stands for a value in cells or tokens. The actor's variables stand in its state cells,
+//! from cell 0 on, one after the other and scalar by scalar. A pattern variable stands in the tokens of its port: that
+//! at its place among the names of the pattern and, if the pattern is repeated, each further one as many places behind
+//! as there are names.
+#![tactic(auto)]
+
+mod first;
+mod guards;
+pub mod laws;
+mod outputs;
+mod seats;
+mod shapes;
+
+pub use first::first_cells;
+pub use guards::lower_guards;
+pub use outputs::lower_outputs;
