@@ -1,6 +1,6 @@
 //! Input links are filled from their feeds.
 
-ghost use Rattle.std.specs.Prelude.{◌≡◌, ◌≤◌, ◌<◌, true, IfSome, OnErr, is_some, length, map, slice_get};
+ghost use Rattle.std.specs.Prelude.{◌≡◌, ◌≤◌, ◌<◌, true, IfNone, IfSome, OnErr, is_some, length, map, slice_get};
 ghost use Rattle.rvc_io.specs.Feeds.{PullsOnly, ReadFails};
 ghost use Rattle.port_files.specs.Coming.{EndIsTrue};
 ghost use Rattle.net_state.specs.Filling.{IsInputLink};
@@ -96,6 +96,7 @@ fn fill_one<A: Firing, F: Feeds>(
 
     // What stays.
     ensures still_there { is_some reader.new ≡ is_some reader.old }
+    ensures unread { IfNone reader.old (F.feeds feeds.new ≡ F.feeds feeds.old) }
     ensures elsewhere { PullsOnly F.feeds feeds.old feeds.new feed }
     ensures same_actors { SameActors (map A.cell net.old.cells) (map A.cell net.new.cells) }
     ensures same_marks { SameMarks (map A.cell net.old.cells) (map A.cell net.new.cells) }
