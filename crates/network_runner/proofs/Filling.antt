@@ -346,7 +346,7 @@ module _ (links : List Link) (readings : List (Option Reading)) (fo fn : Inputs)
 
 -- All links.
 
-marks_then : {X : Type 0} (a b c : List (Cell X)) → length b ≡ length a → SameMarks a b → SameMarks b c → SameMarks a c
+pub marks_then : {X : Type 0} (a b c : List (Cell X)) → length b ≡ length a → SameMarks a b → SameMarks b c → SameMarks a c
 marks_then a b c count first second = λ i before after was is.
     let mid = there_too a b i before (sym count) was in
     second i mid.0 after mid.1 is ∙ first i before mid.0 was mid.1
