@@ -1,3 +1,5 @@
 pub mod One
 pub mod Filling
 pub mod Delivered
+pub mod Sent
+pub mod Closed

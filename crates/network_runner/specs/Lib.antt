@@ -1,2 +1,4 @@
 pub mod Filling
 pub mod Delivering
+pub mod Sending
+pub mod Closing
