@@ -3,3 +3,5 @@ pub mod Filling
 pub mod Delivered
 pub mod Sent
 pub mod Closed
+pub mod Trapped
+pub mod Rounded

@@ -2,3 +2,4 @@ pub mod Filling
 pub mod Delivering
 pub mod Sending
 pub mod Closing
+pub mod Rounding

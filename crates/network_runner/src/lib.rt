@@ -4,9 +4,11 @@
 mod closing;
 mod delivering;
 mod feeding;
+mod firing;
 mod sending;
 
 pub use closing::close_idle;
 pub use delivering::deliver_all;
 pub use feeding::{ReadFault, fill_all};
+pub use firing::{Turn, fire_round};
 pub use sending::{Outlet, WriteFault, send_all};
