@@ -5,3 +5,4 @@ pub mod Sent
 pub mod Closed
 pub mod Trapped
 pub mod Rounded
+pub mod Growable
