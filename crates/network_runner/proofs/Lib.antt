@@ -6,3 +6,5 @@ pub mod Closed
 pub mod Trapped
 pub mod Rounded
 pub mod Growable
+pub mod Lines
+pub mod Spent

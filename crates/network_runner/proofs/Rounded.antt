@@ -27,6 +27,7 @@ use Rattle.round_runner.specs.declared.outcome.RoundEnd.TheVariants as round
 use Rattle.round_runner.specs.declared.outcome.RunEnd.TheVariants as end
 use Rattle.round_runner.specs.Bursting.{Bursted, Fires, Idle, Sees, shares, trap_line}
 use Rattle.round_runner.specs.Choosing.{marked}
+use Rattle.round_runner.specs.Firings.{journals}
 use Rattle.round_runner.specs.Rounds.{Answers}
 use Rattle.network_runner.specs.declared.firing.Turn.{Turn}
 use Rattle.network_runner.specs.Closing.{AnswersTo, IsClosedIdle}
@@ -66,6 +67,14 @@ all_true (x ∷ xs) = ap (λ bs. true ∷ bs) (all_true xs)
 
 pub picked_is : {X : Type 0} (net : Network X) (kind : RoundKind) (budget : ℕ) (turn : Turn) (s : State X) → marked kind (length net.leaves) turn.round turn.idle ≡ picked net (pace_by kind budget turn) (moment_by turn s)
 picked_is net kind budget turn s = ap (λ all. if turn.idle || none_of (picks kind (length net.leaves) turn.round) then all else picks kind (length net.leaves) turn.round) (all_true net.leaves)
+
+-- the journals of cells, by place
+journals_are : {X : Type 0} (cells : List (Cell X)) (bursts : List (List ℕ)) → length cells ≡ length bursts → ((i : ℕ) → journal_of (slice_get cells i) ≡ slice_index_or bursts i []) → journals cells ≡ bursts
+journals_are [] [] same each = refl
+journals_are [] (actions ∷ bursts) same each = absurd (omega (arith, same))
+journals_are (cell ∷ cells) [] same each = absurd (omega (arith, same))
+journals_are (cell ∷ cells) (actions ∷ bursts) same each =
+    ap (λ a. a ∷ journals cells) (each 0) ∙ ap (λ bs. actions ∷ bs) (journals_are cells bursts (omega (arith, same)) (λ i. each (suc i)))
 
 -- what is answered for a close
 pub goes_on_so : {X : Type 0} (net : Network X) (grow : ℕ) (s : State X) (answer : RoundEnd) (bursts : List (List ℕ)) (close : Close) → ClosesIdle net grow s close → AnswersTo answer close
@@ -137,7 +146,7 @@ module _ {X : Type 0} (net : Network X) (s : State X) (kind : RoundKind) (budget
     stands = stands;
     flows_are = flows_are;
     untrapped = same;
-    noted = λ i. ap (λ cells. journal_of (slice_get cells i)) closed.same_cells ∙ bursted.noted i;
+    noted = ap journals closed.same_cells ∙ journals_are mid.cells bursted.bursts (bursted.same_actors.count ∙ (sym as_many ∙ sym bursted.count)) bursted.noted;
   }
 
   none_trapped : trap ≡ None → first_trap 0 bursted.halts ≡ None

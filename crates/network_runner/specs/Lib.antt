@@ -3,3 +3,5 @@ pub mod Delivering
 pub mod Sending
 pub mod Closing
 pub mod Rounding
+pub mod Noting
+pub mod Spending

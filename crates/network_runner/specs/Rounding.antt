@@ -1,6 +1,6 @@
 -- What the firings of a round do to the network, and how the round is closed.
 -- Trusted: part of what a promise means.
-use Rattle.std.specs.Prelude.{◌≡◌, ℕ, ◌<◌, Bool, true, false, List, [], slice_get, slice_index_or, Option, None, Some}
+use Rattle.std.specs.Prelude.{◌≡◌, ℕ, ◌<◌, Bool, true, false, List, slice_get, Option, None, Some}
 use Rattle.rvc_base.specs.declared.round_kind.RoundKind.{RoundKind}
 use Rattle.net_model.specs.declared.wiring.Link.{Link}
 use Rattle.net_model.specs.Network.{Network}
@@ -13,13 +13,14 @@ use Rattle.net_model.specs.Wired.{IsWired}
 use Rattle.net_state.specs.Held.{Held, IsReader}
 use Rattle.net_state.specs.Moving.{IsWriter}
 use Rattle.net_state.specs.Standing.{StandsSince}
-use Rattle.net_state.specs.Working.{AreFed, CanHold, IsAtRest, LacksAt, journal_of}
+use Rattle.net_state.specs.Working.{AreFed, CanHold, IsAtRest, LacksAt}
 use Rattle.round_runner.specs.declared.bursting.Lacking.{Lacking}
 use Rattle.round_runner.specs.declared.bursting.Trapped.{Trapped}
 use Rattle.round_runner.specs.declared.outcome.RoundEnd.{RoundEnd}
 use Rattle.round_runner.specs.declared.outcome.RoundEnd.TheVariants as round
 use Rattle.round_runner.specs.declared.outcome.RunEnd.TheVariants as end
 use Rattle.round_runner.specs.Bursting.{NamesIts}
+use Rattle.round_runner.specs.Firings.{journals}
 use Rattle.round_runner.specs.Rounds.{Answers}
 use Rattle.network_runner.specs.declared.firing.Turn.{Turn}
 use Rattle.network_runner.specs.Closing.{ClosesAllIdle, MayGrow}
@@ -70,7 +71,7 @@ pub record IsRoundMade {X : Type 0} (net : Network X) (pace : Pace) (at : Moment
   pub stands : StandsSince net held (after_delivery net at.state) kept
   pub flows_are : last.flows ≡ kept.flows
   pub untrapped : last.trapped ≡ false → last ≡ kept
-  pub noted : (i : ℕ) → journal_of (slice_get held.cells i) ≡ slice_index_or block.bursts i []
+  pub noted : journals held.cells ≡ block.bursts
 
 -- .. from each moment of a wired network of lawful actors whose round's delivery was made
 abbrev pub MakesRound : {X : Type 0} → RoundKind → Turn → RoundEnd → Held (Cell X) → Held (Cell X)
