@@ -1,23 +1,22 @@
 -- How a round that fired nothing is closed.
-use Rattle.std.proofs.Common.{◌≡◌, ℕ, zero, suc, ◌+◌, ◌*◌, ◌-◌, ◌<◌, ◌≤◌, min, Bool, true, false, List, [], ◌∷◌, length, refl, sym, ap, subst, ◌∙◌, arith}
-use Rattle.std.specs.Prelude.{◌↔◌, Option, None, Some, slice_get, slice_index_or}
+use Rattle.std.proofs.Common.{◌≡◌, ℕ, zero, suc, ◌*◌, ◌-◌, ◌<◌, ◌≤◌, min, false, List, [], ◌∷◌, length, refl, sym, ap, subst, ◌∙◌, arith}
+use Rattle.std.specs.Prelude.{Option, None, Some, slice_get, slice_index_or}
 use Rattle.std.proofs.lemmas.Option.{slice_get_within}
 use Rattle.rvc_base.specs.declared.ids.InstId.{InstId}
 use Rattle.rvc_base.specs.declared.ids.ActId.{ActId}
 use Rattle.rvc_base.specs.declared.ids.LinkId.{LinkId}
-use Rattle.trace_text.specs.declared.line.Line.{Line}
-use Rattle.trace_text.specs.declared.line.Line.TheVariants.{Grow as GrowLine, Quiet, Stall}
+use Rattle.trace_text.specs.declared.line.Line.TheVariants.{Quiet, Stall}
 use Rattle.net_model.specs.declared.firing.Look.TheVariants as look
 use Rattle.net_model.specs.declared.wiring.Link.{Link}
 use Rattle.net_model.specs.Network.{Network, is_input}
 use Rattle.net_model.specs.State.{Flow, State, capacity_at, capacity_of}
 use Rattle.net_model.specs.Event.{and_then}
-use Rattle.net_model.specs.Trace.{OnNext, goes, grown, played}
-use Rattle.net_model.specs.Ends.{AllArrived, Grows, IsQuiet, IsSettled, IsStalled, IsStuck, LacksRoom, all_fed}
-use Rattle.net_model.specs.Paced.{Close, ClosesIdle, Ends, Widens, close_lines}
+use Rattle.net_model.specs.Trace.{OnNext, grown}
+use Rattle.net_model.specs.Ends.{AllArrived, Grows, IsSettled, IsStalled, IsStuck, LacksRoom, all_fed}
+use Rattle.net_model.specs.Paced.{Ends, Widens}
 use Rattle.net_model.specs.Cell.{Cell}
 use Rattle.net_state.specs.Held.{Held}
-use Rattle.net_state.specs.Standing.{IsHeld, IsOpened, StandsIn, StandsSince}
+use Rattle.net_state.specs.Standing.{StandsIn, StandsSince}
 use Rattle.net_state.specs.Surveyed.{LacksFirst}
 use Rattle.net_state.specs.Working.{GrewTo, IsLowestLacking, LacksAsEnds, LacksAt, LacksOnLink, LooksFed}
 use Rattle.net_state.proofs.Gaining.{there_too}

@@ -1,6 +1,6 @@
 -- A delivery of links inside and of input links is a delivery.
-use Rattle.std.proofs.Common.{◌≡◌, ℕ, zero, suc, Bool, true, false, List, [], ◌∷◌, length, refl, sym, ap, subst, ◌∙◌, arith}
-use Rattle.std.specs.Prelude.{Option, None, Some, Result, Ok, Err, OnOk, slice_get, if◌then◌else◌}
+use Rattle.std.proofs.Common.{◌≡◌, ℕ, zero, suc, true, false, List, [], ◌∷◌, refl, sym, ap, subst, ◌∙◌}
+use Rattle.std.specs.Prelude.{Option, None, Some, Result, Ok, Err, OnOk, slice_get}
 use Rattle.rvc_io.specs.Feeds.{Inputs}
 use Rattle.port_files.specs.Coming.{Reading}
 use Rattle.net_model.specs.declared.wiring.Link.{Link}
@@ -9,14 +9,13 @@ use Rattle.net_model.specs.State.{Flow, State}
 use Rattle.net_model.specs.Event.{each_flow}
 use Rattle.net_model.specs.Trace.{after_delivery, delivered}
 use Rattle.net_model.specs.Cell.{Cell}
-use Rattle.net_model.proofs.Arriving.{each_get}
 use Rattle.net_state.specs.declared.filling.Filled.{Filled}
 use Rattle.net_state.specs.Held.{Held}
-use Rattle.net_state.specs.Standing.{LeadInside, StandsIn, StandsSince, after_inside, inside_delivered, unarrived}
+use Rattle.net_state.specs.Standing.{LeadInside, StandsSince, after_inside, inside_delivered, unarrived}
 use Rattle.net_state.specs.Working.{AreFed, IsAtRest}
 use Rattle.net_state.proofs.Coming.{by_bool, if_true, if_false}
 use Rattle.round_runner.specs.Running.{feed_of}
-use Rattle.network_runner.specs.Delivering.{Delivers, IsDelivered}
+use Rattle.network_runner.specs.Delivering.{Delivers}
 use Rattle.network_runner.specs.Filling.{AreFedBy, CameOn, ComesBy, Fills, IsFilled, after_inputs, input_delivered}
 
 both_ways : (link : Link) (flow : Flow) → input_delivered link (inside_delivered link flow) ≡ delivered link flow
@@ -73,7 +72,7 @@ delivers {X} old mid new before after fo fn came inside rest fills = record {
   states = λ net s stands wired fed.
       let opened : StandsSince net mid (after_inside net s) (after_inside net s) = inside net s stands in
       let fed_mid : AreFedBy net (after_inside net s) before fo = λ l link at input.
-          comes_as s (after_inside net s) l (feed_of net.links l) link (slice_get before l) fo (inside_same net s l link at input) (fed l link at input) in
+      comes_as s (after_inside net s) l (feed_of net.links l) link (slice_get before l) fo (inside_same net s l link at input) (fed l link at input) in
       let filled : IsFilled net (after_inside net s) new after fn came = fills.states net (after_inside net s) opened wired fed_mid in
       let is : after_inputs net (after_inside net s) ≡ after_delivery net s = delivery_is net s in
       record {

@@ -1,21 +1,19 @@
 -- How far the input links were filled.
-use Rattle.std.proofs.Common.{◌≡◌, ◌≢◌, ℕ, zero, suc, ◌+◌, ◌-◌, ◌<◌, ◌≤◌, ◌⊎◌, Bool, true, false, List, [], ◌∷◌, length, take, refl, sym, ap, subst, ◌∙◌, ⊎_elim, inl, inr, arith}
+use Rattle.std.proofs.Common.{◌≡◌, ◌≢◌, ℕ, zero, suc, ◌+◌, ◌-◌, ◌<◌, ◌≤◌, true, List, [], ◌∷◌, length, take, refl, sym, ap, subst, ◌∙◌, ⊎_elim, arith}
 use Rattle.std.specs.Prelude.{Option, None, Some, IfNone, IfSome, is_some, slice_get, slice_index_or, slice_set, if◌then◌else◌}
 use Rattle.std.proofs.lemmas.Bool.{cases_eq, cases_lt}
 use Rattle.std.proofs.lemmas.List.{length-set}
 use Rattle.std.proofs.lemmas.Option.{slice_get-get_or, slice_get_within}
 use Rattle.rvc_io.specs.Feeds.{Inputs, PullsOnlyAt}
 use Rattle.port_files.specs.Coming.{EndIsTrue, Reading, coming}
-use Rattle.rvc_base.specs.Storing.{conv}
 use Rattle.net_model.specs.declared.wiring.Link.{Link}
 use Rattle.net_model.specs.Network.{Network, is_input}
-use Rattle.net_model.specs.State.{Flow, State, untaken}
+use Rattle.net_model.specs.State.{Flow, State}
 use Rattle.net_model.specs.Event.{each_flow}
-use Rattle.net_model.specs.Trace.{arrivals}
 use Rattle.net_model.specs.Cell.{Cell, IsSameActor}
 use Rattle.net_model.specs.Wired.{IsWired}
 use Rattle.net_state.specs.declared.filling.Filled.{Filled}
-use Rattle.net_state.specs.Filling.{AreToCome, IsFed, IsInputLink, inflow}
+use Rattle.net_state.specs.Filling.{AreToCome, IsInputLink}
 use Rattle.net_state.specs.Held.{Held}
 use Rattle.net_state.specs.Moving.{SameActors, SameMarks}
 use Rattle.net_state.specs.Standing.{StandsSince, unarrived}
@@ -24,7 +22,7 @@ use Rattle.net_state.proofs.Gaining.{get_set_other, get_set_same, same_actor, so
 use Rattle.net_state.proofs.Coming.{by_bool, if_true, if_false}
 use Rattle.net_state.proofs.Kept.{same_then}
 use Rattle.round_runner.specs.Running.{count_inputs, feed_of}
-use Rattle.network_runner.specs.Filling.{AreFedBy, CameOn, ComesBy, ComesNow, Fills, FillsOne, IsFilled, IsFilledOn, IsFullOrAll, ReadersFit, SameOpen, after_inputs, input_delivered, next_feed, with_flow}
+use Rattle.network_runner.specs.Filling.{AreFedBy, CameOn, ComesBy, ComesNow, Fills, FillsOne, IsFilledOn, IsFullOrAll, ReadersFit, SameOpen, after_inputs, input_delivered, next_feed, with_flow}
 
 -- Feeds are numbered upward.
 
@@ -37,7 +35,7 @@ count_more (head ∷ links) (suc l) link at = by_bool (is_input head)
     let here : count_inputs (take (suc (suc l)) (head ∷ links)) ≡ suc (count_inputs (take (suc l) links)) = if_true (is_input head) _ _ yes in
     let there : count_inputs (take (suc l) (head ∷ links)) ≡ suc (count_inputs (take l links)) = if_true (is_input head) _ _ yes in
     here ∙ (ap suc (count_more links l link at) ∙ (by_bool (is_input link)
-    (λ in_ . ap suc (if_true (is_input link) _ _ in_) ∙ (sym (if_true (is_input link) _ _ in_) ∙ ap (λ n. if is_input link then suc n else n) (sym there)))
+    (λ in_. ap suc (if_true (is_input link) _ _ in_) ∙ (sym (if_true (is_input link) _ _ in_) ∙ ap (λ n. if is_input link then suc n else n) (sym there)))
     (λ out. ap suc (if_false (is_input link) _ _ out) ∙ (sym (if_false (is_input link) _ _ out) ∙ ap (λ n. if is_input link then suc n else n) (sym there))))))
     (λ no.
     let here : count_inputs (take (suc (suc l)) (head ∷ links)) ≡ count_inputs (take (suc l) links) = if_false (is_input head) _ _ no in
@@ -424,25 +422,25 @@ module _ {X : Type 0} (l feed : ℕ) (links : List Link) (old now new : Held (Ce
           let link = slice_index_or links l d in
           let at : slice_get links l ≡ Some link = at_place links l d link low refl in
           record {
-        feed_is = next_is ∙ (ap (λ f. next_feed f link) so_far.feed_is ∙ (sym (feed_next links l link at) ∙ ap (feed_of links) (let e : suc l ≡ l + 1 = omega arith in e)));
-        states = λ net s stands wired fed.
-            let links_of_net : net.links ≡ links = stands.now.is_of.links_are ∙ sym links_is in
-            let whole : length s.flows ≡ length net.links = stands.now.stands.flows.count in
-            let flow = some_at s.flows l (subst (λ n. l < n) (sym (whole ∙ ap (λ ls. length ls) links_of_net)) low) in
-            let low_came : l < length came = subst (λ n. l < n) (sym (so_far.as_many ∙ as_many)) low in
-            subst (λ n. IsFillingOf net s n new (slice_set readings l after) fn (slice_set came l filled)) (let e : suc l ≡ l + 1 = omega arith in e)
-            (filling_next links readings feeds fn so_far.fit l feed link reader after at there so_far.feed_is still ends unread pulls now new filled fills came low_came
-            net s links_of_net flow.0 flow.1 wired (so_far.states net s stands wired fed));
-        rests = λ rest. fills.rests (so_far.rests rest);
-        fit = fit_after;
-        same_open = open_after;
-        as_many = length-set came l filled ∙ so_far.as_many;
-        actors = actors_after;
-        marks = marks_after;
-        links_are = same_links ∙ so_far.links_are;
-        capacities = same_capacities ∙ so_far.capacities;
-        waited = same_waited ∙ so_far.waited;
-      }
+            feed_is = next_is ∙ (ap (λ f. next_feed f link) so_far.feed_is ∙ (sym (feed_next links l link at) ∙ ap (feed_of links) (let e : suc l ≡ l + 1 = omega arith in e)));
+            states = λ net s stands wired fed.
+                let links_of_net : net.links ≡ links = stands.now.is_of.links_are ∙ sym links_is in
+                let whole : length s.flows ≡ length net.links = stands.now.stands.flows.count in
+                let flow = some_at s.flows l (subst (λ n. l < n) (sym (whole ∙ ap (λ ls. length ls) links_of_net)) low) in
+                let low_came : l < length came = subst (λ n. l < n) (sym (so_far.as_many ∙ as_many)) low in
+                subst (λ n. IsFillingOf net s n new (slice_set readings l after) fn (slice_set came l filled)) (let e : suc l ≡ l + 1 = omega arith in e)
+                (filling_next links readings feeds fn so_far.fit l feed link reader after at there so_far.feed_is still ends unread pulls now new filled fills came low_came
+                net s links_of_net flow.0 flow.1 wired (so_far.states net s stands wired fed));
+            rests = λ rest. fills.rests (so_far.rests rest);
+            fit = fit_after;
+            same_open = open_after;
+            as_many = length-set came l filled ∙ so_far.as_many;
+            actors = actors_after;
+            marks = marks_after;
+            links_are = same_links ∙ so_far.links_are;
+            capacities = same_capacities ∙ so_far.capacities;
+            waited = same_waited ∙ so_far.waited;
+          }
 
 none_beyond : {A : Type 0} (xs : List A) (k : ℕ) → length xs ≤ k → slice_get xs k ≡ None
 none_beyond [] k few = refl

@@ -1,5 +1,5 @@
 -- What links may grow to stays, as cells fire.
-use Rattle.std.proofs.Common.{◌≡◌, ℕ, ◌-◌, ◌<◌, List, length, refl, sym, ap, subst, ◌∙◌}
+use Rattle.std.proofs.Common.{◌≡◌, ℕ, ◌-◌, ◌<◌, List, refl, sym, ap, subst, ◌∙◌}
 use Rattle.std.specs.Prelude.{Option, None, Some, slice_get, slice_index_or}
 use Rattle.net_model.specs.declared.wiring.End.{End}
 use Rattle.net_model.specs.declared.wiring.End.TheVariants.{Leaf as AtLeaf, Net as AtNet}
@@ -7,7 +7,7 @@ use Rattle.net_model.specs.declared.wiring.Link.{Link}
 use Rattle.net_model.specs.Cell.{Cell}
 use Rattle.net_state.specs.Held.{Held}
 use Rattle.net_state.specs.Moving.{SameActors}
-use Rattle.net_state.specs.Working.{CanHold, LacksAt, LacksFrom, LacksOnLink, gives_of}
+use Rattle.net_state.specs.Working.{CanHold, LacksFrom, LacksOnLink, gives_of}
 use Rattle.net_state.proofs.Gaining.{there_too}
 use Rattle.net_state.proofs.Kept.{same_inbox, same_outbox}
 use Rattle.network_runner.specs.Closing.{MayGrow}

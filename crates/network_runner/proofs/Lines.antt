@@ -1,19 +1,18 @@
 -- The lines of a round, in three parts.
-use Rattle.std.proofs.Common.{◌≡◌, ℕ, true, List, [], ◌∷◌, ◌++◌, map, refl, sym, ap, subst, ◌∙◌, append_assoc, append-nil}
-use Rattle.std.specs.Prelude.{Option, None, Some, Result, Ok, Err, OnOk, OnErr, flat_map, option_to_list}
+use Rattle.std.proofs.Common.{◌≡◌, ℕ, List, ◌++◌, sym, ap, subst, ◌∙◌, append_assoc}
+use Rattle.std.specs.Prelude.{Result, Ok, Err, OnOk, OnErr, flat_map, option_to_list}
 use Rattle.std.proofs.lemmas.Grind.{flat_map-append}
 use Rattle.rvc_io.specs.Channels.{Channels, WritesOnlyAt}
-use Rattle.channel_writer.specs.Held.{AppendsFront, HoldsFront, Writes, WritesOn}
+use Rattle.channel_writer.specs.Held.{AppendsFront, HoldsFront, WritesOn}
 use Rattle.channel_writer.proofs.Chains.{breaks-then, front-longer, writes-then}
-use Rattle.trace_text.specs.declared.line.Line.{Line}
 use Rattle.trace_text.specs.declared.line.Line.TheVariants.{Deliver}
 use Rattle.trace_text.specs.Text.{line_text}
 use Rattle.net_model.specs.Cell.{Cell}
-use Rattle.net_model.specs.Paced.{Block, Close, Ends, GoesOn, Widens, close_lines, fire_lines, lines_of}
+use Rattle.net_model.specs.Paced.{Block, close_lines, fire_lines, lines_of}
 use Rattle.round_runner.specs.declared.outcome.RoundEnd.{RoundEnd}
 use Rattle.round_runner.specs.declared.outcome.RoundEnd.TheVariants as round
 use Rattle.round_runner.specs.Firings.{firings_text, journals}
-use Rattle.round_runner.specs.Rounds.{Answers, end_line, text_of}
+use Rattle.round_runner.specs.Rounds.{Answers, text_of}
 use Rattle.network_runner.specs.Noting.{close_text, closing_line}
 
 close_is : (answer : RoundEnd) (block : Block) → Answers answer block → close_lines block.close ≡ option_to_list (closing_line answer)

@@ -1,6 +1,6 @@
 -- One input link that is filled.
-use Rattle.std.proofs.Common.{◌≡◌, ◌≢◌, ℕ, ◌+◌, ◌-◌, ◌<◌, ◌≤◌, ◌⊎◌, min, Bool, true, false, List, [], ◌∷◌, ℤ, length, map, drop, refl, sym, ap, subst, ◌∙◌, ⊎_elim, inl, inr, arith, length-drop}
-use Rattle.std.specs.Prelude.{Result, Ok, Err, IfOk, Option, None, Some, slice_get, slice_set, slice_index_or, if◌then◌else◌}
+use Rattle.std.proofs.Common.{◌≡◌, ℕ, ◌+◌, ◌-◌, ◌<◌, ◌≤◌, min, true, false, List, [], ℤ, length, map, drop, refl, sym, ap, subst, ◌∙◌, ⊎_elim, inl, inr, arith, length-drop}
+use Rattle.std.specs.Prelude.{Option, None, Some, slice_get, slice_index_or, if◌then◌else◌}
 use Rattle.std.proofs.lemmas.List.{length-map}
 use Rattle.rvc_io.specs.Feeds.{Inputs}
 use Rattle.rvc_base.specs.declared.scalar.Scalar.{Scalar}
@@ -10,7 +10,7 @@ use Rattle.net_model.specs.declared.wiring.End.{End}
 use Rattle.net_model.specs.declared.wiring.End.TheVariants.{Leaf as AtLeaf, Net as AtNet}
 use Rattle.net_model.specs.declared.wiring.Link.{Link}
 use Rattle.net_model.specs.Network.{Leaf, Network, is_input, is_leaf_port, is_output}
-use Rattle.net_model.specs.State.{Flow, State, untaken, waiting}
+use Rattle.net_model.specs.State.{Flow, State, untaken}
 use Rattle.net_model.specs.Event.{after_arrival}
 use Rattle.net_model.specs.Trace.{arrivals, delivered}
 use Rattle.net_model.specs.Cell.{Cell}
@@ -28,7 +28,7 @@ use Rattle.net_state.proofs.Coming.{by_bool, if_true, if_false, is_own_port}
 use Rattle.net_state.proofs.Flows.{inbox_at, length_waiting}
 use Rattle.net_state.proofs.Firings.{leaf_of}
 use Rattle.net_state.proofs.Bursting.{set_same}
-use Rattle.network_runner.specs.Filling.{ComesNow, FillsOne, IsFilledOn, IsFullOrAll, input_delivered, with_flow}
+use Rattle.network_runner.specs.Filling.{ComesNow, FillsOne, IsFullOrAll, input_delivered, with_flow}
 
 -- Places.
 

@@ -1,5 +1,5 @@
 -- The firings of a round and what closes it make a round.
-use Rattle.std.proofs.Common.{◌≡◌, ℕ, zero, suc, ◌+◌, ◌<◌, ◌≤◌, Bool, true, false, List, [], ◌∷◌, length, map, replicate, refl, sym, ap, subst, ◌∙◌, ⊎_elim, arith}
+use Rattle.std.proofs.Common.{◌≡◌, ℕ, suc, ◌<◌, Bool, true, false, List, [], ◌∷◌, length, map, replicate, refl, sym, ap, subst, ◌∙◌, ⊎_elim, arith}
 use Rattle.std.specs.Prelude.{Option, None, Some, MatchBool, slice_get, slice_index_or, ◌&&◌, ◌||◌, ◌==◌, if◌then◌else◌}
 use Rattle.std.proofs.lemmas.Bool.{cases_lt, eq-eqb, eqb-true}
 use Rattle.std.proofs.lemmas.List.{length-map}
@@ -7,17 +7,17 @@ use Rattle.rvc_base.specs.declared.round_kind.RoundKind.{RoundKind}
 use Rattle.rvc_base.specs.Picks.{picks}
 use Rattle.trace_text.specs.declared.line.Line.{Line}
 use Rattle.trace_text.specs.declared.line.Line.TheVariants.{Trap as TrapLine}
-use Rattle.net_model.specs.Network.{Leaf, Network}
+use Rattle.net_model.specs.Network.{Network}
 use Rattle.net_model.specs.State.{State}
 use Rattle.net_model.specs.Event.{and_then}
 use Rattle.net_model.specs.Cell.{Cell}
-use Rattle.net_model.specs.Laws.{AreLawful, AreOrdered}
+use Rattle.net_model.specs.Laws.{AreLawful}
 use Rattle.net_model.specs.Trace.{after_delivery, played}
-use Rattle.net_model.specs.Paced.{AreBursts, Block, Close, Closes, ClosesBy, ClosesIdle, ClosesUntrapped, Ends, GoesOn, Halt, IsRound, Moment, Pace, Share, Widens, close_lines, count_of, count_picked, first_trap, none_of, picked, share_of}
+use Rattle.net_model.specs.Paced.{AreBursts, Close, ClosesBy, ClosesIdle, ClosesUntrapped, Ends, GoesOn, Moment, Pace, close_lines, count_of, count_picked, first_trap, none_of, picked, share_of}
 use Rattle.net_model.specs.Wired.{IsWired}
 use Rattle.net_state.specs.Held.{Held}
 use Rattle.net_state.specs.Standing.{StandsSince}
-use Rattle.net_state.specs.Working.{AreFed, IsAtRest, journal_of}
+use Rattle.net_state.specs.Working.{AreFed, journal_of}
 use Rattle.net_state.proofs.Coming.{by_bool}
 use Rattle.net_state.proofs.Gaining.{there_too}
 use Rattle.round_runner.specs.declared.bursting.Lacking.{Lacking}

@@ -1,20 +1,18 @@
 -- How far what was sent went out.
-use Rattle.std.proofs.Common.{◌≡◌, ◌≢◌, ℕ, zero, suc, ◌+◌, ◌<◌, ◌≤◌, Bool, true, false, List, [], ◌∷◌, ◌++◌, ℤ, length, map, take, drop, refl, sym, ap, subst, ◌∙◌, ⊎_elim, arith, append-nil, append_assoc}
-use Rattle.std.specs.Prelude.{Option, None, Some, Result, Ok, Err, OnOk, OnErr, flat_map, slice_get, slice_index_or, slice_set, if◌then◌else◌, ◌==◌}
+use Rattle.std.proofs.Common.{◌≡◌, ◌≢◌, ℕ, zero, suc, ◌+◌, ◌<◌, ◌≤◌, true, false, List, [], ◌∷◌, ◌++◌, ℤ, length, take, drop, refl, sym, ap, subst, ◌∙◌, ⊎_elim, arith, append-nil, append_assoc}
+use Rattle.std.specs.Prelude.{Some, Result, Ok, Err, OnErr, slice_get, slice_index_or, slice_set, ◌==◌}
 use Rattle.std.proofs.lemmas.Bool.{cases_eq, eq-eqb}
 use Rattle.std.proofs.lemmas.Grind.{flat_map-append}
-use Rattle.std.proofs.lemmas.List.{length-set}
 use Rattle.rvc_base.specs.declared.scalar.Scalar.{Scalar}
 use Rattle.rvc_io.specs.Channels.{Channels, WritesOnlyAt}
 use Rattle.channel_writer.specs.Held.{AppendsFront, HoldsFront, Writes, WritesOn}
 use Rattle.channel_writer.proofs.Chains.{writes-nothing, writes-then, breaks-then, front-longer}
-use Rattle.net_model.specs.declared.wiring.End.{End}
-use Rattle.net_model.specs.declared.wiring.End.TheVariants.{Leaf as AtLeaf, Net as AtNet}
+use Rattle.net_model.specs.declared.wiring.End.TheVariants.{Net as AtNet}
 use Rattle.net_model.specs.declared.wiring.Link.{Link}
 use Rattle.net_model.specs.Network.{is_net_port}
 use Rattle.net_model.specs.Cell.{Cell}
 use Rattle.net_state.specs.Moving.{carried}
-use Rattle.net_state.proofs.Coming.{by_bool, if_true, if_false}
+use Rattle.net_state.proofs.Coming.{if_true, if_false}
 use Rattle.net_state.proofs.Gaining.{not_eq, some_is}
 use Rattle.round_runner.specs.Sending.{stored, stored_bytes}
 use Rattle.network_runner.specs.declared.sending.Outlet.{Outlet}

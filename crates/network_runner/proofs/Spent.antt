@@ -1,26 +1,25 @@
 -- A round in which no firing is left.
-use Rattle.std.proofs.Common.{◌≡◌, ℕ, zero, suc, ◌+◌, ◌-◌, ◌<◌, ◌≤◌, ◌⊎◌, min, Bool, true, false, List, [], ◌∷◌, length, map, refl, sym, ap, subst, ◌∙◌, ⊎_elim, arith}
+use Rattle.std.proofs.Common.{◌≡◌, ℕ, suc, ◌-◌, ◌<◌, ◌≤◌, min, Bool, true, false, List, [], ◌∷◌, length, map, refl, sym, ap, subst, ◌∙◌, ⊎_elim, arith}
 use Rattle.std.specs.Prelude.{Option, None, Some, MatchBool, nat_le, slice_get, slice_index_or, if◌then◌else◌, ◌==◌, ◌||◌}
 use Rattle.std.specs.List.{range_with_len}
 use Rattle.std.proofs.lemmas.Bool.{cases_eq, cases_lt, eq-eqb, leb-true}
 use Rattle.std.proofs.lemmas.List.{length-map}
 use Rattle.std.proofs.lemmas.List.FromFn.{length-range_with_len}
 use Rattle.std.proofs.lemmas.Option.{slice_get_within}
-use Rattle.rvc_base.specs.Behaviour.{Effect, Fires, TrapsInBody, Waits, Picks}
+use Rattle.rvc_base.specs.Behaviour.{Effect, Waits, Picks}
 use Rattle.rvc_base.specs.Lawful.{IsLawful}
 use Rattle.rvc_base.specs.Picks.{is_picked, picks}
 use Rattle.rvc_base.specs.Shares.{allowed}
 use Rattle.rvc_base.specs.declared.round_kind.RoundKind.{RoundKind}
 use Rattle.trace_text.specs.declared.line.Line.{Line}
-use Rattle.trace_text.specs.declared.line.Line.TheVariants.{Quiet, Stall, Budget}
 use Rattle.net_model.specs.declared.wiring.Link.{Link}
 use Rattle.net_model.specs.Network.{Leaf, Network}
-use Rattle.net_model.specs.State.{State, capacity_at, capacity_of, choice_at, choice_of, effect_at, effect_of, give_of}
+use Rattle.net_model.specs.State.{State, capacity_at, capacity_of, choice_at, choice_of, effect_of, give_of}
 use Rattle.net_model.specs.Cell.{Cell}
 use Rattle.net_model.specs.Laws.{AreLawful}
 use Rattle.net_model.specs.Ends.{IsBetween, IsQuiet, IsSettled, IsStalled, IsStuck, LacksOn, LacksRoom, all_fed}
 use Rattle.net_model.specs.Trace.{after_delivery, played}
-use Rattle.net_model.specs.Paced.{AreBursts, Block, Close, ClosesSpent, Ends, Halt, Moment, Pace, Share, Spent, Unpicked, close_lines, count_picked, limit_of, none_of, picked, share_of}
+use Rattle.net_model.specs.Paced.{AreBursts, ClosesSpent, Ends, Halt, Moment, Pace, Spent, Unpicked, count_picked, limit_of, none_of, picked}
 use Rattle.net_state.specs.Held.{Held}
 use Rattle.net_state.specs.Moving.{SameActors}
 use Rattle.net_state.specs.Standing.{StandsIn, StandsSince}
@@ -30,12 +29,10 @@ use Rattle.net_state.proofs.Coming.{by_bool, if_false}
 use Rattle.net_state.proofs.Gaining.{there_too}
 use Rattle.round_runner.specs.declared.outcome.RoundEnd.TheVariants as round
 use Rattle.round_runner.specs.declared.outcome.RunEnd.{RunEnd}
-use Rattle.round_runner.specs.declared.outcome.RunEnd.TheVariants as end
 use Rattle.round_runner.specs.Firings.{journals}
 use Rattle.round_runner.specs.Rounds.{end_line}
 use Rattle.network_runner.specs.declared.firing.Turn.{Turn}
 use Rattle.network_runner.specs.Rounding.{IsRoundMade, moment_by, pace_by}
-use Rattle.network_runner.proofs.Closed.{settled_since}
 
 -- No firing is left.
 

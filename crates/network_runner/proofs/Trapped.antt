@@ -1,15 +1,14 @@
 -- A trap that was found in a round may happen at its end.
-use Rattle.std.proofs.Common.{◌≡◌, ◌≢◌, ℕ, zero, suc, ◌+◌, ◌-◌, ◌<◌, ◌≤◌, ◌⊎◌, Bool, true, false, List, [], ◌∷◌, length, refl, sym, ap, subst, ◌∙◌, ⊎_elim, inl, inr, arith}
+use Rattle.std.proofs.Common.{◌≡◌, ◌≢◌, ℕ, suc, ◌+◌, ◌-◌, ◌<◌, ◌⊎◌, Bool, true, false, List, [], ◌∷◌, length, refl, sym, ap, subst, ◌∙◌, ⊎_elim, inl, inr, arith}
 use Rattle.std.specs.Prelude.{Option, None, Some, slice_get, if◌then◌else◌, ◌==◌}
 use Rattle.std.proofs.lemmas.Bool.{eq-eqb}
 use Rattle.rvc_base.specs.declared.trap.Trap.{Trap as TrapName}
-use Rattle.rvc_base.specs.Behaviour.{Effect, Fires, TrapsInGuard, TrapsInBody, Waits, Picks, Faults}
+use Rattle.rvc_base.specs.Behaviour.{Effect, TrapsInGuard, TrapsInBody, Faults}
 use Rattle.rvc_base.specs.Lawful.{IsLawful}
-use Rattle.trace_text.specs.declared.line.Line.{Line}
 use Rattle.trace_text.specs.declared.line.Line.TheVariants.{Trap as TrapLine}
 use Rattle.net_model.specs.Network.{Leaf, Network}
-use Rattle.net_model.specs.State.{Flow, State, choice_at, choice_of, effect_at, effect_of, need_of}
-use Rattle.net_model.specs.Event.{Event, Fire, Trap, and_then, happens, number_of_trap, run, trap}
+use Rattle.net_model.specs.State.{State, choice_at, choice_of, effect_at, effect_of, need_of}
+use Rattle.net_model.specs.Event.{Fire, Trap, and_then, happens, number_of_trap, run, trap}
 use Rattle.net_model.specs.Laws.{AreLawful, AreOrdered}
 use Rattle.net_model.specs.Trace.{OnNext}
 use Rattle.net_model.specs.Paced.{AreBursts, HaltsAt, Halt, IsBurst, Share, Spent, TrapsIn, Trapping, Unpicked, Waiting, NoRoom, count_of, first_trap, limit_of}

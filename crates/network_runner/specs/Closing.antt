@@ -1,6 +1,6 @@
 -- What closes a round.
 -- Trusted: part of what a promise means.
-use Rattle.std.specs.Prelude.{◌≡◌, ℕ, List, length, slice_get, Option, Some}
+use Rattle.std.specs.Prelude.{◌≡◌, ℕ, length, slice_get, Option, Some}
 use Rattle.trace_text.specs.declared.line.Line.{Line}
 use Rattle.net_model.specs.Network.{Network}
 use Rattle.net_model.specs.State.{State}

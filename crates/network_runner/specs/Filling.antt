@@ -1,6 +1,7 @@
 -- What a delivery of the input links does: each is filled from its feed.
--- Trusted: part of what a promise means.
-use Rattle.std.specs.Prelude.{◌≡◌, ◌⊎◌, ℕ, suc, ◌≤◌, ◌<◌, true, List, [], length, map, Result, IfOk, OnOk, slice_get, slice_set, Option, None, Some, if◌then◌else◌}
+-- Trusted but for `with_flow`, `IsFullOrAll`, `IsFilledOn`, `FillsOne`, `FillsLink` and `next_feed`: part of what a
+-- promise means.
+use Rattle.std.specs.Prelude.{◌≡◌, ◌⊎◌, ℕ, suc, ◌≤◌, true, List, [], length, Result, IfOk, OnOk, slice_get, slice_set, Option, None, Some, if◌then◌else◌}
 use Rattle.rvc_io.specs.Feeds.{Inputs}
 use Rattle.port_files.specs.Coming.{EndIsTrue, Reading}
 use Rattle.net_model.specs.declared.wiring.Link.{Link}

@@ -1,10 +1,9 @@
 -- The lines of a round on their way to the trace's channel.
 -- Trusted but for `closing_line` and `close_text`: part of what a promise means.
-use Rattle.std.specs.Prelude.{◌≡◌, ℕ, List, map, Result, Option, None, Some, flat_map, option_to_list}
+use Rattle.std.specs.Prelude.{◌≡◌, ℕ, List, map, Result, Option, None, Some, option_to_list}
 use Rattle.rvc_io.specs.Channels.{Channels}
 use Rattle.trace_text.specs.declared.line.Line.{Line}
 use Rattle.trace_text.specs.declared.line.Line.TheVariants.{Grow as GrowLine}
-use Rattle.trace_text.specs.Text.{line_text}
 use Rattle.net_model.specs.Cell.{Cell}
 use Rattle.net_model.specs.Paced.{Block, lines_of}
 use Rattle.round_runner.specs.declared.outcome.RoundEnd.{RoundEnd}

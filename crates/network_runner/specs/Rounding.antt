@@ -1,5 +1,5 @@
 -- What the firings of a round do to the network, and how the round is closed.
--- Trusted: part of what a promise means.
+-- Trusted but for `ClosedBy` and `MayClose`: part of what a promise means.
 use Rattle.std.specs.Prelude.{◌≡◌, ℕ, ◌<◌, Bool, true, false, List, slice_get, Option, None, Some}
 use Rattle.rvc_base.specs.declared.round_kind.RoundKind.{RoundKind}
 use Rattle.net_model.specs.declared.wiring.Link.{Link}

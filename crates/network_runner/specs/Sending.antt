@@ -1,5 +1,5 @@
 -- What goes out to the channels of a network's outputs.
--- Trusted: part of what a promise means.
+-- Trusted but for `SendsLink` and `BreaksLink`: part of what a promise means.
 use Rattle.std.specs.Prelude.{◌≡◌, ℕ, suc, ◌+◌, ◌≤◌, true, false, List, [], ◌++◌, ℤ, flat_map, length, map, Result, OnOk, OnErr, Some, slice_get, slice_index_or, if◌then◌else◌}
 use Rattle.rvc_base.specs.Storing.{IsSize}
 use Rattle.rvc_io.specs.Channels.{Channels}

@@ -13,11 +13,7 @@ use round_runner::{Lacking, RoundEnd, RunEnd};
 /// Closes a round for which all instances were picked and which fired nothing: the run ends quiet if no instance
 /// lacks room, else it is stalled. Then the link on which the lowest such instance lacks room grows, or, where it has
 /// grown as far as it may, the run ends.
-pub fn close_idle<A: Firing>(
-    net: &mut NetState<A>,
-    lacks: Option<Lacking>,
-    grow: u32,
-) -> RoundEnd
+pub fn close_idle<A: Firing>(net: &mut NetState<A>, lacks: Option<Lacking>, grow: u32) -> RoundEnd
     requires rest { IsAtRest (seen A.cell net.old) }
     requires named { NamesIts (map A.cell net.old.cells) lacks }
     requires queues { MayGrow grow (seen A.cell net.old) }

@@ -1,9 +1,9 @@
 //! The steps of a round of any network: deliver, fire, write.
 //!
 //! A round sends out what goes to the network's outputs ([`send_all`]), makes a delivery ([`deliver_all`]), lets the
-//! instances fire that its policy picks and says what closes it ([`fire_round`]), and writes its lines
-//! ([`note_round`]). Each call says what it does to every state of the network in which the cells stand. No call
-//! joins them yet.
+//! instances fire that its policy picks and says what closes it ([`fire_round`], or [`end_spent`] if no firing is left),
+//! and writes its lines ([`note_round`]). Each call says what it does to every state of the network in which the cells
+//! stand. No call joins them yet.
 #![tactic(auto)]
 
 mod closing;

@@ -1,15 +1,9 @@
-use Rattle.std.proofs.Common.{◌≡◌, ℕ, ◌<◌, ◌≤◌, length, map, refl, sym, ap, subst, ◌∙◌, arith}
-use Rattle.std.specs.Prelude.{Option, None, Some, slice_index_or}
-use Rattle.net_model.specs.declared.firing.Look.TheVariants as look
-use Rattle.net_model.specs.Network.{Network}
-use Rattle.net_model.specs.State.{State}
-use Rattle.net_state.specs.Held.{Held, seen}
-use Rattle.net_state.specs.Standing.{StandsSince}
+use Rattle.std.proofs.Common.{length, subst, arith}
+use Rattle.std.specs.Prelude.{None}
+use Rattle.net_state.specs.Held.{seen}
 use Rattle.net_state.specs.Surveyed.{LacksFirst}
-use Rattle.net_state.specs.Working.{IsLowestLacking, LacksAt}
-use Rattle.round_runner.specs.declared.bursting.Lacking.{Lacking}
 use Rattle.round_runner.specs.Bursting.{Sees}
-use Rattle.network_runner.proofs.Closed.{closed_grown, closed_quiet, closed_stuck, grows, link_low, some_lacks, stuck}
+use Rattle.network_runner.proofs.Closed.{closed_grown, closed_quiet, closed_stuck, grows, link_low, stuck}
 use Rattle.network_runner.proofs.closing.close_idle.Goals as goal
 
 pub returns-in_default-clause-closes : goal.returns-in_default-clause-closes

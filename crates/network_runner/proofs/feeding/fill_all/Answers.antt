@@ -1,6 +1,5 @@
-use Rattle.std.proofs.Common.{◌≡◌, ℕ, ◌<◌, length, refl, sym, ap, subst, ◌∙◌, arith, List}
-use Rattle.std.specs.Prelude.{Option, Some, slice_get, slice_index_or}
-use Rattle.port_files.specs.Coming.{Reading}
+use Rattle.std.proofs.Common.{◌<◌, length, refl, arith}
+use Rattle.std.specs.Prelude.{slice_index_or}
 use Rattle.rvc_base.specs.declared.scalar.Scalar.TheVariants.{Bool as Truth}
 use Rattle.net_model.specs.declared.wiring.End.TheVariants.{Leaf as AtLeaf}
 use Rattle.net_model.specs.declared.wiring.Link.{Link}
@@ -46,9 +45,11 @@ next_feed-feed-requires g c =
     let readers = c.loop-l.readers in
     let low : c.loop-l.l < length readers = omega (arith, c.loop-l-test.true, c.loop-l.auto.readers, c.requires.readers.count) in
     let reader = slice_index_or readers c.loop-l.l c.index-readers-l.result in
-    record { few = few_now c.loop-l.l c.loop-l.feed c.args.links.now (seen g.A.Firing.cell c.args.net.now) (seen g.A.Firing.cell c.loop-l.net) (seen g.A.Firing.cell c.fill_one.new.net) c.args.readers.now readers
-    (g.F.Feeds.feeds c.args.feeds.now) (g.F.Feeds.feeds c.loop-l.feeds) (g.F.Feeds.feeds c.fill_one.new.feeds) c.args.came.now c.loop-l.came
-    c.loop-l.invariant c.loop-l-test.true reader (at_place readers c.loop-l.l c.index-readers-l.result reader low refl) c.requires.few }
+    record {
+      few = few_now c.loop-l.l c.loop-l.feed c.args.links.now (seen g.A.Firing.cell c.args.net.now) (seen g.A.Firing.cell c.loop-l.net) (seen g.A.Firing.cell c.fill_one.new.net) c.args.readers.now readers
+          (g.F.Feeds.feeds c.args.feeds.now) (g.F.Feeds.feeds c.loop-l.feeds) (g.F.Feeds.feeds c.fill_one.new.feeds) c.args.came.now c.loop-l.came
+          c.loop-l.invariant c.loop-l-test.true reader (at_place readers c.loop-l.l c.index-readers-l.result reader low refl) c.requires.few;
+    }
 
 pub loop-l-preserved : goal.loop-l-preserved
 loop-l-preserved g c =

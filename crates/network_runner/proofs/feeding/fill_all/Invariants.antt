@@ -1,4 +1,3 @@
-use Rattle.std.specs.Prelude.{◌≡◌, length}
 use Rattle.net_state.specs.Held.{seen}
 use Rattle.network_runner.proofs.Filling.{IsFilling}
 use Rattle.network_runner.proofs.feeding.fill_all.Given as goal

@@ -1,5 +1,5 @@
-use Rattle.std.proofs.Common.{◌≡◌, ℕ, refl, subst, sym}
-use Rattle.std.specs.Prelude.{Result, Ok, Err, IfOk, Option, None, Some, slice_get}
+use Rattle.std.proofs.Common.{◌≡◌, ℕ, subst, sym}
+use Rattle.std.specs.Prelude.{Result, Ok, Err, IfOk, None, Some, slice_get}
 use Rattle.rvc_io.specs.Feeds.{Inputs}
 use Rattle.port_files.specs.Coming.{Reading}
 use Rattle.net_model.specs.Cell.{Cell}
@@ -7,7 +7,7 @@ use Rattle.net_state.specs.declared.filling.Filled.{Filled}
 use Rattle.net_state.specs.Filling.{AreArrivals, Fills, IsFull, IsInputLink, inflow}
 use Rattle.net_state.specs.Held.{Held, seen}
 use Rattle.net_state.specs.Working.{IsAtRest}
-use Rattle.network_runner.specs.Filling.{FillsLink, FillsOne}
+use Rattle.network_runner.specs.Filling.{FillsOne}
 use Rattle.network_runner.proofs.One.{one_fed, one_unfed}
 use Rattle.network_runner.proofs.feeding.fill_one.Goals as goal
 

@@ -1,4 +1,4 @@
-use Rattle.std.proofs.Common.{◌≡◌, ℕ, arith}
+use Rattle.std.proofs.Common.{arith}
 use Rattle.network_runner.proofs.firing.close.Goals as goal
 
 pub close_idle-requires-clause-queues : goal.close_idle-requires-clause-queues

@@ -1,8 +1,6 @@
-use Rattle.std.proofs.Common.{◌≡◌, ℕ, ◌<◌, Bool, true, nat_eq, length, map, refl, sym, ap, subst, ◌∙◌, arith}
-use Rattle.std.specs.Prelude.{None}
+use Rattle.std.proofs.Common.{◌≡◌, nat_eq, length, sym, ap, ◌∙◌, arith}
 use Rattle.std.proofs.lemmas.Bool.{eqb-true}
 use Rattle.std.proofs.lemmas.List.{length-map}
-use Rattle.net_model.specs.Paced.{count_picked}
 use Rattle.net_state.specs.Held.{seen}
 use Rattle.round_runner.specs.Bursting.{Idle}
 use Rattle.round_runner.specs.Choosing.{marked}

@@ -1,5 +1,4 @@
-use Rattle.std.proofs.Common.{◌≡◌, ℕ, List, ◌++◌, map, sym, ap, subst, ◌∙◌}
-use Rattle.rvc_io.specs.Channels.{Channels, WritesOnlyAt}
+use Rattle.std.proofs.Common.{◌++◌, map, subst}
 use Rattle.channel_writer.specs.Held.{AppendsFront, WritesOn}
 use Rattle.round_runner.specs.Firings.{firings_text}
 use Rattle.network_runner.specs.Noting.{close_text}

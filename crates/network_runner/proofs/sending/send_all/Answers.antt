@@ -1,5 +1,5 @@
-use Rattle.std.proofs.Common.{◌≡◌, ℕ, length, map, refl, arith}
-use Rattle.std.specs.Prelude.{Some, slice_get, slice_index_or}
+use Rattle.std.proofs.Common.{map, refl}
+use Rattle.std.specs.Prelude.{slice_index_or}
 use Rattle.rvc_base.specs.declared.scalar.Scalar.TheVariants.{Bool as Truth}
 use Rattle.net_model.specs.declared.wiring.End.TheVariants.{Leaf as AtLeaf}
 use Rattle.net_model.specs.declared.wiring.Link.{Link}

@@ -1,13 +1,10 @@
-use Rattle.std.proofs.Common.{◌≡◌, ◌≢◌, ℕ, zero, suc, ◌+◌, ◌<◌, ◌≤◌, true, false, List, [], ◌∷◌, ◌++◌, length, map, refl, sym, ap, subst, ◌∙◌, ⊎_elim, arith}
-use Rattle.std.specs.Prelude.{Some, slice_get, slice_index_or, ◌==◌}
-use Rattle.std.proofs.lemmas.Bool.{cases_eq}
+use Rattle.std.proofs.Common.{◌≡◌, ℕ, zero, suc, ◌+◌, ◌<◌, ◌≤◌, true, false, List, [], ◌∷◌, ◌++◌, length, map, refl, sym, ap, subst, ◌∙◌, arith}
+use Rattle.std.specs.Prelude.{Some, slice_get, slice_index_or}
 use Rattle.rvc_base.specs.declared.scalar.Scalar.TheVariants.{Bool as Truth}
 use Rattle.rvc_io.specs.Channels.{Channels}
 use Rattle.channel_writer.specs.Held.{AppendsFront, WritesOn}
-use Rattle.net_model.specs.declared.wiring.End.{End}
 use Rattle.net_model.specs.declared.wiring.End.TheVariants.{Net as AtNet}
 use Rattle.net_model.specs.declared.wiring.Link.{Link}
-use Rattle.net_model.specs.Network.{is_net_port}
 use Rattle.net_state.specs.Moving.{carried, carried_on}
 use Rattle.net_state.proofs.Gaining.{not_eq, some_is}
 use Rattle.round_runner.specs.Sending.{stored_bytes}

@@ -1,5 +1,4 @@
-use Rattle.std.proofs.Common.{◌≡◌, ℕ, ◌<◌, ◌≤◌, length, map, refl, sym, ap, subst, ◌∙◌}
-use Rattle.std.specs.Prelude.{slice_index_or}
+use Rattle.std.proofs.Common.{refl, sym, subst}
 use Rattle.trace_text.specs.declared.line.Line.TheVariants.{Budget, Quiet, Stall}
 use Rattle.net_model.specs.Ends.{IsBetween, IsStuck}
 use Rattle.net_model.specs.Trace.{after_delivery}
