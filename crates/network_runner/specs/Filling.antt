@@ -1,0 +1,130 @@
+-- What a delivery of the input links does: each is filled from its feed.
+-- Trusted but for `with_flow`, `IsFullOrAll`, `IsFilledOn`, `FillsOne`, `FillsLink` and `next_feed`: part of what a
+-- promise means.
+use Rattle.std.specs.Prelude.{◌≡◌, ◌⊎◌, ℕ, suc, ◌≤◌, true, List, [], length, Result, IfOk, OnOk, slice_get, slice_set, Option, None, Some, if◌then◌else◌}
+use Rattle.rvc_io.specs.Feeds.{Inputs}
+use Rattle.port_files.specs.Coming.{EndIsTrue, Reading}
+use Rattle.net_model.specs.declared.wiring.Link.{Link}
+use Rattle.net_model.specs.Network.{Network, is_input}
+use Rattle.net_model.specs.State.{Flow, State, untaken}
+use Rattle.net_model.specs.Event.{each_flow}
+use Rattle.net_model.specs.Trace.{arrivals, delivered}
+use Rattle.net_model.specs.Cell.{Cell}
+use Rattle.net_model.specs.Wired.{IsWired}
+use Rattle.net_state.specs.declared.filling.Filled.{Filled}
+use Rattle.net_state.specs.Filling.{IsFed, inflow}
+use Rattle.net_state.specs.Held.{Held, seen}
+use Rattle.net_state.specs.Standing.{StandsSince, unarrived}
+use Rattle.net_state.specs.Working.{AreFed, IsAtRest}
+use Rattle.round_runner.specs.Running.{feed_of}
+
+-- What is to come on an input link is what is to come on its feed; without a feed nothing is.
+abbrev pub ComesNow : {X : Type 0} → State X → ℕ → Link → ℕ → Option Reading → Inputs → Type 0
+ComesNow s l link feed None feeds = unarrived (slice_get s.flows l) ≡ []
+ComesNow s l link feed (Some reading) feeds = IsFed s l (Some link) (inflow reading feeds feed)
+
+-- the same of a link of which it isn't known whether there is a place for its reader
+abbrev pub ComesBy : {X : Type 0} → State X → ℕ → Link → ℕ → Option (Option Reading) → Inputs
+    → Type 0
+ComesBy s l link feed None feeds = ⊥
+ComesBy s l link feed (Some reading) feeds = ComesNow s l link feed reading feeds
+
+-- the same of each input link
+abbrev pub AreFedBy : {X : Type 0} → Network X → State X → List (Option Reading) → Inputs → Type 0
+AreFedBy net s readings feeds = (l : ℕ) (link : Link) → slice_get net.links l ≡ Some link
+    → is_input link ≡ true
+    → ComesBy s l link (feed_of net.links l) (slice_get readings l) feeds
+
+-- a delivery of the input links alone
+abbrev pub input_delivered : Link → Flow → Flow
+input_delivered link flow = if is_input link then delivered link flow else flow
+
+abbrev pub after_inputs : {X : Type 0} → Network X → State X → State X
+after_inputs net s = record s { flows = each_flow input_delivered net.links s.flows }
+
+-- One link.
+
+-- a state in which one link has this flow
+abbrev pub with_flow : {X : Type 0} → State X → ℕ → Flow → State X
+with_flow s l flow = record s { flows = slice_set s.flows l flow }
+
+-- a link is full, or all that was sent on it has arrived
+abbrev pub IsFullOrAll : Flow → Type 0
+IsFullOrAll flow = (untaken flow ≡ flow.capacity) ⊎ (flow.arrived ≡ length flow.sent)
+
+-- A state in which one link was filled from its feed: so many tokens came as arrive there at a delivery.
+pub record IsFilledOn {X : Type 0} (net : Network X) (s : State X) (l feed : ℕ) (link : Link) (flow : Flow) (held : Held (Cell X)) (reading : Option Reading) (feeds : Inputs) (filled : Filled) : Type 0 where
+  pub stands : StandsSince net held (with_flow s l (input_delivered link flow))
+      (with_flow s l (input_delivered link flow))
+  pub fed : is_input link ≡ true
+      → ComesNow (with_flow s l (input_delivered link flow)) l link feed reading feeds
+  pub all : is_input link ≡ true → IsFullOrAll (input_delivered link flow)
+  pub told : is_input link ≡ true → filled.tokens ≡ arrivals link flow
+
+-- Each state of a wired network that was just opened goes on so.
+pub record FillsOne {X : Type 0} (l feed : ℕ) (old new : Held (Cell X)) (before after : Option Reading) (feeds_old feeds_new : Inputs) (filled : Filled) : Type 0 where
+  pub states : (net : Network X) (s : State X) (link : Link) (flow : Flow) → StandsSince net old s s
+      → IsWired net → slice_get net.links l ≡ Some link → slice_get s.flows l ≡ Some flow
+      → (is_input link ≡ true → ComesNow s l link feed before feeds_old)
+      → IsFilledOn net s l feed link flow new after feeds_new filled
+  pub rests : IsAtRest old → IsAtRest new
+
+-- All input links.
+
+-- so many tokens came over an input link as arrive there at a delivery
+abbrev pub CameOn : Option Link → Option Flow → Option Filled → Type 0
+CameOn (Some link) (Some flow) (Some filled) = is_input link ≡ true
+    → filled.tokens ≡ arrivals link flow
+CameOn (Some link) (Some flow) None = is_input link ≡ true → ⊥
+CameOn (Some link) None came = is_input link ≡ true → ⊥
+CameOn None flow came = Unit {0}
+
+-- A state at which each input link was filled: it stands, what is to come is what its feeds have still, each input
+-- link is full or has all of its feed, and what came is told.
+pub record IsFilled {X : Type 0} (net : Network X) (s : State X) (held : Held (Cell X)) (readings : List (Option Reading)) (feeds : Inputs) (came : List Filled) : Type 0 where
+  pub stands : StandsSince net held (after_inputs net s) (after_inputs net s)
+  pub fed : AreFedBy net (after_inputs net s) readings feeds
+  pub all : AreFed net (after_inputs net s)
+  pub told : (l : ℕ) → CameOn (slice_get net.links l) (slice_get s.flows l) (slice_get came l)
+
+-- Each state of a wired network that was just opened goes on so.
+pub record Fills {X : Type 0} (old new : Held (Cell X)) (before after : List (Option Reading)) (feeds_old feeds_new : Inputs) (came : List Filled) : Type 0 where
+  pub states : (net : Network X) (s : State X) → StandsSince net old s s → IsWired net
+      → AreFedBy net s before feeds_old → IsFilled net s new after feeds_new came
+  pub rests : IsAtRest old → IsAtRest new
+
+-- What is asked of the readers: there is one for each input link that is fed; its feed is open, and is the one that
+-- was read before.
+pub record ReadersFit (links : List Link) (readings : List (Option Reading)) (feeds : Inputs) :
+    Type 0 where
+  pub count : length readings ≡ length links
+  pub inputs : (l : ℕ) (link : Link) (reading : Reading) → slice_get links l ≡ Some link
+      → slice_get readings l ≡ Some (Some reading) → is_input link ≡ true
+  pub open_feeds : (l : ℕ) (reading : Reading) → slice_get readings l ≡ Some (Some reading)
+      → feeds.is_open (feed_of links l) ≡ true
+  pub same_feeds : (l : ℕ) (reading : Reading) → slice_get readings l ≡ Some (Some reading)
+      → EndIsTrue reading (feeds.left (feed_of links l))
+
+-- no feed was opened or closed
+pub record SameOpen (old new : Inputs) : Type 0 where
+  pub same_names : (name : List ℕ) → new.under name ≡ old.under name
+  pub same_open : (feed : ℕ) → new.is_open feed ≡ old.is_open feed
+  pub faults_stay : old.faults ≤ new.faults
+
+-- the number of the next feed, behind that of a link
+abbrev pub next_feed : ℕ → Link → ℕ
+next_feed feed link = if is_input link then suc feed else feed
+
+module _ {C X S E : Type 0} (cell : C → Cell X) (feeds : S → Inputs) where
+  -- if all went well each state goes on
+  abbrev pub FillsLink : ℕ → ℕ → Held C → Held C → Option Reading → Option Reading → S → S
+      → Result Filled E → Type 0
+  FillsLink l feed old new before after feeds_old feeds_new result =
+      IfOk result (λ filled. FillsOne l feed (seen cell old) (seen cell new) before after
+      (feeds feeds_old) (feeds feeds_new) filled)
+
+  abbrev pub FillsAll : Held C → Held C → List (Option Reading) → List (Option Reading) → S → S
+      → List Filled → Result Unit E → Type 0
+  FillsAll old new before after feeds_old feeds_new came result =
+      OnOk result (Fills (seen cell old) (seen cell new) before after (feeds feeds_old)
+      (feeds feeds_new) came)

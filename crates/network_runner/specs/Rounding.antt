@@ -1,0 +1,82 @@
+-- What the firings of a round do to the network, and how the round is closed.
+-- Trusted but for `ClosedBy` and `MayClose`: part of what a promise means.
+use Rattle.std.specs.Prelude.{◌≡◌, ℕ, ◌<◌, Bool, true, false, List, slice_get, Option, None, Some}
+use Rattle.rvc_base.specs.declared.round_kind.RoundKind.{RoundKind}
+use Rattle.net_model.specs.declared.wiring.Link.{Link}
+use Rattle.net_model.specs.Network.{Network}
+use Rattle.net_model.specs.State.{State}
+use Rattle.net_model.specs.Cell.{Cell}
+use Rattle.net_model.specs.Laws.{AreLawful}
+use Rattle.net_model.specs.Trace.{after_delivery}
+use Rattle.net_model.specs.Paced.{Block, IsRound, Moment, Pace}
+use Rattle.net_model.specs.Wired.{IsWired}
+use Rattle.net_state.specs.Held.{Held, IsReader}
+use Rattle.net_state.specs.Moving.{IsWriter}
+use Rattle.net_state.specs.Standing.{StandsSince}
+use Rattle.net_state.specs.Working.{AreFed, CanHold, IsAtRest, LacksAt}
+use Rattle.round_runner.specs.declared.bursting.Lacking.{Lacking}
+use Rattle.round_runner.specs.declared.bursting.Trapped.{Trapped}
+use Rattle.round_runner.specs.declared.outcome.RoundEnd.{RoundEnd}
+use Rattle.round_runner.specs.declared.outcome.RoundEnd.TheVariants as round
+use Rattle.round_runner.specs.declared.outcome.RunEnd.TheVariants as end
+use Rattle.round_runner.specs.Bursting.{NamesIts}
+use Rattle.round_runner.specs.Firings.{journals}
+use Rattle.round_runner.specs.Rounds.{Answers}
+use Rattle.network_runner.specs.declared.firing.Turn.{Turn}
+use Rattle.network_runner.specs.Closing.{ClosesAllIdle, MayGrow}
+
+-- How a round is closed by what came of its bursts: by the lowest trap; else, if something fired or not all were
+-- picked, it goes on; else it is idle.
+pub record ClosedBy {X : Type 0} (trap : Option Trapped) (fired : ℕ) (lacks : Option Lacking) (all : Bool) (grow : ℕ) (answer : RoundEnd) (old new : Held (Cell X)) : Type 0 where
+  pub by_trap : (trapped : Trapped) → trap ≡ Some trapped
+      → (answer ≡ round.End (end.Trapped trapped.inst trapped.action trapped.trap)) × (new ≡ old)
+  pub by_firing : trap ≡ None → 0 < fired → (answer ≡ round.Fired fired) × (new ≡ old)
+  pub by_others : trap ≡ None → fired ≡ 0 → all ≡ false → (answer ≡ round.Idle) × (new ≡ old)
+  pub by_none : trap ≡ None → fired ≡ 0 → all ≡ true → ClosesAllIdle grow lacks answer old new
+  pub same_cells : new.cells ≡ old.cells
+
+-- what is asked if all were picked and nothing fired
+pub record MayClose {X : Type 0} (grow : ℕ) (lacks : Option Lacking) (held : Held (Cell X)) :
+    Type 0 where
+  pub rest : IsAtRest held
+  pub named : NamesIts held.cells lacks
+  pub queues : MayGrow grow held
+
+-- both ends of a link are there
+abbrev pub HasEnds : {X : Type 0} → List (Cell X) → Option Link → Type 0
+HasEnds cells None = ⊥
+HasEnds cells (Some link) = IsWriter cells link.from × IsReader cells link.to
+
+-- The queues of each link on which an action lacks room can hold what the link may grow to.
+abbrev pub CanGrow : {X : Type 0} → ℕ → Held (Cell X) → Type 0
+CanGrow grow held = (i a l : ℕ) → LacksAt held i a l
+    → HasEnds held.cells (slice_get held.links l) × CanHold held.cells grow (slice_get held.links l)
+
+-- by what a round is paced, and the moment at which it is made
+abbrev pub pace_by : RoundKind → ℕ → Turn → Pace
+pace_by kind budget turn =
+    record { kind = kind; burst = turn.burst; budget = budget; grow = turn.grow }
+
+abbrev pub moment_by : {X : Type 0} → Turn → State X → Moment X
+moment_by turn s = record { state = s; round = turn.round; idle = turn.idle; left = turn.left }
+
+-- A round was made from a moment: its firings and what closes it, and the answer. The journals name the firings. The
+-- state to which it led stands, but for the mark of a trap.
+pub record IsRoundMade {X : Type 0} (net : Network X) (pace : Pace) (at : Moment X) (answer : RoundEnd) (held : Held (Cell X)) : Type 0 where
+  pub block : Block
+  pub last : State X
+  pub is_round : IsRound net pace at block last
+  pub answers : Answers answer block
+  pub kept : State X
+  pub stands : StandsSince net held (after_delivery net at.state) kept
+  pub flows_are : last.flows ≡ kept.flows
+  pub untrapped : last.trapped ≡ false → last ≡ kept
+  pub noted : journals held.cells ≡ block.bursts
+
+-- .. from each moment of a wired network of lawful actors whose round's delivery was made
+abbrev pub MakesRound : {X : Type 0} → RoundKind → Turn → RoundEnd → Held (Cell X) → Held (Cell X)
+    → Type 0
+MakesRound {X} kind turn answer old new = (net : Network X) (s : State X) (budget : ℕ)
+    → StandsSince net old (after_delivery net s) (after_delivery net s)
+    → s.trapped ≡ false → IsWired net → AreLawful net → AreFed net (after_delivery net s)
+    → IsRoundMade net (pace_by kind budget turn) (moment_by turn s) answer new

@@ -1,0 +1,83 @@
+//! The firings of a round, and what closes it.
+
+ghost use Rattle.std.specs.Prelude.{◌≡◌, ◌≤◌, ◌<◌, ◌+◌, ◌==◌, Bool, None, true, length, map};
+ghost use Rattle.net_state.specs.Held.{seen};
+ghost use Rattle.net_state.specs.Working.{IsAtRest};
+ghost use Rattle.round_runner.specs.Bursting.{AreFresh};
+ghost use Rattle.network_runner.specs.Rounding.{CanGrow, ClosedBy, MakesRound, MayClose};
+
+use crate::closing::close_idle;
+use net_model::Firing;
+use net_state::NetState;
+use round_plan::Policy;
+use round_runner::{Bursts, RoundEnd, RunEnd, Trapped, burst_each, choose, count_marks};
+
+/// By what the firings of a round are made.
+#[derive(Clone, Copy, Debug, PartialEq, Eq)]
+pub struct Turn {
+    /// The number of the round, counted from 1.
+    pub round: u64,
+    /// Whether the round before fired nothing.
+    pub idle: bool,
+    /// How many firings are left of the budget.
+    pub left: u64,
+    /// How often an instance may fire: 1 to 65,536.
+    pub burst: u32,
+    /// The greatest capacity to which a link may grow at a stall; 0 if none may grow.
+    pub grow: u32,
+}
+
+/// Lets the instances fire that the policy picks, and closes the round. Its delivery was made, and some firings are
+/// left of the budget. `marks` says then which instances were picked.
+pub fn fire_round<A: Firing, P: Policy>(
+    net: &mut NetState<A>,
+    policy: &mut P,
+    marks: &mut [bool],
+    turn: &Turn,
+) -> RoundEnd
+    requires next { turn.now.round ≡ P.rounds policy.old + 1 }
+    requires some { 0 < length marks.old }
+    requires same_instances { 0 < P.rounds policy.old → length marks.old ≡ P.instances policy.old }
+    requires bursts { 1 ≤ turn.now.burst }
+    requires most { turn.now.burst ≤ 65536 }
+    requires left { 0 < turn.now.left }
+    requires as_many { length marks.old ≡ length net.old.cells }
+    requires few { length marks.old ≤ 1024 }
+    requires fresh { AreFresh turn.now.burst (map A.cell net.old.cells) }
+    requires rest { IsAtRest (seen A.cell net.old) }
+    requires queues { CanGrow turn.now.grow (seen A.cell net.old) }
+    ensures makes { MakesRound (P.kind policy.old) turn.now result (seen A.cell net.old)
+        (seen A.cell net.new) }
+
+    // What stays.
+    ensures kind { P.kind policy.new ≡ P.kind policy.old }
+    ensures rounds { P.rounds policy.new ≡ turn.now.round }
+    ensures instances { P.instances policy.new ≡ length marks.old }
+    ensures links { net.new.links ≡ net.old.links }
+    ensures still_as_many { length marks.new ≡ length marks.old }
+{
+    choose(policy, turn.round, turn.idle, marks);
+    let made = burst_each(net, marks, turn.burst, turn.left);
+    let all = count_marks(marks) as usize == marks.len();
+    close(net, &made, all, turn.grow)
+}
+
+/// Closes a round by what came of its bursts. `all` says whether all instances were picked.
+fn close<A: Firing>(net: &mut NetState<A>, made: &Bursts, all: bool, grow: u32) -> RoundEnd
+    requires idle { made.now.trap ≡ None → made.now.fired ≡ 0 → all ≡ true
+        → MayClose grow made.now.lacks (seen A.cell net.old) }
+    ensures closed { ClosedBy made.now.trap made.now.fired made.now.lacks all grow result
+        (seen A.cell net.old) (seen A.cell net.new) }
+    ensures links { net.new.links ≡ net.old.links }
+{
+    if let Some(Trapped { inst, action, trap }) = made.trap {
+        return RoundEnd::End(RunEnd::Trapped { inst, action, trap });
+    }
+    if made.fired > 0 {
+        return RoundEnd::Fired(made.fired);
+    }
+    if !all {
+        return RoundEnd::Idle;
+    }
+    close_idle(net, made.lacks, grow)
+}
