@@ -9,3 +9,8 @@ pub mod Scanned
 pub mod Reached
 pub mod Heads
 pub mod Tried
+pub mod Starting
+pub mod Onward
+pub mod Chained
+pub mod Delivered
+pub mod Filled

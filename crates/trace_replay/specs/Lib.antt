@@ -5,3 +5,4 @@ pub mod Scanning
 pub mod Reading
 pub mod Head
 pub mod Trying
+pub mod Feeding

@@ -2,10 +2,12 @@
 #![tactic(auto)]
 
 mod bytes;
+mod delivering;
 mod head;
 mod laws;
 mod reading;
 mod scan;
+mod source;
 mod trying;
 mod why;
 
