@@ -291,3 +291,21 @@ input_there n links held_links sources feeds (Some one) have same here some =
     let this : IsSourceOf links n at.item one feeds = have.each n at.item one at.at here in
     subst (λ ls. Rattle.net_state.specs.Filling.IsInputLink (slice_get ls n)) (sym same)
     (subst (λ o. Rattle.net_state.specs.Filling.IsInputLink o) (sym at.at) this.input)
+
+-- A delivery: inside, and then from outside.
+
+pub fed_inside : {X : Type 0} (net : Network X) (s : State X) (sources : List (Option Source)) (feeds : Inputs) → AreFedBy net s sources feeds → AreFedBy net (after_inside net s) sources feeds
+fed_inside net s sources feeds fed m link at input =
+    let same : slice_get (after_inside net s).flows m ≡ slice_get s.flows m =
+    ap (λ u. slice_get u.flows m) (sym (starts_inside net s)) ∙ input_so 0 m net.links s.flows link at input (omega arith) in
+    fed_still s (after_inside net s) m link (slice_get sources m) feeds feeds same (λ one here. refl) (fed m link at input)
+
+pub delivered_all : {X : Type 0} (old mid new : Held (Cell X)) (sources sources_new : List (Option Source)) (feeds feeds_new : Inputs)
+    → Rattle.net_state.specs.Standing.LeadInside old mid → FillsAll mid new sources sources_new feeds feeds_new
+    → Rattle.trace_replay.specs.Feeding.DeliversAll old new sources sources_new feeds feeds_new
+delivered_all old mid new sources sources_new feeds feeds_new inside fills net opened s stands =
+    fills net s (record { stands = inside net s stands.stands.now; fed = fed_inside net s sources feeds stands.fed })
+
+pub on_ok_after : {T E : Type 0} (result : Rattle.std.specs.Prelude.Result T E) (P Q : Type 0) → (P → Q) → Rattle.std.specs.Prelude.OnOk result P → Rattle.std.specs.Prelude.OnOk result Q
+on_ok_after (Rattle.std.specs.Prelude.Ok value) P Q f h = f h
+on_ok_after (Rattle.std.specs.Prelude.Err fault) P Q f h = tt

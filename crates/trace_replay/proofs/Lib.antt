@@ -14,3 +14,5 @@ pub mod Onward
 pub mod Chained
 pub mod Delivered
 pub mod Filled
+pub mod Settled
+pub mod Ended

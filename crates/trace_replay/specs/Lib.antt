@@ -6,3 +6,4 @@ pub mod Reading
 pub mod Head
 pub mod Trying
 pub mod Feeding
+pub mod Ending

@@ -7,7 +7,7 @@ ghost use Rattle.net_state.specs.Held.{seen};
 ghost use Rattle.net_state.specs.Filling.{IsInputLink};
 ghost use Rattle.net_state.specs.Moving.{SameActors, SameMarks};
 ghost use Rattle.net_state.specs.Working.{IsAtRest};
-ghost use Rattle.trace_replay.specs.Feeding.{FillsAll, FillsLink, HaveSources, IsReadable, PullsFor, PullsInputs};
+ghost use Rattle.trace_replay.specs.Feeding.{DeliversAll, FillsAll, FillsLink, HaveSources, IsReadable, PullsFor, PullsInputs};
 
 use crate::source::Source;
 use net_model::Firing;
@@ -83,4 +83,32 @@ fn fill_all<A: Firing, F: Feeds>(
         l += 1;
     }
     Ok(())
+}
+
+/// Makes a delivery: of inner and output links, and of each input link from its feed.
+///
+/// # Errors
+///
+/// The number of a feed if bytes couldn't be pulled from it.
+pub(crate) fn deliver_all<A: Firing, F: Feeds>(
+    state: &mut NetState<A>,
+    sources: &mut [Option<Source>],
+    feeds: &mut F,
+) -> Result<(), u32>
+    requires sources { HaveSources state.old.links sources.old (F.feeds feeds.old) }
+    requires few { length sources.old ≤ max_links }
+    ensures delivers { OnOk result (DeliversAll (seen A.cell state.old) (seen A.cell state.new)
+        sources.old sources.new (F.feeds feeds.old) (F.feeds feeds.new)) }
+    ensures still_sources { OnOk result (HaveSources state.old.links sources.new
+        (F.feeds feeds.new)) }
+    ensures rests { IsAtRest (seen A.cell state.new) }
+    ensures same_actors { SameActors (map A.cell state.old.cells) (map A.cell state.new.cells) }
+    ensures same_marks { SameMarks (map A.cell state.old.cells) (map A.cell state.new.cells) }
+    ensures links { state.new.links ≡ state.old.links }
+    ensures capacities { state.new.capacities ≡ state.old.capacities }
+    ensures failed { OnErr result (ReadFails F.feeds feeds.old feeds.new) }
+    ensures elsewhere { PullsInputs (F.feeds feeds.old) (F.feeds feeds.new) }
+{
+    state.deliver();
+    fill_all(state, sources, feeds)
 }

@@ -3,11 +3,13 @@
 
 mod bytes;
 mod delivering;
+mod ending;
 mod head;
 mod laws;
 mod reading;
 mod scan;
 mod source;
+mod states;
 mod trying;
 mod why;
 
