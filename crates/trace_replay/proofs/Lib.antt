@@ -16,3 +16,4 @@ pub mod Delivered
 pub mod Filled
 pub mod Settled
 pub mod Ended
+pub mod Widened

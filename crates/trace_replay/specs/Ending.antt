@@ -1,6 +1,6 @@
 -- What is asked of a network whose trace comes to an end line or to the growth of a link.
 -- Not trusted: no promise is read with it.
-use Rattle.std.specs.Prelude.{◌≡◌, ℕ, ◌≤◌, ◌<◌, true, false, List, length, slice_get, slice_index_or, Option, None, Some}
+use Rattle.std.specs.Prelude.{◌≡◌, ◌≢◌, ℕ, ◌*◌, ◌≤◌, ◌<◌, true, false, List, length, min, slice_get, slice_index_or, Option, None, Some}
 use Rattle.rvc_io.specs.Feeds.{Inputs}
 use Rattle.trace_text.specs.declared.line.Line.{Line}
 use Rattle.trace_text.specs.declared.line.Line.TheVariants.{Header as FirstLine, Inst, Fire, Deliver, Grow, Quiet, Trap as TrapLine, Stall, Budget}
@@ -12,9 +12,10 @@ use Rattle.net_model.specs.Laws.{AreLawful}
 use Rattle.net_model.specs.Trace.{OnNext, grown}
 use Rattle.net_model.specs.Wired.{IsWired}
 use Rattle.net_model.specs.Cell.{Cell}
-use Rattle.net_state.specs.Held.{Held}
+use Rattle.net_state.specs.Held.{Held, IsReader}
+use Rattle.net_state.specs.Moving.{IsWriter}
 use Rattle.net_state.specs.Standing.{IsTrueOfUnarrived, StandsIn, StandsSince}
-use Rattle.net_state.specs.Working.{AreFed, CanHold}
+use Rattle.net_state.specs.Working.{AreFed, CanHold, GrewTo}
 use Rattle.trace_replay.specs.Feeding.{StandsFed}
 use Rattle.trace_replay.specs.declared.source.Source.{Source}
 
@@ -64,10 +65,16 @@ EndsNotSo {X} grow line held sources feeds = (net : Network X) (opened s : State
 abbrev pub MayGrow : {X : Type 0} → ℕ → Held (Cell X) → ℕ → Type 0
 MayGrow grow held l = slice_index_or held.capacities l 0 < grow
 
--- the queues of each inner link can hold what it may grow to
+-- the queues of a link can hold so many tokens
+pub record HasQueuesFor {X : Type 0} (cells : List (Cell X)) (n : ℕ) (link : Link) : Type 0 where
+  pub writer : IsWriter cells link.from
+  pub reader : IsReader cells link.to
+  pub holds : CanHold cells n (Some link)
+
+-- .. and so can those of each inner link for what it may grow to
 abbrev pub CanGrow : {X : Type 0} → ℕ → List (Cell X) → List Link → Type 0
 CanGrow grow cells links = (l : ℕ) (link : Link) → slice_get links l ≡ Some link
-    → is_input link ≡ false → is_output link ≡ false → CanHold cells grow (Some link)
+    → is_input link ≡ false → is_output link ≡ false → HasQueuesFor cells grow link
 
 -- link l grew so: each state goes on by its growth; or it may not grow so
 abbrev pub GrowsSo : {X : Type 0} → ℕ → ℕ → ℕ → Held (Cell X) → Held (Cell X) → Type 0
@@ -80,3 +87,23 @@ abbrev pub GrowsNotSo : {X : Type 0} → ℕ → ℕ → ℕ → Held (Cell X) �
 GrowsNotSo {X} grow l capacity held = (net : Network X) (opened s : State X)
     → StandsSince net held opened s → IsWired net → AreLawful net → AreFed net s
     → Grows net grow s l capacity → ⊥
+
+-- a link that leads from a leaf to a leaf
+abbrev pub IsInner : Option Link → Type 0
+IsInner None = ⊥
+IsInner (Some link) = (is_input link ≡ false) × (is_output link ≡ false)
+
+-- each link can hold at least what it could at the start
+abbrev pub HoldEnough : List Link → List ℕ → Type 0
+HoldEnough links capacities = (l : ℕ) (link : Link) → slice_get links l ≡ Some link
+    → link.capacity ≤ slice_index_or capacities l 0
+
+-- link l grew to this capacity, which is twice what it could hold, at most the limit; or it may not
+pub record GrewAt {X : Type 0} (grow l capacity : ℕ) (old new : Held (Cell X)) : Type 0 where
+  pub below : MayGrow grow old l
+  pub doubled : capacity ≡ min (2 * slice_index_or old.capacities l 0) grow
+  pub grew : GrewTo l capacity old new
+
+abbrev pub GrewNotAt : {X : Type 0} → ℕ → ℕ → ℕ → Held (Cell X) → Type 0
+GrewNotAt grow l capacity held = IsInner (slice_get held.links l) → MayGrow grow held l
+    → capacity ≢ min (2 * slice_index_or held.capacities l 0) grow

@@ -4,6 +4,7 @@
 mod bytes;
 mod delivering;
 mod ending;
+mod growing;
 mod head;
 mod laws;
 mod reading;
