@@ -1,6 +1,7 @@
 -- What two calls in a row leave as it was.
-use Rattle.std.proofs.Common.{◌≡◌, ℕ, zero, suc, ◌<◌, ◌≤◌, false, List, [], ◌∷◌, length, refl, sym, ap, ◌∙◌, subst, arith}
+use Rattle.std.proofs.Common.{◌≡◌, ℕ, zero, suc, ◌<◌, ◌≤◌, false, List, [], ◌∷◌, ◌++◌, length, refl, sym, ap, ◌∙◌, subst, arith}
 use Rattle.std.specs.Prelude.{Option, None, Some, slice_get}
+use Rattle.std.proofs.lemmas.List.{take_at}
 use Rattle.rvc_io.specs.Count.{HasRisen}
 use Rattle.rvc_io.specs.Feeds.{Inputs, PullsOnlyAt}
 use Rattle.net_model.specs.Cell.{Cell, IsSameActor, number_on}
@@ -102,3 +103,7 @@ pub as_long : {A : Type 0} (xs : List A) (i : ℕ) (x : A) → length (Rattle.st
 as_long [] i x = refl
 as_long (y ∷ xs) zero x = refl
 as_long (y ∷ xs) (suc i) x = ap suc (as_long xs i x)
+
+-- a vector that was lent as a slice
+pub written_back : {A : Type 0} (items new : List A) (n : ℕ) → length new ≡ n → Rattle.std.specs.Prelude.take n (new ++ Rattle.std.specs.Prelude.drop (length new) items) ≡ new
+written_back items new n len = take_at new (Rattle.std.specs.Prelude.drop (length new) items) n len

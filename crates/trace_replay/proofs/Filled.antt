@@ -105,7 +105,7 @@ without n net s link at none =
 
 -- What is to come on other links stays.
 
-fed_still : {X : Type 0} (s next : State X) (m : ℕ) (link : Link) (source : Option (Option Source)) (feeds feeds_new : Inputs)
+pub fed_still : {X : Type 0} (s next : State X) (m : ℕ) (link : Link) (source : Option (Option Source)) (feeds feeds_new : Inputs)
     → slice_get next.flows m ≡ slice_get s.flows m → ((one : Source) → source ≡ Some (Some one) → feeds_new.left one.feed ≡ feeds.left one.feed)
     → ComesBy s m link source feeds → ComesBy next m link source feeds_new
 fed_still s next m link None feeds feeds_new same left comes = absurd comes

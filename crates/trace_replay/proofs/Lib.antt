@@ -17,3 +17,4 @@ pub mod Filled
 pub mod Settled
 pub mod Ended
 pub mod Widened
+pub mod Stepped

@@ -31,7 +31,7 @@ fire_comes t opened s next i a wired lawful since room h = record {
 }
 
 -- a delivery of an untrapped state
-untrapped_goes : {X : Type 0} (net : Network X) (s : State X) (trapped : Bool) → trapped ≡ false → (if trapped then None else Some (after_delivery net s)) ≡ Some (after_delivery net s)
+pub untrapped_goes : {X : Type 0} (net : Network X) (s : State X) (trapped : Bool) → trapped ≡ false → (if trapped then None else Some (after_delivery net s)) ≡ Some (after_delivery net s)
 untrapped_goes net s true e = cc
 untrapped_goes net s false e = refl
 
@@ -96,7 +96,7 @@ marks : {X : Type 0} (s : State X) (c d : TrapName) → d ≡ c → (if number_o
 marks s c d same = subst (λ e. (if number_of_trap c == number_of_trap e then Some (record s { trapped = true }) else None) ≡ Some (record s { trapped = true })) (sym same)
     (ap (λ b. if b then Some (record s { trapped = true }) else None) (alike c))
 
-trap_goes : {X : Type 0} (net : Network X) (opened s : State X) (i a : ℕ) (e : Option (Effect X)) (c : TrapName) → TrapComes net opened s i a e c → trap s c e ≡ Some (record s { trapped = true })
+pub trap_goes : {X : Type 0} (net : Network X) (opened s : State X) (i a : ℕ) (e : Option (Effect X)) (c : TrapName) → TrapComes net opened s i a e c → trap s c e ≡ Some (record s { trapped = true })
 trap_goes net opened s i a None c comes = absurd comes
 trap_goes net opened s i a (Some (Fires next sent)) c comes = absurd comes
 trap_goes net opened s i a (Some (TrapsInGuard d)) c comes = marks s c d comes
@@ -109,7 +109,7 @@ trap_counts net opened s i a (Some (Fires next sent)) c since comes = absurd com
 trap_counts net opened s i a (Some (TrapsInGuard d)) c since comes = fits_now net opened s since
 trap_counts net opened s i a (Some (TrapsInBody d)) c since comes = given_all net opened s i a since comes.1
 
-unless_trapped : {X : Type 0} (trapped : Bool) (o p : Option (State X)) → trapped ≡ false → o ≡ p → (if trapped then None else o) ≡ p
+pub unless_trapped : {X : Type 0} (trapped : Bool) (o p : Option (State X)) → trapped ≡ false → o ≡ p → (if trapped then None else o) ≡ p
 unless_trapped true o p e same = cc
 unless_trapped false o p e same = same
 

@@ -37,7 +37,7 @@ set_other (z ∷ xs) zero (suc k) x differ = refl
 set_other (z ∷ xs) (suc l) zero x differ = refl
 set_other (z ∷ xs) (suc l) (suc k) x differ = set_other xs l k x (λ e. differ (ap suc e))
 
-doubled_more : (n limit : ℕ) → n < limit → n ≤ min (2 * n) limit
+pub doubled_more : (n limit : ℕ) → n < limit → n ≤ min (2 * n) limit
 doubled_more n limit below = le-min (omega arith) (omega (arith, below))
 
 pub enough_after : (links : List Link) (capacities : List ℕ) (l limit capacity : ℕ) → slice_index_or capacities l 0 < limit → capacity ≡ min (2 * slice_index_or capacities l 0) limit

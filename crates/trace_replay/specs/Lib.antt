@@ -7,3 +7,4 @@ pub mod Head
 pub mod Trying
 pub mod Feeding
 pub mod Ending
+pub mod Between

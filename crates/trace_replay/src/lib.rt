@@ -1,7 +1,9 @@
 //! Replay of recorded traces: whether a text is a trace of a run, and if not, which line no run has and why.
 #![tactic(auto)]
 
+mod between;
 mod bytes;
+mod came;
 mod delivering;
 mod ending;
 mod growing;
