@@ -179,6 +179,52 @@ impl<A: Firing> Replay<A> {
             Err(feed) => Came::FeedFails(feed),
         }
     }
+
+    /// What comes of a line.
+    pub(crate) fn come<F: Feeds>(&mut self, line: &Line, feeds: &mut F) -> Came
+        requires ready { CanGoOn (between A.cell self.old.state self.old.sources.items
+            self.old.rested (F.feeds feeds.old)) self.old.links.items self.old.grow }
+        requires count { self.old.count ≡ length self.old.state.cells }
+        ensures goes { OnGoes result (GoesBy self.old.grow line.now
+            (between A.cell self.old.state self.old.sources.items self.old.rested
+            (F.feeds feeds.old))
+            (between A.cell self.new.state self.new.sources.items self.new.rested
+            (F.feeds feeds.new))) }
+        ensures still_ready { OnGoes result (CanGoOn (between A.cell self.new.state
+            self.new.sources.items self.new.rested (F.feeds feeds.new))
+            self.new.links.items self.new.grow) }
+        ensures ends { OnEnds result (EndsBy self.old.grow line.now
+            (between A.cell self.old.state self.old.sources.items self.old.rested
+            (F.feeds feeds.old))) }
+        ensures fails { IfFails result (FailsBy self.old.grow line.now
+            (between A.cell self.old.state self.old.sources.items self.old.rested
+            (F.feeds feeds.old))) }
+        ensures failed { OnFeedFails result (ReadFails F.feeds feeds.old feeds.new) }
+        ensures still_count { OnGoes result (self.new.count ≡ length self.new.state.cells) }
+        ensures grow { OnGoes result (self.new.grow ≡ self.old.grow) }
+        ensures links { OnGoes result (self.new.links ≡ self.old.links) }
+        ensures elsewhere { PullsInputs (F.feeds feeds.old) (F.feeds feeds.new) }
+    {
+        match *line {
+            Line::Fire { inst, action } => self.fire(inst, action, feeds),
+            Line::Deliver => self.deliver(feeds),
+            Line::Grow { link, capacity } => self.grow(link, capacity, feeds),
+            Line::Trap { inst, action, trap } => self.trap(inst, action, trap, feeds),
+            Line::Quiet => self.end(line, feeds),
+            Line::Stall {
+                inst: _,
+                action: _,
+                link: _,
+            } => self.end(line, feeds),
+            Line::Budget => self.end(line, feeds),
+            Line::Header {
+                instances: _,
+                links: _,
+                grow: _,
+            } => Came::Fails(Why::Header),
+            Line::Inst { inst: _ } => Came::Fails(Why::Header),
+        }
+    }
 }
 
 /// What comes of an end line, by whether it is true.
