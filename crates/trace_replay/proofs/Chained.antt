@@ -1,10 +1,9 @@
 -- What two calls in a row leave as it was.
-use Rattle.std.proofs.Common.{◌≡◌, ℕ, zero, suc, ◌<◌, ◌≤◌, false, List, [], ◌∷◌, ◌++◌, length, refl, sym, ap, ◌∙◌, subst, arith}
+use Rattle.std.proofs.Common.{◌≡◌, ℕ, zero, suc, ◌<◌, List, [], ◌∷◌, ◌++◌, length, refl, sym, ap, ◌∙◌, subst, arith}
 use Rattle.std.specs.Prelude.{Option, None, Some, slice_get}
 use Rattle.std.proofs.lemmas.List.{take_at}
-use Rattle.rvc_io.specs.Count.{HasRisen}
-use Rattle.rvc_io.specs.Feeds.{Inputs, PullsOnlyAt}
-use Rattle.net_model.specs.Cell.{Cell, IsSameActor, number_on}
+use Rattle.rvc_io.specs.Feeds.{Inputs}
+use Rattle.net_model.specs.Cell.{Cell, IsSameActor}
 use Rattle.net_state.specs.Moving.{SameActors, SameMarks}
 use Rattle.trace_replay.specs.Feeding.{PullsFor, PullsInputs}
 use Rattle.trace_replay.specs.declared.bytes.TheConstants.{TRACE_FEED}

@@ -1,12 +1,12 @@
 -- A delivery made link by link: inner and output links at once, and then each input link in turn.
-use Rattle.std.proofs.Common.{◌≡◌, ◌≢◌, ℕ, zero, suc, ◌+◌, ◌<◌, ◌≤◌, Bool, true, false, List, [], ◌∷◌, length, refl, sym, ap, subst, ◌∙◌, arith}
-use Rattle.std.specs.Prelude.{Option, None, Some, slice_get, slice_set, if◌then◌else◌}
+use Rattle.std.proofs.Common.{◌≡◌, ◌≢◌, ℕ, zero, suc, ◌+◌, ◌≤◌, Bool, true, false, List, [], ◌∷◌, length, refl, sym, ap, subst, ◌∙◌, arith}
+use Rattle.std.specs.Prelude.{Some, slice_get, slice_set, if◌then◌else◌}
 use Rattle.net_model.specs.declared.wiring.Link.{Link}
 use Rattle.net_model.specs.Network.{Network, is_input, is_output}
 use Rattle.net_model.specs.State.{Flow, State}
 use Rattle.net_model.specs.Event.{Deliver, after_arrival, each_flow, happens}
 use Rattle.net_model.specs.Trace.{after_delivery, arrivals, delivered}
-use Rattle.net_model.proofs.Arriving.{Arrived, arrived, arrived_unless}
+use Rattle.net_model.proofs.Arriving.{Arrived, arrived_unless}
 use Rattle.net_state.specs.Standing.{after_inside, inside_delivered}
 
 -- the first n links delivered, and of the others the inner and output links alone

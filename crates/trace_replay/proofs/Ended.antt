@@ -8,8 +8,8 @@ use Rattle.trace_text.specs.declared.line.Line.TheVariants.{Header as FirstLine,
 use Rattle.net_model.specs.declared.wiring.Link.{Link}
 use Rattle.net_model.specs.Network.{Network, is_input, is_output}
 use Rattle.net_model.specs.State.{Flow, State, untaken, capacity_at, capacity_of}
-use Rattle.net_model.specs.Ends.{AllArrived, IsBetween, IsQuiet, IsSettled, IsStalled, IsStuck, LacksRoom, LacksOn, all_fed, with_rest}
-use Rattle.net_model.specs.Event.{after_arrival, each_flow}
+use Rattle.net_model.specs.Ends.{AllArrived, IsQuiet, IsSettled, IsStalled, IsStuck, LacksRoom, LacksOn, all_fed, with_rest}
+use Rattle.net_model.specs.Event.{each_flow}
 use Rattle.net_model.specs.Laws.{AreLawful, StalledIsNotQuiet, StallsInOnePlace}
 use Rattle.net_model.specs.Trace.{after_delivery, arrivals, delivered}
 use Rattle.net_model.specs.Wired.{IsWired}
@@ -69,7 +69,6 @@ module _ {X : Type 0} (stalls_in_one_place : StallsInOnePlace X) (stalled_is_not
   one_end net grow s (Grow l c) other lawful p q = absurd p
 
 -- What a network that is stalled comes to.
-
 
 pub stall_link : {X : Type 0} (net : Network X) (s : State X) (i a l : ℕ) → IsStalled net s i a l → There net.links l
 stall_link net s i a l stalled = of_link (slice_get net.links l) refl stalled.lacks

@@ -9,8 +9,7 @@ use Rattle.net_model.specs.declared.wiring.Link.{Link}
 use Rattle.net_model.specs.Network.{Network, is_input}
 use Rattle.net_model.specs.State.{Flow, State, untaken}
 use Rattle.net_model.specs.Cell.{Cell}
-use Rattle.net_model.specs.Event.{Deliver, happens}
-use Rattle.net_model.specs.Trace.{after_delivery, arrivals, delivered}
+use Rattle.net_model.specs.Trace.{arrivals, delivered}
 use Rattle.net_model.proofs.Arriving.{Arrived, arrived_unless}
 use Rattle.net_model.proofs.Commuting.{get_other}
 use Rattle.net_state.specs.Filling.{AreArrivals, Arrives, Fills, IsFed, inflow}
@@ -19,7 +18,7 @@ use Rattle.net_state.specs.Standing.{IsOpened, StandsIn, StandsSince, after_insi
 use Rattle.trace_replay.specs.Feeding.{AreFedBy, ComesBy, FillsAll, FillsLink, HaveSources, IsReadable, IsSourceOf, PullsFor, PullsInputs, StandsFed, count_inputs, feed_of}
 use Rattle.trace_replay.specs.declared.bytes.TheConstants.{TRACE_FEED}
 use Rattle.trace_replay.specs.declared.source.Source.{Source}
-use Rattle.trace_replay.proofs.Delivered.{ends_delivered, input_so, nothing_arrives, others_so, partly, partly_delivered, passes_inner, passes_input, same_so, starts_inside}
+use Rattle.trace_replay.proofs.Delivered.{ends_delivered, input_so, nothing_arrives, others_so, partly, partly_delivered, passes_input, same_so, starts_inside}
 
 -- Feeds of different links.
 

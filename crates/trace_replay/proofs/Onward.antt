@@ -1,5 +1,5 @@
 -- Lines of a run that may come: a firing, a trap and a delivery, from what is known of cells.
-use Rattle.std.proofs.Common.{◌≡◌, ℕ, ◌+◌, ◌<◌, ◌≤◌, Bool, true, false, List, [], ◌++◌, length, refl, sym, ap, subst, ◌∙◌, ⊎_elim, arith, append-nil}
+use Rattle.std.proofs.Common.{◌≡◌, ℕ, ◌+◌, ◌≤◌, Bool, true, false, [], ◌++◌, length, refl, sym, ap, subst, ◌∙◌, ⊎_elim, arith, append-nil}
 use Rattle.std.specs.Prelude.{Option, None, Some, slice_get, if◌then◌else◌, ◌==◌, replicate, pos}
 use Rattle.std.proofs.lemmas.Bool.{cases_lt, eqb-true}
 use Rattle.std.proofs.lemmas.List.{length-append, length-replicate}
@@ -12,12 +12,12 @@ use Rattle.net_model.specs.declared.wiring.End.TheVariants.{Leaf as AtLeaf, Net 
 use Rattle.net_model.specs.declared.wiring.Link.{Link}
 use Rattle.net_model.specs.Network.{Network}
 use Rattle.net_model.specs.State.{Flow, State, effect_at, give_of}
-use Rattle.net_model.specs.Event.{Fire, Trap, each_flow, happens, number_of_trap, trap}
-use Rattle.net_model.specs.Trace.{FitFlows, after_delivery, counted_flows, goes, held_since, with_given}
+use Rattle.net_model.specs.Event.{Fire, each_flow, happens, number_of_trap, trap}
+use Rattle.net_model.specs.Trace.{FitFlows, after_delivery, counted_flows, held_since, with_given}
 use Rattle.net_model.specs.Wired.{IsWired}
 use Rattle.net_model.specs.Laws.{AreLawful, HasFlows}
 use Rattle.net_model.specs.Paced.{HasRoomIn, PassesLink, PassesRoom}
-use Rattle.net_model.proofs.Keeping.{Changed, Since, SinceOpened, changed, deliver_since, fire_since, fit_each, fits_now}
+use Rattle.net_model.proofs.Keeping.{Since, SinceOpened, changed, deliver_since, fire_since, fit_each, fits_now}
 use Rattle.trace_replay.specs.Judging.{MayCome, Trial, TrapComes}
 
 -- a firing that has room

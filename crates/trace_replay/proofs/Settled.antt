@@ -1,12 +1,12 @@
 -- Whether all that was sent inside has arrived.
-use Rattle.std.proofs.Common.{◌≡◌, ◌≢◌, ℕ, zero, suc, ◌+◌, ◌-◌, ◌<◌, ◌≤◌, Bool, true, false, List, [], ◌∷◌, ℤ, length, drop, refl, sym, ap, subst, ◌∙◌, ⊎_elim, arith}
+use Rattle.std.proofs.Common.{◌≡◌, ◌≢◌, ℕ, zero, suc, ◌+◌, ◌-◌, ◌<◌, ◌≤◌, false, List, [], ◌∷◌, length, refl, sym, ap, subst, ◌∙◌, ⊎_elim, arith}
 use Rattle.std.specs.Prelude.{Option, None, Some, slice_get, ◌==◌}
 use Rattle.std.proofs.lemmas.Bool.{cases_eq, cases_lt}
 use Rattle.std.proofs.lemmas.List.{length-drop}
 use Rattle.net_model.specs.declared.wiring.Link.{Link}
 use Rattle.net_model.specs.Network.{Network, is_input}
 use Rattle.net_model.specs.State.{Flow, State}
-use Rattle.net_model.specs.Ends.{AllArrived, IsSettled}
+use Rattle.net_model.specs.Ends.{AllArrived}
 use Rattle.net_model.specs.Cell.{Cell}
 use Rattle.net_state.specs.Held.{Held}
 use Rattle.net_state.specs.Standing.{IsTrueOfUnarrived, StandsIn, unarrived}

@@ -1,15 +1,15 @@
 -- The state in which a run begins is just opened: nothing was sent inside, and what waits was counted.
-use Rattle.std.proofs.Common.{◌≡◌, ℕ, zero, suc, ◌+◌, ◌-◌, ◌≤◌, Bool, true, false, List, [], ◌∷◌, ◌++◌, ℤ, length, map, refl, sym, ap, subst, ◌∙◌, arith, append-nil}
-use Rattle.std.specs.Prelude.{Option, None, Some, slice_get, slice_index_or}
+use Rattle.std.proofs.Common.{◌≡◌, ℕ, zero, suc, ◌≤◌, false, List, [], ◌∷◌, ◌++◌, length, map, refl, sym, ap, subst, ◌∙◌, arith, append-nil}
+use Rattle.std.specs.Prelude.{Some, slice_get, slice_index_or}
 use Rattle.std.proofs.lemmas.List.{length-map}
 use Rattle.net_model.specs.declared.wiring.End.{End}
 use Rattle.net_model.specs.declared.wiring.End.TheVariants.{Leaf as AtLeaf, Net as AtNet}
 use Rattle.net_model.specs.declared.wiring.Link.{Link}
 use Rattle.net_model.specs.Network.{Network, NetPort, is_input, is_outside}
-use Rattle.net_model.specs.State.{Flow, State, fed_by, untaken}
-use Rattle.net_model.specs.Trace.{FitFlows, held_since}
+use Rattle.net_model.specs.State.{Flow, fed_by}
+use Rattle.net_model.specs.Trace.{FitFlows}
 use Rattle.net_model.specs.Cell.{Cell}
-use Rattle.net_model.specs.Ready.{HasQueues, IsReady, given_flow, given_state, waiting_at}
+use Rattle.net_model.specs.Ready.{IsReady, given_flow, given_state, waiting_at}
 use Rattle.net_model.proofs.Keeping.{Since, SinceOpened, fits_now}
 use Rattle.net_state.specs.Held.{AreCounted}
 use Rattle.net_state.specs.Standing.{IsOpened, IsSince}

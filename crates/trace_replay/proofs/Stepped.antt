@@ -1,7 +1,6 @@
 -- What a line does to a network between two lines.
-use Rattle.std.proofs.Common.{◌≡◌, ◌≢◌, ℕ, zero, suc, ◌+◌, ◌-◌, ◌*◌, ◌<◌, ◌≤◌, ◌⊎◌, min, Bool, true, false, List, [], ◌∷◌, ◌++◌, ℤ, length, drop, refl, sym, ap, subst, ◌∙◌, inl, inr, ⊎_elim, arith, append-nil}
-use Rattle.std.specs.Prelude.{Option, None, Some, slice_get, slice_set, if◌then◌else◌}
-use Rattle.std.proofs.lemmas.Bool.{cases_eq}
+use Rattle.std.proofs.Common.{◌≡◌, ℕ, zero, suc, ◌≤◌, Bool, true, false, List, [], ◌∷◌, ◌++◌, ℤ, drop, refl, sym, ap, subst, ◌∙◌, inl, ⊎_elim, arith, append-nil}
+use Rattle.std.specs.Prelude.{Option, None, Some, slice_get, slice_set}
 use Rattle.rvc_base.specs.declared.trap.Trap.{Trap as TrapName}
 use Rattle.rvc_io.specs.Feeds.{Inputs}
 use Rattle.trace_text.specs.declared.line.Line.{Line}
@@ -9,38 +8,32 @@ use Rattle.trace_text.specs.declared.line.Line.TheVariants.{Header as FirstLine,
 use Rattle.net_model.specs.declared.wiring.End.{End}
 use Rattle.net_model.specs.declared.wiring.End.TheVariants.{Leaf as AtLeaf, Net as AtNet}
 use Rattle.net_model.specs.declared.wiring.Link.{Link}
-use Rattle.net_model.specs.Network.{Network, is_input, is_output, is_outside}
-use Rattle.net_model.specs.State.{Flow, State, capacity_at, capacity_of, effect_at, give_of, need_of, untaken}
+use Rattle.net_model.specs.Network.{Network, is_input, is_outside}
+use Rattle.net_model.specs.State.{Flow, State, effect_at, give_of, need_of, untaken}
 use Rattle.net_model.specs.Ends.{Grows, IsStalled, LacksOn, all_fed, with_rest}
-use Rattle.net_model.specs.Event.{Fire as FireEvent, after_firing, each_flow, happens, sent_on, taken_from, trap}
-use Rattle.net_model.specs.Laws.{AreLawful}
-use Rattle.net_model.specs.Paced.{HasRoomIn}
-use Rattle.net_model.specs.Trace.{OnNext, after_delivery, goes, grown}
-use Rattle.net_model.specs.Wired.{IsWired}
+use Rattle.net_model.specs.Event.{Fire as FireEvent, after_firing, each_flow, happens, sent_on, trap}
+use Rattle.net_model.specs.Trace.{after_delivery, grown}
 use Rattle.net_model.specs.Cell.{Cell}
 use Rattle.net_model.proofs.Commuting.{Fired, fired_unless}
 use Rattle.net_model.proofs.Keeping.{Changed, changed}
 use Rattle.net_model.proofs.KeepingRuns.{set_is}
 use Rattle.net_state.specs.Held.{Held}
 use Rattle.net_state.specs.Moving.{SameActors, SameMarks}
-use Rattle.net_state.specs.Standing.{StandsIn, StandsSince, unarrived}
-use Rattle.net_state.specs.Working.{AreFed, IsAtRest}
-use Rattle.trace_replay.specs.Between.{Between, CanGoOn, EndsBy, FailsBy, GoesBy, IsAt, IsDue, OnEnds, Steps, is_still_end}
-use Rattle.trace_replay.specs.Ending.{CanGrow, EndsNotSo, EndsSo, FitInputs, GrowsNotSo, GrowsSo, HoldEnough, IsTrueEnd}
-use Rattle.trace_replay.specs.Feeding.{AreFedBy, ComesBy, DeliversAll, HaveSources, StandsFed}
+use Rattle.net_state.specs.Standing.{StandsSince, unarrived}
+use Rattle.net_state.specs.Working.{IsAtRest}
+use Rattle.trace_replay.specs.Between.{CanGoOn, EndsBy, FailsBy, GoesBy, IsAt, OnEnds, Steps, is_still_end}
+use Rattle.trace_replay.specs.Ending.{EndsNotSo, EndsSo, GrowsNotSo, GrowsSo, HoldEnough, IsTrueEnd}
+use Rattle.trace_replay.specs.Feeding.{ComesBy, DeliversAll, HaveSources}
 use Rattle.trace_replay.specs.Judging.{EventFails, TrapComes, Trial}
-use Rattle.trace_replay.specs.Trying.{AllWork, FailsToFire, FiresOn, TrapsNotSo, TrapsSo}
+use Rattle.trace_replay.specs.Trying.{AllWork, FiresOn, TrapsNotSo, TrapsSo}
 use Rattle.trace_replay.specs.declared.came.Came.{Came}
 use Rattle.trace_replay.specs.declared.came.Came.TheVariants.{Goes, Ends, Fails, FeedFails}
 use Rattle.trace_replay.specs.declared.source.Source.{Source}
-use Rattle.trace_replay.specs.declared.why.Why.{Why}
 use Rattle.trace_replay.specs.declared.why.Why.TheVariants.{End as EndIs, Trap}
-use Rattle.trace_replay.proofs.Chained.{There, there}
 use Rattle.trace_replay.proofs.Ended.{fed_after, fits_after, untrapped_after}
-use Rattle.trace_replay.proofs.Filled.{fed_still}
 use Rattle.trace_replay.proofs.Onward.{trap_goes, unless_trapped, untrapped_goes}
 use Rattle.trace_replay.proofs.Traces.{next_of}
-use Rattle.trace_replay.proofs.Widened.{can_grow_after, doubled_more}
+use Rattle.trace_replay.proofs.Widened.{can_grow_after}
 
 -- A firing: from outside nothing comes, and nothing is lost.
 
@@ -73,8 +66,7 @@ fired_goes {X} grow i a held new sources rested feeds fires t opened s same wire
     (happens t.net s (FireEvent i a)) (λ next. StandsSince t.net new opened next)
     (λ u h stands.
     let one : Fired t.net s u i a = fired_unless t.net s u i a s.trapped refl h in
-    let change : Link → Flow → Flow = after_firing i (need_of (slice_get t.net.leaves i) a) one.sent in
-    (
+    let change : Link → Flow → Flow = after_firing i (need_of (slice_get t.net.leaves i) a) one.sent in (
       u,
       record { is_true = tt; goes_so = h; is_due = both.0 },
       record {
@@ -246,8 +238,7 @@ grown_goes {X} grow l capacity held new sources feeds grows t opened s same wire
     ((next : State X) × Steps t opened s (Grow l capacity) next × IsAt t.net (record { held = new; sources = sources; rested = true; feeds = feeds }) opened next)
     (grown s l capacity (slice_get s.flows l)) (λ next. StandsSince t.net new opened next)
     (λ u h stands.
-    let to : Grown s u l capacity = grown_is s u l capacity (slice_get s.flows l) refl h in
-    (
+    let to : Grown s u l capacity = grown_is s u l capacity (slice_get s.flows l) refl h in (
       u,
       record { is_true = subst (λ g. Grows t.net g s l capacity) (sym same) both.0; goes_so = h; is_due = tt },
       record {

@@ -1,5 +1,5 @@
 -- The growth of a link at a stall.
-use Rattle.std.proofs.Common.{◌≡◌, ◌≢◌, ℕ, zero, suc, ◌+◌, ◌-◌, ◌*◌, ◌<◌, ◌≤◌, min, Bool, true, false, List, [], ◌∷◌, length, refl, sym, ap, subst, ◌∙◌, ⊎_elim, arith}
+use Rattle.std.proofs.Common.{◌≡◌, ◌≢◌, ℕ, zero, suc, ◌*◌, ◌<◌, ◌≤◌, min, Bool, true, false, List, [], ◌∷◌, length, refl, sym, ap, subst, ◌∙◌, ⊎_elim, arith}
 use Rattle.std.specs.Prelude.{Option, None, Some, slice_get, slice_set, slice_index_or, if◌then◌else◌}
 use Rattle.std.proofs.Math.Nat.{le-min}
 use Rattle.std.proofs.lemmas.Bool.{cases_eq}
@@ -7,10 +7,9 @@ use Rattle.net_model.specs.declared.wiring.End.{End}
 use Rattle.net_model.specs.declared.wiring.End.TheVariants.{Leaf as AtLeaf, Net as AtNet}
 use Rattle.net_model.specs.declared.wiring.Link.{Link}
 use Rattle.net_model.specs.Network.{Leaf, Network, is_input, is_output, is_outside}
-use Rattle.net_model.specs.State.{Flow, State, untaken, capacity_at, give_of}
-use Rattle.net_model.specs.Ends.{Grows, HasLessRoom, IsQuiet, IsStalled, LacksOn, all_fed, with_rest}
-use Rattle.net_model.specs.Event.{each_flow}
-use Rattle.net_model.specs.Laws.{AreLawful, StalledIsNotQuiet, StallsInOnePlace}
+use Rattle.net_model.specs.State.{Flow, State, capacity_at, give_of}
+use Rattle.net_model.specs.Ends.{HasLessRoom, IsQuiet, IsStalled, LacksOn, all_fed, with_rest}
+use Rattle.net_model.specs.Laws.{StalledIsNotQuiet, StallsInOnePlace}
 use Rattle.net_model.specs.Trace.{OnNext, grown}
 use Rattle.net_model.specs.Wired.{CoversGives, HoldsGives, IsWired}
 use Rattle.net_model.specs.Cell.{Cell, number_on}
@@ -20,7 +19,7 @@ use Rattle.net_state.specs.Held.{Held, IsReader}
 use Rattle.net_state.specs.Moving.{IsWriter, SameActors}
 use Rattle.net_state.specs.Standing.{StandsIn, StandsSince}
 use Rattle.net_state.specs.Working.{AreFed, CanHold}
-use Rattle.trace_replay.specs.Ending.{CanGrow, HasQueuesFor, GrewAt, GrewNotAt, GrowsNotSo, GrowsSo, HoldEnough, IsInner, MayGrow}
+use Rattle.trace_replay.specs.Ending.{CanGrow, HasQueuesFor, GrewAt, GrewNotAt, GrowsNotSo, GrowsSo, HoldEnough, IsInner}
 use Rattle.trace_replay.proofs.Chained.{There, there}
 use Rattle.trace_replay.proofs.Ended.{capacity_is, stall_link}
 

@@ -1,6 +1,5 @@
 use Rattle.std.proofs.Common.{map}
 use Rattle.net_state.specs.Held.{seen}
-use Rattle.trace_replay.specs.Feeding.{DeliversAll, FillsAll}
 use Rattle.trace_replay.proofs.Chained.{marks_then, same_then}
 use Rattle.trace_replay.proofs.Filled.{delivered_all, on_ok_after}
 use Rattle.trace_replay.proofs.delivering.deliver_all.Goals as goal

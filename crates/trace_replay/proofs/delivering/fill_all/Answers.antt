@@ -1,5 +1,5 @@
-use Rattle.std.proofs.Common.{◌≡◌, ◌<◌, ◌≤◌, ◌+◌, length, map, refl, sym, ap, subst, ◌∙◌, arith}
-use Rattle.std.specs.Prelude.{Some, slice_get, slice_set, slice_index_or}
+use Rattle.std.proofs.Common.{◌≡◌, ◌<◌, length, map, refl, ◌∙◌, arith}
+use Rattle.std.specs.Prelude.{Some, slice_get, slice_index_or}
 use Rattle.net_state.specs.Held.{seen}
 use Rattle.trace_replay.proofs.Chained.{as_long, at_or, inputs_of, inputs_start, inputs_then, low_there, marks_start, marks_then, same_start, same_then}
 use Rattle.trace_replay.proofs.Filled.{filled_all, filled_more, filled_none, input_there, is_readable, no_trace_of, sources_more}

@@ -1,4 +1,4 @@
-use Rattle.std.proofs.Common.{◌≡◌, ◌<◌, ◌≤◌, length, sym, subst, ◌∙◌}
+use Rattle.std.proofs.Common.{◌<◌, length, subst, ◌∙◌}
 use Rattle.net_state.specs.Held.{seen}
 use Rattle.trace_replay.proofs.Ended.{stalled_end}
 use Rattle.trace_replay.proofs.ending.end_line.Goals as goal

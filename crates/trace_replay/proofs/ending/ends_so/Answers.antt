@@ -1,4 +1,4 @@
-use Rattle.std.proofs.Common.{◌≡◌, map}
+use Rattle.std.proofs.Common.{map}
 use Rattle.net_state.specs.Held.{seen}
 use Rattle.trace_replay.proofs.Ended.{ends_no, ends_yes, untrapped_after}
 use Rattle.trace_replay.proofs.ending.ends_so.Goals as goal

@@ -1,4 +1,4 @@
-use Rattle.std.proofs.Common.{◌≡◌, ◌<◌, ◌≢◌, ℕ, refl, sym, ap, subst, ◌∙◌, arith, length}
+use Rattle.std.proofs.Common.{refl, sym, ◌∙◌}
 use Rattle.net_state.specs.Held.{seen}
 use Rattle.trace_replay.proofs.Settled.{out_not, positive}
 use Rattle.trace_replay.proofs.ending.is_out.Goals as goal

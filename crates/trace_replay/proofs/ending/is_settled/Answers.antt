@@ -1,4 +1,4 @@
-use Rattle.std.proofs.Common.{◌≡◌, ◌<◌, ◌≤◌, length, refl, sym, ap, subst, ◌∙◌, arith}
+use Rattle.std.proofs.Common.{arith}
 use Rattle.net_state.specs.Held.{seen}
 use Rattle.trace_replay.proofs.Settled.{out_all, out_next}
 use Rattle.trace_replay.proofs.ending.is_settled.Goals as goal

@@ -1,5 +1,4 @@
-use Rattle.std.proofs.Common.{◌≡◌, map, sym, subst}
-use Rattle.std.specs.Prelude.{slice_set}
+use Rattle.std.proofs.Common.{map, sym, subst}
 use Rattle.trace_replay.specs.Ending.{HoldEnough}
 use Rattle.trace_replay.proofs.Widened.{can_hold, enough_after}
 use Rattle.trace_replay.proofs.growing.grow_at.Goals as goal

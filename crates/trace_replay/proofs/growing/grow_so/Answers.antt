@@ -1,7 +1,7 @@
-use Rattle.std.proofs.Common.{◌≡◌, length, map, sym, subst, ◌∙◌}
+use Rattle.std.proofs.Common.{map, sym, subst}
 use Rattle.net_state.specs.Held.{seen}
 use Rattle.trace_replay.specs.Ending.{HoldEnough}
-use Rattle.trace_replay.proofs.Widened.{can_grow_after, going_no, grows_no, grows_yes, quiet_no}
+use Rattle.trace_replay.proofs.Widened.{can_grow_after, grows_no, grows_yes}
 use Rattle.trace_replay.proofs.growing.grow_so.Goals as goal
 
 pub grow_at-requires-clause-queues : goal.grow_at-requires-clause-queues

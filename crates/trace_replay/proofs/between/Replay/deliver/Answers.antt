@@ -1,5 +1,4 @@
-use Rattle.std.proofs.Common.{◌≡◌, ◌++◌, true, length, sym, subst, ◌∙◌, arith}
-use Rattle.std.specs.Prelude.{take, drop}
+use Rattle.std.proofs.Common.{◌≡◌, true, length, sym, subst, arith}
 use Rattle.net_state.specs.Held.{seen}
 use Rattle.trace_replay.specs.Between.{CanGoOn, GoesBy, between}
 use Rattle.trace_replay.specs.Feeding.{DeliversAll}

@@ -1,4 +1,4 @@
-use Rattle.std.proofs.Common.{◌≡◌, true, sym, subst}
+use Rattle.std.proofs.Common.{sym, subst}
 use Rattle.net_state.specs.Held.{seen}
 use Rattle.trace_text.specs.declared.line.Line.TheVariants.{Grow}
 use Rattle.trace_replay.specs.Between.{CanGoOn, GoesBy, between}
