@@ -18,3 +18,4 @@ pub mod Settled
 pub mod Ended
 pub mod Widened
 pub mod Stepped
+pub mod Whole

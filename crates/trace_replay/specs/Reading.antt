@@ -1,6 +1,6 @@
 -- How far a trace was read, and why it wasn't read on.
 -- Not trusted: no promise is read with it.
-use Rattle.std.specs.Prelude.{◌≡◌, ℕ, ◌≤◌, Bool, true, false, List, ◌++◌, length, Option, Some, Result, Ok, Err}
+use Rattle.std.specs.Prelude.{◌≡◌, ◌≢◌, ℕ, ◌≤◌, Bool, true, false, List, [], ◌++◌, length, Option, None, Some, Result, Ok, Err}
 use Rattle.std.specs.List.{concat}
 use Rattle.trace_text.specs.declared.line.Line.{Line}
 use Rattle.net_model.specs.State.{State}
@@ -75,3 +75,9 @@ pub record IsWhole {X : Type 0} (t : Trial X) (text : List ℕ) (end : Line) (la
   pub is_text : text ≡ concat texts
   pub lead : Lead t AtFirst texts (AtEnd end last)
   pub within : length text ≤ max_trace_bytes
+
+-- a byte is to come, or none, if that is told
+abbrev pub TellsRest : Bool → Option (List ℕ) → Type 0
+TellsRest so None = Unit {0}
+TellsRest true (Some rest) = rest ≢ []
+TellsRest false (Some rest) = rest ≡ []
