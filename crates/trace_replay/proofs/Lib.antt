@@ -9,3 +9,13 @@ pub mod Scanned
 pub mod Reached
 pub mod Heads
 pub mod Tried
+pub mod Starting
+pub mod Onward
+pub mod Chained
+pub mod Delivered
+pub mod Filled
+pub mod Settled
+pub mod Ended
+pub mod Widened
+pub mod Stepped
+pub mod Whole

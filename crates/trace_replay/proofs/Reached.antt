@@ -70,7 +70,7 @@ reached_more t text expected n passed passed_new reached next before after line 
 -- Lines with which it isn't.
 
 -- the first of two parts is within the length
-take_within : (max : ℕ) (front rest : List ℕ) → length front ≤ max → take max (front ++ rest) ≡ front ++ take (max - length front) rest
+pub take_within : (max : ℕ) (front rest : List ℕ) → length front ≤ max → take max (front ++ rest) ≡ front ++ take (max - length front) rest
 take_within max front rest within =
     let parts : max ≡ length front + (max - length front) = omega (arith, within) in
     ap (λ n. take n (front ++ rest)) parts ∙ take-append-add front rest (max - length front)
@@ -81,7 +81,7 @@ pub record IsLonger (max n : ℕ) : Type 0 where
   pub longer_so : longer ≡ true → max < n
   pub not_so : longer ≡ false → n ≤ max
 
-is_longer : (max n : ℕ) → IsLonger max n
+pub is_longer : (max n : ℕ) → IsLonger max n
 is_longer max n = ⊎_elim (λ low. record { longer = true; longer_so = λ e. low; not_so = λ e. cc })
     (λ high. record { longer = false; longer_so = λ e. cc; not_so = λ e. omega (arith, high) }) (cases_lt max n)
 

@@ -4,9 +4,10 @@ use Rattle.std.specs.Prelude.{◌≡◌, ℕ, ◌+◌, List, ◌++◌, map, code
 use Rattle.rvc_io.specs.Feeds.{Inputs}
 use Rattle.port_files.specs.Coming.{coming_on}
 use Rattle.net_model.specs.Network.{Leaf}
+use Rattle.net_model.specs.State.{State}
 use Rattle.trace_text.specs.declared.line.Line.{Line}
-use Rattle.trace_replay.specs.Judging.{Trial, Reached, AtEvents, AtFirst, AtInstance, due, first_line}
-use Rattle.trace_replay.specs.Reading.{HasReached, IsJudged}
+use Rattle.trace_replay.specs.Judging.{Trial, Reached, AtEnd, AtEvents, AtFirst, AtInstance, due, first_line}
+use Rattle.trace_replay.specs.Reading.{HasReached, IsJudged, IsWhole}
 use Rattle.trace_replay.specs.declared.bytes.TheConstants.{TRACE_FEED}
 use Rattle.trace_replay.specs.declared.reading.Trace.{Trace}
 use Rattle.trace_replay.specs.declared.why.ReplayFault.{ReplayFault}
@@ -74,3 +75,13 @@ PassesHead X first names old before new after = (t : Trial X) (text : List ℕ)
 abbrev pub JudgesHead : (X : Type 0) → Line → List (List ℕ) → Trace → Inputs → ReplayFault → Type 0
 JudgesHead X first names old before fault = (t : Trial X) (text : List ℕ)
     → IsHeadOf t old.grow first names → StandsAt t text old before AtFirst → IsJudged t text fault
+
+-- The trace ends behind its end line, or goes on.
+
+abbrev pub PassesEnd : (X : Type 0) → Trace → Inputs → Type 0
+PassesEnd X old before = (t : Trial X) (text : List ℕ) (end : Line) (last : State X)
+    → StandsAt t text old before (AtEnd end last) → IsWhole t text end last
+
+abbrev pub JudgesEnd : (X : Type 0) → Trace → Inputs → ReplayFault → Type 0
+JudgesEnd X old before fault = (t : Trial X) (text : List ℕ) (end : Line) (last : State X)
+    → StandsAt t text old before (AtEnd end last) → IsJudged t text fault

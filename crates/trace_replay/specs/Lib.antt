@@ -5,3 +5,6 @@ pub mod Scanning
 pub mod Reading
 pub mod Head
 pub mod Trying
+pub mod Feeding
+pub mod Ending
+pub mod Between

@@ -1,9 +1,10 @@
 -- How far a trace was read, and why it wasn't read on.
 -- Not trusted: no promise is read with it.
-use Rattle.std.specs.Prelude.{◌≡◌, ℕ, ◌≤◌, Bool, true, false, List, ◌++◌, length, Option, Some, Result, Ok, Err}
+use Rattle.std.specs.Prelude.{◌≡◌, ◌≢◌, ℕ, ◌≤◌, Bool, true, false, List, [], ◌++◌, length, Option, None, Some, Result, Ok, Err}
 use Rattle.std.specs.List.{concat}
 use Rattle.trace_text.specs.declared.line.Line.{Line}
-use Rattle.trace_replay.specs.Judging.{Trial, Reached, AtFirst, Lead, IsNotRun, is_of_table, max_trace_bytes}
+use Rattle.net_model.specs.State.{State}
+use Rattle.trace_replay.specs.Judging.{Trial, Reached, AtEnd, AtFirst, Lead, IsNotRun, is_of_table, max_trace_bytes}
 use Rattle.trace_replay.specs.Scanning.{IsWithin, Scans}
 use Rattle.trace_replay.specs.declared.bytes.TheConstants.{TRACE_FEED}
 use Rattle.trace_replay.specs.declared.scan.Scanned.{Scanned}
@@ -66,3 +67,17 @@ abbrev pub IsJudged : {X : Type 0} → Trial X → List ℕ → ReplayFault → 
 IsJudged t text (NotRun line why) = IsNotRun t text line why
 IsJudged t text (ReadFault feed) = Unit {0}
 IsJudged t text Memory = Unit {0}
+
+-- The trace was read to its end: whole lines lead to its end line, and it is not too long.
+pub record IsWhole {X : Type 0} (t : Trial X) (text : List ℕ) (end : Line) (last : State X) :
+    Type 0 where
+  pub texts : List (List ℕ)
+  pub is_text : text ≡ concat texts
+  pub lead : Lead t AtFirst texts (AtEnd end last)
+  pub within : length text ≤ max_trace_bytes
+
+-- a byte is to come, or none, if that is told
+abbrev pub TellsRest : Bool → Option (List ℕ) → Type 0
+TellsRest so None = Unit {0}
+TellsRest true (Some rest) = rest ≢ []
+TellsRest false (Some rest) = rest ≡ []

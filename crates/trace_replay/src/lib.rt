@@ -1,11 +1,18 @@
 //! Replay of recorded traces: whether a text is a trace of a run, and if not, which line no run has and why.
 #![tactic(auto)]
 
+mod between;
 mod bytes;
+mod came;
+mod delivering;
+mod ending;
+mod growing;
 mod head;
 mod laws;
 mod reading;
 mod scan;
+mod source;
+mod states;
 mod trying;
 mod why;
 

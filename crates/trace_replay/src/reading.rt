@@ -1,9 +1,10 @@
 //! The lines of a trace, with their numbers.
 
-ghost use Rattle.std.specs.Prelude.{◌≡◌, ◌≤◌, ◌+◌, ◌++◌, [], true, false, IfOk, IfErr, OnErr};
+ghost use Rattle.std.specs.Prelude.{◌≡◌, ◌≤◌, ◌+◌, ◌++◌, [], true, false, IfOk, IfErr, OnErr, OnOk};
 ghost use Rattle.rvc_io.specs.Feeds.{PullsOnly, ReadFails};
 ghost use Rattle.port_files.specs.Coming.{coming_on};
 ghost use Rattle.trace_text.specs.Text.{line_feed};
+ghost use Rattle.trace_replay.specs.Head.{JudgesEnd, PassesEnd};
 ghost use Rattle.trace_replay.specs.Judging.{is_of_table as of_table};
 ghost use Rattle.trace_replay.specs.declared.scan.Scanned.TheVariants as scanned;
 ghost use Rattle.trace_replay.specs.declared.why.ReplayFault.TheVariants as fault;
@@ -13,6 +14,7 @@ ghost use Rattle.trace_replay.specs.declared.bytes.TheConstants.{TRACE_FEED};
 use crate::bytes::TRACE_FEED;
 use crate::scan::{Scanned, TraceLines};
 use crate::why::{ReplayFault, Why};
+use net_model::Firing;
 use rvc_base::Memory;
 use rvc_io::Feeds;
 use std::alloc::Global;
@@ -98,6 +100,36 @@ impl Trace {
         }
         read
     }
+}
+
+/// Whether the trace ends behind its end line.
+///
+/// # Errors
+///
+/// `NotRun` if it goes on: with `TooLong` past the greatest length of a trace. `ReadFault` if bytes couldn't be pulled.
+pub(crate) fn finish<A: Firing, F: Feeds>(
+    trace: &mut Trace,
+    feeds: &mut F,
+) -> Result<(), ReplayFault>
+    requires open { (F.feeds feeds.old).is_open TRACE_FEED ≡ true }
+    requires counted { IsCounted trace.old.count trace.old.lines.passed }
+    ensures whole { OnOk result (PassesEnd A.State trace.old (F.feeds feeds.old)) }
+    ensures judged { IfErr result (JudgesEnd A.State trace.old (F.feeds feeds.old)) }
+    ensures failed { OnReadFault result (ReadFails F.feeds feeds.old feeds.new) }
+    ensures elsewhere { PullsOnly F.feeds feeds.old feeds.new TRACE_FEED }
+{
+    let full = trace.lines.is_full();
+    let number = trace.count + 1;
+    let Ok(more) = trace.lines.goes_on(feeds) else {
+        return Err(ReplayFault::ReadFault { feed: TRACE_FEED });
+    };
+    if !more {
+        return Ok(());
+    }
+    if full {
+        return Err(not_run(number, Why::TooLong));
+    }
+    Err(not_run(number, Why::After))
 }
 
 /// Whether a line is of the table for a trace in which links grow up to this.

@@ -1,10 +1,11 @@
 //! Reads a trace line by line.
 
-ghost use Rattle.std.specs.Prelude.{◌≡◌, ◌≤◌, ◌++◌, ◌∷◌, ℕ, List, [], true, IfOk, OnErr, Some, length, slice_get};
+ghost use Rattle.std.specs.Prelude.{◌≡◌, ◌<◌, ◌≤◌, ◌++◌, ◌∷◌, ℕ, List, [], true, false, IfOk, OnErr, Some, length, slice_get};
 ghost use Rattle.rvc_io.specs.Feeds.{PullsOnly, ReadFails};
 ghost use Rattle.port_files.specs.Coming.{coming_on};
 ghost use Rattle.trace_text.specs.Text.{line_feed};
 ghost use Rattle.trace_replay.specs.Judging.{max_trace_bytes};
+ghost use Rattle.trace_replay.specs.Reading.{TellsRest};
 ghost use Rattle.trace_replay.specs.Scanning.{IsFrontOf, IsPast, IsWithin, Scans, Tells};
 ghost use Rattle.trace_replay.specs.declared.bytes.TheConstants.{TRACE_FEED};
 
@@ -95,6 +96,32 @@ impl TraceLines {
             }
         }
         self.scan_past(feeds)
+    }
+
+    /// Whether a byte follows.
+    ///
+    /// # Errors
+    ///
+    /// `Failed` if bytes couldn't be pulled.
+    pub(crate) fn goes_on<F: Feeds>(&mut self, feeds: &mut F) -> Result<bool, Failed>
+        requires open { (F.feeds feeds.old).is_open TRACE_FEED ≡ true }
+        ensures rest { IfOk result (λ so. TellsRest so
+            (coming_on self.old.bytes (F.feeds feeds.old) TRACE_FEED)) }
+        ensures failed { OnErr result (ReadFails F.feeds feeds.old feeds.new) }
+        ensures elsewhere { PullsOnly F.feeds feeds.old feeds.new TRACE_FEED }
+    {
+        let Ok(next) = self.bytes.next(feeds) else {
+            return Err(Failed);
+        };
+        Ok(next.is_some())
+    }
+
+    /// Whether so many bytes were read as a trace may have at most.
+    pub(crate) fn is_full(&self) -> bool
+        ensures yes { result ≡ true → max_trace_bytes ≤ self.now.passed }
+        ensures no { result ≡ false → self.now.passed < max_trace_bytes }
+    {
+        self.passed >= MAX_TRACE_BYTES
     }
 
     /// Tells whether the trace goes on at its greatest length.

@@ -1,0 +1,148 @@
+-- A network between two lines of its trace, and what the next line does.
+-- Not trusted: no promise is read with it.
+use Rattle.std.specs.Prelude.{◌≡◌, ◌⊎◌, ℕ, ◌≤◌, Bool, true, false, List, [], length, Option, Some}
+use Rattle.rvc_io.specs.Feeds.{Inputs}
+use Rattle.trace_text.specs.declared.line.Line.{Line}
+use Rattle.trace_text.specs.declared.line.Line.TheVariants.{Header as FirstLine, Inst, Fire, Deliver, Grow, Quiet, Trap as TrapLine, Stall, Budget}
+use Rattle.net_model.specs.declared.wiring.Link.{Link}
+use Rattle.net_model.specs.Limits.{max_links}
+use Rattle.net_model.specs.Network.{Network}
+use Rattle.net_model.specs.State.{State, effect_at}
+use Rattle.net_model.specs.Laws.{AreLawful}
+use Rattle.net_model.specs.Paced.{HasRoomIn}
+use Rattle.net_model.specs.Trace.{LineIsTrue, goes, opened_by}
+use Rattle.net_model.specs.Wired.{IsWired}
+use Rattle.net_model.specs.Cell.{Cell}
+use Rattle.net_state.specs.Held.{Held, seen}
+use Rattle.net_state.specs.Working.{AreFed, IsAtRest}
+use Rattle.trace_replay.specs.Ending.{CanGrow, FitInputs, HoldEnough}
+use Rattle.trace_replay.specs.Feeding.{HaveSources, StandsFed}
+use Rattle.trace_replay.specs.Judging.{EventFails, TrapComes, Trial}
+use Rattle.trace_replay.specs.Trying.{AllWork}
+use Rattle.trace_replay.specs.declared.came.Came.{Came}
+use Rattle.trace_replay.specs.declared.came.Came.TheVariants.{Goes, Ends, Fails, FeedFails}
+use Rattle.trace_replay.specs.declared.source.Source.{Source}
+use Rattle.trace_replay.specs.declared.why.Why.{Why}
+use Rattle.trace_replay.specs.declared.why.Why.TheVariants.{End}
+
+-- what is held, the sources of links, whether nothing fired since the last delivery, and what is known of feeds
+pub record Between (X : Type 0) : Type 0 where
+  pub held : Held (Cell X)
+  pub sources : List (Option Source)
+  pub rested : Bool
+  pub feeds : Inputs
+
+abbrev pub between : {C X : Type 0} → (C → Cell X) → Held C → List (Option Source) → Bool → Inputs
+    → Between X
+between cell held sources rested feeds =
+    record { held = seen cell held; sources = sources; rested = rested; feeds = feeds }
+
+-- the network stands in the state s, which the last delivery `opened`
+pub record IsAt {X : Type 0} (net : Network X) (now : Between X) (opened s : State X) : Type 0 where
+  pub stands : StandsFed net now.held now.sources now.feeds opened s
+  pub fits : FitInputs net s
+  pub fed : now.rested ≡ true → AreFed net s
+
+-- what the code knows of it, whatever its state is
+pub record CanGoOn {X : Type 0} (now : Between X) (links : List Link) (grow : ℕ) : Type 0 where
+  pub links_are : now.held.links ≡ links
+  pub few : length links ≤ max_links
+  pub work : AllWork now.held.cells
+  pub sources : HaveSources links now.sources now.feeds
+  pub queues : CanGrow grow now.held.cells links
+  pub enough : HoldEnough links now.held.capacities
+  pub rest : now.rested ≡ true → IsAtRest now.held
+
+-- a firing has room, and a trap comes
+abbrev pub IsDue : {X : Type 0} → Network X → State X → State X → Line → Type 0
+IsDue net opened s (Fire i a) = HasRoomIn net opened s i a
+IsDue net opened s (TrapLine i a c) = TrapComes net opened s i a (effect_at net s i a) c
+IsDue net opened s Deliver = Unit {0}
+IsDue net opened s (Grow l capacity) = Unit {0}
+IsDue net opened s Quiet = Unit {0}
+IsDue net opened s (Stall i a l) = Unit {0}
+IsDue net opened s Budget = Unit {0}
+IsDue net opened s (FirstLine n l g) = Unit {0}
+IsDue net opened s (Inst k) = Unit {0}
+
+-- a line is true of a state, and leads on to the next one
+pub record Steps {X : Type 0} (t : Trial X) (opened s : State X) (line : Line) (next : State X) :
+    Type 0 where
+  pub is_true : LineIsTrue t.net t.grow s line []
+  pub goes_so : goes t.net s line ≡ Some next
+  pub is_due : IsDue t.net opened s line
+
+-- this is so in each state at which the network stands
+abbrev pub InEach : {X : Type 0} → ℕ → Between X → (Trial X → State X → State X → Type 0) → Type 0
+InEach {X} grow now P = (t : Trial X) (opened s : State X) → t.grow ≡ grow → IsWired t.net
+    → AreLawful t.net → IsAt t.net now opened s → P t opened s
+
+-- the line leads on, and the network stands at the next state
+abbrev pub GoesBy : {X : Type 0} → ℕ → Line → Between X → Between X → Type 0
+GoesBy {X} grow line old new = InEach grow old (λ t opened s. (next : State X)
+    × Steps t opened s line next × IsAt t.net new (opened_by line opened next) next)
+
+-- the line ends the run
+abbrev pub EndsBy : {X : Type 0} → ℕ → Line → Between X → Type 0
+EndsBy {X} grow line old = InEach grow old (λ t opened s. (next : State X)
+    × Steps t opened s line next)
+
+abbrev pub is_growth : Line → Bool
+is_growth (Grow l capacity) = true
+is_growth (FirstLine n l g) = false
+is_growth (Inst k) = false
+is_growth (Fire i a) = false
+is_growth Deliver = false
+is_growth Quiet = false
+is_growth (TrapLine i a c) = false
+is_growth (Stall i a l) = false
+is_growth Budget = false
+
+-- an end line but that of a trap
+abbrev pub is_still_end : Line → Bool
+is_still_end Quiet = true
+is_still_end (Stall i a l) = true
+is_still_end Budget = true
+is_still_end (FirstLine n l g) = false
+is_still_end (Inst k) = false
+is_still_end (Fire i a) = false
+is_still_end Deliver = false
+is_still_end (TrapLine i a c) = false
+is_still_end (Grow l capacity) = false
+
+-- the line says that a link grows, and doesn't stand right behind a delivery or another growth
+pub record IsLate {X : Type 0} (line : Line) (why : Why) (old : Between X) : Type 0 where
+  pub growth : is_growth line ≡ true
+  pub late : old.rested ≡ false
+  pub why_is : why ≡ End
+
+-- the line may not come for this cause, or is a growth that comes too late to be judged
+abbrev pub FailsBy : {X : Type 0} → ℕ → Line → Between X → Why → Type 0
+FailsBy grow line old why = InEach grow old (λ t opened s. EventFails t opened s line why)
+    ⊎ IsLate line why old
+
+-- Answers.
+
+abbrev pub OnGoes : Came → Type 0 → Type 0
+OnGoes Goes P = P
+OnGoes Ends P = Unit {0}
+OnGoes (Fails why) P = Unit {0}
+OnGoes (FeedFails feed) P = Unit {0}
+
+abbrev pub OnEnds : Came → Type 0 → Type 0
+OnEnds Goes P = Unit {0}
+OnEnds Ends P = P
+OnEnds (Fails why) P = Unit {0}
+OnEnds (FeedFails feed) P = Unit {0}
+
+abbrev pub IfFails : Came → (Why → Type 0) → Type 0
+IfFails Goes P = Unit {0}
+IfFails Ends P = Unit {0}
+IfFails (Fails why) P = P why
+IfFails (FeedFails feed) P = Unit {0}
+
+abbrev pub OnFeedFails : Came → Type 0 → Type 0
+OnFeedFails Goes P = Unit {0}
+OnFeedFails Ends P = Unit {0}
+OnFeedFails (Fails why) P = Unit {0}
+OnFeedFails (FeedFails feed) P = P

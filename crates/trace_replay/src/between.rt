@@ -1,0 +1,239 @@
+//! A network between two lines of its trace.
+
+ghost use Rattle.std.specs.Prelude.{◌≡◌, true, false, length, map};
+ghost use Rattle.rvc_io.specs.Feeds.{ReadFails};
+ghost use Rattle.trace_text.specs.declared.line.Line.TheVariants as line;
+ghost use Rattle.trace_replay.specs.Between.{CanGoOn, EndsBy, FailsBy, GoesBy, IfFails, OnEnds, OnFeedFails, OnGoes, between, is_still_end};
+ghost use Rattle.trace_replay.specs.declared.came.Came.TheVariants as came;
+ghost use Rattle.trace_replay.specs.declared.why.Why.TheVariants as why;
+ghost use Rattle.trace_replay.specs.Feeding.{PullsInputs};
+
+use crate::came::Came;
+use crate::delivering::deliver_all;
+use crate::ending::ends_so;
+use crate::growing::grow_so;
+use crate::source::Source;
+use crate::trying::{fire, traps};
+use crate::why::Why;
+use net_model::{Firing, Link};
+use net_state::NetState;
+use rvc_base::Trap;
+use rvc_io::Feeds;
+use trace_text::Line;
+
+/// A network whose trace is read, between two lines.
+#[derive(Drop)]
+pub(crate) struct Replay<A: Firing> {
+    state: NetState<A>,
+    links: Vec<Link>,
+    /// For each link what reads its feed, if it has one.
+    sources: Vec<Option<Source>>,
+    /// How many cells there are.
+    count: u32,
+    /// The greatest capacity to which a link may grow; 0 if none may.
+    grow: u32,
+    /// Whether there was a delivery, and nothing fired since.
+    rested: bool,
+}
+
+impl<A: Firing> Replay<A> {
+    /// A line that says that an action fires.
+    fn fire<F: Feeds>(&mut self, inst: u32, action: u16, feeds: &F) -> Came
+        requires count { self.old.count ≡ length self.old.state.cells }
+        requires ready { CanGoOn (between A.cell self.old.state self.old.sources.items
+            self.old.rested (F.feeds feeds.now)) self.old.links.items self.old.grow }
+        ensures goes { OnGoes result (GoesBy self.old.grow (line.Fire inst action)
+            (between A.cell self.old.state self.old.sources.items self.old.rested
+            (F.feeds feeds.now))
+            (between A.cell self.new.state self.new.sources.items self.new.rested
+            (F.feeds feeds.now))) }
+        ensures still_ready { OnGoes result (CanGoOn (between A.cell self.new.state
+            self.new.sources.items self.new.rested (F.feeds feeds.now))
+            self.new.links.items self.new.grow) }
+        ensures fails { IfFails result (FailsBy self.old.grow (line.Fire inst action)
+            (between A.cell self.old.state self.old.sources.items self.old.rested
+            (F.feeds feeds.now))) }
+        ensures no_end { OnEnds result ⊥ }
+        ensures no_fault { OnFeedFails result ⊥ }
+        ensures still_count { OnGoes result (self.new.count ≡ length self.new.state.cells) }
+        ensures grow { self.new.grow ≡ self.old.grow }
+        ensures links { self.new.links ≡ self.old.links }
+    {
+        match fire(&mut self.state, self.count, inst, action) {
+            None => {
+                self.rested = false;
+                Came::Goes
+            }
+            Some(why) => Came::Fails(why),
+        }
+    }
+
+    /// A line that says that an action traps.
+    fn trap<F: Feeds>(&mut self, inst: u32, action: u16, cause: Trap, feeds: &F) -> Came
+        requires count { self.old.count ≡ length self.old.state.cells }
+        requires ready { CanGoOn (between A.cell self.old.state self.old.sources.items
+            self.old.rested (F.feeds feeds.now)) self.old.links.items self.old.grow }
+        ensures ends { OnEnds result (EndsBy self.old.grow (line.Trap inst action cause)
+            (between A.cell self.old.state self.old.sources.items self.old.rested
+            (F.feeds feeds.now))) }
+        ensures fails { IfFails result (FailsBy self.old.grow (line.Trap inst action cause)
+            (between A.cell self.old.state self.old.sources.items self.old.rested
+            (F.feeds feeds.now))) }
+        ensures no_step { OnGoes result ⊥ }
+        ensures no_fault { OnFeedFails result ⊥ }
+    {
+        if traps(&mut self.state, self.count, inst, action, cause) {
+            return Came::Ends;
+        }
+        Came::Fails(Why::Trap)
+    }
+
+    /// A delivery.
+    fn deliver<F: Feeds>(&mut self, feeds: &mut F) -> Came
+        requires ready { CanGoOn (between A.cell self.old.state self.old.sources.items
+            self.old.rested (F.feeds feeds.old)) self.old.links.items self.old.grow }
+        requires count { self.old.count ≡ length self.old.state.cells }
+        ensures goes { OnGoes result (GoesBy self.old.grow line.Deliver
+            (between A.cell self.old.state self.old.sources.items self.old.rested
+            (F.feeds feeds.old))
+            (between A.cell self.new.state self.new.sources.items self.new.rested
+            (F.feeds feeds.new))) }
+        ensures still_ready { OnGoes result (CanGoOn (between A.cell self.new.state
+            self.new.sources.items self.new.rested (F.feeds feeds.new))
+            self.new.links.items self.new.grow) }
+        ensures no_end { OnEnds result ⊥ }
+        ensures no_failure { IfFails result (λ _. ⊥) }
+        ensures failed { OnFeedFails result (ReadFails F.feeds feeds.old feeds.new) }
+        ensures still_count { OnGoes result (self.new.count ≡ length self.new.state.cells) }
+        ensures grow { self.new.grow ≡ self.old.grow }
+        ensures links { self.new.links ≡ self.old.links }
+        ensures elsewhere { PullsInputs (F.feeds feeds.old) (F.feeds feeds.new) }
+    {
+        match deliver_all(&mut self.state, &mut self.sources, feeds) {
+            Ok(()) => {
+                self.rested = true;
+                Came::Goes
+            }
+            Err(feed) => Came::FeedFails(feed),
+        }
+    }
+
+    /// A line that says that a link grows.
+    ///
+    /// It is judged right behind a delivery or another growth alone. Elsewhere that would take tokens that the cells
+    /// mustn't see yet if the run goes on, so it fails there, whatever is true.
+    fn grow<F: Feeds>(&mut self, link: u32, capacity: u32, feeds: &F) -> Came
+        requires ready { CanGoOn (between A.cell self.old.state self.old.sources.items
+            self.old.rested (F.feeds feeds.now)) self.old.links.items self.old.grow }
+        requires count { self.old.count ≡ length self.old.state.cells }
+        ensures goes { OnGoes result (GoesBy self.old.grow (line.Grow link capacity)
+            (between A.cell self.old.state self.old.sources.items self.old.rested
+            (F.feeds feeds.now))
+            (between A.cell self.new.state self.new.sources.items self.new.rested
+            (F.feeds feeds.now))) }
+        ensures still_ready { OnGoes result (CanGoOn (between A.cell self.new.state
+            self.new.sources.items self.new.rested (F.feeds feeds.now))
+            self.new.links.items self.new.grow) }
+        ensures fails { IfFails result (FailsBy self.old.grow (line.Grow link capacity)
+            (between A.cell self.old.state self.old.sources.items self.old.rested
+            (F.feeds feeds.now))) }
+        ensures no_end { OnEnds result ⊥ }
+        ensures no_fault { OnFeedFails result ⊥ }
+        ensures still_count { OnGoes result (self.new.count ≡ length self.new.state.cells) }
+        ensures grow { self.new.grow ≡ self.old.grow }
+        ensures links { self.new.links ≡ self.old.links }
+    {
+        if !self.rested {
+            return Came::Fails(Why::End);
+        }
+        if !grow_so(&mut self.state, &self.links, self.grow, link, capacity) {
+            return Came::Fails(Why::End);
+        }
+        Came::Goes
+    }
+
+    /// An end line but that of a trap.
+    fn end<F: Feeds>(&mut self, line: &Line, feeds: &mut F) -> Came
+        requires ready { CanGoOn (between A.cell self.old.state self.old.sources.items
+            self.old.rested (F.feeds feeds.old)) self.old.links.items self.old.grow }
+        requires still { is_still_end line.now ≡ true }
+        ensures ends { OnEnds result (EndsBy self.old.grow line.now
+            (between A.cell self.old.state self.old.sources.items self.old.rested
+            (F.feeds feeds.old))) }
+        ensures fails { IfFails result (FailsBy self.old.grow line.now
+            (between A.cell self.old.state self.old.sources.items self.old.rested
+            (F.feeds feeds.old))) }
+        ensures no_step { OnGoes result ⊥ }
+        ensures failed { OnFeedFails result (ReadFails F.feeds feeds.old feeds.new) }
+        ensures elsewhere { PullsInputs (F.feeds feeds.old) (F.feeds feeds.new) }
+    {
+        match ends_so(
+            &mut self.state,
+            &self.links,
+            &mut self.sources,
+            self.grow,
+            line,
+            feeds,
+        ) {
+            Ok(so) => came_of_end(so),
+            Err(feed) => Came::FeedFails(feed),
+        }
+    }
+
+    /// What comes of a line.
+    pub(crate) fn come<F: Feeds>(&mut self, line: &Line, feeds: &mut F) -> Came
+        requires ready { CanGoOn (between A.cell self.old.state self.old.sources.items
+            self.old.rested (F.feeds feeds.old)) self.old.links.items self.old.grow }
+        requires count { self.old.count ≡ length self.old.state.cells }
+        ensures goes { OnGoes result (GoesBy self.old.grow line.now
+            (between A.cell self.old.state self.old.sources.items self.old.rested
+            (F.feeds feeds.old))
+            (between A.cell self.new.state self.new.sources.items self.new.rested
+            (F.feeds feeds.new))) }
+        ensures still_ready { OnGoes result (CanGoOn (between A.cell self.new.state
+            self.new.sources.items self.new.rested (F.feeds feeds.new))
+            self.new.links.items self.new.grow) }
+        ensures ends { OnEnds result (EndsBy self.old.grow line.now
+            (between A.cell self.old.state self.old.sources.items self.old.rested
+            (F.feeds feeds.old))) }
+        ensures fails { IfFails result (FailsBy self.old.grow line.now
+            (between A.cell self.old.state self.old.sources.items self.old.rested
+            (F.feeds feeds.old))) }
+        ensures failed { OnFeedFails result (ReadFails F.feeds feeds.old feeds.new) }
+        ensures still_count { OnGoes result (self.new.count ≡ length self.new.state.cells) }
+        ensures grow { OnGoes result (self.new.grow ≡ self.old.grow) }
+        ensures links { OnGoes result (self.new.links ≡ self.old.links) }
+        ensures elsewhere { PullsInputs (F.feeds feeds.old) (F.feeds feeds.new) }
+    {
+        match *line {
+            Line::Fire { inst, action } => self.fire(inst, action, feeds),
+            Line::Deliver => self.deliver(feeds),
+            Line::Grow { link, capacity } => self.grow(link, capacity, feeds),
+            Line::Trap { inst, action, trap } => self.trap(inst, action, trap, feeds),
+            Line::Quiet => self.end(line, feeds),
+            Line::Stall {
+                inst: _,
+                action: _,
+                link: _,
+            } => self.end(line, feeds),
+            Line::Budget => self.end(line, feeds),
+            Line::Header {
+                instances: _,
+                links: _,
+                grow: _,
+            } => Came::Fails(Why::Header),
+            Line::Inst { inst: _ } => Came::Fails(Why::Header),
+        }
+    }
+}
+
+/// What comes of an end line, by whether it is true.
+fn came_of_end(so: bool) -> Came
+    ensures ends { so ≡ true → result ≡ came.Ends }
+    ensures fails { so ≡ false → result ≡ came.Fails why.End }
+{
+    if so {
+        return Came::Ends;
+    }
+    Came::Fails(Why::End)
+}

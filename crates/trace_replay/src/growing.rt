@@ -1,0 +1,101 @@
+//! Lines that say that a link grows.
+
+ghost use Rattle.std.specs.Prelude.{◌≡◌, true, false, Some, map, slice_get};
+ghost use Rattle.net_state.specs.Held.{seen};
+ghost use Rattle.net_state.specs.Moving.{SameActors, SameMarks};
+ghost use Rattle.net_state.specs.Surveyed.{AreUntrapped};
+ghost use Rattle.net_state.specs.Working.{IsAtRest};
+ghost use Rattle.trace_replay.specs.Ending.{CanGrow, GrewAt, GrewNotAt, GrowsNotSo, GrowsSo, HoldEnough, IsInner};
+
+use crate::ending::{is_input, may_grow};
+use crate::states::StatesOf;
+use net_model::{End, Firing, Link, stalled_in_one_place};
+use net_state::{NetState, Outlook};
+use rvc_base::LinkId;
+
+/// Whether a link leads from a cell to a cell.
+fn is_inner(link: &Link) -> bool
+    ensures yes { result ≡ true → IsInner (Some link.now) }
+    ensures no { result ≡ false → IsInner (Some link.now) → ⊥ }
+{
+    if is_input(link) {
+        return false;
+    }
+    match link.to {
+        End::Leaf { inst: _, port: _ } => true,
+        End::Net { port: _ } => false,
+    }
+}
+
+/// Whether a link is there, and leads from a cell to a cell.
+fn is_inner_at(links: &[Link], link: LinkId) -> bool
+    ensures yes { result ≡ true → IsInner (slice_get links.now link.0) }
+    ensures no { result ≡ false → IsInner (slice_get links.now link.0) → ⊥ }
+{
+    let at = link.0 as usize;
+    if at >= links.len() {
+        return false;
+    }
+    is_inner(&links[at])
+}
+
+/// Lets a link grow, if it is inner, may grow and this is its capacity then.
+fn grow_at<A: Firing>(
+    state: &mut NetState<A>,
+    links: &[Link],
+    grow: u32,
+    link: LinkId,
+    capacity: u32,
+) -> bool
+    requires links { state.old.links ≡ links.now }
+    requires queues { CanGrow grow (map A.cell state.old.cells) links.now }
+    ensures yes { result ≡ true → GrewAt grow link.0 capacity (seen A.cell state.old) (seen A.cell state.new) }
+    ensures no { result ≡ false → GrewNotAt grow link.0 capacity (seen A.cell state.old) }
+    ensures enough { HoldEnough links.now state.old.capacities → HoldEnough links.now state.new.capacities }
+    ensures cells { state.new.cells ≡ state.old.cells }
+    ensures links { state.new.links ≡ state.old.links }
+    ensures waited { state.new.waited ≡ state.old.waited }
+{
+    if !is_inner_at(links, link) {
+        return false;
+    }
+    if !may_grow(state, links, link, grow) {
+        return false;
+    }
+    state.grow(link, grow) == capacity
+}
+
+/// Lets a link grow as a line says, if the network is stalled there and the link grows so. It is at rest, and each feed
+/// came as far as it may.
+pub(crate) fn grow_so<A: Firing>(
+    state: &mut NetState<A>,
+    links: &[Link],
+    grow: u32,
+    link: u32,
+    capacity: u32,
+) -> bool
+    requires links { state.old.links ≡ links.now }
+    requires queues { CanGrow grow (map A.cell state.old.cells) links.now }
+    requires enough { HoldEnough links.now state.old.capacities }
+    requires untrapped { AreUntrapped (map A.cell state.old.cells) }
+    requires rest { IsAtRest (seen A.cell state.old) }
+    ensures yes { result ≡ true → GrowsSo grow link capacity (seen A.cell state.old)
+        (seen A.cell state.new) }
+    ensures no { result ≡ false → GrowsNotSo grow link capacity (seen A.cell state.old) }
+    ensures enough { HoldEnough links.now state.new.capacities }
+    ensures rests { IsAtRest (seen A.cell state.new) }
+    ensures same_actors { SameActors (map A.cell state.old.cells) (map A.cell state.new.cells) }
+    ensures same_marks { SameMarks (map A.cell state.old.cells) (map A.cell state.new.cells) }
+    ensures links { state.new.links ≡ state.old.links }
+{
+    stalled_in_one_place::<StatesOf<A>>();
+    match state.outlook() {
+        Outlook::Stalled {
+            inst: _,
+            action: _,
+            link: at,
+        } => at.0 == link && grow_at(state, links, grow, at, capacity),
+        Outlook::Quiet => false,
+        Outlook::Going => false,
+    }
+}
