@@ -1,6 +1,6 @@
 -- Which cells names have doesn't matter to what is left out.
 use Rattle.std.proofs.Common.{◌≡◌, ℕ, List, [], ◌∷◌, map, Bool, true, false, refl, sym, ap, ◌∙◌, Option, None, Some}
-use Rattle.std.specs.Prelude.{if◌then◌else◌, not, ◌&&◌}
+use Rattle.std.specs.Prelude.{if◌then◌else◌, not, ◌&&◌, ◌||◌}
 use Rattle.std.specs.Str.{bytes_eq}
 use Rattle.rvc_base.specs.declared.scalar.Scalar.{Scalar}
 use Rattle.cal_ast.specs.Tree as tree
@@ -11,9 +11,10 @@ use Rattle.expr_lower.specs.declared.names.ListCells.{ListCells}
 use Rattle.expr_lower.specs.declared.names.OneCell.{OneCell}
 use Rattle.expr_lower.specs.declared.names.Seat.{Seat}
 use Rattle.expr_lower.specs.declared.names.Seat.TheVariants.{Cell, Tokens}
-use Rattle.expr_lower.specs.Growing.{is_short, left_out, left_out_name, ◌or_else◌}
+use Rattle.expr_lower.specs.Growing.{is_short, left_out, left_out_name, left_out_places, ◌or_else◌}
 use Rattle.expr_lower.specs.Listed.{items_in, items_of, list_named, single_of}
 use Rattle.expr_lower.specs.Meant.{local, single_meant}
+use Rattle.expr_lower.specs.Parted.{Part, deep_named, item_in, item_of, part_at, part_named, singles_in, sized, whole_in, whole_of}
 use Rattle.expr_lower.specs.Names.{Name, named}
 use Rattle.expr_lower.specs.StmtGrowing.{cell_of, cell_named, cells_of, cells_named, left_out_all, left_out_set, left_out_start, left_out_stmt, left_out_vars}
 use Rattle.expr_lower.specs.Truths.{is_truth, is_truth_list, is_truth_shape}
@@ -77,6 +78,55 @@ list_erased names (tree.variable text at) = ap list_in_name (named_erased text n
     go (Some x) = items_erased x.seat x.shape
 list_erased names other = refl
 
+abbrev erased_part : Option Part → Option Part
+erased_part None = None
+erased_part (Some p) = Some (part_at (erase_seat p.seat) p.shape p.size)
+
+whole_erased : (seat : Seat) (shape : Shape) → whole_in (erase_seat seat) shape ≡ erased_part (whole_in seat shape)
+whole_erased seat (Single t) = refl
+whole_erased seat (Many n items) = go (sized (Many n items))
+  where
+    go : (o : Option ℕ) → ◌≡◌ {A = Option Part} (elim o [ None ↦ None | Some k ↦ Some (part_at (erase_seat seat) (Many n items) k) ]) (erased_part (elim o [ None ↦ None | Some k ↦ Some (part_at seat (Many n items) k) ]))
+    go None = refl
+    go (Some k) = refl
+
+item_in_erased : (seat : Seat) (size : ℕ) (shape : Shape) → item_in (erase_seat seat) size shape ≡ erased_part (item_in seat size shape)
+item_in_erased seat size (Single t) = refl
+item_in_erased seat size (Many n items) = refl
+
+abbrev part_in_name : Option Name → Option Part
+part_in_name o = elim o [ None ↦ None | Some x ↦ whole_of x ]
+
+abbrev item_in_part : Option Part → Option Part
+item_in_part o = elim o [ None ↦ None | Some p ↦ item_of p ]
+
+part_erased : (names : List Name) (e : Tree) → part_named (map erase names) e ≡ erased_part (part_named names e)
+part_erased names (tree.variable text at) = ap part_in_name (named_erased text names) ∙ go (named text names)
+  where
+    go : (o : Option Name) → part_in_name (erased o) ≡ erased_part (part_in_name o)
+    go None = refl
+    go (Some x) = whole_erased x.seat x.shape
+part_erased names (tree.index base place at) = ap item_in_part (part_erased names base) ∙ go (part_named names base)
+  where
+    go : (o : Option Part) → item_in_part (erased_part o) ≡ erased_part (item_in_part o)
+    go None = refl
+    go (Some p) = item_in_erased p.seat p.size p.shape
+part_erased names other = refl
+
+abbrev deep_in_part : Option Part → Option ItemList
+deep_in_part o = elim o [ None ↦ None | Some p ↦ singles_in p.seat p.size p.shape ]
+
+singles_erased : (seat : Seat) (size : ℕ) (shape : Shape) → singles_in (erase_seat seat) size shape ≡ erased_list (singles_in seat size shape)
+singles_erased seat size (Single t) = refl
+singles_erased seat size (Many n items) = refl
+
+deep_erased : (names : List Name) (e : Tree) → deep_named (map erase names) e ≡ erased_list (deep_named names e)
+deep_erased names e = ap deep_in_part (part_erased names e) ∙ go (part_named names e)
+  where
+    go : (o : Option Part) → deep_in_part (erased_part o) ≡ erased_list (deep_in_part o)
+    go None = refl
+    go (Some p) = singles_erased p.seat p.size p.shape
+
 truth_list : (o : Option ItemList) → is_truth_list (erased_list o) ≡ is_truth_list o
 truth_list None = refl
 truth_list (Some l) = refl
@@ -91,7 +141,9 @@ truth_erased names (tree.variable text at) = ap is_truth_name (named_erased text
 truth_erased names (tree.paren e at) = truth_erased names e
 truth_erased names (tree.if_expr test first other at) =
     ap (λ b. b && is_truth (map erase names) other) (truth_erased names first) ∙ ap (λ b. is_truth names first && b) (truth_erased names other)
-truth_erased names (tree.index base place at) = ap is_truth_list (list_erased names base) ∙ truth_list (list_named names base)
+truth_erased names (tree.index base place at) =
+    ap (λ b. b || is_truth_list (deep_named (map erase names) (tree.index base place at))) (ap is_truth_list (list_erased names base) ∙ truth_list (list_named names base))
+    ∙ ap (λ b. is_truth_list (list_named names base) || b) (ap is_truth_list (deep_erased names (tree.index base place at)) ∙ truth_list (deep_named names (tree.index base place at)))
 truth_erased names (tree.prefix o e at) = refl
 truth_erased names (tree.binary o l r at) = refl
 truth_erased names other = refl
@@ -101,31 +153,44 @@ truth_erased names other = refl
 both_same : {a b c d : Option ℕ} → a ≡ b → c ≡ d → a or_else c ≡ b or_else d
 both_same {b = b} {c = c} e f = ap (λ x. x or_else c) e ∙ ap (λ x. b or_else x) f
 
-out_erased : (names : List Name) (e : Tree) → left_out (map erase names) e ≡ left_out names e
-out_erased names (tree.number k at) = refl
-out_erased names (tree.truth b at) = refl
-out_erased names (tree.variable text at) = ap (λ o. left_out_name o at) (named_erased text names) ∙ go (named text names)
-  where
-    go : (o : Option Name) → left_out_name (erased o) at ≡ left_out_name o at
-    go None = refl
-    go (Some x) = refl
-out_erased names (tree.paren e at) = out_erased names e
-out_erased names (tree.if_expr test first other at) = both_same (out_erased names test) (both_same (out_erased names first) (out_erased names other))
-out_erased names (tree.prefix o e at) = out_erased names e
-out_erased names (tree.binary o l r at) =
-    ap (λ b. if is_short o && not b then Some at else left_out (map erase names) l or_else left_out (map erase names) r) (truth_erased names l)
-    ∙ ap (λ x. if is_short o && not (is_truth names l) then Some at else x) (both_same (out_erased names l) (out_erased names r))
-out_erased names (tree.call name args at) = refl
-out_erased names (tree.list items at) = refl
-out_erased names (tree.comp item gens at) = refl
-out_erased names (tree.index base place at) =
-    ap (λ o. left_or o at (left_out (map erase names) place)) (list_erased names base)
-    ∙ go (list_named names base) ∙ ap (λ x. left_or (list_named names base) at x) (out_erased names place)
-  where
-    go : (o : Option ItemList) → left_or (erased_list o) at (left_out (map erase names) place) ≡ left_or o at (left_out (map erase names) place)
-    go None = refl
-    go (Some l) = refl
-out_erased names other = refl
+-- what is left out of an index: of the place if the list is one of single values, else of a chain if it is one
+abbrev left_index : Option ItemList → Option ItemList → ℕ → Option ℕ → Option ℕ → Option ℕ
+left_index one deep at x y = elim one [ Some l ↦ x | None ↦ elim deep [ None ↦ Some at | Some l ↦ y or_else x ] ]
+
+index_left : (one deep : Option ItemList) (at : ℕ) (x y : Option ℕ) → left_index (erased_list one) (erased_list deep) at x y ≡ left_index one deep at x y
+index_left None None at x y = refl
+index_left None (Some l) at x y = refl
+index_left (Some k) deep at x y = refl
+
+mutual
+  out_erased : (names : List Name) (e : Tree) → left_out (map erase names) e ≡ left_out names e
+  out_erased names (tree.number k at) = refl
+  out_erased names (tree.truth b at) = refl
+  out_erased names (tree.variable text at) = ap (λ o. left_out_name o at) (named_erased text names) ∙ go (named text names)
+    where
+      go : (o : Option Name) → left_out_name (erased o) at ≡ left_out_name o at
+      go None = refl
+      go (Some x) = refl
+  out_erased names (tree.paren e at) = out_erased names e
+  out_erased names (tree.if_expr test first other at) = both_same (out_erased names test) (both_same (out_erased names first) (out_erased names other))
+  out_erased names (tree.prefix o e at) = out_erased names e
+  out_erased names (tree.binary o l r at) =
+      ap (λ b. if is_short o && not b then Some at else left_out (map erase names) l or_else left_out (map erase names) r) (truth_erased names l)
+      ∙ ap (λ x. if is_short o && not (is_truth names l) then Some at else x) (both_same (out_erased names l) (out_erased names r))
+  out_erased names (tree.call name args at) = refl
+  out_erased names (tree.list items at) = refl
+  out_erased names (tree.comp item gens at) = refl
+  out_erased names (tree.index base place at) =
+      ap (λ o. left_index o (deep_named (map erase names) (tree.index base place at)) at (left_out (map erase names) place) (left_out_places (map erase names) base)) (list_erased names base)
+      ∙ ap (λ o. left_index (erased_list (list_named names base)) o at (left_out (map erase names) place) (left_out_places (map erase names) base)) (deep_erased names (tree.index base place at))
+      ∙ index_left (list_named names base) (deep_named names (tree.index base place at)) at (left_out (map erase names) place) (left_out_places (map erase names) base)
+      ∙ ap (λ x. left_index (list_named names base) (deep_named names (tree.index base place at)) at x (left_out_places (map erase names) base)) (out_erased names place)
+      ∙ ap (λ y. left_index (list_named names base) (deep_named names (tree.index base place at)) at (left_out names place) y) (places_erased names base)
+  out_erased names other = refl
+
+  places_erased : (names : List Name) (e : Tree) → left_out_places (map erase names) e ≡ left_out_places names e
+  places_erased names (tree.index base place at) = both_same (places_erased names base) (out_erased names place)
+  places_erased names other = refl
 
 -- ---- assignments
 

@@ -1,6 +1,8 @@
 pub mod Runs
 pub mod Keeping
 pub mod Listing
+pub mod PartValues
+pub mod Rowed
 pub mod Truthful
 pub mod Effects
 pub mod Aimed

@@ -14,8 +14,8 @@ use Rattle.expr_lower.specs.declared.counter.Counter.{Counter}
 use Rattle.expr_lower.specs.declared.draft.Draft.{Draft}
 use Rattle.expr_lower.specs.declared.fault.LowerFault.{LowerFault}
 use Rattle.expr_lower.specs.declared.scope.Scope.{Scope}
-use Rattle.expr_lower.specs.Coding.{IsCode, IsOpenTest, binary_instr}
-use Rattle.expr_lower.specs.Growing.{IsFault, left_out, ◌or_else◌}
+use Rattle.expr_lower.specs.Coding.{IsCode, IsOffset, IsOpenTest, binary_instr}
+use Rattle.expr_lower.specs.Growing.{IsFault, left_out, left_out_places, ◌or_else◌}
 use Rattle.expr_lower.specs.Lowered.{Adds}
 use Rattle.expr_lower.specs.Meant.{local}
 use Rattle.expr_lower.specs.Names.{Name}
@@ -39,6 +39,18 @@ Applies scope i left right old new = (op : BinOp) (at : ℕ) → binary_instr op
 -- the code of a condition was added whose jumps have no target yet
 abbrev pub Opens : Scope → Tree → Draft → Draft → Type 0
 Opens scope e old new = Adds (IsOpenTest (seen scope) e) old new
+
+-- the code of the offset of a part of a list was added
+abbrev pub Offsets : Scope → Tree → Draft → Draft → Type 0
+Offsets scope e old new = Adds (IsOffset (seen scope) e) old new
+
+-- no part of the indexes of a chain is left out
+abbrev pub AreAllPlaces : Scope → Tree → Type 0
+AreAllPlaces scope e = left_out_places (seen scope) e ≡ None
+
+-- why these aren't lowered
+abbrev pub IsWhyPlaces : Scope → Tree → Draft → LowerFault → Type 0
+IsWhyPlaces scope e draft fault = IsFault (left_out_places (seen scope) e) draft fault
 
 -- no part of an expression is left out
 abbrev pub IsAll : Scope → Tree → Type 0

@@ -11,6 +11,7 @@ pub mod laws;
 mod lower;
 mod names;
 mod operators;
+mod parts;
 mod scope;
 mod stmts;
 mod truths;
