@@ -148,7 +148,7 @@ module _ (names : List Name) (env : Env) (q p : Part) (r : Rows) (items : Shape)
 row_item : (names : List Name) (e place : Tree) (at : ℕ) (r : Rows) (p : Part) → (h : HasRows names e r) → part_named names (tree.index e place at) ≡ Some p → part_at h.part.seat h.items h.part.size ≡ p
 row_item names e place at r p h g =
     let one : ◌≡◌ {A = Option Part} (Some (part_at h.part.seat h.items h.part.size)) (Some p) =
-        sym (ap (λ (o : Option Part). elim o [ None ↦ None | Some q ↦ item_of q ]) h.is ∙ ap (λ t. item_in h.part.seat h.part.size t) h.shape) ∙ g
+    sym (ap (λ (o : Option Part). elim o [ None ↦ None | Some q ↦ item_of q ]) h.is ∙ ap (λ t. item_in h.part.seat h.part.size t) h.shape) ∙ g
     in
     same one
   where

@@ -1,6 +1,6 @@
 //! Expressions as code: one small function a form.
 
-ghost use Rattle.std.specs.Prelude.{◌≡◌, ◌<◌, ◌≤◌, ℕ, length, map};
+ghost use Rattle.std.specs.Prelude.{◌≡◌, ◌<◌, ◌≤◌, List, ℕ, length, map};
 ghost use Rattle.std.specs.Prelude.{IfErr, None, OnOk};
 ghost use Rattle.cal_ast.specs.Tree as tree;
 ghost use Rattle.cal_ast.specs.View.{expr_tree};
@@ -155,12 +155,7 @@ fn deep_item(
 
 /// Appends the offset of an item: that of the list, the place, and the instruction that adds them.
 #[cycle(lower)]
-fn row(
-    scope: &Scope,
-    base: &Expr,
-    place: &Expr,
-    draft: &mut Draft,
-) -> Result<(), LowerFault>
+fn row(scope: &Scope, base: &Expr, place: &Expr, draft: &mut Draft) -> Result<(), LowerFault>
     requires part { IsPart (seen scope.now) (index_of base.now place.now 0) }
     ensures ok { (at : ℕ)
         → OnOk result (Offsets scope.now (index_of base.now place.now at) draft.old draft.new) }
@@ -186,8 +181,18 @@ fn offset(scope: &Scope, e: &Expr, draft: &mut Draft) -> Result<(), LowerFault>
 {
     match &e.form {
         ExprForm::Index { base, place } => row(scope, base, place, draft),
-        _ => put_const(draft, 0),
+        ExprForm::Name(_) => whole_offset(draft),
+        _ => unreachable!(),
     }
+}
+
+/// Appends the offset of a whole list, which is 0.
+fn whole_offset(draft: &mut Draft) -> Result<(), LowerFault>
+    ensures ok { (scope : Scope) (text : List ℕ) (at : ℕ)
+        → OnOk result (Offsets scope (tree.variable text at) draft.old draft.new) }
+    ensures memory { IfErr result (λ fault. fault ≡ Memory) }
+{
+    put_const(draft, 0)
 }
 
 /// Appends an operation with one operand. A minus sign before a literal is one number with it.

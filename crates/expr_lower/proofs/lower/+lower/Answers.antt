@@ -13,6 +13,7 @@ use Rattle.expr_lower.specs.Seen.{seen}
 use Rattle.expr_lower.specs.Lowered.{IsPut}
 use Rattle.expr_lower.proofs.Adding.{put_adds, same_adds, then_put, then_adds, strict_adds, row_adds, test_coded, tests_coded, if_adds, both_adds, either_adds}
 use Rattle.expr_lower.proofs.Literals.{negative_coded}
+use Rattle.expr_lower.proofs.PartValues.{item_has_rows}
 use Rattle.expr_lower.proofs.lower.+lower.Goals as goal
 
 pub both-returns-clause-ok : goal.both-returns-clause-ok
@@ -118,7 +119,5 @@ row-returns-clause-ok t c = λ at.
     c.put.ensures.added
 
 pub row-unreachable-requires : goal.row-unreachable-requires
-row-unreachable-requires t c = let h = c.rows_named.ensures in let k = c.requires in ?
-
-pub offset-returns-in_default : goal.offset-returns-in_default
-offset-returns-in_default t c = let h = c.in_default in ?
+row-unreachable-requires t c =
+    item_has_rows (seen c.args.scope.now) (expr_tree c.args.base.now) (expr_tree c.args.place.now) 0 c.requires.part (sym c.rows_named.ensures ∙ c.in_default.is)
