@@ -26,11 +26,11 @@ use Rattle.expr_lower.specs.Listed.{list_named}
 use Rattle.expr_lower.specs.Linking.{Closes, Links, SetsExit, SetsJump}
 use Rattle.expr_lower.specs.Lowered.{Adds, IsPut}
 use Rattle.expr_lower.specs.Meant.{local, single_meant}
-use Rattle.expr_lower.specs.Stating.{IsStmt, AreStmts, set, set_item, if_alone, if_else, while_code, each_code, none, one_more, IsBlock, IsStart, variable_more}
+use Rattle.expr_lower.specs.Stating.{IsStmt, copy_code, set_list, AreStmts, set, set_item, if_alone, if_else, while_code, each_code, none, one_more, IsBlock, IsStart, variable_more}
 use Rattle.expr_lower.specs.Stating.{counter_at, each_bounds, each_head, each_less, each_next, each_tail, each_turn}
 use Rattle.expr_lower.specs.Taking.{HasOneMore, HasTaken}
 use Rattle.expr_lower.specs.StmtGrowing.{cell_of, cell_named, cells_of, cells_named, left_out_set, left_out_start, left_out_stmt, left_out_all, left_out_vars}
-use Rattle.expr_lower.proofs.Adding.{length_join}
+use Rattle.expr_lower.proofs.Adding.{length_join, put_adds}
 use Rattle.expr_lower.proofs.Erased.{any_cell, any_cell_vars}
 use Rattle.expr_lower.proofs.Executed.{executes}
 use Rattle.expr_lower.proofs.FittedStmts.{fits_all}
@@ -182,6 +182,13 @@ set_adds names text value place at c old mid new e a p =
       has = subst (λ m. IsStmt names (tree.assign (tree.ident text place) tree.nil value at) (length old.instrs.items) old.cells (a.code ++ op.Store c.cell (Some c.kind) ∷ []) m) (sym p.cells)
           (set names text value place at (length old.instrs.items) old.cells mid.cells c.cell a.code f.x c.kind f.is f.seat f.shape a.has);
     }
+
+pub list_adds : (names : List Name) (text : List ℕ) (value : Tree) (place at : ℕ) (c : ListCells) (l : ItemList) (old new : Draft) → cells_named names text ≡ Some c → list_named names value ≡ Some l → l.size ≡ c.size
+    → IsPut (copy_code c.cell c.size c.kind l.seat) old new → Adds (IsStmt names (tree.assign (tree.ident text place) tree.nil value at)) old new
+list_adds names text value place at c l old new e g many p =
+    let f : AreCellsOf names text c = cells_found names text c e in
+    put_adds (IsStmt names (tree.assign (tree.ident text place) tree.nil value at)) (copy_code c.cell c.size c.kind l.seat) old new p
+    (λ base n. set_list names text value place at base n c.cell c.size f.x c.kind l f.is f.seat f.shape g many)
 
 pub item_adds : (names : List Name) (text : List ℕ) (spot value : Tree) (place at : ℕ) (c : ListCells) (old d1 d2 new : Draft) → cells_named names text ≡ Some c
     → Adds (IsCode names spot) old d1 → Adds (IsCode names value) d1 d2 → IsPut (op.StoreAt c.cell c.size (Some c.kind) ∷ []) d2 new

@@ -16,7 +16,7 @@ use Rattle.expr_lower.specs.Listed.{items_in, items_of, list_named, single_of}
 use Rattle.expr_lower.specs.Meant.{local, single_meant}
 use Rattle.expr_lower.specs.Parted.{Part, deep_named, item_in, item_of, part_at, part_named, singles_in, sized, whole_in, whole_of}
 use Rattle.expr_lower.specs.Names.{Name, named}
-use Rattle.expr_lower.specs.StmtGrowing.{cell_of, cell_named, cells_of, cells_named, left_out_all, left_out_set, left_out_start, left_out_stmt, left_out_vars}
+use Rattle.expr_lower.specs.StmtGrowing.{cell_of, cell_named, cells_of, cells_named, left_out_all, left_out_copy, left_out_list, left_out_set, left_out_start, left_out_stmt, left_out_vars}
 use Rattle.expr_lower.specs.Truths.{is_truth, is_truth_list, is_truth_shape}
 
 -- a seat without its cell
@@ -47,9 +47,12 @@ cells_in_list o = elim o [ None ↦ None | Some l ↦ cells_of l ]
 abbrev is_truth_name : Option Name → Bool
 is_truth_name o = elim o [ None ↦ false | Some x ↦ is_truth_shape x.shape ]
 
--- a place if there is none, and else what comes of it
+-- what comes of it, if there is something, and else something else
+abbrev left_else : {A : Type 0} → Option A → Option ℕ → Option ℕ → Option ℕ
+left_else o y x = elim o [ None ↦ y | Some a ↦ x ]
+
 abbrev left_or : {A : Type 0} → Option A → ℕ → Option ℕ → Option ℕ
-left_or o at x = elim o [ None ↦ Some at | Some a ↦ x ]
+left_or o at x = left_else o (Some at) x
 
 abbrev left_each : Option Scalar → ℕ → (Scalar → Option ℕ) → Option ℕ
 left_each o at f = elim o [ None ↦ Some at | Some t ↦ f t ]
@@ -194,21 +197,21 @@ mutual
 
 -- ---- assignments
 
-cell_left : (seat : Seat) (shape : Shape) (at : ℕ) (x : Option ℕ) → left_or (cell_of (erase_seat seat) shape) at x ≡ left_or (cell_of seat shape) at x
-cell_left (Cell c) (Single t) at x = refl
-cell_left (Cell c) (Many n items) at x = refl
-cell_left (Tokens port first step) shape at x = refl
+cell_left : (seat : Seat) (shape : Shape) (y x : Option ℕ) → left_else (cell_of (erase_seat seat) shape) y x ≡ left_else (cell_of seat shape) y x
+cell_left (Cell c) (Single t) y x = refl
+cell_left (Cell c) (Many n items) y x = refl
+cell_left (Tokens port first step) shape y x = refl
 
 cells_left : (l : ItemList) (seat : Seat) (at : ℕ) (x : Option ℕ) → left_or (cells_of (record { seat = erase_seat seat; size = l.size; kind = l.kind })) at x ≡ left_or (cells_of (record { seat = seat; size = l.size; kind = l.kind })) at x
 cells_left l (Cell c) at x = refl
 cells_left l (Tokens port first step) at x = refl
 
-named_cell : (names : List Name) (text : List ℕ) (at : ℕ) (x : Option ℕ) → left_or (cell_named (map erase names) text) at x ≡ left_or (cell_named names text) at x
-named_cell names text at x = ap (λ (o : Option Name). left_or (cell_in_name o) at x) (named_erased text names) ∙ go (named text names)
+named_cell : (names : List Name) (text : List ℕ) (y x : Option ℕ) → left_else (cell_named (map erase names) text) y x ≡ left_else (cell_named names text) y x
+named_cell names text y x = ap (λ (o : Option Name). left_else (cell_in_name o) y x) (named_erased text names) ∙ go (named text names)
   where
-    go : (o : Option Name) → left_or (cell_in_name (erased o)) at x ≡ left_or (cell_in_name o) at x
+    go : (o : Option Name) → left_else (cell_in_name (erased o)) y x ≡ left_else (cell_in_name o) y x
     go None = refl
-    go (Some y) = cell_left y.seat y.shape at x
+    go (Some z) = cell_left z.seat z.shape y x
 
 named_cells : (names : List Name) (text : List ℕ) (at : ℕ) (x : Option ℕ) → left_or (cells_named (map erase names) text) at x ≡ left_or (cells_named names text) at x
 named_cells names text at x = ap (λ (o : Option ItemList). left_or (cells_in_list o) at x) (list_erased names (tree.variable text 0)) ∙ go (list_named names (tree.variable text 0))
@@ -217,9 +220,29 @@ named_cells names text at x = ap (λ (o : Option ItemList). left_or (cells_in_li
     go None = refl
     go (Some l) = cells_left l l.seat at x
 
+-- what is left out of a list that is stored whole
+abbrev copy_left : Option ListCells → Option ItemList → ℕ → Option ℕ
+copy_left cells list at = elim cells [ None ↦ Some at | Some c ↦ left_out_copy c list at ]
+
+copy_erased : (l : ItemList) (seat : Seat) (list : Option ItemList) (at : ℕ) → copy_left (cells_of (record { seat = erase_seat seat; size = l.size; kind = l.kind })) (erased_list list) at ≡ copy_left (cells_of (record { seat = seat; size = l.size; kind = l.kind })) list at
+copy_erased l (Cell c) None at = refl
+copy_erased l (Cell c) (Some k) at = refl
+copy_erased l (Tokens port first step) list at = refl
+
+whole_list : (names : List Name) (text : List ℕ) (value : Tree) (at : ℕ) → left_out_list (map erase names) text value at ≡ left_out_list names text value at
+whole_list names text value at =
+    ap (λ (o : Option ItemList). copy_left (cells_in_list o) (list_named (map erase names) value) at) (list_erased names (tree.variable text 0))
+    ∙ ap (λ (o : Option ItemList). copy_left (cells_in_list (erased_list (list_named names (tree.variable text 0)))) o at) (list_erased names value)
+    ∙ go (list_named names (tree.variable text 0))
+  where
+    go : (o : Option ItemList) → copy_left (cells_in_list (erased_list o)) (erased_list (list_named names value)) at ≡ copy_left (cells_in_list o) (list_named names value) at
+    go None = refl
+    go (Some l) = copy_erased l l.seat (list_named names value) at
+
 set_erased : (names : List Name) (text : List ℕ) (places value : Tree) (at : ℕ) → left_out_set (map erase names) text places value at ≡ left_out_set names text places value at
 set_erased names text tree.nil value at =
-    named_cell names text at (left_out (map erase names) value) ∙ ap (λ x. left_or (cell_named names text) at x) (out_erased names value)
+    ap (λ y. left_else (cell_named (map erase names) text) y (left_out (map erase names) value)) (whole_list names text value at)
+    ∙ named_cell names text (left_out_list names text value at) (left_out (map erase names) value) ∙ ap (λ x. left_else (cell_named names text) (left_out_list names text value at) x) (out_erased names value)
 set_erased names text (tree.cons spot tree.nil) value at =
     named_cells names text at (left_out (map erase names) spot or_else left_out (map erase names) value)
     ∙ ap (λ x. left_or (cells_named names text) at x) (both_same (out_erased names spot) (out_erased names value))

@@ -249,7 +249,7 @@ module _ (code : Code) (callable limit : ℕ) where
   fits_item : (base h : ℕ) (l : ItemList) → SeatIsBelow limit l.size l.seat → Plain base (h + 1) (item_instr l ∷ []) (h + 1)
   fits_item base h l below = fits_item_at base h l.size l.seat below
 
-  list_below : (n : ℕ) (names : List Name) (e : Tree) (l : ItemList) → list_named names e ≡ Some l → AreBelow n names → n ≤ limit → SeatIsBelow limit l.size l.seat
+  pub list_below : (n : ℕ) (names : List Name) (e : Tree) (l : ItemList) → list_named names e ≡ Some l → AreBelow n names → n ≤ limit → SeatIsBelow limit l.size l.seat
   list_below n names e l g below le =
       let f : IsListName names e l = found names e l g in
       let one : scalars_of_type f.x.shape ≡ l.size * 1 = ap scalars_of_type f.shape in

@@ -9,16 +9,17 @@ use Rattle.cal_ast.specs.Tree.{Tree}
 use Rattle.code_ir.specs.declared.instr.Instr.{Instr}
 use Rattle.code_ir.specs.declared.instr.Instr.TheVariants as op
 use Rattle.code_ir.specs.Code.{Code}
-use Rattle.expr_lower.specs.declared.names.Seat.TheVariants.{Cell}
+use Rattle.expr_lower.specs.declared.names.Seat.{Seat}
+use Rattle.expr_lower.specs.declared.names.Seat.TheVariants.{Cell, Tokens}
 use Rattle.expr_lower.specs.Names.{Name, named}
 use Rattle.expr_lower.specs.Held.{AreBelow, SeatIsBelow}
 use Rattle.expr_lower.specs.Changing.{AreTyped}
 use Rattle.expr_lower.specs.Fitting.{FitsAt, Fits}
 use Rattle.expr_lower.specs.Placed.{StandsAt}
-use Rattle.expr_lower.specs.Stating.{IsStmt, AreStmts, set, set_item, if_alone, if_else, while_code, each_code, each_head, each_tail, block_code, none, one_more, IsBlock, no_more, variable_more, IsStart, at_zero, at_value}
+use Rattle.expr_lower.specs.Stating.{IsStmt, AreStmts, copy_code, set, set_item, set_list, if_alone, if_else, while_code, each_code, each_head, each_tail, block_code, none, one_more, IsBlock, no_more, variable_more, IsStart, at_zero, at_value}
 use Rattle.expr_lower.proofs.Coded.{grows, grows_test}
 use Rattle.expr_lower.proofs.Executed.{grows_stmt, grows_all, grows_block, grows_start}
-use Rattle.expr_lower.proofs.Fitted.{Plain, branch, fits, fits_const, fits_jump, fits_like, fits_one, fits_test, fits_then, get_append, glued, glued_before, glued_from, plain_then}
+use Rattle.expr_lower.proofs.Fitted.{Plain, branch, fits, fits_const, fits_jump, fits_like, fits_one, fits_test, fits_then, get_append, glued, glued_before, glued_from, list_below, plain_then}
 use Rattle.expr_lower.proofs.FittedEach.{fits_each}
 use Rattle.expr_lower.proofs.FittedJumps.{fits_back, fits_goto, fits_none}
 use Rattle.expr_lower.proofs.Keeping.{below_more}
@@ -35,6 +36,13 @@ module _ (code : Code) (callable limit : ℕ) where
 
   fits_store_at : (base h c size : ℕ) (t : Scalar) → c + size ≤ limit → IsSize t → Plain code callable limit base (h + 1 + 1) (op.StoreAt c size (Some t) ∷ []) h
   fits_store_at base h c size t le sized = fits_one code callable limit base (h + 1 + 1) h (op.StoreAt c size (Some t)) (omega arith) (omega arith) refl le tt tt sized
+
+  fits_copy : (base h c size : ℕ) (t : Scalar) (seat : Seat) → c + size ≤ limit → SeatIsBelow limit size seat → IsSize t → Plain code callable limit base h (copy_code c size t seat) h
+  fits_copy base h c size t (Cell s) to from sized = fits_one code callable limit base h h (op.Copy c s size (Some t)) (omega arith) (omega arith) refl (to, from) tt tt sized
+  fits_copy base h c size t (Tokens port first step) to from sized =
+      plain_then code callable limit base h h h (op.TokenList c port first step size ∷ []) (op.Copy c c size (Some t) ∷ [])
+      (fits_one code callable limit base h h (op.TokenList c port first step size) (omega arith) (omega arith) refl to tt tt tt)
+      (fits_one code callable limit (base + 1) h h (op.Copy c c size (Some t)) (omega arith) (omega arith) refl (to, to) tt tt sized)
 
   -- the cells of a name are there
   cells_there : (n c : ℕ) (names : List Name) (text : List ℕ) (x : Name) (s : Shape) → AreBelow n names → n ≤ limit → named text names ≡ Some x → x.seat ≡ Cell c → x.shape ≡ s → c + scalars_of_type s ≤ limit
@@ -76,6 +84,10 @@ module _ (code : Code) (callable limit : ℕ) where
         let one = cells_there n c names text x (Single t) below (omega (arith, grown, le)) e seat shape in
         plain_then code callable limit base h (h + 1) h instrs (op.Store c (Some t) ∷ []) (fits code callable limit names h below le g)
         (fits_store (base + length instrs) h c t one (subst IsType shape (typed text x e)))
+    fits_stmt h below typed le stands (set_list names text value place at base n c size x t l e seat shape g many) =
+        let to = cells_there n c names text x (Many size (Single t)) below le e seat shape in
+        let listed : IsType (Many size (Single t)) = subst IsType shape (typed text x e) in
+        fits_copy base h c size t l.seat (omega (arith, to)) (subst (λ k. SeatIsBelow limit k l.seat) many (list_below code callable limit n names value l g below le)) listed.2
     fits_stmt h below typed le stands (set_item names text spot value place at base n k m c size a b x t e seat shape g d) =
         let grown = grows g in
         let more = grows d in

@@ -24,6 +24,7 @@ pub mod Scoping
 pub mod Storing
 pub mod Performing
 pub mod Setting
+pub mod Copying
 pub mod Executed
 pub mod FittedStmts
 pub mod AddingStmts

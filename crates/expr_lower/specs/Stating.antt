@@ -8,9 +8,12 @@ use Rattle.cal_model.specs.Value.{Single, Many}
 use Rattle.code_ir.specs.declared.instr.Instr.{Instr}
 use Rattle.code_ir.specs.declared.instr.Instr.TheVariants as op
 use Rattle.expr_lower.specs.declared.counter.Counter.{Counter}
-use Rattle.expr_lower.specs.declared.names.Seat.TheVariants.{Cell}
+use Rattle.expr_lower.specs.declared.names.ItemList.{ItemList}
+use Rattle.expr_lower.specs.declared.names.Seat.{Seat}
+use Rattle.expr_lower.specs.declared.names.Seat.TheVariants.{Cell, Tokens}
 use Rattle.expr_lower.specs.Names.{Name, named}
 use Rattle.expr_lower.specs.Coding.{IsCode, IsTest}
+use Rattle.expr_lower.specs.Listed.{list_named}
 use Rattle.expr_lower.specs.Meant.{local, single_meant}
 
 -- ---- parts of the code of a `foreach`
@@ -47,6 +50,15 @@ each_tail n turn out =
     op.Load n ∷ op.Load (n + 1) ∷ op.Lt ∷ op.JumpIfNot out
     ∷ op.Load n ∷ op.Const (pos 1) ∷ op.Add ∷ op.Store n None ∷ op.Jump turn ∷ []
 
+-- ---- lists that are stored whole
+
+-- A list that stands at a seat goes to cells, each of its items stored in a type. Tokens are taken first, and then
+-- stored where they are.
+abbrev pub copy_code : ℕ → ℕ → Scalar → Seat → List Instr
+copy_code c size t (Cell s) = op.Copy c s size (Some t) ∷ []
+copy_code c size t (Tokens port first step) =
+    op.TokenList c port first step size ∷ op.Copy c c size (Some t) ∷ []
+
 -- ---- the start of a local
 
 -- Code that gives a local of a type its start, in a cell.
@@ -67,6 +79,13 @@ mutual
         → IsCode names value base n code m
         → IsStmt names (tree.assign (tree.ident text place) tree.nil value at) base n
         (code ++ op.Store c (Some t) ∷ []) m
+    -- the items of another list, which isn't copied before
+    set_list : (names : List Name) (text : List ℕ) (value : Tree) (place at base n c size : ℕ)
+        (x : Name) (t : Scalar) (l : ItemList)
+        → named text names ≡ Some x → x.seat ≡ Cell c → x.shape ≡ Many size (Single t)
+        → list_named names value ≡ Some l → l.size ≡ size
+        → IsStmt names (tree.assign (tree.ident text place) tree.nil value at) base n
+        (copy_code c size t l.seat) n
     -- the place in the list, then the value, and then the instruction that tests the place
     set_item : (names : List Name) (text : List ℕ) (index value : Tree)
         (place at base n k m c size : ℕ) (a b : List Instr) (x : Name) (t : Scalar)

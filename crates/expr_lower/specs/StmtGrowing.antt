@@ -1,6 +1,6 @@
 -- Which statements are left out.
 -- Trusted: part of what a promise means.
-use Rattle.std.specs.Prelude.{ℕ, List, ◌∷◌, Option, None, Some}
+use Rattle.std.specs.Prelude.{ℕ, nat_eq, if◌then◌else◌, List, ◌∷◌, Option, None, Some}
 use Rattle.cal_ast.specs.Tree as tree
 use Rattle.cal_ast.specs.Tree.{Tree}
 use Rattle.cal_model.specs.Value.{Shape, Single, Many}
@@ -38,10 +38,22 @@ abbrev pub cells_named : List Name → List ℕ → Option ListCells
 cells_named names text =
     elim (list_named names (tree.variable text 0)) [ None ↦ None | Some l ↦ cells_of l ]
 
+-- a list is stored whole only from the name of a list of as many single values
+abbrev pub left_out_copy : ListCells → Option ItemList → ℕ → Option ℕ
+left_out_copy c None at = Some at
+left_out_copy c (Some l) at = if nat_eq l.size c.size then None else Some at
+
+abbrev pub left_out_list : List Name → List ℕ → Tree → ℕ → Option ℕ
+left_out_list names text value at = elim (cells_named names text)
+    [ None ↦ Some at | Some c ↦ left_out_copy c (list_named names value) at ]
+
 -- an assignment to the whole variable, or to one item of it
 abbrev pub left_out_set : List Name → List ℕ → Tree → Tree → ℕ → Option ℕ
 left_out_set names text tree.nil value at =
-    elim (cell_named names text) [ None ↦ Some at | Some c ↦ left_out names value ]
+    elim (cell_named names text) [
+      | None ↦ left_out_list names text value at
+      | Some c ↦ left_out names value
+    ]
 left_out_set names text (tree.cons spot tree.nil) value at =
     elim (cells_named names text) [
       | None ↦ Some at
@@ -68,7 +80,7 @@ left_out_vars names other body = Some 0
 
 abbrev mutual
   -- The place of the first part of a statement for which no code is made: an assignment to what isn't a variable of
-  -- single values in a cell or an item of a list of them in cells, a call, or a `foreach` or a variable of a block
+  -- single values in a cell or an item of a list of them in cells, unless it stores another such list whole, a call, or a `foreach` or a variable of a block
   -- whose type isn't seen to be one of single values; or such a part of an expression. Of a `while` the body comes first, as in its
   -- code. Which cell a local has doesn't matter here.
   pub left_out_stmt : List Name → Tree → Option ℕ

@@ -1,11 +1,15 @@
 //! Statements as code: one small function a form.
 
-ghost use Rattle.std.specs.Prelude.{◌≡◌, ◌∷◌, ℕ, IfErr, None, OnOk, Some};
+ghost use Rattle.std.specs.Prelude.{◌≡◌, ◌∷◌, ℕ, IfErr, None, OnOk, Some, string_bytes};
 ghost use Rattle.cal_ast.specs.View.{stmt_tree};
 ghost use Rattle.expr_lower.specs.Changing.{AreTyped, NamesApart};
 ghost use Rattle.expr_lower.specs.Held.{AreBelow};
 ghost use Rattle.expr_lower.specs.Names.{names_view};
+ghost use Rattle.expr_lower.specs.declared.fault.LowerFault.TheVariants.{Memory};
 ghost use Rattle.expr_lower.specs.Growing.{IsFault};
+ghost use Rattle.expr_lower.specs.Lowered.{IsPut};
+ghost use Rattle.expr_lower.specs.Stating.{copy_code};
+ghost use Rattle.expr_lower.specs.StmtGrowing.{cell_named};
 ghost use Rattle.expr_lower.specs.Seen.{seen};
 ghost use Rattle.expr_lower.specs.SeenWords.{AddsBlock, AddsStart, behind, left_out_block, left_out_first};
 ghost use Rattle.expr_lower.specs.SeenWords.{AddsBody, AddsStmt, AddsStmts, AreAllOf, AreWhyNot};
@@ -18,7 +22,7 @@ use crate::counter::{Counter, put_bounds, put_less, put_next, put_turn, take_cel
 use crate::draft::{Draft, next_place, put, put_all};
 use crate::fault::LowerFault;
 use crate::lower::{close, exit_at, jump_at, link, lower, lower_test};
-use crate::names::{Named, cell_named, cells_named};
+use crate::names::{ListCells, Named, Seat, cell_named, cells_named, list_named};
 use crate::scope::{Frame, Scope};
 use crate::types::single_meant;
 use cal_ast::{Expr, Ident, Stmt, StmtForm, TypeExpr, VarDecl};
@@ -102,10 +106,55 @@ fn set_one(
         (IsWhyNot scope.now (set_one_of name.now value.now at) draft.new) }
 {
     let Some(to) = cell_named(scope, name.text.as_str()) else {
-        return Err(LowerFault::NotLowered { at });
+        return set_list(scope, name, value, at, draft);
     };
     lower(scope, value, draft)?;
     put(draft, Instr::Store(to.cell, Some(to.kind)))
+}
+
+/// Appends an assignment to a whole list: the instructions that store the items of another one.
+fn set_list(
+    scope: &Scope,
+    name: &Ident,
+    value: &Expr,
+    at: u32,
+    draft: &mut Draft,
+) -> Result<(), LowerFault>
+    requires not_one { cell_named (seen scope.now) (string_bytes name.now.text) ≡ None }
+    ensures ok { OnOk result
+        (AddsStmt scope.now (set_one_of name.now value.now at) draft.old draft.new) }
+    ensures whole { OnOk result (IsAllOf scope.now (set_one_of name.now value.now at)) }
+    ensures fault { IfErr result
+        (IsWhyNot scope.now (set_one_of name.now value.now at) draft.new) }
+{
+    let Some(to) = cells_named(scope, name.text.as_str()) else {
+        return Err(LowerFault::NotLowered { at });
+    };
+    let Some(from) = list_named(scope, value) else {
+        return Err(LowerFault::NotLowered { at });
+    };
+    if from.size != to.size {
+        return Err(LowerFault::NotLowered { at });
+    }
+    copy(to, from.seat, draft)
+}
+
+/// Appends the instructions that store the items of a list in those of another one.
+fn copy(to: ListCells, from: Seat, draft: &mut Draft) -> Result<(), LowerFault>
+    ensures added { OnOk result
+        (IsPut (copy_code to.cell to.size to.kind from) draft.old draft.new) }
+    ensures memory { IfErr result (λ fault. fault ≡ Memory) }
+{
+    match from {
+        Seat::Cell(source) => put(draft, Instr::Copy(to.cell, source, to.size, Some(to.kind))),
+        Seat::Tokens { port, first, step } => put_all(
+            draft,
+            &[
+                Instr::TokenList(to.cell, port, first, step, to.size),
+                Instr::Copy(to.cell, to.cell, to.size, Some(to.kind)),
+            ],
+        ),
+    }
 }
 
 /// Appends an assignment to an item of a list: the place, the value, and the instruction that stores it there.
@@ -401,8 +450,8 @@ fn given(
 /// changes the cells of these names as the statements change the variables, each stored in its type. What stood in
 /// the draft stays.
 ///
-/// Code is made for assignments to variables of single values and to items of lists of them, `if`, `while`, and
-/// `foreach` and blocks whose types are written without names, over the expressions for which
+/// Code is made for assignments to variables of single values and to items of lists of them, and of such a list that
+/// is named to another one of the same size, `if`, `while`, and `foreach` and blocks whose types are written without names, over the expressions for which
 /// [`lower_expr`](crate::lower_expr) makes code. A `foreach` uses three cells more, and a variable of a block one; they are added to the draft.
 ///
 /// # Errors
