@@ -14,9 +14,9 @@ use Rattle.expr_lower.specs.declared.names.Seat.TheVariants.{Cell, Tokens}
 use Rattle.expr_lower.specs.Growing.{is_short, left_out, left_out_name, left_out_places, ◌or_else◌}
 use Rattle.expr_lower.specs.Listed.{items_in, items_of, list_named, single_of}
 use Rattle.expr_lower.specs.Meant.{local, single_meant}
-use Rattle.expr_lower.specs.Parted.{Part, deep_named, item_in, item_of, part_at, part_named, singles_in, sized, whole_in, whole_of}
+use Rattle.expr_lower.specs.Parted.{Part, deep_cells_at, deep_cells_in, deep_cells_named, deep_named, item_in, item_of, part_at, leaf_in, part_named, singles_in, sized, whole_in, whole_of}
 use Rattle.expr_lower.specs.Names.{Name, named}
-use Rattle.expr_lower.specs.StmtGrowing.{cell_of, cell_named, cells_of, cells_named, left_out_all, left_out_copy, left_out_list, left_out_set, left_out_start, left_out_stmt, left_out_vars}
+use Rattle.expr_lower.specs.StmtGrowing.{cell_of, cell_named, cells_of, cells_named, left_out_all, left_out_copy, left_out_deep, left_out_each, left_out_list, left_out_set, left_out_start, left_out_stmt, left_out_vars}
 use Rattle.expr_lower.specs.Truths.{is_truth, is_truth_list, is_truth_shape}
 
 -- a seat without its cell
@@ -239,6 +239,26 @@ whole_list names text value at =
     go None = refl
     go (Some l) = copy_erased l l.seat (list_named names value) at
 
+-- the places of an item of a list in lists
+each_place_erased : (names : List Name) (places : Tree) → left_out_each (map erase names) places ≡ left_out_each names places
+each_place_erased names (tree.cons place places) = both_same (out_erased names place) (each_place_erased names places)
+each_place_erased names other = refl
+
+deep_cells_left : (seat : Seat) (size : ℕ) (leaf : Option Scalar) (y x : Option ℕ) → left_else (deep_cells_at (erase_seat seat) size leaf) y x ≡ left_else (deep_cells_at seat size leaf) y x
+deep_cells_left (Cell c) size None y x = refl
+deep_cells_left (Cell c) size (Some t) y x = refl
+deep_cells_left (Tokens port first step) size leaf y x = refl
+
+item_erased : (names : List Name) (text : List ℕ) (places value : Tree) (at : ℕ) → left_out_deep (map erase names) text places value at ≡ left_out_deep names text places value at
+item_erased names text places value at =
+    ap (λ (o : Option Part). left_or (elim o [ None ↦ None | Some p ↦ deep_cells_in p places ]) at (left_out_each (map erase names) places or_else left_out (map erase names) value)) (part_erased names (tree.variable text 0))
+    ∙ go (part_named names (tree.variable text 0)) (left_out_each (map erase names) places or_else left_out (map erase names) value)
+    ∙ ap (λ x. left_or (deep_cells_named names text places) at x) (both_same (each_place_erased names places) (out_erased names value))
+  where
+    go : (o : Option Part) (x : Option ℕ) → left_or (elim (erased_part o) [ None ↦ None | Some p ↦ deep_cells_in p places ]) at x ≡ left_or (elim o [ None ↦ None | Some p ↦ deep_cells_in p places ]) at x
+    go None x = refl
+    go (Some p) x = deep_cells_left p.seat p.size (leaf_in p.shape places) (Some at) x
+
 set_erased : (names : List Name) (text : List ℕ) (places value : Tree) (at : ℕ) → left_out_set (map erase names) text places value at ≡ left_out_set names text places value at
 set_erased names text tree.nil value at =
     ap (λ y. left_else (cell_named (map erase names) text) y (left_out (map erase names) value)) (whole_list names text value at)
@@ -246,7 +266,7 @@ set_erased names text tree.nil value at =
 set_erased names text (tree.cons spot tree.nil) value at =
     named_cells names text at (left_out (map erase names) spot or_else left_out (map erase names) value)
     ∙ ap (λ x. left_or (cells_named names text) at x) (both_same (out_erased names spot) (out_erased names value))
-set_erased names text places value at = refl
+set_erased names text places value at = item_erased names text places value at
 
 -- ---- statements
 

@@ -25,6 +25,8 @@ pub mod Storing
 pub mod Performing
 pub mod Setting
 pub mod Copying
+pub mod Changed
+pub mod DeepItems
 pub mod Executed
 pub mod FittedStmts
 pub mod AddingStmts

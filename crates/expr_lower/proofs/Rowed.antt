@@ -64,7 +64,7 @@ record RowLeft (names : List Name) (env : Env) (p : Part) (e : Effect) (stack ce
   pub leaves : e ≡ Leaves (pos offset ∷ stack) cells
   pub inside : IsInside names env p v offset
 
-small_num : (k : ℕ) → k < 2 ^ 32 → is_num (pos k) ≡ true
+pub small_num : (k : ℕ) → k < 2 ^ 32 → is_num (pos k) ≡ true
 small_num k less =
     let wide : nat_le (2 ^ 32) num_bound ≡ true = refl in
     let more : 2 ^ 32 ≤ num_bound = grind (arith, nat_tests, wide) in

@@ -19,9 +19,10 @@ use Rattle.expr_lower.specs.Growing.{IsFault, left_out, left_out_places, ◌or_e
 use Rattle.expr_lower.specs.Lowered.{Adds}
 use Rattle.expr_lower.specs.Meant.{local}
 use Rattle.expr_lower.specs.Names.{Name}
+use Rattle.expr_lower.specs.PartView.{places_of}
 use Rattle.expr_lower.specs.Seen.{seen}
-use Rattle.expr_lower.specs.Stating.{IsBlock, IsStart, IsStmt, AreStmts}
-use Rattle.expr_lower.specs.StmtGrowing.{left_out_all, left_out_start, left_out_stmt, left_out_vars}
+use Rattle.expr_lower.specs.Stating.{IsBlock, IsKept, IsStart, IsStmt, AreStmts}
+use Rattle.expr_lower.specs.StmtGrowing.{left_out_all, left_out_deep, left_out_each, left_out_start, left_out_stmt, left_out_vars}
 use Rattle.expr_lower.specs.StmtWords.{body_of}
 use Rattle.expr_lower.specs.Words.{binary_of}
 
@@ -74,6 +75,18 @@ AddsStmt scope s old new = Adds (IsStmt (seen scope) s) old new
 -- the code of statements was added
 abbrev pub AddsStmts : Scope → Tree → Draft → Draft → Type 0
 AddsStmts scope body old new = Adds (AreStmts (seen scope) body) old new
+
+-- the code of places was added, each of which is kept
+abbrev pub AddsKept : Scope → ℕ → List Expr → Draft → Draft → Type 0
+AddsKept scope c places old new = Adds (IsKept (seen scope) c (places_of places)) old new
+
+-- the first part of places that is left out, and of an assignment to an item of a list in lists
+abbrev pub left_out_kept : Scope → List Expr → Option ℕ
+left_out_kept scope places = left_out_each (seen scope) (places_of places)
+
+abbrev pub left_out_item : Scope → Ident → List Expr → Expr → ℕ → Option ℕ
+left_out_item scope name places value at =
+    left_out_deep (seen scope) (string_bytes name.text) (places_of places) (expr_tree value) at
 
 -- no part of a statement is left out, and none of statements
 abbrev pub IsAllOf : Scope → Tree → Type 0

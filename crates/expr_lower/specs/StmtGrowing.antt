@@ -13,6 +13,7 @@ use Rattle.expr_lower.specs.Growing.{left_out, ◌or_else◌}
 use Rattle.expr_lower.specs.Listed.{list_named}
 use Rattle.expr_lower.specs.Meant.{local, single_meant}
 use Rattle.expr_lower.specs.Names.{Name, named}
+use Rattle.expr_lower.specs.Parted.{deep_cells_named}
 
 -- the cell of a single value
 abbrev pub cell_of : Seat → Shape → Option OneCell
@@ -47,6 +48,19 @@ abbrev pub left_out_list : List Name → List ℕ → Tree → ℕ → Option �
 left_out_list names text value at = elim (cells_named names text)
     [ None ↦ Some at | Some c ↦ left_out_copy c (list_named names value) at ]
 
+-- the places of an item
+abbrev pub left_out_each : List Name → Tree → Option ℕ
+left_out_each names (tree.cons place places) =
+    left_out names place or_else left_out_each names places
+left_out_each names other = None
+
+-- an assignment to an item of a list in lists
+abbrev pub left_out_deep : List Name → List ℕ → Tree → Tree → ℕ → Option ℕ
+left_out_deep names text places value at = elim (deep_cells_named names text places) [
+  | None ↦ Some at
+  | Some c ↦ left_out_each names places or_else left_out names value
+]
+
 -- an assignment to the whole variable, or to one item of it
 abbrev pub left_out_set : List Name → List ℕ → Tree → Tree → ℕ → Option ℕ
 left_out_set names text tree.nil value at =
@@ -60,7 +74,7 @@ left_out_set names text (tree.cons spot tree.nil) value at =
       | Some c ↦ left_out names spot or_else left_out
           names value
     ]
-left_out_set names text places value at = Some at
+left_out_set names text places value at = left_out_deep names text places value at
 
 -- the start of a local, which may be absent
 abbrev pub left_out_start : List Name → Tree → Option ℕ
@@ -80,7 +94,7 @@ left_out_vars names other body = Some 0
 
 abbrev mutual
   -- The place of the first part of a statement for which no code is made: an assignment to what isn't a variable of
-  -- single values in a cell or an item of a list of them in cells, unless it stores another such list whole, a call, or a `foreach` or a variable of a block
+  -- single values in a cell or an item of lists of them in cells, unless it stores another list of them whole, a call, or a `foreach` or a variable of a block
   -- whose type isn't seen to be one of single values; or such a part of an expression. Of a `while` the body comes first, as in its
   -- code. Which cell a local has doesn't matter here.
   pub left_out_stmt : List Name → Tree → Option ℕ

@@ -5,6 +5,7 @@
 #![tactic(auto)]
 
 mod counter;
+mod deep;
 mod draft;
 mod fault;
 pub mod laws;

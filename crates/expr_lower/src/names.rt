@@ -180,7 +180,7 @@ fn items_of(named: &Named) -> Option<ItemList>
 }
 
 /// The type of single values that a type is, if it is one.
-fn single(shape: &Shape) -> Option<Scalar>
+pub(crate) fn single(shape: &Shape) -> Option<Scalar>
     ensures { result ≡ single_of (shape_view shape.now) }
 {
     match shape {

@@ -19,6 +19,7 @@ ghost use Rattle.expr_lower.specs.StmtWords.{alone_of, body_of, branch_of, forea
 ghost use Rattle.expr_lower.specs.StmtWords.{set_item_of, set_of, set_one_of, while_of};
 
 use crate::counter::{Counter, put_bounds, put_less, put_next, put_turn, take_cell, take_cells};
+use crate::deep::set_deep;
 use crate::draft::{Draft, next_place, put, put_all};
 use crate::fault::LowerFault;
 use crate::lower::{close, exit_at, jump_at, link, lower, lower_test};
@@ -87,7 +88,7 @@ fn set(
     match places {
         [] => set_one(scope, name, value, at, draft),
         [place] => set_item(scope, name, place, value, at, draft),
-        _ => Err(LowerFault::NotLowered { at }),
+        _ => set_deep(scope, name, places, value, at, draft),
     }
 }
 
@@ -450,8 +451,8 @@ fn given(
 /// changes the cells of these names as the statements change the variables, each stored in its type. What stood in
 /// the draft stays.
 ///
-/// Code is made for assignments to variables of single values and to items of lists of them, and of such a list that
-/// is named to another one of the same size, `if`, `while`, and `foreach` and blocks whose types are written without names, over the expressions for which
+/// Code is made for assignments to variables of single values and to items of lists of them at any depth, and of a
+/// list of single values that is named to another one of the same size, `if`, `while`, and `foreach` and blocks whose types are written without names, over the expressions for which
 /// [`lower_expr`](crate::lower_expr) makes code. A `foreach` uses three cells more, and a variable of a block one; they are added to the draft.
 ///
 /// # Errors
