@@ -1,5 +1,7 @@
 -- Code of statements that was added to a draft, part by part.
-use Rattle.std.proofs.Common.{◌≡◌, ℕ, pos, zero, suc, ◌+◌, ◌<◌, ◌≤◌, List, [], ◌∷◌, ◌++◌, length, map, take, drop, get_or, Bool, refl, sym, ap, ◌∙◌, subst, Option, None, Some, arith, append_assoc, length-append}
+use Rattle.std.specs.Prelude.{if◌then◌else◌, nat_eq}
+use Rattle.std.proofs.lemmas.Bool.Decides.{nat_tests}
+use Rattle.std.proofs.Common.{◌≡◌, ◌≢◌, true, false, ℕ, pos, zero, suc, ◌+◌, ◌<◌, ◌≤◌, List, [], ◌∷◌, ◌++◌, length, map, take, drop, get_or, Bool, refl, sym, ap, ◌∙◌, subst, Option, None, Some, arith, append_assoc, length-append}
 use Rattle.std.proofs.lemmas.List.{append-nil, length-map, map-append, take_more, take_all, take-append-drop}
 use Rattle.rvc_base.specs.declared.scalar.Scalar.{Scalar}
 use Rattle.cal_ast.specs.Tree as tree
@@ -29,10 +31,10 @@ use Rattle.expr_lower.specs.Listed.{list_named}
 use Rattle.expr_lower.specs.Linking.{Closes, Links, SetsExit, SetsJump}
 use Rattle.expr_lower.specs.Lowered.{Adds, IsPut}
 use Rattle.expr_lower.specs.Meant.{local, single_meant}
-use Rattle.expr_lower.specs.Stating.{IsKept, IsStmt, copy_code, deep_tail, no_place, place_more, set_deep, set_list, step_code, AreStmts, set, set_item, if_alone, if_else, while_code, each_code, none, one_more, IsBlock, IsStart, variable_more}
+use Rattle.expr_lower.specs.Stating.{IsKept, IsStmt, copy_code, deep_tail, no_place, place_more, set_deep, set_items, set_list, step_code, AreStmts, set, set_item, if_alone, if_else, while_code, each_code, none, one_more, IsBlock, IsStart, variable_more}
 use Rattle.expr_lower.specs.Stating.{counter_at, each_bounds, each_head, each_less, each_next, each_tail, each_turn}
-use Rattle.expr_lower.specs.Taking.{HasKept, HasOneMore, HasTaken}
-use Rattle.expr_lower.specs.StmtGrowing.{cell_of, cell_named, cells_of, cells_named, left_out_deep, left_out_set, left_out_start, left_out_stmt, left_out_all, left_out_vars}
+use Rattle.expr_lower.specs.Taking.{HasKept, HasMore, HasOneMore, HasTaken}
+use Rattle.expr_lower.specs.StmtGrowing.{cell_of, cell_named, cells_of, cells_named, left_out_deep, left_out_each, left_out_items, left_out_set, left_out_start, left_out_stmt, left_out_all, left_out_vars}
 use Rattle.expr_lower.proofs.Adding.{length_join, put_adds}
 use Rattle.expr_lower.proofs.Erased.{any_cell, any_cell_vars}
 use Rattle.expr_lower.proofs.Executed.{executes}
@@ -273,6 +275,40 @@ pub many_places : (names : List Name) (text : List ℕ) (value : Tree) (at : ℕ
 many_places names text value at [] h = absurd (omega (arith, h))
 many_places names text value at (t ∷ []) h = absurd (omega (arith, h))
 many_places names text value at (t ∷ u ∷ ts) h = refl
+
+-- as many items as the list has, and another number
+pub items_fit : (names : List Name) (c : ListCells) (items : Tree) (at count : ℕ) → count ≡ number_of items → count ≡ c.size → left_out_items names c items at ≡ left_out_each names items
+items_fit names c items at count number size =
+    let same : nat_eq (number_of items) c.size ≡ true = grind (arith, nat_tests, number, size) in
+    ap (λ b. if b then left_out_each names items else Some at) same
+
+pub items_differ : (names : List Name) (c : ListCells) (items : Tree) (at count : ℕ) → count ≡ number_of items → count ≢ c.size → left_out_items names c items at ≡ Some at
+items_differ names c items at count number size =
+    let other : number_of items ≢ c.size = λ e. size (number ∙ e) in
+    go (nat_eq (number_of items) c.size) refl other
+  where
+    go : (b : Bool) → nat_eq (number_of items) c.size ≡ b → number_of items ≢ c.size → (if b then left_out_each names items else Some at) ≡ Some at
+    go true e h = absurd (h (grind (arith, nat_tests, e)))
+    go false e h = refl
+
+pub items_adds : (names : List Name) (text : List ℕ) (items : Tree) (list place at count first : ℕ) (c : ListCells) (old d0 d1 new : Draft) → cells_named names text ≡ Some c → count ≡ number_of items → count ≡ c.size → HasMore count old d0 first
+    → Adds (IsKept names first items) d0 d1 → IsPut (copy_code c.cell c.size c.kind (Cell first)) d1 new → Adds (IsStmt names (tree.assign (tree.ident text place) tree.nil (tree.list items list) at)) old new
+items_adds names text items list place at count first c old d0 d1 new e number size k a p =
+    let f : AreCellsOf names text c = cells_found names text c e in
+    let last : List Instr = copy_code c.cell c.size c.kind (Cell first) in
+    let here : List Instr = copy_code c.cell c.size c.kind (Cell old.cells) in
+    let start : length d0.instrs.items ≡ length old.instrs.items = ap length k.instrs in
+    let taken : d0.cells ≡ old.cells + c.size = let x = k.cells in omega (arith, x, size) in
+    let all : new.instrs.items ≡ (old.instrs.items ++ a.code) ++ last = cc (p.is, a.is, k.instrs) in
+    record {
+      code = a.code ++ here;
+      is = all ∙ append_assoc old.instrs.items a.code last ∙ ap (λ q. old.instrs.items ++ (a.code ++ copy_code c.cell c.size c.kind (Cell q))) k.is;
+      routines = p.routines ∙ a.routines ∙ k.routines;
+      has = subst (λ m. IsStmt names (tree.assign (tree.ident text place) tree.nil (tree.list items list) at) (length old.instrs.items) old.cells (a.code ++ here) m) (sym p.cells)
+          (set_items names text items list place at (length old.instrs.items) old.cells d1.cells c.cell c.size a.code f.x c.kind f.is f.seat f.shape (sym number ∙ size)
+          (subst (λ q. IsKept names q items (length old.instrs.items) (old.cells + c.size) a.code d1.cells) k.is
+          (subst (λ q. IsKept names first items q (old.cells + c.size) a.code d1.cells) start (subst (λ q. IsKept names first items (length d0.instrs.items) q a.code d1.cells) taken a.has))));
+    }
 
 pub item_adds : (names : List Name) (text : List ℕ) (spot value : Tree) (place at : ℕ) (c : ListCells) (old d1 d2 new : Draft) → cells_named names text ≡ Some c
     → Adds (IsCode names spot) old d1 → Adds (IsCode names value) d1 d2 → IsPut (op.StoreAt c.cell c.size (Some c.kind) ∷ []) d2 new

@@ -1,5 +1,5 @@
 -- The code that stores a list whole does what executing the assignment does.
-use Rattle.std.proofs.Common.{◌≡◌, ◌≢◌, ℕ, zero, suc, ◌+◌, ◌*◌, ◌<◌, ◌≤◌, ◌⊎◌, inl, inr, ⊎_elim, ℤ, pos, List, [], ◌∷◌, ◌++◌, length, Bool, true, false, refl, sym, ap, ◌∙◌, subst, Option, None, Some, arith}
+use Rattle.std.proofs.Common.{◌≡◌, ◌≢◌, ℕ, zero, suc, ◌+◌, ◌*◌, ◌<◌, ◌≤◌, ◌⊎◌, inl, inr, ⊎_elim, ℤ, pos, List, [], ◌∷◌, ◌++◌, length, Bool, true, false, refl, sym, ap, ◌∙◌, subst, Option, None, Some, arith, length-append}
 use Rattle.std.specs.Prelude.{if◌then◌else◌, nat_le, get_or, slice_get, slice_set}
 use Rattle.std.specs.Str.{bytes_eq}
 use Rattle.std.proofs.lemmas.Bool.Decides.{nat_tests}
@@ -7,10 +7,11 @@ use Rattle.std.proofs.lemmas.List.{length-set}
 use Rattle.std.proofs.lemmas.Option.{slice_get_within, slice_get-get_or, get_or_from_slice_get}
 use Rattle.std.proofs.lemmas.Slice.Eq.{bytes_eq-Decides}
 use Rattle.rvc_base.specs.declared.scalar.Scalar.{Scalar}
+use Rattle.rvc_base.specs.Arithmetic.{truth}
 use Rattle.rvc_base.specs.Storing.{conv, IsSize}
 use Rattle.cal_ast.specs.Tree as tree
 use Rattle.cal_ast.specs.Tree.{Tree}
-use Rattle.cal_model.specs.Value.{Shape, Single, Many, Value, Items, Values, Nil, Cons, count, stored, stored_each, HasKind, HaveKind, IsType, kind_of_scalar, kind_of_type, scalars_of_type}
+use Rattle.cal_model.specs.Value.{Shape, Single, Many, Value, Num, Truth, Items, Values, Nil, Cons, count, stored, stored_each, HasKind, HaveKind, IsType, kind_of_scalar, kind_of_type, scalars_of_type}
 use Rattle.cal_model.specs.Outcome.{Out, Gives, and_then}
 use Rattle.cal_model.specs.Env.{Env, assign, put}
 use Rattle.cal_model.specs.Expression.{eval}
@@ -37,7 +38,7 @@ use Rattle.expr_lower.proofs.Listing.{IsList, IsListName, first_of_two, found, n
 use Rattle.expr_lower.proofs.Performing.{Moves, Performs, but_written, but_all}
 use Rattle.expr_lower.proofs.Runs.{follows_more, obeys, reaches_join}
 use Rattle.expr_lower.proofs.Scoping.{AreLaid, Assigned, HoldsInside, PutsAt, Written, assigns, choose_name, laid_below, laid_typed, names_held}
-use Rattle.expr_lower.proofs.Singles.{kind_single}
+use Rattle.expr_lower.proofs.Singles.{IsSingleValue, kind_single}
 use Rattle.expr_lower.proofs.Storing.{single_stored}
 
 -- ---- ranges of cells
@@ -134,18 +135,32 @@ take_leaves d port k m n tokens stack cells to a =
 
 -- ---- what is stored
 
+-- each is a single value
+abbrev pub AllSingle : Values → Type 0
+AllSingle Nil = Unit {0}
+AllSingle (Cons v vs) = IsSingleValue v × AllSingle vs
+
+all_single : (k : Scalar) (vs : Values) → HaveKind (kind_of_scalar k) vs → AllSingle vs
+all_single k Nil h = tt
+all_single k (Cons v vs) h = (kind_single k v h.0, all_single k vs h.1)
+
+single_number : (v : Value) → IsSingleValue v → (y : ℤ) × (flat v ≡ y ∷ [])
+single_number (Num z) h = (z, refl)
+single_number (Truth b) h = (truth b, refl)
+single_number (Items vs) h = absurd h
+
 -- the items that are stored, each in a type
 record AreStoredIn (t : Scalar) (vs ws : Values) : Type 0 where
   as_many : count ws ≡ count vs
   kinds : HaveKind (kind_of_scalar t) ws
   numbers : (j : ℕ) (z : ℤ) → slice_get (flat_all ws) j ≡ Some z → (y : ℤ) × (slice_get (flat_all vs) j ≡ Some y) × (z ≡ conv t y)
 
-each_stored : (t k : Scalar) (vs : Values) → IsSize t → HaveKind (kind_of_scalar k) vs → AreStoredIn t vs (stored_each (Single t) vs)
-each_stored t k Nil size h = record { as_many = refl; kinds = tt; numbers = λ j z e. cc }
-each_stored t k (Cons v vs) size h =
-    let one = single_flat (Single k) v tt h.0 in
-    let made = single_stored t v one.0 size (kind_single k v h.0) one.1 in
-    let rest : AreStoredIn t vs (stored_each (Single t) vs) = each_stored t k vs size h.1 in
+each_stored : (t : Scalar) (vs : Values) → IsSize t → AllSingle vs → AreStoredIn t vs (stored_each (Single t) vs)
+each_stored t Nil size h = record { as_many = refl; kinds = tt; numbers = λ j z e. cc }
+each_stored t (Cons v vs) size h =
+    let one = single_number v h.0 in
+    let made = single_stored t v one.0 size h.0 one.1 in
+    let rest : AreStoredIn t vs (stored_each (Single t) vs) = each_stored t vs size h.1 in
     record { as_many = ap suc rest.as_many; kinds = (made.0, rest.kinds); numbers = λ j z e. at_place one.0 one.1 made.1 rest j z e }
   where
     at_place : (y : ℤ) → flat v ≡ y ∷ [] → flat (stored (Single t) v) ≡ conv t y ∷ [] → AreStoredIn t vs (stored_each (Single t) vs) → (j : ℕ) (z : ℤ) → slice_get (flat (stored (Single t) v) ++ flat_all (stored_each (Single t) vs)) j ≡ Some z
@@ -159,24 +174,25 @@ each_stored t k (Cons v vs) size h =
         (later.0, (first_of_two (flat v) (flat_all vs) y j is).1 ∙ later.1, later.2)
 
 -- as many numbers as items
-list_length : (k : Scalar) (vs : Values) → HaveKind (kind_of_scalar k) vs → length (flat_all vs) ≡ count vs
-list_length k vs kinds =
-    let all = flat_all_length (kind_of_scalar k) vs kinds in
-    let one = scalars_same (Single k) in
-    let same : length (flat_all vs) ≡ count vs * 1 = all ∙ ap (λ m. count vs * m) one in
-    omega (arith, same)
+pub list_length : (vs : Values) → AllSingle vs → length (flat_all vs) ≡ count vs
+list_length Nil h = refl
+list_length (Cons v vs) h =
+    let one = single_number v h.0 in
+    let first : length (flat v) ≡ 1 = ap length one.1 in
+    let rest = list_length vs h.1 in
+    omega (arith, length-append (flat v) (flat_all vs), first, rest)
 
-in_list : (k : Scalar) (vs : Values) (size j : ℕ) (y : ℤ) → HaveKind (kind_of_scalar k) vs → count vs ≡ size → slice_get (flat_all vs) j ≡ Some y → j < size
-in_list k vs size j y kinds many e =
+in_list : (vs : Values) (size j : ℕ) (y : ℤ) → AllSingle vs → count vs ≡ size → slice_get (flat_all vs) j ≡ Some y → j < size
+in_list vs size j y singles many e =
     let within = slice_get_within (flat_all vs) j y e in
-    let all = list_length k vs kinds in
+    let all = list_length vs singles in
     omega (arith, within, all, many)
 
 -- a list is put whole where its numbers stand
-list_stands : (t k : Scalar) (c : ℕ) (vs : Values) (tokens : ℕ → List ℤ) (cells : List ℤ) → IsSize t → HaveKind (kind_of_scalar k) vs → ((j : ℕ) (y : ℤ) → slice_get (flat_all vs) j ≡ Some y → slice_get cells (c + j) ≡ Some (conv t y))
+list_stands : (t : Scalar) (c : ℕ) (vs : Values) (tokens : ℕ → List ℤ) (cells : List ℤ) → IsSize t → AllSingle vs → ((j : ℕ) (y : ℤ) → slice_get (flat_all vs) j ≡ Some y → slice_get cells (c + j) ≡ Some (conv t y))
     → HasKind (kind_of_type (Many (count vs) (Single t))) (stored (Many (count vs) (Single t)) (Items vs)) × StandAt (Cell c) tokens cells (flat (stored (Many (count vs) (Single t)) (Items vs)))
-list_stands t k c vs tokens cells size kinds laid =
-    let all : AreStoredIn t vs (stored_each (Single t) vs) = each_stored t k vs size kinds in (
+list_stands t c vs tokens cells size kinds laid =
+    let all : AreStoredIn t vs (stored_each (Single t) vs) = each_stored t vs size kinds in (
       (all.as_many, all.kinds),
       λ j z e. let old = all.numbers j z e in laid j old.0 old.1 ∙ ap Some (sym old.2),
     )
@@ -225,7 +241,7 @@ module _ (outer : List Name) (w : World) (frames : List ℕ) (runs : Runs) where
   Inside inner cells env = HoldsInside outer w.tokens w.low w.high inner cells env
 
   -- a run that writes what is assigned in the cells of the name
-  stores_run : (inner : List Name) (n base end c : ℕ) (text : List ℕ) (x : Name) (stack cells written : List ℤ) (v : Value) (env : Env) (left : ℕ)
+  pub stores_run : (inner : List Name) (n base end c : ℕ) (text : List ℕ) (x : Name) (stack cells written : List ℤ) (v : Value) (env : Env) (left : ℕ)
       → Reaches w.code w.tokens (state base stack frames cells left) (state end stack frames written left)
       → AreLaid outer w.tokens w.low w.high n inner → named text (inner ++ outer) ≡ Some x → x.seat ≡ Cell c → Written c (scalars_of_type x.shape) cells written
       → PutsAt outer w.tokens w.low w.high (Unit {0}) x cells written Nil v left (λ t. ⊥) → Inside inner cells env
@@ -245,18 +261,18 @@ module _ (outer : List Name) (w : World) (frames : List ℕ) (runs : Runs) where
       (λ t b. absurd b)
 
   -- the cells in which a list is stored, by the code that stores it
-  record Stores (base c size : ℕ) (t : Scalar) (seat : Seat) (vs : Values) (stack cells : List ℤ) (left : ℕ) : Type 0 where
-    written : List ℤ
-    reaches : Reaches w.code w.tokens (state base stack frames cells left) (state (base + length (copy_code c size t seat)) stack frames written left)
-    same_size : length written ≡ length cells
-    others : (d : ℕ) → (d < c) ⊎ (c + size ≤ d) → slice_get written d ≡ slice_get cells d
-    laid : (j : ℕ) (y : ℤ) → slice_get (flat_all vs) j ≡ Some y → slice_get written (c + j) ≡ Some (conv t y)
+  pub record Stores (base c size : ℕ) (t : Scalar) (seat : Seat) (vs : Values) (stack cells : List ℤ) (left : ℕ) : Type 0 where
+    pub written : List ℤ
+    pub reaches : Reaches w.code w.tokens (state base stack frames cells left) (state (base + length (copy_code c size t seat)) stack frames written left)
+    pub same_size : length written ≡ length cells
+    pub others : (d : ℕ) → (d < c) ⊎ (c + size ≤ d) → slice_get written d ≡ slice_get cells d
+    pub laid : (j : ℕ) (y : ℤ) → slice_get (flat_all vs) j ≡ Some y → slice_get written (c + j) ≡ Some (conv t y)
 
-  copies : (base c size s : ℕ) (t k : Scalar) (vs : Values) (stack cells : List ℤ) (left : ℕ) → 1 ≤ size → (s + size ≤ c) ⊎ ((c ≡ s) ⊎ (c + size ≤ s)) → c + size ≤ length cells → count vs ≡ size → HaveKind (kind_of_scalar k) vs → StandAt (Cell s) w.tokens cells (flat_all vs)
+  pub copies : (base c size s : ℕ) (t : Scalar) (vs : Values) (stack cells : List ℤ) (left : ℕ) → 1 ≤ size → (s + size ≤ c) ⊎ ((c ≡ s) ⊎ (c + size ≤ s)) → c + size ≤ length cells → count vs ≡ size → AllSingle vs → StandAt (Cell s) w.tokens cells (flat_all vs)
       → StandsAt w.code.instrs base (copy_code c size t (Cell s)) → Stores base c size t (Cell s) vs stack cells left
-  copies base c size s t k vs stack cells left some far room many kinds stands code =
+  copies base c size s t vs stack cells left some far room many kinds stands code =
       let a : State = state base stack frames cells left in
-      let all = list_length k vs kinds in
+      let all = list_length vs kinds in
       let from = range_there s w.tokens cells (flat_all vs) (omega (arith, all, many, some)) stands in
       let away : (s + size ≤ c) ⊎ (c ≤ s) = ⊎_elim (λ (p : s + size ≤ c). inl p) (λ (p : (c ≡ s) ⊎ (c + size ≤ s)). inr (⊎_elim (λ (q : c ≡ s). omega (arith, q)) (λ (q : c + size ≤ s). omega (arith, q)) p)) far in
       let moved = copied_are (Some t) c s size cells away room in
@@ -265,14 +281,14 @@ module _ (outer : List Name) (w : World) (frames : List ℕ) (runs : Runs) where
         reaches = after (obeys w.code w.tokens a (op.Copy c s size (Some t)) code.0 ∙ ap (go_on a) (copy_leaves (Some t) c s size w.tokens stack cells room (omega (arith, from, all, many)))) here;
         same_size = moved.same_size;
         others = moved.others;
-        laid = λ j y e. moved.there j y (in_list k vs size j y kinds many e) (stands j y e);
+        laid = λ j y e. moved.there j y (in_list vs size j y kinds many e) (stands j y e);
       }
 
-  takes : (base c size port first step : ℕ) (t k : Scalar) (vs : Values) (stack cells : List ℤ) (left : ℕ) → c + size ≤ length cells → count vs ≡ size → HaveKind (kind_of_scalar k) vs → StandAt (Tokens port first step) w.tokens cells (flat_all vs)
+  takes : (base c size port first step : ℕ) (t : Scalar) (vs : Values) (stack cells : List ℤ) (left : ℕ) → c + size ≤ length cells → count vs ≡ size → AllSingle vs → StandAt (Tokens port first step) w.tokens cells (flat_all vs)
       → StandsAt w.code.instrs base (copy_code c size t (Tokens port first step)) → Stores base c size t (Tokens port first step) vs stack cells left
-  takes base c size port first step t k vs stack cells left room many kinds stands code =
+  takes base c size port first step t vs stack cells left room many kinds stands code =
       let a : State = state base stack frames cells left in
-      let all = list_length k vs kinds in
+      let all = list_length vs kinds in
       let there : AreTaken (w.tokens port) c first step size cells = taken_are (w.tokens port) c first step size cells (λ j small. token j (omega (arith, small, all, many))) room in
       let b : State = state (base + 1) stack frames there.now left in
       let wide : c + size ≤ length there.now = let same = there.moved.same_size in omega (arith, same, room) in
@@ -285,7 +301,7 @@ module _ (outer : List Name) (w : World) (frames : List ℕ) (runs : Runs) where
             (after (obeys w.code w.tokens b (op.Copy c c size (Some t)) code.1.0 ∙ ap (go_on b) (copy_leaves (Some t) c c size w.tokens stack there.now wide wide)) here));
         same_size = moved.same_size ∙ there.moved.same_size;
         others = λ d away. moved.others d away ∙ there.moved.others d away;
-        laid = λ j y e. let small = in_list k vs size j y kinds many e in moved.there j y small (there.moved.there j y small (stands j y e));
+        laid = λ j y e. let small = in_list vs size j y kinds many e in moved.there j y small (there.moved.there j y small (stands j y e));
       }
     where
       token : (j : ℕ) → j < length (flat_all vs) → (z : ℤ) × (slice_get (w.tokens port) (first + j * step) ≡ Some z)
@@ -325,12 +341,22 @@ module _ (outer : List Name) (w : World) (frames : List ℕ) (runs : Runs) where
 
   stores_at : (inner : List Name) (base n c size : ℕ) (text : List ℕ) (value : Tree) (x : Name) (t : Scalar) (l : ItemList) (seat : Seat) (vs : Values) (stack cells : List ℤ) (left : ℕ) → l.seat ≡ seat → AreLaid outer w.tokens w.low w.high n inner
       → named text (inner ++ outer) ≡ Some x → x.seat ≡ Cell c → x.shape ≡ Many size (Single t) → list_named (inner ++ outer) value ≡ Some l → l.size ≡ size
-      → 1 ≤ size → c + size ≤ length cells → count vs ≡ size → HaveKind (kind_of_scalar l.kind) vs → StandAt seat w.tokens cells (flat_all vs)
+      → 1 ≤ size → c + size ≤ length cells → count vs ≡ size → AllSingle vs → StandAt seat w.tokens cells (flat_all vs)
       → StandsAt w.code.instrs base (copy_code c size t seat) → Stores base c size t seat vs stack cells left
   stores_at inner base n c size text value x t l (Cell s) vs stack cells left at laid e seat shape g many some room as_many kinds stands code =
-      copies base c size s t l.kind vs stack cells left some (elsewhere inner n c s size text value x t l laid e seat shape g many at) room as_many kinds stands code
+      copies base c size s t vs stack cells left some (elsewhere inner n c s size text value x t l laid e seat shape g many at) room as_many kinds stands code
   stores_at inner base n c size text value x t l (Tokens port first step) vs stack cells left at laid e seat shape g many some room as_many kinds stands code =
-      takes base c size port first step t l.kind vs stack cells left room as_many kinds stands code
+      takes base c size port first step t vs stack cells left room as_many kinds stands code
+
+  -- what is put is the list whose numbers stand in the cells
+  pub puts_list : (x : Name) (t : Scalar) (c size left : ℕ) (cells written : List ℤ) (vs : Values) → x.shape ≡ Many size (Single t) → x.seat ≡ Cell c → IsSize t → count vs ≡ size → AllSingle vs
+      → ((j : ℕ) (y : ℤ) → slice_get (flat_all vs) j ≡ Some y → slice_get written (c + j) ≡ Some (conv t y))
+      → PutsAt outer w.tokens w.low w.high (Unit {0}) x cells written Nil (Items vs) left (λ d. ⊥)
+  puts_list x t c size left cells written vs shape seat sized as_many singles is_laid u kind stand =
+      let one = list_stands t c vs w.tokens written sized singles is_laid in
+      let shaped : Many (count vs) (Single t) ≡ x.shape = ap (λ k. Many k (Single t)) as_many ∙ sym shape in
+      let kept = subst (λ r. HasKind (kind_of_type r) (stored r (Items vs)) × StandAt (Cell c) w.tokens written (flat (stored r (Items vs)))) shaped one in
+      (refl, ((kept.0, subst (λ z. StandAt z w.tokens written (flat (stored x.shape (Items vs)))) (sym seat) kept.1), tt))
 
   pub set_list_performs : (inner : List Name) (text : List ℕ) (value : Tree) (place at base n c size : ℕ) (x : Name) (t : Scalar) (l : ItemList)
       → named text (inner ++ outer) ≡ Some x → x.seat ≡ Cell c → x.shape ≡ Many size (Single t) → list_named (inner ++ outer) value ≡ Some l → l.size ≡ size
@@ -347,19 +373,12 @@ module _ (outer : List Name) (w : World) (frames : List ℕ) (runs : Runs) where
       let some : 1 ≤ size = typed.0 in
       let there = range_there c w.tokens cells (flat mine.value) (omega (arith, wide, some)) (subst (λ z. StandAt z w.tokens cells (flat mine.value)) seat mine.stands) in
       let as_many : count list.values ≡ size = list.size ∙ many in
+      let singles : AllSingle list.values = all_single l.kind list.values list.kinds in
       let done : Stores base c size t l.seat list.values stack cells left =
-      stores_at inner base n c size text value x t l l.seat list.values stack cells left refl laid e seat shape g many some (omega (arith, there, wide)) as_many list.kinds list.stands stands
+      stores_at inner base n c size text value x t l l.seat list.values stack cells left refl laid e seat shape g many some (omega (arith, there, wide)) as_many singles list.stands stands
       in
       let all : scalars_of_type x.shape ≡ size = let one : scalars_of_type x.shape ≡ size * 1 = ap scalars_of_type shape in omega (arith, one) in
       let wrote : Written c (scalars_of_type x.shape) cells done.written = subst (λ k. Written c k cells done.written) (sym all) (record { length_same = done.same_size; cell = done.others }) in
       subst (λ (o : Out Value). Follows (and_then o (λ v k. assign env text Nil v k)) (Moves outer w frames inner n n s end (length env.locals)) (BreaksOff w names n n s)) (sym list.gives)
       (stores_run inner n base end c text x stack cells done.written (Items list.values) env left done.reaches laid e seat wrote
-      (puts done.written list.values typed.2 as_many list.kinds done.laid) holds)
-    where
-      puts : (written : List ℤ) (vs : Values) → IsSize t → count vs ≡ size → HaveKind (kind_of_scalar l.kind) vs → ((j : ℕ) (y : ℤ) → slice_get (flat_all vs) j ≡ Some y → slice_get written (c + j) ≡ Some (conv t y))
-          → PutsAt outer w.tokens w.low w.high (Unit {0}) x cells written Nil (Items vs) left (λ d. ⊥)
-      puts written vs sized as_many kinds is_laid u kind stand =
-          let one = list_stands t l.kind c vs w.tokens written sized kinds is_laid in
-          let shaped : Many (count vs) (Single t) ≡ x.shape = ap (λ k. Many k (Single t)) as_many ∙ sym shape in
-          let kept = subst (λ r. HasKind (kind_of_type r) (stored r (Items vs)) × StandAt (Cell c) w.tokens written (flat (stored r (Items vs)))) shaped one in
-          (refl, ((kept.0, subst (λ z. StandAt z w.tokens written (flat (stored x.shape (Items vs)))) (sym seat) kept.1), tt))
+      (puts_list x t c size left cells done.written list.values shape seat typed.2 as_many singles done.laid) holds)

@@ -81,15 +81,15 @@ grows_kept (place_more place places c base n k m a b g d) = let x = grows g in l
 -- ---- the places are evaluated
 
 -- the run goes on to a place with values in the cells from c on
-record AtKept (w : World) (c m many : ℕ) (s : State) (end : ℕ) (us : Values) (left : ℕ) : Type 0 where
-  cells : List ℤ
-  reaches : Reaches w.code w.tokens s (state end s.stack s.frames cells left)
-  keeps : Keeps c m w.low w.high s.cells cells
-  kept : AreKept c us cells
-  as_many : count us ≡ many
+pub record AtKept (w : World) (c m many : ℕ) (s : State) (end : ℕ) (us : Values) (left : ℕ) : Type 0 where
+  pub cells : List ℤ
+  pub reaches : Reaches w.code w.tokens s (state end s.stack s.frames cells left)
+  pub keeps : Keeps c m w.low w.high s.cells cells
+  pub kept : AreKept c us cells
+  pub as_many : count us ≡ many
 
 module _ (names : List Name) (w : World) (env : Env) (frames : List ℕ) where
-  abbrev Keep : ℕ → Tree → ℕ → List Instr → ℕ → Type 0
+  abbrev pub Keep : ℕ → Tree → ℕ → List Instr → ℕ → Type 0
   Keep c places base code m = (stack cells : List ℤ) (left : ℕ) → StandsAt w.code.instrs base code → AreBelow c names → AllApart w.low w.high names → AreApart c m w.low w.high → m ≤ length cells → Holds names w.tokens cells env
       → Follows (eval_all places w.calls env left) (AtKept w c m (number_of places) (state base stack frames cells left) (base + length code)) (CutsOff w c m (state base stack frames cells left))
 
@@ -135,7 +135,7 @@ module _ (names : List Name) (w : World) (env : Env) (frames : List ℕ) where
       (λ d q. record { cells = q.cells; ends = ends_join reached q.ends; keeps = keeps_join kept (keeps_wider c m (omega arith) (omega arith) q.keeps) }))
       (λ d q. record { cells = q.cells; ends = q.ends; keeps = keeps_wider c m up ge q.keeps })
 
-  keep : {c : ℕ} {places : Tree} {base n m : ℕ} {code : List Instr} → c + number_of places ≤ n → IsKept names c places base n code m → Keep c places base code m
+  pub keep : {c : ℕ} {places : Tree} {base n m : ℕ} {code : List Instr} → c + number_of places ≤ n → IsKept names c places base n code m → Keep c places base code m
   keep room (no_place c base n) = keep_none c base n
   keep room (place_more place places c base n k m a b g d) =
       let x = grows g in keep_more place places c base n k m a b (omega (arith, room)) x (grows_kept d) (does names w env frames g) (keep (omega (arith, room, x)) d)

@@ -1,6 +1,6 @@
 -- Which cells names have doesn't matter to what is left out.
 use Rattle.std.proofs.Common.{◌≡◌, ℕ, List, [], ◌∷◌, map, Bool, true, false, refl, sym, ap, ◌∙◌, Option, None, Some}
-use Rattle.std.specs.Prelude.{if◌then◌else◌, not, ◌&&◌, ◌||◌}
+use Rattle.std.specs.Prelude.{if◌then◌else◌, nat_eq, not, ◌&&◌, ◌||◌}
 use Rattle.std.specs.Str.{bytes_eq}
 use Rattle.rvc_base.specs.declared.scalar.Scalar.{Scalar}
 use Rattle.cal_ast.specs.Tree as tree
@@ -14,9 +14,9 @@ use Rattle.expr_lower.specs.declared.names.Seat.TheVariants.{Cell, Tokens}
 use Rattle.expr_lower.specs.Growing.{is_short, left_out, left_out_name, left_out_places, ◌or_else◌}
 use Rattle.expr_lower.specs.Listed.{items_in, items_of, list_named, single_of}
 use Rattle.expr_lower.specs.Meant.{local, single_meant}
-use Rattle.expr_lower.specs.Parted.{Part, deep_cells_at, deep_cells_in, deep_cells_named, deep_named, item_in, item_of, part_at, leaf_in, part_named, singles_in, sized, whole_in, whole_of}
+use Rattle.expr_lower.specs.Parted.{Part, deep_cells_at, deep_cells_in, deep_cells_named, deep_named, item_in, item_of, part_at, leaf_in, number_of, part_named, singles_in, sized, whole_in, whole_of}
 use Rattle.expr_lower.specs.Names.{Name, named}
-use Rattle.expr_lower.specs.StmtGrowing.{cell_of, cell_named, cells_of, cells_named, left_out_all, left_out_copy, left_out_deep, left_out_each, left_out_list, left_out_set, left_out_start, left_out_stmt, left_out_vars}
+use Rattle.expr_lower.specs.StmtGrowing.{cell_of, cell_named, cells_of, cells_named, left_out_all, left_out_copy, left_out_deep, left_out_each, left_out_items, left_out_list, left_out_whole, left_out_set, left_out_start, left_out_stmt, left_out_vars}
 use Rattle.expr_lower.specs.Truths.{is_truth, is_truth_list, is_truth_shape}
 
 -- a seat without its cell
@@ -220,30 +220,50 @@ named_cells names text at x = ap (λ (o : Option ItemList). left_or (cells_in_li
     go None = refl
     go (Some l) = cells_left l l.seat at x
 
--- what is left out of a list that is stored whole
-abbrev copy_left : Option ListCells → Option ItemList → ℕ → Option ℕ
-copy_left cells list at = elim cells [ None ↦ Some at | Some c ↦ left_out_copy c list at ]
-
-copy_erased : (l : ItemList) (seat : Seat) (list : Option ItemList) (at : ℕ) → copy_left (cells_of (record { seat = erase_seat seat; size = l.size; kind = l.kind })) (erased_list list) at ≡ copy_left (cells_of (record { seat = seat; size = l.size; kind = l.kind })) list at
-copy_erased l (Cell c) None at = refl
-copy_erased l (Cell c) (Some k) at = refl
-copy_erased l (Tokens port first step) list at = refl
-
-whole_list : (names : List Name) (text : List ℕ) (value : Tree) (at : ℕ) → left_out_list (map erase names) text value at ≡ left_out_list names text value at
-whole_list names text value at =
-    ap (λ (o : Option ItemList). copy_left (cells_in_list o) (list_named (map erase names) value) at) (list_erased names (tree.variable text 0))
-    ∙ ap (λ (o : Option ItemList). copy_left (cells_in_list (erased_list (list_named names (tree.variable text 0)))) o at) (list_erased names value)
-    ∙ go (list_named names (tree.variable text 0))
-  where
-    go : (o : Option ItemList) → copy_left (cells_in_list (erased_list o)) (erased_list (list_named names value)) at ≡ copy_left (cells_in_list o) (list_named names value) at
-    go None = refl
-    go (Some l) = copy_erased l l.seat (list_named names value) at
-
 -- the places of an item of a list in lists
 each_place_erased : (names : List Name) (places : Tree) → left_out_each (map erase names) places ≡ left_out_each names places
 each_place_erased names (tree.cons place places) = both_same (out_erased names place) (each_place_erased names places)
 each_place_erased names other = refl
 
+-- what is left out of a list that is stored whole
+abbrev for_cells : Option ListCells → (ListCells → Option ℕ) → ℕ → Option ℕ
+for_cells cells f at = elim cells [ None ↦ Some at | Some c ↦ f c ]
+
+items_same : (names : List Name) (c : ListCells) (items : Tree) (at : ℕ) → left_out_items (map erase names) c items at ≡ left_out_items names c items at
+items_same names c items at = ap (λ o. if nat_eq (number_of items) c.size then o else Some at) (each_place_erased names items)
+
+copy_same : (c : ListCells) (list : Option ItemList) (at : ℕ) → left_out_copy c (erased_list list) at ≡ left_out_copy c list at
+copy_same c None at = refl
+copy_same c (Some l) at = refl
+
+whole_same : (names : List Name) (c : ListCells) (value : Tree) (at : ℕ) → left_out_whole (map erase names) c value at ≡ left_out_whole names c value at
+whole_same names c (tree.list items list) at = items_same names c items at
+whole_same names c value at = ap (λ o. left_out_copy c o at) (list_erased names value) ∙ copy_same c (list_named names value) at
+
+-- which cell it is doesn't matter
+whole_moved : (names : List Name) (d e size : ℕ) (kind : Scalar) (value : Tree) (at : ℕ) → left_out_whole names (record { cell = d; size = size; kind = kind }) value at ≡ left_out_whole names (record { cell = e; size = size; kind = kind }) value at
+whole_moved names d e size kind (tree.list items list) at = refl
+whole_moved names d e size kind value at = copy_moved (list_named names value)
+  where
+    copy_moved : (o : Option ItemList) → left_out_copy (record { cell = d; size = size; kind = kind }) o at ≡ left_out_copy (record { cell = e; size = size; kind = kind }) o at
+    copy_moved None = refl
+    copy_moved (Some l) = refl
+
+whole_list : (names : List Name) (text : List ℕ) (value : Tree) (at : ℕ) → left_out_list (map erase names) text value at ≡ left_out_list names text value at
+whole_list names text value at =
+    ap (λ (o : Option ItemList). for_cells (cells_in_list o) (λ c. left_out_whole (map erase names) c value at) at) (list_erased names (tree.variable text 0))
+    ∙ go (list_named names (tree.variable text 0))
+  where
+    at_seat : (l : ItemList) (seat : Seat) → for_cells (cells_of (record { seat = erase_seat seat; size = l.size; kind = l.kind })) (λ c. left_out_whole (map erase names) c value at) at
+        ≡ for_cells (cells_of (record { seat = seat; size = l.size; kind = l.kind })) (λ c. left_out_whole names c value at) at
+    at_seat l (Cell c) = whole_same names (record { cell = 0; size = l.size; kind = l.kind }) value at ∙ whole_moved names 0 c l.size l.kind value at
+    at_seat l (Tokens port first step) = refl
+
+    go : (o : Option ItemList) → for_cells (cells_in_list (erased_list o)) (λ c. left_out_whole (map erase names) c value at) at ≡ for_cells (cells_in_list o) (λ c. left_out_whole names c value at) at
+    go None = refl
+    go (Some l) = at_seat l l.seat
+
+-- items of lists in lists
 deep_cells_left : (seat : Seat) (size : ℕ) (leaf : Option Scalar) (y x : Option ℕ) → left_else (deep_cells_at (erase_seat seat) size leaf) y x ≡ left_else (deep_cells_at seat size leaf) y x
 deep_cells_left (Cell c) size None y x = refl
 deep_cells_left (Cell c) size (Some t) y x = refl

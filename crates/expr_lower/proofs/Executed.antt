@@ -16,7 +16,7 @@ use Rattle.expr_lower.specs.Names.{Name, named}
 use Rattle.expr_lower.specs.Held.{AreBelow, AllApart, AreApart}
 use Rattle.expr_lower.specs.Changing.{AreTyped, HoldsVars, KeepsBut, NamesApart}
 use Rattle.expr_lower.specs.Coding.{IsCode, IsTest}
-use Rattle.expr_lower.specs.Stating.{IsStmt, AreStmts, IsKept, set, set_deep, set_item, set_list, if_alone, if_else, while_code, each_code, block_code, none, one_more, IsBlock, no_more, variable_more, IsStart, at_zero, at_value}
+use Rattle.expr_lower.specs.Stating.{IsStmt, AreStmts, IsKept, set, set_deep, set_item, set_items, set_list, if_alone, if_else, while_code, each_code, block_code, none, one_more, IsBlock, no_more, variable_more, IsStart, at_zero, at_value}
 use Rattle.expr_lower.specs.Placed.{StandsAt, World, state}
 use Rattle.expr_lower.specs.Following.{Follows}
 use Rattle.expr_lower.specs.Executing.{Arrives, BreaksOff, EndsLike, Executes}
@@ -29,6 +29,7 @@ use Rattle.expr_lower.specs.Listed.{list_named}
 use Rattle.expr_lower.specs.Parted.{number_of}
 use Rattle.expr_lower.proofs.Copying.{set_list_performs}
 use Rattle.expr_lower.proofs.DeepItems.{grows_kept, set_deep_performs}
+use Rattle.expr_lower.proofs.ItemsKept.{set_items_performs}
 use Rattle.expr_lower.proofs.Setting.{set_performs, set_item_performs}
 use Rattle.expr_lower.proofs.Blocking.{block_more, block_none, blocked}
 use Rattle.expr_lower.proofs.Eaching.{each_performs}
@@ -164,6 +165,7 @@ mutual
   pub grows_stmt : {names : List Name} {s : Tree} {base n m : ℕ} {code : List Instr} → IsStmt names s base n code m → n ≤ m
   grows_stmt (set names text value place at base n m c code x t e seat shape g) = grows g
   grows_stmt (set_list names text value place at base n c size x t l e seat shape g many) = omega arith
+  grows_stmt (set_items names text items list place at base n m c size a x t e seat shape number g) = let x = grows_kept g in omega (arith, x)
   grows_stmt (set_item names text spot value place at base n k m c size a b x t e seat shape g d) = let x = grows g in let y = grows d in omega (arith, x, y)
   grows_stmt (set_deep names text places value place at base n k m c size a b x t e seat shape leaf g d) = let x = grows_kept g in let y = grows d in omega (arith, x, y)
   grows_stmt (if_alone names test first at base n k m end a b g d e) = let x = grows_test g in let y = grows_all d in omega (arith, x, y)
@@ -190,6 +192,8 @@ module _ (outer : List Name) (w : World) (frames : List ℕ) (runs : Runs) where
         set_performs outer w frames runs inner text value place at base n m c code x t (subst (λ ns. named text ns ≡ Some x) is e) seat shape (subst (λ ns. IsCode ns value base n code m) is g)
     performs inner is (set_list names text value place at base n c size x t l e seat shape g many) =
         set_list_performs outer w frames runs inner text value place at base n c size x t l (subst (λ ns. named text ns ≡ Some x) is e) seat shape (subst (λ ns. list_named ns value ≡ Some l) is g) many
+    performs inner is (set_items names text items list place at base n m c size a x t e seat shape number g) =
+        set_items_performs outer w frames runs inner text items list place at base n m c size a x t (subst (λ ns. named text ns ≡ Some x) is e) seat shape number (subst (λ ns. IsKept ns n items base (n + size) a m) is g)
     performs inner is (set_item names text spot value place at base n k m c size a b x t e seat shape g d) =
         set_item_performs outer w frames runs inner text spot value place at base n k m c size a b x t (subst (λ ns. named text ns ≡ Some x) is e) seat shape (subst (λ ns. IsCode ns spot base n a k) is g) (subst (λ ns. IsCode ns value (base + length a) k b m) is d)
     performs inner is (set_deep names text places value place at base n k m c size a b x t e seat shape leaf g d) =

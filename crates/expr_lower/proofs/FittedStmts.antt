@@ -18,7 +18,7 @@ use Rattle.expr_lower.specs.Changing.{AreTyped}
 use Rattle.expr_lower.specs.Fitting.{FitsAt, Fits}
 use Rattle.expr_lower.specs.Parted.{number_of, sized}
 use Rattle.expr_lower.specs.Placed.{StandsAt}
-use Rattle.expr_lower.specs.Stating.{IsKept, IsStmt, AreStmts, copy_code, deep_tail, no_place, place_more, set, set_deep, set_item, set_list, step_code, step_in, if_alone, if_else, while_code, each_code, each_head, each_tail, block_code, none, one_more, IsBlock, no_more, variable_more, IsStart, at_zero, at_value}
+use Rattle.expr_lower.specs.Stating.{IsKept, IsStmt, AreStmts, copy_code, deep_tail, no_place, place_more, set, set_deep, set_item, set_items, set_list, step_code, step_in, if_alone, if_else, while_code, each_code, each_head, each_tail, block_code, none, one_more, IsBlock, no_more, variable_more, IsStart, at_zero, at_value}
 use Rattle.expr_lower.proofs.Coded.{grows, grows_test}
 use Rattle.expr_lower.proofs.DeepItems.{grows_kept, leaf_sized}
 use Rattle.expr_lower.proofs.PartValues.{sized_is}
@@ -124,6 +124,12 @@ module _ (code : Code) (callable limit : ℕ) where
         let to = cells_there n c names text x (Many size (Single t)) below le e seat shape in
         let listed : IsType (Many size (Single t)) = subst IsType shape (typed text x e) in
         fits_copy base h c size t l.seat (omega (arith, to)) (subst (λ k. SeatIsBelow limit k l.seat) many (list_below code callable limit n names value l g below le)) listed.2
+    fits_stmt h below typed le stands (set_items names text items list place at base n m c size a x t e seat shape number g) =
+        let wide = grows_kept g in
+        let to = cells_there n c names text x (Many size (Single t)) below (omega (arith, wide, le)) e seat shape in
+        let listed : IsType (Many size (Single t)) = subst IsType shape (typed text x e) in
+        plain_then code callable limit base h h h a (copy_code c size t (Cell n)) (fits_kept names h (omega (arith, number)) below le g)
+        (fits_copy (base + length a) h c size t (Cell n) (omega (arith, to)) (omega (arith, wide, le)) listed.2)
     fits_stmt h below typed le stands (set_item names text spot value place at base n k m c size a b x t e seat shape g d) =
         let grown = grows g in
         let more = grows d in

@@ -27,6 +27,7 @@ pub mod Setting
 pub mod Copying
 pub mod Changed
 pub mod DeepItems
+pub mod ItemsKept
 pub mod Executed
 pub mod FittedStmts
 pub mod AddingStmts

@@ -23,7 +23,7 @@ use Rattle.expr_lower.specs.PartView.{places_of}
 use Rattle.expr_lower.specs.Seen.{seen}
 use Rattle.expr_lower.specs.Stating.{IsBlock, IsKept, IsStart, IsStmt, AreStmts}
 use Rattle.expr_lower.specs.StmtGrowing.{left_out_all, left_out_deep, left_out_each, left_out_start, left_out_stmt, left_out_vars}
-use Rattle.expr_lower.specs.StmtWords.{body_of}
+use Rattle.expr_lower.specs.StmtWords.{body_of, set_items_of}
 use Rattle.expr_lower.specs.Words.{binary_of}
 
 -- ---- expressions
@@ -79,6 +79,11 @@ AddsStmts scope body old new = Adds (AreStmts (seen scope) body) old new
 -- the code of places was added, each of which is kept
 abbrev pub AddsKept : Scope → ℕ → List Expr → Draft → Draft → Type 0
 AddsKept scope c places old new = Adds (IsKept (seen scope) c (places_of places)) old new
+
+-- the code of an assignment of items that are written out was added
+abbrev pub AddsItems : Scope → Ident → List Expr → Draft → Draft → Type 0
+AddsItems scope name items old new = (list at : ℕ)
+    → Adds (IsStmt (seen scope) (set_items_of name items list at)) old new
 
 -- the first part of places that is left out, and of an assignment to an item of a list in lists
 abbrev pub left_out_kept : Scope → List Expr → Option ℕ

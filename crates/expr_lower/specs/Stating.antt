@@ -111,6 +111,13 @@ mutual
         → list_named names value ≡ Some l → l.size ≡ size
         → IsStmt names (tree.assign (tree.ident text place) tree.nil value at) base n
         (copy_code c size t l.seat) n
+    -- the items that are written, each of which is kept before the first one is stored
+    set_items : (names : List Name) (text : List ℕ) (items : Tree)
+        (list place at base n m c size : ℕ) (a : List Instr) (x : Name) (t : Scalar)
+        → named text names ≡ Some x → x.seat ≡ Cell c → x.shape ≡ Many size (Single t)
+        → number_of items ≡ size → IsKept names n items base (n + size) a m
+        → IsStmt names (tree.assign (tree.ident text place) tree.nil (tree.list items list) at)
+        base n (a ++ copy_code c size t (Cell n)) m
     -- the place in the list, then the value, and then the instruction that tests the place
     set_item : (names : List Name) (text : List ℕ) (index value : Tree)
         (place at base n k m c size : ℕ) (a b : List Instr) (x : Name) (t : Scalar)

@@ -4,7 +4,7 @@ ghost use Rattle.std.specs.Prelude.{◌≡◌, ◌+◌, ◌<◌, ◌^◌, ◌≤
 ghost use Rattle.expr_lower.specs.declared.fault.LowerFault.TheVariants.{Memory, TooManyCells};
 ghost use Rattle.expr_lower.specs.Lowered.{IsPut};
 ghost use Rattle.expr_lower.specs.Stating.{each_bounds, each_less, each_next, each_turn};
-ghost use Rattle.expr_lower.specs.Taking.{HasKept, HasOneMore, HasTaken};
+ghost use Rattle.expr_lower.specs.Taking.{HasKept, HasMore, HasOneMore, HasTaken};
 
 use crate::draft::{Draft, put_all};
 use crate::fault::LowerFault;
@@ -59,6 +59,21 @@ pub(crate) fn take_kept(count: usize, draft: &mut Draft) -> Result<Kept, LowerFa
     };
     draft.cells = value + 1;
     Ok(Kept { places, value })
+}
+
+/// Takes so many cells. If there aren't so many left, all are taken.
+pub(crate) fn take_row(count: usize, draft: &mut Draft) -> Result<u32, LowerFault>
+    ensures taken { IfOk result (HasMore count draft.old draft.new) }
+    ensures fault { IfErr result
+        (λ fault. (fault ≡ TooManyCells) × (2 ^ 32 ≤ draft.new.cells + 3)) }
+{
+    let first = draft.cells;
+    let Some(after) = cell_after(first, count) else {
+        draft.cells = u32::MAX;
+        return Err(LowerFault::TooManyCells);
+    };
+    draft.cells = after;
+    Ok(first)
 }
 
 /// The cell behind so many cells, unless no number is left for one behind it.

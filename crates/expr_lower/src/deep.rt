@@ -59,7 +59,12 @@ pub(crate) fn set_deep(
 }
 
 /// Appends places, each of which is kept in a cell, from this one on.
-fn keep(scope: &Scope, places: &[Expr], cell: u32, draft: &mut Draft) -> Result<(), LowerFault>
+pub(crate) fn keep(
+    scope: &Scope,
+    places: &[Expr],
+    cell: u32,
+    draft: &mut Draft,
+) -> Result<(), LowerFault>
     requires room { cell + length places.now < 2 ^ 32 }
     ensures ok { OnOk result (AddsKept scope.now cell places.now draft.old draft.new) }
     ensures whole { OnOk result (left_out_kept scope.now places.now ≡ None) }

@@ -9,6 +9,7 @@ mod deep;
 mod draft;
 mod fault;
 pub mod laws;
+mod lists;
 mod lower;
 mod names;
 mod operators;

@@ -5,10 +5,7 @@ ghost use Rattle.cal_ast.specs.View.{stmt_tree};
 ghost use Rattle.expr_lower.specs.Changing.{AreTyped, NamesApart};
 ghost use Rattle.expr_lower.specs.Held.{AreBelow};
 ghost use Rattle.expr_lower.specs.Names.{names_view};
-ghost use Rattle.expr_lower.specs.declared.fault.LowerFault.TheVariants.{Memory};
 ghost use Rattle.expr_lower.specs.Growing.{IsFault};
-ghost use Rattle.expr_lower.specs.Lowered.{IsPut};
-ghost use Rattle.expr_lower.specs.Stating.{copy_code};
 ghost use Rattle.expr_lower.specs.StmtGrowing.{cell_named};
 ghost use Rattle.expr_lower.specs.Seen.{seen};
 ghost use Rattle.expr_lower.specs.SeenWords.{AddsBlock, AddsStart, behind, left_out_block, left_out_first};
@@ -22,11 +19,12 @@ use crate::counter::{Counter, put_bounds, put_less, put_next, put_turn, take_cel
 use crate::deep::set_deep;
 use crate::draft::{Draft, next_place, put, put_all};
 use crate::fault::LowerFault;
+use crate::lists::{set_copy, set_items};
 use crate::lower::{close, exit_at, jump_at, link, lower, lower_test};
-use crate::names::{ListCells, Named, Seat, cell_named, cells_named, list_named};
+use crate::names::{Named, cell_named, cells_named};
 use crate::scope::{Frame, Scope};
 use crate::types::single_meant;
-use cal_ast::{Expr, Ident, Stmt, StmtForm, TypeExpr, VarDecl};
+use cal_ast::{Expr, ExprForm, Ident, Stmt, StmtForm, TypeExpr, VarDecl};
 use code_ir::Instr;
 use rvc_base::Scalar;
 
@@ -131,30 +129,9 @@ fn set_list(
     let Some(to) = cells_named(scope, name.text.as_str()) else {
         return Err(LowerFault::NotLowered { at });
     };
-    let Some(from) = list_named(scope, value) else {
-        return Err(LowerFault::NotLowered { at });
-    };
-    if from.size != to.size {
-        return Err(LowerFault::NotLowered { at });
-    }
-    copy(to, from.seat, draft)
-}
-
-/// Appends the instructions that store the items of a list in those of another one.
-fn copy(to: ListCells, from: Seat, draft: &mut Draft) -> Result<(), LowerFault>
-    ensures added { OnOk result
-        (IsPut (copy_code to.cell to.size to.kind from) draft.old draft.new) }
-    ensures memory { IfErr result (λ fault. fault ≡ Memory) }
-{
-    match from {
-        Seat::Cell(source) => put(draft, Instr::Copy(to.cell, source, to.size, Some(to.kind))),
-        Seat::Tokens { port, first, step } => put_all(
-            draft,
-            &[
-                Instr::TokenList(to.cell, port, first, step, to.size),
-                Instr::Copy(to.cell, to.cell, to.size, Some(to.kind)),
-            ],
-        ),
+    match &value.form {
+        ExprForm::List(items) => set_items(scope, name, to, items, at, draft),
+        _ => set_copy(scope, name, to, value, at, draft),
     }
 }
 
@@ -451,8 +428,8 @@ fn given(
 /// changes the cells of these names as the statements change the variables, each stored in its type. What stood in
 /// the draft stays.
 ///
-/// Code is made for assignments to variables of single values and to items of lists of them at any depth, and of a
-/// list of single values that is named to another one of the same size, `if`, `while`, and `foreach` and blocks whose types are written without names, over the expressions for which
+/// Code is made for assignments to variables of single values and to items of lists of them at any depth, and to
+/// lists of them from another one of the same size that is named or written out, `if`, `while`, and `foreach` and blocks whose types are written without names, over the expressions for which
 /// [`lower_expr`](crate::lower_expr) makes code. A `foreach` uses three cells more, and a variable of a block one; they are added to the draft.
 ///
 /// # Errors
