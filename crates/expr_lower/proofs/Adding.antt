@@ -10,7 +10,9 @@ use Rattle.code_ir.specs.declared.instr.Instr.{Instr}
 use Rattle.code_ir.specs.declared.instr.Instr.TheVariants as op
 use Rattle.expr_lower.specs.declared.draft.Draft.{Draft}
 use Rattle.expr_lower.specs.Names.{Name}
-use Rattle.expr_lower.specs.Coding.{IsCode, IsTest, binary, both, either, if_code, tested, both_tested, IsOpenTest, aimed, binary_instr}
+use Rattle.expr_lower.specs.Coding.{IsCode, IsTest, binary, both, either, if_code, tested, both_tested, IsOffset, IsOpenTest, aimed, binary_instr, row, row_instr}
+use Rattle.expr_lower.specs.declared.parts.Rows.{Rows}
+use Rattle.expr_lower.specs.Parted.{rows_named}
 use Rattle.expr_lower.specs.Truths.{is_truth}
 use Rattle.expr_lower.specs.Linking.{Links}
 use Rattle.expr_lower.specs.Lowered.{Adds, IsPut}
@@ -64,6 +66,15 @@ strict_adds names o i l r at old d1 d2 new e a b p = record {
   routines = p.routines ∙ b.routines ∙ a.routines;
   has = subst (λ m. IsCode names (tree.binary o l r at) (length old.instrs.items) old.cells (a.code ++ (b.code ++ i ∷ [])) m) (sym p.cells)
       (binary o i l r at (length old.instrs.items) old.cells d1.cells d2.cells a.code b.code e a.has (part_at (IsCode names r) old d1 d2 a.code a.is b));
+}
+
+pub row_adds : (names : List Name) (e place : Tree) (at : ℕ) (r : Rows) (old d1 d2 new : Draft) → rows_named names e ≡ Some r → Adds (IsOffset names e) old d1 → Adds (IsCode names place) d1 d2 → IsPut (row_instr r ∷ []) d2 new → Adds (IsOffset names (tree.index e place at)) old new
+row_adds names e place at r old d1 d2 new g a b p = record {
+  code = a.code ++ (b.code ++ row_instr r ∷ []);
+  is = p.is ∙ ap (λ xs. xs ++ row_instr r ∷ []) (b.is ∙ ap (λ xs. xs ++ b.code) a.is) ∙ simp append_assoc;
+  routines = p.routines ∙ b.routines ∙ a.routines;
+  has = subst (λ m. IsOffset names (tree.index e place at) (length old.instrs.items) old.cells (a.code ++ (b.code ++ row_instr r ∷ [])) m) (sym p.cells)
+      (row e place at (length old.instrs.items) old.cells d1.cells d2.cells a.code b.code r g a.has (part_at (IsCode names place) old d1 d2 a.code a.is b));
 }
 
 -- ---- conditions

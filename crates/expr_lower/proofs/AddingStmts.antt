@@ -1,5 +1,7 @@
 -- Code of statements that was added to a draft, part by part.
-use Rattle.std.proofs.Common.{◌≡◌, ℕ, zero, suc, ◌+◌, ◌<◌, ◌≤◌, List, [], ◌∷◌, ◌++◌, length, map, take, drop, get_or, Bool, refl, sym, ap, ◌∙◌, subst, Option, None, Some, arith, append_assoc, length-append}
+use Rattle.std.specs.Prelude.{if◌then◌else◌, nat_eq}
+use Rattle.std.proofs.lemmas.Bool.Decides.{nat_tests}
+use Rattle.std.proofs.Common.{◌≡◌, ◌≢◌, true, false, ℕ, pos, zero, suc, ◌+◌, ◌<◌, ◌≤◌, List, [], ◌∷◌, ◌++◌, length, map, take, drop, get_or, Bool, refl, sym, ap, ◌∙◌, subst, Option, None, Some, arith, append_assoc, length-append}
 use Rattle.std.proofs.lemmas.List.{append-nil, length-map, map-append, take_more, take_all, take-append-drop}
 use Rattle.rvc_base.specs.declared.scalar.Scalar.{Scalar}
 use Rattle.cal_ast.specs.Tree as tree
@@ -8,6 +10,9 @@ use Rattle.cal_model.specs.Value.{Shape, Single, Many}
 use Rattle.code_ir.specs.declared.instr.Instr.{Instr}
 use Rattle.code_ir.specs.declared.instr.Instr.TheVariants as op
 use Rattle.expr_lower.specs.declared.counter.Counter.{Counter}
+use Rattle.expr_lower.specs.declared.counter.Kept.{Kept}
+use Rattle.expr_lower.specs.Parted.{Part, deep_cells_at, deep_cells_in, leaf_in, number_of, part_named}
+use Rattle.expr_lower.proofs.PartValues.{IsWhole, whole_found}
 use Rattle.expr_lower.specs.declared.draft.Draft.{Draft}
 use Rattle.expr_lower.specs.declared.fault.LowerFault.{LowerFault}
 use Rattle.expr_lower.specs.declared.fault.LowerFault.TheVariants.{Memory, TooLong, TooManyCells, NotLowered}
@@ -26,11 +31,11 @@ use Rattle.expr_lower.specs.Listed.{list_named}
 use Rattle.expr_lower.specs.Linking.{Closes, Links, SetsExit, SetsJump}
 use Rattle.expr_lower.specs.Lowered.{Adds, IsPut}
 use Rattle.expr_lower.specs.Meant.{local, single_meant}
-use Rattle.expr_lower.specs.Stating.{IsStmt, AreStmts, set, set_item, if_alone, if_else, while_code, each_code, none, one_more, IsBlock, IsStart, variable_more}
+use Rattle.expr_lower.specs.Stating.{IsKept, IsStmt, copy_code, deep_tail, no_place, place_more, set_deep, set_items, set_list, step_code, AreStmts, set, set_item, if_alone, if_else, while_code, each_code, none, one_more, IsBlock, IsStart, variable_more}
 use Rattle.expr_lower.specs.Stating.{counter_at, each_bounds, each_head, each_less, each_next, each_tail, each_turn}
-use Rattle.expr_lower.specs.Taking.{HasOneMore, HasTaken}
-use Rattle.expr_lower.specs.StmtGrowing.{cell_of, cell_named, cells_of, cells_named, left_out_set, left_out_start, left_out_stmt, left_out_all, left_out_vars}
-use Rattle.expr_lower.proofs.Adding.{length_join}
+use Rattle.expr_lower.specs.Taking.{HasKept, HasMore, HasOneMore, HasTaken}
+use Rattle.expr_lower.specs.StmtGrowing.{cell_of, cell_named, cells_of, cells_named, left_out_deep, left_out_each, left_out_items, left_out_set, left_out_start, left_out_stmt, left_out_all, left_out_vars}
+use Rattle.expr_lower.proofs.Adding.{length_join, put_adds}
 use Rattle.expr_lower.proofs.Erased.{any_cell, any_cell_vars}
 use Rattle.expr_lower.proofs.Executed.{executes}
 use Rattle.expr_lower.proofs.FittedStmts.{fits_all}
@@ -181,6 +186,128 @@ set_adds names text value place at c old mid new e a p =
       routines = p.routines ∙ a.routines;
       has = subst (λ m. IsStmt names (tree.assign (tree.ident text place) tree.nil value at) (length old.instrs.items) old.cells (a.code ++ op.Store c.cell (Some c.kind) ∷ []) m) (sym p.cells)
           (set names text value place at (length old.instrs.items) old.cells mid.cells c.cell a.code f.x c.kind f.is f.seat f.shape a.has);
+    }
+
+pub list_adds : (names : List Name) (text : List ℕ) (value : Tree) (place at : ℕ) (c : ListCells) (l : ItemList) (old new : Draft) → cells_named names text ≡ Some c → list_named names value ≡ Some l → l.size ≡ c.size
+    → IsPut (copy_code c.cell c.size c.kind l.seat) old new → Adds (IsStmt names (tree.assign (tree.ident text place) tree.nil value at)) old new
+list_adds names text value place at c l old new e g many p =
+    let f : AreCellsOf names text c = cells_found names text c e in
+    put_adds (IsStmt names (tree.assign (tree.ident text place) tree.nil value at)) (copy_code c.cell c.size c.kind l.seat) old new p
+    (λ base n. set_list names text value place at base n c.cell c.size f.x c.kind l f.is f.seat f.shape g many)
+
+pub record AreDeepCells (p : Part) (places : Tree) (c : ListCells) : Type 0 where
+  pub seat : p.seat ≡ Cell c.cell
+  pub size : p.size ≡ c.size
+  pub leaf : leaf_in p.shape places ≡ Some c.kind
+
+pub deep_cells_found : (p : Part) (places : Tree) (c : ListCells) → deep_cells_in p places ≡ Some c → AreDeepCells p places c
+deep_cells_found p places c e = go p.seat (leaf_in p.shape places) refl refl e
+  where
+    go : (seat : Seat) (leaf : Option Scalar) → p.seat ≡ seat → leaf_in p.shape places ≡ leaf → deep_cells_at seat p.size leaf ≡ Some c → AreDeepCells p places c
+    go (Cell d) None s l h = cc
+    go (Cell d) (Some t) s l h =
+        let made : ListCells = record { cell = d; size = p.size; kind = t } in
+        let same : made ≡ c = cc in
+        record { seat = s ∙ ap (λ (o : ListCells). Cell o.cell) same; size = ap (λ (o : ListCells). o.size) same; leaf = l ∙ ap (λ (o : ListCells). Some o.kind) same }
+    go (Tokens port first step) leaf s l h = cc
+
+pub deep_adds : (names : List Name) (text : List ℕ) (places value : Tree) (place at count : ℕ) (p : Part) (c : ListCells) (kept : Kept) (old d0 d1 d2 d3 d4 new : Draft) → part_named names (tree.variable text 0) ≡ Some p → deep_cells_in p places ≡ Some c → count ≡ number_of places → HasKept count old d0 kept
+    → Adds (IsKept names kept.places places) d0 d1 → Adds (IsCode names value) d1 d2 → IsPut (op.Store kept.value None ∷ op.Const (pos 0) ∷ []) d2 d3 → IsPut (step_code kept.places p.shape places) d3 d4
+    → IsPut (op.Load kept.value ∷ op.StoreAt c.cell c.size (Some c.kind) ∷ []) d4 new
+    → Adds (IsStmt names (tree.assign (tree.ident text place) places value at)) old new
+deep_adds names text places value place at count p c kept old d0 d1 d2 d3 d4 new e g many k a b p1 p2 p3 =
+    let w : IsWhole names text p = whole_found names text 0 p e in
+    let f : AreDeepCells p places c = deep_cells_found p places c g in
+    let cv : ℕ = old.cells + number_of places in
+    let v_is : kept.value ≡ cv = let x = k.value in omega (arith, x, many) in
+    let st : List Instr = op.Store kept.value None ∷ op.Const (pos 0) ∷ [] in
+    let steps : List Instr = step_code kept.places p.shape places in
+    let last : List Instr = op.Load kept.value ∷ op.StoreAt c.cell c.size (Some c.kind) ∷ [] in
+    let l1 = length_join d0.instrs.items d1.instrs.items a.code a.is in
+    let start : length d0.instrs.items ≡ length old.instrs.items = ap length k.instrs in
+    let at1 : length d1.instrs.items ≡ length old.instrs.items + length a.code = omega (arith, l1, start) in
+    let taken : d0.cells ≡ old.cells + number_of places + 1 = let x = k.cells in omega (arith, x, many) in
+    let all : new.instrs.items ≡ ((((old.instrs.items ++ a.code) ++ b.code) ++ st) ++ steps) ++ last = cc (p3.is, p2.is, p1.is, b.is, a.is, k.instrs) in
+    let flat : ((((old.instrs.items ++ a.code) ++ b.code) ++ st) ++ steps) ++ last ≡ old.instrs.items ++ (a.code ++ (b.code ++ (st ++ (steps ++ last)))) = simp append_assoc in
+    let shaped : steps ≡ step_code old.cells w.x.shape places = ap (λ q. step_code q p.shape places) k.places ∙ ap (λ s. step_code old.cells s places) (sym w.shape) in
+    let code : a.code ++ (b.code ++ (st ++ (steps ++ last))) ≡ a.code ++ (b.code ++ deep_tail c.cell c.size cv c.kind (step_code old.cells w.x.shape places)) =
+    ap (λ q. a.code ++ (b.code ++ (op.Store q None ∷ op.Const (pos 0) ∷ (steps ++ op.Load q ∷ op.StoreAt c.cell c.size (Some c.kind) ∷ [])))) v_is
+    ∙ ap (λ q. a.code ++ (b.code ++ deep_tail c.cell c.size cv c.kind q)) shaped
+    in
+    record {
+      code = a.code ++ (b.code ++ deep_tail c.cell c.size cv c.kind (step_code old.cells w.x.shape places));
+      is = all ∙ flat ∙ ap (λ xs. old.instrs.items ++ xs) code;
+      routines = p3.routines ∙ p2.routines ∙ p1.routines ∙ b.routines ∙ a.routines ∙ k.routines;
+      has = subst (λ m. IsStmt names (tree.assign (tree.ident text place) places value at) (length old.instrs.items) old.cells (a.code ++ (b.code ++ deep_tail c.cell c.size cv c.kind (step_code old.cells w.x.shape places))) m) (sym (p3.cells ∙ p2.cells ∙ p1.cells))
+          (set_deep names text places value place at (length old.instrs.items) old.cells d1.cells d2.cells c.cell c.size a.code b.code w.x c.kind w.is (w.seat ∙ f.seat) (w.size ∙ ap Some f.size) (ap (λ s. leaf_in s places) w.shape ∙ f.leaf)
+          (subst (λ q. IsKept names q places (length old.instrs.items) (old.cells + number_of places + 1) a.code d1.cells) k.places
+          (subst (λ q. IsKept names kept.places places q (old.cells + number_of places + 1) a.code d1.cells) start (subst (λ q. IsKept names kept.places places (length d0.instrs.items) q a.code d1.cells) taken a.has)))
+          (subst (λ q. IsCode names value q d1.cells b.code d2.cells) at1 b.has));
+    }
+
+-- one place more that is kept
+pub kept_adds : (names : List Name) (place places : Tree) (c : ℕ) (old d1 d2 new : Draft) → Adds (IsCode names place) old d1 → IsPut (op.Store c None ∷ []) d1 d2 → Adds (IsKept names (c + 1) places) d2 new → Adds (IsKept names c (tree.cons place places)) old new
+kept_adds names place places c old d1 d2 new a p b =
+    let i : Instr = op.Store c None in
+    let l1 = length_join old.instrs.items d1.instrs.items a.code a.is in
+    let l2 = length_join d1.instrs.items d2.instrs.items (i ∷ []) p.is in
+    let at : length d2.instrs.items ≡ length old.instrs.items + length a.code + 1 = omega (arith, l1, l2) in
+    let all : new.instrs.items ≡ ((old.instrs.items ++ a.code) ++ i ∷ []) ++ b.code = cc (b.is, p.is, a.is) in
+    let flat : ((old.instrs.items ++ a.code) ++ i ∷ []) ++ b.code ≡ old.instrs.items ++ (a.code ++ i ∷ b.code) = simp append_assoc in
+    record {
+      code = a.code ++ i ∷ b.code;
+      is = all ∙ flat;
+      routines = b.routines ∙ p.routines ∙ a.routines;
+      has = place_more place places c (length old.instrs.items) old.cells d1.cells new.cells a.code b.code a.has
+          (subst (λ q. IsKept names (c + 1) places q d1.cells b.code new.cells) at (subst (λ q. IsKept names (c + 1) places (length d2.instrs.items) q b.code new.cells) p.cells b.has));
+    }
+
+pub kept_none : (names : List Name) (c : ℕ) (draft : Draft) → Adds (IsKept names c tree.nil) draft draft
+kept_none names c draft = record { code = []; is = sym (append-nil draft.instrs.items); routines = refl; has = no_place c (length draft.instrs.items) draft.cells }
+
+-- as many places as there are expressions
+pub places_number : {X : Type 0} (f : X → Tree) (xs : List X) → length xs ≡ number_of (listed (map f xs))
+places_number f [] = refl
+places_number f (x ∷ xs) = ap suc (places_number f xs)
+
+-- an assignment with two places or more
+pub many_places : (names : List Name) (text : List ℕ) (value : Tree) (at : ℕ) (ts : List Tree) → 2 ≤ length ts → left_out_set names text (listed ts) value at ≡ left_out_deep names text (listed ts) value at
+many_places names text value at [] h = absurd (omega (arith, h))
+many_places names text value at (t ∷ []) h = absurd (omega (arith, h))
+many_places names text value at (t ∷ u ∷ ts) h = refl
+
+-- as many items as the list has, and another number
+pub items_fit : (names : List Name) (c : ListCells) (items : Tree) (at count : ℕ) → count ≡ number_of items → count ≡ c.size → left_out_items names c items at ≡ left_out_each names items
+items_fit names c items at count number size =
+    let same : nat_eq (number_of items) c.size ≡ true = grind (arith, nat_tests, number, size) in
+    ap (λ b. if b then left_out_each names items else Some at) same
+
+pub items_differ : (names : List Name) (c : ListCells) (items : Tree) (at count : ℕ) → count ≡ number_of items → count ≢ c.size → left_out_items names c items at ≡ Some at
+items_differ names c items at count number size =
+    let other : number_of items ≢ c.size = λ e. size (number ∙ e) in
+    go (nat_eq (number_of items) c.size) refl other
+  where
+    go : (b : Bool) → nat_eq (number_of items) c.size ≡ b → number_of items ≢ c.size → (if b then left_out_each names items else Some at) ≡ Some at
+    go true e h = absurd (h (grind (arith, nat_tests, e)))
+    go false e h = refl
+
+pub items_adds : (names : List Name) (text : List ℕ) (items : Tree) (list place at count first : ℕ) (c : ListCells) (old d0 d1 new : Draft) → cells_named names text ≡ Some c → count ≡ number_of items → count ≡ c.size → HasMore count old d0 first
+    → Adds (IsKept names first items) d0 d1 → IsPut (copy_code c.cell c.size c.kind (Cell first)) d1 new → Adds (IsStmt names (tree.assign (tree.ident text place) tree.nil (tree.list items list) at)) old new
+items_adds names text items list place at count first c old d0 d1 new e number size k a p =
+    let f : AreCellsOf names text c = cells_found names text c e in
+    let last : List Instr = copy_code c.cell c.size c.kind (Cell first) in
+    let here : List Instr = copy_code c.cell c.size c.kind (Cell old.cells) in
+    let start : length d0.instrs.items ≡ length old.instrs.items = ap length k.instrs in
+    let taken : d0.cells ≡ old.cells + c.size = let x = k.cells in omega (arith, x, size) in
+    let all : new.instrs.items ≡ (old.instrs.items ++ a.code) ++ last = cc (p.is, a.is, k.instrs) in
+    record {
+      code = a.code ++ here;
+      is = all ∙ append_assoc old.instrs.items a.code last ∙ ap (λ q. old.instrs.items ++ (a.code ++ copy_code c.cell c.size c.kind (Cell q))) k.is;
+      routines = p.routines ∙ a.routines ∙ k.routines;
+      has = subst (λ m. IsStmt names (tree.assign (tree.ident text place) tree.nil (tree.list items list) at) (length old.instrs.items) old.cells (a.code ++ here) m) (sym p.cells)
+          (set_items names text items list place at (length old.instrs.items) old.cells d1.cells c.cell c.size a.code f.x c.kind f.is f.seat f.shape (sym number ∙ size)
+          (subst (λ q. IsKept names q items (length old.instrs.items) (old.cells + c.size) a.code d1.cells) k.is
+          (subst (λ q. IsKept names first items q (old.cells + c.size) a.code d1.cells) start (subst (λ q. IsKept names first items (length d0.instrs.items) q a.code d1.cells) taken a.has))));
     }
 
 pub item_adds : (names : List Name) (text : List ℕ) (spot value : Tree) (place at : ℕ) (c : ListCells) (old d1 d2 new : Draft) → cells_named names text ≡ Some c
@@ -454,12 +581,6 @@ executed names body old new below apart typed a = record {
     fits = λ whole callable h stands. fits_all whole callable new.cells h below typed (omega arith) stands a.has;
   };
 }
-
--- an assignment with several indexes is left out
-pub many_left : (names : List Name) (text : List ℕ) (value : Tree) (at : ℕ) (ts : List Tree) → 2 ≤ length ts → left_out_set names text (listed ts) value at ≡ Some at
-many_left names text value at [] h = absurd (omega arith)
-many_left names text value at (x ∷ []) h = absurd (omega arith)
-many_left names text value at (x ∷ y ∷ ts) h = refl
 
 -- ---- measures
 

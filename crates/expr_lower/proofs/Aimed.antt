@@ -13,7 +13,7 @@ use Rattle.expr_lower.specs.declared.names.Seat.{Seat}
 use Rattle.expr_lower.specs.declared.names.Seat.TheVariants.{Cell, Tokens}
 use Rattle.expr_lower.specs.Names.{Name}
 use Rattle.expr_lower.specs.declared.names.ItemList.{ItemList}
-use Rattle.expr_lower.specs.Coding.{IsCode, IsTest, number, too_great, negative, truth, variable, paren, prefix, binary, both, either, if_code, tested, both_tested, aimed, prefix_instr, binary_instr, seat_instr, item, item_instr}
+use Rattle.expr_lower.specs.Coding.{IsCode, IsTest, number, too_great, negative, truth, variable, paren, prefix, binary, both, either, if_code, tested, both_tested, aimed, prefix_instr, binary_instr, seat_instr, item, item_instr, IsOffset, deep_item, whole, row, row_instr}
 
 seat_unaimed : (out : ℕ) (seat : Seat) → aimed out (seat_instr seat) ≡ seat_instr seat
 seat_unaimed out (Cell c) = refl
@@ -73,6 +73,7 @@ mutual
   unaimed out (binary o i l r at base n k m a b e h g) =
       join_unaimed out a (b ++ i ∷ []) (unaimed out h) (join_unaimed out b (i ∷ []) (unaimed out g) (cons_unaimed out i [] (binary_unaimed out o i e) refl))
   unaimed out (item e place at base n m code l g h) = join_unaimed out code (item_instr l ∷ []) (unaimed out h) (cons_unaimed out (item_instr l) [] (item_unaimed out l) refl)
+  unaimed out (deep_item e place at base n m code l g h) = join_unaimed out code (item_instr l ∷ []) (unaimed_offset out h) (cons_unaimed out (item_instr l) [] (item_unaimed out l) refl)
   unaimed out (both l r at base n k m far end a b t h g e f) =
       join_unaimed out a (b ++ op.Jump end ∷ op.Const (pos 0) ∷ []) (unaimed_test out h) (join_unaimed out b (op.Jump end ∷ op.Const (pos 0) ∷ []) (unaimed out g) refl)
   unaimed out (either l r at base n k m right end a b t h g e f) =
@@ -80,6 +81,11 @@ mutual
       (cons_unaimed out (op.Const (pos 1)) (op.Jump end ∷ b) refl (cons_unaimed out (op.Jump end) b refl (unaimed out g)))
   unaimed out (if_code test first other at base n k j m else_at end a b c h g d e f) =
       join_unaimed out a (b ++ op.Jump end ∷ c) (unaimed_test out h) (join_unaimed out b (op.Jump end ∷ c) (unaimed out g) (cons_unaimed out (op.Jump end) c refl (unaimed out d)))
+
+  unaimed_offset : (out : ℕ) {names : List Name} {e : Tree} {base n m : ℕ} {code : List Instr} → IsOffset names e base n code m → map (aimed out) code ≡ code
+  unaimed_offset out (whole text at base n) = refl
+  unaimed_offset out (row e place at base n k m a b r g h d) =
+      join_unaimed out a (b ++ row_instr r ∷ []) (unaimed_offset out h) (join_unaimed out b (row_instr r ∷ []) (unaimed out d) refl)
 
   pub unaimed_test : (out : ℕ) {names : List Name} {e : Tree} {base n far m : ℕ} {code : List Instr} → IsTest names e base n far code m → map (aimed out) code ≡ code
   unaimed_test out (tested e base n m far code h) = join_unaimed out code (op.JumpIfNot far ∷ []) (unaimed out h) refl

@@ -26,8 +26,9 @@ use Rattle.expr_lower.specs.Names.{Name, IsSingle, named}
 use Rattle.expr_lower.specs.Held.{StandAt, HoldsName, AreBelow}
 use Rattle.expr_lower.specs.Placed.{World, state}
 use Rattle.expr_lower.specs.Following.{Follows, Pushes, CutsOff, EndsAs, Evaluates}
-use Rattle.expr_lower.specs.Coding.{IsCode, IsTest, number, too_great, negative, truth, variable, paren, prefix, binary, both, either, if_code, tested, both_tested, seat_instr, item}
+use Rattle.expr_lower.specs.Coding.{IsCode, IsOffset, IsTest, number, too_great, negative, truth, variable, paren, prefix, binary, both, either, if_code, tested, both_tested, seat_instr, item, deep_item, whole, row}
 use Rattle.expr_lower.proofs.Items.{does_item}
+use Rattle.expr_lower.proofs.Rowed.{DoesOffset, does_deep, does_row, does_whole}
 use Rattle.expr_lower.proofs.Listing.{single_flat}
 use Rattle.expr_lower.proofs.Runs.{ends_back, obeys}
 use Rattle.expr_lower.proofs.Keeping.{keeps_all}
@@ -46,9 +47,14 @@ mutual
   grows (prefix o e at base n m code h) = grows h
   grows (binary o i l r at base n k m a b e h g) = let x = grows h in let y = grows g in omega (arith, x, y)
   grows (item e place at base n m code l g h) = grows h
+  grows (deep_item e place at base n m code l g h) = grows_offset h
   grows (both l r at base n k m far end a b t h g e f) = let x = grows_test h in let y = grows g in omega (arith, x, y)
   grows (either l r at base n k m right end a b t h g e f) = let x = grows_test h in let y = grows g in omega (arith, x, y)
   grows (if_code test first other at base n k j m else_at end a b c h g d e f) = let x = grows_test h in let y = grows g in let z = grows d in omega (arith, x, y, z)
+
+  pub grows_offset : {names : List Name} {e : Tree} {base n m : ℕ} {code : List Instr} → IsOffset names e base n code m → n ≤ m
+  grows_offset (whole text at base n) = omega arith
+  grows_offset (row e place at base n k m a b r g h d) = let x = grows_offset h in let y = grows d in omega (arith, x, y)
 
   pub grows_test : {names : List Name} {e : Tree} {base n far m : ℕ} {code : List Instr} → IsTest names e base n far code m → n ≤ m
   grows_test (tested e base n m far code h) = grows h
@@ -131,10 +137,15 @@ module _ (names : List Name) (w : World) (env : Env) (frames : List ℕ) where
     does (prefix o e at base n m code h) = does_prefix names w env frames o e at base n m code (does h)
     does (binary o i l r at base n k m a b e h g) = does_binary names w env frames o i l r at base n k m a b e (grows h) (grows g) (does h) (does g)
     does (item e place at base n m code l g h) = does_item names w env frames e place at base n m code l g (does h)
+    does (deep_item e place at base n m code l g h) = does_deep names w env frames (tree.index e place at) base n m code l g (offsets h)
     does (both l r at base n k m far end a b t h g e f) = does_both names w env frames l r at base n k m far end a b t (grows_test h) (grows g) e f (tests h) (does g)
     does (either l r at base n k m right end a b t h g e f) = does_either names w env frames l r at base n k m right end a b t (grows_test h) (grows g) e f (tests h) (does g)
     does (if_code test first other at base n k j m else_at end a b c h g d e f) =
         does_if names w env frames test first other at base n k j m else_at end a b c (grows_test h) (grows g) (grows d) e f (tests h) (does g) (does d)
+
+    offsets : {e : Tree} {base n m : ℕ} {code : List Instr} → IsOffset names e base n code m → DoesOffset names w env frames e base n code m
+    offsets (whole text at base n) = does_whole names w env frames text at base n
+    offsets (row e place at base n k m a b r g h d) = does_row names w env frames e place at base n k m a b r g (grows_offset h) (grows d) (offsets h) (does d)
 
     pub tests : {e : Tree} {base n far m : ℕ} {code : List Instr} → IsTest names e base n far code m → Tests names w env frames e base n far code m
     tests (tested e base n m far code h) = tests_value names w env frames e base n m far code (does h)

@@ -1,6 +1,6 @@
 -- Which cells names have doesn't matter to what is left out.
 use Rattle.std.proofs.Common.{◌≡◌, ℕ, List, [], ◌∷◌, map, Bool, true, false, refl, sym, ap, ◌∙◌, Option, None, Some}
-use Rattle.std.specs.Prelude.{if◌then◌else◌, not, ◌&&◌}
+use Rattle.std.specs.Prelude.{if◌then◌else◌, nat_eq, not, ◌&&◌, ◌||◌}
 use Rattle.std.specs.Str.{bytes_eq}
 use Rattle.rvc_base.specs.declared.scalar.Scalar.{Scalar}
 use Rattle.cal_ast.specs.Tree as tree
@@ -11,11 +11,12 @@ use Rattle.expr_lower.specs.declared.names.ListCells.{ListCells}
 use Rattle.expr_lower.specs.declared.names.OneCell.{OneCell}
 use Rattle.expr_lower.specs.declared.names.Seat.{Seat}
 use Rattle.expr_lower.specs.declared.names.Seat.TheVariants.{Cell, Tokens}
-use Rattle.expr_lower.specs.Growing.{is_short, left_out, left_out_name, ◌or_else◌}
+use Rattle.expr_lower.specs.Growing.{is_short, left_out, left_out_name, left_out_places, ◌or_else◌}
 use Rattle.expr_lower.specs.Listed.{items_in, items_of, list_named, single_of}
 use Rattle.expr_lower.specs.Meant.{local, single_meant}
+use Rattle.expr_lower.specs.Parted.{Part, deep_cells_at, deep_cells_in, deep_cells_named, deep_named, item_in, item_of, part_at, leaf_in, number_of, part_named, singles_in, sized, whole_in, whole_of}
 use Rattle.expr_lower.specs.Names.{Name, named}
-use Rattle.expr_lower.specs.StmtGrowing.{cell_of, cell_named, cells_of, cells_named, left_out_all, left_out_set, left_out_start, left_out_stmt, left_out_vars}
+use Rattle.expr_lower.specs.StmtGrowing.{cell_of, cell_named, cells_of, cells_named, left_out_all, left_out_copy, left_out_deep, left_out_each, left_out_items, left_out_list, left_out_whole, left_out_set, left_out_start, left_out_stmt, left_out_vars}
 use Rattle.expr_lower.specs.Truths.{is_truth, is_truth_list, is_truth_shape}
 
 -- a seat without its cell
@@ -46,9 +47,12 @@ cells_in_list o = elim o [ None ↦ None | Some l ↦ cells_of l ]
 abbrev is_truth_name : Option Name → Bool
 is_truth_name o = elim o [ None ↦ false | Some x ↦ is_truth_shape x.shape ]
 
--- a place if there is none, and else what comes of it
+-- what comes of it, if there is something, and else something else
+abbrev left_else : {A : Type 0} → Option A → Option ℕ → Option ℕ → Option ℕ
+left_else o y x = elim o [ None ↦ y | Some a ↦ x ]
+
 abbrev left_or : {A : Type 0} → Option A → ℕ → Option ℕ → Option ℕ
-left_or o at x = elim o [ None ↦ Some at | Some a ↦ x ]
+left_or o at x = left_else o (Some at) x
 
 abbrev left_each : Option Scalar → ℕ → (Scalar → Option ℕ) → Option ℕ
 left_each o at f = elim o [ None ↦ Some at | Some t ↦ f t ]
@@ -77,6 +81,55 @@ list_erased names (tree.variable text at) = ap list_in_name (named_erased text n
     go (Some x) = items_erased x.seat x.shape
 list_erased names other = refl
 
+abbrev erased_part : Option Part → Option Part
+erased_part None = None
+erased_part (Some p) = Some (part_at (erase_seat p.seat) p.shape p.size)
+
+whole_erased : (seat : Seat) (shape : Shape) → whole_in (erase_seat seat) shape ≡ erased_part (whole_in seat shape)
+whole_erased seat (Single t) = refl
+whole_erased seat (Many n items) = go (sized (Many n items))
+  where
+    go : (o : Option ℕ) → ◌≡◌ {A = Option Part} (elim o [ None ↦ None | Some k ↦ Some (part_at (erase_seat seat) (Many n items) k) ]) (erased_part (elim o [ None ↦ None | Some k ↦ Some (part_at seat (Many n items) k) ]))
+    go None = refl
+    go (Some k) = refl
+
+item_in_erased : (seat : Seat) (size : ℕ) (shape : Shape) → item_in (erase_seat seat) size shape ≡ erased_part (item_in seat size shape)
+item_in_erased seat size (Single t) = refl
+item_in_erased seat size (Many n items) = refl
+
+abbrev part_in_name : Option Name → Option Part
+part_in_name o = elim o [ None ↦ None | Some x ↦ whole_of x ]
+
+abbrev item_in_part : Option Part → Option Part
+item_in_part o = elim o [ None ↦ None | Some p ↦ item_of p ]
+
+part_erased : (names : List Name) (e : Tree) → part_named (map erase names) e ≡ erased_part (part_named names e)
+part_erased names (tree.variable text at) = ap part_in_name (named_erased text names) ∙ go (named text names)
+  where
+    go : (o : Option Name) → part_in_name (erased o) ≡ erased_part (part_in_name o)
+    go None = refl
+    go (Some x) = whole_erased x.seat x.shape
+part_erased names (tree.index base place at) = ap item_in_part (part_erased names base) ∙ go (part_named names base)
+  where
+    go : (o : Option Part) → item_in_part (erased_part o) ≡ erased_part (item_in_part o)
+    go None = refl
+    go (Some p) = item_in_erased p.seat p.size p.shape
+part_erased names other = refl
+
+abbrev deep_in_part : Option Part → Option ItemList
+deep_in_part o = elim o [ None ↦ None | Some p ↦ singles_in p.seat p.size p.shape ]
+
+singles_erased : (seat : Seat) (size : ℕ) (shape : Shape) → singles_in (erase_seat seat) size shape ≡ erased_list (singles_in seat size shape)
+singles_erased seat size (Single t) = refl
+singles_erased seat size (Many n items) = refl
+
+deep_erased : (names : List Name) (e : Tree) → deep_named (map erase names) e ≡ erased_list (deep_named names e)
+deep_erased names e = ap deep_in_part (part_erased names e) ∙ go (part_named names e)
+  where
+    go : (o : Option Part) → deep_in_part (erased_part o) ≡ erased_list (deep_in_part o)
+    go None = refl
+    go (Some p) = singles_erased p.seat p.size p.shape
+
 truth_list : (o : Option ItemList) → is_truth_list (erased_list o) ≡ is_truth_list o
 truth_list None = refl
 truth_list (Some l) = refl
@@ -91,7 +144,9 @@ truth_erased names (tree.variable text at) = ap is_truth_name (named_erased text
 truth_erased names (tree.paren e at) = truth_erased names e
 truth_erased names (tree.if_expr test first other at) =
     ap (λ b. b && is_truth (map erase names) other) (truth_erased names first) ∙ ap (λ b. is_truth names first && b) (truth_erased names other)
-truth_erased names (tree.index base place at) = ap is_truth_list (list_erased names base) ∙ truth_list (list_named names base)
+truth_erased names (tree.index base place at) =
+    ap (λ b. b || is_truth_list (deep_named (map erase names) (tree.index base place at))) (ap is_truth_list (list_erased names base) ∙ truth_list (list_named names base))
+    ∙ ap (λ b. is_truth_list (list_named names base) || b) (ap is_truth_list (deep_erased names (tree.index base place at)) ∙ truth_list (deep_named names (tree.index base place at)))
 truth_erased names (tree.prefix o e at) = refl
 truth_erased names (tree.binary o l r at) = refl
 truth_erased names other = refl
@@ -101,49 +156,62 @@ truth_erased names other = refl
 both_same : {a b c d : Option ℕ} → a ≡ b → c ≡ d → a or_else c ≡ b or_else d
 both_same {b = b} {c = c} e f = ap (λ x. x or_else c) e ∙ ap (λ x. b or_else x) f
 
-out_erased : (names : List Name) (e : Tree) → left_out (map erase names) e ≡ left_out names e
-out_erased names (tree.number k at) = refl
-out_erased names (tree.truth b at) = refl
-out_erased names (tree.variable text at) = ap (λ o. left_out_name o at) (named_erased text names) ∙ go (named text names)
-  where
-    go : (o : Option Name) → left_out_name (erased o) at ≡ left_out_name o at
-    go None = refl
-    go (Some x) = refl
-out_erased names (tree.paren e at) = out_erased names e
-out_erased names (tree.if_expr test first other at) = both_same (out_erased names test) (both_same (out_erased names first) (out_erased names other))
-out_erased names (tree.prefix o e at) = out_erased names e
-out_erased names (tree.binary o l r at) =
-    ap (λ b. if is_short o && not b then Some at else left_out (map erase names) l or_else left_out (map erase names) r) (truth_erased names l)
-    ∙ ap (λ x. if is_short o && not (is_truth names l) then Some at else x) (both_same (out_erased names l) (out_erased names r))
-out_erased names (tree.call name args at) = refl
-out_erased names (tree.list items at) = refl
-out_erased names (tree.comp item gens at) = refl
-out_erased names (tree.index base place at) =
-    ap (λ o. left_or o at (left_out (map erase names) place)) (list_erased names base)
-    ∙ go (list_named names base) ∙ ap (λ x. left_or (list_named names base) at x) (out_erased names place)
-  where
-    go : (o : Option ItemList) → left_or (erased_list o) at (left_out (map erase names) place) ≡ left_or o at (left_out (map erase names) place)
-    go None = refl
-    go (Some l) = refl
-out_erased names other = refl
+-- what is left out of an index: of the place if the list is one of single values, else of a chain if it is one
+abbrev left_index : Option ItemList → Option ItemList → ℕ → Option ℕ → Option ℕ → Option ℕ
+left_index one deep at x y = elim one [ Some l ↦ x | None ↦ elim deep [ None ↦ Some at | Some l ↦ y or_else x ] ]
+
+index_left : (one deep : Option ItemList) (at : ℕ) (x y : Option ℕ) → left_index (erased_list one) (erased_list deep) at x y ≡ left_index one deep at x y
+index_left None None at x y = refl
+index_left None (Some l) at x y = refl
+index_left (Some k) deep at x y = refl
+
+mutual
+  out_erased : (names : List Name) (e : Tree) → left_out (map erase names) e ≡ left_out names e
+  out_erased names (tree.number k at) = refl
+  out_erased names (tree.truth b at) = refl
+  out_erased names (tree.variable text at) = ap (λ o. left_out_name o at) (named_erased text names) ∙ go (named text names)
+    where
+      go : (o : Option Name) → left_out_name (erased o) at ≡ left_out_name o at
+      go None = refl
+      go (Some x) = refl
+  out_erased names (tree.paren e at) = out_erased names e
+  out_erased names (tree.if_expr test first other at) = both_same (out_erased names test) (both_same (out_erased names first) (out_erased names other))
+  out_erased names (tree.prefix o e at) = out_erased names e
+  out_erased names (tree.binary o l r at) =
+      ap (λ b. if is_short o && not b then Some at else left_out (map erase names) l or_else left_out (map erase names) r) (truth_erased names l)
+      ∙ ap (λ x. if is_short o && not (is_truth names l) then Some at else x) (both_same (out_erased names l) (out_erased names r))
+  out_erased names (tree.call name args at) = refl
+  out_erased names (tree.list items at) = refl
+  out_erased names (tree.comp item gens at) = refl
+  out_erased names (tree.index base place at) =
+      ap (λ o. left_index o (deep_named (map erase names) (tree.index base place at)) at (left_out (map erase names) place) (left_out_places (map erase names) base)) (list_erased names base)
+      ∙ ap (λ o. left_index (erased_list (list_named names base)) o at (left_out (map erase names) place) (left_out_places (map erase names) base)) (deep_erased names (tree.index base place at))
+      ∙ index_left (list_named names base) (deep_named names (tree.index base place at)) at (left_out (map erase names) place) (left_out_places (map erase names) base)
+      ∙ ap (λ x. left_index (list_named names base) (deep_named names (tree.index base place at)) at x (left_out_places (map erase names) base)) (out_erased names place)
+      ∙ ap (λ y. left_index (list_named names base) (deep_named names (tree.index base place at)) at (left_out names place) y) (places_erased names base)
+  out_erased names other = refl
+
+  places_erased : (names : List Name) (e : Tree) → left_out_places (map erase names) e ≡ left_out_places names e
+  places_erased names (tree.index base place at) = both_same (places_erased names base) (out_erased names place)
+  places_erased names other = refl
 
 -- ---- assignments
 
-cell_left : (seat : Seat) (shape : Shape) (at : ℕ) (x : Option ℕ) → left_or (cell_of (erase_seat seat) shape) at x ≡ left_or (cell_of seat shape) at x
-cell_left (Cell c) (Single t) at x = refl
-cell_left (Cell c) (Many n items) at x = refl
-cell_left (Tokens port first step) shape at x = refl
+cell_left : (seat : Seat) (shape : Shape) (y x : Option ℕ) → left_else (cell_of (erase_seat seat) shape) y x ≡ left_else (cell_of seat shape) y x
+cell_left (Cell c) (Single t) y x = refl
+cell_left (Cell c) (Many n items) y x = refl
+cell_left (Tokens port first step) shape y x = refl
 
 cells_left : (l : ItemList) (seat : Seat) (at : ℕ) (x : Option ℕ) → left_or (cells_of (record { seat = erase_seat seat; size = l.size; kind = l.kind })) at x ≡ left_or (cells_of (record { seat = seat; size = l.size; kind = l.kind })) at x
 cells_left l (Cell c) at x = refl
 cells_left l (Tokens port first step) at x = refl
 
-named_cell : (names : List Name) (text : List ℕ) (at : ℕ) (x : Option ℕ) → left_or (cell_named (map erase names) text) at x ≡ left_or (cell_named names text) at x
-named_cell names text at x = ap (λ (o : Option Name). left_or (cell_in_name o) at x) (named_erased text names) ∙ go (named text names)
+named_cell : (names : List Name) (text : List ℕ) (y x : Option ℕ) → left_else (cell_named (map erase names) text) y x ≡ left_else (cell_named names text) y x
+named_cell names text y x = ap (λ (o : Option Name). left_else (cell_in_name o) y x) (named_erased text names) ∙ go (named text names)
   where
-    go : (o : Option Name) → left_or (cell_in_name (erased o)) at x ≡ left_or (cell_in_name o) at x
+    go : (o : Option Name) → left_else (cell_in_name (erased o)) y x ≡ left_else (cell_in_name o) y x
     go None = refl
-    go (Some y) = cell_left y.seat y.shape at x
+    go (Some z) = cell_left z.seat z.shape y x
 
 named_cells : (names : List Name) (text : List ℕ) (at : ℕ) (x : Option ℕ) → left_or (cells_named (map erase names) text) at x ≡ left_or (cells_named names text) at x
 named_cells names text at x = ap (λ (o : Option ItemList). left_or (cells_in_list o) at x) (list_erased names (tree.variable text 0)) ∙ go (list_named names (tree.variable text 0))
@@ -152,13 +220,73 @@ named_cells names text at x = ap (λ (o : Option ItemList). left_or (cells_in_li
     go None = refl
     go (Some l) = cells_left l l.seat at x
 
+-- the places of an item of a list in lists
+each_place_erased : (names : List Name) (places : Tree) → left_out_each (map erase names) places ≡ left_out_each names places
+each_place_erased names (tree.cons place places) = both_same (out_erased names place) (each_place_erased names places)
+each_place_erased names other = refl
+
+-- what is left out of a list that is stored whole
+abbrev for_cells : Option ListCells → (ListCells → Option ℕ) → ℕ → Option ℕ
+for_cells cells f at = elim cells [ None ↦ Some at | Some c ↦ f c ]
+
+items_same : (names : List Name) (c : ListCells) (items : Tree) (at : ℕ) → left_out_items (map erase names) c items at ≡ left_out_items names c items at
+items_same names c items at = ap (λ o. if nat_eq (number_of items) c.size then o else Some at) (each_place_erased names items)
+
+copy_same : (c : ListCells) (list : Option ItemList) (at : ℕ) → left_out_copy c (erased_list list) at ≡ left_out_copy c list at
+copy_same c None at = refl
+copy_same c (Some l) at = refl
+
+whole_same : (names : List Name) (c : ListCells) (value : Tree) (at : ℕ) → left_out_whole (map erase names) c value at ≡ left_out_whole names c value at
+whole_same names c (tree.list items list) at = items_same names c items at
+whole_same names c value at = ap (λ o. left_out_copy c o at) (list_erased names value) ∙ copy_same c (list_named names value) at
+
+-- which cell it is doesn't matter
+whole_moved : (names : List Name) (d e size : ℕ) (kind : Scalar) (value : Tree) (at : ℕ) → left_out_whole names (record { cell = d; size = size; kind = kind }) value at ≡ left_out_whole names (record { cell = e; size = size; kind = kind }) value at
+whole_moved names d e size kind (tree.list items list) at = refl
+whole_moved names d e size kind value at = copy_moved (list_named names value)
+  where
+    copy_moved : (o : Option ItemList) → left_out_copy (record { cell = d; size = size; kind = kind }) o at ≡ left_out_copy (record { cell = e; size = size; kind = kind }) o at
+    copy_moved None = refl
+    copy_moved (Some l) = refl
+
+whole_list : (names : List Name) (text : List ℕ) (value : Tree) (at : ℕ) → left_out_list (map erase names) text value at ≡ left_out_list names text value at
+whole_list names text value at =
+    ap (λ (o : Option ItemList). for_cells (cells_in_list o) (λ c. left_out_whole (map erase names) c value at) at) (list_erased names (tree.variable text 0))
+    ∙ go (list_named names (tree.variable text 0))
+  where
+    at_seat : (l : ItemList) (seat : Seat) → for_cells (cells_of (record { seat = erase_seat seat; size = l.size; kind = l.kind })) (λ c. left_out_whole (map erase names) c value at) at
+        ≡ for_cells (cells_of (record { seat = seat; size = l.size; kind = l.kind })) (λ c. left_out_whole names c value at) at
+    at_seat l (Cell c) = whole_same names (record { cell = 0; size = l.size; kind = l.kind }) value at ∙ whole_moved names 0 c l.size l.kind value at
+    at_seat l (Tokens port first step) = refl
+
+    go : (o : Option ItemList) → for_cells (cells_in_list (erased_list o)) (λ c. left_out_whole (map erase names) c value at) at ≡ for_cells (cells_in_list o) (λ c. left_out_whole names c value at) at
+    go None = refl
+    go (Some l) = at_seat l l.seat
+
+-- items of lists in lists
+deep_cells_left : (seat : Seat) (size : ℕ) (leaf : Option Scalar) (y x : Option ℕ) → left_else (deep_cells_at (erase_seat seat) size leaf) y x ≡ left_else (deep_cells_at seat size leaf) y x
+deep_cells_left (Cell c) size None y x = refl
+deep_cells_left (Cell c) size (Some t) y x = refl
+deep_cells_left (Tokens port first step) size leaf y x = refl
+
+item_erased : (names : List Name) (text : List ℕ) (places value : Tree) (at : ℕ) → left_out_deep (map erase names) text places value at ≡ left_out_deep names text places value at
+item_erased names text places value at =
+    ap (λ (o : Option Part). left_or (elim o [ None ↦ None | Some p ↦ deep_cells_in p places ]) at (left_out_each (map erase names) places or_else left_out (map erase names) value)) (part_erased names (tree.variable text 0))
+    ∙ go (part_named names (tree.variable text 0)) (left_out_each (map erase names) places or_else left_out (map erase names) value)
+    ∙ ap (λ x. left_or (deep_cells_named names text places) at x) (both_same (each_place_erased names places) (out_erased names value))
+  where
+    go : (o : Option Part) (x : Option ℕ) → left_or (elim (erased_part o) [ None ↦ None | Some p ↦ deep_cells_in p places ]) at x ≡ left_or (elim o [ None ↦ None | Some p ↦ deep_cells_in p places ]) at x
+    go None x = refl
+    go (Some p) x = deep_cells_left p.seat p.size (leaf_in p.shape places) (Some at) x
+
 set_erased : (names : List Name) (text : List ℕ) (places value : Tree) (at : ℕ) → left_out_set (map erase names) text places value at ≡ left_out_set names text places value at
 set_erased names text tree.nil value at =
-    named_cell names text at (left_out (map erase names) value) ∙ ap (λ x. left_or (cell_named names text) at x) (out_erased names value)
+    ap (λ y. left_else (cell_named (map erase names) text) y (left_out (map erase names) value)) (whole_list names text value at)
+    ∙ named_cell names text (left_out_list names text value at) (left_out (map erase names) value) ∙ ap (λ x. left_else (cell_named names text) (left_out_list names text value at) x) (out_erased names value)
 set_erased names text (tree.cons spot tree.nil) value at =
     named_cells names text at (left_out (map erase names) spot or_else left_out (map erase names) value)
     ∙ ap (λ x. left_or (cells_named names text) at x) (both_same (out_erased names spot) (out_erased names value))
-set_erased names text places value at = refl
+set_erased names text places value at = item_erased names text places value at
 
 -- ---- statements
 

@@ -16,7 +16,7 @@ use Rattle.expr_lower.specs.Names.{Name, named}
 use Rattle.expr_lower.specs.Held.{AreBelow, AllApart, AreApart}
 use Rattle.expr_lower.specs.Changing.{AreTyped, HoldsVars, KeepsBut, NamesApart}
 use Rattle.expr_lower.specs.Coding.{IsCode, IsTest}
-use Rattle.expr_lower.specs.Stating.{IsStmt, AreStmts, set, set_item, if_alone, if_else, while_code, each_code, block_code, none, one_more, IsBlock, no_more, variable_more, IsStart, at_zero, at_value}
+use Rattle.expr_lower.specs.Stating.{IsStmt, AreStmts, IsKept, set, set_deep, set_item, set_items, set_list, if_alone, if_else, while_code, each_code, block_code, none, one_more, IsBlock, no_more, variable_more, IsStart, at_zero, at_value}
 use Rattle.expr_lower.specs.Placed.{StandsAt, World, state}
 use Rattle.expr_lower.specs.Following.{Follows}
 use Rattle.expr_lower.specs.Executing.{Arrives, BreaksOff, EndsLike, Executes}
@@ -25,6 +25,11 @@ use Rattle.expr_lower.proofs.Runs.{ends_back, obeys, follows_then, follows_more,
 use Rattle.expr_lower.proofs.Scoping.{AreLaid, HoldsInside, laid_more}
 use Rattle.expr_lower.proofs.Coded.{grows, grows_test}
 use Rattle.expr_lower.proofs.Performing.{Moves, Performs, but_all, but_wider, apart_first, apart_last, moves_at, breaks_wider, move_after, jump_moves, stays, perform_none, perform_then, test_moves}
+use Rattle.expr_lower.specs.Listed.{list_named}
+use Rattle.expr_lower.specs.Parted.{number_of}
+use Rattle.expr_lower.proofs.Copying.{set_list_performs}
+use Rattle.expr_lower.proofs.DeepItems.{grows_kept, set_deep_performs}
+use Rattle.expr_lower.proofs.ItemsKept.{set_items_performs}
 use Rattle.expr_lower.proofs.Setting.{set_performs, set_item_performs}
 use Rattle.expr_lower.proofs.Blocking.{block_more, block_none, blocked}
 use Rattle.expr_lower.proofs.Eaching.{each_performs}
@@ -159,7 +164,10 @@ grows_start (at_value e base n m code g) = grows g
 mutual
   pub grows_stmt : {names : List Name} {s : Tree} {base n m : ℕ} {code : List Instr} → IsStmt names s base n code m → n ≤ m
   grows_stmt (set names text value place at base n m c code x t e seat shape g) = grows g
+  grows_stmt (set_list names text value place at base n c size x t l e seat shape g many) = omega arith
+  grows_stmt (set_items names text items list place at base n m c size a x t e seat shape number g) = let x = grows_kept g in omega (arith, x)
   grows_stmt (set_item names text spot value place at base n k m c size a b x t e seat shape g d) = let x = grows g in let y = grows d in omega (arith, x, y)
+  grows_stmt (set_deep names text places value place at base n k m c size a b x t e seat shape leaf g d) = let x = grows_kept g in let y = grows d in omega (arith, x, y)
   grows_stmt (if_alone names test first at base n k m end a b g d e) = let x = grows_test g in let y = grows_all d in omega (arith, x, y)
   grows_stmt (if_else names test first other at base n k h m else_at end a b c g d q e f) = let x = grows_test g in let y = grows_all d in let z = grows_all q in omega (arith, x, y, z)
   grows_stmt (while_code names test body at base n k m head out a b d g e f) = let x = grows_all d in let y = grows_test g in omega (arith, x, y)
@@ -182,8 +190,15 @@ module _ (outer : List Name) (w : World) (frames : List ℕ) (runs : Runs) where
         → Performs outer w frames inner (λ env left. exec s w.calls runs env left) base n code m
     performs inner is (set names text value place at base n m c code x t e seat shape g) =
         set_performs outer w frames runs inner text value place at base n m c code x t (subst (λ ns. named text ns ≡ Some x) is e) seat shape (subst (λ ns. IsCode ns value base n code m) is g)
+    performs inner is (set_list names text value place at base n c size x t l e seat shape g many) =
+        set_list_performs outer w frames runs inner text value place at base n c size x t l (subst (λ ns. named text ns ≡ Some x) is e) seat shape (subst (λ ns. list_named ns value ≡ Some l) is g) many
+    performs inner is (set_items names text items list place at base n m c size a x t e seat shape number g) =
+        set_items_performs outer w frames runs inner text items list place at base n m c size a x t (subst (λ ns. named text ns ≡ Some x) is e) seat shape number (subst (λ ns. IsKept ns n items base (n + size) a m) is g)
     performs inner is (set_item names text spot value place at base n k m c size a b x t e seat shape g d) =
         set_item_performs outer w frames runs inner text spot value place at base n k m c size a b x t (subst (λ ns. named text ns ≡ Some x) is e) seat shape (subst (λ ns. IsCode ns spot base n a k) is g) (subst (λ ns. IsCode ns value (base + length a) k b m) is d)
+    performs inner is (set_deep names text places value place at base n k m c size a b x t e seat shape leaf g d) =
+        set_deep_performs outer w frames runs inner text places value place at base n k m c size a b x t (subst (λ ns. named text ns ≡ Some x) is e) seat shape leaf
+        (subst (λ ns. IsKept ns n places base (n + number_of places + 1) a k) is g) (subst (λ ns. IsCode ns value (base + length a) k b m) is d)
     performs inner is (if_alone names test first at base n k m end a b g d e) =
         alone_performs outer w frames inner (λ env left. exec_all first w.calls runs env left) test base n k m end a b (grows_test g) (grows_all d) (subst (λ ns. IsTest ns test base n end a k) is g) e (performs_all inner is d)
     performs inner is (if_else names test first other at base n k h m else_at end a b c g d q e f) =

@@ -10,6 +10,7 @@ use Rattle.cal_ast.specs.declared.expr.PrefixOp.{PrefixOp}
 use Rattle.cal_ast.specs.declared.expr.PrefixOp.TheVariants as prefixes
 use Rattle.cal_ast.specs.declared.expr.BinOp.{BinOp}
 use Rattle.cal_ast.specs.declared.expr.BinOp.TheVariants as binaries
+use Rattle.cal_ast.specs.Tree as tree
 use Rattle.cal_ast.specs.Tree.{Tree}
 use Rattle.code_ir.specs.declared.instr.Instr.{Instr}
 use Rattle.code_ir.specs.declared.instr.Instr.TheVariants as op
@@ -22,9 +23,12 @@ use Rattle.expr_lower.specs.Held.{AreBelow, SeatIsBelow}
 use Rattle.expr_lower.specs.Fitting.{IsInner, FitsAt, Fits}
 use Rattle.expr_lower.specs.declared.names.ItemList.{ItemList}
 use Rattle.expr_lower.specs.Listed.{list_named}
+use Rattle.expr_lower.specs.declared.parts.Rows.{Rows}
+use Rattle.expr_lower.specs.Parted.{deep_named}
 use Rattle.expr_lower.proofs.Listing.{IsListName, found}
-use Rattle.expr_lower.specs.Coding.{IsCode, IsTest, number, too_great, negative, truth, variable, paren, prefix, binary, both, either, if_code, tested, both_tested, seat_instr, prefix_instr, binary_instr, item, item_instr}
-use Rattle.expr_lower.proofs.Coded.{grows, grows_test}
+use Rattle.expr_lower.proofs.PartValues.{IsDeep, IsPartOf, deep_found, part_found, sized_is}
+use Rattle.expr_lower.specs.Coding.{IsCode, IsTest, number, too_great, negative, truth, variable, paren, prefix, binary, both, either, if_code, tested, both_tested, seat_instr, prefix_instr, binary_instr, item, item_instr, IsOffset, deep_item, whole, row, row_instr}
+use Rattle.expr_lower.proofs.Coded.{grows, grows_offset, grows_test}
 use Rattle.expr_lower.proofs.Keeping.{below_more}
 
 -- ---- heights of two parts
@@ -245,7 +249,7 @@ module _ (code : Code) (callable limit : ℕ) where
   fits_item : (base h : ℕ) (l : ItemList) → SeatIsBelow limit l.size l.seat → Plain base (h + 1) (item_instr l ∷ []) (h + 1)
   fits_item base h l below = fits_item_at base h l.size l.seat below
 
-  list_below : (n : ℕ) (names : List Name) (e : Tree) (l : ItemList) → list_named names e ≡ Some l → AreBelow n names → n ≤ limit → SeatIsBelow limit l.size l.seat
+  pub list_below : (n : ℕ) (names : List Name) (e : Tree) (l : ItemList) → list_named names e ≡ Some l → AreBelow n names → n ≤ limit → SeatIsBelow limit l.size l.seat
   list_below n names e l g below le =
       let f : IsListName names e l = found names e l g in
       let one : scalars_of_type f.x.shape ≡ l.size * 1 = ap scalars_of_type f.shape in
@@ -255,6 +259,20 @@ module _ (code : Code) (callable limit : ℕ) where
       seat_wider : (size : ℕ) (seat : Seat) → SeatIsBelow n size seat → SeatIsBelow limit size seat
       seat_wider size (Cell c) h = omega (arith, h, le)
       seat_wider size (Tokens port first step) h = tt
+
+  deep_below : (n : ℕ) (names : List Name) (e : Tree) (l : ItemList) → deep_named names e ≡ Some l → AreBelow n names → n ≤ limit → SeatIsBelow limit l.size l.seat
+  deep_below n names e l g below le =
+      let d : IsDeep names e l = deep_found names e l g in
+      let f : IsPartOf names d.part = part_found names e d.part d.is in
+      let size : scalars_of_type f.x.shape ≡ l.size = sized_is f.x.shape d.part.size f.size ∙ d.size in
+      seat_wider l.size l.seat (subst (λ s. SeatIsBelow n l.size s) (f.seat ∙ d.seat) (subst (λ k. SeatIsBelow n k f.x.seat) size (below f.text f.x f.is)))
+    where
+      seat_wider : (size : ℕ) (seat : Seat) → SeatIsBelow n size seat → SeatIsBelow limit size seat
+      seat_wider size (Cell c) h = omega (arith, h, le)
+      seat_wider size (Tokens port first step) h = tt
+
+  fits_row : (base h : ℕ) (r : Rows) → Plain base (h + 1 + 1) (row_instr r ∷ []) (h + 1)
+  fits_row base h r = fits_one base (h + 1 + 1) (h + 1) (row_instr r) (omega arith) (omega arith) refl tt tt tt tt
 
   fits_prefix : (base h : ℕ) (o : PrefixOp) → Plain base (h + 1) (prefix_instr o ∷ []) (h + 1)
   fits_prefix base h prefixes.Not = fits_one base (h + 1) (h + 1) op.Not (omega arith) (omega arith) refl tt tt tt tt
@@ -327,6 +345,8 @@ module _ (code : Code) (callable limit : ℕ) where
           (plain_then (base + length a) (h + 1) (h + 1 + 1) (h + 1) b (i ∷ []) (fits (h + 1) (below_more n k names x below) le d) (fits_binary (base + length a + length b) h o i e))
       fits h below le (item e place at base n m code l g d) =
           plain_then base h (h + 1) (h + 1) code (item_instr l ∷ []) (fits h below le d) (fits_item (base + length code) h l (list_below n names e l g below (let x = grows d in omega (arith, x))))
+      fits h below le (deep_item e place at base n m code l g d) =
+          plain_then base h (h + 1) (h + 1) code (item_instr l ∷ []) (fits_offset h below le d) (fits_item (base + length code) h l (deep_below n names (tree.index e place at) l g below (let x = grows_offset d in omega (arith, x))))
       fits h below le (both l r at base n k m far end a b t g d e f) =
           let x = grows_test g in let y = grows d in
           let at_tail : base + length a + length b + 1 ≡ far = sym e in
@@ -347,6 +367,13 @@ module _ (code : Code) (callable limit : ℕ) where
           let tail = fits_jump (base + length a + length b) h (h + 1) end c third (omega arith) in
           branch h (h + 1) base else_at a b (op.Jump end ∷ c) (fits_test h below (omega (arith, x, y, z)) (omega arith) g) (fits h (below_more n k names x below) (omega (arith, z)) d) tail.0
           (omega arith) (omega arith) (tail.1 else_at (omega arith) ∙ ap third.height e ∙ third.first)
+
+      fits_offset : {e : Tree} {base n m : ℕ} {instrs : List Instr} (h : ℕ) → AreBelow n names → m ≤ limit → IsOffset names e base n instrs m → Plain base h instrs (h + 1)
+      fits_offset h below le (whole text at base n) = fits_const base h (pos 0)
+      fits_offset h below le (row e place at base n k m a b r g d q) =
+          let x = grows_offset d in let y = grows q in
+          plain_then base h (h + 1) (h + 1) a (b ++ row_instr r ∷ []) (fits_offset h below (omega (arith, x, y)) d)
+          (plain_then (base + length a) (h + 1) (h + 1 + 1) (h + 1) b (row_instr r ∷ []) (fits (h + 1) (below_more n k names x below) le q) (fits_row (base + length a + length b) h r))
 
       pub fits_test : {e : Tree} {base n far m : ℕ} {instrs : List Instr} (h : ℕ) → AreBelow n names → m ≤ limit → base + length instrs ≤ far → IsTest names e base n far instrs m → Fits code callable limit base h instrs h far h
       fits_test h below le ge (tested e base n m far instrs g) =

@@ -5,20 +5,25 @@ use Rattle.std.specs.Str.{bytes_eq}
 use Rattle.rvc_base.specs.declared.scalar.Scalar.{Scalar}
 use Rattle.rvc_base.specs.Storing.{IsSize}
 use Rattle.cal_model.specs.Value.{Shape, Single, Many, IsType, scalars_of_type}
+use Rattle.cal_ast.specs.Tree as tree
 use Rattle.cal_ast.specs.Tree.{Tree}
 use Rattle.code_ir.specs.declared.instr.Instr.{Instr}
 use Rattle.code_ir.specs.declared.instr.Instr.TheVariants as op
 use Rattle.code_ir.specs.Code.{Code}
-use Rattle.expr_lower.specs.declared.names.Seat.TheVariants.{Cell}
+use Rattle.expr_lower.specs.declared.names.Seat.{Seat}
+use Rattle.expr_lower.specs.declared.names.Seat.TheVariants.{Cell, Tokens}
 use Rattle.expr_lower.specs.Names.{Name, named}
 use Rattle.expr_lower.specs.Held.{AreBelow, SeatIsBelow}
 use Rattle.expr_lower.specs.Changing.{AreTyped}
 use Rattle.expr_lower.specs.Fitting.{FitsAt, Fits}
+use Rattle.expr_lower.specs.Parted.{number_of, sized}
 use Rattle.expr_lower.specs.Placed.{StandsAt}
-use Rattle.expr_lower.specs.Stating.{IsStmt, AreStmts, set, set_item, if_alone, if_else, while_code, each_code, each_head, each_tail, block_code, none, one_more, IsBlock, no_more, variable_more, IsStart, at_zero, at_value}
+use Rattle.expr_lower.specs.Stating.{IsKept, IsStmt, AreStmts, copy_code, deep_tail, no_place, place_more, set, set_deep, set_item, set_items, set_list, step_code, step_in, if_alone, if_else, while_code, each_code, each_head, each_tail, block_code, none, one_more, IsBlock, no_more, variable_more, IsStart, at_zero, at_value}
 use Rattle.expr_lower.proofs.Coded.{grows, grows_test}
+use Rattle.expr_lower.proofs.DeepItems.{grows_kept, leaf_sized}
+use Rattle.expr_lower.proofs.PartValues.{sized_is}
 use Rattle.expr_lower.proofs.Executed.{grows_stmt, grows_all, grows_block, grows_start}
-use Rattle.expr_lower.proofs.Fitted.{Plain, branch, fits, fits_const, fits_jump, fits_like, fits_one, fits_test, fits_then, get_append, glued, glued_before, glued_from, plain_then}
+use Rattle.expr_lower.proofs.Fitted.{Plain, branch, fits, fits_const, fits_jump, fits_like, fits_one, fits_test, fits_then, get_append, glued, glued_before, glued_from, list_below, plain_then}
 use Rattle.expr_lower.proofs.FittedEach.{fits_each}
 use Rattle.expr_lower.proofs.FittedJumps.{fits_back, fits_goto, fits_none}
 use Rattle.expr_lower.proofs.Keeping.{below_more}
@@ -35,6 +40,13 @@ module _ (code : Code) (callable limit : ℕ) where
 
   fits_store_at : (base h c size : ℕ) (t : Scalar) → c + size ≤ limit → IsSize t → Plain code callable limit base (h + 1 + 1) (op.StoreAt c size (Some t) ∷ []) h
   fits_store_at base h c size t le sized = fits_one code callable limit base (h + 1 + 1) h (op.StoreAt c size (Some t)) (omega arith) (omega arith) refl le tt tt sized
+
+  fits_copy : (base h c size : ℕ) (t : Scalar) (seat : Seat) → c + size ≤ limit → SeatIsBelow limit size seat → IsSize t → Plain code callable limit base h (copy_code c size t seat) h
+  fits_copy base h c size t (Cell s) to from sized = fits_one code callable limit base h h (op.Copy c s size (Some t)) (omega arith) (omega arith) refl (to, from) tt tt sized
+  fits_copy base h c size t (Tokens port first step) to from sized =
+      plain_then code callable limit base h h h (op.TokenList c port first step size ∷ []) (op.Copy c c size (Some t) ∷ [])
+      (fits_one code callable limit base h h (op.TokenList c port first step size) (omega arith) (omega arith) refl to tt tt tt)
+      (fits_one code callable limit (base + 1) h h (op.Copy c c size (Some t)) (omega arith) (omega arith) refl (to, to) tt tt sized)
 
   -- the cells of a name are there
   cells_there : (n c : ℕ) (names : List Name) (text : List ℕ) (x : Name) (s : Shape) → AreBelow n names → n ≤ limit → named text names ≡ Some x → x.seat ≡ Cell c → x.shape ≡ s → c + scalars_of_type s ≤ limit
@@ -69,6 +81,38 @@ module _ (code : Code) (callable limit : ℕ) where
   fits_start names t c h sized room below le (at_value e base n m instrs g) =
       plain_then code callable limit base h (h + 1) h instrs (op.Store c (Some t) ∷ []) (fits code callable limit names h below le g) (fits_store (base + length instrs) h c t room sized)
 
+  fits_kept : (names : List Name) {c : ℕ} {places : Tree} {base n m : ℕ} {instrs : List Instr} (h : ℕ) → c + number_of places ≤ n → AreBelow c names → m ≤ limit → IsKept names c places base n instrs m → Plain code callable limit base h instrs h
+  fits_kept names h room below le (no_place c base n) = fits_none code callable limit base h
+  fits_kept names h room below le (place_more spot rest c base n k m a b g q) =
+      let x = grows g in
+      let y = grows_kept q in
+      plain_then code callable limit base h (h + 1) h a (op.Store c None ∷ b) (fits code callable limit names h (below_more c n names (omega (arith, room)) below) (omega (arith, y, le)) g)
+      (plain_then code callable limit (base + length a) (h + 1) h h (op.Store c None ∷ []) b
+      (fits_one code callable limit (base + length a) (h + 1) h (op.Store c None) (omega arith) (omega arith) refl (omega (arith, room, x, y, le)) tt tt tt)
+      (fits_kept names h (omega (arith, room, x)) (below_more c (c + 1) names (omega arith) below) le q))
+
+  fits_step : (base h c n : ℕ) (o : Option ℕ) (rest : List Instr) → c + 1 ≤ limit → ((each : ℕ) → Plain code callable limit (base + 1 + 1) (h + 1) rest (h + 1)) → Plain code callable limit base (h + 1) (step_in c n o rest) (h + 1)
+  fits_step base h c n None rest room later = fits_none code callable limit base (h + 1)
+  fits_step base h c n (Some each) rest room later =
+      plain_then code callable limit base (h + 1) (h + 1 + 1) (h + 1) (op.Load c ∷ []) (op.Index n each ∷ rest) (fits_one code callable limit base (h + 1) (h + 1 + 1) (op.Load c) (omega arith) (omega arith) refl room tt tt tt)
+      (plain_then code callable limit (base + 1) (h + 1 + 1) (h + 1) (h + 1) (op.Index n each ∷ []) rest (fits_one code callable limit (base + 1) (h + 1 + 1) (h + 1) (op.Index n each) (omega arith) (omega arith) refl tt tt tt tt) (later each))
+
+  fits_steps : (base h c : ℕ) (s : Shape) (places : Tree) → c + number_of places ≤ limit → Plain code callable limit base (h + 1) (step_code c s places) (h + 1)
+  fits_steps base h c (Many n items) (tree.cons place places) room =
+      fits_step base h c n (sized items) (step_code (c + 1) items places) (omega (arith, room)) (λ each. fits_steps (base + 1 + 1) h (c + 1) items places (omega (arith, room)))
+  fits_steps base h c (Many n items) other room = fits_none code callable limit base (h + 1)
+  fits_steps base h c (Single t) places room = fits_none code callable limit base (h + 1)
+
+  fits_tail : (base h c size v : ℕ) (t : Scalar) (steps : List Instr) → c + size ≤ limit → v + 1 ≤ limit → IsSize t → Plain code callable limit (base + 1 + 1) (h + 1) steps (h + 1) → Plain code callable limit base (h + 1) (deep_tail c size v t steps) h
+  fits_tail base h c size v t steps le room sized inner =
+      let last : List Instr = op.Load v ∷ op.StoreAt c size (Some t) ∷ [] in
+      plain_then code callable limit base (h + 1) h h (op.Store v None ∷ []) (op.Const (pos 0) ∷ (steps ++ last)) (fits_one code callable limit base (h + 1) h (op.Store v None) (omega arith) (omega arith) refl room tt tt tt)
+      (plain_then code callable limit (base + 1) h (h + 1) h (op.Const (pos 0) ∷ []) (steps ++ last) (fits_const code callable limit (base + 1) h (pos 0))
+      (plain_then code callable limit (base + 1 + 1) (h + 1) (h + 1) h steps last inner
+      (plain_then code callable limit (base + 1 + 1 + length steps) (h + 1) (h + 1 + 1) h (op.Load v ∷ []) (op.StoreAt c size (Some t) ∷ [])
+      (fits_one code callable limit (base + 1 + 1 + length steps) (h + 1) (h + 1 + 1) (op.Load v) (omega arith) (omega arith) refl room tt tt tt)
+      (fits_store_at (base + 1 + 1 + length steps + 1) h c size t le sized))))
+
   mutual
     pub fits_stmt : {names : List Name} {s : Tree} {base n m : ℕ} {instrs : List Instr} (h : ℕ) → AreBelow n names → AreTyped names → m ≤ limit → StandsAt code.instrs base instrs → IsStmt names s base n instrs m → Plain code callable limit base h instrs h
     fits_stmt h below typed le stands (set names text value place at base n m c instrs x t e seat shape g) =
@@ -76,6 +120,16 @@ module _ (code : Code) (callable limit : ℕ) where
         let one = cells_there n c names text x (Single t) below (omega (arith, grown, le)) e seat shape in
         plain_then code callable limit base h (h + 1) h instrs (op.Store c (Some t) ∷ []) (fits code callable limit names h below le g)
         (fits_store (base + length instrs) h c t one (subst IsType shape (typed text x e)))
+    fits_stmt h below typed le stands (set_list names text value place at base n c size x t l e seat shape g many) =
+        let to = cells_there n c names text x (Many size (Single t)) below le e seat shape in
+        let listed : IsType (Many size (Single t)) = subst IsType shape (typed text x e) in
+        fits_copy base h c size t l.seat (omega (arith, to)) (subst (λ k. SeatIsBelow limit k l.seat) many (list_below code callable limit n names value l g below le)) listed.2
+    fits_stmt h below typed le stands (set_items names text items list place at base n m c size a x t e seat shape number g) =
+        let wide = grows_kept g in
+        let to = cells_there n c names text x (Many size (Single t)) below (omega (arith, wide, le)) e seat shape in
+        let listed : IsType (Many size (Single t)) = subst IsType shape (typed text x e) in
+        plain_then code callable limit base h h h a (copy_code c size t (Cell n)) (fits_kept names h (omega (arith, number)) below le g)
+        (fits_copy (base + length a) h c size t (Cell n) (omega (arith, to)) (omega (arith, wide, le)) listed.2)
     fits_stmt h below typed le stands (set_item names text spot value place at base n k m c size a b x t e seat shape g d) =
         let grown = grows g in
         let more = grows d in
@@ -84,6 +138,18 @@ module _ (code : Code) (callable limit : ℕ) where
         plain_then code callable limit base h (h + 1) h a (b ++ op.StoreAt c size (Some t) ∷ []) (fits code callable limit names h below (omega (arith, more, le)) g)
         (plain_then code callable limit (base + length a) (h + 1) (h + 1 + 1) h b (op.StoreAt c size (Some t) ∷ []) (fits code callable limit names (h + 1) (below_more n k names grown below) le d)
         (fits_store_at (base + length a + length b) h c size t (omega (arith, all)) listed.2))
+    fits_stmt h below typed le stands (set_deep names text places value place at base n k m c size a b x t e seat shape leaf g d) =
+        let wide = grows_kept g in
+        let more = grows d in
+        let v : ℕ = n + number_of places in
+        let steps : List Instr = step_code n x.shape places in
+        let up : n ≤ k = omega (arith, wide) in
+        let all = cells_there n c names text x x.shape below (omega (arith, up, more, le)) e seat refl in
+        let many = sized_is x.shape size shape in
+        plain_then code callable limit base h h h a (b ++ deep_tail c size v t steps) (fits_kept names h (omega arith) below (omega (arith, more, le)) g)
+        (plain_then code callable limit (base + length a) h (h + 1) h b (deep_tail c size v t steps) (fits code callable limit names h (below_more n k names up below) le d)
+        (fits_tail (base + length a + length b) h c size v t steps (omega (arith, all, many)) (omega (arith, wide, more, le)) (leaf_sized x.shape places (typed text x e) leaf)
+        (fits_steps (base + length a + length b + 1 + 1) h n x.shape places (omega (arith, wide, more, le)))))
     fits_stmt h below typed le stands (if_alone names test first at base n k m end a b g d e) =
         let grown = grows_test g in
         let more = grows_all d in

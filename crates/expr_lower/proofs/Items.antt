@@ -38,7 +38,7 @@ pub reads_straight : (seat : Seat) (size : ℕ) → IsStraight (reads seat size)
 reads_straight (Cell c) size code tokens s = refl
 reads_straight (Tokens port first step) size code tokens s = refl
 
-reads_inside : (seat : Seat) (size k : ℕ) (tokens : ℕ → List ℤ) (stack cells zs : List ℤ) (y : ℤ) → k < size → StandAt seat tokens cells zs → slice_get zs k ≡ Some y → effect tokens (reads seat size) (pos k ∷ stack) cells ≡ Leaves (y ∷ stack) cells
+pub reads_inside : (seat : Seat) (size k : ℕ) (tokens : ℕ → List ℤ) (stack cells zs : List ℤ) (y : ℤ) → k < size → StandAt seat tokens cells zs → slice_get zs k ≡ Some y → effect tokens (reads seat size) (pos k ∷ stack) cells ≡ Leaves (y ∷ stack) cells
 reads_inside (Cell c) size k tokens stack cells zs y less stands e =
     let at : slice_get cells (c + k) ≡ Some y = stands k y e in
     let inside : nat_le (k + 1) size ≡ true = grind (arith, nat_tests, less) in

@@ -1,6 +1,8 @@
 pub mod Runs
 pub mod Keeping
 pub mod Listing
+pub mod PartValues
+pub mod Rowed
 pub mod Truthful
 pub mod Effects
 pub mod Aimed
@@ -22,6 +24,10 @@ pub mod Scoping
 pub mod Storing
 pub mod Performing
 pub mod Setting
+pub mod Copying
+pub mod Changed
+pub mod DeepItems
+pub mod ItemsKept
 pub mod Executed
 pub mod FittedStmts
 pub mod AddingStmts

@@ -85,7 +85,7 @@ item_kind k Nil i u h e = cc
 item_kind k (Cons v vs) zero u h e = let same : v ≡ u = cc in subst (HasKind k) same h.0
 item_kind k (Cons v vs) (suc i) u h e = item_kind k vs i u h.1 e
 
-first_of_two : (zs ys : List ℤ) (y : ℤ) (i : ℕ) → zs ≡ y ∷ [] → (slice_get (zs ++ ys) 0 ≡ Some y) × (slice_get (zs ++ ys) (suc i) ≡ slice_get ys i)
+pub first_of_two : (zs ys : List ℤ) (y : ℤ) (i : ℕ) → zs ≡ y ∷ [] → (slice_get (zs ++ ys) 0 ≡ Some y) × (slice_get (zs ++ ys) (suc i) ≡ slice_get ys i)
 first_of_two zs ys y i e = (ap (λ xs. slice_get (xs ++ ys) 0) e, ap (λ xs. slice_get (xs ++ ys) (suc i)) e)
 
 -- the number of an item is at its place among the numbers of the list

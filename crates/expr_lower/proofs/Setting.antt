@@ -58,7 +58,7 @@ module _ (outer : List Name) (w : World) (frames : List ℕ) (runs : Runs) where
   Laid n inner = AreLaid outer w.tokens w.low w.high n inner
 
   -- the last instruction of an assignment stores what is on the stack in cells of the name
-  stores : (inner : List Name) (n m base place end c : ℕ) (text : List ℕ) (x : Name) (top stack before cells written : List ℤ) (places : Values) (v : Value) (env : Env) (left k : ℕ) (i : Instr)
+  pub stores : (inner : List Name) (n m base place end c : ℕ) (text : List ℕ) (x : Name) (top stack before cells written : List ℤ) (places : Values) (v : Value) (env : Env) (left k : ℕ) (i : Instr)
       → ((s : State) → step w.code w.tokens (state place top frames cells k) ≡ go_on (state place top frames cells k) (Leaves stack written))
       → end ≡ place + 1 → n ≤ m → Laid n inner → named text (inner ++ outer) ≡ Some x → x.seat ≡ Cell c → Written c (scalars_of_type x.shape) cells written
       → PutsAt outer w.tokens w.low w.high (Unit {0}) x cells written places v k (λ t. ⊥)
@@ -229,7 +229,7 @@ module _ (outer : List Name) (w : World) (frames : List ℕ) (runs : Runs) where
       go l (Some a) f = let found = item_flat t l.values j a l.kinds f in (found.0, l.stands j found.0 found.2)
 
   -- an assignment that never gives an environment, since it traps or clashes
-  never : (inner : List Name) (n m base place end c : ℕ) (text : List ℕ) (x : Name) (top stack before cells : List ℤ) (places : Values) (v : Value) (env : Env) (left k : ℕ) (T : Trap → Type 0)
+  pub never : (inner : List Name) (n m base place end c : ℕ) (text : List ℕ) (x : Name) (top stack before cells : List ℤ) (places : Values) (v : Value) (env : Env) (left k : ℕ) (T : Trap → Type 0)
       → ((d : Trap) → T d → BreaksOff w (inner ++ outer) n m (state base stack frames before left) d)
       → Laid n inner → named text (inner ++ outer) ≡ Some x → x.seat ≡ Cell c → PutsAt outer w.tokens w.low w.high ⊥ x cells cells places v k T
       → Inside inner cells env

@@ -22,10 +22,12 @@ use Rattle.expr_lower.specs.Names.{Name, IsSingle}
 use Rattle.expr_lower.specs.Held.{HoldsName, Holds}
 use Rattle.expr_lower.specs.Following.{Follows}
 use Rattle.expr_lower.specs.declared.names.ItemList.{ItemList}
-use Rattle.expr_lower.specs.Coding.{IsCode, IsTest, number, too_great, negative, truth, variable, paren, prefix, binary, both, either, if_code, tested, both_tested, item}
+use Rattle.expr_lower.specs.Coding.{IsCode, IsTest, number, too_great, negative, truth, variable, paren, prefix, binary, both, either, if_code, tested, both_tested, item, deep_item}
 use Rattle.expr_lower.proofs.Effects.{goes_right}
+use Rattle.cal_ast.specs.Tree as tree
 use Rattle.expr_lower.proofs.Listing.{IsList, named_list, item_kind}
-use Rattle.expr_lower.proofs.Runs.{follows_then}
+use Rattle.expr_lower.proofs.PartValues.{deep_only}
+use Rattle.expr_lower.proofs.Runs.{follows_more, follows_then}
 
 -- a truth value, or a number of the language
 abbrev pub IsSingleValue : Value → Type 0
@@ -195,6 +197,9 @@ module _ (names : List Name) (tokens : ℕ → List ℤ) (cells : List ℤ) (env
         let list : IsList tokens cells (eval e calls env left) left l = named_list names tokens cells env e l calls left g holds in
         subst (λ (o : Out Value). OnlySingles (and_then o (λ v h. and_then (eval place calls env h) (λ x k. indexed v x k)))) (sym list.gives)
         (single_then (eval place calls env left) (λ x k. indexed (Items list.values) x k) (singles h left) (λ x k s. item_single l list.values x k list.kinds))
+    singles (deep_item e place at base n m code l g h) left =
+        follows_more (eval (tree.index e place at) calls env left) (λ v m. HasKind (kind_of_scalar l.kind) v) (λ c. Unit {0}) (λ v m. IsSingleValue v) (λ c. Unit {0})
+        (deep_only names tokens cells env calls holds (tree.index e place at) l left g) (λ v m k. kind_single l.kind v k) (λ c t. tt)
     singles (both l r at base n k m far end a b t h g e f) left =
         single_then (eval l calls env left) (λ v m. with_right binaries.And v (λ k. eval r calls env k) m) (singles_test h left) (λ v m s. and_single v (λ k. eval r calls env k) m s (λ k. singles g k))
     singles (either l r at base n k m right end a b t h g e f) left =

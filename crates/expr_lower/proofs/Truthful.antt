@@ -1,6 +1,6 @@
 -- What is seen to give truth values gives them.
 use Rattle.std.proofs.Common.{◌≡◌, ℕ, ℤ, pos, negsuc, List, Bool, true, false, refl, sym, subst, Option, None, Some}
-use Rattle.std.specs.Prelude.{◌&&◌}
+use Rattle.std.specs.Prelude.{◌&&◌, ◌||◌}
 use Rattle.rvc_base.specs.declared.scalar.Scalar.TheVariants as scalar
 use Rattle.rvc_base.specs.declared.trap.Trap.TheVariants.{IndexRange}
 use Rattle.cal_ast.specs.declared.expr.PrefixOp.{PrefixOp}
@@ -17,7 +17,10 @@ use Rattle.expr_lower.specs.Names.{Name, named}
 use Rattle.expr_lower.specs.Truths.{is_truth, is_truth_prefix, is_truth_binary, is_truth_shape, is_truth_list}
 use Rattle.expr_lower.specs.declared.names.ItemList.{ItemList}
 use Rattle.expr_lower.specs.Listed.{list_named}
+use Rattle.expr_lower.specs.Parted.{deep_named}
 use Rattle.expr_lower.proofs.Listing.{IsList, named_list, item_kind}
+use Rattle.expr_lower.proofs.PartValues.{deep_only}
+use Rattle.expr_lower.proofs.Runs.{follows_more}
 use Rattle.expr_lower.specs.Held.{HoldsName, Holds}
 use Rattle.expr_lower.specs.Following.{Follows}
 
@@ -142,6 +145,18 @@ item_truth names tokens cells env e place calls left (Some l) g h holds =
     subst (λ (x : Out Value). OnlyTruths (and_then x (λ v m. and_then (eval place calls env m) (λ i k. indexed v i k)))) (sym list.gives)
     (after_any (eval place calls env left) (λ i k. indexed (Items list.values) i k) (λ i k. indexed_truth (Single l.kind) (kind_of_scalar l.kind) list.values i k h refl list.kinds))
 
+deep_truth : (names : List Name) (tokens : ℕ → List ℤ) (cells : List ℤ) (env : Env) (e : Tree) (calls : Calls) (left : ℕ) (o : Option ItemList) → deep_named names e ≡ o → is_truth_list o ≡ true → Holds names tokens cells env
+    → OnlyTruths (eval e calls env left)
+deep_truth names tokens cells env e calls left None g h holds = cc
+deep_truth names tokens cells env e calls left (Some l) g h holds =
+    follows_more (eval e calls env left) (λ v m. HasKind (kind_of_type (Single l.kind)) v) (λ c. Unit {0}) (λ v m. IsTruth v) (λ c. Unit {0})
+    (deep_only names tokens cells env calls holds e l left g) (λ v m k. kind_truth (Single l.kind) v h k) (λ c t. tt)
+
+either_truth : (names : List Name) (tokens : ℕ → List ℤ) (cells : List ℤ) (env : Env) (e place : Tree) (at : ℕ) (calls : Calls) (left : ℕ) (b : Bool) → is_truth_list (list_named names e) ≡ b → b || is_truth_list (deep_named names (tree.index e place at)) ≡ true → Holds names tokens cells env
+    → OnlyTruths (eval (tree.index e place at) calls env left)
+either_truth names tokens cells env e place at calls left true g h holds = item_truth names tokens cells env e place calls left (list_named names e) refl g holds
+either_truth names tokens cells env e place at calls left false g h holds = deep_truth names tokens cells env (tree.index e place at) calls left (deep_named names (tree.index e place at)) refl h holds
+
 pub truths : (e : Tree) (names : List Name) (tokens : ℕ → List ℤ) (cells : List ℤ) (env : Env) (calls : Calls) (left : ℕ) → is_truth names e ≡ true → Holds names tokens cells env → OnlyTruths (eval e calls env left)
 truths (tree.truth b at) names tokens cells env calls left h holds = tt
 truths (tree.variable text at) names tokens cells env calls left h holds = name_truth names tokens cells env text left (named text names) refl h holds
@@ -150,7 +165,7 @@ truths (tree.if_expr test first other at) names tokens cells env calls left h ho
     let parts = and_parts (is_truth names first) (is_truth names other) h in
     after_any (eval test calls env left) (λ v m. chosen v (λ k. eval first calls env k) (λ k. eval other calls env k) m)
     (λ v m. chosen_truth v (λ k. eval first calls env k) (λ k. eval other calls env k) m (truths first names tokens cells env calls m parts.0 holds) (truths other names tokens cells env calls m parts.1 holds))
-truths (tree.index e place at) names tokens cells env calls left h holds = item_truth names tokens cells env e place calls left (list_named names e) refl h holds
+truths (tree.index e place at) names tokens cells env calls left h holds = either_truth names tokens cells env e place at calls left (is_truth_list (list_named names e)) refl h holds
 truths (tree.prefix o e at) names tokens cells env calls left h holds =
     after_any (eval e calls env left) (λ v m. prefixed o v m) (λ v m. prefix_truth o v m h)
 truths (tree.binary o l r at) names tokens cells env calls left h holds =

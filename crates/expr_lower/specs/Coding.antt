@@ -16,6 +16,8 @@ use Rattle.expr_lower.specs.declared.names.Seat.TheVariants.{Cell, Tokens}
 use Rattle.expr_lower.specs.Names.{Name, IsSingle, named}
 use Rattle.expr_lower.specs.declared.names.ItemList.{ItemList}
 use Rattle.expr_lower.specs.Listed.{list_named}
+use Rattle.expr_lower.specs.declared.parts.Rows.{Rows}
+use Rattle.expr_lower.specs.Parted.{rows_named, deep_named}
 use Rattle.expr_lower.specs.Truths.{is_truth}
 
 -- the instruction of an operation with one operand
@@ -59,6 +61,10 @@ item_instr l =
           l.size
     ]
 
+-- the instruction that adds to the offset of a list that of the item whose place is the top
+abbrev pub row_instr : Rows → Instr
+row_instr r = op.Index r.count r.each
+
 -- code that traps: a sum that is one greater than the greatest number
 abbrev pub one_too_great : List Instr
 one_too_great = op.Const greatest_num ∷ op.Const (pos 1) ∷ op.Add ∷ []
@@ -92,6 +98,11 @@ mutual
     item : (e place : Tree) (at base n m : ℕ) (code : List Instr) (l : ItemList)
         → list_named names e ≡ Some l → IsCode names place base n code m
         → IsCode names (tree.index e place at) base n (code ++ item_instr l ∷ []) m
+    -- the offset of the item in the whole list, and then the item there
+    deep_item : (e place : Tree) (at base n m : ℕ) (code : List Instr) (l : ItemList)
+        → deep_named names (tree.index e place at) ≡ Some l
+        → IsOffset names (tree.index e place at) base n code m
+        → IsCode names (tree.index e place at) base n (code ++ item_instr l ∷ []) m
     -- if the left side is false, the right one isn't evaluated
     both : (l r : Tree) (at base n k m out end : ℕ) (a b : List Instr) → is_truth names l ≡ true
         → IsTest names l base n out a k → IsCode names r (base + length a) k b m
@@ -110,6 +121,16 @@ mutual
         → IsCode names other else_at h c m
         → else_at ≡ base + length a + length b + 1 → end ≡ else_at + length c
         → IsCode names (tree.if_expr test first other at) base n (a ++ (b ++ op.Jump end ∷ c)) m
+
+  -- Code of a chain of indexes on the name of a list, that stands at a place. It pushes the offset of the part in
+  -- the whole list; each place is tested before the next one is evaluated.
+  pub data IsOffset (names : List Name) : Tree → ℕ → ℕ → List Instr → ℕ → Type 0 where
+    whole : (text : List ℕ) (at base n : ℕ)
+        → IsOffset names (tree.variable text at) base n (op.Const (pos 0) ∷ []) n
+    row : (e place : Tree) (at base n k m : ℕ) (a b : List Instr) (r : Rows)
+        → rows_named names e ≡ Some r
+        → IsOffset names e base n a k → IsCode names place (base + length a) k b m
+        → IsOffset names (tree.index e place at) base n (a ++ (b ++ row_instr r ∷ [])) m
 
   -- Code of a condition that stands at a place. It goes on after itself if the condition is true, and jumps to
   -- `out` if it is false.

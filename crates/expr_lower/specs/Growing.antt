@@ -14,6 +14,7 @@ use Rattle.expr_lower.specs.declared.fault.LowerFault.{LowerFault}
 use Rattle.expr_lower.specs.declared.fault.LowerFault.TheVariants.{Memory, TooLong, TooManyCells, NotLowered}
 use Rattle.expr_lower.specs.Names.{Name, named}
 use Rattle.expr_lower.specs.Listed.{list_named}
+use Rattle.expr_lower.specs.Parted.{deep_named}
 use Rattle.expr_lower.specs.Truths.{is_truth}
 
 -- the first of two that is there
@@ -33,25 +34,36 @@ is_short binaries.Or = true
 is_short binaries.And = true
 is_short o = false
 
--- The place of the first part of an expression for which no code is made: a call, a list, a comprehension, an index
--- on what isn't the name of a list of single values, a name that isn't that of a single value, or an `and` or `or`
--- whose left side isn't seen to be a truth value.
-abbrev pub left_out : List Name → Tree → Option ℕ
-left_out names (tree.number k at) = None
-left_out names (tree.truth b at) = None
-left_out names (tree.variable text at) = left_out_name (named text names) at
-left_out names (tree.paren e at) = left_out names e
-left_out names (tree.if_expr test first other at) =
-    left_out names test or_else (left_out names first or_else left_out names other)
-left_out names (tree.prefix o e at) = left_out names e
-left_out names (tree.binary o l r at) = if is_short o && not (is_truth names l) then Some at
-    else left_out names l or_else left_out names r
-left_out names (tree.call name args at) = Some at
-left_out names (tree.list items at) = Some at
-left_out names (tree.comp item gens at) = Some at
-left_out names (tree.index base place at) =
-    elim (list_named names base) [ None ↦ Some at | Some l ↦ left_out names place ]
-left_out names other = Some 0
+abbrev mutual
+  -- The place of the first part of an expression for which no code is made: a call, a list, a comprehension, a chain
+  -- of indexes that doesn't choose one of the single values of a named list, a name that isn't that of a single
+  -- value, or an `and` or `or` whose left side isn't seen to be a truth value.
+  pub left_out : List Name → Tree → Option ℕ
+  left_out names (tree.number k at) = None
+  left_out names (tree.truth b at) = None
+  left_out names (tree.variable text at) = left_out_name (named text names) at
+  left_out names (tree.paren e at) = left_out names e
+  left_out names (tree.if_expr test first other at) =
+      left_out names test or_else (left_out names first or_else left_out names other)
+  left_out names (tree.prefix o e at) = left_out names e
+  left_out names (tree.binary o l r at) = if is_short o && not (is_truth names l) then Some at
+      else left_out names l or_else left_out names r
+  left_out names (tree.call name args at) = Some at
+  left_out names (tree.list items at) = Some at
+  left_out names (tree.comp item gens at) = Some at
+  left_out names (tree.index base place at) =
+      elim (list_named names base) [
+        | Some l ↦ left_out names place
+        | None ↦ elim (deep_named names (tree.index base place at))
+            [ None ↦ Some at | Some l ↦ left_out_places names base or_else left_out names place ]
+      ]
+  left_out names other = Some 0
+
+  -- .. of the indexes of a chain
+  pub left_out_places : List Name → Tree → Option ℕ
+  left_out_places names (tree.index base place at) =
+      left_out_places names base or_else left_out names place
+  left_out_places names other = None
 
 -- why nothing was lowered: the place is that of the first part that is left out, and the draft has too many
 -- instructions for a jump to name their places, or too many cells for three more

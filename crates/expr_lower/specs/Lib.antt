@@ -8,6 +8,8 @@ pub mod Linking
 pub mod Fitting
 pub mod Lowered
 pub mod Listed
+pub mod Parted
+pub mod PartView
 pub mod Meant
 pub mod Seen
 pub mod Truths

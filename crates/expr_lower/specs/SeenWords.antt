@@ -14,15 +14,16 @@ use Rattle.expr_lower.specs.declared.counter.Counter.{Counter}
 use Rattle.expr_lower.specs.declared.draft.Draft.{Draft}
 use Rattle.expr_lower.specs.declared.fault.LowerFault.{LowerFault}
 use Rattle.expr_lower.specs.declared.scope.Scope.{Scope}
-use Rattle.expr_lower.specs.Coding.{IsCode, IsOpenTest, binary_instr}
-use Rattle.expr_lower.specs.Growing.{IsFault, left_out, ◌or_else◌}
+use Rattle.expr_lower.specs.Coding.{IsCode, IsOffset, IsOpenTest, binary_instr}
+use Rattle.expr_lower.specs.Growing.{IsFault, left_out, left_out_places, ◌or_else◌}
 use Rattle.expr_lower.specs.Lowered.{Adds}
 use Rattle.expr_lower.specs.Meant.{local}
 use Rattle.expr_lower.specs.Names.{Name}
+use Rattle.expr_lower.specs.PartView.{places_of}
 use Rattle.expr_lower.specs.Seen.{seen}
-use Rattle.expr_lower.specs.Stating.{IsBlock, IsStart, IsStmt, AreStmts}
-use Rattle.expr_lower.specs.StmtGrowing.{left_out_all, left_out_start, left_out_stmt, left_out_vars}
-use Rattle.expr_lower.specs.StmtWords.{body_of}
+use Rattle.expr_lower.specs.Stating.{IsBlock, IsKept, IsStart, IsStmt, AreStmts}
+use Rattle.expr_lower.specs.StmtGrowing.{left_out_all, left_out_deep, left_out_each, left_out_start, left_out_stmt, left_out_vars}
+use Rattle.expr_lower.specs.StmtWords.{body_of, set_items_of}
 use Rattle.expr_lower.specs.Words.{binary_of}
 
 -- ---- expressions
@@ -39,6 +40,18 @@ Applies scope i left right old new = (op : BinOp) (at : ℕ) → binary_instr op
 -- the code of a condition was added whose jumps have no target yet
 abbrev pub Opens : Scope → Tree → Draft → Draft → Type 0
 Opens scope e old new = Adds (IsOpenTest (seen scope) e) old new
+
+-- the code of the offset of a part of a list was added
+abbrev pub Offsets : Scope → Tree → Draft → Draft → Type 0
+Offsets scope e old new = Adds (IsOffset (seen scope) e) old new
+
+-- no part of the indexes of a chain is left out
+abbrev pub AreAllPlaces : Scope → Tree → Type 0
+AreAllPlaces scope e = left_out_places (seen scope) e ≡ None
+
+-- why these aren't lowered
+abbrev pub IsWhyPlaces : Scope → Tree → Draft → LowerFault → Type 0
+IsWhyPlaces scope e draft fault = IsFault (left_out_places (seen scope) e) draft fault
 
 -- no part of an expression is left out
 abbrev pub IsAll : Scope → Tree → Type 0
@@ -62,6 +75,23 @@ AddsStmt scope s old new = Adds (IsStmt (seen scope) s) old new
 -- the code of statements was added
 abbrev pub AddsStmts : Scope → Tree → Draft → Draft → Type 0
 AddsStmts scope body old new = Adds (AreStmts (seen scope) body) old new
+
+-- the code of places was added, each of which is kept
+abbrev pub AddsKept : Scope → ℕ → List Expr → Draft → Draft → Type 0
+AddsKept scope c places old new = Adds (IsKept (seen scope) c (places_of places)) old new
+
+-- the code of an assignment of items that are written out was added
+abbrev pub AddsItems : Scope → Ident → List Expr → Draft → Draft → Type 0
+AddsItems scope name items old new = (list at : ℕ)
+    → Adds (IsStmt (seen scope) (set_items_of name items list at)) old new
+
+-- the first part of places that is left out, and of an assignment to an item of a list in lists
+abbrev pub left_out_kept : Scope → List Expr → Option ℕ
+left_out_kept scope places = left_out_each (seen scope) (places_of places)
+
+abbrev pub left_out_item : Scope → Ident → List Expr → Expr → ℕ → Option ℕ
+left_out_item scope name places value at =
+    left_out_deep (seen scope) (string_bytes name.text) (places_of places) (expr_tree value) at
 
 -- no part of a statement is left out, and none of statements
 abbrev pub IsAllOf : Scope → Tree → Type 0

@@ -1,17 +1,21 @@
 -- The code of each form of a statement. It stands at a place of the code, since jumps name places.
 -- Trusted: part of what a promise means.
-use Rattle.std.specs.Prelude.{◌≡◌, ℕ, ◌+◌, pos, Bool, List, [], ◌∷◌, ◌++◌, length, None, Some}
+use Rattle.std.specs.Prelude.{◌≡◌, ℕ, ◌+◌, pos, Bool, List, [], ◌∷◌, ◌++◌, length, Option, None, Some}
 use Rattle.rvc_base.specs.declared.scalar.Scalar.{Scalar}
 use Rattle.cal_ast.specs.Tree as tree
 use Rattle.cal_ast.specs.Tree.{Tree}
-use Rattle.cal_model.specs.Value.{Single, Many}
+use Rattle.cal_model.specs.Value.{Shape, Single, Many}
 use Rattle.code_ir.specs.declared.instr.Instr.{Instr}
 use Rattle.code_ir.specs.declared.instr.Instr.TheVariants as op
 use Rattle.expr_lower.specs.declared.counter.Counter.{Counter}
-use Rattle.expr_lower.specs.declared.names.Seat.TheVariants.{Cell}
+use Rattle.expr_lower.specs.declared.names.ItemList.{ItemList}
+use Rattle.expr_lower.specs.declared.names.Seat.{Seat}
+use Rattle.expr_lower.specs.declared.names.Seat.TheVariants.{Cell, Tokens}
 use Rattle.expr_lower.specs.Names.{Name, named}
 use Rattle.expr_lower.specs.Coding.{IsCode, IsTest}
+use Rattle.expr_lower.specs.Listed.{list_named}
 use Rattle.expr_lower.specs.Meant.{local, single_meant}
+use Rattle.expr_lower.specs.Parted.{leaf_in, number_of, sized}
 
 -- ---- parts of the code of a `foreach`
 
@@ -47,6 +51,39 @@ each_tail n turn out =
     op.Load n ∷ op.Load (n + 1) ∷ op.Lt ∷ op.JumpIfNot out
     ∷ op.Load n ∷ op.Const (pos 1) ∷ op.Add ∷ op.Store n None ∷ op.Jump turn ∷ []
 
+-- ---- lists that are stored whole
+
+-- A list that stands at a seat goes to cells, each of its items stored in a type. Tokens are taken first, and then
+-- stored where they are.
+abbrev pub copy_code : ℕ → ℕ → Scalar → Seat → List Instr
+copy_code c size t (Cell s) = op.Copy c s size (Some t) ∷ []
+copy_code c size t (Tokens port first step) =
+    op.TokenList c port first step size ∷ op.Copy c c size (Some t) ∷ []
+
+-- ---- items of lists in lists
+
+-- Code that evaluates the places of an item, and keeps each in a cell, from c on.
+pub data IsKept (names : List Name) : ℕ → Tree → ℕ → ℕ → List Instr → ℕ → Type 0 where
+  no_place : (c base n : ℕ) → IsKept names c tree.nil base n [] n
+  place_more : (place places : Tree) (c base n k m : ℕ) (a b : List Instr)
+      → IsCode names place base n a k → IsKept names (c + 1) places (base + length a + 1) k b m
+      → IsKept names c (tree.cons place places) base n (a ++ op.Store c None ∷ b) m
+
+-- code that adds to an offset what one kept place makes of it, and then what the next ones make of that
+abbrev pub step_in : ℕ → ℕ → Option ℕ → List Instr → List Instr
+step_in c n None rest = []
+step_in c n (Some each) rest = op.Load c ∷ op.Index n each ∷ rest
+
+abbrev pub step_code : ℕ → Shape → Tree → List Instr
+step_code c (Many n items) (tree.cons place places) =
+    step_in c n (sized items) (step_code (c + 1) items places)
+step_code c shape other = []
+
+-- the value is kept, the places are tested in turn, and then the value is stored at the offset
+abbrev pub deep_tail : ℕ → ℕ → ℕ → Scalar → List Instr → List Instr
+deep_tail c size v t steps = op.Store v None ∷ op.Const (pos 0)
+    ∷ (steps ++ op.Load v ∷ op.StoreAt c size (Some t) ∷ [])
+
 -- ---- the start of a local
 
 -- Code that gives a local of a type its start, in a cell.
@@ -67,6 +104,20 @@ mutual
         → IsCode names value base n code m
         → IsStmt names (tree.assign (tree.ident text place) tree.nil value at) base n
         (code ++ op.Store c (Some t) ∷ []) m
+    -- the items of another list, which isn't copied before
+    set_list : (names : List Name) (text : List ℕ) (value : Tree) (place at base n c size : ℕ)
+        (x : Name) (t : Scalar) (l : ItemList)
+        → named text names ≡ Some x → x.seat ≡ Cell c → x.shape ≡ Many size (Single t)
+        → list_named names value ≡ Some l → l.size ≡ size
+        → IsStmt names (tree.assign (tree.ident text place) tree.nil value at) base n
+        (copy_code c size t l.seat) n
+    -- the items that are written, each of which is kept before the first one is stored
+    set_items : (names : List Name) (text : List ℕ) (items : Tree)
+        (list place at base n m c size : ℕ) (a : List Instr) (x : Name) (t : Scalar)
+        → named text names ≡ Some x → x.seat ≡ Cell c → x.shape ≡ Many size (Single t)
+        → number_of items ≡ size → IsKept names n items base (n + size) a m
+        → IsStmt names (tree.assign (tree.ident text place) tree.nil (tree.list items list) at)
+        base n (a ++ copy_code c size t (Cell n)) m
     -- the place in the list, then the value, and then the instruction that tests the place
     set_item : (names : List Name) (text : List ℕ) (index value : Tree)
         (place at base n k m c size : ℕ) (a b : List Instr) (x : Name) (t : Scalar)
@@ -74,6 +125,15 @@ mutual
         → IsCode names index base n a k → IsCode names value (base + length a) k b m
         → IsStmt names (tree.assign (tree.ident text place) (tree.cons index tree.nil) value at)
         base n (a ++ (b ++ op.StoreAt c size (Some t) ∷ [])) m
+    -- the places, then the value, and then the tests of the places, one after the other
+    set_deep : (names : List Name) (text : List ℕ) (places value : Tree)
+        (place at base n k m c size : ℕ) (a b : List Instr) (x : Name) (t : Scalar)
+        → named text names ≡ Some x → x.seat ≡ Cell c → sized x.shape ≡ Some size
+        → leaf_in x.shape places ≡ Some t
+        → IsKept names n places base (n + number_of places + 1) a k
+        → IsCode names value (base + length a) k b m
+        → IsStmt names (tree.assign (tree.ident text place) places value at) base n
+        (a ++ (b ++ deep_tail c size (n + number_of places) t (step_code n x.shape places))) m
     -- the condition, and what is done if it is true
     if_alone : (names : List Name) (test first : Tree) (at base n k m end : ℕ) (a b : List Instr)
         → IsTest names test base n end a k → AreStmts names first (base + length a) k b m

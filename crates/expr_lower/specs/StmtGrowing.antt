@@ -1,6 +1,6 @@
 -- Which statements are left out.
 -- Trusted: part of what a promise means.
-use Rattle.std.specs.Prelude.{ℕ, List, ◌∷◌, Option, None, Some}
+use Rattle.std.specs.Prelude.{ℕ, nat_eq, if◌then◌else◌, List, ◌∷◌, Option, None, Some}
 use Rattle.cal_ast.specs.Tree as tree
 use Rattle.cal_ast.specs.Tree.{Tree}
 use Rattle.cal_model.specs.Value.{Shape, Single, Many}
@@ -13,6 +13,7 @@ use Rattle.expr_lower.specs.Growing.{left_out, ◌or_else◌}
 use Rattle.expr_lower.specs.Listed.{list_named}
 use Rattle.expr_lower.specs.Meant.{local, single_meant}
 use Rattle.expr_lower.specs.Names.{Name, named}
+use Rattle.expr_lower.specs.Parted.{deep_cells_named, number_of}
 
 -- the cell of a single value
 abbrev pub cell_of : Seat → Shape → Option OneCell
@@ -38,17 +39,51 @@ abbrev pub cells_named : List Name → List ℕ → Option ListCells
 cells_named names text =
     elim (list_named names (tree.variable text 0)) [ None ↦ None | Some l ↦ cells_of l ]
 
+-- a list is stored whole only from the name of a list of as many single values ..
+abbrev pub left_out_copy : ListCells → Option ItemList → ℕ → Option ℕ
+left_out_copy c None at = Some at
+left_out_copy c (Some l) at = if nat_eq l.size c.size then None else Some at
+
+-- the places of an item, or items that are written
+abbrev pub left_out_each : List Name → Tree → Option ℕ
+left_out_each names (tree.cons place places) =
+    left_out names place or_else left_out_each names places
+left_out_each names other = None
+
+abbrev pub left_out_items : List Name → ListCells → Tree → ℕ → Option ℕ
+left_out_items names c items at =
+    if nat_eq (number_of items) c.size then left_out_each names items else Some at
+
+-- .. or from as many items that are written
+abbrev pub left_out_whole : List Name → ListCells → Tree → ℕ → Option ℕ
+left_out_whole names c (tree.list items list) at = left_out_items names c items at
+left_out_whole names c other at = left_out_copy c (list_named names other) at
+
+abbrev pub left_out_list : List Name → List ℕ → Tree → ℕ → Option ℕ
+left_out_list names text value at = elim (cells_named names text)
+    [ None ↦ Some at | Some c ↦ left_out_whole names c value at ]
+
+-- an assignment to an item of a list in lists
+abbrev pub left_out_deep : List Name → List ℕ → Tree → Tree → ℕ → Option ℕ
+left_out_deep names text places value at = elim (deep_cells_named names text places) [
+  | None ↦ Some at
+  | Some c ↦ left_out_each names places or_else left_out names value
+]
+
 -- an assignment to the whole variable, or to one item of it
 abbrev pub left_out_set : List Name → List ℕ → Tree → Tree → ℕ → Option ℕ
 left_out_set names text tree.nil value at =
-    elim (cell_named names text) [ None ↦ Some at | Some c ↦ left_out names value ]
+    elim (cell_named names text) [
+      | None ↦ left_out_list names text value at
+      | Some c ↦ left_out names value
+    ]
 left_out_set names text (tree.cons spot tree.nil) value at =
     elim (cells_named names text) [
       | None ↦ Some at
       | Some c ↦ left_out names spot or_else left_out
           names value
     ]
-left_out_set names text places value at = Some at
+left_out_set names text places value at = left_out_deep names text places value at
 
 -- the start of a local, which may be absent
 abbrev pub left_out_start : List Name → Tree → Option ℕ
@@ -68,7 +103,7 @@ left_out_vars names other body = Some 0
 
 abbrev mutual
   -- The place of the first part of a statement for which no code is made: an assignment to what isn't a variable of
-  -- single values in a cell or an item of a list of them in cells, a call, or a `foreach` or a variable of a block
+  -- single values in a cell or an item of lists of them in cells, unless it stores as many of them whole that are named or written as a list, a call, or a `foreach` or a variable of a block
   -- whose type isn't seen to be one of single values; or such a part of an expression. Of a `while` the body comes first, as in its
   -- code. Which cell a local has doesn't matter here.
   pub left_out_stmt : List Name → Tree → Option ℕ

@@ -33,6 +33,10 @@ set_one_of name value at = set_of name [] value at
 abbrev pub set_item_of : Ident → Expr → Expr → ℕ → Tree
 set_item_of name place value at = set_of name (place ∷ []) value at
 
+abbrev pub set_items_of : Ident → List Expr → ℕ → ℕ → Tree
+set_items_of name items list at =
+    tree.assign (ident_tree name) tree.nil (tree.list (listed (map expr_tree items)) list) at
+
 abbrev pub branch_of : Expr → List Stmt → Option (Vec Stmt Global) → ℕ → Tree
 branch_of test first other at =
     tree.if_stmt (expr_tree test) (body_of first) (body_tree other) at

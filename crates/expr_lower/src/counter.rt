@@ -1,10 +1,10 @@
 //! The cells of a `foreach`, and the parts of its code that are the same for every body.
 
-ghost use Rattle.std.specs.Prelude.{◌≡◌, ◌+◌, ◌^◌, ◌≤◌, IfErr, IfOk, OnOk};
+ghost use Rattle.std.specs.Prelude.{◌≡◌, ◌+◌, ◌<◌, ◌^◌, ◌≤◌, IfErr, IfOk, IfSome, OnOk};
 ghost use Rattle.expr_lower.specs.declared.fault.LowerFault.TheVariants.{Memory, TooManyCells};
 ghost use Rattle.expr_lower.specs.Lowered.{IsPut};
 ghost use Rattle.expr_lower.specs.Stating.{each_bounds, each_less, each_next, each_turn};
-ghost use Rattle.expr_lower.specs.Taking.{HasOneMore, HasTaken};
+ghost use Rattle.expr_lower.specs.Taking.{HasKept, HasMore, HasOneMore, HasTaken};
 
 use crate::draft::{Draft, put_all};
 use crate::fault::LowerFault;
@@ -37,6 +37,57 @@ pub(crate) fn take_cells(kind: Scalar, draft: &mut Draft) -> Result<Counter, Low
         variable: number + 2,
         kind,
     })
+}
+
+/// The cells in which the places of an item are kept, from one on, and that of the value.
+#[derive(Clone, Copy)]
+pub(crate) struct Kept {
+    pub places: u32,
+    pub value: u32,
+}
+
+/// Takes a cell for each of so many places, and one for a value. If there aren't so many left, all are taken.
+pub(crate) fn take_kept(count: usize, draft: &mut Draft) -> Result<Kept, LowerFault>
+    ensures taken { IfOk result (HasKept count draft.old draft.new) }
+    ensures fault { IfErr result
+        (λ fault. (fault ≡ TooManyCells) × (2 ^ 32 ≤ draft.new.cells + 3)) }
+{
+    let places = draft.cells;
+    let Some(value) = cell_after(places, count) else {
+        draft.cells = u32::MAX;
+        return Err(LowerFault::TooManyCells);
+    };
+    draft.cells = value + 1;
+    Ok(Kept { places, value })
+}
+
+/// Takes so many cells. If there aren't so many left, all are taken.
+pub(crate) fn take_row(count: usize, draft: &mut Draft) -> Result<u32, LowerFault>
+    ensures taken { IfOk result (HasMore count draft.old draft.new) }
+    ensures fault { IfErr result
+        (λ fault. (fault ≡ TooManyCells) × (2 ^ 32 ≤ draft.new.cells + 3)) }
+{
+    let first = draft.cells;
+    let Some(after) = cell_after(first, count) else {
+        draft.cells = u32::MAX;
+        return Err(LowerFault::TooManyCells);
+    };
+    draft.cells = after;
+    Ok(first)
+}
+
+/// The cell behind so many cells, unless no number is left for one behind it.
+fn cell_after(cell: u32, count: usize) -> Option<u32>
+    ensures { IfSome result (λ after. (after ≡ cell + count) × (after + 1 < 2 ^ 32)) }
+{
+    let Ok(count) = u32::try_from(count) else {
+        return None;
+    };
+    let after = cell.checked_add(count)?;
+    if after == u32::MAX {
+        return None;
+    }
+    Some(after)
 }
 
 /// Takes a cell more.

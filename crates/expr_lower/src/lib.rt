@@ -5,12 +5,15 @@
 #![tactic(auto)]
 
 mod counter;
+mod deep;
 mod draft;
 mod fault;
 pub mod laws;
+mod lists;
 mod lower;
 mod names;
 mod operators;
+mod parts;
 mod scope;
 mod stmts;
 mod truths;

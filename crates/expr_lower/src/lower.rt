@@ -1,6 +1,6 @@
 //! Expressions as code: one small function a form.
 
-ghost use Rattle.std.specs.Prelude.{◌≡◌, ◌<◌, ◌≤◌, ℕ, length, map};
+ghost use Rattle.std.specs.Prelude.{◌≡◌, ◌<◌, ◌≤◌, List, ℕ, length, map};
 ghost use Rattle.std.specs.Prelude.{IfErr, None, OnOk};
 ghost use Rattle.cal_ast.specs.Tree as tree;
 ghost use Rattle.cal_ast.specs.View.{expr_tree};
@@ -8,6 +8,10 @@ ghost use Rattle.expr_lower.specs.declared.fault.LowerFault.TheVariants.{Memory}
 ghost use Rattle.expr_lower.specs.Coding.{aimed, one_too_great};
 ghost use Rattle.expr_lower.specs.Growing.{IsFault};
 ghost use Rattle.expr_lower.specs.Held.{AreBelow};
+ghost use Rattle.expr_lower.specs.Listed.{list_named};
+ghost use Rattle.expr_lower.specs.Parted.{IsPart};
+ghost use Rattle.expr_lower.specs.Seen.{seen};
+ghost use Rattle.expr_lower.specs.SeenWords.{AreAllPlaces, IsWhyPlaces, Offsets};
 ghost use Rattle.expr_lower.specs.Linking.{Closes, Links, SetsExit, SetsJump};
 ghost use Rattle.expr_lower.specs.Lowered.{IsPut};
 ghost use Rattle.expr_lower.specs.Names.{names_view};
@@ -19,6 +23,7 @@ use crate::draft::{Draft, next_place, put, put_const};
 use crate::fault::LowerFault;
 use crate::names::{Named, list_named, one_named};
 use crate::operators::{binary_instr, item_instr, negative, prefix_instr, seat_instr};
+use crate::parts::{deep_item_named, rows_named};
 use crate::scope::Scope;
 use crate::truths::is_truth;
 use cal_ast::{BinOp, Expr, ExprForm, PrefixOp};
@@ -120,10 +125,74 @@ fn item(
     ensures fault { IfErr result (IsWhy scope.now (index_of base.now place.now at) draft.new) }
 {
     let Some(list) = list_named(scope, base) else {
-        return Err(LowerFault::NotLowered { at });
+        return deep_item(scope, base, place, at, draft);
     };
     lower(scope, place, draft)?;
     put(draft, item_instr(list))
+}
+
+/// Appends an item of a list in lists: its offset in the whole list, and the instruction that reads it.
+#[cycle(lower)]
+fn deep_item(
+    scope: &Scope,
+    base: &Expr,
+    place: &Expr,
+    at: u32,
+    draft: &mut Draft,
+) -> Result<(), LowerFault>
+    requires not_one { list_named (seen scope.now) (expr_tree base.now) ≡ None }
+    ensures ok { OnOk result
+        (Lowers scope.now (index_of base.now place.now at) draft.old draft.new) }
+    ensures whole { OnOk result (IsAll scope.now (index_of base.now place.now at)) }
+    ensures fault { IfErr result (IsWhy scope.now (index_of base.now place.now at) draft.new) }
+{
+    let Some(list) = deep_item_named(scope, base) else {
+        return Err(LowerFault::NotLowered { at });
+    };
+    row(scope, base, place, draft)?;
+    put(draft, item_instr(list))
+}
+
+/// Appends the offset of an item: that of the list, the place, and the instruction that adds them.
+#[cycle(lower)]
+fn row(scope: &Scope, base: &Expr, place: &Expr, draft: &mut Draft) -> Result<(), LowerFault>
+    requires part { IsPart (seen scope.now) (index_of base.now place.now 0) }
+    ensures ok { (at : ℕ)
+        → OnOk result (Offsets scope.now (index_of base.now place.now at) draft.old draft.new) }
+    ensures whole { OnOk result (AreAllPlaces scope.now (index_of base.now place.now 0)) }
+    ensures fault { IfErr result
+        (IsWhyPlaces scope.now (index_of base.now place.now 0) draft.new) }
+{
+    let Some(rows) = rows_named(scope, base) else {
+        unreachable!();
+    };
+    offset(scope, base, draft)?;
+    lower(scope, place, draft)?;
+    put(draft, Instr::Index(rows.count, rows.each))
+}
+
+/// Appends the offset of the part of a list that a chain of indexes gives.
+#[cycle(lower)]
+fn offset(scope: &Scope, e: &Expr, draft: &mut Draft) -> Result<(), LowerFault>
+    requires part { IsPart (seen scope.now) (expr_tree e.now) }
+    ensures ok { OnOk result (Offsets scope.now (expr_tree e.now) draft.old draft.new) }
+    ensures whole { OnOk result (AreAllPlaces scope.now (expr_tree e.now)) }
+    ensures fault { IfErr result (IsWhyPlaces scope.now (expr_tree e.now) draft.new) }
+{
+    match &e.form {
+        ExprForm::Index { base, place } => row(scope, base, place, draft),
+        ExprForm::Name(_) => whole_offset(draft),
+        _ => unreachable!(),
+    }
+}
+
+/// Appends the offset of a whole list, which is 0.
+fn whole_offset(draft: &mut Draft) -> Result<(), LowerFault>
+    ensures ok { (scope : Scope) (text : List ℕ) (at : ℕ)
+        → OnOk result (Offsets scope (tree.variable text at) draft.old draft.new) }
+    ensures memory { IfErr result (λ fault. fault ≡ Memory) }
+{
+    put_const(draft, 0)
 }
 
 /// Appends an operation with one operand. A minus sign before a literal is one number with it.
@@ -391,14 +460,14 @@ fn aimed(instr: Instr, out: u32) -> Instr
 /// `names` holds the names that the expression uses; the first of several that are the same is meant. The code
 /// reads their cells and tokens where they stand, and writes none. What stood in the draft stays.
 ///
-/// Code is made for literals, variables of single values, items of lists of single values that are named, operators
-/// and `if`.
+/// Code is made for literals, variables of single values, items of named lists at any depth, operators and `if`.
 ///
 /// # Errors
 ///
 /// `NotLowered` if the expression has a part for which no code is made, with the offset of the first one (`fault`): a
-/// call, a list, a comprehension, an index on what isn't the name of a list of single values, a name that `names`
-/// doesn't have as that of a single value, or an `and` or `or` whose left side isn't seen to be a truth value.
+/// call, a list, a comprehension, a chain of indexes that doesn't choose one of the single values of a named list, a
+/// name that `names` doesn't have as that of a single value, or an `and` or `or` whose left side isn't seen to be a
+/// truth value.
 /// `TooLong` if the draft has 2 to the power of 32 instructions. `Memory` if memory runs out.
 pub fn lower_expr(names: &[Named], e: &Expr, draft: &mut Draft) -> Result<(), LowerFault>
     requires below { AreBelow draft.old.cells (names_view names.now) }

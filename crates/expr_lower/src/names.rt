@@ -180,7 +180,7 @@ fn items_of(named: &Named) -> Option<ItemList>
 }
 
 /// The type of single values that a type is, if it is one.
-fn single(shape: &Shape) -> Option<Scalar>
+pub(crate) fn single(shape: &Shape) -> Option<Scalar>
     ensures { result ≡ single_of (shape_view shape.now) }
 {
     match shape {
@@ -190,7 +190,7 @@ fn single(shape: &Shape) -> Option<Scalar>
 }
 
 /// The first of the names that is this text.
-fn find<'a>(names: &'a [Named], text: &str) -> Option<&'a Named>
+pub(crate) fn find<'a>(names: &'a [Named], text: &str) -> Option<&'a Named>
     ensures { option_map (λ x. name_view x.now) result ≡ named text.now (names_view names.now) }
 {
     let mut rest = names;

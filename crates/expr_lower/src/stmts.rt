@@ -1,11 +1,12 @@
 //! Statements as code: one small function a form.
 
-ghost use Rattle.std.specs.Prelude.{◌≡◌, ◌∷◌, ℕ, IfErr, None, OnOk, Some};
+ghost use Rattle.std.specs.Prelude.{◌≡◌, ◌∷◌, ℕ, IfErr, None, OnOk, Some, string_bytes};
 ghost use Rattle.cal_ast.specs.View.{stmt_tree};
 ghost use Rattle.expr_lower.specs.Changing.{AreTyped, NamesApart};
 ghost use Rattle.expr_lower.specs.Held.{AreBelow};
 ghost use Rattle.expr_lower.specs.Names.{names_view};
 ghost use Rattle.expr_lower.specs.Growing.{IsFault};
+ghost use Rattle.expr_lower.specs.StmtGrowing.{cell_named};
 ghost use Rattle.expr_lower.specs.Seen.{seen};
 ghost use Rattle.expr_lower.specs.SeenWords.{AddsBlock, AddsStart, behind, left_out_block, left_out_first};
 ghost use Rattle.expr_lower.specs.SeenWords.{AddsBody, AddsStmt, AddsStmts, AreAllOf, AreWhyNot};
@@ -15,13 +16,15 @@ ghost use Rattle.expr_lower.specs.StmtWords.{alone_of, body_of, branch_of, forea
 ghost use Rattle.expr_lower.specs.StmtWords.{set_item_of, set_of, set_one_of, while_of};
 
 use crate::counter::{Counter, put_bounds, put_less, put_next, put_turn, take_cell, take_cells};
+use crate::deep::set_deep;
 use crate::draft::{Draft, next_place, put, put_all};
 use crate::fault::LowerFault;
+use crate::lists::{set_copy, set_items};
 use crate::lower::{close, exit_at, jump_at, link, lower, lower_test};
 use crate::names::{Named, cell_named, cells_named};
 use crate::scope::{Frame, Scope};
 use crate::types::single_meant;
-use cal_ast::{Expr, Ident, Stmt, StmtForm, TypeExpr, VarDecl};
+use cal_ast::{Expr, ExprForm, Ident, Stmt, StmtForm, TypeExpr, VarDecl};
 use code_ir::Instr;
 use rvc_base::Scalar;
 
@@ -83,7 +86,7 @@ fn set(
     match places {
         [] => set_one(scope, name, value, at, draft),
         [place] => set_item(scope, name, place, value, at, draft),
-        _ => Err(LowerFault::NotLowered { at }),
+        _ => set_deep(scope, name, places, value, at, draft),
     }
 }
 
@@ -102,10 +105,34 @@ fn set_one(
         (IsWhyNot scope.now (set_one_of name.now value.now at) draft.new) }
 {
     let Some(to) = cell_named(scope, name.text.as_str()) else {
-        return Err(LowerFault::NotLowered { at });
+        return set_list(scope, name, value, at, draft);
     };
     lower(scope, value, draft)?;
     put(draft, Instr::Store(to.cell, Some(to.kind)))
+}
+
+/// Appends an assignment to a whole list: the instructions that store the items of another one.
+fn set_list(
+    scope: &Scope,
+    name: &Ident,
+    value: &Expr,
+    at: u32,
+    draft: &mut Draft,
+) -> Result<(), LowerFault>
+    requires not_one { cell_named (seen scope.now) (string_bytes name.now.text) ≡ None }
+    ensures ok { OnOk result
+        (AddsStmt scope.now (set_one_of name.now value.now at) draft.old draft.new) }
+    ensures whole { OnOk result (IsAllOf scope.now (set_one_of name.now value.now at)) }
+    ensures fault { IfErr result
+        (IsWhyNot scope.now (set_one_of name.now value.now at) draft.new) }
+{
+    let Some(to) = cells_named(scope, name.text.as_str()) else {
+        return Err(LowerFault::NotLowered { at });
+    };
+    match &value.form {
+        ExprForm::List(items) => set_items(scope, name, to, items, at, draft),
+        _ => set_copy(scope, name, to, value, at, draft),
+    }
 }
 
 /// Appends an assignment to an item of a list: the place, the value, and the instruction that stores it there.
@@ -401,8 +428,8 @@ fn given(
 /// changes the cells of these names as the statements change the variables, each stored in its type. What stood in
 /// the draft stays.
 ///
-/// Code is made for assignments to variables of single values and to items of lists of them, `if`, `while`, and
-/// `foreach` and blocks whose types are written without names, over the expressions for which
+/// Code is made for assignments to variables of single values and to items of lists of them at any depth, and to
+/// lists of them from another one of the same size that is named or written out, `if`, `while`, and `foreach` and blocks whose types are written without names, over the expressions for which
 /// [`lower_expr`](crate::lower_expr) makes code. A `foreach` uses three cells more, and a variable of a block one; they are added to the draft.
 ///
 /// # Errors

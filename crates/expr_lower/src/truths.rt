@@ -3,11 +3,11 @@
 ghost use Rattle.std.specs.Prelude.{◌≡◌};
 ghost use Rattle.cal_ast.specs.Tree as tree;
 ghost use Rattle.cal_ast.specs.View.{expr_tree};
-ghost use Rattle.expr_lower.specs.Truths.{is_truth, is_truth_binary, is_truth_list};
-ghost use Rattle.expr_lower.specs.Listed.{list_named};
+ghost use Rattle.expr_lower.specs.Truths.{is_truth, is_truth_binary, is_truth_item, is_truth_list};
 ghost use Rattle.expr_lower.specs.Seen.{seen};
 
-use crate::names::{list_named, one_named};
+use crate::names::{ItemList, list_named, one_named};
+use crate::parts::deep_item_named;
 use crate::scope::Scope;
 use cal_ast::{BinOp, Expr, ExprForm, PrefixOp};
 use rvc_base::Scalar;
@@ -45,11 +45,18 @@ fn is_truth_name(scope: &Scope, text: &str) -> bool
     }
 }
 
-/// Whether the items of a list have the type of truth values.
+/// Whether a chain of indexes chooses a truth value of a named list.
 fn is_truth_item(scope: &Scope, base: &Expr) -> bool
-    ensures { result ≡ is_truth_list (list_named (seen scope.now) (expr_tree base.now)) }
+    ensures { result ≡ is_truth_item (seen scope.now) (expr_tree base.now) tree.nil 0 }
 {
-    match list_named(scope, base) {
+    is_truth_list(list_named(scope, base)) || is_truth_list(deep_item_named(scope, base))
+}
+
+/// Whether the items of a list have the type of truth values.
+fn is_truth_list(list: Option<ItemList>) -> bool
+    ensures { result ≡ is_truth_list list }
+{
+    match list {
         Some(list) => matches!(list.kind, Scalar::Bool),
         None => false,
     }

@@ -7,12 +7,13 @@ use Rattle.cal_ast.specs.View.{expr_tree}
 use Rattle.cal_ast.specs.declared.expr.BinOp.TheVariants as binaries
 use Rattle.code_ir.specs.declared.instr.Instr.TheVariants as op
 use Rattle.expr_lower.specs.Coding as coding
-use Rattle.expr_lower.specs.Coding.{IsCode, IsOpenTest, binary_instr, item_instr, prefix_instr}
+use Rattle.expr_lower.specs.Coding.{IsCode, IsOffset, IsOpenTest, binary_instr, item_instr, prefix_instr}
 use Rattle.expr_lower.specs.Names.{Name}
 use Rattle.expr_lower.specs.Seen.{seen}
 use Rattle.expr_lower.specs.Lowered.{IsPut}
-use Rattle.expr_lower.proofs.Adding.{put_adds, same_adds, then_put, then_adds, strict_adds, test_coded, tests_coded, if_adds, both_adds, either_adds}
+use Rattle.expr_lower.proofs.Adding.{put_adds, same_adds, then_put, then_adds, strict_adds, row_adds, test_coded, tests_coded, if_adds, both_adds, either_adds}
 use Rattle.expr_lower.proofs.Literals.{negative_coded}
+use Rattle.expr_lower.proofs.PartValues.{item_has_rows}
 use Rattle.expr_lower.proofs.lower.+lower.Goals as goal
 
 pub both-returns-clause-ok : goal.both-returns-clause-ok
@@ -100,3 +101,23 @@ item-returns-clause-ok t c =
     (λ base n m code h. coding.item (expr_tree c.args.base.now) (expr_tree c.args.place.now) c.args.at base n m code c.in-Some.list (sym c.in-Some.ensures) h) c.in_ok-lower.ensures.ok
     (subst (λ i. IsPut (i ∷ []) c.lower.new.draft c.put.new.draft) c.item_instr.ensures p))
     c.put.ensures.added
+
+pub deep_item-returns-clause-ok : goal.deep_item-returns-clause-ok
+deep_item-returns-clause-ok t c =
+    let names : List Name = seen c.args.scope.now in
+    on_ok_weaker c.put.result
+    (λ (p : IsPut (c.item_instr.result ∷ []) c.row.new.draft c.put.new.draft).
+    then_put (IsOffset names (tree.index (expr_tree c.args.base.now) (expr_tree c.args.place.now) c.args.at)) (IsCode names (tree.index (expr_tree c.args.base.now) (expr_tree c.args.place.now) c.args.at)) (item_instr c.in-Some.list ∷ []) c.args.draft.now c.row.new.draft c.put.new.draft
+    (λ base n m code h. coding.deep_item (expr_tree c.args.base.now) (expr_tree c.args.place.now) c.args.at base n m code c.in-Some.list (sym c.in-Some.ensures) h) (c.in_ok-row.ensures.ok c.args.at)
+    (subst (λ i. IsPut (i ∷ []) c.row.new.draft c.put.new.draft) c.item_instr.ensures p))
+    c.put.ensures.added
+
+pub row-returns-clause-ok : goal.row-returns-clause-ok
+row-returns-clause-ok t c = λ at.
+    on_ok_weaker c.put.result
+    (row_adds (seen c.args.scope.now) (expr_tree c.args.base.now) (expr_tree c.args.place.now) at c.in-Some.rows c.args.draft.now c.offset.new.draft c.lower.new.draft c.put.new.draft (sym c.in-Some.ensures) c.in_ok-offset.ensures.ok c.in_ok-lower.ensures.ok)
+    c.put.ensures.added
+
+pub row-unreachable-requires : goal.row-unreachable-requires
+row-unreachable-requires t c =
+    item_has_rows (seen c.args.scope.now) (expr_tree c.args.base.now) (expr_tree c.args.place.now) 0 c.requires.part (sym c.rows_named.ensures ∙ c.in_default.is)

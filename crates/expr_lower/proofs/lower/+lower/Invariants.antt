@@ -37,4 +37,13 @@ abbrev pub decreases-paren : goal.decreases-paren
 decreases-paren l = 4 + size (expr_tree l.inner.now)
 
 abbrev pub decreases-item : goal.decreases-item
-decreases-item l = 4 + size (expr_tree l.place.now)
+decreases-item l = 7 + size (expr_tree l.base.now) + size (expr_tree l.place.now)
+
+abbrev pub decreases-deep_item : goal.decreases-deep_item
+decreases-deep_item l = 6 + size (expr_tree l.base.now) + size (expr_tree l.place.now)
+
+abbrev pub decreases-row : goal.decreases-row
+decreases-row l = 5 + size (expr_tree l.base.now) + size (expr_tree l.place.now)
+
+abbrev pub decreases-offset : goal.decreases-offset
+decreases-offset l = size (expr_tree l.e.now)
