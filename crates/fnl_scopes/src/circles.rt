@@ -3,7 +3,7 @@
 ghost use Rattle.std.specs.Prelude.{◌≡◌, map, string_bytes};
 ghost use Rattle.fnl_bind.specs.Library.{is_among};
 ghost use Rattle.fnl_bind.specs.Scopes.{circles};
-ghost use Rattle.fnl_read.specs.Views.{instance_of};
+ghost use Rattle.fnl_frames.specs.Views.{instance_of};
 ghost use Rattle.fnl_scopes.specs.Tested.{Tests};
 
 use crate::fault::ScopeFault;

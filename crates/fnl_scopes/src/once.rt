@@ -4,7 +4,7 @@ ghost use Rattle.std.specs.Prelude.{◌≡◌, ◌∷◌, ◌++◌, [], ℕ, Lis
 ghost use Rattle.cal_check.specs.Violations.{Keyed};
 ghost use Rattle.fnl_bind.specs.Library.{decl_names};
 ghost use Rattle.fnl_bind.specs.Scopes.{keyed_decls, keyed_instances, keyed_ports, named_twice};
-ghost use Rattle.fnl_read.specs.Views.{decl_of, instance_of, port_of};
+ghost use Rattle.fnl_frames.specs.Views.{decl_of, instance_of, port_of};
 ghost use Rattle.fnl_scopes.specs.Behind.{keyed, twice_behind};
 ghost use Rattle.fnl_scopes.specs.Tested.{IsCause, Tests};
 

@@ -5,7 +5,7 @@ ghost use Rattle.std.specs.Prelude.{◌≡◌, map};
 ghost use Rattle.cal_ast.specs.View.{optional_expr};
 ghost use Rattle.fnl_bind.specs.Library.{decl_names};
 ghost use Rattle.fnl_bind.specs.Scopes.{unknown_in, unknown_in_connections, unknown_in_decls, unknown_in_instances, unknown_in_parameters, unknown_in_ports, unknown_in_sizes, unknown_names};
-ghost use Rattle.fnl_read.specs.Views.{connection_of, decl_of, instance_of, net_of, parameter_of, port_of, size_of};
+ghost use Rattle.fnl_frames.specs.Views.{connection_of, decl_of, instance_of, net_of, parameter_of, port_of, size_of};
 ghost use Rattle.fnl_scopes.specs.Tested.{Tests};
 
 use crate::fault::ScopeFault;

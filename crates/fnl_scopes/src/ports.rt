@@ -3,7 +3,7 @@
 ghost use Rattle.std.specs.Prelude.{◌≡◌, ◌≤◌, length, map};
 ghost use Rattle.fnl_bind.specs.Library.{ports_of};
 ghost use Rattle.fnl_bind.specs.Scopes.{ports_broken};
-ghost use Rattle.fnl_read.specs.Views.{net_of, port_of};
+ghost use Rattle.fnl_frames.specs.Views.{net_of, port_of};
 ghost use Rattle.fnl_scopes.specs.Tested.{Tests};
 
 use crate::fault::ScopeFault;

@@ -3,7 +3,7 @@
 
 ghost use Rattle.std.specs.Prelude.{map, string_bytes};
 ghost use Rattle.fnl_bind.specs.Scopes.{scope_broken};
-ghost use Rattle.fnl_read.specs.Views.{net_of};
+ghost use Rattle.fnl_frames.specs.Views.{net_of};
 ghost use Rattle.fnl_scopes.specs.Tested.{Tests};
 
 use crate::circles::no_circles;

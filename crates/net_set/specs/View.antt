@@ -4,7 +4,7 @@ use Rattle.std.specs.Prelude.{ℕ, List, map, String, string_bytes}
 use Rattle.std.specs.declared.alloc.Global.{Global as Heap}
 use Rattle.fnl_bind.specs.Library.{Entry}
 use Rattle.fnl_read.specs.Net.{Net}
-use Rattle.fnl_read.specs.Views.{net_of}
+use Rattle.fnl_frames.specs.Views.{net_of}
 use Rattle.net_set.specs.declared.entry.NetEntry.{NetEntry}
 
 -- a network under its class, with the number of its file

@@ -2,7 +2,7 @@
 
 ghost use Rattle.std.specs.Prelude.{◌≡◌, [], ◌∷◌, ◌++◌, IfOk, OnErr, OnOk, None, is_some, option_map};
 ghost use Rattle.fnl_bind.specs.Library.{network_of};
-ghost use Rattle.fnl_read.specs.Views.{net_of};
+ghost use Rattle.fnl_frames.specs.Views.{net_of};
 ghost use Rattle.net_set.specs.View.{entry_under, networks, new_entry};
 
 use crate::entry::NetEntry;

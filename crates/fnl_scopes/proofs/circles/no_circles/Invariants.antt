@@ -1,6 +1,6 @@
 use Rattle.std.proofs.Common.{◌≡◌, map, length}
 use Rattle.fnl_bind.specs.Scopes.{circles}
-use Rattle.fnl_read.specs.Views.{instance_of}
+use Rattle.fnl_frames.specs.Views.{instance_of}
 use Rattle.std.specs.Prelude.{string_bytes}
 use Rattle.fnl_scopes.proofs.circles.no_circles.Given as goal
 

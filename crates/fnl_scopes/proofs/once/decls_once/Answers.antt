@@ -1,7 +1,7 @@
 use Rattle.std.proofs.Common.{◌≡◌, Err, ◌∷◌, map, sym, ap, subst, ◌∙◌, rules}
 use Rattle.std.specs.Prelude.{string_bytes}
 use Rattle.fnl_bind.specs.Scopes.{keyed_decls, named_twice}
-use Rattle.fnl_read.specs.Views.{decl_of}
+use Rattle.fnl_frames.specs.Views.{decl_of}
 use Rattle.fnl_scopes.specs.Behind.{keyed, twice_behind}
 use Rattle.fnl_scopes.specs.Tested.{IsCause, Tests}
 use Rattle.fnl_scopes.proofs.once.decls_once.Goals as goal

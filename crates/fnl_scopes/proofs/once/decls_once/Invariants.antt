@@ -1,7 +1,7 @@
 use Rattle.std.proofs.Common.{◌≡◌, ◌++◌, map, length}
 use Rattle.fnl_bind.specs.Library.{decl_names}
 use Rattle.fnl_bind.specs.Scopes.{keyed_decls, named_twice}
-use Rattle.fnl_read.specs.Views.{decl_of}
+use Rattle.fnl_frames.specs.Views.{decl_of}
 use Rattle.fnl_scopes.specs.Behind.{twice_behind}
 use Rattle.fnl_scopes.proofs.once.decls_once.Given as goal
 

@@ -1,6 +1,6 @@
 use Rattle.std.proofs.Common.{◌≡◌, ◌++◌, map, length}
 use Rattle.fnl_bind.specs.Scopes.{keyed_instances, named_twice}
-use Rattle.fnl_read.specs.Views.{instance_of}
+use Rattle.fnl_frames.specs.Views.{instance_of}
 use Rattle.fnl_scopes.specs.Behind.{twice_behind}
 use Rattle.fnl_scopes.proofs.once.instances_once.Given as goal
 

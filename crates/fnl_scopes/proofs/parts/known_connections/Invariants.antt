@@ -1,6 +1,6 @@
 use Rattle.std.proofs.Common.{◌≡◌, map, length}
 use Rattle.fnl_bind.specs.Scopes.{unknown_in_connections}
-use Rattle.fnl_read.specs.Views.{connection_of}
+use Rattle.fnl_frames.specs.Views.{connection_of}
 use Rattle.fnl_scopes.proofs.parts.known_connections.Given as goal
 
 abbrev pub invariant-connections : goal.invariant-connections

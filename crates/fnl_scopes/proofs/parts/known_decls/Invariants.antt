@@ -1,6 +1,6 @@
 use Rattle.std.proofs.Common.{◌≡◌, map, length}
 use Rattle.fnl_bind.specs.Scopes.{unknown_in_decls}
-use Rattle.fnl_read.specs.Views.{decl_of}
+use Rattle.fnl_frames.specs.Views.{decl_of}
 use Rattle.fnl_scopes.proofs.parts.known_decls.Given as goal
 
 abbrev pub invariant-decls : goal.invariant-decls

@@ -1,6 +1,6 @@
 use Rattle.std.proofs.Common.{◌≡◌, map, length}
 use Rattle.fnl_bind.specs.Scopes.{unknown_in_instances}
-use Rattle.fnl_read.specs.Views.{instance_of}
+use Rattle.fnl_frames.specs.Views.{instance_of}
 use Rattle.fnl_scopes.proofs.parts.known_instances.Given as goal
 
 abbrev pub invariant-instances : goal.invariant-instances

@@ -1,6 +1,6 @@
 use Rattle.std.proofs.Common.{◌≡◌, map, length}
 use Rattle.fnl_bind.specs.Scopes.{unknown_in_parameters}
-use Rattle.fnl_read.specs.Views.{parameter_of}
+use Rattle.fnl_frames.specs.Views.{parameter_of}
 use Rattle.fnl_scopes.proofs.parts.known_parameters.Given as goal
 
 abbrev pub invariant-parameters : goal.invariant-parameters

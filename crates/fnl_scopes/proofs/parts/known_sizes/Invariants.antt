@@ -1,6 +1,6 @@
 use Rattle.std.proofs.Common.{◌≡◌, map, length}
 use Rattle.fnl_bind.specs.Scopes.{unknown_in_sizes}
-use Rattle.fnl_read.specs.Views.{size_of}
+use Rattle.fnl_frames.specs.Views.{size_of}
 use Rattle.fnl_scopes.proofs.parts.known_sizes.Given as goal
 
 abbrev pub invariant-sizes : goal.invariant-sizes

@@ -1,6 +1,6 @@
 use Rattle.std.proofs.Common.{◌≡◌, ◌+◌, ◌≤◌, map, length}
 use Rattle.fnl_bind.specs.Library.{ports_of}
-use Rattle.fnl_read.specs.Views.{port_of}
+use Rattle.fnl_frames.specs.Views.{port_of}
 use Rattle.fnl_scopes.proofs.ports.count_of.Given as goal
 
 abbrev pub invariant-ports : goal.invariant-ports

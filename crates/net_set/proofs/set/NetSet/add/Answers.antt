@@ -1,6 +1,6 @@
 use Rattle.std.proofs.Common.{◌≡◌, ◌∷◌, [], ◌++◌, map, ap, ◌∙◌, rules}
 use Rattle.std.specs.Prelude.{string_bytes}
-use Rattle.fnl_read.specs.Views.{net_of}
+use Rattle.fnl_frames.specs.Views.{net_of}
 use Rattle.fnl_bind.specs.Library.{network_of}
 use Rattle.net_set.specs.View.{entry_of}
 use Rattle.net_set.proofs.Found.{added_entry}
