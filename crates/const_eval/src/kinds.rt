@@ -18,7 +18,7 @@ use rvc_base::{Memory, Rule, Scalar};
 use std::alloc::Global;
 
 /// Kinds don't match.
-pub(crate) fn wrong_kind(at: u32) -> KindFault
+pub fn wrong_kind(at: u32) -> KindFault
     ensures { result ≡ KindFault.Broken wrong_kind at }
 {
     KindFault::Broken {
@@ -54,6 +54,20 @@ fn kind_of_values(alloc: Global, values: &Values) -> Result<Kind, Memory>
     };
     let items = kind_of_value(alloc, first)?;
     Ok(Kind::List(values.items.len() as u32, Box::new(alloc, items)?))
+}
+
+/// An equal kind.
+pub(crate) fn copy_kind(alloc: Global, kind: &Kind) -> Result<Kind, Memory>
+    ensures { IfOk result (λ copied. kind_view copied ≡ kind_view kind.now) }
+{
+    match kind {
+        Kind::Num => Ok(Kind::Num),
+        Kind::Bool => Ok(Kind::Bool),
+        Kind::List(size, items) => {
+            let items = copy_kind(alloc, items)?;
+            Ok(Kind::List(*size, Box::new(alloc, items)?))
+        }
+    }
 }
 
 /// The kind of the values of a single type.
@@ -100,7 +114,7 @@ fn is_like(k: &Kind, l: &Kind) -> bool
 }
 
 /// That both are one kind.
-pub(crate) fn one_kind(k: &Kind, l: &Kind, at: u32) -> Result<(), KindFault>
+pub fn one_kind(k: &Kind, l: &Kind, at: u32) -> Result<(), KindFault>
     ensures { Judges (λ _. kind_view k.now) result
         (one_kind (kind_view k.now) (kind_view l.now) at) }
 {
