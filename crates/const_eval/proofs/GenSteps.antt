@@ -10,7 +10,7 @@ use Rattle.cal_ast.specs.View.{expr_tree, gen_tree, type_tree}
 use Rattle.cal_ast.specs.declared.expr.Gen.{Gen, out-Gen}
 use Rattle.cal_model.specs.Value.{Kind, Shape}
 use Rattle.cal_model.specs.Expression.{span}
-use Rattle.cal_model.specs.Kinding.{Judged, Fine, Broken, and_so, Names, constant_number, counter, counts, elements_in, kind, list_of_kind, type_judged, with_counters}
+use Rattle.cal_model.specs.Kinding.{Judged, Fine, Broken, and_so, Names, constant_number, counts, elements_in, kind, list_of_kind, type_judged, with_counters}
 use Rattle.const_eval.specs.Counting.{Variable, counter_variable, known_variable, named_by, numbers_judged}
 use Rattle.const_eval.specs.Fitting.{capped}
 use Rattle.const_eval.specs.Judging.{Breaks}

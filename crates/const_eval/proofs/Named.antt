@@ -3,10 +3,9 @@ use Rattle.std.proofs.Common.{◌≡◌, ℕ, Bool, true, false, List, [], ◌�
 use Rattle.std.specs.Prelude.{Option, None, Some, option_map, if◌then◌else◌}
 use Rattle.std.specs.Str.{bytes_eq}
 use Rattle.cal_model.specs.Value.{Kind, Value}
-use Rattle.cal_model.specs.Env.{Var}
 use Rattle.cal_model.specs.Kinding.{Judged, Fine, Broken, Known, known_as, constants, without}
 use Rattle.rvc_base.specs.Rules.{unknown_name}
-use Rattle.const_eval.specs.Constants.{Constant, constant_named, constants_among, other_constants, var_of}
+use Rattle.const_eval.specs.Constants.{Constant, constants_among, other_constants, var_of}
 use Rattle.const_eval.specs.Counting.{Variable, known_variable, hide, Use, use_of}
 
 -- ---- the first of two lists, or the second

@@ -7,7 +7,7 @@ use Rattle.rvc_base.specs.declared.scalar.Scalar.TheVariants as scalar
 use Rattle.rvc_base.specs.Storing.{IsSize}
 use Rattle.rvc_base.specs.Width.{max_size}
 use Rattle.cal_model.specs.Actor.{Fun}
-use Rattle.cal_model.specs.View.{fun_view, local_view, shape_view, value_view}
+use Rattle.cal_model.specs.View.{fun_view, local_view, shape_view}
 use Rattle.cal_model.specs.declared.bound.BoundLocal.{BoundLocal}
 use Rattle.cal_model.specs.declared.bound.BoundFun.{BoundFun}
 use Rattle.const_eval.specs.Sizes.{is_size, is_sized, are_sized, is_sized_fun, are_sized_funs}

@@ -1,6 +1,6 @@
 -- The constants of an environment: names with values, and functions.
 -- Trusted: part of what a promise means.
-use Rattle.std.specs.Prelude.{ℕ, suc, Bool, true, false, List, [], ◌∷◌, map, if◌then◌else◌, Option, None, Some}
+use Rattle.std.specs.Prelude.{ℕ, suc, Bool, true, false, List, [], ◌∷◌, if◌then◌else◌, Option, None, Some}
 use Rattle.std.specs.Str.{bytes_eq}
 use Rattle.cal_model.specs.Value.{Kind, NumKind, BoolKind, ListKind, Value, Num, Truth, Items, Nil, Cons, count}
 use Rattle.cal_model.specs.Env.{Var}

@@ -1,6 +1,6 @@
 -- What an environment of constant expressions holds, without where it lies in memory.
 -- Trusted: part of what a promise means.
-use Rattle.std.specs.Prelude.{List, [], ◌∷◌, map, option_map, string_bytes, Option, None, Some}
+use Rattle.std.specs.Prelude.{List, [], ◌∷◌, map, option_map, string_bytes}
 use Rattle.cal_model.specs.Kinding.{Known, Names}
 use Rattle.cal_model.specs.View.{fun_view, kind_view, value_view}
 use Rattle.cal_model.specs.declared.bound.BoundFun.{BoundFun}

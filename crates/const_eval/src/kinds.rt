@@ -18,7 +18,7 @@ use rvc_base::{Memory, Rule, Scalar};
 use std::alloc::Global;
 
 /// Kinds don't match.
-pub fn wrong_kind(at: u32) -> KindFault
+pub(crate) fn wrong_kind(at: u32) -> KindFault
     ensures { result ≡ KindFault.Broken wrong_kind at }
 {
     KindFault::Broken {
@@ -305,7 +305,7 @@ fn over_truths(op: BinOp, at: u32) -> Result<Kind, KindFault>
 }
 
 /// The kind of an item of a list.
-pub(crate) fn item_kind(base: Kind, place: &Kind, at: u32) -> Result<Kind, KindFault>
+pub fn item_kind(base: Kind, place: &Kind, at: u32) -> Result<Kind, KindFault>
     ensures { Judges kind_view result (item_kind (kind_view base) (kind_view place.now) at) }
 {
     match base {

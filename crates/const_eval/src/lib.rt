@@ -30,7 +30,7 @@ pub use env::Env;
 pub use fault::KindFault;
 pub use inside::{Inside, Variable};
 pub use judging::{arguments_fit, constant_number, kind, type_judged};
-pub use kinds::{one_kind, wrong_kind};
+pub use kinds::{item_kind, one_kind};
 pub use lengths::is_counted;
 pub use meant::Meant;
 pub use names::Names;

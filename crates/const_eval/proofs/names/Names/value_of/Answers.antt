@@ -1,4 +1,4 @@
-use Rattle.std.proofs.Common.{map, sym, ap, subst, ◌∙◌}
+use Rattle.std.proofs.Common.{sym, ap, subst, ◌∙◌}
 use Rattle.cal_ast.specs.View.{expr_tree}
 use Rattle.cal_model.specs.Kinding.{constant}
 use Rattle.cal_model.specs.View.{value_view}
