@@ -1,8 +1,8 @@
 -- Answers of calls that check, put together.
-use Rattle.std.proofs.Common.{◌≡◌, Ok, Err, List, [], ◌∷◌, ◌++◌, Result, refl, sym, ap, subst}
+use Rattle.std.proofs.Common.{◌≡◌, Ok, Err, List, [], ◌∷◌, ◌++◌, Result, refl, sym, ap, subst, ◌∙◌}
 use Rattle.std.specs.Prelude.{Contains}
 use Rattle.std.proofs.lemmas.List.Elements.{Contains-append_left, Contains-append_right, Contains-push}
-use Rattle.std.proofs.lemmas.List.{append-nil}
+use Rattle.std.proofs.lemmas.List.{append-nil, append_assoc}
 use Rattle.cal_model.specs.Kinding.{Judged, Fine, Broken}
 use Rattle.const_eval.specs.Judging.{Breaks, Judges}
 use Rattle.const_eval.specs.declared.fault.KindFault.{KindFault}
@@ -41,3 +41,14 @@ refuses_alone f vs h = subst (Refuses f) (append-nil vs) h
 pub refuses_if_fine : {A : Type 0} (f : KindFault) (vs : List Violation) (j : Judged A) (g : A → List Violation) → Refuses f (vs ++ broken j) → Refuses f (vs ++ if_fine j g)
 refuses_if_fine f vs (Broken rule at) g h = h
 refuses_if_fine f vs (Fine a) g h = refuses_on f vs (g a) (refuses_alone f vs h)
+
+-- ---- three parts, and what is behind them
+
+grouped : (xs ys zs vs : List Violation) → xs ++ (ys ++ (zs ++ vs)) ≡ (xs ++ (ys ++ zs)) ++ vs
+grouped xs ys zs vs = ap (λ us. xs ++ us) (sym (append_assoc ys zs vs)) ∙ sym (append_assoc xs (ys ++ zs) vs)
+
+pub refuses_three : (f : KindFault) (xs ys zs vs : List Violation) → Refuses f (xs ++ (ys ++ zs)) → Refuses f (xs ++ (ys ++ (zs ++ vs)))
+refuses_three f xs ys zs vs h = subst (Refuses f) (sym (grouped xs ys zs vs)) (refuses_on f (xs ++ (ys ++ zs)) vs h)
+
+pub checks_three : {A : Type 0} (r : Result A KindFault) (xs ys zs vs : List Violation) → xs ++ (ys ++ zs) ≡ [] → Checks r vs → Checks r (xs ++ (ys ++ (zs ++ vs)))
+checks_three r xs ys zs vs e h = subst (Checks r) (sym (grouped xs ys zs vs)) (checks_behind r (xs ++ (ys ++ zs)) vs e h)

@@ -19,7 +19,7 @@ use Rattle.const_eval.specs.declared.fault.KindFault.{KindFault}
 use Rattle.const_eval.specs.declared.fault.KindFault.TheVariants as fault
 use Rattle.const_eval.specs.declared.inside.Variable.{Variable}
 use Rattle.const_eval.specs.declared.names.Names.{Names as DeclaredNames}
-use Rattle.cal_check.specs.Violations.{Violation, broken, if_fine, while_fine}
+use Rattle.cal_check.specs.Violations.{Violation, broken, violation, while_fine}
 use Rattle.cal_check.specs.Statements.{behind, kind_at_places, names_behind, start_broken, starts_broken, type_of_var, var_broken}
 use Rattle.stmt_check.specs.Declaring.{Declares, seen_behind, start_stored}
 use Rattle.stmt_check.specs.Judging.{Refuses}
@@ -109,11 +109,11 @@ var_declared v names t x e start name k changes = (
 pub type_refuses : (v : VarDecl) (names : Names) (f : KindFault) → Breaks f (type_judged (type_tree v.shape) names) → Declares (Err f) (var_tree v) names
 type_refuses v names (fault.Broken rule at) h =
     subst (λ o. Refuses (fault.Broken rule at) (start_broken o (optional_expr v.start) names ++ broken (behind o (var_tree v) names))) (sym h) (Contains-push [] (record { rule = rule; at = at }))
+type_refuses v names fault.Memory h = tt
 
 pub start_refuses : (v : VarDecl) (names : Names) (t : Shape) (f : KindFault) → type_judged (type_tree v.shape) names ≡ Fine t → Refuses f (start_stored (kind_of_type t) (optional_expr v.start) names) → Declares (Err f) (var_tree v) names
 start_refuses v names t f e h =
     refuses_on f (var_broken (var_tree v) names) (broken (behind (type_of_var (var_tree v) names) (var_tree v) names)) (subst (Refuses f) (sym (start_behind v names t e)) h)
-type_refuses v names fault.Memory h = tt
 
 -- ---- variables
 
@@ -149,7 +149,7 @@ vars_next rest others all v x xs news names outer is new fine before =
 
 broken-first : (f : KindFault) (vb : List Violation) (b : Judged Names) (F : Names → List Violation) (G : Names → Judged Names) → Refuses f (vb ++ broken b) → Refuses f ((vb ++ while_fine b F) ++ broken (and_so b G))
 broken-first f vb (Fine a) F G h = refuses_on f (vb ++ F a) (broken (G a)) (refuses_on f vb (F a) (refuses_alone f vb h))
-broken-first f vb (Broken rule at) F G h = subst (λ vs. Refuses f (vs ++ broken (Broken {A = Names} rule at))) (sym (append-nil vb)) h
+broken-first f vb (Broken rule at) F G h = subst (λ vs. Refuses f (vs ++ violation rule at)) (sym (append-nil vb)) h
 
 pub vars_break : (rest others all : List VarDecl) (v : VarDecl) (f : KindFault) (here outer : Names) → rest ≡ v ∷ others
     → Declares (Err f) (var_tree v) here → AreBehind rest here all outer → Refuses f (starts_broken (listed (map var_tree all)) outer ++ broken (names_behind (listed (map var_tree all)) outer))

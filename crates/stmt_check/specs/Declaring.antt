@@ -1,6 +1,7 @@
 -- Variables that are declared inside, as calls that judge them answer.
 -- Not trusted: no promise is read with it.
-use Rattle.std.specs.Prelude.{◌≡◌, List, [], ◌++◌, map}
+use Rattle.std.specs.Prelude.{◌≡◌, List, [], ◌++◌, map, Vec}
+use Rattle.std.specs.declared.alloc.Global.{Global}
 use Rattle.std.specs.declared.result.Result.{Result}
 use Rattle.std.specs.declared.result.Result.TheVariants.{Ok, Err}
 use Rattle.cal_ast.specs.Tree as tree
@@ -49,10 +50,10 @@ abbrev pub seen_behind : List Variable → DeclaredNames → Names
 seen_behind xs names = names_inside (declared_by xs (inner_variables names.inner)) names.env.now
 
 -- all variables, or what a type or a start of one breaks
-abbrev pub DeclaresAll : Result (List Variable) KindFault → List VarDecl → DeclaredNames → Names → Type 0
+abbrev pub DeclaresAll : Result (Vec Variable Global) KindFault → List VarDecl → DeclaredNames → Names → Type 0
 DeclaresAll (Ok xs) vs names outer =
     (starts_broken (listed (map var_tree vs)) outer ≡ [])
-    × (names_behind (listed (map var_tree vs)) outer ≡ Fine (seen_behind xs names))
+    × (names_behind (listed (map var_tree vs)) outer ≡ Fine (seen_behind xs.items names))
 DeclaresAll (Err f) vs names outer =
     Refuses f (starts_broken (listed (map var_tree vs)) outer
     ++ broken (names_behind (listed (map var_tree vs)) outer))

@@ -24,6 +24,13 @@ fn place_of(e: &Expr) -> u32
     e.at
 }
 
+/// The offset at which a type begins.
+fn place_of_type(t: &TypeExpr) -> u32
+    ensures { result ≡ begins (type_tree t.now) }
+{
+    t.at
+}
+
 /// That an expression's value may be stored as one of a kind.
 pub(crate) fn stored(names: &Names, k: &Kind, e: &Expr) -> Result<(), KindFault>
     ensures { Judges (λ _. kind_view k.now) result
@@ -54,5 +61,5 @@ pub(crate) fn counter(names: &Names, shape: &TypeExpr) -> Result<(), KindFault>
     ensures { Checks result (broken (counter_judged (type_tree shape.now) (names_view names.now))) }
 {
     let t = type_judged(names, shape)?;
-    counts(&t, shape.at)
+    counts(&t, place_of_type(shape))
 }

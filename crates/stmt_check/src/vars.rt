@@ -1,7 +1,6 @@
 //! Variables that are declared inside.
 #![tactic(auto, using(crate::proofs::Judged::breaks_on))]
 
-ghost use Rattle.std.specs.Prelude.{map, result_map};
 ghost use Rattle.cal_ast.specs.View.{optional_expr, var_tree};
 ghost use Rattle.cal_model.specs.View.{kind_view};
 ghost use Rattle.const_eval.specs.Counting.{names_view};
@@ -15,7 +14,7 @@ use const_eval::{Inside, KindFault, Names, Variable, type_judged};
 
 /// Variables, each of which sees those before it.
 pub(crate) fn vars(names: &Names, vars: &[VarDecl]) -> Result<Vec<Variable>, KindFault>
-    ensures { DeclaresAll (result_map (λ found. found.items) result) vars.now names.now (names_view names.now) }
+    ensures { DeclaresAll result vars.now names.now (names_view names.now) }
 {
     let mut found = Vec::new(names.alloc);
     let mut rest = vars;
