@@ -1,6 +1,5 @@
 -- Answers of calls that check, put together.
-use Rattle.std.proofs.Common.{◌≡◌, Ok, Err, List, [], ◌∷◌, ◌++◌, Result, refl, sym, ap, subst, ◌∙◌}
-use Rattle.std.specs.Prelude.{Contains}
+use Rattle.std.proofs.Common.{◌≡◌, Ok, Err, List, [], ◌++◌, Result, sym, ap, subst, ◌∙◌}
 use Rattle.std.proofs.lemmas.List.Elements.{Contains-append_left, Contains-append_right, Contains-push}
 use Rattle.std.proofs.lemmas.List.{append-nil, append_assoc}
 use Rattle.cal_model.specs.Kinding.{Judged, Fine, Broken}

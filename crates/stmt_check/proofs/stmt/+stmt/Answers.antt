@@ -1,4 +1,4 @@
-use Rattle.std.proofs.Common.{◌≡◌, Err, None, false, ◌∷◌, [], ◌++◌, map, string_bytes, ap, sym, subst, rules}
+use Rattle.std.proofs.Common.{◌≡◌, Err, None, false, map, string_bytes, sym, subst, rules}
 use Rattle.cal_ast.specs.Tree.{listed}
 use Rattle.cal_ast.specs.View.{expr_tree, stmt_tree, type_tree}
 use Rattle.cal_model.specs.Kinding.{counter, with_known}
@@ -9,7 +9,7 @@ use Rattle.const_eval.specs.Counting.{names_view}
 use Rattle.cal_check.specs.Constants.{stored_kind}
 use Rattle.cal_check.specs.Statements.{counter_judged, statement_broken}
 use Rattle.cal_check.specs.Violations.{broken}
-use Rattle.stmt_check.specs.Declaring.{range_broken, seen_behind}
+use Rattle.stmt_check.specs.Declaring.{range_broken}
 use Rattle.stmt_check.specs.Judging.{Checks}
 use Rattle.stmt_check.proofs.Checked.{checks_three, refuses_three}
 use Rattle.stmt_check.proofs.stmt.+stmt.Goals as goal
