@@ -16,10 +16,10 @@ use Rattle.cal_model.specs.declared.bound.BoundLocal.{BoundLocal}
 use Rattle.cal_model.specs.declared.value.Value.{Value as Declared}
 use Rattle.cal_ast.specs.View.{expr_tree}
 use Rattle.const_eval.specs.Constants.{var_of}
-use Rattle.const_eval.specs.Counting.{counted_names, hide}
+use Rattle.const_eval.specs.Counting.{inner_variables, hide}
 use Rattle.const_eval.specs.Held.{held}
 use Rattle.const_eval.specs.Scoping.{calls, frame, seen}
-use Rattle.const_eval.specs.declared.counters.Counters.{Counters}
+use Rattle.const_eval.specs.declared.inside.Inside.{Inside}
 use Rattle.const_eval.specs.declared.scope.Scope.{Scope}
 use Rattle.const_eval.specs.Outcome.{Stops}
 use Rattle.const_eval.specs.declared.stop.Stop.{Stop}
@@ -103,10 +103,10 @@ called_falls name scope inner fun locals l found ls d e =
 
 -- ---- what functions see
 
-abbrev given_calls : Option (Bor Counters) → ℕ → List Fun → List Var → Calls
+abbrev given_calls : Option (Bor Inside) → ℕ → List Fun → List Var → Calls
 given_calls hidden n funs vars = elim hidden [ None ↦ calls_within n funs | Some x ↦ (λ globals. calls_within n funs vars) ]
 
-calls-by : (hidden : Option (Bor Counters)) (n : ℕ) (funs : List Fun) (vars : List Var) → given_calls hidden n funs vars (hide (counted_names hidden) vars) ≡ calls_within n funs vars
+calls-by : (hidden : Option (Bor Inside)) (n : ℕ) (funs : List Fun) (vars : List Var) → given_calls hidden n funs vars (hide (inner_variables hidden) vars) ≡ calls_within n funs vars
 calls-by None n funs vars = refl
 calls-by (Some x) n funs vars = refl
 

@@ -10,8 +10,8 @@ use Rattle.cal_ast.specs.View.{expr_tree, gen_tree, type_tree}
 use Rattle.cal_ast.specs.declared.expr.Gen.{Gen, out-Gen}
 use Rattle.cal_model.specs.Value.{Kind, Shape}
 use Rattle.cal_model.specs.Expression.{span}
-use Rattle.cal_model.specs.Kinding.{Judged, Fine, Broken, and_so, Names, constant_number, counter, counts, elements_in, kind, list_of_kind, type_judged, with_counters}
-use Rattle.const_eval.specs.Counting.{named_by, numbers_judged}
+use Rattle.cal_model.specs.Kinding.{Judged, Fine, Broken, and_so, Names, constant_number, counts, elements_in, kind, list_of_kind, type_judged, with_counters}
+use Rattle.const_eval.specs.Counting.{Variable, counter_variable, known_variable, named_by, numbers_judged}
 use Rattle.const_eval.specs.Fitting.{capped}
 use Rattle.const_eval.specs.Judging.{Breaks}
 use Rattle.const_eval.specs.Meant.{name_of}
@@ -23,24 +23,24 @@ use Rattle.const_eval.proofs.Judged.{breaks_on}
 use Rattle.const_eval.proofs.Weights.{size}
 
 -- names inside generators of these names
-abbrev pub inside : List (List ℕ) → Names → Names
-inside ns names = record names { locals = map counter ns }
+abbrev pub inside : List Variable → Names → Names
+inside ns names = record names { locals = map known_variable ns }
 
 -- ---- names
 
-pub named_more : (gs : List Gen) (n : ℕ) (d : Gen) (outer : List (List ℕ)) → n < length gs → named_by (take (n + 1) gs) outer ≡ name_of (get_or gs n d) ∷ named_by (take n gs) outer
+pub named_more : (gs : List Gen) (n : ℕ) (d : Gen) (outer : List Variable) → n < length gs → named_by (take (n + 1) gs) outer ≡ counter_variable (name_of (get_or gs n d)) ∷ named_by (take n gs) outer
 named_more gs n d outer h = ap (λ m. named_by (take m gs) outer) (add-one n) ∙ go gs n outer h
   where
-    go : (xs : List Gen) (k : ℕ) (names : List (List ℕ)) → k < length xs → named_by (take (suc k) xs) names ≡ name_of (get_or xs k d) ∷ named_by (take k xs) names
+    go : (xs : List Gen) (k : ℕ) (names : List Variable) → k < length xs → named_by (take (suc k) xs) names ≡ counter_variable (name_of (get_or xs k d)) ∷ named_by (take k xs) names
     go [] k names l = absurd (omega arith)
     go (x ∷ xs) zero names l = refl
-    go (x ∷ xs) (suc k) names l = go xs k (name_of x ∷ names) (omega arith)
+    go (x ∷ xs) (suc k) names l = go xs k (counter_variable (name_of x) ∷ names) (omega arith)
 
-pub counters_named : (gs : List Gen) (outer : List (List ℕ)) (names : Names) → with_counters (listed (map gen_tree gs)) (inside outer names) ≡ inside (named_by gs outer) names
+pub counters_named : (gs : List Gen) (outer : List Variable) (names : Names) → with_counters (listed (map gen_tree gs)) (inside outer names) ≡ inside (named_by gs outer) names
 counters_named [] outer names = refl
 counters_named (g ∷ gs) outer names =
     ap (λ t. with_counters (tree.cons t (listed (map gen_tree gs))) (inside outer names)) (gen_is g)
-    ∙ counters_named gs (name_of g ∷ outer) names
+    ∙ counters_named gs (counter_variable (name_of g) ∷ outer) names
 
 -- ---- one generator
 
@@ -80,7 +80,7 @@ module _ (rest : Judged ℕ) where
 
 -- ---- generators from a place on
 
-abbrev pub elements_from : ℕ → List Gen → List (List ℕ) → Names → Judged ℕ
+abbrev pub elements_from : ℕ → List Gen → List Variable → Names → Judged ℕ
 elements_from n gs outer names = elements_in (listed (map gen_tree (drop n gs))) (inside (named_by (take n gs) outer) names)
 
 -- the type and the ends of a generator
@@ -100,7 +100,7 @@ high_of g names = constant_number (kind (expr_tree (out-Gen g).to) names) (expr_
 abbrev opened : Gen → Judged ℕ → Names → Judged ℕ
 opened g rest names = makes rest (shape_of g names) (counts_of g) (low_of g names) (high_of g names)
 
-elements-open : (gs : List Gen) (n : ℕ) (d : Gen) (outer : List (List ℕ)) (names : Names) → n < length gs
+elements-open : (gs : List Gen) (n : ℕ) (d : Gen) (outer : List Variable) (names : Names) → n < length gs
     → elements_from n gs outer names ≡ opened (get_or gs n d) (elements_from (n + 1) gs outer names) (inside (named_by (take n gs) outer) names)
 elements-open gs n d outer names h =
     ap (λ xs. elements_in (listed (map gen_tree xs)) (inside (named_by (take n gs) outer) names)) (drop-cons gs n d h)
@@ -113,7 +113,7 @@ numbers-open : (g : Gen) (rest : Judged ℕ) (names : Names) → numbers_judged 
     ≡ numbers rest (shape_of g names) (counts_of g) (low_of g names) (high_of g names)
 numbers-open g rest names = ap (λ t. numbers_judged t names) (gen_is g)
 
-pub elements_next : (gs : List Gen) (n : ℕ) (d : Gen) (outer : List (List ℕ)) (names : Names) (m k new : ℕ) (whole : Judged ℕ) → n < length gs
+pub elements_next : (gs : List Gen) (n : ℕ) (d : Gen) (outer : List Variable) (names : Names) (m k new : ℕ) (whole : Judged ℕ) → n < length gs
     → numbers_judged (gen_tree (get_or gs n d)) (inside (named_by (take n gs) outer) names) ≡ Fine m → new ≡ capped (k * m)
     → and_so (elements_from n gs outer names) (λ s. Fine (capped (k * s))) ≡ whole → and_so (elements_from (n + 1) gs outer names) (λ s. Fine (capped (new * s))) ≡ whole
 elements_next gs n d outer names m k new whole h e f g =
@@ -122,14 +122,14 @@ elements_next gs n d outer names m k new whole h e f g =
     ∙ gen-makes (elements_from (n + 1) gs outer names) (shape_of (get_or gs n d) (inside (named_by (take n gs) outer) names)) (counts_of (get_or gs n d)) (low_of (get_or gs n d) (inside (named_by (take n gs) outer) names)) (high_of (get_or gs n d) (inside (named_by (take n gs) outer) names)) m k (sym (numbers-open (get_or gs n d) (elements_from (n + 1) gs outer names) (inside (named_by (take n gs) outer) names)) ∙ e))
     ∙ g
 
-elements-broken : (gs : List Gen) (n : ℕ) (d : Gen) (outer : List (List ℕ)) (names : Names) (f : KindFault) → n < length gs
+elements-broken : (gs : List Gen) (n : ℕ) (d : Gen) (outer : List Variable) (names : Names) (f : KindFault) → n < length gs
     → Breaks f (numbers_judged (gen_tree (get_or gs n d)) (inside (named_by (take n gs) outer) names)) → Breaks f (elements_from n gs outer names)
 elements-broken gs n d outer names (fault.Broken rule at) h b =
     elements-open gs n d outer names h
     ∙ gen-breaks (elements_from (n + 1) gs outer names) (shape_of (get_or gs n d) (inside (named_by (take n gs) outer) names)) (counts_of (get_or gs n d)) (low_of (get_or gs n d) (inside (named_by (take n gs) outer) names)) (high_of (get_or gs n d) (inside (named_by (take n gs) outer) names)) rule at (sym (numbers-open (get_or gs n d) (elements_from (n + 1) gs outer names) (inside (named_by (take n gs) outer) names)) ∙ b)
 elements-broken gs n d outer names fault.Memory h b = tt
 
-pub elements_break : (gs : List Gen) (n : ℕ) (d : Gen) (outer : List (List ℕ)) (names : Names) (k : ℕ) (whole : Judged ℕ) (f : KindFault) → n < length gs
+pub elements_break : (gs : List Gen) (n : ℕ) (d : Gen) (outer : List Variable) (names : Names) (k : ℕ) (whole : Judged ℕ) (f : KindFault) → n < length gs
     → Breaks f (numbers_judged (gen_tree (get_or gs n d)) (inside (named_by (take n gs) outer) names))
     → and_so (elements_from n gs outer names) (λ s. Fine (capped (k * s))) ≡ whole → Breaks f whole
 elements_break gs n d outer names k whole f h b g = subst (λ o. Breaks f o) g (breaks_on f (elements_from n gs outer names) _ (elements-broken gs n d outer names f h b))
@@ -137,7 +137,7 @@ elements_break gs n d outer names k whole f h b g = subst (λ o. Breaks f o) g (
 one-times : (n : ℕ) → 1 * n ≡ n
 one-times n = omega arith
 
-pub elements_start : (gs : List Gen) (outer : List (List ℕ)) (names : Names) → and_so (elements_from 0 gs outer names) (λ n. Fine (capped (1 * n))) ≡ and_so (elements_in (listed (map gen_tree gs)) (inside outer names)) (λ n. Fine (capped n))
+pub elements_start : (gs : List Gen) (outer : List Variable) (names : Names) → and_so (elements_from 0 gs outer names) (λ n. Fine (capped (1 * n))) ≡ and_so (elements_in (listed (map gen_tree gs)) (inside outer names)) (λ n. Fine (capped n))
 elements_start gs outer names = go (elements_in (listed (map gen_tree gs)) (inside outer names))
   where
     go : (o : Judged ℕ) → and_so o (λ n. Fine (capped (1 * n))) ≡ and_so o (λ n. Fine (capped n))
@@ -145,7 +145,7 @@ elements_start gs outer names = go (elements_in (listed (map gen_tree gs)) (insi
     go (Broken rule at) = refl
 
 -- if no generator is left, and the count is no more than one more than the limit
-pub elements_done : (gs : List Gen) (n : ℕ) (outer : List (List ℕ)) (names : Names) (k : ℕ) (whole : Judged ℕ) → length gs ≤ n → capped k ≡ k
+pub elements_done : (gs : List Gen) (n : ℕ) (outer : List Variable) (names : Names) (k : ℕ) (whole : Judged ℕ) → length gs ≤ n → capped k ≡ k
     → and_so (elements_from n gs outer names) (λ s. Fine (capped (k * s))) ≡ whole → whole ≡ Fine k
 elements_done gs n outer names k whole h e g =
     let once : k * 1 ≡ k = omega arith in

@@ -15,7 +15,7 @@ mod Rights
 mod Expressions
 mod Capped
 mod Judged
-mod Counted
 mod Named
+mod Backwards
 mod Steps
 mod GenSteps

@@ -7,12 +7,9 @@ use Rattle.rvc_base.specs.declared.scalar.Scalar.TheVariants as scalar
 use Rattle.rvc_base.specs.Storing.{IsSize}
 use Rattle.rvc_base.specs.Width.{max_size}
 use Rattle.cal_model.specs.Actor.{Fun}
-use Rattle.cal_model.specs.View.{fun_view, local_view, shape_view, value_view}
+use Rattle.cal_model.specs.View.{fun_view, local_view, shape_view}
 use Rattle.cal_model.specs.declared.bound.BoundLocal.{BoundLocal}
 use Rattle.cal_model.specs.declared.bound.BoundFun.{BoundFun}
-use Rattle.const_eval.specs.declared.held.Constant.{Constant as Declared}
-use Rattle.const_eval.specs.Held.{constant_view}
-use Rattle.const_eval.specs.Lengths.{is_counted, are_counted}
 use Rattle.const_eval.specs.Sizes.{is_size, is_sized, are_sized, is_sized_fun, are_sized_funs}
 
 pub and_left : (a b : Bool) → (a && b) ≡ true → a ≡ true
@@ -65,13 +62,3 @@ three false b c h = cc
 -- the parts of a function whose sizes are allowed
 pub sized_parts : (f : Fun) → is_sized_fun f ≡ true → (are_sized f.formals ≡ true) × (are_sized f.locals ≡ true) × (is_size f.result ≡ true)
 sized_parts f h = three (are_sized f.formals) (are_sized f.locals) (is_size f.result) h
-
--- a constant more, whose lists are counted
-pushed_counted : (xs : List Declared) (x : Declared) → are_counted (map constant_view xs) ≡ true → is_counted (value_view x.value) ≡ true → are_counted (map constant_view (xs ++ x ∷ [])) ≡ true
-pushed_counted [] x h e = rw e refl
-pushed_counted (y ∷ xs) x h e = both (is_counted (value_view y.value)) (are_counted (map constant_view (xs ++ x ∷ []))) (and_left (is_counted (value_view y.value)) (are_counted (map constant_view xs)) h) (pushed_counted xs x (and_right (is_counted (value_view y.value)) (are_counted (map constant_view xs)) h) e)
-
--- .. or none, if it wasn't stored
-pub kept_counted : (b : Bool) (news olds : List Declared) (x : Declared) → news ≡ (if b then olds ++ x ∷ [] else olds) → are_counted (map constant_view olds) ≡ true → is_counted (value_view x.value) ≡ true → are_counted (map constant_view news) ≡ true
-kept_counted true news olds x is h e = ap (λ xs. are_counted (map constant_view xs)) is ∙ pushed_counted olds x h e
-kept_counted false news olds x is h e = ap (λ xs. are_counted (map constant_view xs)) is ∙ h

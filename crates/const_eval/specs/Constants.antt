@@ -1,12 +1,12 @@
--- What an environment of constant expressions holds: names with values, and functions.
+-- The constants of an environment: names with values, and functions.
 -- Trusted: part of what a promise means.
-use Rattle.std.specs.Prelude.{ℕ, suc, Bool, true, false, List, [], ◌∷◌, map, if◌then◌else◌, Option, None, Some}
+use Rattle.std.specs.Prelude.{ℕ, suc, Bool, true, false, List, [], ◌∷◌, if◌then◌else◌, Option, None, Some}
 use Rattle.std.specs.Str.{bytes_eq}
 use Rattle.cal_model.specs.Value.{Kind, NumKind, BoolKind, ListKind, Value, Num, Truth, Items, Nil, Cons, count}
 use Rattle.cal_model.specs.Env.{Var}
 use Rattle.cal_model.specs.Actor.{Fun}
 use Rattle.cal_model.specs.Call.{fun_named}
-use Rattle.cal_model.specs.Kinding.{Known, Names}
+use Rattle.cal_model.specs.Kinding.{Known}
 
 pub record Constant : Type 0 where
   pub name : List ℕ
@@ -38,9 +38,19 @@ abbrev pub known_of : Constant → Known
 known_of x =
     record { name = x.name; kind = kind_of_value x.value; value = Some x.value; changes = false }
 
--- the constants and the functions as names with their kinds
-abbrev pub names_of : Constants → Names
-names_of env = record { globals = map known_of env.values; locals = []; funs = env.funs }
+-- the constants whose name isn't this
+abbrev pub other_constants : List ℕ → List Constant → List Constant
+other_constants name [] = []
+other_constants name (x ∷ xs) =
+    if bytes_eq x.name name then other_constants name xs else x ∷ other_constants name xs
+
+-- the constants among names: a name without a value hides one
+abbrev pub constants_among : List Known → List Constant
+constants_among [] = []
+constants_among (x ∷ xs) = elim x.value [
+  | None ↦ other_constants x.name (constants_among xs)
+  | Some v ↦ record { name = x.name; value = v } ∷ constants_among xs
+]
 
 -- a constant as a variable that isn't assigned
 abbrev pub var_of : Constant → Var

@@ -12,7 +12,7 @@ use Rattle.cal_model.specs.View.{local_view, value_view}
 use Rattle.cal_model.specs.declared.bound.BoundLocal.{BoundLocal}
 use Rattle.cal_model.specs.declared.value.Value.{Value as DeclaredValue}
 use Rattle.const_eval.specs.Constants.{var_of}
-use Rattle.const_eval.specs.Counting.{counted_names, hide}
+use Rattle.const_eval.specs.Counting.{inner_variables, hide}
 use Rattle.const_eval.specs.Held.{held}
 use Rattle.const_eval.specs.declared.scope.Scope.{Scope}
 use Rattle.const_eval.specs.declared.scope.Declared.{Declared}
@@ -61,7 +61,7 @@ frame (x ∷ xs) (v ∷ vs) = frame xs vs ++ bound_var (local_view x) (value_vie
 -- The generators round a constant expression hide constants.
 abbrev pub seen : Scope → Env
 seen s = record {
-  globals = hide (counted_names s.hidden) (map var_of (held s.env.now).values);
+  globals = hide (inner_variables s.hidden) (map var_of (held s.env.now).values);
   locals = chain s.innermost ++ frame s.formals.now s.arguments.now;
 }
 

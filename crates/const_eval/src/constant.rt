@@ -8,9 +8,9 @@ ghost use Rattle.cal_ast.specs.View.{expr_tree};
 ghost use Rattle.cal_model.specs.Kinding.{Broken, Fine, kind};
 ghost use Rattle.cal_model.specs.Outcome.{Clashes, Gives, Lacks, Traps};
 ghost use Rattle.cal_model.specs.View.{kind_view, value_view};
-ghost use Rattle.const_eval.specs.Constants.{Constants, names_of};
+ghost use Rattle.const_eval.specs.Constants.{Constants};
 ghost use Rattle.const_eval.specs.Evaluable.{HasNoValue, IsEvaluable, value_of};
-ghost use Rattle.const_eval.specs.Held.{held};
+ghost use Rattle.const_eval.specs.Held.{held, names_in};
 
 use crate::entry::all_turns;
 use crate::env::Env;
@@ -98,17 +98,12 @@ pub fn eval_const(alloc: Global, env: &Env, e: &Expr) -> Result<Value, ConstFaul
 /// of a generator or the size of a type traps or isn't constant. `Memory` if memory runs out, or if a constant is a
 /// list of more items than a kind can say.
 pub fn kind_const(alloc: Global, env: &Env, e: &Expr) -> Result<Kind, KindFault>
-    ensures kind { IfOk result (λ found. kind (expr_tree e.now) (names_of (held env.now))
+    ensures kind { IfOk result (λ found. kind (expr_tree e.now) (names_in env.now)
         ≡ Fine (kind_view found)) }
     ensures broken { (rule : Rule) (at : ℕ) → IsErrOf result (KindFault.Broken rule at)
-        → kind (expr_tree e.now) (names_of (held env.now)) ≡ Broken rule at }
+        → kind (expr_tree e.now) (names_in env.now) ≡ Broken rule at }
 {
-    let names = Names {
-        alloc,
-        env,
-        counters: None,
-    };
-    kind(&names, e)
+    kind(&Names::outermost(alloc, env), e)
 }
 
 /// Nothing clashes if an expression may be evaluated.

@@ -1,24 +1,26 @@
-//! The constants and functions that expressions are evaluated over.
+//! The names and functions that expressions are judged and evaluated over.
 
 ghost use Rattle.std.specs.Prelude.{◌≡◌, true};
 ghost use Rattle.cal_model.specs.View.{value_view};
 ghost use Rattle.const_eval.specs.Sizes.{is_sized_fun};
 ghost use Rattle.const_eval.specs.Lengths.{is_counted};
 
-use crate::finding::{fun_in, value_in};
-use crate::held::Constant;
-use cal_model::{BoundFun, Value};
+use crate::finding::{entry_in, fun_in};
+use crate::held::Entry;
+use crate::kinds::kind_of_value;
+use crate::meant::Meant;
+use cal_model::{BoundFun, Kind, Value};
 use rvc_base::Memory;
 use std::alloc::Global;
 use std::marker::Model;
 
-/// The constants and the functions that an expression may use.
+/// The names and the functions that an expression may use.
 ///
-/// Contracts see the constants, each a name with its value, and the functions, both in the order in which they were
-/// added.
+/// Contracts see the names, each with its kind, its value if it is a constant, and whether it may be assigned, the one
+/// that was added last first, since it hides those of its name; and the functions in the order in which they were added.
 #[derive(Debug, Drop)]
 pub struct Env {
-    values: Vec<Constant>,
+    entries: Vec<Entry>,
     funs: Vec<BoundFun>,
 }
 
@@ -27,35 +29,36 @@ impl Model for Env {
     ghost use Rattle.std.specs.Coded.{codes};
     ghost use Rattle.cal_model.specs.View.{fun_view};
     ghost use Rattle.cal_model.specs.contracts.bound.BoundFun as fun;
+    ghost use Rattle.cal_model.specs.contracts.kind.Kind as kind;
     ghost use Rattle.cal_model.specs.contracts.value.Value as value;
-    ghost use Rattle.const_eval.specs.Held.{Kept, constant_view};
-    ghost use Rattle.const_eval.specs.Lengths.{are_counted};
+    ghost use Rattle.const_eval.specs.Held.{Kept};
     ghost use Rattle.const_eval.specs.Sizes.{are_sized_funs};
 
     ghost Value = { Kept };
 
-    ghost coded = { Prim.hlevel (codes, value.the_row.coded, fun.the_row.coded) };
+    ghost coded = { Prim.hlevel (codes, kind.the_row.coded, value.the_row.coded, fun.the_row.coded) };
 
-    ghost view = { λ env. record { values = env.values.items; funs = env.funs.items } };
+    ghost view = { λ env. record { entries = env.entries.items; funs = env.funs.items } };
 
-    ghost invariant = { λ env. (are_counted (map constant_view env.values.items) ≡ true)
-        × (are_sized_funs (map fun_view env.funs.items) ≡ true) };
+    ghost invariant = { λ env. are_sized_funs (map fun_view env.funs.items) ≡ true };
 }
 
 impl Env {
     ghost use Rattle.std.specs.Prelude.{◌++◌, ◌∷◌, [], false, OnOk, OnErr, IfSome, length, option_map, string_bytes};
     ghost use Rattle.cal_model.specs.Call.{fun_named};
-    ghost use Rattle.cal_model.specs.View.{fun_view};
-    ghost use Rattle.const_eval.specs.Constants.{constant_named, has_fun, has_value};
-    ghost use Rattle.const_eval.specs.Held.{held};
+    ghost use Rattle.cal_model.specs.Kinding.{known_as};
+    ghost use Rattle.cal_model.specs.View.{fun_view, kind_view};
+    ghost use Rattle.const_eval.specs.Constants.{constant_named, has_fun, has_value, known_of};
+    ghost use Rattle.const_eval.specs.Counting.{meant_view, use_of};
+    ghost use Rattle.const_eval.specs.Held.{globals_of, held, names_in};
 
-    /// No constants and no functions.
+    /// No names and no functions.
     pub fn new(alloc: Global) -> Env
-        ensures values { (held result).values ≡ [] }
+        ensures names { globals_of result ≡ [] }
         ensures funs { (held result).funs ≡ [] }
     {
         Env {
-            values: Vec::new(alloc),
+            entries: Vec::new(alloc),
             funs: Vec::new(alloc),
         }
     }
@@ -74,25 +77,54 @@ impl Env {
         self.fun(name).is_some()
     }
 
-    /// Adds a constant, the length of whose lists 32 bits count.
+    /// Adds a name, which hides those of its name that were added before.
     ///
-    /// [`Env::has_value`] tests the first condition, [`is_counted`](crate::is_counted) the second.
+    /// # Errors
+    ///
+    /// `Memory` if memory runs out; the environment is as before then (`memory`).
+    pub fn add(
+        &mut self,
+        name: &str,
+        kind: Kind,
+        value: Option<Value>,
+        changes: bool,
+    ) -> Result<(), Memory>
+        ensures added { OnOk result (globals_of self.new ≡ (record {
+          name = name.now;
+          kind = kind_view kind;
+          value = option_map value_view value;
+          changes = changes;
+        }) ∷ globals_of self.old) }
+        ensures same_funs { (held self.new).funs ≡ (held self.old).funs }
+        ensures memory { OnErr result (names_in self.new ≡ names_in self.old) }
+    {
+        let name = String::from_str(*self.entries.allocator(), name)?;
+        self.entries.push(Entry {
+            name,
+            kind,
+            value,
+            changes,
+        })?;
+        Ok(())
+    }
+
+    /// Adds a constant of the kind that its value has. 32 bits count the length of its lists.
+    ///
+    /// [`is_counted`](crate::is_counted) tests the condition.
     ///
     /// # Errors
     ///
     /// `Memory` if memory runs out; the environment is as before then (`memory`).
     pub fn add_value(&mut self, name: &str, value: Value) -> Result<(), Memory>
-        requires new { has_value name.now (held self.old).values ≡ false }
         requires counted { is_counted (value_view value) ≡ true }
-        ensures added { OnOk result ((held self.new).values
-            ≡ (held self.old).values ++ (record { name = name.now; value = value_view value }) ∷
-            []) }
+        ensures added { OnOk result (globals_of self.new
+            ≡ known_of (record { name = name.now; value = value_view value }) ∷
+            globals_of self.old) }
         ensures same_funs { (held self.new).funs ≡ (held self.old).funs }
-        ensures memory { OnErr result (held self.new ≡ held self.old) }
+        ensures memory { OnErr result (names_in self.new ≡ names_in self.old) }
     {
-        let name = String::from_str(*self.values.allocator(), name)?;
-        self.values.push(Constant { name, value })?;
-        Ok(())
+        let kind = kind_of_value(*self.entries.allocator(), &value)?;
+        self.add(name, kind, Some(value), false)
     }
 
     /// Adds a function. The sizes of its types are ones that types may have.
@@ -107,8 +139,8 @@ impl Env {
         requires sized { is_sized_fun (fun_view fun) ≡ true }
         ensures added { OnOk result ((held self.new).funs
             ≡ (held self.old).funs ++ fun_view fun ∷ []) }
-        ensures same_values { (held self.new).values ≡ (held self.old).values }
-        ensures memory { OnErr result (held self.new ≡ held self.old) }
+        ensures same_names { globals_of self.new ≡ globals_of self.old }
+        ensures memory { OnErr result (names_in self.new ≡ names_in self.old) }
     {
         self.funs.push(fun)?;
         Ok(())
@@ -121,13 +153,29 @@ impl Env {
         self.funs.len()
     }
 
-    /// The constant of the name.
+    /// The value of the name, if it is a constant.
     pub(crate) fn value(&self, name: &str) -> Option<&Value>
-        ensures is { option_map (λ v. value_view v.now) result
+        ensures { option_map (λ v. value_view v.now) result
             ≡ constant_named name.now (held self.now).values }
-        ensures counted { IfSome result (λ v. is_counted (value_view v.now) ≡ true) }
     {
-        value_in(name, &self.values)
+        match entry_in(name, &self.entries) {
+            Some(entry) => entry.value(),
+            None => None,
+        }
+    }
+
+    /// What a name means.
+    pub(crate) fn meant(&self, name: &str) -> Option<Meant<'_>>
+        ensures { option_map meant_view result
+            ≡ option_map use_of (known_as name.now (globals_of self.now)) }
+    {
+        match entry_in(name, &self.entries) {
+            Some(entry) => Some(Meant {
+                kind: Some(&entry.kind),
+                changes: entry.changes,
+            }),
+            None => None,
+        }
     }
 
     /// The function of the name.

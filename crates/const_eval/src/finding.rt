@@ -1,27 +1,24 @@
-//! Constants and functions by their names.
+//! Entries and functions by their names.
 
-ghost use Rattle.std.specs.Prelude.{◌≡◌, IfSome, map, option_map, true};
+ghost use Rattle.std.specs.Prelude.{◌≡◌, [], IfSome, map, option_map, true};
 ghost use Rattle.cal_model.specs.Call.{fun_named};
-ghost use Rattle.cal_model.specs.View.{fun_view, value_view};
-ghost use Rattle.const_eval.specs.Constants.{constant_named};
-ghost use Rattle.const_eval.specs.Lengths.{are_counted, is_counted};
-ghost use Rattle.const_eval.specs.Held.{constant_view};
+ghost use Rattle.cal_model.specs.Kinding.{known_as};
+ghost use Rattle.cal_model.specs.View.{fun_view};
+ghost use Rattle.const_eval.specs.Held.{entry_view, last_first};
 ghost use Rattle.const_eval.specs.Sizes.{are_sized_funs, is_sized_fun};
 
-use crate::held::Constant;
-use cal_model::{BoundFun, Value};
+use crate::held::Entry;
+use cal_model::BoundFun;
 
-/// The value of the first constant of the name.
-pub(crate) fn value_in<'a>(name: &str, constants: &'a [Constant]) -> Option<&'a Value>
-    requires { are_counted (map constant_view constants.now) ≡ true }
-    ensures is { option_map (λ v. value_view v.now) result
-        ≡ constant_named name.now (map constant_view constants.now) }
-    ensures counted { IfSome result (λ v. is_counted (value_view v.now) ≡ true) }
+/// The last entry of the name.
+pub(crate) fn entry_in<'a>(name: &str, entries: &'a [Entry]) -> Option<&'a Entry>
+    ensures { option_map (λ x. entry_view x.now) result
+        ≡ known_as name.now (last_first entry_view entries.entry.now []) }
 {
-    let mut rest = constants;
-    'names: while let Some((first, others)) = rest.split_first() {
-        if first.name.as_str() == name {
-            return Some(&first.value);
+    let mut rest = entries;
+    'backwards: while let Some((last, others)) = rest.split_last() {
+        if last.name.as_str() == name {
+            return Some(last);
         }
         rest = others;
     }

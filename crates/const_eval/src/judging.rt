@@ -16,7 +16,7 @@ ghost use Rattle.const_eval.specs.Fitting.{capped, fit_of, formal_fits};
 ghost use Rattle.const_eval.specs.Judging.{Judges};
 ghost use Rattle.const_eval.specs.Shaping.{argument_judged, argument_view};
 
-use crate::counters::Counters;
+use crate::inside::Inside;
 use crate::fault::KindFault;
 use crate::filled::Filled;
 use crate::kinds::{
@@ -32,7 +32,7 @@ use rvc_base::{Num, Rule};
 
 /// The kind of an expression.
 #[cycle(kind)]
-pub(crate) fn kind(names: &Names, e: &Expr) -> Result<Kind, KindFault>
+pub fn kind(names: &Names, e: &Expr) -> Result<Kind, KindFault>
     ensures { Judges kind_view result (kind (expr_tree e.now) (names_view names.now)) }
 {
     match &e.form {
@@ -120,7 +120,7 @@ fn kind_of_call(names: &Names, name: &str, args: &[Expr], at: u32) -> Result<Kin
 
 /// Whether there are as many arguments as formals, each of its formal's kind.
 #[cycle(kind)]
-fn arguments_fit(names: &Names, args: &[Expr], formals: &[BoundLocal]) -> Result<bool, KindFault>
+pub fn arguments_fit(names: &Names, args: &[Expr], formals: &[BoundLocal]) -> Result<bool, KindFault>
     ensures { Judges (λ fit. fit) result
         (arguments_fit (listed (map expr_tree args.now)) (map local_view formals.now)
         (names_view names.now)) }
@@ -215,11 +215,12 @@ fn kind_of_comp(names: &Names, item: &Expr, gens: &[Gen], at: u32) -> Result<Kin
         (kind (tree.comp (expr_tree item.now) (listed (map gen_tree gens.now)) at)
         (names_view names.now)) }
 {
-    let counters = Counters {
+    let inside = Inside {
+        variables: &[],
         gens,
-        outer: names.counters,
+        outer: names.inner,
     };
-    let k = kind(&names.under(&counters), item)?;
+    let k = kind(&names.under(&inside), item)?;
     let size = elements_in(names, gens)?;
     list_of_kind(names.alloc, size as usize, k, at)
 }
@@ -233,11 +234,12 @@ fn elements_in(names: &Names, gens: &[Gen]) -> Result<u32, KindFault>
 {
     let mut size: u32 = 1;
     for place in 0..gens.len() {
-        let counters = Counters {
+        let inside = Inside {
+            variables: &[],
             gens: &gens[..place],
-            outer: names.counters,
+            outer: names.inner,
         };
-        let numbers = numbers_of(&names.under(&counters), &gens[place])?;
+        let numbers = numbers_of(&names.under(&inside), &gens[place])?;
         size = product(size, numbers);
     }
     Ok(size)
@@ -275,7 +277,7 @@ fn span(low: Num, high: Num) -> u32
 
 /// The number that a constant expression gives.
 #[cycle(kind)]
-fn constant_number(names: &Names, e: &Expr) -> Result<Num, KindFault>
+pub fn constant_number(names: &Names, e: &Expr) -> Result<Num, KindFault>
     ensures { Judges (λ z. z) result
         (constant_number (kind (expr_tree e.now) (names_view names.now)) (expr_tree e.now)
         (names_view names.now)) }
@@ -314,7 +316,7 @@ fn number_given(names: &Names, e: &Expr) -> Result<Num, KindFault>
 
 /// The type that a type in a source is.
 #[cycle(kind)]
-fn type_judged(names: &Names, t: &TypeExpr) -> Result<Shape, KindFault>
+pub fn type_judged(names: &Names, t: &TypeExpr) -> Result<Shape, KindFault>
     ensures judged { Judges shape_view result
         (type_judged (type_tree t.now) (names_view names.now)) }
     ensures filled { IfOk result (λ shape. 1 ≤ scalars_of_type (shape_view shape)) }

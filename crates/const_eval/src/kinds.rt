@@ -56,6 +56,20 @@ fn kind_of_values(alloc: Global, values: &Values) -> Result<Kind, Memory>
     Ok(Kind::List(values.items.len() as u32, Box::new(alloc, items)?))
 }
 
+/// An equal kind.
+pub(crate) fn copy_kind(alloc: Global, kind: &Kind) -> Result<Kind, Memory>
+    ensures { IfOk result (λ copied. kind_view copied ≡ kind_view kind.now) }
+{
+    match kind {
+        Kind::Num => Ok(Kind::Num),
+        Kind::Bool => Ok(Kind::Bool),
+        Kind::List(size, items) => {
+            let items = copy_kind(alloc, items)?;
+            Ok(Kind::List(*size, Box::new(alloc, items)?))
+        }
+    }
+}
+
 /// The kind of the values of a single type.
 pub(crate) fn kind_of_scalar(t: Scalar) -> Kind
     ensures { kind_view result ≡ kind_of_scalar t }
@@ -100,7 +114,7 @@ fn is_like(k: &Kind, l: &Kind) -> bool
 }
 
 /// That both are one kind.
-pub(crate) fn one_kind(k: &Kind, l: &Kind, at: u32) -> Result<(), KindFault>
+pub fn one_kind(k: &Kind, l: &Kind, at: u32) -> Result<(), KindFault>
     ensures { Judges (λ _. kind_view k.now) result
         (one_kind (kind_view k.now) (kind_view l.now) at) }
 {
@@ -291,7 +305,7 @@ fn over_truths(op: BinOp, at: u32) -> Result<Kind, KindFault>
 }
 
 /// The kind of an item of a list.
-pub(crate) fn item_kind(base: Kind, place: &Kind, at: u32) -> Result<Kind, KindFault>
+pub fn item_kind(base: Kind, place: &Kind, at: u32) -> Result<Kind, KindFault>
     ensures { Judges kind_view result (item_kind (kind_view base) (kind_view place.now) at) }
 {
     match base {

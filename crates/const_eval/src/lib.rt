@@ -5,7 +5,7 @@
 #![tactic(auto)]
 
 mod constant;
-mod counters;
+mod inside;
 mod entry;
 mod env;
 mod evaluate;
@@ -16,6 +16,7 @@ mod held;
 mod judging;
 mod kinds;
 mod lengths;
+mod meant;
 mod names;
 mod operators;
 mod scope;
@@ -27,4 +28,10 @@ mod value;
 pub use constant::{ConstFault, eval_const, kind_const};
 pub use env::Env;
 pub use fault::KindFault;
+pub use inside::{Inside, Variable};
+pub use judging::{arguments_fit, constant_number, kind, type_judged};
+pub use kinds::{item_kind, one_kind};
 pub use lengths::is_counted;
+pub use meant::Meant;
+pub use names::Names;
+pub use shapes::counts;

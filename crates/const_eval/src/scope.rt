@@ -3,7 +3,7 @@
 ghost use Rattle.std.specs.Prelude.{◌≡◌, ◌-◌, ◌<◌, ℕ, None, [], length, map, option_map};
 ghost use Rattle.cal_model.specs.Call.{calls_of, calls_within};
 ghost use Rattle.const_eval.specs.Constants.{var_of};
-ghost use Rattle.const_eval.specs.Counting.{all_names, hide};
+ghost use Rattle.const_eval.specs.Counting.{all_variables, hide};
 ghost use Rattle.const_eval.specs.Evaluable.{env_of};
 ghost use Rattle.const_eval.specs.Held.{held};
 ghost use Rattle.cal_model.specs.Env.{find, look_up, with_local};
@@ -12,7 +12,7 @@ ghost use Rattle.cal_model.specs.View.{value_view};
 ghost use Rattle.const_eval.specs.Outcome.{Evaluates};
 ghost use Rattle.const_eval.specs.Scoping.{calls, chain, declared_name, frame, local_var, seen};
 
-use crate::counters::{Counters, is_counter};
+use crate::inside::{Inside, meant_inside};
 use crate::env::Env;
 use crate::stop::Stop;
 use crate::value::copy;
@@ -32,8 +32,8 @@ pub(crate) struct Scope<'a> {
     /// Its arguments, each stored in its formal's type.
     pub arguments: &'a [Value],
     pub innermost: Option<&'a Local<'a>>,
-    /// The generators round a constant expression, which hide constants.
-    pub hidden: Option<&'a Counters<'a>>,
+    /// The names that are declared round a constant expression, which hide constants.
+    pub hidden: Option<&'a Inside<'a>>,
 }
 
 /// A local with its value, and those outside it.
@@ -83,10 +83,10 @@ impl<'a> Scope<'a> {
         }
     }
 
-    /// What a constant expression sees that stands inside generators.
-    pub fn among(alloc: Global, env: &'a Env, counters: &'a Counters<'a>) -> Scope<'a>
+    /// What a constant expression sees that stands inside names without a value.
+    pub fn among(alloc: Global, env: &'a Env, inside: &'a Inside<'a>) -> Scope<'a>
         ensures seen { seen result ≡ record {
-          globals = hide (all_names counters.now)
+          globals = hide (all_variables inside.now)
               (map var_of (held env.now).values);
           locals = [];
         } }
@@ -100,7 +100,7 @@ impl<'a> Scope<'a> {
             formals: &[],
             arguments: &[],
             innermost: None,
-            hidden: Some(counters),
+            hidden: Some(inside),
         }
     }
 
@@ -175,7 +175,7 @@ impl<'a> Scope<'a> {
         if let Some(value) = argument(name, self.formals, self.arguments) {
             return Some(value);
         }
-        if is_counter(name, self.hidden) {
+        if let Some(_) = meant_inside(name, self.hidden) {
             return None;
         }
         self.env.value(name)

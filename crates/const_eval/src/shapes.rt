@@ -202,7 +202,7 @@ fn scalars_in(t: &Shape) -> u32
 }
 
 /// That a type is one of numbers, as that of a generator's variable is.
-pub(crate) fn counts(t: &Shape, at: u32) -> Result<(), KindFault>
+pub fn counts(t: &Shape, at: u32) -> Result<(), KindFault>
     ensures { Judges (λ _. shape_view t.now) result (counts (shape_view t.now) at) }
 {
     match t {

@@ -7,11 +7,11 @@ use Rattle.cal_ast.specs.Tree.{listed}
 use Rattle.cal_ast.specs.View.{expr_tree, gen_tree, type_arg_tree}
 use Rattle.cal_model.specs.Kinding.{Fine, and_so, arguments_fit, elements_in, kind, kinds, list_of_kind, type_arguments, with_counters}
 use Rattle.cal_model.specs.View.{kind_view, local_view}
-use Rattle.const_eval.specs.Counting.{counted_names, named_by, names_view, numbers_judged}
+use Rattle.const_eval.specs.Counting.{inner_variables, named_by, names_view, numbers_judged}
 use Rattle.const_eval.specs.Fitting.{capped, fit_of, formal_fits}
 use Rattle.const_eval.specs.Judging.{Breaks, Judges}
 use Rattle.const_eval.specs.Shaping.{argument_judged, argument_view}
-use Rattle.const_eval.specs.declared.counters.Counters as chain
+use Rattle.const_eval.specs.declared.inside.Inside as chain
 use Rattle.const_eval.proofs.Capped.{capped_once}
 use Rattle.const_eval.proofs.GenSteps.{comp_breaks, comp_goes, counters_named, elements_break, elements_next, elements_start, gen_size, inside}
 use Rattle.const_eval.proofs.Steps.{arg_size, args_next, args_start, fit_next, formals_break, given_breaks, given_next, given_start, list_goes}
@@ -49,7 +49,7 @@ arguments_fit-loop-place-preserved t c =
     (ap (λ e. kind (expr_tree e) (names_view c.args.names.now)) (sym c.index-args-place.is) ∙ c.in_ok-k.ensures) fits c.loop-place.invariant
 
 pub elements_in-loop-place-init : goal.elements_in-loop-place-init
-elements_in-loop-place-init t c = (refl, elements_start c.args.gens.now (counted_names c.args.names.now.counters) (names_view c.args.names.now))
+elements_in-loop-place-init t c = (refl, elements_start c.args.gens.now (inner_variables c.args.names.now.inner) (names_view c.args.names.now))
 
 pub elements_in-numbers_of-requires : goal.elements_in-numbers_of-requires
 elements_in-numbers_of-requires t c = (let l = gen_size c.args.gens.now c.loop-place.place c.index-gens-place.result (omega arith) in let i : size (gen_tree c.index-gens-place.result) ≡ size (gen_tree (get_or c.args.gens.now c.loop-place.place c.index-gens-place.result)) = ap (λ g. size (gen_tree g)) c.index-gens-place.is in omega arith, tt)
@@ -57,21 +57,21 @@ elements_in-numbers_of-requires t c = (let l = gen_size c.args.gens.now c.loop-p
 pub elements_in-returns-in_err-numbers : goal.elements_in-returns-in_err-numbers
 elements_in-returns-in_err-numbers t c =
     let same : c.from_residual.result ≡ Err c.in_err-numbers.field-0.0 = search rules in
-    let names : names_view c.under.result ≡ inside (named_by (take c.loop-place.place c.args.gens.now) (counted_names c.args.names.now.counters)) (names_view c.args.names.now) = search (rules, chain.the_lemmas) in
+    let names : names_view c.under.result ≡ inside (named_by (take c.loop-place.place c.args.gens.now) (inner_variables c.args.names.now.inner)) (names_view c.args.names.now) = search (rules, chain.the_lemmas) in
     subst (λ r. Judges (λ n. n) r (and_so (elements_in (listed (map gen_tree c.args.gens.now)) (names_view c.args.names.now)) (λ n. Fine (capped n)))) (sym same)
-    (elements_break c.args.gens.now c.loop-place.place c.index-gens-place.result (counted_names c.args.names.now.counters) (names_view c.args.names.now) c.loop-place.size
+    (elements_break c.args.gens.now c.loop-place.place c.index-gens-place.result (inner_variables c.args.names.now.inner) (names_view c.args.names.now) c.loop-place.size
     (and_so (elements_in (listed (map gen_tree c.args.gens.now)) (names_view c.args.names.now)) (λ n. Fine (capped n))) c.in_err-numbers.field-0.0 (omega arith)
-    (subst (λ g. Breaks c.in_err-numbers.field-0.0 (numbers_judged (gen_tree g) (inside (named_by (take c.loop-place.place c.args.gens.now) (counted_names c.args.names.now.counters)) (names_view c.args.names.now)))) c.index-gens-place.is
+    (subst (λ g. Breaks c.in_err-numbers.field-0.0 (numbers_judged (gen_tree g) (inside (named_by (take c.loop-place.place c.args.gens.now) (inner_variables c.args.names.now.inner)) (names_view c.args.names.now)))) c.index-gens-place.is
     (subst (λ ns. Breaks c.in_err-numbers.field-0.0 (numbers_judged (gen_tree c.index-gens-place.result) ns)) names c.in_err-numbers.ensures)) c.loop-place.invariant.1)
 
 pub elements_in-loop-place-preserved : goal.elements_in-loop-place-preserved
 elements_in-loop-place-preserved t c =
-    let names : names_view c.under.result ≡ inside (named_by (take c.loop-place.place c.args.gens.now) (counted_names c.args.names.now.counters)) (names_view c.args.names.now) = search (rules, chain.the_lemmas) in
-    let numbers : numbers_judged (gen_tree (get_or c.args.gens.now c.loop-place.place c.index-gens-place.result)) (inside (named_by (take c.loop-place.place c.args.gens.now) (counted_names c.args.names.now.counters)) (names_view c.args.names.now)) ≡ Fine c.in_ok-numbers.numbers =
-    ap (λ g. numbers_judged (gen_tree g) (inside (named_by (take c.loop-place.place c.args.gens.now) (counted_names c.args.names.now.counters)) (names_view c.args.names.now))) (sym c.index-gens-place.is)
+    let names : names_view c.under.result ≡ inside (named_by (take c.loop-place.place c.args.gens.now) (inner_variables c.args.names.now.inner)) (names_view c.args.names.now) = search (rules, chain.the_lemmas) in
+    let numbers : numbers_judged (gen_tree (get_or c.args.gens.now c.loop-place.place c.index-gens-place.result)) (inside (named_by (take c.loop-place.place c.args.gens.now) (inner_variables c.args.names.now.inner)) (names_view c.args.names.now)) ≡ Fine c.in_ok-numbers.numbers =
+    ap (λ g. numbers_judged (gen_tree g) (inside (named_by (take c.loop-place.place c.args.gens.now) (inner_variables c.args.names.now.inner)) (names_view c.args.names.now))) (sym c.index-gens-place.is)
     ∙ ap (λ ns. numbers_judged (gen_tree c.index-gens-place.result) ns) (sym names) ∙ c.in_ok-numbers.ensures in (
       ap capped c.product-size.ensures ∙ capped_once (c.loop-place.size * c.in_ok-numbers.numbers) ∙ sym c.product-size.ensures,
-      elements_next c.args.gens.now c.loop-place.place c.index-gens-place.result (counted_names c.args.names.now.counters) (names_view c.args.names.now) c.in_ok-numbers.numbers c.loop-place.size c.product-size.result
+      elements_next c.args.gens.now c.loop-place.place c.index-gens-place.result (inner_variables c.args.names.now.inner) (names_view c.args.names.now) c.in_ok-numbers.numbers c.loop-place.size c.product-size.result
           (and_so (elements_in (listed (map gen_tree c.args.gens.now)) (names_view c.args.names.now)) (λ n. Fine (capped n))) (omega arith) numbers c.product-size.ensures c.loop-place.invariant.1,
     )
 
@@ -87,8 +87,8 @@ fit_of-loop-e-preserved t c =
 pub kind_of_comp-returns-in_err-k : goal.kind_of_comp-returns-in_err-k
 kind_of_comp-returns-in_err-k t c =
     let same : c.from_residual.result ≡ Err c.in_err-k.field-0.0 = search rules in
-    let names : names_view c.under.result ≡ inside (named_by c.args.gens.now (counted_names c.args.names.now.counters)) (names_view c.args.names.now) = search (rules, chain.the_lemmas) in
-    let counters = names ∙ sym (counters_named c.args.gens.now (counted_names c.args.names.now.counters) (names_view c.args.names.now)) in
+    let names : names_view c.under.result ≡ inside (named_by c.args.gens.now (inner_variables c.args.names.now.inner)) (names_view c.args.names.now) = search (rules, chain.the_lemmas) in
+    let counters = names ∙ sym (counters_named c.args.gens.now (inner_variables c.args.names.now.inner) (names_view c.args.names.now)) in
     subst (λ r. Judges kind_view r (kind (tree.comp (expr_tree c.args.item.now) (listed (map gen_tree c.args.gens.now)) c.args.at) (names_view c.args.names.now))) (sym same)
     (breaks_on c.in_err-k.field-0.0 (kind (expr_tree c.args.item.now) (with_counters (listed (map gen_tree c.args.gens.now)) (names_view c.args.names.now))) (λ k. and_so (elements_in (listed (map gen_tree c.args.gens.now)) (names_view c.args.names.now)) (λ n. list_of_kind n k c.args.at))
     (subst (λ ns. Breaks c.in_err-k.field-0.0 (kind (expr_tree c.args.item.now) ns)) counters c.in_err-k.ensures))
@@ -96,8 +96,8 @@ kind_of_comp-returns-in_err-k t c =
 pub kind_of_comp-returns-in_err-size : goal.kind_of_comp-returns-in_err-size
 kind_of_comp-returns-in_err-size t c =
     let same : c.from_residual-in_err-size.result ≡ Err c.in_err-size.field-0.0 = search rules in
-    let names : names_view c.under.result ≡ inside (named_by c.args.gens.now (counted_names c.args.names.now.counters)) (names_view c.args.names.now) = search (rules, chain.the_lemmas) in
-    let counters = names ∙ sym (counters_named c.args.gens.now (counted_names c.args.names.now.counters) (names_view c.args.names.now)) in
+    let names : names_view c.under.result ≡ inside (named_by c.args.gens.now (inner_variables c.args.names.now.inner)) (names_view c.args.names.now) = search (rules, chain.the_lemmas) in
+    let counters = names ∙ sym (counters_named c.args.gens.now (inner_variables c.args.names.now.inner) (names_view c.args.names.now)) in
     let item = ap (λ ns. kind (expr_tree c.args.item.now) ns) (sym counters) ∙ c.in_ok-k.ensures in
     subst (λ r. Judges kind_view r (kind (tree.comp (expr_tree c.args.item.now) (listed (map gen_tree c.args.gens.now)) c.args.at) (names_view c.args.names.now))) (sym same)
     (subst (λ o. Breaks c.in_err-size.field-0.0 o) (sym (ap (λ o. and_so o (λ k. and_so (elements_in (listed (map gen_tree c.args.gens.now)) (names_view c.args.names.now)) (λ n. list_of_kind n k c.args.at))) item))
@@ -105,8 +105,8 @@ kind_of_comp-returns-in_err-size t c =
 
 pub kind_of_comp-returns : goal.kind_of_comp-returns
 kind_of_comp-returns t c =
-    let names : names_view c.under.result ≡ inside (named_by c.args.gens.now (counted_names c.args.names.now.counters)) (names_view c.args.names.now) = search (rules, chain.the_lemmas) in
-    let counters = names ∙ sym (counters_named c.args.gens.now (counted_names c.args.names.now.counters) (names_view c.args.names.now)) in
+    let names : names_view c.under.result ≡ inside (named_by c.args.gens.now (inner_variables c.args.names.now.inner)) (names_view c.args.names.now) = search (rules, chain.the_lemmas) in
+    let counters = names ∙ sym (counters_named c.args.gens.now (inner_variables c.args.names.now.inner) (names_view c.args.names.now)) in
     let item = ap (λ ns. kind (expr_tree c.args.item.now) ns) (sym counters) ∙ c.in_ok-k.ensures in
     subst (λ o. Judges kind_view c.list_of_kind.result o)
     (sym (ap (λ o. and_so o (λ k. and_so (elements_in (listed (map gen_tree c.args.gens.now)) (names_view c.args.names.now)) (λ n. list_of_kind n k c.args.at))) item

@@ -4,7 +4,7 @@ use Rattle.cal_ast.specs.Tree.{listed}
 use Rattle.cal_ast.specs.View.{expr_tree, gen_tree, type_arg_tree, type_tree}
 use Rattle.cal_model.specs.Kinding.{Fine, and_so, arguments_fit, elements_in, kinds, type_arguments}
 use Rattle.cal_model.specs.View.{kind_view, local_view}
-use Rattle.const_eval.specs.Counting.{counted_names, names_view}
+use Rattle.const_eval.specs.Counting.{inner_variables, names_view}
 use Rattle.const_eval.specs.Fitting.{both_fit, capped, fit_of}
 use Rattle.const_eval.specs.Shaping.{argument_view}
 use Rattle.const_eval.proofs.GenSteps.{elements_from}
@@ -70,7 +70,7 @@ invariant-fit_of-loop-e l =
 abbrev pub invariant-elements_in-loop-place : goal.invariant-elements_in-loop-place
 invariant-elements_in-loop-place l =
     (capped l.size ≡ l.size)
-    × (and_so (elements_from l.place l.gens (counted_names l.names.counters) (names_view l.names)) (λ n. Fine (capped (l.size * n)))
+    × (and_so (elements_from l.place l.gens (inner_variables l.names.inner) (names_view l.names)) (λ n. Fine (capped (l.size * n)))
     ≡ and_so (elements_in (listed (map gen_tree l.gens)) (names_view l.names)) (λ n. Fine (capped n)))
 
 abbrev pub invariant-type_arguments-loop-arg : goal.invariant-type_arguments-loop-arg

@@ -1,4 +1,4 @@
-use Rattle.std.proofs.Common.{◌≡◌, ◌<◌, map, length, true, sym, ap, ◌∙◌, rules, arith, Fits, w32}
+use Rattle.std.proofs.Common.{◌≡◌, ◌<◌, map, length, sym, ap, ◌∙◌, rules, arith}
 use Rattle.cal_model.specs.Value.{ListKind, Items}
 use Rattle.cal_model.specs.View.{in_order, kind_view, value_view, values_view}
 use Rattle.cal_model.specs.declared.kind.Kind as kinds

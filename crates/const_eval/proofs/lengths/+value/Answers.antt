@@ -1,10 +1,9 @@
-use Rattle.std.proofs.Common.{◌≡◌, ◌≤◌, ◌<◌, map, length, true, false, sym, ap, ◌∙◌, rules, arith}
-use Rattle.std.specs.Prelude.{nat_le, ◌&&◌}
+use Rattle.std.proofs.Common.{◌≡◌, map, length, sym, ap, ◌∙◌, rules}
 use Rattle.cal_model.specs.Value.{Items}
 use Rattle.cal_model.specs.View.{in_order, value_view, values_view}
 use Rattle.cal_model.specs.declared.value.Value as values
-use Rattle.const_eval.specs.Lengths.{is_counted, most_items}
-use Rattle.const_eval.proofs.Lists.{first_counted, counted_within, counted_beyond}
+use Rattle.const_eval.specs.Lengths.{is_counted}
+use Rattle.const_eval.proofs.Lists.{counted_within, counted_beyond}
 use Rattle.const_eval.proofs.lengths.+value.Goals as goal
 
 pub is_counted_list-returns-then-len : goal.is_counted_list-returns-then-len

@@ -1,0 +1,15 @@
+use Rattle.std.proofs.Common.{◌≡◌, [], ◌∷◌, ◌++◌, ap, ◌∙◌, rules}
+use Rattle.std.specs.Prelude.{option_map}
+use Rattle.cal_model.specs.View.{kind_view, value_view}
+use Rattle.const_eval.specs.Held.{entry_view, globals_of, last_first}
+use Rattle.const_eval.proofs.Backwards.{last_more}
+use Rattle.const_eval.specs.declared.held.Entry.{Entry}
+use Rattle.const_eval.proofs.env.Env.add.Goals as goal
+
+pub returns-clause-added : goal.returns-clause-added
+returns-clause-added c =
+    let x : Entry = record { name = c.in_ok-name.name; kind = c.args.kind; value = c.args.value; changes = c.args.changes } in
+    let items : c.push.new.self.items ≡ c.self.inside.entries.items ++ x ∷ [] = search rules in
+    let same : last_first entry_view c.self.inside.entries.items [] ≡ globals_of c.args.self.now = search rules in
+    let view : entry_view x ≡ record { name = c.args.name.now; kind = kind_view c.args.kind; value = option_map value_view c.args.value; changes = c.args.changes } = search rules in
+    ap (λ xs. last_first entry_view xs []) items ∙ last_more entry_view c.self.inside.entries.items x [] ∙ ap (λ k. k ∷ last_first entry_view c.self.inside.entries.items []) view ∙ ap (λ ks. (record { name = c.args.name.now; kind = kind_view c.args.kind; value = option_map value_view c.args.value; changes = c.args.changes }) ∷ ks) same

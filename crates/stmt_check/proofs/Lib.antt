@@ -1,0 +1,4 @@
+mod Judged
+mod Checked
+mod Walks
+pub mod StmtWeights

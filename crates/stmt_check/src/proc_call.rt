@@ -1,0 +1,58 @@
+//! Calls of procedures.
+#![tactic(auto, using(crate::proofs::Judged::breaks_on))]
+
+ghost use Rattle.std.specs.Prelude.{◌≡◌, map, option_map};
+ghost use Rattle.cal_ast.specs.Tree.{listed};
+ghost use Rattle.cal_ast.specs.View.{expr_tree};
+ghost use Rattle.cal_model.specs.Statement.{proc_named};
+ghost use Rattle.cal_model.specs.View.{proc_view};
+ghost use Rattle.const_eval.specs.Counting.{names_view};
+ghost use Rattle.cal_check.specs.Statements.{call_judged};
+ghost use Rattle.cal_check.specs.Violations.{broken};
+ghost use Rattle.stmt_check.specs.Judging.{Checks};
+
+use cal_ast::Expr;
+use cal_model::BoundProc;
+use const_eval::{KindFault, Names, arguments_fit};
+use rvc_base::Rule;
+
+/// A call of a procedure.
+pub(crate) fn call(
+    names: &Names,
+    procs: &[BoundProc],
+    name: &str,
+    args: &[Expr],
+    at: u32,
+) -> Result<(), KindFault>
+    ensures { Checks result (broken (call_judged (proc_named name.now (map proc_view procs.now))
+        (listed (map expr_tree args.now)) at (names_view names.now))) }
+{
+    let Some(proc) = proc_in(name, procs) else {
+        return Err(KindFault::Broken {
+            rule: Rule::UNKNOWN_NAME,
+            at,
+        });
+    };
+    if arguments_fit(names, args, &proc.formals)? {
+        return Ok(());
+    }
+    Err(KindFault::Broken {
+        rule: Rule::WRONG_NUMBER_OF_ARGUMENTS,
+        at,
+    })
+}
+
+/// The first procedure of the name.
+fn proc_in<'a>(name: &str, procs: &'a [BoundProc]) -> Option<&'a BoundProc>
+    ensures { option_map (λ p. proc_view p.now) result
+        ≡ proc_named name.now (map proc_view procs.entry.now) }
+{
+    let mut rest = procs;
+    'procs: while let Some((first, others)) = rest.split_first() {
+        if first.name.as_str() == name {
+            return Some(first);
+        }
+        rest = others;
+    }
+    None
+}

@@ -1,0 +1,212 @@
+//! Statements, in one cycle.
+#![tactic(auto, using(crate::proofs::Checked::refuses_on))]
+
+ghost use Rattle.std.specs.Prelude.{◌≡◌, ◌++◌, map, string_bytes};
+ghost use Rattle.cal_ast.specs.Tree.{listed};
+ghost use Rattle.cal_ast.specs.View.{body_tree, expr_tree, stmt_tree, type_tree, var_tree};
+ghost use Rattle.cal_model.specs.Kinding.{counter, with_known};
+ghost use Rattle.cal_model.specs.Value.{NumKind};
+ghost use Rattle.cal_model.specs.View.{proc_view};
+ghost use Rattle.const_eval.specs.Counting.{names_view};
+ghost use Rattle.cal_check.specs.Constants.{stored_kind};
+ghost use Rattle.cal_check.specs.Statements.{counter_judged, statement_broken, test_judged};
+ghost use Rattle.cal_check.specs.Violations.{broken};
+ghost use Rattle.stmt_check.specs.Declaring.{block_broken, range_broken, seen_behind};
+ghost use Rattle.stmt_check.specs.Judging.{Checks};
+
+use crate::assign::assign;
+use crate::part::{counter, number, test};
+use crate::proc_call::call;
+use crate::vars::vars;
+use cal_ast::{Expr, Ident, Stmt, StmtForm, TypeExpr, VarDecl};
+use cal_model::{BoundProc, Kind};
+use const_eval::{Inside, KindFault, Names, Variable};
+
+/// A statement.
+#[cycle(stmt)]
+fn stmt(names: &Names, procs: &[BoundProc], s: &Stmt) -> Result<(), KindFault>
+    ensures { Checks result
+        (statement_broken (stmt_tree s.now) (map proc_view procs.now) (names_view names.now)) }
+{
+    match &s.form {
+        StmtForm::Assign {
+            name,
+            places,
+            value,
+        } => assign(names, name, places, value, s.at),
+        StmtForm::Call { name, args } => call(names, procs, name.text.as_str(), args, s.at),
+        StmtForm::If { test, yes, no } => if_stmt(names, procs, test, yes, no),
+        StmtForm::While { test, body } => while_stmt(names, procs, test, body),
+        StmtForm::Foreach {
+            shape,
+            name,
+            from,
+            to,
+            body,
+        } => foreach_stmt(names, procs, shape, name, from, to, body),
+        StmtForm::Block { vars, body } => block(names, procs, vars, body),
+    }
+}
+
+/// Statements, each of which is judged by itself.
+///
+/// # Errors
+///
+/// `Broken` if a statement breaks a rule: one of those that are broken, and its place. `Memory` if memory runs out.
+#[cycle(stmt)]
+pub fn stmts(names: &Names, procs: &[BoundProc], body: &[Stmt]) -> Result<(), KindFault>
+    ensures { Checks result (statement_broken (listed (map stmt_tree body.now))
+        (map proc_view procs.now) (names_view names.now)) }
+{
+    let mut rest = body;
+    'stmts: while let Some((first, others)) = rest.split_first() {
+        stmt(names, procs, first)?;
+        rest = others;
+    }
+    Ok(())
+}
+
+/// Statements that may be missing.
+#[cycle(stmt)]
+pub fn optional_stmts(
+    names: &Names,
+    procs: &[BoundProc],
+    body: &Option<Vec<Stmt>>,
+) -> Result<(), KindFault>
+    ensures { Checks result (statement_broken (body_tree body.now) (map proc_view procs.now)
+        (names_view names.now)) }
+{
+    match body {
+        Some(body) => stmts(names, procs, body),
+        None => Ok(()),
+    }
+}
+
+/// A condition and one or two branches.
+#[cycle(stmt)]
+fn if_stmt(
+    names: &Names,
+    procs: &[BoundProc],
+    e: &Expr,
+    yes: &[Stmt],
+    no: &Option<Vec<Stmt>>,
+) -> Result<(), KindFault>
+    ensures { Checks result (broken (test_judged (expr_tree e.now) (names_view names.now))
+        ++ (statement_broken (listed (map stmt_tree yes.now)) (map proc_view procs.now)
+        (names_view names.now)
+        ++ statement_broken (body_tree no.now) (map proc_view procs.now) (names_view names.now))) }
+{
+    test(names, e)?;
+    branches(names, procs, yes, no)
+}
+
+/// One or two branches.
+#[cycle(stmt)]
+fn branches(
+    names: &Names,
+    procs: &[BoundProc],
+    yes: &[Stmt],
+    no: &Option<Vec<Stmt>>,
+) -> Result<(), KindFault>
+    ensures { Checks result (statement_broken (listed (map stmt_tree yes.now))
+        (map proc_view procs.now) (names_view names.now)
+        ++ statement_broken (body_tree no.now) (map proc_view procs.now) (names_view names.now)) }
+{
+    stmts(names, procs, yes)?;
+    optional_stmts(names, procs, no)
+}
+
+/// A loop over a condition.
+#[cycle(stmt)]
+fn while_stmt(
+    names: &Names,
+    procs: &[BoundProc],
+    e: &Expr,
+    body: &[Stmt],
+) -> Result<(), KindFault>
+    ensures { Checks result (broken (test_judged (expr_tree e.now) (names_view names.now))
+        ++ statement_broken (listed (map stmt_tree body.now)) (map proc_view procs.now)
+        (names_view names.now)) }
+{
+    test(names, e)?;
+    stmts(names, procs, body)
+}
+
+/// A loop over a range, whose body sees its variable.
+#[cycle(stmt)]
+fn foreach_stmt(
+    names: &Names,
+    procs: &[BoundProc],
+    shape: &TypeExpr,
+    name: &Ident,
+    from: &Expr,
+    to: &Expr,
+    body: &[Stmt],
+) -> Result<(), KindFault>
+    ensures { Checks result (range_broken (type_tree shape.now) (expr_tree from.now)
+        (expr_tree to.now) (names_view names.now)
+        (statement_broken (listed (map stmt_tree body.now)) (map proc_view procs.now)
+        (with_known (counter (string_bytes name.now.text)) (names_view names.now)))) }
+{
+    range(names, shape, from, to)?;
+    let variable = Variable {
+        name: name.text.clone()?,
+        kind: Kind::Num,
+        changes: false,
+    };
+    behind(names, procs, &[variable], body)
+}
+
+/// Statements that stand behind variables.
+#[cycle(stmt)]
+fn behind(
+    names: &Names,
+    procs: &[BoundProc],
+    variables: &[Variable],
+    body: &[Stmt],
+) -> Result<(), KindFault>
+    ensures { Checks result (statement_broken (listed (map stmt_tree body.now))
+        (map proc_view procs.now) (seen_behind variables.now names.now)) }
+{
+    let inside = Inside {
+        variables,
+        gens: &[],
+        outer: names.inner,
+    };
+    stmts(&names.under(&inside), procs, body)
+}
+
+/// Variables, and statements that see them.
+#[cycle(stmt)]
+fn block(
+    names: &Names,
+    procs: &[BoundProc],
+    declared: &[VarDecl],
+    body: &[Stmt],
+) -> Result<(), KindFault>
+    ensures { Checks result (block_broken (listed (map var_tree declared.now)) (listed (map stmt_tree body.now))
+        (map proc_view procs.now) (names_view names.now)) }
+{
+    let variables = vars(names, declared)?;
+    behind(names, procs, &variables, body)
+}
+
+/// The type of a loop's variable, and the ends of its range.
+#[tactic(auto, using(crate::proofs::Checked::refuses_on))]
+fn range(names: &Names, shape: &TypeExpr, from: &Expr, to: &Expr) -> Result<(), KindFault>
+    ensures { Checks result (broken (counter_judged (type_tree shape.now) (names_view names.now))
+        ++ (broken (stored_kind NumKind (expr_tree from.now) (names_view names.now))
+        ++ broken (stored_kind NumKind (expr_tree to.now) (names_view names.now)))) }
+{
+    counter(names, shape)?;
+    ends(names, from, to)
+}
+
+/// The ends of a range.
+fn ends(names: &Names, from: &Expr, to: &Expr) -> Result<(), KindFault>
+    ensures { Checks result (broken (stored_kind NumKind (expr_tree from.now) (names_view names.now))
+        ++ broken (stored_kind NumKind (expr_tree to.now) (names_view names.now))) }
+{
+    number(names, from)?;
+    number(names, to)
+}
