@@ -1,5 +1,5 @@
 -- The code of a block does what executing it does.
-use Rattle.std.proofs.Common.{◌≡◌, ℕ, zero, suc, ◌+◌, ◌-◌, ◌<◌, ◌≤◌, ◌⊎◌, inl, inr, ⊎_elim, ℤ, pos, List, [], ◌∷◌, ◌++◌, length, drop, Bool, refl, sym, ap, ◌∙◌, subst, Option, None, Some, arith, length-append}
+use Rattle.std.proofs.Common.{◌≡◌, ℕ, suc, ◌+◌, ◌-◌, ◌≤◌, inl, inr, ⊎_elim, ℤ, pos, List, [], ◌∷◌, ◌++◌, length, drop, Bool, refl, sym, ap, ◌∙◌, subst, None, Some, arith, length-append}
 use Rattle.std.specs.Prelude.{slice_get, slice_set}
 use Rattle.std.proofs.lemmas.List.{drop-drop, length-drop}
 use Rattle.rvc_base.specs.declared.scalar.Scalar.{Scalar}
@@ -12,7 +12,7 @@ use Rattle.cal_ast.specs.Tree.{Tree}
 use Rattle.cal_model.specs.Value.{Shape, Single, Value, HasKind, kind_of_scalar, of_number, stored}
 use Rattle.cal_model.specs.Outcome.{Out, Gives, Traps, Lacks, Clashes, and_then}
 use Rattle.cal_model.specs.Env.{Var, Env, variable, with_local, back_to}
-use Rattle.cal_model.specs.Expression.{eval, type_meant}
+use Rattle.cal_model.specs.Expression.{eval}
 use Rattle.cal_model.specs.Statement.{Runs, first_of, inside, with_vars}
 use Rattle.code_ir.specs.declared.instr.Instr.{Instr}
 use Rattle.code_ir.specs.declared.instr.Instr.TheVariants as op
@@ -25,7 +25,7 @@ use Rattle.expr_lower.specs.Placed.{StandsAt, World, state}
 use Rattle.expr_lower.specs.Stating.{IsStart, at_zero, at_value}
 use Rattle.expr_lower.specs.Following.{Follows, Pushes, CutsOff}
 use Rattle.expr_lower.specs.Executing.{BreaksOff}
-use Rattle.expr_lower.proofs.Coded.{does, grows}
+use Rattle.expr_lower.proofs.Coded.{does}
 use Rattle.expr_lower.proofs.Counting.{store_on, there}
 use Rattle.expr_lower.proofs.Keeping.{below_more, keeps_join, keeps_wider}
 use Rattle.expr_lower.proofs.Locals.{inside_moves, local_held}
@@ -33,7 +33,7 @@ use Rattle.expr_lower.proofs.MeantIs.{meant_is, meant_sized}
 use Rattle.expr_lower.proofs.Runs.{reaches_join, obeys, follows_both, follows_then, stands_left, stands_right}
 use Rattle.expr_lower.proofs.Singles.{IsSingleValue, singles}
 use Rattle.expr_lower.proofs.Storing.{set_there, set_written, single_stored}
-use Rattle.expr_lower.proofs.Scoping.{AreLaid, HoldsInside, Written, inside_still, laid_apart, laid_below, laid_more, names_held, written_keeps}
+use Rattle.expr_lower.proofs.Scoping.{AreLaid, HoldsInside, Written, inside_still, laid_apart, laid_below, names_held, written_keeps}
 use Rattle.expr_lower.proofs.Performing.{Moves, Performs, apart_last, but_wider, cut_breaks, keeps_but, move_after, moves_at}
 
 -- ---- environments

@@ -3,7 +3,7 @@ use Rattle.std.proofs.Common.{◌≡◌, ◌≢◌, ℕ, zero, suc, ◌+◌, ◌
 use Rattle.std.specs.Prelude.{get_or, slice_get}
 use Rattle.std.proofs.lemmas.Option.{slice_get_within, slice_get-get_or}
 use Rattle.std.proofs.lemmas.Bool.{cases_lt}
-use Rattle.cal_model.specs.Value.{Kind, Value, Values, Nil, Cons, count, value_at, with_value, HasKind, HaveKind, scalars_of_kind}
+use Rattle.cal_model.specs.Value.{Kind, Value, Values, Nil, Cons, value_at, with_value, HasKind, HaveKind, scalars_of_kind}
 use Rattle.expr_lower.specs.Flat.{flat, flat_all, of_flat}
 use Rattle.expr_lower.specs.Held.{StandAt}
 use Rattle.expr_lower.specs.declared.names.Seat.TheVariants.{Cell}

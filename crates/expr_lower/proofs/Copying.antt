@@ -1,5 +1,5 @@
 -- The code that stores a list whole does what executing the assignment does.
-use Rattle.std.proofs.Common.{◌≡◌, ◌≢◌, ℕ, zero, suc, ◌+◌, ◌*◌, ◌<◌, ◌≤◌, ◌⊎◌, inl, inr, ⊎_elim, ℤ, pos, List, [], ◌∷◌, ◌++◌, length, Bool, true, false, refl, sym, ap, ◌∙◌, subst, Option, None, Some, arith, length-append}
+use Rattle.std.proofs.Common.{◌≡◌, ℕ, zero, suc, ◌+◌, ◌*◌, ◌<◌, ◌≤◌, ◌⊎◌, inl, inr, ⊎_elim, ℤ, pos, List, [], ◌∷◌, ◌++◌, length, Bool, true, false, refl, sym, ap, ◌∙◌, subst, Option, None, Some, arith, length-append}
 use Rattle.std.specs.Prelude.{if◌then◌else◌, nat_le, get_or, slice_get, slice_set}
 use Rattle.std.specs.Str.{bytes_eq}
 use Rattle.std.proofs.lemmas.Bool.Decides.{nat_tests}
@@ -11,12 +11,11 @@ use Rattle.rvc_base.specs.Arithmetic.{truth}
 use Rattle.rvc_base.specs.Storing.{conv, IsSize}
 use Rattle.cal_ast.specs.Tree as tree
 use Rattle.cal_ast.specs.Tree.{Tree}
-use Rattle.cal_model.specs.Value.{Shape, Single, Many, Value, Num, Truth, Items, Values, Nil, Cons, count, stored, stored_each, HasKind, HaveKind, IsType, kind_of_scalar, kind_of_type, scalars_of_type}
-use Rattle.cal_model.specs.Outcome.{Out, Gives, and_then}
-use Rattle.cal_model.specs.Env.{Env, assign, put}
+use Rattle.cal_model.specs.Value.{Single, Many, Value, Num, Truth, Items, Values, Nil, Cons, count, stored, stored_each, HasKind, HaveKind, IsType, kind_of_scalar, kind_of_type, scalars_of_type}
+use Rattle.cal_model.specs.Outcome.{Out, and_then}
+use Rattle.cal_model.specs.Env.{Env, assign}
 use Rattle.cal_model.specs.Expression.{eval}
 use Rattle.cal_model.specs.Statement.{Runs, exec}
-use Rattle.code_ir.specs.declared.instr.Instr.{Instr}
 use Rattle.code_ir.specs.declared.instr.Instr.TheVariants as op
 use Rattle.code_ir.specs.Effect.{Leaves, Breaks, cell, copied, effect, leave_taken, taken, stored as in_cell}
 use Rattle.code_ir.specs.Running.{State, Reaches, go_on, here, after}
@@ -28,15 +27,15 @@ use Rattle.expr_lower.specs.Changing.{NamesApart, SeatsApart}
 use Rattle.expr_lower.specs.Executing.{BreaksOff}
 use Rattle.expr_lower.specs.Flat.{flat, flat_all}
 use Rattle.expr_lower.specs.Following.{Follows}
-use Rattle.expr_lower.specs.Held.{AreApart, AreBelow, Holds, HoldsName, SeatIsApart, SeatIsBelow, StandAt}
+use Rattle.expr_lower.specs.Held.{HoldsName, SeatIsBelow, StandAt}
 use Rattle.expr_lower.specs.Listed.{list_named}
 use Rattle.expr_lower.specs.Names.{Name, named}
 use Rattle.expr_lower.specs.Placed.{StandsAt, World, state}
 use Rattle.expr_lower.specs.Stating.{copy_code}
-use Rattle.expr_lower.proofs.Keeping.{flat_all_length, flat_length, scalars_same}
-use Rattle.expr_lower.proofs.Listing.{IsList, IsListName, first_of_two, found, named_list, single_flat}
-use Rattle.expr_lower.proofs.Performing.{Moves, Performs, but_written, but_all}
-use Rattle.expr_lower.proofs.Runs.{follows_more, obeys, reaches_join}
+use Rattle.expr_lower.proofs.Keeping.{flat_length, scalars_same}
+use Rattle.expr_lower.proofs.Listing.{IsList, IsListName, first_of_two, found, named_list}
+use Rattle.expr_lower.proofs.Performing.{Moves, Performs, but_written}
+use Rattle.expr_lower.proofs.Runs.{follows_more, obeys}
 use Rattle.expr_lower.proofs.Scoping.{AreLaid, Assigned, HoldsInside, PutsAt, Written, assigns, choose_name, laid_below, laid_typed, names_held}
 use Rattle.expr_lower.proofs.Singles.{IsSingleValue, kind_single}
 use Rattle.expr_lower.proofs.Storing.{single_stored}

@@ -1,31 +1,31 @@
 -- The turns of a `foreach`.
-use Rattle.std.proofs.Common.{◌≡◌, ◌≢◌, ℕ, zero, suc, ◌+◌, ◌-◌, ◌<◌, ◌≤◌, ◌⊎◌, inl, inr, ⊎_elim, ℤ, pos, ◌+ℤ◌, List, [], ◌∷◌, ◌++◌, length, get_or, Bool, true, false, refl, sym, ap, ◌∙◌, subst, Option, None, Some, arith}
+use Rattle.std.proofs.Common.{◌≡◌, ℕ, zero, suc, ◌+◌, ◌<◌, ◌≤◌, inl, inr, ⊎_elim, ℤ, pos, ◌+ℤ◌, List, ◌∷◌, ◌++◌, length, get_or, Bool, true, false, refl, sym, ap, ◌∙◌, subst, Option, None, Some, arith}
 use Rattle.std.specs.Prelude.{slice_get, slice_set, if◌then◌else◌, int_lt}
 use Rattle.std.specs.Str.{bytes_eq}
 use Rattle.std.proofs.lemmas.Int.{ints}
 use Rattle.std.proofs.lemmas.Option.{slice_get-get_or}
 use Rattle.rvc_base.specs.declared.scalar.Scalar.{Scalar}
-use Rattle.rvc_base.specs.declared.trap.Trap.TheVariants.{Overflow, TurnLimit}
+use Rattle.rvc_base.specs.declared.trap.Trap.TheVariants.{Overflow}
 use Rattle.rvc_base.specs.Arithmetic as arithmetic
 use Rattle.rvc_base.specs.Arithmetic.{is_true, truth}
 use Rattle.rvc_base.specs.Storing.{conv, IsSize}
-use Rattle.rvc_base.specs.Width.{IsNum, is_num}
+use Rattle.rvc_base.specs.Width.{IsNum}
 use Rattle.cal_model.specs.Value.{Single, Num, stored, scalars_of_type}
-use Rattle.cal_model.specs.Outcome.{Out, Gives, and_then, turn}
+use Rattle.cal_model.specs.Outcome.{Out, Gives, and_then}
 use Rattle.cal_model.specs.Env.{Var, Env, variable, with_local, back_to}
 use Rattle.cal_model.specs.Statement.{for_loop, inside}
 use Rattle.cal_model.proofs.Numbers.{num-is}
 use Rattle.code_ir.specs.declared.instr.Instr.{Instr}
 use Rattle.code_ir.specs.declared.instr.Instr.TheVariants as op
-use Rattle.code_ir.specs.Effect.{Leaves, effect, push_computed, stored as in_cell}
-use Rattle.code_ir.specs.Running.{State, Goes, step, go_on, Reaches, here, after, stop}
+use Rattle.code_ir.specs.Effect.{push_computed, stored as in_cell}
+use Rattle.code_ir.specs.Running.{State, step, go_on, Reaches, here, after, stop}
 use Rattle.code_ir.proofs.Marks.{get-other}
 use Rattle.expr_lower.specs.declared.names.Seat.{Seat}
 use Rattle.expr_lower.specs.declared.names.Seat.TheVariants.{Cell, Tokens}
 use Rattle.expr_lower.specs.Names.{Name, named}
 use Rattle.expr_lower.specs.Meant.{local}
 use Rattle.expr_lower.specs.Held.{AreApart, Keeps, SeatIsApart, SeatIsBelow}
-use Rattle.expr_lower.specs.Changing.{IsOfNone, KeepsBut}
+use Rattle.expr_lower.specs.Changing.{KeepsBut}
 use Rattle.expr_lower.specs.Placed.{StandsAt, World, state}
 use Rattle.expr_lower.specs.Stating.{each_tail}
 use Rattle.expr_lower.specs.Following.{Follows}

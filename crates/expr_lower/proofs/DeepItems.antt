@@ -1,10 +1,10 @@
 -- The code of an assignment to an item of a list in lists does what executing it does.
-use Rattle.std.proofs.Common.{◌≡◌, ◌≢◌, ℕ, zero, suc, ◌+◌, ◌*◌, ◌<◌, ◌≤◌, ◌⊎◌, inl, inr, ⊎_elim, ℤ, pos, negsuc, List, [], ◌∷◌, ◌++◌, length, Bool, true, false, refl, sym, ap, ◌∙◌, subst, Option, None, Some, arith, length-append}
+use Rattle.std.proofs.Common.{◌≡◌, ◌≢◌, ℕ, zero, suc, ◌+◌, ◌*◌, ◌<◌, ◌≤◌, ◌⊎◌, inl, inr, ⊎_elim, ℤ, pos, negsuc, List, [], ◌∷◌, ◌++◌, length, true, false, refl, sym, ap, ◌∙◌, subst, Option, None, Some, arith, length-append}
 use Rattle.std.specs.Prelude.{◌^◌, if◌then◌else◌, get_or, nat_le, slice_get, slice_set}
 use Rattle.std.proofs.lemmas.Bool.Decides.{nat_tests}
 use Rattle.std.proofs.lemmas.List.{length-set}
 use Rattle.std.proofs.lemmas.Nat.{mul-le}
-use Rattle.std.proofs.lemmas.Option.{slice_get_within, slice_get-get_or}
+use Rattle.std.proofs.lemmas.Option.{slice_get-get_or}
 use Rattle.rvc_base.specs.declared.scalar.Scalar.{Scalar}
 use Rattle.rvc_base.specs.declared.trap.Trap.{Trap}
 use Rattle.rvc_base.specs.declared.trap.Trap.TheVariants.{IndexRange, Overflow}
@@ -12,16 +12,16 @@ use Rattle.rvc_base.specs.Arithmetic as arithmetic
 use Rattle.rvc_base.specs.Storing.{conv, IsSize}
 use Rattle.cal_ast.specs.Tree as tree
 use Rattle.cal_ast.specs.Tree.{Tree}
-use Rattle.cal_model.specs.Value.{Kind, Shape, Single, Many, Value, Num, Truth, Items, Values, Nil, Cons, count, value_at, with_value, stored, HasKind, HaveKind, IsType, kind_of_scalar, kind_of_type, scalars_of_kind, scalars_of_type}
+use Rattle.cal_model.specs.Value.{Shape, Single, Many, Value, Num, Truth, Items, Values, Nil, Cons, count, value_at, with_value, HasKind, HaveKind, IsType, kind_of_scalar, kind_of_type, scalars_of_kind, scalars_of_type}
 use Rattle.cal_model.specs.Outcome.{Out, Gives, Traps, Lacks, Clashes, and_then}
-use Rattle.cal_model.specs.Env.{Env, assign, put, item_at, with_item}
+use Rattle.cal_model.specs.Env.{Env, assign, put, with_item}
 use Rattle.cal_model.specs.Expression.{eval, eval_all}
 use Rattle.cal_model.specs.Statement.{Runs, exec}
 use Rattle.code_ir.specs.declared.instr.Instr.{Instr}
 use Rattle.code_ir.specs.declared.instr.Instr.TheVariants as op
 use Rattle.code_ir.specs.declared.outcome.Outcome.TheVariants as outcome
 use Rattle.code_ir.specs.Effect.{Leaves, Fails, effect, push_computed}
-use Rattle.code_ir.specs.Running.{State, Ends, Reaches, go, go_on, here, after, step, stop}
+use Rattle.code_ir.specs.Running.{State, Ends, Reaches, go, go_on, here, after, stop}
 use Rattle.code_ir.proofs.Marks.{get-set, get-other}
 use Rattle.expr_lower.specs.declared.names.Seat.TheVariants.{Cell}
 use Rattle.expr_lower.specs.Coding.{IsCode}
@@ -35,14 +35,14 @@ use Rattle.expr_lower.specs.Placed.{StandsAt, World, state}
 use Rattle.expr_lower.specs.Stating.{IsKept, no_place, place_more, deep_tail, step_code, step_in}
 use Rattle.expr_lower.proofs.Changed.{IsChanged, kinds_with, list_changed, same_standing}
 use Rattle.expr_lower.proofs.Coded.{does, grows, load_leaves}
-use Rattle.expr_lower.proofs.Doing.{Does, cut_after, cut_wider}
+use Rattle.expr_lower.proofs.Doing.{Does}
 use Rattle.expr_lower.proofs.Effects.{same_number}
 use Rattle.expr_lower.proofs.Keeping.{below_more, flat_length, holds_still, keeps_all, keeps_join, keeps_wider, scalars_same}
 use Rattle.expr_lower.proofs.Listing.{item_kind, item_past, item_within}
 use Rattle.expr_lower.proofs.PartValues.{IsSized, sized_is, sized_list}
 use Rattle.expr_lower.proofs.Performing.{Moves, Performs, apart_first, apart_last, but_wider, breaks_after, cut_breaks, keeps_but}
 use Rattle.expr_lower.proofs.Rowed.{small_num}
-use Rattle.expr_lower.proofs.Runs.{ends_join, follows_both, follows_more, follows_then, obeys, reaches_join, stands_left, stands_right}
+use Rattle.expr_lower.proofs.Runs.{ends_join, follows_both, follows_then, obeys, reaches_join, stands_left, stands_right}
 use Rattle.expr_lower.proofs.Scoping.{AreLaid, HoldsInside, NewAt, PutsAt, Written, inside_still, laid_apart, laid_below, laid_typed, names_held}
 use Rattle.expr_lower.proofs.Setting.{never, stores}
 use Rattle.expr_lower.proofs.Singles.{IsSingleValue, singles}

@@ -1,18 +1,17 @@
 -- The code of a `foreach` does what executing it does.
-use Rattle.std.proofs.Common.{◌≡◌, ◌≢◌, ℕ, zero, suc, ◌+◌, ◌<◌, ◌≤◌, ◌⊎◌, inl, inr, ⊎_elim, ℤ, pos, ◌+ℤ◌, ◌-ℤ◌, List, [], ◌∷◌, ◌++◌, length, Bool, true, false, refl, sym, ap, ◌∙◌, subst, Option, None, Some, arith, length-append}
+use Rattle.std.proofs.Common.{◌≡◌, ℕ, suc, ◌+◌, ◌≤◌, ℤ, pos, ◌+ℤ◌, ◌-ℤ◌, List, [], ◌∷◌, ◌++◌, length, Bool, true, false, refl, sym, ◌∙◌, subst, None, Some, arith, length-append}
 use Rattle.std.specs.Prelude.{slice_get, slice_set, if◌then◌else◌, int_lt, not, unsigned_abs}
 use Rattle.std.proofs.lemmas.Int.{ints}
 use Rattle.rvc_base.specs.declared.scalar.Scalar.{Scalar}
 use Rattle.rvc_base.specs.Arithmetic.{truth}
 use Rattle.rvc_base.specs.Storing.{IsSize}
 use Rattle.rvc_base.specs.Width.{IsNum}
-use Rattle.cal_ast.specs.Tree as tree
 use Rattle.cal_ast.specs.Tree.{Tree}
 use Rattle.cal_model.specs.Value.{Shape, Single, Value, Num, Truth, Items, stored}
-use Rattle.cal_model.specs.Outcome.{Out, Gives, and_then}
+use Rattle.cal_model.specs.Outcome.{Out, and_then}
 use Rattle.cal_model.specs.Env.{Env, variable, with_local}
 use Rattle.cal_model.specs.Expression.{eval, range_of, span, type_meant}
-use Rattle.cal_model.specs.Statement.{Runs, exec, exec_all, for_loop, inside}
+use Rattle.cal_model.specs.Statement.{Runs, for_loop, inside}
 use Rattle.code_ir.specs.declared.instr.Instr.{Instr}
 use Rattle.code_ir.specs.declared.instr.Instr.TheVariants as op
 use Rattle.code_ir.specs.Running.{State, Reaches, here, after}

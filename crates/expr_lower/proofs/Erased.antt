@@ -12,7 +12,7 @@ use Rattle.expr_lower.specs.declared.names.OneCell.{OneCell}
 use Rattle.expr_lower.specs.declared.names.Seat.{Seat}
 use Rattle.expr_lower.specs.declared.names.Seat.TheVariants.{Cell, Tokens}
 use Rattle.expr_lower.specs.Growing.{is_short, left_out, left_out_name, left_out_places, ◌or_else◌}
-use Rattle.expr_lower.specs.Listed.{items_in, items_of, list_named, single_of}
+use Rattle.expr_lower.specs.Listed.{items_in, items_of, list_named}
 use Rattle.expr_lower.specs.Meant.{local, single_meant}
 use Rattle.expr_lower.specs.Parted.{Part, deep_cells_at, deep_cells_in, deep_cells_named, deep_named, item_in, item_of, part_at, leaf_in, number_of, part_named, singles_in, sized, whole_in, whole_of}
 use Rattle.expr_lower.specs.Names.{Name, named}

@@ -1,11 +1,11 @@
 -- Jumps into the part behind them, and back to a turn.
-use Rattle.std.proofs.Common.{◌≡◌, ℕ, zero, suc, ◌+◌, ◌<◌, ◌≤◌, inl, inr, ⊎_elim, List, [], ◌∷◌, ◌++◌, length, refl, sym, ap, ◌∙◌, subst, Some, arith, append_assoc, length-append}
+use Rattle.std.proofs.Common.{◌≡◌, ℕ, zero, suc, ◌+◌, ◌<◌, ◌≤◌, inl, inr, ⊎_elim, List, [], ◌∷◌, ◌++◌, length, refl, ap, ◌∙◌, subst, Some, arith, length-append}
 use Rattle.std.specs.Prelude.{slice_get}
 use Rattle.code_ir.specs.declared.instr.Instr.{Instr}
 use Rattle.code_ir.specs.declared.instr.Instr.TheVariants as op
 use Rattle.code_ir.specs.Code.{Code}
 use Rattle.expr_lower.specs.Fitting.{FitsAt, Fits}
-use Rattle.expr_lower.proofs.Fitted.{Plain, branch, fits, fits_jump, fits_like, fits_one, fits_test, fits_then, get_append, glued, glued_before, glued_from, plain_then}
+use Rattle.expr_lower.proofs.Fitted.{Plain, fits_like, get_append, glued, glued_before, glued_from}
 
 module _ (code : Code) (callable limit : ℕ) where
   -- nothing

@@ -1,5 +1,5 @@
 -- Code of statements fits where it stands.
-use Rattle.std.proofs.Common.{◌≡◌, ℕ, pos, zero, suc, ◌+◌, ◌<◌, ◌≤◌, inl, inr, ⊎_elim, List, [], ◌∷◌, ◌++◌, length, refl, sym, ap, ◌∙◌, subst, Option, None, Some, arith, append_assoc, length-append, true, false, ◌⊎◌}
+use Rattle.std.proofs.Common.{◌≡◌, ℕ, pos, ◌+◌, ◌≤◌, inl, ⊎_elim, List, [], ◌∷◌, ◌++◌, length, refl, sym, ap, ◌∙◌, subst, Option, None, Some, arith, append_assoc, length-append, true, false}
 use Rattle.std.specs.Prelude.{slice_get}
 use Rattle.std.specs.Str.{bytes_eq}
 use Rattle.rvc_base.specs.declared.scalar.Scalar.{Scalar}
@@ -15,7 +15,7 @@ use Rattle.expr_lower.specs.declared.names.Seat.TheVariants.{Cell, Tokens}
 use Rattle.expr_lower.specs.Names.{Name, named}
 use Rattle.expr_lower.specs.Held.{AreBelow, SeatIsBelow}
 use Rattle.expr_lower.specs.Changing.{AreTyped}
-use Rattle.expr_lower.specs.Fitting.{FitsAt, Fits}
+use Rattle.expr_lower.specs.Fitting.{Fits}
 use Rattle.expr_lower.specs.Parted.{number_of, sized}
 use Rattle.expr_lower.specs.Placed.{StandsAt}
 use Rattle.expr_lower.specs.Stating.{IsKept, IsStmt, AreStmts, copy_code, deep_tail, no_place, place_more, set, set_deep, set_item, set_items, set_list, step_code, step_in, if_alone, if_else, while_code, each_code, each_head, each_tail, block_code, none, one_more, IsBlock, no_more, variable_more, IsStart, at_zero, at_value}
@@ -23,7 +23,7 @@ use Rattle.expr_lower.proofs.Coded.{grows, grows_test}
 use Rattle.expr_lower.proofs.DeepItems.{grows_kept, leaf_sized}
 use Rattle.expr_lower.proofs.PartValues.{sized_is}
 use Rattle.expr_lower.proofs.Executed.{grows_stmt, grows_all, grows_block, grows_start}
-use Rattle.expr_lower.proofs.Fitted.{Plain, branch, fits, fits_const, fits_jump, fits_like, fits_one, fits_test, fits_then, get_append, glued, glued_before, glued_from, list_below, plain_then}
+use Rattle.expr_lower.proofs.Fitted.{Plain, branch, fits, fits_const, fits_jump, fits_one, fits_test, fits_then, list_below, plain_then}
 use Rattle.expr_lower.proofs.FittedEach.{fits_each}
 use Rattle.expr_lower.proofs.FittedJumps.{fits_back, fits_goto, fits_none}
 use Rattle.expr_lower.proofs.Keeping.{below_more}

@@ -1,18 +1,16 @@
 -- The code that stores a list of items that are written out does what executing the assignment does.
-use Rattle.std.proofs.Common.{◌≡◌, ℕ, zero, suc, ◌+◌, ◌*◌, ◌≤◌, inr, ℤ, List, [], ◌∷◌, ◌++◌, length, refl, sym, ap, ◌∙◌, subst, Option, Some, arith, length-append}
+use Rattle.std.proofs.Common.{◌≡◌, ℕ, zero, suc, ◌+◌, ◌*◌, ◌≤◌, inr, ℤ, List, ◌++◌, length, refl, sym, ap, ◌∙◌, subst, Some, arith, length-append}
 use Rattle.std.specs.Prelude.{slice_get}
 use Rattle.rvc_base.specs.declared.scalar.Scalar.{Scalar}
-use Rattle.rvc_base.specs.Storing.{IsSize}
 use Rattle.cal_ast.specs.Tree as tree
 use Rattle.cal_ast.specs.Tree.{Tree}
-use Rattle.cal_model.specs.Value.{Shape, Single, Many, Value, Items, Values, Nil, Cons, count, IsType, scalars_of_type}
+use Rattle.cal_model.specs.Value.{Single, Many, Items, Values, Nil, Cons, count, IsType, scalars_of_type}
 use Rattle.cal_model.specs.Outcome.{Gives, and_then}
 use Rattle.cal_model.specs.Env.{Env, assign}
 use Rattle.cal_model.specs.Expression.{Calls, eval, eval_all}
 use Rattle.cal_model.specs.Statement.{Runs, exec}
 use Rattle.code_ir.specs.declared.instr.Instr.{Instr}
 use Rattle.code_ir.specs.Running.{State}
-use Rattle.expr_lower.specs.declared.names.Seat.{Seat}
 use Rattle.expr_lower.specs.declared.names.Seat.TheVariants.{Cell}
 use Rattle.expr_lower.specs.Executing.{BreaksOff}
 use Rattle.expr_lower.specs.Flat.{flat, flat_all}
@@ -27,7 +25,7 @@ use Rattle.expr_lower.proofs.DeepItems.{AreKept, AtKept, grows_kept, keep}
 use Rattle.expr_lower.proofs.Listing.{first_of_two}
 use Rattle.expr_lower.proofs.Performing.{Moves, Performs, cut_breaks, keeps_but, move_after, moves_at}
 use Rattle.expr_lower.proofs.Runs.{follows_both, follows_then, stands_left, stands_right}
-use Rattle.expr_lower.proofs.Scoping.{HoldsInside, Written, inside_still, laid_apart, laid_below, laid_typed, names_held}
+use Rattle.expr_lower.proofs.Scoping.{Written, inside_still, laid_apart, laid_below, laid_typed, names_held}
 use Rattle.expr_lower.proofs.Singles.{IsSingleValue, singles}
 
 -- what is kept stands in the cells

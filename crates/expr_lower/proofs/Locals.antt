@@ -1,29 +1,25 @@
 -- Statements inside which there is a local more.
-use Rattle.std.proofs.Common.{◌≡◌, ℕ, zero, suc, ◌+◌, ◌-◌, ◌<◌, ◌≤◌, ◌⊎◌, inl, inr, ⊎_elim, ℤ, List, [], ◌∷◌, ◌++◌, length, drop, Bool, true, false, refl, sym, ap, ◌∙◌, subst, Option, None, Some, arith}
-use Rattle.std.specs.Prelude.{slice_get, slice_set, if◌then◌else◌}
+use Rattle.std.proofs.Common.{◌≡◌, ℕ, suc, ◌+◌, ◌-◌, ◌<◌, ◌≤◌, inl, inr, ⊎_elim, ℤ, List, [], ◌∷◌, ◌++◌, length, drop, Bool, true, false, refl, sym, ap, ◌∙◌, subst, None, Some, arith}
+use Rattle.std.specs.Prelude.{slice_get, if◌then◌else◌}
 use Rattle.std.specs.Str.{bytes_eq}
 use Rattle.rvc_base.specs.declared.scalar.Scalar.{Scalar}
-use Rattle.rvc_base.specs.declared.trap.Trap.{Trap}
-use Rattle.rvc_base.specs.Storing.{IsSize}
 use Rattle.cal_model.specs.Value.{Shape, Single, Value, HasKind, kind_of_scalar, scalars_of_type}
-use Rattle.cal_model.specs.Outcome.{Out, Gives, and_then}
+use Rattle.cal_model.specs.Outcome.{Out, Gives}
 use Rattle.cal_model.specs.Env.{Var, Env, variable, with_local, back_to}
 use Rattle.cal_model.specs.Statement.{inside}
-use Rattle.code_ir.specs.declared.instr.Instr.{Instr}
 use Rattle.code_ir.specs.Running.{State}
-use Rattle.expr_lower.specs.declared.names.Seat.TheVariants.{Cell}
 use Rattle.expr_lower.specs.Flat.{flat}
 use Rattle.expr_lower.specs.Names.{Name, named}
 use Rattle.expr_lower.specs.Meant.{local}
-use Rattle.expr_lower.specs.Held.{StandAt, SeatIsApart, AreApart, Keeps}
-use Rattle.expr_lower.specs.Changing.{IsOfNone, KeepsBut}
-use Rattle.expr_lower.specs.Placed.{StandsAt, World, state}
+use Rattle.expr_lower.specs.Held.{SeatIsApart}
+use Rattle.expr_lower.specs.Changing.{KeepsBut}
+use Rattle.expr_lower.specs.Placed.{World}
 use Rattle.expr_lower.specs.Following.{Follows}
 use Rattle.expr_lower.specs.Executing.{BreaksOff}
-use Rattle.expr_lower.proofs.Runs.{follows_then, follows_more}
-use Rattle.expr_lower.proofs.Scoping.{AreLaid, HoldsInside, HoldsVar, choose_name, inside_still}
+use Rattle.expr_lower.proofs.Runs.{follows_then}
+use Rattle.expr_lower.proofs.Scoping.{AreLaid, HoldsInside, choose_name}
 use Rattle.expr_lower.proofs.Setting.{stand_one}
-use Rattle.expr_lower.proofs.Performing.{Moves, Performs}
+use Rattle.expr_lower.proofs.Performing.{Moves}
 
 -- of the cells of a local, and of what is outside it
 pub but_local : (names : List Name) (text : List ℕ) (t : Scalar) (c n h m low high : ℕ) (before now : List ℤ) → n ≤ c → c + 1 ≤ m → n ≤ h → KeepsBut (local text t c ∷ names) h m low high before now → KeepsBut names n m low high before now

@@ -1,5 +1,5 @@
 -- A type that is seen to be one of single values is that.
-use Rattle.std.proofs.Common.{◌≡◌, ℕ, pos, Bool, true, false, refl, sym, ap, ◌∙◌, subst, List, [], ◌∷◌, ◌≤◌, length, Option, None, Some, arith}
+use Rattle.std.proofs.Common.{◌≡◌, ℕ, pos, Bool, true, false, refl, ap, ◌∙◌, subst, List, [], ◌∷◌, ◌≤◌, length, Option, None, Some, arith}
 use Rattle.std.specs.Prelude.{if◌then◌else◌, codes, ◌&&◌, nat_le}
 use Rattle.std.specs.Str.{bytes_eq}
 use Rattle.std.proofs.lemmas.Bool.Decides.{nat_tests}
@@ -15,8 +15,7 @@ use Rattle.cal_ast.specs.Tree.{Tree, listed}
 use Rattle.cal_model.specs.Value.{Shape, Single, Many}
 use Rattle.cal_model.specs.Outcome.{Out, Gives, and_then, alone, needed}
 use Rattle.cal_model.specs.Env.{Env}
-use Rattle.cal_model.specs.Expression.{Calls, Given, args_given, bits, computed, list_of, size_of_value, type_meant, type_named}
-use Rattle.expr_lower.specs.Listed.{single_of}
+use Rattle.cal_model.specs.Expression.{Calls, Given, args_given, bits, computed, size_of_value, type_meant, type_named}
 use Rattle.expr_lower.specs.Meant.{single_in, single_meant, size_of_arg, size_written}
 
 abbrev given : Option ℕ → Given

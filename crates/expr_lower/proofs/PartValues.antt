@@ -1,23 +1,22 @@
 -- Parts of named lists, and the values that they are.
-use Rattle.std.proofs.Common.{◌≡◌, ℕ, zero, suc, ◌+◌, ◌*◌, ◌<◌, ◌≤◌, ℤ, pos, negsuc, List, [], ◌∷◌, ◌++◌, length, Bool, true, false, refl, sym, ap, ◌∙◌, subst, Option, None, Some, arith}
+use Rattle.std.proofs.Common.{◌≡◌, ℕ, zero, suc, ◌+◌, ◌*◌, ◌<◌, ℤ, pos, negsuc, List, [], ◌∷◌, ◌++◌, length, Bool, true, false, refl, sym, ap, ◌∙◌, subst, Option, None, Some, arith}
 use Rattle.std.specs.Prelude.{◌^◌, if◌then◌else◌, nat_lt, slice_get}
 use Rattle.std.proofs.lemmas.Bool.Decides.{nat_tests}
 use Rattle.rvc_base.specs.declared.trap.Trap.TheVariants.{IndexRange}
 use Rattle.cal_ast.specs.Tree as tree
 use Rattle.cal_ast.specs.Tree.{Tree}
-use Rattle.cal_model.specs.Value.{Kind, Shape, Single, Many, Value, Num, Truth, Items, Values, Nil, Cons, count, value_at, HasKind, HaveKind, kind_of_type, scalars_of_kind, scalars_of_type}
+use Rattle.cal_model.specs.Value.{Kind, Shape, Single, Many, Value, Num, Truth, Items, Values, Nil, Cons, value_at, HasKind, HaveKind, kind_of_type, scalars_of_kind, scalars_of_type}
 use Rattle.cal_model.specs.Outcome.{Out, Gives, Traps, Lacks, Clashes, and_then, known}
 use Rattle.cal_model.specs.Env.{Env, look_up}
 use Rattle.cal_model.specs.Expression.{Calls, eval, indexed}
 use Rattle.expr_lower.specs.declared.names.ItemList.{ItemList}
-use Rattle.expr_lower.specs.declared.names.Seat.{Seat}
 use Rattle.expr_lower.specs.declared.parts.Rows.{Rows}
 use Rattle.expr_lower.specs.Flat.{flat, flat_all}
 use Rattle.expr_lower.specs.Following.{Follows}
 use Rattle.expr_lower.specs.Held.{HoldsName, Holds}
 use Rattle.expr_lower.specs.Names.{Name, named}
 use Rattle.expr_lower.specs.Parted.{IsPart, Part, deep_named, item_in, item_of, part_at, part_named, rows_in, rows_named, singles_in, sized, whole_in, whole_of}
-use Rattle.expr_lower.proofs.Keeping.{flat_length, scalars_same}
+use Rattle.expr_lower.proofs.Keeping.{flat_length}
 use Rattle.expr_lower.proofs.Listing.{item_kind}
 use Rattle.expr_lower.proofs.Runs.{follows_then}
 

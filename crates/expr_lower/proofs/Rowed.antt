@@ -1,6 +1,6 @@
 -- The code of a chain of indexes does what evaluating it does.
-use Rattle.std.proofs.Common.{◌≡◌, ℕ, zero, suc, ◌+◌, ◌*◌, ◌<◌, ◌≤◌, ℤ, pos, negsuc, List, [], ◌∷◌, ◌++◌, length, Bool, true, false, refl, sym, ap, ◌∙◌, subst, Option, None, Some, arith, length-append}
-use Rattle.std.specs.Prelude.{◌^◌, if◌then◌else◌, nat_le, nat_lt, slice_get}
+use Rattle.std.proofs.Common.{◌≡◌, ℕ, ◌+◌, ◌*◌, ◌<◌, ◌≤◌, ℤ, pos, negsuc, List, [], ◌∷◌, ◌++◌, length, true, false, refl, sym, ap, ◌∙◌, subst, Option, None, Some, arith, length-append}
+use Rattle.std.specs.Prelude.{◌^◌, if◌then◌else◌, nat_le, slice_get}
 use Rattle.std.proofs.lemmas.Bool.Decides.{nat_tests}
 use Rattle.std.proofs.lemmas.Nat.{mul-le}
 use Rattle.rvc_base.specs.declared.trap.Trap.TheVariants.{IndexRange}
@@ -9,7 +9,7 @@ use Rattle.rvc_base.specs.Arithmetic as arithmetic
 use Rattle.rvc_base.specs.Width.{is_num, num_bound}
 use Rattle.cal_ast.specs.Tree as tree
 use Rattle.cal_ast.specs.Tree.{Tree}
-use Rattle.cal_model.specs.Value.{Shape, Single, Many, Value, Num, Truth, Items, Values, count, value_at, HasKind, HaveKind, kind_of_type, scalars_of_kind, scalars_of_type}
+use Rattle.cal_model.specs.Value.{Shape, Single, Many, Value, Num, Truth, Items, Values, count, value_at, HasKind, kind_of_type, scalars_of_type}
 use Rattle.cal_model.specs.Outcome.{Out, Gives, Traps, and_then, known}
 use Rattle.cal_model.specs.Env.{Env, look_up}
 use Rattle.cal_model.specs.Expression.{eval, indexed}

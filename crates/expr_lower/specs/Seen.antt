@@ -2,7 +2,6 @@
 -- Not trusted: no promise is read with it.
 use Rattle.std.specs.Prelude.{◌≡◌, ℕ, List, [], ◌∷◌, ◌++◌, Option, None, Some}
 use Rattle.std.specs.Borrow.{Bor}
-use Rattle.rvc_base.specs.declared.scalar.Scalar.{Scalar}
 use Rattle.cal_model.specs.Value.{Shape, Single, Many}
 use Rattle.expr_lower.specs.declared.names.OneCell.{OneCell}
 use Rattle.expr_lower.specs.declared.names.OneSeat.{OneSeat}

@@ -430,12 +430,14 @@ fn given(
 ///
 /// Code is made for assignments to variables of single values and to items of lists of them at any depth, and to
 /// lists of them from another one of the same size that is named or written out, `if`, `while`, and `foreach` and blocks whose types are written without names, over the expressions for which
-/// [`lower_expr`](crate::lower_expr) makes code. A `foreach` uses three cells more, and a variable of a block one; they are added to the draft.
+/// [`lower_expr`](crate::lower_expr) makes code. A `foreach` uses three cells more, a variable of a block one,
+/// an item of lists in lists one for each of its places and one for its value, and items that are written out one
+/// each; they are added to the draft.
 ///
 /// # Errors
 ///
 /// `Memory` if an allocation was refused. `TooLong` if the draft has 2 to the power of 32 instructions.
-/// `TooManyCells` if it has so many cells that the number of one more doesn't fit. `NotLowered` with the offset of the first part for which no code is made; of a `while` the body comes first.
+/// `TooManyCells` if the numbers of the cells that are used don't fit; then all are taken. `NotLowered` with the offset of the first part for which no code is made; of a `while` the body comes first.
 pub fn lower_stmts(names: &[Named], body: &[Stmt], draft: &mut Draft) -> Result<(), LowerFault>
     requires below { AreBelow draft.old.cells (names_view names.now) }
     requires apart { NamesApart (names_view names.now) }

@@ -1,13 +1,9 @@
-use Rattle.std.proofs.Common.{◌≡◌, ◌∷◌, [], List, map, subst, sym, rules, length, ap}
-use Rattle.std.specs.Prelude.{OnOk}
+use Rattle.std.proofs.Common.{◌≡◌, ◌∷◌, map, subst, sym, rules, length}
 use Rattle.std.proofs.lemmas.Result.{on_ok_weaker}
-use Rattle.cal_ast.specs.Tree as tree
-use Rattle.cal_ast.specs.Tree.{Tree, listed}
+use Rattle.cal_ast.specs.Tree.{listed}
 use Rattle.cal_ast.specs.View.{expr_tree}
-use Rattle.cal_ast.specs.declared.expr.Expr.{Expr}
 use Rattle.expr_lower.specs.Lowered.{Adds}
 use Rattle.expr_lower.specs.Seen.{seen}
-use Rattle.expr_lower.specs.SeenWords.{AddsKept}
 use Rattle.expr_lower.specs.Stating.{IsKept}
 use Rattle.expr_lower.proofs.AddingStmts.{kept_adds, kept_none, no_items}
 use Rattle.expr_lower.proofs.deep.+keep.Goals as goal

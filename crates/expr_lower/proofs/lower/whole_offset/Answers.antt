@@ -1,4 +1,4 @@
-use Rattle.std.proofs.Common.{◌≡◌, ◌∷◌, [], pos}
+use Rattle.std.proofs.Common.{◌∷◌, [], pos}
 use Rattle.std.proofs.lemmas.Result.{on_ok_weaker}
 use Rattle.cal_ast.specs.Tree as tree
 use Rattle.code_ir.specs.declared.instr.Instr.TheVariants as op

@@ -1,7 +1,7 @@
 use Rattle.std.proofs.Common.{sym}
 use Rattle.expr_lower.specs.Names.{names_view}
 use Rattle.expr_lower.specs.Seen.{locals_of}
-use Rattle.expr_lower.proofs.Seeing.{hidden_one, outside_one}
+use Rattle.expr_lower.proofs.Seeing.{hidden_one}
 use Rattle.expr_lower.proofs.names.one_named.Goals as goal
 
 pub returns-in-Some : goal.returns-in-Some

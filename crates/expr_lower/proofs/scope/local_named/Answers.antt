@@ -1,4 +1,4 @@
-use Rattle.std.proofs.Common.{◌≡◌, ◌∷◌, ◌++◌, true, false, sym, ap, ◌∙◌, rules}
+use Rattle.std.proofs.Common.{◌≡◌, ◌∷◌, true, false, sym, ◌∙◌, rules}
 use Rattle.std.specs.Str.{bytes_eq}
 use Rattle.expr_lower.specs.declared.scope.Frame as chain
 use Rattle.expr_lower.specs.declared.scope.Frame.{out-Frame}
