@@ -16,3 +16,5 @@ pub mod Lists
 pub mod SeenStates
 pub mod Departs
 pub mod SoundSchedules
+mod SoundCounts
+mod SoundRates

@@ -325,3 +325,30 @@ written_out : (actor_given (source (with_ports [] (action [] [] [] (tree.block (
       initialize = false;
     } ∷ []
 written_out = refl
+
+-- ---- what isn't named behind a variable without a value of use
+
+-- a sum of a truth value
+abbrev of_truth : Tree
+of_truth = tree.function (name (codes "f") 60) tree.nil (number 65) tree.nil (tree.binary op.Add (tree.truth true 75) (tree.number 1 82) 75) 50
+
+abbrev needs_it : List Tree
+needs_it = var (codes "a") (tree.call (codes "f") tree.nil 30) 20 ∷ var (codes "b") (tree.variable (codes "c") 45) 40 ∷ var (codes "c") (tree.number 1 58) 52 ∷ of_truth ∷ []
+
+-- the body is named, and not the later variable that b uses
+behind_a_body : breaks (with_ports [] needs_it) ≡ found 401 75 ∷ []
+unfolding turns.max_turns
+behind_a_body = refl
+
+-- if the header breaks a rule no body is judged, and then the header is named
+behind_a_header : breaks (tree.actor (name (codes "X") 6) tree.nil
+    (listed (tree.port (tree.type_of (name (codes "uint") 10) (listed (tree.value_arg (name (codes "size") 11) (tree.variable (codes "b") 15) ∷ [])) 10) (name (codes "In") 18) 10 ∷ []))
+    tree.nil (listed needs_it) 0)
+    ≡ found 409 15 ∷ []
+unfolding turns.max_turns
+behind_a_header = refl
+
+-- without the function that breaks a rule, the later variable is named
+not_behind_it : breaks (with_ports [] (var (codes "a") (tree.number 1 30) 20 ∷ var (codes "b") (tree.variable (codes "c") 45) 40 ∷ var (codes "c") (tree.number 1 58) 52 ∷ []))
+    ≡ found 409 45 ∷ []
+not_behind_it = refl

@@ -24,7 +24,7 @@ use Rattle.cal_check.proofs.SameParts.{each-of, guard-same, locals-same, output-
 
 -- ---- names inside
 
-fit-pattern : (k : Kind) (names : List (List ℕ)) (n : Names) → ConstantsFit n → ConstantsFit (with_pattern k names n)
+pub fit-pattern : (k : Kind) (names : List (List ℕ)) (n : Names) → ConstantsFit n → ConstantsFit (with_pattern k names n)
 fit-pattern k [] n fit = fit
 fit-pattern k (name ∷ more) n fit = fit-pattern k more (with_known (record { name = name; kind = k; value = None; changes = false }) n) fit
 
@@ -61,11 +61,11 @@ unguarded false guards at n h e = absurd (cc)
 -- ---- actions
 
 -- what is behind the patterns, if these are fine
-behind-none : (o : Option (List Pattern)) (qs : List Pattern) (f : List Pattern → List Violation) → o ≡ Some qs → behind_patterns o f ≡ [] → f qs ≡ []
+pub behind-none : (o : Option (List Pattern)) (qs : List Pattern) (f : List Pattern → List Violation) → o ≡ Some qs → behind_patterns o f ≡ [] → f qs ≡ []
 behind-none None qs f e h = absurd (cc)
 behind-none (Some ps) qs f e h = let same : ps ≡ qs = cc in subst (λ x. f x ≡ []) same h
 
-or-none : {A : Type 0} (o : Option (List A)) (xs : List A) → o ≡ Some xs → or_none o ≡ xs
+pub or-none : {A : Type 0} (o : Option (List A)) (xs : List A) → o ≡ Some xs → or_none o ≡ xs
 or-none None xs e = absurd (cc)
 or-none (Some ys) xs e = cc
 

@@ -1,21 +1,23 @@
 -- What holds of the parts of an actor that break no rule, as statements: written out, they are sound.
 -- Trusted: part of what a promise means.
-use Rattle.std.specs.Prelude.{◌≡◌, ◌≤◌, ℤ, ℕ, ◌++◌, List, [], map, length, Option, None, Some}
+use Rattle.std.specs.Prelude.{◌≡◌, ◌≤◌, ℤ, ℕ, true, false, ◌++◌, List, [], map, length, slice_get, Option, None, Some}
 use Rattle.rvc_base.specs.Storing.{IsSize}
 use Rattle.rvc_base.specs.Width.{IsNum}
 use Rattle.cal_ast.specs.Tree.{Tree}
 use Rattle.cal_model.specs.Value.{Kind, BoolKind, Shape, Num}
 use Rattle.cal_model.specs.Outcome.{Gives}
-use Rattle.cal_model.specs.Actor.{Action, Actor, Fun, Move, Port, Proc}
+use Rattle.cal_model.specs.Actor.{Action, Actor, Fun, Held, Move, Port, Proc}
 use Rattle.cal_model.specs.Call.{fun_named}
 use Rattle.cal_model.specs.Kinding.{Fine, Known, Names, constant, kind, meant_by, type_judged}
-use Rattle.cal_model.specs.Sound.{Each, AreDistinct, AreLocals, AreStatements, AreTagged, IsAction, IsFun, IsMove, IsPlain, IsProc, LeadToOne, max_ports, names_in_patterns, names_of, with_locals}
+use Rattle.cal_model.specs.Sound.{Each, AreDistinct, AreLocals, AreStatements, AreTagged, IsAction, IsFun, IsMove, IsPlain, IsProc, LeadToOne, max_ports, max_rate, names_in_patterns, names_of, scalars_of_vars, with_locals}
 use Rattle.cal_check.specs.Violations.{all_broken, all_fine}
 use Rattle.cal_check.specs.Written.{written, statement_written}
 use Rattle.cal_check.specs.Statements.{names_behind, starts_broken, statement_broken}
 use Rattle.cal_check.specs.Routines.{fun_broken, fun_judged, locals_of, proc_broken, proc_judged}
 use Rattle.cal_check.specs.Actions.{Around, action_broken, action_of, each_guard, guards_written}
 use Rattle.cal_check.specs.Ports.{each_port, header_broken}
+use Rattle.cal_model.specs.Rates.{given_on, taken_on}
+use Rattle.cal_check.specs.Actors.{actions_of, initialized_twice, scalars_of}
 use Rattle.cal_check.specs.Schedules.{moves_in, pairs_in, schedule_broken, states_of}
 use Rattle.cal_check.specs.Formed.{AreDeclared, AreFormed, IsActionFormed, IsFunFormed, IsProcFormed, IsScheduleFormed}
 
@@ -132,3 +134,22 @@ SchedulesAreSound = (schedule : Option Tree) (actor : Actor) → IsScheduleForme
 -- priorities speak of tagged actions alone
 abbrev pub PrioritiesAreSound : Type 0
 PrioritiesAreSound = (members : Tree) (actor : Actor) → Each (AreTagged actor) (pairs_in members actor)
+
+-- an action takes and gives few tokens on each port
+abbrev pub RatesAreSound : Type 0
+RatesAreSound = (a : Tree) (around : Around) (port : ℕ) → IsActionFormed a → ConstantsFit around.names
+    → action_broken a around ≡ []
+    → (taken_on port (action_of a around).patterns ≤ max_rate)
+    × (given_on port (action_of a around).outputs ≤ max_rate)
+
+-- two actions that are an `initialize` are one
+abbrev pub InitializesAreSound : Type 0
+InitializesAreSound = (acts : List Tree) (around : Around) (i j : ℕ) (act other : Action)
+    → initialized_twice false acts ≡ [] → slice_get (actions_of acts around) i ≡ Some act
+    → slice_get (actions_of acts around) j ≡ Some other
+    → act.initialize ≡ true → other.initialize ≡ true → i ≡ j
+
+-- what the limits count are the parts of the actor
+pub record LimitsAreSound : Type 0 where
+  pub actions : (acts : List Tree) (around : Around) → length (actions_of acts around) ≡ length acts
+  pub scalars : (vars : List Held) → scalars_of vars ≡ scalars_of_vars vars

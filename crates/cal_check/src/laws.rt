@@ -2,7 +2,7 @@
 //!
 //! Each law is the contract of a function that does nothing: it is proved with the crate, and can be cited.
 
-ghost use Rattle.cal_check.specs.Laws.{ActionsAreSound, FunctionsAreSound, GuardsAreSound, HeadersAreSound, LocalsAreSound, PrioritiesAreSound, ProceduresAreSound, SchedulesAreSound, StatementsAreSound, WrittenKeepsKinds};
+ghost use Rattle.cal_check.specs.Laws.{ActionsAreSound, FunctionsAreSound, GuardsAreSound, HeadersAreSound, InitializesAreSound, LimitsAreSound, LocalsAreSound, PrioritiesAreSound, ProceduresAreSound, RatesAreSound, SchedulesAreSound, StatementsAreSound, WrittenKeepsKinds};
 
 /// Writing out sizes and bounds keeps the kinds of expressions and types, if constants are numbers of the language.
 pub fn written_keeps_kinds()
@@ -11,7 +11,8 @@ pub fn written_keeps_kinds()
 
 /// The ports of a header, and guards, locals, statements, actions, functions and procedures that break no rule are sound
 /// once they are written out: over the names over which they are judged, and the last three over all names of the same
-/// kinds.
+/// kinds. So are a schedule and priorities; actions take and give few tokens, at most one of them is an `initialize`,
+/// and the limits count what the actor has.
 pub fn what_breaks_no_rule_is_sound()
     ensures header { HeadersAreSound }
     ensures guards { GuardsAreSound }
@@ -22,4 +23,7 @@ pub fn what_breaks_no_rule_is_sound()
     ensures procedures { ProceduresAreSound }
     ensures schedules { SchedulesAreSound }
     ensures priorities { PrioritiesAreSound }
+    ensures rates { RatesAreSound }
+    ensures initialize { InitializesAreSound }
+    ensures limits { LimitsAreSound }
 {}

@@ -4,6 +4,8 @@ use Rattle.cal_check.proofs.SoundHeader.{header-sound}
 use Rattle.cal_check.proofs.SoundLocals.{are-sound}
 use Rattle.cal_check.proofs.SoundRoutines.{fun-sound, proc-sound}
 use Rattle.cal_check.proofs.SoundStatements.{are-right}
+use Rattle.cal_check.proofs.SoundCounts.{count-actions, count-scalars, one-initialize}
+use Rattle.cal_check.proofs.SoundRates.{rates-sound}
 use Rattle.cal_check.proofs.SoundSchedules.{pairs-tagged, schedule-sound}
 use Rattle.cal_check.proofs.laws.what_breaks_no_rule_is_sound.Goals as goal
 
@@ -33,3 +35,12 @@ returns-clause-schedules c = schedule-sound
 
 pub returns-clause-priorities : goal.returns-clause-priorities
 returns-clause-priorities c = pairs-tagged
+
+pub returns-clause-rates : goal.returns-clause-rates
+returns-clause-rates c = rates-sound
+
+pub returns-clause-initialize : goal.returns-clause-initialize
+returns-clause-initialize c = one-initialize
+
+pub returns-clause-limits : goal.returns-clause-limits
+returns-clause-limits c = record { actions = count-actions; scalars = count-scalars }
