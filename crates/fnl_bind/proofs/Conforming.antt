@@ -1,6 +1,6 @@
 -- The tree of networks that break no rule can be flattened.
-use Rattle.std.proofs.Common.{◌≡◌, ◌≢◌, ℕ, zero, suc, ◌+◌, ◌<◌, ◌≤◌, Bool, true, false, List, [], ◌∷◌, ◌++◌, length, map, Option, None, Some, inl, inr, refl, sym, ap, subst, ◌∙◌, arith}
-use Rattle.std.specs.Prelude.{All, AllPairs, slice_get, nat_le, ◌&&◌, max, ℤ, pos, negsuc, if◌then◌else◌}
+use Rattle.std.proofs.Common.{◌≡◌, ℕ, zero, suc, ◌+◌, ◌≤◌, Bool, true, false, List, [], ◌∷◌, ◌++◌, length, map, Option, None, Some, refl, sym, ap, subst, ◌∙◌, arith}
+use Rattle.std.specs.Prelude.{All, slice_get, nat_le, ◌&&◌, pos, negsuc, if◌then◌else◌}
 use Rattle.std.specs.Str.{bytes_eq}
 use Rattle.std.proofs.lemmas.Bool.{leb-true}
 use Rattle.std.proofs.lemmas.List.{length-append}
@@ -15,15 +15,15 @@ use Rattle.cal_model.specs.Outcome.{Out, Gives, Traps, Lacks, Clashes}
 use Rattle.cal_model.specs.Kinding.{Judged, Fine, Broken, and_so, Names, kind, constant}
 use Rattle.net_model.specs.Limits.{max_instances}
 use Rattle.cal_check.specs.Violations.{Violation, violation, unless, fine, all_fine, and_all}
-use Rattle.cal_check.specs.Variables.{Spot, Found, found_in, Given}
+use Rattle.cal_check.specs.Variables.{Spot, Found, Given}
 use Rattle.cal_check.specs.Routines.{single_type}
 use Rattle.fnl_read.specs.Net.{Net, Port, a_port, Instance, an_instance, Size, a_size, Connection, a_connection}
-use Rattle.fnl_tree.specs.Tree.{Inner, InnerNet, InnerLeaf, Part, Own, Wire, Net as BoundNet, Leaf, Tree as BoundTree}
+use Rattle.fnl_tree.specs.Tree.{Inner, InnerNet, InnerLeaf, Own}
 use Rattle.fnl_tree.specs.Sound.{AreDistinct, IsNetSound, IsSound, max_buffer_size}
 use Rattle.fnl_bind.specs.Library.{Entry, network_of, is_among, ports_of, instance_id, instance_class, instance_at}
 use Rattle.fnl_bind.specs.Scopes.{keyed_ports, keyed_instances, named_twice, keyed_decls, ports_broken, unknown_names, circles, scope_broken}
 use Rattle.fnl_bind.specs.Values.{end_judged, ends_judged, ends_of, or_no, size_of_value, size_given, size_of_kind, size_judged, sizes_judged, largest, wire_of, wires_of, max_size_asked}
-use Rattle.fnl_bind.specs.Networks.{Place, Standing, StandsNet, StandsLeaf, StandsNot, standing_as, standing, own_found, found_behind, net_under, leaf_under, net_with, names_at}
+use Rattle.fnl_bind.specs.Networks.{Place, StandsNet, standing_as, standing, own_found, found_behind, net_under, leaf_under, net_with, names_at}
 use Rattle.fnl_bind.specs.Values as values
 use Rattle.fnl_bind.specs.Library as library
 use Rattle.fnl_bind.specs.Trees.{found_standing, found_inside, found_or_inside, found_at, instances_under, instances_inside, instances_at, passing, Grown, Filled, nothing_filled, with_part, filled_by, filled, net_before, grown_at, top_place, tree_of, violations_of}

@@ -1,9 +1,9 @@
 -- The actors of a bound tree are numbered depth first.
-use Rattle.std.proofs.Common.{◌≡◌, ℕ, zero, suc, ◌+◌, List, [], ◌∷◌, ◌++◌, length, Option, None, Some, refl, sym, ap, subst, ◌∙◌, arith}
+use Rattle.std.proofs.Common.{◌≡◌, ℕ, zero, suc, ◌+◌, List, [], ◌∷◌, ◌++◌, length, Some, refl, sym, ap, subst, ◌∙◌, arith}
 use Rattle.std.specs.Prelude.{slice_get}
 use Rattle.std.proofs.lemmas.List.{length-append}
 use Rattle.fnl_read.specs.Net.{Instance}
-use Rattle.fnl_tree.specs.Tree.{Inner, InnerNet, InnerLeaf, Part, Net as BoundNet, Leaf, Tree as BoundTree}
+use Rattle.fnl_tree.specs.Tree.{InnerNet, InnerLeaf, Net as BoundNet, Leaf, Tree as BoundTree}
 use Rattle.fnl_tree.specs.Sound.{LeavesOf, numbers_from}
 use Rattle.fnl_bind.specs.Library.{Entry, instance_id}
 use Rattle.fnl_bind.specs.Networks.{Place, Standing, StandsNet, StandsLeaf, StandsNot, standing}

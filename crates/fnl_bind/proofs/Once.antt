@@ -2,7 +2,7 @@
 use Rattle.std.proofs.Common.{◌≡◌, ℕ, zero, suc, ◌+◌, ◌<◌, List, [], ◌∷◌, ◌++◌, length, Some, refl, sym, ap, subst, arith}
 use Rattle.std.proofs.lemmas.List.{length-append}
 use Rattle.fnl_read.specs.Net.{Instance}
-use Rattle.fnl_tree.specs.Tree.{Inner, InnerNet, InnerLeaf, Part, Net as BoundNet, Leaf}
+use Rattle.fnl_tree.specs.Tree.{Inner, InnerNet, InnerLeaf, Net as BoundNet, Leaf}
 use Rattle.fnl_bind.specs.Library.{Entry, instance_id}
 use Rattle.fnl_bind.specs.Networks.{Place, Standing, StandsNet, StandsLeaf, StandsNot, standing}
 use Rattle.fnl_bind.specs.Trees.{Grown, Filled, nothing_filled, with_part, filled_by, filled, net_before, grown_at, top_place, tree_of}

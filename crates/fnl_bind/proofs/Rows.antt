@@ -1,6 +1,6 @@
 -- Worked networks: the rules that they break, and the trees that they make.
-use Rattle.std.proofs.Common.{◌≡◌, ◌+◌, ℕ, zero, suc, true, false, List, [], ◌∷◌, ◌++◌, pos, negsuc, refl}
-use Rattle.std.specs.Prelude.{None, codes, slice_get}
+use Rattle.std.proofs.Common.{◌≡◌, ◌+◌, ℕ, zero, suc, true, false, List, [], ◌∷◌, pos, refl}
+use Rattle.std.specs.Prelude.{codes, slice_get}
 use Rattle.rvc_base.specs.declared.scalar.Scalar.TheVariants as scalar
 use Rattle.rvc_base.specs.Rules as rules
 use Rattle.rvc_base.specs.declared.refusal.Rule.{Rule}
@@ -8,8 +8,8 @@ use Rattle.cal_ast.specs.declared.expr.BinOp.TheVariants as op
 use Rattle.cal_ast.specs.declared.expr.PrefixOp.TheVariants as prefixes
 use Rattle.cal_ast.specs.Tree as tree
 use Rattle.cal_ast.specs.Tree.{Tree, listed}
-use Rattle.cal_model.specs.Value.{Value, Num, Truth, Items, Nil, Cons}
-use Rattle.cal_check.specs.Variables.{Spot, Found, Given}
+use Rattle.cal_model.specs.Value.{Num}
+use Rattle.cal_check.specs.Variables.{Found}
 use Rattle.fnl_read.specs.Net.{Net, Port, a_port, Decl, a_decl, Parameter, a_parameter, Instance, an_instance, Size, a_size, Connection, a_connection}
 use Rattle.cal_check.specs.Violations.{violation}
 use Rattle.fnl_bind.specs.Scopes.{ports_broken}

@@ -3,7 +3,7 @@
 use Rattle.std.specs.Prelude.{ℕ, Bool, true, false, List, [], ◌∷◌, map, Option, None, Some, if◌then◌else◌}
 use Rattle.std.specs.Str.{bytes_eq}
 use Rattle.cal_ast.specs.Tree.{Tree}
-use Rattle.fnl_read.specs.Net.{Net, Port, a_port, Decl, a_decl, Parameter, a_parameter, Instance, an_instance, Size, a_size, Connection, a_connection}
+use Rattle.fnl_read.specs.Net.{Net, Port, a_port, Decl, a_decl, Parameter, Instance, an_instance}
 use Rattle.cal_check.specs.Variables.{VarDecl}
 
 -- a network that was read, by its class

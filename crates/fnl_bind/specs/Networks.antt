@@ -3,14 +3,14 @@
 -- Its declarations are judged as those of an actor are: each sees those before it, a parameter has the value that it is
 -- given or else its default, and a value is stored in the declared type.
 -- Trusted: part of what a promise means.
-use Rattle.std.specs.Prelude.{ℕ, suc, ◌+◌, Bool, true, false, List, [], ◌∷◌, ◌++◌, length, map, codes, Option, None, Some, if◌then◌else◌}
+use Rattle.std.specs.Prelude.{ℕ, Bool, true, false, List, [], ◌∷◌, ◌++◌, map, codes, Option, None, Some}
 use Rattle.cal_model.specs.Kinding.{Names}
 use Rattle.cal_check.specs.Violations.{Violation, said}
 use Rattle.cal_check.specs.Variables.{Spot, Found, found_in, Given, VarDecl, Valued, none_yet, seen, valued}
-use Rattle.cal_check.specs.Actors.{given_wrongly, is_empty}
-use Rattle.fnl_read.specs.Net.{Net, Instance}
+use Rattle.cal_check.specs.Actors.{given_wrongly}
+use Rattle.fnl_read.specs.Net.{Instance}
 use Rattle.rvc_base.specs.declared.refusal.Place.{Place as FilePlace}
-use Rattle.fnl_tree.specs.Tree.{Binding, Inner, InnerNet, InnerLeaf, Part, Net as BoundNet, Leaf}
+use Rattle.fnl_tree.specs.Tree.{Binding, Part, Net as BoundNet, Leaf}
 use Rattle.fnl_bind.specs.Library.{Entry, network_of, ports_of, var_decls, params_of, instance_id, instance_class, instance_class_at, instance_parameters, instance_at}
 use Rattle.fnl_bind.specs.Scopes.{scope_broken}
 use Rattle.fnl_bind.specs.Values.{values_broken, all_given, ends_of, wires_of}

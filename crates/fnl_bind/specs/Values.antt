@@ -3,21 +3,20 @@
 -- Declarations are evaluated in the order of the text, before all else. So the type of a port, the value of a parameter
 -- of an instance and the size of a connection see each of them.
 -- Trusted: part of what a promise means.
-use Rattle.std.specs.Prelude.{ℕ, ◌&&◌, List, [], ◌∷◌, ◌++◌, map, max, true, nat_le, pos, negsuc, Option, None, Some, if◌then◌else◌}
-use Rattle.rvc_base.specs.declared.scalar.Scalar.{Scalar}
+use Rattle.std.specs.Prelude.{ℕ, ◌&&◌, List, [], ◌∷◌, ◌++◌, map, max, nat_le, pos, negsuc, Option, None, Some, if◌then◌else◌}
 use Rattle.rvc_base.specs.Rules.{constant_traps, not_constant, wrong_buffer_size}
 use Rattle.cal_ast.specs.Places.{begins}
 use Rattle.cal_ast.specs.Tree.{Tree}
-use Rattle.cal_model.specs.Value.{Kind, NumKind, BoolKind, ListKind, Value, Num, Truth, Items}
+use Rattle.cal_model.specs.Value.{Kind, NumKind, BoolKind, ListKind, Value, Num}
 use Rattle.cal_model.specs.Outcome.{Out, Gives, Traps, Lacks, Clashes}
 use Rattle.cal_model.specs.Kinding.{Judged, Fine, Broken, and_so, Names, kind, constant}
-use Rattle.cal_check.specs.Violations.{Violation, broken, fine, all_broken, all_fine, and_all}
+use Rattle.cal_check.specs.Violations.{Violation, all_broken, all_fine, and_all}
 use Rattle.cal_check.specs.Constants.{has_kind}
 use Rattle.cal_check.specs.Routines.{single_type}
 use Rattle.cal_check.specs.Variables.{Given}
 use Rattle.fnl_read.specs.Net.{Port, a_port, Parameter, a_parameter, Instance, Size, a_size, Connection, a_connection}
 use Rattle.fnl_tree.specs.Tree.{Own as NetEnd, Wire}
-use Rattle.fnl_bind.specs.Library.{ports_of, instance_parameters}
+use Rattle.fnl_bind.specs.Library.{instance_parameters}
 
 -- ---- ports
 
