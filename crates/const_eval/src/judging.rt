@@ -16,9 +16,9 @@ ghost use Rattle.const_eval.specs.Fitting.{capped, fit_of, formal_fits};
 ghost use Rattle.const_eval.specs.Judging.{Judges};
 ghost use Rattle.const_eval.specs.Shaping.{argument_judged, argument_view};
 
-use crate::inside::Inside;
 use crate::fault::KindFault;
 use crate::filled::Filled;
+use crate::inside::Inside;
 use crate::kinds::{
     Fit, binary_kind, branch_kind, item_kind, kind_of_scalar, list_of_kind, one_kind, prefix_kind,
     product, wrong_kind,
@@ -120,7 +120,11 @@ fn kind_of_call(names: &Names, name: &str, args: &[Expr], at: u32) -> Result<Kin
 
 /// Whether there are as many arguments as formals, each of its formal's kind.
 #[cycle(kind)]
-pub fn arguments_fit(names: &Names, args: &[Expr], formals: &[BoundLocal]) -> Result<bool, KindFault>
+pub fn arguments_fit(
+    names: &Names,
+    args: &[Expr],
+    formals: &[BoundLocal],
+) -> Result<bool, KindFault>
     ensures { Judges (λ fit. fit) result
         (arguments_fit (listed (map expr_tree args.now)) (map local_view formals.now)
         (names_view names.now)) }
