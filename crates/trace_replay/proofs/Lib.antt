@@ -19,3 +19,4 @@ pub mod Ended
 pub mod Widened
 pub mod Stepped
 pub mod Whole
+pub mod Looped

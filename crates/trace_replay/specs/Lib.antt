@@ -8,3 +8,4 @@ pub mod Trying
 pub mod Feeding
 pub mod Ending
 pub mod Between
+pub mod Events

@@ -7,6 +7,7 @@ ghost use Rattle.trace_replay.specs.Between.{CanGoOn, EndsBy, FailsBy, GoesBy, I
 ghost use Rattle.trace_replay.specs.declared.came.Came.TheVariants as came;
 ghost use Rattle.trace_replay.specs.declared.why.Why.TheVariants as why;
 ghost use Rattle.trace_replay.specs.Feeding.{PullsInputs};
+ghost use Rattle.trace_replay.specs.Judging.{is_end};
 
 use crate::came::Came;
 use crate::delivering::deliver_all;
@@ -199,6 +200,8 @@ impl<A: Firing> Replay<A> {
         ensures fails { IfFails result (FailsBy self.old.grow line.now
             (between A.cell self.old.state self.old.sources.items self.old.rested
             (F.feeds feeds.old))) }
+        ensures goes_on { OnGoes result (is_end line.now ≡ false) }
+        ensures is_end { OnEnds result (is_end line.now ≡ true) }
         ensures failed { OnFeedFails result (ReadFails F.feeds feeds.old feeds.new) }
         ensures still_count { OnGoes result (self.new.count ≡ length self.new.state.cells) }
         ensures grow { OnGoes result (self.new.grow ≡ self.old.grow) }

@@ -6,6 +6,7 @@ mod bytes;
 mod came;
 mod delivering;
 mod ending;
+mod events;
 mod growing;
 mod head;
 mod laws;

@@ -1,0 +1,71 @@
+//! The lines of a run, one after another up to the end line.
+
+ghost use Rattle.std.specs.Prelude.{◌≡◌, true, IfOk, IfErr, length};
+ghost use Rattle.rvc_io.specs.Feeds.{ReadFails};
+ghost use Rattle.trace_replay.specs.Between.{CanGoOn, between};
+ghost use Rattle.trace_replay.specs.Events.{EventsEnd, EventsJudged};
+ghost use Rattle.trace_replay.specs.Head.{JudgesEnd, PassesEnd};
+ghost use Rattle.trace_replay.specs.Reading.{IsCounted, OnReadFault};
+ghost use Rattle.trace_replay.specs.declared.bytes.TheConstants.{TRACE_FEED};
+
+use crate::between::Replay;
+use crate::came::Came;
+use crate::reading::{Trace, finish, not_run};
+use crate::why::ReplayFault;
+use net_model::Firing;
+use rvc_io::Feeds;
+use trace_text::Line;
+
+/// Reads lines of a run up to its end line, and whether the trace ends there.
+///
+/// # Errors
+///
+/// `NotRun` if a line may not come, with its number and why. `ReadFault` if bytes couldn't be pulled.
+pub(crate) fn read_events<A: Firing, F: Feeds>(
+    trace: &mut Trace,
+    replay: &mut Replay<A>,
+    feeds: &mut F,
+) -> Result<Line, ReplayFault>
+    requires open { (F.feeds feeds.old).is_open TRACE_FEED ≡ true }
+    requires counted { IsCounted trace.old.count trace.old.lines.passed }
+    requires count { replay.old.count ≡ length replay.old.state.cells }
+    requires ready { CanGoOn (between A.cell replay.old.state replay.old.sources.items
+        replay.old.rested (F.feeds feeds.old)) replay.old.links.items replay.old.grow }
+    ensures ended { IfOk result (EventsEnd trace.old (between A.cell replay.old.state
+        replay.old.sources.items replay.old.rested (F.feeds feeds.old)) replay.old.grow) }
+    ensures judged { IfErr result (EventsJudged trace.old (between A.cell replay.old.state
+        replay.old.sources.items replay.old.rested (F.feeds feeds.old)) replay.old.grow) }
+    ensures failed { OnReadFault result (ReadFails F.feeds feeds.old feeds.new) }
+{
+    'lines: loop {
+        let read = match trace.next_line(&[], &[], feeds) {
+            Ok(read) => read,
+            Err(fault) => return Err(fault),
+        };
+        match replay.come(&read.line, feeds) {
+            Came::Goes => {}
+            Came::Ends => return end_at::<A, F>(trace, read.line, feeds),
+            Came::Fails(why) => return Err(not_run(trace.number(), why)),
+            Came::FeedFails(feed) => return Err(ReplayFault::ReadFault { feed }),
+        }
+    }
+}
+
+/// The end line that was read, if the trace ends behind it.
+fn end_at<A: Firing, F: Feeds>(
+    trace: &mut Trace,
+    end: Line,
+    feeds: &mut F,
+) -> Result<Line, ReplayFault>
+    requires open { (F.feeds feeds.old).is_open TRACE_FEED ≡ true }
+    requires counted { IsCounted trace.old.count trace.old.lines.passed }
+    ensures whole { IfOk result (λ line. (line ≡ end)
+        × PassesEnd A.State trace.old (F.feeds feeds.old)) }
+    ensures judged { IfErr result (JudgesEnd A.State trace.old (F.feeds feeds.old)) }
+    ensures failed { OnReadFault result (ReadFails F.feeds feeds.old feeds.new) }
+{
+    match finish::<A, F>(trace, feeds) {
+        Ok(()) => Ok(end),
+        Err(fault) => Err(fault),
+    }
+}
