@@ -125,9 +125,11 @@ constant_known name (k ∷ ks) = by_value k.value refl (constant_known name ks)
     by_name : (b : Bool) (v : Value) (o : Option Known) (p : Option Value) → k.value ≡ Some v → p ≡ value_known o → (if b then Some v else p) ≡ value_known (if b then Some k else o)
     by_name true v o p e f = sym e
     by_name false v o p e f = f
+
     by_none : (b : Bool) (o : Option Known) (p : Option Value) → k.value ≡ None → p ≡ value_known o → (if b then None else p) ≡ value_known (if b then Some k else o)
     by_none true o p e f = sym e
     by_none false o p e f = f
+
     by_value : (v : Option Value) → k.value ≡ v → constant_named name (constants_among ks) ≡ value_known (known_as name ks)
         → constant_named name (elim v [ None ↦ other_constants k.name (constants_among ks) | Some w ↦ record { name = k.name; value = w } ∷ constants_among ks ]) ≡ value_known (if bytes_eq k.name name then Some k else known_as name ks)
     by_value None e rest = find_others name k.name (constants_among ks) ∙ by_none (bytes_eq k.name name) (known_as name ks) (constant_named name (constants_among ks)) e rest

@@ -16,9 +16,9 @@ ghost use Rattle.const_eval.specs.Fitting.{capped, fit_of, formal_fits};
 ghost use Rattle.const_eval.specs.Judging.{Judges};
 ghost use Rattle.const_eval.specs.Shaping.{argument_judged, argument_view};
 
-use crate::inside::Inside;
 use crate::fault::KindFault;
 use crate::filled::Filled;
+use crate::inside::Inside;
 use crate::kinds::{
     Fit, binary_kind, branch_kind, item_kind, kind_of_scalar, list_of_kind, one_kind, prefix_kind,
     product, wrong_kind,
@@ -30,7 +30,12 @@ use cal_ast::{BinOp, Expr, ExprForm, Gen, TypeArg, TypeExpr};
 use cal_model::{BoundLocal, Kind, MAX_LIST_SCALARS, Shape, Value, kind_of_type};
 use rvc_base::{Num, Rule};
 
-/// The kind of an expression.
+/// The kind of an expression over names.
+///
+/// # Errors
+///
+/// `Broken` if it breaks a rule: the first one, parts before wholes and from left to right, and its place. `Memory` if
+/// memory runs out.
 #[cycle(kind)]
 pub fn kind(names: &Names, e: &Expr) -> Result<Kind, KindFault>
     ensures { Judges kind_view result (kind (expr_tree e.now) (names_view names.now)) }
@@ -119,8 +124,17 @@ fn kind_of_call(names: &Names, name: &str, args: &[Expr], at: u32) -> Result<Kin
 }
 
 /// Whether there are as many arguments as formals, each of its formal's kind.
+///
+/// # Errors
+///
+/// `Broken` if it breaks a rule: the first one, parts before wholes and from left to right, and its place. `Memory` if
+/// memory runs out.
 #[cycle(kind)]
-pub fn arguments_fit(names: &Names, args: &[Expr], formals: &[BoundLocal]) -> Result<bool, KindFault>
+pub fn arguments_fit(
+    names: &Names,
+    args: &[Expr],
+    formals: &[BoundLocal],
+) -> Result<bool, KindFault>
     ensures { Judges (λ fit. fit) result
         (arguments_fit (listed (map expr_tree args.now)) (map local_view formals.now)
         (names_view names.now)) }
@@ -276,6 +290,11 @@ fn span(low: Num, high: Num) -> u32
 // ---- constants
 
 /// The number that a constant expression gives.
+///
+/// # Errors
+///
+/// `Broken` if it breaks a rule: the first one, parts before wholes and from left to right, and its place. `Memory` if
+/// memory runs out.
 #[cycle(kind)]
 pub fn constant_number(names: &Names, e: &Expr) -> Result<Num, KindFault>
     ensures { Judges (λ z. z) result
@@ -315,6 +334,11 @@ fn number_given(names: &Names, e: &Expr) -> Result<Num, KindFault>
 // ---- types
 
 /// The type that a type in a source is.
+///
+/// # Errors
+///
+/// `Broken` if it breaks a rule: the first one, parts before wholes and from left to right, and its place. `Memory` if
+/// memory runs out.
 #[cycle(kind)]
 pub fn type_judged(names: &Names, t: &TypeExpr) -> Result<Shape, KindFault>
     ensures judged { Judges shape_view result

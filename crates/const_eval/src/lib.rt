@@ -5,7 +5,6 @@
 #![tactic(auto)]
 
 mod constant;
-mod inside;
 mod entry;
 mod env;
 mod evaluate;
@@ -13,6 +12,7 @@ mod fault;
 mod filled;
 mod finding;
 mod held;
+mod inside;
 mod judging;
 mod kinds;
 mod lengths;

@@ -12,8 +12,8 @@ ghost use Rattle.cal_model.specs.View.{value_view};
 ghost use Rattle.const_eval.specs.Outcome.{Evaluates};
 ghost use Rattle.const_eval.specs.Scoping.{calls, chain, declared_name, frame, local_var, seen};
 
-use crate::inside::{Inside, meant_inside};
 use crate::env::Env;
+use crate::inside::{Inside, meant_inside};
 use crate::stop::Stop;
 use crate::value::copy;
 use cal_ast::Ident;
