@@ -117,7 +117,7 @@ fn is_like(k: &Kind, l: &Kind) -> bool
 ///
 /// # Errors
 ///
-/// `Broken`: T2 if only lengths of lists differ, and else T1, both at the offset that is handed in.
+/// `Broken`: T5 if only lengths of lists differ, and else T1, both at the offset that is handed in.
 pub fn one_kind(k: &Kind, l: &Kind, at: u32) -> Result<(), KindFault>
     ensures { Judges (λ _. kind_view k.now) result
         (one_kind (kind_view k.now) (kind_view l.now) at) }
