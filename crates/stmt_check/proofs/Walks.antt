@@ -42,8 +42,7 @@ pub vars_next : (rest others all : List VarDecl) (v : VarDecl) (x : Variable) (x
     → Declares (Ok x) (var_tree v) (seen_behind xs names) → AreBehind rest (seen_behind xs names) all outer → AreBehind others (seen_behind news names) all outer
 vars_next rest others all v x xs news names outer is new fine before =
     let here = seen_behind xs names in
-    let next : seen_behind news names ≡ with_known (known_variable (variable_view x)) here = seen_next xs news x names new in
-    (
+    let next : seen_behind news names ≡ with_known (known_variable (variable_view x)) here = seen_next xs news x names new in (
       ap (λ ns. starts_broken (listed (map var_tree others)) ns) next
           ∙ sym (goes (var_broken (var_tree v) here) (behind (type_of_var (var_tree v) here) (var_tree v) here) (with_known (known_variable (variable_view x)) here) (λ inner. starts_broken (listed (map var_tree others)) inner) fine.0 fine.1)
           ∙ sym (ap (λ vs. starts_broken (listed (map var_tree vs)) here) is) ∙ before.0,

@@ -118,12 +118,7 @@ fn branches(
 
 /// A loop over a condition.
 #[cycle(stmt)]
-fn while_stmt(
-    names: &Names,
-    procs: &[BoundProc],
-    e: &Expr,
-    body: &[Stmt],
-) -> Result<(), KindFault>
+fn while_stmt(names: &Names, procs: &[BoundProc], e: &Expr, body: &[Stmt]) -> Result<(), KindFault>
     ensures { Checks result (broken (test_judged (expr_tree e.now) (names_view names.now))
         ++ statement_broken (listed (map stmt_tree body.now)) (map proc_view procs.now)
         (names_view names.now)) }
