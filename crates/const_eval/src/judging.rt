@@ -30,12 +30,7 @@ use cal_ast::{BinOp, Expr, ExprForm, Gen, TypeArg, TypeExpr};
 use cal_model::{BoundLocal, Kind, MAX_LIST_SCALARS, Shape, Value, kind_of_type};
 use rvc_base::{Num, Rule};
 
-/// The kind of an expression over names.
-///
-/// # Errors
-///
-/// `Broken` if it breaks a rule: the first one, parts before wholes and from left to right, and its place. `Memory` if
-/// memory runs out.
+/// The kind of an expression.
 #[cycle(kind)]
 pub fn kind(names: &Names, e: &Expr) -> Result<Kind, KindFault>
     ensures { Judges kind_view result (kind (expr_tree e.now) (names_view names.now)) }
@@ -124,11 +119,6 @@ fn kind_of_call(names: &Names, name: &str, args: &[Expr], at: u32) -> Result<Kin
 }
 
 /// Whether there are as many arguments as formals, each of its formal's kind.
-///
-/// # Errors
-///
-/// `Broken` if it breaks a rule: the first one, parts before wholes and from left to right, and its place. `Memory` if
-/// memory runs out.
 #[cycle(kind)]
 pub fn arguments_fit(
     names: &Names,
@@ -290,11 +280,6 @@ fn span(low: Num, high: Num) -> u32
 // ---- constants
 
 /// The number that a constant expression gives.
-///
-/// # Errors
-///
-/// `Broken` if it breaks a rule: the first one, parts before wholes and from left to right, and its place. `Memory` if
-/// memory runs out.
 #[cycle(kind)]
 pub fn constant_number(names: &Names, e: &Expr) -> Result<Num, KindFault>
     ensures { Judges (λ z. z) result
@@ -334,11 +319,6 @@ fn number_given(names: &Names, e: &Expr) -> Result<Num, KindFault>
 // ---- types
 
 /// The type that a type in a source is.
-///
-/// # Errors
-///
-/// `Broken` if it breaks a rule: the first one, parts before wholes and from left to right, and its place. `Memory` if
-/// memory runs out.
 #[cycle(kind)]
 pub fn type_judged(names: &Names, t: &TypeExpr) -> Result<Shape, KindFault>
     ensures judged { Judges shape_view result

@@ -114,10 +114,6 @@ fn is_like(k: &Kind, l: &Kind) -> bool
 }
 
 /// That both are one kind.
-///
-/// # Errors
-///
-/// `Broken`: T5 if only lengths of lists differ, and else T1, both at the offset that is handed in.
 pub fn one_kind(k: &Kind, l: &Kind, at: u32) -> Result<(), KindFault>
     ensures { Judges (λ _. kind_view k.now) result
         (one_kind (kind_view k.now) (kind_view l.now) at) }
@@ -309,10 +305,6 @@ fn over_truths(op: BinOp, at: u32) -> Result<Kind, KindFault>
 }
 
 /// The kind of an item of a list.
-///
-/// # Errors
-///
-/// `Broken`: T1 if the base is no list or the place no number, at the offset that is handed in.
 pub fn item_kind(base: Kind, place: &Kind, at: u32) -> Result<Kind, KindFault>
     ensures { Judges kind_view result (item_kind (kind_view base) (kind_view place.now) at) }
 {

@@ -202,10 +202,6 @@ fn scalars_in(t: &Shape) -> u32
 }
 
 /// That a type is one of numbers, as that of a generator's variable is.
-///
-/// # Errors
-///
-/// `Broken`: T1 if it is another one, at the offset that is handed in.
 pub fn counts(t: &Shape, at: u32) -> Result<(), KindFault>
     ensures { Judges (λ _. shape_view t.now) result (counts (shape_view t.now) at) }
 {
