@@ -19,7 +19,7 @@ use Rattle.cal_model.specs.Env.{Env}
 use Rattle.cal_model.specs.Expression.{Calls, computed, prefixed, with_right, eval, span}
 use Rattle.cal_model.specs.Actor.{Local, Fun}
 use Rattle.cal_model.specs.Call.{fun_named}
-use Rattle.cal_model.specs.Kinding.{Judged, Fine, Broken, Names, Argument, OfShape, OfSize, and_so, kind, kinds, arguments_fit, elements_in, type_judged, type_arguments, type_with, constant, constant_number, number_given, with_counters, with_known, counter, is_word, one_kind, counts, list_kind, list_of_kind, item_kind, branch_kind, prefix_kind, binary_kind}
+use Rattle.cal_model.specs.Kinding.{Judged, Fine, Broken, Known, Names, Argument, OfShape, OfSize, and_so, kind, kinds, arguments_fit, elements_in, type_judged, type_arguments, type_with, constant, constant_number, number_given, with_counters, with_known, counter, is_word, one_kind, counts, list_kind, list_of_kind, item_kind, branch_kind, prefix_kind, binary_kind}
 use Rattle.cal_model.proofs.Numbers.{num-is, is-num}
 use Rattle.cal_model.proofs.KindValues.{not-fine, fine-is, split, tested}
 use Rattle.cal_check.specs.Written.{number_tree, constant_written, written, gens_written}
@@ -102,7 +102,7 @@ given-is Clashes at z h = absurd (not-fine _ at z h)
 is-a-number : (e : Tree) (names : Names) (z : ℤ) → ConstantsFit names → constant_number (kind e names) e names ≡ Fine z → IsNum z
 is-a-number e names z fit h =
     let g = given-is (constant e names) (begins e) z (constant-gives (kind e names) e names z h) in
-    fit names.locals e z g.0 g.1
+    fit.1 names.locals e z g.0 fit.0 g.1
 
 pub constant-kept : (e : Tree) (names : Names) (z : ℤ) → ConstantsFit names → constant_number (kind e names) e names ≡ Fine z
     → constant_number (kind (constant_written e names) names) (constant_written e names) names ≡ Fine z
@@ -135,8 +135,12 @@ counters-same (tree.cons (tree.gen shape (tree.ident name place) from to at) gen
     counters-same gens (with_known (counter name) names) (with_known (counter name) inner)
 counters-same other names inner = refl
 
+-- one more name inside, which is no constant
+pub fit-more : (x : Known) (names : Names) → x.value ≡ None → ConstantsFit names → ConstantsFit (with_known x names)
+fit-more x names e fit = ((e, fit.0), fit.1)
+
 fit-inside : (gens : Tree) (names : Names) → ConstantsFit names → ConstantsFit (with_counters gens names)
-fit-inside (tree.cons (tree.gen shape (tree.ident name place) from to at) gens) names fit = fit-inside gens (with_known (counter name) names) fit
+fit-inside (tree.cons (tree.gen shape (tree.ident name place) from to at) gens) names fit = fit-inside gens (with_known (counter name) names) (fit-more (counter name) names refl fit)
 fit-inside other names fit = fit
 
 -- ---- expressions
@@ -248,7 +252,7 @@ mutual
       (and-fine (constant_number (kind (constant_written from names) names) (constant_written from names) names) _ a.0 n (constant-kept from names a.0 fit a.1)
       (and-fine (constant_number (kind (constant_written to names) names) (constant_written to names) names) _ b.0 n (constant-kept to names b.0 fit b.1)
       (and-fine (elements_in (gens_written gens (with_known (counter name) names)) (with_known (counter name) names)) (λ n. Fine (span a.0 b.0 * n)) m.0 n
-      (elements-kept gens (with_known (counter name) names) m.0 fit m.1) m.2))))
+      (elements-kept gens (with_known (counter name) names) m.0 (fit-more (counter name) names refl fit) m.1) m.2))))
   elements-kept other names n fit h = absurd (not-fine wrong_kind 0 n h)
 
   pub type-kept : (shape : Tree) (names : Names) (t : Shape) → ConstantsFit names → type_judged shape names ≡ Fine t → type_judged (written shape names) names ≡ Fine t

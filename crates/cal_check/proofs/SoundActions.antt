@@ -16,6 +16,7 @@ use Rattle.cal_check.specs.Actions.{action_broken, action_if, action_of, action_
 use Rattle.cal_check.specs.Formed.{AreFormed, IsActionFormed}
 use Rattle.cal_check.specs.Laws.{AreAlike, ConstantsFit, HasDistinctNames, around_in}
 use Rattle.cal_check.proofs.Fine.{if-none, none-of, unless-true}
+use Rattle.cal_check.proofs.KeptKinds.{fit-more}
 use Rattle.cal_check.proofs.SoundGuards.{are-guards}
 use Rattle.cal_check.proofs.SoundLocals.{are-sound}
 use Rattle.cal_check.proofs.SoundStatements.{are-right}
@@ -26,7 +27,7 @@ use Rattle.cal_check.proofs.SameParts.{each-of, guard-same, locals-same, output-
 
 pub fit-pattern : (k : Kind) (names : List (List ℕ)) (n : Names) → ConstantsFit n → ConstantsFit (with_pattern k names n)
 fit-pattern k [] n fit = fit
-fit-pattern k (name ∷ more) n fit = fit-pattern k more (with_known (record { name = name; kind = k; value = None; changes = false }) n) fit
+fit-pattern k (name ∷ more) n fit = fit-pattern k more (with_known (record { name = name; kind = k; value = None; changes = false }) n) (fit-more (record { name = name; kind = k; value = None; changes = false }) n refl fit)
 
 fit-patterns : (actor : Actor) (qs : List Pattern) (n : Names) → ConstantsFit n → ConstantsFit (with_patterns actor qs n)
 fit-patterns actor [] n fit = fit

@@ -17,7 +17,7 @@ use Rattle.cal_check.specs.Formed.{AreDeclared, IsOptional}
 use Rattle.cal_check.specs.Laws.{ConstantsFit}
 use Rattle.cal_check.proofs.Fine.{broken-none, none-of, stored-is}
 use Rattle.cal_check.proofs.PlainTrees.{plain, type-plain}
-use Rattle.cal_check.proofs.KeptKinds.{kept, type-kept}
+use Rattle.cal_check.proofs.KeptKinds.{fit-more, kept, type-kept}
 
 -- a start that breaks nothing
 record IsStart (start : Tree) (t : Shape) (names : Names) : Type 0 where
@@ -106,5 +106,5 @@ are-sound (tree.cons (tree.var shape (tree.ident name place) start changes at) v
     let mine : start_broken (Fine t.0) start names ≡ [] = ap (λ j. start_broken j start names) (sym t.1) ∙ parts.0 in
     let rest : starts_broken vs b.0 ≡ [] = ap (λ j. while_fine j (λ n. starts_broken vs n)) (sym b.1) ∙ parts.1 in
     one-more shape name place start changes at vs names inner t.0 t.1 fit (is-start start t.0 names d.0 fit mine)
-    (are-sound vs next inner d.1 fit (subst (λ n. names_behind vs n ≡ Fine inner) same b.2) (subst (λ n. starts_broken vs n ≡ []) same rest))
+    (are-sound vs next inner d.1 (fit-more (known_var name changes t.0) names refl fit) (subst (λ n. names_behind vs n ≡ Fine inner) same b.2) (subst (λ n. starts_broken vs n ≡ []) same rest))
 are-sound other names inner d fit h i = absurd d

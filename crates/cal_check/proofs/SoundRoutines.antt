@@ -20,6 +20,7 @@ use Rattle.cal_check.specs.Routines.{Head, formal_judged, formal_of, formals_jud
 use Rattle.cal_check.specs.Formed.{AreDeclared, IsFunFormed, IsProcFormed}
 use Rattle.cal_check.specs.Laws.{AreAlike, ConstantsFit}
 use Rattle.cal_check.proofs.Fine.{if-none, none-of}
+use Rattle.cal_check.proofs.KeptKinds.{fit-more}
 use Rattle.cal_check.proofs.SameNames.{same}
 use Rattle.cal_check.proofs.SameParts.{locals-same, statements-same, with-locals-alike}
 use Rattle.cal_check.proofs.SoundHeader.{single-is}
@@ -49,7 +50,7 @@ are-formals other names xs h = absurd (not-fine unknown_name 0 xs h)
 
 fit-locals : (xs : List Local) (names : Names) → ConstantsFit names → ConstantsFit (with_locals xs names)
 fit-locals [] names fit = fit
-fit-locals (x ∷ xs) names fit = fit-locals xs (with_known (known_local x) names) fit
+fit-locals (x ∷ xs) names fit = fit-locals xs (with_known (known_local x) names) (fit-more (known_local x) names refl fit)
 
 -- ---- procedures
 

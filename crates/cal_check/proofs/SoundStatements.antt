@@ -19,7 +19,7 @@ use Rattle.cal_check.specs.Formed.{AreFormed, IsFormed}
 use Rattle.cal_check.specs.Laws.{ConstantsFit}
 use Rattle.cal_check.proofs.Fine.{broken-none, if-none, none-of, stored-is, unless-true}
 use Rattle.cal_check.proofs.PlainTrees.{plain, all-plain, arguments-plain, type-plain}
-use Rattle.cal_check.proofs.KeptKinds.{kept, all-kept, arguments-kept, type-kept, begins-written}
+use Rattle.cal_check.proofs.KeptKinds.{kept, all-kept, arguments-kept, type-kept, begins-written, fit-more}
 use Rattle.cal_check.proofs.SoundLocals.{AreSound, are-sound}
 
 -- what is written has the kind that is asked for, and is plain
@@ -139,7 +139,7 @@ mutual
       let t = split (type_judged shape names) (λ t. counts t (begins shape)) c.0 c.1 in
       let a = of-kind NumKind from names fit q.0 in
       let b = of-kind NumKind to names fit r.0 in
-      let body_right = are-right body procs (with_known (counter name) names) f fit r.1 in
+      let body_right = are-right body procs (with_known (counter name) names) f (fit-more (counter name) names refl fit) r.1 in
       record {
         is = (
           t.0,

@@ -21,10 +21,16 @@ use Rattle.cal_check.specs.Actors.{actions_of, initialized_twice, scalars_of}
 use Rattle.cal_check.specs.Schedules.{moves_in, pairs_in, schedule_broken, states_of}
 use Rattle.cal_check.specs.Formed.{AreDeclared, AreFormed, IsActionFormed, IsFunFormed, IsProcFormed, IsScheduleFormed}
 
--- what a constant expression gives is a number of the language, whatever is declared inside
+-- none of these names is a constant with a value, as those that are declared inside
+abbrev pub AreBare : List Known → Type 0
+AreBare locals = Each (λ x. x.value ≡ None) locals
+
+-- no name inside is a constant, and what a constant expression gives is a number of the language, whatever is declared
+-- inside
 abbrev pub ConstantsFit : Names → Type 0
-ConstantsFit names = (locals : List Known) (e : Tree) (z : ℤ) (left : ℕ)
-    → constant e (record names { locals = locals }) ≡ Gives (Num z) left → IsNum z
+ConstantsFit names = AreBare names.locals
+    × ((locals : List Known) (e : Tree) (z : ℤ) (left : ℕ) → AreBare locals
+    → constant e (record names { locals = locals }) ≡ Gives (Num z) left → IsNum z)
 
 -- both names are of one kind and may both be assigned or not, or both are unknown
 abbrev pub IsKnownLike : Option Known → Option Known → Type 0
