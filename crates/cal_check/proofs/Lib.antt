@@ -18,3 +18,4 @@ pub mod Departs
 pub mod SoundSchedules
 mod SoundCounts
 mod SoundRates
+mod SoundVariables

@@ -352,3 +352,31 @@ behind_a_header = refl
 not_behind_it : breaks (with_ports [] (var (codes "a") (tree.number 1 30) 20 ∷ var (codes "b") (tree.variable (codes "c") 45) 40 ∷ var (codes "c") (tree.number 1 58) 52 ∷ []))
     ≡ found 409 45 ∷ []
 not_behind_it = refl
+
+-- ---- a start that runs a body whose types aren't known yet
+
+-- a function whose local has the size k
+abbrev sized_later : Tree
+sized_later = tree.function (name (codes "f") 60) tree.nil (number 65)
+    (listed (tree.var (tree.type_of (name (codes "int") 70) (listed (tree.value_arg (name (codes "size") 74) (tree.variable (codes "k") 79) ∷ [])) 70)
+    (name (codes "x") 82) (tree.present (tree.number 1 86)) true 70 ∷ []))
+    (tree.variable (codes "x") 90) 50
+
+abbrev constant : ℕ → Tree
+constant at = tree.var (number at) (name (codes "k") (at + 4)) (tree.present (tree.number 8 (at + 8))) false at
+
+-- the size is declared behind the start: the start isn't constant
+sized_too_late : breaks (with_ports [] (var (codes "a") (tree.call (codes "f") tree.nil 30) 20 ∷ constant 40 ∷ sized_later ∷ [])) ≡ found 409 30 ∷ []
+unfolding turns.max_turns
+sized_too_late = refl
+
+-- .. and before it
+sized_in_time : (actor_given (source (with_ports [] (constant 10 ∷ var (codes "a") (tree.call (codes "f") tree.nil 30) 20 ∷ sized_later ∷ []))) [] words).vars
+    ≡ record { name = codes "k"; shape = Single (scalar.Int 32); value = Num (pos 8); changes = false }
+    ∷ record { name = codes "a"; shape = Single (scalar.Int 32); value = Num (pos 1); changes = true } ∷ []
+unfolding turns.max_turns
+sized_in_time = refl
+
+conforms_in_time : breaks (with_ports [] (constant 10 ∷ var (codes "a") (tree.call (codes "f") tree.nil 30) 20 ∷ sized_later ∷ [])) ≡ []
+unfolding turns.max_turns
+conforms_in_time = refl

@@ -30,7 +30,7 @@ never : {A : Type 0} (b : Bool) (r s : Rule) (p q : ℕ) (a : A) → (if b then 
 never true r s p q a h = not-fine r p a h
 never false r s p q a h = not-fine s q a h
 
-yet-fine : {A : Type 0} (j : Judged A) (e : Tree) (a : A) → not_yet j e ≡ Fine a → j ≡ Fine a
+pub yet-fine : {A : Type 0} (j : Judged A) (e : Tree) (a : A) → not_yet j e ≡ Fine a → j ≡ Fine a
 yet-fine (Fine b) e a h = h
 yet-fine (Broken rule at) e a h = absurd (never (rule.0 == unknown_name.0) not_constant rule (constant_place at e) at a h)
 

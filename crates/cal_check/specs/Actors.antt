@@ -2,10 +2,11 @@
 -- 23001-4, RVC-CAL: actors).
 --
 -- All names are written in full: each use of what another file declares has the text that stands for it.
--- Not trusted: no promise is read with it.
+-- Trusted: part of what a promise means.
 use Rattle.std.specs.Prelude.{◌≡◌, ◌⊎◌, ℕ, zero, suc, ◌+◌, Bool, true, false, ◌||◌, ◌&&◌, not, ◌==◌, nat_le, List, [], ◌∷◌, ◌++◌, map, length, Contains, None, Some, if◌then◌else◌}
 use Rattle.std.specs.Str.{bytes_eq}
 use Rattle.rvc_base.specs.Rules.{wrong_parameter, not_constant, wrong_initialize, too_many_actions, too_many_variables, priority_cycle}
+use Rattle.cal_ast.specs.Places.{begins}
 use Rattle.cal_ast.specs.Tree as tree
 use Rattle.cal_ast.specs.Tree.{Tree}
 use Rattle.cal_model.specs.Value.{scalars_of_type}
@@ -390,14 +391,37 @@ said_or_all (f ∷ fs) all = f ∷ fs
 abbrev pub all_found : Source → List Given → Spot → Around → List Found
 all_found s gs owner around = (all_valued s gs owner).breaks ++ behind_variables s gs owner around
 
+abbrev pub declared_vars : Source → List VarDecl
+declared_vars s =
+    s.vars
+    ++ (params_in s.file (params_of s.actor) ++ vars_in s.file (members_of s.actor))
+
+abbrev pub is_held : List ℕ → List Held → Bool
+is_held name [] = false
+is_held name (x ∷ xs) = bytes_eq x.name name || is_held name xs
+
+-- The first variable without a value isn't constant. An evaluation that comes to nothing of use has met a part that isn't
+-- known yet, if no body that it ran breaks a rule.
+abbrev pub first_valueless : List VarDecl → List Held → Spot → List Found
+first_valueless [] held owner = found_in owner.file (violation not_constant owner.at)
+first_valueless (x ∷ xs) held owner =
+    if is_held x.name held then first_valueless xs held owner
+    else found_in x.file (violation not_constant (begins x.start))
+
+abbrev pub valueless_found : Source → Spot → Valued → List Found
+valueless_found s owner vs =
+    if vs.useless || not vs.whole then first_valueless (declared_vars s) vs.held owner else []
+
 -- The rules that an actor breaks, over the values that are given to its parameters; `owner` is the place of a parameter
 -- without value. Nothing is said of what isn't constant if some head breaks a rule, and nothing behind the variables
--- if one of them has no value that is of use; but all is said if else nothing were.
+-- if one of them has no value that is of use; but all is said if else nothing were, and a variable without a value is
+-- never passed over.
 abbrev pub violations_over : Source → List Given → Spot → Around → List Found
 violations_over s gs owner around =
     said_or_all (all_said (not (has_heads s around)) ((all_valued s gs owner).breaks
     ++ all_said (all_valued s gs owner).useless (behind_variables s gs owner around)))
-    (all_found s gs owner around)
+    (said_or_all (all_found s gs owner around)
+    (valueless_found s owner (all_valued s gs owner)))
 
 abbrev pub violations : Source → List Given → Spot → List Found
 violations s gs owner = violations_over s gs owner (around_of s gs owner)

@@ -1,6 +1,6 @@
 -- Schedules and priorities: what they mean, and the rules that they break (CAL Language Report, action schedules and
 -- priorities).
--- Not trusted: no promise is read with it.
+-- Trusted: part of what a promise means.
 use Rattle.std.specs.Prelude.{ℕ, Bool, false, ◌&&◌, ◌||◌, not, ◌==◌, List, [], ◌∷◌, ◌++◌, Option, None, Some}
 use Rattle.rvc_base.specs.Rules.{unknown_tag, ambiguous_transition}
 use Rattle.cal_ast.specs.Tree as tree
