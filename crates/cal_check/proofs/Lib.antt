@@ -19,3 +19,4 @@ pub mod SoundSchedules
 mod SoundCounts
 mod SoundRates
 mod SoundVariables
+mod FittingValues
