@@ -133,7 +133,7 @@ such-turn : {A : Type 0} (P : A → Type 0) (left : ℕ) (f : ℕ → Out A) →
 such-turn P zero f h = tt
 such-turn P (suc left) f h = h left
 
-abbrev IfSome : {A : Type 0} → (A → Type 0) → Option A → Type 0
+abbrev pub IfSome : {A : Type 0} → (A → Type 0) → Option A → Type 0
 IfSome P None = Unit {0}
 IfSome P (Some a) = P a
 

@@ -20,3 +20,7 @@ mod SoundCounts
 mod SoundRates
 mod SoundVariables
 mod FittingValues
+mod FittingNames
+mod RestNames
+mod SameCalls
+mod SameFuns

@@ -21,7 +21,7 @@ use Rattle.cal_check.specs.Laws.{AreAlike, IsFunLike, IsKnownLike}
 
 -- ---- judgements
 
-and-same : {A B : Type 0} (o p : Judged A) (f g : A → Judged B) → o ≡ p → ((a : A) → f a ≡ g a) → and_so o f ≡ and_so p g
+pub and-same : {A B : Type 0} (o p : Judged A) (f g : A → Judged B) → o ≡ p → ((a : A) → f a ≡ g a) → and_so o f ≡ and_so p g
 and-same {A} {B} o p f g e h = ap (λ j. and_so j f) e ∙ go p
   where
     go : (p : Judged A) → and_so p f ≡ and_so p g

@@ -94,7 +94,7 @@ proc-sound other procs names m q f fit alike e h d = absurd f
 -- ---- functions
 
 -- a head, and the size of its result
-head-is : (name formals result vars body : Tree) (at : ℕ) (names : Names) (head : Head) → head_judged (tree.function name formals result vars body at) names ≡ Fine head
+pub head-is : (name formals result vars body : Tree) (at : ℕ) (names : Names) (head : Head) → head_judged (tree.function name formals result vars body at) names ≡ Fine head
     → Each IsFormal head.formals × IsSize head.result
 head-is name formals result vars body at names head h =
     let fs = split (formals_judged formals names) (λ fs. result_judged result fs names) head h in

@@ -1,9 +1,9 @@
 -- Statements and variables as the grammar and the scopes leave them: names are identifiers, and those of one scope differ.
 -- Trusted: part of what a promise means.
-use Rattle.std.specs.Prelude.{◌≡◌, true, Option, None, Some}
+use Rattle.std.specs.Prelude.{◌≡◌, ℕ, true, List, Option, None, Some}
 use Rattle.cal_ast.specs.Tree as tree
 use Rattle.cal_ast.specs.Tree.{Tree}
-use Rattle.cal_model.specs.Sound.{AreDistinct, names_of_vars}
+use Rattle.cal_model.specs.Sound.{AreDistinct, EachCall, names_of_vars}
 
 -- a part that may be missing
 abbrev pub IsOptional : Tree → Type 0
@@ -51,6 +51,15 @@ IsProcFormed other = ⊥
 abbrev pub IsFunFormed : Tree → Type 0
 IsFunFormed (tree.function name formals result vars body at) = AreDeclared vars
 IsFunFormed other = ⊥
+
+-- the calls in the types of formals are of such functions
+abbrev pub FormalCalls : (P Q : List ℕ → Type 0) → Tree → Type 0
+FormalCalls P Q (tree.port shape name at) = EachCall P Q shape
+FormalCalls P Q other = Unit {0}
+
+abbrev pub FormalsCall : (P Q : List ℕ → Type 0) → Tree → Type 0
+FormalsCall P Q (tree.cons f fs) = FormalCalls P Q f × FormalsCall P Q fs
+FormalsCall P Q other = Unit {0}
 
 -- the transitions of a schedule
 abbrev pub AreMoves : Tree → Type 0
