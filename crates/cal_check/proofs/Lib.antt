@@ -24,3 +24,5 @@ mod FittingNames
 mod RestNames
 mod SameCalls
 mod SameFuns
+mod CallsBelow
+mod SettledFuns

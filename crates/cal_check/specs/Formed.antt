@@ -1,6 +1,6 @@
 -- Statements and variables as the grammar and the scopes leave them: names are identifiers, and those of one scope differ.
 -- Trusted: part of what a promise means.
-use Rattle.std.specs.Prelude.{◌≡◌, ℕ, true, List, Option, None, Some}
+use Rattle.std.specs.Prelude.{◌≡◌, ◌<◌, ℕ, true, List, Option, None, Some}
 use Rattle.cal_ast.specs.Tree as tree
 use Rattle.cal_ast.specs.Tree.{Tree}
 use Rattle.cal_model.specs.Sound.{AreDistinct, EachCall, names_of_vars}
@@ -60,6 +60,15 @@ FormalCalls P Q other = Unit {0}
 abbrev pub FormalsCall : (P Q : List ℕ → Type 0) → Tree → Type 0
 FormalsCall P Q (tree.cons f fs) = FormalCalls P Q f × FormalsCall P Q fs
 FormalsCall P Q other = Unit {0}
+
+-- the declaration of a function calls only functions of lower ranks, in its types too
+abbrev pub DeclCallsBelow : (rank : List ℕ → ℕ) → List ℕ → Tree → Type 0
+DeclCallsBelow rank full (tree.function name formals result vars body at) =
+    FormalsCall (λ other. rank other < rank full) (λ other. ⊥) formals
+    × EachCall (λ other. rank other < rank full) (λ other. ⊥) result
+    × EachCall (λ other. rank other < rank full) (λ other. ⊥) vars
+    × EachCall (λ other. rank other < rank full) (λ other. ⊥) body
+DeclCallsBelow rank full other = ⊥
 
 -- the transitions of a schedule
 abbrev pub AreMoves : Tree → Type 0
