@@ -24,5 +24,6 @@ mod FittingNames
 mod RestNames
 mod SameCalls
 mod SameFuns
+mod WrittenUses
 mod CallsBelow
 mod SettledFuns

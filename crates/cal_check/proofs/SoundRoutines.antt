@@ -19,6 +19,8 @@ use Rattle.cal_check.specs.Statements.{names_behind, starts_broken, statement_br
 use Rattle.cal_check.specs.Routines.{Head, formal_judged, formal_of, formals_judged, fun_broken, fun_if, fun_inside, fun_judged, fun_of, head_judged, locals_of, proc_broken, proc_inside, proc_judged, proc_of, result_judged, single_type}
 use Rattle.cal_check.specs.Formed.{AreDeclared, IsFunFormed, IsProcFormed}
 use Rattle.cal_check.specs.Laws.{AreAlike, ConstantsFit}
+use Rattle.cal_check.specs.Uses.{OnlyUses}
+use Rattle.cal_check.proofs.WrittenUses.{locals-use, statement-uses, written-uses}
 use Rattle.cal_check.proofs.Fine.{if-none, none-of}
 use Rattle.cal_check.proofs.KeptKinds.{fit-more}
 use Rattle.cal_check.proofs.SameNames.{same}
@@ -57,39 +59,39 @@ fit-locals (x ∷ xs) names fit = fit-locals xs (with_known (known_local x) name
 while-none : {A : Type 0} (j : Judged A) (a : A) (f : A → List _) → j ≡ Fine a → while_fine j f ≡ [] → f a ≡ []
 while-none j a f e h = ap (λ k. while_fine k f) (sym e) ∙ h
 
-proc-made : (name : List ℕ) (fs : List Local) (vars body : Tree) (procs : List Proc) (names m : Names) → Each IsFormal fs → IsProcFormed (tree.procedure (tree.ident name 0) tree.nil vars body 0)
-    → ConstantsFit names → AreAlike names m
+proc-made : (P : List ℕ → Type 0) (name : List ℕ) (fs : List Local) (vars body : Tree) (procs : List Proc) (names m : Names) → Each IsFormal fs → IsProcFormed (tree.procedure (tree.ident name 0) tree.nil vars body 0)
+    → OnlyUses P vars → OnlyUses P body → ConstantsFit names → AreAlike P names m
     → starts_broken vars (with_locals fs names) ++ if_fine (names_behind vars (with_locals fs names)) (λ inner. statement_broken body procs inner) ≡ []
     → AreDistinct (map (λ x. x.name) (fs ++ locals_of vars (with_locals fs names))) → IsProc procs m (proc_of name fs vars body names)
-proc-made name fs vars body procs names m formals f fit alike h d =
+proc-made P name fs vars body procs names m formals f uv ub fit alike h d =
     let n : Names = with_locals fs names in
     let fit_n : ConstantsFit n = fit-locals fs names fit in
-    let alike_n : AreAlike n (with_locals fs m) = with-locals-alike fs names m alike in
+    let alike_n : AreAlike P n (with_locals fs m) = with-locals-alike P fs names m alike in
     let two = none-of (starts_broken vars n) (if_fine (names_behind vars n) (λ inner. statement_broken body procs inner)) h in
     let i = if-none (names_behind vars n) (λ inner. statement_broken body procs inner) two.1 in
     let s = are-sound vars n i.0 f.0 fit_n i.1 two.0 in
     let r = are-right body procs i.0 f.1 s.fit i.2 in
-    let inner_alike : AreAlike i.0 (with_locals (locals_of vars n) (with_locals fs m)) =
-    subst (λ x. AreAlike x (with_locals (locals_of vars n) (with_locals fs m))) s.is_with (with-locals-alike (locals_of vars n) n (with_locals fs m) alike_n) in
+    let inner_alike : AreAlike P i.0 (with_locals (locals_of vars n) (with_locals fs m)) =
+    subst (λ x. AreAlike P x (with_locals (locals_of vars n) (with_locals fs m))) s.is_with (with-locals-alike P (locals_of vars n) n (with_locals fs m) alike_n) in
     record {
       formals = formals;
-      locals = locals-same (locals_of vars n) n (with_locals fs m) alike_n s.are_locals;
+      locals = locals-same P (locals_of vars n) n (with_locals fs m) alike_n (locals-use P vars n uv) s.are_locals;
       distinct = d;
       body = subst (λ x. AreStatements (statement_written body x) procs (with_locals (locals_of vars n) (with_locals fs m))) (sym s.is_behind)
-          (statements-same (statement_written body i.0) procs i.0 (with_locals (locals_of vars n) (with_locals fs m)) inner_alike r.bare r.are);
+          (statements-same P (statement_written body i.0) procs i.0 (with_locals (locals_of vars n) (with_locals fs m)) inner_alike r.bare (statement-uses P body i.0 ub) r.are);
       plain = subst (λ x. IsPlain (statement_written body x)) (sym s.is_behind) r.bare;
     }
 
-pub proc-sound : (p : Tree) (procs : List Proc) (names m : Names) (q : Proc) → IsProcFormed p → ConstantsFit names → AreAlike names m → proc_judged p names ≡ Fine q
+pub proc-sound : (P : List ℕ → Type 0) (p : Tree) (procs : List Proc) (names m : Names) (q : Proc) → IsProcFormed p → OnlyUses P p → ConstantsFit names → AreAlike P names m → proc_judged p names ≡ Fine q
     → proc_broken p procs names ≡ [] → AreDistinct (map (λ x. x.name) (q.formals ++ q.locals)) → IsProc procs m q
-proc-sound (tree.procedure (tree.ident name place) formals vars body at) procs names m q f fit alike e h d =
+proc-sound P (tree.procedure (tree.ident name place) formals vars body at) procs names m q f u fit alike e h d =
     let fs = split (formals_judged formals names) (λ fs. Fine (proc_of name fs vars body names)) q e in
     let same : proc_of name fs.0 vars body names ≡ q = fine-is (proc_of name fs.0 vars body names) q fs.2 in
     let inside = while-none (formals_judged formals names) fs.0 (λ fs. proc_inside (tree.procedure (tree.ident name place) formals vars body at) procs names fs) fs.1 h in
     subst (λ x. IsProc procs m x) same
-    (proc-made name fs.0 vars body procs names m (are-formals formals names fs.0 fs.1) f fit alike inside
+    (proc-made P name fs.0 vars body procs names m (are-formals formals names fs.0 fs.1) f u.1 u.2 fit alike inside
     (subst (λ x. AreDistinct (map (λ y. y.name) (x.formals ++ x.locals))) (sym same) d))
-proc-sound other procs names m q f fit alike e h d = absurd f
+proc-sound P other procs names m q f u fit alike e h d = absurd f
 
 -- ---- functions
 
@@ -102,37 +104,37 @@ head-is name formals result vars body at names head h =
     subst (λ x. Each IsFormal x.formals × IsSize x.result) (fine-is (record { formals = fs.0; result = t.0 }) head t.2)
     (are-formals formals names fs.0 fs.1, single-size result (with_locals fs.0 names) t.0 t.1)
 
-fun-made : (full : List ℕ) (head : Head) (vars body : Tree) (names m : Names) → Each IsFormal head.formals → IsSize head.result → AreDeclared vars → ConstantsFit names → AreAlike names m
+fun-made : (P : List ℕ → Type 0) (full : List ℕ) (head : Head) (vars body : Tree) (names m : Names) → Each IsFormal head.formals → IsSize head.result → AreDeclared vars → OnlyUses P vars → OnlyUses P body → ConstantsFit names → AreAlike P names m
     → starts_broken vars (with_locals head.formals names)
     ++ if_fine (names_behind vars (with_locals head.formals names)) (λ inner. broken (stored_kind (kind_of_scalar head.result) body inner)) ≡ []
     → AreDistinct (map (λ x. x.name) (head.formals ++ locals_of vars (with_locals head.formals names)))
     → IsFun m (fun_of full head vars body names) × (fun_if (names_behind vars (with_locals head.formals names)) full head vars body names ≡ fun_of full head vars body names)
-fun-made full head vars body names m formals size f fit alike h d =
+fun-made P full head vars body names m formals size f uv ub fit alike h d =
     let n : Names = with_locals head.formals names in
     let fit_n : ConstantsFit n = fit-locals head.formals names fit in
-    let alike_n : AreAlike n (with_locals head.formals m) = with-locals-alike head.formals names m alike in
+    let alike_n : AreAlike P n (with_locals head.formals m) = with-locals-alike P head.formals names m alike in
     let two = none-of (starts_broken vars n) (if_fine (names_behind vars n) (λ inner. broken (stored_kind (kind_of_scalar head.result) body inner))) h in
     let i = if-none (names_behind vars n) (λ inner. broken (stored_kind (kind_of_scalar head.result) body inner)) two.1 in
     let s = are-sound vars n i.0 f fit_n i.1 two.0 in
     let w = of-kind (kind_of_scalar head.result) body i.0 s.fit i.2 in
     let m_inner : Names = with_locals (locals_of vars n) (with_locals head.formals m) in
-    let inner_alike : AreAlike i.0 m_inner =
-    subst (λ x. AreAlike x m_inner) s.is_with (with-locals-alike (locals_of vars n) n (with_locals head.formals m) alike_n) in (
+    let inner_alike : AreAlike P i.0 m_inner =
+    subst (λ x. AreAlike P x m_inner) s.is_with (with-locals-alike P (locals_of vars n) n (with_locals head.formals m) alike_n) in (
       record {
         formals = formals;
-        locals = locals-same (locals_of vars n) n (with_locals head.formals m) alike_n s.are_locals;
+        locals = locals-same P (locals_of vars n) n (with_locals head.formals m) alike_n (locals-use P vars n uv) s.are_locals;
         distinct = d;
         result = size;
         body = subst (λ x. kind (written body x) m_inner ≡ Fine (kind_of_scalar head.result)) (sym s.is_behind)
-            (sym (same (written body i.0) i.0 m_inner inner_alike w.bare) ∙ w.same);
+            (sym (same P (written body i.0) i.0 m_inner inner_alike w.bare (written-uses P body i.0 ub)) ∙ w.same);
         plain = subst (λ x. IsPlain (written body x)) (sym s.is_behind) w.bare;
       },
       ap (λ j. fun_if j full head vars body names) i.1,
     )
 
-pub fun-sound : (full : List ℕ) (decl : Tree) (names m : Names) (g : Fun) → IsFunFormed decl → ConstantsFit names → AreAlike names m → fun_judged full decl names ≡ Fine g
+pub fun-sound : (P : List ℕ → Type 0) (full : List ℕ) (decl : Tree) (names m : Names) (g : Fun) → IsFunFormed decl → OnlyUses P decl → ConstantsFit names → AreAlike P names m → fun_judged full decl names ≡ Fine g
     → fun_broken decl names ≡ [] → AreDistinct (map (λ x. x.name) (g.formals ++ g.locals)) → IsFun m g
-fun-sound full (tree.function name formals result vars body at) names m g f fit alike e h d =
+fun-sound P full (tree.function name formals result vars body at) names m g f u fit alike e h d =
     let decl : Tree = tree.function name formals result vars body at in
     let head = split (head_judged decl names) (λ head. Fine (fun_if (names_behind vars (with_locals head.formals names)) full head vars body names)) g e in
     let is = head-is name formals result vars body at names head.0 head.1 in
@@ -142,5 +144,5 @@ fun-sound full (tree.function name formals result vars body at) names m g f fit 
     let i = if-none (names_behind vars (with_locals head.0.formals names)) (λ inner. broken (stored_kind (kind_of_scalar head.0.result) body inner)) two.1 in
     let made : fun_of full head.0 vars body names ≡ g = sym (ap (λ j. fun_if j full head.0 vars body names) i.1) ∙ found in
     let d_made = subst (λ x. AreDistinct (map (λ y. y.name) (x.formals ++ x.locals))) (sym made) d in
-    subst (λ x. IsFun m x) made (fun-made full head.0 vars body names m is.0 is.1 f fit alike inside d_made).0
-fun-sound full other names m g f fit alike e h d = absurd f
+    subst (λ x. IsFun m x) made (fun-made P full head.0 vars body names m is.0 is.1 f u.2 u.3 fit alike inside d_made).0
+fun-sound P full other names m g f u fit alike e h d = absurd f

@@ -221,7 +221,8 @@ abbrev mutual
   uses name (tree.type_of x args at) = uses name args
   uses name (tree.shape_arg x shape) = uses name shape
   uses name (tree.value_arg x value) = uses name value
-  uses name (tree.assign x places value at) = uses name places || uses name value
+  uses name (tree.assign (tree.ident x place) places value at) =
+      bytes_eq name x || (uses name places || uses name value)
   uses name (tree.call_stmt x args at) = uses name args
   uses name (tree.if_stmt test first other at) =
       uses name test || (uses name first || uses name other)

@@ -1,6 +1,6 @@
 -- What holds of the parts of an actor that break no rule, as statements: written out, they are sound.
 -- Trusted: part of what a promise means.
-use Rattle.std.specs.Prelude.{◌≡◌, ◌≤◌, ℤ, ℕ, true, false, ◌++◌, List, [], map, length, slice_get, Option, None, Some}
+use Rattle.std.specs.Prelude.{◌≡◌, ◌≤◌, ℤ, ℕ, Bool, true, false, ◌++◌, List, [], map, length, slice_get, Option, None, Some}
 use Rattle.rvc_base.specs.Storing.{IsSize}
 use Rattle.rvc_base.specs.Width.{IsNum}
 use Rattle.cal_ast.specs.Tree.{Tree}
@@ -10,6 +10,7 @@ use Rattle.cal_model.specs.Actor.{Action, Actor, Fun, Held, Move, Port, Proc}
 use Rattle.cal_model.specs.Call.{fun_named}
 use Rattle.cal_model.specs.Kinding.{Fine, Known, Names, constant, kind, meant_by, type_judged}
 use Rattle.cal_model.specs.Sound.{Each, AreDistinct, AreLocals, AreStatements, AreTagged, IsAction, IsFun, IsMove, IsPlain, IsProc, LeadToOne, max_ports, max_rate, names_in_patterns, names_of, scalars_of_vars, with_locals}
+use Rattle.cal_check.specs.Uses.{OnlyUses}
 use Rattle.cal_check.specs.Violations.{all_broken, all_fine}
 use Rattle.cal_check.specs.Written.{written, statement_written}
 use Rattle.cal_check.specs.Statements.{names_behind, starts_broken, statement_broken}
@@ -46,10 +47,14 @@ IsFunLike (Some f) (Some g) = (f.formals ≡ g.formals) × (f.result ≡ g.resul
 IsFunLike None (Some g) = ⊥
 IsFunLike (Some f) None = ⊥
 
--- names and functions by kinds alone, whatever constants there are
-pub record AreAlike (n m : Names) : Type 0 where
-  pub known : (name : List ℕ) → IsKnownLike (meant_by name n) (meant_by name m)
-  pub funs : (name : List ℕ) → IsFunLike (fun_named name n.funs) (fun_named name m.funs)
+-- names that pass a test
+abbrev pub AreSuch : (List ℕ → Bool) → List ℕ → Type 0
+AreSuch such name = such name ≡ true
+
+-- names and functions by kinds alone, whatever constants there are: all that P speaks of
+pub record AreAlike (P : List ℕ → Type 0) (n m : Names) : Type 0 where
+  pub known : (name : List ℕ) → P name → IsKnownLike (meant_by name n) (meant_by name m)
+  pub funs : (name : List ℕ) → P name → IsFunLike (fun_named name n.funs) (fun_named name m.funs)
 
 -- an expression that has a kind has it once its sizes and bounds are written out, and these are numbers then
 pub record WrittenKeepsKinds : Type 0 where
@@ -91,10 +96,11 @@ abbrev pub around_in : Actor → Names → Around
 around_in actor names =
     record { ins = actor.ins; outs = actor.outs; procs = actor.procs; names = names }
 
--- an action that is judged over names of the same kinds as those of its actor
+-- an action that is judged over names of the same kinds as those of its actor, as far as it uses them
 abbrev pub ActionsAreSound : Type 0
-ActionsAreSound = (a : Tree) (actor : Actor) (names : Names) → IsActionFormed a
-    → ConstantsFit names → AreAlike names (names_of actor)
+ActionsAreSound = (such : List ℕ → Bool) (a : Tree) (actor : Actor) (names : Names)
+    → IsActionFormed a → OnlyUses (AreSuch such) a → ConstantsFit names
+    → AreAlike (AreSuch such) names (names_of actor)
     → action_broken a (around_in actor names) ≡ []
     → HasDistinctNames (action_of a (around_in actor names))
     → IsAction actor (action_of a (around_in actor names))
@@ -111,17 +117,21 @@ HeadersAreSound = (ins outs : Tree) (at : ℕ) (names : Names) → header_broken
     → (xs : List Port) × (ys : List Port) × (all_fine (each_port ins names) ≡ Some xs)
     × (all_fine (each_port outs names) ≡ Some ys) × IsHeader xs ys
 
--- a procedure, over all names of the same kinds
+-- a procedure, over all names of the same kinds, as far as it uses them
 abbrev pub ProceduresAreSound : Type 0
-ProceduresAreSound = (p : Tree) (procs : List Proc) (names others : Names) (found : Proc)
-    → IsProcFormed p → ConstantsFit names → AreAlike names others
+ProceduresAreSound =
+    (such : List ℕ → Bool) (p : Tree) (procs : List Proc) (names others : Names) (found : Proc)
+    → IsProcFormed p → OnlyUses (AreSuch such) p → ConstantsFit names
+    → AreAlike (AreSuch such) names others
     → proc_judged p names ≡ Fine found → proc_broken p procs names ≡ []
     → AreDistinct (map (λ x. x.name) (found.formals ++ found.locals)) → IsProc procs others found
 
 -- a function, by the text that stands for it where it is used
 abbrev pub FunctionsAreSound : Type 0
-FunctionsAreSound = (name : List ℕ) (decl : Tree) (names others : Names) (found : Fun)
-    → IsFunFormed decl → ConstantsFit names → AreAlike names others
+FunctionsAreSound =
+    (such : List ℕ → Bool) (name : List ℕ) (decl : Tree) (names others : Names) (found : Fun)
+    → IsFunFormed decl → OnlyUses (AreSuch such) decl → ConstantsFit names
+    → AreAlike (AreSuch such) names others
     → fun_judged name decl names ≡ Fine found → fun_broken decl names ≡ []
     → AreDistinct (map (λ x. x.name) (found.formals ++ found.locals)) → IsFun others found
 

@@ -10,3 +10,4 @@ pub mod Schedules
 pub mod Actors
 pub mod Laws
 pub mod Formed
+pub mod Uses

@@ -1,3 +1,4 @@
+use Rattle.cal_check.specs.Laws.{AreSuch}
 use Rattle.cal_check.proofs.SoundActions.{action-sound}
 use Rattle.cal_check.proofs.SoundGuards.{are-guards}
 use Rattle.cal_check.proofs.SoundHeader.{header-sound}
@@ -19,16 +20,16 @@ pub returns-clause-statements : goal.returns-clause-statements
 returns-clause-statements c = λ ss procs names fit f h. let r = are-right ss procs names f fit h in (r.are, r.bare)
 
 pub returns-clause-actions : goal.returns-clause-actions
-returns-clause-actions c = action-sound
+returns-clause-actions c = λ such. action-sound (AreSuch such)
 
 pub returns-clause-header : goal.returns-clause-header
 returns-clause-header c = header-sound
 
 pub returns-clause-procedures : goal.returns-clause-procedures
-returns-clause-procedures c = proc-sound
+returns-clause-procedures c = λ such. proc-sound (AreSuch such)
 
 pub returns-clause-functions : goal.returns-clause-functions
-returns-clause-functions c = fun-sound
+returns-clause-functions c = λ such. fun-sound (AreSuch such)
 
 pub returns-clause-schedules : goal.returns-clause-schedules
 returns-clause-schedules c = schedule-sound
