@@ -27,3 +27,4 @@ mod SameFuns
 mod WrittenUses
 mod CallsBelow
 mod SettledFuns
+mod UsedNames

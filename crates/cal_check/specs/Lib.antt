@@ -11,3 +11,4 @@ pub mod Actors
 pub mod Laws
 pub mod Formed
 pub mod Uses
+pub mod Sources

@@ -36,6 +36,9 @@ OnlyUses P (tree.procedure x formals vars body at) =
 OnlyUses P (tree.action tagged initialize ins outs guards vars body at) =
     OnlyUses P ins × OnlyUses P outs × OnlyUses P guards × OnlyUses P vars × OnlyUses P body
 OnlyUses P (tree.port shape x at) = OnlyUses P shape
+OnlyUses P (tree.param shape x start at) = OnlyUses P shape × OnlyUses P start
+OnlyUses P (tree.actor x params ins outs members at) =
+    OnlyUses P params × OnlyUses P ins × OnlyUses P outs × OnlyUses P members
 OnlyUses P (tree.pattern asked names repeat at) = OnlyUses P repeat
 OnlyUses P (tree.output asked values repeat at) = OnlyUses P values × OnlyUses P repeat
 OnlyUses P other = Unit {0}
