@@ -130,7 +130,7 @@ begins-written other names = refl
 
 -- ---- names inside
 
-counters-same : (gens : Tree) (names inner : Names) → with_counters (gens_written gens names) inner ≡ with_counters gens inner
+pub counters-same : (gens : Tree) (names inner : Names) → with_counters (gens_written gens names) inner ≡ with_counters gens inner
 counters-same (tree.cons (tree.gen shape (tree.ident name place) from to at) gens) names inner =
     counters-same gens (with_known (counter name) names) (with_known (counter name) inner)
 counters-same other names inner = refl

@@ -28,3 +28,4 @@ mod WrittenUses
 mod CallsBelow
 mod SettledFuns
 mod UsedNames
+mod HiddenCalls
