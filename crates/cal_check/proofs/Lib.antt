@@ -29,3 +29,7 @@ mod CallsBelow
 mod SettledFuns
 mod UsedNames
 mod HiddenCalls
+mod CallsKnown
+mod NoneBroken
+mod SubLists
+mod JudgedRoutines

@@ -56,7 +56,7 @@ fit-locals (x ∷ xs) names fit = fit-locals xs (with_known (known_local x) name
 
 -- ---- procedures
 
-while-none : {A : Type 0} (j : Judged A) (a : A) (f : A → List _) → j ≡ Fine a → while_fine j f ≡ [] → f a ≡ []
+pub while-none : {A : Type 0} (j : Judged A) (a : A) (f : A → List _) → j ≡ Fine a → while_fine j f ≡ [] → f a ≡ []
 while-none j a f e h = ap (λ k. while_fine k f) (sym e) ∙ h
 
 proc-made : (P : List ℕ → Type 0) (name : List ℕ) (fs : List Local) (vars body : Tree) (procs : List Proc) (names m : Names) → Each IsFormal fs → IsProcFormed (tree.procedure (tree.ident name 0) tree.nil vars body 0)
