@@ -33,3 +33,5 @@ mod CallsKnown
 mod NoneBroken
 mod SubLists
 mod JudgedRoutines
+mod ScopedActions
+mod RankedFuns

@@ -177,9 +177,9 @@ with-var x gs owner fs vs ns a u w =
     a (ap (λ o. o.useless) (sym step) ∙ u) (ap (λ o. o.whole) (sym step) ∙ w))
 
 -- whatever comes behind, nothing before was without use or without a type
-record WasFine (vs : Valued) : Type 0 where
-  useful : vs.useless ≡ false
-  whole : vs.whole ≡ true
+pub record WasFine (vs : Valued) : Type 0 where
+  pub useful : vs.useless ≡ false
+  pub whole : vs.whole ≡ true
 
 before-come : (x : VarDecl) (gs : List Given) (owner : Spot) (t : Shape) (c : Come) (vs : Valued) → vs.whole ≡ true → WasFine (with_come x gs owner t c vs) → WasFine vs
 before-come x gs owner t c vs w f = record { useful = (or-false vs.useless (is_none (value_of x gs t c.value)) f.useful).0; whole = w }
@@ -195,7 +195,7 @@ before-var x gs owner fs vs f = go vs.whole refl f
     go true e g = before-type (early_type x.shape (seen fs vs.known)) x gs owner (seen fs vs.known) vs e g
     go false e g = g
 
-was-fine : (xs : List VarDecl) (gs : List Given) (owner : Spot) (fs : List FunDecl) (vs : Valued) → WasFine (valued xs gs owner fs vs) → WasFine vs
+pub was-fine : (xs : List VarDecl) (gs : List Given) (owner : Spot) (fs : List FunDecl) (vs : Valued) → WasFine (valued xs gs owner fs vs) → WasFine vs
 was-fine [] gs owner fs vs f = f
 was-fine (x ∷ xs) gs owner fs vs f = before-var x gs owner fs vs (was-fine xs gs owner fs (with_var x gs owner fs vs) f)
 

@@ -41,12 +41,12 @@ abbrev pub EachValues : (Tree → Type 0) → Tree → Type 0
 EachValues S (tree.cons o os) = OfValues S o × EachValues S os
 EachValues S other = Unit {0}
 
-some-parts : {A : Type 0} (o : Option A) (p : Option (List A)) (xs : List A) → and_all o p ≡ Some xs → (x : A) × (rest : List A) × (o ≡ Some x) × (p ≡ Some rest) × (x ∷ rest ≡ xs)
+pub some-parts : {A : Type 0} (o : Option A) (p : Option (List A)) (xs : List A) → and_all o p ≡ Some xs → (x : A) × (rest : List A) × (o ≡ Some x) × (p ≡ Some rest) × (x ∷ rest ≡ xs)
 some-parts None p xs h = absurd (cc)
 some-parts (Some x) None xs h = absurd (cc)
 some-parts (Some x) (Some rest) xs h = let e : x ∷ rest ≡ xs = cc in (x, rest, refl, refl, e)
 
-fine-some : {A : Type 0} (j : Judged A) (x : A) → fine j ≡ Some x → j ≡ Fine x
+pub fine-some : {A : Type 0} (j : Judged A) (x : A) → fine j ≡ Some x → j ≡ Fine x
 fine-some (Fine y) x h = let e : y ≡ x = cc in ap Fine e
 fine-some (Broken rule at) x h = absurd (cc)
 
