@@ -35,3 +35,5 @@ mod SubLists
 mod JudgedRoutines
 mod ScopedActions
 mod RankedFuns
+mod SameOrder
+mod SourceNames
