@@ -37,3 +37,4 @@ mod ScopedActions
 mod RankedFuns
 mod SameOrder
 mod SourceNames
+mod SoundSource

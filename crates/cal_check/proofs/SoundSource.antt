@@ -1,0 +1,182 @@
+-- An actor that breaks no rule is sound.
+use Rattle.std.proofs.Common.{◌≡◌, ℕ, zero, suc, ◌<◌, ◌≤◌, Bool, true, false, List, [], ◌∷◌, ◌++◌, map, length, refl, sym, ap, subst, ◌∙◌, arith, Option, None, Some}
+use Rattle.std.specs.Prelude.{slice_get}
+use Rattle.cal_ast.specs.Tree as tree
+use Rattle.cal_ast.specs.Tree.{Tree}
+use Rattle.cal_model.specs.Actor.{Action, Actor, Fun, Proc}
+use Rattle.cal_model.specs.Kinding.{Fine, Names, constant, kind}
+use Rattle.cal_model.specs.Rates.{given_on, need, give, taken_on}
+use Rattle.cal_model.specs.Sound.{AreDistinct, Each, FunCallsBelow, FunHidesNoCall, IsAction, IsFun, IsOutput, IsProc, IsSound, ActionHidesNoCall, NoCallIsHidden, ProcCallsBelow, ProcHidesNoCall, ProcsNeverReturn, max_rate, names_of}
+use Rattle.cal_check.specs.Actions.{Around, action_broken, action_of, or_none}
+use Rattle.cal_check.specs.Actors.{Conforms, IsSource, Source, actions_broken, actions_in, actions_of, actor_given, all_funs, all_valued, around_of, bare_actor, before_members, declared_vars, funs_in, funs_of, ins_of, kept_funs, members_of, outs_of, place_of, procs_in, procs_of}
+use Rattle.cal_check.specs.Formed.{DeclCallsBelow, IsActionFormed, IsFunFormed, IsProcFormed}
+use Rattle.cal_check.specs.Laws.{AreAlike, ConstantsFit, HasDistinctNames, IsHeader, IsSchedule}
+use Rattle.cal_check.specs.Ports.{each_port}
+use Rattle.cal_check.specs.Routines.{FunDecl, fun_broken, fun_judged, proc_broken, proc_judged}
+use Rattle.cal_check.specs.Schedules.{moves_in, pairs_in, schedule_in}
+use Rattle.cal_check.specs.Sources.{IsActionScoped, IsFunScoped, IsProcScoped, IsSourceFormed, ProcDeclCallsBelow, proc_name, procs_of_source}
+use Rattle.cal_check.specs.Uses.{OnlyUses}
+use Rattle.cal_check.specs.Variables.{Given, Spot, seen}
+use Rattle.cal_check.specs.Violations.{all_fine}
+use Rattle.cal_check.proofs.Fine.{none-of}
+use Rattle.cal_check.proofs.JudgedRoutines.{AreFuns, AreProcs, FunScoped, Functions, ProcScoped, Procedures, each-fun, each-proc, fun-scoped, functions-found, funs-fine, funs-named, kept-each, proc-calls, proc-named, proc-scoped, procedures-found, procs-counted, procs-fine, procs-named}
+use Rattle.cal_check.proofs.Lists.{each-append}
+use Rattle.cal_check.proofs.NoneBroken.{BreaksNothing, NothingBroken, nothing-broken}
+use Rattle.cal_check.proofs.RankedFuns.{never-return}
+use Rattle.cal_check.proofs.SameOrder.{moves-same, pairs-same}
+use Rattle.cal_check.proofs.SameParts.{each-both}
+use Rattle.cal_check.proofs.ScopedActions.{ActionScoped, action-scoped}
+use Rattle.cal_check.proofs.SettledFuns.{fun-calls, fun-name}
+use Rattle.cal_check.proofs.SoundActions.{action-sound, or-none}
+use Rattle.cal_check.proofs.SoundCounts.{count-actions, count-scalars, one-initialize}
+use Rattle.cal_check.proofs.SoundHeader.{header-sound}
+use Rattle.cal_check.proofs.SoundRates.{rates-sound}
+use Rattle.cal_check.proofs.SoundRoutines.{fun-sound, proc-sound}
+use Rattle.cal_check.proofs.SoundSchedules.{pairs-tagged, schedule-sound}
+use Rattle.cal_check.proofs.SoundVariables.{AreValued, IsTyped}
+use Rattle.cal_check.proofs.SourceNames.{all-are-valued, all-distinct, names-alike, rest-names-fit}
+use Rattle.cal_check.proofs.UsedNames.{IsKept, actor-uses, outers-use}
+
+-- ---- lists
+
+-- what holds of each holds of the one at a place
+each-at : {A : Type 0} (P : A → Type 0) (xs : List A) (i : ℕ) (x : A) → Each P xs → slice_get xs i ≡ Some x → P x
+each-at P [] i x h e = absurd (cc)
+each-at P (y ∷ ys) zero x h e = subst P (let s : y ≡ x = cc in s) h.0
+each-at P (y ∷ ys) (suc i) x h e = each-at P ys i x h.1 e
+
+-- ---- what an actor's members use
+
+module _ (P : List ℕ → Type 0) where
+  params-skip : (t : Tree) → OnlyUses P t → OnlyUses P (members_of t)
+  params-skip (tree.actor x params ins outs members at) u = u.3
+  params-skip other u = tt
+
+  own-funs-use : (file : ℕ) (members : Tree) → OnlyUses P members → Each (λ f. OnlyUses P f.decl) (funs_in file members)
+  own-funs-use file (tree.cons (tree.function (tree.ident name place) formals result vars body at) ms) u = (u.0, own-funs-use file ms u.1)
+  own-funs-use file (tree.cons m ms) u = own-funs-use file ms u.1
+  own-funs-use file other u = tt
+
+  procs-use : (members : Tree) → OnlyUses P members → Each (OnlyUses P) (procs_in members)
+  procs-use (tree.cons (tree.procedure name formals vars body at) ms) u = (u.0, procs-use ms u.1)
+  procs-use (tree.cons m ms) u = procs-use ms u.1
+  procs-use other u = tt
+
+  actions-use : (members : Tree) → OnlyUses P members → Each (OnlyUses P) (actions_in members)
+  actions-use (tree.cons (tree.action tagged initialize ins outs guards vars body at) ms) u = (u.0, actions-use ms u.1)
+  actions-use (tree.cons m ms) u = actions-use ms u.1
+  actions-use other u = tt
+
+members-use : (s : Source) → OnlyUses (IsKept s) (members_of s.actor)
+members-use s = params-skip (IsKept s) s.actor (actor-uses s)
+
+each-const : {A : Type 0} (P Q : A → Type 0) (xs : List A) → ((x : A) → Q x → P x) → Each Q xs → Each P xs
+each-const P Q [] f h = tt
+each-const P Q (x ∷ xs) f h = (f x h.0, each-const P Q xs f h.1)
+
+funs-use : (s : Source) → Each (λ f. IsKept s f.name → OnlyUses (IsKept s) f.decl) (all_funs s)
+funs-use s =
+    each-append (λ f. IsKept s f.name → OnlyUses (IsKept s) f.decl) s.funs (funs_in s.file (members_of s.actor)) (outers-use s)
+    (each-const (λ f. IsKept s f.name → OnlyUses (IsKept s) f.decl) (λ f. OnlyUses (IsKept s) f.decl) (funs_in s.file (members_of s.actor)) (λ f u k. u)
+    (own-funs-use (IsKept s) s.file (members_of s.actor) (members-use s)))
+
+-- ---- functions
+
+-- all that is known of the declaration of a function
+record FunGood (s : Source) (names : Names) (rank : List ℕ → ℕ) (f : FunDecl) : Type 0 where
+  formed : IsFunFormed f.decl
+  scoped : IsFunScoped f.decl
+  fine : fun_broken f.decl names ≡ []
+  calls : DeclCallsBelow rank f.name f.decl
+  uses : IsKept s f.name → OnlyUses (IsKept s) f.decl
+
+funs-good : (s : Source) (names : Names) (rank : List ℕ → ℕ) (fs : List FunDecl) → Each (λ f. IsFunFormed f.decl) fs → Each (λ f. IsFunScoped f.decl) fs → Each (λ f. fun_broken f.decl names ≡ []) fs
+    → Each (λ f. DeclCallsBelow rank f.name f.decl) fs → Each (λ f. IsKept s f.name → OnlyUses (IsKept s) f.decl) fs → Each (FunGood s names rank) fs
+funs-good s names rank [] a b c d e = tt
+funs-good s names rank (f ∷ fs) a b c d e =
+    (record { formed = a.0; scoped = b.0; fine = c.0; calls = d.0; uses = e.0 }, funs-good s names rank fs a.1 b.1 c.1 d.1 e.1)
+
+-- .. and what follows for the function that it is
+record FunSound (others : Names) (rank : List ℕ → ℕ) (g : Fun) : Type 0 where
+  is : IsFun others g
+  calls : FunCallsBelow rank g
+  hides : FunHidesNoCall others g
+
+fun-follows : (s : Source) (names others : Names) (rank : List ℕ → ℕ) → ConstantsFit names → AreAlike (IsKept s) names others → others.locals ≡ [] → (f : FunDecl) (g : Fun) → FunGood s names rank f
+    → fun_judged f.name f.decl names ≡ Fine g → IsKept s g.name → FunSound others rank g
+fun-follows s names others rank fit alike bare f g good e k =
+    let scoped = fun-scoped f.name f.decl names others g good.formed good.scoped bare e good.fine in
+    record {
+      is = fun-sound (IsKept s) f.name f.decl names others g good.formed (good.uses (subst (IsKept s) (fun-name f.name f.decl names g e) k)) fit alike e good.fine scoped.distinct;
+      calls = fun-calls rank f.name f.decl names g good.calls e;
+      hides = scoped.hides;
+    }
+
+-- ---- procedures
+
+record ProcGood (s : Source) (procs : List Proc) (names : Names) (rank : List ℕ → ℕ) (n : ℕ) (p : Tree) : Type 0 where
+  formed : IsProcFormed p
+  scoped : IsProcScoped p
+  fine : proc_broken p procs names ≡ []
+  calls : ProcDeclCallsBelow rank p
+  below : rank (proc_name p) < n
+  uses : OnlyUses (IsKept s) p
+
+procs-good : (s : Source) (procs : List Proc) (names : Names) (rank : List ℕ → ℕ) (n : ℕ) (ps : List Tree) → Each IsProcFormed ps → Each IsProcScoped ps → Each (λ p. proc_broken p procs names ≡ []) ps
+    → Each (ProcDeclCallsBelow rank) ps → Each (λ p. rank (proc_name p) < n) ps → Each (OnlyUses (IsKept s)) ps → Each (ProcGood s procs names rank n) ps
+procs-good s procs names rank n [] a b c d e f = tt
+procs-good s procs names rank n (p ∷ ps) a b c d e f =
+    (record { formed = a.0; scoped = b.0; fine = c.0; calls = d.0; below = e.0; uses = f.0 }, procs-good s procs names rank n ps a.1 b.1 c.1 d.1 e.1 f.1)
+
+record ProcSound (procs : List Proc) (others : Names) (rank : List ℕ → ℕ) (n : ℕ) (q : Proc) : Type 0 where
+  is : IsProc procs others q
+  calls : ProcCallsBelow rank q
+  below : rank q.name < n
+  hides : ProcHidesNoCall others q
+
+proc-follows : (s : Source) (procs : List Proc) (names others : Names) (rank : List ℕ → ℕ) (n : ℕ) → ConstantsFit names → AreAlike (IsKept s) names others → others.locals ≡ [] → (p : Tree) (q : Proc)
+    → ProcGood s procs names rank n p → proc_judged p names ≡ Fine q → ProcSound procs others rank n q
+proc-follows s procs names others rank n fit alike bare p q good e =
+    let scoped = proc-scoped p names others q good.formed good.scoped bare e in
+    record {
+      is = proc-sound (IsKept s) p procs names others q good.formed good.uses fit alike e good.fine scoped.distinct;
+      calls = proc-calls rank p names q good.calls e;
+      below = subst (λ t. rank t < n) (sym (proc-named p names q e)) good.below;
+      hides = scoped.hides;
+    }
+
+-- ---- actions
+
+-- an action with all that soundness asks of it
+record ActionSound (actor : Actor) (act : Action) : Type 0 where
+  is : IsAction actor act
+  hides : ActionHidesNoCall actor act
+  takes : (port : ℕ) → taken_on port act.patterns ≤ max_rate
+  gives : (port : ℕ) → given_on port act.outputs ≤ max_rate
+
+actions-follow : (s : Source) (actor : Actor) (around : Around) (acts : List Tree) → around ≡ record { ins = actor.ins; outs = actor.outs; procs = actor.procs; names = around.names }
+    → Each IsActionFormed acts → Each IsActionScoped acts → Each (OnlyUses (IsKept s)) acts → ConstantsFit around.names → AreAlike (IsKept s) around.names (names_of actor)
+    → actions_broken acts around ≡ [] → Each (ActionSound actor) (actions_of acts around)
+actions-follow s actor around [] same f d u fit alike h = tt
+actions-follow s actor around (a ∷ acts) same f d u fit alike h =
+    let two = none-of (action_broken a around) (actions_broken acts around) h in
+    let scoped = action-scoped a around actor f.0 d.0 two.0 in
+    let is : IsAction actor (action_of a around) =
+    subst (λ x. IsAction actor (action_of a x)) (sym same)
+    (action-sound (IsKept s) a actor around.names f.0 u.0 fit alike (subst (λ x. action_broken a x ≡ []) same two.0) (subst (λ x. HasDistinctNames (action_of a x)) same scoped.distinct)) in
+    (record {
+      is = is;
+      hides = scoped.hides;
+      takes = λ port. (rates-sound a around port f.0 fit two.0).0;
+      gives = λ port. (rates-sound a around port f.0 fit two.0).1;
+    }, actions-follow s actor around acts same f.1 d.1 u.1 fit alike two.1)
+
+-- ---- the header
+
+header-is : (s : Source) (gs : List Given) (owner : Spot) → NothingBroken s gs owner → IsHeader (actor_given s gs owner).ins (actor_given s gs owner).outs
+header-is s gs owner none =
+    let names : Names = seen (all_funs s) (before_members s gs owner).known in
+    let h = header-sound (ins_of s.actor) (outs_of s.actor) (place_of s.actor) names none.header in
+    let i : or_none (all_fine (each_port (ins_of s.actor) names)) ≡ h.0 = or-none (all_fine (each_port (ins_of s.actor) names)) h.0 h.2 in
+    let o : or_none (all_fine (each_port (outs_of s.actor) names)) ≡ h.1 = or-none (all_fine (each_port (outs_of s.actor) names)) h.1 h.3 in
+    subst (λ xs. IsHeader xs (or_none (all_fine (each_port (outs_of s.actor) names)))) (sym i) (subst (λ ys. IsHeader h.0 ys) (sym o) h.4)
