@@ -2,6 +2,7 @@
 //!
 //! Each law is the contract of a function that does nothing: it is proved with the crate, and can be cited.
 
+ghost use Rattle.cal_check.specs.Sources.{SourcesAreSound};
 ghost use Rattle.cal_check.specs.Laws.{ActionsAreSound, FunctionsAreSound, GuardsAreSound, HeadersAreSound, InitializesAreSound, LimitsAreSound, LocalsAreSound, PrioritiesAreSound, ProceduresAreSound, RatesAreSound, SchedulesAreSound, StatementsAreSound, WrittenKeepsKinds};
 
 /// Writing out sizes and bounds keeps the kinds of expressions and types, if constants are numbers of the language.
@@ -26,4 +27,9 @@ pub fn what_breaks_no_rule_is_sound()
     ensures rates { RatesAreSound }
     ensures initialize { InitializesAreSound }
     ensures limits { LimitsAreSound }
+{}
+
+/// An actor that breaks no rule is sound, if its tree and what its imports lead to are as grammar and scopes leave them.
+pub fn sources_without_violations_are_sound()
+    ensures { SourcesAreSound }
 {}
