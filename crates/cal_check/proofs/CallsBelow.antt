@@ -1,5 +1,5 @@
 -- What is written out calls what its source calls.
-use Rattle.std.proofs.Common.{◌≡◌, ℕ, suc, Bool, true, false, List, [], ◌∷◌, ℤ, pos, negsuc, refl, Option, None, Some}
+use Rattle.std.proofs.Common.{ℕ, suc, Bool, true, false, List, ℤ, pos, negsuc, Option, None, Some}
 use Rattle.std.specs.Prelude.{if◌then◌else◌}
 use Rattle.rvc_base.specs.Width.{is_num}
 use Rattle.cal_ast.specs.declared.expr.PrefixOp.TheVariants.{Neg}
@@ -7,7 +7,6 @@ use Rattle.cal_ast.specs.declared.expr.BinOp.TheVariants.{Sub}
 use Rattle.cal_ast.specs.Places.{begins}
 use Rattle.cal_ast.specs.Tree as tree
 use Rattle.cal_ast.specs.Tree.{Tree}
-use Rattle.cal_model.specs.Actor.{Local}
 use Rattle.cal_model.specs.Kinding.{Judged, Fine, Broken, Names, constant_number, counter, kind, with_counters, with_known}
 use Rattle.cal_model.specs.Sound.{Each, EachCall, StartCalls}
 use Rattle.cal_check.specs.Routines.{local_of, locals_of, start_of}

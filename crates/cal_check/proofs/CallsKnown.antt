@@ -1,14 +1,13 @@
 -- What has a kind calls only functions that are known.
-use Rattle.std.proofs.Common.{◌≡◌, ℕ, ℤ, Bool, List, [], ◌∷◌, refl, sym, ap, subst, ◌∙◌, Option, None, Some}
-use Rattle.std.specs.Prelude.{if◌then◌else◌}
-use Rattle.rvc_base.specs.Rules.{unknown_name, wrong_kind}
+use Rattle.std.proofs.Common.{◌≡◌, ℕ, ℤ, Bool, List, [], ◌∷◌, refl, sym, ap, ◌∙◌, Option, None, Some}
+use Rattle.rvc_base.specs.Rules.{wrong_kind}
 use Rattle.cal_ast.specs.Places.{begins}
 use Rattle.cal_ast.specs.Tree as tree
 use Rattle.cal_ast.specs.Tree.{Tree}
-use Rattle.cal_model.specs.Value.{Kind, NumKind, BoolKind, ListKind, Shape, kind_of_type}
+use Rattle.cal_model.specs.Value.{Kind, Shape, kind_of_type}
 use Rattle.cal_model.specs.Actor.{Fun, Local}
 use Rattle.cal_model.specs.Call.{fun_named}
-use Rattle.cal_model.specs.Kinding.{Judged, Fine, Broken, Names, Argument, and_so, arguments_fit, constant_number, counter, counts, elements_in, is_word, kind, kinds, one_kind, type_arguments, type_judged, with_counters, with_known}
+use Rattle.cal_model.specs.Kinding.{Judged, Fine, Broken, Names, Argument, arguments_fit, constant_number, counter, counts, elements_in, is_word, kind, kinds, one_kind, type_arguments, type_judged, with_counters, with_known}
 use Rattle.cal_model.specs.Sound.{AreLocals, Each, EachCall, StartCalls, StartHasKind, known_local}
 use Rattle.cal_model.proofs.KindValues.{not-fine, split, tested}
 use Rattle.cal_check.proofs.PlainTrees.{fun-called}

@@ -1,15 +1,14 @@
 -- What constant expressions give over names whose values fit the language.
-use Rattle.std.proofs.Common.{◌≡◌, ℕ, zero, suc, Bool, true, false, ℤ, List, [], ◌∷◌, ◌++◌, map, refl, sym, ap, subst, ◌∙◌, Option, None, Some}
+use Rattle.std.proofs.Common.{◌≡◌, ℕ, zero, suc, Bool, true, false, ℤ, List, [], ◌∷◌, ◌++◌, refl, sym, subst, Option, None, Some}
 use Rattle.std.specs.Prelude.{if◌then◌else◌}
 use Rattle.std.specs.Str.{bytes_eq}
 use Rattle.rvc_base.specs.Rules.{unknown_name}
 use Rattle.rvc_base.specs.Storing.{IsSize}
 use Rattle.rvc_base.specs.Turns.{max_turns}
 use Rattle.rvc_base.specs.Width.{IsNum}
-use Rattle.rvc_base.specs.declared.scalar.Scalar.TheVariants as scalar
 use Rattle.cal_ast.specs.Tree as tree
 use Rattle.cal_ast.specs.Tree.{Tree}
-use Rattle.cal_model.specs.Value.{Num, Shape, Single, Value}
+use Rattle.cal_model.specs.Value.{Num, Shape, Value}
 use Rattle.cal_model.specs.Outcome.{Out, Gives}
 use Rattle.cal_model.specs.Env.{Env, Var}
 use Rattle.cal_model.specs.Actor.{Fun, Local}
@@ -18,10 +17,10 @@ use Rattle.cal_model.specs.Sound.{Each, IsFormal, with_locals}
 use Rattle.cal_model.proofs.KindLaws.{judged-type}
 use Rattle.cal_model.proofs.KindValues.{fine-is, not-fine, split}
 use Rattle.cal_check.specs.Laws.{AreBare, ConstantsFit}
-use Rattle.cal_check.specs.Routines.{FunDecl, Head, fun_if, fun_judged, fun_of, funs_after, funs_over, head_judged, local_of, locals_of, shape_of, useless_fun, with_fun}
+use Rattle.cal_check.specs.Routines.{FunDecl, Head, fun_if, fun_judged, funs_after, funs_over, head_judged, local_of, locals_of, shape_of, with_fun}
 use Rattle.cal_check.specs.Statements.{names_behind}
 use Rattle.cal_check.specs.Written.{with_inner}
-use Rattle.cal_check.proofs.FittingValues.{EnvFits, FunFits, GivesSuch, Fits, IfSome, IsSized, VarsFit, calls-fit, eval-fits, is-sized}
+use Rattle.cal_check.proofs.FittingValues.{FunFits, GivesSuch, Fits, IfSome, IsSized, VarsFit, calls-fit, eval-fits, is-sized}
 use Rattle.cal_check.proofs.Lists.{each-append, each-map}
 use Rattle.cal_check.proofs.SoundRoutines.{head-is}
 
@@ -54,16 +53,19 @@ such-number : (o : Out Value) (z : ℤ) (left : ℕ) → GivesSuch Fits o → o 
 such-number o z left h e = subst (λ p. GivesSuch Fits p) e h
 
 pub names-fit : (names : Names) → AreBare names.locals → KnownsFit names.globals → Each FunFits names.funs → ConstantsFit names
-names-fit names bare known funs = (bare, λ locals e z left b h.
-    let all : VarsFit (constants (locals ++ names.globals)) = constants-fit (locals ++ names.globals) (each-append (λ x. IfSome Fits x.value) locals names.globals (bare-fit locals b) known) in
-    let env : Env = record { globals = constants (locals ++ names.globals); locals = [] } in
-    such-number (constant e (record names { locals = locals })) z left
-    (eval-fits e (constant_calls (record names { locals = locals })) env max_turns
-    (record {
-      locals = tt;
-      globals = all;
-      called = λ name args k a. calls-fit _ names.funs (constants names.globals) funs (constants-fit names.globals known) name args k a;
-    })) h)
+names-fit names bare known funs = (
+  bare,
+  λ locals e z left b h.
+      let all : VarsFit (constants (locals ++ names.globals)) = constants-fit (locals ++ names.globals) (each-append (λ x. IfSome Fits x.value) locals names.globals (bare-fit locals b) known) in
+      let env : Env = record { globals = constants (locals ++ names.globals); locals = [] } in
+      such-number (constant e (record names { locals = locals })) z left
+      (eval-fits e (constant_calls (record names { locals = locals })) env max_turns
+      (record {
+        locals = tt;
+        globals = all;
+        called = λ name args k a. calls-fit _ names.funs (constants names.globals) funs (constants-fit names.globals known) name args k a;
+      })) h,
+)
 
 -- ---- functions
 

@@ -1,5 +1,5 @@
 -- Values whose numbers are those of the language: evaluation gives only such, whatever the kinds are.
-use Rattle.std.proofs.Common.{◌≡◌, ℕ, zero, suc, ◌<◌, ◌≤◌, ℤ, pos, negsuc, ◌+ℤ◌, ◌-ℤ◌, Bool, true, false, not, ◌&&◌, List, [], ◌∷◌, ◌++◌, refl, sym, ap, subst, ◌∙◌, arith, Option, None, Some}
+use Rattle.std.proofs.Common.{◌≡◌, ℕ, zero, suc, ◌<◌, ◌≤◌, ℤ, pos, negsuc, ◌+ℤ◌, ◌-ℤ◌, Bool, true, false, ◌&&◌, List, [], ◌∷◌, ◌++◌, refl, subst, arith, Option, None, Some}
 use Rattle.std.specs.Prelude.{if◌then◌else◌, ◌==◌, nat_le, int_div, int_lt, neg_ℤ, option_map, unsigned_abs, ◌*ℤ◌, ◌^◌, codes}
 use Rattle.std.specs.Int.{int_shr}
 use Rattle.std.specs.Str.{bytes_eq}
@@ -20,12 +20,12 @@ use Rattle.cal_ast.specs.declared.expr.BinOp.{BinOp}
 use Rattle.cal_ast.specs.declared.expr.BinOp.TheVariants.{Or, And, BitOr, BitXor, BitAnd, Eq, Ne, Lt, Le, Gt, Ge, Shl, Shr, Add, Sub, Mul, Div, Mod}
 use Rattle.cal_ast.specs.Tree as tree
 use Rattle.cal_ast.specs.Tree.{Tree}
-use Rattle.cal_model.specs.Value.{Kind, NumKind, BoolKind, ListKind, Shape, Single, Many, Value, Num, Truth, Items, Values, Nil, Cons, HasKind, HaveKind, IsOf, IsType, joined, of_number, one, repeated, stored, stored_each, value_at, zero_of}
+use Rattle.cal_model.specs.Value.{Kind, NumKind, BoolKind, ListKind, Shape, Single, Many, Value, Num, Truth, Items, Values, Nil, Cons, HasKind, HaveKind, IsOf, IsType, joined, of_number, repeated, stored, stored_each, value_at, zero_of}
 use Rattle.cal_model.specs.Outcome.{Out, Gives, Traps, Lacks, Clashes, alone, and_then, known, needed, turn}
 use Rattle.cal_model.specs.Env.{Env, Var, find, item_at, look_up, variable, with_local}
-use Rattle.cal_model.specs.Expression.{Calls, Given, applied, args_given, bits, chosen, computed, each_from, elements, eval, eval_all, indexed, list_of, nothing_given, of_numbers, of_truths, prefixed, range_of, size_of_value, span, type_meant, type_named, with_right}
+use Rattle.cal_model.specs.Expression.{Calls, Given, applied, args_given, bits, chosen, computed, each_from, elements, eval, eval_all, indexed, of_numbers, of_truths, prefixed, range_of, span, type_meant, type_named, with_right}
 use Rattle.cal_model.specs.Actor.{Fun, Local}
-use Rattle.cal_model.specs.Call.{answered, arguments, calls_of, calls_within, declared, first_value, fun_named, on_call}
+use Rattle.cal_model.specs.Call.{answered, arguments, calls_within, declared, first_value, fun_named, on_call}
 use Rattle.cal_model.specs.Sound.{Each}
 use Rattle.cal_model.proofs.KindNames.{same-text}
 use Rattle.cal_model.proofs.KindValues.{both, of-type, single-is-num}

@@ -17,7 +17,7 @@ use Rattle.cal_check.specs.Actions.{body_of, guards_written, outputs_fine}
 use Rattle.cal_check.specs.Formed.{AreDeclared}
 use Rattle.cal_check.specs.Routines.{local_of, locals_of, start_of}
 use Rattle.cal_check.specs.Sources.{OutputHidesNoCall, OutputsHideNoCall, with_names}
-use Rattle.cal_check.specs.Written.{behind_vars, by_number, constant_written, gens_written, number_tree, statement_written, var_written, vars_written, with_inner, written}
+use Rattle.cal_check.specs.Written.{behind_vars, by_number, constant_written, gens_written, number_tree, statement_written, vars_written, with_inner, written}
 use Rattle.cal_check.proofs.KeptKinds.{counters-same}
 use Rattle.cal_check.proofs.WrittenUses.{EachValues, OfValues, outputs-have}
 

@@ -1,26 +1,25 @@
 -- Functions and procedures whose heads break nothing, one for each declaration.
-use Rattle.std.proofs.Common.{◌≡◌, ℕ, Bool, true, false, List, [], ◌∷◌, ◌++◌, map, length, refl, sym, ap, subst, ◌∙◌, suc, ◌<◌, Option, None, Some}
+use Rattle.std.proofs.Common.{◌≡◌, ℕ, Bool, true, false, List, [], ◌∷◌, ◌++◌, map, length, refl, sym, ap, subst, ◌∙◌, suc, ◌<◌, Some}
 use Rattle.std.specs.Prelude.{if◌then◌else◌}
 use Rattle.std.specs.Str.{bytes_eq}
-use Rattle.rvc_base.specs.declared.scalar.Scalar.{Scalar}
 use Rattle.rvc_base.specs.Rules.{unknown_name}
 use Rattle.cal_ast.specs.Tree as tree
 use Rattle.cal_ast.specs.Tree.{Tree}
 use Rattle.cal_model.specs.Value.{kind_of_scalar}
 use Rattle.cal_model.specs.Actor.{Fun, Local, Proc}
 use Rattle.cal_model.specs.Call.{fun_named}
-use Rattle.cal_model.specs.Kinding.{Judged, Fine, Broken, Names, and_so, with_known}
-use Rattle.cal_model.specs.Sound.{AreDistinct, Each, EachCall, FunHidesNoCall, ProcCallsBelow, ProcHidesNoCall, known_local, names_of_vars, with_locals}
+use Rattle.cal_model.specs.Kinding.{Judged, Fine, Names, and_so, with_known}
+use Rattle.cal_model.specs.Sound.{AreDistinct, Each, FunHidesNoCall, ProcCallsBelow, ProcHidesNoCall, known_local, names_of_vars, with_locals}
 use Rattle.cal_model.proofs.KindNames.{same-text}
 use Rattle.cal_model.proofs.KindValues.{fine-is, not-fine, split}
 use Rattle.cal_check.specs.Actors.{Source, formals_broken, funs_broken, funs_of, heads_broken, is_kept, kept_funs, outers, procs_broken, procs_of, used}
 use Rattle.cal_check.specs.Constants.{stored_kind}
 use Rattle.cal_check.specs.Formed.{AreDeclared, IsFunFormed, IsProcFormed}
 use Rattle.cal_check.specs.Routines.{FunDecl, Head, formal_judged, formal_of, formals_judged, fun_broken, fun_if, fun_inside, fun_judged, fun_of, funs_over, head_judged, locals_of, proc_broken, proc_judged, proc_of, result_judged, single_type, with_fun}
-use Rattle.cal_check.specs.Sources.{IsFunScoped, IsProcScoped, IsRoutineScoped, ProcDeclCallsBelow, names_of_formals, nothing_inside, proc_name, with_names}
+use Rattle.cal_check.specs.Sources.{IsFunScoped, IsProcScoped, ProcDeclCallsBelow, names_of_formals, nothing_inside, proc_name, with_names}
 use Rattle.cal_check.specs.Statements.{names_behind, starts_broken}
-use Rattle.cal_check.specs.Variables.{Found, found_in}
-use Rattle.cal_check.specs.Violations.{all_fine, and_all, broken, fine, if_fine, while_fine}
+use Rattle.cal_check.specs.Variables.{found_in}
+use Rattle.cal_check.specs.Violations.{all_fine, and_all, broken, fine}
 use Rattle.cal_check.specs.Written.{behind_vars}
 use Rattle.cal_check.proofs.CallsBelow.{statement-calls}
 use Rattle.cal_check.proofs.Fine.{broken-none, if-none, none-of}
@@ -29,7 +28,7 @@ use Rattle.cal_check.proofs.NoneBroken.{found-none}
 use Rattle.cal_check.proofs.SettledFuns.{fun-name}
 use Rattle.cal_check.proofs.SoundHeader.{map-append}
 use Rattle.cal_check.proofs.SoundRoutines.{while-none}
-use Rattle.cal_check.proofs.SubLists.{IsPart, part-all, part-both, part-more}
+use Rattle.cal_check.proofs.SubLists.{IsPart, part-both, part-more}
 use Rattle.cal_check.proofs.UsedNames.{IsKept}
 
 -- ---- functions

@@ -1,13 +1,11 @@
 -- An actor that breaks no rule: each of its parts breaks none, and each variable has a value.
-use Rattle.std.proofs.Common.{◌≡◌, ℕ, ◌≤◌, Bool, true, false, ◌||◌, not, List, [], ◌∷◌, ◌++◌, length, refl, sym, ap, subst, ◌∙◌, arith}
+use Rattle.std.proofs.Common.{◌≡◌, ℕ, ◌≤◌, Bool, true, false, ◌||◌, not, List, [], ◌∷◌, ◌++◌, length, refl, ap}
 use Rattle.std.specs.Prelude.{if◌then◌else◌, nat_le}
 use Rattle.std.proofs.lemmas.Bool.{leb-true}
 use Rattle.rvc_base.specs.Rules.{not_constant, too_many_actions, too_many_variables}
 use Rattle.rvc_base.specs.declared.refusal.Rule.{Rule}
 use Rattle.cal_ast.specs.Places.{begins}
-use Rattle.cal_ast.specs.Tree.{Tree}
 use Rattle.cal_model.specs.Actor.{Actor, Held}
-use Rattle.cal_model.specs.Kinding.{Names}
 use Rattle.cal_model.specs.Sound.{max_actions, max_states, max_variable_scalars}
 use Rattle.cal_check.specs.Actions.{Around}
 use Rattle.cal_check.specs.Actors.{Source, actions_broken, actions_in, actor_given, all_found, all_funs, all_said, all_valued, around_of, before_members, behind_variables, declared_vars, first_valueless, formals_broken, funs_broken, given_wrongly, has_heads, header_found, heads_broken, heads_found, initialized_twice, ins_of, inside_found, is_empty, is_held, members_found, members_of, outs_of, params_in, params_of, place_of, procs_broken, procs_in, said_or_all, scalars_of, valueless_found, violations}

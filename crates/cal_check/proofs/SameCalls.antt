@@ -1,23 +1,17 @@
 -- Evaluation, kinds and what is written out, over functions of which those that are called are the same.
-use Rattle.std.proofs.Common.{◌≡◌, ℕ, zero, suc, ◌*◌, ◌+ℤ◌, ℤ, pos, Bool, true, false, List, [], ◌∷◌, ◌++◌, refl, sym, ap, subst, ◌∙◌, Option, None, Some}
-use Rattle.std.specs.Prelude.{if◌then◌else◌}
+use Rattle.std.proofs.Common.{◌≡◌, ℕ, zero, suc, ◌+ℤ◌, ℤ, pos, true, false, List, [], ◌∷◌, refl, sym, ap, subst, ◌∙◌, Option, None, Some}
 use Rattle.rvc_base.specs.Turns.{max_turns}
-use Rattle.rvc_base.specs.Rules.{unknown_name, wrong_number_of_arguments}
 use Rattle.cal_ast.specs.declared.expr.BinOp.{BinOp}
 use Rattle.cal_ast.specs.declared.expr.BinOp.TheVariants.{Or, And}
-use Rattle.cal_ast.specs.Places.{begins}
 use Rattle.cal_ast.specs.Tree as tree
 use Rattle.cal_ast.specs.Tree.{Tree}
-use Rattle.cal_model.specs.Value.{Kind, Shape, Single, Value, Num, Truth, Items, Values, Nil, Cons, one, joined, kind_of_scalar, kind_of_type, stored}
+use Rattle.cal_model.specs.Value.{Shape, Single, Value, Num, Truth, Items, Values, Cons, one, joined, stored}
 use Rattle.cal_model.specs.Outcome.{Out, Gives, Traps, Lacks, Clashes, alone, and_then, needed, turn}
 use Rattle.cal_model.specs.Env.{Env, Var, variable, with_local}
 use Rattle.cal_model.specs.Expression.{Calls, Given, applied, args_given, chosen, each_from, elements, eval, eval_all, indexed, prefixed, range_of, size_of_value, span, type_meant, type_named, with_right}
 use Rattle.cal_model.specs.Actor.{Fun, Local}
-use Rattle.cal_model.specs.Call.{answered, arguments, calls_of, calls_within, declared, first_value, fun_named, on_call}
-use Rattle.cal_model.specs.Kinding.{Judged, Fine, Broken, Known, Names, OfShape, OfSize, and_so, arguments_fit, binary_kind, branch_kind, constant, constant_calls, constant_number, constants, counter, counts, elements_in, is_word, item_kind, kind, kinds, list_kind, list_of_kind, number_given, one_kind, prefix_kind, type_arguments, type_judged, type_with, with_counters, with_known}
+use Rattle.cal_model.specs.Call.{answered, arguments, declared, first_value, on_call}
 use Rattle.cal_model.specs.Sound.{Each, EachCall, StartCalls}
-use Rattle.cal_check.specs.Written.{by_number, constant_written, gens_written, written}
-use Rattle.cal_check.proofs.SameNames.{and-same}
 
 -- ---- outcomes
 

@@ -1,5 +1,5 @@
 -- Kinds, what is written out, and functions, over functions of which those that are called are the same.
-use Rattle.std.proofs.Common.{◌≡◌, ℕ, ◌*◌, ℤ, Bool, true, false, List, [], ◌∷◌, ◌++◌, refl, sym, ap, subst, ◌∙◌, Option, None, Some}
+use Rattle.std.proofs.Common.{◌≡◌, ℕ, ◌*◌, Bool, true, false, List, [], ◌∷◌, ◌++◌, refl, sym, ap, ◌∙◌, Option, None, Some}
 use Rattle.std.specs.Prelude.{if◌then◌else◌}
 use Rattle.rvc_base.specs.Turns.{max_turns}
 use Rattle.rvc_base.specs.Rules.{unknown_name, wrong_number_of_arguments}
@@ -7,15 +7,14 @@ use Rattle.cal_ast.specs.Places.{begins}
 use Rattle.cal_ast.specs.Tree as tree
 use Rattle.cal_ast.specs.Tree.{Tree}
 use Rattle.cal_model.specs.Value.{Kind, NumKind, BoolKind, ListKind, Shape, kind_of_scalar, kind_of_type}
-use Rattle.cal_model.specs.Outcome.{Out}
 use Rattle.cal_model.specs.Env.{Var}
 use Rattle.cal_model.specs.Expression.{span}
 use Rattle.cal_model.specs.Actor.{Fun, Local}
 use Rattle.cal_model.specs.Call.{calls_of, fun_named}
 use Rattle.cal_model.specs.Kinding.{Judged, Fine, Broken, Known, Names, OfShape, OfSize, and_so, arguments_fit, binary_kind, branch_kind, constant, constant_calls, constant_number, constants, counter, counts, elements_in, is_word, item_kind, kind, kinds, list_kind, list_of_kind, number_given, one_kind, prefix_kind, type_arguments, type_judged, type_with, with_counters, with_known}
 use Rattle.cal_model.specs.Sound.{EachCall, kind_of_judged, known_local, with_locals}
-use Rattle.cal_check.specs.Formed.{AreDeclared, FormalCalls, FormalsCall, IsFunFormed}
-use Rattle.cal_check.specs.Routines.{Head, formal_judged, formal_of, formals_judged, fun_if, fun_judged, fun_of, head_judged, local_of, locals_of, result_judged, shape_of, single, single_type, start_of}
+use Rattle.cal_check.specs.Formed.{AreDeclared, FormalCalls, FormalsCall}
+use Rattle.cal_check.specs.Routines.{Head, formal_judged, formal_of, formals_judged, fun_if, fun_judged, fun_of, head_judged, locals_of, result_judged, shape_of, single, single_type, start_of}
 use Rattle.cal_check.specs.Statements.{behind, names_behind}
 use Rattle.cal_check.specs.Written.{behind_vars, by_number, constant_written, gens_written, with_inner, written}
 use Rattle.cal_check.proofs.SameCalls.{CallsSame, eval-same}

@@ -5,7 +5,7 @@ use Rattle.cal_ast.specs.Tree.{Tree}
 use Rattle.cal_model.specs.Value.{Kind, Shape, kind_of_type}
 use Rattle.cal_model.specs.Actor.{Actor, Local, Output, Pattern, Proc}
 use Rattle.cal_model.specs.Selection.{kind_of_port}
-use Rattle.cal_model.specs.Kinding.{Judged, Fine, Known, Names, counter, kind, meant_by, type_judged, with_known}
+use Rattle.cal_model.specs.Kinding.{Judged, Known, Names, counter, meant_by, type_judged, with_known}
 use Rattle.cal_model.specs.Sound.{AreLocals, AreStatements, AreVars, Each, IsOutput, IsPlain, IsStatement, IsVarStart, MayBeAssigned, StartHasKind, kind_inside, kind_of_judged, kind_of_tokens, known_local, with_locals, with_pattern, with_patterns, with_vars_known}
 use Rattle.cal_check.specs.Laws.{AreAlike, IsGuard, IsKnownLike}
 use Rattle.cal_check.specs.Uses.{OnlyUses}

@@ -5,17 +5,17 @@ use Rattle.rvc_base.specs.Rules.{wrong_repeat}
 use Rattle.cal_ast.specs.Tree as tree
 use Rattle.cal_ast.specs.Tree.{Tree}
 use Rattle.cal_model.specs.Actor.{Action, Actor, Output, Pattern, Port}
-use Rattle.cal_model.specs.Rates.{parts, parts_times}
-use Rattle.cal_model.specs.Kinding.{Judged, Fine, Broken, Names, and_so}
+use Rattle.cal_model.specs.Rates.{parts}
+use Rattle.cal_model.specs.Kinding.{Fine, Broken, Names}
 use Rattle.cal_model.specs.Sound.{ActionHidesNoCall, AreDistinct, Each, HidesNoCall, names_in_patterns, names_of, names_of_vars, with_locals, with_patterns}
 use Rattle.cal_model.proofs.KindValues.{fine-is, not-fine, split}
-use Rattle.cal_check.specs.Actions.{Around, action_broken, action_if, action_of, action_with, guard_allowed, inside_broken, names_listed, or_none, outputs_fine, pattern_judged, patterns_broken, patterns_fine, patterns_if, patterns_on, rate_judged, repeat_judged, with_all_patterns}
+use Rattle.cal_check.specs.Actions.{Around, action_broken, action_if, action_of, guard_allowed, names_listed, or_none, outputs_fine, pattern_judged, patterns_broken, patterns_fine, patterns_if, patterns_on, rate_judged, repeat_judged, with_all_patterns}
 use Rattle.cal_check.specs.Formed.{IsActionFormed}
 use Rattle.cal_check.specs.Laws.{HasDistinctNames}
 use Rattle.cal_check.specs.Ports.{Asked, asked_by, each_asked, is_named, numbers_twice, port_of, ports_asked, ports_from}
 use Rattle.cal_check.specs.Routines.{locals_of}
 use Rattle.cal_check.specs.Sources.{IsActionScoped, OutputsHideNoCall, names_of_patterns, nothing_inside, with_names}
-use Rattle.cal_check.specs.Violations.{all_broken, all_fine, and_all, fine}
+use Rattle.cal_check.specs.Violations.{all_broken, all_fine, fine}
 use Rattle.cal_check.specs.Written.{behind_vars}
 use Rattle.cal_check.proofs.Fine.{all-fine, if-none, none-of}
 use Rattle.cal_check.proofs.HiddenCalls.{SameInside, body-hides, guards-hide, locals-hide, locals-inside, locals-named, outputs-hide, patterns-inside}

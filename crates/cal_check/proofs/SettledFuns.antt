@@ -6,22 +6,22 @@ use Rattle.std.proofs.lemmas.Bool.{lt-ltb, ltb-true}
 use Rattle.rvc_base.specs.Rules.{unknown_name}
 use Rattle.cal_ast.specs.Tree as tree
 use Rattle.cal_ast.specs.Tree.{Tree}
-use Rattle.cal_model.specs.Value.{Value, Values}
-use Rattle.cal_model.specs.Outcome.{Out, Lacks}
+use Rattle.cal_model.specs.Value.{Values}
+use Rattle.cal_model.specs.Outcome.{Lacks}
 use Rattle.cal_model.specs.Env.{Var}
 use Rattle.cal_model.specs.Actor.{Fun}
-use Rattle.cal_model.specs.Call.{answered, calls_of, calls_within, fun_named}
+use Rattle.cal_model.specs.Call.{answered, calls_within, fun_named}
 use Rattle.cal_model.specs.Kinding.{Judged, Fine, Broken, Names}
 use Rattle.cal_model.specs.Sound.{Each, FunCallsBelow, with_locals}
-use Rattle.cal_model.proofs.KindNames.{same-text, text-same}
+use Rattle.cal_model.proofs.KindNames.{same-text}
 use Rattle.cal_model.proofs.KindValues.{fine-is, not-fine, split}
 use Rattle.cal_check.specs.Formed.{DeclCallsBelow, IsFunFormed}
-use Rattle.cal_check.specs.Routines.{FunDecl, Head, fun_if, fun_judged, fun_of, funs_after, funs_over, head_judged, with_fun}
+use Rattle.cal_check.specs.Routines.{FunDecl, Head, fun_if, fun_judged, funs_after, funs_over, head_judged, with_fun}
 use Rattle.cal_check.specs.Statements.{names_behind}
 use Rattle.cal_check.specs.Written.{behind_vars}
 use Rattle.cal_check.proofs.CallsBelow.{locals-call, written-calls}
 use Rattle.cal_check.proofs.FittingValues.{named-one}
-use Rattle.cal_check.proofs.SameCalls.{CallsSame, answered-same}
+use Rattle.cal_check.proofs.SameCalls.{answered-same}
 use Rattle.cal_check.proofs.SameFuns.{FunsSame, fun-same, on}
 
 -- ---- how many functions there are of lower ranks

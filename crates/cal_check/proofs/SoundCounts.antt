@@ -1,5 +1,5 @@
 -- How many tokens actions take and give, and that one of them at most is an `initialize`.
-use Rattle.std.proofs.Common.{◌≡◌, ℕ, zero, suc, ◌+◌, ◌*◌, ◌<◌, ◌≤◌, Bool, true, false, List, [], ◌∷◌, ◌++◌, map, length, refl, sym, ap, subst, ◌∙◌, arith, Option, None, Some}
+use Rattle.std.proofs.Common.{◌≡◌, ℕ, zero, suc, ◌+◌, ◌*◌, ◌≤◌, Bool, true, false, List, [], ◌∷◌, ◌++◌, map, length, refl, sym, ap, subst, ◌∙◌, arith, Option, Some}
 use Rattle.std.specs.Prelude.{if◌then◌else◌, ◌==◌, nat_le, slice_get}
 use Rattle.std.proofs.lemmas.Bool.{leb-true}
 use Rattle.rvc_base.specs.Rules.{wrong_initialize, wrong_repeat}
@@ -8,7 +8,7 @@ use Rattle.cal_ast.specs.Tree as tree
 use Rattle.cal_ast.specs.Tree.{Tree}
 use Rattle.cal_model.specs.Actor.{Action, Held, Output, Pattern, Port}
 use Rattle.cal_model.specs.Value.{scalars_of_type}
-use Rattle.cal_model.specs.Kinding.{Fine, Names, and_so, constant_number, kind, kinds}
+use Rattle.cal_model.specs.Kinding.{Fine, Names, kinds}
 use Rattle.cal_model.specs.Rates.{given_on, parts, parts_times, taken_on, times}
 use Rattle.cal_model.specs.Selection.{kind_of_port}
 use Rattle.cal_model.specs.Sound.{Each, kind_of_tokens, max_rate, scalars_of_vars}

@@ -1,5 +1,5 @@
 -- Schedules and priorities that break no rule are sound.
-use Rattle.std.proofs.Common.{◌≡◌, ◌≢◌, ℕ, zero, suc, ◌+◌, ◌<◌, Bool, true, false, not, ◌&&◌, ◌⊎◌, ⊎_elim, inl, inr, List, [], ◌∷◌, ◌++◌, map, length, refl, sym, ap, subst, ◌∙◌, arith, Contains, Option, Some, None, append_assoc}
+use Rattle.std.proofs.Common.{◌≡◌, ◌≢◌, ℕ, suc, ◌+◌, ◌<◌, Bool, true, false, not, ◌&&◌, ⊎_elim, List, [], ◌∷◌, ◌++◌, map, length, refl, sym, ap, subst, ◌∙◌, arith, Contains, Option, Some, None, append_assoc}
 use Rattle.std.specs.Prelude.{if◌then◌else◌, slice_get}
 use Rattle.std.proofs.lemmas.Bool.{cases_eq}
 use Rattle.std.proofs.lemmas.List.{append-nil}
@@ -10,7 +10,7 @@ use Rattle.cal_ast.specs.Tree.{Tree}
 use Rattle.cal_model.specs.Actor.{Action, Actor, Move}
 use Rattle.cal_model.specs.Eligible.{is_empty}
 use Rattle.cal_model.specs.Sound.{AreDistinct, AreTagged, Each, IsMove, IsTagged, LeadToOne}
-use Rattle.cal_model.specs.Tags.{Transition, each_above, is_prefix_tag, is_seen, may_be_meant, moves_by, moves_by_tags, moves_of, number_of_name, pairs_of, seen_in, stands_for, stands_from}
+use Rattle.cal_model.specs.Tags.{Transition, each_above, is_prefix_tag, may_be_meant, moves_by, moves_by_tags, moves_of, number_of_name, pairs_of, stands_for, stands_from}
 use Rattle.cal_check.specs.Formed.{AreMoves, IsScheduleFormed}
 use Rattle.cal_check.specs.Laws.{IsSchedule}
 use Rattle.cal_check.specs.Schedules.{chains_pairs, moves_broken, moves_in, moves_listed, pairs_in, schedule_broken, some_departs, states_of, tags_broken, tags_listed, text_of, transition_of, transitions_of}

@@ -4,10 +4,10 @@ use Rattle.std.specs.Prelude.{if◌then◌else◌, slice_get}
 use Rattle.cal_ast.specs.Tree as tree
 use Rattle.cal_ast.specs.Tree.{Tree}
 use Rattle.cal_model.specs.Actor.{Action, Actor, Fun, Held, Proc}
-use Rattle.cal_model.specs.Kinding.{Fine, Names, constant, kind}
+use Rattle.cal_model.specs.Kinding.{Fine, Names}
 use Rattle.cal_model.specs.Rates.{given_on, need, give, taken_on}
 use Rattle.cal_model.specs.Selection.{Above}
-use Rattle.cal_model.specs.Sound.{AreDistinct, AreTagged, Each, FunCallsBelow, FunHidesNoCall, IsAction, IsFun, IsOutput, IsProc, IsSound, ActionHidesNoCall, NoCallIsHidden, ProcCallsBelow, ProcHidesNoCall, ProcsNeverReturn, max_actions, max_rate, max_states, max_variable_scalars, names_of, scalars_of_vars}
+use Rattle.cal_model.specs.Sound.{AreDistinct, AreTagged, Each, FunCallsBelow, FunHidesNoCall, IsAction, IsFun, IsProc, IsSound, ActionHidesNoCall, ProcCallsBelow, ProcHidesNoCall, max_actions, max_rate, max_states, max_variable_scalars, names_of, scalars_of_vars}
 use Rattle.cal_check.specs.Actions.{Around, action_broken, action_of, or_none}
 use Rattle.cal_check.specs.Actors.{Conforms, IsSource, Source, actions_broken, actions_in, actions_of, actor_given, all_funs, all_valued, around_of, bare_actor, before_members, declared_vars, funs_in, funs_of, ins_of, is_kept, kept_funs, kept_vars, members_of, outers, outs_of, place_of, procs_broken, procs_in, procs_of, used}
 use Rattle.cal_check.specs.Formed.{DeclCallsBelow, IsActionFormed, IsFunFormed, IsProcFormed}
@@ -20,13 +20,12 @@ use Rattle.cal_check.specs.Uses.{OnlyUses}
 use Rattle.cal_check.specs.Variables.{Given, Spot, seen}
 use Rattle.cal_check.specs.Violations.{all_fine}
 use Rattle.cal_check.proofs.Fine.{none-of}
-use Rattle.cal_check.proofs.JudgedRoutines.{AreFuns, AreProcs, FunScoped, Functions, ProcScoped, Procedures, each-fun, each-proc, fun-scoped, functions-found, funs-fine, funs-named, kept-each, proc-calls, proc-named, proc-scoped, procedures-found, procs-counted, procs-fine, procs-named}
+use Rattle.cal_check.proofs.JudgedRoutines.{Functions, Procedures, each-fun, each-proc, fun-scoped, functions-found, funs-fine, funs-named, kept-each, proc-calls, proc-named, proc-scoped, procedures-found, procs-counted, procs-fine, procs-named}
 use Rattle.cal_check.proofs.Lists.{each-append}
 use Rattle.cal_check.proofs.NoneBroken.{BreaksNothing, NothingBroken, nothing-broken}
 use Rattle.cal_check.proofs.RankedFuns.{never-return}
 use Rattle.cal_check.proofs.SameOrder.{moves-same, pairs-same}
-use Rattle.cal_check.proofs.SameParts.{each-both}
-use Rattle.cal_check.proofs.ScopedActions.{ActionScoped, action-scoped}
+use Rattle.cal_check.proofs.ScopedActions.{action-scoped}
 use Rattle.cal_check.proofs.SettledFuns.{fun-calls, fun-name}
 use Rattle.cal_check.proofs.SoundActions.{action-sound, or-none}
 use Rattle.cal_check.proofs.SoundCounts.{count-actions, count-scalars, one-initialize}
@@ -34,7 +33,7 @@ use Rattle.cal_check.proofs.SoundHeader.{header-sound}
 use Rattle.cal_check.proofs.SoundRates.{rates-sound}
 use Rattle.cal_check.proofs.SoundRoutines.{fun-sound, proc-sound}
 use Rattle.cal_check.proofs.SoundSchedules.{pairs-tagged, schedule-sound}
-use Rattle.cal_check.proofs.SoundVariables.{AreValued, IsTyped}
+use Rattle.cal_check.proofs.SoundVariables.{IsTyped}
 use Rattle.cal_check.proofs.SourceNames.{all-are-valued, all-distinct, names-alike, rest-names-fit}
 use Rattle.cal_check.proofs.UsedNames.{IsKept, actor-uses, outers-use}
 
@@ -164,13 +163,15 @@ actions-follow s actor around (a ∷ acts) same f d u fit alike h =
     let scoped = action-scoped a around actor f.0 d.0 two.0 in
     let is : IsAction actor (action_of a around) =
     subst (λ x. IsAction actor (action_of a x)) (sym same)
-    (action-sound (IsKept s) a actor around.names f.0 u.0 fit alike (subst (λ x. action_broken a x ≡ []) same two.0) (subst (λ x. HasDistinctNames (action_of a x)) same scoped.distinct)) in
-    (record {
-      is = is;
-      hides = scoped.hides;
-      takes = λ port. (rates-sound a around port f.0 fit two.0).0;
-      gives = λ port. (rates-sound a around port f.0 fit two.0).1;
-    }, actions-follow s actor around acts same f.1 d.1 u.1 fit alike two.1)
+    (action-sound (IsKept s) a actor around.names f.0 u.0 fit alike (subst (λ x. action_broken a x ≡ []) same two.0) (subst (λ x. HasDistinctNames (action_of a x)) same scoped.distinct)) in (
+      record {
+        is = is;
+        hides = scoped.hides;
+        takes = λ port. (rates-sound a around port f.0 fit two.0).0;
+        gives = λ port. (rates-sound a around port f.0 fit two.0).1;
+      },
+      actions-follow s actor around acts same f.1 d.1 u.1 fit alike two.1,
+    )
 
 -- ---- the header
 

@@ -1,22 +1,20 @@
 -- Variables that all have values: these are of their types, and what is known of them is what the actor holds.
-use Rattle.std.proofs.Common.{◌≡◌, ◌+◌, ℕ, suc, Bool, true, false, ◌||◌, List, [], ◌∷◌, ◌++◌, map, refl, sym, ap, subst, ◌∙◌, Option, None, Some, append_assoc}
+use Rattle.std.proofs.Common.{◌≡◌, ℕ, suc, Bool, true, false, ◌||◌, List, [], ◌∷◌, ◌++◌, map, refl, sym, ap, subst, ◌∙◌, Option, None, Some, append_assoc}
 use Rattle.std.specs.Prelude.{if◌then◌else◌, ◌==◌}
 use Rattle.std.proofs.lemmas.Bool.Decides.{Decides-eqb}
 use Rattle.std.proofs.lemmas.List.{append-nil}
 use Rattle.rvc_base.specs.declared.scalar.Scalar.TheVariants as scalar
-use Rattle.rvc_base.specs.Rules.{not_constant, unknown_name, constant_traps}
 use Rattle.cal_ast.specs.Places.{begins}
 use Rattle.cal_ast.specs.Tree as tree
 use Rattle.cal_ast.specs.Tree.{Tree}
-use Rattle.cal_model.specs.Value.{Kind, NumKind, BoolKind, ListKind, Shape, Single, Many, Value, Num, Truth, Items, Values, Nil, Cons, AreOf, IsOf, IsType, count, kind_of_type, stored, stored_each, zero_of}
+use Rattle.cal_model.specs.Value.{Kind, Shape, Single, Many, Value, Num, Truth, Items, Values, Nil, Cons, AreOf, IsOf, IsType, count, kind_of_type, stored, stored_each, zero_of}
 use Rattle.cal_model.specs.Outcome.{Out, Gives, Traps, Lacks, Clashes}
 use Rattle.cal_model.specs.Actor.{Held}
 use Rattle.cal_model.specs.Kinding.{Judged, Fine, Broken, Known, Names, constant, type_judged}
 use Rattle.cal_model.specs.Sound.{Each}
-use Rattle.cal_model.proofs.KindValues.{fine-is, not-fine}
 use Rattle.cal_model.proofs.KindLaws.{judged-type}
 use Rattle.cal_model.proofs.Stored.{conv-in-range, zero-is-of}
-use Rattle.cal_check.specs.Constants.{early_kind, early_type, has_kind, have_kind, start_value, value_given}
+use Rattle.cal_check.specs.Constants.{early_kind, early_type, has_kind, have_kind, value_given}
 use Rattle.cal_check.specs.Routines.{FunDecl}
 use Rattle.cal_check.specs.Variables.{Come, Given, Spot, Valued, VarDecl, come, come_if, come_of, given_to, given_value, held_if, is_none, seen, value_of, value_or, valued, with_come, with_type, with_var}
 use Rattle.cal_check.proofs.Lists.{each-append}

@@ -1,5 +1,5 @@
 -- Lists that are parts of others in their order.
-use Rattle.std.proofs.Common.{◌≡◌, ◌⊎◌, inl, inr, ⊎_elim, List, [], ◌∷◌, ◌++◌, refl, sym, subst, Contains}
+use Rattle.std.proofs.Common.{◌≡◌, ◌⊎◌, inl, inr, ⊎_elim, List, [], ◌∷◌, ◌++◌, refl, subst, Contains}
 use Rattle.cal_model.specs.Sound.{AreDistinct}
 use Rattle.cal_check.proofs.Lists.{at-head, head-or-rest, in-none, in-rest}
 

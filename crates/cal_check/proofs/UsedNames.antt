@@ -8,7 +8,6 @@ use Rattle.cal_ast.specs.Tree.{Tree}
 use Rattle.cal_model.specs.Sound.{Each}
 use Rattle.cal_model.proofs.KindNames.{same-text, text-same}
 use Rattle.cal_check.specs.Actors.{Outer, Source, among, is_kept, outer_of_fun, outer_of_var, outers, used, used_after, used_by, used_now, uses}
-use Rattle.cal_check.specs.Routines.{FunDecl}
 use Rattle.cal_check.specs.Uses.{OnlyUses}
 use Rattle.cal_check.proofs.Lists.{each-of, head-or-rest, in-none, in-rest, at-head}
 

@@ -1,5 +1,5 @@
 -- What is written out uses what its source uses.
-use Rattle.std.proofs.Common.{◌≡◌, ℕ, suc, Bool, true, false, List, [], ◌∷◌, ℤ, pos, negsuc, refl, sym, ap, subst, ◌∙◌, Option, None, Some}
+use Rattle.std.proofs.Common.{◌≡◌, ℕ, suc, Bool, true, false, List, [], ◌∷◌, ℤ, pos, negsuc, refl, ap, subst, Option, None, Some}
 use Rattle.std.specs.Prelude.{if◌then◌else◌}
 use Rattle.rvc_base.specs.declared.scalar.Scalar.{Scalar}
 use Rattle.rvc_base.specs.Rules.{wrong_repeat}
@@ -10,9 +10,9 @@ use Rattle.cal_ast.specs.Places.{begins}
 use Rattle.cal_ast.specs.Tree as tree
 use Rattle.cal_ast.specs.Tree.{Tree}
 use Rattle.cal_model.specs.Actor.{Local, Output, Port}
-use Rattle.cal_model.specs.Rates.{parts, parts_times}
+use Rattle.cal_model.specs.Rates.{parts}
 use Rattle.cal_model.specs.Selection.{kind_of_port}
-use Rattle.cal_model.specs.Kinding.{Judged, Fine, Broken, Names, and_so, constant_number, counter, kind, kinds, with_counters, with_known}
+use Rattle.cal_model.specs.Kinding.{Judged, Fine, Broken, Names, constant_number, counter, kind, kinds, with_counters, with_known}
 use Rattle.cal_model.specs.Sound.{Each, kind_of_tokens}
 use Rattle.cal_model.proofs.KindValues.{fine-is, not-fine, split}
 use Rattle.cal_check.specs.Actions.{body_of, guards_written, output_judged, outputs_fine, outputs_if, outputs_on, rate_judged, repeat_judged, values_judged}

@@ -7,4 +7,6 @@
 
 mod laws;
 
-pub use laws::{sources_without_violations_are_sound, what_breaks_no_rule_is_sound, written_keeps_kinds};
+pub use laws::{
+    sources_without_violations_are_sound, what_breaks_no_rule_is_sound, written_keeps_kinds,
+};
