@@ -67,7 +67,7 @@ least-gives n at h calls env left =
     ∙ ap (λ o. computed o left) four
 
 -- a tree of numbers and `-` that gives this number wherever it is evaluated
-record GivesNumber (z : ℤ) (t : Tree) : Type 0 where
+pub record GivesNumber (z : ℤ) (t : Tree) : Type 0 where
   pub is_number : (names : Names) → kind t names ≡ Fine NumKind
   pub gives : (calls : Calls) (env : Env) (left : ℕ) → eval t calls env left ≡ Gives (Num z) left
 
@@ -76,7 +76,7 @@ below-gives : (b : Bool) (n at : ℕ) → is_num (pos (suc n)) ≡ b → IsNum (
 below-gives true n at e h = record { is_number = λ names. refl; gives = neg-gives n at (is-num (pos (suc n)) e) h }
 below-gives false n at e h = record { is_number = λ names. refl; gives = least-gives n at h }
 
-number-gives : (z : ℤ) (at : ℕ) → IsNum z → GivesNumber z (number_tree z at)
+pub number-gives : (z : ℤ) (at : ℕ) → IsNum z → GivesNumber z (number_tree z at)
 number-gives (pos n) at h = record { is_number = λ names. refl; gives = pos-gives n at h }
 number-gives (negsuc n) at h = below-gives (is_num (pos (suc n))) n at refl h
 
@@ -86,20 +86,20 @@ given-number z t names g = ap (λ j. constant_number j t names) (g.is_number nam
 -- ---- constants
 
 -- what a constant number is evaluated to
-constant-gives : (j : Judged Kind) (e : Tree) (names : Names) (z : ℤ) → constant_number j e names ≡ Fine z → number_given (constant e names) (begins e) ≡ Fine z
+pub constant-gives : (j : Judged Kind) (e : Tree) (names : Names) (z : ℤ) → constant_number j e names ≡ Fine z → number_given (constant e names) (begins e) ≡ Fine z
 constant-gives (Fine NumKind) e names z h = h
 constant-gives (Fine Kind.BoolKind) e names z h = absurd (not-fine wrong_kind (begins e) z h)
 constant-gives (Fine (Kind.ListKind n k)) e names z h = absurd (not-fine wrong_kind (begins e) z h)
 constant-gives (Broken rule at) e names z h = absurd (not-fine rule at z h)
 
-given-is : (o : Out _) (at : ℕ) (z : ℤ) → number_given o at ≡ Fine z → (left : ℕ) × (o ≡ Gives (Num z) left)
+pub given-is : (o : Out _) (at : ℕ) (z : ℤ) → number_given o at ≡ Fine z → (left : ℕ) × (o ≡ Gives (Num z) left)
 given-is (Gives (Num x) left) at z h = (left, ap (λ y. Gives (Num y) left) (fine-is x z h))
 given-is (Gives other left) at z h = absurd (not-fine _ at z h)
 given-is (Traps c) at z h = absurd (not-fine _ at z h)
 given-is Lacks at z h = absurd (not-fine _ at z h)
 given-is Clashes at z h = absurd (not-fine _ at z h)
 
-is-a-number : (e : Tree) (names : Names) (z : ℤ) → ConstantsFit names → constant_number (kind e names) e names ≡ Fine z → IsNum z
+pub is-a-number : (e : Tree) (names : Names) (z : ℤ) → ConstantsFit names → constant_number (kind e names) e names ≡ Fine z → IsNum z
 is-a-number e names z fit h =
     let g = given-is (constant e names) (begins e) z (constant-gives (kind e names) e names z h) in
     fit.1 names.locals e z g.0 fit.0 g.1
@@ -139,7 +139,7 @@ counters-same other names inner = refl
 pub fit-more : (x : Known) (names : Names) → x.value ≡ None → ConstantsFit names → ConstantsFit (with_known x names)
 fit-more x names e fit = ((e, fit.0), fit.1)
 
-fit-inside : (gens : Tree) (names : Names) → ConstantsFit names → ConstantsFit (with_counters gens names)
+pub fit-inside : (gens : Tree) (names : Names) → ConstantsFit names → ConstantsFit (with_counters gens names)
 fit-inside (tree.cons (tree.gen shape (tree.ident name place) from to at) gens) names fit = fit-inside gens (with_known (counter name) names) (fit-more (counter name) names refl fit)
 fit-inside other names fit = fit
 

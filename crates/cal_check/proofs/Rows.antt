@@ -1,7 +1,8 @@
 -- Worked actors: the rules that they break, and what they are.
-use Rattle.std.proofs.Common.{◌≡◌, ◌+◌, ℕ, true, false, List, [], ◌∷◌, pos, refl}
+use Rattle.std.proofs.Common.{◌≡◌, ◌+◌, ℕ, true, false, List, [], ◌∷◌, pos, refl, arith}
 use Rattle.std.specs.Prelude.{None, codes}
 use Rattle.rvc_base.specs.declared.scalar.Scalar.TheVariants as scalar
+use Rattle.rvc_base.specs.Chain.{ChainLeads}
 use Rattle.rvc_base.specs.Rules as rules
 use Rattle.rvc_base.specs.Turns as turns
 use Rattle.cal_ast.specs.declared.expr.BinOp.TheVariants as op
@@ -9,8 +10,13 @@ use Rattle.cal_ast.specs.Tree as tree
 use Rattle.cal_ast.specs.Tree.{Tree, listed}
 use Rattle.cal_model.specs.Value.{Single, Num}
 use Rattle.cal_model.specs.Actor.{Actor}
+use Rattle.cal_model.specs.Sound.{IsSound}
 use Rattle.cal_check.specs.Variables.{Spot, Found, Given, VarDecl}
-use Rattle.cal_check.specs.Actors.{Source, violations, actor_given}
+use Rattle.cal_check.specs.Actors.{IsAboveItself, Source, violations, actor_given}
+use Rattle.cal_check.specs.Sources.{IsSourceFormed}
+use Rattle.cal_check.proofs.Distinct.{distinct-texts}
+use Rattle.cal_check.proofs.Lists.{in-none}
+use Rattle.cal_check.proofs.SoundSource.{source-sound}
 
 -- ---- parts of actors
 
@@ -380,3 +386,49 @@ sized_in_time = refl
 conforms_in_time : breaks (with_ports [] (constant 10 ∷ var (codes "a") (tree.call (codes "f") tree.nil 30) 20 ∷ sized_later ∷ [])) ≡ []
 unfolding turns.max_turns
 conforms_in_time = refl
+
+-- ---- a whole source
+
+-- a state variable, a function, a procedure that calls it and assigns the variable, and an action that calls the
+-- procedure; of two constants of another file one is used
+abbrev members : List Tree
+members =
+    var (codes "s") (tree.number 1 28) 20
+    ∷ more
+    ∷ tree.procedure (name (codes "p") 100) tree.nil tree.nil
+    (listed (tree.assign (name (codes "s") 110) tree.nil (tree.call (codes "more") (listed (tree.variable (codes "p.U.b") 120 ∷ [])) 115) 110 ∷ [])) 95
+    ∷ action (x_in ∷ []) (sends (variable 150 ∷ []) 148 ∷ []) [] (tree.call_stmt (name (codes "p") 160) tree.nil 160 ∷ []) 130
+    ∷ []
+
+abbrev worked : Source
+worked = with_outers (with_ports [] members)
+
+worked_breaks_nothing : violations worked [] words ≡ []
+worked_breaks_nothing = refl
+
+worked_is_formed : IsSourceFormed worked
+worked_is_formed = record {
+  funs = (tt, tt);
+  procs = ((tt, (tt, tt)), tt);
+  actions = ((tt, (tt, tt), λ e. absurd (cc)), tt);
+  schedule = tt;
+  distinct = distinct-texts (record { 0 = 0 })
+      (record { key = codes "p.U.a"; at = 0 } ∷ record { key = codes "p.U.b"; at = 0 } ∷ record { key = codes "s"; at = 0 } ∷ record { key = codes "more"; at = 0 } ∷ record { key = codes "p"; at = 0 } ∷ []) refl;
+  fun_scopes = (((λ c. in-none (codes "v") c, tt), tt, (tt, tt)), tt);
+  proc_scopes = ((tt, tt, ((tt, (refl, (tt, tt))), tt)), tt);
+  action_scopes = (((λ c. in-none (codes "x") c, tt), tt, tt, ((refl, tt), tt), ((tt, tt), tt)), tt);
+  funs_end = record { rank = λ text. 0; in_range = (omega arith, tt); calls = (((tt, tt), tt, tt, (tt, tt)), tt) };
+  procs_end = record { rank = λ text. 0; in_range = (omega arith, tt); calls = (((tt, (tt, (tt, tt))), tt), tt) };
+}
+
+-- no pair, so no action is above itself
+worked_is_ordered : IsAboveItself (actor_given worked [] words) → ⊥
+worked_is_ordered h = go h.above.0 h.above.1
+  where
+    go : (through : List ℕ) → ChainLeads [] h.action through h.action → ⊥
+    go [] c = in-none (h.action, h.action) c
+    go (x ∷ xs) c = in-none (h.action, x) c.0
+
+worked_is_sound : IsSound (actor_given worked [] words)
+worked_is_sound = source-sound worked [] words (actor_given worked [] words) worked_is_formed
+    (record { conforms = record { nothing = worked_breaks_nothing; ordered = worked_is_ordered }; is = refl })

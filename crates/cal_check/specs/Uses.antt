@@ -11,7 +11,8 @@ OnlyUses P (tree.call text args at) = P text × OnlyUses P args
 OnlyUses P (tree.cons t ts) = OnlyUses P t × OnlyUses P ts
 OnlyUses P (tree.present t) = OnlyUses P t
 OnlyUses P (tree.paren e at) = OnlyUses P e
-OnlyUses P (tree.if_expr test first other at) = OnlyUses P test × OnlyUses P first × OnlyUses P other
+OnlyUses P (tree.if_expr test first other at) =
+    OnlyUses P test × OnlyUses P first × OnlyUses P other
 OnlyUses P (tree.list items at) = OnlyUses P items
 OnlyUses P (tree.comp item gens at) = OnlyUses P item × OnlyUses P gens
 OnlyUses P (tree.gen shape x from to at) = OnlyUses P shape × OnlyUses P from × OnlyUses P to
@@ -21,9 +22,11 @@ OnlyUses P (tree.binary op l r at) = OnlyUses P l × OnlyUses P r
 OnlyUses P (tree.type_of x args at) = OnlyUses P args
 OnlyUses P (tree.shape_arg x shape) = OnlyUses P shape
 OnlyUses P (tree.value_arg x value) = OnlyUses P value
-OnlyUses P (tree.assign (tree.ident x place) places value at) = P x × OnlyUses P places × OnlyUses P value
+OnlyUses P (tree.assign (tree.ident x place) places value at) =
+    P x × OnlyUses P places × OnlyUses P value
 OnlyUses P (tree.call_stmt x args at) = OnlyUses P args
-OnlyUses P (tree.if_stmt test first other at) = OnlyUses P test × OnlyUses P first × OnlyUses P other
+OnlyUses P (tree.if_stmt test first other at) =
+    OnlyUses P test × OnlyUses P first × OnlyUses P other
 OnlyUses P (tree.while_stmt test body at) = OnlyUses P test × OnlyUses P body
 OnlyUses P (tree.foreach_stmt shape x from to body at) =
     OnlyUses P shape × OnlyUses P from × OnlyUses P to × OnlyUses P body
