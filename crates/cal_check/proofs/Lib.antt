@@ -38,3 +38,4 @@ mod RankedFuns
 mod SameOrder
 mod SourceNames
 mod SoundSource
+mod ValuesKept
