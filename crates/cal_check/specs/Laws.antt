@@ -6,9 +6,12 @@ use Rattle.rvc_base.specs.Width.{IsNum}
 use Rattle.cal_ast.specs.Tree.{Tree}
 use Rattle.cal_model.specs.Value.{Kind, BoolKind, Shape, Num}
 use Rattle.cal_model.specs.Outcome.{Gives}
-use Rattle.cal_model.specs.Actor.{Action, Actor, Fun, Held, Move, Port, Proc}
-use Rattle.cal_model.specs.Call.{fun_named}
-use Rattle.cal_model.specs.Kinding.{Fine, Known, Names, constant, kind, meant_by, type_judged}
+use Rattle.cal_model.specs.Env.{Env}
+use Rattle.cal_model.specs.Expression.{eval, eval_all, type_meant}
+use Rattle.cal_model.specs.Keeping.{HasAllOf, IsEnvOf}
+use Rattle.cal_model.specs.Actor.{Action, Actor, Fun, Held, Local, Move, Port, Proc}
+use Rattle.cal_model.specs.Call.{calls_of, fun_named}
+use Rattle.cal_model.specs.Kinding.{Fine, Known, Names, arguments_fit, constant, kind, kinds, meant_by, type_judged}
 use Rattle.cal_model.specs.Sound.{Each, AreDistinct, AreLocals, AreStatements, AreTagged, IsAction, IsFun, IsMove, IsPlain, IsProc, LeadToOne, max_ports, max_rate, names_in_patterns, names_of, scalars_of_vars, with_locals}
 use Rattle.cal_check.specs.Uses.{OnlyUses}
 use Rattle.cal_check.specs.Violations.{all_broken, all_fine}
@@ -64,6 +67,29 @@ pub record WrittenKeepsKinds : Type 0 where
       → type_judged shape names ≡ Fine t → type_judged (written shape names) names ≡ Fine t
   pub is_plain : (e : Tree) (names : Names) (k : Kind) → kind e names ≡ Fine k
       → IsPlain (written e names)
+
+-- An expression that has a kind gives the same once it is written out, in each environment that has all names: sizes and
+-- bounds are evaluated to the same numbers, and count their turns for themselves. So do expressions in order, arguments
+-- and types.
+pub record WrittenKeepsValues : Type 0 where
+  pub of_expressions : (e : Tree) (names : Names) (k : Kind) (env : Env) (left : ℕ)
+      → ConstantsFit names → IsEnvOf names env → HasAllOf names env → kind e names ≡ Fine k
+      → eval (written e names) (calls_of names.funs) env left ≡ eval e (calls_of names.funs) env left
+  pub of_lists : (es : Tree) (names : Names) (ks : List Kind) (env : Env) (left : ℕ)
+      → ConstantsFit names → IsEnvOf names env → HasAllOf names env → kinds es names ≡ Fine ks
+      → eval_all (written es names) (calls_of names.funs) env left
+      ≡ eval_all es (calls_of names.funs) env left
+  pub of_arguments :
+      (args : Tree) (formals : List Local) (names : Names) (b : Bool) (env : Env) (left : ℕ)
+      → ConstantsFit names → IsEnvOf names env → HasAllOf names env
+      → arguments_fit args formals names ≡ Fine b
+      → eval_all (written args names) (calls_of names.funs) env left
+      ≡ eval_all args (calls_of names.funs) env left
+  pub of_types : (shape : Tree) (names : Names) (t : Shape) (env : Env) (left : ℕ)
+      → ConstantsFit names → IsEnvOf names env → HasAllOf names env
+      → type_judged shape names ≡ Fine t
+      → type_meant (written shape names) (calls_of names.funs) env left
+      ≡ type_meant shape (calls_of names.funs) env left
 
 -- a test that is written out
 abbrev pub IsGuard : Names → Tree → Type 0

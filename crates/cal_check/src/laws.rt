@@ -3,11 +3,16 @@
 //! Each law is the contract of a function that does nothing: it is proved with the crate, and can be cited.
 
 ghost use Rattle.cal_check.specs.Sources.{SourcesAreSound};
-ghost use Rattle.cal_check.specs.Laws.{ActionsAreSound, FunctionsAreSound, GuardsAreSound, HeadersAreSound, InitializesAreSound, LimitsAreSound, LocalsAreSound, PrioritiesAreSound, ProceduresAreSound, RatesAreSound, SchedulesAreSound, StatementsAreSound, WrittenKeepsKinds};
+ghost use Rattle.cal_check.specs.Laws.{ActionsAreSound, FunctionsAreSound, GuardsAreSound, HeadersAreSound, InitializesAreSound, LimitsAreSound, LocalsAreSound, PrioritiesAreSound, ProceduresAreSound, RatesAreSound, SchedulesAreSound, StatementsAreSound, WrittenKeepsKinds, WrittenKeepsValues};
 
 /// Writing out sizes and bounds keeps the kinds of expressions and types, if constants are numbers of the language.
 pub fn written_keeps_kinds()
     ensures { WrittenKeepsKinds }
+{}
+
+/// Writing out sizes and bounds keeps what expressions and types mean, in each environment that has all names.
+pub fn written_keeps_values()
+    ensures { WrittenKeepsValues }
 {}
 
 /// The ports of a header, and guards, locals, statements, actions, functions and procedures that break no rule are sound
