@@ -39,3 +39,4 @@ mod SameOrder
 mod SourceNames
 mod SoundSource
 mod ValuesKept
+mod StatementsKept

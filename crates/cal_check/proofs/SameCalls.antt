@@ -79,7 +79,7 @@ module _ (P Q : List ℕ → Type 0) (c d : Calls) where
         then-same (eval l c x left) (eval l d x left) _ _ (eval-same l x left a r.0) (λ v m. right-same op v _ _ m (λ k. eval-same o x k a r.1))
     eval-same other x left a r = refl
 
-    all-same : (es : Tree) (x : Env) (left : ℕ) → CallsSame P c d x.globals → EachCall P Q es → eval_all es c x left ≡ eval_all es d x left
+    pub all-same : (es : Tree) (x : Env) (left : ℕ) → CallsSame P c d x.globals → EachCall P Q es → eval_all es c x left ≡ eval_all es d x left
     all-same tree.nil x left a r = refl
     all-same (tree.cons e es) x left a r =
         then-same (eval e c x left) (eval e d x left) _ _ (eval-same e x left a r.0) (λ v m.
@@ -98,7 +98,7 @@ module _ (P Q : List ℕ → Type 0) (c d : Calls) where
         elements-same gens f g (with_local (variable name t false (stored t (Num i))) x) m a r.1 h)))))
     elements-same other f g x left a r h = refl
 
-    type-same : (shape : Tree) (x : Env) (left : ℕ) → CallsSame P c d x.globals → EachCall P Q shape → type_meant shape c x left ≡ type_meant shape d x left
+    pub type-same : (shape : Tree) (x : Env) (left : ℕ) → CallsSame P c d x.globals → EachCall P Q shape → type_meant shape c x left ≡ type_meant shape d x left
     type-same (tree.type_of (tree.ident name place) args at) x left a r =
         ap (λ o. and_then o (λ given m. needed (type_named name given) m)) (args-same args x left a r)
     type-same other x left a r = refl

@@ -53,7 +53,7 @@ pub record AreSound (vars : Tree) (names inner : Names) : Type 0 where
   pub are_locals : AreLocals (locals_of vars names) names
   pub is_with : with_locals (locals_of vars names) names ≡ inner
 
-behind-fine : (j : Judged Shape) (v : Tree) (names inner : Names) → behind j v names ≡ Fine inner → (t : Shape) × (j ≡ Fine t) × (with_inner v names ≡ inner)
+pub behind-fine : (j : Judged Shape) (v : Tree) (names inner : Names) → behind j v names ≡ Fine inner → (t : Shape) × (j ≡ Fine t) × (with_inner v names ≡ inner)
 behind-fine (Fine t) v names inner h = (t, refl, fine-is (with_inner v names) inner h)
 behind-fine (Broken rule at) v names inner h = absurd (not-fine rule at inner h)
 

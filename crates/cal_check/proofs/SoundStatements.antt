@@ -46,7 +46,7 @@ inside-is (ListKind n k) (ListKind m j ∷ ks) at l h = absurd (not-fine wrong_k
 inside-is NumKind (j ∷ ks) at l h = absurd (not-fine wrong_kind at l h)
 inside-is BoolKind (j ∷ ks) at l h = absurd (not-fine wrong_kind at l h)
 
-assigned-is : (o : Option Known) (ks : List Kind) (at : ℕ) (l : Kind) → assigned_kind o ks at ≡ Fine l → (x : Known) × (o ≡ Some x) × (kind_inside x.kind ks ≡ Some l)
+pub assigned-is : (o : Option Known) (ks : List Kind) (at : ℕ) (l : Kind) → assigned_kind o ks at ≡ Fine l → (x : Known) × (o ≡ Some x) × (kind_inside x.kind ks ≡ Some l)
 assigned-is None ks at l h = absurd (not-fine unknown_name at l h)
 assigned-is (Some x) ks at l h = (x, refl, inside-is x.kind ks at l h)
 
@@ -64,7 +64,7 @@ as-many-is (Fine true) at b h = refl
 as-many-is (Fine false) at b h = absurd (not-fine wrong_number_of_arguments at b h)
 as-many-is (Broken rule p) at b h = absurd (not-fine rule p b h)
 
-called-is : (o : Option Proc) (args : Tree) (at : ℕ) (names : Names) (b : Bool) → call_judged o args at names ≡ Fine b
+pub called-is : (o : Option Proc) (args : Tree) (at : ℕ) (names : Names) (b : Bool) → call_judged o args at names ≡ Fine b
     → (p : Proc) × (o ≡ Some p) × (arguments_fit args p.formals names ≡ Fine true)
 called-is None args at names b h = absurd (not-fine unknown_name at b h)
 called-is (Some p) args at names b h = (p, refl, as-many-is (arguments_fit args p.formals names) at b h)

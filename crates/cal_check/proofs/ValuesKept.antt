@@ -240,7 +240,7 @@ stays n name (y ∷ ys) e = go (bytes_eq y.name name) refl (stays n name ys e)
     go true f rest = rest ∙ sym (ap (λ b. if b then Some y.value else find n ys) (ap (λ t. bytes_eq t n) (same-text y.name name f) ∙ e))
     go false f rest = ap (λ o. if bytes_eq y.name n then Some y.value else o) rest
 
-hidden-more : (n name : List ℕ) (ys : List Var) (v : Value) (o : Option Value) → MeansNoLess (find n ys) o → MeansNoLess (find n (without name ys)) (if bytes_eq name n then Some v else o)
+pub hidden-more : (n name : List ℕ) (ys : List Var) (v : Value) (o : Option Value) → MeansNoLess (find n ys) o → MeansNoLess (find n (without name ys)) (if bytes_eq name n then Some v else o)
 hidden-more n name ys v o h = go (bytes_eq name n) refl
   where
     go : (b : Bool) → bytes_eq name n ≡ b → MeansNoLess (find n (without name ys)) (if b then Some v else o)
@@ -377,7 +377,7 @@ mutual
 
 -- ---- environments of names
 
-const-known : (name : List ℕ) (xs : List Known) (v : Value) → find name (constants xs) ≡ Some v → (x : Known) × (known_as name xs ≡ Some x) × (x.value ≡ Some v)
+pub const-known : (name : List ℕ) (xs : List Known) (v : Value) → find name (constants xs) ≡ Some v → (x : Known) × (known_as name xs ≡ Some x) × (x.value ≡ Some v)
 const-known name [] v h = absurd (cc)
 const-known name (x ∷ xs) v h = go x.value refl (bytes_eq x.name name) refl h (λ e. const-known name xs v e)
   where
