@@ -40,3 +40,4 @@ mod SourceNames
 mod SoundSource
 mod ValuesKept
 mod StatementsKept
+mod MeaningKept

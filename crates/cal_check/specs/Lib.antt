@@ -12,3 +12,4 @@ pub mod Laws
 pub mod Formed
 pub mod Uses
 pub mod Sources
+pub mod Meaning

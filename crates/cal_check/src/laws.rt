@@ -2,6 +2,7 @@
 //!
 //! Each law is the contract of a function that does nothing: it is proved with the crate, and can be cited.
 
+ghost use Rattle.cal_check.specs.Meaning.{StatementsKeepConstants, WrittenStatementsDoTheSame};
 ghost use Rattle.cal_check.specs.Sources.{SourcesAreSound};
 ghost use Rattle.cal_check.specs.Laws.{ActionsAreSound, FunctionsAreSound, GuardsAreSound, HeadersAreSound, InitializesAreSound, LimitsAreSound, LocalsAreSound, PrioritiesAreSound, ProceduresAreSound, RatesAreSound, SchedulesAreSound, StatementsAreSound, WrittenKeepsKinds, WrittenKeepsValues};
 
@@ -13,6 +14,13 @@ pub fn written_keeps_kinds()
 /// Writing out sizes and bounds keeps what expressions and types mean, in each environment that has all names.
 pub fn written_keeps_values()
     ensures { WrittenKeepsValues }
+{}
+
+/// Statements that break no rule do the same once their sizes and bounds are written out, wherever the constants have
+/// their values, and leave the constants as they are.
+pub fn written_statements_do_the_same()
+    ensures same { WrittenStatementsDoTheSame }
+    ensures constants { StatementsKeepConstants }
 {}
 
 /// The ports of a header, and guards, locals, statements, actions, functions and procedures that break no rule are sound
