@@ -16,7 +16,7 @@ use Rattle.cal_check.proofs.PlainTrees.{fun-called}
 abbrev pub IsKnownFun : List Fun → List ℕ → Type 0
 IsKnownFun funs name = (f : Fun) × (fun_named name funs ≡ Some f)
 
-abbrev StartIs : (P Q : List ℕ → Type 0) → Option Tree → Type 0
+abbrev pub StartIs : (P Q : List ℕ → Type 0) → Option Tree → Type 0
 StartIs P Q start = elim start [ None ↦ Unit {0} | Some e ↦ EachCall P Q e ]
 
 -- a constant number has a kind

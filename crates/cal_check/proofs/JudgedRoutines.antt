@@ -159,7 +159,7 @@ routine-inside xs formals vars names others declared bare e d =
     }
 
 -- a function that breaks nothing, by its head
-fun-made : (full : List ℕ) (name formals result vars body : Tree) (at : ℕ) (names : Names) (g : Fun) → fun_judged full (tree.function name formals result vars body at) names ≡ Fine g
+pub fun-made : (full : List ℕ) (name formals result vars body : Tree) (at : ℕ) (names : Names) (g : Fun) → fun_judged full (tree.function name formals result vars body at) names ≡ Fine g
     → fun_broken (tree.function name formals result vars body at) names ≡ [] → (head : Head) × (head_judged (tree.function name formals result vars body at) names ≡ Fine head) × (fun_of full head vars body names ≡ g)
 fun-made full name formals result vars body at names g e h =
     let decl : Tree = tree.function name formals result vars body at in

@@ -41,3 +41,5 @@ mod SoundSource
 mod ValuesKept
 mod StatementsKept
 mod MeaningKept
+mod FunctionsKept
+mod SourceFunctions

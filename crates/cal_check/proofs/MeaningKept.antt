@@ -18,7 +18,7 @@ use Rattle.cal_check.proofs.FittingValues.{GivesSuch}
 use Rattle.cal_check.proofs.StatementsKept.{HasConstants, Holds, Same, World, statements-same}
 use Rattle.cal_check.proofs.ValuesKept.{MeansNoLess, calls-below}
 
-to-less : (known : List Known) (vars : List Var) → meaning.HasConstants known vars → HasConstants known vars
+pub to-less : (known : List Known) (vars : List Var) → meaning.HasConstants known vars → HasConstants known vars
 to-less known vars h name = go (find name (constants known)) refl
   where
     go : (o : Option Value) → find name (constants known) ≡ o → MeansNoLess o (find name vars)

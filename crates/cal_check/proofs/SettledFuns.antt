@@ -103,14 +103,14 @@ below-less rank name (g ∷ gs) f m h l = go (bytes_eq g.name name) refl h (λ e
 -- ---- what functions give
 
 -- so many calls may be open at the function of a name, if there is one
-abbrev MayBeOpen : (List ℕ → ℕ) → List Fun → ℕ → List ℕ → Type 0
+abbrev pub MayBeOpen : (List ℕ → ℕ) → List Fun → ℕ → List ℕ → Type 0
 MayBeOpen rank fs n name = (f : Fun) → fun_named name fs ≡ Some f → below rank fs (rank name) < n
 
 none-some : {A : Type 0} (x : A) → None ≡ Some x → ⊥
 none-some x h = cc
 
 -- functions of which those of ranks below k are the same give the same by their names
-calls-settled : (rank : List ℕ → ℕ) (k n m : ℕ) (a b : List Fun) (globals : List Var) → Each (FunCallsBelow rank) a → ((name : List ℕ) → rank name < k → fun_named name a ≡ fun_named name b)
+pub calls-settled : (rank : List ℕ → ℕ) (k n m : ℕ) (a b : List Fun) (globals : List Var) → Each (FunCallsBelow rank) a → ((name : List ℕ) → rank name < k → fun_named name a ≡ fun_named name b)
     → (name : List ℕ) → rank name < k → MayBeOpen rank a n name → MayBeOpen rank b m name → (args : Values) (left : ℕ) → calls_within n a globals name args left ≡ calls_within m b globals name args left
 calls-settled rank k zero m a b globals calls same name l p q args left = go (fun_named name a) refl
   where

@@ -50,7 +50,7 @@ are-formals (tree.cons f fs) names xs h =
     (is-formal f names x.0 x.1, are-formals fs (with_known (known_local x.0) names) rest.0 rest.1)
 are-formals other names xs h = absurd (not-fine unknown_name 0 xs h)
 
-fit-locals : (xs : List Local) (names : Names) → ConstantsFit names → ConstantsFit (with_locals xs names)
+pub fit-locals : (xs : List Local) (names : Names) → ConstantsFit names → ConstantsFit (with_locals xs names)
 fit-locals [] names fit = fit
 fit-locals (x ∷ xs) names fit = fit-locals xs (with_known (known_local x) names) (fit-more (known_local x) names refl fit)
 

@@ -79,7 +79,7 @@ all-distinct s held gs procs ev ef ep d =
 -- ---- functions
 
 -- what is seen where members are judged, before its functions are known
-abbrev base_names : List Known → Names
+abbrev pub base_names : List Known → Names
 base_names globals = record { globals = globals; locals = []; funs = [] }
 
 ranks-over : (rank : List ℕ → ℕ) (n : ℕ) (fs : List FunDecl) (names : Names) → Each (λ f. rank f.name < n) fs → Each (λ g. rank g.name < n) (funs_over fs names)
@@ -102,7 +102,7 @@ none-above rank n name gs h l = go (fun_named name gs) refl
         absurd (omega arith)
 
 -- the function of a name is the same in one more round than there are functions
-round-same : (n : ℕ) (fs : List FunDecl) (names : Names) (name : List ℕ) (end : FunDeclsEnd fs) → n ≡ length fs → Each (λ f. IsFunFormed f.decl) fs → fun_named name (funs_after n fs names) ≡ fun_named name (funs_after (suc n) fs names)
+pub round-same : (n : ℕ) (fs : List FunDecl) (names : Names) (name : List ℕ) (end : FunDeclsEnd fs) → n ≡ length fs → Each (λ f. IsFunFormed f.decl) fs → fun_named name (funs_after n fs names) ≡ fun_named name (funs_after (suc n) fs names)
 round-same n fs names name end e formed =
     ⊎_elim (λ (l : end.rank name < n). settled end.rank n fs names formed end.calls name l)
     (λ (l : n ≤ end.rank name). above n e l) (cases_lt (end.rank name) n)

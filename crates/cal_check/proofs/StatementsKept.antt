@@ -62,7 +62,7 @@ any-call other = tt
 abbrev pub Same : {A : Type 0} → (A → Type 0) → Out A → Out A → Type 0
 Same P o p = (o ≡ p) × GivesSuch P p
 
-same-then : {A B : Type 0} (P : A → Type 0) (Q : B → Type 0) (o p : Out A) (f g : A → ℕ → Out B) → Same P o p → ((a : A) (k : ℕ) → P a → Same Q (f a k) (g a k)) → Same Q (and_then o f) (and_then p g)
+pub same-then : {A B : Type 0} (P : A → Type 0) (Q : B → Type 0) (o p : Out A) (f g : A → ℕ → Out B) → Same P o p → ((a : A) (k : ℕ) → P a → Same Q (f a k) (g a k)) → Same Q (and_then o f) (and_then p g)
 same-then {A} {B} P Q o p f g h i = let r = go p h.1 in (ap (λ q. and_then q f) h.0 ∙ r.0, r.1)
   where
     go : (p : Out A) → GivesSuch P p → Same Q (and_then p f) (and_then p g)
@@ -78,7 +78,7 @@ such-any (Traps c) = tt
 such-any Lacks = tt
 such-any Clashes = tt
 
-plainly : {A : Type 0} (o p : Out A) → o ≡ p → Same (λ a. Unit {0}) o p
+pub plainly : {A : Type 0} (o p : Out A) → o ≡ p → Same (λ a. Unit {0}) o p
 plainly o p e = (e, such-any p)
 
 same-turn : {A : Type 0} (P : A → Type 0) (left : ℕ) (f g : ℕ → Out A) → ((k : ℕ) → Same P (f k) (g k)) → Same P (turn left f) (turn left g)
@@ -136,7 +136,7 @@ module _ (c d : Calls) (runs others : Runs) where
 
   -- ---- expressions
 
-  value-same : (e : Tree) (n : Names) (k : Kind) (env : Env) (left : ℕ) → ConstantsFit n → World c d runs others n.globals n.funs → Holds n env → kind e n ≡ Fine k
+  pub value-same : (e : Tree) (n : Names) (k : Kind) (env : Env) (left : ℕ) → ConstantsFit n → World c d runs others n.globals n.funs → Holds n env → kind e n ≡ Fine k
       → eval (written e n) c env left ≡ eval e d env left
   value-same e n k env left fit w h f =
       value-kept e n k c env left fit (extends n env w h) f
@@ -160,7 +160,7 @@ module _ (c d : Calls) (runs others : Runs) where
       type-values shape n t c env left fit (extends n env w h) f
       ∙ type-same (λ name. Unit {0}) (λ name. Unit {0}) c d shape env left (λ name u args m. w.calls env.globals h.constants name args m) (any-call shape)
 
-  stored-same : (k : Kind) (e : Tree) (n : Names) (env : Env) (left : ℕ) → ConstantsFit n → World c d runs others n.globals n.funs → Holds n env → broken (stored_kind k e n) ≡ []
+  pub stored-same : (k : Kind) (e : Tree) (n : Names) (env : Env) (left : ℕ) → ConstantsFit n → World c d runs others n.globals n.funs → Holds n env → broken (stored_kind k e n) ≡ []
       → eval (written e n) c env left ≡ eval e d env left
   stored-same k e n env left fit w h b =
       let l = broken-none (stored_kind k e n) b in
@@ -313,7 +313,7 @@ assign-holds n env name places v left x r h m t = go (is_among name env.locals) 
 
 -- ---- parts inside which there are more locals
 
-local-holds : (n : Names) (env : Env) (x : Known) (z : Var) → x.value ≡ None → x.name ≡ z.name → Holds n env → Holds (with_known x n) (with_local z env)
+pub local-holds : (n : Names) (env : Env) (x : Known) (z : Var) → x.value ≡ None → x.name ≡ z.name → Holds n env → Holds (with_known x n) (with_local z env)
 local-holds n env x z e f h = record { bare = (e, h.bare); named = ap (λ t. t ∷ map (λ y. y.name) n.locals) f ∙ ap (λ ts. z.name ∷ ts) h.named; constants = h.constants }
 
 counted : (xs : List Known) (zs : List Var) → map (λ x. x.name) xs ≡ map (λ x. x.name) zs → length xs ≡ length zs
@@ -340,11 +340,11 @@ back-named (m ∷ ms) ns (z ∷ zs) k c e =
     back-named ms ns zs k c p.1 ∙ ap (λ i. map (λ x. x.name) (drop i (z ∷ zs))) (sym one)
 
 -- names inside are those outside with more locals
-record IsDeeper (inner n : Names) : Type 0 where
-  more : List Known
-  locals : inner.locals ≡ more ++ n.locals
-  globals : inner.globals ≡ n.globals
-  funs : inner.funs ≡ n.funs
+pub record IsDeeper (inner n : Names) : Type 0 where
+  pub more : List Known
+  pub locals : inner.locals ≡ more ++ n.locals
+  pub globals : inner.globals ≡ n.globals
+  pub funs : inner.funs ≡ n.funs
 
 back-holds : (inner n : Names) (env next : Env) → IsDeeper inner n → Holds n env → Holds inner next → Holds n (back_to env next)
 back-holds inner n env next deep h i = record {
@@ -355,7 +355,7 @@ back-holds inner n env next deep h i = record {
 
 -- ---- statements
 
-behind-deeper : (vars : Tree) (n inner : Names) → AreDeclared vars → names_behind vars n ≡ Fine inner → IsDeeper inner n
+pub behind-deeper : (vars : Tree) (n inner : Names) → AreDeclared vars → names_behind vars n ≡ Fine inner → IsDeeper inner n
 behind-deeper tree.nil n inner f h = subst (λ x. IsDeeper x n) (fine-is n inner h) (record { more = []; locals = refl; globals = refl; funs = refl })
 behind-deeper (tree.cons (tree.var shape (tree.ident name place) start changes at) vs) n inner f h =
     let v : Tree = tree.var shape (tree.ident name place) start changes at in

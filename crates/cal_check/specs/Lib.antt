@@ -13,3 +13,4 @@ pub mod Formed
 pub mod Uses
 pub mod Sources
 pub mod Meaning
+pub mod AsWritten

@@ -2,6 +2,7 @@
 //!
 //! Each law is the contract of a function that does nothing: it is proved with the crate, and can be cited.
 
+ghost use Rattle.cal_check.specs.AsWritten.{FunctionsGiveTheSame};
 ghost use Rattle.cal_check.specs.Meaning.{StatementsKeepConstants, WrittenStatementsDoTheSame};
 ghost use Rattle.cal_check.specs.Sources.{SourcesAreSound};
 ghost use Rattle.cal_check.specs.Laws.{ActionsAreSound, FunctionsAreSound, GuardsAreSound, HeadersAreSound, InitializesAreSound, LimitsAreSound, LocalsAreSound, PrioritiesAreSound, ProceduresAreSound, RatesAreSound, SchedulesAreSound, StatementsAreSound, WrittenKeepsKinds, WrittenKeepsValues};
@@ -21,6 +22,11 @@ pub fn written_keeps_values()
 pub fn written_statements_do_the_same()
     ensures same { WrittenStatementsDoTheSame }
     ensures constants { StatementsKeepConstants }
+{}
+
+/// In a source that breaks no rule, functions give what they give as they stand there.
+pub fn written_functions_give_the_same()
+    ensures { FunctionsGiveTheSame }
 {}
 
 /// The ports of a header, and guards, locals, statements, actions, functions and procedures that break no rule are sound

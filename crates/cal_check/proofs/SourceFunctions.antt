@@ -1,0 +1,58 @@
+-- Functions of a source that breaks no rule give what they give as they stand there.
+use Rattle.std.proofs.Common.{◌≡◌, ℕ, true, List, [], ◌∷◌, map, length, refl, sym, ap, subst, ◌∙◌, None}
+use Rattle.std.specs.Prelude.{if◌then◌else◌}
+use Rattle.cal_model.specs.Value.{Values}
+use Rattle.cal_model.specs.Outcome.{Lacks}
+use Rattle.cal_model.specs.Env.{Var}
+use Rattle.cal_model.specs.Call.{calls_of, fun_named}
+use Rattle.cal_model.specs.Statement.{Runs}
+use Rattle.cal_model.specs.Kinding.{Known, Names, constants}
+use Rattle.cal_model.specs.Sound.{Each, FunCallsBelow}
+use Rattle.cal_check.specs.Actors.{Conforms, Source, all_funs, all_valued, around_of, at_rest, declared_vars}
+use Rattle.cal_check.specs.AsWritten.{funs_as_are}
+use Rattle.cal_check.specs.Meaning.{AreAtRest}
+use Rattle.cal_check.specs.Meaning as meaning
+use Rattle.cal_check.specs.Sources.{IsSourceFormed}
+use Rattle.cal_check.specs.Variables.{Given, Spot}
+use Rattle.cal_check.proofs.FunctionsKept.{calls-kept, pairs-of}
+use Rattle.cal_check.proofs.JudgedRoutines.{functions-found, funs-fine}
+use Rattle.cal_check.proofs.MeaningKept.{to-less}
+use Rattle.cal_check.proofs.NoneBroken.{nothing-broken}
+use Rattle.cal_check.proofs.SettledFuns.{over-call}
+use Rattle.cal_check.proofs.SourceNames.{all-are-valued, base_names, rest-names-fit, round-same}
+use Rattle.cal_check.proofs.StatementsKept.{World}
+use Rattle.cal_check.proofs.ValuesKept.{calls-below}
+
+-- of what changes only the kind is known
+pub are-at-rest : (xs : List Known) → AreAtRest (map at_rest xs)
+are-at-rest [] = tt
+are-at-rest (x ∷ xs) = (λ e. ap (λ b. if b then None else x.value) e, are-at-rest xs)
+
+abbrev pub no_runs : Runs
+no_runs globals name args left = Lacks
+
+-- the world in which bodies are judged, with no procedures
+pub source-world : (globals : List Known) (names : Names) → names.globals ≡ map at_rest globals → World (calls_of names.funs) (calls_of names.funs) no_runs no_runs names.globals names.funs
+source-world globals names e = record {
+  rest = subst (λ xs. AreAtRest xs) (sym e) (are-at-rest globals);
+  means = λ vars has name args left. calls-below _ names.funs (constants names.globals) vars has name args left;
+  calls = λ vars has name args left. refl;
+  performs = λ vars has name args left. (refl, tt);
+}
+
+pub functions-same : (s : Source) (gs : List Given) (owner : Spot) (vars : List Var) (name : List ℕ) (args : Values) (left : ℕ) → IsSourceFormed s → Conforms s gs owner
+    → meaning.HasConstants (around_of s gs owner).names.globals vars
+    → calls_of (around_of s gs owner).names.funs vars name args left ≡ calls_of (funs_as_are (all_funs s) (around_of s gs owner).names) vars name args left
+functions-same s gs owner vars name args left formed c has =
+    let none = nothing-broken s gs owner c.nothing in
+    let names : Names = (around_of s gs owner).names in
+    let valued = all-are-valued s gs owner none.useful none.whole in
+    let funs = functions-found (all_funs s) names formed.funs none.members.heads in
+    let fit = rest-names-fit s gs owner (map (λ x. x.name) (declared_vars s)) valued in
+    let world = source-world (all_valued s gs owner).known names refl in
+    let pairs = pairs-of (calls_of names.funs) no_runs formed.funs_end.rank (all_funs s) names funs.found formed.funs (funs-fine (all_funs s) names none.members.funs) formed.funs_end.calls refl fit world funs.are in
+    let below : Each (FunCallsBelow formed.funs_end.rank) funs.found = subst (λ us. Each (FunCallsBelow formed.funs_end.rank) us) funs.over (over-call formed.funs_end.rank (all_funs s) names formed.funs_end.calls) in
+    calls-kept formed.funs_end.rank names.globals funs.found (funs_as_are (all_funs s) names) names.funs below
+    (λ other. ap (λ us. fun_named other us) (sym funs.over)
+    ∙ sym (round-same (length (all_funs s)) (all_funs s) (base_names (map at_rest (all_valued s gs owner).known)) other formed.funs_end refl formed.funs))
+    pairs.0 vars name args left pairs.1 (to-less names.globals vars has)

@@ -1,0 +1,71 @@
+-- Functions as they stand in the source: the sizes and bounds in their expressions aren't written out.
+-- Trusted: part of what a promise means.
+use Rattle.std.specs.Prelude.{◌≡◌, ℕ, List, [], ◌∷◌, Option, None, Some}
+use Rattle.rvc_base.specs.declared.scalar.Scalar.TheVariants as scalar
+use Rattle.rvc_base.specs.Rules.{unknown_name}
+use Rattle.cal_ast.specs.Tree as tree
+use Rattle.cal_ast.specs.Tree.{Tree}
+use Rattle.cal_model.specs.Value.{Values}
+use Rattle.cal_model.specs.Env.{Var}
+use Rattle.cal_model.specs.Actor.{Fun, Local}
+use Rattle.cal_model.specs.Call.{calls_of}
+use Rattle.cal_model.specs.Kinding.{Judged, Fine, Broken, and_so, Names, type_judged}
+use Rattle.cal_model.specs.Sound.{with_locals}
+use Rattle.cal_check.specs.Actions.{Around}
+use Rattle.cal_check.specs.Actors.{Conforms, Source, all_funs, around_of}
+use Rattle.cal_check.specs.Meaning.{HasConstants}
+use Rattle.cal_check.specs.Routines.{FunDecl, Head, formal_of, head_judged, shape_of, with_fun}
+use Rattle.cal_check.specs.Sources.{IsSourceFormed}
+use Rattle.cal_check.specs.Variables.{Given, Spot}
+use Rattle.cal_check.specs.Written.{with_inner}
+
+abbrev pub start_as_is : Tree → Option Tree
+start_as_is (tree.present e) = Some e
+start_as_is other = None
+
+abbrev pub local_as_is : Tree → Names → Local
+local_as_is (tree.var shape (tree.ident name place) start changes at) names =
+    record {
+      name = name;
+      shape = shape_of (type_judged shape names);
+      start = start_as_is start;
+      changes = changes;
+    }
+local_as_is other names = formal_of [] scalar.Bool
+
+-- each local sees those before it
+abbrev pub locals_as_are : Tree → Names → List Local
+locals_as_are (tree.cons v vs) names =
+    local_as_is v names ∷ locals_as_are vs (with_inner v names)
+locals_as_are other names = []
+
+abbrev pub fun_as_is : List ℕ → Head → Tree → Tree → Names → Fun
+fun_as_is name head vars body names = record {
+  name = name;
+  formals = head.formals;
+  locals = locals_as_are vars (with_locals head.formals names);
+  result = head.result;
+  body = body;
+}
+
+abbrev pub fun_judged_as_is : List ℕ → Tree → Names → Judged Fun
+fun_judged_as_is full (tree.function name formals result vars body at) names =
+    and_so (head_judged (tree.function name formals result vars body at) names) (λ head.
+    Fine (fun_as_is full head vars body names))
+fun_judged_as_is full other names = Broken unknown_name 0
+
+-- those whose heads break nothing over these names
+abbrev pub funs_as_are : List FunDecl → Names → List Fun
+funs_as_are [] names = []
+funs_as_are (f ∷ fs) names = with_fun (fun_judged_as_is f.name f.decl names) (funs_as_are fs names)
+
+-- In a source that breaks no rule, functions give what they give as they stand there, over all globals that have the
+-- constants.
+abbrev pub FunctionsGiveTheSame : Type 0
+FunctionsGiveTheSame =
+    (s : Source) (gs : List Given) (owner : Spot) (vars : List Var) (name : List ℕ) (args : Values)
+    (left : ℕ)
+    → IsSourceFormed s → Conforms s gs owner
+    → HasConstants (around_of s gs owner).names.globals vars
+    → calls_of (around_of s gs owner).names.funs vars name args left
+    ≡ calls_of (funs_as_are (all_funs s) (around_of s gs owner).names) vars name args left
