@@ -38,10 +38,10 @@ use Rattle.cal_check.proofs.StatementsKept.{HasConstants, Holds, Same, World, be
 
 -- ---- locals
 
-locals-same : (c : Calls) (runs : Runs) (vars : Tree) (n inner : Names) (env : Env) (left : ℕ) → AreDeclared vars → ConstantsFit n → World c c runs runs n.globals n.funs → Holds n env
-    → names_behind vars n ≡ Fine inner → starts_broken vars n ≡ [] → Same (Holds inner) (declared (locals_of vars n) c env left) (declared (locals_as_are vars n) c env left)
-locals-same c runs tree.nil n inner env left f fit w h e b = (refl, subst (λ m. Holds m env) (fine-is n inner e) h)
-locals-same c runs (tree.cons (tree.var shape (tree.ident name place) start changes at) vs) n inner env left f fit w h e b =
+pub locals-same : (c d : Calls) (runs others : Runs) (vars : Tree) (n inner : Names) (env : Env) (left : ℕ) → AreDeclared vars → ConstantsFit n → World c d runs others n.globals n.funs → Holds n env
+    → names_behind vars n ≡ Fine inner → starts_broken vars n ≡ [] → Same (Holds inner) (declared (locals_of vars n) c env left) (declared (locals_as_are vars n) d env left)
+locals-same c d runs others tree.nil n inner env left f fit w h e b = (refl, subst (λ m. Holds m env) (fine-is n inner e) h)
+locals-same c d runs others (tree.cons (tree.var shape (tree.ident name place) start changes at) vs) n inner env left f fit w h e b =
     let v : Tree = tree.var shape (tree.ident name place) start changes at in
     let i = split (behind (type_judged shape n) v n) (λ m. names_behind vs m) inner e in
     let t = behind-fine (type_judged shape n) v n i.0 i.1 in
@@ -50,15 +50,15 @@ locals-same c runs (tree.cons (tree.var shape (tree.ident name place) start chan
     let parts = none-of (var_broken v n) (while_fine (behind (type_judged shape n) v n) (λ m. starts_broken vs m)) b in
     let mine : start_broken (Fine t.0) start n ≡ [] = ap (λ j. start_broken j start n) (sym t.1) ∙ parts.0 in
     let rest : starts_broken vs i.0 ≡ [] = ap (λ j. while_fine j (λ m. starts_broken vs m)) (sym i.1) ∙ parts.1 in
-    same-then (λ y. Unit {0}) (Holds inner) (first_value s (start_of start n) c env left) (first_value s (start_as_is start) c env left) _ _ (plainly _ _ (first start t.0 s f.0 mine)) (λ y m u.
-    locals-same c runs vs (with_known x n) inner (with_local (variable name s changes y) env) m f.1 (fit-more x n refl fit) w (local-holds n env x (variable name s changes y) refl refl h)
+    same-then (λ y. Unit {0}) (Holds inner) (first_value s (start_of start n) c env left) (first_value s (start_as_is start) d env left) _ _ (plainly _ _ (first start t.0 s f.0 mine)) (λ y m u.
+    locals-same c d runs others vs (with_known x n) inner (with_local (variable name s changes y) env) m f.1 (fit-more x n refl fit) w (local-holds n env x (variable name s changes y) refl refl h)
     (subst (λ m. names_behind vs m ≡ Fine inner) (sym t.2) i.2) (subst (λ m. starts_broken vs m ≡ []) (sym t.2) rest))
   where
-    first : (start : Tree) (t s : Shape) → IsOptional start → start_broken (Fine t) start n ≡ [] → first_value s (start_of start n) c env left ≡ first_value s (start_as_is start) c env left
+    first : (start : Tree) (t s : Shape) → IsOptional start → start_broken (Fine t) start n ≡ [] → first_value s (start_of start n) c env left ≡ first_value s (start_as_is start) d env left
     first tree.absent t s o h = refl
-    first (tree.present e) t s o i = ap (λ x. and_then x (λ v k. Gives (stored s v) k)) (stored-same c c runs runs (kind_of_type t) e n env left fit w h i)
+    first (tree.present e) t s o i = ap (λ x. and_then x (λ v k. Gives (stored s v) k)) (stored-same c d runs others (kind_of_type t) e n env left fit w h i)
     first other t s o i = absurd o
-locals-same c runs other n inner env left f fit w h e b = absurd f
+locals-same c d runs others other n inner env left f fit w h e b = absurd f
 
 -- ---- arguments
 
@@ -82,13 +82,13 @@ formals-bare (x ∷ xs) n env (Cons v vs) vars e h =
         (subst (λ us. Holds (with_locals xs (with_known (known_local x) n)) (record { globals = env.globals; locals = us })) (sym (append_assoc zs (y ∷ []) env.locals))
         (rest zs y f (local-holds n env (known_local x) y refl refl h)))
 
-locals-outside : (xs : List Local) (n : Names) → ((with_locals xs n).globals ≡ n.globals) × ((with_locals xs n).funs ≡ n.funs)
+pub locals-outside : (xs : List Local) (n : Names) → ((with_locals xs n).globals ≡ n.globals) × ((with_locals xs n).funs ≡ n.funs)
 locals-outside [] n = (refl, refl)
 locals-outside (x ∷ xs) n = locals-outside xs (with_known (known_local x) n)
 
 -- ---- one function
 
-entry-holds : (xs : List Local) (n : Names) (globals : List Var) (args : Values) (left : ℕ) → n.locals ≡ [] → HasConstants n.globals globals → GivesSuch (Holds (with_locals xs n)) (on_call globals xs args left)
+pub entry-holds : (xs : List Local) (n : Names) (globals : List Var) (args : Values) (left : ℕ) → n.locals ≡ [] → HasConstants n.globals globals → GivesSuch (Holds (with_locals xs n)) (on_call globals xs args left)
 entry-holds xs n globals args left bare has = go (arguments xs args) refl
   where
     outer : Holds n (record { globals = globals; locals = [] })
@@ -122,7 +122,7 @@ answered-kept c runs full head vars body n globals args left f bare fit w b has 
     subst (λ gs. World c c runs runs gs i.0.funs) (sym deep.globals) (subst (λ fs. World c c runs runs k.globals fs) (sym deep.funs) w_inside) in
     (same-then (Holds k) (λ v. Unit {0}) (on_call globals head.formals args left) (on_call globals head.formals args left) _ _ (refl, entry-holds head.formals n globals args left bare has) (λ entry h hn.
     same-then (Holds i.0) (λ v. Unit {0}) (declared (locals_of vars k) c entry h) (declared (locals_as_are vars k) c entry h) _ _
-    (locals-same c runs vars k i.0 entry h f fit_k w_inside hn i.1 two.0) (λ env m hi.
+    (locals-same c c runs runs vars k i.0 entry h f fit_k w_inside hn i.1 two.0) (λ env m hi.
     plainly _ _ (ap (λ o. and_then o (λ v j. Gives (stored (Single head.result) v) j))
     (ap (λ x. eval (written body x) c env m) s.is_behind
     ∙ stored-same c c runs runs (kind_of_scalar head.result) body i.0 env m s.fit w_behind hi i.2))))).0

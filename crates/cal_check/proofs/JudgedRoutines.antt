@@ -236,7 +236,7 @@ each-proc S R (p ∷ ps) names [] k s a = absurd a
 each-proc S R (p ∷ ps) names (q ∷ qs) k s a = (k p q s.0 a.0, each-proc S R ps names qs k s.1 a.1)
 
 -- a procedure by its formals
-proc-made : (name : List ℕ) (place : ℕ) (formals vars body : Tree) (at : ℕ) (names : Names) (q : Proc) → proc_judged (tree.procedure (tree.ident name place) formals vars body at) names ≡ Fine q
+pub proc-made : (name : List ℕ) (place : ℕ) (formals vars body : Tree) (at : ℕ) (names : Names) (q : Proc) → proc_judged (tree.procedure (tree.ident name place) formals vars body at) names ≡ Fine q
     → (fs : List Local) × (formals_judged formals names ≡ Fine fs) × (proc_of name fs vars body names ≡ q)
 proc-made name place formals vars body at names q e =
     let fs = split (formals_judged formals names) (λ fs. Fine (proc_of name fs vars body names)) q e in

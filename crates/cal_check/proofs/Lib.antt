@@ -42,4 +42,5 @@ mod ValuesKept
 mod StatementsKept
 mod MeaningKept
 mod FunctionsKept
+mod ProceduresKept
 mod SourceFunctions

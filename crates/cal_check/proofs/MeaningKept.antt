@@ -25,7 +25,7 @@ to-less known vars h name = go (find name (constants known)) refl
     go None e = tt
     go (Some v) e = h name v e
 
-from-less : (known : List Known) (vars : List Var) → HasConstants known vars → meaning.HasConstants known vars
+pub from-less : (known : List Known) (vars : List Var) → HasConstants known vars → meaning.HasConstants known vars
 from-less known vars h name v e = subst (λ o. MeansNoLess o (find name vars)) e (h name)
 
 runs-keep : (known : List Known) (runs : Runs) → KeepsConstants known runs → (vars : List Var) → HasConstants known vars → (name : List ℕ) (args : Values) (left : ℕ)

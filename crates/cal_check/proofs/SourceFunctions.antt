@@ -1,22 +1,26 @@
--- Functions of a source that breaks no rule give what they give as they stand there.
+-- Functions and procedures of a source that breaks no rule do what they do as they stand there.
 use Rattle.std.proofs.Common.{◌≡◌, ℕ, true, List, [], ◌∷◌, map, length, refl, sym, ap, subst, ◌∙◌, None}
 use Rattle.std.specs.Prelude.{if◌then◌else◌}
 use Rattle.cal_model.specs.Value.{Values}
 use Rattle.cal_model.specs.Outcome.{Lacks}
 use Rattle.cal_model.specs.Env.{Var}
 use Rattle.cal_model.specs.Call.{calls_of, fun_named}
-use Rattle.cal_model.specs.Statement.{Runs}
+use Rattle.cal_model.specs.Statement.{Runs, runs_of}
 use Rattle.cal_model.specs.Kinding.{Known, Names, constants}
 use Rattle.cal_model.specs.Sound.{Each, FunCallsBelow}
-use Rattle.cal_check.specs.Actors.{Conforms, Source, all_funs, all_valued, around_of, at_rest, declared_vars}
-use Rattle.cal_check.specs.AsWritten.{funs_as_are}
+use Rattle.cal_check.specs.Actors.{Conforms, Source, all_funs, all_valued, around_of, at_rest, declared_vars, procs_of}
+use Rattle.cal_check.specs.AsWritten.{funs_as_are, procs_as_are}
 use Rattle.cal_check.specs.Meaning.{AreAtRest}
 use Rattle.cal_check.specs.Meaning as meaning
-use Rattle.cal_check.specs.Sources.{IsSourceFormed}
+use Rattle.cal_check.specs.Sources.{IsSourceFormed, procs_of_source}
 use Rattle.cal_check.specs.Variables.{Given, Spot}
 use Rattle.cal_check.proofs.FunctionsKept.{calls-kept, pairs-of}
-use Rattle.cal_check.proofs.JudgedRoutines.{functions-found, funs-fine}
-use Rattle.cal_check.proofs.MeaningKept.{to-less}
+use Rattle.cal_check.proofs.JudgedRoutines.{functions-found, funs-fine, procedures-found, procs-fine}
+use Rattle.cal_check.proofs.MeaningKept.{from-less, to-less}
+use Rattle.cal_check.proofs.ProceduresKept as ps
+use Rattle.cal_check.proofs.ProceduresKept.{runs-kept}
+use Rattle.cal_check.proofs.SoundActions.{or-none}
+use Rattle.cal_check.specs.Violations.{all_fine}
 use Rattle.cal_check.proofs.NoneBroken.{nothing-broken}
 use Rattle.cal_check.proofs.SettledFuns.{over-call}
 use Rattle.cal_check.proofs.SourceNames.{all-are-valued, base_names, rest-names-fit, round-same}
@@ -56,3 +60,27 @@ functions-same s gs owner vars name args left formed c has =
     (λ other. ap (λ us. fun_named other us) (sym funs.over)
     ∙ sym (round-same (length (all_funs s)) (all_funs s) (base_names (map at_rest (all_valued s gs owner).known)) other formed.funs_end refl formed.funs))
     pairs.0 vars name args left pairs.1 (to-less names.globals vars has)
+
+pub procedures-same : (s : Source) (gs : List Given) (owner : Spot) (vars : List Var) (name : List ℕ) (args : Values) (left : ℕ) → IsSourceFormed s → Conforms s gs owner
+    → meaning.HasConstants (around_of s gs owner).names.globals vars
+    → runs_of (around_of s gs owner).procs (calls_of (around_of s gs owner).names.funs) vars name args left
+    ≡ runs_of (procs_as_are (procs_of_source s) (around_of s gs owner).names) (calls_of (funs_as_are (all_funs s) (around_of s gs owner).names)) vars name args left
+procedures-same s gs owner vars name args left formed c has =
+    let none = nothing-broken s gs owner c.nothing in
+    let names : Names = (around_of s gs owner).names in
+    let valued = all-are-valued s gs owner none.useful none.whole in
+    let fit = rest-names-fit s gs owner (map (λ x. x.name) (declared_vars s)) valued in
+    let procs = procedures-found (procs_of_source s) names formed.procs none.members.formals in
+    let same : (around_of s gs owner).procs ≡ procs.found = or-none (all_fine (procs_of (procs_of_source s) names)) procs.found procs.all in
+    let own = calls_of names.funs in
+    let raw = calls_of (funs_as_are (all_funs s) names) in
+    let pairs = ps.pairs-of own raw (procs_of_source s) (around_of s gs owner).procs names procs.found formed.procs (procs-fine (procs_of_source s) (around_of s gs owner).procs names none.members.procs) refl fit procs.are in
+    ap (λ ps. runs_of ps own vars name args left) same
+    ∙ runs-kept own raw names procs.found (procs_as_are (procs_of_source s) names)
+    (λ runs others performs. record {
+      rest = are-at-rest (all_valued s gs owner).known;
+      means = λ zs h other vs m. calls-below _ names.funs (constants names.globals) zs h other vs m;
+      calls = λ zs h other vs m. functions-same s gs owner zs other vs m formed c (from-less names.globals zs h);
+      performs = performs;
+    })
+    pairs.0 pairs.1 vars (to-less names.globals vars has) name args left

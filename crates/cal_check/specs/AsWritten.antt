@@ -1,4 +1,4 @@
--- Functions as they stand in the source: the sizes and bounds in their expressions aren't written out.
+-- Functions and procedures as they stand in the source: the sizes and bounds in their expressions aren't written out.
 -- Trusted: part of what a promise means.
 use Rattle.std.specs.Prelude.{◌≡◌, ℕ, List, [], ◌∷◌, Option, None, Some}
 use Rattle.rvc_base.specs.declared.scalar.Scalar.TheVariants as scalar
@@ -7,15 +7,16 @@ use Rattle.cal_ast.specs.Tree as tree
 use Rattle.cal_ast.specs.Tree.{Tree}
 use Rattle.cal_model.specs.Value.{Values}
 use Rattle.cal_model.specs.Env.{Var}
-use Rattle.cal_model.specs.Actor.{Fun, Local}
+use Rattle.cal_model.specs.Actor.{Fun, Local, Proc}
 use Rattle.cal_model.specs.Call.{calls_of}
+use Rattle.cal_model.specs.Statement.{runs_of}
 use Rattle.cal_model.specs.Kinding.{Judged, Fine, Broken, and_so, Names, type_judged}
 use Rattle.cal_model.specs.Sound.{with_locals}
 use Rattle.cal_check.specs.Actions.{Around}
 use Rattle.cal_check.specs.Actors.{Conforms, Source, all_funs, around_of}
 use Rattle.cal_check.specs.Meaning.{HasConstants}
-use Rattle.cal_check.specs.Routines.{FunDecl, Head, formal_of, head_judged, shape_of, with_fun}
-use Rattle.cal_check.specs.Sources.{IsSourceFormed}
+use Rattle.cal_check.specs.Routines.{FunDecl, Head, formal_of, formals_judged, head_judged, shape_of, with_fun}
+use Rattle.cal_check.specs.Sources.{IsSourceFormed, procs_of_source}
 use Rattle.cal_check.specs.Variables.{Given, Spot}
 use Rattle.cal_check.specs.Written.{with_inner}
 
@@ -59,6 +60,27 @@ abbrev pub funs_as_are : List FunDecl → Names → List Fun
 funs_as_are [] names = []
 funs_as_are (f ∷ fs) names = with_fun (fun_judged_as_is f.name f.decl names) (funs_as_are fs names)
 
+abbrev pub proc_as_is : List ℕ → List Local → Tree → Tree → Names → Proc
+proc_as_is name formals vars body names = record {
+  name = name;
+  formals = formals;
+  locals = locals_as_are vars (with_locals formals names);
+  body = body;
+}
+
+abbrev pub proc_judged_as_is : Tree → Names → Judged Proc
+proc_judged_as_is (tree.procedure (tree.ident name place) formals vars body at) names =
+    and_so (formals_judged formals names) (λ fs. Fine (proc_as_is name fs vars body names))
+proc_judged_as_is other names = Broken unknown_name 0
+
+abbrev pub with_proc : Judged Proc → List Proc → List Proc
+with_proc (Fine p) ps = p ∷ ps
+with_proc (Broken rule at) ps = ps
+
+abbrev pub procs_as_are : List Tree → Names → List Proc
+procs_as_are [] names = []
+procs_as_are (p ∷ ps) names = with_proc (proc_judged_as_is p names) (procs_as_are ps names)
+
 -- In a source that breaks no rule, functions give what they give as they stand there, over all globals that have the
 -- constants.
 abbrev pub FunctionsGiveTheSame : Type 0
@@ -69,3 +91,15 @@ FunctionsGiveTheSame =
     → HasConstants (around_of s gs owner).names.globals vars
     → calls_of (around_of s gs owner).names.funs vars name args left
     ≡ calls_of (funs_as_are (all_funs s) (around_of s gs owner).names) vars name args left
+
+-- .. and procedures do what they do as they stand there
+abbrev pub ProceduresDoTheSame : Type 0
+ProceduresDoTheSame =
+    (s : Source) (gs : List Given) (owner : Spot) (vars : List Var) (name : List ℕ) (args : Values)
+    (left : ℕ)
+    → IsSourceFormed s → Conforms s gs owner
+    → HasConstants (around_of s gs owner).names.globals vars
+    → runs_of (around_of s gs owner).procs (calls_of (around_of s gs owner).names.funs) vars name
+    args left
+    ≡ runs_of (procs_as_are (procs_of_source s) (around_of s gs owner).names)
+    (calls_of (funs_as_are (all_funs s) (around_of s gs owner).names)) vars name args left
