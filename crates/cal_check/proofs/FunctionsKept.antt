@@ -1,40 +1,38 @@
 -- Functions give what they give as they stand in the source.
-use Rattle.std.proofs.Common.{◌≡◌, ℕ, zero, suc, ◌<◌, ◌≤◌, ⊎_elim, Bool, true, false, List, [], ◌∷◌, ◌++◌, map, length, refl, sym, ap, subst, ◌∙◌, arith, Option, None, Some, append_assoc}
+use Rattle.std.proofs.Common.{◌≡◌, ℕ, zero, suc, ◌<◌, Bool, true, false, List, [], ◌∷◌, ◌++◌, map, length, refl, sym, ap, subst, ◌∙◌, arith, Option, None, Some, append_assoc}
 use Rattle.std.specs.Prelude.{if◌then◌else◌, option_map}
 use Rattle.std.specs.Str.{bytes_eq}
 use Rattle.std.proofs.lemmas.List.{append-nil}
-use Rattle.rvc_base.specs.Rules.{unknown_name}
 use Rattle.cal_ast.specs.Tree as tree
 use Rattle.cal_ast.specs.Tree.{Tree}
 use Rattle.cal_model.specs.Value.{Shape, Single, Value, Values, Nil, Cons, kind_of_scalar, kind_of_type, stored}
-use Rattle.cal_model.specs.Outcome.{Out, Gives, Traps, Lacks, Clashes, and_then, needed}
+use Rattle.cal_model.specs.Outcome.{Out, Gives, Lacks, and_then, needed}
 use Rattle.cal_model.specs.Env.{Env, Var, variable, with_local}
 use Rattle.cal_model.specs.Expression.{Calls, eval}
 use Rattle.cal_model.specs.Actor.{Fun, Local}
 use Rattle.cal_model.specs.Call.{answered, arguments, calls_of, calls_within, declared, first_value, fun_named, on_call}
 use Rattle.cal_model.specs.Statement.{Runs}
-use Rattle.cal_model.specs.Kinding.{Judged, Fine, Broken, Known, Names, and_so, kind, type_judged, with_known}
+use Rattle.cal_model.specs.Kinding.{Fine, Known, Names, and_so, type_judged, with_known}
 use Rattle.cal_model.specs.Sound.{Each, EachCall, FunCallsBelow, StartCalls, known_local, kind_of_judged, with_locals}
-use Rattle.cal_model.proofs.KindNames.{same-text}
-use Rattle.cal_model.proofs.KindValues.{fine-is, not-fine, split}
+use Rattle.cal_model.proofs.KindValues.{fine-is, split}
 use Rattle.cal_check.specs.AsWritten.{fun_as_is, fun_judged_as_is, funs_as_are, local_as_is, locals_as_are, start_as_is}
 use Rattle.cal_check.specs.Constants.{stored_kind}
 use Rattle.cal_check.specs.Formed.{AreDeclared, DeclCallsBelow, IsFunFormed, IsOptional}
 use Rattle.cal_check.specs.Laws.{ConstantsFit}
-use Rattle.cal_check.specs.Routines.{FunDecl, Head, fun_broken, fun_if, fun_inside, fun_judged, fun_of, funs_over, head_judged, local_of, locals_of, shape_of, start_of, with_fun}
+use Rattle.cal_check.specs.Routines.{FunDecl, Head, fun_broken, fun_inside, fun_judged, fun_of, head_judged, locals_of, shape_of, start_of, with_fun}
 use Rattle.cal_check.specs.Statements.{behind, names_behind, start_broken, starts_broken, var_broken}
 use Rattle.cal_check.specs.Violations.{broken, if_fine, while_fine}
-use Rattle.cal_check.specs.Written.{behind_vars, with_inner, written}
+use Rattle.cal_check.specs.Written.{with_inner, written}
 use Rattle.cal_check.proofs.CallsKnown.{StartIs}
-use Rattle.cal_check.proofs.Fine.{broken-none, if-none, none-of, stored-is}
+use Rattle.cal_check.proofs.Fine.{if-none, none-of}
 use Rattle.cal_check.proofs.FittingValues.{GivesSuch, named-one}
 use Rattle.cal_check.proofs.JudgedRoutines.{AreFuns, fun-made}
 use Rattle.cal_check.proofs.KeptKinds.{fit-more}
 use Rattle.cal_check.proofs.SameCalls.{answered-same}
-use Rattle.cal_check.proofs.SettledFuns.{MayBeOpen, below, below-all, below-less, calls-settled, fun-name, over-call}
+use Rattle.cal_check.proofs.SettledFuns.{MayBeOpen, below-all, below-less, calls-settled}
 use Rattle.cal_check.proofs.SoundLocals.{are-sound, behind-fine}
 use Rattle.cal_check.proofs.SoundRoutines.{fit-locals, while-none}
-use Rattle.cal_check.proofs.StatementsKept.{HasConstants, Holds, Same, World, behind-deeper, local-holds, plainly, same-then, stored-same, value-same}
+use Rattle.cal_check.proofs.StatementsKept.{HasConstants, Holds, Same, World, behind-deeper, local-holds, plainly, same-then, stored-same}
 
 -- ---- locals
 

@@ -1,5 +1,5 @@
 -- What statements mean is kept, as the law says it.
-use Rattle.std.proofs.Common.{◌≡◌, ℕ, List, [], refl, sym, ap, subst, ◌∙◌, Option, None, Some}
+use Rattle.std.proofs.Common.{◌≡◌, ℕ, List, [], refl, subst, Option, None, Some}
 use Rattle.cal_ast.specs.Tree.{Tree}
 use Rattle.cal_model.specs.Value.{Value, Values}
 use Rattle.cal_model.specs.Outcome.{Out, Gives, Traps, Lacks, Clashes}
@@ -15,7 +15,7 @@ use Rattle.cal_check.specs.Meaning as meaning
 use Rattle.cal_check.specs.Statements.{statement_broken}
 use Rattle.cal_check.specs.Written.{statement_written}
 use Rattle.cal_check.proofs.FittingValues.{GivesSuch}
-use Rattle.cal_check.proofs.StatementsKept.{HasConstants, Holds, Same, World, statements-same}
+use Rattle.cal_check.proofs.StatementsKept.{HasConstants, Holds, Same, statements-same}
 use Rattle.cal_check.proofs.ValuesKept.{MeansNoLess, calls-below}
 
 pub to-less : (known : List Known) (vars : List Var) → meaning.HasConstants known vars → HasConstants known vars

@@ -2,29 +2,25 @@
 use Rattle.std.proofs.Common.{◌≡◌, ℕ, zero, suc, Bool, true, false, List, [], ◌∷◌, ◌++◌, length, refl, sym, ap, subst, ◌∙◌, Option, None, Some}
 use Rattle.std.specs.Prelude.{if◌then◌else◌}
 use Rattle.std.specs.Str.{bytes_eq}
-use Rattle.rvc_base.specs.Rules.{unknown_name}
 use Rattle.cal_ast.specs.Tree as tree
 use Rattle.cal_ast.specs.Tree.{Tree}
 use Rattle.cal_model.specs.Value.{Values}
-use Rattle.cal_model.specs.Outcome.{Out, Gives, Traps, Lacks, Clashes, and_then}
-use Rattle.cal_model.specs.Env.{Env, Var}
+use Rattle.cal_model.specs.Outcome.{Lacks}
+use Rattle.cal_model.specs.Env.{Var}
 use Rattle.cal_model.specs.Expression.{Calls}
 use Rattle.cal_model.specs.Actor.{Local, Proc}
 use Rattle.cal_model.specs.Call.{declared, on_call}
 use Rattle.cal_model.specs.Statement.{Runs, exec_all, performed, proc_named, runs_of, runs_within}
-use Rattle.cal_model.specs.Kinding.{Judged, Fine, Known, Names, and_so}
+use Rattle.cal_model.specs.Kinding.{Fine, Names, and_so}
 use Rattle.cal_model.specs.Sound.{Each, with_locals}
-use Rattle.cal_model.proofs.KindValues.{split}
 use Rattle.cal_check.specs.AsWritten.{locals_as_are, proc_as_is, proc_judged_as_is, procs_as_are, with_proc}
 use Rattle.cal_check.specs.Formed.{AreDeclared, AreFormed, IsProcFormed}
 use Rattle.cal_check.specs.Laws.{ConstantsFit}
-use Rattle.cal_check.specs.Meaning.{AreAtRest}
 use Rattle.cal_check.specs.Routines.{formals_judged, locals_of, proc_broken, proc_inside, proc_judged, proc_of}
 use Rattle.cal_check.specs.Statements.{names_behind, starts_broken, statement_broken}
 use Rattle.cal_check.specs.Violations.{if_fine}
 use Rattle.cal_check.specs.Written.{behind_vars, statement_written}
 use Rattle.cal_check.proofs.Fine.{if-none, none-of}
-use Rattle.cal_check.proofs.FittingValues.{GivesSuch}
 use Rattle.cal_check.proofs.FunctionsKept.{entry-holds, locals-outside, locals-same}
 use Rattle.cal_check.proofs.JudgedRoutines.{AreProcs, proc-made}
 use Rattle.cal_check.proofs.SoundLocals.{are-sound}
@@ -74,10 +70,13 @@ pair-of : (c d : Calls) (t : Tree) (procs : List Proc) (n : Names) (p : Proc) �
     → (q : Proc) × (proc_judged_as_is t n ≡ Fine q) × (q.name ≡ p.name) × IsPair c d n p q
 pair-of c d (tree.procedure (tree.ident name place) formals vars body at) procs n p formed b bare fit e =
     let made = proc-made name place formals vars body at n p e in
-    let inside = while-none (formals_judged formals n) made.0 (λ fs. proc_inside (tree.procedure (tree.ident name place) formals vars body at) procs n fs) made.1 b in
-    (proc_as_is name made.0 vars body n, ap (λ j. and_so j (λ fs. Fine (proc_as_is name fs vars body n))) made.1, ap (λ x. x.name) made.2,
-    subst (λ x. IsPair c d n x (proc_as_is name made.0 vars body n)) made.2
-    (λ runs others globals args left w has. performed-kept c d runs others name made.0 vars body procs n globals args left formed.0 formed.1 bare fit w inside has))
+    let inside = while-none (formals_judged formals n) made.0 (λ fs. proc_inside (tree.procedure (tree.ident name place) formals vars body at) procs n fs) made.1 b in (
+      proc_as_is name made.0 vars body n,
+      ap (λ j. and_so j (λ fs. Fine (proc_as_is name fs vars body n))) made.1,
+      ap (λ x. x.name) made.2,
+      subst (λ x. IsPair c d n x (proc_as_is name made.0 vars body n)) made.2
+          (λ runs others globals args left w has. performed-kept c d runs others name made.0 vars body procs n globals args left formed.0 formed.1 bare fit w inside has),
+    )
 pair-of c d other procs n p formed b bare fit e = absurd formed
 
 pub pairs-of : (c d : Calls) (ts : List Tree) (procs : List Proc) (n : Names) (ps : List Proc) → Each IsProcFormed ts → Each (λ t. proc_broken t procs n ≡ []) ts → n.locals ≡ [] → ConstantsFit n → AreProcs ts n ps

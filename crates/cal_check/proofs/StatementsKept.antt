@@ -2,27 +2,27 @@
 use Rattle.std.proofs.Common.{◌≡◌, ℕ, zero, suc, ◌-◌, ◌≤◌, ◌+ℤ◌, ℤ, pos, Bool, true, false, ◌||◌, List, [], ◌∷◌, ◌++◌, map, length, drop, refl, sym, ap, subst, ◌∙◌, arith, Option, None, Some}
 use Rattle.std.specs.Prelude.{if◌then◌else◌}
 use Rattle.std.specs.Str.{bytes_eq}
-use Rattle.rvc_base.specs.Rules.{constant_assigned, unknown_name}
+use Rattle.rvc_base.specs.Rules.{constant_assigned}
 use Rattle.cal_ast.specs.Places.{begins}
 use Rattle.cal_ast.specs.Tree as tree
 use Rattle.cal_ast.specs.Tree.{Tree}
-use Rattle.cal_model.specs.Value.{Kind, NumKind, BoolKind, Shape, Value, Num, Truth, Items, Values, Nil, Cons, kind_of_type, stored, zero_of}
+use Rattle.cal_model.specs.Value.{Kind, NumKind, BoolKind, Shape, Value, Num, Truth, Items, Values, kind_of_type, stored}
 use Rattle.cal_model.specs.Outcome.{Out, Gives, Traps, Lacks, Clashes, and_then, turn}
-use Rattle.cal_model.specs.Env.{Env, Var, assign, assigned, assigned_to, back_to, find, is_among, look_up, put, variable, with_local}
+use Rattle.cal_model.specs.Env.{Env, Var, assign, assigned, assigned_to, back_to, find, is_among, put, variable, with_local}
 use Rattle.cal_model.specs.Expression.{Calls, chosen, eval, eval_all, range_of, span, type_meant}
 use Rattle.cal_model.specs.Actor.{Fun, Local, Proc}
 use Rattle.cal_model.specs.Call.{calls_of}
-use Rattle.cal_model.specs.Statement.{Runs, exec, exec_all, first_of, for_loop, inside, proc_named, while_loop, with_vars}
-use Rattle.cal_model.specs.Kinding.{Judged, Fine, Broken, Known, Names, and_so, arguments_fit, constant_calls, constants, counter, counts, kind, kinds, known_as, meant_by, type_judged, with_known, without}
+use Rattle.cal_model.specs.Statement.{Runs, exec, exec_all, first_of, for_loop, proc_named, while_loop, with_vars}
+use Rattle.cal_model.specs.Kinding.{Fine, Known, Names, and_so, arguments_fit, constants, counter, counts, kind, kinds, known_as, meant_by, type_judged, with_known, without}
 use Rattle.cal_model.specs.Sound.{Each, EachCall, kind_of_judged}
-use Rattle.cal_model.proofs.KindNames.{same-text, text-same}
-use Rattle.cal_model.proofs.KindValues.{fine-is, not-fine, split}
+use Rattle.cal_model.proofs.KindNames.{same-text}
+use Rattle.cal_model.proofs.KindValues.{fine-is, split}
 use Rattle.cal_check.specs.Constants.{stored_kind}
 use Rattle.cal_check.specs.Formed.{AreDeclared, AreFormed, IsFormed, IsOptional}
 use Rattle.cal_check.specs.Laws.{AreBare, ConstantsFit}
 use Rattle.cal_check.specs.Statements.{assigned_kind, assignment_judged, behind, call_judged, counter_judged, may_be_assigned, names_behind, start_broken, starts_broken, statement_broken, test_judged, var_broken}
 use Rattle.cal_check.specs.Violations.{broken, if_fine, unless, while_fine}
-use Rattle.cal_check.specs.Written.{behind_vars, statement_written, var_written, vars_written, with_inner, written}
+use Rattle.cal_check.specs.Written.{behind_vars, statement_written, vars_written, with_inner, written}
 use Rattle.cal_check.proofs.Fine.{broken-none, if-none, none-of, stored-is, unless-true}
 use Rattle.cal_check.proofs.FittingValues.{GivesSuch}
 use Rattle.cal_check.proofs.KeptKinds.{fit-more}

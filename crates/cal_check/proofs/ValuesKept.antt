@@ -3,24 +3,24 @@ use Rattle.std.proofs.Common.{◌≡◌, ℕ, zero, suc, ◌+ℤ◌, ℤ, pos, B
 use Rattle.std.specs.Prelude.{if◌then◌else◌}
 use Rattle.std.specs.Str.{bytes_eq}
 use Rattle.rvc_base.specs.Turns.{max_turns}
-use Rattle.rvc_base.specs.Rules.{unknown_name, wrong_kind}
+use Rattle.rvc_base.specs.Rules.{wrong_kind}
 use Rattle.cal_ast.specs.declared.expr.BinOp.{BinOp}
 use Rattle.cal_ast.specs.declared.expr.BinOp.TheVariants.{Or, And}
 use Rattle.cal_ast.specs.Places.{begins}
 use Rattle.cal_ast.specs.Tree as tree
 use Rattle.cal_ast.specs.Tree.{Tree}
-use Rattle.cal_model.specs.Value.{Kind, NumKind, Shape, Single, Value, Num, Truth, Items, Values, Nil, Cons, one, joined, kind_of_type, stored}
+use Rattle.cal_model.specs.Value.{Kind, Shape, Single, Value, Num, Truth, Items, Values, Cons, one, kind_of_type, stored}
 use Rattle.cal_model.specs.Outcome.{Out, Gives, Traps, Lacks, Clashes, alone, and_then, known, needed, turn}
 use Rattle.cal_model.specs.Env.{Env, Var, find, look_up, variable, with_local}
 use Rattle.cal_model.specs.Expression.{Calls, Given, applied, args_given, chosen, each_from, elements, eval, eval_all, indexed, prefixed, range_of, size_of_value, span, type_meant, type_named, with_right}
 use Rattle.cal_model.specs.Actor.{Fun, Local}
-use Rattle.cal_model.specs.Call.{answered, arguments, calls_of, calls_within, declared, first_value, fun_named, on_call}
-use Rattle.cal_model.specs.Keeping.{HasAllOf, HasEach, IsEnvOf, StandFor, StandsFor}
-use Rattle.cal_model.specs.Kinding.{Judged, Fine, Broken, Known, Names, Argument, and_so, arguments_fit, constant, constant_calls, constant_number, constants, counter, counts, elements_in, is_word, kind, kinds, known_as, number_given, one_kind, type_arguments, type_judged, with_counters, with_known, without}
-use Rattle.cal_model.proofs.KindNames.{same-text, text-same}
+use Rattle.cal_model.specs.Call.{answered, arguments, calls_of, calls_within, declared, first_value, fun_named}
+use Rattle.cal_model.specs.Keeping.{HasAllOf, HasEach, IsEnvOf, StandFor}
+use Rattle.cal_model.specs.Kinding.{Fine, Known, Names, Argument, arguments_fit, constant, constant_calls, constant_number, constants, counter, counts, elements_in, is_word, kind, kinds, known_as, one_kind, type_arguments, type_judged, with_counters, with_known, without}
+use Rattle.cal_model.proofs.KindNames.{same-text}
 use Rattle.cal_model.proofs.KindValues.{not-fine, split, tested}
 use Rattle.cal_check.specs.Laws.{ConstantsFit}
-use Rattle.cal_check.specs.Written.{constant_written, gens_written, number_tree, written}
+use Rattle.cal_check.specs.Written.{constant_written, gens_written, written}
 use Rattle.cal_check.proofs.KeptKinds.{constant-gives, fit-inside, fit-more, given-is, is-a-number, number-gives}
 use Rattle.cal_check.proofs.PlainTrees.{by-number, fun-called}
 use Rattle.cal_check.proofs.SameCalls.{chosen-same, each-same, range-same, right-same, then-same, turn-same}

@@ -12,7 +12,6 @@ use Rattle.cal_model.specs.Call.{calls_of}
 use Rattle.cal_model.specs.Statement.{runs_of}
 use Rattle.cal_model.specs.Kinding.{Judged, Fine, Broken, and_so, Names, type_judged}
 use Rattle.cal_model.specs.Sound.{with_locals}
-use Rattle.cal_check.specs.Actions.{Around}
 use Rattle.cal_check.specs.Actors.{Conforms, Source, all_funs, around_of}
 use Rattle.cal_check.specs.Meaning.{HasConstants}
 use Rattle.cal_check.specs.Routines.{FunDecl, Head, formal_of, formals_judged, head_judged, shape_of, with_fun}

@@ -1,6 +1,6 @@
 -- Environments in which the constants of a source have their values, and what written-out statements mean there.
 -- Trusted: part of what a promise means.
-use Rattle.std.specs.Prelude.{◌≡◌, ℕ, true, List, [], map, Option, None, Some}
+use Rattle.std.specs.Prelude.{◌≡◌, ℕ, true, List, [], map, None, Some}
 use Rattle.cal_ast.specs.Tree.{Tree}
 use Rattle.cal_model.specs.Value.{Value, Values}
 use Rattle.cal_model.specs.Outcome.{Gives}

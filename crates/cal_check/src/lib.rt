@@ -7,4 +7,7 @@
 
 mod laws;
 
-pub use laws::{sources_without_violations_are_sound, what_breaks_no_rule_is_sound, written_keeps_kinds, written_keeps_values, written_routines_do_the_same, written_statements_do_the_same};
+pub use laws::{
+    sources_without_violations_are_sound, what_breaks_no_rule_is_sound, written_keeps_kinds,
+    written_keeps_values, written_routines_do_the_same, written_statements_do_the_same,
+};
