@@ -43,4 +43,5 @@ mod StatementsKept
 mod MeaningKept
 mod FunctionsKept
 mod ProceduresKept
+mod ActionsKept
 mod SourceFunctions

@@ -117,10 +117,11 @@ within-kept (suc k) c d n ps qs world pairs globals has name args left =
     go (Some p) None i w = absurd i
     go (Some p) (Some q) i w = i (runs_within k ps c) (runs_within k qs d) globals args left w has
 
-pub runs-kept : (c d : Calls) (n : Names) (ps qs : List Proc) → ((runs others : Runs)
+pub runs-same : (c d : Calls) (n : Names) (ps qs : List Proc) → ((runs others : Runs)
     → ((globals : List Var) → HasConstants n.globals globals → (name : List ℕ) (args : Values) (left : ℕ) → Same (HasConstants n.globals) (runs globals name args left) (others globals name args left))
     → World c d runs others n.globals n.funs)
     → ((name : List ℕ) → AreBoth c d n (proc_named name ps) (proc_named name qs)) → length ps ≡ length qs → (globals : List Var) → HasConstants n.globals globals → (name : List ℕ) (args : Values) (left : ℕ)
-    → runs_of ps c globals name args left ≡ runs_of qs d globals name args left
-runs-kept c d n ps qs world pairs e globals has name args left =
-    (within-kept (length ps) c d n ps qs world pairs globals has name args left).0 ∙ ap (λ k. runs_within k qs d globals name args left) e
+    → Same (HasConstants n.globals) (runs_of ps c globals name args left) (runs_of qs d globals name args left)
+runs-same c d n ps qs world pairs e globals has name args left =
+    subst (λ k. Same (HasConstants n.globals) (runs_of ps c globals name args left) (runs_within k qs d globals name args left)) e
+    (within-kept (length ps) c d n ps qs world pairs globals has name args left)

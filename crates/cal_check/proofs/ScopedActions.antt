@@ -58,7 +58,7 @@ pub record PatternsFound (patterns : Tree) (ins : List Port) (names : Names) : T
   pub are : patterns_fine patterns ins names ≡ Some found
   pub named : names_in_patterns found ≡ names_of_patterns patterns
 
-patterns-found : (patterns : Tree) (ins : List Port) (names : Names) → patterns_broken patterns ins names ≡ [] → PatternsFound patterns ins names
+pub patterns-found : (patterns : Tree) (ins : List Port) (names : Names) → patterns_broken patterns ins names ≡ [] → PatternsFound patterns ins names
 patterns-found patterns ins names h =
     let n = if-none (ports_asked (each_asked patterns) ins) (λ numbers. numbers_twice numbers (each_asked patterns) ++ all_broken (patterns_on patterns numbers names)) h in
     let two = none-of (numbers_twice n.0 (each_asked patterns)) (all_broken (patterns_on patterns n.0 names)) n.2 in

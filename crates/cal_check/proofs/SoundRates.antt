@@ -19,7 +19,7 @@ use Rattle.cal_check.proofs.SoundActions.{behind-none, fit-pattern, or-none}
 use Rattle.cal_check.proofs.SoundCounts.{all-few-given, all-few-taken, given-few, taken-few}
 use Rattle.cal_check.proofs.SoundLocals.{are-sound}
 
-fit-all : (ports : List Port) (qs : List Pattern) (n : Names) → ConstantsFit n → ConstantsFit (with_all_patterns ports qs n)
+pub fit-all : (ports : List Port) (qs : List Pattern) (n : Names) → ConstantsFit n → ConstantsFit (with_all_patterns ports qs n)
 fit-all ports [] n fit = fit
 fit-all ports (q ∷ qs) n fit =
     let k = kind_of_tokens (kind_of_port ports q.port) q.repeat in

@@ -18,13 +18,13 @@ use Rattle.cal_check.proofs.FunctionsKept.{calls-kept, pairs-of}
 use Rattle.cal_check.proofs.JudgedRoutines.{functions-found, funs-fine, procedures-found, procs-fine}
 use Rattle.cal_check.proofs.MeaningKept.{from-less, to-less}
 use Rattle.cal_check.proofs.ProceduresKept as ps
-use Rattle.cal_check.proofs.ProceduresKept.{runs-kept}
+use Rattle.cal_check.proofs.ProceduresKept.{runs-same}
 use Rattle.cal_check.proofs.SoundActions.{or-none}
 use Rattle.cal_check.specs.Violations.{all_fine}
 use Rattle.cal_check.proofs.NoneBroken.{nothing-broken}
 use Rattle.cal_check.proofs.SettledFuns.{over-call}
 use Rattle.cal_check.proofs.SourceNames.{all-are-valued, base_names, rest-names-fit, round-same}
-use Rattle.cal_check.proofs.StatementsKept.{World}
+use Rattle.cal_check.proofs.StatementsKept.{HasConstants, Same, World}
 use Rattle.cal_check.proofs.ValuesKept.{calls-below}
 
 -- of what changes only the kind is known
@@ -61,11 +61,16 @@ functions-same s gs owner vars name args left formed c has =
     ∙ sym (round-same (length (all_funs s)) (all_funs s) (base_names (map at_rest (all_valued s gs owner).known)) other formed.funs_end refl formed.funs))
     pairs.0 vars name args left pairs.1 (to-less names.globals vars has)
 
-pub procedures-same : (s : Source) (gs : List Given) (owner : Spot) (vars : List Var) (name : List ℕ) (args : Values) (left : ℕ) → IsSourceFormed s → Conforms s gs owner
-    → meaning.HasConstants (around_of s gs owner).names.globals vars
-    → runs_of (around_of s gs owner).procs (calls_of (around_of s gs owner).names.funs) vars name args left
-    ≡ runs_of (procs_as_are (procs_of_source s) (around_of s gs owner).names) (calls_of (funs_as_are (all_funs s) (around_of s gs owner).names)) vars name args left
-procedures-same s gs owner vars name args left formed c has =
+-- the world of a source, with its procedures
+abbrev pub SourceWorld : Source → List Given → Spot → Type 0
+SourceWorld s gs owner =
+    World (calls_of (around_of s gs owner).names.funs) (calls_of (funs_as_are (all_funs s) (around_of s gs owner).names))
+    (runs_of (around_of s gs owner).procs (calls_of (around_of s gs owner).names.funs))
+    (runs_of (procs_as_are (procs_of_source s) (around_of s gs owner).names) (calls_of (funs_as_are (all_funs s) (around_of s gs owner).names)))
+    (around_of s gs owner).names.globals (around_of s gs owner).names.funs
+
+pub whole-world : (s : Source) (gs : List Given) (owner : Spot) → IsSourceFormed s → Conforms s gs owner → SourceWorld s gs owner
+whole-world s gs owner formed c =
     let none = nothing-broken s gs owner c.nothing in
     let names : Names = (around_of s gs owner).names in
     let valued = all-are-valued s gs owner none.useful none.whole in
@@ -75,12 +80,21 @@ procedures-same s gs owner vars name args left formed c has =
     let own = calls_of names.funs in
     let raw = calls_of (funs_as_are (all_funs s) names) in
     let pairs = ps.pairs-of own raw (procs_of_source s) (around_of s gs owner).procs names procs.found formed.procs (procs-fine (procs_of_source s) (around_of s gs owner).procs names none.members.procs) refl fit procs.are in
-    ap (λ ps. runs_of ps own vars name args left) same
-    ∙ runs-kept own raw names procs.found (procs_as_are (procs_of_source s) names)
-    (λ runs others performs. record {
+    let world : (runs others : Runs) → ((globals : List Var) → HasConstants names.globals globals → (name : List ℕ) (args : Values) (left : ℕ)
+    → Same (HasConstants names.globals) (runs globals name args left) (others globals name args left)) → World own raw runs others names.globals names.funs =
+    λ runs others performs. record {
       rest = are-at-rest (all_valued s gs owner).known;
       means = λ zs h other vs m. calls-below _ names.funs (constants names.globals) zs h other vs m;
       calls = λ zs h other vs m. functions-same s gs owner zs other vs m formed c (from-less names.globals zs h);
       performs = performs;
-    })
-    pairs.0 pairs.1 vars (to-less names.globals vars has) name args left
+    } in
+    subst (λ xs. World own raw (runs_of xs own) (runs_of (procs_as_are (procs_of_source s) names) raw) names.globals names.funs) (sym same)
+    (world (runs_of procs.found own) (runs_of (procs_as_are (procs_of_source s) names) raw)
+    (λ globals has name args left. runs-same own raw names procs.found (procs_as_are (procs_of_source s) names) world pairs.0 pairs.1 globals has name args left))
+
+pub procedures-same : (s : Source) (gs : List Given) (owner : Spot) (vars : List Var) (name : List ℕ) (args : Values) (left : ℕ) → IsSourceFormed s → Conforms s gs owner
+    → meaning.HasConstants (around_of s gs owner).names.globals vars
+    → runs_of (around_of s gs owner).procs (calls_of (around_of s gs owner).names.funs) vars name args left
+    ≡ runs_of (procs_as_are (procs_of_source s) (around_of s gs owner).names) (calls_of (funs_as_are (all_funs s) (around_of s gs owner).names)) vars name args left
+procedures-same s gs owner vars name args left formed c has =
+    ((whole-world s gs owner formed c).performs vars (to-less (around_of s gs owner).names.globals vars has) name args left).0

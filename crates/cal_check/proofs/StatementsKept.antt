@@ -142,7 +142,7 @@ module _ (c d : Calls) (runs others : Runs) where
       value-kept e n k c env left fit (extends n env w h) f
       ∙ eval-same (λ name. Unit {0}) (λ name. Unit {0}) c d e env left (λ name u args m. w.calls env.globals h.constants name args m) (any-call e)
 
-  all-same : (es : Tree) (n : Names) (ks : List Kind) (env : Env) (left : ℕ) → ConstantsFit n → World c d runs others n.globals n.funs → Holds n env → kinds es n ≡ Fine ks
+  pub all-same : (es : Tree) (n : Names) (ks : List Kind) (env : Env) (left : ℕ) → ConstantsFit n → World c d runs others n.globals n.funs → Holds n env → kinds es n ≡ Fine ks
       → eval_all (written es n) c env left ≡ eval_all es d env left
   all-same es n ks env left fit w h f =
       all-values es n ks c env left fit (extends n env w h) f

@@ -1,21 +1,27 @@
--- Functions and procedures as they stand in the source: the sizes and bounds in their expressions aren't written out.
+-- Functions, procedures and actions as they stand in the source: the sizes and bounds in their expressions aren't written
+-- out.
 -- Trusted: part of what a promise means.
-use Rattle.std.specs.Prelude.{◌≡◌, ℕ, List, [], ◌∷◌, Option, None, Some}
+use Rattle.std.specs.Prelude.{◌≡◌, ℕ, ℤ, List, [], ◌∷◌, Contains, Option, None, Some}
 use Rattle.rvc_base.specs.declared.scalar.Scalar.TheVariants as scalar
 use Rattle.rvc_base.specs.Rules.{unknown_name}
 use Rattle.cal_ast.specs.Tree as tree
 use Rattle.cal_ast.specs.Tree.{Tree}
 use Rattle.cal_model.specs.Value.{Values}
-use Rattle.cal_model.specs.Env.{Var}
-use Rattle.cal_model.specs.Actor.{Fun, Local, Proc}
-use Rattle.cal_model.specs.Call.{calls_of}
-use Rattle.cal_model.specs.Statement.{runs_of}
+use Rattle.cal_model.specs.Outcome.{Out, Gives, and_then}
+use Rattle.cal_model.specs.Env.{Env, Var}
+use Rattle.cal_model.specs.Expression.{Calls}
+use Rattle.cal_model.specs.Actor.{Action, Fun, Local, Output, Port, Proc}
+use Rattle.cal_model.specs.Call.{calls_of, declared}
+use Rattle.cal_model.specs.Statement.{Runs, exec_all, runs_of}
+use Rattle.cal_model.specs.Selection.{guards_say}
+use Rattle.cal_model.specs.Firing.{outputs}
 use Rattle.cal_model.specs.Kinding.{Judged, Fine, Broken, and_so, Names, type_judged}
 use Rattle.cal_model.specs.Sound.{with_locals}
+use Rattle.cal_check.specs.Actions.{Around, action_of, body_of, with_all_patterns}
 use Rattle.cal_check.specs.Actors.{Conforms, Source, all_funs, around_of}
-use Rattle.cal_check.specs.Meaning.{HasConstants}
+use Rattle.cal_check.specs.Meaning.{HasConstants, HoldsConstants}
 use Rattle.cal_check.specs.Routines.{FunDecl, Head, formal_of, formals_judged, head_judged, shape_of, with_fun}
-use Rattle.cal_check.specs.Sources.{IsSourceFormed, procs_of_source}
+use Rattle.cal_check.specs.Sources.{IsSourceFormed, actions_of_source, procs_of_source}
 use Rattle.cal_check.specs.Variables.{Given, Spot}
 use Rattle.cal_check.specs.Written.{with_inner}
 
@@ -80,6 +86,37 @@ abbrev pub procs_as_are : List Tree → Names → List Proc
 procs_as_are [] names = []
 procs_as_are (p ∷ ps) names = with_proc (proc_judged_as_is p names) (procs_as_are ps names)
 
+abbrev pub guards_as_are : Tree → List Tree
+guards_as_are (tree.cons e es) = e ∷ guards_as_are es
+guards_as_are other = []
+
+abbrev pub output_as_is : Tree → Output → Output
+output_as_is (tree.output asked values repeat at) o = record o { values = values }
+output_as_is other o = o
+
+abbrev pub outputs_as_are : Tree → List Output → List Output
+outputs_as_are (tree.cons o os) (x ∷ xs) = output_as_is o x ∷ outputs_as_are os xs
+outputs_as_are os xs = []
+
+-- an action, with its expressions and statements as they stand
+abbrev pub action_as_is : Tree → Around → Action → Action
+action_as_is (tree.action tagged initialize patterns outputs guards vars body at) around act =
+    record act {
+      outputs = outputs_as_are outputs act.outputs;
+      guards = guards_as_are guards;
+      locals = locals_as_are vars (with_all_patterns around.ins act.patterns around.names);
+      body = body_of body;
+    }
+action_as_is other around act = act
+
+-- what an action does: its locals in order, its body, and then its outputs, with one count of turns
+abbrev pub done_by :
+    List Port → Action → Calls → Runs → Env → ℕ → Out (List Var × List (ℕ × List ℤ))
+done_by ports act calls runs env left =
+    and_then (declared act.locals calls env left) (λ inner m.
+    and_then (exec_all act.body calls runs inner m) (λ last k.
+    and_then (outputs ports act.outputs calls last k) (λ sent j. Gives (last.globals, sent) j)))
+
 -- In a source that breaks no rule, functions give what they give as they stand there, over all globals that have the
 -- constants.
 abbrev pub FunctionsGiveTheSame : Type 0
@@ -102,3 +139,23 @@ ProceduresDoTheSame =
     args left
     ≡ runs_of (procs_as_are (procs_of_source s) (around_of s gs owner).names)
     (calls_of (funs_as_are (all_funs s) (around_of s gs owner).names)) vars name args left
+
+-- .. and actions say and do what they say and do as they stand there, over their pattern variables
+abbrev pub ActionsDoTheSame : Type 0
+ActionsDoTheSame =
+    (s : Source) (gs : List Given) (owner : Spot) (a : Tree) (env : Env) (left : ℕ)
+    → IsSourceFormed s → Conforms s gs owner → Contains (actions_of_source s) a
+    → HoldsConstants (with_all_patterns (around_of s gs owner).ins
+    (action_of a (around_of s gs owner)).patterns (around_of s gs owner).names) env
+    → (guards_say (action_of a (around_of s gs owner)).guards
+    (calls_of (around_of s gs owner).names.funs) env
+    ≡ guards_say (action_as_is a (around_of s gs owner) (action_of a (around_of s gs owner))).guards
+    (calls_of (funs_as_are (all_funs s) (around_of s gs owner).names)) env)
+    × (done_by (around_of s gs owner).outs (action_of a (around_of s gs owner))
+    (calls_of (around_of s gs owner).names.funs)
+    (runs_of (around_of s gs owner).procs (calls_of (around_of s gs owner).names.funs)) env left
+    ≡ done_by (around_of s gs owner).outs
+    (action_as_is a (around_of s gs owner) (action_of a (around_of s gs owner)))
+    (calls_of (funs_as_are (all_funs s) (around_of s gs owner).names))
+    (runs_of (procs_as_are (procs_of_source s) (around_of s gs owner).names)
+    (calls_of (funs_as_are (all_funs s) (around_of s gs owner).names))) env left)
