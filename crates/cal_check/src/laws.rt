@@ -2,7 +2,7 @@
 //!
 //! Each law is the contract of a function that does nothing: it is proved with the crate, and can be cited.
 
-ghost use Rattle.cal_check.specs.AsWritten.{FunctionsGiveTheSame, ProceduresDoTheSame};
+ghost use Rattle.cal_check.specs.AsWritten.{ActionsDoTheSame, FunctionsGiveTheSame, ProceduresDoTheSame};
 ghost use Rattle.cal_check.specs.Meaning.{StatementsKeepConstants, WrittenStatementsDoTheSame};
 ghost use Rattle.cal_check.specs.Sources.{SourcesAreSound};
 ghost use Rattle.cal_check.specs.Laws.{ActionsAreSound, FunctionsAreSound, GuardsAreSound, HeadersAreSound, InitializesAreSound, LimitsAreSound, LocalsAreSound, PrioritiesAreSound, ProceduresAreSound, RatesAreSound, SchedulesAreSound, StatementsAreSound, WrittenKeepsKinds, WrittenKeepsValues};
@@ -24,11 +24,12 @@ pub fn written_statements_do_the_same()
     ensures constants { StatementsKeepConstants }
 {}
 
-/// In a source that breaks no rule, functions and procedures do what they do as they stand there, over all globals that
-/// have the constants.
+/// In a source that breaks no rule, functions, procedures and actions do what they do as they stand there, over all
+/// globals that have the constants.
 pub fn written_routines_do_the_same()
     ensures functions { FunctionsGiveTheSame }
     ensures procedures { ProceduresDoTheSame }
+    ensures actions { ActionsDoTheSame }
 {}
 
 /// The ports of a header, and guards, locals, statements, actions, functions and procedures that break no rule are sound
