@@ -1,5 +1,4 @@
--- Functions, procedures and actions as they stand in the source: the sizes and bounds in their expressions aren't written
--- out.
+-- Functions, procedures and actions as they stand in the source: sizes and bounds in expressions aren't written out.
 -- Trusted: part of what a promise means.
 use Rattle.std.specs.Prelude.{◌≡◌, ℕ, ℤ, List, [], ◌∷◌, Contains, Option, None, Some}
 use Rattle.rvc_base.specs.declared.scalar.Scalar.TheVariants as scalar
@@ -117,45 +116,66 @@ done_by ports act calls runs env left =
     and_then (exec_all act.body calls runs inner m) (λ last k.
     and_then (outputs ports act.outputs calls last k) (λ sent j. Gives (last.globals, sent) j)))
 
--- In a source that breaks no rule, functions give what they give as they stand there, over all globals that have the
--- constants.
+-- ---- what a source calls and runs
+
+-- its functions as they are written out, and as they stand
+abbrev pub calls_written : Source → List Given → Spot → Calls
+calls_written s gs owner = calls_of (around_of s gs owner).names.funs
+
+abbrev pub calls_as_are : Source → List Given → Spot → Calls
+calls_as_are s gs owner = calls_of (funs_as_are (all_funs s) (around_of s gs owner).names)
+
+-- its procedures, over its functions
+abbrev pub runs_written : Source → List Given → Spot → Runs
+runs_written s gs owner = runs_of (around_of s gs owner).procs (calls_written s gs owner)
+
+abbrev pub runs_as_are : Source → List Given → Spot → Runs
+runs_as_are s gs owner =
+    runs_of (procs_as_are (procs_of_source s) (around_of s gs owner).names)
+    (calls_as_are s gs owner)
+
+-- an action as it is written out, and as it stands
+abbrev pub act_written : Source → List Given → Spot → Tree → Action
+act_written s gs owner a = action_of a (around_of s gs owner)
+
+abbrev pub act_as_is : Source → List Given → Spot → Tree → Action
+act_as_is s gs owner a = action_as_is a (around_of s gs owner) (act_written s gs owner a)
+
+-- what an action sees: its pattern variables inside the names of the actor
+abbrev pub seen_in_action : Source → List Given → Spot → Tree → Names
+seen_in_action s gs owner a =
+    with_all_patterns (around_of s gs owner).ins (act_written s gs owner a).patterns
+    (around_of s gs owner).names
+
+-- ---- the laws, of a source that breaks no rule
+
+-- functions give what they give as they stand, over all globals that have the constants, ..
 abbrev pub FunctionsGiveTheSame : Type 0
 FunctionsGiveTheSame =
     (s : Source) (gs : List Given) (owner : Spot) (vars : List Var) (name : List ℕ) (args : Values)
     (left : ℕ)
     → IsSourceFormed s → Conforms s gs owner
     → HasConstants (around_of s gs owner).names.globals vars
-    → calls_of (around_of s gs owner).names.funs vars name args left
-    ≡ calls_of (funs_as_are (all_funs s) (around_of s gs owner).names) vars name args left
+    → calls_written s gs owner vars name args left ≡ calls_as_are s gs owner vars name args left
 
--- .. and procedures do what they do as they stand there
+-- .. procedures do what they do as they stand, ..
 abbrev pub ProceduresDoTheSame : Type 0
 ProceduresDoTheSame =
     (s : Source) (gs : List Given) (owner : Spot) (vars : List Var) (name : List ℕ) (args : Values)
     (left : ℕ)
     → IsSourceFormed s → Conforms s gs owner
     → HasConstants (around_of s gs owner).names.globals vars
-    → runs_of (around_of s gs owner).procs (calls_of (around_of s gs owner).names.funs) vars name
-    args left
-    ≡ runs_of (procs_as_are (procs_of_source s) (around_of s gs owner).names)
-    (calls_of (funs_as_are (all_funs s) (around_of s gs owner).names)) vars name args left
+    → runs_written s gs owner vars name args left ≡ runs_as_are s gs owner vars name args left
 
--- .. and actions say and do what they say and do as they stand there, over their pattern variables
+-- .. and guards say, and locals, bodies and outputs of actions do, what they do as they stand
 abbrev pub ActionsDoTheSame : Type 0
 ActionsDoTheSame =
     (s : Source) (gs : List Given) (owner : Spot) (a : Tree) (env : Env) (left : ℕ)
     → IsSourceFormed s → Conforms s gs owner → Contains (actions_of_source s) a
-    → HoldsConstants (with_all_patterns (around_of s gs owner).ins
-    (action_of a (around_of s gs owner)).patterns (around_of s gs owner).names) env
-    → (guards_say (action_of a (around_of s gs owner)).guards
-    (calls_of (around_of s gs owner).names.funs) env
-    ≡ guards_say (action_as_is a (around_of s gs owner) (action_of a (around_of s gs owner))).guards
-    (calls_of (funs_as_are (all_funs s) (around_of s gs owner).names)) env)
-    × (done_by (around_of s gs owner).outs (action_of a (around_of s gs owner))
-    (calls_of (around_of s gs owner).names.funs)
-    (runs_of (around_of s gs owner).procs (calls_of (around_of s gs owner).names.funs)) env left
-    ≡ done_by (around_of s gs owner).outs
-    (action_as_is a (around_of s gs owner) (action_of a (around_of s gs owner)))
-    (calls_of (funs_as_are (all_funs s) (around_of s gs owner).names))
-    (runs_of (procs_as_are (procs_of_source s) (around_of s gs owner).names)
-    (calls_of (funs_as_are (all_funs s) (around_of s gs owner).names))) env left)
+    → HoldsConstants (seen_in_action s gs owner a) env
+    → (guards_say (act_written s gs owner a).guards (calls_written s gs owner) env
+    ≡ guards_say (act_as_is s gs owner a).guards (calls_as_are s gs owner) env)
+    × (done_by (around_of s gs owner).outs (act_written s gs owner a) (calls_written s gs owner)
+    (runs_written s gs owner) env left
+    ≡ done_by (around_of s gs owner).outs (act_as_is s gs owner a) (calls_as_are s gs owner)
+    (runs_as_are s gs owner) env left)
