@@ -1,5 +1,5 @@
 -- Actions say and do what they say and do as they stand in the source.
-use Rattle.std.proofs.Common.{◌≡◌, ℕ, ℤ, Bool, true, false, List, [], ◌∷◌, ◌++◌, map, refl, sym, ap, subst, ◌∙◌, Contains, Option, None, Some}
+use Rattle.std.proofs.Common.{◌≡◌, ℕ, ℤ, Bool, true, false, List, [], ◌∷◌, ◌++◌, map, refl, sym, ap, subst, ◌∙◌, Option, None, Some}
 use Rattle.std.specs.Prelude.{if◌then◌else◌}
 use Rattle.rvc_base.specs.declared.scalar.Scalar.{Scalar}
 use Rattle.rvc_base.specs.Rules.{wrong_repeat}
@@ -8,17 +8,17 @@ use Rattle.rvc_base.specs.Turns.{max_turns}
 use Rattle.cal_ast.specs.Tree as tree
 use Rattle.cal_ast.specs.Tree.{Tree}
 use Rattle.cal_model.specs.Value.{BoolKind, Kind}
-use Rattle.cal_model.specs.Outcome.{Out, Gives, and_then}
+use Rattle.cal_model.specs.Outcome.{Gives, and_then}
 use Rattle.cal_model.specs.Env.{Env, Var}
 use Rattle.cal_model.specs.Expression.{Calls, eval, eval_all}
 use Rattle.cal_model.specs.Actor.{Action, Output, Pattern, Port, Proc}
 use Rattle.cal_model.specs.Call.{declared}
 use Rattle.cal_model.specs.Statement.{Runs, exec_all}
-use Rattle.cal_model.specs.Rates.{parts, parts_times}
+use Rattle.cal_model.specs.Rates.{parts}
 use Rattle.cal_model.specs.Selection.{guard_then, guards_say, kind_of_port}
 use Rattle.cal_model.specs.Firing.{outputs, sent_numbers}
-use Rattle.cal_model.specs.Kinding.{Judged, Fine, Broken, Names, kinds, with_known}
-use Rattle.cal_model.specs.Sound.{Each, kind_of_tokens, with_pattern}
+use Rattle.cal_model.specs.Kinding.{Fine, Broken, Names, kinds, with_known}
+use Rattle.cal_model.specs.Sound.{kind_of_tokens, with_pattern}
 use Rattle.cal_model.proofs.KindValues.{fine-is, not-fine, split}
 use Rattle.cal_check.specs.Actions.{Around, action_broken, action_if, action_of, body_of, each_guard, guard_allowed, guards_written, inside_broken, or_none, output_judged, outputs_broken, outputs_fine, outputs_if, outputs_on, patterns_broken, patterns_fine, rate_judged, repeat_judged, values_judged, with_all_patterns}
 use Rattle.cal_check.specs.AsWritten.{action_as_is, done_by, guards_as_are, locals_as_are, output_as_is, outputs_as_are}
@@ -27,7 +27,7 @@ use Rattle.cal_check.specs.Laws.{ConstantsFit}
 use Rattle.cal_check.specs.Ports.{each_asked, numbers_twice, ports_asked}
 use Rattle.cal_check.specs.Routines.{locals_of}
 use Rattle.cal_check.specs.Statements.{names_behind, starts_broken, statement_broken, test_judged}
-use Rattle.cal_check.specs.Violations.{all_broken, all_fine, broken, fine, if_fine}
+use Rattle.cal_check.specs.Violations.{all_broken, all_fine, broken, fine}
 use Rattle.cal_check.specs.Written.{behind_vars, statement_written, written}
 use Rattle.cal_check.proofs.Fine.{all-fine, if-none, none-of}
 use Rattle.cal_check.proofs.FunctionsKept.{locals-same}
@@ -181,12 +181,12 @@ action-kept c d runs others (tree.action tagged initialize patterns os guards va
     subst (λ xs. Holds (with_all_patterns around.ins xs around.names) env → DoesTheSame c d runs others a around (action_if xs a around) env left) (sym same) (λ hold. (
       guards-same c d runs others guards k env fit_k w_k hold three.0,
       (same-then {A = Env} {B = Done} (Holds i.0) (λ r. Unit {0}) (declared (locals_of vars k) c env left) (declared (locals_as_are vars k) d env left)
-      (λ inner m. and_then {B = Done} (exec_all (statement_written (body_of body) (behind_vars vars k)) c runs inner m)
-      (λ last j. and_then {B = Done} (outputs around.outs (or_none (outputs_fine os around.outs (behind_vars vars k))) c last j) (λ sent z. Gives (last.globals, sent) z)))
-      (λ inner m. and_then {B = Done} (exec_all (body_of body) d others inner m)
-      (λ last j. and_then {B = Done} (outputs around.outs (outputs_as_are os (or_none (outputs_fine os around.outs (behind_vars vars k)))) d last j) (λ sent z. Gives (last.globals, sent) z)))
-      (locals-same c d runs others vars k i.0 env left formed.0 fit_k w_k hold i.1 four.0)
-      (λ inner m hi. acted-same c d runs others (body_of body) os around.procs i.0 (behind_vars vars k) n.0 around.outs outs.0 (or_none (outputs_fine os around.outs (behind_vars vars k))) inner m
-      (body-formed body formed.1) s.fit w_behind hi s.is_behind (body-broken body around.procs i.0 five.0) outs.2 found)).0,
+          (λ inner m. and_then {B = Done} (exec_all (statement_written (body_of body) (behind_vars vars k)) c runs inner m)
+          (λ last j. and_then {B = Done} (outputs around.outs (or_none (outputs_fine os around.outs (behind_vars vars k))) c last j) (λ sent z. Gives (last.globals, sent) z)))
+          (λ inner m. and_then {B = Done} (exec_all (body_of body) d others inner m)
+          (λ last j. and_then {B = Done} (outputs around.outs (outputs_as_are os (or_none (outputs_fine os around.outs (behind_vars vars k)))) d last j) (λ sent z. Gives (last.globals, sent) z)))
+          (locals-same c d runs others vars k i.0 env left formed.0 fit_k w_k hold i.1 four.0)
+          (λ inner m hi. acted-same c d runs others (body_of body) os around.procs i.0 (behind_vars vars k) n.0 around.outs outs.0 (or_none (outputs_fine os around.outs (behind_vars vars k))) inner m
+          (body-formed body formed.1) s.fit w_behind hi s.is_behind (body-broken body around.procs i.0 five.0) outs.2 found)).0,
     ))
 action-kept c d runs others other around env left formed fit w h = absurd formed

@@ -1,5 +1,5 @@
 -- Functions, procedures and actions of a source that breaks no rule do what they do as they stand there.
-use Rattle.std.proofs.Common.{◌≡◌, ℕ, true, List, [], ◌∷◌, map, length, refl, sym, ap, subst, ◌∙◌, ⊎_elim, Contains, None}
+use Rattle.std.proofs.Common.{◌≡◌, ℕ, List, [], ◌∷◌, map, length, refl, sym, ap, subst, ◌∙◌, ⊎_elim, Contains, None}
 use Rattle.std.specs.Prelude.{if◌then◌else◌}
 use Rattle.cal_model.specs.Value.{Values}
 use Rattle.cal_model.specs.Outcome.{Lacks}
