@@ -75,8 +75,8 @@ fn sent_are(cell: &Cell, tokens: &[Num]) -> bool {
 }
 
 /// Whether so many tokens wait before the first input port.
-fn holds(cell: &Cell, count: u32) -> bool {
-    cell.actor().ins() != 0 && cell.held(0) == count
+fn holds(cell: &Cell, count: usize) -> bool {
+    cell.actor().ins() != 0 && cell.held(0) as usize == count
 }
 
 /// An actor, the tokens before its two ports, how the burst ends, the firings, what was sent, and how many tokens wait
@@ -88,7 +88,7 @@ type Row<'a> = (
     BurstEnd,
     &'a [u16],
     &'a [Num],
-    u32,
+    usize,
 );
 
 fn hold<R: Abort>(rt: &R, alloc: Global, rows: &[Row<'_>]) -> Result<(), Memory> {
@@ -113,7 +113,7 @@ const TRAPS: BurstEnd = BurstEnd::Trap {
     trap: Trap::DivideByZero,
 };
 
-const BURSTS: &[(Named, &[Num], &[Num], BurstEnd, &[u16], &[Num], u32)] = &[
+const BURSTS: &[(Named, &[Num], &[Num], BurstEnd, &[u16], &[Num], usize)] = &[
     (Named::Ini, &[5], &[], WAITS, &[0, 1], &[9, 5], 0),
     (
         Named::Rep,
@@ -188,7 +188,7 @@ fn hold_looks<R: Abort>(rt: &R, alloc: Global, rows: &[Seen<'_>]) -> Result<(), 
         accept(&mut cell, 0, tokens)?;
         let found = look(&mut cell, &[room])?;
         assert!(rt;
-            found == want && holds(&cell, tokens.len() as u32),
+            found == want && holds(&cell, tokens.len()),
             "{named:?} {found:?}"
         );
     }
@@ -233,7 +233,7 @@ fn looks(rt: HostRuntime) -> Result<(), Memory> {
 
 /// An actor, the tokens before its first port, the action that is named, the room, what comes of it, and how many
 /// tokens wait then.
-type Asked<'a> = (Named, &'a [Num], u16, u32, Tried, u32);
+type Asked<'a> = (Named, &'a [Num], u16, u32, Tried, usize);
 
 fn hold_tries<R: Abort>(rt: &R, alloc: Global, rows: &[Asked<'_>]) -> Result<(), Memory> {
     for &(named, tokens, action, room, want, left) in rows {
@@ -250,7 +250,7 @@ const TRAP: Tried = Tried::Trap(Trap::DivideByZero);
 
 const NO_ROOM: Tried = Tried::NoRoom { port: 0 };
 
-const TRIES: &[(Named, &[Num], u16, u32, Tried, u32)] = &[
+const TRIES: &[(Named, &[Num], u16, u32, Tried, usize)] = &[
     (Named::Two, &[1, 2], 0, 8, Tried::Fired, 0),
     // the first action is above it and enabled
     (Named::Two, &[1, 2], 1, 8, Tried::NotExposed, 2),
