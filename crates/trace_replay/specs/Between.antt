@@ -19,6 +19,7 @@ use Rattle.trace_replay.specs.Ending.{CanGrow, FitInputs, HoldEnough}
 use Rattle.trace_replay.specs.Feeding.{HaveSources, StandsFed}
 use Rattle.trace_replay.specs.Judging.{EventFails, TrapComes, Trial}
 use Rattle.trace_replay.specs.Trying.{AllWork}
+use Rattle.trace_replay.specs.declared.between.Replay.{Replay}
 use Rattle.trace_replay.specs.declared.came.Came.{Came}
 use Rattle.trace_replay.specs.declared.came.Came.TheVariants.{Goes, Ends, Fails, FeedFails}
 use Rattle.trace_replay.specs.declared.source.Source.{Source}
@@ -87,6 +88,18 @@ abbrev pub EndsBy : {X : Type 0} → ℕ → Line → Between X → Type 0
 EndsBy {X} grow line old = InEach grow old (λ t opened s. (next : State X)
     × Steps t opened s line next)
 
+-- a line behind which a growth is judged: a delivery, or another growth
+abbrev pub is_rest : Line → Bool
+is_rest Deliver = true
+is_rest (Grow l capacity) = true
+is_rest (FirstLine n l g) = false
+is_rest (Inst k) = false
+is_rest (Fire i a) = false
+is_rest Quiet = false
+is_rest (TrapLine i a c) = false
+is_rest (Stall i a l) = false
+is_rest Budget = false
+
 abbrev pub is_growth : Line → Bool
 is_growth (Grow l capacity) = true
 is_growth (FirstLine n l g) = false
@@ -146,3 +159,23 @@ OnFeedFails Goes P = Unit {0}
 OnFeedFails Ends P = Unit {0}
 OnFeedFails (Fails why) P = Unit {0}
 OnFeedFails (FeedFails feed) P = P
+
+-- The same of what the code holds.
+
+module _ {A X S : Type 0} (cell : A → Cell X) (feeds : S → Inputs) where
+  -- where it stands
+  abbrev pub stand : Replay A → S → Between X
+  stand replay now = between cell replay.state replay.sources.items replay.rested (feeds now)
+
+  abbrev pub IsReadyToGo : Replay A → S → Type 0
+  IsReadyToGo replay now = CanGoOn (stand replay now) replay.links.items replay.grow
+
+  abbrev pub LineGoes : Came → Line → Replay A → S → Replay A → S → Type 0
+  LineGoes came line old before new after =
+      OnGoes came (GoesBy old.grow line (stand old before) (stand new after))
+
+  abbrev pub LineEnds : Came → Line → Replay A → S → Type 0
+  LineEnds came line old before = OnEnds came (EndsBy old.grow line (stand old before))
+
+  abbrev pub LineFails : Came → Line → Replay A → S → Type 0
+  LineFails came line old before = IfFails came (FailsBy old.grow line (stand old before))

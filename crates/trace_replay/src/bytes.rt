@@ -14,6 +14,9 @@ use std::marker::Model;
 /// The feed from which the trace is pulled.
 pub const TRACE_FEED: u32 = 0;
 
+/// The feed of the first input link.
+pub const FIRST_INPUT: u32 = 1;
+
 /// How many bytes are pulled at a time, at most.
 const PIECE_BYTES: usize = 65_536;
 

@@ -1,6 +1,6 @@
 //! The first line of a trace and the lines of its instances.
 
-ghost use Rattle.std.specs.Prelude.{◌≡◌, ◌≢◌, ◌≤◌, true, false, IfErr, OnOk, string_bytes, length, map};
+ghost use Rattle.std.specs.Prelude.{◌≡◌, ◌≢◌, ◌≤◌, ◌+◌, true, false, IfErr, OnOk, string_bytes, length, map};
 ghost use Rattle.rvc_io.specs.Feeds.{PullsOnly, ReadFails};
 ghost use Rattle.trace_text.specs.declared.line.Line.TheVariants.{Inst};
 ghost use Rattle.net_model.specs.Limits.{max_instances};
@@ -33,6 +33,7 @@ pub(crate) fn read_first<A: Firing, F: Feeds>(
     requires counted { IsCounted trace.old.count trace.old.lines.passed }
     ensures read { OnOk result (PassesFirst A.State first.now trace.old (F.feeds feeds.old) trace.new (F.feeds feeds.new)) }
     ensures judged { IfErr result (JudgesFirst A.State first.now trace.old (F.feeds feeds.old)) }
+    ensures number { OnOk result (trace.new.count ≡ trace.old.count + 1) }
     ensures counted { OnOk result (IsCounted trace.new.count trace.new.lines.passed) }
     ensures failed { OnReadFault result (ReadFails F.feeds feeds.old feeds.new) }
     ensures grow { trace.new.grow ≡ trace.old.grow }
@@ -60,6 +61,7 @@ pub(crate) fn read_instance<A: Firing, F: Feeds>(
     ensures read { OnOk result (PassesInstance A.State k (string_bytes name.now) trace.old (F.feeds feeds.old)
         trace.new (F.feeds feeds.new)) }
     ensures judged { IfErr result (JudgesInstance A.State k (string_bytes name.now) trace.old (F.feeds feeds.old)) }
+    ensures number { OnOk result (trace.new.count ≡ trace.old.count + 1) }
     ensures counted { OnOk result (IsCounted trace.new.count trace.new.lines.passed) }
     ensures failed { OnReadFault result (ReadFails F.feeds feeds.old feeds.new) }
     ensures grow { trace.new.grow ≡ trace.old.grow }
@@ -97,6 +99,7 @@ pub(crate) fn read_instances<A: Firing, F: Feeds>(
     ensures read { OnOk result (PassesNames A.State (map string_bytes names.now) trace.old (F.feeds feeds.old)
         trace.new (F.feeds feeds.new)) }
     ensures judged { IfErr result (JudgesNames A.State (map string_bytes names.now) trace.old (F.feeds feeds.old)) }
+    ensures number { OnOk result (trace.new.count ≡ trace.old.count + length names.now) }
     ensures counted { OnOk result (IsCounted trace.new.count trace.new.lines.passed) }
     ensures failed { OnReadFault result (ReadFails F.feeds feeds.old feeds.new) }
     ensures grow { trace.new.grow ≡ trace.old.grow }
@@ -132,6 +135,7 @@ pub(crate) fn read_head<A: Firing, F: Feeds>(
         trace.new (F.feeds feeds.new)) }
     ensures judged { IfErr result (JudgesHead A.State first.now (map string_bytes names.now)
         trace.old (F.feeds feeds.old)) }
+    ensures number { OnOk result (trace.new.count ≡ trace.old.count + 1 + length names.now) }
     ensures counted { OnOk result (IsCounted trace.new.count trace.new.lines.passed) }
     ensures failed { OnReadFault result (ReadFails F.feeds feeds.old feeds.new) }
     ensures grow { trace.new.grow ≡ trace.old.grow }

@@ -6,19 +6,23 @@ mod bytes;
 mod came;
 mod delivering;
 mod ending;
+mod events;
 mod growing;
 mod head;
 mod laws;
 mod reading;
+mod replaying;
 mod scan;
 mod source;
+mod sources;
 mod states;
 mod trying;
 mod why;
 
-pub use bytes::TRACE_FEED;
+pub use bytes::{FIRST_INPUT, TRACE_FEED};
 pub use laws::{
     no_trace_is_told_once, no_trace_is_told_to_be_none, traces_are_runs, what_fails_may_not_come,
 };
+pub use replaying::{Replayed, replay};
 pub use scan::MAX_TRACE_BYTES;
 pub use why::{ReplayFault, Why};

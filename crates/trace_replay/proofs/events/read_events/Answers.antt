@@ -1,0 +1,64 @@
+use Rattle.std.proofs.Common.{◌∙◌, ◌≤◌, refl, sym, subst, arith}
+use Rattle.rvc_io.specs.Feeds.{ReadFails}
+use Rattle.port_files.specs.Coming.{coming_on}
+use Rattle.trace_text.specs.Text.{line_feed}
+use Rattle.trace_replay.specs.Between.{IsReadyToGo, stand}
+use Rattle.trace_replay.specs.Events.{IsJudgedOrNot}
+use Rattle.trace_replay.specs.Judging.{AtEnd, AtEvents}
+use Rattle.trace_replay.specs.declared.bytes.TheConstants.{TRACE_FEED}
+use Rattle.trace_replay.proofs.Heads.{err_after, fault_after, ok_after, stops_judged}
+use Rattle.trace_replay.proofs.Led.{IsNext, LedTo, judged_or_not, led_end, led_fails, led_more, led_none, sources_ready}
+use Rattle.trace_replay.proofs.Looped.{ready_pulled}
+use Rattle.trace_replay.proofs.Pulling.{risen_after}
+use Rattle.trace_replay.proofs.events.read_events.Goals as goal
+
+pub lines-init : goal.lines-init
+lines-init g c = record {
+  led = led_none c.args.trace.now (stand g.A.Firing.cell g.F.Feeds.feeds c.args.replay.now c.args.feeds.now) c.args.replay.now.grow;
+  is_open = c.requires.open;
+  counted = c.requires.counted;
+  count = c.requires.count;
+  ready = c.requires.ready;
+  grow = refl;
+  trace_grow = c.requires.grow;
+  faults = omega arith;
+}
+
+pub come-requires-clause-ready : goal.come-requires-clause-ready
+come-requires-clause-ready g c =
+    ready_pulled (stand g.A.Firing.cell g.F.Feeds.feeds c.lines.replay c.lines.feeds) (stand g.A.Firing.cell g.F.Feeds.feeds c.lines.replay c.next_line.new.feeds)
+    c.lines.replay.links.items c.lines.replay.grow refl refl refl c.next_line.ensures.elsewhere c.lines.invariant.ready
+
+pub lines-preserved : goal.lines-preserved
+lines-preserved g c =
+    let read : IsNext c.lines.trace c.next_line.new.self (stand g.A.Firing.cell g.F.Feeds.feeds c.lines.replay c.lines.feeds) (g.F.Feeds.feeds c.next_line.new.feeds) c.lines.replay.grow
+        c.in-Ok.read.line c.in-Ok.read.same = record {
+      expected = line_feed;
+      trace_grow = c.lines.invariant.trace_grow;
+      sources = sources_ready (stand g.A.Firing.cell g.F.Feeds.feeds c.lines.replay c.lines.feeds) c.lines.replay.links.items c.lines.replay.grow c.lines.invariant.ready;
+      pulls = c.next_line.ensures.elsewhere;
+      read = c.in-Ok.ensures.read;
+      count = c.in-Ok.ensures.count;
+    } in
+    record {
+      led = λ t text begins.
+          led_more t text c.lines.trace c.next_line.new.self (stand g.A.Firing.cell g.F.Feeds.feeds c.lines.replay c.lines.feeds)
+          (stand g.A.Firing.cell g.F.Feeds.feeds c.come.new.self c.come.new.feeds) (g.F.Feeds.feeds c.next_line.new.feeds) c.lines.replay.grow c.in-Ok.read.line c.in-Ok.read.same
+          (begins.grow_is ∙ sym c.lines.invariant.grow) begins.wired begins.lawful (c.lines.invariant.led t text begins) read
+          c.in-Goes.ensures.goes c.in-Goes.ensures.goes_on c.in-Goes.ensures.rested c.come.ensures.elsewhere;
+      is_open = c.come.ensures.elsewhere.same_open TRACE_FEED ∙ c.next_line.ensures.elsewhere.same_open TRACE_FEED ∙ c.lines.invariant.is_open;
+      counted = c.in-Ok.ensures.counted;
+      count = c.in-Goes.ensures.still_count;
+      ready = c.in-Goes.ensures.still_ready;
+      grow = c.in-Goes.ensures.grow ∙ c.lines.invariant.grow;
+      trace_grow = c.next_line.ensures.grow ∙ c.lines.invariant.trace_grow ∙ sym c.in-Goes.ensures.grow;
+      faults = omega (arith, c.lines.invariant.faults, c.next_line.ensures.elsewhere.faults_stay, c.come.ensures.elsewhere.faults_stay);
+    }
+
+pub returns-in-Err-clause-judged : goal.returns-in-Err-clause-judged
+returns-in-Err-clause-judged g c = λ t text begins.
+    let led : LedTo t text c.lines.trace (stand g.A.Firing.cell g.F.Feeds.feeds c.lines.replay c.lines.feeds) = c.lines.invariant.led t text begins in
+    judged_or_not t text c.in-Err.fault
+    (stops_judged t text line_feed c.lines.trace.grow c.lines.trace.count c.lines.trace.lines.passed (AtEvents led.opened led.s)
+    (coming_on c.lines.trace.lines.bytes (g.F.Feeds.feeds c.lines.feeds) TRACE_FEED) (coming_on c.next_line.new.self.lines.bytes (g.F.Feeds.feeds c.next_line.new.feeds) TRACE_FEED)
+    c.in-Err.fault (begins.grow_is ∙ sym c.lines.invariant.grow ∙ sym c.lines.invariant.trace_grow) led.reached (λ over. over) c.in-Err.ensures.stops)

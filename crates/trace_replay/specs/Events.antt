@@ -1,0 +1,92 @@
+-- Lines of a run that are read one after another, up to an end line.
+-- Trusted but for `BeginsAt` and what follows `IsJudgedOrNot`: part of what a promise means.
+use Rattle.std.specs.Prelude.{◌≡◌, ◌⊎◌, ℕ, suc, ◌+◌, true, false, List, [], ◌∷◌, ◌++◌, length}
+use Rattle.std.specs.List.{concat}
+use Rattle.rvc_io.specs.Feeds.{Inputs}
+use Rattle.trace_text.specs.declared.line.Line.{Line}
+use Rattle.trace_text.specs.Spelling.{Spells}
+use Rattle.net_model.specs.State.{State}
+use Rattle.net_model.specs.Laws.{AreLawful}
+use Rattle.net_model.specs.Wired.{IsWired}
+use Rattle.trace_replay.specs.Between.{Between, IsAt, is_growth, is_rest}
+use Rattle.trace_replay.specs.Head.{IsHeadOf, StandsAt}
+use Rattle.trace_replay.specs.Judging.{AtEvents, AtFirst, IsNotRun, Lead, Trial, is_of_table}
+use Rattle.trace_replay.specs.Laws.{StartFits}
+use Rattle.trace_replay.specs.Reading.{IsWhole}
+use Rattle.trace_replay.specs.declared.reading.Trace.{Trace}
+use Rattle.trace_replay.specs.declared.why.Why.{Why}
+use Rattle.trace_replay.specs.declared.why.Why.TheVariants.{End}
+use Rattle.trace_replay.specs.declared.why.ReplayFault.{ReplayFault}
+use Rattle.trace_replay.specs.declared.why.ReplayFault.TheVariants.{NotRun, ReadFault, Memory}
+
+-- the head of a trace was read, and the network stands where the run begins
+pub record BeginsAt {X : Type 0} (t : Trial X) (text : List ℕ) (trace : Trace) (now : Between X) (grow : ℕ) : Type 0 where
+  pub grow_is : t.grow ≡ grow
+  pub wired : IsWired t.net
+  pub lawful : AreLawful t.net
+  pub fits : StartFits t
+  pub at : IsAt t.net now t.start t.start
+  pub number : trace.count ≡ suc (length t.net.leaves)
+  pub reached : StandsAt t text trace now.feeds (AtEvents t.start t.start)
+
+-- the last of these lines is neither a delivery nor a growth
+pub record EndInNoRest (texts : List (List ℕ)) : Type 0 where
+  pub before : List (List ℕ)
+  pub text : List ℕ
+  pub line : Line
+  pub texts_are : texts ≡ before ++ text ∷ []
+  pub spells : Spells line text
+  pub no_rest : is_rest line ≡ false
+
+-- Line n says that a link grows. It isn't judged, since the line before it is neither a delivery nor a growth.
+pub record IsUnjudged {X : Type 0} (t : Trial X) (text : List ℕ) (n : ℕ) (why : Why) : Type 0 where
+  pub texts : List (List ℕ)
+  pub front : List ℕ
+  pub more : List ℕ
+  pub line : Line
+  pub opened : State X
+  pub s : State X
+  pub is_text : text ≡ concat texts ++ (front ++ more)
+  pub lead : Lead t AtFirst texts (AtEvents opened s)
+  pub late : EndInNoRest texts
+  pub spells : Spells line front
+  pub growth : is_growth line ≡ true
+  pub of_table : is_of_table t.grow line ≡ true
+  pub number : n ≡ length texts + 1
+  pub why_is : why ≡ End
+
+-- what is told of a text that isn't replayed: no run has that line, or it is a growth that isn't judged
+abbrev pub IsJudgedOrNot : {X : Type 0} → Trial X → List ℕ → ReplayFault → Type 0
+IsJudgedOrNot t text (NotRun line why) = IsNotRun t text line why ⊎ IsUnjudged t text line why
+IsJudgedOrNot t text (ReadFault feed) = Unit {0}
+IsJudgedOrNot t text Memory = Unit {0}
+
+abbrev pub EventsEnd : {X : Type 0} → Trace → Between X → ℕ → Line → Type 0
+EventsEnd {X} trace now grow end = (t : Trial X) (text : List ℕ) → BeginsAt t text trace now grow
+    → (last : State X) × IsWhole t text end last
+
+abbrev pub EventsJudged : {X : Type 0} → Trace → Between X → ℕ → ReplayFault → Type 0
+EventsJudged {X} trace now grow fault = (t : Trial X) (text : List ℕ)
+    → BeginsAt t text trace now grow → IsJudgedOrNot t text fault
+
+-- The whole trace.
+
+-- nothing of the trace was read, and the network stands where the run begins
+pub record BeginsFirst {X : Type 0} (t : Trial X) (text : List ℕ) (trace : Trace) (now : Between X) (grow : ℕ) (first : Line) (names : List (List ℕ)) : Type 0 where
+  pub head : IsHeadOf t trace.grow first names
+  pub grow_is : t.grow ≡ grow
+  pub wired : IsWired t.net
+  pub lawful : AreLawful t.net
+  pub fits : StartFits t
+  pub at : IsAt t.net now t.start t.start
+  pub number : trace.count ≡ 0
+  pub reached : StandsAt t text trace now.feeds AtFirst
+
+abbrev pub TraceEnds : {X : Type 0} → Line → List (List ℕ) → Trace → Between X → ℕ → Line → Type 0
+TraceEnds {X} first names trace now grow end = (t : Trial X) (text : List ℕ)
+    → BeginsFirst t text trace now grow first names → (last : State X) × IsWhole t text end last
+
+abbrev pub TraceJudged : {X : Type 0} → Line → List (List ℕ) → Trace → Between X → ℕ → ReplayFault
+    → Type 0
+TraceJudged {X} first names trace now grow fault = (t : Trial X) (text : List ℕ)
+    → BeginsFirst t text trace now grow first names → IsJudgedOrNot t text fault
