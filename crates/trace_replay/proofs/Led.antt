@@ -1,6 +1,6 @@
 -- Where the lines of a run that were read have led.
 use Rattle.std.proofs.Common.{◌≡◌, ℕ, zero, suc, ◌+◌, ◌≤◌, ◌⊎◌, Bool, true, false, List, [], ◌∷◌, ◌++◌, length, refl, sym, ap, subst, ◌∙◌, inl, inr, ⊎_elim, arith}
-use Rattle.std.specs.Prelude.{Option, None, Some, slice_get, if◌then◌else◌}
+use Rattle.std.specs.Prelude.{Option, None, Some, Err, slice_get, if◌then◌else◌}
 use Rattle.std.specs.List.{concat}
 use Rattle.std.proofs.Common.{append_assoc, length-append}
 use Rattle.rvc_io.specs.Feeds.{Inputs, PullsOnlyAt}
@@ -23,7 +23,8 @@ use Rattle.trace_replay.specs.Feeding.{AreFedBy, ComesBy, HaveSources, IsSourceO
 use Rattle.trace_replay.specs.Head.{StandsAt}
 use Rattle.trace_replay.specs.Judging.{AtEnd, AtEvents, AtFirst, AtInstance, EventFails, IsNotRun, Lead, LeadsOn, MayCome, Reached, Trial, after_line, due, is_end, is_of_table}
 use Rattle.trace_replay.specs.Laws.{StartFits}
-use Rattle.trace_replay.specs.Reading.{HasReached, IsJudged, IsRead}
+use Rattle.trace_replay.specs.Reading.{HasReached, IsJudged, IsRead, OnReadFault}
+use Rattle.trace_text.specs.Text.{line_feed}
 use Rattle.trace_replay.specs.Scanning.{Scans}
 use Rattle.trace_replay.specs.declared.bytes.TheConstants.{TRACE_FEED}
 use Rattle.trace_replay.specs.declared.reading.Trace.{Trace}
@@ -34,7 +35,7 @@ use Rattle.trace_replay.specs.declared.why.ReplayFault.{ReplayFault}
 use Rattle.trace_replay.specs.declared.why.ReplayFault.TheVariants.{NotRun, ReadFault, Memory}
 use Rattle.trace_replay.proofs.Filled.{no_trace}
 use Rattle.trace_replay.proofs.Looped.{start_since, steps_come, steps_since}
-use Rattle.trace_replay.proofs.Reached.{concat_more, not_run_line, reached_more, told_after}
+use Rattle.trace_replay.proofs.Reached.{not_run_line, reached_more, told_after}
 
 -- The lines so far have led to the state s; `opened` is the state after the last delivery.
 pub record LedTo {X : Type 0} (t : Trial X) (text : List ℕ) (trace : Trace) (now : Between X) : Type 0 where
@@ -68,11 +69,11 @@ instances_last : {X : Type 0} (t : Trial X) (k : ℕ) (leaf : Leaf X) (leaves : 
     → Lead t (AtInstance k leaf leaves) texts reached → length texts ≡ suc (length leaves) → EndInNoRest texts
 instances_last t k leaf leaves [] reached lead count = cc
 instances_last t k leaf [] (text ∷ []) reached lead count =
-    let is : lead.0 ≡ Inst k = lead.3.0 in
+    let is : lead.0 ≡ Inst k = lead.3.0.0 in
     one_last text lead.0 lead.2 (ap is_rest is)
 instances_last t k leaf [] (text ∷ other ∷ texts) reached lead count = cc
 instances_last t k leaf (next ∷ leaves) (text ∷ texts) reached lead count =
-    let on : lead.1 ≡ AtInstance (k + 1) next leaves = lead.3.2 in
+    let on : lead.1 ≡ AtInstance (k + 1) next leaves = lead.3.1 in
     add_last texts text (instances_last t (k + 1) next leaves texts reached (subst (λ r. Lead t r texts reached) on lead.4) (omega (arith, count)))
 
 head_last : {X : Type 0} (t : Trial X) (texts : List (List ℕ)) (reached : Reached X) → Lead t AtFirst texts reached → length texts ≡ suc (length t.net.leaves) → EndInNoRest texts
@@ -141,6 +142,7 @@ reached_by : {X : Type 0} (t : Trial X) (text expected : List ℕ) (n n_new pass
     → HasReached t text n passed reached before → (s : Scans expected passed passed_new before after (Rattle.trace_replay.specs.declared.scan.Scanned.TheVariants.Line line same))
     → LeadsOn t reached s.text line next → next ≡ is → n_new ≡ n + 1 → later ≡ after
     → IsReachedBy t text n_new passed_new line is later
+unfolding reached_more
 reached_by t text expected n n_new passed passed_new reached next is before after later line same has s on next_is more told =
     let then_ : HasReached t text (n + 1) passed_new next after = reached_more t text expected n passed passed_new reached next before after line same has s on in
     record {
@@ -266,3 +268,22 @@ judged_or_not t text Memory judged = tt
 
 pub sources_ready : {X : Type 0} (now : Between X) (links : List Link) (grow : ℕ) → CanGoOn now links grow → HaveSources now.held.links now.sources now.feeds
 sources_ready now links grow ready = subst (λ ls. HaveSources ls now.sources now.feeds) (sym ready.links_are) ready.sources
+
+pub is_next : {X : Type 0} (old new : Trace) (now : Between X) (feeds : Inputs) (links : List Link) (grow : ℕ) (line : Line) (same : Bool) → old.grow ≡ grow → CanGoOn now links grow
+    → PullsOnlyAt TRACE_FEED now.feeds feeds
+    → IsRead line_feed old.grow old.lines.passed new.lines.passed (coming_on old.lines.bytes now.feeds TRACE_FEED) (coming_on new.lines.bytes feeds TRACE_FEED) line same
+    → new.count ≡ old.count + 1 → IsNext old new now feeds grow line same
+is_next old new now feeds links grow line same grow_is ready pulls read count = record {
+  expected = line_feed;
+  trace_grow = grow_is;
+  sources = sources_ready now links grow ready;
+  pulls = pulls;
+  read = read;
+  count = count;
+}
+
+-- a fault that is passed on
+pub fault_over : (T U : Type 0) (fault : ReplayFault) (P Q : Type 0) → (P → Q) → OnReadFault {T = T} (Err fault) P → OnReadFault {T = U} (Err fault) Q
+fault_over T U (NotRun line why) P Q f h = tt
+fault_over T U (ReadFault feed) P Q f h = f h
+fault_over T U Memory P Q f h = tt

@@ -1,5 +1,6 @@
 -- A network at the start of its trace: it stands where the run begins, and its sources read its feeds.
-use Rattle.std.proofs.Common.{◌≡◌, ℕ, zero, suc, ◌+◌, ◌<◌, ◌≤◌, Bool, true, false, List, [], ◌∷◌, ◌++◌, ℤ, length, map, take, drop, refl, sym, ap, subst, ◌∙◌, arith, length-map}
+use Rattle.std.proofs.Common.{◌≡◌, ℕ, zero, suc, ◌+◌, ◌<◌, ◌≤◌, Bool, true, false, List, [], ◌∷◌, ◌++◌, ℤ, length, map, take, drop, refl, sym, ap, subst, ◌∙◌, arith}
+use Rattle.std.proofs.lemmas.List.{length-map}
 use Rattle.std.specs.Prelude.{Option, None, Some, slice_get, slice_index_or, if◌then◌else◌}
 use Rattle.std.proofs.Math.Nat.{zero-div}
 use Rattle.std.proofs.Math.Seq.{drop-append_seam}
@@ -60,16 +61,16 @@ next_more : (b : Bool) (n c : ℕ) → (if b then suc n else n) + c ≡ n + (if 
 next_more true n c = omega arith
 next_more false n c = refl
 
-source_here : (ports : List NetPort) (open : List Bool) (n l : ℕ) (links : List Link) (link : Link) → slice_get links l ≡ Some link
-    → slice_get (sources_of ports open n links) l ≡ Some (source_at ports open (n + count_inputs (take l links)) link.from)
-source_here ports open n l [] link at = cc
-source_here ports open n zero (first ∷ links) link at =
+source_here : (ports : List NetPort) (opened : List Bool) (n l : ℕ) (links : List Link) (link : Link) → slice_get links l ≡ Some link
+    → slice_get (sources_of ports opened n links) l ≡ Some (source_at ports opened (n + count_inputs (take l links)) link.from)
+source_here ports opened n l [] link at = cc
+source_here ports opened n zero (first ∷ links) link at =
     let same : first ≡ link = some_is first link at in
     let none : n ≡ n + 0 = omega arith in
-    ap (λ w. Some (source_at ports open n w.from)) same ∙ ap (λ k. Some (source_at ports open k link.from)) none
-source_here ports open n (suc l) (first ∷ links) link at =
-    source_here ports open (next_feed n first) l links link at
-    ∙ ap (λ k. Some (source_at ports open k link.from)) (next_more (is_input first) n (count_inputs (take l links)))
+    ap (λ w. Some (source_at ports opened n w.from)) same ∙ ap (λ k. Some (source_at ports opened k link.from)) none
+source_here ports opened n (suc l) (first ∷ links) link at =
+    source_here ports opened (next_feed n first) l links link at
+    ∙ ap (λ k. Some (source_at ports opened k link.from)) (next_more (is_input first) n (count_inputs (take l links)))
 
 -- the source of link l reads the link's feed
 pub at_feed : (wiring : Wiring) (l : ℕ) (link : Link) → slice_get wiring.links.items l ≡ Some link
@@ -79,14 +80,14 @@ at_feed wiring l link at =
     source_here (map port_of wiring.ins.items) wiring.open_ins.items 1 l wiring.links.items link at
     ∙ ap (λ k. Some (source_at (map port_of wiring.ins.items) wiring.open_ins.items k link.from)) feed
 
-as_many : (ports : List NetPort) (open : List Bool) (n : ℕ) (links : List Link) → length (sources_of ports open n links) ≡ length links
-as_many ports open n [] = refl
-as_many ports open n (link ∷ links) = ap suc (as_many ports open (next_feed n link) links)
+as_many : (ports : List NetPort) (opened : List Bool) (n : ℕ) (links : List Link) → length (sources_of ports opened n links) ≡ length links
+as_many ports opened n [] = refl
+as_many ports opened n (link ∷ links) = ap suc (as_many ports opened (next_feed n link) links)
 
 -- what a source says of its link
-record IsSourceAt (open : List Bool) (feed : ℕ) (end : End) (source : Source) : Type 0 where
+record IsSourceAt (opened : List Bool) (feed : ℕ) (end : End) (source : Source) : Type 0 where
   pub outside : is_outside end ≡ true
-  pub opened : has_feed open end ≡ true
+  pub opened : has_feed opened end ≡ true
   pub feed_is : source.feed ≡ feed
   pub not_ended : source.tokens.ended ≡ false
 
@@ -94,11 +95,11 @@ if_some : (b : Bool) (s source : Source) → (if b then Some s else None) ≡ So
 if_some true s source e = (refl, some_is s source e)
 if_some false s source e = cc
 
-source_is : (ports : List NetPort) (open : List Bool) (feed : ℕ) (end : End) (source : Source) → source_at ports open feed end ≡ Some source → IsSourceAt open feed end source
-source_is ports open feed (AtLeaf inst port) source e = cc
-source_is ports open feed (AtNet port) source e =
-    let both : (slice_index_or open port false ≡ true) × (new_source feed (kind_at ports port) ≡ source) =
-    if_some (slice_index_or open port false) (new_source feed (kind_at ports port)) source e in
+source_is : (ports : List NetPort) (opened : List Bool) (feed : ℕ) (end : End) (source : Source) → source_at ports opened feed end ≡ Some source → IsSourceAt opened feed end source
+source_is ports opened feed (AtLeaf inst port) source e = cc
+source_is ports opened feed (AtNet port) source e =
+    let both : (slice_index_or opened port false ≡ true) × (new_source feed (kind_at ports port) ≡ source) =
+    if_some (slice_index_or opened port false) (new_source feed (kind_at ports port)) source e in
     record {
       outside = refl;
       opened = both.0;
@@ -144,12 +145,12 @@ comes_if s l link kind true feed bytes feeds told is =
     (tokens kind bytes, subst (λ left. AreToCome kind (coming [] left) (tokens kind bytes)) (sym told) refl, is)
 comes_if s l link kind false feed bytes feeds told is = is ∙ ap (λ b. map (conv link.kind) (tokens kind b)) told ∙ ap (map (conv link.kind)) (no_tokens kind)
 
-comes_at : {X : Type 0} (s : State X) (l : ℕ) (link : Link) (ports : List NetPort) (open : List Bool) (inputs : List (List ℕ)) (feed : ℕ) (feeds : Inputs) (end : End)
-    → is_outside end ≡ true → IsEndTold open inputs feed feeds end → unarrived (slice_get s.flows l) ≡ fed_by ports inputs link end
-    → ComesBy s l link (Some (source_at ports open feed end)) feeds
-comes_at s l link ports open inputs feed feeds (AtLeaf inst port) outside told is = cc
-comes_at s l link ports open inputs feed feeds (AtNet port) outside told is =
-    comes_if s l link (kind_at ports port) (slice_index_or open port false) feed (slice_index_or inputs port []) feeds told is
+comes_at : {X : Type 0} (s : State X) (l : ℕ) (link : Link) (ports : List NetPort) (opened : List Bool) (inputs : List (List ℕ)) (feed : ℕ) (feeds : Inputs) (end : End)
+    → is_outside end ≡ true → IsEndTold opened inputs feed feeds end → unarrived (slice_get s.flows l) ≡ fed_by ports inputs link end
+    → ComesBy s l link (Some (source_at ports opened feed end)) feeds
+comes_at s l link ports opened inputs feed feeds (AtLeaf inst port) outside told is = cc
+comes_at s l link ports opened inputs feed feeds (AtNet port) outside told is =
+    comes_if s l link (kind_at ports port) (slice_index_or opened port false) feed (slice_index_or inputs port []) feeds told is
 
 are_fed : {X : Type 0} (net : Network X) (cells : List (Cell X)) (wiring : Wiring) (inputs : List (List ℕ)) (feeds : Inputs) → IsNetworkOf net cells wiring
     → ((l : ℕ) (link : Link) → slice_get wiring.links.items l ≡ Some link → IsEndTold wiring.open_ins.items inputs (feed_of wiring.links.items l) feeds link.from)

@@ -8,11 +8,13 @@ use Rattle.trace_text.specs.Spelling.{Spells}
 use Rattle.net_model.specs.State.{State}
 use Rattle.net_model.specs.Laws.{AreLawful}
 use Rattle.net_model.specs.Wired.{IsWired}
-use Rattle.trace_replay.specs.Between.{Between, IsAt, is_growth, is_rest}
+use Rattle.net_model.specs.Cell.{Cell}
+use Rattle.trace_replay.specs.Between.{Between, IsAt, is_growth, is_rest, stand}
 use Rattle.trace_replay.specs.Head.{IsHeadOf, StandsAt}
 use Rattle.trace_replay.specs.Judging.{AtEvents, AtFirst, IsNotRun, Lead, Trial, is_of_table}
 use Rattle.trace_replay.specs.Laws.{StartFits}
 use Rattle.trace_replay.specs.Reading.{IsWhole}
+use Rattle.trace_replay.specs.declared.between.Replay.{Replay}
 use Rattle.trace_replay.specs.declared.reading.Trace.{Trace}
 use Rattle.trace_replay.specs.declared.why.Why.{Why}
 use Rattle.trace_replay.specs.declared.why.Why.TheVariants.{End}
@@ -90,3 +92,21 @@ abbrev pub TraceJudged : {X : Type 0} → Line → List (List ℕ) → Trace →
     → Type 0
 TraceJudged {X} first names trace now grow fault = (t : Trial X) (text : List ℕ)
     → BeginsFirst t text trace now grow first names → IsJudgedOrNot t text fault
+
+-- The same of what the code holds.
+
+module _ {A X S : Type 0} (cell : A → Cell X) (feeds : S → Inputs) where
+  abbrev pub EndsEvents : Trace → Replay A → S → Line → Type 0
+  EndsEvents trace replay now end = EventsEnd trace (stand cell feeds replay now) replay.grow end
+
+  abbrev pub JudgesEvents : Trace → Replay A → S → ReplayFault → Type 0
+  JudgesEvents trace replay now fault =
+      EventsJudged trace (stand cell feeds replay now) replay.grow fault
+
+  abbrev pub EndsTrace : Line → List (List ℕ) → Trace → Replay A → S → Line → Type 0
+  EndsTrace first names trace replay now end =
+      TraceEnds first names trace (stand cell feeds replay now) replay.grow end
+
+  abbrev pub JudgesTrace : Line → List (List ℕ) → Trace → Replay A → S → ReplayFault → Type 0
+  JudgesTrace first names trace replay now fault =
+      TraceJudged first names trace (stand cell feeds replay now) replay.grow fault

@@ -1,6 +1,7 @@
 -- A trace that is replayed over cells, their wiring and feeds: what is asked of them, and what is told.
 -- Trusted but for `sources_of` and what it uses, `AllBegin` and `JudgesReplay`: part of what a promise means.
-use Rattle.std.specs.Prelude.{◌≡◌, ◌⊎◌, ℕ, suc, ◌≤◌, ◌<◌, Bool, true, false, List, [], ◌∷◌, length, map, slice_get, slice_index_or, Option, None, Some, if◌then◌else◌}
+use Rattle.std.specs.Prelude.{◌≡◌, ◌⊎◌, ℕ, suc, ◌≤◌, ◌<◌, Bool, true, false, List, [], ◌∷◌, length, map, slice_get, slice_index_or, Option, None, Some, String, string_bytes, if◌then◌else◌}
+use Rattle.std.specs.declared.alloc.Global.{Global as Heap}
 use Rattle.rvc_base.specs.declared.scalar.Scalar.{Scalar}
 use Rattle.rvc_base.specs.Storing.{IsSize}
 use Rattle.rvc_io.specs.Feeds.{Inputs}
@@ -29,8 +30,8 @@ use Rattle.trace_replay.specs.declared.why.ReplayFault.TheVariants.{NotRun, Read
 
 -- a writing end at an input of the network that has a feed
 abbrev pub has_feed : List Bool → End → Bool
-has_feed open (AtLeaf inst port) = false
-has_feed open (AtNet port) = slice_index_or open port false
+has_feed opened (AtLeaf inst port) = false
+has_feed opened (AtNet port) = slice_index_or opened port false
 
 -- a network of these cells and this wiring that is ready to be run, with any paths and classes
 pub record IsReadyAs {X : Type 0} (net : Network X) (cells : List (Cell X)) (wiring : Wiring) (grow : ℕ) : Type 0 where
@@ -60,9 +61,9 @@ IsInputTold true feed bytes feeds = feeds.left feed ≡ Some bytes
 IsInputTold false feed bytes feeds = bytes ≡ []
 
 abbrev pub IsEndTold : List Bool → List (List ℕ) → ℕ → Inputs → End → Type 0
-IsEndTold open inputs feed feeds (AtLeaf inst port) = Unit {0}
-IsEndTold open inputs feed feeds (AtNet port) =
-    IsInputTold (slice_index_or open port false) feed (slice_index_or inputs port []) feeds
+IsEndTold opened inputs feed feeds (AtLeaf inst port) = Unit {0}
+IsEndTold opened inputs feed feeds (AtNet port) =
+    IsInputTold (slice_index_or opened port false) feed (slice_index_or inputs port []) feeds
 
 -- The trace that feeds tell, and what it is judged by: the network that cells, wiring and names make, the limit of
 -- growth, and the state in which the run begins. `inputs` are the bytes of each network input, in port order.
@@ -104,6 +105,17 @@ Refuses {X} cells wiring grow names feeds fault = (t : Trial X) (text : List ℕ
     (inputs : List (List ℕ)) → IsReplayOf t text inputs cells wiring grow names feeds
     → IsRefused t text fault
 
+-- The same of what the code is given.
+
+module _ {C X S : Type 0} (cell : C → Cell X) (feeds : S → Inputs) where
+  abbrev pub ReplaysOn : List C → Wiring → ℕ → List (String Heap) → S → Line → Type 0
+  ReplaysOn cells wiring grow names now end =
+      Replays (map cell cells) wiring grow (map string_bytes names) (feeds now) end
+
+  abbrev pub RefusesOn : List C → Wiring → ℕ → List (String Heap) → S → ReplayFault → Type 0
+  RefusesOn cells wiring grow names now fault =
+      Refuses (map cell cells) wiring grow (map string_bytes names) (feeds now) fault
+
 -- The sources of links.
 
 -- the number of the next feed, behind that of a link
@@ -116,14 +128,14 @@ new_source feed kind =
     record { feed = feed; tokens = record { kind = kind; pulled = []; ended = false } }
 
 abbrev pub source_at : List NetPort → List Bool → ℕ → End → Option Source
-source_at ports open feed (AtLeaf inst port) = None
-source_at ports open feed (AtNet port) = if slice_index_or open port false
+source_at ports opened feed (AtLeaf inst port) = None
+source_at ports opened feed (AtNet port) = if slice_index_or opened port false
     then Some (new_source feed (kind_at ports port)) else None
 
 abbrev pub sources_of : List NetPort → List Bool → ℕ → List Link → List (Option Source)
-sources_of ports open feed [] = []
-sources_of ports open feed (link ∷ links) =
-    source_at ports open feed link.from ∷ sources_of ports open (next_feed feed link) links
+sources_of ports opened feed [] = []
+sources_of ports opened feed (link ∷ links) =
+    source_at ports opened feed link.from ∷ sources_of ports opened (next_feed feed link) links
 
 -- a writing end at one of the network's inputs
 abbrev pub IsAmongInputs : ℕ → End → Type 0

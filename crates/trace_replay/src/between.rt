@@ -1,7 +1,8 @@
 //! A network between two lines of its trace.
 
-ghost use Rattle.std.specs.Prelude.{◌≡◌, true, false, IfOk, length, map};
+ghost use Rattle.std.specs.Prelude.{◌≡◌, ◌≤◌, true, false, IfOk, length, map};
 ghost use Rattle.rvc_io.specs.Feeds.{ReadFails};
+ghost use Rattle.net_model.specs.Limits.{max_links};
 ghost use Rattle.trace_text.specs.declared.line.Line.TheVariants as line;
 ghost use Rattle.trace_replay.specs.Between.{IfFails, IsReadyToGo, LineEnds, LineFails, LineGoes, OnEnds, OnFeedFails, OnGoes, is_rest, is_still_end};
 ghost use Rattle.trace_replay.specs.declared.came.Came.TheVariants as came;
@@ -70,6 +71,18 @@ impl<A: Firing> Replay<A> {
             grow,
             rested: false,
         })
+    }
+
+    /// The first line of its trace.
+    pub(crate) fn first_line(&self) -> Line
+        requires few { length self.now.links.items ≤ max_links }
+        ensures { result ≡ line.Header self.now.count (length self.now.links.items) self.now.grow }
+    {
+        Line::Header {
+            instances: self.count,
+            links: self.links.len() as u32,
+            grow: self.grow,
+        }
     }
 
     /// A line that says that an action fires.

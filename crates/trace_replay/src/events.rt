@@ -3,8 +3,8 @@
 ghost use Rattle.std.specs.Prelude.{◌≡◌, ◌≤◌, true, false, IfOk, IfErr, length, map, string_bytes};
 ghost use Rattle.rvc_io.specs.Feeds.{ReadFails};
 ghost use Rattle.net_model.specs.Limits.{max_instances};
-ghost use Rattle.trace_replay.specs.Between.{IsReadyToGo, stand};
-ghost use Rattle.trace_replay.specs.Events.{EventsEnd, EventsJudged, TraceEnds, TraceJudged};
+ghost use Rattle.trace_replay.specs.Between.{IsReadyToGo};
+ghost use Rattle.trace_replay.specs.Events.{EndsEvents, EndsTrace, JudgesEvents, JudgesTrace};
 ghost use Rattle.trace_replay.specs.Head.{JudgesEnd, PassesEnd};
 ghost use Rattle.trace_replay.specs.Reading.{IsCounted, OnReadFault};
 ghost use Rattle.trace_replay.specs.declared.bytes.TheConstants.{TRACE_FEED};
@@ -34,10 +34,8 @@ pub(crate) fn read_events<A: Firing, F: Feeds>(
     requires ready { IsReadyToGo A.cell F.feeds replay.old feeds.old }
     requires grow { trace.old.grow ≡ replay.old.grow }
     requires fresh { replay.old.rested ≡ false }
-    ensures ended { IfOk result (EventsEnd trace.old (stand A.cell F.feeds replay.old feeds.old)
-        replay.old.grow) }
-    ensures judged { IfErr result (EventsJudged trace.old (stand A.cell F.feeds replay.old feeds.old)
-        replay.old.grow) }
+    ensures ended { IfOk result (EndsEvents A.cell F.feeds trace.old replay.old feeds.old) }
+    ensures judged { IfErr result (JudgesEvents A.cell F.feeds trace.old replay.old feeds.old) }
     ensures failed { OnReadFault result (ReadFails F.feeds feeds.old feeds.new) }
 {
     'lines: loop {
@@ -93,10 +91,10 @@ pub(crate) fn read_trace<A: Firing, F: Feeds>(
     requires ready { IsReadyToGo A.cell F.feeds replay.old feeds.old }
     requires grow { trace.old.grow ≡ replay.old.grow }
     requires fresh { replay.old.rested ≡ false }
-    ensures ended { IfOk result (TraceEnds first.now (map string_bytes names.now) trace.old
-        (stand A.cell F.feeds replay.old feeds.old) replay.old.grow) }
-    ensures judged { IfErr result (TraceJudged first.now (map string_bytes names.now) trace.old
-        (stand A.cell F.feeds replay.old feeds.old) replay.old.grow) }
+    ensures ended { IfOk result (EndsTrace A.cell F.feeds first.now (map string_bytes names.now)
+        trace.old replay.old feeds.old) }
+    ensures judged { IfErr result (JudgesTrace A.cell F.feeds first.now (map string_bytes names.now)
+        trace.old replay.old feeds.old) }
     ensures failed { OnReadFault result (ReadFails F.feeds feeds.old feeds.new) }
 {
     match read_head::<A, F>(trace, first, names, feeds) {

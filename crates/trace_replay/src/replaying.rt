@@ -2,9 +2,8 @@
 
 ghost use Rattle.std.specs.Prelude.{◌≡◌, IfOk, IfErr, map, string_bytes};
 ghost use Rattle.rvc_io.specs.Feeds.{ReadFails};
-ghost use Rattle.trace_text.specs.declared.line.Line.TheVariants.{Header};
 ghost use Rattle.trace_replay.specs.Reading.{OnReadFault};
-ghost use Rattle.trace_replay.specs.Replaying.{CanReplay, Refuses, Replays};
+ghost use Rattle.trace_replay.specs.Replaying.{CanReplay, RefusesOn, ReplaysOn};
 
 use crate::between::Replay;
 use crate::events::read_trace;
@@ -48,35 +47,24 @@ pub fn replay<A: Firing, F: Feeds>(
 ) -> Result<Replayed, ReplayFault>
     requires can { CanReplay (map A.cell cells.items) wiring grow (map string_bytes names.now)
         (F.feeds feeds.old) }
-    ensures replayed { IfOk result (λ replayed. Replays (map A.cell cells.items) wiring grow
-        (map string_bytes names.now) (F.feeds feeds.old) replayed.end) }
-    ensures refused { IfErr result (Refuses (map A.cell cells.items) wiring grow
-        (map string_bytes names.now) (F.feeds feeds.old)) }
+    ensures replayed { IfOk result (λ r. ReplaysOn A.cell F.feeds cells.items wiring grow names.now
+        feeds.old r.end) }
+    ensures refused { IfErr result (RefusesOn A.cell F.feeds cells.items wiring grow names.now
+        feeds.old) }
     ensures failed { OnReadFault result (ReadFails F.feeds feeds.old feeds.new) }
 {
     ready_networks_can_work::<StatesOf<A>>();
     traces_are_runs::<StatesOf<A>>();
     no_trace_is_told_to_be_none::<StatesOf<A>>();
-    let first = first_line(cells.len() as u32, wiring.links.len() as u32, grow);
     let Ok(mut trace) = Trace::new(alloc, grow) else {
         return Err(ReplayFault::Memory);
     };
     let Ok(mut replay) = Replay::new(alloc, cells, wiring, grow) else {
         return Err(ReplayFault::Memory);
     };
+    let first = replay.first_line();
     match read_trace(&mut trace, &mut replay, &first, names, feeds) {
         Ok(end) => Ok(Replayed { end }),
         Err(fault) => Err(fault),
-    }
-}
-
-/// The first line of a trace of so many instances and links.
-fn first_line(instances: u32, links: u32, grow: u32) -> Line
-    ensures { result ≡ Header instances links grow }
-{
-    Line::Header {
-        instances,
-        links,
-        grow,
     }
 }

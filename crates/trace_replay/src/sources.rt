@@ -45,19 +45,19 @@ fn open_source(
     from: &End,
     feed: u32,
     ins: &[Port],
-    open: &[bool],
+    opened: &[bool],
 ) -> Result<Option<Source>, Memory>
-    requires told { length open.now ≡ length ins.now }
+    requires told { length opened.now ≡ length ins.now }
     requires there { IsAmongInputs (length ins.now) from.now }
     requires sizes { (p : ℕ) (port : Port) → slice_get ins.now p ≡ Some port → IsSize port.kind }
     ensures { IfOk result (λ source. source
-        ≡ source_at (map port_of ins.now) open.now feed from.now) }
+        ≡ source_at (map port_of ins.now) opened.now feed from.now) }
 {
     let End::Net { port } = *from else {
         return Ok(None);
     };
     let p = port as usize;
-    if !open[p] {
+    if !opened[p] {
         return Ok(None);
     }
     let tokens = TokenFeed::new(alloc, ins[p].kind)?;

@@ -1,4 +1,5 @@
-use Rattle.std.proofs.Common.{◌∙◌, map, refl, sym, length-map}
+use Rattle.std.proofs.Common.{◌∙◌, map, refl, sym}
+use Rattle.std.proofs.lemmas.List.{length-map}
 use Rattle.std.specs.Prelude.{string_bytes}
 use Rattle.rvc_io.specs.Feeds.{ReadFails}
 use Rattle.trace_replay.specs.Between.{stand}
