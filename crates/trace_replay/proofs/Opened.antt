@@ -1,5 +1,5 @@
 -- A network at the start of its trace: it stands where the run begins, and its sources read its feeds.
-use Rattle.std.proofs.Common.{◌≡◌, ℕ, zero, suc, ◌+◌, ◌<◌, ◌≤◌, Bool, true, false, List, [], ◌∷◌, ◌++◌, ℤ, length, map, take, drop, refl, sym, ap, subst, ◌∙◌, arith}
+use Rattle.std.proofs.Common.{◌≡◌, ℕ, zero, suc, ◌+◌, ◌<◌, ◌≤◌, Bool, true, false, List, [], ◌∷◌, ◌++◌, ℤ, length, map, take, drop, refl, sym, ap, subst, ◌∙◌, arith, append_assoc}
 use Rattle.std.proofs.lemmas.List.{length-map}
 use Rattle.std.specs.Prelude.{Option, None, Some, slice_get, slice_index_or, if◌then◌else◌}
 use Rattle.std.proofs.Math.Nat.{zero-div}
@@ -72,6 +72,17 @@ source_here ports opened n (suc l) (first ∷ links) link at =
     source_here ports opened (next_feed n first) l links link at
     ∙ ap (λ k. Some (source_at ports opened k link.from)) (next_more (is_input first) n (count_inputs (take l links)))
 
+-- one source more
+pub sources_more : (ports : List NetPort) (opened : List Bool) (feed next : ℕ) (sources : List (Option Source)) (left : List Link) (link : Link) (others : List Link) (source : Option Source) (all : List (Option Source))
+    → left ≡ link ∷ others → source ≡ source_at ports opened feed link.from → next ≡ next_feed feed link → sources ++ sources_of ports opened feed left ≡ all
+    → (sources ++ source ∷ []) ++ sources_of ports opened next others ≡ all
+sources_more ports opened feed next sources left link others source all left_is source_is next_is whole =
+    append_assoc sources (source ∷ []) (sources_of ports opened next others)
+    ∙ ap (λ s. sources ++ (s ∷ sources_of ports opened next others)) source_is
+    ∙ ap (λ n. sources ++ (source_at ports opened feed link.from ∷ sources_of ports opened n others)) next_is
+    ∙ ap (λ ls. sources ++ sources_of ports opened feed ls) (sym left_is)
+    ∙ whole
+
 -- the source of link l reads the link's feed
 pub at_feed : (wiring : Wiring) (l : ℕ) (link : Link) → slice_get wiring.links.items l ≡ Some link
     → slice_get (all_sources wiring) l ≡ Some (source_at (map port_of wiring.ins.items) wiring.open_ins.items (feed_of wiring.links.items l) link.from)
@@ -87,7 +98,7 @@ as_many ports opened n (link ∷ links) = ap suc (as_many ports opened (next_fee
 -- what a source says of its link
 record IsSourceAt (opened : List Bool) (feed : ℕ) (end : End) (source : Source) : Type 0 where
   pub outside : is_outside end ≡ true
-  pub opened : has_feed opened end ≡ true
+  pub has_it : has_feed opened end ≡ true
   pub feed_is : source.feed ≡ feed
   pub not_ended : source.tokens.ended ≡ false
 
@@ -102,7 +113,7 @@ source_is ports opened feed (AtNet port) source e =
     if_some (slice_index_or opened port false) (new_source feed (kind_at ports port)) source e in
     record {
       outside = refl;
-      opened = both.0;
+      has_it = both.0;
       feed_is = ap (λ s. s.feed) (sym both.1);
       not_ended = ap (λ s. s.tokens.ended) (sym both.1);
     }
@@ -119,7 +130,7 @@ have_sources wiring feeds are_open = record {
       record {
         input = is.outside;
         feed = is.feed_is;
-        is_open = ap feeds.is_open is.feed_is ∙ are_open l link at is.opened;
+        is_open = ap feeds.is_open is.feed_is ∙ are_open l link at is.has_it;
         same_feed = λ ended. absurd (not_both source.tokens.ended is.not_ended ended);
       };
 }
@@ -290,13 +301,14 @@ module _ {C X : Type 0} (cell : C → Cell X) (cells : List C) (wiring : Wiring)
         sym (length-map {A = Leaf X} t.net.leaves (λ leaf. leaf.behaviour)) ∙ one ∙ length-map (map cell cells) (λ one. one.actor) ∙ length-map cells cell
 
     pub begins : (trace : Trace) (first : Line) → trace.lines.bytes ≡ [] → trace.lines.passed ≡ 0 → trace.count ≡ 0 → trace.grow ≡ grow
-        → first ≡ Header (length cells) (length wiring.links.items) grow
+        → first ≡ Header replay.count (length replay.links.items) replay.grow
         → BeginsFirst t text trace (record { held = seen cell replay.state; sources = replay.sources.items; rested = replay.rested; feeds = feeds }) replay.grow first names
     begins trace first no_bytes none_passed none_read grow_is first_is = record {
       head = record {
         grow_is = is.grow_is ∙ sym grow_is;
-        first_is = first_is ∙ ap (λ n. Header n (length wiring.links.items) grow) (sym leaves_are) ∙ ap (λ ls. Header (length t.net.leaves) (length ls) grow) (sym is.is_of.links)
-            ∙ ap (λ g. Header (length t.net.leaves) (length t.net.links) g) (sym is.grow_is);
+        first_is = first_is ∙ ap (λ n. Header n (length replay.links.items) replay.grow) (opened.count ∙ sym leaves_are)
+            ∙ ap (λ ls. Header (length t.net.leaves) (length ls) replay.grow) (opened.links_are ∙ sym is.is_of.links)
+            ∙ ap (λ g. Header (length t.net.leaves) (length t.net.links) g) (opened.grow_is ∙ sym is.grow_is);
         names_are = is.names_are;
       };
       grow_is = is.grow_is ∙ sym opened.grow_is;

@@ -12,7 +12,7 @@ use Rattle.net_model.specs.Cell.{Cell, number_on}
 use Rattle.net_model.specs.Ready.{HasQueues, IsNetworkOf, IsReady}
 use Rattle.net_model.specs.Wired.{ComesFromPort, CoversGives, CoversNeeds, HasInput, HasKindOf, HasOutput, HoldsGives, HoldsNeeds, IsJoined, IsWired, LeadsToPort}
 
-behaviour_of : {X : Type 0} → Option (Leaf X) → Option (Behaviour X)
+abbrev behaviour_of : {X : Type 0} → Option (Leaf X) → Option (Behaviour X)
 behaviour_of None = None
 behaviour_of (Some leaf) = Some leaf.behaviour
 

@@ -255,8 +255,10 @@ fn copy_links(alloc: Global, links: &[Link]) -> Result<Vec<Link>, Memory>
     ensures { IfOk result (λ copy. copy.items ≡ links.now) }
 {
     let mut copy = Vec::with_capacity(alloc, links.len())?;
-    for l in 0..links.len() {
-        copy.push(links[l])?;
+    let mut left = links;
+    'links: while let Some((link, others)) = left.split_first() {
+        copy.push(*link)?;
+        left = others;
     }
     Ok(copy)
 }

@@ -63,8 +63,9 @@ pub fn replay<A: Firing, F: Feeds>(
         return Err(ReplayFault::Memory);
     };
     let first = replay.first_line();
-    match read_trace(&mut trace, &mut replay, &first, names, feeds) {
-        Ok(end) => Ok(Replayed { end }),
-        Err(fault) => Err(fault),
-    }
+    let end = match read_trace(&mut trace, &mut replay, &first, names, feeds) {
+        Ok(end) => end,
+        Err(fault) => return Err(fault),
+    };
+    Ok(Replayed { end })
 }

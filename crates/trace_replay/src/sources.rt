@@ -1,6 +1,6 @@
 //! What reads the feeds of input links.
 
-ghost use Rattle.std.specs.Prelude.{◌≡◌, ◌<◌, ◌≤◌, ◌+◌, IfOk, length, map, slice_get, Some};
+ghost use Rattle.std.specs.Prelude.{◌≡◌, ◌≤◌, ℕ, IfOk, length, map, slice_get, Some};
 ghost use Rattle.rvc_base.specs.Storing.{IsSize};
 ghost use Rattle.net_model.specs.Ready.{port_of};
 ghost use Rattle.net_model.specs.declared.wiring.Port.{Port};
