@@ -20,10 +20,7 @@ use std::alloc::Global;
 /// # Errors
 ///
 /// `Memory` if memory runs out.
-pub(crate) fn open_sources(
-    alloc: Global,
-    wiring: &Wiring,
-) -> Result<Vec<Option<Source>>, Memory>
+pub(crate) fn open_sources(alloc: Global, wiring: &Wiring) -> Result<Vec<Option<Source>>, Memory>
     requires inputs { HasInputs wiring.now }
     ensures { IfOk result (λ sources. sources.items ≡ all_sources wiring.now) }
 {

@@ -70,11 +70,11 @@ returns-in-Ends-clause-ended g c =
     okay_after c.end_at.result _ _
     (λ line whole. λ t text begins.
     let to = led_end t text c.lines.trace c.next_line.new.self (stand g.A.Firing.cell g.F.Feeds.feeds c.lines.replay c.lines.feeds) (g.F.Feeds.feeds c.next_line.new.feeds)
-        (g.F.Feeds.feeds c.come.new.feeds) c.lines.replay.grow c.in-Ok.read.line c.in-Ok.read.same
-        (begins.grow_is ∙ sym c.lines.invariant.grow) begins.wired begins.lawful (c.lines.invariant.led t text begins)
-        (is_next c.lines.trace c.next_line.new.self (stand g.A.Firing.cell g.F.Feeds.feeds c.lines.replay c.lines.feeds) (g.F.Feeds.feeds c.next_line.new.feeds) c.lines.replay.links.items
-        c.lines.replay.grow c.in-Ok.read.line c.in-Ok.read.same c.lines.invariant.trace_grow c.lines.invariant.ready c.next_line.ensures.elsewhere c.in-Ok.ensures.read c.in-Ok.ensures.count)
-        c.in-Ends.ensures.ends c.in-Ends.ensures.is_end c.come.ensures.elsewhere in
+    (g.F.Feeds.feeds c.come.new.feeds) c.lines.replay.grow c.in-Ok.read.line c.in-Ok.read.same
+    (begins.grow_is ∙ sym c.lines.invariant.grow) begins.wired begins.lawful (c.lines.invariant.led t text begins)
+    (is_next c.lines.trace c.next_line.new.self (stand g.A.Firing.cell g.F.Feeds.feeds c.lines.replay c.lines.feeds) (g.F.Feeds.feeds c.next_line.new.feeds) c.lines.replay.links.items
+    c.lines.replay.grow c.in-Ok.read.line c.in-Ok.read.same c.lines.invariant.trace_grow c.lines.invariant.ready c.next_line.ensures.elsewhere c.in-Ok.ensures.read c.in-Ok.ensures.count)
+    c.in-Ends.ensures.ends c.in-Ends.ensures.is_end c.come.ensures.elsewhere in
     (to.0, subst (λ one. IsWhole t text one to.0) (sym whole.0) (whole.1 t text c.in-Ok.read.line to.0 to.1)))
     c.end_at.ensures.whole
 
@@ -83,11 +83,11 @@ returns-in-Ends-clause-judged g c =
     err_after c.end_at.result _ _
     (λ fault judged. λ t text begins.
     let to = led_end t text c.lines.trace c.next_line.new.self (stand g.A.Firing.cell g.F.Feeds.feeds c.lines.replay c.lines.feeds) (g.F.Feeds.feeds c.next_line.new.feeds)
-        (g.F.Feeds.feeds c.come.new.feeds) c.lines.replay.grow c.in-Ok.read.line c.in-Ok.read.same
-        (begins.grow_is ∙ sym c.lines.invariant.grow) begins.wired begins.lawful (c.lines.invariant.led t text begins)
-        (is_next c.lines.trace c.next_line.new.self (stand g.A.Firing.cell g.F.Feeds.feeds c.lines.replay c.lines.feeds) (g.F.Feeds.feeds c.next_line.new.feeds) c.lines.replay.links.items
-        c.lines.replay.grow c.in-Ok.read.line c.in-Ok.read.same c.lines.invariant.trace_grow c.lines.invariant.ready c.next_line.ensures.elsewhere c.in-Ok.ensures.read c.in-Ok.ensures.count)
-        c.in-Ends.ensures.ends c.in-Ends.ensures.is_end c.come.ensures.elsewhere in
+    (g.F.Feeds.feeds c.come.new.feeds) c.lines.replay.grow c.in-Ok.read.line c.in-Ok.read.same
+    (begins.grow_is ∙ sym c.lines.invariant.grow) begins.wired begins.lawful (c.lines.invariant.led t text begins)
+    (is_next c.lines.trace c.next_line.new.self (stand g.A.Firing.cell g.F.Feeds.feeds c.lines.replay c.lines.feeds) (g.F.Feeds.feeds c.next_line.new.feeds) c.lines.replay.links.items
+    c.lines.replay.grow c.in-Ok.read.line c.in-Ok.read.same c.lines.invariant.trace_grow c.lines.invariant.ready c.next_line.ensures.elsewhere c.in-Ok.ensures.read c.in-Ok.ensures.count)
+    c.in-Ends.ensures.ends c.in-Ends.ensures.is_end c.come.ensures.elsewhere in
     judged_or_not t text fault (judged t text c.in-Ok.read.line to.0 to.1))
     c.end_at.ensures.judged
 

@@ -21,14 +21,14 @@ read_trace-requires-clause-ready g c =
 pub returns-in-Err-clause-refused : goal.returns-in-Err-clause-refused
 returns-in-Err-clause-refused g c = λ t text inputs is.
     let start = begins g.A.Firing.cell c.args.cells.items c.args.wiring c.args.grow (map string_bytes c.args.names.now) (g.F.Feeds.feeds c.args.feeds.now) c.in-Ok-new.replay c.requires.can
-        (can_work (map g.A.Firing.cell c.args.cells.items) c.args.wiring c.args.grow (map string_bytes c.args.names.now) (g.F.Feeds.feeds c.args.feeds.now) c.ready_networks_can_work.ensures c.requires.can)
-        c.in-Ok-new.ensures t text inputs is c.in-Ok.trace c.first_line-first.result c.in-Ok.ensures.bytes c.in-Ok.ensures.passed c.in-Ok.ensures.count c.in-Ok.ensures.grow c.first_line-first.ensures in
+    (can_work (map g.A.Firing.cell c.args.cells.items) c.args.wiring c.args.grow (map string_bytes c.args.names.now) (g.F.Feeds.feeds c.args.feeds.now) c.ready_networks_can_work.ensures c.requires.can)
+    c.in-Ok-new.ensures t text inputs is c.in-Ok.trace c.first_line-first.result c.in-Ok.ensures.bytes c.in-Ok.ensures.passed c.in-Ok.ensures.count c.in-Ok.ensures.grow c.first_line-first.ensures in
     refused_is t text c.in-Err.fault c.no_trace_is_told_to_be_none.ensures start.wired start.lawful (c.in-Err.ensures.judged t text start)
 
 pub returns-clause-replayed : goal.returns-clause-replayed
 returns-clause-replayed g c = λ t text inputs is.
     let start = begins g.A.Firing.cell c.args.cells.items c.args.wiring c.args.grow (map string_bytes c.args.names.now) (g.F.Feeds.feeds c.args.feeds.now) c.in-Ok-new.replay c.requires.can
-        (can_work (map g.A.Firing.cell c.args.cells.items) c.args.wiring c.args.grow (map string_bytes c.args.names.now) (g.F.Feeds.feeds c.args.feeds.now) c.ready_networks_can_work.ensures c.requires.can)
-        c.in-Ok-new.ensures t text inputs is c.in-Ok.trace c.first_line-first.result c.in-Ok.ensures.bytes c.in-Ok.ensures.passed c.in-Ok.ensures.count c.in-Ok.ensures.grow c.first_line-first.ensures in
+    (can_work (map g.A.Firing.cell c.args.cells.items) c.args.wiring c.args.grow (map string_bytes c.args.names.now) (g.F.Feeds.feeds c.args.feeds.now) c.ready_networks_can_work.ensures c.requires.can)
+    c.in-Ok-new.ensures t text inputs is c.in-Ok.trace c.first_line-first.result c.in-Ok.ensures.bytes c.in-Ok.ensures.passed c.in-Ok.ensures.count c.in-Ok.ensures.grow c.first_line-first.ensures in
     let whole = c.in-Ok-read_trace.ensures.ended t text start in
     replayed_is t text c.in-Ok-read_trace.end whole.0 c.traces_are_runs.ensures.lines start.fits whole.1
