@@ -24,3 +24,4 @@ pub mod Led
 pub mod Shaped
 pub mod Opened
 pub mod Told
+pub mod Fresh

@@ -21,7 +21,8 @@ mod why;
 
 pub use bytes::{FIRST_INPUT, TRACE_FEED};
 pub use laws::{
-    no_trace_is_told_once, no_trace_is_told_to_be_none, traces_are_runs, what_fails_may_not_come,
+    new_cells_begin_at_the_start, no_trace_is_told_once, no_trace_is_told_to_be_none,
+    traces_are_runs, what_fails_may_not_come,
 };
 pub use replaying::{Replayed, replay};
 pub use scan::MAX_TRACE_BYTES;
