@@ -1,7 +1,8 @@
 -- Lines of a run that are read one after another, up to an end line.
 -- Trusted but for `BeginsAt` and what follows `IsJudgedOrNot`: part of what a promise means.
-use Rattle.std.specs.Prelude.{◌≡◌, ◌⊎◌, ℕ, suc, ◌+◌, true, false, List, [], ◌∷◌, ◌++◌, length}
+use Rattle.std.specs.Prelude.{◌≡◌, ◌⊎◌, ℕ, suc, ◌+◌, true, false, List, [], ◌∷◌, ◌++◌, length, map, String, string_bytes}
 use Rattle.std.specs.List.{concat}
+use Rattle.std.specs.declared.alloc.Global.{Global as Heap}
 use Rattle.rvc_io.specs.Feeds.{Inputs}
 use Rattle.trace_text.specs.declared.line.Line.{Line}
 use Rattle.trace_text.specs.Spelling.{Spells}
@@ -103,10 +104,10 @@ module _ {A X S : Type 0} (cell : A → Cell X) (feeds : S → Inputs) where
   JudgesEvents trace replay now fault =
       EventsJudged trace (stand cell feeds replay now) replay.grow fault
 
-  abbrev pub EndsTrace : Line → List (List ℕ) → Trace → Replay A → S → Line → Type 0
+  abbrev pub EndsTrace : Line → List (String Heap) → Trace → Replay A → S → Line → Type 0
   EndsTrace first names trace replay now end =
-      TraceEnds first names trace (stand cell feeds replay now) replay.grow end
+      TraceEnds first (map string_bytes names) trace (stand cell feeds replay now) replay.grow end
 
-  abbrev pub JudgesTrace : Line → List (List ℕ) → Trace → Replay A → S → ReplayFault → Type 0
+  abbrev pub JudgesTrace : Line → List (String Heap) → Trace → Replay A → S → ReplayFault → Type 0
   JudgesTrace first names trace replay now fault =
-      TraceJudged first names trace (stand cell feeds replay now) replay.grow fault
+      TraceJudged first (map string_bytes names) trace (stand cell feeds replay now) replay.grow fault

@@ -1,6 +1,6 @@
 //! The lines of a run, one after another up to the end line.
 
-ghost use Rattle.std.specs.Prelude.{◌≡◌, ◌≤◌, true, false, IfOk, IfErr, length, map, string_bytes};
+ghost use Rattle.std.specs.Prelude.{◌≡◌, ◌≤◌, true, false, IfOk, IfErr, length};
 ghost use Rattle.rvc_io.specs.Feeds.{ReadFails};
 ghost use Rattle.net_model.specs.Limits.{max_instances};
 ghost use Rattle.trace_replay.specs.Between.{IsReadyToGo};
@@ -91,10 +91,10 @@ pub(crate) fn read_trace<A: Firing, F: Feeds>(
     requires ready { IsReadyToGo A.cell F.feeds replay.old feeds.old }
     requires grow { trace.old.grow ≡ replay.old.grow }
     requires fresh { replay.old.rested ≡ false }
-    ensures ended { IfOk result (EndsTrace A.cell F.feeds first.now (map string_bytes names.now)
-        trace.old replay.old feeds.old) }
-    ensures judged { IfErr result (JudgesTrace A.cell F.feeds first.now (map string_bytes names.now)
-        trace.old replay.old feeds.old) }
+    ensures ended { IfOk result (EndsTrace A.cell F.feeds first.now names.now trace.old replay.old
+        feeds.old) }
+    ensures judged { IfErr result (JudgesTrace A.cell F.feeds first.now names.now trace.old replay.old
+        feeds.old) }
     ensures failed { OnReadFault result (ReadFails F.feeds feeds.old feeds.new) }
 {
     match read_head::<A, F>(trace, first, names, feeds) {
