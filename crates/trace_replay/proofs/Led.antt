@@ -1,11 +1,10 @@
 -- Where the lines of a run that were read have led.
-use Rattle.std.proofs.Common.{◌≡◌, ℕ, zero, suc, ◌+◌, ◌≤◌, ◌⊎◌, Bool, true, false, List, [], ◌∷◌, ◌++◌, length, refl, sym, ap, subst, ◌∙◌, inl, inr, ⊎_elim, arith}
+use Rattle.std.proofs.Common.{◌≡◌, ℕ, suc, ◌+◌, ◌⊎◌, Bool, true, false, List, [], ◌∷◌, ◌++◌, length, refl, sym, ap, subst, ◌∙◌, inl, inr, ⊎_elim, arith}
 use Rattle.std.specs.Prelude.{Option, None, Some, Err, slice_get, if◌then◌else◌}
 use Rattle.std.specs.List.{concat}
-use Rattle.std.proofs.Common.{append_assoc, length-append}
 use Rattle.rvc_io.specs.Feeds.{Inputs, PullsOnlyAt}
 use Rattle.trace_text.specs.declared.line.Line.{Line}
-use Rattle.trace_text.specs.declared.line.Line.TheVariants.{Header as FirstLine, Inst}
+use Rattle.trace_text.specs.declared.line.Line.TheVariants.{Inst}
 use Rattle.trace_text.specs.Spelling.{Spells}
 use Rattle.port_files.specs.Coming.{coming, coming_on}
 use Rattle.net_model.specs.declared.wiring.Link.{Link}
@@ -17,12 +16,10 @@ use Rattle.net_model.specs.Wired.{IsWired}
 use Rattle.net_model.proofs.Keeping.{Since}
 use Rattle.net_state.specs.Filling.{IsFed}
 use Rattle.trace_replay.specs.Between.{Between, CanGoOn, EndsBy, FailsBy, GoesBy, IsAt, IsLate, Steps, is_rest}
-use Rattle.trace_replay.specs.Coming.{Passes}
 use Rattle.trace_replay.specs.Events.{BeginsAt, EndInNoRest, IsJudgedOrNot, IsUnjudged}
-use Rattle.trace_replay.specs.Feeding.{AreFedBy, ComesBy, HaveSources, IsSourceOf, PullsInputs, count_inputs}
+use Rattle.trace_replay.specs.Feeding.{ComesBy, HaveSources, IsSourceOf, PullsInputs, count_inputs}
 use Rattle.trace_replay.specs.Head.{StandsAt}
-use Rattle.trace_replay.specs.Judging.{AtEnd, AtEvents, AtFirst, AtInstance, EventFails, IsNotRun, Lead, LeadsOn, MayCome, Reached, Trial, after_line, due, is_end, is_of_table}
-use Rattle.trace_replay.specs.Laws.{StartFits}
+use Rattle.trace_replay.specs.Judging.{AtEnd, AtEvents, AtFirst, AtInstance, IsNotRun, Lead, LeadsOn, MayCome, Reached, Trial, after_line, due, is_end, is_of_table}
 use Rattle.trace_replay.specs.Reading.{HasReached, IsJudged, IsRead, OnReadFault}
 use Rattle.trace_text.specs.Text.{line_feed}
 use Rattle.trace_replay.specs.Scanning.{Scans}
@@ -30,7 +27,6 @@ use Rattle.trace_replay.specs.declared.bytes.TheConstants.{TRACE_FEED}
 use Rattle.trace_replay.specs.declared.reading.Trace.{Trace}
 use Rattle.trace_replay.specs.declared.source.Source.{Source}
 use Rattle.trace_replay.specs.declared.why.Why.{Why}
-use Rattle.trace_replay.specs.declared.why.Why.TheVariants.{End as EndIs}
 use Rattle.trace_replay.specs.declared.why.ReplayFault.{ReplayFault}
 use Rattle.trace_replay.specs.declared.why.ReplayFault.TheVariants.{NotRun, ReadFault, Memory}
 use Rattle.trace_replay.proofs.Filled.{no_trace}

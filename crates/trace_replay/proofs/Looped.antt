@@ -1,6 +1,6 @@
 -- Lines of a run, read one after another.
-use Rattle.std.proofs.Common.{◌≡◌, ℕ, zero, suc, ◌+◌, ◌-◌, ◌<◌, ◌≤◌, ◌⊎◌, Bool, true, false, List, [], ◌∷◌, ◌++◌, length, refl, sym, ap, subst, ◌∙◌, inl, inr, ⊎_elim, arith}
-use Rattle.std.specs.Prelude.{Option, None, Some, slice_get, slice_set, take, min, ◌*◌, if◌then◌else◌}
+use Rattle.std.proofs.Common.{◌≡◌, ℕ, zero, suc, ◌<◌, ◌≤◌, Bool, true, false, List, [], ◌∷◌, refl, sym, ap, subst, ◌∙◌, ⊎_elim, arith}
+use Rattle.std.specs.Prelude.{Option, None, Some, slice_get, take, min, ◌*◌, if◌then◌else◌}
 use Rattle.rvc_io.specs.Feeds.{Inputs, PullsOnlyAt}
 use Rattle.trace_text.specs.declared.line.Line.{Line}
 use Rattle.trace_text.specs.declared.line.Line.TheVariants.{Header as FirstLine, Inst, Fire, Deliver, Grow, Quiet, Trap as TrapLine, Stall, Budget}
@@ -8,11 +8,10 @@ use Rattle.net_model.specs.declared.wiring.Link.{Link}
 use Rattle.net_model.specs.Network.{Network, is_input}
 use Rattle.net_model.specs.State.{Flow, State, capacity_of}
 use Rattle.net_model.specs.Laws.{AreLawful, HasFlows}
-use Rattle.net_model.specs.Trace.{FitFlows, after_delivery, goes, grown, held_since, opened_by}
+use Rattle.net_model.specs.Trace.{FitFlows, after_delivery, held_since, opened_by}
 use Rattle.net_model.specs.Wired.{IsWired}
 use Rattle.net_model.proofs.Keeping.{Since, SinceOpened, deliver_since, fire_since, fits_now}
 use Rattle.net_model.proofs.KeepingRuns.{set_is}
-use Rattle.net_state.specs.Standing.{IsSince}
 use Rattle.trace_replay.specs.Between.{Between, CanGoOn, IsAt, Steps}
 use Rattle.port_files.specs.Coming.{EndIsTrue}
 use Rattle.net_state.specs.Working.{IsAtRest}
@@ -22,11 +21,8 @@ use Rattle.trace_replay.specs.Trying.{AllWork}
 use Rattle.trace_replay.specs.declared.bytes.TheConstants.{TRACE_FEED}
 use Rattle.trace_replay.specs.declared.source.Source.{Source}
 use Rattle.trace_replay.proofs.Filled.{no_trace}
-use Rattle.trace_replay.specs.Events.{BeginsAt}
-use Rattle.trace_replay.specs.Head.{StandsAt}
 use Rattle.trace_replay.specs.Judging.{AtEvents, MayCome, Trial}
 use Rattle.trace_replay.specs.Laws.{StartFits}
-use Rattle.trace_replay.specs.declared.reading.Trace.{Trace}
 use Rattle.trace_replay.proofs.Onward.{deliver_comes, fire_comes, trap_comes}
 use Rattle.trace_replay.proofs.Stepped.{Grown, grown_is}
 

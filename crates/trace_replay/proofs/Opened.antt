@@ -1,36 +1,34 @@
 -- A network at the start of its trace: it stands where the run begins, and its sources read its feeds.
-use Rattle.std.proofs.Common.{◌≡◌, ℕ, zero, suc, ◌+◌, ◌<◌, ◌≤◌, Bool, true, false, List, [], ◌∷◌, ◌++◌, ℤ, length, map, take, drop, refl, sym, ap, subst, ◌∙◌, arith, append_assoc}
+use Rattle.std.proofs.Common.{◌≡◌, ℕ, zero, suc, ◌+◌, ◌<◌, ◌≤◌, Bool, true, false, List, [], ◌∷◌, ◌++◌, length, map, take, refl, sym, ap, subst, ◌∙◌, arith, append_assoc}
 use Rattle.std.proofs.lemmas.List.{length-map}
 use Rattle.std.specs.Prelude.{Option, None, Some, slice_get, slice_index_or, if◌then◌else◌}
 use Rattle.std.proofs.Math.Nat.{zero-div}
 use Rattle.std.proofs.Math.Seq.{drop-append_seam}
 use Rattle.rvc_base.specs.declared.scalar.Scalar.{Scalar}
-use Rattle.rvc_base.specs.Storing.{IsSize, conv}
+use Rattle.rvc_base.specs.Storing.{conv}
 use Rattle.rvc_io.specs.Feeds.{Inputs}
-use Rattle.port_files.specs.Coming.{EndIsTrue, NothingLeft, coming, coming_on}
+use Rattle.port_files.specs.Coming.{coming, coming_on}
 use Rattle.trace_text.specs.declared.line.Line.{Line}
 use Rattle.trace_text.specs.declared.line.Line.TheVariants.{Header}
 use Rattle.net_model.specs.declared.wiring.End.{End}
 use Rattle.net_model.specs.declared.wiring.End.TheVariants.{Leaf as AtLeaf, Net as AtNet}
 use Rattle.net_model.specs.declared.wiring.Link.{Link}
-use Rattle.net_model.specs.declared.wiring.Port.{Port}
 use Rattle.net_model.specs.declared.wiring.Wiring.{Wiring}
 use Rattle.net_model.specs.Limits.{max_instances, max_links}
-use Rattle.net_model.specs.Network.{Leaf, NetPort, Network, is_input, is_output, is_outside, kind_at}
+use Rattle.net_model.specs.Network.{Leaf, NetPort, Network, is_input, is_outside, kind_at}
 use Rattle.net_model.specs.PortFile.{token_bytes, token_of, pieces, tokens}
 use Rattle.net_model.specs.Cell.{Cell}
-use Rattle.net_model.specs.State.{Flow, State, fed_by, untaken}
+use Rattle.net_model.specs.State.{State, fed_by, untaken}
 use Rattle.net_model.specs.Ready.{HasQueues, IsNetworkOf, IsReady, given_flow, given_state, port_of, waiting_at}
-use Rattle.net_model.specs.Wired.{ComesFromPort, IsWired}
+use Rattle.net_model.specs.Wired.{ComesFromPort}
 use Rattle.net_state.specs.Beginning.{HaveSizes, NoneUnlinked, ReadyCanWork}
-use Rattle.net_state.specs.Filling.{AreToCome, IsFed}
+use Rattle.net_state.specs.Filling.{AreToCome}
 use Rattle.net_state.specs.Held.{AreCounted, CanWork, IsJoinedTo, capacity_of, seen}
 use Rattle.net_state.specs.Standing.{IsNetOf, StandsIn, unarrived}
-use Rattle.trace_replay.specs.Between.{Between, CanGoOn, IsAt, IsReadyToGo, stand}
+use Rattle.trace_replay.specs.Between.{CanGoOn, IsAt}
 use Rattle.trace_replay.specs.Ending.{CanGrow, HoldEnough}
 use Rattle.trace_replay.specs.Events.{BeginsFirst}
 use Rattle.trace_replay.specs.Feeding.{AreFedBy, ComesBy, HaveSources, count_inputs, feed_of}
-use Rattle.trace_replay.specs.Head.{IsHeadOf, name_of}
 use Rattle.trace_replay.specs.Judging.{AtFirst, Trial}
 use Rattle.trace_replay.specs.Opening.{IsOpenedOn}
 use Rattle.trace_replay.specs.Replaying.{AllBegin, CanReplay, HasInputs, IsAmongInputs, IsEndTold, IsInputTold, IsReadyAs, IsReplayOf, all_sources, has_feed, new_source, next_feed, source_at, sources_of}
@@ -39,7 +37,7 @@ use Rattle.trace_replay.specs.declared.bytes.TheConstants.{TRACE_FEED}
 use Rattle.trace_replay.specs.declared.reading.Trace.{Trace}
 use Rattle.trace_replay.specs.declared.source.Source.{Source}
 use Rattle.trace_replay.proofs.Reached.{reached_start}
-use Rattle.trace_replay.proofs.Shaped.{SameShape, ready_so, shapes, wired_so}
+use Rattle.trace_replay.proofs.Shaped.{ready_so, shapes}
 use Rattle.trace_replay.proofs.Starting.{start_fits, start_opened}
 
 some_is : {A : Type 0} (x y : A) → Some x ≡ Some y → x ≡ y

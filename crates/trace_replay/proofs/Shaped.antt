@@ -9,7 +9,7 @@ use Rattle.net_model.specs.declared.wiring.Wiring.{Wiring}
 use Rattle.net_model.specs.Limits.{max_instances, max_links, max_rate}
 use Rattle.net_model.specs.Network.{Leaf, Network, is_leaf_port, kind_at}
 use Rattle.net_model.specs.Cell.{Cell, number_on}
-use Rattle.net_model.specs.Ready.{HasQueues, IsNetworkOf, IsReady}
+use Rattle.net_model.specs.Ready.{IsNetworkOf, IsReady}
 use Rattle.net_model.specs.Wired.{ComesFromPort, CoversGives, CoversNeeds, HasInput, HasKindOf, HasOutput, HoldsGives, HoldsNeeds, IsJoined, IsWired, LeadsToPort}
 
 abbrev behaviour_of : {X : Type 0} → Option (Leaf X) → Option (Behaviour X)

@@ -100,13 +100,13 @@ FillsLink l old new (Some source) (Some after) feeds feeds_new = (after.feed ≡
 -- The same of what the code holds.
 
 module _ {C X S : Type 0} (cell : C → Cell X) (feeds : S → Inputs) where
-  abbrev pub FillsLinkOn : ℕ → Held C → Held C → Option Source → Option Source → S → S → Type 0
-  FillsLinkOn l old new source source_new before after =
+  abbrev pub FeedsLink : ℕ → Held C → Held C → Option Source → Option Source → S → S → Type 0
+  FeedsLink l old new source source_new before after =
       FillsLink l (seen cell old) (seen cell new) source source_new (feeds before) (feeds after)
 
-  abbrev pub FillsAllOn : Held C → Held C → List (Option Source) → List (Option Source) → S → S
+  abbrev pub FillsOn : Held C → Held C → List (Option Source) → List (Option Source) → S → S
       → Type 0
-  FillsAllOn old new sources sources_new before after =
+  FillsOn old new sources sources_new before after =
       FillsAll (seen cell old) (seen cell new) sources sources_new (feeds before) (feeds after)
 
   abbrev pub DeliversOn : Held C → Held C → List (Option Source) → List (Option Source) → S → S

@@ -5,7 +5,6 @@ use Rattle.std.specs.declared.alloc.Global.{Global as Heap}
 use Rattle.rvc_base.specs.declared.scalar.Scalar.{Scalar}
 use Rattle.rvc_base.specs.Storing.{IsSize}
 use Rattle.rvc_io.specs.Feeds.{Inputs}
-use Rattle.port_files.specs.Coming.{Reading}
 use Rattle.trace_text.specs.declared.line.Line.{Line}
 use Rattle.net_model.specs.declared.wiring.End.{End}
 use Rattle.net_model.specs.declared.wiring.End.TheVariants.{Leaf as AtLeaf, Net as AtNet}

@@ -7,7 +7,7 @@ ghost use Rattle.net_state.specs.Held.{seen};
 ghost use Rattle.net_state.specs.Filling.{IsInputLink};
 ghost use Rattle.net_state.specs.Moving.{SameActors, SameMarks};
 ghost use Rattle.net_state.specs.Working.{IsAtRest};
-ghost use Rattle.trace_replay.specs.Feeding.{DeliversOn, FillsAllOn, FillsLinkOn, HaveSources, IsReadable, PullsFor, PullsInputs};
+ghost use Rattle.trace_replay.specs.Feeding.{DeliversOn, FillsOn, FeedsLink, HaveSources, IsReadable, PullsFor, PullsInputs};
 
 use crate::source::Source;
 use net_model::Firing;
@@ -28,7 +28,7 @@ fn fill_link<A: Firing, F: Feeds>(
 ) -> Result<(), u32>
     requires input { IsSome source.old → IsInputLink (slice_get state.old.links l) }
     requires readable { IsReadable source.old (F.feeds feeds.old) }
-    ensures fills { OnOk result (FillsLinkOn A.cell F.feeds l state.old state.new source.old
+    ensures fills { OnOk result (FeedsLink A.cell F.feeds l state.old state.new source.old
         source.new feeds.old feeds.new) }
     ensures still_readable { IsReadable source.new (F.feeds feeds.new) }
     ensures rests { IsAtRest (seen A.cell state.old) → IsAtRest (seen A.cell state.new) }
@@ -61,7 +61,7 @@ fn fill_all<A: Firing, F: Feeds>(
 ) -> Result<(), u32>
     requires sources { HaveSources state.old.links sources.old (F.feeds feeds.old) }
     requires few { length sources.old ≤ max_links }
-    ensures fills { OnOk result (FillsAllOn A.cell F.feeds state.old state.new sources.old
+    ensures fills { OnOk result (FillsOn A.cell F.feeds state.old state.new sources.old
         sources.new feeds.old feeds.new) }
     ensures still_sources { OnOk result (HaveSources state.old.links sources.new
         (F.feeds feeds.new)) }
@@ -97,7 +97,7 @@ pub(crate) fn deliver_all<A: Firing, F: Feeds>(
 ) -> Result<(), u32>
     requires sources { HaveSources state.old.links sources.old (F.feeds feeds.old) }
     requires few { length sources.old ≤ max_links }
-    ensures delivers { OnOk result (DeliversOn A.cell F.feeds state.old state.new sources.old
+    ensures made { OnOk result (DeliversOn A.cell F.feeds state.old state.new sources.old
         sources.new feeds.old feeds.new) }
     ensures still_sources { OnOk result (HaveSources state.old.links sources.new
         (F.feeds feeds.new)) }

@@ -1,4 +1,4 @@
-use Rattle.std.proofs.Common.{◌∙◌, ◌≤◌, ◌⊎◌, refl, sym, subst, arith}
+use Rattle.std.proofs.Common.{◌∙◌, ◌⊎◌, refl, sym, subst, arith}
 use Rattle.rvc_io.specs.Feeds.{ReadFails}
 use Rattle.port_files.specs.Coming.{coming_on}
 use Rattle.trace_text.specs.Text.{line_feed}
