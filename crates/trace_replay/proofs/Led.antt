@@ -235,6 +235,7 @@ unjudged t text old new now feeds grow line same why grow_is led read is_late =
       is_text = led.reached.is_text ∙ ap (λ a. concat led.reached.texts ++ a) others.2;
       lead = led.reached.lead;
       late = led.late is_late.late;
+      settled = is_late.settled t.net led.s led.at.stands.stands.now;
       spells = read.read.scans.is_scanned.0;
       growth = is_late.growth;
       of_table = of_table_here t.grow grow old.grow line grow_is read.trace_grow read.read.of_table;

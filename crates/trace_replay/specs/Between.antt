@@ -14,6 +14,7 @@ use Rattle.net_model.specs.Trace.{LineIsTrue, goes, opened_by}
 use Rattle.net_model.specs.Wired.{IsWired}
 use Rattle.net_model.specs.Cell.{Cell}
 use Rattle.net_state.specs.Held.{Held, seen}
+use Rattle.net_state.specs.Surveyed.{AreSettled}
 use Rattle.net_state.specs.Working.{AreFed, IsAtRest}
 use Rattle.trace_replay.specs.Ending.{CanGrow, FitInputs, HoldEnough}
 use Rattle.trace_replay.specs.Feeding.{HaveSources, StandsFed}
@@ -123,10 +124,12 @@ is_still_end Deliver = false
 is_still_end (TrapLine i a c) = false
 is_still_end (Grow l capacity) = false
 
--- the line says that a link grows, and doesn't stand right behind a delivery or another growth
+-- the line says that a link grows, and doesn't stand right behind a delivery or another growth, where all that was
+-- sent inside has arrived
 pub record IsLate {X : Type 0} (line : Line) (why : Why) (old : Between X) : Type 0 where
   pub growth : is_growth line ≡ true
   pub late : old.rested ≡ false
+  pub settled : AreSettled old.held
   pub why_is : why ≡ End
 
 -- the line may not come for this cause, or is a growth that comes too late to be judged

@@ -7,6 +7,7 @@ use Rattle.rvc_io.specs.Feeds.{Inputs}
 use Rattle.trace_text.specs.declared.line.Line.{Line}
 use Rattle.trace_text.specs.Spelling.{Spells}
 use Rattle.net_model.specs.State.{State}
+use Rattle.net_model.specs.Ends.{IsSettled}
 use Rattle.net_model.specs.Laws.{AreLawful}
 use Rattle.net_model.specs.Wired.{IsWired}
 use Rattle.net_model.specs.Cell.{Cell}
@@ -41,7 +42,9 @@ pub record EndInNoRest (texts : List (List ℕ)) : Type 0 where
   pub spells : Spells line text
   pub no_rest : is_rest line ≡ false
 
--- Line n says that a link grows. It isn't judged, since the line before it is neither a delivery nor a growth.
+-- Line n says that a link grows. It isn't judged, since the line before it is neither a delivery nor a growth, and all
+-- that was sent inside has arrived: there a link may grow, if the network is stalled once its feeds came as far as they
+-- may.
 pub record IsUnjudged {X : Type 0} (t : Trial X) (text : List ℕ) (n : ℕ) (why : Why) : Type 0 where
   pub texts : List (List ℕ)
   pub front : List ℕ
@@ -52,6 +55,7 @@ pub record IsUnjudged {X : Type 0} (t : Trial X) (text : List ℕ) (n : ℕ) (wh
   pub is_text : text ≡ concat texts ++ (front ++ more)
   pub lead : Lead t AtFirst texts (AtEvents opened s)
   pub late : EndInNoRest texts
+  pub settled : IsSettled t.net s
   pub spells : Spells line front
   pub growth : is_growth line ≡ true
   pub of_table : is_of_table t.grow line ≡ true

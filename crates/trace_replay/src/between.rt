@@ -4,7 +4,7 @@ ghost use Rattle.std.specs.Prelude.{◌≡◌, ◌≤◌, true, false, IfOk, len
 ghost use Rattle.rvc_io.specs.Feeds.{ReadFails};
 ghost use Rattle.net_model.specs.Limits.{max_links};
 ghost use Rattle.trace_text.specs.declared.line.Line.TheVariants as line;
-ghost use Rattle.trace_replay.specs.Between.{IfFails, IsReadyToGo, LineEnds, LineFails, LineGoes, OnEnds, OnFeedFails, OnGoes, is_rest, is_still_end};
+ghost use Rattle.trace_replay.specs.Between.{FailsBy, IfFails, IsReadyToGo, LineEnds, LineFails, LineGoes, OnEnds, OnFeedFails, OnGoes, is_rest, is_still_end, stand};
 ghost use Rattle.trace_replay.specs.declared.came.Came.TheVariants as came;
 ghost use Rattle.trace_replay.specs.declared.why.Why.TheVariants as why;
 ghost use Rattle.trace_replay.specs.Feeding.{PullsInputs};
@@ -15,7 +15,7 @@ ghost use Rattle.trace_replay.specs.Judging.{is_end};
 
 use crate::came::Came;
 use crate::delivering::deliver_all;
-use crate::ending::ends_so;
+use crate::ending::{ends_so, is_settled};
 use crate::growing::grow_so;
 use crate::source::Source;
 use crate::sources::open_sources;
@@ -168,12 +168,26 @@ impl<A: Firing> Replay<A> {
         ensures links { self.new.links ≡ self.old.links }
     {
         if !self.rested {
-            return Came::Fails(Why::End);
+            return Came::Fails(self.judge_late(link, capacity, feeds));
         }
         if !grow_so(&mut self.state, &self.links, self.grow, link, capacity) {
             return Came::Fails(Why::End);
         }
         Came::Goes
+    }
+
+    /// Why a growth fails that stands behind neither a delivery nor another growth. If something was sent inside that
+    /// hasn't arrived, no link grows; else the growth isn't judged.
+    fn judge_late<F: Feeds>(&self, link: u32, capacity: u32, feeds: &F) -> Why
+        requires ready { IsReadyToGo A.cell F.feeds self.now feeds.now }
+        requires late { self.now.rested ≡ false }
+        ensures { FailsBy self.now.grow (line.Grow link capacity)
+            (stand A.cell F.feeds self.now feeds.now) result }
+    {
+        if !is_settled(&self.state, &self.links) {
+            return Why::End;
+        }
+        Why::End
     }
 
     /// An end line but that of a trap.
