@@ -1,15 +1,21 @@
 -- What is told of a whole trace.
 use Rattle.std.proofs.Common.{◌≡◌, ℕ, ◌+◌, List, length, sym, ap, subst, ◌∙◌, inl, inr, ⊎_elim, arith}
 use Rattle.std.proofs.lemmas.List.{length-map}
-use Rattle.std.specs.Prelude.{Result, Ok, Err, IfOk}
+use Rattle.std.specs.Prelude.{Result, Ok, Err, IfOk, drop, flat_map, ◌++◌}
 use Rattle.std.specs.List.{concat}
 use Rattle.rvc_io.specs.Feeds.{Inputs, PullsOnlyAt}
 use Rattle.trace_text.specs.declared.line.Line.{Line}
 use Rattle.net_model.specs.State.{State}
-use Rattle.net_model.specs.Laws.{AreLawful}
+use Rattle.net_model.specs.Laws.{AreLawful, firings_shown}
 use Rattle.net_model.specs.Wired.{IsWired}
 use Rattle.trace_replay.specs.Between.{Between}
-use Rattle.trace_replay.specs.Events.{BeginsAt, BeginsFirst, IsJudgedOrNot}
+use Rattle.trace_text.specs.Table.{TextTellsLines}
+use Rattle.trace_text.specs.Text.{line_text}
+use Rattle.std.proofs.Math.Seq.{drop-append_seam}
+use Rattle.net_model.specs.Counted.{deliveries_in}
+use Rattle.net_model.specs.Trace.{head_text}
+use Rattle.trace_replay.specs.declared.replayed.Replayed.{Replayed}
+use Rattle.trace_replay.specs.Events.{BeginsAt, BeginsFirst, IsEnded, IsJudgedOrNot}
 use Rattle.trace_replay.specs.Feeding.{HaveSources}
 use Rattle.trace_replay.specs.Head.{PassesHead, name_of}
 use Rattle.trace_replay.specs.Judging.{IsTrace, Trial}
@@ -44,20 +50,28 @@ okay_after (Ok x) P Q f h = f x h
 okay_after (Err fault) P Q f h = tt
 
 -- a trace that was read whole is replayed
-pub replayed_is : {X : Type 0} (t : Trial X) (text : List ℕ) (end : Line) (last : State X) → LinesMakeTraces X → StartFits t → IsWhole t text end last → IsReplayed t text end
-replayed_is t text end last law fits whole =
-    let made : (lines : List Line) × IsTrace t (concat whole.texts) lines end last = law t whole.texts end last fits whole.lead in
+pub replayed_is : {X : Type 0} (t : Trial X) (text : List ℕ) (replayed : Replayed) → LinesMakeTraces X → TextTellsLines → StartFits t → IsEnded t text replayed → IsReplayed t text replayed
+replayed_is t text replayed law tells fits ended =
+    let made : (lines : List Line) × IsTrace t (concat ended.whole.texts) lines replayed.end ended.last = law t ended.whole.texts replayed.end ended.last fits ended.whole.lead in
+    let both : head_text t.net t.grow ++ flat_map line_text ended.text_of.lines ≡ head_text t.net t.grow ++ flat_map line_text made.0 =
+    sym ended.text_of.text_is ∙ ended.whole.is_text ∙ made.1.is_text in
+    let behind : flat_map line_text ended.text_of.lines ≡ flat_map line_text made.0 =
+    sym (drop-append_seam (head_text t.net t.grow) (flat_map line_text ended.text_of.lines)) ∙ ap (drop (length (head_text t.net t.grow))) both
+    ∙ drop-append_seam (head_text t.net t.grow) (flat_map line_text made.0) in
+    let same : ended.text_of.lines ≡ made.0 = tells ended.text_of.lines made.0 ended.text_of.written made.1.of_table.events behind in
     record {
       lines = made.0;
-      last = last;
-      is_trace = subst (λ all. IsTrace t all made.0 end last) (sym whole.is_text) made.1;
-      within = whole.within;
+      last = ended.last;
+      is_trace = subst (λ all. IsTrace t all made.0 replayed.end ended.last) (sym ended.whole.is_text) made.1;
+      within = ended.whole.within;
+      fired = ended.text_of.fired ∙ ap (λ ls. length (firings_shown ls)) same;
+      delivered = ended.text_of.delivered ∙ ap deliveries_in same;
     }
 
 -- what is judged so is no trace
 pub refused_is : {X : Type 0} (t : Trial X) (text : List ℕ) (fault : ReplayFault) → NoTraceIsNotRun X → IsWired t.net → AreLawful t.net → IsJudgedOrNot t text fault → IsRefused t text fault
 refused_is t text (NotRun line why) law wired lawful judged = ⊎_elim
-    (λ not_run. inl (not_run, λ end replayed. law t text replayed.lines end replayed.last line why wired lawful replayed.within replayed.is_trace not_run))
+    (λ not_run. inl (not_run, λ lines end last within trace. law t text lines end last line why wired lawful within trace not_run))
     (λ unjudged. inr unjudged) judged
 refused_is t text (ReadFault feed) law wired lawful judged = tt
 refused_is t text Memory law wired lawful judged = tt

@@ -2,6 +2,7 @@
 -- Not trusted: no promise is read with it.
 use Rattle.std.specs.Prelude.{◌≡◌, ℕ, ◌+◌, List, ◌++◌, map, codes, String, string_bytes}
 use Rattle.std.specs.declared.alloc.Global.{Global as Heap}
+use Rattle.std.specs.List.{concat}
 use Rattle.rvc_io.specs.Feeds.{Inputs}
 use Rattle.port_files.specs.Coming.{coming_on}
 use Rattle.net_model.specs.Network.{Leaf}
@@ -81,7 +82,8 @@ JudgesHead X first names old before fault = (t : Trial X) (text : List ℕ)
 
 abbrev pub PassesEnd : (X : Type 0) → Trace → Inputs → Type 0
 PassesEnd X old before = (t : Trial X) (text : List ℕ) (end : Line) (last : State X)
-    → StandsAt t text old before (AtEnd end last) → IsWhole t text end last
+    → (has : StandsAt t text old before (AtEnd end last)) → IsWhole t text end last
+    × (text ≡ concat has.texts)
 
 abbrev pub JudgesEnd : (X : Type 0) → Trace → Inputs → ReplayFault → Type 0
 JudgesEnd X old before fault = (t : Trial X) (text : List ℕ) (end : Line) (last : State X)

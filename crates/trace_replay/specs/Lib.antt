@@ -11,3 +11,4 @@ pub mod Between
 pub mod Events
 pub mod Replaying
 pub mod Opening
+pub mod Tallying

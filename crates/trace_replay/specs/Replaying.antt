@@ -13,6 +13,8 @@ use Rattle.net_model.specs.declared.wiring.Port.{Port}
 use Rattle.net_model.specs.declared.wiring.Wiring.{Wiring}
 use Rattle.net_model.specs.Network.{NetPort, Network, kind_at, is_input}
 use Rattle.net_model.specs.State.{State}
+use Rattle.net_model.specs.Counted.{deliveries_in}
+use Rattle.net_model.specs.Laws.{firings_shown}
 use Rattle.net_model.specs.Cell.{Cell}
 use Rattle.net_model.specs.Ready.{IsNetworkOf, IsReady, given_state, port_of}
 use Rattle.net_state.specs.Beginning.{HaveSizes, NoneUnlinked}
@@ -21,6 +23,7 @@ use Rattle.trace_replay.specs.Feeding.{feed_of}
 use Rattle.trace_replay.specs.Head.{name_of}
 use Rattle.trace_replay.specs.Judging.{IsNotRun, IsTrace, Trial, max_trace_bytes}
 use Rattle.trace_replay.specs.declared.bytes.TheConstants.{TRACE_FEED}
+use Rattle.trace_replay.specs.declared.replayed.Replayed.{Replayed}
 use Rattle.trace_replay.specs.declared.source.Source.{Source}
 use Rattle.trace_replay.specs.declared.why.ReplayFault.{ReplayFault}
 use Rattle.trace_replay.specs.declared.why.ReplayFault.TheVariants.{NotRun, ReadFault, Memory}
@@ -75,16 +78,20 @@ pub record IsReplayOf {X : Type 0} (t : Trial X) (text : List ℕ) (inputs : Lis
   pub told : (l : ℕ) (link : Link) → slice_get wiring.links.items l ≡ Some link
       → IsEndTold wiring.open_ins.items inputs (feed_of wiring.links.items l) feeds link.from
 
--- The text is the trace of a run with this end line, and not longer than a trace may be.
-pub record IsReplayed {X : Type 0} (t : Trial X) (text : List ℕ) (end : Line) : Type 0 where
+-- The text is the trace of a run with this end line and so many firings and deliveries, and not longer than a trace
+-- may be.
+pub record IsReplayed {X : Type 0} (t : Trial X) (text : List ℕ) (replayed : Replayed) : Type 0 where
   pub lines : List Line
   pub last : State X
-  pub is_trace : IsTrace t text lines end last
+  pub is_trace : IsTrace t text lines replayed.end last
   pub within : length text ≤ max_trace_bytes
+  pub fired : replayed.firings ≡ length (firings_shown lines)
+  pub delivered : replayed.rounds ≡ deliveries_in lines
 
--- .. and it is no such trace
+-- .. and it is no trace that is so long at most
 abbrev pub IsNone : {X : Type 0} → Trial X → List ℕ → Type 0
-IsNone t text = (end : Line) → IsReplayed t text end → ⊥
+IsNone {X} t text = (lines : List Line) (end : Line) (last : State X) → length text ≤ max_trace_bytes
+    → IsTrace t text lines end last → ⊥
 
 -- No run has line n with the lines before it, and so the text is no trace; or the line is a growth that isn't judged.
 abbrev pub IsRefused : {X : Type 0} → Trial X → List ℕ → ReplayFault → Type 0
@@ -93,10 +100,10 @@ IsRefused t text (NotRun line why) =
 IsRefused t text (ReadFault feed) = Unit {0}
 IsRefused t text Memory = Unit {0}
 
-abbrev pub Replays : {X : Type 0} → List (Cell X) → Wiring → ℕ → List (List ℕ) → Inputs → Line
+abbrev pub Replays : {X : Type 0} → List (Cell X) → Wiring → ℕ → List (List ℕ) → Inputs → Replayed
     → Type 0
-Replays {X} cells wiring grow names feeds end = (t : Trial X) (text : List ℕ) (inputs : List (List ℕ))
-    → IsReplayOf t text inputs cells wiring grow names feeds → IsReplayed t text end
+Replays {X} cells wiring grow names feeds replayed = (t : Trial X) (text : List ℕ) (inputs : List (List ℕ))
+    → IsReplayOf t text inputs cells wiring grow names feeds → IsReplayed t text replayed
 
 abbrev pub Refuses : {X : Type 0} → List (Cell X) → Wiring → ℕ → List (List ℕ) → Inputs → ReplayFault
     → Type 0
@@ -107,9 +114,9 @@ Refuses {X} cells wiring grow names feeds fault = (t : Trial X) (text : List ℕ
 -- The same of what the code is given.
 
 module _ {C X S : Type 0} (cell : C → Cell X) (feeds : S → Inputs) where
-  abbrev pub ReplaysOn : List C → Wiring → ℕ → List (String Heap) → S → Line → Type 0
-  ReplaysOn cells wiring grow names now end =
-      Replays (map cell cells) wiring grow (map string_bytes names) (feeds now) end
+  abbrev pub ReplaysOn : List C → Wiring → ℕ → List (String Heap) → S → Replayed → Type 0
+  ReplaysOn cells wiring grow names now replayed =
+      Replays (map cell cells) wiring grow (map string_bytes names) (feeds now) replayed
 
   abbrev pub RefusesOn : List C → Wiring → ℕ → List (String Heap) → S → ReplayFault → Type 0
   RefusesOn cells wiring grow names now fault =

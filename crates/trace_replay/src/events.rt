@@ -6,6 +6,7 @@ ghost use Rattle.net_model.specs.Limits.{max_instances};
 ghost use Rattle.trace_replay.specs.Between.{IsReadyToGo};
 ghost use Rattle.trace_replay.specs.Events.{EndsEvents, EndsTrace, JudgesEvents, JudgesTrace};
 ghost use Rattle.trace_replay.specs.Head.{JudgesEnd, PassesEnd};
+ghost use Rattle.trace_replay.specs.Tallying.{replayed_of};
 ghost use Rattle.trace_replay.specs.Reading.{IsCounted, OnReadFault};
 ghost use Rattle.trace_replay.specs.declared.bytes.TheConstants.{TRACE_FEED};
 
@@ -13,6 +14,8 @@ use crate::between::Replay;
 use crate::came::Came;
 use crate::head::read_head;
 use crate::reading::{Trace, finish, not_run};
+use crate::replayed::Replayed;
+use crate::tally::{Tally, counted};
 use crate::why::ReplayFault;
 use net_model::Firing;
 use rvc_io::Feeds;
@@ -27,7 +30,7 @@ pub(crate) fn read_events<A: Firing, F: Feeds>(
     trace: &mut Trace,
     replay: &mut Replay<A>,
     feeds: &mut F,
-) -> Result<Line, ReplayFault>
+) -> Result<Replayed, ReplayFault>
     requires open { (F.feeds feeds.old).is_open TRACE_FEED ≡ true }
     requires counted { IsCounted trace.old.count trace.old.lines.passed }
     requires count { replay.old.count ≡ length replay.old.state.cells }
@@ -38,14 +41,19 @@ pub(crate) fn read_events<A: Firing, F: Feeds>(
     ensures judged { IfErr result (JudgesEvents A.cell F.feeds trace.old replay.old feeds.old) }
     ensures failed { OnReadFault result (ReadFails F.feeds feeds.old feeds.new) }
 {
+    let mut tally = Tally {
+        firings: 0,
+        rounds: 0,
+    };
     'lines: loop {
         let read = match trace.next_line(&[], &[], feeds) {
             Ok(read) => read,
             Err(fault) => return Err(fault),
         };
+        tally = counted(tally, &read.line);
         match replay.come(&read.line, feeds) {
             Came::Goes => {}
-            Came::Ends => return end_at::<A, F>(trace, read.line, feeds),
+            Came::Ends => return end_at::<A, F>(trace, read.line, tally, feeds),
             Came::Fails(why) => return Err(not_run(trace.number(), why)),
             Came::FeedFails(feed) => return Err(ReplayFault::ReadFault { feed }),
         }
@@ -56,17 +64,22 @@ pub(crate) fn read_events<A: Firing, F: Feeds>(
 fn end_at<A: Firing, F: Feeds>(
     trace: &mut Trace,
     end: Line,
+    tally: Tally,
     feeds: &mut F,
-) -> Result<Line, ReplayFault>
+) -> Result<Replayed, ReplayFault>
     requires open { (F.feeds feeds.old).is_open TRACE_FEED ≡ true }
     requires counted { IsCounted trace.old.count trace.old.lines.passed }
-    ensures whole { IfOk result (λ line. (line ≡ end)
+    ensures whole { IfOk result (λ replayed. (replayed ≡ replayed_of end tally)
         × PassesEnd A.State trace.old (F.feeds feeds.old)) }
     ensures judged { IfErr result (JudgesEnd A.State trace.old (F.feeds feeds.old)) }
     ensures failed { OnReadFault result (ReadFails F.feeds feeds.old feeds.new) }
 {
     match finish::<A, F>(trace, feeds) {
-        Ok(()) => Ok(end),
+        Ok(()) => Ok(Replayed {
+            end,
+            firings: tally.firings,
+            rounds: tally.rounds,
+        }),
         Err(fault) => Err(fault),
     }
 }
@@ -83,7 +96,7 @@ pub(crate) fn read_trace<A: Firing, F: Feeds>(
     first: &Line,
     names: &[String],
     feeds: &mut F,
-) -> Result<Line, ReplayFault>
+) -> Result<Replayed, ReplayFault>
     requires open { (F.feeds feeds.old).is_open TRACE_FEED ≡ true }
     requires counted { IsCounted trace.old.count trace.old.lines.passed }
     requires few { length names.now ≤ max_instances }

@@ -14,11 +14,13 @@ mod growing;
 mod head;
 mod laws;
 mod reading;
+mod replayed;
 mod replaying;
 mod scan;
 mod source;
 mod sources;
 mod states;
+mod tally;
 mod trying;
 mod why;
 
@@ -27,6 +29,7 @@ pub use laws::{
     new_cells_begin_at_the_start, no_trace_is_told_once, no_trace_is_told_to_be_none,
     traces_are_runs, what_fails_may_not_come,
 };
-pub use replaying::{Replayed, replay};
+pub use replayed::Replayed;
+pub use replaying::replay;
 pub use scan::MAX_TRACE_BYTES;
 pub use why::{ReplayFault, Why};

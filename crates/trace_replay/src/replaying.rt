@@ -9,20 +9,14 @@ use crate::between::Replay;
 use crate::events::read_trace;
 use crate::laws::{no_trace_is_told_to_be_none, traces_are_runs};
 use crate::reading::Trace;
+use crate::replayed::Replayed;
 use crate::states::StatesOf;
 use crate::why::ReplayFault;
 use net_model::{Firing, Wiring};
 use net_state::ready_networks_can_work;
 use rvc_io::Feeds;
 use std::alloc::Global;
-use trace_text::Line;
-
-/// What came of a trace that was replayed.
-#[derive(Clone, Copy, Debug)]
-pub struct Replayed {
-    /// The line that ends the run.
-    pub end: Line,
-}
+use trace_text::text_tells_lines;
 
 /// Replays a recorded trace, which is pulled from the feed [`TRACE_FEED`](crate::TRACE_FEED): whether it is the trace
 /// of a run of the network that the cells and their wiring make, over what the feeds of its inputs have.
@@ -48,7 +42,7 @@ pub fn replay<A: Firing, F: Feeds>(
     requires can { CanReplay (map A.cell cells.items) wiring grow (map string_bytes names.now)
         (F.feeds feeds.old) }
     ensures replayed { IfOk result (λ r. ReplaysOn A.cell F.feeds cells.items wiring grow names.now
-        feeds.old r.end) }
+        feeds.old r) }
     ensures refused { IfErr result (RefusesOn A.cell F.feeds cells.items wiring grow names.now
         feeds.old) }
     ensures failed { OnReadFault result (ReadFails F.feeds feeds.old feeds.new) }
@@ -56,6 +50,7 @@ pub fn replay<A: Firing, F: Feeds>(
     ready_networks_can_work::<StatesOf<A>>();
     traces_are_runs::<StatesOf<A>>();
     no_trace_is_told_to_be_none::<StatesOf<A>>();
+    text_tells_lines();
     let Ok(mut trace) = Trace::new(alloc, grow) else {
         return Err(ReplayFault::Memory);
     };
@@ -63,9 +58,9 @@ pub fn replay<A: Firing, F: Feeds>(
         return Err(ReplayFault::Memory);
     };
     let first = replay.first_line();
-    let end = match read_trace(&mut trace, &mut replay, &first, names, feeds) {
-        Ok(end) => end,
+    let replayed = match read_trace(&mut trace, &mut replay, &first, names, feeds) {
+        Ok(replayed) => replayed,
         Err(fault) => return Err(fault),
     };
-    Ok(Replayed { end })
+    Ok(replayed)
 }

@@ -10,7 +10,9 @@ abbrev pub invariant-lines : goal.invariant-lines
 invariant-lines g l =
     record {
       led : LedFrom l.initial.trace (stand g.A.Firing.cell g.F.Feeds.feeds l.initial.replay l.initial.feeds) l.initial.replay.grow
-          l.trace (stand g.A.Firing.cell g.F.Feeds.feeds l.replay l.feeds);
+          l.trace (stand g.A.Firing.cell g.F.Feeds.feeds l.replay l.feeds) l.tally.firings l.tally.rounds;
+      firings : l.tally.firings ≤ l.trace.count;
+      rounds : l.tally.rounds ≤ l.trace.count;
       is_open : (g.F.Feeds.feeds l.feeds).is_open TRACE_FEED ≡ true;
       counted : IsCounted l.trace.count l.trace.lines.passed;
       count : l.replay.count ≡ length l.replay.state.cells;

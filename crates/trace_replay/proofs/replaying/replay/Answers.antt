@@ -30,5 +30,4 @@ returns-clause-replayed g c = λ t text inputs is.
     let start = begins g.A.Firing.cell c.args.cells.items c.args.wiring c.args.grow (map string_bytes c.args.names.now) (g.F.Feeds.feeds c.args.feeds.now) c.in-Ok-new.replay c.requires.can
     (can_work (map g.A.Firing.cell c.args.cells.items) c.args.wiring c.args.grow (map string_bytes c.args.names.now) (g.F.Feeds.feeds c.args.feeds.now) c.ready_networks_can_work.ensures c.requires.can)
     c.in-Ok-new.ensures t text inputs is c.in-Ok.trace c.first_line-first.result c.in-Ok.ensures.bytes c.in-Ok.ensures.passed c.in-Ok.ensures.count c.in-Ok.ensures.grow c.first_line-first.ensures in
-    let whole = c.in-Ok-read_trace.ensures.ended t text start in
-    replayed_is t text c.in-Ok-read_trace.end whole.0 c.traces_are_runs.ensures.lines start.fits whole.1
+    replayed_is t text c.in-Ok-read_trace.replayed c.traces_are_runs.ensures.lines c.text_tells_lines.ensures start.fits (c.in-Ok-read_trace.ensures.ended t text start)
