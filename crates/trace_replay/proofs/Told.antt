@@ -5,7 +5,6 @@ use Rattle.std.specs.Prelude.{Result, Ok, Err, IfOk, drop, flat_map, ◌++◌}
 use Rattle.std.specs.List.{concat}
 use Rattle.rvc_io.specs.Feeds.{Inputs, PullsOnlyAt}
 use Rattle.trace_text.specs.declared.line.Line.{Line}
-use Rattle.net_model.specs.State.{State}
 use Rattle.net_model.specs.Laws.{AreLawful, firings_shown}
 use Rattle.net_model.specs.Wired.{IsWired}
 use Rattle.trace_replay.specs.Between.{Between}
@@ -20,7 +19,6 @@ use Rattle.trace_replay.specs.Feeding.{HaveSources}
 use Rattle.trace_replay.specs.Head.{PassesHead, name_of}
 use Rattle.trace_replay.specs.Judging.{IsTrace, Trial}
 use Rattle.trace_replay.specs.Laws.{LinesMakeTraces, NoTraceIsNotRun, StartFits}
-use Rattle.trace_replay.specs.Reading.{IsWhole}
 use Rattle.trace_replay.specs.Replaying.{IsRefused, IsReplayed}
 use Rattle.trace_replay.specs.declared.bytes.TheConstants.{TRACE_FEED}
 use Rattle.trace_replay.specs.declared.reading.Trace.{Trace}

@@ -5,8 +5,8 @@ ghost use Rattle.rvc_io.specs.Feeds.{ReadFails};
 ghost use Rattle.net_model.specs.Limits.{max_instances};
 ghost use Rattle.trace_replay.specs.Between.{IsReadyToGo};
 ghost use Rattle.trace_replay.specs.Events.{EndsEvents, EndsTrace, JudgesEvents, JudgesTrace};
-ghost use Rattle.trace_replay.specs.Head.{JudgesEnd, PassesEnd};
-ghost use Rattle.trace_replay.specs.Tallying.{replayed_of};
+ghost use Rattle.trace_replay.specs.Head.{JudgesEnd};
+ghost use Rattle.trace_replay.specs.Tallying.{EndsWhole};
 ghost use Rattle.trace_replay.specs.Reading.{IsCounted, OnReadFault};
 ghost use Rattle.trace_replay.specs.declared.bytes.TheConstants.{TRACE_FEED};
 
@@ -69,8 +69,7 @@ fn end_at<A: Firing, F: Feeds>(
 ) -> Result<Replayed, ReplayFault>
     requires open { (F.feeds feeds.old).is_open TRACE_FEED ≡ true }
     requires counted { IsCounted trace.old.count trace.old.lines.passed }
-    ensures whole { IfOk result (λ replayed. (replayed ≡ replayed_of end tally)
-        × PassesEnd A.State trace.old (F.feeds feeds.old)) }
+    ensures whole { IfOk result (EndsWhole A.State F.feeds end tally trace.old feeds.old) }
     ensures judged { IfErr result (JudgesEnd A.State trace.old (F.feeds feeds.old)) }
     ensures failed { OnReadFault result (ReadFails F.feeds feeds.old feeds.new) }
 {

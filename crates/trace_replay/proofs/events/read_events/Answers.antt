@@ -6,7 +6,6 @@ use Rattle.trace_text.specs.declared.line.Line.{Line}
 use Rattle.trace_replay.specs.Between.{stand}
 use Rattle.trace_replay.specs.Events.{IsEnded, IsJudgedOrNot, IsTextOf, IsUnjudged, delivers, fires}
 use Rattle.trace_replay.specs.Judging.{AtEvents, IsNotRun}
-use Rattle.trace_replay.specs.Reading.{IsWhole}
 use Rattle.trace_replay.specs.declared.bytes.TheConstants.{TRACE_FEED}
 use Rattle.trace_replay.specs.declared.reading.Read.{Read}
 use Rattle.trace_replay.proofs.Heads.{err_after, fault_after, stops_judged}
