@@ -50,7 +50,7 @@ feeds_differ links l m link other at at_too input input_too differ same = ⊎_el
     strict : (a b : ℕ) → b ≤ a → a ≢ b → b < a
     strict a b high other = ⊎_elim (λ low. low) (λ same. absurd (other (omega (arith, high, same)))) (cases_lt b a)
 
-no_trace : (n : ℕ) → TRACE_FEED ≢ suc n
+pub no_trace : (n : ℕ) → TRACE_FEED ≢ suc n
 no_trace n e = omega (arith, e)
 
 -- What holds up to link n.

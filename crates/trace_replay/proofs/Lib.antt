@@ -19,3 +19,9 @@ pub mod Ended
 pub mod Widened
 pub mod Stepped
 pub mod Whole
+pub mod Looped
+pub mod Led
+pub mod Shaped
+pub mod Opened
+pub mod Told
+pub mod Fresh

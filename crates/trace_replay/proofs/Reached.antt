@@ -24,7 +24,7 @@ lead_more t [] from reached next text line lead spells on =
 lead_more t (one ∷ texts) from reached next text line (first, after, first_spells, first_on, rest) spells on =
     (first, after, first_spells, first_on, lead_more t texts after reached next text line rest spells on)
 
-concat_more : (texts : List (List ℕ)) (text : List ℕ) → concat (texts ++ text ∷ []) ≡ concat texts ++ text
+pub concat_more : (texts : List (List ℕ)) (text : List ℕ) → concat (texts ++ text ∷ []) ≡ concat texts ++ text
 concat_more [] text = append-nil text
 concat_more (one ∷ texts) text = ap (λ a. one ++ a) (concat_more texts text) ∙ sym (append_assoc one (concat texts) text)
 
@@ -48,7 +48,7 @@ reached_start t text = record {
   is_text = refl;
 }
 
-pub reached_more : {X : Type 0} (t : Trial X) (text expected : List ℕ) (n passed passed_new : ℕ) (reached next : Reached X) (before after : Option (List ℕ)) (line : Line) (same : Bool)
+unfoldable pub reached_more : {X : Type 0} (t : Trial X) (text expected : List ℕ) (n passed passed_new : ℕ) (reached next : Reached X) (before after : Option (List ℕ)) (line : Line) (same : Bool)
     → HasReached t text n passed reached before → (s : Scans expected passed passed_new before after (Whole line same))
     → LeadsOn t reached s.text line next
     → HasReached t text (n + 1) passed_new next after

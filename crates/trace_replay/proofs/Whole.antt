@@ -12,6 +12,12 @@ use Rattle.trace_replay.proofs.Reached.{is_longer, take_within}
 told_is : (o : Option (List ℕ)) (so : Bool) (rest : List ℕ) → o ≡ Some rest → TellsRest so o → TellsRest so (Some rest)
 told_is o so rest told tells = subst (TellsRest so) told tells
 
+pub text_is : {X : Type 0} (t : Trial X) (text : List ℕ) (n passed : ℕ) (end : Line) (last : State X) (coming : Option (List ℕ)) (has : HasReached t text n passed (AtEnd end last) coming)
+    → TellsRest false coming → text ≡ concat has.texts
+text_is t text n passed end last coming has tells =
+    let none : has.rest ≡ [] = told_is coming false has.rest has.told tells in
+    has.is_text ∙ ap (λ a. concat has.texts ++ a) none ∙ append-nil (concat has.texts)
+
 pub whole_is : {X : Type 0} (t : Trial X) (text : List ℕ) (n passed : ℕ) (end : Line) (last : State X) (coming : Option (List ℕ)) → HasReached t text n passed (AtEnd end last) coming
     → TellsRest false coming → passed ≤ max_trace_bytes → IsWhole t text end last
 whole_is t text n passed end last coming has tells within =

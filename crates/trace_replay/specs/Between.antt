@@ -14,11 +14,13 @@ use Rattle.net_model.specs.Trace.{LineIsTrue, goes, opened_by}
 use Rattle.net_model.specs.Wired.{IsWired}
 use Rattle.net_model.specs.Cell.{Cell}
 use Rattle.net_state.specs.Held.{Held, seen}
+use Rattle.net_state.specs.Surveyed.{AreSettled}
 use Rattle.net_state.specs.Working.{AreFed, IsAtRest}
 use Rattle.trace_replay.specs.Ending.{CanGrow, FitInputs, HoldEnough}
 use Rattle.trace_replay.specs.Feeding.{HaveSources, StandsFed}
 use Rattle.trace_replay.specs.Judging.{EventFails, TrapComes, Trial}
 use Rattle.trace_replay.specs.Trying.{AllWork}
+use Rattle.trace_replay.specs.declared.between.Replay.{Replay}
 use Rattle.trace_replay.specs.declared.came.Came.{Came}
 use Rattle.trace_replay.specs.declared.came.Came.TheVariants.{Goes, Ends, Fails, FeedFails}
 use Rattle.trace_replay.specs.declared.source.Source.{Source}
@@ -87,6 +89,18 @@ abbrev pub EndsBy : {X : Type 0} → ℕ → Line → Between X → Type 0
 EndsBy {X} grow line old = InEach grow old (λ t opened s. (next : State X)
     × Steps t opened s line next)
 
+-- a line behind which a growth is judged: a delivery, or another growth
+abbrev pub is_rest : Line → Bool
+is_rest Deliver = true
+is_rest (Grow l capacity) = true
+is_rest (FirstLine n l g) = false
+is_rest (Inst k) = false
+is_rest (Fire i a) = false
+is_rest Quiet = false
+is_rest (TrapLine i a c) = false
+is_rest (Stall i a l) = false
+is_rest Budget = false
+
 abbrev pub is_growth : Line → Bool
 is_growth (Grow l capacity) = true
 is_growth (FirstLine n l g) = false
@@ -110,10 +124,12 @@ is_still_end Deliver = false
 is_still_end (TrapLine i a c) = false
 is_still_end (Grow l capacity) = false
 
--- the line says that a link grows, and doesn't stand right behind a delivery or another growth
+-- the line says that a link grows, and doesn't stand right behind a delivery or another growth, where all that was
+-- sent inside has arrived
 pub record IsLate {X : Type 0} (line : Line) (why : Why) (old : Between X) : Type 0 where
   pub growth : is_growth line ≡ true
   pub late : old.rested ≡ false
+  pub settled : AreSettled old.held
   pub why_is : why ≡ End
 
 -- the line may not come for this cause, or is a growth that comes too late to be judged
@@ -146,3 +162,23 @@ OnFeedFails Goes P = Unit {0}
 OnFeedFails Ends P = Unit {0}
 OnFeedFails (Fails why) P = Unit {0}
 OnFeedFails (FeedFails feed) P = P
+
+-- The same of what the code holds.
+
+module _ {A X S : Type 0} (cell : A → Cell X) (feeds : S → Inputs) where
+  -- where it stands
+  abbrev pub stand : Replay A → S → Between X
+  stand replay now = between cell replay.state replay.sources.items replay.rested (feeds now)
+
+  abbrev pub IsReadyToGo : Replay A → S → Type 0
+  IsReadyToGo replay now = CanGoOn (stand replay now) replay.links.items replay.grow
+
+  abbrev pub LineGoes : Came → Line → Replay A → S → Replay A → S → Type 0
+  LineGoes came line old before new after =
+      OnGoes came (GoesBy old.grow line (stand old before) (stand new after))
+
+  abbrev pub LineEnds : Came → Line → Replay A → S → Type 0
+  LineEnds came line old before = OnEnds came (EndsBy old.grow line (stand old before))
+
+  abbrev pub LineFails : Came → Line → Replay A → S → Type 0
+  LineFails came line old before = IfFails came (FailsBy old.grow line (stand old before))

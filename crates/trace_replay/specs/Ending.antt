@@ -12,7 +12,7 @@ use Rattle.net_model.specs.Laws.{AreLawful}
 use Rattle.net_model.specs.Trace.{OnNext, grown}
 use Rattle.net_model.specs.Wired.{IsWired}
 use Rattle.net_model.specs.Cell.{Cell}
-use Rattle.net_state.specs.Held.{Held, IsReader}
+use Rattle.net_state.specs.Held.{Held, IsReader, seen}
 use Rattle.net_state.specs.Moving.{IsWriter}
 use Rattle.net_state.specs.Standing.{IsTrueOfUnarrived, StandsIn, StandsSince}
 use Rattle.net_state.specs.Working.{AreFed, CanHold, GrewTo}
@@ -107,3 +107,12 @@ pub record GrewAt {X : Type 0} (grow l capacity : ℕ) (old new : Held (Cell X))
 abbrev pub GrewNotAt : {X : Type 0} → ℕ → ℕ → ℕ → Held (Cell X) → Type 0
 GrewNotAt grow l capacity held = IsInner (slice_get held.links l) → MayGrow grow held l
     → capacity ≢ min (2 * slice_index_or held.capacities l 0) grow
+
+-- The same of what the code holds.
+
+module _ {C X S : Type 0} (cell : C → Cell X) (feeds : S → Inputs) where
+  abbrev pub EndsOn : ℕ → Line → Held C → List (Option Source) → S → Type 0
+  EndsOn grow line held sources now = EndsSo grow line (seen cell held) sources (feeds now)
+
+  abbrev pub EndsNotOn : ℕ → Line → Held C → List (Option Source) → S → Type 0
+  EndsNotOn grow line held sources now = EndsNotSo grow line (seen cell held) sources (feeds now)

@@ -9,7 +9,7 @@ use Rattle.net_model.specs.State.{State}
 use Rattle.net_model.specs.Cell.{Cell}
 use Rattle.net_model.specs.Trace.{after_delivery}
 use Rattle.net_state.specs.Filling.{AreArrivals, Fills, IsFed, inflow}
-use Rattle.net_state.specs.Held.{Held}
+use Rattle.net_state.specs.Held.{Held, seen}
 use Rattle.net_state.specs.Standing.{StandsSince, after_inside, unarrived}
 use Rattle.trace_replay.specs.declared.bytes.TheConstants.{TRACE_FEED}
 use Rattle.trace_replay.specs.declared.source.Source.{Source}
@@ -96,3 +96,20 @@ FillsLink l old new (Some source) (Some after) feeds feeds_new = (after.feed ≡
     × Fills l (inflow source.tokens feeds source.feed) (inflow after.tokens feeds_new source.feed)
     (λ n. count ≡ n) old new
     × AreArrivals l count old (inflow source.tokens feeds source.feed))
+
+-- The same of what the code holds.
+
+module _ {C X S : Type 0} (cell : C → Cell X) (feeds : S → Inputs) where
+  abbrev pub FeedsLink : ℕ → Held C → Held C → Option Source → Option Source → S → S → Type 0
+  FeedsLink l old new source source_new before after =
+      FillsLink l (seen cell old) (seen cell new) source source_new (feeds before) (feeds after)
+
+  abbrev pub FillsOn : Held C → Held C → List (Option Source) → List (Option Source) → S → S
+      → Type 0
+  FillsOn old new sources sources_new before after =
+      FillsAll (seen cell old) (seen cell new) sources sources_new (feeds before) (feeds after)
+
+  abbrev pub DeliversOn : Held C → Held C → List (Option Source) → List (Option Source) → S → S
+      → Type 0
+  DeliversOn old new sources sources_new before after =
+      DeliversAll (seen cell old) (seen cell new) sources sources_new (feeds before) (feeds after)

@@ -1,6 +1,8 @@
 -- The first lines of a trace.
 -- Not trusted: no promise is read with it.
-use Rattle.std.specs.Prelude.{◌≡◌, ℕ, ◌+◌, List, ◌++◌, map, codes}
+use Rattle.std.specs.Prelude.{◌≡◌, ℕ, ◌+◌, List, ◌++◌, map, codes, String, string_bytes}
+use Rattle.std.specs.declared.alloc.Global.{Global as Heap}
+use Rattle.std.specs.List.{concat}
 use Rattle.rvc_io.specs.Feeds.{Inputs}
 use Rattle.port_files.specs.Coming.{coming_on}
 use Rattle.net_model.specs.Network.{Leaf}
@@ -80,8 +82,28 @@ JudgesHead X first names old before fault = (t : Trial X) (text : List ℕ)
 
 abbrev pub PassesEnd : (X : Type 0) → Trace → Inputs → Type 0
 PassesEnd X old before = (t : Trial X) (text : List ℕ) (end : Line) (last : State X)
-    → StandsAt t text old before (AtEnd end last) → IsWhole t text end last
+    → (has : StandsAt t text old before (AtEnd end last)) → IsWhole t text end last
+    × (text ≡ concat has.texts)
 
 abbrev pub JudgesEnd : (X : Type 0) → Trace → Inputs → ReplayFault → Type 0
 JudgesEnd X old before fault = (t : Trial X) (text : List ℕ) (end : Line) (last : State X)
     → StandsAt t text old before (AtEnd end last) → IsJudged t text fault
+
+-- The same of what the code holds.
+
+module _ (X : Type 0) {S : Type 0} (feeds : S → Inputs) where
+  abbrev pub ReadsInstance : ℕ → String Heap → Trace → S → Trace → S → Type 0
+  ReadsInstance k name old before new after =
+      PassesInstance X k (string_bytes name) old (feeds before) new (feeds after)
+
+  abbrev pub ReadsNames : List (String Heap) → Trace → S → Trace → S → Type 0
+  ReadsNames names old before new after =
+      PassesNames X (map string_bytes names) old (feeds before) new (feeds after)
+
+  abbrev pub ReadsHead : Line → List (String Heap) → Trace → S → Trace → S → Type 0
+  ReadsHead first names old before new after =
+      PassesHead X first (map string_bytes names) old (feeds before) new (feeds after)
+
+  abbrev pub RefusesHead : Line → List (String Heap) → Trace → S → ReplayFault → Type 0
+  RefusesHead first names old before fault =
+      JudgesHead X first (map string_bytes names) old (feeds before) fault

@@ -1,10 +1,14 @@
 -- What holds of all traces, as statements.
 -- Trusted: part of what a promise means.
-use Rattle.std.specs.Prelude.{◌≡◌, ℕ, ◌<◌, ◌≤◌, List, length}
+use Rattle.std.specs.Prelude.{◌≡◌, ℕ, ◌<◌, ◌≤◌, List, [], length, slice_get, Some}
+use Rattle.rvc_base.specs.Lawful.{tokens_on}
 use Rattle.std.specs.List.{concat}
 use Rattle.trace_text.specs.declared.line.Line.{Line}
 use Rattle.net_model.specs.Network.{Network}
-use Rattle.net_model.specs.State.{State}
+use Rattle.net_model.specs.State.{State, start_of}
+use Rattle.net_model.specs.Cell.{Cell}
+use Rattle.net_model.specs.Ready.{given_state}
+use Rattle.net_state.specs.Standing.{IsNetOf}
 use Rattle.net_model.specs.Trace.{FitFlows}
 use Rattle.net_model.specs.Wired.{IsWired}
 use Rattle.net_model.specs.Laws.{AreLawful, sent_on_link}
@@ -48,3 +52,17 @@ NoTraceIsNotRun X = (t : Trial X) (text : List ℕ) (lines : List Line) (end : L
 abbrev pub IsToldOnce : (X : Type 0) → Type 0
 IsToldOnce X = (t : Trial X) (text : List ℕ) (n m : ℕ) (why cause : Why) → IsWired t.net
     → AreLawful t.net → IsNotRun t text n why → IsNotRun t text m cause → (n ≡ m) × (why ≡ cause)
+
+-- a cell as it was made: its actor is at its start, and no token waits before it
+pub record IsNew {X : Type 0} (cell : Cell X) : Type 0 where
+  pub state : cell.state ≡ cell.actor.start
+  pub empty : (p : ℕ) → tokens_on cell.inboxes p ≡ []
+
+abbrev pub AreNew : {X : Type 0} → List (Cell X) → Type 0
+AreNew {X} cells = (i : ℕ) (cell : Cell X) → slice_get cells i ≡ Some cell → IsNew cell
+
+-- A run from cells as they were made begins where each run over these files does.
+abbrev pub NewCellsBegin : (X : Type 0) → Type 0
+NewCellsBegin X = (net : Network X) (cells : List (Cell X)) (inputs : List (List ℕ))
+    → IsNetOf net cells net.links → AreNew cells
+    → given_state net cells inputs ≡ start_of net inputs

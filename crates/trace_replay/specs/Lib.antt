@@ -8,3 +8,7 @@ pub mod Trying
 pub mod Feeding
 pub mod Ending
 pub mod Between
+pub mod Events
+pub mod Replaying
+pub mod Opening
+pub mod Tallying

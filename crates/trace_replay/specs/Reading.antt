@@ -1,12 +1,17 @@
 -- How far a trace was read, and why it wasn't read on.
 -- Not trusted: no promise is read with it.
-use Rattle.std.specs.Prelude.{◌≡◌, ◌≢◌, ℕ, ◌≤◌, Bool, true, false, List, [], ◌++◌, length, Option, None, Some, Result, Ok, Err}
+use Rattle.std.specs.Prelude.{◌≡◌, ◌≢◌, ℕ, ◌+◌, ◌≤◌, Bool, true, false, List, [], ◌++◌, length, Option, None, Some, Result, Ok, Err}
 use Rattle.std.specs.List.{concat}
+use Rattle.rvc_io.specs.Feeds.{Inputs}
+use Rattle.port_files.specs.Coming.{coming_on}
+use Rattle.trace_text.specs.Text.{line_feed}
 use Rattle.trace_text.specs.declared.line.Line.{Line}
 use Rattle.net_model.specs.State.{State}
 use Rattle.trace_replay.specs.Judging.{Trial, Reached, AtEnd, AtFirst, Lead, IsNotRun, is_of_table, max_trace_bytes}
 use Rattle.trace_replay.specs.Scanning.{IsWithin, Scans}
 use Rattle.trace_replay.specs.declared.bytes.TheConstants.{TRACE_FEED}
+use Rattle.trace_replay.specs.declared.reading.Read.{Read}
+use Rattle.trace_replay.specs.declared.reading.Trace.{Trace}
 use Rattle.trace_replay.specs.declared.scan.Scanned.{Scanned}
 use Rattle.trace_replay.specs.declared.scan.Scanned.TheVariants.{Line as Whole, Bad, Cut, TooLong}
 use Rattle.trace_replay.specs.declared.why.Why.{Why}
@@ -81,3 +86,20 @@ abbrev pub TellsRest : Bool → Option (List ℕ) → Type 0
 TellsRest so None = Unit {0}
 TellsRest true (Some rest) = rest ≢ []
 TellsRest false (Some rest) = rest ≡ []
+
+-- The same of the trace's feed.
+
+module _ {S : Type 0} (feeds : S → Inputs) where
+  -- a line was read, which is told to be `front`, `name` and a line feed or not
+  abbrev pub ReadsLine : (front name : List ℕ) → Trace → S → Trace → S → Read → Type 0
+  ReadsLine front name old before new after read =
+      IsRead (front ++ name ++ line_feed) old.grow old.lines.passed new.lines.passed
+      (coming_on old.lines.bytes (feeds before) TRACE_FEED)
+      (coming_on new.lines.bytes (feeds after) TRACE_FEED) read.line read.same
+
+  -- .. or none that a trace may have
+  abbrev pub StopsAtLine : (front name : List ℕ) → Trace → S → Trace → S → ReplayFault → Type 0
+  StopsAtLine front name old before new after fault =
+      Stops (front ++ name ++ line_feed) old.grow (old.count + 1) old.lines.passed
+      (coming_on old.lines.bytes (feeds before) TRACE_FEED)
+      (coming_on new.lines.bytes (feeds after) TRACE_FEED) fault

@@ -1,11 +1,15 @@
 -- What is read of a trace: one line, or why none.
 -- Not trusted: no promise is read with it.
 use Rattle.std.specs.Prelude.{◌≡◌, ℕ, ◌+◌, ◌≤◌, Bool, true, false, List, [], ◌∷◌, ◌++◌, length, Option, None, Some}
+use Rattle.rvc_io.specs.Feeds.{Inputs}
+use Rattle.trace_text.specs.Text.{line_feed}
 use Rattle.trace_text.specs.Spelling.{Spells, Begins, IsFront}
-use Rattle.port_files.specs.Coming.{NothingLeft}
+use Rattle.port_files.specs.Coming.{NothingLeft, coming_on}
 use Rattle.trace_replay.specs.Coming.{Passes, GivesByte}
 use Rattle.trace_replay.specs.Judging.{max_trace_bytes}
+use Rattle.trace_replay.specs.declared.bytes.TheConstants.{TRACE_FEED}
 use Rattle.trace_replay.specs.declared.scan.Scanned.{Scanned}
+use Rattle.trace_replay.specs.declared.scan.TraceLines.{TraceLines}
 use Rattle.trace_replay.specs.declared.scan.Scanned.TheVariants.{Line as Whole, Bad, Cut, TooLong}
 
 -- the text is this one
@@ -47,3 +51,29 @@ IsPast passed passed_new before after Cut = GivesByte None before after × (pass
 IsPast passed passed_new before after TooLong = (byte : ℕ) × GivesByte (Some byte) before after
     × (passed_new ≡ passed + 1)
 IsPast passed passed_new before after scanned = ⊥
+
+-- The same of the trace's feed, and of a text that is expected to be `front`, `name` and a line feed.
+
+module _ {S : Type 0} (feeds : S → Inputs) where
+  abbrev pub ScansLine : (front name : List ℕ) → TraceLines → S → TraceLines → S → Scanned → Type 0
+  ScansLine front name old before new after scanned =
+      Scans (front ++ name ++ line_feed) old.passed new.passed
+      (coming_on old.bytes (feeds before) TRACE_FEED) (coming_on new.bytes (feeds after) TRACE_FEED)
+      scanned
+
+  abbrev pub ScansPast : TraceLines → S → TraceLines → S → Scanned → Type 0
+  ScansPast old before new after scanned =
+      IsPast old.passed new.passed (coming_on old.bytes (feeds before) TRACE_FEED)
+      (coming_on new.bytes (feeds after) TRACE_FEED) scanned
+
+-- whether a text of so many bytes is expected so far is told, and whether it is with a byte more
+abbrev pub TellsFront : (front name : List ℕ) → Bool → ℕ → ℕ → Bool → Type 0
+TellsFront front name same at byte still = (text : List ℕ) → length text ≡ at
+    → Tells same (IsFrontOf (front ++ name ++ line_feed) text)
+    → Tells still (IsFrontOf (front ++ name ++ line_feed) (text ++ byte ∷ []))
+
+-- .. and whether it is all that is expected
+abbrev pub TellsWhole : (front name : List ℕ) → Bool → ℕ → Bool → Type 0
+TellsWhole front name same count whole = (text : List ℕ) → length text ≡ count
+    → Tells same (IsFrontOf (front ++ name ++ line_feed) text)
+    → Tells whole (text ≡ front ++ name ++ line_feed)

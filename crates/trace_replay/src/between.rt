@@ -1,24 +1,31 @@
 //! A network between two lines of its trace.
 
-ghost use Rattle.std.specs.Prelude.{◌≡◌, true, false, length, map};
+ghost use Rattle.std.specs.Prelude.{◌≡◌, ◌≤◌, true, false, IfOk, length, map};
 ghost use Rattle.rvc_io.specs.Feeds.{ReadFails};
+ghost use Rattle.net_model.specs.Limits.{max_links};
 ghost use Rattle.trace_text.specs.declared.line.Line.TheVariants as line;
-ghost use Rattle.trace_replay.specs.Between.{CanGoOn, EndsBy, FailsBy, GoesBy, IfFails, OnEnds, OnFeedFails, OnGoes, between, is_still_end};
+ghost use Rattle.trace_replay.specs.Between.{FailsBy, IfFails, IsReadyToGo, LineEnds, LineFails, LineGoes, OnEnds, OnFeedFails, OnGoes, is_rest, is_still_end, stand};
 ghost use Rattle.trace_replay.specs.declared.came.Came.TheVariants as came;
 ghost use Rattle.trace_replay.specs.declared.why.Why.TheVariants as why;
 ghost use Rattle.trace_replay.specs.Feeding.{PullsInputs};
+ghost use Rattle.net_state.specs.Held.{CanWork};
+ghost use Rattle.trace_replay.specs.Opening.{IsOpenedOn};
+ghost use Rattle.trace_replay.specs.Replaying.{HasInputs};
+ghost use Rattle.trace_replay.specs.Judging.{is_end};
 
 use crate::came::Came;
 use crate::delivering::deliver_all;
-use crate::ending::ends_so;
+use crate::ending::{ends_so, is_settled};
 use crate::growing::grow_so;
 use crate::source::Source;
+use crate::sources::open_sources;
 use crate::trying::{fire, traps};
 use crate::why::Why;
-use net_model::{Firing, Link};
+use net_model::{Firing, Link, Wiring};
 use net_state::NetState;
-use rvc_base::Trap;
+use rvc_base::{Memory, Trap};
 use rvc_io::Feeds;
+use std::alloc::Global;
 use trace_text::Line;
 
 /// A network whose trace is read, between two lines.
@@ -37,24 +44,58 @@ pub(crate) struct Replay<A: Firing> {
 }
 
 impl<A: Firing> Replay<A> {
+    /// A network of these cells and this wiring, at the start of its trace. All memory is taken here.
+    ///
+    /// # Errors
+    ///
+    /// `Memory` if memory runs out.
+    pub(crate) fn new(
+        alloc: Global,
+        cells: Vec<A>,
+        wiring: Wiring,
+        grow: u32,
+    ) -> Result<Replay<A>, Memory>
+        requires can_work { CanWork (map A.cell cells.items) wiring.links.items }
+        requires inputs { HasInputs wiring }
+        ensures { IfOk result (IsOpenedOn A.cell cells.items wiring grow) }
+    {
+        let count = cells.len() as u32;
+        let sources = open_sources(alloc, &wiring)?;
+        let links = copy_links(alloc, &wiring.links)?;
+        let state = NetState::new(alloc, cells, wiring.links)?;
+        Ok(Replay {
+            state,
+            links,
+            sources,
+            count,
+            grow,
+            rested: false,
+        })
+    }
+
+    /// The first line of its trace.
+    pub(crate) fn first_line(&self) -> Line
+        requires few { length self.now.links.items ≤ max_links }
+        ensures { result ≡ line.Header self.now.count (length self.now.links.items) self.now.grow }
+    {
+        Line::Header {
+            instances: self.count,
+            links: self.links.len() as u32,
+            grow: self.grow,
+        }
+    }
+
     /// A line that says that an action fires.
     fn fire<F: Feeds>(&mut self, inst: u32, action: u16, feeds: &F) -> Came
         requires count { self.old.count ≡ length self.old.state.cells }
-        requires ready { CanGoOn (between A.cell self.old.state self.old.sources.items
-            self.old.rested (F.feeds feeds.now)) self.old.links.items self.old.grow }
-        ensures goes { OnGoes result (GoesBy self.old.grow (line.Fire inst action)
-            (between A.cell self.old.state self.old.sources.items self.old.rested
-            (F.feeds feeds.now))
-            (between A.cell self.new.state self.new.sources.items self.new.rested
-            (F.feeds feeds.now))) }
-        ensures still_ready { OnGoes result (CanGoOn (between A.cell self.new.state
-            self.new.sources.items self.new.rested (F.feeds feeds.now))
-            self.new.links.items self.new.grow) }
-        ensures fails { IfFails result (FailsBy self.old.grow (line.Fire inst action)
-            (between A.cell self.old.state self.old.sources.items self.old.rested
-            (F.feeds feeds.now))) }
+        requires ready { IsReadyToGo A.cell F.feeds self.old feeds.now }
+        ensures goes { LineGoes A.cell F.feeds result (line.Fire inst action) self.old feeds.now self.new
+            feeds.now }
+        ensures still_ready { OnGoes result (IsReadyToGo A.cell F.feeds self.new feeds.now) }
+        ensures fails { LineFails A.cell F.feeds result (line.Fire inst action) self.old feeds.now }
         ensures no_end { OnEnds result ⊥ }
         ensures no_fault { OnFeedFails result ⊥ }
+        ensures rested { OnGoes result (self.new.rested ≡ false) }
         ensures still_count { OnGoes result (self.new.count ≡ length self.new.state.cells) }
         ensures grow { self.new.grow ≡ self.old.grow }
         ensures links { self.new.links ≡ self.old.links }
@@ -71,14 +112,9 @@ impl<A: Firing> Replay<A> {
     /// A line that says that an action traps.
     fn trap<F: Feeds>(&mut self, inst: u32, action: u16, cause: Trap, feeds: &F) -> Came
         requires count { self.old.count ≡ length self.old.state.cells }
-        requires ready { CanGoOn (between A.cell self.old.state self.old.sources.items
-            self.old.rested (F.feeds feeds.now)) self.old.links.items self.old.grow }
-        ensures ends { OnEnds result (EndsBy self.old.grow (line.Trap inst action cause)
-            (between A.cell self.old.state self.old.sources.items self.old.rested
-            (F.feeds feeds.now))) }
-        ensures fails { IfFails result (FailsBy self.old.grow (line.Trap inst action cause)
-            (between A.cell self.old.state self.old.sources.items self.old.rested
-            (F.feeds feeds.now))) }
+        requires ready { IsReadyToGo A.cell F.feeds self.old feeds.now }
+        ensures ends { LineEnds A.cell F.feeds result (line.Trap inst action cause) self.old feeds.now }
+        ensures fails { LineFails A.cell F.feeds result (line.Trap inst action cause) self.old feeds.now }
         ensures no_step { OnGoes result ⊥ }
         ensures no_fault { OnFeedFails result ⊥ }
     {
@@ -90,20 +126,15 @@ impl<A: Firing> Replay<A> {
 
     /// A delivery.
     fn deliver<F: Feeds>(&mut self, feeds: &mut F) -> Came
-        requires ready { CanGoOn (between A.cell self.old.state self.old.sources.items
-            self.old.rested (F.feeds feeds.old)) self.old.links.items self.old.grow }
+        requires ready { IsReadyToGo A.cell F.feeds self.old feeds.old }
         requires count { self.old.count ≡ length self.old.state.cells }
-        ensures goes { OnGoes result (GoesBy self.old.grow line.Deliver
-            (between A.cell self.old.state self.old.sources.items self.old.rested
-            (F.feeds feeds.old))
-            (between A.cell self.new.state self.new.sources.items self.new.rested
-            (F.feeds feeds.new))) }
-        ensures still_ready { OnGoes result (CanGoOn (between A.cell self.new.state
-            self.new.sources.items self.new.rested (F.feeds feeds.new))
-            self.new.links.items self.new.grow) }
+        ensures goes { LineGoes A.cell F.feeds result line.Deliver self.old feeds.old self.new
+            feeds.new }
+        ensures still_ready { OnGoes result (IsReadyToGo A.cell F.feeds self.new feeds.new) }
         ensures no_end { OnEnds result ⊥ }
         ensures no_failure { IfFails result (λ _. ⊥) }
         ensures failed { OnFeedFails result (ReadFails F.feeds feeds.old feeds.new) }
+        ensures rested { OnGoes result (self.new.rested ≡ true) }
         ensures still_count { OnGoes result (self.new.count ≡ length self.new.state.cells) }
         ensures grow { self.new.grow ≡ self.old.grow }
         ensures links { self.new.links ≡ self.old.links }
@@ -123,28 +154,21 @@ impl<A: Firing> Replay<A> {
     /// It is judged right behind a delivery or another growth alone. Elsewhere that would take tokens that the cells
     /// mustn't see yet if the run goes on, so it fails there, whatever is true.
     fn grow<F: Feeds>(&mut self, link: u32, capacity: u32, feeds: &F) -> Came
-        requires ready { CanGoOn (between A.cell self.old.state self.old.sources.items
-            self.old.rested (F.feeds feeds.now)) self.old.links.items self.old.grow }
+        requires ready { IsReadyToGo A.cell F.feeds self.old feeds.now }
         requires count { self.old.count ≡ length self.old.state.cells }
-        ensures goes { OnGoes result (GoesBy self.old.grow (line.Grow link capacity)
-            (between A.cell self.old.state self.old.sources.items self.old.rested
-            (F.feeds feeds.now))
-            (between A.cell self.new.state self.new.sources.items self.new.rested
-            (F.feeds feeds.now))) }
-        ensures still_ready { OnGoes result (CanGoOn (between A.cell self.new.state
-            self.new.sources.items self.new.rested (F.feeds feeds.now))
-            self.new.links.items self.new.grow) }
-        ensures fails { IfFails result (FailsBy self.old.grow (line.Grow link capacity)
-            (between A.cell self.old.state self.old.sources.items self.old.rested
-            (F.feeds feeds.now))) }
+        ensures goes { LineGoes A.cell F.feeds result (line.Grow link capacity) self.old feeds.now self.new
+            feeds.now }
+        ensures still_ready { OnGoes result (IsReadyToGo A.cell F.feeds self.new feeds.now) }
+        ensures fails { LineFails A.cell F.feeds result (line.Grow link capacity) self.old feeds.now }
         ensures no_end { OnEnds result ⊥ }
         ensures no_fault { OnFeedFails result ⊥ }
+        ensures rested { OnGoes result (self.new.rested ≡ true) }
         ensures still_count { OnGoes result (self.new.count ≡ length self.new.state.cells) }
         ensures grow { self.new.grow ≡ self.old.grow }
         ensures links { self.new.links ≡ self.old.links }
     {
         if !self.rested {
-            return Came::Fails(Why::End);
+            return Came::Fails(self.judge_late(link, capacity, feeds));
         }
         if !grow_so(&mut self.state, &self.links, self.grow, link, capacity) {
             return Came::Fails(Why::End);
@@ -152,17 +176,26 @@ impl<A: Firing> Replay<A> {
         Came::Goes
     }
 
+    /// Why a growth fails that stands behind neither a delivery nor another growth. If something was sent inside that
+    /// hasn't arrived, no link grows; else the growth isn't judged.
+    fn judge_late<F: Feeds>(&self, link: u32, capacity: u32, feeds: &F) -> Why
+        requires ready { IsReadyToGo A.cell F.feeds self.now feeds.now }
+        requires late { self.now.rested ≡ false }
+        ensures { FailsBy self.now.grow (line.Grow link capacity)
+            (stand A.cell F.feeds self.now feeds.now) result }
+    {
+        if !is_settled(&self.state, &self.links) {
+            return Why::End;
+        }
+        Why::End
+    }
+
     /// An end line but that of a trap.
     fn end<F: Feeds>(&mut self, line: &Line, feeds: &mut F) -> Came
-        requires ready { CanGoOn (between A.cell self.old.state self.old.sources.items
-            self.old.rested (F.feeds feeds.old)) self.old.links.items self.old.grow }
+        requires ready { IsReadyToGo A.cell F.feeds self.old feeds.old }
         requires still { is_still_end line.now ≡ true }
-        ensures ends { OnEnds result (EndsBy self.old.grow line.now
-            (between A.cell self.old.state self.old.sources.items self.old.rested
-            (F.feeds feeds.old))) }
-        ensures fails { IfFails result (FailsBy self.old.grow line.now
-            (between A.cell self.old.state self.old.sources.items self.old.rested
-            (F.feeds feeds.old))) }
+        ensures ends { LineEnds A.cell F.feeds result line.now self.old feeds.old }
+        ensures fails { LineFails A.cell F.feeds result line.now self.old feeds.old }
         ensures no_step { OnGoes result ⊥ }
         ensures failed { OnFeedFails result (ReadFails F.feeds feeds.old feeds.new) }
         ensures elsewhere { PullsInputs (F.feeds feeds.old) (F.feeds feeds.new) }
@@ -182,23 +215,16 @@ impl<A: Firing> Replay<A> {
 
     /// What comes of a line.
     pub(crate) fn come<F: Feeds>(&mut self, line: &Line, feeds: &mut F) -> Came
-        requires ready { CanGoOn (between A.cell self.old.state self.old.sources.items
-            self.old.rested (F.feeds feeds.old)) self.old.links.items self.old.grow }
+        requires ready { IsReadyToGo A.cell F.feeds self.old feeds.old }
         requires count { self.old.count ≡ length self.old.state.cells }
-        ensures goes { OnGoes result (GoesBy self.old.grow line.now
-            (between A.cell self.old.state self.old.sources.items self.old.rested
-            (F.feeds feeds.old))
-            (between A.cell self.new.state self.new.sources.items self.new.rested
-            (F.feeds feeds.new))) }
-        ensures still_ready { OnGoes result (CanGoOn (between A.cell self.new.state
-            self.new.sources.items self.new.rested (F.feeds feeds.new))
-            self.new.links.items self.new.grow) }
-        ensures ends { OnEnds result (EndsBy self.old.grow line.now
-            (between A.cell self.old.state self.old.sources.items self.old.rested
-            (F.feeds feeds.old))) }
-        ensures fails { IfFails result (FailsBy self.old.grow line.now
-            (between A.cell self.old.state self.old.sources.items self.old.rested
-            (F.feeds feeds.old))) }
+        ensures goes { LineGoes A.cell F.feeds result line.now self.old feeds.old self.new
+            feeds.new }
+        ensures still_ready { OnGoes result (IsReadyToGo A.cell F.feeds self.new feeds.new) }
+        ensures ends { LineEnds A.cell F.feeds result line.now self.old feeds.old }
+        ensures fails { LineFails A.cell F.feeds result line.now self.old feeds.old }
+        ensures goes_on { OnGoes result (is_end line.now ≡ false) }
+        ensures is_end { OnEnds result (is_end line.now ≡ true) }
+        ensures rested { OnGoes result (self.new.rested ≡ is_rest line.now) }
         ensures failed { OnFeedFails result (ReadFails F.feeds feeds.old feeds.new) }
         ensures still_count { OnGoes result (self.new.count ≡ length self.new.state.cells) }
         ensures grow { OnGoes result (self.new.grow ≡ self.old.grow) }
@@ -236,4 +262,17 @@ fn came_of_end(so: bool) -> Came
         return Came::Ends;
     }
     Came::Fails(Why::End)
+}
+
+/// The same links again.
+fn copy_links(alloc: Global, links: &[Link]) -> Result<Vec<Link>, Memory>
+    ensures { IfOk result (λ copy. copy.items ≡ links.now) }
+{
+    let mut copy = Vec::with_capacity(alloc, links.len())?;
+    let mut left = links;
+    'links: while let Some((link, others)) = left.split_first() {
+        copy.push(*link)?;
+        left = others;
+    }
+    Ok(copy)
 }

@@ -2,8 +2,8 @@
 
 ghost use Rattle.std.specs.Prelude.{◌≡◌, ◌≤◌, ◌<◌, ℕ, List, [], true, false, IfOk, OnOk, OnErr, IsSome, IfSome, IfNone, length, vec_len};
 ghost use Rattle.rvc_io.specs.Feeds.{PullsOnly, ReadFails};
-ghost use Rattle.port_files.specs.Coming.{KeepsComing, NothingLeft, coming_on};
-ghost use Rattle.trace_replay.specs.Coming.{GivesByte, StartsWith};
+ghost use Rattle.port_files.specs.Coming.{KeepsComing, NothingLeft};
+ghost use Rattle.trace_replay.specs.Coming.{GivesNext, StartsWith};
 ghost use Rattle.trace_replay.specs.declared.bytes.TheConstants.{PIECE_BYTES, TRACE_FEED};
 
 use rvc_base::Memory;
@@ -13,6 +13,9 @@ use std::marker::Model;
 
 /// The feed from which the trace is pulled.
 pub const TRACE_FEED: u32 = 0;
+
+/// The feed of the first input link.
+pub const FIRST_INPUT: u32 = 1;
 
 /// How many bytes are pulled at a time, at most.
 const PIECE_BYTES: usize = 65_536;
@@ -64,9 +67,8 @@ impl TraceBytes {
     /// were to come before.
     pub(crate) fn next<F: Feeds>(&mut self, feeds: &mut F) -> Result<Option<u8>, Failed>
         requires open { (F.feeds feeds.old).is_open TRACE_FEED ≡ true }
-        ensures byte { IfOk result (λ next. GivesByte next
-            (coming_on self.old (F.feeds feeds.old) TRACE_FEED)
-            (coming_on self.new (F.feeds feeds.new) TRACE_FEED)) }
+        ensures byte { IfOk result (λ next. GivesNext F.feeds next self.old feeds.old self.new
+            feeds.new) }
         ensures failed { OnErr result (ReadFails F.feeds feeds.old feeds.new) }
         ensures elsewhere { PullsOnly F.feeds feeds.old feeds.new TRACE_FEED }
     {

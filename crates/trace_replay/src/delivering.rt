@@ -7,7 +7,7 @@ ghost use Rattle.net_state.specs.Held.{seen};
 ghost use Rattle.net_state.specs.Filling.{IsInputLink};
 ghost use Rattle.net_state.specs.Moving.{SameActors, SameMarks};
 ghost use Rattle.net_state.specs.Working.{IsAtRest};
-ghost use Rattle.trace_replay.specs.Feeding.{DeliversAll, FillsAll, FillsLink, HaveSources, IsReadable, PullsFor, PullsInputs};
+ghost use Rattle.trace_replay.specs.Feeding.{DeliversOn, FillsOn, FeedsLink, HaveSources, IsReadable, PullsFor, PullsInputs};
 
 use crate::source::Source;
 use net_model::Firing;
@@ -28,8 +28,8 @@ fn fill_link<A: Firing, F: Feeds>(
 ) -> Result<(), u32>
     requires input { IsSome source.old → IsInputLink (slice_get state.old.links l) }
     requires readable { IsReadable source.old (F.feeds feeds.old) }
-    ensures fills { OnOk result (FillsLink l (seen A.cell state.old) (seen A.cell state.new)
-        source.old source.new (F.feeds feeds.old) (F.feeds feeds.new)) }
+    ensures fills { OnOk result (FeedsLink A.cell F.feeds l state.old state.new source.old
+        source.new feeds.old feeds.new) }
     ensures still_readable { IsReadable source.new (F.feeds feeds.new) }
     ensures rests { IsAtRest (seen A.cell state.old) → IsAtRest (seen A.cell state.new) }
     ensures same_actors { SameActors (map A.cell state.old.cells) (map A.cell state.new.cells) }
@@ -61,8 +61,8 @@ fn fill_all<A: Firing, F: Feeds>(
 ) -> Result<(), u32>
     requires sources { HaveSources state.old.links sources.old (F.feeds feeds.old) }
     requires few { length sources.old ≤ max_links }
-    ensures fills { OnOk result (FillsAll (seen A.cell state.old) (seen A.cell state.new)
-        sources.old sources.new (F.feeds feeds.old) (F.feeds feeds.new)) }
+    ensures fills { OnOk result (FillsOn A.cell F.feeds state.old state.new sources.old
+        sources.new feeds.old feeds.new) }
     ensures still_sources { OnOk result (HaveSources state.old.links sources.new
         (F.feeds feeds.new)) }
     ensures rests { IsAtRest (seen A.cell state.old) → IsAtRest (seen A.cell state.new) }
@@ -97,8 +97,8 @@ pub(crate) fn deliver_all<A: Firing, F: Feeds>(
 ) -> Result<(), u32>
     requires sources { HaveSources state.old.links sources.old (F.feeds feeds.old) }
     requires few { length sources.old ≤ max_links }
-    ensures delivers { OnOk result (DeliversAll (seen A.cell state.old) (seen A.cell state.new)
-        sources.old sources.new (F.feeds feeds.old) (F.feeds feeds.new)) }
+    ensures made { OnOk result (DeliversOn A.cell F.feeds state.old state.new sources.old
+        sources.new feeds.old feeds.new) }
     ensures still_sources { OnOk result (HaveSources state.old.links sources.new
         (F.feeds feeds.new)) }
     ensures rests { IsAtRest (seen A.cell state.new) }

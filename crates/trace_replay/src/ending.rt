@@ -8,7 +8,7 @@ ghost use Rattle.net_model.specs.Limits.{max_links};
 ghost use Rattle.net_state.specs.Held.{seen};
 ghost use Rattle.net_state.specs.Surveyed.{AreSettled, AreUntrapped};
 ghost use Rattle.net_state.specs.Working.{IsAtRest};
-ghost use Rattle.trace_replay.specs.Ending.{AreUnsettled, EndsNotSo, EndsSo, IsEndOf, IsOut, MayGrow};
+ghost use Rattle.trace_replay.specs.Ending.{AreUnsettled, EndsNotOn, EndsOn, IsEndOf, IsOut, MayGrow};
 ghost use Rattle.trace_replay.specs.Feeding.{HaveSources, PullsInputs};
 
 use crate::delivering::deliver_all;
@@ -128,9 +128,9 @@ pub(crate) fn ends_so<A: Firing, F: Feeds>(
     requires untrapped { AreUntrapped (map A.cell state.old.cells) }
     requires sources { HaveSources state.old.links sources.old (F.feeds feeds.old) }
     ensures yes { IfOk result (λ so. so ≡ true
-        → EndsSo grow line.now (seen A.cell state.old) sources.old (F.feeds feeds.old)) }
+        → EndsOn A.cell F.feeds grow line.now state.old sources.old feeds.old) }
     ensures no { IfOk result (λ so. so ≡ false
-        → EndsNotSo grow line.now (seen A.cell state.old) sources.old (F.feeds feeds.old)) }
+        → EndsNotOn A.cell F.feeds grow line.now state.old sources.old feeds.old) }
     ensures failed { OnErr result (ReadFails F.feeds feeds.old feeds.new) }
     ensures elsewhere { PullsInputs (F.feeds feeds.old) (F.feeds feeds.new) }
 {

@@ -1,10 +1,10 @@
 //! The first line of a trace and the lines of its instances.
 
-ghost use Rattle.std.specs.Prelude.{◌≡◌, ◌≢◌, ◌≤◌, true, false, IfErr, OnOk, string_bytes, length, map};
+ghost use Rattle.std.specs.Prelude.{◌≡◌, ◌≢◌, ◌≤◌, ◌+◌, true, false, IfErr, OnOk, string_bytes, length, map};
 ghost use Rattle.rvc_io.specs.Feeds.{PullsOnly, ReadFails};
 ghost use Rattle.trace_text.specs.declared.line.Line.TheVariants.{Inst};
 ghost use Rattle.net_model.specs.Limits.{max_instances};
-ghost use Rattle.trace_replay.specs.Head.{JudgesFirst, JudgesHead, JudgesInstance, JudgesNames, PassesFirst, PassesHead, PassesInstance, PassesNames};
+ghost use Rattle.trace_replay.specs.Head.{JudgesFirst, JudgesInstance, JudgesNames, PassesFirst, ReadsHead, ReadsInstance, ReadsNames, RefusesHead};
 ghost use Rattle.trace_replay.specs.Reading.{IsCounted, OnReadFault};
 ghost use Rattle.trace_replay.specs.declared.bytes.TheConstants.{TRACE_FEED};
 
@@ -33,6 +33,7 @@ pub(crate) fn read_first<A: Firing, F: Feeds>(
     requires counted { IsCounted trace.old.count trace.old.lines.passed }
     ensures read { OnOk result (PassesFirst A.State first.now trace.old (F.feeds feeds.old) trace.new (F.feeds feeds.new)) }
     ensures judged { IfErr result (JudgesFirst A.State first.now trace.old (F.feeds feeds.old)) }
+    ensures number { OnOk result (trace.new.count ≡ trace.old.count + 1) }
     ensures counted { OnOk result (IsCounted trace.new.count trace.new.lines.passed) }
     ensures failed { OnReadFault result (ReadFails F.feeds feeds.old feeds.new) }
     ensures grow { trace.new.grow ≡ trace.old.grow }
@@ -57,9 +58,10 @@ pub(crate) fn read_instance<A: Firing, F: Feeds>(
 ) -> Result<(), ReplayFault>
     requires open { (F.feeds feeds.old).is_open TRACE_FEED ≡ true }
     requires counted { IsCounted trace.old.count trace.old.lines.passed }
-    ensures read { OnOk result (PassesInstance A.State k (string_bytes name.now) trace.old (F.feeds feeds.old)
-        trace.new (F.feeds feeds.new)) }
+    ensures read { OnOk result (ReadsInstance A.State F.feeds k name.now trace.old feeds.old
+        trace.new feeds.new) }
     ensures judged { IfErr result (JudgesInstance A.State k (string_bytes name.now) trace.old (F.feeds feeds.old)) }
+    ensures number { OnOk result (trace.new.count ≡ trace.old.count + 1) }
     ensures counted { OnOk result (IsCounted trace.new.count trace.new.lines.passed) }
     ensures failed { OnReadFault result (ReadFails F.feeds feeds.old feeds.new) }
     ensures grow { trace.new.grow ≡ trace.old.grow }
@@ -94,9 +96,10 @@ pub(crate) fn read_instances<A: Firing, F: Feeds>(
     requires open { (F.feeds feeds.old).is_open TRACE_FEED ≡ true }
     requires counted { IsCounted trace.old.count trace.old.lines.passed }
     requires few { length names.now ≤ max_instances }
-    ensures read { OnOk result (PassesNames A.State (map string_bytes names.now) trace.old (F.feeds feeds.old)
-        trace.new (F.feeds feeds.new)) }
+    ensures read { OnOk result (ReadsNames A.State F.feeds names.now trace.old feeds.old trace.new
+        feeds.new) }
     ensures judged { IfErr result (JudgesNames A.State (map string_bytes names.now) trace.old (F.feeds feeds.old)) }
+    ensures number { OnOk result (trace.new.count ≡ trace.old.count + length names.now) }
     ensures counted { OnOk result (IsCounted trace.new.count trace.new.lines.passed) }
     ensures failed { OnReadFault result (ReadFails F.feeds feeds.old feeds.new) }
     ensures grow { trace.new.grow ≡ trace.old.grow }
@@ -128,10 +131,11 @@ pub(crate) fn read_head<A: Firing, F: Feeds>(
     requires open { (F.feeds feeds.old).is_open TRACE_FEED ≡ true }
     requires counted { IsCounted trace.old.count trace.old.lines.passed }
     requires few { length names.now ≤ max_instances }
-    ensures read { OnOk result (PassesHead A.State first.now (map string_bytes names.now) trace.old (F.feeds feeds.old)
-        trace.new (F.feeds feeds.new)) }
-    ensures judged { IfErr result (JudgesHead A.State first.now (map string_bytes names.now)
-        trace.old (F.feeds feeds.old)) }
+    ensures read { OnOk result (ReadsHead A.State F.feeds first.now names.now trace.old feeds.old
+        trace.new feeds.new) }
+    ensures judged { IfErr result (RefusesHead A.State F.feeds first.now names.now trace.old
+        feeds.old) }
+    ensures number { OnOk result (trace.new.count ≡ trace.old.count + 1 + length names.now) }
     ensures counted { OnOk result (IsCounted trace.new.count trace.new.lines.passed) }
     ensures failed { OnReadFault result (ReadFails F.feeds feeds.old feeds.new) }
     ensures grow { trace.new.grow ≡ trace.old.grow }

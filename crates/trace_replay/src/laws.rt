@@ -2,7 +2,7 @@
 //!
 //! Each law is the contract of a function that does nothing: it is proved with the crate, and can be cited.
 
-ghost use Rattle.trace_replay.specs.Laws.{IsToldOnce, LinesMakeTraces, NoTraceIsNotRun, TracesAreLines, WhatFailsMayNotCome};
+ghost use Rattle.trace_replay.specs.Laws.{IsToldOnce, LinesMakeTraces, NewCellsBegin, NoTraceIsNotRun, TracesAreLines, WhatFailsMayNotCome};
 
 use net_model::{Meaning, sent_lists_only_grow};
 use trace_text::text_tells_a_line;
@@ -37,3 +37,9 @@ pub fn no_trace_is_told_once<M: Meaning>()
     text_tells_a_line();
     sent_lists_only_grow::<M>();
 }
+
+/// A run that begins from cells as they were made, before which no token waits, begins where each run of their network
+/// over these files does.
+pub fn new_cells_begin_at_the_start<M: Meaning>()
+    ensures { NewCellsBegin M.State }
+{}

@@ -8,7 +8,7 @@ ghost use Rattle.trace_replay.specs.Head.{JudgesEnd, PassesEnd};
 ghost use Rattle.trace_replay.specs.Judging.{is_of_table as of_table};
 ghost use Rattle.trace_replay.specs.declared.scan.Scanned.TheVariants as scanned;
 ghost use Rattle.trace_replay.specs.declared.why.ReplayFault.TheVariants as fault;
-ghost use Rattle.trace_replay.specs.Reading.{IsCounted, IsRead, IsStop, OnReadFault, Stops};
+ghost use Rattle.trace_replay.specs.Reading.{IsCounted, IsStop, OnReadFault, ReadsLine, StopsAtLine};
 ghost use Rattle.trace_replay.specs.declared.bytes.TheConstants.{TRACE_FEED};
 
 use crate::bytes::TRACE_FEED;
@@ -77,16 +77,12 @@ impl Trace {
     ) -> Result<Read, ReplayFault>
         requires open { (F.feeds feeds.old).is_open TRACE_FEED ≡ true }
         requires counted { IsCounted self.old.count self.old.lines.passed }
-        ensures read { IfOk result (λ read. IsRead (front.now ++ name.now ++ line_feed) self.old.grow
-            self.old.lines.passed self.new.lines.passed
-            (coming_on self.old.lines.bytes (F.feeds feeds.old) TRACE_FEED)
-            (coming_on self.new.lines.bytes (F.feeds feeds.new) TRACE_FEED) read.line read.same) }
+        ensures read { IfOk result (ReadsLine F.feeds front.now name.now self.old feeds.old self.new
+            feeds.new) }
         ensures count { IfOk result (λ _. self.new.count ≡ self.old.count + 1) }
         ensures counted { IfOk result (λ _. IsCounted self.new.count self.new.lines.passed) }
-        ensures stops { IfErr result (λ fault. Stops (front.now ++ name.now ++ line_feed)
-            self.old.grow (self.old.count + 1) self.old.lines.passed
-            (coming_on self.old.lines.bytes (F.feeds feeds.old) TRACE_FEED)
-            (coming_on self.new.lines.bytes (F.feeds feeds.new) TRACE_FEED) fault) }
+        ensures stops { IfErr result (StopsAtLine F.feeds front.now name.now self.old feeds.old
+            self.new feeds.new) }
         ensures failed { OnReadFault result (ReadFails F.feeds feeds.old feeds.new) }
         ensures grow { self.new.grow ≡ self.old.grow }
         ensures elsewhere { PullsOnly F.feeds feeds.old feeds.new TRACE_FEED }

@@ -6,7 +6,7 @@ ghost use Rattle.port_files.specs.Coming.{coming_on};
 ghost use Rattle.trace_text.specs.Text.{line_feed};
 ghost use Rattle.trace_replay.specs.Judging.{max_trace_bytes};
 ghost use Rattle.trace_replay.specs.Reading.{TellsRest};
-ghost use Rattle.trace_replay.specs.Scanning.{IsFrontOf, IsPast, IsWithin, Scans, Tells};
+ghost use Rattle.trace_replay.specs.Scanning.{IsWithin, ScansLine, ScansPast, TellsFront, TellsWhole};
 ghost use Rattle.trace_replay.specs.declared.bytes.TheConstants.{TRACE_FEED};
 
 use crate::bytes::TraceBytes;
@@ -67,9 +67,8 @@ impl TraceLines {
     ) -> Result<Scanned, Failed>
         requires open { (F.feeds feeds.old).is_open TRACE_FEED ≡ true }
         requires within { self.old.passed ≤ max_trace_bytes }
-        ensures scans { IfOk result (λ scanned. Scans (front.now ++ name.now ++ line_feed)
-            self.old.passed self.new.passed (coming_on self.old.bytes (F.feeds feeds.old) TRACE_FEED)
-            (coming_on self.new.bytes (F.feeds feeds.new) TRACE_FEED) scanned) }
+        ensures scans { IfOk result (ScansLine F.feeds front.now name.now self.old feeds.old
+            self.new feeds.new) }
         ensures within { IfOk result (λ scanned. IsWithin self.new.passed scanned) }
         ensures failed { OnErr result (ReadFails F.feeds feeds.old feeds.new) }
         ensures elsewhere { PullsOnly F.feeds feeds.old feeds.new TRACE_FEED }
@@ -128,9 +127,7 @@ impl TraceLines {
     fn scan_past<F: Feeds>(&mut self, feeds: &mut F) -> Result<Scanned, Failed>
         requires open { (F.feeds feeds.old).is_open TRACE_FEED ≡ true }
         requires full { self.old.passed ≡ max_trace_bytes }
-        ensures past { IfOk result (λ scanned. IsPast self.old.passed self.new.passed
-            (coming_on self.old.bytes (F.feeds feeds.old) TRACE_FEED)
-            (coming_on self.new.bytes (F.feeds feeds.new) TRACE_FEED) scanned) }
+        ensures past { IfOk result (ScansPast F.feeds self.old feeds.old self.new feeds.new) }
         ensures failed { OnErr result (ReadFails F.feeds feeds.old feeds.new) }
         ensures elsewhere { PullsOnly F.feeds feeds.old feeds.new TRACE_FEED }
     {
@@ -147,18 +144,14 @@ impl TraceLines {
 
 /// Whether a text that was expected up to `at` still is with a byte more.
 fn still_expected(same: bool, front: &[u8], name: &[u8], at: u64, byte: u8) -> bool
-    ensures { (text : List ℕ) → length text ≡ at
-        → Tells same (IsFrontOf (front.now ++ name.now ++ line_feed) text)
-        → Tells result (IsFrontOf (front.now ++ name.now ++ line_feed) (text ++ byte ∷ [])) }
+    ensures { TellsFront front.now name.now same at byte result }
 {
     same && is_expected(front, name, at, byte)
 }
 
 /// Whether a text of so many bytes, which was expected so far, is all that was expected.
 fn is_whole(same: bool, front: &[u8], name: &[u8], count: u64) -> bool
-    ensures { (text : List ℕ) → length text ≡ count
-        → Tells same (IsFrontOf (front.now ++ name.now ++ line_feed) text)
-        → Tells result (text ≡ front.now ++ name.now ++ line_feed) }
+    ensures { TellsWhole front.now name.now same count result }
 {
     same && is_long(front, name, count)
 }

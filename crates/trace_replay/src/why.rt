@@ -13,7 +13,8 @@ pub enum Why {
     NoRoom,
     /// The action traps; or a trap that the line names doesn't come.
     Trap,
-    /// What the line says of the state isn't true.
+    /// What the line says of the state isn't true; or it says that a link grows and isn't judged, since it stands right
+    /// behind neither a delivery nor another growth.
     End,
     /// It stands behind an end line.
     After,

@@ -4,8 +4,8 @@ use Rattle.trace_replay.proofs.Chained.{marks_then, same_then}
 use Rattle.trace_replay.proofs.Filled.{delivered_all, on_ok_after}
 use Rattle.trace_replay.proofs.delivering.deliver_all.Goals as goal
 
-pub returns-clause-delivers : goal.returns-clause-delivers
-returns-clause-delivers g c =
+pub returns-clause-made : goal.returns-clause-made
+returns-clause-made g c =
     on_ok_after c.fill_all.result _ _
     (delivered_all (seen g.A.Firing.cell c.args.state.now) (seen g.A.Firing.cell c.deliver.new.self) (seen g.A.Firing.cell c.fill_all.new.state) c.args.sources.now c.fill_all.new.sources
     (g.F.Feeds.feeds c.args.feeds.now) (g.F.Feeds.feeds c.fill_all.new.feeds) c.deliver.ensures.states)

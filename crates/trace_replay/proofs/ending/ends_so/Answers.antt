@@ -12,11 +12,11 @@ pub returns-clause-yes : goal.returns-clause-yes
 returns-clause-yes g c = λ same.
     ends_yes c.args.grow c.args.line.now c.end_line-end.result (seen g.A.Firing.cell c.args.state.now) (seen g.A.Firing.cell c.deliver_all.new.state)
     c.args.sources.now c.deliver_all.new.sources (g.F.Feeds.feeds c.args.feeds.now) (g.F.Feeds.feeds c.deliver_all.new.feeds)
-    c.end_line-end.ensures (c.is_line.ensures.yes same) (c.is_settled.ensures.yes c.if-not-is_settled.false) c.in-Ok.ensures.delivers
+    c.end_line-end.ensures (c.is_line.ensures.yes same) (c.is_settled.ensures.yes c.if-not-is_settled.false) c.in-Ok.ensures.made
 
 pub returns-clause-no : goal.returns-clause-no
 returns-clause-no g c = λ differ.
     ends_no c.stalled_in_one_place.ensures.one_place c.stalled_in_one_place.ensures.not_quiet
     c.args.grow c.args.line.now c.end_line-end.result (seen g.A.Firing.cell c.args.state.now) (seen g.A.Firing.cell c.deliver_all.new.state)
     c.args.sources.now c.deliver_all.new.sources (g.F.Feeds.feeds c.args.feeds.now) (g.F.Feeds.feeds c.deliver_all.new.feeds)
-    c.end_line-end.ensures (c.is_line.ensures.no differ) (c.is_settled.ensures.yes c.if-not-is_settled.false) c.in-Ok.ensures.delivers
+    c.end_line-end.ensures (c.is_line.ensures.no differ) (c.is_settled.ensures.yes c.if-not-is_settled.false) c.in-Ok.ensures.made

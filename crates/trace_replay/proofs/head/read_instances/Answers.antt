@@ -39,6 +39,7 @@ names-preserved g c =
           let is : Here t.net.leaves c.names.k (string_bytes c.index-names-k.result) = here string_bytes t.net.leaves c.args.names.now c.names.k c.index-names-k.result named at in
           c.in-Ok.ensures.read t text is.leaf (drop (c.names.k + 1) t.net.leaves) (same ∙ sym c.names.invariant.grow) is.named
           (due_here t text c.names.k c.names.trace.count c.names.trace.lines.passed now (string_bytes c.index-names-k.result) is (c.names.invariant.read t text same named has));
+      number = omega (arith, c.in-Ok.ensures.number, c.names.invariant.number);
       counted = c.in-Ok.ensures.counted;
       low = omega (arith, c.names-test.true);
       grow = c.read_instance.ensures.grow ∙ c.names.invariant.grow;
@@ -50,6 +51,7 @@ pub names-init : goal.names-init
 names-init g c = record {
   read = due_start g.A.Firing.State (map string_bytes c.args.names.now) c.args.trace.now.grow c.args.trace.now.count c.args.trace.now.lines.passed
       (coming_on c.args.trace.now.lines.bytes (g.F.Feeds.feeds c.args.feeds.now) TRACE_FEED);
+  number = omega arith;
   counted = c.requires.counted;
   low = omega arith;
   grow = refl;
@@ -58,3 +60,6 @@ names-init g c = record {
 
 pub names-smaller : goal.names-smaller
 names-smaller g c = let low : c.names.k < length c.args.names.now = c.names-test.true in omega (arith, low)
+
+pub returns-clause-number : goal.returns-clause-number
+returns-clause-number g c = omega (arith, c.names.invariant.number, c.names.invariant.low, c.names-test.false)

@@ -4,7 +4,7 @@ use Rattle.trace_replay.specs.Judging.{max_trace_bytes}
 use Rattle.trace_replay.specs.Reading.{IsJudged, TellsRest}
 use Rattle.trace_replay.specs.declared.bytes.TheConstants.{TRACE_FEED}
 use Rattle.trace_replay.proofs.Limits.{max_is}
-use Rattle.trace_replay.proofs.Whole.{behind_end, past_end}
+use Rattle.trace_replay.proofs.Whole.{behind_end, past_end, text_is, whole_is}
 use Rattle.trace_replay.proofs.reading.finish.Goals as goal
 
 pub overflow_add-number : goal.overflow_add-number
@@ -23,3 +23,10 @@ returns-clause-judged g c = λ t text end last has.
     (behind_end t text c.args.trace.now.count c.args.trace.now.lines.passed end last (coming_on c.args.trace.now.lines.bytes (g.F.Feeds.feeds c.args.feeds.now) TRACE_FEED) has
     (subst (λ so. TellsRest so (coming_on c.args.trace.now.lines.bytes (g.F.Feeds.feeds c.args.feeds.now) TRACE_FEED)) c.if-not-more.false c.in-Ok.ensures.rest)
     (c.is_full-full.ensures.no c.if-full.false))
+
+pub returns-then-not-more-clause-whole : goal.returns-then-not-more-clause-whole
+returns-then-not-more-clause-whole g c = λ t text end last has.
+    let tells = subst (λ so. TellsRest so (coming_on c.args.trace.now.lines.bytes (g.F.Feeds.feeds c.args.feeds.now) TRACE_FEED)) c.if-not-more.true c.in-Ok.ensures.rest in (
+      whole_is t text c.args.trace.now.count c.args.trace.now.lines.passed end last (coming_on c.args.trace.now.lines.bytes (g.F.Feeds.feeds c.args.feeds.now) TRACE_FEED) has tells c.requires.counted.within,
+      text_is t text c.args.trace.now.count c.args.trace.now.lines.passed end last (coming_on c.args.trace.now.lines.bytes (g.F.Feeds.feeds c.args.feeds.now) TRACE_FEED) has tells,
+    )

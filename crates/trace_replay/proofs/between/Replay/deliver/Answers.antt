@@ -16,7 +16,7 @@ returns-in-Ok-clause-goes g c =
     (delivered_goes c.args.self.now.grow (seen g.A.Firing.cell c.args.self.now.state) (seen g.A.Firing.cell c.deliver_all.new.state) c.args.self.now.sources.items c.deliver_all.new.sources c.args.self.now.rested
     (g.F.Feeds.feeds c.args.feeds.now) (g.F.Feeds.feeds c.deliver_all.new.feeds)
     (subst (λ xs. DeliversAll (seen g.A.Firing.cell c.args.self.now.state) (seen g.A.Firing.cell c.deliver_all.new.state) xs c.deliver_all.new.sources (g.F.Feeds.feeds c.args.feeds.now) (g.F.Feeds.feeds c.deliver_all.new.feeds))
-    c.deref_mut.ensures.value c.in-Ok.ensures.delivers))
+    c.deref_mut.ensures.value c.in-Ok.ensures.made))
 
 pub returns-in-Ok-clause-still_ready : goal.returns-in-Ok-clause-still_ready
 returns-in-Ok-clause-still_ready g c =

@@ -1,0 +1,26 @@
+use Rattle.std.specs.Prelude.{◌≡◌, ◌-◌, ◌≤◌, true, length}
+use Rattle.trace_replay.specs.Between.{IsReadyToGo, stand}
+use Rattle.trace_replay.specs.Judging.{max_trace_bytes}
+use Rattle.trace_replay.specs.Reading.{IsCounted}
+use Rattle.trace_replay.specs.declared.bytes.TheConstants.{TRACE_FEED}
+use Rattle.trace_replay.proofs.Led.{LedFrom}
+use Rattle.trace_replay.proofs.events.read_events.Given as goal
+
+abbrev pub invariant-lines : goal.invariant-lines
+invariant-lines g l =
+    record {
+      led : LedFrom l.initial.trace (stand g.A.Firing.cell g.F.Feeds.feeds l.initial.replay l.initial.feeds) l.initial.replay.grow
+          l.trace (stand g.A.Firing.cell g.F.Feeds.feeds l.replay l.feeds) l.tally.firings l.tally.rounds;
+      firings : l.tally.firings ≤ l.trace.count;
+      rounds : l.tally.rounds ≤ l.trace.count;
+      is_open : (g.F.Feeds.feeds l.feeds).is_open TRACE_FEED ≡ true;
+      counted : IsCounted l.trace.count l.trace.lines.passed;
+      count : l.replay.count ≡ length l.replay.state.cells;
+      ready : IsReadyToGo g.A.Firing.cell g.F.Feeds.feeds l.replay l.feeds;
+      grow : l.replay.grow ≡ l.initial.replay.grow;
+      trace_grow : l.trace.grow ≡ l.replay.grow;
+      faults : (g.F.Feeds.feeds l.initial.feeds).faults ≤ (g.F.Feeds.feeds l.feeds).faults;
+    }
+
+abbrev pub decreases-lines : goal.decreases-lines
+decreases-lines g l = max_trace_bytes - l.trace.count

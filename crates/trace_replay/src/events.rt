@@ -1,0 +1,117 @@
+//! The lines of a run, one after another up to the end line.
+
+ghost use Rattle.std.specs.Prelude.{◌≡◌, ◌≤◌, true, false, IfOk, IfErr, length};
+ghost use Rattle.rvc_io.specs.Feeds.{ReadFails};
+ghost use Rattle.net_model.specs.Limits.{max_instances};
+ghost use Rattle.trace_replay.specs.Between.{IsReadyToGo};
+ghost use Rattle.trace_replay.specs.Events.{EndsEvents, EndsTrace, JudgesEvents, JudgesTrace};
+ghost use Rattle.trace_replay.specs.Head.{JudgesEnd};
+ghost use Rattle.trace_replay.specs.Tallying.{EndsWhole};
+ghost use Rattle.trace_replay.specs.Reading.{IsCounted, OnReadFault};
+ghost use Rattle.trace_replay.specs.declared.bytes.TheConstants.{TRACE_FEED};
+
+use crate::between::Replay;
+use crate::came::Came;
+use crate::head::read_head;
+use crate::reading::{Trace, finish, not_run};
+use crate::replayed::Replayed;
+use crate::tally::{Tally, counted};
+use crate::why::ReplayFault;
+use net_model::Firing;
+use rvc_io::Feeds;
+use trace_text::Line;
+
+/// Reads lines of a run up to its end line, and whether the trace ends there.
+///
+/// # Errors
+///
+/// `NotRun` if a line may not come, with its number and why. `ReadFault` if bytes couldn't be pulled.
+pub(crate) fn read_events<A: Firing, F: Feeds>(
+    trace: &mut Trace,
+    replay: &mut Replay<A>,
+    feeds: &mut F,
+) -> Result<Replayed, ReplayFault>
+    requires open { (F.feeds feeds.old).is_open TRACE_FEED ≡ true }
+    requires counted { IsCounted trace.old.count trace.old.lines.passed }
+    requires count { replay.old.count ≡ length replay.old.state.cells }
+    requires ready { IsReadyToGo A.cell F.feeds replay.old feeds.old }
+    requires grow { trace.old.grow ≡ replay.old.grow }
+    requires fresh { replay.old.rested ≡ false }
+    ensures ended { IfOk result (EndsEvents A.cell F.feeds trace.old replay.old feeds.old) }
+    ensures judged { IfErr result (JudgesEvents A.cell F.feeds trace.old replay.old feeds.old) }
+    ensures failed { OnReadFault result (ReadFails F.feeds feeds.old feeds.new) }
+{
+    let mut tally = Tally {
+        firings: 0,
+        rounds: 0,
+    };
+    'lines: loop {
+        let read = match trace.next_line(&[], &[], feeds) {
+            Ok(read) => read,
+            Err(fault) => return Err(fault),
+        };
+        tally = counted(tally, &read.line);
+        match replay.come(&read.line, feeds) {
+            Came::Goes => {}
+            Came::Ends => return end_at::<A, F>(trace, read.line, tally, feeds),
+            Came::Fails(why) => return Err(not_run(trace.number(), why)),
+            Came::FeedFails(feed) => return Err(ReplayFault::ReadFault { feed }),
+        }
+    }
+}
+
+/// The end line that was read, if the trace ends behind it.
+fn end_at<A: Firing, F: Feeds>(
+    trace: &mut Trace,
+    end: Line,
+    tally: Tally,
+    feeds: &mut F,
+) -> Result<Replayed, ReplayFault>
+    requires open { (F.feeds feeds.old).is_open TRACE_FEED ≡ true }
+    requires counted { IsCounted trace.old.count trace.old.lines.passed }
+    ensures whole { IfOk result (EndsWhole A.State F.feeds end tally trace.old feeds.old) }
+    ensures judged { IfErr result (JudgesEnd A.State trace.old (F.feeds feeds.old)) }
+    ensures failed { OnReadFault result (ReadFails F.feeds feeds.old feeds.new) }
+{
+    match finish::<A, F>(trace, feeds) {
+        Ok(()) => Ok(Replayed {
+            end,
+            firings: tally.firings,
+            rounds: tally.rounds,
+        }),
+        Err(fault) => Err(fault),
+    }
+}
+
+/// Reads a trace from its first line, which is to be this one, up to its end line. The instances have these paths and
+/// classes.
+///
+/// # Errors
+///
+/// `NotRun` if a line may not come, with its number and why. `ReadFault` if bytes couldn't be pulled.
+pub(crate) fn read_trace<A: Firing, F: Feeds>(
+    trace: &mut Trace,
+    replay: &mut Replay<A>,
+    first: &Line,
+    names: &[String],
+    feeds: &mut F,
+) -> Result<Replayed, ReplayFault>
+    requires open { (F.feeds feeds.old).is_open TRACE_FEED ≡ true }
+    requires counted { IsCounted trace.old.count trace.old.lines.passed }
+    requires few { length names.now ≤ max_instances }
+    requires count { replay.old.count ≡ length replay.old.state.cells }
+    requires ready { IsReadyToGo A.cell F.feeds replay.old feeds.old }
+    requires grow { trace.old.grow ≡ replay.old.grow }
+    requires fresh { replay.old.rested ≡ false }
+    ensures ended { IfOk result (EndsTrace A.cell F.feeds first.now names.now trace.old replay.old
+        feeds.old) }
+    ensures judged { IfErr result (JudgesTrace A.cell F.feeds first.now names.now trace.old replay.old
+        feeds.old) }
+    ensures failed { OnReadFault result (ReadFails F.feeds feeds.old feeds.new) }
+{
+    match read_head::<A, F>(trace, first, names, feeds) {
+        Ok(()) => {}
+        Err(fault) => return Err(fault),
+    }
+    read_events(trace, replay, feeds)
+}
