@@ -26,14 +26,23 @@ HasOutlet outlets link (AtLeaf inst port) = Unit {0}
 HasOutlet outlets link (AtNet port) =
     (suc port ≤ length outlets) × (is_input link ≡ false)
 
+-- so many outputs have a channel's number
+abbrev pub max_outlets : ℕ
+max_outlets = 4294967293
+
 -- .. and the channel of each that a word names is open
 pub record OutletsFit (links : List Link) (outlets : List Outlet) (channels : Channels) :
     Type 0 where
-  pub few : length outlets ≤ 4096
+  pub few : length outlets ≤ max_outlets
   pub sizes : (p : ℕ) (outlet : Outlet) → slice_get outlets p ≡ Some outlet → IsSize outlet.kind
   pub led_to : (l : ℕ) (link : Link) → slice_get links l ≡ Some link → HasOutlet outlets link link.to
   pub open_channels : (p : ℕ) (outlet : Outlet) → slice_get outlets p ≡ Some outlet
       → outlet.is_open ≡ true → channels.is_open (2 + p) ≡ true
+
+-- the channel of an output that has one
+abbrev pub IsChannelOf : List Outlet → ℕ → Type 0
+IsChannelOf outlets channel = (p : ℕ) × (outlet : Outlet) × (slice_get outlets p ≡ Some outlet)
+    × (outlet.is_open ≡ true) × (channel ≡ 2 + p)
 
 -- each output that has a channel: what its text is, and what is buffered for it
 abbrev pub EachOutlet : List Outlet → (ℕ → Outlet → Type 0) → Type 0
