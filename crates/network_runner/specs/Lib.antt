@@ -9,3 +9,5 @@ pub mod Asking
 pub mod Keeping
 pub mod Making
 pub mod Counting
+pub mod Stepping
+pub mod Putting

@@ -35,6 +35,14 @@ pub record ClosedBy {X : Type 0} (trap : Option Trapped) (fired : ℕ) (lacks : 
   pub by_none : trap ≡ None → fired ≡ 0 → all ≡ true → ClosesAllIdle grow lacks answer old new
   pub same_cells : new.cells ≡ old.cells
 
+-- if the run goes on and there are instances, the policy was asked about them in this round
+abbrev pub AsksAgain : RoundEnd → ℕ → ℕ → ℕ → ℕ → Type 0
+AsksAgain (round.Fired n) instances turn asked about = (asked ≡ turn) × (about ≡ instances)
+AsksAgain round.Idle instances turn asked about = (asked ≡ turn) × (about ≡ instances)
+AsksAgain (round.Grew link capacity) instances turn asked about =
+    (asked ≡ turn) × (about ≡ instances)
+AsksAgain (round.End how) instances turn asked about = Unit {0}
+
 -- what is asked if all were picked and nothing fired
 pub record MayClose {X : Type 0} (grow : ℕ) (lacks : Option Lacking) (held : Held (Cell X)) :
     Type 0 where

@@ -1,6 +1,6 @@
 //! What closes a round.
 
-ghost use Rattle.std.specs.Prelude.{◌≡◌, false, map};
+ghost use Rattle.std.specs.Prelude.{◌≡◌, None, false, map};
 ghost use Rattle.net_state.specs.Held.{seen};
 ghost use Rattle.net_state.specs.Working.{IsAtRest};
 ghost use Rattle.network_runner.specs.Closing.{ClosesAllIdle, GrowsBy, MayGrow};
@@ -22,6 +22,7 @@ pub fn close_idle<A: Firing>(net: &mut NetState<A>, lacks: Option<Lacking>, grow
     ensures grows { GrowsBy result grow net.old.capacities net.new.capacities }
     ensures ended { CountsTo result 0 }
     ensures no_trap { is_trap result ≡ false }
+    ensures quiet { lacks ≡ None → result ≡ RoundEnd.End RunEnd.Quiet }
     ensures cells { net.new.cells ≡ net.old.cells }
     ensures links { net.new.links ≡ net.old.links }
     ensures waited { net.new.waited ≡ net.old.waited }

@@ -15,6 +15,7 @@ mod feeding;
 mod firing;
 mod making;
 mod noting;
+mod putting;
 mod runner;
 mod sending;
 mod spending;

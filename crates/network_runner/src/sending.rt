@@ -50,7 +50,7 @@ pub fn send_all<A: Firing, D: Drains>(
         drains.new writers.old result }
     ensures failed { OnErr result (WriteFails D.channels drains.old drains.new) }
     ensures channel { IfErr result (λ fault. IsChannelOf outlets.now fault.channel) }
-    ensures only { SendsOnly (D.channels drains.old) (D.channels drains.new) }
+    ensures only { SendsOnly outlets.now (D.channels drains.old) (D.channels drains.new) }
     ensures still_as_many { length writers.new ≡ length writers.old }
 {
     for l in 0..links.len() {
@@ -77,7 +77,7 @@ fn send_link<A: Firing, D: Drains>(
         drains.new writers.old result }
     ensures failed { OnErr result (WriteFails D.channels drains.old drains.new) }
     ensures channel { IfErr result (λ fault. IsChannelOf outlets.now fault.channel) }
-    ensures only { SendsOnly (D.channels drains.old) (D.channels drains.new) }
+    ensures only { SendsOnly outlets.now (D.channels drains.old) (D.channels drains.new) }
     ensures still_as_many { length writers.new ≡ length writers.old }
 {
     let End::Net { port } = link.to else {

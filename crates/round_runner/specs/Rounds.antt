@@ -20,13 +20,13 @@ use Rattle.round_runner.specs.declared.outcome.RoundEnd.{RoundEnd}
 use Rattle.round_runner.specs.declared.outcome.RoundEnd.TheVariants as round
 use Rattle.round_runner.specs.declared.outcome.RunEnd.{RunEnd}
 use Rattle.round_runner.specs.declared.outcome.RunEnd.TheVariants as end
-use Rattle.round_runner.specs.Running.{Running, StandsWith, arrived_to, moment_of, pace_of}
+use Rattle.round_runner.specs.Running.{Running, StandsWith, moment_of, pace_of}
 
 -- What is written.
 
--- the tokens that go out to network output p when all that had arrived at the first state has gone out
+-- the tokens that go out to network output p when all that had been sent at the first state has gone out
 abbrev pub gone_since : {X : Type 0} → Network X → ℕ → State X → List ℤ → List ℤ
-gone_since net p s tokens = drop (length (arrived_to p net.links s.flows)) tokens
+gone_since net p s tokens = drop (length (sent_to p net.links s.flows)) tokens
 
 abbrev pub out_bytes : {X : Type 0} → Network X → ℕ → State X → List ℤ → List ℕ
 out_bytes net p s tokens = all_encoded (kind_at net.outs p) (gone_since net p s tokens)
@@ -79,7 +79,7 @@ CountsOn {X} net inputs s lines last counts new = (first : State X) (before : Li
     → IsCounted net inputs first before s counts
     → IsCounted net inputs first (before ++ lines) last new
 
--- A round was made from this state, and the run goes on.
+-- A round was made from this state, and the run goes on. What was sent to outputs goes out at once.
 pub record Made {X : Type 0} (net : Network X) (inputs : List (List ℕ)) (budget left : ℕ) (s : State X) (answer : RoundEnd) (run new : Running (Cell X)) (feeds : Inputs) (old now : Channels) : Type 0 where
   pub block : Block
   pub last : State X
@@ -89,11 +89,10 @@ pub record Made {X : Type 0} (net : Network X) (inputs : List (List ℕ)) (budge
   pub rounds : new.rounds ≡ suc run.rounds
   pub idle : new.idle ≡ (count_of block.bursts == 0)
   pub trace : GetsSome run new old now 1 (text_of (lines_of block))
-  pub outputs : EachOut net run (GetsSome run new old now) s
-      (λ p. arrived_to p net.links last.flows)
+  pub outputs : EachOut net run (GetsSome run new old now) s (λ p. sent_to p net.links last.flows)
   pub counts : CountsOn net inputs s (lines_of block) last run.counts new.counts
 
--- A round was made, which ended the run. All that was sent goes out, and nothing stays buffered.
+-- A round was made, which ended the run. Nothing stays buffered.
 pub record Closed {X : Type 0} (net : Network X) (inputs : List (List ℕ)) (budget left : ℕ) (s : State X) (how : RunEnd) (run new : Running (Cell X)) (old now : Channels) : Type 0 where
   pub block : Block
   pub last : State X
@@ -103,13 +102,13 @@ pub record Closed {X : Type 0} (net : Network X) (inputs : List (List ℕ)) (bud
   pub outputs : EachOut net run (GetsAll run old now) s (λ p. sent_to p net.links last.flows)
   pub counts : CountsOn net inputs s (lines_of block) last run.counts new.counts
 
--- A feed couldn't be read: no line is written, and what was sent before goes out.
+-- A feed couldn't be read: no line is written, and nothing stays buffered.
 pub record CutOff {X : Type 0} (net : Network X) (s : State X) (run new : Running (Cell X)) (old now : Channels) : Type 0 where
   pub trace : GetsAll run old now 1 []
   pub outputs : EachOut net run (GetsAll run old now) s (λ p. sent_to p net.links s.flows)
   pub counts : new.counts ≡ run.counts
 
--- A channel couldn't be written. Each got a prefix of its text for what was sent before, or for the round.
+-- A channel couldn't be written. Each got a prefix of what was buffered and of its text for the round, if one was made.
 pub record Breaks {X : Type 0} (net : Network X) (s last : State X) (lines : List Line) (run : Running (Cell X)) (old now : Channels) : Type 0 where
   pub trace : GetsFront run old now 1 (text_of lines)
   pub outputs : EachOut net run (GetsFront run old now) s (λ p. sent_to p net.links last.flows)

@@ -1,6 +1,6 @@
 -- A runner between two rounds, as contracts see it, and the state of the network at which it stands.
 -- Trusted: part of what a promise means.
-use Rattle.std.specs.Prelude.{◌≡◌, ℕ, suc, Bool, true, false, List, [], ◌∷◌, ℤ, map, take, slice_get, slice_index_or, Option, None, Some, if◌then◌else◌}
+use Rattle.std.specs.Prelude.{◌≡◌, ℕ, suc, Bool, true, false, List, [], ◌∷◌, map, take, slice_get, slice_index_or, Option, None, Some, if◌then◌else◌}
 use Rattle.rvc_base.specs.declared.scalar.Scalar.{Scalar}
 use Rattle.rvc_base.specs.declared.round_kind.RoundKind.{RoundKind}
 use Rattle.rvc_io.specs.Feeds.{Inputs}
@@ -9,8 +9,8 @@ use Rattle.net_model.specs.declared.wiring.Counts.{Counts}
 use Rattle.net_model.specs.declared.wiring.End.{End}
 use Rattle.net_model.specs.declared.wiring.End.TheVariants.{Leaf as AtLeaf, Net as AtNet}
 use Rattle.net_model.specs.declared.wiring.Link.{Link}
-use Rattle.net_model.specs.Network.{Network, is_input, is_net_port}
-use Rattle.net_model.specs.State.{Flow, State}
+use Rattle.net_model.specs.Network.{Network, is_input}
+use Rattle.net_model.specs.State.{State}
 use Rattle.net_model.specs.Cell.{Cell}
 use Rattle.net_model.specs.Counted.{rest_at}
 use Rattle.net_model.specs.Laws.{AreLawful}
@@ -111,15 +111,6 @@ pub record StandsWith {X : Type 0} (net : Network X) (inputs : List (List ℕ)) 
   pub is_run_of : IsRunOf net run
   pub stands : StandsIn net run.held s
   pub fed : AreFedBy net inputs s run.readings feeds
-
--- Outputs.
-
--- the tokens that arrived at network output p
-abbrev pub arrived_to : ℕ → List Link → List Flow → List ℤ
-arrived_to p [] flows = []
-arrived_to p (link ∷ links) [] = []
-arrived_to p (link ∷ links) (flow ∷ flows) =
-    if is_net_port p link.to then take flow.arrived flow.sent else arrived_to p links flows
 
 -- What a call asks of the outside.
 
