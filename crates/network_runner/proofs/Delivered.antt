@@ -17,7 +17,7 @@ use Rattle.net_state.specs.Working.{AreFed, IsAtRest}
 use Rattle.net_state.proofs.Coming.{by_bool, if_true, if_false}
 use Rattle.round_runner.specs.Running.{AreFedBy, ComesBy, feed_of}
 use Rattle.network_runner.specs.Delivering.{Delivers}
-use Rattle.network_runner.specs.Filling.{CameOn, Fills, IsFilled, after_inputs, input_delivered}
+use Rattle.network_runner.specs.Filling.{CameOn, CameOverOn, Fills, IsFilled, after_inputs, input_delivered}
 
 both_ways : (link : Link) (flow : Flow) → input_delivered link (inside_delivered link flow) ≡ delivered link flow
 both_ways link flow = by_bool (is_input link)
@@ -57,17 +57,9 @@ comes_as s t l f rest link (Some (Some reading)) feeds same comes = ((comes.0.0,
 told_as : (ports : List NetPort) (inputs : List (List ℕ)) (o : Option Link) (p q : Option Flow) (came : Option Filled) → ((link : Link) → o ≡ Some link → is_input link ≡ true → p ≡ q)
     → CameOn ports inputs o p came → CameOn ports inputs o q came
 told_as ports inputs None p q came same told = tt
-told_as ports inputs (Some link) p q came same told = by_bool (is_input link)
-    (λ input. subst (λ r. CameOn ports inputs (Some link) r came) (same link refl input) told)
-    (λ other. vacuous q came other)
-  where
-    no : {P : Type 0} → is_input link ≡ false → is_input link ≡ true → P
-    no is not = (let e : true ≡ false = sym not ∙ is in cc)
-
-    vacuous : (r : Option Flow) (c : Option Filled) → is_input link ≡ false → CameOn ports inputs (Some link) r c
-    vacuous None c other = λ input. no other input
-    vacuous (Some flow) None other = λ input. no other input
-    vacuous (Some flow) (Some filled) other = λ input. no other input
+told_as ports inputs (Some link) p q None same told = told
+told_as ports inputs (Some link) p q (Some filled) same told =
+    (λ input. subst (λ r. CameOverOn (rest_at ports inputs link.from) link r filled) (same link refl input) (told.0 input), told.1)
 
 pub delivers : {X : Type 0} (old mid new : Held (Cell X)) (before after : List (Option Reading)) (fo fn : Inputs) (came : List Filled)
     → LeadInside old mid → IsAtRest mid → Fills mid new before after fo fn came → Delivers old new before after fo fn came

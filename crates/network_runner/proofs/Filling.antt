@@ -333,8 +333,8 @@ module _ (links : List Link) (readings : List (Option Reading)) (fo fn : Inputs)
         let came_here : slice_get (slice_set came l filled) l ≡ Some filled = get_set_same came l (some_at came l low_came).0 filled (some_at came l low_came).1 in
         subst (λ m. CameOn net.ins inputs (slice_get net.links m) (slice_get s.flows m) (slice_get (slice_set came l filled) m)) (sym same)
         (subst (λ o. CameOn net.ins inputs o (slice_get s.flows l) (slice_get (slice_set came l filled) l)) (sym at_net)
-        (subst (λ o. CameOn net.ins inputs (Some link) o (slice_get (slice_set came l filled) l)) (sym flow_at)
-        (subst (CameOn net.ins inputs (Some link) (Some flow)) (sym came_here) one.told))))
+        (subst (λ o. CameOn net.ins inputs (Some link) (slice_get s.flows l) o) (sym came_here)
+        (subst (λ o. CameOn net.ins inputs (Some link) o (Some filled)) (sym flow_at) (one.told, one.none_told)))))
         (λ differ. subst (CameOn net.ins inputs (slice_get net.links k) (slice_get s.flows k)) (sym (get_set_other came k l filled differ)) (so_far.told k (omega (arith, low, differ))))
         (cases_eq k l)
 

@@ -116,7 +116,7 @@ taken_few i needs (AtLeaf inst port) few = by_bool (i == inst.0)
     (λ other. let is : taken_from i needs (AtLeaf inst port) ≡ 0 = if_false (i == inst.0) _ _ other in omega (arith, is))
 
 module _ {X : Type 0} (net : Network X) (wired : IsWired net) (lawful : AreLawful net) where
-  fire_gone : (s t : State X) (i a : ℕ) → happens net s (Fire i a) ≡ Some t → AllGoneOn 1 net s t
+  pub fire_gone : (s t : State X) (i a : ℕ) → happens net s (Fire i a) ≡ Some t → AllGoneOn 1 net s t
   fire_gone s t i a h l link before flow at there now =
       let one : Fired net s t i a = fired_unless net s t i a s.trapped refl h in
       let was : WasChanged (after_firing i (need_of (slice_get net.leaves i) a) one.sent) net.links s.flows l flow =
@@ -135,7 +135,7 @@ module _ {X : Type 0} (net : Network X) (wired : IsWired net) (lawful : AreLawfu
       })
 
   -- the flows are as many
-  fire_count : (s t : State X) (i a : ℕ) → happens net s (Fire i a) ≡ Some t → length s.flows ≡ length net.links → length t.flows ≡ length net.links
+  pub fire_count : (s t : State X) (i a : ℕ) → happens net s (Fire i a) ≡ Some t → length s.flows ≡ length net.links → length t.flows ≡ length net.links
   fire_count s t i a h count =
       let one : Fired net s t i a = fired_unless net s t i a s.trapped refl h in
       ap (λ w. length w.flows) (sym one.is) ∙ counted net.links s.flows count
@@ -148,7 +148,7 @@ module _ {X : Type 0} (net : Network X) (wired : IsWired net) (lawful : AreLawfu
   abbrev Whole : State X → Type 0
   Whole s = length s.flows ≡ length net.links
 
-  flow_at : (s : State X) (l : ℕ) (link : Link) → Whole s → slice_get net.links l ≡ Some link → (flow : Flow) × (slice_get s.flows l ≡ Some flow)
+  pub flow_at : (s : State X) (l : ℕ) (link : Link) → Whole s → slice_get net.links l ≡ Some link → (flow : Flow) × (slice_get s.flows l ≡ Some flow)
   flow_at s l link whole at = by_place net.links s.flows l (sym whole) at
     where
       by_place : (links : List Link) (flows : List Flow) (k : ℕ) → length links ≡ length flows → slice_get links k ≡ Some link → (flow : Flow) × (slice_get flows k ≡ Some flow)
@@ -207,7 +207,7 @@ pub record SameTokens {X : Type 0} (net : Network X) (s t : State X) : Type 0 wh
   pub each : (l : ℕ) (before flow : Flow) → slice_get s.flows l ≡ Some before → slice_get t.flows l ≡ Some flow
       → (flow.sent ≡ before.sent) × (flow.arrived ≡ before.arrived) × (flow.taken ≡ before.taken)
 
-same_tokens : {X : Type 0} (net : Network X) (s t : State X) → t.flows ≡ s.flows → SameTokens net s t
+pub same_tokens : {X : Type 0} (net : Network X) (s t : State X) → t.flows ≡ s.flows → SameTokens net s t
 same_tokens net s t same = record {
   count = ap (λ fs. length fs) same;
   each = λ l before flow there now.
@@ -216,7 +216,7 @@ same_tokens net s t same = record {
 }
 
 -- what the tests need: the state from which a grown one comes
-grown_tokens : {X : Type 0} (net : Network X) (s t : State X) (l capacity : ℕ) (o : Option Flow) → slice_get s.flows l ≡ o → grown s l capacity o ≡ Some t → SameTokens net s t
+pub grown_tokens : {X : Type 0} (net : Network X) (s t : State X) (l capacity : ℕ) (o : Option Flow) → slice_get s.flows l ≡ o → grown s l capacity o ≡ Some t → SameTokens net s t
 grown_tokens net s t l capacity None here h = cc
 grown_tokens {X} net s t l capacity (Some old) here h =
     let wide : Flow = record old { capacity = capacity } in
@@ -246,7 +246,7 @@ grown_tokens {X} net s t l capacity (Some old) here h =
         let is : before ≡ flow = some_is before flow (sym there ∙ (sym (get_set_other s.flows m l (record old { capacity = capacity }) differ) ∙ now)) in
         (ap (λ f. f.sent) (sym is), ap (λ f. f.arrived) (sym is), ap (λ f. f.taken) (sym is))
 
-some_state : {X : Type 0} (a b : State X) → Some a ≡ Some b → a ≡ b
+pub some_state : {X : Type 0} (a b : State X) → Some a ≡ Some b → a ≡ b
 some_state a b e = cc
 
 trap_tokens : {X : Type 0} (net : Network X) (s t : State X) (cause : TrapName) (e : Option (Effect X)) → trap s cause e ≡ Some t → SameTokens net s t
@@ -263,7 +263,7 @@ trap_tokens {X} net s t cause (Some (TrapsInBody d)) h = by_test (number_of_trap
     by_test true e = same_tokens net s t (ap (λ w. w.flows) (sym (some_state (record s { trapped = true }) t e)))
     by_test false e = cc
 
-trap_goes : {X : Type 0} (net : Network X) (s t : State X) (i a : ℕ) (cause : TrapName) → happens net s (Trap i a cause) ≡ Some t → SameTokens net s t
+pub trap_goes : {X : Type 0} (net : Network X) (s t : State X) (i a : ℕ) (cause : TrapName) → happens net s (Trap i a cause) ≡ Some t → SameTokens net s t
 trap_goes net s t i a cause h = by_mark s.trapped h
   where
     by_mark : (b : Bool) → (if b then None else trap s cause (effect_at net s i a)) ≡ Some t → SameTokens net s t

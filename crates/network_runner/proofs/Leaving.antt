@@ -60,7 +60,7 @@ is_net p (AtLeaf inst port) h = cc
 is_net p (AtNet port) h = ap AtNet (sym (eqb-true p port h))
 
 -- a link to an output begins inside
-from_inside : {X : Type 0} (net : Network X) (p l : ℕ) (link : Link) → IsWired net → slice_get net.links l ≡ Some link → is_net_port p link.to ≡ true → is_input link ≡ false
+pub from_inside : {X : Type 0} (net : Network X) (p l : ℕ) (link : Link) → IsWired net → slice_get net.links l ≡ Some link → is_net_port p link.to ≡ true → is_input link ≡ false
 from_inside net p l link wired at leads = by_bool (is_input link)
     (λ input.
     let inner : is_output link ≡ false = (wired.joined l link at).inside input in
@@ -69,7 +69,7 @@ from_inside net p l link wired at leads = by_bool (is_input link)
     (λ other. other)
 
 -- where all that was sent at first has arrived, what is left is what was sent since
-left_since : (p : ℕ) (links : List Link) (flows lasts : List Flow) → length flows ≡ length links → length lasts ≡ length links
+pub left_since : (p : ℕ) (links : List Link) (flows lasts : List Flow) → length flows ≡ length links → length lasts ≡ length links
     → ((l : ℕ) (link : Link) (before flow : Flow) → slice_get links l ≡ Some link → slice_get flows l ≡ Some before → slice_get lasts l ≡ Some flow → is_net_port p link.to ≡ true
     → flow.arrived ≡ length before.sent)
     → drop (length (sent_to p links flows)) (sent_to p links lasts) ≡ left_to p links lasts
@@ -92,7 +92,7 @@ left_since p (link ∷ links) (before ∷ flows) (flow ∷ lasts) whole also eac
     ∙ (left_since p links flows lasts (omega (arith, whole)) (omega (arith, also)) (λ l. each (suc l)) ∙ sym left)))
 
 -- A delivery lets all that was sent inside arrive.
-delivered_inside : (link : Link) (flow : Flow) → is_input link ≡ false → flow.arrived ≤ length flow.sent → (delivered link flow).arrived ≡ length flow.sent
+pub delivered_inside : (link : Link) (flow : Flow) → is_input link ≡ false → flow.arrived ≤ length flow.sent → (delivered link flow).arrived ≡ length flow.sent
 delivered_inside link flow inner within =
     let is : arrivals link flow ≡ length flow.sent - flow.arrived = if_false (is_input link) _ _ inner in
     omega (arith, is, within)

@@ -8,3 +8,8 @@ pub mod Rounded
 pub mod Growable
 pub mod Lines
 pub mod Spent
+pub mod Stored
+pub mod Flowing
+pub mod Leaving
+pub mod Numbers
+pub mod Counted

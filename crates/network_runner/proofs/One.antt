@@ -119,7 +119,8 @@ one_unfed {X} l feed held feeds = record {
             let within : flow.arrived ≤ length flow.sent = here.arrived in
             let all_in : IsFullOrAll flow = inr (omega (arith, left, within)) in
             subst IsFullOrAll (sym still) all_in;
-        told = λ input. record { tokens = sym (no_arrivals link flow input (none input)); rest_told = λ short. (comes input).1 };
+        told = λ input. record { tokens = sym (no_arrivals link flow input (none input)); rest_told = λ short. (comes input).1; few = inl refl };
+        none_told = λ other. (refl, refl);
       };
   rests = λ rest. rest;
 }
@@ -212,6 +213,27 @@ module _ {X : Type 0} (net : Network X) (held : Held (Cell X)) (s : State X) (st
       told_at told rest feed other.to (ap (λ k. k.to) (sym same)) has
       (subst (λ k. AtPort k (λ that j q. IsFilled feed.kind j q (slice_index_or held.capacities l 0) told held.cells feed.bytes) other.to) same full)
 
+  few_at : (told : Option ℕ) (feed : Inflow) (to : End) → link.to ≡ to
+      → AtPort link (λ that j q. IsFilled feed.kind j q (slice_index_or held.capacities l 0) told held.cells feed.bytes) to → untaken flow ≤ flow.capacity
+  few_at told feed (AtNet port) to full = absurd full
+  few_at None feed (AtLeaf inst port) to full =
+      let waits : length (tokens_of (slice_get held.cells inst.0) port) ≡ untaken flow = waits_at net held s stands wired l link flow at there inst.0 port to in
+      let most : slice_index_or held.capacities l 0 ≡ flow.capacity = holds_at in
+      omega (arith, waits, most, full)
+  few_at (Some told) feed (AtLeaf inst port) to full =
+      let waits : length (tokens_of (slice_get held.cells inst.0) port) ≡ untaken flow = waits_at net held s stands wired l link flow at there inst.0 port to in
+      let few : length (tokens_of (slice_get held.cells inst.0) port) < slice_index_or held.capacities l 0 = full.0 in
+      let most : slice_index_or held.capacities l 0 ≡ flow.capacity = holds_at in
+      omega (arith, waits, few, most)
+
+  pub few_held : (told : Option ℕ) (feed : Inflow) (o : Option Link) → o ≡ Some link
+      → AtReader o (λ that j q. IsFilled feed.kind j q (slice_index_or held.capacities l 0) told held.cells feed.bytes) → untaken flow ≤ flow.capacity
+  few_held told feed None o_is full = absurd full
+  few_held told feed (Some other) o_is full =
+      let same : other ≡ link = some_is other link o_is in
+      few_at told feed other.to (ap (λ k. k.to) (sym same))
+      (subst (λ k. AtPort k (λ that j q. IsFilled feed.kind j q (slice_index_or held.capacities l 0) told held.cells feed.bytes) other.to) same full)
+
 pub one_fed : {X : Type 0} (l feed : ℕ) (old new : Held (Cell X)) (before after : Reading) (fo fn : Inputs) (filled : Filled)
     → IsInputLink (slice_get old.links l)
     → Fills l (inflow before fo feed) (inflow after fn feed) (λ count. filled.tokens ≡ count) old new
@@ -253,7 +275,11 @@ one_fed {X} l feed old new before after fo fn filled is_in fills full arrive res
             tokens = told;
             rest_told = subst (λ w. TellsRest rest (is_short (Some w)) filled.rest) (input_so link flow input)
                 (told_rest net new goes.next goes.stands wired l link (input_delivered link flow) at_now there_now filled.rest rest (inflow after fn feed) (slice_get new.links l) at_new (rest_now input) full);
+            few = inr (subst (λ w. untaken w ≤ flow.capacity) (input_so link flow input)
+                (subst (λ n. untaken (input_delivered link flow) ≤ n) (ap (λ w. w.capacity) (input_so link flow input))
+                (few_held net new goes.next goes.stands wired l link (input_delivered link flow) at_now there_now filled.rest (inflow after fn feed) (slice_get new.links l) at_new full)));
         };
+        none_told = λ other. (let no : true ≡ false = sym input ∙ other in cc);
       };
   rests = rests;
 }

@@ -1,6 +1,6 @@
 -- What goes through links and out of a network, counted.
 -- Not trusted: no promise is read with it.
-use Rattle.std.specs.Prelude.{◌≡◌, ℕ, suc, ◌+◌, ◌≤◌, ◌^◌, ◌-◌, min, false, List, [], ◌∷◌, length, slice_get, slice_set, slice_index_or, Option, None, Some}
+use Rattle.std.specs.Prelude.{◌≡◌, ℕ, suc, ◌+◌, ◌≤◌, ◌^◌, ◌-◌, ◌==◌, min, false, List, [], ◌∷◌, length, slice_get, slice_set, slice_index_or, Option, None, Some, if◌then◌else◌}
 use Rattle.net_model.specs.declared.wiring.End.{End}
 use Rattle.net_model.specs.declared.wiring.End.TheVariants.{Leaf as AtLeaf, Net as AtNet}
 use Rattle.net_model.specs.declared.wiring.Link.{Link}
@@ -9,9 +9,9 @@ use Rattle.net_model.specs.Cell.{Cell}
 use Rattle.net_state.specs.declared.filling.Filled.{Filled}
 use Rattle.net_state.specs.Moving.{carried}
 
--- a sum, at most the greatest number of 64 bits
+-- a number to which another one is added, at most the greatest number of 64 bits
 abbrev pub capped_sum : ℕ → ℕ → ℕ
-capped_sum a b = min (a + b) (2 ^ 64 - 1)
+capped_sum a b = if b == 0 then a else min (a + b) (2 ^ 64 - 1)
 
 abbrev pub arrived_with : List Filled → List ℕ → List ℕ
 arrived_with [] counts = counts

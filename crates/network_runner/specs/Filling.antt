@@ -1,7 +1,7 @@
 -- What a delivery of the input links does: each is filled from its feed.
 -- Trusted but for `with_flow`, `IsFullOrAll`, `IsFilledOn`, `FillsOne`, `FillsLink` and `next_feed`: part of what a
 -- promise means.
-use Rattle.std.specs.Prelude.{◌≡◌, ◌⊎◌, ℕ, suc, ◌≤◌, Bool, true, List, length, Result, IfOk, OnOk, slice_get, slice_set, Option, None, Some, if◌then◌else◌}
+use Rattle.std.specs.Prelude.{◌≡◌, ◌⊎◌, ℕ, suc, ◌≤◌, Bool, true, false, List, length, Result, IfOk, OnOk, slice_get, slice_set, Option, None, Some, if◌then◌else◌}
 use Rattle.rvc_io.specs.Feeds.{Inputs}
 use Rattle.port_files.specs.Coming.{EndIsTrue, Reading}
 use Rattle.net_model.specs.declared.wiring.Link.{Link}
@@ -44,6 +44,12 @@ TellsRest rest short (Some told) = (short ≡ true) × (told ≡ rest)
 pub record CameOver (rest : ℕ) (link : Link) (flow : Flow) (filled : Filled) : Type 0 where
   pub tokens : filled.tokens ≡ arrivals link flow
   pub rest_told : TellsRest rest (is_short (Some (delivered link flow))) filled.rest
+  -- the link holds no more than it may, if any came
+  pub few : (filled.tokens ≡ 0) ⊎ (untaken (delivered link flow) ≤ flow.capacity)
+
+-- nothing came
+abbrev pub NoneCame : Filled → Type 0
+NoneCame filled = (filled.tokens ≡ 0) × (filled.rest ≡ None)
 
 -- A state in which one link was filled from its feed: so many tokens came as arrive there at a delivery.
 pub record IsFilledOn {X : Type 0} (net : Network X) (s : State X) (l feed rest : ℕ) (link : Link) (flow : Flow) (held : Held (Cell X)) (reading : Option Reading) (feeds : Inputs) (filled : Filled) : Type 0 where
@@ -53,6 +59,7 @@ pub record IsFilledOn {X : Type 0} (net : Network X) (s : State X) (l feed rest 
       → ComesNow (with_flow s l (input_delivered link flow)) l link feed rest reading feeds
   pub all : is_input link ≡ true → IsFullOrAll (input_delivered link flow)
   pub told : is_input link ≡ true → CameOver rest link flow filled
+  pub none_told : is_input link ≡ false → NoneCame filled
 
 -- Each state of a wired network that was just opened goes on so.
 pub record FillsOne {X : Type 0} (l feed : ℕ) (old new : Held (Cell X)) (before after : Option Reading) (feeds_old feeds_new : Inputs) (filled : Filled) : Type 0 where
@@ -65,14 +72,18 @@ pub record FillsOne {X : Type 0} (l feed : ℕ) (old new : Held (Cell X)) (befor
 
 -- All input links.
 
--- what came over a link of these files is told
+-- what came over an input link is told, and over another nothing came
+abbrev pub CameOverOn : ℕ → Link → Option Flow → Filled → Type 0
+CameOverOn rest link None filled = ⊥
+CameOverOn rest link (Some flow) filled = CameOver rest link flow filled
+
 abbrev pub CameOn : List NetPort → List (List ℕ) → Option Link → Option Flow → Option Filled
     → Type 0
-CameOn ports inputs (Some link) (Some flow) (Some filled) = is_input link ≡ true
-    → CameOver (rest_at ports inputs link.from) link flow filled
-CameOn ports inputs (Some link) (Some flow) None = is_input link ≡ true → ⊥
-CameOn ports inputs (Some link) None came = is_input link ≡ true → ⊥
 CameOn ports inputs None flow came = Unit {0}
+CameOn ports inputs (Some link) flow None = ⊥
+CameOn ports inputs (Some link) flow (Some filled) =
+    (is_input link ≡ true → CameOverOn (rest_at ports inputs link.from) link flow filled)
+    × (is_input link ≡ false → NoneCame filled)
 
 -- A state at which each input link was filled: it stands, what is to come is what its feeds have still, each input
 -- link is full or has all of its feed, and what came is told.

@@ -1,8 +1,8 @@
 //! What goes through links and out of a network, counted.
 
 ghost use Rattle.std.specs.Prelude.{◌≡◌, ◌≤◌, length, map};
-ghost use Rattle.net_state.specs.Moving.{carried_on};
-ghost use Rattle.network_runner.specs.Counting.{IsToPort, arrived_with, rests_with, sent_with};
+ghost use Rattle.net_model.specs.Limits.{max_links};
+ghost use Rattle.network_runner.specs.Counting.{IsToPort, arrived_with, capped_sum, rests_with, sent_with, told_or};
 
 use net_model::{End, Firing, Link};
 use net_state::{Filled, NetState};
@@ -16,25 +16,42 @@ pub(crate) fn count_arrived(came: &[Filled], arrived: &mut [u64], rests: &mut [u
     ensures rests { rests.new ≡ rests_with came.now rests.old }
 {
     for l in 0..came.len() {
-        arrived[l] = arrived[l].saturating_add(u64::from(came[l].tokens));
-        if let Some(rest) = came[l].rest {
-            rests[l] = rest;
-        }
+        arrived[l] = capped_sum(arrived[l], came[l].tokens);
+        rests[l] = told_or(came[l].rest, rests[l]);
     }
 }
 
 /// Adds for each output what was sent there and hasn't left.
 pub(crate) fn count_sent<A: Firing>(net: &NetState<A>, links: &[Link], sent: &mut [u64])
     requires links { links.now ≡ net.now.links }
-    requires few { length links.now ≤ 4096 }
+    requires few { length links.now ≤ max_links }
     requires ports { IsToPort links.now (length sent.old) }
     ensures sent { sent.new ≡ sent_with (map A.cell net.now.cells) links.now sent.old }
 {
     for l in 0..links.len() {
         if let End::Net { port } = links[l].to {
             let p = port as usize;
-            let count = net.sent(LinkId(l as u32));
-            sent[p] = sent[p].saturating_add(u64::from(count));
+            sent[p] = capped_sum(sent[p], net.sent(LinkId(l as u32)));
         }
+    }
+}
+
+/// A number to which another one is added; it stays at the greatest one.
+fn capped_sum(a: u64, b: u32) -> u64
+    ensures { result ≡ capped_sum a b }
+{
+    if b == 0 {
+        return a;
+    }
+    a.saturating_add(u64::from(b))
+}
+
+/// What is told, or else what was told before.
+fn told_or(told: Option<u8>, before: u8) -> u8
+    ensures { result ≡ told_or told before }
+{
+    match told {
+        Some(rest) => rest,
+        None => before,
     }
 }
