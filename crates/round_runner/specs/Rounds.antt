@@ -1,6 +1,6 @@
 -- What a round does, by its answer, and what a run does.
 -- Trusted: part of what a promise means.
-use Rattle.std.specs.Prelude.{◌≡◌, ◌⊎◌, ℕ, suc, ◌<◌, ◌==◌, true, false, List, [], ◌++◌, ℤ, length, drop, flat_map, slice_index_or, option_to_list, Option, None, Some}
+use Rattle.std.specs.Prelude.{◌≡◌, ◌⊎◌, ℕ, suc, ◌+◌, ◌<◌, ◌==◌, true, false, List, [], ◌++◌, ℤ, length, drop, flat_map, slice_index_or, option_to_list, Option, None, Some}
 use Rattle.rvc_io.specs.Channels.{Appends, Channels}
 use Rattle.rvc_io.specs.Feeds.{Inputs}
 use Rattle.channel_writer.specs.Held.{AppendsFront, WritesOn}
