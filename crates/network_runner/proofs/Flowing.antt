@@ -22,7 +22,7 @@ use Rattle.net_model.specs.Trace.{OnNext, after_delivery, goes, grown, played}
 use Rattle.net_model.specs.Wired.{ComesFromPort, HasOutput, IsWired}
 use Rattle.net_model.proofs.Commuting.{Fired, fired_unless}
 use Rattle.net_state.proofs.Coming.{by_bool, if_true, if_false}
-use Rattle.net_state.proofs.Flows.{WasChanged, changed_at}
+use Rattle.net_state.proofs.Flows.{WasChanged, changed_at, changed_count}
 use Rattle.net_state.proofs.Gaining.{get_set_same, get_set_other, some_is}
 use Rattle.round_runner.specs.declared.outcome.RoundEnd.{RoundEnd}
 use Rattle.round_runner.specs.declared.outcome.RoundEnd.TheVariants as round
@@ -138,12 +138,7 @@ module _ {X : Type 0} (net : Network X) (wired : IsWired net) (lawful : AreLawfu
   pub fire_count : (s t : State X) (i a : ℕ) → happens net s (Fire i a) ≡ Some t → length s.flows ≡ length net.links → length t.flows ≡ length net.links
   fire_count s t i a h count =
       let one : Fired net s t i a = fired_unless net s t i a s.trapped refl h in
-      ap (λ w. length w.flows) (sym one.is) ∙ counted net.links s.flows count
-    where
-      counted : {change : Link → Flow → Flow} (links : List Link) (flows : List Flow) → length flows ≡ length links → length (each_flow change links flows) ≡ length links
-      counted [] flows same = same
-      counted (k ∷ links) [] same = absurd (omega (arith, same))
-      counted (k ∷ links) (f ∷ flows) same = ap suc (counted links flows (omega (arith, same)))
+      ap (λ w. length w.flows) (sym one.is) ∙ changed_count (after_firing i (need_of (slice_get net.leaves i) a) one.sent) net.links s.flows count
 
   abbrev Whole : State X → Type 0
   Whole s = length s.flows ≡ length net.links
@@ -199,7 +194,8 @@ module _ {X : Type 0} (net : Network X) (wired : IsWired net) (lawful : AreLawfu
   bursts_gone opened share (false ∷ marks) i k fired s (actions ∷ bursts) [] last are whole = absurd are
   bursts_gone opened share (false ∷ marks) i k fired s (actions ∷ bursts) (halt ∷ halts) last are whole =
       let later : Goes (count_of bursts) s last = bursts_gone opened share marks (suc i) k fired s bursts halts last are.2 whole in
-      subst (λ acts. Goes (length acts + count_of bursts) s last) (sym are.0) later
+      let none : length actions ≡ 0 = ap (λ acts. length acts) are.0 in
+      subst (λ n. Goes n s last) (let e : count_of bursts ≡ length actions + count_of bursts = omega (arith, none) in e) later
 
 -- What closes a round changes no tokens.
 pub record SameTokens {X : Type 0} (net : Network X) (s t : State X) : Type 0 where

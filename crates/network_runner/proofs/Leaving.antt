@@ -21,7 +21,7 @@ use Rattle.net_state.specs.Held.{Held}
 use Rattle.net_state.specs.Moving.{AreApart, carried, sent_from}
 use Rattle.net_state.specs.Standing.{IsHeld, LiesIn, StandsIn, unarrived}
 use Rattle.net_state.proofs.Coming.{by_bool, if_true, if_false}
-use Rattle.net_state.proofs.Flows.{changed_at, changed_so}
+use Rattle.net_state.proofs.Flows.{changed_count, changed_so}
 use Rattle.net_state.proofs.Gaining.{some_is, there_too}
 use Rattle.round_runner.specs.Rounds.{out_bytes}
 use Rattle.round_runner.specs.Running.{AreFedBy, ComesBy, feed_of}
@@ -110,12 +110,7 @@ module _ {X : Type 0} (net : Network X) (held : Held (Cell X)) (s : State X) (st
       on.arrived ∙ delivered_inside link before inner within))
 
   pub whole_after : length (after_delivery net s).flows ≡ length net.links
-  whole_after = counted net.links s.flows whole
-    where
-      counted : {change : Link → Flow → Flow} (links : List Link) (flows : List Flow) → length flows ≡ length links → length (each_flow change links flows) ≡ length links
-      counted [] flows same = same
-      counted (k ∷ links) [] same = absurd (omega (arith, same))
-      counted (k ∷ links) (f ∷ flows) same = ap suc (counted links flows (omega (arith, same)))
+  whole_after = changed_count delivered net.links s.flows whole
 
   -- What lies in the outboxes is what is left.
 

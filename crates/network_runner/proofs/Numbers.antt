@@ -19,7 +19,7 @@ use Rattle.net_model.specs.Laws.{AreLawful, AreOrdered, firings_shown}
 use Rattle.net_model.specs.Trace.{after_delivery, arrivals, delivered, goes, grown, played}
 use Rattle.net_model.specs.Wired.{IsWired}
 use Rattle.net_state.proofs.Coming.{by_bool, if_true, if_false}
-use Rattle.net_state.proofs.Flows.{WasChanged, changed_at, changed_so}
+use Rattle.net_state.proofs.Flows.{changed_count, changed_so}
 use Rattle.net_state.proofs.Gaining.{not_eq, some_is, there_too}
 use Rattle.net_state.specs.declared.filling.Filled.{Filled}
 use Rattle.net_state.specs.Moving.{carried}
@@ -100,13 +100,8 @@ all_same net s t whole same = (same.count ∙ whole, λ l link before flow at th
     let is = same.each l before flow there now in
     later_same link before flow is.0 is.1 is.2)
 
-counted : {change : Link → Flow → Flow} (links : List Link) (flows : List Flow) → length flows ≡ length links → length (each_flow change links flows) ≡ length links
-counted [] flows same = same
-counted (k ∷ links) [] same = absurd (omega (arith, same))
-counted (k ∷ links) (f ∷ flows) same = ap suc (counted links flows (omega (arith, same)))
-
 all_delivered : {X : Type 0} (net : Network X) (s : State X) → Whole net s → Whole net (after_delivery net s) × AllLater 0 net s (after_delivery net s)
-all_delivered net s whole = (counted net.links s.flows whole, λ l link before flow at there now.
+all_delivered net s whole = (changed_count delivered net.links s.flows whole, λ l link before flow at there now.
     let is : delivered link before ≡ flow = some_is (delivered link before) flow (sym (changed_so delivered net.links s.flows l link before at there) ∙ now) in
     subst (Later 0 link before) is (later_delivered link before))
 
@@ -136,14 +131,14 @@ module _ {X : Type 0} (net : Network X) (wired : IsWired net) (lawful : AreLawfu
 
   shown_first : (line : Line) (lines : List Line) → shown_in line + length (firings_shown lines) ≡ length (firings_shown (line ∷ lines))
   shown_first (FireLine i a) lines = omega arith
-  shown_first DeliverLine lines = refl
-  shown_first (GrowLine l capacity) lines = refl
-  shown_first (TrapLine i a cause) lines = refl
-  shown_first Quiet lines = refl
-  shown_first (Stall i a l) lines = refl
-  shown_first Budget lines = refl
-  shown_first (Header n l g) lines = refl
-  shown_first (Inst k) lines = refl
+  shown_first DeliverLine lines = omega arith
+  shown_first (GrowLine l capacity) lines = omega arith
+  shown_first (TrapLine i a cause) lines = omega arith
+  shown_first Quiet lines = omega arith
+  shown_first (Stall i a l) lines = omega arith
+  shown_first Budget lines = omega arith
+  shown_first (Header n l g) lines = omega arith
+  shown_first (Inst k) lines = omega arith
 
   next_from : (o : Option (State X)) (f : State X → Option (State X)) (t : State X) → and_then o f ≡ Some t → (next : State X) × (o ≡ Some next) × (f next ≡ Some t)
   next_from None f t h = cc
@@ -161,47 +156,40 @@ module _ {X : Type 0} (net : Network X) (wired : IsWired net) (lawful : AreLawfu
 -- Whether a link was short.
 
 -- lines without a delivery show nothing of it
+never_short : {X : Type 0} (o : Option (State X)) (test : State X → Bool) → ((next : State X) → test next ≡ false) → on_next o test ≡ false
+never_short None test never = refl
+never_short (Some next) test never = never next
+
 no_delivery : {X : Type 0} (net : Network X) (l : ℕ) (lines : List Line) (s : State X) → deliveries_in lines ≡ 0 → was_short net s lines l ≡ false
 no_delivery net l [] s none = refl
 no_delivery net l (DeliverLine ∷ lines) s none = absurd (omega (arith, none))
-no_delivery {X} net l (FireLine i a ∷ lines) s none = on_none (goes net s (FireLine i a))
-  where
-    on_none : (o : Option (State X)) → on_next o (λ next. (is_delivery (FireLine i a) && is_short (slice_get next.flows l)) || was_short net next lines l) ≡ false
-    on_none None = refl
-    on_none (Some next) = no_delivery net l lines next none
-no_delivery {X} net l (GrowLine m c ∷ lines) s none = on_none (goes net s (GrowLine m c))
-  where
-    on_none : (o : Option (State X)) → on_next o (λ next. (is_delivery (GrowLine m c) && is_short (slice_get next.flows l)) || was_short net next lines l) ≡ false
-    on_none None = refl
-    on_none (Some next) = no_delivery net l lines next none
-no_delivery {X} net l (TrapLine i a c ∷ lines) s none = on_none (goes net s (TrapLine i a c))
-  where
-    on_none : (o : Option (State X)) → on_next o (λ next. (is_delivery (TrapLine i a c) && is_short (slice_get next.flows l)) || was_short net next lines l) ≡ false
-    on_none None = refl
-    on_none (Some next) = no_delivery net l lines next none
+no_delivery net l (FireLine i a ∷ lines) s none = never_short (goes net s (FireLine i a)) (λ next. was_short net next lines l) (λ next. no_delivery net l lines next none)
+no_delivery net l (GrowLine m c ∷ lines) s none = never_short (goes net s (GrowLine m c)) (λ next. was_short net next lines l) (λ next. no_delivery net l lines next none)
+no_delivery net l (TrapLine i a c ∷ lines) s none = never_short (goes net s (TrapLine i a c)) (λ next. was_short net next lines l) (λ next. no_delivery net l lines next none)
 no_delivery net l (Quiet ∷ lines) s none = no_delivery net l lines s none
 no_delivery net l (Stall i a m ∷ lines) s none = no_delivery net l lines s none
 no_delivery net l (Budget ∷ lines) s none = no_delivery net l lines s none
 no_delivery net l (Header n m g ∷ lines) s none = refl
 no_delivery net l (Inst k ∷ lines) s none = refl
 
+or_assoc : (a b c : Bool) → (a || (b || c)) ≡ ((a || b) || c)
+or_assoc true b c = refl
+or_assoc false b c = refl
+
+-- a line before others
+short_next : {X : Type 0} (o : Option (State X)) (line : Line) (l : ℕ) (all some : State X → Bool) (rest : Bool) (f : State X → Option (State X)) (t : State X) → and_then o f ≡ Some t
+    → ((next : State X) → f next ≡ Some t → all next ≡ (some next || rest))
+    → on_next o (λ next. (is_delivery line && is_short (slice_get next.flows l)) || all next) ≡ (on_next o (λ next. (is_delivery line && is_short (slice_get next.flows l)) || some next) || rest)
+short_next None line l all some rest f t h each = cc
+short_next (Some next) line l all some rest f t h each =
+    ap (λ b. (is_delivery line && is_short (slice_get next.flows l)) || b) (each next h) ∙ or_assoc (is_delivery line && is_short (slice_get next.flows l)) (some next) rest
+
 -- .. over lines one after another
 pub short_then : {X : Type 0} (net : Network X) (l : ℕ) (before after : List Line) (s t : State X) → played net s before ≡ Some t
     → was_short net s (before ++ after) l ≡ (was_short net s before l || was_short net t after l)
 short_then net l [] after s t h = ap (λ w. was_short net w after l) (some_state s t h)
-short_then {X} net l (line ∷ before) after s t h = by_option (goes net s line) h
-  where
-    or_assoc : (a b c : Bool) → (a || (b || c)) ≡ ((a || b) || c)
-    or_assoc true b c = refl
-    or_assoc false b c = refl
-
-    by_option : (o : Option (State X)) → and_then o (λ w. played net w before) ≡ Some t
-        → on_next o (λ next. (is_delivery line && is_short (slice_get next.flows l)) || was_short net next (before ++ after) l)
-        ≡ (on_next o (λ next. (is_delivery line && is_short (slice_get next.flows l)) || was_short net next before l) || was_short net t after l)
-    by_option None e = cc
-    by_option (Some next) e =
-        ap (λ b. (is_delivery line && is_short (slice_get next.flows l)) || b) (short_then net l before after next t e)
-        ∙ or_assoc (is_delivery line && is_short (slice_get next.flows l)) (was_short net next before l) (was_short net t after l)
+short_then net l (line ∷ before) after s t h = short_next (goes net s line) line l (λ next. was_short net next (before ++ after) l) (λ next. was_short net next before l) (was_short net t after l)
+    (λ next. played net next before) t h (λ next e. short_then net l before after next t e)
 
 or_false : (b : Bool) → (b || false) ≡ b
 or_false true = refl
@@ -218,7 +206,7 @@ short_round {X} net l lines s untrapped none =
 -- Sums.
 
 pub deliveries_then : (before after : List Line) → deliveries_in (before ++ after) ≡ deliveries_in before + deliveries_in after
-deliveries_then [] after = refl
+deliveries_then [] after = omega arith
 deliveries_then (DeliverLine ∷ before) after = ap suc (deliveries_then before after) ∙ (let e : suc (deliveries_in before + deliveries_in after) ≡ suc (deliveries_in before) + deliveries_in after = omega arith in e)
 deliveries_then (FireLine i a ∷ before) after = deliveries_then before after
 deliveries_then (GrowLine l c ∷ before) after = deliveries_then before after
@@ -230,7 +218,7 @@ deliveries_then (Header n l g ∷ before) after = deliveries_then before after
 deliveries_then (Inst k ∷ before) after = deliveries_then before after
 
 pub shown_then : (before after : List Line) → length (firings_shown (before ++ after)) ≡ length (firings_shown before) + length (firings_shown after)
-shown_then [] after = refl
+shown_then [] after = omega arith
 shown_then (FireLine i a ∷ before) after = ap suc (shown_then before after) ∙ (let e : suc (length (firings_shown before) + length (firings_shown after)) ≡ suc (length (firings_shown before)) + length (firings_shown after) = omega arith in e)
 shown_then (DeliverLine ∷ before) after = shown_then before after
 shown_then (GrowLine l c ∷ before) after = shown_then before after

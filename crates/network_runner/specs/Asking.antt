@@ -27,7 +27,7 @@ use Rattle.round_runner.specs.declared.outcome.RoundEnd.TheVariants as round
 use Rattle.round_runner.specs.declared.outcome.RunEnd.{RunEnd}
 use Rattle.round_runner.specs.declared.outcome.RunEnd.TheVariants as end
 use Rattle.round_runner.specs.Rounds.{Leaves, RunLeaves}
-use Rattle.round_runner.specs.Running.{Running, StandsWith, feed_of, has_feed}
+use Rattle.round_runner.specs.Running.{Running, StandsWith, buffer, feed_of, has_feed}
 use Rattle.network_runner.specs.Sending.{max_outlets}
 
 -- a runner with all that is seen of each cell
@@ -44,7 +44,8 @@ seen_run cell run = record {
   grow = run.grow;
   rounds = run.rounds;
   idle = run.idle;
-  pending = run.pending;
+  trace = run.trace;
+  buffers = run.buffers;
   counts = run.counts;
   ended = run.ended;
 }
@@ -110,7 +111,8 @@ pub record Begins {X : Type 0} (cells : List (Cell X)) (wiring : Wiring) (plan :
   pub idle : run.idle ≡ false
   pub unread : (l : ℕ) (reading : Reading) → slice_get run.readings l ≡ Some (Some reading)
       → (reading.pulled ≡ []) × (reading.ended ≡ false)
-  pub unwritten : (channel : ℕ) → run.pending channel ≡ []
+  pub no_lines : run.trace ≡ []
+  pub no_output : (p : ℕ) → buffer run p ≡ []
   pub no_firings : run.counts.firings ≡ 0
   pub going : run.ended ≡ None
   pub states : (net : Network X) (inputs : List (List ℕ)) (feeds : Inputs)

@@ -23,12 +23,6 @@ use Rattle.network_runner.specs.declared.sending.Outlet.{Outlet}
 use Rattle.network_runner.specs.Asking.{kinds_of}
 use Rattle.network_runner.specs.Sending.{HasOutlet, max_outlets}
 
--- what is buffered for a channel: for that of the trace, and for those of outputs
-abbrev pub pending_of : List ℕ → List (List ℕ) → ℕ → List ℕ
-pending_of trace writers 0 = []
-pending_of trace writers (suc 0) = trace
-pending_of trace writers (suc (suc p)) = slice_index_or writers p []
-
 -- a runner as contracts see it, by its parts
 abbrev pub running_of : {C : Type 0} → Held C → List Port → List Bool → List Outlet
     → List (Option Reading) → RoundKind → Plan → Bool → List ℕ → List (List ℕ) → Counts
@@ -45,7 +39,8 @@ running_of held ins reads outlets readings kind plan idle trace writers counts e
   grow = plan.grow;
   rounds = counts.rounds;
   idle = idle;
-  pending = pending_of trace writers;
+  trace = trace;
+  buffers = writers;
   counts = counts;
   ended = ended;
 }

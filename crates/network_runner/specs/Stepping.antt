@@ -17,18 +17,19 @@ use Rattle.round_runner.specs.declared.outcome.RoundEnd.{RoundEnd}
 use Rattle.round_runner.specs.declared.outcome.RoundEnd.TheVariants as round
 use Rattle.round_runner.specs.declared.outcome.RunEnd.{RunEnd}
 use Rattle.round_runner.specs.declared.outcome.RunEnd.TheVariants as end
-use Rattle.round_runner.specs.Rounds.{Answers, BrokenOff, CountsOn, EachOut, GetsFront, GetsSome, Made, text_of}
-use Rattle.round_runner.specs.Running.{IsRunOf, Running, StandsWith, moment_of, pace_of}
+use Rattle.round_runner.specs.Rounds.{Answers, BrokenOff, CountsOn, EachOut, Made, OutGetsFront, OutGetsSome, TraceGetsSome, text_of}
+use Rattle.round_runner.specs.Running.{IsRunOf, Running, StandsWith, buffer, moment_of, pace_of}
 use Rattle.network_runner.specs.declared.firing.Turn.{Turn}
-use Rattle.network_runner.specs.Asking.{IsChannel, seen_run}
+use Rattle.network_runner.specs.Asking.{seen_run}
 use Rattle.network_runner.specs.Counting.{arrived_with, rests_with, sent_with}
 use Rattle.network_runner.specs.Delivering.{IsDelivered}
 use Rattle.network_runner.specs.Rounding.{CountsTo, MakesRound}
 
 -- What is sent out.
 
-abbrev pub with_pending : {C : Type 0} → Running C → (ℕ → List ℕ) → Running C
-with_pending run pending = record run { pending = pending }
+-- a runner for whose channels this is buffered
+abbrev pub with_buffers : {C : Type 0} → Running C → List ℕ → List (List ℕ) → Running C
+with_buffers run trace buffers = record run { trace = trace; buffers = buffers }
 
 -- the tokens that were sent to network output p and haven't arrived, and their bytes
 abbrev pub left_to : ℕ → List Link → List Flow → List ℤ
@@ -42,17 +43,17 @@ left_bytes net s p = all_encoded (kind_at net.outs p) (left_to p net.links s.flo
 
 -- each output that is written got these bytes
 abbrev pub EachWritten : {C : Type 0} → Running C → (ℕ → List ℕ → Type 0) → (ℕ → List ℕ) → Type 0
-EachWritten run P text = (p : ℕ) → slice_index_or run.writes p false ≡ true → P (2 + p) (text p)
+EachWritten run P text = (p : ℕ) → slice_index_or run.writes p false ≡ true → P p (text p)
 
 -- in each state that stands: each output got what was sent there and hasn't arrived; it got a prefix
 abbrev pub SendsOut : {X : Type 0} → Running (Cell X) → Running (Cell X) → Channels → Channels
     → Type 0
 SendsOut {X} run new old now = (net : Network X) (s : State X) → IsRunOf net run
-    → StandsIn net run.held s → EachWritten run (GetsSome run new old now) (left_bytes net s)
+    → StandsIn net run.held s → EachWritten run (OutGetsSome run new old now) (left_bytes net s)
 
 abbrev pub SendsFront : {X : Type 0} → Running (Cell X) → Channels → Channels → Type 0
 SendsFront {X} run old now = (net : Network X) (s : State X) → IsRunOf net run
-    → StandsIn net run.held s → EachWritten run (GetsFront run old now) (left_bytes net s)
+    → StandsIn net run.held s → EachWritten run (OutGetsFront run old now) (left_bytes net s)
 
 -- the channel of an output that is written
 abbrev pub IsOutChannel : {C : Type 0} → Running C → ℕ → Type 0
@@ -60,13 +61,15 @@ IsOutChannel run channel =
     (p : ℕ) × (slice_index_or run.writes p false ≡ true) × (channel ≡ 2 + p)
 
 -- each channel of the run got what was buffered for it; it got a prefix
-abbrev pub PutsAll : {C : Type 0} → Running C → Channels → Channels → Type 0
-PutsAll run old now = (channel : ℕ) → IsChannel run channel
-    → Appends channel old now (run.pending channel)
+pub record PutsAll {C : Type 0} (run : Running C) (old now : Channels) : Type 0 where
+  pub trace : Appends 1 old now run.trace
+  pub outputs : (p : ℕ) → slice_index_or run.writes p false ≡ true
+      → Appends (2 + p) old now (buffer run p)
 
-abbrev pub PutsFronts : {C : Type 0} → Running C → Channels → Channels → Type 0
-PutsFronts run old now = (channel : ℕ) → IsChannel run channel
-    → AppendsFront channel old now (run.pending channel)
+pub record PutsFronts {C : Type 0} (run : Running C) (old now : Channels) : Type 0 where
+  pub trace : AppendsFront 1 old now run.trace
+  pub outputs : (p : ℕ) → slice_index_or run.writes p false ≡ true
+      → AppendsFront (2 + p) old now (buffer run p)
 
 -- What is put at an end: nothing where the run goes on or a write has failed, else all, or a prefix if a write fails now.
 abbrev pub PutsBy : {C : Type 0} → RoundEnd → RoundEnd → Running C → Channels → Channels → Type 0
@@ -78,7 +81,8 @@ PutsBy answer result run old now = (result ≡ answer) × (now ≡ old)
 
 -- nothing but what is buffered and the end has changed
 abbrev pub SameButEnd : {C : Type 0} → Running C → Running C → Type 0
-SameButEnd old new = new ≡ record old { pending = new.pending; ended = new.ended }
+SameButEnd old new =
+    new ≡ record old { trace = new.trace; buffers = new.buffers; ended = new.ended }
 
 -- A delivery was made and counted.
 pub record DeliversRun {X : Type 0} (run new : Running (Cell X)) (feeds_old feeds_new : Inputs) :
@@ -124,7 +128,8 @@ pub record FiresRun {X : Type 0} (left : ℕ) (answer : RoundEnd) (run new : Run
 pub record KeepsOthers {C : Type 0} (run new : Running C) : Type 0 where
   pub rounds : new.rounds ≡ run.rounds
   pub idle : new.idle ≡ run.idle
-  pub pending : new.pending ≡ run.pending
+  pub trace : new.trace ≡ run.trace
+  pub buffers : new.buffers ≡ run.buffers
   pub ended : new.ended ≡ run.ended
 
 -- A round before what is buffered is put.
@@ -135,14 +140,14 @@ pub record ClosedSoFar {X : Type 0} (net : Network X) (inputs : List (List ℕ))
   pub last : State X
   pub is_round : IsRound net (pace_of run budget) (moment_of run s left) block last
   pub answers : Answers (round.End how) block
-  pub trace : GetsSome run new old now 1 (text_of (lines_of block))
-  pub outputs : EachOut net run (GetsSome run new old now) s (λ p. sent_to p net.links last.flows)
+  pub trace : TraceGetsSome run new old now (text_of (lines_of block))
+  pub outputs : EachOut net run (OutGetsSome run new old now) s (λ p. sent_to p net.links last.flows)
   pub counts : CountsOn net inputs s (lines_of block) last run.counts new.counts
 
 -- a feed couldn't be read
 pub record CutSoFar {X : Type 0} (net : Network X) (s : State X) (run new : Running (Cell X)) (old now : Channels) : Type 0 where
-  pub trace : GetsSome run new old now 1 []
-  pub outputs : EachOut net run (GetsSome run new old now) s (λ p. sent_to p net.links s.flows)
+  pub trace : TraceGetsSome run new old now []
+  pub outputs : EachOut net run (OutGetsSome run new old now) s (λ p. sent_to p net.links s.flows)
   pub counts : new.counts ≡ run.counts
 
 -- what a round leaves so far, by its answer

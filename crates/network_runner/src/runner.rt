@@ -10,7 +10,7 @@ ghost use Rattle.round_runner.specs.Running.{FeedsFit};
 ghost use Rattle.network_runner.specs.Asking.{Begins, CanRun, ChannelsFit, EndLeaves, FaultIsTrue, FiringsTo, IsChannel, IsFeed, IsSameRun, IsUntouched, RoundLeaves, WritesWithin, end_of, seen_run};
 ghost use Rattle.network_runner.specs.Filling.{SameOpen};
 ghost use Rattle.network_runner.specs.Noting.{NotesFront, NotesRound};
-ghost use Rattle.network_runner.specs.Stepping.{DeliversRun, FiresRun, IsOutChannel, KeepsOthers, PutsAll, PutsBy, PutsFronts, RoundLeavesSoFar, SameButEnd, SendsFront, SendsOut, with_pending};
+ghost use Rattle.network_runner.specs.Stepping.{DeliversRun, FiresRun, IsOutChannel, KeepsOthers, PutsAll, PutsBy, PutsFronts, RoundLeavesSoFar, SameButEnd, SendsFront, SendsOut, with_buffers};
 
 use crate::counting::{count_arrived, count_sent};
 use crate::delivering::deliver_all;
@@ -289,8 +289,8 @@ impl<A: Firing, P: Policy> Runner<A, P> {
         ensures only { (D.channels drains.old).tells ≡ true → (D.channels drains.new).held 1
             ≡ (D.channels drains.old).held 1 }
         ensures others { WritesWithin self.old (D.channels drains.old) (D.channels drains.new) }
-        ensures same { self.new ≡ with_pending self.old self.new.pending }
-        ensures same_trace { self.new.pending 1 ≡ self.old.pending 1 }
+        ensures same { self.new ≡ with_buffers self.old self.new.trace self.new.buffers }
+        ensures same_trace { self.new.trace ≡ self.old.trace }
     {
         send_all(
             &self.net,
@@ -339,7 +339,8 @@ impl<A: Firing, P: Policy> Runner<A, P> {
         ensures fires { FiresRun left result (seen_run A.cell self.old) (seen_run A.cell self.new) }
         ensures ended { self.new.ended ≡ end_of result }
         ensures same_run { IsSameRun (seen_run A.cell self.old) (seen_run A.cell self.new) }
-        ensures same_pending { self.new.pending ≡ self.old.pending }
+        ensures same_trace { self.new.trace ≡ self.old.trace }
+        ensures same_buffers { self.new.buffers ≡ self.old.buffers }
         ensures same_readings { self.new.readings ≡ self.old.readings }
     {
         self.counts.rounds += 1;
@@ -364,13 +365,13 @@ impl<A: Firing, P: Policy> Runner<A, P> {
     fn note<D: Drains>(&mut self, answer: RoundEnd, drains: &mut D) -> Result<(), Failed>
         requires channels { ChannelsFit self.old (D.channels drains.old) }
         ensures written { NotesRound A.cell D.channels self.old.held.cells answer drains.old
-            drains.new (self.old.pending 1) (self.new.pending 1) result }
+            drains.new self.old.trace self.new.trace result }
         ensures front { NotesFront A.cell D.channels self.old.held.cells answer drains.old
-            drains.new (self.old.pending 1) result }
+            drains.new self.old.trace result }
         ensures failed { OnErr result (WriteFails D.channels drains.old drains.new) }
         ensures elsewhere { WritesOnly D.channels drains.old drains.new 1 }
-        ensures same { self.new ≡ with_pending self.old self.new.pending }
-        ensures same_outs { (p : ℕ) → self.new.pending (2 + p) ≡ self.old.pending (2 + p) }
+        ensures same { self.new ≡ with_buffers self.old self.new.trace self.new.buffers }
+        ensures same_outs { self.new.buffers ≡ self.old.buffers }
     {
         note_round(&self.net, self.cells, answer, &mut self.trace, drains)
     }
@@ -406,7 +407,7 @@ impl<A: Firing, P: Policy> Runner<A, P> {
             → (end ≡ result) ⊎ (WriteFails D.channels drains.old drains.new
             × IsChannel self.old channel) }
         ensures others { WritesWithin self.old (D.channels drains.old) (D.channels drains.new) }
-        ensures same { self.new ≡ with_pending self.old self.new.pending }
+        ensures same { self.new ≡ with_buffers self.old self.new.trace self.new.buffers }
     {
         if let RunEnd::WriteFault { channel: _ } = end {
             return end;
@@ -426,7 +427,7 @@ impl<A: Firing, P: Policy> Runner<A, P> {
         ensures failed { OnErr result (WriteFails D.channels drains.old drains.new) }
         ensures channel { IfErr result (λ fault. IsChannel self.old fault.channel) }
         ensures others { WritesWithin self.old (D.channels drains.old) (D.channels drains.new) }
-        ensures same { self.new ≡ with_pending self.old self.new.pending }
+        ensures same { self.new ≡ with_buffers self.old self.new.trace self.new.buffers }
     {
         flush_all(&self.outlets, &mut self.writers, drains)?;
         match self.trace.flush(drains, TRACE_CHANNEL) {

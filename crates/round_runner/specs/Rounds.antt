@@ -20,7 +20,7 @@ use Rattle.round_runner.specs.declared.outcome.RoundEnd.{RoundEnd}
 use Rattle.round_runner.specs.declared.outcome.RoundEnd.TheVariants as round
 use Rattle.round_runner.specs.declared.outcome.RunEnd.{RunEnd}
 use Rattle.round_runner.specs.declared.outcome.RunEnd.TheVariants as end
-use Rattle.round_runner.specs.Running.{Running, StandsWith, moment_of, pace_of}
+use Rattle.round_runner.specs.Running.{Running, StandsWith, buffer, moment_of, pace_of}
 
 -- What is written.
 
@@ -35,19 +35,30 @@ out_bytes net p s tokens = all_encoded (kind_at net.outs p) (gone_since net p s 
 abbrev pub EachOut : {X : Type 0} → Network X → Running (Cell X) → (ℕ → List ℕ → Type 0)
     → State X → (ℕ → List ℤ) → Type 0
 EachOut net run P s tokens = (p : ℕ) → slice_index_or run.writes p false ≡ true
-    → P (2 + p) (out_bytes net p s (tokens p))
+    → P p (out_bytes net p s (tokens p))
 
--- a channel got a text, of which a part may be buffered; it got the whole; it got a prefix
-abbrev pub GetsSome : {C : Type 0} → Running C → Running C → Channels → Channels → ℕ → List ℕ
+-- the trace got a text, of which a part may be buffered; it got the whole; it got a prefix
+abbrev pub TraceGetsSome : {C : Type 0} → Running C → Running C → Channels → Channels → List ℕ
     → Type 0
-GetsSome run new old now channel text =
-    WritesOn channel old now (run.pending channel) (new.pending channel) text
+TraceGetsSome run new old now text = WritesOn 1 old now run.trace new.trace text
 
-abbrev pub GetsAll : {C : Type 0} → Running C → Channels → Channels → ℕ → List ℕ → Type 0
-GetsAll run old now channel text = Appends channel old now (run.pending channel ++ text)
+abbrev pub TraceGetsAll : {C : Type 0} → Running C → Channels → Channels → List ℕ → Type 0
+TraceGetsAll run old now text = Appends 1 old now (run.trace ++ text)
 
-abbrev pub GetsFront : {C : Type 0} → Running C → Channels → Channels → ℕ → List ℕ → Type 0
-GetsFront run old now channel text = AppendsFront channel old now (run.pending channel ++ text)
+abbrev pub TraceGetsFront : {C : Type 0} → Running C → Channels → Channels → List ℕ → Type 0
+TraceGetsFront run old now text = AppendsFront 1 old now (run.trace ++ text)
+
+-- the same of network output p
+abbrev pub OutGetsSome : {C : Type 0} → Running C → Running C → Channels → Channels → ℕ → List ℕ
+    → Type 0
+OutGetsSome run new old now p text =
+    WritesOn (2 + p) old now (buffer run p) (buffer new p) text
+
+abbrev pub OutGetsAll : {C : Type 0} → Running C → Channels → Channels → ℕ → List ℕ → Type 0
+OutGetsAll run old now p text = Appends (2 + p) old now (buffer run p ++ text)
+
+abbrev pub OutGetsFront : {C : Type 0} → Running C → Channels → Channels → ℕ → List ℕ → Type 0
+OutGetsFront run old now p text = AppendsFront (2 + p) old now (buffer run p ++ text)
 
 abbrev pub text_of : List Line → List ℕ
 text_of lines = flat_map line_text lines
@@ -88,8 +99,9 @@ pub record Made {X : Type 0} (net : Network X) (inputs : List (List ℕ)) (budge
   pub stands : StandsWith net inputs new feeds last
   pub rounds : new.rounds ≡ suc run.rounds
   pub idle : new.idle ≡ (count_of block.bursts == 0)
-  pub trace : GetsSome run new old now 1 (text_of (lines_of block))
-  pub outputs : EachOut net run (GetsSome run new old now) s (λ p. sent_to p net.links last.flows)
+  pub trace : TraceGetsSome run new old now (text_of (lines_of block))
+  pub outputs : EachOut net run (OutGetsSome run new old now) s
+      (λ p. sent_to p net.links last.flows)
   pub counts : CountsOn net inputs s (lines_of block) last run.counts new.counts
 
 -- A round was made, which ended the run. Nothing stays buffered.
@@ -98,20 +110,20 @@ pub record Closed {X : Type 0} (net : Network X) (inputs : List (List ℕ)) (bud
   pub last : State X
   pub is_round : IsRound net (pace_of run budget) (moment_of run s left) block last
   pub answers : Answers (round.End how) block
-  pub trace : GetsAll run old now 1 (text_of (lines_of block))
-  pub outputs : EachOut net run (GetsAll run old now) s (λ p. sent_to p net.links last.flows)
+  pub trace : TraceGetsAll run old now (text_of (lines_of block))
+  pub outputs : EachOut net run (OutGetsAll run old now) s (λ p. sent_to p net.links last.flows)
   pub counts : CountsOn net inputs s (lines_of block) last run.counts new.counts
 
 -- A feed couldn't be read: no line is written, and nothing stays buffered.
 pub record CutOff {X : Type 0} (net : Network X) (s : State X) (run new : Running (Cell X)) (old now : Channels) : Type 0 where
-  pub trace : GetsAll run old now 1 []
-  pub outputs : EachOut net run (GetsAll run old now) s (λ p. sent_to p net.links s.flows)
+  pub trace : TraceGetsAll run old now []
+  pub outputs : EachOut net run (OutGetsAll run old now) s (λ p. sent_to p net.links s.flows)
   pub counts : new.counts ≡ run.counts
 
 -- A channel couldn't be written. Each got a prefix of what was buffered and of its text for the round, if one was made.
 pub record Breaks {X : Type 0} (net : Network X) (s last : State X) (lines : List Line) (run : Running (Cell X)) (old now : Channels) : Type 0 where
-  pub trace : GetsFront run old now 1 (text_of lines)
-  pub outputs : EachOut net run (GetsFront run old now) s (λ p. sent_to p net.links last.flows)
+  pub trace : TraceGetsFront run old now (text_of lines)
+  pub outputs : EachOut net run (OutGetsFront run old now) s (λ p. sent_to p net.links last.flows)
 
 pub record BreaksRound {X : Type 0} (net : Network X) (budget left : ℕ) (s : State X) (run : Running (Cell X)) (old now : Channels) : Type 0 where
   pub block : Block
@@ -159,8 +171,8 @@ AreBegunBy {X} net pace at blocks (Some final) last =
 
 -- A run from this state wrote these lines whole, or without its end.
 pub record RunWrote {X : Type 0} (net : Network X) (inputs : List (List ℕ)) (s last : State X) (lines : List Line) (run new : Running (Cell X)) (old now : Channels) : Type 0 where
-  pub trace : GetsAll run old now 1 (text_of lines)
-  pub outputs : EachOut net run (GetsAll run old now) s (λ p. sent_to p net.links last.flows)
+  pub trace : TraceGetsAll run old now (text_of lines)
+  pub outputs : EachOut net run (OutGetsAll run old now) s (λ p. sent_to p net.links last.flows)
   pub counts : CountsOn net inputs s lines last run.counts new.counts
 
 abbrev pub all_lines : List Block → List Line

@@ -38,11 +38,16 @@ pub record Running (C : Type 0) : Type 0 where
   -- how many rounds were made, and whether the last one fired nothing
   pub rounds : ℕ
   pub idle : Bool
-  -- what is buffered for each channel
-  pub pending : ℕ → List ℕ
+  -- what is buffered for the trace, and for each output
+  pub trace : List ℕ
+  pub buffers : List (List ℕ)
   pub counts : Counts
   -- the end, once it has come
   pub ended : Option RunEnd
+
+-- what is buffered for network output p
+abbrev pub buffer : {C : Type 0} → Running C → ℕ → List ℕ
+buffer run p = slice_index_or run.buffers p []
 
 -- the network that is run: it is wired, and its actors are lawful; its paths, its classes and the names of its ports
 -- are any
