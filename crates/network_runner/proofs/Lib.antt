@@ -13,3 +13,4 @@ pub mod Flowing
 pub mod Leaving
 pub mod Numbers
 pub mod Counted
+pub mod Ended

@@ -92,7 +92,7 @@ abbrev pub Whole : {X : Type 0} → Network X → State X → Type 0
 Whole net s = length s.flows ≡ length net.links
 
 -- as many firings as a line shows
-shown_in : Line → ℕ
+abbrev shown_in : Line → ℕ
 shown_in line = length (firings_shown (line ∷ []))
 
 all_same : {X : Type 0} (net : Network X) (s t : State X) → Whole net s → SameTokens net s t → Whole net t × AllLater 0 net s t

@@ -1,6 +1,6 @@
 -- What is put of what is buffered for outputs.
 -- Not trusted: no promise is read with it.
-use Rattle.std.specs.Prelude.{ℕ, List}
+use Rattle.std.specs.Prelude.{ℕ, ◌+◌, List}
 use Rattle.rvc_io.specs.Channels.{Appends, Channels}
 use Rattle.channel_writer.specs.Held.{AppendsFront}
 use Rattle.network_runner.specs.declared.sending.Outlet.{Outlet}

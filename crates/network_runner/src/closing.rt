@@ -22,6 +22,7 @@ pub fn close_idle<A: Firing>(net: &mut NetState<A>, lacks: Option<Lacking>, grow
     ensures grows { GrowsBy result grow net.old.capacities net.new.capacities }
     ensures ended { CountsTo result 0 }
     ensures no_trap { is_trap result ≡ false }
+    ensures never_idle { result ≡ RoundEnd.Idle → ⊥ }
     ensures quiet { lacks ≡ None → result ≡ RoundEnd.End RunEnd.Quiet }
     ensures cells { net.new.cells ≡ net.old.cells }
     ensures links { net.new.links ≡ net.old.links }

@@ -1,8 +1,9 @@
 //! What goes through links and out of a network, counted.
 
-ghost use Rattle.std.specs.Prelude.{◌≡◌, ◌≤◌, length, map};
+ghost use Rattle.std.specs.Prelude.{◌≡◌, ◌≤◌, Some, length, map, slice_get};
 ghost use Rattle.net_model.specs.Limits.{max_links};
-ghost use Rattle.network_runner.specs.Counting.{IsToPort, arrived_with, capped_sum, rests_with, sent_with, told_or};
+ghost use Rattle.net_state.specs.Moving.{carried};
+ghost use Rattle.network_runner.specs.Counting.{EndsAt, IsToPort, arrived_with, capped_sum, rests_with, sent_at, sent_with, told_or};
 
 use net_model::{End, Firing, Link};
 use net_state::{Filled, NetState};
@@ -29,11 +30,22 @@ pub(crate) fn count_sent<A: Firing>(net: &NetState<A>, links: &[Link], sent: &mu
     ensures sent { sent.new ≡ sent_with (map A.cell net.now.cells) links.now sent.old }
 {
     for l in 0..links.len() {
-        if let End::Net { port } = links[l].to {
-            let p = port as usize;
-            sent[p] = capped_sum(sent[p], net.sent(LinkId(l as u32)));
-        }
+        count_link(net, LinkId(l as u32), &links[l], sent);
     }
+}
+
+/// The same of one link.
+fn count_link<A: Firing>(net: &NetState<A>, l: LinkId, link: &Link, sent: &mut [u64])
+    requires there { slice_get net.now.links l.0 ≡ Some link.now }
+    requires port { EndsAt link.now (length sent.old) link.now.to }
+    ensures sent { sent.new ≡ sent_at sent.old (length (carried (map A.cell net.now.cells) link.now))
+        link.now.to }
+{
+    let End::Net { port } = link.to else {
+        return;
+    };
+    let p = port as usize;
+    sent[p] = capped_sum(sent[p], net.sent(l));
 }
 
 /// A number to which another one is added; it stays at the greatest one.

@@ -1,6 +1,7 @@
 //! The parts of a runner, made before its run.
 
-ghost use Rattle.std.specs.Prelude.{◌≡◌, [], IfOk, length, replicate};
+ghost use Rattle.std.specs.Prelude.{◌≡◌, ℕ, [], IfOk, length, map, slice_index_or};
+ghost use Rattle.net_state.specs.Held.{HoldFew, capacity_of};
 ghost use Rattle.network_runner.specs.Asking.{HavePortSizes};
 ghost use Rattle.network_runner.specs.Making.{AreOutletsOf, AreReadersOf, CountNothing, IsReaderOf};
 
@@ -72,7 +73,8 @@ fn reader_of(
 
 /// So many writers, which buffer nothing.
 pub(crate) fn writers_of(alloc: Global, count: usize) -> Result<Vec<ChannelWriter>, Memory>
-    ensures { IfOk result (λ v. v.items ≡ replicate count []) }
+    ensures count { IfOk result (λ v. length v.items ≡ count) }
+    ensures empty { IfOk result (λ v. (p : ℕ) → slice_index_or v.items p [] ≡ []) }
 {
     let mut writers = Vec::with_capacity(alloc, count)?;
     for _k in 0..count {
@@ -83,7 +85,8 @@ pub(crate) fn writers_of(alloc: Global, count: usize) -> Result<Vec<ChannelWrite
 
 /// A copy of the links.
 pub(crate) fn copy_of(alloc: Global, links: &[Link]) -> Result<Vec<Link>, Memory>
-    ensures { IfOk result (λ v. v.items ≡ links.now) }
+    ensures same { IfOk result (λ v. v.items ≡ links.now) }
+    ensures few { IfOk result (λ _. HoldFew (map capacity_of links.now)) }
 {
     let mut copy = Vec::with_capacity(alloc, links.len())?;
     for l in 0..links.len() {
