@@ -10,6 +10,7 @@ use Rattle.net_model.specs.declared.wiring.Link.{Link}
 use Rattle.net_model.specs.Network.{Network, is_input}
 use Rattle.net_model.specs.State.{Flow, State}
 use Rattle.net_model.specs.Event.{each_flow}
+use Rattle.net_model.specs.Counted.{rest_at}
 use Rattle.net_model.specs.Cell.{Cell, IsSameActor}
 use Rattle.net_model.specs.Wired.{IsWired}
 use Rattle.net_state.specs.declared.filling.Filled.{Filled}
@@ -402,16 +403,16 @@ module _ {X : Type 0} (l feed : ℕ) (links : List Link) (old now new : Held (Ce
   pub few_now : length links ≤ 4096 → feed ≤ 4096
   few_now few = (let most : count_inputs (take l links) ≤ l = few_feeds links l in let is : feed ≡ suc (count_inputs (take l links)) = so_far.feed_is in omega (arith, most, is, few, low))
 
-  -- the feed of a link that has a reader
-  pub feed_was : is_some reader ≡ true → IsFeedOf links readings feed
-  feed_was some = by_option reader refl some
-    where
-      by_option : (o : Option Reading) → reader ≡ o → is_some o ≡ true → IsFeedOf links readings feed
-      by_option None is no = cc
-      by_option (Some reading) is yes = (l, reading, there ∙ ap Some is, so_far.feed_is)
-
   module _ (after : Option Reading) (still : is_some after ≡ is_some reader) (ends : IfSome after (λ reading. EndIsTrue reading (fn.left feed))) (unread : IfNone reader (fn ≡ feeds))
       (pulls : PullsOnlyAt feed feeds fn) where
+    -- the feed of a link that has a reader
+    pub feed_was : is_some reader ≡ true → IsFeedOf links (slice_set readings l after) feed
+    feed_was some = by_option after refl (still ∙ some)
+      where
+        by_option : (o : Option Reading) → after ≡ o → is_some o ≡ true → IsFeedOf links (slice_set readings l after) feed
+        by_option None is said = cc
+        by_option (Some reading) is said = (l, reading, get_set_same readings l reader after there ∙ ap Some is, so_far.feed_is)
+
     pub fit_after : ReadersFit links (slice_set readings l after) fn
     fit_after =
         let on = some_at links l low in

@@ -14,3 +14,5 @@ pub mod Leaving
 pub mod Numbers
 pub mod Counted
 pub mod Ended
+pub mod Empty
+pub mod Assembled

@@ -36,7 +36,7 @@ use Rattle.network_runner.proofs.Trapped.{IsAlive, no_firings, trap_happens}
 
 -- Tests.
 
-matches_false : (b : Bool) (P Q : Type 0) → b ≡ false → Q → MatchBool b P Q
+pub matches_false : (b : Bool) (P Q : Type 0) → b ≡ false → Q → MatchBool b P Q
 matches_false true P Q is q = cc
 matches_false false P Q is q = q
 
@@ -56,7 +56,7 @@ and_both : (a b : Bool) → a ≡ true → b ≡ true → (a && b) ≡ true
 and_both true b is too = too
 and_both false b is too = cc
 
-not_zero : (n : ℕ) → 0 < n → (n == 0) ≡ false
+pub not_zero : (n : ℕ) → 0 < n → (n == 0) ≡ false
 not_zero n some = by_bool (n == 0) (λ yes. let is : n ≡ 0 = eqb-true n 0 yes in absurd (omega (arith, is, some))) (λ no. no)
 
 -- Which are picked.

@@ -19,7 +19,7 @@ use Rattle.net_model.specs.Cell.{Cell}
 use Rattle.net_model.specs.Laws.{AreLawful}
 use Rattle.net_model.specs.Ends.{IsBetween, IsQuiet, IsSettled, IsStalled, IsStuck, LacksOn, LacksRoom, all_fed}
 use Rattle.net_model.specs.Trace.{after_delivery, played}
-use Rattle.net_model.specs.Paced.{AreBursts, ClosesSpent, Ends, Halt, Moment, Pace, Spent, Unpicked, count_picked, limit_of, none_of, picked}
+use Rattle.net_model.specs.Paced.{AreBursts, ClosesSpent, Ends, Halt, Moment, Pace, Spent, Unpicked, count_picked, limit_of, none_of, picked, count_of}
 use Rattle.net_state.specs.Held.{Held}
 use Rattle.net_state.specs.Moving.{SameActors}
 use Rattle.net_state.specs.Standing.{StandsIn, StandsSince}
@@ -62,7 +62,7 @@ no_journals (cell ∷ cells) [] same each = absurd (omega (arith, same))
 no_journals (cell ∷ cells) (mark ∷ marks) same each =
     ap (λ a. a ∷ journals cells) (each 0 cell refl) ∙ ap (λ bs. [] ∷ bs) (no_journals cells marks (omega (arith, same)) (λ i that at. each (suc i) that at))
 
-picked_long : {X : Type 0} (net : Network X) (pace : Pace) (at : Moment X) → length (picked net pace at) ≡ length net.leaves
+pub picked_long : {X : Type 0} (net : Network X) (pace : Pace) (at : Moment X) → length (picked net pace at) ≡ length net.leaves
 picked_long net pace at = by_test (at.idle || none_of (picks pace.kind (length net.leaves) at.round))
   where
     by_test : (b : Bool) → length (if b then map (λ leaf. true) net.leaves else picks pace.kind (length net.leaves) at.round) ≡ length net.leaves
@@ -186,7 +186,7 @@ spent_made net s kind budget turn how line old new since untrapped left still re
   where
     none_count : (marks : List Bool) → count_of (no_actions marks) ≡ 0
     none_count [] = refl
-    none_count (mark ∷ marks) = none_count marks
+    none_count (mark ∷ marks) = (let rest : count_of (no_actions marks) ≡ 0 = none_count marks in omega (arith, rest))
 
     spent_closes : (P Q : Type 0) (b : Bool) → b ≡ true → P → MatchBool b P Q
     spent_closes P Q true is p = p

@@ -106,6 +106,7 @@ pub record GoesOn {X : Type 0} (run : Running (Cell X)) (marks asked instances :
     Type 0 where
   pub untrapped : AreUntrapped run.held.cells
   pub journals : HaveJournals run.burst run.held.cells
+  pub few_held : (l : ℕ) → slice_index_or run.held.capacities l 0 ≤ 4294967295
   pub holds_each : length run.held.capacities ≡ length run.held.links
   pub joined : (l : ℕ) (link : Link) → slice_get run.held.links l ≡ Some link
       → IsOpenLink run.held.cells run.grow (slice_index_or run.held.capacities l 0) link

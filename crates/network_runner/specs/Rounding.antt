@@ -35,14 +35,6 @@ pub record ClosedBy {X : Type 0} (trap : Option Trapped) (fired : ℕ) (lacks : 
   pub by_none : trap ≡ None → fired ≡ 0 → all ≡ true → ClosesAllIdle grow lacks answer old new
   pub same_cells : new.cells ≡ old.cells
 
--- if the run goes on and there are instances, the policy was asked about them in this round
-abbrev pub AsksAgain : RoundEnd → ℕ → ℕ → ℕ → ℕ → Type 0
-AsksAgain (round.Fired n) instances turn asked about = (asked ≡ turn) × (about ≡ instances)
-AsksAgain round.Idle instances turn asked about = (asked ≡ turn) × (about ≡ instances)
-AsksAgain (round.Grew link capacity) instances turn asked about =
-    (asked ≡ turn) × (about ≡ instances)
-AsksAgain (round.End how) instances turn asked about = Unit {0}
-
 -- what is asked if all were picked and nothing fired
 pub record MayClose {X : Type 0} (grow : ℕ) (lacks : Option Lacking) (held : Held (Cell X)) :
     Type 0 where
@@ -72,6 +64,13 @@ is_trap (round.End (end.Stalled inst action link)) = false
 is_trap (round.End end.Budget) = false
 is_trap (round.End (end.ReadFault feed)) = false
 is_trap (round.End (end.WriteFault channel)) = false
+
+-- if the run goes on, this is so
+abbrev pub IfGoing : RoundEnd → Type 0 → Type 0
+IfGoing (round.Fired n) P = P
+IfGoing round.Idle P = P
+IfGoing (round.Grew link capacity) P = P
+IfGoing (round.End how) P = Unit {0}
 
 -- how many firings there were, as far as an answer says it
 abbrev pub CountsTo : RoundEnd → ℕ → Type 0

@@ -88,6 +88,7 @@ SameButEnd old new =
 pub record DeliversRun {X : Type 0} (run new : Running (Cell X)) (feeds_old feeds_new : Inputs) :
     Type 0 where
   pub rests : IsAtRest new.held
+  pub few_held : (l : ℕ) → slice_index_or run.held.capacities l 0 ≤ 4294967295
   pub came : List Filled
   pub arrived : new.counts.arrived.items ≡ arrived_with came run.counts.arrived.items
   pub rests_are : new.counts.rests.items ≡ rests_with came run.counts.rests.items

@@ -43,7 +43,7 @@ pub fn fill_all<A: Firing, F: Feeds>(
     ensures fills { FillsAll A.cell F.feeds net.old net.new readers.old readers.new feeds.old
         feeds.new came.new result }
     ensures failed { OnErr result (ReadFails F.feeds feeds.old feeds.new) }
-    ensures feed { IfErr result (λ fault. IsFeedOf links.now readers.old fault.feed) }
+    ensures feed { IfErr result (λ fault. IsFeedOf links.now readers.new fault.feed) }
     ensures still_fit { ReadersFit links.now readers.new (F.feeds feeds.new) }
 
     // What stays.

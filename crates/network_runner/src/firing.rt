@@ -7,7 +7,7 @@ ghost use Rattle.net_state.specs.Surveyed.{AreUntrapped};
 ghost use Rattle.net_state.specs.Working.{IsAtRest};
 ghost use Rattle.round_runner.specs.Bursting.{AreFresh};
 ghost use Rattle.network_runner.specs.Closing.{GrowsBy};
-ghost use Rattle.network_runner.specs.Rounding.{AsksAgain, CanGrow, ClosedBy, CountsTo, MakesRound, MayClose, is_trap};
+ghost use Rattle.network_runner.specs.Rounding.{CanGrow, ClosedBy, CountsTo, IfGoing, MakesRound, MayClose, is_trap};
 
 use crate::closing::close_idle;
 use crate::spending::end_spent;
@@ -42,7 +42,7 @@ pub struct RoundMade {
 
 /// A round once its delivery was made: nothing fires if the budget is spent or no instance is there, and else the
 /// instances that the policy picks. `gate` is told when a worker starts.
-pub(crate) fn close_round<A: Firing, P: Policy, G: Gate>(
+pub fn make_firings<A: Firing, P: Policy, G: Gate>(
     net: &mut NetState<A>,
     policy: &mut P,
     marks: &mut [bool],
@@ -64,12 +64,12 @@ pub(crate) fn close_round<A: Firing, P: Policy, G: Gate>(
     ensures counted { CountsTo result.answer result.fired }
     ensures not_idle_again { result.answer ≡ RoundEnd.Idle → turn.now.idle ≡ false }
     ensures grows { GrowsBy result.answer turn.now.grow net.old.capacities net.new.capacities }
-    ensures untrapped { is_trap result.answer ≡ false → AreUntrapped (map A.cell net.new.cells) }
+    ensures untrapped { IfGoing result.answer (AreUntrapped (map A.cell net.new.cells)) }
 
     // What stays.
     ensures kind { P.kind policy.new ≡ P.kind policy.old }
-    ensures asked { AsksAgain result.answer (length marks.old) turn.now.round (P.rounds policy.new)
-        (P.instances policy.new) }
+    ensures asked { IfGoing result.answer (P.rounds policy.new ≡ turn.now.round) }
+    ensures instances { IfGoing result.answer (P.instances policy.new ≡ length marks.old) }
     ensures same_actors { SameActors (map A.cell net.old.cells) (map A.cell net.new.cells) }
     ensures links { net.new.links ≡ net.old.links }
     ensures still_as_many { length marks.new ≡ length marks.old }

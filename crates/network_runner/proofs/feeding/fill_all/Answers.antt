@@ -27,7 +27,8 @@ returns-in-Err-clause-feed g c =
     let reader = slice_index_or readers c.loop-l.l c.index-readers-l.result in
     feed_was c.loop-l.l c.loop-l.feed c.args.links.now (seen g.A.Firing.cell c.args.net.now) (seen g.A.Firing.cell c.loop-l.net) (seen g.A.Firing.cell c.fill_one.new.net) c.args.readers.now readers
     (g.F.Feeds.feeds c.args.feeds.now) (g.F.Feeds.feeds c.loop-l.feeds) (g.F.Feeds.feeds c.fill_one.new.feeds) c.args.came.now c.loop-l.came
-    c.loop-l.invariant c.loop-l-test.true reader (at_place readers c.loop-l.l c.index-readers-l.result reader low refl) c.in-Err.ensures.read
+    c.loop-l.invariant c.loop-l-test.true reader (at_place readers c.loop-l.l c.index-readers-l.result reader low refl) c.fill_one.new.reader
+    c.fill_one.ensures.still_there c.fill_one.ensures.still_same_feed c.fill_one.ensures.unread c.fill_one.ensures.elsewhere c.in-Err.ensures.read
 
 pub returns-in-Err-clause-same_actors : goal.returns-in-Err-clause-same_actors
 returns-in-Err-clause-same_actors g c =
