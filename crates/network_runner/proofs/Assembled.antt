@@ -121,7 +121,7 @@ module _ {X : Type 0} (net : Network X) (inputs : List (List ℕ)) (budget left 
           → record { state = s; round = suc rounds; idle = idle; left = left } ≡ moment_of run s left
       by_parts rounds idle r i = rw (r, i) refl
 
-  round_made : IsRoundMade net (pace_by delivered.kind budget (turn_of delivered left)) (moment_by (turn_of delivered left) s) answer fires.fired fired.held
+  pub round_made : IsRoundMade net (pace_by delivered.kind budget (turn_of delivered left)) (moment_by (turn_of delivered left) s) answer fires.fired fired.held
   round_made = fires.makes net s budget made.stands untrapped stands.is_run_of.wired stands.is_run_of.lawful made.all
 
   abbrev block : Block

@@ -16,3 +16,6 @@ pub mod Counted
 pub mod Ended
 pub mod Empty
 pub mod Assembled
+pub mod Loops
+pub mod Held
+pub mod Parted

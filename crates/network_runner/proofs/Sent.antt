@@ -152,7 +152,7 @@ index_same [] k x d low = absurd (omega (arith, low))
 index_same (y ∷ xs) zero x d low = refl
 index_same (y ∷ xs) (suc k) x d low = index_same xs k x d (omega (arith, low))
 
-index_other : {A : Type 0} (xs : List A) (k m : ℕ) (x d : A) → m ≢ k → slice_index_or (slice_set xs k x) m d ≡ slice_index_or xs m d
+pub index_other : {A : Type 0} (xs : List A) (k m : ℕ) (x d : A) → m ≢ k → slice_index_or (slice_set xs k x) m d ≡ slice_index_or xs m d
 index_other [] k m x d differ = refl
 index_other (y ∷ xs) zero zero x d differ = absurd (differ refl)
 index_other (y ∷ xs) zero (suc m) x d differ = refl

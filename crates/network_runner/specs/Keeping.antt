@@ -68,6 +68,7 @@ pub record HasParts {C : Type 0} (run : Running C) (links : List Link) (outlets 
   pub readers : (l : ℕ) (link : Link) (reader : Option Reading) → slice_get links l ≡ Some link
       → slice_get run.readings l ≡ Some reader → ReaderFits (has_feed run.reads link.from) reader
   pub bursts : (1 ≤ run.burst) × (run.burst ≤ 65536)
+  pub few_grown : run.grow ≤ max_grow
 
 -- how much links of these capacities may still grow, together
 abbrev pub growth_left : ℕ → List ℕ → ℕ

@@ -9,10 +9,14 @@
 #![tactic(auto)]
 
 mod closing;
+mod counting;
 mod delivering;
 mod feeding;
 mod firing;
+mod making;
 mod noting;
+mod putting;
+mod runner;
 mod sending;
 mod spending;
 
@@ -21,5 +25,6 @@ pub use delivering::deliver_all;
 pub use feeding::{ReadFault, fill_all};
 pub use firing::{RoundMade, Turn, fire_round, make_firings};
 pub use noting::note_round;
+pub use runner::Runner;
 pub use sending::{Outlet, WriteFault, send_all};
 pub use spending::end_spent;
