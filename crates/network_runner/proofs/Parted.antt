@@ -87,8 +87,8 @@ kind_is [] (first ∷ outlets) p outlet same at = cc
 kind_is (port ∷ ports) [] p outlet same at = cc
 kind_is (port ∷ ports) (first ∷ outlets) zero outlet same at = heads port.kind first.kind (map (λ q. q.kind) ports) (map (λ o. o.kind) outlets) same ∙ ap (λ o. o.kind) (some_outlet first outlet at)
   where
-    heads : (a b : Scalar) (as bs : List Scalar) → a ∷ as ≡ b ∷ bs → a ≡ b
-    heads a b as bs e = cc
+    heads : (a b : Scalar) (xs ys : List Scalar) → a ∷ xs ≡ b ∷ ys → a ≡ b
+    heads a b xs ys e = cc
 
     some_outlet : (a b : Outlet) → Some a ≡ Some b → a ≡ b
     some_outlet a b e = cc
