@@ -175,9 +175,11 @@ module _ {X : Type 0} (net : Network X) (wired : IsWired net) (lawful : AreLawfu
       on_next (happens net s (Fire i a)) (λ next. IsBurst net opened i (limit - 1) next actions halt last) (Goes (suc (length actions)) s last) burst.3
       (λ next is rest.
       let here : Whole next = fire_count s next i a is whole in
-      let later : Goes (length actions) next last = burst_gone opened i (limit - 1) next actions halt last rest here in
-      (later.0, subst (λ n. AllGoneOn n net s last) (let e : 1 + length actions ≡ suc (length actions) = omega arith in e)
-          (all_then 1 (length actions) s next last here (fire_gone s next i a is) later.1)))
+      let later : Goes (length actions) next last = burst_gone opened i (limit - 1) next actions halt last rest here in (
+        later.0,
+        subst (λ n. AllGoneOn n net s last) (let e : 1 + length actions ≡ suc (length actions) = omega arith in e)
+            (all_then 1 (length actions) s next last here (fire_gone s next i a is) later.1),
+      ))
 
   pub bursts_gone : (opened : State X) (share : Share) (marks : List Bool) (i k fired : ℕ) (s : State X) (bursts : List (List ℕ)) (halts : List Halt) (last : State X)
       → AreBursts net opened share marks i k fired s bursts halts last → Whole s → Goes (count_of bursts) s last
@@ -303,16 +305,18 @@ pub round_gone : {X : Type 0} (net : Network X) (pace : Pace) (at : Moment X) (b
 round_gone net pace at block last answer wired lawful made answers whole =
     let opened = after_delivery net at.state in
     let gone = bursts_gone net wired lawful opened (share_of net pace at) (picked net pace at) 0 0 0 opened block.bursts made.halts made.fired made.bursts whole in
-    let same : SameTokens net made.fired last = close_tokens net made.fired last answer block answers made.leads in
-    (same.count ∙ gone.0, λ l link before flow there was now.
-        let mid = flow_at net wired lawful made.fired l link gone.0 there in
-        let first = gone.1 l link before mid.0 there was mid.1 in
-        let second = same.each l mid.0 flow mid.1 now in
-        record {
-          more = first.more;
-          sent = second.0 ∙ first.sent;
-          arrived = second.1 ∙ first.arrived;
-          from_outside = first.from_outside;
-          few_more = first.few_more;
-          few_taken = (let few = first.few_taken in let is = second.2 in omega (arith, few, is));
-        })
+    let same : SameTokens net made.fired last = close_tokens net made.fired last answer block answers made.leads in (
+      same.count ∙ gone.0,
+      λ l link before flow there was now.
+          let mid = flow_at net wired lawful made.fired l link gone.0 there in
+          let first = gone.1 l link before mid.0 there was mid.1 in
+          let second = same.each l mid.0 flow mid.1 now in
+          record {
+            more = first.more;
+            sent = second.0 ∙ first.sent;
+            arrived = second.1 ∙ first.arrived;
+            from_outside = first.from_outside;
+            few_more = first.few_more;
+            few_taken = (let few = first.few_taken in let is = second.2 in omega (arith, few, is));
+          },
+    )

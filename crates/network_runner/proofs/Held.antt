@@ -74,13 +74,8 @@ growth_falls grow (c ∷ capacities) (suc l) capacity low more few =
     let rest : growth_left grow (slice_set capacities l capacity) < growth_left grow capacities = growth_falls grow capacities l capacity (omega (arith, low)) more few in
     omega (arith, rest)
 
-pub growth_most : (grow : ℕ) (capacities : List ℕ) → growth_left grow capacities ≤ grow * length capacities
-growth_most grow [] = omega arith
-growth_most grow (c ∷ capacities) =
-    let rest : growth_left grow capacities ≤ grow * length capacities = growth_most grow capacities in
-    let more : grow * suc (length capacities) ≡ grow + grow * length capacities = mul_suc grow (length capacities) in
-    omega (arith, rest, more)
-  where
-    mul_suc : (a b : ℕ) → a * suc b ≡ a + a * b
-    mul_suc zero b = refl
-    mul_suc (suc a) b = (let rest : a * suc b ≡ a + a * b = mul_suc a b in omega (arith, rest))
+pub growth_most : (grow : ℕ) (capacities : List ℕ) → grow ≤ max_grow → growth_left grow capacities ≤ max_grow * length capacities
+growth_most grow [] few = omega arith
+growth_most grow (c ∷ capacities) few =
+    let rest : growth_left grow capacities ≤ max_grow * length capacities = growth_most grow capacities few in
+    omega (arith, rest, few)

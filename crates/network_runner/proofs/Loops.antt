@@ -75,13 +75,13 @@ set_count (y ∷ xs) zero x = refl
 set_count (y ∷ xs) (suc k) x = ap suc (set_count xs k x)
 
 -- what was put before stays, as another channel is written
-after_it : (channel other : ℕ) (old now new : Channels) (text : List ℕ) → now.tells ≡ old.tells → WritesOnlyAt other now new → channel ≢ other → Appends channel old now text → Appends channel old new text
+pub after_it : (channel other : ℕ) (old now new : Channels) (text : List ℕ) → now.tells ≡ old.tells → WritesOnlyAt other now new → channel ≢ other → Appends channel old now text → Appends channel old new text
 after_it channel other old now new text tells only differ puts told = only.same_held (tells ∙ told) channel differ ∙ puts told
 
-whole_front : (channel : ℕ) (old new : Channels) (text : List ℕ) → Appends channel old new text → AppendsFront channel old new text
+pub whole_front : (channel : ℕ) (old new : Channels) (text : List ℕ) → Appends channel old new text → AppendsFront channel old new text
 whole_front channel old new text puts told = record { put = text; left = []; new_is = puts told; text_is = sym (append-nil text) }
 
-none_front : (channel : ℕ) (old new : Channels) (text : List ℕ) → (old.tells ≡ true → new.held channel ≡ old.held channel) → AppendsFront channel old new text
+pub none_front : (channel : ℕ) (old new : Channels) (text : List ℕ) → (old.tells ≡ true → new.held channel ≡ old.held channel) → AppendsFront channel old new text
 none_front channel old new text same told = record { put = []; left = text; new_is = same told ∙ sym (append-nil (old.held channel)); text_is = refl }
 
 module _ (outlets : List Outlet) (p : ℕ) (outlet : Outlet) (here : slice_get outlets p ≡ Some outlet) (old now new : Channels) (before writers : List (List ℕ)) (so_far : IsPutting outlets p old now before writers)

@@ -96,14 +96,20 @@ abbrev shown_in : Line → ℕ
 shown_in line = length (firings_shown (line ∷ []))
 
 all_same : {X : Type 0} (net : Network X) (s t : State X) → Whole net s → SameTokens net s t → Whole net t × AllLater 0 net s t
-all_same net s t whole same = (same.count ∙ whole, λ l link before flow at there now.
-    let is = same.each l before flow there now in
-    later_same link before flow is.0 is.1 is.2)
+all_same net s t whole same = (
+  same.count ∙ whole,
+  λ l link before flow at there now.
+      let is = same.each l before flow there now in
+      later_same link before flow is.0 is.1 is.2,
+)
 
 all_delivered : {X : Type 0} (net : Network X) (s : State X) → Whole net s → Whole net (after_delivery net s) × AllLater 0 net s (after_delivery net s)
-all_delivered net s whole = (changed_count delivered net.links s.flows whole, λ l link before flow at there now.
-    let is : delivered link before ≡ flow = some_is (delivered link before) flow (sym (changed_so delivered net.links s.flows l link before at there) ∙ now) in
-    subst (Later 0 link before) is (later_delivered link before))
+all_delivered net s whole = (
+  changed_count delivered net.links s.flows whole,
+  λ l link before flow at there now.
+      let is : delivered link before ≡ flow = some_is (delivered link before) flow (sym (changed_so delivered net.links s.flows l link before at there) ∙ now) in
+      subst (Later 0 link before) is (later_delivered link before),
+)
 
 module _ {X : Type 0} (net : Network X) (wired : IsWired net) (lawful : AreLawful net) where
   line_later : (line : Line) (s t : State X) → Whole net s → goes net s line ≡ Some t → Whole net t × AllLater (shown_in line) net s t
@@ -145,8 +151,11 @@ module _ {X : Type 0} (net : Network X) (wired : IsWired net) (lawful : AreLawfu
   next_from (Some next) f t h = (next, refl, h)
 
   pub lines_later : (lines : List Line) (s t : State X) → Whole net s → played net s lines ≡ Some t → Whole net t × AllLater (length (firings_shown lines)) net s t
-  lines_later [] s t whole h = subst (λ w. Whole net w × AllLater 0 net s w) (some_state s t h) (whole, λ l link before flow at there now.
-      subst (Later 0 link before) (some_is before flow (sym there ∙ now)) (later_same link before before refl refl refl))
+  lines_later [] s t whole h = subst (λ w. Whole net w × AllLater 0 net s w) (some_state s t h) (
+    whole,
+    λ l link before flow at there now.
+        subst (Later 0 link before) (some_is before flow (sym there ∙ now)) (later_same link before before refl refl refl),
+  )
   lines_later (line ∷ lines) s t whole h =
       let next = next_from (goes net s line) (λ w. played net w lines) t h in
       let first = line_later line s next.0 whole next.1 in

@@ -272,12 +272,12 @@ one_fed {X} l feed old new before after fo fn filled is_in fills full arrive res
         fed = λ _. (subst (λ t. IsFed t l (Some link) (inflow after fn feed)) next_is fed_now, rest_now input);
         all = λ _. full_or_all net new goes.next goes.stands wired l link (input_delivered link flow) at there_now filled.rest (inflow after fn feed) (slice_get new.links l) at_new fed_now full;
         told = λ _. record {
-            tokens = told;
-            rest_told = subst (λ w. TellsRest rest (is_short (Some w)) filled.rest) (input_so link flow input)
-                (told_rest net new goes.next goes.stands wired l link (input_delivered link flow) at_now there_now filled.rest rest (inflow after fn feed) (slice_get new.links l) at_new (rest_now input) full);
-            few = inr (subst (λ w. untaken w ≤ flow.capacity) (input_so link flow input)
-                (subst (λ n. untaken (input_delivered link flow) ≤ n) (ap (λ w. w.capacity) (input_so link flow input))
-                (few_held net new goes.next goes.stands wired l link (input_delivered link flow) at_now there_now filled.rest (inflow after fn feed) (slice_get new.links l) at_new full)));
+          tokens = told;
+          rest_told = subst (λ w. TellsRest rest (is_short (Some w)) filled.rest) (input_so link flow input)
+              (told_rest net new goes.next goes.stands wired l link (input_delivered link flow) at_now there_now filled.rest rest (inflow after fn feed) (slice_get new.links l) at_new (rest_now input) full);
+          few = inr (subst (λ w. untaken w ≤ flow.capacity) (input_so link flow input)
+              (subst (λ n. untaken (input_delivered link flow) ≤ n) (ap (λ w. w.capacity) (input_so link flow input))
+              (few_held net new goes.next goes.stands wired l link (input_delivered link flow) at_now there_now filled.rest (inflow after fn feed) (slice_get new.links l) at_new full)));
         };
         none_told = λ other. (let no : true ≡ false = sym input ∙ other in cc);
       };

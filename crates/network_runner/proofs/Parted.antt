@@ -1,11 +1,11 @@
 -- The parts of a runner, as what is buffered changes, and what it sends out.
-use Rattle.std.proofs.Common.{◌≡◌, ℕ, zero, suc, ◌+◌, ◌<◌, ◌≤◌, Bool, true, false, List, [], ◌∷◌, ◌++◌, inr, length, map, refl, sym, ap, subst, ◌∙◌, arith}
+use Rattle.std.proofs.Common.{◌≡◌, ℕ, zero, suc, ◌+◌, ◌<◌, ◌≤◌, Bool, true, false, List, [], ◌∷◌, ◌++◌, inl, inr, length, map, refl, sym, ap, subst, ◌∙◌, arith}
 use Rattle.std.specs.Prelude.{Option, None, Some, Result, Ok, Err, IfErr, OnErr, OnOk, slice_get, slice_index_or}
 use Rattle.rvc_base.specs.declared.round_kind.RoundKind.{RoundKind}
 use Rattle.rvc_base.specs.declared.scalar.Scalar.{Scalar}
 use Rattle.rvc_base.specs.declared.scalar.Scalar.TheVariants.{Bool as Truth}
-use Rattle.rvc_io.specs.Channels.{Channels}
-use Rattle.channel_writer.specs.Held.{AppendsFront, WritesOn}
+use Rattle.rvc_io.specs.Channels.{Appends, Channels, WritesOnlyAt}
+use Rattle.channel_writer.specs.Held.{AppendsFront, HoldsFront, WritesOn}
 use Rattle.port_files.specs.Coming.{Reading}
 use Rattle.net_model.specs.declared.wiring.Counts.{Counts}
 use Rattle.net_model.specs.declared.wiring.Link.{Link}
@@ -24,7 +24,9 @@ use Rattle.network_runner.specs.declared.sending.Outlet.{Outlet}
 use Rattle.network_runner.specs.Asking.{ChannelsFit, IsChannel, WritesWithin, seen_run}
 use Rattle.network_runner.specs.Keeping.{GoesOn, HasParts, running_of}
 use Rattle.network_runner.specs.Sending.{IsChannelOf, OutletsFit, OutletsOpen, SendsFronts, SendsOnly, SendsTexts, buffered, outgoing_to}
-use Rattle.network_runner.specs.Stepping.{IsOutChannel, SendsFront, SendsOut, left_bytes}
+use Rattle.network_runner.specs.Stepping.{IsOutChannel, PutsAll, PutsFronts, SendsFront, SendsOut, left_bytes}
+use Rattle.network_runner.specs.Putting.{PutsOutletFronts, PutsOutlets}
+use Rattle.network_runner.proofs.Loops.{after_it, none_front, whole_front}
 use Rattle.network_runner.proofs.Leaving.{left_stored, outgoing_is}
 
 module _ {C : Type 0} (held : Held C) (ins : List Port) (reads : List Bool) (outlets : List Outlet) (readings : List (Option Reading)) (kind : RoundKind) (plan : Plan) (idle : Bool)
@@ -142,3 +144,51 @@ module _ {X : Type 0} (run : Running (Cell X)) (outlets : List Outlet) (links : 
       let on = open_at outlets p (ap (λ ws. slice_index_or ws p false) (sym writes) ∙ is) in
       subst (λ text. AppendsFront (2 + p) old now (buffer run p ++ text)) (text_is net s is_run stands p on.0 on.1)
       (subst (λ bs. AppendsFront (2 + p) old now (slice_index_or bs p [] ++ stored_bytes on.0.kind (outgoing_to p run.held.cells links))) (sym buffers) (fronts p on.0 on.1 on.2))
+
+-- What is put.
+
+pub err_as : {T E : Type 0} (r : Result T E) (P Q : E → Type 0) → ((e : E) → P e → Q e) → IfErr r P → IfErr r Q
+err_as (Ok v) P Q f p = tt
+err_as (Err e) P Q f p = f e p
+
+trace_else : (outlets : List Outlet) → IsChannelOf outlets 1 → ⊥
+trace_else outlets is = (let e : 1 ≡ 2 + is.0 = is.4 in omega (arith, e))
+
+module _ {C : Type 0} (run : Running C) (outlets : List Outlet) (old mid : Channels) (before : List (List ℕ)) (writes : run.writes ≡ map (λ o. o.is_open) outlets) (buffers : run.buffers ≡ before) (only : SendsOnly outlets old mid) where
+  written_at : (p : ℕ) → slice_index_or run.writes p false ≡ true → (outlet : Outlet) × (slice_get outlets p ≡ Some outlet) × (outlet.is_open ≡ true)
+  written_at p is = open_at outlets p (ap (λ ws. slice_index_or ws p false) (sym writes) ∙ is)
+
+  pub fronts_so : PutsOutletFronts outlets old mid before → PutsFronts run old mid
+  fronts_so fronts = record {
+    trace = none_front 1 old mid run.trace (λ told. only.same_others told 1 (trace_else outlets));
+    outputs = λ p is. (let on = written_at p is in subst (λ bs. AppendsFront (2 + p) old mid (slice_index_or bs p [])) (sym buffers) (fronts p on.0 on.1 on.2));
+  }
+
+  module _ (new : Channels) (puts : PutsOutlets outlets old mid before) (then_only : WritesOnlyAt 1 mid new) where
+    outputs_put : (p : ℕ) → slice_index_or run.writes p false ≡ true → Appends (2 + p) old new (buffer run p)
+    outputs_put p is =
+        let on = written_at p is in
+        let put : Appends (2 + p) old mid (buffer run p) = subst (λ bs. Appends (2 + p) old mid (slice_index_or bs p [])) (sym buffers) (puts p on.0 on.1 on.2) in
+        after_it (2 + p) 1 old mid new (buffer run p) only.same_telling then_only (λ e. absurd (omega (arith, e))) put
+
+    pub all_so : Appends 1 mid new run.trace → PutsAll run old new
+    all_so trace = record {
+      trace = λ told. trace (only.same_telling ∙ told) ∙ ap (λ h. h ++ run.trace) (only.same_others told 1 (trace_else outlets));
+      outputs = outputs_put;
+    }
+
+    pub trace_front : AppendsFront 1 mid new run.trace → PutsFronts run old new
+    trace_front front = record {
+      trace = λ told. subst (λ h. HoldsFront h (new.held 1) run.trace) (only.same_others told 1 (trace_else outlets)) (front (only.same_telling ∙ told));
+      outputs = λ p is. whole_front (2 + p) old new (buffer run p) (outputs_put p is);
+    }
+
+    pub within_so : WritesWithin run old new
+    within_so = record {
+      same_telling = then_only.same_telling ∙ only.same_telling;
+      same_open = λ channel. then_only.same_open channel ∙ only.same_open channel;
+      same_others = λ told channel other.
+          then_only.same_held (only.same_telling ∙ told) channel (λ e. other (inl e))
+          ∙ only.same_others told channel (λ is. other (inr (out_channel run outlets channel writes is)));
+      faults_stay = (let one = only.faults_stay in let two = then_only.faults_stay in omega (arith, one, two));
+    }

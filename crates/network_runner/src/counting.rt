@@ -10,7 +10,7 @@ use net_state::{Filled, NetState};
 use rvc_base::LinkId;
 
 /// Adds for each link the tokens that came over it, and sets what is left of its feed once its end was read.
-pub(crate) fn count_arrived(came: &[Filled], arrived: &mut [u64], rests: &mut [u8])
+pub fn count_arrived(came: &[Filled], arrived: &mut [u64], rests: &mut [u8])
     requires arrived { length arrived.old ≡ length came.now }
     requires rests { length rests.old ≡ length came.now }
     ensures arrived { arrived.new ≡ arrived_with came.now arrived.old }
@@ -23,7 +23,7 @@ pub(crate) fn count_arrived(came: &[Filled], arrived: &mut [u64], rests: &mut [u
 }
 
 /// Adds for each output what was sent there and hasn't left.
-pub(crate) fn count_sent<A: Firing>(net: &NetState<A>, links: &[Link], sent: &mut [u64])
+pub fn count_sent<A: Firing>(net: &NetState<A>, links: &[Link], sent: &mut [u64])
     requires links { links.now ≡ net.now.links }
     requires few { length links.now ≤ max_links }
     requires ports { IsToPort links.now (length sent.old) }

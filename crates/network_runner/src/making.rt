@@ -13,11 +13,7 @@ use rvc_base::Memory;
 use std::alloc::Global;
 
 /// The outputs of a network, each with a channel if a word names it.
-pub(crate) fn outlets_of(
-    alloc: Global,
-    outs: &[Port],
-    open_outs: &[bool],
-) -> Result<Vec<Outlet>, Memory>
+pub fn outlets_of(alloc: Global, outs: &[Port], open_outs: &[bool]) -> Result<Vec<Outlet>, Memory>
     requires told { length open_outs.now ≡ length outs.now }
     ensures { IfOk result (λ v. AreOutletsOf outs.now open_outs.now v.items) }
 {
@@ -32,7 +28,7 @@ pub(crate) fn outlets_of(
 }
 
 /// For each link the reader of its feed, if it has one: its tokens have the type of the network's port.
-pub(crate) fn readers_of(
+pub fn readers_of(
     alloc: Global,
     links: &[Link],
     ins: &[Port],
@@ -72,7 +68,7 @@ fn reader_of(
 }
 
 /// So many writers, which buffer nothing.
-pub(crate) fn writers_of(alloc: Global, count: usize) -> Result<Vec<ChannelWriter>, Memory>
+pub fn writers_of(alloc: Global, count: usize) -> Result<Vec<ChannelWriter>, Memory>
     ensures count { IfOk result (λ v. length v.items ≡ count) }
     ensures empty { IfOk result (λ v. (p : ℕ) → slice_index_or v.items p [] ≡ []) }
 {
@@ -84,7 +80,7 @@ pub(crate) fn writers_of(alloc: Global, count: usize) -> Result<Vec<ChannelWrite
 }
 
 /// A copy of the links.
-pub(crate) fn copy_of(alloc: Global, links: &[Link]) -> Result<Vec<Link>, Memory>
+pub fn copy_of(alloc: Global, links: &[Link]) -> Result<Vec<Link>, Memory>
     ensures same { IfOk result (λ v. v.items ≡ links.now) }
 {
     let mut copy = Vec::with_capacity(alloc, links.len())?;
@@ -95,7 +91,7 @@ pub(crate) fn copy_of(alloc: Global, links: &[Link]) -> Result<Vec<Link>, Memory
 }
 
 /// The numbers of a run of which nothing was made yet.
-pub(crate) fn no_counts(alloc: Global, links: usize, outs: usize) -> Result<Counts, Memory>
+pub fn no_counts(alloc: Global, links: usize, outs: usize) -> Result<Counts, Memory>
     ensures { IfOk result (CountNothing links outs) }
 {
     let arrived = vec![in alloc; 0; links]?;
@@ -111,7 +107,7 @@ pub(crate) fn no_counts(alloc: Global, links: usize, outs: usize) -> Result<Coun
 }
 
 /// Over so many links nothing came.
-pub(crate) fn nothing_came(alloc: Global, links: usize) -> Result<Vec<Filled>, Memory>
+pub fn nothing_came(alloc: Global, links: usize) -> Result<Vec<Filled>, Memory>
     ensures { IfOk result (λ v. length v.items ≡ links) }
 {
     let none = Filled {
@@ -122,7 +118,7 @@ pub(crate) fn nothing_came(alloc: Global, links: usize) -> Result<Vec<Filled>, M
 }
 
 /// So many instances, none of which is picked.
-pub(crate) fn no_marks(alloc: Global, count: usize) -> Result<Vec<bool>, Memory>
+pub fn no_marks(alloc: Global, count: usize) -> Result<Vec<bool>, Memory>
     ensures { IfOk result (λ v. length v.items ≡ count) }
 {
     Ok(vec![in alloc; false; count]?)

@@ -17,7 +17,7 @@ use rvc_io::{Drains, Failed};
 ///
 /// `WriteFault` if a write failed (`failed`), on the channel of an output that has one (`channel`): each channel got a
 /// prefix of what was buffered for it (`fronts`).
-pub(crate) fn flush_all<D: Drains>(
+pub fn flush_all<D: Drains>(
     outlets: &[Outlet],
     writers: &mut [ChannelWriter],
     drains: &mut D,
