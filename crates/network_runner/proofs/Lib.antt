@@ -8,3 +8,14 @@ pub mod Rounded
 pub mod Growable
 pub mod Lines
 pub mod Spent
+pub mod Stored
+pub mod Flowing
+pub mod Leaving
+pub mod Numbers
+pub mod Counted
+pub mod Ended
+pub mod Empty
+pub mod Assembled
+pub mod Loops
+pub mod Held
+pub mod Parted
