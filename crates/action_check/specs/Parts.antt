@@ -28,14 +28,16 @@ use Rattle.action_check.specs.declared.action.ActorParts.{ActorParts}
 -- ---- what is found of a list of parts
 
 -- each part is judged so, or one is broken
-abbrev pub JudgesAll : {A B : Type 0} → (A → B) → Result (Vec A Global) KindFault → List (Judged B) → Type 0
+abbrev pub JudgesAll : {A B : Type 0} → (A → B) → Result (Vec A Global) KindFault
+    → List (Judged B) → Type 0
 JudgesAll view (Ok found) js = js ≡ map Fine (map view found.items)
 JudgesAll view (Err f) js = Refuses f (all_broken js)
 
 -- ---- patterns
 
 -- patterns that break no rule, or a rule that they break
-abbrev pub FindsPatterns : Result (Vec BoundPattern Global) KindFault → Tree → List Port → Names → Type 0
+abbrev pub FindsPatterns : Result (Vec BoundPattern Global) KindFault → Tree → List Port → Names
+    → Type 0
 FindsPatterns (Ok qs) ps ports names =
     (patterns_broken ps ports names ≡ [])
     × (patterns_fine ps ports names ≡ Some (map pattern_view qs.items))
@@ -70,8 +72,8 @@ pub record HasFewPorts (parts : ActorParts) : Type 0 where
 -- what stands behind the patterns of an action
 abbrev pub inside_of : Action → Around → Names → List Violation
 inside_of a around inner =
-    inside_broken (exprs_tree a.guards.items) (listed (map var_tree a.vars.items)) (body_tree a.body)
-    (outputs_tree a.outputs.items) around inner
+    inside_broken (exprs_tree a.guards.items) (listed (map var_tree a.vars.items))
+    (body_tree a.body) (outputs_tree a.outputs.items) around inner
 
 -- what stands behind the locals of an action
 abbrev pub rest_of : Action → Around → Names → List Violation

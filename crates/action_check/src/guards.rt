@@ -30,7 +30,8 @@ pub(crate) fn guards(names: &Names, guards: &[Expr]) -> Result<(), KindFault>
 /// That an `initialize` has no guard.
 #[tactic(auto, using(crate::proofs::Judged::refuses_as))]
 pub(crate) fn guards_allowed(a: &Action) -> Result<(), KindFault>
-    ensures { Checks result (guard_allowed a.now.initialize (exprs_tree a.now.guards.items) a.now.at) }
+    ensures { Checks result
+        (guard_allowed a.now.initialize (exprs_tree a.now.guards.items) a.now.at) }
 {
     match check_guards(a) {
         Ok(()) => Ok(()),

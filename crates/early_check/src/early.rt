@@ -21,8 +21,8 @@ use stmt_check::stored;
 ///
 /// # Errors
 ///
-/// `Broken`: the first rule that the type breaks. If a name isn't known yet, that is T9 at the innermost expression that
-/// must be constant and uses it. `Memory` if memory runs out.
+/// `Broken`: the first rule that the type breaks. If a name isn't known yet, that is T9 at the innermost expression
+/// that must be constant and uses it. `Memory` if memory runs out.
 pub fn early_type(names: &Names, t: &TypeExpr) -> Result<Shape, KindFault>
     ensures { Judges shape_view result (early_type (type_tree t.now) (names_view names.now)) }
 {

@@ -76,7 +76,8 @@ fn formal(names: &Names, f: &PortDecl) -> Result<BoundLocal, KindFault>
 
 /// A local as a name for what stands behind it.
 fn name_of(alloc: Global, local: &BoundLocal) -> Result<Variable, Memory>
-    ensures { IfOk result (λ x. known_variable (variable_view x) ≡ known_local (local_view local.now)) }
+    ensures { IfOk result (λ x. known_variable (variable_view x)
+        ≡ known_local (local_view local.now)) }
 {
     let kind = kind_of_type(alloc, &local.shape)?;
     let name = local.name.clone()?;

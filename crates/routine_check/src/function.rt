@@ -55,8 +55,8 @@ fn single_behind(names: &Names, before: &[Variable], shape: &TypeExpr) -> Result
     single_type(&names.under(&inside), shape)
 }
 
-/// What is inside a function: its locals, and its body, whose value is stored in the type of its result. Nothing is said
-/// of it if its head breaks a rule.
+/// What is inside a function: its locals, and its body, whose value is stored in the type of its result. Nothing is
+/// said of it if its head breaks a rule.
 ///
 /// # Errors
 ///
@@ -97,7 +97,8 @@ fn body(names: &Names, declared: &[VarDecl], t: Scalar, e: &Expr) -> Result<(), 
 
 /// An expression behind variables whose value is stored in a type.
 fn value_behind(names: &Names, variables: &[Variable], t: Scalar, e: &Expr) -> Result<(), KindFault>
-    ensures { Checks result (value_broken t (expr_tree e.now) (seen_behind variables.now names.now)) }
+    ensures { Checks result
+        (value_broken t (expr_tree e.now) (seen_behind variables.now names.now)) }
 {
     let inside = Inside {
         variables,
