@@ -1,4 +1,4 @@
-mod Judged
-mod Checked
-mod Walks
+pub mod Judged
+pub mod Checked
+pub mod Walks
 pub mod StmtWeights

@@ -63,7 +63,11 @@ fn may_be_assigned(names: &Names, name: &str, at: u32) -> Result<(), KindFault>
 }
 
 /// The kinds of expressions in order.
-fn kinds(names: &Names, exprs: &[Expr]) -> Result<Vec<Kind>, KindFault>
+///
+/// # Errors
+///
+/// `Broken`: the first rule that one of them breaks. `Memory` if memory runs out.
+pub fn kinds(names: &Names, exprs: &[Expr]) -> Result<Vec<Kind>, KindFault>
     ensures { Judges (λ found. map kind_view found.items) result
         (kinds (listed (map expr_tree exprs.now)) (names_view names.now)) }
 {

@@ -5,9 +5,12 @@
 #![tactic(auto)]
 
 mod assign;
+mod inner_vars;
 mod part;
 mod proc_call;
 mod stmt;
-mod vars;
 
-pub use stmt::{optional_stmts, stmts};
+pub use assign::kinds;
+pub use inner_vars::vars;
+pub use part::{stored, test};
+pub use stmt::{block, optional_stmts, stmts};

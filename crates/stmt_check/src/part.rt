@@ -32,7 +32,12 @@ fn place_of_type(t: &TypeExpr) -> u32
 }
 
 /// That an expression's value may be stored as one of a kind.
-pub(crate) fn stored(names: &Names, k: &Kind, e: &Expr) -> Result<(), KindFault>
+///
+/// # Errors
+///
+/// `Broken`: the first rule that the expression breaks, or T1 or T5 at it if its kind is another one. `Memory` if memory
+/// runs out.
+pub fn stored(names: &Names, k: &Kind, e: &Expr) -> Result<(), KindFault>
     ensures { Judges (λ _. kind_view k.now) result
         (stored_kind (kind_view k.now) (expr_tree e.now) (names_view names.now)) }
 {
@@ -41,8 +46,12 @@ pub(crate) fn stored(names: &Names, k: &Kind, e: &Expr) -> Result<(), KindFault>
 }
 
 /// That a test is a truth value.
+///
+/// # Errors
+///
+/// As those of [`stored`].
 #[tactic(auto, using(crate::proofs::Checked::checks_judged))]
-pub(crate) fn test(names: &Names, e: &Expr) -> Result<(), KindFault>
+pub fn test(names: &Names, e: &Expr) -> Result<(), KindFault>
     ensures { Checks result (broken (test_judged (expr_tree e.now) (names_view names.now))) }
 {
     stored(names, &Kind::Bool, e)

@@ -15,9 +15,9 @@ ghost use Rattle.stmt_check.specs.Declaring.{block_broken, range_broken, seen_be
 ghost use Rattle.stmt_check.specs.Judging.{Checks};
 
 use crate::assign::assign;
+use crate::inner_vars::vars;
 use crate::part::{counter, number, test};
 use crate::proc_call::call;
-use crate::vars::vars;
 use cal_ast::{Expr, Ident, Stmt, StmtForm, TypeExpr, VarDecl};
 use cal_model::{BoundProc, Kind};
 use const_eval::{Inside, KindFault, Names, Variable};
@@ -172,8 +172,13 @@ fn behind(
 }
 
 /// Variables, and statements that see them.
+///
+/// # Errors
+///
+/// `Broken` if a variable or a statement breaks a rule: one of those that are broken, and its place. `Memory` if memory
+/// runs out.
 #[cycle(stmt)]
-fn block(
+pub fn block(
     names: &Names,
     procs: &[BoundProc],
     declared: &[VarDecl],

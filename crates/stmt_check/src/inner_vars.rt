@@ -12,8 +12,12 @@ use cal_ast::{Expr, VarDecl};
 use cal_model::{Kind, kind_of_type};
 use const_eval::{Inside, KindFault, Names, Variable, type_judged};
 
-/// Variables, each of which sees those before it.
-pub(crate) fn vars(names: &Names, vars: &[VarDecl]) -> Result<Vec<Variable>, KindFault>
+/// Variables, each of which sees those before it, as names for what stands behind them.
+///
+/// # Errors
+///
+/// `Broken` if a type or a start breaks a rule: one of those that are broken, and its place. `Memory` if memory runs out.
+pub fn vars(names: &Names, vars: &[VarDecl]) -> Result<Vec<Variable>, KindFault>
     ensures { DeclaresAll result vars.now names.now (names_view names.now) }
 {
     let mut found = Vec::new(names.alloc);

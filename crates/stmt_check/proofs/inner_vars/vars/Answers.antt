@@ -3,7 +3,7 @@ use Rattle.cal_ast.specs.View.{var_tree}
 use Rattle.const_eval.specs.Counting.{names_view}
 use Rattle.stmt_check.specs.Declaring.{Declares, seen_behind}
 use Rattle.stmt_check.proofs.Walks.{vars_next}
-use Rattle.stmt_check.proofs.vars.vars.Goals as goal
+use Rattle.stmt_check.proofs.inner_vars.vars.Goals as goal
 
 pub vars-preserved : goal.vars-preserved
 vars-preserved c =

@@ -1,0 +1,13 @@
+use Rattle.std.proofs.Common.{◌≡◌, length, map, string_bytes}
+use Rattle.cal_model.specs.Sound.{kind_of_tokens, with_pattern}
+use Rattle.const_eval.specs.declared.names.Names.{Names as DeclaredNames}
+use Rattle.stmt_check.specs.Declaring.{seen_behind}
+use Rattle.action_check.proofs.behind.add_names.Given as goal
+
+abbrev pub invariant-names : goal.invariant-names
+invariant-names l =
+    (n : DeclaredNames) → with_pattern (kind_of_tokens l.t l.repeat) (map string_bytes l.rest) (seen_behind l.seen.items n)
+    ≡ with_pattern (kind_of_tokens l.t l.repeat) (map string_bytes l.initial.rest) (seen_behind l.initial.seen.items n)
+
+abbrev pub decreases-names : goal.decreases-names
+decreases-names l = length l.rest

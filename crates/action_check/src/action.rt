@@ -1,0 +1,122 @@
+//! Actions.
+#![tactic(auto, using(stmt_check::proofs::Checked::refuses_on))]
+
+ghost use Rattle.cal_ast.specs.View.{action_tree};
+ghost use Rattle.const_eval.specs.Counting.{names_view};
+ghost use Rattle.cal_check.specs.Actions.{action_broken};
+ghost use Rattle.cal_check.specs.Actors.{actions_broken, actions_in};
+ghost use Rattle.member_check.specs.Parts.{members_tree};
+ghost use Rattle.stmt_check.specs.Declaring.{seen_behind};
+ghost use Rattle.stmt_check.specs.Judging.{Checks};
+ghost use Rattle.action_check.specs.Parts.{HasFewPorts, around_view, inside_of, rest_of};
+
+use crate::behind::pattern_names;
+use crate::guards::{guards, guards_allowed};
+use crate::outputs::check_outputs;
+use crate::pattern::patterns;
+use cal_ast::{Action, Member};
+use cal_model::{BoundProc, Port};
+use const_eval::{Inside, KindFault, Names, Variable};
+use stmt_check::{optional_stmts, vars};
+
+/// What the actions of an actor see beside names: its ports and its procedures.
+#[derive(Clone, Copy)]
+pub struct ActorParts<'a> {
+    pub ins: &'a [Port],
+    pub outs: &'a [Port],
+    pub procs: &'a [BoundProc],
+}
+
+/// The actions among members, as [`check_action`] judges each.
+///
+/// # Errors
+///
+/// As those of [`check_action`].
+pub fn check_actions(names: &Names, parts: &ActorParts, members: &[Member]) -> Result<(), KindFault>
+    requires { HasFewPorts parts.now }
+    ensures { Checks result
+        (actions_broken (actions_in (members_tree members.now)) (around_view parts.now names.now)) }
+{
+    let mut rest = members;
+    'members: while let Some((first, others)) = rest.split_first() {
+        if let Member::Action(a) = first {
+            check_action(names, parts, a)?;
+        }
+        rest = others;
+    }
+    Ok(())
+}
+
+/// An action, or an `initialize`. Nothing behind the patterns is judged if one of them breaks a rule.
+///
+/// # Errors
+///
+/// `Broken` if the action breaks a rule: one of those that it breaks, and its place. `Memory` if memory runs out.
+pub fn check_action(names: &Names, parts: &ActorParts, a: &Action) -> Result<(), KindFault>
+    requires { HasFewPorts parts.now }
+    ensures { Checks result (action_broken (action_tree a.now) (around_view parts.now names.now)) }
+{
+    guards_allowed(a)?;
+    let found = patterns(names, parts.ins, &a.patterns)?;
+    let seen = pattern_names(names, parts.ins, &found)?;
+    behind_patterns(names, &seen, parts, a)
+}
+
+/// What stands behind the variables of patterns.
+fn behind_patterns(
+    names: &Names,
+    seen: &[Variable],
+    parts: &ActorParts,
+    a: &Action,
+) -> Result<(), KindFault>
+    requires { HasFewPorts parts.now }
+    ensures { Checks result
+        (inside_of a.now (around_view parts.now names.now) (seen_behind seen.now names.now)) }
+{
+    let inside = Inside {
+        variables: seen,
+        gens: &[],
+        outer: names.inner,
+    };
+    inside_action(&names.under(&inside), parts, a)
+}
+
+/// The guards, the locals, and what stands behind these.
+fn inside_action(names: &Names, parts: &ActorParts, a: &Action) -> Result<(), KindFault>
+    requires { HasFewPorts parts.now }
+    ensures { Checks result
+        (inside_of a.now (around_view parts.now names.now) (names_view names.now)) }
+{
+    guards(names, &a.guards)?;
+    let locals = vars(names, &a.vars)?;
+    behind_locals(names, &locals, parts, a)
+}
+
+/// What stands behind the locals.
+fn behind_locals(
+    names: &Names,
+    locals: &[Variable],
+    parts: &ActorParts,
+    a: &Action,
+) -> Result<(), KindFault>
+    requires { HasFewPorts parts.now }
+    ensures { Checks result (rest_of a.now (around_view parts.now names.now)
+        (seen_behind locals.now names.now)) }
+{
+    let inside = Inside {
+        variables: locals,
+        gens: &[],
+        outer: names.inner,
+    };
+    body_and_outputs(&names.under(&inside), parts, a)
+}
+
+/// The statements and the outputs.
+fn body_and_outputs(names: &Names, parts: &ActorParts, a: &Action) -> Result<(), KindFault>
+    requires { HasFewPorts parts.now }
+    ensures { Checks result
+        (rest_of a.now (around_view parts.now names.now) (names_view names.now)) }
+{
+    optional_stmts(names, parts.procs, &a.body)?;
+    check_outputs(names, parts.outs, &a.outputs)
+}

@@ -1,0 +1,40 @@
+//! Guards.
+#![tactic(auto, using(stmt_check::proofs::Checked::refuses_on))]
+
+ghost use Rattle.std.specs.Prelude.{◌≡◌};
+ghost use Rattle.const_eval.specs.Counting.{names_view};
+ghost use Rattle.cal_check.specs.Actions.{each_guard, guard_allowed};
+ghost use Rattle.cal_check.specs.Violations.{all_broken};
+ghost use Rattle.member_check.specs.Parts.{exprs_tree};
+ghost use Rattle.stmt_check.specs.Judging.{Checks};
+
+use crate::fault::as_kind_fault;
+use cal_ast::{Action, Expr};
+use const_eval::{KindFault, Names};
+use member_check::check_guards;
+use stmt_check::test;
+
+/// That each guard is a truth value.
+pub(crate) fn guards(names: &Names, guards: &[Expr]) -> Result<(), KindFault>
+    ensures { Checks result
+        (all_broken (each_guard (exprs_tree guards.now) (names_view names.now))) }
+{
+    let mut rest = guards;
+    'guards: while let Some((first, others)) = rest.split_first() {
+        test(names, first)?;
+        rest = others;
+    }
+    Ok(())
+}
+
+/// That an `initialize` has no guard.
+#[tactic(auto, using(crate::proofs::Judged::refuses_as))]
+pub(crate) fn guards_allowed(a: &Action) -> Result<(), KindFault>
+    ensures { Checks result
+        (guard_allowed a.now.initialize (exprs_tree a.now.guards.items) a.now.at) }
+{
+    match check_guards(a) {
+        Ok(()) => Ok(()),
+        Err(f) => Err(as_kind_fault(f)),
+    }
+}

@@ -1,0 +1,98 @@
+//! Input patterns.
+#![tactic(auto, using(crate::proofs::Judged::breaks_on, crate::proofs::Judged::breaks_rate))]
+
+ghost use Rattle.std.specs.Prelude.{◌≡◌, ◌≤◌, IfOk, length, map, string_bytes};
+ghost use Rattle.cal_ast.specs.View.{pattern_tree};
+ghost use Rattle.cal_model.specs.Sound.{max_ports};
+ghost use Rattle.cal_model.specs.View.{pattern_view};
+ghost use Rattle.const_eval.specs.Counting.{names_view};
+ghost use Rattle.const_eval.specs.Judging.{Judges};
+ghost use Rattle.cal_check.specs.Actions.{names_listed, pattern_judged, patterns_on};
+ghost use Rattle.member_check.specs.Asking.{patterns_tree, port_views};
+ghost use Rattle.member_check.specs.Parts.{idents_tree};
+ghost use Rattle.action_check.specs.Parts.{FindsPatterns, JudgesAll};
+
+use crate::fault::as_kind_fault;
+use crate::repeats::{rate, repeat};
+use cal_ast::{Ident, Pattern};
+use cal_model::{BoundPattern, Port};
+use const_eval::{KindFault, Names};
+use member_check::pattern_ports;
+use rvc_base::Memory;
+use std::alloc::Global;
+
+/// The patterns of an action, each with the number of its port. Their repeats see the names of the actor.
+///
+/// # Errors
+///
+/// `Broken`, if no two patterns are on one port and each port is there: Z5 at a pattern whose repeat is below 1 or that
+/// takes more than 4,096 tokens, or the first rule that a repeat breaks. Else as those of
+/// [`pattern_ports`](member_check::pattern_ports). `Memory` if memory runs out.
+pub fn patterns(
+    names: &Names,
+    ins: &[Port],
+    patterns: &[Pattern],
+) -> Result<Vec<BoundPattern>, KindFault>
+    requires { length ins.now ≤ max_ports }
+    ensures { FindsPatterns result (patterns_tree patterns.now) (port_views ins.now)
+        (names_view names.now) }
+{
+    match pattern_ports(names.alloc, patterns, ins) {
+        Ok(numbers) => patterns_on(names, patterns, &numbers),
+        Err(f) => Err(as_kind_fault(f)),
+    }
+}
+
+/// Patterns on the ports of these numbers.
+fn patterns_on(
+    names: &Names,
+    patterns: &[Pattern],
+    numbers: &[u32],
+) -> Result<Vec<BoundPattern>, KindFault>
+    ensures { JudgesAll pattern_view result
+        (patterns_on (patterns_tree patterns.now) numbers.now (names_view names.now)) }
+{
+    let mut found = Vec::new(names.alloc);
+    let mut rest = patterns;
+    let mut left = numbers;
+    'patterns: while let Some((first, others)) = rest.split_first() {
+        let Some((number, later)) = left.split_first() else {
+            return Ok(found);
+        };
+        let next = pattern(names, first, *number)?;
+        found.push(next)?;
+        rest = others;
+        left = later;
+    }
+    Ok(found)
+}
+
+/// A pattern on a port.
+fn pattern(names: &Names, p: &Pattern, port: u32) -> Result<BoundPattern, KindFault>
+    ensures { Judges pattern_view result
+        (pattern_judged (pattern_tree p.now) port (names_view names.now)) }
+{
+    let repeat = repeat(names, &p.repeat, p.at)?;
+    rate(p.names.len(), repeat, p.at)?;
+    let names = texts(names.alloc, &p.names)?;
+    Ok(BoundPattern {
+        port,
+        names,
+        repeat,
+    })
+}
+
+/// The texts of names.
+fn texts(alloc: Global, names: &[Ident]) -> Result<Vec<String>, Memory>
+    ensures { IfOk result (λ texts. map string_bytes texts.items
+        ≡ names_listed (idents_tree names.now)) }
+{
+    let mut texts = Vec::new(alloc);
+    let mut rest = names;
+    'names: while let Some((first, others)) = rest.split_first() {
+        let text = first.text.clone()?;
+        texts.push(text)?;
+        rest = others;
+    }
+    Ok(texts)
+}
