@@ -112,3 +112,11 @@ pub record IsSoFar (library : Library) (top : List ℕ) (done : List Read) (name
 pub record HasRead (library : Library) (top : List ℕ) (names : List (List ℕ)) (s : State) : Type 0 where
   pub done : List Read
   pub is_so_far : IsSoFar library top done names s
+
+-- .. and of the library everything else is as it was
+pub record IsLoading (old now : Library) (faults_old faults misses_old misses : ℕ) (top : List ℕ)
+    (names : List (List ℕ)) (s : State) : Type 0 where
+  pub has_read : HasRead old top names s
+  pub same_files : (other : List ℕ) → now other ≡ old other
+  pub faults_stay : faults_old ≤ faults
+  pub misses_stay : misses_old ≤ misses
