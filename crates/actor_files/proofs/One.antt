@@ -14,7 +14,7 @@ use Rattle.cal_grammar.specs.Refusals.{Breaks, breaks_off, grows_high}
 use Rattle.cal_grammar.specs.Spells.{spells}
 use Rattle.actor_files.specs.FileNames.{file_of}
 use Rattle.actor_files.specs.FileText.{BreaksRules, IsFile, IsText, in_grammar, in_lexis}
-use Rattle.actor_files.specs.Loading.{AreReadBehind, IsLoaded, IsNextRead, IsRefused, Library, Misses, Refuses, TellsAll, breaks_rules, is_missing, is_too_long, is_too_much, max_bytes, max_files}
+use Rattle.actor_files.specs.Loading.{AreReadBehind, Counts, IsLoaded, IsNextRead, IsRefused, Library, Refuses, TellsAll, breaks_rules, is_missing, is_too_long, is_too_much, max_bytes, max_files}
 use Rattle.actor_files.specs.Reads.{Read, Request, bytes_of, next_number, next_request}
 
 -- tokens spell one tree
@@ -79,7 +79,7 @@ one_next one library top before a b tells x y =
     same_read a b c t (one_file one b.text a.tree b.tree (subst (λ s. IsFile s a.tree) t x.is_file) y.is_file)
 
 -- what can be read isn't refused
-readable : OneTree → (library : Library) (top : List ℕ) (before : List Read) (a : Read) (q : Request) (misses : Misses) (names : List (List ℕ))
+readable : OneTree → (library : Library) (top : List ℕ) (before : List Read) (a : Read) (q : Request) (misses : Counts) (names : List (List ℕ))
     (refusal : Refusal) (found : List (List ℕ)) → TellsAll library → IsNextRead library top before a → next_request top before ≡ Some q
     → Refuses (library (file_of q.class)) q (next_number before) (bytes_of before) misses names refusal found → ⊥
 readable one library top before a q misses names refusal found tells x next h =
@@ -130,7 +130,7 @@ pub one : OneTree → (library : Library) (top : List ℕ) (xs ys : List Read) �
 one tree library top xs ys tells x y = one_behind tree library top [] xs ys tells x.are_read x.whole y.are_read y.whole
 
 -- files that stop before one that is refused
-not_behind : OneTree → (library : Library) (top : List ℕ) (before xs ys : List Read) (q : Request) (misses : Misses) (names : List (List ℕ))
+not_behind : OneTree → (library : Library) (top : List ℕ) (before xs ys : List Read) (q : Request) (misses : Counts) (names : List (List ℕ))
     (refusal : Refusal) (found : List (List ℕ)) → TellsAll library
     → AreReadBehind library top before xs → next_request top (before ++ xs) ≡ None
     → AreReadBehind library top before ys → next_request top (before ++ ys) ≡ Some q
@@ -150,7 +150,7 @@ not_behind one library top before (a ∷ xs) (b ∷ ys) q misses names refusal f
     (subst (λ b. Refuses (library (file_of q.class)) q (next_number b) (bytes_of b) misses names refusal found) (sym (append_assoc before (a ∷ []) ys))
     (subst (λ r. Refuses (library (file_of q.class)) q (next_number (before ++ r ∷ ys)) (bytes_of (before ++ r ∷ ys)) misses names refusal found) same h))
 
-pub not_refused : OneTree → (library : Library) (top : List ℕ) (reads : List Read) (misses : Misses) (refusal : Refusal) (names : List (List ℕ))
+pub not_refused : OneTree → (library : Library) (top : List ℕ) (reads : List Read) (misses : Counts) (refusal : Refusal) (names : List (List ℕ))
     → TellsAll library → IsLoaded library top reads → IsRefused library top misses refusal names → ⊥
 not_refused one library top reads misses refusal names tells x h =
     not_behind one library top [] reads h.reads h.request misses _ refusal names tells x.are_read x.whole h.stops.are_read h.stops.is_next h.refuses

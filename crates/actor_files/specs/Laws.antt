@@ -2,7 +2,7 @@
 -- Trusted: part of what a promise means.
 use Rattle.std.specs.Prelude.{◌≡◌, ℕ, List}
 use Rattle.rvc_base.specs.declared.refusal.Refusal.{Refusal}
-use Rattle.actor_files.specs.Loading.{IsLoaded, IsRefused, Library, Misses, TellsAll}
+use Rattle.actor_files.specs.Loading.{Counts, IsLoaded, IsRefused, Library, TellsAll}
 use Rattle.actor_files.specs.Reads.{Read}
 
 -- an actor has at most one list of files
@@ -12,6 +12,6 @@ LoadingsAreOne = (library : Library) (top : List ℕ) (reads others : List Read)
 
 -- if all its files are read, none is refused
 abbrev pub LoadedIsNotRefused : Type 0
-LoadedIsNotRefused = (library : Library) (top : List ℕ) (reads : List Read) (misses : Misses)
+LoadedIsNotRefused = (library : Library) (top : List ℕ) (reads : List Read) (misses : Counts)
     (refusal : Refusal) (names : List (List ℕ)) → TellsAll library → IsLoaded library top reads
     → IsRefused library top misses refusal names → ⊥

@@ -6,3 +6,4 @@ pub mod Views
 pub mod Actor
 pub mod Laws
 pub mod SoFar
+pub mod ActorView

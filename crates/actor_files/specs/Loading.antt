@@ -56,14 +56,14 @@ pub record IsLoaded (library : Library) (top : List ℕ) (reads : List Read) : T
 abbrev pub with_name : (class : List ℕ) → List (List ℕ) → List (List ℕ)
 with_name class names = names ++ file_of class ∷ []
 
--- How often names were found missing, before and after.
-pub record Misses : Type 0 where
+-- how often something was counted, before and after
+pub record Counts : Type 0 where
   pub old : ℕ
   pub new : ℕ
 
 -- The file of a request, which would have this number behind so many bytes, is refused; and which names stand then. A file
 -- that is found has its name there, one that is missing hasn't. The rules are tried in this order.
-pub data Refuses (told : Told) (q : Request) (number bytes : ℕ) (misses : Misses) (names : List (List ℕ)) : Refusal
+pub data Refuses (told : Told) (q : Request) (number bytes : ℕ) (misses : Counts) (names : List (List ℕ)) : Refusal
     → List (List ℕ) → Type 0 where
   is_missing : HasRisen misses.old misses.new → IsLacking told
       → Refuses told q number bytes misses names q.missing names
@@ -83,7 +83,7 @@ pub record StopsAt (library : Library) (top : List ℕ) (reads : List Read) (q :
   pub is_next : next_request top reads ≡ Some q
 
 -- files are read up to one that is refused
-pub record IsRefused (library : Library) (top : List ℕ) (misses : Misses) (refusal : Refusal) (names : List (List ℕ))
+pub record IsRefused (library : Library) (top : List ℕ) (misses : Counts) (refusal : Refusal) (names : List (List ℕ))
     : Type 0 where
   pub reads : List Read
   pub request : Request

@@ -1,9 +1,11 @@
 -- A loading so far.
 -- Not trusted: no promise is read with it.
-use Rattle.std.specs.Prelude.{◌≡◌, ◌≤◌, ◌+◌, ℕ, suc, List, [], ◌∷◌, ◌++◌, length, map, string_bytes, is_some, if◌then◌else◌, VecDeque}
+use Rattle.std.specs.Prelude.{◌≡◌, ◌≤◌, ◌+◌, ℕ, suc, List, [], ◌∷◌, ◌++◌, length, map, string_bytes, is_some, if◌then◌else◌}
 use Rattle.std.specs.declared.alloc.Global.{Global as Heap}
+use Rattle.std.specs.declared.collections.VecDeque.{VecDeque}
 use Rattle.rvc_base.specs.declared.refusal.Front.{Front}
 use Rattle.rvc_base.specs.declared.refusal.Front.TheVariants as front
+use Rattle.rvc_io.specs.Count.{HasRisen}
 use Rattle.rvc_io.specs.Told.{Told}
 use Rattle.cal_ast.specs.Tree as tree
 use Rattle.cal_ast.specs.Tree.{Tree, listed}
@@ -13,7 +15,7 @@ use Rattle.cal_ast.specs.declared.ident.Ident.{Ident}
 use Rattle.cal_imports.specs.Sources.{Source, imports_of, source_named}
 use Rattle.cal_imports.specs.View.{new_source, sources}
 use Rattle.actor_files.specs.FileText.{IsFile, IsText}
-use Rattle.actor_files.specs.Loading.{AreRead, Library, max_bytes, max_files}
+use Rattle.actor_files.specs.Loading.{AreRead, Counts, Library, Refuses, max_bytes, max_files, with_name}
 use Rattle.actor_files.specs.Reads as plain
 use Rattle.actor_files.specs.Reads.{Read, bytes_of, first_unread, import_requests, names_of, requests, sources_of}
 use Rattle.actor_files.specs.declared.fault.LoadFault.{LoadFault}
@@ -55,11 +57,27 @@ abbrev pub of_front : Front → LoadFault
 of_front (front.Refused refusal) = Refused refusal
 of_front front.Memory = Memory
 
--- no reading failed
-abbrev pub IsNoFault : LoadFault → Type 0
-IsNoFault (Refused refusal) = Unit {0}
-IsNoFault (ReadFault file) = ⊥
-IsNoFault Memory = Unit {0}
+-- what is known where the file of a request isn't read: its number, the bytes and the names of the files before it
+pub record Place : Type 0 where
+  pub told : Told
+  pub request : plain.Request
+  pub number : ℕ
+  pub bytes : ℕ
+  pub names : List (List ℕ)
+
+-- why the file isn't read, and which names stand then
+abbrev pub IsStopped : Place → (misses faults : Counts) → (names : List (List ℕ)) → LoadFault → Type 0
+IsStopped p misses faults names (Refused refusal) =
+    Refuses p.told p.request p.number p.bytes misses p.names refusal names
+IsStopped p misses faults names (ReadFault file) = HasRisen faults.old faults.new
+    × (file ≡ p.number) × (names ≡ with_name p.request.class p.names)
+IsStopped p misses faults names Memory = Unit {0}
+
+-- .. although it was found with this text, whatever library told it
+abbrev pub IsBroken : (text : List ℕ) → (request : plain.Request) → (number bytes : ℕ) → LoadFault → Type 0
+IsBroken text q number bytes fault = (told : Told) (misses faults : Counts) (names : List (List ℕ)) → IsText told text
+    → IsStopped (record { told = told; request = q; number = number; bytes = bytes; names = names })
+    misses faults (with_name q.class names) fault
 
 -- ---- how a loading stands
 

@@ -1,14 +1,12 @@
 //! The call for the files of an actor.
 
-ghost use Rattle.std.specs.Prelude.{◌≡◌, ◌≤◌, ℕ, List, [], IfOk, IsErr, IsSome, MatchResult};
-ghost use Rattle.std.specs.Result.{IsErrOf};
+ghost use Rattle.std.specs.Prelude.{◌≡◌, ◌≤◌, List, [], IfErr, IfOk, IsErr, IsSome, MatchResult};
 ghost use Rattle.rvc_base.specs.declared.refusal.Refusal.{Refusal as Denial};
-ghost use Rattle.rvc_io.specs.Count.{HasRisen};
 ghost use Rattle.cal_imports.specs.Sources.{source_named};
 ghost use Rattle.cal_imports.specs.View.{sources};
-ghost use Rattle.actor_files.specs.Loading.{IsFaulted, IsLoaded, IsRefused, Misses, TellsAll};
+ghost use Rattle.actor_files.specs.Loading.{Counts, IsLoaded, IsRefused, TellsAll};
 ghost use Rattle.actor_files.specs.Reads.{Read};
-ghost use Rattle.actor_files.specs.Views.{HoldsFiles, HoldsLoaded, IsOutside, file_names};
+ghost use Rattle.actor_files.specs.Views.{HoldsFiles, HoldsLoaded, IsFault, IsOutside, file_names};
 
 use crate::fault::LoadFault;
 use crate::laws::{one_loading, one_outcome};
@@ -29,8 +27,8 @@ use std::alloc::Global;
 /// # Errors
 ///
 /// `Refused`: there is no file of the class, or of a class that an import asks for; a file or all together pass a limit;
-/// or a text breaks a rule of the lexis or of the grammar (`refused`). `ReadFault`: the reading of this file failed, and
-/// the failure was counted (`risen`, `faulted`). `Memory`: an allocation was refused.
+/// or a text breaks a rule of the lexis or of the grammar. `ReadFault`: the reading of this file failed, and the failure
+/// was counted. `Memory`: an allocation was refused (`fault`).
 pub fn load<L: Library>(
     alloc: Global,
     library: &mut L,
@@ -41,20 +39,15 @@ pub fn load<L: Library>(
     ensures loaded { IfOk result (λ set. HoldsLoaded (L.file library.old) class.now (sources set)
         (file_names names.new)) }
     ensures has_top { IfOk result (λ set. IsSome (source_named class.now (sources set))) }
-    ensures refused { (refusal : Denial) → IsErrOf result (LoadFault.Refused refusal)
-        → IsRefused (L.file library.old) class.now
-        (record { old = L.misses library.old; new = L.misses library.new }) refusal
-        (file_names names.new) }
-    ensures risen { (file : ℕ) → IsErrOf result (LoadFault.ReadFault file)
-        → HasRisen (L.faults library.old) (L.faults library.new) }
-    ensures faulted { (file : ℕ) → IsErrOf result (LoadFault.ReadFault file)
-        → IsFaulted (L.file library.old) class.now file (file_names names.new) }
+    ensures fault { IfErr result (IsFault (L.file library.old) class.now
+        (record { old = L.misses library.old; new = L.misses library.new })
+        (record { old = L.faults library.old; new = L.faults library.new }) (file_names names.new)) }
 
     // What a library that tells of each name decides.
     ensures complete { (reads : List Read) → TellsAll (L.file library.old)
         → IsLoaded (L.file library.old) class.now reads
         → MatchResult result (λ set. HoldsFiles reads (sources set) (file_names names.new)) IsOutside }
-    ensures incomplete { (misses : Misses) (refusal : Denial) (found : List (List ℕ))
+    ensures incomplete { (misses : Counts) (refusal : Denial) (found : List (List ℕ))
         → TellsAll (L.file library.old)
         → IsRefused (L.file library.old) class.now misses refusal found → IsErr result }
 
@@ -77,14 +70,9 @@ fn load_all<L: Library>(
     requires { file_names names.old ≡ [] }
     ensures loaded { IfOk result (λ set. HoldsLoaded (L.file library.old) class.now (sources set)
         (file_names names.new)) }
-    ensures refused { (refusal : Denial) → IsErrOf result (LoadFault.Refused refusal)
-        → IsRefused (L.file library.old) class.now
-        (record { old = L.misses library.old; new = L.misses library.new }) refusal
-        (file_names names.new) }
-    ensures risen { (file : ℕ) → IsErrOf result (LoadFault.ReadFault file)
-        → HasRisen (L.faults library.old) (L.faults library.new) }
-    ensures faulted { (file : ℕ) → IsErrOf result (LoadFault.ReadFault file)
-        → IsFaulted (L.file library.old) class.now file (file_names names.new) }
+    ensures fault { IfErr result (IsFault (L.file library.old) class.now
+        (record { old = L.misses library.old; new = L.misses library.new })
+        (record { old = L.faults library.old; new = L.faults library.new }) (file_names names.new)) }
     ensures same_files { (other : List ℕ) → L.file library.new other ≡ L.file library.old other }
     ensures faults_stay { L.faults library.old ≤ L.faults library.new }
     ensures misses_stay { L.misses library.old ≤ L.misses library.new }
@@ -95,7 +83,9 @@ fn load_all<L: Library>(
         waiting: first_requests(alloc, class)?,
     };
     'files: while let Some(request) = next_unread(&loading.set, &mut loading.waiting) {
-        read_file(alloc, library, &request, names, &mut loading)?;
+        if let Err(fault) = read_file(alloc, library, &request, names, &mut loading) {
+            return Err(fault);
+        }
     }
     Ok(loading.set)
 }

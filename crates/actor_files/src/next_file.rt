@@ -1,25 +1,22 @@
 //! The reading of one file.
 
-ghost use Rattle.std.specs.Prelude.{◌≡◌, ◌≤◌, ◌+◌, ℕ, suc, List, IfErr, IfOk, None, OnOk, length, string_bytes};
-ghost use Rattle.std.specs.Result.{IsErrOf};
-ghost use Rattle.rvc_base.specs.declared.refusal.Refusal.{Refusal as Denial};
-ghost use Rattle.rvc_io.specs.Count.{HasRisen};
+ghost use Rattle.std.specs.Prelude.{◌≡◌, ◌≤◌, ◌<◌, ◌+◌, ℕ, suc, List, IfErr, IfOk, None, OnOk, length, string_bytes};
+ghost use Rattle.rvc_base.specs.Rules.{file_too_long};
 ghost use Rattle.rvc_io.specs.Library.{max_file_bytes};
-ghost use Rattle.rvc_io.specs.Told.{Told};
 ghost use Rattle.cal_ast.specs.View.{file_tree};
 ghost use Rattle.cal_imports.specs.Sources.{source_named};
 ghost use Rattle.cal_imports.specs.View.{sources};
 ghost use Rattle.actor_files.specs.FileNames.{file_of};
 ghost use Rattle.actor_files.specs.FileText.{IsText};
-ghost use Rattle.actor_files.specs.Loading.{Misses, Refuses, max_bytes, max_files, with_name};
-ghost use Rattle.actor_files.specs.Reads as asked;
-ghost use Rattle.actor_files.specs.SoFar.{AddsFile, AddsRead, AddsText, IsNoFault, request_of, state_of};
+ghost use Rattle.actor_files.specs.Loading.{max_bytes, max_files, with_name};
+ghost use Rattle.actor_files.specs.Reads.{refusal_at};
+ghost use Rattle.actor_files.specs.SoFar.{AddsFile, AddsRead, AddsText, IsBroken, IsStopped, request_of, state_of};
 ghost use Rattle.actor_files.specs.Views.{file_names};
 
 use crate::fault::{LoadFault, of_front, refused};
 use crate::file_names::file_of;
 use crate::file_text::tree_of;
-use crate::limits::{MAX_BYTES, MAX_FILES, check_limits};
+use crate::limits::check_limits;
 use crate::names::Names;
 use crate::requests::{Request, push_imports};
 use cal_ast::File;
@@ -58,7 +55,7 @@ fn add_file(
     Ok(())
 }
 
-/// Reads the text of the file of a number and adds it.
+/// Adds the file of a request with its text under its number.
 fn add_text(
     alloc: Global,
     loading: &mut Loading,
@@ -71,19 +68,27 @@ fn add_text(
     requires short { length text.now ≤ max_file_bytes }
     ensures added { OnOk result (AddsText (string_bytes request.now.class) number text.now
         (state_of loading.old) (state_of loading.new)) }
-    ensures refused { (told : Told) (misses : Misses) (names : List (List ℕ)) (refusal : Denial)
-        → IsText told text.now → IsErrOf result (LoadFault.Refused refusal)
-        → Refuses told (request_of request.now) number loading.old.bytes misses names refusal
-        (with_name (string_bytes request.now.class) names) }
-    ensures only { IfErr result IsNoFault }
+    ensures broken { IfErr result
+        (IsBroken text.now (request_of request.now) number loading.old.bytes) }
 {
     let tree = match tree_of(alloc, number, text) {
         Ok(tree) => tree,
         Err(front) => return Err(of_front(front)),
     };
-    check_limits(number, loading.bytes, text.len())?;
-    add_file(alloc, loading, request.class.as_str(), number, text, tree)?;
-    Ok(())
+    if let Err(fault) = check_limits(number, loading.bytes, text.len()) {
+        return Err(fault);
+    }
+    match add_file(alloc, loading, request.class.as_str(), number, text, tree) {
+        Ok(()) => Ok(()),
+        Err(Memory) => Err(LoadFault::Memory),
+    }
+}
+
+/// The file of this number is too long.
+fn too_long(number: u32) -> LoadFault
+    ensures { result ≡ LoadFault.Refused (refusal_at file_too_long number max_file_bytes) }
+{
+    refused(Rule::FILE_TOO_LONG, number, MAX_FILE_BYTES as u32)
 }
 
 /// A text that was read, if it isn't too long.
@@ -92,19 +97,12 @@ fn short_text(number: u32, text: Vec<u8>) -> Result<Vec<u8>, LoadFault>
     ensures short { IfOk result (λ short. length short.items ≤ max_file_bytes) }
     ensures long { IfErr result (λ _. max_file_bytes < length text.items) }
     ensures refused { IfErr result (λ fault. fault
-        ≡ LoadFault.Refused (asked.refusal_at file_too_long number max_file_bytes)) }
+        ≡ LoadFault.Refused (refusal_at file_too_long number max_file_bytes)) }
 {
     if text.len() > MAX_FILE_BYTES {
         return Err(too_long(number));
     }
     Ok(text)
-}
-
-/// The file of this number is too long.
-fn too_long(number: u32) -> LoadFault
-    ensures { result ≡ LoadFault.Refused (asked.refusal_at file_too_long number max_file_bytes) }
-{
-    refused(Rule::FILE_TOO_LONG, number, MAX_FILE_BYTES as u32)
 }
 
 /// The number of the next file.
@@ -115,8 +113,8 @@ fn next_number(names: &Names) -> u32
     names.files.len() as u32 + 1
 }
 
-/// Reads the text of the file of a request. The file has the next number: if it is found, or if its reading fails, its
-/// name is added to the names.
+/// Reads the text of the file of a request, which has the next number. If it is found, or if its reading fails, its name is
+/// added to the names.
 fn read_text<L: Library>(
     alloc: Global,
     library: &mut L,
@@ -128,17 +126,14 @@ fn read_text<L: Library>(
         (file_of (string_bytes request.now.class))) text.items) }
     ensures named { OnOk result (file_names names.new
         ≡ with_name (string_bytes request.now.class) (file_names names.old)) }
-    ensures refused { (bytes : ℕ) (refusal : Denial) → IsErrOf result (LoadFault.Refused refusal)
-        → Refuses (L.file library.old (file_of (string_bytes request.now.class)))
-        (request_of request.now) (suc (length names.old.files.items)) bytes
-        (record { old = L.misses library.old; new = L.misses library.new })
-        (file_names names.old) refusal (file_names names.new) }
-    ensures risen { (file : ℕ) → IsErrOf result (LoadFault.ReadFault file)
-        → HasRisen (L.faults library.old) (L.faults library.new) }
-    ensures file { (file : ℕ) → IsErrOf result (LoadFault.ReadFault file)
-        → file ≡ suc (length names.old.files.items) }
-    ensures faulted { (file : ℕ) → IsErrOf result (LoadFault.ReadFault file)
-        → file_names names.new ≡ with_name (string_bytes request.now.class) (file_names names.old) }
+    ensures stopped { (bytes : ℕ) → IfErr result (IsStopped (record {
+      told = L.file library.old (file_of (string_bytes request.now.class));
+      request = request_of request.now;
+      number = suc (length names.old.files.items);
+      bytes = bytes;
+      names = file_names names.old;
+    }) (record { old = L.misses library.old; new = L.misses library.new })
+        (record { old = L.faults library.old; new = L.faults library.new }) (file_names names.new)) }
     ensures same_files { (other : List ℕ) → L.file library.new other ≡ L.file library.old other }
     ensures faults_stay { L.faults library.old ≤ L.faults library.new }
     ensures misses_stay { L.misses library.old ≤ L.misses library.new }
@@ -180,22 +175,21 @@ pub(crate) fn read_file<L: Library>(
         (state_of loading.new)) }
     ensures named { OnOk result (file_names names.new
         ≡ with_name (string_bytes request.now.class) (file_names names.old)) }
-    ensures refused { (refusal : Denial) → IsErrOf result (LoadFault.Refused refusal)
-        → Refuses (L.file library.old (file_of (string_bytes request.now.class)))
-        (request_of request.now) (suc (length names.old.files.items)) loading.old.bytes
-        (record { old = L.misses library.old; new = L.misses library.new })
-        (file_names names.old) refusal (file_names names.new) }
-    ensures risen { (file : ℕ) → IsErrOf result (LoadFault.ReadFault file)
-        → HasRisen (L.faults library.old) (L.faults library.new) }
-    ensures file { (file : ℕ) → IsErrOf result (LoadFault.ReadFault file)
-        → file ≡ suc (length names.old.files.items) }
-    ensures faulted { (file : ℕ) → IsErrOf result (LoadFault.ReadFault file)
-        → file_names names.new ≡ with_name (string_bytes request.now.class) (file_names names.old) }
+    ensures stopped { IfErr result (IsStopped (record {
+      told = L.file library.old (file_of (string_bytes request.now.class));
+      request = request_of request.now;
+      number = suc (length names.old.files.items);
+      bytes = loading.old.bytes;
+      names = file_names names.old;
+    }) (record { old = L.misses library.old; new = L.misses library.new })
+        (record { old = L.faults library.old; new = L.faults library.new }) (file_names names.new)) }
     ensures same_files { (other : List ℕ) → L.file library.new other ≡ L.file library.old other }
     ensures faults_stay { L.faults library.old ≤ L.faults library.new }
     ensures misses_stay { L.misses library.old ≤ L.misses library.new }
 {
     let number = next_number(names);
-    let text = read_text(alloc, library, request, names)?;
-    add_text(alloc, loading, request, number, text.as_slice())
+    match read_text(alloc, library, request, names) {
+        Ok(text) => add_text(alloc, loading, request, number, text.as_slice()),
+        Err(fault) => Err(fault),
+    }
 }

@@ -1,13 +1,14 @@
 //! The call for an actor with what its imports lead to.
 
-ghost use Rattle.std.specs.Prelude.{◌≡◌, ◌≤◌, ℕ, List, [], IfOk, MatchResult};
-ghost use Rattle.std.specs.Result.{IsErrOf};
-ghost use Rattle.rvc_base.specs.declared.refusal.Refusal.{Refusal as Denial};
-ghost use Rattle.rvc_io.specs.Count.{HasRisen};
+ghost use Rattle.std.specs.Prelude.{◌≡◌, ◌≤◌, ℕ, List, [], IfErr, IfOk, IsSome, MatchResult};
+ghost use Rattle.cal_imports.specs.Resolved.{resolved};
 ghost use Rattle.cal_imports.specs.ScopeView.{scope_view};
+ghost use Rattle.cal_imports.specs.Sources.{source_named};
+ghost use Rattle.cal_imports.specs.View.{sources};
 ghost use Rattle.cal_imports.specs.Whole as whole;
-ghost use Rattle.actor_files.specs.Actor.{HasActor, RefusesActor};
-ghost use Rattle.actor_files.specs.Loading.{IsFaulted, TellsAll};
+ghost use Rattle.actor_files.specs.Actor.{HasActor, IsActorFault};
+ghost use Rattle.actor_files.specs.ActorView.{IsJudged};
+ghost use Rattle.actor_files.specs.Loading.{TellsAll};
 ghost use Rattle.actor_files.specs.Views.{IsOutside, file_names};
 
 use crate::fault::{LoadFault, of_front};
@@ -25,9 +26,9 @@ use std::alloc::Global;
 ///
 /// # Errors
 ///
-/// `Refused`: a file can't be read, as [`load`] says, or a rule of scope is broken in one of them, as
-/// [`resolve`] says (`refused`). `ReadFault`: the reading of this file failed, and the failure was counted (`risen`,
-/// `faulted`). `Memory`: an allocation was refused.
+/// `Refused`: a file can't be read, as [`load`] says, or a rule of scope is broken in one of them, as [`resolve`] says.
+/// `ReadFault`: the reading of this file failed, and the failure was counted. `Memory`: an allocation was refused
+/// (`fault`).
 pub fn read_actor<L: Library>(
     alloc: Global,
     library: &mut L,
@@ -37,14 +38,9 @@ pub fn read_actor<L: Library>(
     requires { file_names names.old ≡ [] }
     ensures read { IfOk result (λ scope. HasActor (L.file library.old) class.now (file_names names.new)
         (scope_view scope)) }
-    ensures refused { (refusal : Denial) → IsErrOf result (LoadFault.Refused refusal)
-        → RefusesActor (L.file library.old) class.now
+    ensures fault { IfErr result (IsActorFault (L.file library.old) class.now
         (record { old = L.misses library.old; new = L.misses library.new })
-        (file_names names.new) refusal }
-    ensures risen { (file : ℕ) → IsErrOf result (LoadFault.ReadFault file)
-        → HasRisen (L.faults library.old) (L.faults library.new) }
-    ensures faulted { (file : ℕ) → IsErrOf result (LoadFault.ReadFault file)
-        → IsFaulted (L.file library.old) class.now file (file_names names.new) }
+        (record { old = L.faults library.old; new = L.faults library.new }) (file_names names.new)) }
     ensures complete { (scope : whole.Scope) (found : List (List ℕ)) → TellsAll (L.file library.old)
         → HasActor (L.file library.old) class.now found scope
         → MatchResult result (λ s. scope_view s ≡ scope) IsOutside }
@@ -52,8 +48,18 @@ pub fn read_actor<L: Library>(
     ensures faults_stay { L.faults library.old ≤ L.faults library.new }
     ensures misses_stay { L.misses library.old ≤ L.misses library.new }
 {
-    let set = load(alloc, library, class, names)?;
-    match resolve(&set, class) {
+    match load(alloc, library, class, names) {
+        Ok(set) => actor_in(&set, class),
+        Err(fault) => Err(fault),
+    }
+}
+
+/// The actor of a class in a set that has a file of it.
+fn actor_in(set: &FileSet, class: &str) -> Result<Scope, LoadFault>
+    requires { IsSome (source_named class.now (sources set.now)) }
+    ensures { IsJudged result (resolved (sources set.now) class.now) }
+{
+    match resolve(set, class) {
         Ok(scope) => Ok(scope),
         Err(front) => Err(of_front(front)),
     }
