@@ -1,3 +1,6 @@
+mod Cuts
 mod Texts
+mod Stops
 mod Reading
 mod One
+mod Ends

@@ -67,7 +67,7 @@ none_or_some None a x y = cc
 none_or_some (Some c) a x y = cc
 
 same_read : (a b : Read) → a.class ≡ b.class → a.text ≡ b.text → a.tree ≡ b.tree → a ≡ b
-same_read a b x y z = cc
+same_read a b x y z = λ i. record { class = x i; text = y i; tree = z i }
 
 one_next : OneTree → (library : Library) (top : List ℕ) (before : List Read) (a b : Read) → TellsAll library
     → IsNextRead library top before a → IsNextRead library top before b → a ≡ b

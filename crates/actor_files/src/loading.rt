@@ -1,6 +1,6 @@
 //! The call for the files of an actor.
 
-ghost use Rattle.std.specs.Prelude.{◌≡◌, ◌≤◌, List, [], IfErr, IfOk, IsErr, IsSome, MatchResult};
+ghost use Rattle.std.specs.Prelude.{◌≡◌, ◌≤◌, ℕ, List, [], IfErr, IfOk, IsErr, IsSome, MatchResult};
 ghost use Rattle.rvc_base.specs.declared.refusal.Refusal.{Refusal as Denial};
 ghost use Rattle.cal_imports.specs.Sources.{source_named};
 ghost use Rattle.cal_imports.specs.View.{sources};
