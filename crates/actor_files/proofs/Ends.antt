@@ -13,7 +13,7 @@ use Rattle.actor_files.specs.SoFar.{AddsRead, HasRead, IsLoading, IsSoFar, IsSto
 use Rattle.actor_files.specs.Views.{HoldsFiles, HoldsLoaded, IsFault, IsOutside}
 use Rattle.actor_files.specs.declared.fault.LoadFault.{LoadFault}
 use Rattle.actor_files.specs.declared.fault.LoadFault.TheVariants.{Refused, ReadFault, Memory}
-use Rattle.actor_files.proofs.Reading.{count_names, next_none, next_stops, so_far_more}
+use Rattle.actor_files.proofs.Reading.{begun, count_names, next_none, next_stops, so_far_more}
 
 -- a count that rose later rose since an earlier time
 pub rose_since : (first old new : ℕ) → first ≤ old → HasRisen old new → HasRisen first new
@@ -27,6 +27,19 @@ refuses_since told q number bytes first old new names _ _ before (is_missing ris
 refuses_since told q number bytes first old new names _ _ before (is_too_long long) = is_too_long long
 refuses_since told q number bytes first old new names _ _ before (breaks_rules text rule at is breaks) = breaks_rules text rule at is breaks
 refuses_since told q number bytes first old new names _ _ before (is_too_much text tree is is_file passes) = is_too_much text tree is is_file passes
+
+-- nothing was read yet
+pub loading_begun : (library : Library) (f m : ℕ) (top : List ℕ) (names : List (List ℕ)) (s : State) → names ≡ []
+    → s.sources ≡ [] → s.bytes ≡ 0 → s.waiting ≡ top_request top ∷ [] → IsLoading library library f f m m top names s
+loading_begun library f m top names s none no_sources no_bytes waits = record {
+  has_read = subst (λ ns. HasRead library top ns s) (sym none) (begun library top s no_sources no_bytes waits);
+  same_files = λ other. refl;
+  faults_stay = same f;
+  misses_stay = same m;
+}
+  where
+    same : (n : ℕ) → n ≤ n
+    same n = omega arith
 
 -- one file more was read
 pub loading_more : (old now later : Library) (fo f g mo m n : ℕ) (top : List ℕ) (names found : List (List ℕ)) (s t new : State) (q : Request) (rest : List Request)

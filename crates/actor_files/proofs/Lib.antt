@@ -4,3 +4,5 @@ mod Stops
 mod Reading
 mod One
 mod Ends
+mod Actors
+mod Reached

@@ -4,6 +4,7 @@ pub mod Reads
 pub mod Loading
 pub mod Views
 pub mod Actor
+pub mod Reached
 pub mod Laws
 pub mod SoFar
 pub mod ActorView

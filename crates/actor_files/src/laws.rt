@@ -1,6 +1,7 @@
 //! What holds of files as a library tells them.
 
 ghost use Rattle.actor_files.specs.Laws.{LoadedIsNotRefused, LoadingsAreOne};
+ghost use Rattle.actor_files.specs.Reached.{LoadedAreReached};
 
 use cal_parser::one_tree;
 
@@ -17,3 +18,9 @@ pub fn one_outcome()
 {
     one_tree();
 }
+
+/// The files that an actor asks for are those to which imports lead from its own file, directly or indirectly: each but
+/// the first is imported by one before it, each that one of them imports is there, and each is there once.
+pub fn loaded_are_reached()
+    ensures { LoadedAreReached }
+{}

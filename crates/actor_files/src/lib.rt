@@ -27,7 +27,7 @@ mod requests;
 
 pub use fault::LoadFault;
 pub use file_names::class_of;
-pub use laws::{one_loading, one_outcome};
+pub use laws::{loaded_are_reached, one_loading, one_outcome};
 pub use limits::{MAX_BYTES, MAX_FILES};
 pub use loading::load;
 pub use names::Names;

@@ -83,8 +83,9 @@ fn load_all<L: Library>(
         waiting: first_requests(alloc, class)?,
     };
     'files: while let Some(request) = next_unread(&loading.set, &mut loading.waiting) {
-        if let Err(fault) = read_file(alloc, library, &request, names, &mut loading) {
-            return Err(fault);
+        match read_file(alloc, library, &request, names, &mut loading) {
+            Ok(()) => {}
+            Err(fault) => return Err(fault),
         }
     }
     Ok(loading.set)
