@@ -74,34 +74,36 @@ asked_imported class n (r ∷ rs) h =
 -- nothing unread is asked for
 all_read : (reads : List Read) (qs : List Request) (class : List ℕ) → first_unread reads qs ≡ None → asked class qs ≡ true → is_read class reads ≡ true
 all_read reads [] class h k = cc
-all_read reads (q ∷ qs) class h k = go (is_read q.class reads) refl h
+all_read reads (q ∷ qs) class h k = go (is_read q.class reads) refl h (λ n l. all_read reads qs class n l)
   where
-    go : (b : Bool) → is_read q.class reads ≡ b → (if b then first_unread reads qs else Some q) ≡ None → is_read class reads ≡ true
-    go true e rest = either (bytes_eq class q.class) (asked class qs) k (is_read class reads ≡ true)
+    go : (b : Bool) → is_read q.class reads ≡ b → (if b then first_unread reads qs else Some q) ≡ None
+        → (first_unread reads qs ≡ None → asked class qs ≡ true → is_read class reads ≡ true) → is_read class reads ≡ true
+    go true e rest later = either (bytes_eq class q.class) (asked class qs) k (is_read class reads ≡ true)
         (λ s. subst (λ c. is_read c reads ≡ true) (sym (same_class class q.class s)) e)
-        (λ l. all_read reads qs class rest l)
-    go false e rest = absurd (let n = rest in cc)
+        (λ l. later rest l)
+    go false e rest later = absurd (let n = rest in cc)
 
 -- what is next isn't read, and is asked for
 pub record IsAsked (reads : List Read) (qs : List Request) (q : Request) : Type 0 where
   pub unread : is_read q.class reads ≡ false
   pub is_asked : asked q.class qs ≡ true
 
+some_same : (a b : Request) → ◌≡◌ {A = Option Request} (Some a) (Some b) → a ≡ b
+some_same a b x = cc
+
 next_asked : (reads : List Read) (qs : List Request) (q : Request) → first_unread reads qs ≡ Some q → IsAsked reads qs q
 next_asked reads [] q h = absurd (let n = h in cc)
-next_asked reads (p ∷ qs) q h = go (is_read p.class reads) refl h
+next_asked reads (p ∷ qs) q h = go (is_read p.class reads) refl h (λ n. next_asked reads qs q n)
   where
-    go : (b : Bool) → is_read p.class reads ≡ b → (if b then first_unread reads qs else Some p) ≡ Some q → IsAsked reads (p ∷ qs) q
-    go true e rest =
-        let later = next_asked reads qs q rest in
+    go : (b : Bool) → is_read p.class reads ≡ b → (if b then first_unread reads qs else Some p) ≡ Some q
+        → (first_unread reads qs ≡ Some q → IsAsked reads qs q) → IsAsked reads (p ∷ qs) q
+    go true e rest next =
+        let later = next rest in
         record { unread = later.unread; is_asked = right (bytes_eq q.class p.class) (asked q.class qs) later.is_asked }
-    go false e rest =
+    go false e rest next =
         let same : p ≡ q = some_same p q rest in
         subst (λ r. IsAsked reads (p ∷ qs) r) same
         (record { unread = e; is_asked = left (bytes_eq p.class p.class) (asked p.class qs) ((bytes_eq-Decides p.class p.class).1 refl) })
-      where
-        some_same : (a b : Request) → ◌≡◌ {A = Option Request} (Some a) (Some b) → a ≡ b
-        some_same a b x = cc
 
 -- ---- the files
 
