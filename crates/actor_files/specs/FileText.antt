@@ -1,7 +1,7 @@
 -- What a file's text says, and which rule of its own it breaks.
 --
--- A file's length comes first, then its lexis, then its grammar: a longer text isn't looked at, and one that has no tokens spells
--- nothing.
+-- A file's length comes first, then its lexis, then its grammar: a longer text isn't looked at, and one that has no
+-- tokens spells nothing.
 -- Trusted but for `IsRightly`: part of what a promise means.
 use Rattle.std.specs.Prelude.{◌≡◌, ◌≤◌, ℕ, List, length}
 use Rattle.rvc_base.specs.declared.refusal.Rule.{Rule}

@@ -61,8 +61,8 @@ pub record Counts : Type 0 where
   pub old : ℕ
   pub new : ℕ
 
--- The file of a request, which would have this number behind so many bytes, is refused; and which names stand then. A file
--- that is found has its name there, one that is missing hasn't. The rules are tried in this order.
+-- The file of a request, which would have this number behind so many bytes, is refused, and these names stand then: a
+-- file that is found has its name there, one that is missing hasn't. The rules are tried in this order.
 pub data Refuses (told : Told) (q : Request) (number bytes : ℕ) (misses : Counts) (names : List (List ℕ)) : Refusal
     → List (List ℕ) → Type 0 where
   is_missing : HasRisen misses.old misses.new → IsLacking told

@@ -1,7 +1,7 @@
 -- Files that are read, in their order, and which class is asked for next.
 --
--- The top is asked for first, and then the unit of each import, in the order of the files and of their texts. A class is
--- read where it is first asked for, and never again; its file has the next number, from 1.
+-- The top is asked for first, and then the unit of each import, in the order of the files and of their texts. A class
+-- is read where it is first asked for, and never again; its file has the next number, from 1.
 -- Trusted: part of what a promise means.
 use Rattle.std.specs.Prelude.{ℕ, Bool, zero, suc, ◌+◌, List, [], ◌∷◌, ◌++◌, length, map, Option, None, Some, is_some, if◌then◌else◌}
 use Rattle.rvc_base.specs.Rules.{no_file, import_not_found}

@@ -117,7 +117,8 @@ pub record IsWaiting (top : List ℕ) (done : List Read) (waiting : List plain.R
       ≡ first_unread (done ++ later) (waiting ++ more)
 
 -- these files were read
-pub record IsSoFar (library : Library) (top : List ℕ) (done : List Read) (names : List (List ℕ)) (s : State) : Type 0 where
+pub record IsSoFar (library : Library) (top : List ℕ) (done : List Read) (names : List (List ℕ)) (s : State)
+    : Type 0 where
   pub are_read : AreRead library top done
   pub sources_are : s.sources ≡ sources_of done
   pub names_are : names ≡ names_of done

@@ -52,7 +52,8 @@ fn path_of(file: &str) -> &str
 /// [`Memory`] if an allocation is refused.
 pub fn class_of(alloc: Global, file: &str) -> Result<String, Memory>
     ensures class { IfOk result (λ class. string_bytes class ≡ class_of file.now) }
-    ensures same { IsActorFile file.now → IfOk result (λ class. file_of (string_bytes class) ≡ file.now) }
+    ensures same { IsActorFile file.now
+        → IfOk result (λ class. file_of (string_bytes class) ≡ file.now) }
 {
     let mut class = String::new(alloc);
     push_replaced(&mut class, path_of(file), '/', '.')?;

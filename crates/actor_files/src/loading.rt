@@ -21,14 +21,14 @@ use std::alloc::Global;
 /// order, and `names` gets the name of file k at place k - 1, also that of a file that is found and refused, or whose
 /// reading fails.
 ///
-/// If the library tells of each name, files that can all be read are read (`complete`), and files of which one is refused
-/// aren't (`incomplete`), unless a reading fails or memory runs out.
+/// If the library tells of each name, files that can all be read are read (`complete`), and files of which one is
+/// refused aren't (`incomplete`), unless a reading fails or memory runs out.
 ///
 /// # Errors
 ///
-/// `Refused`: there is no file of the class, or of a class that an import asks for; a file or all together pass a limit;
-/// or a text breaks a rule of the lexis or of the grammar. `ReadFault`: the reading of this file failed, and the failure
-/// was counted. `Memory`: an allocation was refused (`fault`).
+/// `Refused`: there is no file of the class, or of a class that an import asks for; a file or all together pass a
+/// limit; or a text breaks a rule of the lexis or of the grammar. `ReadFault`: the reading of this file failed, and the
+/// failure was counted. `Memory`: an allocation was refused (`fault`).
 pub fn load<L: Library>(
     alloc: Global,
     library: &mut L,
@@ -41,12 +41,14 @@ pub fn load<L: Library>(
     ensures has_top { IfOk result (λ set. IsSome (source_named class.now (sources set))) }
     ensures fault { IfErr result (IsFault (L.file library.old) class.now
         (record { old = L.misses library.old; new = L.misses library.new })
-        (record { old = L.faults library.old; new = L.faults library.new }) (file_names names.new)) }
+        (record { old = L.faults library.old; new = L.faults library.new })
+        (file_names names.new)) }
 
     // What a library that tells of each name decides.
     ensures complete { (reads : List Read) → TellsAll (L.file library.old)
         → IsLoaded (L.file library.old) class.now reads
-        → MatchResult result (λ set. HoldsFiles reads (sources set) (file_names names.new)) IsOutside }
+        → MatchResult result (λ set. HoldsFiles reads (sources set) (file_names names.new))
+        IsOutside }
     ensures incomplete { (misses : Counts) (refusal : Denial) (found : List (List ℕ))
         → TellsAll (L.file library.old)
         → IsRefused (L.file library.old) class.now misses refusal found → IsErr result }
@@ -72,7 +74,8 @@ fn load_all<L: Library>(
         (file_names names.new)) }
     ensures fault { IfErr result (IsFault (L.file library.old) class.now
         (record { old = L.misses library.old; new = L.misses library.new })
-        (record { old = L.faults library.old; new = L.faults library.new }) (file_names names.new)) }
+        (record { old = L.faults library.old; new = L.faults library.new })
+        (file_names names.new)) }
     ensures same_files { (other : List ℕ) → L.file library.new other ≡ L.file library.old other }
     ensures faults_stay { L.faults library.old ≤ L.faults library.new }
     ensures misses_stay { L.misses library.old ≤ L.misses library.new }

@@ -63,7 +63,8 @@ fn add_text(
     number: u32,
     text: &[u8],
 ) -> Result<(), LoadFault>
-    requires unread { source_named (string_bytes request.now.class) (sources loading.old.set) ≡ None }
+    requires unread { source_named (string_bytes request.now.class)
+        (sources loading.old.set) ≡ None }
     requires small { loading.old.bytes ≤ max_bytes }
     requires short { length text.now ≤ max_file_bytes }
     ensures added { OnOk result (AddsText (string_bytes request.now.class) number text.now
@@ -113,8 +114,8 @@ fn next_number(names: &Names) -> u32
     names.files.len() as u32 + 1
 }
 
-/// Reads the text of the file of a request, which has the next number. If it is found, or if its reading fails, its name is
-/// added to the names.
+/// Reads the text of the file of a request, which has the next number. If it is found, or if its reading fails, its name
+/// is added to the names.
 fn read_text<L: Library>(
     alloc: Global,
     library: &mut L,
@@ -133,7 +134,8 @@ fn read_text<L: Library>(
       bytes = bytes;
       names = file_names names.old;
     }) (record { old = L.misses library.old; new = L.misses library.new })
-        (record { old = L.faults library.old; new = L.faults library.new }) (file_names names.new)) }
+        (record { old = L.faults library.old; new = L.faults library.new })
+        (file_names names.new)) }
     ensures same_files { (other : List ℕ) → L.file library.new other ≡ L.file library.old other }
     ensures faults_stay { L.faults library.old ≤ L.faults library.new }
     ensures misses_stay { L.misses library.old ≤ L.misses library.new }
@@ -167,10 +169,12 @@ pub(crate) fn read_file<L: Library>(
     names: &mut Names,
     loading: &mut Loading,
 ) -> Result<(), LoadFault>
-    requires unread { source_named (string_bytes request.now.class) (sources loading.old.set) ≡ None }
+    requires unread { source_named (string_bytes request.now.class)
+        (sources loading.old.set) ≡ None }
     requires few { length names.old.files.items ≤ max_files }
     requires small { loading.old.bytes ≤ max_bytes }
-    ensures read { OnOk result (AddsRead (L.file library.old (file_of (string_bytes request.now.class)))
+    ensures read { OnOk result (AddsRead
+        (L.file library.old (file_of (string_bytes request.now.class)))
         (string_bytes request.now.class) (file_names names.old) (state_of loading.old)
         (state_of loading.new)) }
     ensures named { OnOk result (file_names names.new
@@ -182,7 +186,8 @@ pub(crate) fn read_file<L: Library>(
       bytes = loading.old.bytes;
       names = file_names names.old;
     }) (record { old = L.misses library.old; new = L.misses library.new })
-        (record { old = L.faults library.old; new = L.faults library.new }) (file_names names.new)) }
+        (record { old = L.faults library.old; new = L.faults library.new })
+        (file_names names.new)) }
     ensures same_files { (other : List ℕ) → L.file library.new other ≡ L.file library.old other }
     ensures faults_stay { L.faults library.old ≤ L.faults library.new }
     ensures misses_stay { L.misses library.old ≤ L.misses library.new }

@@ -84,7 +84,8 @@ pub(crate) fn next_unread(set: &FileSet, waiting: &mut VecDeque<Request>) -> Opt
     ensures next { MatchOption result (past_read (sources set.now) (waiting_of waiting.old) ≡ [])
         (λ q. past_read (sources set.now) (waiting_of waiting.old)
         ≡ request_of q ∷ waiting_of waiting.new) }
-    ensures unread { IfSome result (λ q. source_named (string_bytes q.class) (sources set.now) ≡ None) }
+    ensures unread { IfSome result
+        (λ q. source_named (string_bytes q.class) (sources set.now) ≡ None) }
 {
     'requests: while let Some(request) = waiting.pop_front() {
         if !set.has(request.class.as_str()) {

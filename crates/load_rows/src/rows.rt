@@ -10,8 +10,8 @@ use std::test::Fail;
 /// Files: each a name and its text.
 type Files = &'static [(&'static str, &'static str)];
 
-/// A top, the files, and what is answered: the names that were asked for, and how the loading ended, with the names of the
-/// files that have a number.
+/// A top, the files, and what is answered: the names that were asked for, and how the loading ended, with the names of
+/// the files that have a number.
 type Row = (&'static str, Files, &'static str);
 
 const LOADED: &[Row] = &[
@@ -140,7 +140,13 @@ fn outcome(a: Global, fault: Option<LoadFault>) -> Result<String, Fail> {
 }
 
 /// What a row answers.
-fn answer(rt: &impl Abort, a: Global, top: &str, files: Files, failing: u64) -> Result<String, Fail> {
+fn answer(
+    rt: &impl Abort,
+    a: Global,
+    top: &str,
+    files: Files,
+    failing: u64,
+) -> Result<String, Fail> {
     let mut library = library(rt, a, files, failing)?;
     let class = class_of(a, top)?;
     let mut names = Names::new(a);

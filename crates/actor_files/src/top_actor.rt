@@ -20,8 +20,8 @@ use cal_imports::{FileSet, Scope, resolve};
 use rvc_io::Library;
 use std::alloc::Global;
 
-/// The actor of a class, with each declaration of other files to which its imports lead. Each use of a name is written out
-/// in full. The files and their names are those of [`load`].
+/// The actor of a class, with each declaration of other files to which its imports lead. Each use of a name is written
+/// out in full. The files and their names are those of [`load`].
 ///
 /// If the library tells of each name, an actor whose files can all be read and break no rule of scope is given
 /// (`complete`), and one that a rule refuses isn't (`incomplete`), unless a reading fails or memory runs out.
@@ -38,11 +38,12 @@ pub fn read_actor<L: Library>(
     names: &mut Names,
 ) -> Result<Scope, LoadFault>
     requires { file_names names.old ≡ [] }
-    ensures read { IfOk result (λ scope. HasActor (L.file library.old) class.now (file_names names.new)
-        (scope_view scope)) }
+    ensures read { IfOk result (λ scope. HasActor (L.file library.old) class.now
+        (file_names names.new) (scope_view scope)) }
     ensures fault { IfErr result (IsActorFault (L.file library.old) class.now
         (record { old = L.misses library.old; new = L.misses library.new })
-        (record { old = L.faults library.old; new = L.faults library.new }) (file_names names.new)) }
+        (record { old = L.faults library.old; new = L.faults library.new })
+        (file_names names.new)) }
 
     // What a library that tells of each name decides.
     ensures complete { (scope : whole.Scope) (found : List (List ℕ)) → TellsAll (L.file library.old)

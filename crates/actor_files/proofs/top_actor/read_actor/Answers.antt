@@ -1,7 +1,7 @@
 use Rattle.cal_imports.specs.View.{sources}
 use Rattle.actor_files.specs.Views.{file_names}
 use Rattle.actor_files.proofs.Actors.{judged_all, judged_fault, judged_none, judged_ok, loading_fault}
-use Rattle.actor_files.proofs.read_actor.read_actor.Goals as goal
+use Rattle.actor_files.proofs.top_actor.read_actor.Goals as goal
 
 pub returns-in-Ok-clause-read : goal.returns-in-Ok-clause-read
 returns-in-Ok-clause-read g c = judged_ok c.actor_in.result (g.L.Library.file c.args.library.now) c.args.class.now (file_names c.load.new.names) (sources c.in-Ok.set) c.in-Ok.ensures.loaded c.actor_in.ensures
