@@ -74,7 +74,7 @@ loading_stopped old now fo f g mo m n top names found s q rest number bytes (Ref
     let number_is : number ≡ next_number done = numbered ∙ ap suc (count_names done names far.names_are) in
     let bytes_are : bytes ≡ bytes_of done = counted ∙ far.bytes_are in
     let since : Refuses (now (file_of q.class)) q number bytes (record { old = mo; new = n }) names refusal found =
-        refuses_since (now (file_of q.class)) q number bytes mo m n names refusal found is.misses_stay h in
+    refuses_since (now (file_of q.class)) q number bytes mo m n names refusal found is.misses_stay h in
     record {
       reads = done;
       request = q;
@@ -86,14 +86,16 @@ loading_stopped old now fo f g mo m n top names found s q rest number bytes (Ref
     }
 loading_stopped old now fo f g mo m n top names found s q rest number bytes (ReadFault file) is past none numbered counted h =
     let far = is.has_read.is_so_far in
-    let done = is.has_read.done in
-    (rose_since fo f g is.faults_stay h.0, record {
-      reads = done;
-      request = q;
-      stops = next_stops old top done names s q rest far past none;
-      file_is = h.1 ∙ numbered ∙ ap suc (count_names done names far.names_are);
-      names_are = h.2 ∙ ap (with_name q.class) far.names_are;
-    })
+    let done = is.has_read.done in (
+      rose_since fo f g is.faults_stay h.0,
+      record {
+        reads = done;
+        request = q;
+        stops = next_stops old top done names s q rest far past none;
+        file_is = h.1 ∙ numbered ∙ ap suc (count_names done names far.names_are);
+        names_are = h.2 ∙ ap (with_name q.class) far.names_are;
+      },
+    )
 loading_stopped old now fo f g mo m n top names found s q rest number bytes Memory is past none numbered counted h = tt
 
 -- nothing more is asked for

@@ -122,8 +122,8 @@ one_behind one library top before (a ∷ xs) [] tells x xn y yn =
 one_behind one library top before (a ∷ xs) (b ∷ ys) tells x xn y yn =
     let same : b ≡ a = one_next one library top before b a tells y.0 x.0 in
     let rest : xs ≡ ys = one_behind one library top (before ++ a ∷ []) xs ys tells x.1 (further top before a xs None xn)
-        (subst (λ r. AreReadBehind library top (before ++ r ∷ []) ys) same y.1)
-        (further top before a ys None (subst (λ r. next_request top (before ++ r ∷ ys) ≡ None) same yn)) in
+    (subst (λ r. AreReadBehind library top (before ++ r ∷ []) ys) same y.1)
+    (further top before a ys None (subst (λ r. next_request top (before ++ r ∷ ys) ≡ None) same yn)) in
     ap (λ r. r ∷ xs) (sym same) ∙ ap (λ l. b ∷ l) rest
 
 pub one : OneTree → (library : Library) (top : List ℕ) (xs ys : List Read) → TellsAll library → IsLoaded library top xs → IsLoaded library top ys → xs ≡ ys

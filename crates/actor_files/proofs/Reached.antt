@@ -113,10 +113,12 @@ imported_next : (library : Library) (top : List ℕ) (t : Read) (before : List R
 imported_next library top t before r is_top next =
     let q = next_asked (t ∷ before) (requests top (t ∷ before)) next.request next.is_next in
     let unread : is_read r.class (t ∷ before) ≡ false = subst (λ c. is_read c (t ∷ before) ≡ false) (sym next.same_class) q.unread in
-    let asked_for : asked r.class (requests top (t ∷ before)) ≡ true = subst (λ c. asked c (requests top (t ∷ before)) ≡ true) (sym next.same_class) q.is_asked in
-    (unread, either (bytes_eq r.class top) (asked r.class (requests_from 1 (t ∷ before))) asked_for (is_imported r.class (t ∷ before) ≡ true)
-    (λ e. absurd (both (is_read r.class (t ∷ before)) (subst (λ c. is_read c (t ∷ before) ≡ true) (is_top ∙ sym (same_class r.class top e)) (read_there [] t before)) unread))
-    (λ k. asked_imported r.class 1 (t ∷ before) k))
+    let asked_for : asked r.class (requests top (t ∷ before)) ≡ true = subst (λ c. asked c (requests top (t ∷ before)) ≡ true) (sym next.same_class) q.is_asked in (
+      unread,
+      either (bytes_eq r.class top) (asked r.class (requests_from 1 (t ∷ before))) asked_for (is_imported r.class (t ∷ before) ≡ true)
+          (λ e. absurd (both (is_read r.class (t ∷ before)) (subst (λ c. is_read c (t ∷ before) ≡ true) (is_top ∙ sym (same_class r.class top e)) (read_there [] t before)) unread))
+          (λ k. asked_imported r.class 1 (t ∷ before) k),
+    )
   where
     both : (b : Bool) → b ≡ true → b ≡ false → ⊥
     both true x y = let e = y in cc

@@ -107,7 +107,7 @@ waiting_past top done waiting rest is e = record {
 pub waiting_read : (top : List ℕ) (done : List Read) (r : Read) (q : Request) (rest : List Request) → r.class ≡ q.class
     → IsWaiting top done (q ∷ rest)
     → IsWaiting top (done ++ r ∷ []) (rest ++ import_requests (suc (length done)) (imports_of r.tree))
-waiting_read top done r q rest same is = record { same_next = λ later more. next later more; }
+waiting_read top done r q rest same is = record { same_next = λ later more. next later more }
   where
     asked : List Request
     asked = import_requests (suc (length done)) (imports_of r.tree)
@@ -121,7 +121,7 @@ waiting_read top done r q rest same is = record { same_next = λ later more. nex
         ∙ ap (λ qs. first_unread (done ++ r ∷ later) qs) (append_assoc (requests top done) asked more)
         ∙ is.same_next (r ∷ later) (asked ++ more)
         ∙ ap (λ b. if b then first_unread (done ++ r ∷ later) (rest ++ (asked ++ more)) else Some q)
-            (subst (λ c. is_read c (done ++ r ∷ later) ≡ true) same (read_there done r later))
+        (subst (λ c. is_read c (done ++ r ∷ later) ≡ true) same (read_there done r later))
         ∙ ap (λ qs. first_unread (done ++ r ∷ later) qs) (sym (append_assoc rest asked more))
         ∙ ap (λ ds. first_unread ds ((rest ++ asked) ++ more)) (sym (append_assoc done (r ∷ []) later))
 
@@ -145,9 +145,11 @@ next_some top done q rest is none =
 pub are_read_more : (library : Library) (top : List ℕ) (before xs : List Read) (r : Read) → AreReadBehind library top before xs
     → IsNextRead library top (before ++ xs) r → AreReadBehind library top before (xs ++ r ∷ [])
 are_read_more library top before [] r h is = (subst (λ b. IsNextRead library top b r) (append-nil before) is, tt)
-are_read_more library top before (x ∷ xs) r h is =
-    (h.0, are_read_more library top (before ++ x ∷ []) xs r h.1
-    (subst (λ b. IsNextRead library top b r) (sym (append_assoc before (x ∷ []) xs)) is))
+are_read_more library top before (x ∷ xs) r h is = (
+  h.0,
+  are_read_more library top (before ++ x ∷ []) xs r h.1
+      (subst (λ b. IsNextRead library top b r) (sym (append_assoc before (x ∷ []) xs)) is),
+)
 
 -- how many names there are
 pub count_names : (done : List Read) (names : List (List ℕ)) → names ≡ names_of done → length names ≡ length done
@@ -187,7 +189,7 @@ so_far_more library top done names s t new q rest is past none same_sources same
     let small : bytes_of done + length a.text ≤ max_bytes = subst (λ n. n + length a.text ≤ max_bytes) bytes a.adds.small in
     let r : Read = record { class = q.class; text = a.text; tree = a.adds.tree } in
     let summed : new.bytes ≡ bytes_of (done ++ r ∷ []) =
-        a.adds.adds.bytes_are ∙ ap (λ n. n + length a.text) bytes ∙ sym (bytes_more done r) in
+    a.adds.adds.bytes_are ∙ ap (λ n. n + length a.text) bytes ∙ sym (bytes_more done r) in
     record {
       done = done ++ r ∷ [];
       is_so_far = record {

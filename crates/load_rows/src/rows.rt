@@ -25,7 +25,10 @@ const LOADED: &[Row] = &[
     (
         "q/A.cal",
         &[
-            ("q/A.cal", "package q; import p.U.*; import V.f; actor A () ==> : end"),
+            (
+                "q/A.cal",
+                "package q; import p.U.*; import V.f; actor A () ==> : end",
+            ),
             ("p/U.cal", "package p; import W.*; unit U : end"),
             ("V.cal", "import W.g; unit V : end"),
             ("W.cal", "unit W : end"),
@@ -36,7 +39,10 @@ const LOADED: &[Row] = &[
     (
         "A.cal",
         &[
-            ("A.cal", "import U.a; import U.b; import A.*; actor A () ==> : end"),
+            (
+                "A.cal",
+                "import U.a; import U.b; import A.*; actor A () ==> : end",
+            ),
             ("U.cal", "import U.*; import A.x; unit U : end"),
         ],
         "A.cal U.cal | loaded | A.cal U.cal",
@@ -53,14 +59,6 @@ const REFUSED: &[Row] = &[
     // The top has no file.
     ("No.cal", &[], "No.cal | N1 in 0 at 0 |"),
     // An import has none: the word `import`, in the file that asks.
-    (
-        "A.cal",
-        &[
-            ("A.cal", "import U.*; actor A () ==> : end"),
-            ("U.cal", "unit U : end"),
-        ],
-        "A.cal U.cal | loaded | A.cal U.cal",
-    ),
     (
         "A.cal",
         &[
@@ -127,7 +125,7 @@ fn library(rt: &impl Abort, a: Global, files: Files, failing: u64) -> Result<Log
 }
 
 /// How a loading ended.
-fn outcome(a: Global, fault: Option<LoadFault>) -> Result<String, Fail> {
+pub(crate) fn outcome(a: Global, fault: Option<LoadFault>) -> Result<String, Fail> {
     match fault {
         None => Ok(String::from_str(a, "loaded")?),
         Some(LoadFault::Refused(r)) => {
@@ -214,7 +212,10 @@ const ACTORS: &[Row] = &[
     (
         "p/A.cal",
         &[
-            ("p/A.cal", "package p; import U.n; actor A () ==> : int x = n; end"),
+            (
+                "p/A.cal",
+                "package p; import U.n; actor A () ==> : int x = n; end",
+            ),
             ("U.cal", "unit U : int n = 1; int m = 2; end"),
         ],
         "p.A in 1 with 2",

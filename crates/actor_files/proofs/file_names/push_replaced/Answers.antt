@@ -13,14 +13,16 @@ parts-preserved c =
     let utf8 : IsUtf8 c.in-Some.after.now = search rules in
     let pushed : string_bytes c.push.new.self ≡ (string_bytes c.parts.text ++ c.in-Some.before.now) ++ c.args.other ∷ [] = search rules in
     let cut : replaced c.args.mark c.args.other c.parts.rest.now ≡ c.in-Some.before.now ++ c.args.other ∷ replaced c.args.mark c.args.other c.in-Some.after.now =
-        replaced_cut c.args.mark c.args.other c.parts.rest.now low
-        ∙ ap (λ b. b ++ c.args.other ∷ replaced c.args.mark c.args.other (after_first (λ x. x == c.args.mark) c.parts.rest.now)) (sym before_is)
-        ∙ ap (λ a. c.in-Some.before.now ++ c.args.other ∷ replaced c.args.mark c.args.other a) (sym after_is) in
-    (utf8, ap (λ t. t ++ replaced c.args.mark c.args.other c.in-Some.after.now) pushed
-    ∙ append_assoc (string_bytes c.parts.text ++ c.in-Some.before.now) (c.args.other ∷ []) (replaced c.args.mark c.args.other c.in-Some.after.now)
-    ∙ append_assoc (string_bytes c.parts.text) c.in-Some.before.now (c.args.other ∷ replaced c.args.mark c.args.other c.in-Some.after.now)
-    ∙ ap (λ r. string_bytes c.parts.text ++ r) (sym cut)
-    ∙ c.parts.invariant.1)
+    replaced_cut c.args.mark c.args.other c.parts.rest.now low
+    ∙ ap (λ b. b ++ c.args.other ∷ replaced c.args.mark c.args.other (after_first (λ x. x == c.args.mark) c.parts.rest.now)) (sym before_is)
+    ∙ ap (λ a. c.in-Some.before.now ++ c.args.other ∷ replaced c.args.mark c.args.other a) (sym after_is) in (
+      utf8,
+      ap (λ t. t ++ replaced c.args.mark c.args.other c.in-Some.after.now) pushed
+          ∙ append_assoc (string_bytes c.parts.text ++ c.in-Some.before.now) (c.args.other ∷ []) (replaced c.args.mark c.args.other c.in-Some.after.now)
+          ∙ append_assoc (string_bytes c.parts.text) c.in-Some.before.now (c.args.other ∷ replaced c.args.mark c.args.other c.in-Some.after.now)
+          ∙ ap (λ r. string_bytes c.parts.text ++ r) (sym cut)
+          ∙ c.parts.invariant.1,
+    )
 
 pub returns : goal.returns
 returns c =
