@@ -1,15 +1,15 @@
 -- How a loading goes on and ends, from what its steps say.
-use Rattle.std.proofs.Common.{◌≡◌, ℕ, suc, ◌≤◌, ◌<◌, inl, inr, List, [], ◌∷◌, length, refl, sym, ap, subst, ◌∙◌, arith}
+use Rattle.std.proofs.Common.{◌≡◌, ℕ, suc, ◌≤◌, inl, inr, List, [], ◌∷◌, length, refl, sym, ap, subst, ◌∙◌, arith}
 use Rattle.std.specs.Prelude.{Option, None, Some, IsSome, is_some, if◌then◌else◌, Result, Ok, Err, IfOk, IfErr, IsErr, MatchResult}
 use Rattle.rvc_base.specs.declared.refusal.Refusal.{Refusal}
-use Rattle.rvc_io.specs.Count.{HasRisen, last_count}
+use Rattle.rvc_io.specs.Count.{HasRisen}
 use Rattle.rvc_io.specs.Told.{Told}
 use Rattle.cal_imports.specs.Sources.{Source, source_named}
 use Rattle.actor_files.specs.FileNames.{file_of}
 use Rattle.actor_files.specs.Laws.{LoadedIsNotRefused, LoadingsAreOne}
-use Rattle.actor_files.specs.Loading.{Counts, IsLoaded, IsRefused, Library, Refuses, StopsAt, TellsAll, breaks_rules, is_missing, is_too_long, is_too_much, with_name}
+use Rattle.actor_files.specs.Loading.{Counts, IsLoaded, IsRefused, Library, Refuses, TellsAll, breaks_rules, is_missing, is_too_long, is_too_much, with_name}
 use Rattle.actor_files.specs.Reads.{Read, Request, bytes_of, first_unread, names_of, next_number, next_request, requests_from, sources_of, top_request}
-use Rattle.actor_files.specs.SoFar.{AddsRead, HasRead, IsLoading, IsSoFar, IsStopped, State, past_read}
+use Rattle.actor_files.specs.SoFar.{AddsRead, HasRead, IsLoading, IsStopped, State, past_read}
 use Rattle.actor_files.specs.Views.{HoldsFiles, HoldsLoaded, IsFault, IsOutside}
 use Rattle.actor_files.specs.declared.fault.LoadFault.{LoadFault}
 use Rattle.actor_files.specs.declared.fault.LoadFault.TheVariants.{Refused, ReadFault, Memory}

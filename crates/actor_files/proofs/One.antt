@@ -1,5 +1,5 @@
 -- If a library tells of each name, a loading comes to one end.
-use Rattle.std.proofs.Common.{◌≡◌, ℕ, suc, ◌+◌, ◌≤◌, ◌<◌, inl, inr, List, [], ◌∷◌, ◌++◌, length, refl, sym, ap, subst, ◌∙◌, arith}
+use Rattle.std.proofs.Common.{◌≡◌, ℕ, ◌+◌, ◌≤◌, ◌<◌, inl, inr, List, [], ◌∷◌, ◌++◌, length, refl, sym, ap, subst, ◌∙◌, arith}
 use Rattle.std.proofs.lemmas.List.{append_assoc, append-nil}
 use Rattle.std.specs.Prelude.{Option, None, Some}
 use Rattle.rvc_base.specs.declared.refusal.Refusal.{Refusal}
@@ -13,7 +13,7 @@ use Rattle.cal_grammar.specs.Operators.{height, max_height}
 use Rattle.cal_grammar.specs.Refusals.{Breaks, breaks_off, grows_high}
 use Rattle.cal_grammar.specs.Spells.{spells}
 use Rattle.actor_files.specs.FileNames.{file_of}
-use Rattle.actor_files.specs.FileText.{BreaksRules, IsFile, IsText, in_grammar, in_lexis}
+use Rattle.actor_files.specs.FileText.{BreaksRules, IsFile, in_grammar, in_lexis}
 use Rattle.actor_files.specs.Loading.{AreReadBehind, Counts, IsLoaded, IsNextRead, IsRefused, Library, Refuses, TellsAll, breaks_rules, is_missing, is_too_long, is_too_much, max_bytes, max_files}
 use Rattle.actor_files.specs.Reads.{Read, Request, bytes_of, next_number, next_request}
 

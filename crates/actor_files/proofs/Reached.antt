@@ -1,14 +1,14 @@
 -- Files that are loaded are those to which imports lead.
 use Rattle.std.proofs.Common.{◌≡◌, ℕ, suc, Bool, true, false, ◌||◌, List, [], ◌∷◌, ◌++◌, map, refl, sym, ap, subst, ◌∙◌}
 use Rattle.std.proofs.lemmas.Slice.Eq.{bytes_eq-Decides}
-use Rattle.std.specs.Prelude.{Option, None, Some, is_some, if◌then◌else◌}
+use Rattle.std.specs.Prelude.{Option, None, Some, if◌then◌else◌}
 use Rattle.std.specs.Str.{bytes_eq}
 use Rattle.cal_imports.specs.Sources.{imports_of}
 use Rattle.cal_imports.specs.Walk.{Edge}
 use Rattle.cal_imports.specs.Whole.{import_edges}
-use Rattle.actor_files.specs.Loading.{AreReadBehind, IsLoaded, IsNextRead, Library}
-use Rattle.actor_files.specs.Reached.{AreImportedBehind, AreReached, LoadedAreReached, is_imported, leads_to}
-use Rattle.actor_files.specs.Reads.{Read, Request, first_unread, import_request, is_read, next_request, requests, requests_from, top_request}
+use Rattle.actor_files.specs.Loading.{AreReadBehind, IsNextRead, Library}
+use Rattle.actor_files.specs.Reached.{AreImportedBehind, LoadedAreReached, is_imported, leads_to}
+use Rattle.actor_files.specs.Reads.{Read, Request, first_unread, import_request, is_read, requests, requests_from, top_request}
 use Rattle.actor_files.proofs.Reading.{read_there}
 
 -- one of these requests asks for the class

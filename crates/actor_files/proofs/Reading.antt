@@ -1,13 +1,13 @@
 -- A loading goes on: what is asked for next, and what is read then.
-use Rattle.std.proofs.Common.{◌≡◌, ℕ, zero, suc, ◌+◌, ◌≤◌, Bool, true, false, List, [], ◌∷◌, ◌++◌, length, map, refl, sym, ap, subst, ◌∙◌, arith}
+use Rattle.std.proofs.Common.{◌≡◌, ℕ, suc, ◌+◌, ◌≤◌, Bool, true, false, List, [], ◌∷◌, ◌++◌, length, map, refl, sym, ap, subst, ◌∙◌, arith}
 use Rattle.std.proofs.lemmas.List.{append_assoc, append-nil, length-map, map-append}
 use Rattle.std.proofs.lemmas.Slice.Eq.{bytes_eq-Decides}
-use Rattle.std.specs.Prelude.{Option, None, Some, is_some, if◌then◌else◌}
+use Rattle.std.specs.Prelude.{None, Some, is_some, if◌then◌else◌}
 use Rattle.std.specs.Str.{bytes_eq}
 use Rattle.cal_imports.specs.Sources.{Source, imports_of, source_named}
 use Rattle.cal_imports.specs.View.{new_source}
 use Rattle.actor_files.specs.FileNames.{file_of}
-use Rattle.actor_files.specs.Loading.{AreRead, AreReadBehind, IsNextRead, Library, StopsAt, max_bytes, max_files, with_name}
+use Rattle.actor_files.specs.Loading.{AreReadBehind, IsNextRead, Library, StopsAt, max_bytes, max_files, with_name}
 use Rattle.actor_files.specs.Reads.{Read, Request, bytes_of, first_unread, import_requests, is_read, names_of, next_request, requests, requests_from, sources_from, sources_of, top_request}
 use Rattle.actor_files.specs.SoFar.{AddsRead, HasRead, IsSoFar, IsWaiting, State, past_read}
 

@@ -1,5 +1,5 @@
 -- What the reader of one file answers, from what its steps say.
-use Rattle.std.proofs.Common.{◌≡◌, ◌≤◌, ◌<◌, ℕ, List, length, subst}
+use Rattle.std.proofs.Common.{◌≤◌, ◌<◌, ℕ, List, length, subst}
 use Rattle.std.specs.Prelude.{Result, Ok, Err, IfErr, IfOk}
 use Rattle.rvc_base.specs.declared.refusal.Front.{Front as Answer}
 use Rattle.rvc_base.specs.declared.refusal.Front.TheVariants.{Refused, Memory}

@@ -1,6 +1,6 @@
 -- A list of files in other words: those to which imports lead from the top, each once.
 -- Trusted: part of what a promise means.
-use Rattle.std.specs.Prelude.{◌≡◌, ℕ, Bool, true, false, ◌||◌, List, [], ◌∷◌, ◌++◌, Option, None, Some}
+use Rattle.std.specs.Prelude.{◌≡◌, ℕ, Bool, true, false, ◌||◌, List, [], ◌∷◌, ◌++◌}
 use Rattle.std.specs.Str.{bytes_eq}
 use Rattle.cal_imports.specs.Sources.{imports_of}
 use Rattle.cal_imports.specs.Walk.{Edge}

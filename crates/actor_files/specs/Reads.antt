@@ -3,7 +3,7 @@
 -- The top is asked for first, and then the unit of each import, in the order of the files and of their texts. A class
 -- is read where it is first asked for, and never again; its file has the next number, from 1.
 -- Trusted: part of what a promise means.
-use Rattle.std.specs.Prelude.{ℕ, Bool, zero, suc, ◌+◌, List, [], ◌∷◌, ◌++◌, length, map, Option, None, Some, is_some, if◌then◌else◌}
+use Rattle.std.specs.Prelude.{ℕ, Bool, suc, ◌+◌, List, [], ◌∷◌, ◌++◌, length, map, Option, None, Some, is_some, if◌then◌else◌}
 use Rattle.rvc_base.specs.Rules.{no_file, import_not_found}
 use Rattle.rvc_base.specs.declared.refusal.Refusal.{Refusal}
 use Rattle.rvc_base.specs.declared.refusal.Rule.{Rule}
