@@ -1,5 +1,5 @@
 -- A text with one byte in place of another, cut at the first of them.
-use Rattle.std.proofs.Common.{◌≡◌, ℕ, suc, ◌+◌, ◌<◌, Bool, true, false, cond, eqb, List, [], ◌∷◌, ◌++◌, length, take, drop, refl, sym, ap, ◌∙◌, arith, eqb-true}
+use Rattle.std.proofs.Common.{◌≡◌, ℕ, suc, ◌+◌, ◌<◌, Bool, true, false, cond, List, [], ◌∷◌, ◌++◌, length, take, drop, refl, sym, ap, ◌∙◌, arith, eqb-true}
 use Rattle.std.specs.Prelude.{◌==◌, codes, not, if◌then◌else◌}
 use Rattle.std.specs.List.{after_first, before_first, position_or_len}
 use Rattle.cal_imports.specs.Sources.{dot}
