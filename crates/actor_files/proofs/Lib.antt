@@ -1,0 +1,8 @@
+mod Cuts
+mod Texts
+mod Stops
+mod Reading
+mod One
+mod Ends
+mod Actors
+mod Reached

@@ -1,0 +1,10 @@
+pub mod FileNames
+pub mod FileText
+pub mod Reads
+pub mod Loading
+pub mod Views
+pub mod Actor
+pub mod Reached
+pub mod Laws
+pub mod SoFar
+pub mod ActorView
