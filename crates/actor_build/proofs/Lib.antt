@@ -1,0 +1,9 @@
+mod Judged
+mod Checked
+mod LocalSteps
+mod FormalSteps
+mod Functions
+mod Built
+mod Rates
+mod PortSteps
+mod PatternVars

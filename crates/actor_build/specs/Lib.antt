@@ -1,0 +1,3 @@
+pub mod Declaring
+pub mod Building
+pub mod Acting
