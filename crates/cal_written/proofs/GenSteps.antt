@@ -5,14 +5,15 @@ use Rattle.std.proofs.lemmas.List.{drop_all}
 use Rattle.cal_ast.specs.Tree as tree
 use Rattle.cal_ast.specs.Tree.{Tree, listed}
 use Rattle.cal_ast.specs.View.{expr_tree, gen_tree, ident_tree, type_tree}
+use Rattle.cal_ast.specs.declared.expr.Expr.{Expr}
 use Rattle.cal_ast.specs.declared.expr.Gen.{Gen, out-Gen}
 use Rattle.cal_ast.specs.declared.expr.Gen as forms
-use Rattle.cal_model.specs.Kinding.{Names, with_counters}
+use Rattle.cal_model.specs.Kinding.{with_counters}
 use Rattle.const_eval.specs.Counting.{Variable, counter_variable, inner_variables, named_by, names_inside, names_view}
 use Rattle.const_eval.specs.Held.{Kept}
 use Rattle.const_eval.specs.Meant.{name_of}
 use Rattle.const_eval.specs.declared.names.Names.{Names as DeclaredNames}
-use Rattle.cal_check.specs.Written.{gens_written}
+use Rattle.cal_check.specs.Written.{gens_written, written}
 use Rattle.cal_written.specs.Seeing.{seen_among}
 use Rattle.cal_written.specs.Writing.{gen_written}
 use Rattle.cal_written.proofs.Onto.{onto, onto_all, onto_next}
@@ -26,7 +27,7 @@ counters (g ∷ gs) outer env =
     ap (λ t. with_counters (tree.cons t (listed (map gen_tree gs))) (names_inside outer env)) (gen_is g)
     ∙ counters gs (counter_variable (name_of g) ∷ outer) env
 
-pub counters_seen : (gs : List Gen) (names : DeclaredNames) → with_counters (listed (map gen_tree gs)) (names_view names) ≡ seen_among gs names
+counters_seen : (gs : List Gen) (names : DeclaredNames) → with_counters (listed (map gen_tree gs)) (names_view names) ≡ seen_among gs names
 counters_seen gs names = counters gs (inner_variables names.inner) names.env.now
 
 named_more : (gs : List Gen) (n : ℕ) (d : Gen) (outer : List Variable) → n < length gs → named_by (take (n + 1) gs) outer ≡ counter_variable (name_of (get_or gs n d)) ∷ named_by (take n gs) outer
@@ -65,3 +66,14 @@ pub gens_done : (gs found : List Gen) (n : ℕ) (names : DeclaredNames) (whole :
 gens_done gs found n names whole h inv =
     sym (ap (λ xs. onto (map gen_tree found) (gens_written (listed (map gen_tree xs)) (seen_among (take n gs) names))) (drop_all n gs h) ∙ onto_all (map gen_tree found))
     ∙ inv
+
+-- ---- comprehensions
+
+pub comp_written : (e i item : Expr) (gens found : List Gen) (at : ℕ) (names : DeclaredNames)
+    → expr_tree i ≡ written (expr_tree item) (seen_among gens names)
+    → listed (map gen_tree found) ≡ gens_written (listed (map gen_tree gens)) (names_view names)
+    → expr_tree e ≡ tree.comp (expr_tree i) (listed (map gen_tree found)) at
+    → expr_tree e ≡ written (tree.comp (expr_tree item) (listed (map gen_tree gens)) at) (names_view names)
+comp_written e i item gens found at names inner all is =
+    is ∙ ap (λ t. tree.comp t (listed (map gen_tree found)) at) (inner ∙ ap (written (expr_tree item)) (sym (counters_seen gens names)))
+    ∙ ap (λ gs. tree.comp (written (expr_tree item) (with_counters (listed (map gen_tree gens)) (names_view names))) gs at) all

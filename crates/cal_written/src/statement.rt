@@ -68,10 +68,7 @@ pub fn stmts(names: &Names, body: &[Stmt]) -> Result<Vec<Stmt>, Memory>
 ///
 /// `Memory` if memory runs out.
 #[cycle(stmt)]
-pub fn optional_stmts(
-    names: &Names,
-    body: &Option<Vec<Stmt>>,
-) -> Result<Option<Vec<Stmt>>, Memory>
+pub fn optional_stmts(names: &Names, body: &Option<Vec<Stmt>>) -> Result<Option<Vec<Stmt>>, Memory>
     ensures { WritesBody result (body_tree body.now) (names_view names.now) }
 {
     match body {

@@ -1,4 +1,4 @@
-use Rattle.std.proofs.Common.{map, refl, sym, ap, ◌∙◌, arith}
+use Rattle.std.proofs.Common.{map, refl, ap, arith}
 use Rattle.cal_ast.specs.Tree.{listed}
 use Rattle.cal_ast.specs.View.{stmt_tree}
 use Rattle.cal_check.proofs.Lists.{none-left}
@@ -18,4 +18,4 @@ stmts-each-preserved t c = (
 pub stmts-returns : goal.stmts-returns
 stmts-returns t c =
     onto_done stmt_tree (λ s. statement_written s (names_view c.args.names.now)) c.each.found.items c.each.rest.now (statement_written (listed (map stmt_tree c.args.body.now)) (names_view c.args.names.now))
-    refl (none-left c.each.rest.now c.in_default-split_first.ensures.cases) c.each.invariant.0
+    refl (none-left c.each.rest.now c.in_default.ensures.cases) c.each.invariant.0

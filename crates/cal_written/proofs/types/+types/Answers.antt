@@ -1,4 +1,4 @@
-use Rattle.std.proofs.Common.{map, refl, sym, ap, ◌∙◌, arith}
+use Rattle.std.proofs.Common.{map, refl, ap, arith}
 use Rattle.cal_ast.specs.Tree.{listed}
 use Rattle.cal_ast.specs.View.{type_arg_tree}
 use Rattle.cal_check.proofs.Lists.{none-left}
@@ -18,4 +18,4 @@ type_args-each-preserved t c = (
 pub type_args-returns : goal.type_args-returns
 type_args-returns t c =
     onto_done type_arg_tree (λ a. written a (names_view c.args.names.now)) c.each.found.items c.each.rest.now (written (listed (map type_arg_tree c.args.args.now)) (names_view c.args.names.now))
-    refl (none-left c.each.rest.now c.in_default-split_first.ensures.cases) c.each.invariant.0
+    refl (none-left c.each.rest.now c.in_default.ensures.cases) c.each.invariant.0
