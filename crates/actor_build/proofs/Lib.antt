@@ -1,9 +1,0 @@
-mod Judged
-mod Checked
-mod LocalSteps
-mod FormalSteps
-mod Functions
-mod Built
-mod Rates
-mod PortSteps
-mod PatternVars
