@@ -32,11 +32,11 @@ fun_is : (j : Judged Names) (full : List ℕ) (head : Head) (vars body : Tree) (
 fun_is (Fine inner) full head vars body names = refl
 fun_is (Broken rule at) full head vars body names = refl
 
-pub fun_done : (full : List ℕ) (f : Function) (fs locals : List Local) (t : Scalar) (body : Tree) (names here : Names) → here ≡ with_locals fs names
+pub fun_done : (full name : List ℕ) (f : Function) (fs locals : List Local) (t : Scalar) (body : Tree) (names here : Names) → name ≡ full → here ≡ with_locals fs names
     → single_type (type_tree f.result) here ≡ Fine t → locals ≡ inside_locals (names_behind (fun_vars f) here) (fun_vars f) here
     → body ≡ inside_body (names_behind (fun_vars f) here) (fun_vars f) (expr_tree f.body) here
-    → fun_behind full (function_tree f) fs names ≡ Fine (record { name = full; formals = fs; locals = locals; result = t; body = body })
-fun_done full f fs locals t body names here seen single l b =
+    → fun_behind full (function_tree f) fs names ≡ Fine (record { name = name; formals = fs; locals = locals; result = t; body = body })
+fun_done full name f fs locals t body names here same seen single l b =
     let inner = with_locals fs names in
     let head : Head = record { formals = fs; result = t } in
     let judged : result_judged (type_tree f.result) fs names ≡ Fine head = ap (λ o. and_so o (λ s. Fine (record { formals = fs; result = s }))) (ap (single_type (type_tree f.result)) (sym seen) ∙ single) in
@@ -45,7 +45,8 @@ fun_done full f fs locals t body names here seen single l b =
     ∙ ap (λ x. record { name = full; formals = fs; locals = x; result = t; body = inside_body (names_behind (fun_vars f) inner) (fun_vars f) (expr_tree f.body) inner })
     (sym (l ∙ ap (λ ns. inside_locals (names_behind (fun_vars f) ns) (fun_vars f) ns) seen))
     ∙ ap (λ x. record { name = full; formals = fs; locals = locals; result = t; body = x })
-    (sym (b ∙ ap (λ ns. inside_body (names_behind (fun_vars f) ns) (fun_vars f) (expr_tree f.body) ns) seen)))
+    (sym (b ∙ ap (λ ns. inside_body (names_behind (fun_vars f) ns) (fun_vars f) (expr_tree f.body) ns) seen))
+    ∙ ap (λ x. record { name = x; formals = fs; locals = locals; result = t; body = body }) (sym same))
 
 pub fun_breaks : (fault : KindFault) (full : List ℕ) (f : Function) (fs : List Local) (names here : Names) → here ≡ with_locals fs names
     → Breaks fault (single_type (type_tree f.result) here) → Breaks fault (fun_behind full (function_tree f) fs names)
