@@ -5,7 +5,6 @@ use Rattle.std.proofs.lemmas.List.{append-nil, append_assoc, map-append}
 use Rattle.cal_ast.specs.Tree.{listed}
 use Rattle.cal_ast.specs.View.{var_tree}
 use Rattle.cal_ast.specs.declared.member.VarDecl.{VarDecl}
-use Rattle.cal_model.specs.Actor.{Local}
 use Rattle.cal_model.specs.Kinding.{Judged, Fine, Broken, Names, and_so}
 use Rattle.cal_model.specs.Value.{Shape}
 use Rattle.cal_model.specs.View.{local_view}

@@ -134,11 +134,7 @@ pub fn proc_of(names: &Names, decl: &Procedure) -> Result<BoundProc, KindFault>
 }
 
 /// A procedure with these formals.
-fn proc_with(
-    names: &Names,
-    decl: &Procedure,
-    head: DeclaredFormals,
-) -> Result<BoundProc, Memory>
+fn proc_with(names: &Names, decl: &Procedure, head: DeclaredFormals) -> Result<BoundProc, Memory>
     requires { seen_behind head.behind.items names.now
         ≡ with_locals (map local_view head.formals.items) (names_view names.now) }
     ensures { IfOk result (λ p. proc_view p ≡ proc_behind (procedure_tree decl.now)
@@ -162,11 +158,7 @@ fn proc_with(
 }
 
 /// Statements that stand behind variables.
-fn stmts_behind(
-    names: &Names,
-    variables: &[Variable],
-    body: &[Stmt],
-) -> Result<Vec<Stmt>, Memory>
+fn stmts_behind(names: &Names, variables: &[Variable], body: &[Stmt]) -> Result<Vec<Stmt>, Memory>
     ensures { WritesStmts result (listed (map stmt_tree body.now))
         (seen_behind variables.now names.now) }
 {

@@ -1,4 +1,4 @@
-use Rattle.std.proofs.Common.{◌≡◌, sym, ap, subst, ◌∙◌, rules}
+use Rattle.std.proofs.Common.{◌≡◌, subst, rules}
 use Rattle.cal_ast.specs.View.{var_tree}
 use Rattle.cal_check.proofs.Lists.{none-left}
 use Rattle.const_eval.specs.Counting.{names_view}

@@ -1,6 +1,5 @@
-use Rattle.std.proofs.Common.{◌≡◌, Err, map, string_bytes, sym, ap, subst, ◌∙◌, rules}
+use Rattle.std.proofs.Common.{◌≡◌, Err, map, string_bytes, sym, subst, ◌∙◌, rules}
 use Rattle.cal_ast.specs.View.{expr_tree, function_tree}
-use Rattle.cal_model.specs.Sound.{with_locals}
 use Rattle.cal_model.specs.View.{fun_view, local_view}
 use Rattle.const_eval.specs.Counting.{names_view}
 use Rattle.const_eval.specs.Judging.{Judges}

@@ -1,8 +1,0 @@
-mod Judged
-mod Checked
-mod Built
-mod Rates
-mod PortSteps
-mod PortParts
-mod PatternVars
-mod ActionSteps
