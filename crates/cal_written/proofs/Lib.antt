@@ -1,0 +1,4 @@
+pub mod Onto
+mod Sizes
+mod GenSteps
+pub mod VarSteps

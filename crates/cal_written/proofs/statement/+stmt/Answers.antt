@@ -1,0 +1,21 @@
+use Rattle.std.proofs.Common.{map, refl, ap, arith}
+use Rattle.cal_ast.specs.Tree.{listed}
+use Rattle.cal_ast.specs.View.{stmt_tree}
+use Rattle.cal_check.proofs.Lists.{none-left}
+use Rattle.cal_check.specs.Written.{statement_written}
+use Rattle.const_eval.specs.Counting.{names_view}
+use Rattle.cal_written.proofs.Onto.{onto_done, onto_each}
+use Rattle.cal_written.proofs.Sizes.{size}
+use Rattle.cal_written.proofs.statement.+stmt.Goals as goal
+
+pub stmts-each-preserved : goal.stmts-each-preserved
+stmts-each-preserved t c = (
+  onto_each stmt_tree (λ s. statement_written s (names_view c.args.names.now)) c.each.found.items c.push.new.self.items c.each.rest.now c.in-Some.others.now c.in-Some.first.now c.in_ok-stmt.field-0
+      (statement_written (listed (map stmt_tree c.args.body.now)) (names_view c.args.names.now)) (λ s ss. refl) c.in-Some.ensures.cases.0 c.in_ok-push.ensures.items c.in_ok-stmt.ensures c.each.invariant.0,
+  omega (arith, ap (λ xs. size (listed (map stmt_tree xs))) c.in-Some.ensures.cases.0, c.each.invariant.1),
+)
+
+pub stmts-returns : goal.stmts-returns
+stmts-returns t c =
+    onto_done stmt_tree (λ s. statement_written s (names_view c.args.names.now)) c.each.found.items c.each.rest.now (statement_written (listed (map stmt_tree c.args.body.now)) (names_view c.args.names.now))
+    refl (none-left c.each.rest.now c.in_default.ensures.cases) c.each.invariant.0

@@ -1,0 +1,4 @@
+pub mod Judged
+mod LocalSteps
+mod FormalSteps
+mod Functions

@@ -1,0 +1,11 @@
+use Rattle.std.proofs.Common.{length}
+use Rattle.const_eval.specs.Counting.{names_view}
+use Rattle.cal_written.specs.Seeing.{seen_behind}
+use Rattle.routine_build.proofs.LocalSteps.{AreLocalsUpTo}
+use Rattle.routine_build.proofs.local.locals.Given as goal
+
+abbrev pub invariant-each : goal.invariant-each
+invariant-each l = AreLocalsUpTo l.locals.items l.typed l.rest (seen_behind l.behind.items l.names) l.initial.rest (names_view l.names)
+
+abbrev pub decreases-each : goal.decreases-each
+decreases-each l = length l.rest
