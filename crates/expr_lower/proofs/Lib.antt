@@ -8,6 +8,8 @@ pub mod Effects
 pub mod Aimed
 pub mod Doing
 pub mod Items
+pub mod Called
+pub mod Finding
 pub mod Coded
 pub mod Fitted
 pub mod Whole

@@ -4,6 +4,7 @@
 //! Code is appended to a [`Draft`]. Names stand for cells or tokens that hold their values, number by number.
 #![tactic(auto)]
 
+mod callees;
 mod counter;
 mod deep;
 mod draft;
@@ -19,8 +20,9 @@ mod stmts;
 mod truths;
 mod types;
 
+pub use callees::{Callee, Formal};
 pub use draft::Draft;
 pub use fault::LowerFault;
-pub use lower::lower_expr;
+pub use lower::{lower_calling, lower_expr};
 pub use names::{Named, Seat};
 pub use stmts::lower_stmts;

@@ -10,15 +10,16 @@ ghost use Rattle.expr_lower.specs.Growing.{IsFault};
 ghost use Rattle.expr_lower.specs.Held.{AreBelow};
 ghost use Rattle.expr_lower.specs.Listed.{list_named};
 ghost use Rattle.expr_lower.specs.Parted.{IsPart};
-ghost use Rattle.expr_lower.specs.Seen.{seen};
+ghost use Rattle.expr_lower.specs.Seen.{called, seen};
 ghost use Rattle.expr_lower.specs.SeenWords.{AreAllPlaces, IsWhyPlaces, Offsets};
 ghost use Rattle.expr_lower.specs.Linking.{Closes, Links, SetsExit, SetsJump};
 ghost use Rattle.expr_lower.specs.Lowered.{IsPut};
 ghost use Rattle.expr_lower.specs.Names.{names_view};
-ghost use Rattle.expr_lower.specs.SeenWords.{Applies, IsAll, IsWhy, Lowers, Opens, first_left_out};
-ghost use Rattle.expr_lower.specs.Words.{AddsLowered, IsFaultOf, IsWhole};
-ghost use Rattle.expr_lower.specs.Words.{and_of, binary_of, if_of, index_of, or_of};
+ghost use Rattle.expr_lower.specs.SeenWords.{AddsArgs, Applies, IsAll, IsWhy, Lowers, Opens, first_left_out, left_out_of_args};
+ghost use Rattle.expr_lower.specs.Words.{AddsLowered, AddsLoweredWith, IsFaultOf, IsFaultWith, IsWhole, IsWholeWith};
+ghost use Rattle.expr_lower.specs.Words.{and_of, binary_of, call_of, if_of, index_of, or_of};
 
+use crate::callees::{Callee, function_for, put_call};
 use crate::draft::{Draft, next_place, put, put_const};
 use crate::fault::LowerFault;
 use crate::names::{Named, list_named, one_named};
@@ -45,7 +46,7 @@ pub(crate) fn lower(scope: &Scope, e: &Expr, draft: &mut Draft) -> Result<(), Lo
         ExprForm::If { test, yes, no } => choice(scope, test, yes, no, draft),
         ExprForm::Prefix { op, of } => operation(scope, *op, of, draft),
         ExprForm::Binary { op, left, right } => binary(scope, *op, left, right, e.at, draft),
-        ExprForm::Call { name: _, args: _ } => Err(LowerFault::NotLowered { at: e.at }),
+        ExprForm::Call { name, args } => call(scope, name.as_str(), args, e.at, draft),
         ExprForm::List(_) => Err(LowerFault::NotLowered { at: e.at }),
         ExprForm::Comp { item: _, gens: _ } => Err(LowerFault::NotLowered { at: e.at }),
         ExprForm::Index { base, place } => item(scope, base, place, e.at, draft),
@@ -342,6 +343,43 @@ fn choice(
     Ok(())
 }
 
+// ---- calls
+
+/// Appends a call: its arguments, a turn, and the instructions that put the arguments into the cells of the formals
+/// and run the routine.
+#[cycle(lower)]
+fn call(
+    scope: &Scope,
+    name: &str,
+    args: &[Expr],
+    at: u32,
+    draft: &mut Draft,
+) -> Result<(), LowerFault>
+    ensures ok { OnOk result (Lowers scope.now (call_of name.now args.now at) draft.old draft.new) }
+    ensures whole { OnOk result (IsAll scope.now (call_of name.now args.now at)) }
+    ensures fault { IfErr result (IsWhy scope.now (call_of name.now args.now at) draft.new) }
+{
+    let Some(callee) = function_for(scope.callees, name, args) else {
+        return Err(LowerFault::NotLowered { at });
+    };
+    arguments(scope, args, draft)?;
+    put_call(callee, draft)
+}
+
+/// Appends arguments, one after the other.
+#[cycle(lower)]
+fn arguments(scope: &Scope, args: &[Expr], draft: &mut Draft) -> Result<(), LowerFault>
+    ensures ok { OnOk result (AddsArgs scope.now args.now draft.old draft.new) }
+    ensures whole { OnOk result (left_out_of_args scope.now args.now ≡ None) }
+    ensures fault { IfErr result (IsFault (left_out_of_args scope.now args.now) draft.new) }
+{
+    let Some((first, rest)) = args.split_first() else {
+        return Ok(());
+    };
+    lower(scope, first, draft)?;
+    arguments(scope, rest, draft)
+}
+
 // ---- conditions
 
 /// Appends a condition, which goes on if it is true. If it is false it is to jump elsewhere: `Done` stands for
@@ -475,5 +513,31 @@ pub fn lower_expr(names: &[Named], e: &Expr, draft: &mut Draft) -> Result<(), Lo
     ensures whole { OnOk result (IsWhole names.now (expr_tree e.now)) }
     ensures fault { IfErr result (IsFaultOf names.now (expr_tree e.now) draft.new) }
 {
-    lower(&Scope::outermost(names), e, draft)
+    lower(&Scope::outermost(names, &[]), e, draft)
+}
+
+/// Appends code that evaluates an expression of a single value, which may call functions, and pushes the value.
+///
+/// `names` holds the names that the expression uses, and `callees` the functions; the first of several that are the
+/// same is meant. The code reads the cells and tokens of names where they stand. It writes only cells of routines: a
+/// call puts its arguments there, each stored in the type of its formal, and runs the routine after one turn. What
+/// stood in the draft stays.
+///
+/// # Errors
+///
+/// As for [`lower_expr`], but that a call is a part for which no code is made only if `callees` doesn't have its
+/// function with as many arguments.
+pub fn lower_calling(
+    names: &[Named],
+    callees: &[Callee],
+    e: &Expr,
+    draft: &mut Draft,
+) -> Result<(), LowerFault>
+    requires below { AreBelow draft.old.cells (names_view names.now) }
+    ensures lowered { OnOk result
+        (AddsLoweredWith callees.now names.now (expr_tree e.now) draft.old draft.new) }
+    ensures whole { OnOk result (IsWholeWith callees.now names.now (expr_tree e.now)) }
+    ensures fault { IfErr result (IsFaultWith callees.now names.now (expr_tree e.now) draft.new) }
+{
+    lower(&Scope::outermost(names, callees), e, draft)
 }
