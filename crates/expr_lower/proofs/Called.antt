@@ -18,7 +18,7 @@ use Rattle.code_ir.specs.Effect.{Leaves}
 use Rattle.code_ir.specs.Running.{Goes, Next, State, Stuck, step, go_on, stop, Reaches, here, after}
 use Rattle.expr_lower.specs.declared.callees.Formal.{Formal}
 use Rattle.expr_lower.specs.Callees.{Function, function_named}
-use Rattle.expr_lower.specs.Calling.{Answers, AreInRow, AreOfSizes, GiveKinds, HoldArguments, HoldsArgument, Returns, Serves, outside}
+use Rattle.expr_lower.specs.Calling.{Answers, AreInRow, AreOfSizes, HoldArguments, HoldsArgument, Returns, Serves, outside}
 use Rattle.expr_lower.specs.Coding.{call_code, formal_stores}
 use Rattle.expr_lower.specs.Flat.{flat}
 use Rattle.expr_lower.specs.Following.{CutsOff, Follows, Pushes}
@@ -28,23 +28,12 @@ use Rattle.expr_lower.specs.Parted.{number_of}
 use Rattle.expr_lower.specs.Placed.{StandsAt, World, state}
 use Rattle.expr_lower.proofs.Doing.{Apart, Below, Does, Held, below_on, cut_after, cut_wider, still}
 use Rattle.expr_lower.proofs.Finding.{some_there}
+use Rattle.expr_lower.proofs.GivenKinds.{keeps_anywhere, routine_keeps, unwritten, written_more}
 use Rattle.expr_lower.proofs.Keeping.{holds_still, keeps_all, keeps_join, keeps_wider}
 use Rattle.expr_lower.proofs.Runs.{ends_join, follows_both, follows_more, follows_then, obeys, reaches_join, stands_left, stands_right}
 use Rattle.expr_lower.proofs.Scoping.{Written}
 use Rattle.expr_lower.proofs.Singles.{IsSingleValue, OnlySingles}
 use Rattle.expr_lower.proofs.Storing.{set_there, set_written, single_stored, store_leaves}
-
--- ---- cells of routines
-
-pub keeps_anywhere : {low high : ℕ} {before now : List ℤ} (n m : ℕ) → Keeps 0 0 low high before now → Keeps n m low high before now
-keeps_anywhere n m keeps = record { size = keeps.size; cell = λ c free apart. keeps.cell c (inr (omega arith)) apart }
-
--- what is written among the cells of routines
-pub routine_keeps : (c size n m low high : ℕ) (before now : List ℤ) → low ≤ c → c + size ≤ high → Written c size before now → Keeps n m low high before now
-routine_keeps c size n m low high before now le ge w = record {
-  size = w.length_same;
-  cell = λ d free apart. w.cell d (⊎_elim (λ (a : d + 1 ≤ low). inl (omega (arith, a, le))) (λ (a : high ≤ d). inr (omega (arith, a, ge))) apart);
-}
 
 -- ---- arguments on the stack
 
@@ -62,9 +51,9 @@ pub record Piles (w : World) (n m many : ℕ) (s : State) (end : ℕ) (vs : Valu
   pub reaches : Reaches w.code w.tokens s (state end top s.frames cells left)
   pub keeps : Keeps n m w.low w.high s.cells cells
 
-module _ (fs : List Function) (globals names : List Name) (w : World) (kinds : GiveKinds w.calls fs) (env : Env) (frames : List ℕ) where
+module _ (fs : List Function) (globals names : List Name) (w : World) (env : Env) (frames : List ℕ) where
   abbrev pub DoesArgs : Tree → ℕ → ℕ → List Instr → ℕ → Type 0
-  DoesArgs es base n code m = (stack cells : List ℤ) (left : ℕ) → StandsAt w.code.instrs base code → Below fs globals names w kinds env frames n → Apart fs globals names w kinds env frames → Held fs globals names w kinds env frames cells
+  DoesArgs es base n code m = (stack cells : List ℤ) (left : ℕ) → StandsAt w.code.instrs base code → Below fs globals names w env frames n → Apart fs globals names w env frames → Held fs globals names w env frames cells
       → Follows (eval_all es w.calls env left) (Piles w n m (number_of es) (state base stack frames cells left) (base + length code)) (CutsOff w n m (state base stack frames cells left))
 
   pub does_no_arg : (base n : ℕ) → DoesArgs tree.nil base n [] n
@@ -80,8 +69,8 @@ module _ (fs : List Function) (globals names : List Name) (w : World) (kinds : G
         keeps = keeps_all n n w.low w.high cells;
       }
 
-  pub does_arg_more : (e es : Tree) (base n k m : ℕ) (a b : List Instr) → n ≤ k → k ≤ m → Does fs globals names w kinds env frames e base n a k
-      → ((cells : List ℤ) (left : ℕ) → Held fs globals names w kinds env frames cells → OnlySingles (eval e w.calls env left))
+  pub does_arg_more : (e es : Tree) (base n k m : ℕ) (a b : List Instr) → n ≤ k → k ≤ m → Does fs globals names w env frames e base n a k
+      → ((cells : List ℤ) (left : ℕ) → Below fs globals names w env frames n → Apart fs globals names w env frames → Held fs globals names w env frames cells → OnlySingles (eval e w.calls env left))
       → DoesArgs es (base + length a) k b m → DoesArgs (tree.cons e es) base n (a ++ b) m
   does_arg_more e es base n k m a b le ge first single rest stack cells left stands below apart holds =
       let s : State = state base stack frames cells left in
@@ -89,12 +78,12 @@ module _ (fs : List Function) (globals names : List Name) (w : World) (kinds : G
       follows_then (eval e w.calls env left) (λ v j. and_then (eval_all es w.calls env j) (λ vs i. Gives (Cons v vs) i))
       (λ v j. Pushes w n k s (base + length a) v j × IsSingleValue v) (λ c. CutsOff w n k s c × Unit {0}) (Piles w n m (suc (number_of es)) s (base + length (a ++ b))) (CutsOff w n m s)
       (follows_both (eval e w.calls env left) (Pushes w n k s (base + length a)) (CutsOff w n k s) (λ v j. IsSingleValue v) (λ c. Unit {0})
-      (first stack cells left (stands_left w.code.instrs base a b stands) below apart holds) (single cells left holds))
+      (first stack cells left (stands_left w.code.instrs base a b stands) below apart holds) (single cells left below apart holds))
       (λ v j both.
       let p : Pushes w n k s (base + length a) v j = both.0 in
       let t : State = state (base + length a) (p.number ∷ stack) frames p.cells j in
       follows_then (eval_all es w.calls env j) (λ vs i. Gives (Cons v vs) i) (Piles w k m (number_of es) t (base + length a + length b)) (CutsOff w k m t) (Piles w n m (suc (number_of es)) s (base + length (a ++ b))) (CutsOff w n m s)
-      (rest (p.number ∷ stack) p.cells j (stands_right w.code.instrs base a b stands) (below_on fs globals names w kinds env frames n k le below) apart (still fs globals names w kinds env frames p.keeps below apart holds))
+      (rest (p.number ∷ stack) p.cells j (stands_right w.code.instrs base a b stands) (below_on fs globals names w env frames n k le below) apart (still fs globals names w env frames p.keeps below apart holds))
       (λ vs i q. record {
         as_many = ap suc q.as_many;
         top = q.top;
@@ -114,24 +103,6 @@ record ArePut (w : World) (xs : List Formal) (c : ℕ) (vs : Values) (s : State)
   reaches : Reaches w.code w.tokens s (state end stack s.frames cells s.left)
   written : Written c (length xs) s.cells cells
   holds : HoldArguments xs cells vs
-
-argument_unwritten : (x : Formal) (c : ℕ) (before now : List ℤ) (v : Value) → c + 1 ≤ x.cell → Written c 1 before now → HoldsArgument x before v → HoldsArgument x now v
-argument_unwritten x c before now v le w h = record { kind = h.kind; number = h.number; is = h.is; there = w.cell x.cell (inr le) ∙ h.there }
-
-unwritten : (xs : List Formal) (c d : ℕ) (before now : List ℤ) (vs : Values) → AreInRow d xs → c + 1 ≤ d → Written c 1 before now → HoldArguments xs before vs → HoldArguments xs now vs
-unwritten [] c d before now Nil row le w h = tt
-unwritten [] c d before now (Cons v vs) row le w h = absurd h
-unwritten (x ∷ xs) c d before now Nil row le w h = absurd h
-unwritten (x ∷ xs) c d before now (Cons v vs) row le w h =
-    let at = row.0 in
-    (argument_unwritten x c before now v (omega (arith, at, le)) w h.0, unwritten xs c (d + 1) before now vs row.1 (omega (arith, le)) w h.1)
-
-written_more : (c size : ℕ) (a b d : List ℤ) → Written (c + 1) size a b → Written c 1 b d → Written c (suc size) a d
-written_more c size a b d first second = record {
-  length_same = second.length_same ∙ first.length_same;
-  cell = λ k away. second.cell k (⊎_elim (λ (x : k < c). inl x) (λ (x : c + suc size ≤ k). inr (omega (arith, x))) away)
-      ∙ first.cell k (⊎_elim (λ (x : k < c). inl (omega (arith, x))) (λ (x : c + suc size ≤ k). inr (omega (arith, x))) away);
-}
 
 put_all : (w : World) (frames : List ℕ) (xs : List Formal) (c : ℕ) (vs : Values) (base : ℕ) (stack top cells : List ℤ) (left : ℕ) → AreInRow c xs → AreOfSizes xs → count vs ≡ length xs → ArePiled vs stack top
     → c + length xs ≤ length cells → StandsAt w.code.instrs base (formal_stores xs)
@@ -178,8 +149,8 @@ put_all w frames (x ∷ xs) c (Cons v vs) base stack top cells left (at, row) (s
 
 pub does_call : (fs : List Function) (globals names : List Name) (w : World) (serves : Serves w globals fs) (env : Env) (frames : List ℕ)
     (text : List ℕ) (args : Tree) (at base n m : ℕ) (code : List Instr) (f : Function) → function_named text fs ≡ Some f → number_of args ≡ length f.formals
-    → DoesArgs fs globals names w serves.kinds env frames args base n code m
-    → n ≤ m → Does fs globals names w serves.kinds env frames (tree.call text args at) base n (code ++ call_code f) m
+    → DoesArgs fs globals names w env frames args base n code m
+    → n ≤ m → Does fs globals names w env frames (tree.call text args at) base n (code ++ call_code f) m
 does_call fs globals names w serves env frames text args at base n m code f e number does grows stack cells left stands below apart holds =
     follows_then (eval_all args w.calls env left) (λ vs j. turn j (λ k. w.calls env.globals text vs k)) (Piles w n m (number_of args) s (base + length code)) (CutsOff w n m s) (Pushes w n m s end) (CutsOff w n m s)
     (does stack cells left (stands_left w.code.instrs base code (call_code f) stands) below apart holds)
@@ -195,7 +166,7 @@ does_call fs globals names w serves env frames text args at base n m code f e nu
     puts = formal_stores f.formals
 
     a : Answers w globals text f
-    a = serves.answers text f e
+    a = serves text f e
 
     here_stands : StandsAt w.code.instrs (base + length code) (call_code f)
     here_stands = stands_right w.code.instrs base code (call_code f) stands
@@ -226,7 +197,7 @@ does_call fs globals names w serves env frames text args at base n m code f e nu
         let kept : Keeps n m w.low w.high cells put.cells = keeps_join p.keeps (routine_keeps a.formals.first (length f.formals) n m w.low w.high p.cells put.cells a.formals.low_end high put.written) in
         let finish : place + 1 ≡ end = omega (arith, length-append code (call_code f), length-append puts (op.Call f.routine ∷ [])) in
         let known = kept.size in
-        follows_more (w.calls env.globals text vs j) (Returns w inside (place + 1) frames) (CutsOff w 0 0 inside) (Pushes w n m s end) (CutsOff w n m s)
+        follows_more (w.calls env.globals text vs j) (Returns w f.result inside (place + 1) frames) (CutsOff w 0 0 inside) (Pushes w n m s end) (CutsOff w n m s)
         (a.goes env.globals vs stack (place + 1) frames put.cells j (omega (arith, some, known)) (holds_still globals w.tokens (outside env.globals) kept below.1 apart.1 holds.1) put.holds)
         (λ v k r. record {
           number = r.number;

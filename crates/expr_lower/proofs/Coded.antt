@@ -12,7 +12,7 @@ use Rattle.cal_ast.specs.Tree.{Tree}
 use Rattle.cal_model.specs.Value.{Value, Num, Truth}
 use Rattle.cal_model.specs.Outcome.{Out, Gives, Traps, Lacks, Clashes, and_then, known}
 use Rattle.cal_model.specs.Env.{Env}
-use Rattle.cal_model.specs.Expression.{Calls, eval, computed, prefixed}
+use Rattle.cal_model.specs.Expression.{eval, computed, prefixed}
 use Rattle.code_ir.specs.declared.instr.Instr.{Instr}
 use Rattle.code_ir.specs.declared.instr.Instr.TheVariants as op
 use Rattle.code_ir.specs.declared.outcome.Outcome.{Outcome}
@@ -27,11 +27,12 @@ use Rattle.expr_lower.specs.Held.{AllApart, StandAt, Holds, HoldsName, AreBelow}
 use Rattle.expr_lower.specs.Parted.{number_of}
 use Rattle.expr_lower.specs.Placed.{StandsAt, World, state}
 use Rattle.expr_lower.specs.Following.{Chooses, Follows, Pushes, CutsOff, EndsAs, Evaluates}
-use Rattle.expr_lower.specs.Calling.{EvaluatesWith, GiveKinds, HasRoom, Serves, outside}
+use Rattle.expr_lower.specs.Calling.{EvaluatesWith, HasRoom, Serves, outside}
 use Rattle.expr_lower.specs.Callees.{Function}
 use Rattle.expr_lower.specs.Coding.{AreArgs, IsCode, IsOffset, IsTest, no_arg, arg_more, call, number, too_great, negative, truth, variable, paren, prefix, binary, both, either, if_code, tested, both_tested, seat_instr, item, deep_item, whole, row}
 use Rattle.expr_lower.proofs.Called.{DoesArgs, does_arg_more, does_call, does_no_arg}
 use Rattle.expr_lower.proofs.Finding.{is_found}
+use Rattle.expr_lower.proofs.GivenKinds.{kinds_in}
 use Rattle.expr_lower.proofs.Singles.{singles_in}
 use Rattle.expr_lower.proofs.Items.{does_item}
 use Rattle.expr_lower.proofs.Rowed.{DoesOffset, does_deep, does_row, does_whole}
@@ -98,20 +99,20 @@ seat_leaves (Tokens port first step) tokens stack cells z h =
 -- ---- all forms
 
 module _ (fs : List Function) (globals names : List Name) (w : World) (serves : Serves w globals fs) (env : Env) (frames : List ℕ) where
-  does_number : (k at base n : ℕ) → is_num (pos k) ≡ true → Does fs globals names w serves.kinds env frames (tree.number k at) base n (op.Const (pos k) ∷ []) n
+  does_number : (k at base n : ℕ) → is_num (pos k) ≡ true → Does fs globals names w env frames (tree.number k at) base n (op.Const (pos k) ∷ []) n
   does_number k at base n h stack cells left stands below apart holds =
       let s : State = state base stack frames cells left in
       subst (λ b. Follows (computed (if b then arithmetic.Gives (pos k) else arithmetic.Traps Overflow) left) (Pushes w n n s (base + 1)) (CutsOff w n n s)) (sym h)
-      (does_const fs globals names w serves.kinds env frames (pos k) (Num (pos k)) base n stack cells left refl stands)
+      (does_const fs globals names w env frames (pos k) (Num (pos k)) base n stack cells left refl stands)
 
-  does_negative : (k place at base n : ℕ) → is_num (pos k) ≡ true → Does fs globals names w serves.kinds env frames (tree.prefix prefixes.Neg (tree.number k place) at) base n (op.Const (neg_ℤ (pos k)) ∷ []) n
+  does_negative : (k place at base n : ℕ) → is_num (pos k) ≡ true → Does fs globals names w env frames (tree.prefix prefixes.Neg (tree.number k place) at) base n (op.Const (neg_ℤ (pos k)) ∷ []) n
   does_negative k place at base n h stack cells left stands below apart holds =
       let s : State = state base stack frames cells left in
       subst (λ b. Follows (and_then (computed (if b then arithmetic.Gives (pos k) else arithmetic.Traps Overflow) left) (λ v m. prefixed prefixes.Neg v m)) (Pushes w n n s (base + 1)) (CutsOff w n n s)) (sym h)
       (subst (λ b. Follows (computed (if b then arithmetic.Gives (neg_ℤ (pos k)) else arithmetic.Traps Overflow) left) (Pushes w n n s (base + 1)) (CutsOff w n n s)) (sym (negative_num k h))
-      (does_const fs globals names w serves.kinds env frames (neg_ℤ (pos k)) (Num (neg_ℤ (pos k))) base n stack cells left refl stands))
+      (does_const fs globals names w env frames (neg_ℤ (pos k)) (Num (neg_ℤ (pos k))) base n stack cells left refl stands))
 
-  does_too_great : (k at base n : ℕ) → is_num (pos k) ≡ false → Does fs globals names w serves.kinds env frames (tree.number k at) base n (op.Const greatest_num ∷ op.Const (pos 1) ∷ op.Add ∷ []) n
+  does_too_great : (k at base n : ℕ) → is_num (pos k) ≡ false → Does fs globals names w env frames (tree.number k at) base n (op.Const greatest_num ∷ op.Const (pos 1) ∷ op.Add ∷ []) n
   does_too_great k at base n h stack cells left stands below apart holds =
       let s : State = state base stack frames cells left in
       let s1 : State = state (base + 1) (greatest_num ∷ stack) frames cells left in
@@ -127,7 +128,7 @@ module _ (fs : List Function) (globals names : List Name) (w : World) (serves : 
       go_two : (s t u : State) → step w.code w.tokens s ≡ Goes t → step w.code w.tokens t ≡ Goes u → Ends w.code w.tokens u (outcome.Trap Overflow) cells → Ends w.code w.tokens s (outcome.Trap Overflow) cells
       go_two s t u e f r = go e (go f r)
 
-  does_variable : (text : List ℕ) (at base n : ℕ) (x : Name) → named text names ≡ Some x → IsSingle x.shape → Does fs globals names w serves.kinds env frames (tree.variable text at) base n (seat_instr x.seat ∷ []) n
+  does_variable : (text : List ℕ) (at base n : ℕ) (x : Name) → named text names ≡ Some x → IsSingle x.shape → Does fs globals names w env frames (tree.variable text at) base n (seat_instr x.seat ∷ []) n
   does_variable text at base n x e single stack cells left stands below apart holds =
       let s : State = state base stack frames cells left in
       let h : HoldsName w.tokens cells env text x = holds.0 text x e in
@@ -138,35 +139,35 @@ module _ (fs : List Function) (globals names : List Name) (w : World) (serves : 
       (record { same = refl; number = one.0; is = one.1; leaves = seat_leaves x.seat w.tokens stack cells one.0 stand }))
 
   mutual
-    pub does_in : {e : Tree} {base n m : ℕ} {code : List Instr} → IsCode fs names e base n code m → Does fs globals names w serves.kinds env frames e base n code m
+    pub does_in : {e : Tree} {base n m : ℕ} {code : List Instr} → IsCode fs names e base n code m → Does fs globals names w env frames e base n code m
     does_in (number k at base n h) = does_number k at base n h
     does_in (too_great k at base n h) = does_too_great k at base n h
     does_in (negative k at base n place h) = does_negative k place at base n h
-    does_in (truth b at base n) = λ stack cells left stands below apart holds. does_const fs globals names w serves.kinds env frames (arithmetic.truth b) (Truth b) base n stack cells left refl stands
+    does_in (truth b at base n) = λ stack cells left stands below apart holds. does_const fs globals names w env frames (arithmetic.truth b) (Truth b) base n stack cells left refl stands
     does_in (variable text at base n x h s) = does_variable text at base n x h s
     does_in (paren e at base n m code h) = does_in h
-    does_in (prefix o e at base n m code h) = does_prefix fs globals names w serves.kinds env frames o e at base n m code (does_in h)
-    does_in (binary o i l r at base n k m a b e h g) = does_binary fs globals names w serves.kinds env frames o i l r at base n k m a b e (grows h) (grows g) (does_in h) (does_in g)
+    does_in (prefix o e at base n m code h) = does_prefix fs globals names w env frames o e at base n m code (does_in h)
+    does_in (binary o i l r at base n k m a b e h g) = does_binary fs globals names w env frames o i l r at base n k m a b e (grows h) (grows g) (does_in h) (does_in g)
     does_in (call text args at base n m code f e h) = does_call fs globals names w serves env frames text args at base n m code f (is_found text (number_of args) fs f e).0 (sym (is_found text (number_of args) fs f e).1) (does_args h) (grows_args h)
-    does_in (item e place at base n m code l g h) = does_item fs globals names w serves.kinds env frames e place at base n m code l g (does_in h)
-    does_in (deep_item e place at base n m code l g h) = does_deep fs globals names w serves.kinds env frames (tree.index e place at) base n m code l g (offsets h)
-    does_in (both l r at base n k m far end a b t h g e f) = does_both fs globals names w serves.kinds env frames l r at base n k m far end a b t (grows_test h) (grows g) e f (tests_in h) (does_in g)
-    does_in (either l r at base n k m right end a b t h g e f) = does_either fs globals names w serves.kinds env frames l r at base n k m right end a b t (grows_test h) (grows g) e f (tests_in h) (does_in g)
+    does_in (item e place at base n m code l g h) = does_item fs globals names w env frames e place at base n m code l g (does_in h)
+    does_in (deep_item e place at base n m code l g h) = does_deep fs globals names w env frames (tree.index e place at) base n m code l g (offsets h)
+    does_in (both l r at base n k m far end a b t h g e f) = does_both fs globals names w env frames l r at base n k m far end a b t (grows_test h) (grows g) e f (tests_in h) (does_in g)
+    does_in (either l r at base n k m right end a b t h g e f) = does_either fs globals names w env frames l r at base n k m right end a b t (grows_test h) (grows g) e f (tests_in h) (does_in g)
     does_in (if_code test first other at base n k j m else_at end a b c h g d e f) =
-        does_if fs globals names w serves.kinds env frames test first other at base n k j m else_at end a b c (grows_test h) (grows g) (grows d) e f (tests_in h) (does_in g) (does_in d)
+        does_if fs globals names w env frames test first other at base n k j m else_at end a b c (grows_test h) (grows g) (grows d) e f (tests_in h) (does_in g) (does_in d)
 
-    does_args : {es : Tree} {base n m : ℕ} {code : List Instr} → AreArgs fs names es base n code m → DoesArgs fs globals names w serves.kinds env frames es base n code m
-    does_args (no_arg base n) = does_no_arg fs globals names w serves.kinds env frames base n
+    does_args : {es : Tree} {base n m : ℕ} {code : List Instr} → AreArgs fs names es base n code m → DoesArgs fs globals names w env frames es base n code m
+    does_args (no_arg base n) = does_no_arg fs globals names w env frames base n
     does_args (arg_more e es base n k m a b h g) =
-        does_arg_more fs globals names w serves.kinds env frames e es base n k m a b (grows h) (grows_args g) (does_in h) (λ cells left holds. singles_in fs w.calls serves.kinds names w.tokens cells env holds.0 h left) (does_args g)
+        does_arg_more fs globals names w env frames e es base n k m a b (grows h) (grows_args g) (does_in h) (λ cells left below apart holds. singles_in fs w.calls names w.tokens cells env (kinds_in fs globals w serves env.globals n cells below.1 apart.1 holds.1 holds.2) holds.0 h left) (does_args g)
 
-    offsets : {e : Tree} {base n m : ℕ} {code : List Instr} → IsOffset fs names e base n code m → DoesOffset fs globals names w serves.kinds env frames e base n code m
-    offsets (whole text at base n) = does_whole fs globals names w serves.kinds env frames text at base n
-    offsets (row e place at base n k m a b r g h d) = does_row fs globals names w serves.kinds env frames e place at base n k m a b r g (grows_offset h) (grows d) (offsets h) (does_in d)
+    offsets : {e : Tree} {base n m : ℕ} {code : List Instr} → IsOffset fs names e base n code m → DoesOffset fs globals names w env frames e base n code m
+    offsets (whole text at base n) = does_whole fs globals names w env frames text at base n
+    offsets (row e place at base n k m a b r g h d) = does_row fs globals names w env frames e place at base n k m a b r g (grows_offset h) (grows d) (offsets h) (does_in d)
 
-    pub tests_in : {e : Tree} {base n far m : ℕ} {code : List Instr} → IsTest fs names e base n far code m → Tests fs globals names w serves.kinds env frames e base n far code m
-    tests_in (tested e base n m far code h) = tests_value fs globals names w serves.kinds env frames e base n m far code (does_in h)
-    tests_in (both_tested l r at base n k m far a b t h g) = tests_both fs globals names w serves.kinds env frames l r at base n k m far a b t (grows_test h) (grows_test g) (tests_in h) (tests_in g)
+    pub tests_in : {e : Tree} {base n far m : ℕ} {code : List Instr} → IsTest fs names e base n far code m → Tests fs globals names w env frames e base n far code m
+    tests_in (tested e base n m far code h) = tests_value fs globals names w env frames e base n m far code (does_in h)
+    tests_in (both_tested l r at base n k m far a b t h g) = tests_both fs globals names w env frames l r at base n k m far a b t (grows_test h) (grows_test g) (tests_in h) (tests_in g)
 
 -- ---- and no other end
 
@@ -187,11 +188,8 @@ evaluates_with {fs = fs} names e base n m code below coded = record {
 
 -- ---- if there are no functions
 
-pub no_kinds : (calls : Calls) → GiveKinds calls []
-no_kinds calls text f e = cc
-
 pub no_serves : (w : World) → Serves w [] []
-no_serves w = record { kinds = no_kinds w.calls; answers = λ text f e. cc }
+no_serves w text f e = cc
 
 -- what there is to say of globals and routines, if there are none
 no_below : (n : ℕ) → AreBelow n []

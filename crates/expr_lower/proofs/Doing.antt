@@ -24,7 +24,7 @@ use Rattle.expr_lower.specs.Placed.{StandsAt, World, state}
 use Rattle.expr_lower.specs.Following.{Follows, Pushes, Chooses, CutsOff}
 use Rattle.expr_lower.specs.Coding.{prefix_instr, binary_instr}
 use Rattle.expr_lower.specs.Callees.{Function}
-use Rattle.expr_lower.specs.Calling.{GiveKinds, HasRoom, outside}
+use Rattle.expr_lower.specs.Calling.{HasRoom, outside}
 use Rattle.expr_lower.specs.Truths.{is_truth}
 use Rattle.expr_lower.proofs.Runs.{reaches_join, ends_join, obeys, follows_then, follows_more, follows_both, stands_left, stands_right}
 use Rattle.expr_lower.proofs.Keeping.{keeps_all, keeps_wider, keeps_join, holds_still, below_more}
@@ -149,7 +149,7 @@ choice_reaches w n m base near there stack frames before left a k c =
 
 -- ---- forms
 
-module _ (fs : List Function) (globals names : List Name) (w : World) (kinds : GiveKinds w.calls fs) (env : Env) (frames : List ℕ) where
+module _ (fs : List Function) (globals names : List Name) (w : World) (env : Env) (frames : List ℕ) where
   -- the cells of the names and of the globals lie below n, and outside those of routines
   abbrev pub Below : ℕ → Type 0
   Below n = AreBelow n names × AreBelow n globals
@@ -291,7 +291,7 @@ module _ (fs : List Function) (globals names : List Name) (w : World) (kinds : G
   tests_both l r at base n k m out a b e le ge first second stack cells left stands below apart holds =
       let s : State = state base stack frames cells left in
       follows_then (eval l w.calls env left) (λ v j. with_right binaries.And v (λ i. eval r w.calls env i) j) (λ v j. Chooses w n k s (base + length a) out v j × IsTruth v) (λ c. CutsOff w n k s c × Unit {0}) (Chooses w n m s (base + length (a ++ b)) out) (CutsOff w n m s)
-      (follows_both (eval l w.calls env left) (Chooses w n k s (base + length a) out) (CutsOff w n k s) (λ v j. IsTruth v) (λ c. Unit {0}) (first stack cells left (stands_left w.code.instrs base a b stands) below apart holds) (truths fs w.calls kinds l names w.tokens cells env left e holds.0))
+      (follows_both (eval l w.calls env left) (Chooses w n k s (base + length a) out) (CutsOff w n k s) (λ v j. IsTruth v) (λ c. Unit {0}) (first stack cells left (stands_left w.code.instrs base a b stands) below apart holds) (truths fs w.calls l names w.tokens cells env left e holds.0))
       (λ v j p. both_tests l r base n k m out a b stack cells left v j le ge second (stands_right w.code.instrs base a b stands) below apart holds p.1 p.0)
       (λ c t. cut_wider w n k m s c ge t.0)
 
@@ -336,7 +336,7 @@ module _ (fs : List Function) (globals names : List Name) (w : World) (kinds : G
       let finish : end ≡ base + length (a ++ (b ++ tail)) = omega (arith, length-append a (b ++ tail), length-append b tail) in
       at_end (eval (tree.binary binaries.And l r at) w.calls env left) n m end (base + length (a ++ (b ++ tail))) s finish
       (follows_then (eval l w.calls env left) (λ v j. with_right binaries.And v (λ i. eval r w.calls env i) j) (λ v j. Chooses w n k s (base + length a) out v j × IsTruth v) (λ c. CutsOff w n k s c × Unit {0}) (Pushes w n m s end) (CutsOff w n m s)
-      (follows_both (eval l w.calls env left) (Chooses w n k s (base + length a) out) (CutsOff w n k s) (λ v j. IsTruth v) (λ c. Unit {0}) (first stack cells left (stands_left w.code.instrs base a (b ++ tail) stands) below apart holds) (truths fs w.calls kinds l names w.tokens cells env left e holds.0))
+      (follows_both (eval l w.calls env left) (Chooses w n k s (base + length a) out) (CutsOff w n k s) (λ v j. IsTruth v) (λ c. Unit {0}) (first stack cells left (stands_left w.code.instrs base a (b ++ tail) stands) below apart holds) (truths fs w.calls l names w.tokens cells env left e holds.0))
       (λ v j p. both_goes r base n k m out end a b stack cells left v j le ge end_is second (stands_left w.code.instrs (base + length a) b tail rest) last.0 const below apart holds p.1 p.0)
       (λ c t. cut_wider w n k m s c ge t.0))
 
@@ -379,7 +379,7 @@ module _ (fs : List Function) (globals names : List Name) (w : World) (kinds : G
       let finish : end ≡ base + length (a ++ tail) = omega (arith, length-append a tail) in
       at_end (eval (tree.binary binaries.Or l r at) w.calls env left) n m end (base + length (a ++ tail)) s finish
       (follows_then (eval l w.calls env left) (λ v j. with_right binaries.Or v (λ i. eval r w.calls env i) j) (λ v j. Chooses w n k s (base + length a) right v j × IsTruth v) (λ c. CutsOff w n k s c × Unit {0}) (Pushes w n m s end) (CutsOff w n m s)
-      (follows_both (eval l w.calls env left) (Chooses w n k s (base + length a) right) (CutsOff w n k s) (λ v j. IsTruth v) (λ c. Unit {0}) (first stack cells left (stands_left w.code.instrs base a tail stands) below apart holds) (truths fs w.calls kinds l names w.tokens cells env left e holds.0))
+      (follows_both (eval l w.calls env left) (Chooses w n k s (base + length a) right) (CutsOff w n k s) (λ v j. IsTruth v) (λ c. Unit {0}) (first stack cells left (stands_left w.code.instrs base a tail stands) below apart holds) (truths fs w.calls l names w.tokens cells env left e holds.0))
       (λ v j p. either_goes r base n k m right end a b stack cells left v j le ge end_is second last rest.0 rest.1.0 below apart holds p.1 p.0)
       (λ c t. cut_wider w n k m s c ge t.0))
 

@@ -142,7 +142,6 @@ truth_erased fs names (tree.variable text at) = ap is_truth_name (named_erased t
     go : (o : Option Name) → is_truth_name (erased o) ≡ is_truth_name o
     go None = refl
     go (Some x) = refl
-truth_erased fs names (tree.call text args at) = refl
 truth_erased fs names (tree.paren e at) = truth_erased fs names e
 truth_erased fs names (tree.if_expr test first other at) =
     ap (λ b. b && is_truth fs (map erase names) other) (truth_erased fs names first) ∙ ap (λ b. is_truth fs names first && b) (truth_erased fs names other)

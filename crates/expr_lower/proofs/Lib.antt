@@ -9,6 +9,9 @@ pub mod Aimed
 pub mod Doing
 pub mod Items
 pub mod Called
+pub mod GivenKinds
+pub mod Routined
+pub mod Served
 pub mod Finding
 pub mod Coded
 pub mod Fitted

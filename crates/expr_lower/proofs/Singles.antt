@@ -1,5 +1,5 @@
 -- Lowered expressions give single values.
-use Rattle.std.proofs.Common.{◌≡◌, ℕ, ℤ, pos, negsuc, List, Bool, true, false, refl, sym, subst, Option, None, Some, zero, suc, []}
+use Rattle.std.proofs.Common.{◌≡◌, ℕ, ℤ, pos, negsuc, List, Bool, true, false, refl, sym, subst, Option, None, Some, zero, suc, [], length, ap, ◌∙◌}
 use Rattle.std.specs.Prelude.{if◌then◌else◌, nat_le, ◌==◌, unsigned_abs, ◌+ℤ◌, ◌-ℤ◌, ◌*ℤ◌, neg_ℤ, int_div, int_rem, ◌^◌}
 use Rattle.std.specs.Int.{int_shr}
 use Rattle.rvc_base.specs.declared.scalar.Scalar.{Scalar}
@@ -12,9 +12,9 @@ use Rattle.cal_ast.specs.declared.expr.PrefixOp.TheVariants as prefixes
 use Rattle.cal_ast.specs.declared.expr.BinOp.{BinOp}
 use Rattle.cal_ast.specs.declared.expr.BinOp.TheVariants as binaries
 use Rattle.cal_ast.specs.Tree.{Tree}
-use Rattle.cal_model.specs.Value.{Shape, Single, Many, Value, Num, Truth, Items, Values, value_at, HasKind, HaveKind, kind_of_type, kind_of_scalar}
+use Rattle.cal_model.specs.Value.{Shape, Single, Many, Value, Num, Truth, Items, Values, value_at, HasKind, HaveKind, kind_of_type, kind_of_scalar, Nil, Cons, count}
 use Rattle.cal_model.specs.Outcome.{Out, Gives, Traps, Lacks, Clashes, and_then, known, turn}
-use Rattle.cal_model.specs.Env.{Env}
+use Rattle.cal_model.specs.Env.{Var, Env}
 use Rattle.cal_model.specs.Expression.{Calls, eval, eval_all, computed, prefixed, applied, of_numbers, of_truths, with_right, chosen, indexed}
 use Rattle.cal_model.proofs.Numbers.{is-num, rest-is-num, shifted-is-num, and-is-num, or-is-num, xor-is-num, not-is-num}
 use Rattle.code_ir.specs.declared.instr.Instr.{Instr}
@@ -22,9 +22,8 @@ use Rattle.expr_lower.specs.Names.{Name, IsSingle}
 use Rattle.expr_lower.specs.Held.{HoldsName, Holds}
 use Rattle.expr_lower.specs.Following.{Follows}
 use Rattle.expr_lower.specs.declared.names.ItemList.{ItemList}
-use Rattle.expr_lower.specs.Callees.{Function}
-use Rattle.expr_lower.specs.Calling.{GiveKinds}
-use Rattle.expr_lower.specs.Coding.{IsCode, IsTest, call, number, too_great, negative, truth, variable, paren, prefix, binary, both, either, if_code, tested, both_tested, item, deep_item}
+use Rattle.expr_lower.specs.Callees.{Function, function_named}
+use Rattle.expr_lower.specs.Coding.{AreArgs, IsCode, IsTest, arg_more, call, no_arg, number, too_great, negative, truth, variable, paren, prefix, binary, both, either, if_code, tested, both_tested, item, deep_item}
 use Rattle.expr_lower.proofs.Effects.{goes_right}
 use Rattle.cal_ast.specs.Tree as tree
 use Rattle.expr_lower.proofs.Listing.{IsList, named_list, item_kind}
@@ -182,14 +181,17 @@ item_single l vs (Num (pos k)) left h = go (value_at vs k) refl
 
 -- ---- all forms
 
--- whatever comes before
-any_then : {A : Type 0} (o : Out A) (f : A → ℕ → Out Value) → ((v : A) (m : ℕ) → OnlySingles (f v m)) → OnlySingles (and_then o f)
-any_then (Gives v left) f h = h v left
-any_then (Traps c) f h = tt
-any_then Lacks f h = tt
-any_then Clashes f h = tt
+-- each of the values is single
+abbrev pub AreSingles : Values → Type 0
+AreSingles Nil = Unit {0}
+AreSingles (Cons v vs) = IsSingleValue v × AreSingles vs
 
-module _ (fs : List Function) (calls : Calls) (gives : GiveKinds calls fs) (names : List Name) (tokens : ℕ → List ℤ) (cells : List ℤ) (env : Env) (holds : Holds names tokens cells env) where
+-- over these globals, and for single values, the functions give values of their types' kinds
+abbrev pub KindsIn : Calls → List Var → List Function → Type 0
+KindsIn calls vars fs = (text : List ℕ) (f : Function) → function_named text fs ≡ Some f → (vs : Values) (left : ℕ) → AreSingles vs → count vs ≡ length f.formals
+    → Follows (calls vars text vs left) (λ v k. HasKind (kind_of_scalar f.result) v) (λ c. Unit {0})
+
+module _ (fs : List Function) (calls : Calls) (names : List Name) (tokens : ℕ → List ℤ) (cells : List ℤ) (env : Env) (gives : KindsIn calls env.globals fs) (holds : Holds names tokens cells env) where
   mutual
     pub singles_in : {e : Tree} {base n m : ℕ} {code : List Instr} → IsCode fs names e base n code m → (left : ℕ) → OnlySingles (eval e calls env left)
     singles_in (number k at base n h) left = whole_single (pos k) left
@@ -205,11 +207,15 @@ module _ (fs : List Function) (calls : Calls) (gives : GiveKinds calls fs) (name
         single_then (eval l calls env left) (λ v m. with_right o v (λ k. eval r calls env k) m) (singles_in h left) (λ v m s.
         subst OnlySingles (sym (goes_right o i v (λ k. eval r calls env k) m e)) (right_single o v (λ k. eval r calls env k) m s (λ k. singles_in g k)))
     singles_in (call text args at base n m code f e h) left =
-        any_then (eval_all args calls env left) (λ vs k. turn k (λ j. calls env.globals text vs j)) (λ vs k. turned vs k)
+        follows_then (eval_all args calls env left) (λ vs k. turn k (λ j. calls env.globals text vs j)) (λ vs k. AreSingles vs × (count vs ≡ number_of args)) (λ c. Unit {0}) (λ v m. IsSingleValue v) (λ c. Unit {0})
+        (singles_args h left) (λ vs k p. turned vs k p) (λ c t. tt)
       where
-        turned : (vs : Values) (k : ℕ) → OnlySingles (turn k (λ j. calls env.globals text vs j))
-        turned vs zero = tt
-        turned vs (suc j) = follows_more (calls env.globals text vs j) (λ v m. HasKind (kind_of_scalar f.result) v) (λ c. Unit {0}) (λ v m. IsSingleValue v) (λ c. Unit {0}) (gives text f (is_found text (number_of args) fs f e).0 env.globals vs j) (λ v m k. kind_single f.result v k) (λ c t. tt)
+        turned : (vs : Values) (k : ℕ) → AreSingles vs × (count vs ≡ number_of args) → OnlySingles (turn k (λ j. calls env.globals text vs j))
+        turned vs zero p = tt
+        turned vs (suc j) p =
+            let there = is_found text (number_of args) fs f e in
+            follows_more (calls env.globals text vs j) (λ v m. HasKind (kind_of_scalar f.result) v) (λ c. Unit {0}) (λ v m. IsSingleValue v) (λ c. Unit {0})
+            (gives text f there.0 vs j p.0 (p.1 ∙ sym there.1)) (λ v m k. kind_single f.result v k) (λ c t. tt)
     singles_in (item e place at base n m code l g h) left =
         let list : IsList tokens cells (eval e calls env left) left l = named_list names tokens cells env e l calls left g holds in
         subst (λ (o : Out Value). OnlySingles (and_then o (λ v h. and_then (eval place calls env h) (λ x k. indexed v x k)))) (sym list.gives)
@@ -225,10 +231,19 @@ module _ (fs : List Function) (calls : Calls) (gives : GiveKinds calls fs) (name
         single_then (eval test calls env left) (λ v m. chosen v (λ k. eval first calls env k) (λ k. eval other calls env k) m) (singles_test h left)
         (λ v m s. chosen_single v (λ k. eval first calls env k) (λ k. eval other calls env k) m (λ k. singles_in g k) (λ k. singles_in d k))
 
+    singles_args : {es : Tree} {base n m : ℕ} {code : List Instr} → AreArgs fs names es base n code m → (left : ℕ) → Follows (eval_all es calls env left) (λ vs k. AreSingles vs × (count vs ≡ number_of es)) (λ c. Unit {0})
+    singles_args (no_arg base n) left = (tt, refl)
+    singles_args (arg_more e es base n k m a b h g) left =
+        follows_then (eval e calls env left) (λ v j. and_then (eval_all es calls env j) (λ vs i. Gives (Cons v vs) i)) (λ v j. IsSingleValue v) (λ c. Unit {0}) (λ vs i. AreSingles vs × (count vs ≡ suc (number_of es))) (λ c. Unit {0})
+        (singles_in h left)
+        (λ v j s. follows_then (eval_all es calls env j) (λ vs i. Gives (Cons v vs) i) (λ vs i. AreSingles vs × (count vs ≡ number_of es)) (λ c. Unit {0}) (λ vs i. AreSingles vs × (count vs ≡ suc (number_of es))) (λ c. Unit {0})
+        (singles_args g j) (λ vs i p. ((s, p.0), ap suc p.1)) (λ c t. tt))
+        (λ c t. tt)
+
     singles_test : {e : Tree} {base n far m : ℕ} {code : List Instr} → IsTest fs names e base n far code m → (left : ℕ) → OnlySingles (eval e calls env left)
     singles_test (tested e base n m far code h) left = singles_in h left
     singles_test (both_tested l r at base n k m far a b t h g) left =
         single_then (eval l calls env left) (λ v m. with_right binaries.And v (λ k. eval r calls env k) m) (singles_test h left) (λ v m s. and_single v (λ k. eval r calls env k) m s (λ k. singles_test g k))
 
 pub singles : (names : List Name) (tokens : ℕ → List ℤ) (cells : List ℤ) (env : Env) (calls : Calls) → Holds names tokens cells env → {e : Tree} {base n m : ℕ} {code : List Instr} → IsCode [] names e base n code m → (left : ℕ) → OnlySingles (eval e calls env left)
-singles names tokens cells env calls holds coded left = singles_in [] calls (λ text f e. cc) names tokens cells env holds coded left
+singles names tokens cells env calls holds coded left = singles_in [] calls names tokens cells env (λ text f e. cc) holds coded left

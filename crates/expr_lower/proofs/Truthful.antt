@@ -1,5 +1,5 @@
 -- What is seen to give truth values gives them.
-use Rattle.std.proofs.Common.{◌≡◌, ℕ, zero, suc, ℤ, pos, negsuc, List, Bool, true, false, refl, sym, subst, Option, None, Some}
+use Rattle.std.proofs.Common.{◌≡◌, ℕ, ℤ, pos, negsuc, List, Bool, true, false, refl, sym, subst, Option, None, Some}
 use Rattle.std.specs.Prelude.{◌&&◌, ◌||◌}
 use Rattle.rvc_base.specs.declared.scalar.Scalar.TheVariants as scalar
 use Rattle.rvc_base.specs.declared.trap.Trap.TheVariants.{IndexRange}
@@ -10,9 +10,9 @@ use Rattle.cal_ast.specs.declared.expr.BinOp.TheVariants as binaries
 use Rattle.cal_ast.specs.Tree as tree
 use Rattle.cal_ast.specs.Tree.{Tree}
 use Rattle.cal_model.specs.Value.{Kind, Shape, Single, Many, Value, Num, Truth, Items, Values, value_at, HasKind, HaveKind, kind_of_type, kind_of_scalar}
-use Rattle.cal_model.specs.Outcome.{Out, Gives, Traps, Lacks, Clashes, and_then, known, turn}
+use Rattle.cal_model.specs.Outcome.{Out, Gives, Traps, Lacks, Clashes, and_then, known}
 use Rattle.cal_model.specs.Env.{Env, look_up}
-use Rattle.cal_model.specs.Expression.{Calls, eval, eval_all, prefixed, applied, of_numbers, of_truths, with_right, chosen, indexed}
+use Rattle.cal_model.specs.Expression.{Calls, eval, prefixed, applied, of_numbers, of_truths, with_right, chosen, indexed}
 use Rattle.expr_lower.specs.Names.{Name, named}
 use Rattle.expr_lower.specs.Truths.{is_truth, is_truth_prefix, is_truth_binary, is_truth_shape, is_truth_list}
 use Rattle.expr_lower.specs.declared.names.ItemList.{ItemList}
@@ -22,8 +22,7 @@ use Rattle.expr_lower.proofs.Listing.{IsList, named_list, item_kind}
 use Rattle.expr_lower.proofs.PartValues.{deep_only}
 use Rattle.expr_lower.proofs.Runs.{follows_more}
 use Rattle.expr_lower.specs.Held.{HoldsName, Holds}
-use Rattle.expr_lower.specs.Callees.{Function, function_named}
-use Rattle.expr_lower.specs.Calling.{GiveKinds}
+use Rattle.expr_lower.specs.Callees.{Function}
 use Rattle.expr_lower.specs.Following.{Follows}
 
 abbrev pub IsTruth : Value → Type 0
@@ -73,7 +72,7 @@ applied_truth o (Truth a) (Num b) left h = tt
 applied_truth o (Truth a) (Items vs) left h = tt
 applied_truth o (Items vs) w left h = tt
 
-after_any : {A : Type 0} (o : Out A) (f : A → ℕ → Out Value) → ((v : A) (m : ℕ) → OnlyTruths (f v m)) → OnlyTruths (and_then o f)
+after_any : (o : Out Value) (f : Value → ℕ → Out Value) → ((v : Value) (m : ℕ) → OnlyTruths (f v m)) → OnlyTruths (and_then o f)
 after_any (Gives v left) f h = h v left
 after_any (Traps c) f h = tt
 after_any Lacks f h = tt
@@ -159,27 +158,17 @@ either_truth : (names : List Name) (tokens : ℕ → List ℤ) (cells : List ℤ
 either_truth names tokens cells env e place at calls left true g h holds = item_truth names tokens cells env e place calls left (list_named names e) refl g holds
 either_truth names tokens cells env e place at calls left false g h holds = deep_truth names tokens cells env (tree.index e place at) calls left (deep_named names (tree.index e place at)) refl h holds
 
-pub truths : (fs : List Function) (calls : Calls) (gives : GiveKinds calls fs) (e : Tree) (names : List Name) (tokens : ℕ → List ℤ) (cells : List ℤ) (env : Env) (left : ℕ) → is_truth fs names e ≡ true → Holds names tokens cells env → OnlyTruths (eval e calls env left)
-truths fs calls gives (tree.truth b at) names tokens cells env left h holds = tt
-truths fs calls gives (tree.variable text at) names tokens cells env left h holds = name_truth names tokens cells env text left (named text names) refl h holds
-truths fs calls gives (tree.paren e at) names tokens cells env left h holds = truths fs calls gives e names tokens cells env left h holds
-truths fs calls gives (tree.if_expr test first other at) names tokens cells env left h holds =
+pub truths : (fs : List Function) (calls : Calls) (e : Tree) (names : List Name) (tokens : ℕ → List ℤ) (cells : List ℤ) (env : Env) (left : ℕ) → is_truth fs names e ≡ true → Holds names tokens cells env → OnlyTruths (eval e calls env left)
+truths fs calls (tree.truth b at) names tokens cells env left h holds = tt
+truths fs calls (tree.variable text at) names tokens cells env left h holds = name_truth names tokens cells env text left (named text names) refl h holds
+truths fs calls (tree.paren e at) names tokens cells env left h holds = truths fs calls e names tokens cells env left h holds
+truths fs calls (tree.if_expr test first other at) names tokens cells env left h holds =
     let parts = and_parts (is_truth fs names first) (is_truth fs names other) h in
     after_any (eval test calls env left) (λ v m. chosen v (λ k. eval first calls env k) (λ k. eval other calls env k) m)
-    (λ v m. chosen_truth v (λ k. eval first calls env k) (λ k. eval other calls env k) m (truths fs calls gives first names tokens cells env m parts.0 holds) (truths fs calls gives other names tokens cells env m parts.1 holds))
-truths fs calls gives (tree.call text args at) names tokens cells env left h holds =
-    after_any (eval_all args calls env left) (λ vs k. turn k (λ j. calls env.globals text vs j)) (λ vs k. turned (function_named text fs) refl h vs k)
-  where
-    given : (f : Function) → function_named text fs ≡ Some f → is_truth_shape (Single f.result) ≡ true → (vs : Values) (k : ℕ) → OnlyTruths (turn k (λ j. calls env.globals text vs j))
-    given f e g vs zero = tt
-    given f e g vs (suc j) = follows_more (calls env.globals text vs j) (λ v m. HasKind (kind_of_type (Single f.result)) v) (λ c. Unit {0}) (λ v m. IsTruth v) (λ c. Unit {0}) (gives text f e env.globals vs j) (λ v m k. kind_truth (Single f.result) v g k) (λ c t. tt)
-
-    turned : (o : Option Function) → function_named text fs ≡ o → elim o [ None ↦ false | Some f ↦ is_truth_shape (Single f.result) ] ≡ true → (vs : Values) (k : ℕ) → OnlyTruths (turn k (λ j. calls env.globals text vs j))
-    turned None e g vs k = cc
-    turned (Some f) e g vs k = given f e g vs k
-truths fs calls gives (tree.index e place at) names tokens cells env left h holds = either_truth names tokens cells env e place at calls left (is_truth_list (list_named names e)) refl h holds
-truths fs calls gives (tree.prefix o e at) names tokens cells env left h holds =
+    (λ v m. chosen_truth v (λ k. eval first calls env k) (λ k. eval other calls env k) m (truths fs calls first names tokens cells env m parts.0 holds) (truths fs calls other names tokens cells env m parts.1 holds))
+truths fs calls (tree.index e place at) names tokens cells env left h holds = either_truth names tokens cells env e place at calls left (is_truth_list (list_named names e)) refl h holds
+truths fs calls (tree.prefix o e at) names tokens cells env left h holds =
     after_any (eval e calls env left) (λ v m. prefixed o v m) (λ v m. prefix_truth o v m h)
-truths fs calls gives (tree.binary o l r at) names tokens cells env left h holds =
+truths fs calls (tree.binary o l r at) names tokens cells env left h holds =
     after_any (eval l calls env left) (λ v m. with_right o v (λ k. eval r calls env k) m) (λ v m. with_right_truth o v (λ k. eval r calls env k) m h)
-truths fs calls gives other names tokens cells env left h holds = cc
+truths fs calls other names tokens cells env left h holds = cc

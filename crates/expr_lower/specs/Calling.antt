@@ -1,6 +1,7 @@
 -- Routines that do what functions do, and code of expressions that calls them.
 -- Trusted: part of what a promise means.
 use Rattle.std.specs.Prelude.{◌≡◌, ℕ, ◌+◌, ◌<◌, ◌≤◌, ℤ, List, [], ◌∷◌, length, Some, slice_get}
+use Rattle.rvc_base.specs.declared.scalar.Scalar.{Scalar}
 use Rattle.rvc_base.specs.Storing.{IsSize}
 use Rattle.cal_ast.specs.Tree.{Tree}
 use Rattle.cal_model.specs.Value.{Single, Value, Values, Nil, Cons, HasKind, kind_of_scalar, stored}
@@ -58,10 +59,10 @@ HoldArguments xs cells vs = ⊥
 abbrev pub outside : List Var → Env
 outside globals = record { globals = globals; locals = [] }
 
--- The run goes on to a place, with one frame less and with the one number of a value on the stack. It uses only the
--- cells of routines.
-pub record Returns (w : World) (s : State) (back : ℕ) (frames : List ℕ) (v : Value) (left : ℕ) :
-    Type 0 where
+-- The run goes on to a place, with one frame less and with the one number of a value of a type on the stack. It uses
+-- only the cells of routines.
+pub record Returns (w : World) (t : Scalar) (s : State) (back : ℕ) (frames : List ℕ) (v : Value) (left : ℕ) : Type 0 where
+  pub kind : HasKind (kind_of_scalar t) v
   pub number : ℤ
   pub is : flat v ≡ number ∷ []
   pub cells : List ℤ
@@ -79,21 +80,13 @@ pub record Answers (w : World) (globals : List Name) (text : List ℕ) (f : Func
       → w.high ≤ length cells → Holds globals w.tokens cells (outside vars)
       → HoldArguments f.formals cells args
       → Follows (w.calls vars text args left)
-      (Returns w (state routine.start stack (back ∷ frames) cells left) back frames)
+      (Returns w f.result (state routine.start stack (back ∷ frames) cells left) back frames)
       (CutsOff w 0 0 (state routine.start stack (back ∷ frames) cells left))
 
--- what the functions give is of the kinds of their types
-abbrev pub GiveKinds : Calls → List Function → Type 0
-GiveKinds calls fs = (text : List ℕ) (f : Function) → function_named text fs ≡ Some f
-    → (vars : List Var) (args : Values) (left : ℕ)
-    → Follows (calls vars text args left) (λ v k. HasKind (kind_of_scalar f.result) v)
-    (λ cause. Unit {0})
-
 -- each of these functions has a routine in the code
-pub record Serves (w : World) (globals : List Name) (fs : List Function) : Type 0 where
-  pub kinds : GiveKinds w.calls fs
-  pub answers : (text : List ℕ) (f : Function) → function_named text fs ≡ Some f
-      → Answers w globals text f
+abbrev pub Serves : World → List Name → List Function → Type 0
+Serves w globals fs = (text : List ℕ) (f : Function) → function_named text fs ≡ Some f
+    → Answers w globals text f
 
 -- ---- code that calls
 

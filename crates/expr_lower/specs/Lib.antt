@@ -9,6 +9,7 @@ pub mod Linking
 pub mod Fitting
 pub mod Lowered
 pub mod Calling
+pub mod Routining
 pub mod Listed
 pub mod Parted
 pub mod PartView

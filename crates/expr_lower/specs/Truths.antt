@@ -10,7 +10,7 @@ use Rattle.cal_ast.specs.Tree as tree
 use Rattle.cal_ast.specs.Tree.{Tree}
 use Rattle.cal_model.specs.Value.{Shape, Single, Many}
 use Rattle.expr_lower.specs.declared.names.ItemList.{ItemList}
-use Rattle.expr_lower.specs.Callees.{Function, function_named}
+use Rattle.expr_lower.specs.Callees.{Function}
 use Rattle.expr_lower.specs.Names.{Name, named}
 use Rattle.expr_lower.specs.Listed.{list_named}
 use Rattle.expr_lower.specs.Parted.{deep_named}
@@ -50,8 +50,6 @@ abbrev pub is_truth : List Function → List Name → Tree → Bool
 is_truth fs names (tree.truth b at) = true
 is_truth fs names (tree.variable text at) =
     elim (named text names) [ None ↦ false | Some x ↦ is_truth_shape x.shape ]
-is_truth fs names (tree.call text args at) =
-    elim (function_named text fs) [ None ↦ false | Some f ↦ is_truth_shape (Single f.result) ]
 is_truth fs names (tree.paren e at) = is_truth fs names e
 is_truth fs names (tree.if_expr test first other at) = is_truth fs names first && is_truth fs names other
 is_truth fs names (tree.index base place at) = is_truth_item names base place at

@@ -6,7 +6,6 @@ ghost use Rattle.cal_ast.specs.View.{expr_tree};
 ghost use Rattle.expr_lower.specs.Truths.{is_truth, is_truth_binary, is_truth_item, is_truth_list};
 ghost use Rattle.expr_lower.specs.Seen.{called, seen};
 
-use crate::callees::function_named;
 use crate::names::{ItemList, list_named, one_named};
 use crate::parts::deep_item_named;
 use crate::scope::Scope;
@@ -21,7 +20,7 @@ pub(crate) fn is_truth(scope: &Scope, e: &Expr) -> bool
         ExprForm::Number(_) => false,
         ExprForm::Bool(_) => true,
         ExprForm::Name(text) => is_truth_name(scope, text.as_str()),
-        ExprForm::Call { name, args: _ } => is_truth_call(scope, name.as_str()),
+        ExprForm::Call { name: _, args: _ } => false,
         ExprForm::Paren(inner) => is_truth(scope, inner),
         ExprForm::If { test: _, yes, no } => is_truth(scope, yes) && is_truth(scope, no),
         ExprForm::List(_) => false,
@@ -33,16 +32,6 @@ pub(crate) fn is_truth(scope: &Scope, e: &Expr) -> bool
             left: _,
             right: _,
         } => is_truth_binary(*op),
-    }
-}
-
-/// Whether a function gives truth values.
-fn is_truth_call(scope: &Scope, text: &str) -> bool
-    ensures { result ≡ is_truth (called scope.now) (seen scope.now) (tree.call text.now tree.nil 0) }
-{
-    match function_named(scope.callees, text) {
-        Some(callee) => matches!(callee.result, Scalar::Bool),
-        None => false,
     }
 }
 
