@@ -122,7 +122,7 @@ put_all w frames (x ∷ xs) c (Cons v vs) base stack top cells left (at, row) (s
     let i : List Instr = op.Store x.cell (Some x.kind) ∷ [] in
     let s : State = state base top frames cells left in
     let later : ArePut w xs (c + 1) vs s (base + length (formal_stores xs)) (z ∷ stack) =
-        put_all w frames xs (c + 1) vs base (z ∷ stack) top cells left row sizes (omega (arith, many)) piled (omega (arith, room)) (stands_left w.code.instrs base (formal_stores xs) i stands) in
+    put_all w frames xs (c + 1) vs base (z ∷ stack) top cells left row sizes (omega (arith, many)) piled (omega (arith, room)) (stands_left w.code.instrs base (formal_stores xs) i stands) in
     let place : ℕ = base + length (formal_stores xs) in
     let t : State = state place (z ∷ stack) frames later.cells left in
     let same = later.written.length_same in
@@ -130,7 +130,7 @@ put_all w frames (x ∷ xs) c (Cons v vs) base stack top cells left (at, row) (s
     let new : List ℤ = slice_set later.cells x.cell (conv x.kind z) in
     let there : slice_get w.code.instrs place ≡ Some (op.Store x.cell (Some x.kind)) = (stands_right w.code.instrs base (formal_stores xs) i stands).0 in
     let goes : step w.code w.tokens t ≡ go_on t (Leaves stack new) =
-        obeys w.code w.tokens t (op.Store x.cell (Some x.kind)) there ∙ ap (go_on t) (store_leaves x.cell (Some x.kind) w.tokens stack later.cells z (slice_index_or later.cells x.cell (pos 0)) old) in
+    obeys w.code w.tokens t (op.Store x.cell (Some x.kind)) there ∙ ap (go_on t) (store_leaves x.cell (Some x.kind) w.tokens stack later.cells z (slice_index_or later.cells x.cell (pos 0)) old) in
     let end : place + 1 ≡ base + length (formal_stores xs ++ i) = omega (arith, length-append (formal_stores xs) i) in
     let one : Written x.cell 1 later.cells new = let e : x.cell + 0 ≡ x.cell = omega arith in subst (λ d. Written x.cell 1 later.cells (slice_set later.cells d (conv x.kind z))) e (set_written later.cells x.cell 1 0 (conv x.kind z) (omega arith)) in
     let wrote : Written c 1 later.cells new = subst (λ d. Written d 1 later.cells new) at one in
@@ -183,17 +183,17 @@ does_call fs globals names w serves env frames text args at base n m code f e nu
         let high = a.formals.high_end in
         let many : count vs ≡ length f.formals = p.as_many ∙ number in
         let put : ArePut w f.formals a.formals.first vs u (base + length code + 1 + length puts) stack =
-            put_all w frames f.formals a.formals.first vs (base + length code + 1) stack p.top p.cells j a.formals.row a.formals.sizes many p.piled (omega (arith, high, some, size))
-            (stands_left w.code.instrs (base + length code + 1) puts (op.Call f.routine ∷ []) here_stands.1) in
+        put_all w frames f.formals a.formals.first vs (base + length code + 1) stack p.top p.cells j a.formals.row a.formals.sizes many p.piled (omega (arith, high, some, size))
+        (stands_left w.code.instrs (base + length code + 1) puts (op.Call f.routine ∷ []) here_stands.1) in
         let place : ℕ = base + length code + 1 + length puts in
         let called : State = state place stack frames put.cells j in
         let inside : State = state a.routine.start stack ((place + 1) ∷ frames) put.cells j in
         let there : slice_get w.code.instrs place ≡ Some (op.Call f.routine) = (stands_right w.code.instrs (base + length code + 1) puts (op.Call f.routine ∷ []) here_stands.1).0 in
         let goes : step w.code w.tokens called ≡ Goes inside =
-            obeys w.code w.tokens called (op.Call f.routine) there
-            ∙ ap (λ (o : Option Routine). elim o [ None ↦ Stuck | Some routine ↦ Goes (record called { place = routine.start; frames = (place + 1) ∷ frames }) ]) a.is in
+        obeys w.code w.tokens called (op.Call f.routine) there
+        ∙ ap (λ (o : Option Routine). elim o [ None ↦ Stuck | Some routine ↦ Goes (record called { place = routine.start; frames = (place + 1) ∷ frames }) ]) a.is in
         let reached : Reaches w.code w.tokens s inside =
-            reaches_join p.reaches (after (obeys w.code w.tokens t op.Turn here_stands.0) (reaches_join put.reaches (after goes here))) in
+        reaches_join p.reaches (after (obeys w.code w.tokens t op.Turn here_stands.0) (reaches_join put.reaches (after goes here))) in
         let kept : Keeps n m w.low w.high cells put.cells = keeps_join p.keeps (routine_keeps a.formals.first (length f.formals) n m w.low w.high p.cells put.cells a.formals.low_end high put.written) in
         let finish : place + 1 ≡ end = omega (arith, length-append code (call_code f), length-append puts (op.Call f.routine ∷ [])) in
         let known = kept.size in

@@ -307,7 +307,7 @@ each_erased : (fs : List Function) (names : List Name) (text : List ℕ) (from t
 each_erased fs names text from to body at None h = refl
 each_erased fs names text from to body at (Some t) h = both_same (out_erased fs names from) (both_same (out_erased fs names to) (h t))
 
-start_erased : (fs : List Function) (names : List Name) (e : Tree) → left_out_start fs (map erase names) e ≡ left_out_start fs names e
+pub start_erased : (fs : List Function) (names : List Name) (e : Tree) → left_out_start fs (map erase names) e ≡ left_out_start fs names e
 start_erased fs names tree.absent = refl
 start_erased fs names (tree.present e) = out_erased fs names e
 start_erased fs names other = refl

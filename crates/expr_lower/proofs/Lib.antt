@@ -47,3 +47,4 @@ pub mod FittedEach
 pub mod Erased
 pub mod Seeing
 pub mod Blocking
+pub mod AddingRoutines

@@ -7,8 +7,8 @@ use Rattle.rvc_base.specs.declared.scalar.Scalar.{Scalar}
 use Rattle.rvc_base.specs.declared.scalar.Scalar.TheVariants as scalar
 use Rattle.rvc_base.specs.Storing.{conv, IsSize}
 use Rattle.rvc_base.specs.Width.{IsNum}
-use Rattle.cal_ast.specs.Tree as tree
 use Rattle.cal_ast.specs.Tree.{Tree}
+use Rattle.cal_ast.specs.View.{optional}
 use Rattle.cal_model.proofs.Numbers.{is-num}
 use Rattle.cal_model.specs.Value.{Shape, Single, Value, HasKind, kind_of_scalar, of_number, scalars_of_type, stored, zero_of}
 use Rattle.cal_model.specs.Outcome.{Out, Gives, Traps, Lacks, Clashes, and_then}
@@ -29,7 +29,7 @@ use Rattle.expr_lower.specs.Held.{AllApart, AreApart, AreBelow, Holds, HoldsName
 use Rattle.expr_lower.specs.Meant.{local}
 use Rattle.expr_lower.specs.Names.{Name, named}
 use Rattle.expr_lower.specs.Placed.{StandsAt, World, state}
-use Rattle.expr_lower.specs.Routining.{IsBody, LocalsSized, no_more_locals, one_more_local, return_code, start_tree}
+use Rattle.expr_lower.specs.Routining.{IsBody, LocalsSized, no_more_locals, one_more_local, return_code}
 use Rattle.expr_lower.specs.Stating.{IsStart, at_zero, at_value}
 use Rattle.expr_lower.proofs.Coded.{does_in, grows, load_leaves}
 use Rattle.expr_lower.proofs.Doing.{Apart, Below, Held, below_on, cut_after, cut_wider, still}
@@ -137,7 +137,7 @@ module _ (fs : List Function) (globals : List Name) (w : World) (serves : Serves
       after {t = state (place + 1) stack open_frames (slice_set cells c (in_type t z)) left} (obeys w.code w.tokens s (op.Store c t) at ∙ ap (go_on s) (store_leaves c t w.tokens stack cells z (slice_index_or cells c (pos 0)) (old_at cells c less))) here
 
   starts : (names : List Name) (env : Env) (t : Scalar) (c base m : ℕ) (start : Option Tree) (a : List Instr) (stack cells : List ℤ) (left : ℕ) → IsSize t
-      → IsStart fs names t c (start_tree start) base (c + 1) a m → StandsAt w.code.instrs base a
+      → IsStart fs names t c (optional start) base (c + 1) a m → StandsAt w.code.instrs base a
       → Below fs globals names w env open_frames c → Apart fs globals names w env open_frames → Held fs globals names w env open_frames cells → m ≤ length cells
       → Follows (first_value (Single t) start w.calls env left) (Starts t c m (state base stack open_frames cells left) (base + length a)) (CutsOff w c m (state base stack open_frames cells left))
   starts names env t c base m None _ stack cells left size (at_zero _ _) stands below apart holds room =

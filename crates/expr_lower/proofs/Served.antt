@@ -1,20 +1,22 @@
 -- The routine of a function does what calling the function does.
-use Rattle.std.proofs.Common.{◌≡◌, ℕ, suc, ◌+◌, ◌<◌, ◌≤◌, inl, inr, ⊎_elim, ℤ, pos, List, [], ◌∷◌, ◌++◌, length, refl, sym, ap, ◌∙◌, subst, Option, None, Some, arith, append_assoc, append-nil}
-use Rattle.std.specs.Prelude.{slice_get, option_map}
+use Rattle.std.proofs.Common.{◌≡◌, ℕ, zero, suc, ◌⊎◌, Bool, true, false, ◌+◌, ◌<◌, ◌≤◌, inl, inr, ⊎_elim, ℤ, pos, List, [], ◌∷◌, ◌++◌, length, refl, sym, ap, ◌∙◌, subst, Option, None, Some, arith, append_assoc, append-nil}
+use Rattle.std.specs.Prelude.{slice_get, option_map, if◌then◌else◌}
+use Rattle.std.specs.Str.{bytes_eq}
+use Rattle.std.proofs.lemmas.Slice.Eq.{bytes_eq-Decides}
 use Rattle.rvc_base.specs.declared.scalar.Scalar.{Scalar}
 use Rattle.rvc_base.specs.Storing.{IsSize}
 use Rattle.cal_model.specs.Value.{Shape, Single, Value, Values, Nil, Cons, HasKind, kind_of_scalar, scalars_of_type, stored}
-use Rattle.cal_model.specs.Outcome.{Out, Gives, and_then, needed}
+use Rattle.cal_model.specs.Outcome.{Out, Gives, Lacks, and_then, needed}
 use Rattle.cal_model.specs.Env.{Var, Env, variable}
 use Rattle.cal_model.specs.Expression.{Calls, eval}
 use Rattle.cal_model.specs.Actor.{Local, Fun}
-use Rattle.cal_model.specs.Call.{answered, arguments, declared}
+use Rattle.cal_model.specs.Call.{answered, arguments, calls_within, declared, fun_named}
 use Rattle.code_ir.specs.declared.instr.Instr.{Instr}
 use Rattle.code_ir.specs.declared.instr.Routine.{Routine}
 use Rattle.code_ir.specs.Code.{Code}
 use Rattle.code_ir.specs.Running.{State}
 use Rattle.expr_lower.specs.declared.callees.Formal.{Formal}
-use Rattle.expr_lower.specs.Callees.{Function}
+use Rattle.expr_lower.specs.Callees.{Function, function_named}
 use Rattle.expr_lower.specs.Calling.{Answers, AreInRow, AreOfSizes, HasFormals, HoldArguments, HoldsArgument, Returns, Serves, outside}
 use Rattle.expr_lower.specs.declared.names.Seat.{Seat}
 use Rattle.expr_lower.specs.declared.names.Seat.TheVariants.{Cell, Tokens}
@@ -24,7 +26,7 @@ use Rattle.expr_lower.specs.Held.{AllApart, AreApart, AreBelow, Holds, Keeps, Se
 use Rattle.expr_lower.specs.Meant.{local}
 use Rattle.expr_lower.specs.Names.{Name}
 use Rattle.expr_lower.specs.Placed.{StandsAt, World, state}
-use Rattle.expr_lower.specs.Routining.{FunSized, IsRoutine, LocalsSized, StandForFormals, behind_formals}
+use Rattle.expr_lower.specs.Routining.{AreRoutines, no_routine, routine_more, FunSized, IsRoutine, LocalsSized, StandForFormals, behind_formals, world_of}
 use Rattle.expr_lower.proofs.Keeping.{below_more}
 use Rattle.expr_lower.proofs.Routined.{Gets, body_grows, body_returns, ends_body, front_apart, front_below, front_holds}
 use Rattle.expr_lower.proofs.Runs.{follows_more}
@@ -69,8 +71,8 @@ enters globals (x ∷ xs) (y ∷ ys) (Cons v vs) names tokens cells locals h hel
     let var : Var = variable x.name x.shape x.changes (stored x.shape v) in
     let value : stored (Single y.kind) v ≡ stored x.shape v = ap (λ (s : Shape). stored s v) (sym h.0) in
     let front : Holds (local x.name y.kind y.cell ∷ names) tokens cells (record { globals = globals; locals = var ∷ locals }) =
-        front_holds tokens names x.name y.kind x.shape x.changes y.cell cells (record { globals = globals; locals = locals }) (stored x.shape v) one.number
-        (subst (λ u. HasKind (kind_of_scalar y.kind) u) value one.kind) (subst (λ u. flat u ≡ one.number ∷ []) value one.is) one.there holds in
+    front_holds tokens names x.name y.kind x.shape x.changes y.cell cells (record { globals = globals; locals = locals }) (stored x.shape v) one.number
+    (subst (λ u. HasKind (kind_of_scalar y.kind) u) value one.kind) (subst (λ u. flat u ≡ one.number ∷ []) value one.is) one.there holds in
     let rest : Enters globals xs ys vs (local x.name y.kind y.cell ∷ names) tokens cells (var ∷ locals) = enters globals xs ys vs (local x.name y.kind y.cell ∷ names) tokens cells (var ∷ locals) h.1 held.1 front in
     record {
       args = rest.args ++ var ∷ [];
@@ -79,10 +81,6 @@ enters globals (x ∷ xs) (y ∷ ys) (Cons v vs) names tokens cells locals h hel
     }
 
 -- ---- the routine
-
--- the world in which the body of a routine runs: only the cells of routines before it are those of routines
-abbrev pub world_of : Code → (ℕ → List ℤ) → Calls → ℕ → ℕ → World
-world_of code tokens calls low high = record { code = code; tokens = tokens; calls = calls; low = low; high = high }
 
 pub answers_one : (code : Code) (tokens : ℕ → List ℤ) (low high : ℕ) (globals : List Name) (fs : List Function) (inner outer : Calls) (f : Fun) (g : Function) (base n m : ℕ) (instrs : List Instr) (r : Routine)
     → IsRoutine globals fs f g base n instrs m → FunSized f → Serves (world_of code tokens inner low n) globals fs → low ≤ n → m ≤ high → AreBelow low globals
@@ -109,10 +107,10 @@ answers_one code tokens low high globals fs inner outer f g base n m instrs r is
         let e : Enters vars f.formals g.formals args globals tokens cells [] = enters vars f.formals g.formals args globals tokens cells [] is.formals held holds in
         let entry : Env = record { globals = vars; locals = e.args ++ [] } in
         let body : Follows (ends_body fs globals w serves back frames f.body f.result f.locals entry left) (Gets w f.result (n + length g.formals) m s back frames) (CutsOff w (n + length g.formals) m s) =
-            body_returns fs globals w serves back frames f.result f.body entry stack cells left sized.result sized.locals is.body stands (inr (omega arith))
-            (formals_below f.formals g.formals n (n + length g.formals) globals is.row (omega arith) (below_more low (n + length g.formals) globals (omega (arith, le)) below), below_more low (n + length g.formals) globals (omega (arith, le)) below)
-            (formals_apart f.formals g.formals n low n globals is.row (omega arith) globals_apart, globals_apart)
-            (e.holds, holds, λ some. omega (arith, room, up, ge)) (omega (arith, room, ge)) in
+        body_returns fs globals w serves back frames f.result f.body entry stack cells left sized.result sized.locals is.body stands (inr (omega arith))
+        (formals_below f.formals g.formals n (n + length g.formals) globals is.row (omega arith) (below_more low (n + length g.formals) globals (omega (arith, le)) below), below_more low (n + length g.formals) globals (omega (arith, le)) below)
+        (formals_apart f.formals g.formals n low n globals is.row (omega arith) globals_apart, globals_apart)
+        (e.holds, holds, λ some. omega (arith, room, up, ge)) (omega (arith, room, ge)) in
         subst (λ (o : Out Value). Follows o (Returns (world_of code tokens outer low high) g.result (state r.start stack (back ∷ frames) cells left) back frames) (CutsOff (world_of code tokens outer low high) 0 0 (state r.start stack (back ∷ frames) cells left))) (sym (same vars args left))
         (subst (λ p. Follows (answered f inner vars args left) (Returns (world_of code tokens outer low high) g.result (state p stack (back ∷ frames) cells left) back frames) (CutsOff (world_of code tokens outer low high) 0 0 (state p stack (back ∷ frames) cells left))) (sym starts)
         (subst (λ (o : Option (List Var)). Follows (and_then (and_then (needed o left) (λ vs k. Gives (record { globals = vars; locals = vs }) k)) (λ entry h. and_then (declared f.locals inner entry h) (λ env i. and_then (eval f.body inner env i) (λ v k. Gives (stored (Single f.result) v) k))))
@@ -143,3 +141,56 @@ answers_one code tokens low high globals fs inner outer f g base n m instrs r is
           size = keeps.size;
           cell = λ c free apart. ⊎_elim (λ (a : c + 1 ≤ low). keeps.cell c (inl (omega (arith, a, le))) (inl a)) (λ (a : high ≤ c). keeps.cell c (inr (omega (arith, a, ge))) (inr (omega (arith, a, ge, up)))) apart;
         }
+
+-- ---- all routines
+
+-- the last of the functions is found if none before it has the name
+named_last : (text : List ℕ) (fs : List Function) (g h : Function) → function_named text (fs ++ g ∷ []) ≡ Some h → (function_named text fs ≡ Some h) ⊎ ((g ≡ h) × (bytes_eq g.text text ≡ true))
+named_last text [] g h e = by (bytes_eq g.text text) refl e
+  where
+    by : (b : Bool) → bytes_eq g.text text ≡ b → (if b then Some g else None) ≡ Some h → (function_named text [] ≡ Some h) ⊎ ((g ≡ h) × (bytes_eq g.text text ≡ true))
+    by true f i = inr (cc, f)
+    by false f i = cc
+named_last text (x ∷ fs) g h e = by (bytes_eq x.text text) e (named_last text fs g h)
+  where
+    by : (b : Bool) → (if b then Some x else function_named text (fs ++ g ∷ [])) ≡ Some h → (function_named text (fs ++ g ∷ []) ≡ Some h → (function_named text fs ≡ Some h) ⊎ ((g ≡ h) × (bytes_eq g.text text ≡ true)))
+        → ((if b then Some x else function_named text fs) ≡ Some h) ⊎ ((g ≡ h) × (bytes_eq g.text text ≡ true))
+    by true i later = inl i
+    by false i later = later i
+
+pub routines_low : {globals : List Name} {whole : Code} {all : List Fun} {low n : ℕ} {fs : List Function} → AreRoutines globals whole all low fs n → low ≤ n
+routines_low no_routine = omega arith
+routines_low (routine_more fs f g r base n m code before is named sized at starts stands) = let h = routines_low before in let u = body_grows is.body in omega (arith, h, u)
+
+-- a routine for a function of which nothing is asked
+answers_none : (code : Code) (tokens : ℕ → List ℤ) (low high : ℕ) (globals : List Name) (fs : List Function) (f : Fun) (g : Function) (base n m : ℕ) (instrs : List Instr) (r : Routine)
+    → IsRoutine globals fs f g base n instrs m → FunSized f → low ≤ n → m ≤ high → slice_get code.routines g.routine ≡ Some r
+    → Answers (world_of code tokens (λ vars text args left. Lacks) low high) globals g.text g
+answers_none code tokens low high globals fs f g base n m instrs r is sized le ge at =
+    let up = body_grows is.body in
+    record {
+      formals = record { first = n; row = is.row; low_end = le; high_end = omega (arith, up, ge); sizes = sizes_of f.formals g.formals is.formals sized.formals };
+      routine = r;
+      is = at;
+      goes = λ vars args stack back frames cells left room holds held. tt;
+    }
+
+module _ (globals : List Name) (whole : Code) (tokens : ℕ → List ℤ) (all : List Fun) (low : ℕ) (below : AreBelow low globals) where
+  same_text : (high : ℕ) (calls : Calls) (text : List ℕ) (g h : Function) → g ≡ h → bytes_eq g.text text ≡ true → Answers (world_of whole tokens calls low high) globals g.text g → Answers (world_of whole tokens calls low high) globals text h
+  same_text high calls text g h e f a =
+      subst (λ (x : Function). Answers (world_of whole tokens calls low high) globals text x) e (subst (λ t. Answers (world_of whole tokens calls low high) globals t g) ((bytes_eq-Decides g.text text).0 f) a)
+
+  pub served_within : (k : ℕ) {fs : List Function} {n : ℕ} (high : ℕ) → AreRoutines globals whole all low fs n → n ≤ high → Serves (world_of whole tokens (calls_within k all) low high) globals fs
+  served_within k high no_routine le text h e = cc
+  served_within zero high (routine_more fs f g r base n m code before is named sized at starts stands) le text h e =
+      let up = body_grows is.body in
+      ⊎_elim (λ (i : function_named text fs ≡ Some h). served_within zero high before (omega (arith, up, le)) text h i)
+      (λ (i : (g ≡ h) × (bytes_eq g.text text ≡ true)). same_text high (calls_within zero all) text g h i.0 i.1 (answers_none whole tokens low high globals fs f g base n m code r is sized (routines_low before) le at))
+      (named_last text fs g h e)
+  served_within (suc k) high (routine_more fs f g r base n m code before is named sized at starts stands) le text h e =
+      let up = body_grows is.body in
+      ⊎_elim (λ (i : function_named text fs ≡ Some h). served_within (suc k) high before (omega (arith, up, le)) text h i)
+      (λ (i : (g ≡ h) × (bytes_eq g.text text ≡ true)). same_text high (calls_within (suc k) all) text g h i.0 i.1
+      (answers_one whole tokens low high globals fs (calls_within k all) (calls_within (suc k) all) f g base n m code r is sized (served_within k n before (omega arith)) (routines_low before) le below at starts stands
+      (λ vars args left. ap (λ (o : Option Fun). elim o [ None ↦ Lacks | Some x ↦ answered x (calls_within k all) vars args left ]) (ap (λ t. fun_named t all) is.text ∙ named))))
+      (named_last text fs g h e)

@@ -25,3 +25,4 @@ pub mod Executing
 pub mod StmtGrowing
 pub mod StmtWords
 pub mod SeenWords
+pub mod RoutineWords

@@ -389,7 +389,7 @@ fn behind(
 }
 
 /// Appends the start of a variable, which is zero or false if none is written.
-fn start(
+pub(crate) fn start(
     scope: &Scope,
     value: &Option<Expr>,
     cell: u32,

@@ -4,7 +4,7 @@ use Rattle.cal_ast.specs.View.{expr_tree}
 use Rattle.std.specs.Prelude.{IfErr, OnOk}
 use Rattle.expr_lower.specs.Growing.{IsFault}
 use Rattle.expr_lower.specs.PartView.{places_of}
-use Rattle.expr_lower.specs.Seen.{seen}
+use Rattle.expr_lower.specs.Seen.{called, seen}
 use Rattle.expr_lower.proofs.Adding.{places_number}
 use Rattle.expr_lower.proofs.AddingStmts.{items_adds, items_differ, items_fit}
 use Rattle.expr_lower.proofs.lists.set_items.Goals as goal

@@ -132,7 +132,7 @@ pub block-returns-in-None-clause-ok : goal.block-returns-in-None-clause-ok
 block-returns-in-None-clause-ok t c =
     let size : length c.args.vars.now ≡ 0 = search rules in
     let none : c.args.vars.now ≡ [] = no_items c.args.vars.now size in
-    subst (λ vs. OnOk c.lower_all.result (AddsBlock (seen c.args.scope.now) vs c.args.body.now c.args.draft.now c.lower_all.new.draft)) (sym none)
+    subst (λ vs. OnOk c.lower_all.result (AddsBlock (called c.args.scope.now) (seen c.args.scope.now) vs c.args.body.now c.args.draft.now c.lower_all.new.draft)) (sym none)
     (on_ok_weaker c.lower_all.result
     (same_adds (AreStmts (called c.args.scope.now) (seen c.args.scope.now) (body_of c.args.body.now)) (IsBlock (called c.args.scope.now) (seen c.args.scope.now) tree.nil (body_of c.args.body.now)) c.args.draft.now c.lower_all.new.draft (λ base n m code h. no_more (seen c.args.scope.now) (body_of c.args.body.now) base n m code h))
     c.lower_all.ensures.ok)
@@ -150,7 +150,7 @@ pub variable-returns-clause-whole : goal.variable-returns-clause-whole
 variable-returns-clause-whole t c =
     let v : VarDecl = c.args.first.now in
     let found : single_meant (type_tree v.shape) ≡ Some c.in-Some.kind = sym c.in-Some.ensures in
-    let same : left_out_block (seen c.args.scope.now) (v ∷ c.args.rest.now) c.args.body.now ≡ left_out_block (behind v c.in-Some.kind c.in_ok-cell.cell c.args.scope.now) c.args.rest.now c.args.body.now =
+    let same : left_out_block (called c.args.scope.now) (seen c.args.scope.now) (v ∷ c.args.rest.now) c.args.body.now ≡ left_out_block (called c.args.scope.now) (behind v c.in-Some.kind c.in_ok-cell.cell c.args.scope.now) c.args.rest.now c.args.body.now =
     variable_open (called c.args.scope.now) (seen c.args.scope.now) (type_tree v.shape) (optional_expr v.start) (listed (map var_tree c.args.rest.now)) (body_of c.args.body.now) (string_bytes v.name.text) v.name.at v.at c.in_ok-cell.cell c.in-Some.kind v.changes found c.in_ok-start.ensures.whole in
     subst (λ o. OnOk c.behind.result (o ≡ None)) (sym same) c.behind.ensures.whole
 
@@ -158,6 +158,6 @@ pub variable-returns-clause-fault : goal.variable-returns-clause-fault
 variable-returns-clause-fault t c =
     let v : VarDecl = c.args.first.now in
     let found : single_meant (type_tree v.shape) ≡ Some c.in-Some.kind = sym c.in-Some.ensures in
-    let same : left_out_block (seen c.args.scope.now) (v ∷ c.args.rest.now) c.args.body.now ≡ left_out_block (behind v c.in-Some.kind c.in_ok-cell.cell c.args.scope.now) c.args.rest.now c.args.body.now =
+    let same : left_out_block (called c.args.scope.now) (seen c.args.scope.now) (v ∷ c.args.rest.now) c.args.body.now ≡ left_out_block (called c.args.scope.now) (behind v c.in-Some.kind c.in_ok-cell.cell c.args.scope.now) c.args.rest.now c.args.body.now =
     variable_open (called c.args.scope.now) (seen c.args.scope.now) (type_tree v.shape) (optional_expr v.start) (listed (map var_tree c.args.rest.now)) (body_of c.args.body.now) (string_bytes v.name.text) v.name.at v.at c.in_ok-cell.cell c.in-Some.kind v.changes found c.in_ok-start.ensures.whole in
     subst (λ o. IfErr c.behind.result (IsFault o c.behind.new.draft)) (sym same) c.behind.ensures.fault

@@ -3,7 +3,7 @@ use Rattle.std.specs.Prelude.{IfErr, OnOk}
 use Rattle.std.proofs.lemmas.List.{length-map}
 use Rattle.cal_ast.specs.View.{expr_tree}
 use Rattle.expr_lower.specs.Growing.{IsFault}
-use Rattle.expr_lower.specs.Seen.{seen}
+use Rattle.expr_lower.specs.Seen.{called, seen}
 use Rattle.expr_lower.proofs.AddingStmts.{many_places}
 use Rattle.expr_lower.proofs.stmts.set.Goals as goal
 
