@@ -12,6 +12,7 @@ pub mod Called
 pub mod GivenKinds
 pub mod Routined
 pub mod Served
+pub mod FittedRoutines
 pub mod Finding
 pub mod Coded
 pub mod Fitted

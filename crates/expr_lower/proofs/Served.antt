@@ -33,7 +33,7 @@ use Rattle.expr_lower.proofs.Runs.{follows_more}
 
 -- ---- formals
 
-formals_below : (xs : List Local) (ys : List Formal) (c n : ℕ) (names : List Name) → AreInRow c ys → c + length ys ≤ n → AreBelow n names → AreBelow n (behind_formals xs ys names)
+pub formals_below : (xs : List Local) (ys : List Formal) (c n : ℕ) (names : List Name) → AreInRow c ys → c + length ys ≤ n → AreBelow n names → AreBelow n (behind_formals xs ys names)
 formals_below [] ys c n names row le below = below
 formals_below (x ∷ xs) [] c n names row le below = below
 formals_below (x ∷ xs) (y ∷ ys) c n names row le below =

@@ -22,6 +22,7 @@ use Rattle.expr_lower.specs.declared.names.Named.{Named}
 use Rattle.expr_lower.specs.Callees.{Function, function_view, functions_view}
 use Rattle.expr_lower.specs.Calling.{AreInRow}
 use Rattle.expr_lower.specs.Coding.{IsCode}
+use Rattle.expr_lower.specs.Fitting.{Fits}
 use Rattle.expr_lower.specs.Growing.{IsFault, left_out_in, ◌or_else◌}
 use Rattle.expr_lower.specs.Listed.{single_of}
 use Rattle.expr_lower.specs.Meant.{local}
@@ -148,3 +149,11 @@ IsWholeFun names callees f = left_out_fun (functions_view callees) (names_view n
 abbrev pub IsFaultOfFun : List Named → List Callee → Fun → Draft → LowerFault → Type 0
 IsFaultOfFun names callees f draft fault =
     IsFault (left_out_fun (functions_view callees) (names_view names) f) draft fault
+
+-- ---- in other code
+
+-- instructions that fit as those of a routine with one result: these, and then the return
+pub record FitsAsRoutine (whole : Code) (callable limit base : ℕ) (code : List Instr) : Type 0 where
+  pub body : List Instr
+  pub is : code ≡ body ++ op.Return ∷ []
+  pub fits : Fits whole callable limit base 0 body 1 (base + length body) 1
