@@ -67,6 +67,7 @@ pub(crate) fn function_for<'a>(
 pub(crate) fn put_call(callee: &Callee, draft: &mut Draft) -> Result<(), LowerFault>
     ensures added { OnOk result (IsPut (call_code (function_view callee.now)) draft.old draft.new) }
     ensures memory { IfErr result (λ fault. fault ≡ Memory) }
+    ensures cells { draft.new.cells ≡ draft.old.cells }
 {
     put(draft, Instr::Turn)?;
     put_formals(&callee.formals, draft)?;
@@ -77,6 +78,7 @@ pub(crate) fn put_call(callee: &Callee, draft: &mut Draft) -> Result<(), LowerFa
 fn put_formals(formals: &[Formal], draft: &mut Draft) -> Result<(), LowerFault>
     ensures added { OnOk result (IsPut (formal_stores formals.now) draft.old draft.new) }
     ensures memory { IfErr result (λ fault. fault ≡ Memory) }
+    ensures cells { draft.new.cells ≡ draft.old.cells }
 {
     let Some((first, rest)) = formals.split_first() else {
         return Ok(());

@@ -37,6 +37,7 @@ pub(crate) fn lower(scope: &Scope, e: &Expr, draft: &mut Draft) -> Result<(), Lo
     ensures ok { OnOk result (Lowers scope.now (expr_tree e.now) draft.old draft.new) }
     ensures whole { OnOk result (IsAll scope.now (expr_tree e.now)) }
     ensures fault { IfErr result (IsWhy scope.now (expr_tree e.now) draft.new) }
+    ensures cells { draft.new.cells ≡ draft.old.cells }
 {
     match &e.form {
         ExprForm::Number(value) => number(*value, draft),
@@ -58,6 +59,7 @@ fn number(value: u128, draft: &mut Draft) -> Result<(), LowerFault>
     ensures ok { (scope : Scope) (at : ℕ)
         → OnOk result (Lowers scope (tree.number value at) draft.old draft.new) }
     ensures memory { IfErr result (λ fault. fault ≡ Memory) }
+    ensures cells { draft.new.cells ≡ draft.old.cells }
 {
     match Num::try_from(value) {
         Ok(value) => put_const(draft, value),
@@ -70,6 +72,7 @@ fn truth(value: bool, draft: &mut Draft) -> Result<(), LowerFault>
     ensures ok { (scope : Scope) (at : ℕ)
         → OnOk result (Lowers scope (tree.truth value at) draft.old draft.new) }
     ensures memory { IfErr result (λ fault. fault ≡ Memory) }
+    ensures cells { draft.new.cells ≡ draft.old.cells }
 {
     if value {
         put_const(draft, 1)
@@ -85,6 +88,7 @@ fn paren(scope: &Scope, inner: &Expr, draft: &mut Draft) -> Result<(), LowerFaul
         → OnOk result (Lowers scope.now (tree.paren (expr_tree inner.now) at) draft.old draft.new) }
     ensures whole { OnOk result (IsAll scope.now (expr_tree inner.now)) }
     ensures fault { IfErr result (IsWhy scope.now (expr_tree inner.now) draft.new) }
+    ensures cells { draft.new.cells ≡ draft.old.cells }
 {
     lower(scope, inner, draft)
 }
@@ -93,6 +97,7 @@ fn paren(scope: &Scope, inner: &Expr, draft: &mut Draft) -> Result<(), LowerFaul
 fn overflow(draft: &mut Draft) -> Result<(), LowerFault>
     ensures added { OnOk result (IsPut one_too_great draft.old draft.new) }
     ensures memory { IfErr result (λ fault. fault ≡ Memory) }
+    ensures cells { draft.new.cells ≡ draft.old.cells }
 {
     put(draft, Instr::Const(Num::MAX))?;
     put(draft, Instr::Const(1))?;
@@ -104,6 +109,7 @@ fn variable(scope: &Scope, text: &str, at: u32, draft: &mut Draft) -> Result<(),
     ensures ok { OnOk result (Lowers scope.now (tree.variable text.now at) draft.old draft.new) }
     ensures whole { OnOk result (IsAll scope.now (tree.variable text.now at)) }
     ensures fault { IfErr result (IsWhy scope.now (tree.variable text.now at) draft.new) }
+    ensures cells { draft.new.cells ≡ draft.old.cells }
 {
     let Some(one) = one_named(scope, text) else {
         return Err(LowerFault::NotLowered { at });
@@ -124,6 +130,7 @@ fn item(
         (Lowers scope.now (index_of base.now place.now at) draft.old draft.new) }
     ensures whole { OnOk result (IsAll scope.now (index_of base.now place.now at)) }
     ensures fault { IfErr result (IsWhy scope.now (index_of base.now place.now at) draft.new) }
+    ensures cells { draft.new.cells ≡ draft.old.cells }
 {
     let Some(list) = list_named(scope, base) else {
         return deep_item(scope, base, place, at, draft);
@@ -146,6 +153,7 @@ fn deep_item(
         (Lowers scope.now (index_of base.now place.now at) draft.old draft.new) }
     ensures whole { OnOk result (IsAll scope.now (index_of base.now place.now at)) }
     ensures fault { IfErr result (IsWhy scope.now (index_of base.now place.now at) draft.new) }
+    ensures cells { draft.new.cells ≡ draft.old.cells }
 {
     let Some(list) = deep_item_named(scope, base) else {
         return Err(LowerFault::NotLowered { at });
@@ -163,6 +171,7 @@ fn row(scope: &Scope, base: &Expr, place: &Expr, draft: &mut Draft) -> Result<()
     ensures whole { OnOk result (AreAllPlaces scope.now (index_of base.now place.now 0)) }
     ensures fault { IfErr result
         (IsWhyPlaces scope.now (index_of base.now place.now 0) draft.new) }
+    ensures cells { draft.new.cells ≡ draft.old.cells }
 {
     let Some(rows) = rows_named(scope, base) else {
         unreachable!();
@@ -179,6 +188,7 @@ fn offset(scope: &Scope, e: &Expr, draft: &mut Draft) -> Result<(), LowerFault>
     ensures ok { OnOk result (Offsets scope.now (expr_tree e.now) draft.old draft.new) }
     ensures whole { OnOk result (AreAllPlaces scope.now (expr_tree e.now)) }
     ensures fault { IfErr result (IsWhyPlaces scope.now (expr_tree e.now) draft.new) }
+    ensures cells { draft.new.cells ≡ draft.old.cells }
 {
     match &e.form {
         ExprForm::Index { base, place } => row(scope, base, place, draft),
@@ -192,6 +202,7 @@ fn whole_offset(draft: &mut Draft) -> Result<(), LowerFault>
     ensures ok { (scope : Scope) (text : List ℕ) (at : ℕ)
         → OnOk result (Offsets scope (tree.variable text at) draft.old draft.new) }
     ensures memory { IfErr result (λ fault. fault ≡ Memory) }
+    ensures cells { draft.new.cells ≡ draft.old.cells }
 {
     put_const(draft, 0)
 }
@@ -203,6 +214,7 @@ fn operation(scope: &Scope, op: PrefixOp, of: &Expr, draft: &mut Draft) -> Resul
         → OnOk result (Lowers scope.now (tree.prefix op (expr_tree of.now) at) draft.old draft.new) }
     ensures whole { OnOk result (IsAll scope.now (expr_tree of.now)) }
     ensures fault { IfErr result (IsWhy scope.now (expr_tree of.now) draft.new) }
+    ensures cells { draft.new.cells ≡ draft.old.cells }
 {
     if let Some(value) = negative(op, of) {
         return put_const(draft, value);
@@ -226,6 +238,7 @@ fn binary(
     ensures whole { OnOk result (IsAll scope.now (binary_of op left.now right.now at)) }
     ensures fault { IfErr result
         (IsWhy scope.now (binary_of op left.now right.now at) draft.new) }
+    ensures cells { draft.new.cells ≡ draft.old.cells }
 {
     match binary_instr(op) {
         Some(instr) => strict(scope, instr, left, right, draft),
@@ -252,6 +265,7 @@ fn strict(
         (Applies scope.now instr left.now right.now draft.old draft.new) }
     ensures whole { OnOk result (first_left_out scope.now left.now right.now ≡ None) }
     ensures fault { IfErr result (IsFault (first_left_out scope.now left.now right.now) draft.new) }
+    ensures cells { draft.new.cells ≡ draft.old.cells }
 {
     lower(scope, left, draft)?;
     lower(scope, right, draft)?;
@@ -270,6 +284,7 @@ fn both(
     ensures ok { OnOk result (Lowers scope.now (and_of left.now right.now at) draft.old draft.new) }
     ensures whole { OnOk result (IsAll scope.now (and_of left.now right.now at)) }
     ensures fault { IfErr result (IsWhy scope.now (and_of left.now right.now at) draft.new) }
+    ensures cells { draft.new.cells ≡ draft.old.cells }
 {
     if !is_truth(scope, left) {
         return Err(LowerFault::NotLowered { at });
@@ -299,6 +314,7 @@ fn either(
     ensures ok { OnOk result (Lowers scope.now (or_of left.now right.now at) draft.old draft.new) }
     ensures whole { OnOk result (IsAll scope.now (or_of left.now right.now at)) }
     ensures fault { IfErr result (IsWhy scope.now (or_of left.now right.now at) draft.new) }
+    ensures cells { draft.new.cells ≡ draft.old.cells }
 {
     if !is_truth(scope, left) {
         return Err(LowerFault::NotLowered { at });
@@ -329,6 +345,7 @@ fn choice(
         → OnOk result (Lowers scope.now (if_of test.now yes.now no.now at) draft.old draft.new) }
     ensures whole { OnOk result (IsAll scope.now (if_of test.now yes.now no.now 0)) }
     ensures fault { IfErr result (IsWhy scope.now (if_of test.now yes.now no.now 0) draft.new) }
+    ensures cells { draft.new.cells ≡ draft.old.cells }
 {
     let start = draft.instrs.len();
     lower_test(scope, test, draft)?;
@@ -358,6 +375,7 @@ fn call(
     ensures ok { OnOk result (Lowers scope.now (call_of name.now args.now at) draft.old draft.new) }
     ensures whole { OnOk result (IsAll scope.now (call_of name.now args.now at)) }
     ensures fault { IfErr result (IsWhy scope.now (call_of name.now args.now at) draft.new) }
+    ensures cells { draft.new.cells ≡ draft.old.cells }
 {
     let Some(callee) = function_for(scope.callees, name, args) else {
         return Err(LowerFault::NotLowered { at });
@@ -372,6 +390,7 @@ fn arguments(scope: &Scope, args: &[Expr], draft: &mut Draft) -> Result<(), Lowe
     ensures ok { OnOk result (AddsArgs scope.now args.now draft.old draft.new) }
     ensures whole { OnOk result (left_out_of_args scope.now args.now ≡ None) }
     ensures fault { IfErr result (IsFault (left_out_of_args scope.now args.now) draft.new) }
+    ensures cells { draft.new.cells ≡ draft.old.cells }
 {
     let Some((first, rest)) = args.split_first() else {
         return Ok(());
@@ -389,6 +408,7 @@ pub(crate) fn lower_test(scope: &Scope, e: &Expr, draft: &mut Draft) -> Result<(
     ensures ok { OnOk result (Opens scope.now (expr_tree e.now) draft.old draft.new) }
     ensures whole { OnOk result (IsAll scope.now (expr_tree e.now)) }
     ensures fault { IfErr result (IsWhy scope.now (expr_tree e.now) draft.new) }
+    ensures cells { draft.new.cells ≡ draft.old.cells }
 {
     match &e.form {
         ExprForm::Binary {
@@ -412,6 +432,7 @@ fn test_both(
     ensures ok { OnOk result (Opens scope.now (and_of left.now right.now at) draft.old draft.new) }
     ensures whole { OnOk result (IsAll scope.now (and_of left.now right.now at)) }
     ensures fault { IfErr result (IsWhy scope.now (and_of left.now right.now at) draft.new) }
+    ensures cells { draft.new.cells ≡ draft.old.cells }
 {
     if !is_truth(scope, left) {
         return Err(LowerFault::NotLowered { at });
@@ -426,6 +447,7 @@ fn test_value(scope: &Scope, e: &Expr, draft: &mut Draft) -> Result<(), LowerFau
     ensures ok { OnOk result (Opens scope.now (expr_tree e.now) draft.old draft.new) }
     ensures whole { OnOk result (IsAll scope.now (expr_tree e.now)) }
     ensures fault { IfErr result (IsWhy scope.now (expr_tree e.now) draft.new) }
+    ensures cells { draft.new.cells ≡ draft.old.cells }
 {
     lower(scope, e, draft)?;
     put(draft, Instr::Done)
@@ -496,7 +518,8 @@ fn aimed(instr: Instr, out: u32) -> Instr
 /// Appends code that evaluates an expression of a single value and pushes the value.
 ///
 /// `names` holds the names that the expression uses; the first of several that are the same is meant. The code
-/// reads their cells and tokens where they stand, and writes none. What stood in the draft stays.
+/// reads their cells and tokens where they stand, and writes none. What stood in the draft stays, and no cells are
+/// taken, whatever the answer is.
 ///
 /// Code is made for literals, variables of single values, items of named lists at any depth, operators and `if`.
 ///
@@ -512,6 +535,7 @@ pub fn lower_expr(names: &[Named], e: &Expr, draft: &mut Draft) -> Result<(), Lo
     ensures lowered { OnOk result (AddsLowered names.now (expr_tree e.now) draft.old draft.new) }
     ensures whole { OnOk result (IsWhole names.now (expr_tree e.now)) }
     ensures fault { IfErr result (IsFaultOf names.now (expr_tree e.now) draft.new) }
+    ensures cells { draft.new.cells ≡ draft.old.cells }
 {
     lower(&Scope::outermost(names, &[]), e, draft)
 }
@@ -538,6 +562,7 @@ pub fn lower_calling(
         (AddsLoweredWith callees.now names.now (expr_tree e.now) draft.old draft.new) }
     ensures whole { OnOk result (IsWholeWith callees.now names.now (expr_tree e.now)) }
     ensures fault { IfErr result (IsFaultWith callees.now names.now (expr_tree e.now) draft.new) }
+    ensures cells { draft.new.cells ≡ draft.old.cells }
 {
     lower(&Scope::outermost(names, callees), e, draft)
 }
