@@ -1,20 +1,21 @@
 -- Code that was added to a draft, part by part.
-use Rattle.std.proofs.Common.{◌≡◌, ℕ, ◌+◌, List, [], ◌∷◌, ◌++◌, length, map, true, sym, ap, ◌∙◌, subst, Some, arith, append_assoc, length-append}
+use Rattle.std.proofs.Common.{◌≡◌, ℕ, ◌+◌, List, [], ◌∷◌, ◌++◌, length, map, true, sym, ap, ◌∙◌, subst, Some, arith, append_assoc, length-append, refl, suc, append-nil}
 use Rattle.std.specs.Prelude.{pos}
 use Rattle.std.proofs.lemmas.List.{length-map, map-append}
 use Rattle.cal_ast.specs.declared.expr.BinOp.{BinOp}
 use Rattle.cal_ast.specs.declared.expr.BinOp.TheVariants as binaries
 use Rattle.cal_ast.specs.Tree as tree
-use Rattle.cal_ast.specs.Tree.{Tree}
+use Rattle.cal_ast.specs.Tree.{Tree, listed}
 use Rattle.code_ir.specs.declared.instr.Instr.{Instr}
 use Rattle.code_ir.specs.declared.instr.Instr.TheVariants as op
 use Rattle.expr_lower.specs.declared.draft.Draft.{Draft}
 use Rattle.expr_lower.specs.Names.{Name}
-use Rattle.expr_lower.specs.Coding.{IsCode, IsTest, binary, both, either, if_code, tested, both_tested, IsOffset, IsOpenTest, aimed, binary_instr, row, row_instr}
+use Rattle.expr_lower.specs.Coding.{AreArgs, IsCode, IsTest, no_arg, binary, both, either, if_code, tested, both_tested, IsOffset, IsOpenTest, aimed, binary_instr, row, row_instr}
 use Rattle.expr_lower.specs.declared.parts.Rows.{Rows}
-use Rattle.expr_lower.specs.Parted.{rows_named}
+use Rattle.expr_lower.specs.Parted.{number_of, rows_named}
 use Rattle.expr_lower.specs.Truths.{is_truth}
 use Rattle.expr_lower.specs.Linking.{Links}
+use Rattle.expr_lower.specs.Callees.{Function}
 use Rattle.expr_lower.specs.Lowered.{Adds, IsPut}
 use Rattle.expr_lower.proofs.Aimed.{unaimed}
 
@@ -59,47 +60,59 @@ then_adds P Q R old mid new f a b = record {
   has = f (length old.instrs.items) old.cells mid.cells new.cells a.code b.code a.has (part_at Q old mid new a.code a.is b);
 }
 
-pub strict_adds : (names : List Name) (o : BinOp) (i : Instr) (l r : Tree) (at : ℕ) (old d1 d2 new : Draft) → binary_instr o ≡ Some i → Adds (IsCode names l) old d1 → Adds (IsCode names r) d1 d2 → IsPut (i ∷ []) d2 new → Adds (IsCode names (tree.binary o l r at)) old new
-strict_adds names o i l r at old d1 d2 new e a b p = record {
+pub no_items : {X : Type 0} (xs : List X) → length xs ≡ 0 → xs ≡ []
+no_items [] e = refl
+no_items (x ∷ xs) e = absurd (omega (arith, e))
+
+-- as many places as there are expressions
+pub places_number : {X : Type 0} (f : X → Tree) (xs : List X) → length xs ≡ number_of (listed (map f xs))
+places_number f [] = refl
+places_number f (x ∷ xs) = ap suc (places_number f xs)
+
+pub args_none : {fs : List Function} (names : List Name) (draft : Draft) → Adds (AreArgs fs names tree.nil) draft draft
+args_none names draft = record { code = []; is = sym (append-nil draft.instrs.items); routines = refl; has = no_arg (length draft.instrs.items) draft.cells }
+
+pub strict_adds : {fs : List Function} (names : List Name) (o : BinOp) (i : Instr) (l r : Tree) (at : ℕ) (old d1 d2 new : Draft) → binary_instr o ≡ Some i → Adds (IsCode fs names l) old d1 → Adds (IsCode fs names r) d1 d2 → IsPut (i ∷ []) d2 new → Adds (IsCode fs names (tree.binary o l r at)) old new
+strict_adds {fs = fs} names o i l r at old d1 d2 new e a b p = record {
   code = a.code ++ (b.code ++ i ∷ []);
   is = p.is ∙ ap (λ xs. xs ++ i ∷ []) (b.is ∙ ap (λ xs. xs ++ b.code) a.is) ∙ simp append_assoc;
   routines = p.routines ∙ b.routines ∙ a.routines;
-  has = subst (λ m. IsCode names (tree.binary o l r at) (length old.instrs.items) old.cells (a.code ++ (b.code ++ i ∷ [])) m) (sym p.cells)
-      (binary o i l r at (length old.instrs.items) old.cells d1.cells d2.cells a.code b.code e a.has (part_at (IsCode names r) old d1 d2 a.code a.is b));
+  has = subst (λ m. IsCode fs names (tree.binary o l r at) (length old.instrs.items) old.cells (a.code ++ (b.code ++ i ∷ [])) m) (sym p.cells)
+      (binary o i l r at (length old.instrs.items) old.cells d1.cells d2.cells a.code b.code e a.has (part_at (IsCode fs names r) old d1 d2 a.code a.is b));
 }
 
-pub row_adds : (names : List Name) (e place : Tree) (at : ℕ) (r : Rows) (old d1 d2 new : Draft) → rows_named names e ≡ Some r → Adds (IsOffset names e) old d1 → Adds (IsCode names place) d1 d2 → IsPut (row_instr r ∷ []) d2 new → Adds (IsOffset names (tree.index e place at)) old new
-row_adds names e place at r old d1 d2 new g a b p = record {
+pub row_adds : {fs : List Function} (names : List Name) (e place : Tree) (at : ℕ) (r : Rows) (old d1 d2 new : Draft) → rows_named names e ≡ Some r → Adds (IsOffset fs names e) old d1 → Adds (IsCode fs names place) d1 d2 → IsPut (row_instr r ∷ []) d2 new → Adds (IsOffset fs names (tree.index e place at)) old new
+row_adds {fs = fs} names e place at r old d1 d2 new g a b p = record {
   code = a.code ++ (b.code ++ row_instr r ∷ []);
   is = p.is ∙ ap (λ xs. xs ++ row_instr r ∷ []) (b.is ∙ ap (λ xs. xs ++ b.code) a.is) ∙ simp append_assoc;
   routines = p.routines ∙ b.routines ∙ a.routines;
-  has = subst (λ m. IsOffset names (tree.index e place at) (length old.instrs.items) old.cells (a.code ++ (b.code ++ row_instr r ∷ [])) m) (sym p.cells)
-      (row e place at (length old.instrs.items) old.cells d1.cells d2.cells a.code b.code r g a.has (part_at (IsCode names place) old d1 d2 a.code a.is b));
+  has = subst (λ m. IsOffset fs names (tree.index e place at) (length old.instrs.items) old.cells (a.code ++ (b.code ++ row_instr r ∷ [])) m) (sym p.cells)
+      (row e place at (length old.instrs.items) old.cells d1.cells d2.cells a.code b.code r g a.has (part_at (IsCode fs names place) old d1 d2 a.code a.is b));
 }
 
 -- ---- conditions
 
-pub test_coded : (names : List Name) (e : Tree) (base n m : ℕ) (code : List Instr) → IsCode names e base n code m → IsOpenTest names e base n (code ++ op.Done ∷ []) m
-test_coded names e base n m code h out =
-    subst (λ xs. IsTest names e base n out xs m) (sym (map-append (aimed out) code (op.Done ∷ []) ∙ ap (λ xs. xs ++ op.JumpIfNot out ∷ []) (unaimed out h))) (tested e base n m out code h)
+pub test_coded : {fs : List Function} (names : List Name) (e : Tree) (base n m : ℕ) (code : List Instr) → IsCode fs names e base n code m → IsOpenTest fs names e base n (code ++ op.Done ∷ []) m
+test_coded {fs = fs} names e base n m code h out =
+    subst (λ xs. IsTest fs names e base n out xs m) (sym (map-append (aimed out) code (op.Done ∷ []) ∙ ap (λ xs. xs ++ op.JumpIfNot out ∷ []) (unaimed out h))) (tested e base n m out code h)
 
-pub tests_coded : (names : List Name) (l r : Tree) (at : ℕ) → is_truth names l ≡ true → (base n k m : ℕ) (a b : List Instr) → IsOpenTest names l base n a k → IsOpenTest names r (base + length a) k b m → IsOpenTest names (tree.binary binaries.And l r at) base n (a ++ b) m
-tests_coded names l r at e base n k m a b first second out =
-    subst (λ xs. IsTest names (tree.binary binaries.And l r at) base n out xs m) (sym (map-append (aimed out) a b))
+pub tests_coded : {fs : List Function} (names : List Name) (l r : Tree) (at : ℕ) → is_truth fs names l ≡ true → (base n k m : ℕ) (a b : List Instr) → IsOpenTest fs names l base n a k → IsOpenTest fs names r (base + length a) k b m → IsOpenTest fs names (tree.binary binaries.And l r at) base n (a ++ b) m
+tests_coded {fs = fs} names l r at e base n k m a b first second out =
+    subst (λ xs. IsTest fs names (tree.binary binaries.And l r at) base n out xs m) (sym (map-append (aimed out) a b))
     (both_tested l r at base n k m out (map (aimed out) a) (map (aimed out) b) e (first out)
-    (subst (λ x. IsTest names r (base + x) k out (map (aimed out) b) m) (sym (length-map a (aimed out))) (second out)))
+    (subst (λ x. IsTest fs names r (base + x) k out (map (aimed out) b) m) (sym (length-map a (aimed out))) (second out)))
 
 -- ---- forms with jumps
 
 pub length_join : (old mid a : List Instr) → mid ≡ old ++ a → length mid ≡ length old + length a
 length_join old mid a e = ap length e ∙ length-append old a
 
-pub if_adds : (names : List Name) (test first other : Tree) (at : ℕ) (old d1 d2 d3 d4 new : Draft) (i : Instr) (start exits out jump end : ℕ)
-    → Adds (IsOpenTest names test) old d1 → Adds (IsCode names first) d1 d2 → IsPut (i ∷ []) d2 d3 → Adds (IsCode names other) d3 d4
+pub if_adds : {fs : List Function} (names : List Name) (test first other : Tree) (at : ℕ) (old d1 d2 d3 d4 new : Draft) (i : Instr) (start exits out jump end : ℕ)
+    → Adds (IsOpenTest fs names test) old d1 → Adds (IsCode fs names first) d1 d2 → IsPut (i ∷ []) d2 d3 → Adds (IsCode fs names other) d3 d4
     → start ≡ length old.instrs.items → exits ≡ length d1.instrs.items → jump ≡ length d2.instrs.items → out ≡ length d3.instrs.items → end ≡ length d4.instrs.items
     → Links d4.instrs.items new.instrs.items start exits out jump end → new.routines.items ≡ d4.routines.items → new.cells ≡ d4.cells
-    → Adds (IsCode names (tree.if_expr test first other at)) old new
-if_adds names test first other at old d1 d2 d3 d4 new i start exits out jump end t f p o start_is exits_is jump_is out_is end_is links routines cells =
+    → Adds (IsCode fs names (tree.if_expr test first other at)) old new
+if_adds {fs = fs} names test first other at old d1 d2 d3 d4 new i start exits out jump end t f p o start_is exits_is jump_is out_is end_is links routines cells =
     let l1 = length_join old.instrs.items d1.instrs.items t.code t.is in
     let l2 = length_join d1.instrs.items d2.instrs.items f.code f.is in
     let l3 = length_join d2.instrs.items d3.instrs.items (i ∷ []) p.is in
@@ -117,19 +130,19 @@ if_adds names test first other at old d1 d2 d3 d4 new i start exits out jump end
       code = a ++ (f.code ++ op.Jump end ∷ o.code);
       is = links old.instrs.items t.code f.code o.code i (all ∙ flat) start_is m1 m2;
       routines = routines ∙ o.routines ∙ p.routines ∙ f.routines ∙ t.routines;
-      has = subst (λ m. IsCode names (tree.if_expr test first other at) (length old.instrs.items) old.cells (a ++ (f.code ++ op.Jump end ∷ o.code)) m) (sym cells)
+      has = subst (λ m. IsCode fs names (tree.if_expr test first other at) (length old.instrs.items) old.cells (a ++ (f.code ++ op.Jump end ∷ o.code)) m) (sym cells)
           (if_code test first other at (length old.instrs.items) old.cells d1.cells d2.cells d4.cells out end a f.code o.code (t.has out)
-          (subst (λ x. IsCode names first x d1.cells f.code d2.cells) at1 f.has)
-          (subst (λ x. IsCode names other x d2.cells o.code d4.cells) (sym out_is) (subst (λ c. IsCode names other (length d3.instrs.items) c o.code d4.cells) p.cells o.has))
+          (subst (λ x. IsCode fs names first x d1.cells f.code d2.cells) at1 f.has)
+          (subst (λ x. IsCode fs names other x d2.cells o.code d4.cells) (sym out_is) (subst (λ c. IsCode fs names other (length d3.instrs.items) c o.code d4.cells) p.cells o.has))
           e1 e2);
     }
 
-pub both_adds : (names : List Name) (l r : Tree) (at : ℕ) (old d1 d2 d3 d4 new : Draft) (i : Instr) (start exits out jump end : ℕ) → is_truth names l ≡ true
-    → Adds (IsOpenTest names l) old d1 → Adds (IsCode names r) d1 d2 → IsPut (i ∷ []) d2 d3 → IsPut (op.Const (pos 0) ∷ []) d3 d4
+pub both_adds : {fs : List Function} (names : List Name) (l r : Tree) (at : ℕ) (old d1 d2 d3 d4 new : Draft) (i : Instr) (start exits out jump end : ℕ) → is_truth fs names l ≡ true
+    → Adds (IsOpenTest fs names l) old d1 → Adds (IsCode fs names r) d1 d2 → IsPut (i ∷ []) d2 d3 → IsPut (op.Const (pos 0) ∷ []) d3 d4
     → start ≡ length old.instrs.items → exits ≡ length d1.instrs.items → jump ≡ length d2.instrs.items → out ≡ length d3.instrs.items → end ≡ length d4.instrs.items
     → Links d4.instrs.items new.instrs.items start exits out jump end → new.routines.items ≡ d4.routines.items → new.cells ≡ d4.cells
-    → Adds (IsCode names (tree.binary binaries.And l r at)) old new
-both_adds names l r at old d1 d2 d3 d4 new i start exits out jump end is_true t f p o start_is exits_is jump_is out_is end_is links routines cells =
+    → Adds (IsCode fs names (tree.binary binaries.And l r at)) old new
+both_adds {fs = fs} names l r at old d1 d2 d3 d4 new i start exits out jump end is_true t f p o start_is exits_is jump_is out_is end_is links routines cells =
     let l1 = length_join old.instrs.items d1.instrs.items t.code t.is in
     let l2 = length_join d1.instrs.items d2.instrs.items f.code f.is in
     let l3 = length_join d2.instrs.items d3.instrs.items (i ∷ []) p.is in
@@ -147,17 +160,17 @@ both_adds names l r at old d1 d2 d3 d4 new i start exits out jump end is_true t 
       code = a ++ (f.code ++ op.Jump end ∷ op.Const (pos 0) ∷ []);
       is = links old.instrs.items t.code f.code (op.Const (pos 0) ∷ []) i (all ∙ flat) start_is m1 m2;
       routines = routines ∙ o.routines ∙ p.routines ∙ f.routines ∙ t.routines;
-      has = subst (λ m. IsCode names (tree.binary binaries.And l r at) (length old.instrs.items) old.cells (a ++ (f.code ++ op.Jump end ∷ op.Const (pos 0) ∷ [])) m) (sym (cells ∙ o.cells ∙ p.cells))
+      has = subst (λ m. IsCode fs names (tree.binary binaries.And l r at) (length old.instrs.items) old.cells (a ++ (f.code ++ op.Jump end ∷ op.Const (pos 0) ∷ [])) m) (sym (cells ∙ o.cells ∙ p.cells))
           (both l r at (length old.instrs.items) old.cells d1.cells d2.cells out end a f.code is_true (t.has out)
-          (subst (λ x. IsCode names r x d1.cells f.code d2.cells) at1 f.has) e1 e2);
+          (subst (λ x. IsCode fs names r x d1.cells f.code d2.cells) at1 f.has) e1 e2);
     }
 
-pub either_adds : (names : List Name) (l r : Tree) (at : ℕ) (old d1 d2 d3 d4 new : Draft) (i : Instr) (start exits out jump end : ℕ) → is_truth names l ≡ true
-    → Adds (IsOpenTest names l) old d1 → IsPut (op.Const (pos 1) ∷ []) d1 d2 → IsPut (i ∷ []) d2 d3 → Adds (IsCode names r) d3 d4
+pub either_adds : {fs : List Function} (names : List Name) (l r : Tree) (at : ℕ) (old d1 d2 d3 d4 new : Draft) (i : Instr) (start exits out jump end : ℕ) → is_truth fs names l ≡ true
+    → Adds (IsOpenTest fs names l) old d1 → IsPut (op.Const (pos 1) ∷ []) d1 d2 → IsPut (i ∷ []) d2 d3 → Adds (IsCode fs names r) d3 d4
     → start ≡ length old.instrs.items → exits ≡ length d1.instrs.items → jump ≡ length d2.instrs.items → out ≡ length d3.instrs.items → end ≡ length d4.instrs.items
     → Links d4.instrs.items new.instrs.items start exits out jump end → new.routines.items ≡ d4.routines.items → new.cells ≡ d4.cells
-    → Adds (IsCode names (tree.binary binaries.Or l r at)) old new
-either_adds names l r at old d1 d2 d3 d4 new i start exits out jump end is_true t f p o start_is exits_is jump_is out_is end_is links routines cells =
+    → Adds (IsCode fs names (tree.binary binaries.Or l r at)) old new
+either_adds {fs = fs} names l r at old d1 d2 d3 d4 new i start exits out jump end is_true t f p o start_is exits_is jump_is out_is end_is links routines cells =
     let l1 = length_join old.instrs.items d1.instrs.items t.code t.is in
     let l2 = length_join d1.instrs.items d2.instrs.items (op.Const (pos 1) ∷ []) f.is in
     let l3 = length_join d2.instrs.items d3.instrs.items (i ∷ []) p.is in
@@ -174,8 +187,8 @@ either_adds names l r at old d1 d2 d3 d4 new i start exits out jump end is_true 
       code = a ++ (op.Const (pos 1) ∷ op.Jump end ∷ o.code);
       is = links old.instrs.items t.code (op.Const (pos 1) ∷ []) o.code i (all ∙ flat) start_is m1 m2;
       routines = routines ∙ o.routines ∙ p.routines ∙ f.routines ∙ t.routines;
-      has = subst (λ m. IsCode names (tree.binary binaries.Or l r at) (length old.instrs.items) old.cells (a ++ (op.Const (pos 1) ∷ op.Jump end ∷ o.code)) m) (sym cells)
+      has = subst (λ m. IsCode fs names (tree.binary binaries.Or l r at) (length old.instrs.items) old.cells (a ++ (op.Const (pos 1) ∷ op.Jump end ∷ o.code)) m) (sym cells)
           (either l r at (length old.instrs.items) old.cells d1.cells d4.cells out end a o.code is_true (t.has out)
-          (subst (λ x. IsCode names r x d1.cells o.code d4.cells) (sym out_is) (subst (λ c. IsCode names r (length d3.instrs.items) c o.code d4.cells) (p.cells ∙ f.cells) o.has))
+          (subst (λ x. IsCode fs names r x d1.cells o.code d4.cells) (sym out_is) (subst (λ c. IsCode fs names r (length d3.instrs.items) c o.code d4.cells) (p.cells ∙ f.cells) o.has))
           e1 e2);
     }

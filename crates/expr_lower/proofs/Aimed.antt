@@ -13,7 +13,9 @@ use Rattle.expr_lower.specs.declared.names.Seat.{Seat}
 use Rattle.expr_lower.specs.declared.names.Seat.TheVariants.{Cell, Tokens}
 use Rattle.expr_lower.specs.Names.{Name}
 use Rattle.expr_lower.specs.declared.names.ItemList.{ItemList}
-use Rattle.expr_lower.specs.Coding.{IsCode, IsTest, number, too_great, negative, truth, variable, paren, prefix, binary, both, either, if_code, tested, both_tested, aimed, prefix_instr, binary_instr, seat_instr, item, item_instr, IsOffset, deep_item, whole, row, row_instr}
+use Rattle.expr_lower.specs.declared.callees.Formal.{Formal}
+use Rattle.expr_lower.specs.Callees.{Function}
+use Rattle.expr_lower.specs.Coding.{AreArgs, IsCode, IsTest, arg_more, call, call_code, formal_stores, no_arg, number, too_great, negative, truth, variable, paren, prefix, binary, both, either, if_code, tested, both_tested, aimed, prefix_instr, binary_instr, seat_instr, item, item_instr, IsOffset, deep_item, whole, row, row_instr}
 
 seat_unaimed : (out : ℕ) (seat : Seat) → aimed out (seat_instr seat) ≡ seat_instr seat
 seat_unaimed out (Cell c) = refl
@@ -61,8 +63,12 @@ join_unaimed out a b e f = map-append (aimed out) a b ∙ ap (λ xs. xs ++ map (
 cons_unaimed : (out : ℕ) (i : Instr) (b : List Instr) → aimed out i ≡ i → map (aimed out) b ≡ b → map (aimed out) (i ∷ b) ≡ i ∷ b
 cons_unaimed out i b e f = ap (λ x. x ∷ map (aimed out) b) e ∙ ap (λ ys. i ∷ ys) f
 
+stores_unaimed : (out : ℕ) (xs : List Formal) → map (aimed out) (formal_stores xs) ≡ formal_stores xs
+stores_unaimed out [] = refl
+stores_unaimed out (x ∷ xs) = join_unaimed out (formal_stores xs) (op.Store x.cell (Some x.kind) ∷ []) (stores_unaimed out xs) refl
+
 mutual
-  pub unaimed : (out : ℕ) {names : List Name} {e : Tree} {base n m : ℕ} {code : List Instr} → IsCode names e base n code m → map (aimed out) code ≡ code
+  pub unaimed : {fs : List Function} (out : ℕ) {names : List Name} {e : Tree} {base n m : ℕ} {code : List Instr} → IsCode fs names e base n code m → map (aimed out) code ≡ code
   unaimed out (number k at base n h) = refl
   unaimed out (too_great k at base n h) = refl
   unaimed out (negative k at base n place h) = refl
@@ -72,6 +78,8 @@ mutual
   unaimed out (prefix o e at base n m code h) = join_unaimed out code (prefix_instr o ∷ []) (unaimed out h) (cons_unaimed out (prefix_instr o) [] (prefix_unaimed out o) refl)
   unaimed out (binary o i l r at base n k m a b e h g) =
       join_unaimed out a (b ++ i ∷ []) (unaimed out h) (join_unaimed out b (i ∷ []) (unaimed out g) (cons_unaimed out i [] (binary_unaimed out o i e) refl))
+  unaimed out (call text args at base n m code f e h) =
+      join_unaimed out code (call_code f) (unaimed_args out h) (cons_unaimed out op.Turn (formal_stores f.formals ++ op.Call f.routine ∷ []) refl (join_unaimed out (formal_stores f.formals) (op.Call f.routine ∷ []) (stores_unaimed out f.formals) refl))
   unaimed out (item e place at base n m code l g h) = join_unaimed out code (item_instr l ∷ []) (unaimed out h) (cons_unaimed out (item_instr l) [] (item_unaimed out l) refl)
   unaimed out (deep_item e place at base n m code l g h) = join_unaimed out code (item_instr l ∷ []) (unaimed_offset out h) (cons_unaimed out (item_instr l) [] (item_unaimed out l) refl)
   unaimed out (both l r at base n k m far end a b t h g e f) =
@@ -82,11 +90,15 @@ mutual
   unaimed out (if_code test first other at base n k j m else_at end a b c h g d e f) =
       join_unaimed out a (b ++ op.Jump end ∷ c) (unaimed_test out h) (join_unaimed out b (op.Jump end ∷ c) (unaimed out g) (cons_unaimed out (op.Jump end) c refl (unaimed out d)))
 
-  unaimed_offset : (out : ℕ) {names : List Name} {e : Tree} {base n m : ℕ} {code : List Instr} → IsOffset names e base n code m → map (aimed out) code ≡ code
+  unaimed_args : {fs : List Function} (out : ℕ) {names : List Name} {es : Tree} {base n m : ℕ} {code : List Instr} → AreArgs fs names es base n code m → map (aimed out) code ≡ code
+  unaimed_args out (no_arg base n) = refl
+  unaimed_args out (arg_more e es base n k m a b h g) = join_unaimed out a b (unaimed out h) (unaimed_args out g)
+
+  unaimed_offset : {fs : List Function} (out : ℕ) {names : List Name} {e : Tree} {base n m : ℕ} {code : List Instr} → IsOffset fs names e base n code m → map (aimed out) code ≡ code
   unaimed_offset out (whole text at base n) = refl
   unaimed_offset out (row e place at base n k m a b r g h d) =
       join_unaimed out a (b ++ row_instr r ∷ []) (unaimed_offset out h) (join_unaimed out b (row_instr r ∷ []) (unaimed out d) refl)
 
-  pub unaimed_test : (out : ℕ) {names : List Name} {e : Tree} {base n far m : ℕ} {code : List Instr} → IsTest names e base n far code m → map (aimed out) code ≡ code
+  pub unaimed_test : {fs : List Function} (out : ℕ) {names : List Name} {e : Tree} {base n far m : ℕ} {code : List Instr} → IsTest fs names e base n far code m → map (aimed out) code ≡ code
   unaimed_test out (tested e base n m far code h) = join_unaimed out code (op.JumpIfNot far ∷ []) (unaimed out h) refl
   unaimed_test out (both_tested l r at base n k m far a b t h g) = join_unaimed out a b (unaimed_test out h) (unaimed_test out g)

@@ -104,7 +104,7 @@ module _ (outer : List Name) (w : World) (frames : List ℕ) (runs : Runs) where
       let wrote : Written n 1 cells (slice_set cells n z) = let e : n + 0 ≡ n = omega arith in subst (λ d. Written n 1 cells (slice_set cells d z)) e (set_written cells n 1 0 z (omega arith)) in
       written_keeps n 1 n m w.low w.high cells (slice_set cells n z) (omega arith) le wrote
 
-  start_moves : (inner : List Name) (t : Scalar) (n : ℕ) {base m : ℕ} {start : Tree} {a : List Instr} → IsSize t → n + 1 ≤ m → IsStart (inner ++ outer) t n start base (n + 1) a m
+  start_moves : (inner : List Name) (t : Scalar) (n : ℕ) {base m : ℕ} {start : Tree} {a : List Instr} → IsSize t → n + 1 ≤ m → IsStart [] (inner ++ outer) t n start base (n + 1) a m
       → (stack cells : List ℤ) (env : Env) (left : ℕ) → StandsAt w.code.instrs base a → Laid n inner → n + 1 ≤ length cells → Inside inner cells env
       → Follows (first_of (Single t) start w.calls env left) (Started t n m (state base stack frames cells left) (base + length a)) (BreaksOff w (inner ++ outer) n m (state base stack frames cells left))
   start_moves inner t n sized le (at_zero base h) stack cells env left stands laid room holds =
@@ -172,7 +172,7 @@ module _ (outer : List Name) (w : World) (frames : List ℕ) (runs : Runs) where
       (λ d b. b)
 
   pub block_more : (inner : List Name) (M : Env → ℕ → Out Env) (shape start vars : Tree) (text : List ℕ) (place at base n k m : ℕ) (a b : List Instr) (t : Scalar) (changes : Bool)
-      → single_meant shape ≡ Some t → n + 1 ≤ k → k ≤ m → IsStart (inner ++ outer) t n start base (n + 1) a k
+      → single_meant shape ≡ Some t → n + 1 ≤ k → k ≤ m → IsStart [] (inner ++ outer) t n start base (n + 1) a k
       → Performs outer w frames (local text t n ∷ inner) (blocked vars M) (base + length a) k b m
       → Performs outer w frames inner (blocked (tree.cons (tree.var shape (tree.ident text place) start changes at) vars) M) base n (a ++ b) m
   block_more inner M shape start vars text place at base n k m a b t changes meant le ge starts body stack cells env left stands laid apart room holds =

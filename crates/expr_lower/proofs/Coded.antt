@@ -23,10 +23,17 @@ use Rattle.code_ir.proofs.Ends.{one-end}
 use Rattle.expr_lower.specs.declared.names.Seat.{Seat}
 use Rattle.expr_lower.specs.declared.names.Seat.TheVariants.{Cell, Tokens}
 use Rattle.expr_lower.specs.Names.{Name, IsSingle, named}
-use Rattle.expr_lower.specs.Held.{StandAt, HoldsName, AreBelow}
-use Rattle.expr_lower.specs.Placed.{World, state}
-use Rattle.expr_lower.specs.Following.{Follows, Pushes, CutsOff, EndsAs, Evaluates}
-use Rattle.expr_lower.specs.Coding.{IsCode, IsOffset, IsTest, number, too_great, negative, truth, variable, paren, prefix, binary, both, either, if_code, tested, both_tested, seat_instr, item, deep_item, whole, row}
+use Rattle.expr_lower.specs.Held.{AllApart, StandAt, Holds, HoldsName, AreBelow}
+use Rattle.expr_lower.specs.Parted.{number_of}
+use Rattle.expr_lower.specs.Placed.{StandsAt, World, state}
+use Rattle.expr_lower.specs.Following.{Chooses, Follows, Pushes, CutsOff, EndsAs, Evaluates}
+use Rattle.expr_lower.specs.Calling.{EvaluatesWith, HasRoom, Serves, outside}
+use Rattle.expr_lower.specs.Callees.{Function}
+use Rattle.expr_lower.specs.Coding.{AreArgs, IsCode, IsOffset, IsTest, no_arg, arg_more, call, number, too_great, negative, truth, variable, paren, prefix, binary, both, either, if_code, tested, both_tested, seat_instr, item, deep_item, whole, row}
+use Rattle.expr_lower.proofs.Called.{DoesArgs, does_arg_more, does_call, does_no_arg}
+use Rattle.expr_lower.proofs.Finding.{is_found}
+use Rattle.expr_lower.proofs.GivenKinds.{kinds_in}
+use Rattle.expr_lower.proofs.Singles.{singles_in}
 use Rattle.expr_lower.proofs.Items.{does_item}
 use Rattle.expr_lower.proofs.Rowed.{DoesOffset, does_deep, does_row, does_whole}
 use Rattle.expr_lower.proofs.Listing.{single_flat}
@@ -37,7 +44,7 @@ use Rattle.expr_lower.proofs.Doing.{IsStraight, Does, Tests, acts_after, does_co
 -- ---- cells
 
 mutual
-  pub grows : {names : List Name} {e : Tree} {base n m : ℕ} {code : List Instr} → IsCode names e base n code m → n ≤ m
+  pub grows : {fs : List Function} {names : List Name} {e : Tree} {base n m : ℕ} {code : List Instr} → IsCode fs names e base n code m → n ≤ m
   grows (number k at base n h) = omega arith
   grows (too_great k at base n h) = omega arith
   grows (negative k at base n place h) = omega arith
@@ -46,17 +53,22 @@ mutual
   grows (paren e at base n m code h) = grows h
   grows (prefix o e at base n m code h) = grows h
   grows (binary o i l r at base n k m a b e h g) = let x = grows h in let y = grows g in omega (arith, x, y)
+  grows (call text args at base n m code f e h) = grows_args h
   grows (item e place at base n m code l g h) = grows h
   grows (deep_item e place at base n m code l g h) = grows_offset h
   grows (both l r at base n k m far end a b t h g e f) = let x = grows_test h in let y = grows g in omega (arith, x, y)
   grows (either l r at base n k m right end a b t h g e f) = let x = grows_test h in let y = grows g in omega (arith, x, y)
   grows (if_code test first other at base n k j m else_at end a b c h g d e f) = let x = grows_test h in let y = grows g in let z = grows d in omega (arith, x, y, z)
 
-  pub grows_offset : {names : List Name} {e : Tree} {base n m : ℕ} {code : List Instr} → IsOffset names e base n code m → n ≤ m
+  pub grows_args : {fs : List Function} {names : List Name} {es : Tree} {base n m : ℕ} {code : List Instr} → AreArgs fs names es base n code m → n ≤ m
+  grows_args (no_arg base n) = omega arith
+  grows_args (arg_more e es base n k m a b h g) = let x = grows h in let y = grows_args g in omega (arith, x, y)
+
+  pub grows_offset : {fs : List Function} {names : List Name} {e : Tree} {base n m : ℕ} {code : List Instr} → IsOffset fs names e base n code m → n ≤ m
   grows_offset (whole text at base n) = omega arith
   grows_offset (row e place at base n k m a b r g h d) = let x = grows_offset h in let y = grows d in omega (arith, x, y)
 
-  pub grows_test : {names : List Name} {e : Tree} {base n far m : ℕ} {code : List Instr} → IsTest names e base n far code m → n ≤ m
+  pub grows_test : {fs : List Function} {names : List Name} {e : Tree} {base n far m : ℕ} {code : List Instr} → IsTest fs names e base n far code m → n ≤ m
   grows_test (tested e base n m far code h) = grows h
   grows_test (both_tested l r at base n k m far a b t h g) = let x = grows_test h in let y = grows_test g in omega (arith, x, y)
 
@@ -86,21 +98,21 @@ seat_leaves (Tokens port first step) tokens stack cells z h =
 
 -- ---- all forms
 
-module _ (names : List Name) (w : World) (env : Env) (frames : List ℕ) where
-  does_number : (k at base n : ℕ) → is_num (pos k) ≡ true → Does names w env frames (tree.number k at) base n (op.Const (pos k) ∷ []) n
+module _ (fs : List Function) (globals names : List Name) (w : World) (serves : Serves w globals fs) (env : Env) (frames : List ℕ) where
+  does_number : (k at base n : ℕ) → is_num (pos k) ≡ true → Does fs globals names w env frames (tree.number k at) base n (op.Const (pos k) ∷ []) n
   does_number k at base n h stack cells left stands below apart holds =
       let s : State = state base stack frames cells left in
       subst (λ b. Follows (computed (if b then arithmetic.Gives (pos k) else arithmetic.Traps Overflow) left) (Pushes w n n s (base + 1)) (CutsOff w n n s)) (sym h)
-      (does_const names w env frames (pos k) (Num (pos k)) base n stack cells left refl stands)
+      (does_const fs globals names w env frames (pos k) (Num (pos k)) base n stack cells left refl stands)
 
-  does_negative : (k place at base n : ℕ) → is_num (pos k) ≡ true → Does names w env frames (tree.prefix prefixes.Neg (tree.number k place) at) base n (op.Const (neg_ℤ (pos k)) ∷ []) n
+  does_negative : (k place at base n : ℕ) → is_num (pos k) ≡ true → Does fs globals names w env frames (tree.prefix prefixes.Neg (tree.number k place) at) base n (op.Const (neg_ℤ (pos k)) ∷ []) n
   does_negative k place at base n h stack cells left stands below apart holds =
       let s : State = state base stack frames cells left in
       subst (λ b. Follows (and_then (computed (if b then arithmetic.Gives (pos k) else arithmetic.Traps Overflow) left) (λ v m. prefixed prefixes.Neg v m)) (Pushes w n n s (base + 1)) (CutsOff w n n s)) (sym h)
       (subst (λ b. Follows (computed (if b then arithmetic.Gives (neg_ℤ (pos k)) else arithmetic.Traps Overflow) left) (Pushes w n n s (base + 1)) (CutsOff w n n s)) (sym (negative_num k h))
-      (does_const names w env frames (neg_ℤ (pos k)) (Num (neg_ℤ (pos k))) base n stack cells left refl stands))
+      (does_const fs globals names w env frames (neg_ℤ (pos k)) (Num (neg_ℤ (pos k))) base n stack cells left refl stands))
 
-  does_too_great : (k at base n : ℕ) → is_num (pos k) ≡ false → Does names w env frames (tree.number k at) base n (op.Const greatest_num ∷ op.Const (pos 1) ∷ op.Add ∷ []) n
+  does_too_great : (k at base n : ℕ) → is_num (pos k) ≡ false → Does fs globals names w env frames (tree.number k at) base n (op.Const greatest_num ∷ op.Const (pos 1) ∷ op.Add ∷ []) n
   does_too_great k at base n h stack cells left stands below apart holds =
       let s : State = state base stack frames cells left in
       let s1 : State = state (base + 1) (greatest_num ∷ stack) frames cells left in
@@ -116,10 +128,10 @@ module _ (names : List Name) (w : World) (env : Env) (frames : List ℕ) where
       go_two : (s t u : State) → step w.code w.tokens s ≡ Goes t → step w.code w.tokens t ≡ Goes u → Ends w.code w.tokens u (outcome.Trap Overflow) cells → Ends w.code w.tokens s (outcome.Trap Overflow) cells
       go_two s t u e f r = go e (go f r)
 
-  does_variable : (text : List ℕ) (at base n : ℕ) (x : Name) → named text names ≡ Some x → IsSingle x.shape → Does names w env frames (tree.variable text at) base n (seat_instr x.seat ∷ []) n
+  does_variable : (text : List ℕ) (at base n : ℕ) (x : Name) → named text names ≡ Some x → IsSingle x.shape → Does fs globals names w env frames (tree.variable text at) base n (seat_instr x.seat ∷ []) n
   does_variable text at base n x e single stack cells left stands below apart holds =
       let s : State = state base stack frames cells left in
-      let h : HoldsName w.tokens cells env text x = holds text x e in
+      let h : HoldsName w.tokens cells env text x = holds.0 text x e in
       let one = single_flat x.shape h.value single h.of_type in
       let stand : StandAt x.seat w.tokens cells (one.0 ∷ []) = subst (λ zs. StandAt x.seat w.tokens cells zs) one.1 h.stands in
       subst (λ (o : Option Value). Follows (known o left) (Pushes w n n s (base + 1)) (CutsOff w n n s)) (sym h.meant)
@@ -127,29 +139,35 @@ module _ (names : List Name) (w : World) (env : Env) (frames : List ℕ) where
       (record { same = refl; number = one.0; is = one.1; leaves = seat_leaves x.seat w.tokens stack cells one.0 stand }))
 
   mutual
-    pub does : {e : Tree} {base n m : ℕ} {code : List Instr} → IsCode names e base n code m → Does names w env frames e base n code m
-    does (number k at base n h) = does_number k at base n h
-    does (too_great k at base n h) = does_too_great k at base n h
-    does (negative k at base n place h) = does_negative k place at base n h
-    does (truth b at base n) = λ stack cells left stands below apart holds. does_const names w env frames (arithmetic.truth b) (Truth b) base n stack cells left refl stands
-    does (variable text at base n x h s) = does_variable text at base n x h s
-    does (paren e at base n m code h) = does h
-    does (prefix o e at base n m code h) = does_prefix names w env frames o e at base n m code (does h)
-    does (binary o i l r at base n k m a b e h g) = does_binary names w env frames o i l r at base n k m a b e (grows h) (grows g) (does h) (does g)
-    does (item e place at base n m code l g h) = does_item names w env frames e place at base n m code l g (does h)
-    does (deep_item e place at base n m code l g h) = does_deep names w env frames (tree.index e place at) base n m code l g (offsets h)
-    does (both l r at base n k m far end a b t h g e f) = does_both names w env frames l r at base n k m far end a b t (grows_test h) (grows g) e f (tests h) (does g)
-    does (either l r at base n k m right end a b t h g e f) = does_either names w env frames l r at base n k m right end a b t (grows_test h) (grows g) e f (tests h) (does g)
-    does (if_code test first other at base n k j m else_at end a b c h g d e f) =
-        does_if names w env frames test first other at base n k j m else_at end a b c (grows_test h) (grows g) (grows d) e f (tests h) (does g) (does d)
+    pub does_in : {e : Tree} {base n m : ℕ} {code : List Instr} → IsCode fs names e base n code m → Does fs globals names w env frames e base n code m
+    does_in (number k at base n h) = does_number k at base n h
+    does_in (too_great k at base n h) = does_too_great k at base n h
+    does_in (negative k at base n place h) = does_negative k place at base n h
+    does_in (truth b at base n) = λ stack cells left stands below apart holds. does_const fs globals names w env frames (arithmetic.truth b) (Truth b) base n stack cells left refl stands
+    does_in (variable text at base n x h s) = does_variable text at base n x h s
+    does_in (paren e at base n m code h) = does_in h
+    does_in (prefix o e at base n m code h) = does_prefix fs globals names w env frames o e at base n m code (does_in h)
+    does_in (binary o i l r at base n k m a b e h g) = does_binary fs globals names w env frames o i l r at base n k m a b e (grows h) (grows g) (does_in h) (does_in g)
+    does_in (call text args at base n m code f e h) = does_call fs globals names w serves env frames text args at base n m code f (is_found text (number_of args) fs f e).0 (sym (is_found text (number_of args) fs f e).1) (does_args h) (grows_args h)
+    does_in (item e place at base n m code l g h) = does_item fs globals names w env frames e place at base n m code l g (does_in h)
+    does_in (deep_item e place at base n m code l g h) = does_deep fs globals names w env frames (tree.index e place at) base n m code l g (offsets h)
+    does_in (both l r at base n k m far end a b t h g e f) = does_both fs globals names w env frames l r at base n k m far end a b t (grows_test h) (grows g) e f (tests_in h) (does_in g)
+    does_in (either l r at base n k m right end a b t h g e f) = does_either fs globals names w env frames l r at base n k m right end a b t (grows_test h) (grows g) e f (tests_in h) (does_in g)
+    does_in (if_code test first other at base n k j m else_at end a b c h g d e f) =
+        does_if fs globals names w env frames test first other at base n k j m else_at end a b c (grows_test h) (grows g) (grows d) e f (tests_in h) (does_in g) (does_in d)
 
-    offsets : {e : Tree} {base n m : ℕ} {code : List Instr} → IsOffset names e base n code m → DoesOffset names w env frames e base n code m
-    offsets (whole text at base n) = does_whole names w env frames text at base n
-    offsets (row e place at base n k m a b r g h d) = does_row names w env frames e place at base n k m a b r g (grows_offset h) (grows d) (offsets h) (does d)
+    does_args : {es : Tree} {base n m : ℕ} {code : List Instr} → AreArgs fs names es base n code m → DoesArgs fs globals names w env frames es base n code m
+    does_args (no_arg base n) = does_no_arg fs globals names w env frames base n
+    does_args (arg_more e es base n k m a b h g) =
+        does_arg_more fs globals names w env frames e es base n k m a b (grows h) (grows_args g) (does_in h) (λ cells left below apart holds. singles_in fs w.calls names w.tokens cells env (kinds_in fs globals w serves env.globals n cells below.1 apart.1 holds.1 holds.2) holds.0 h left) (does_args g)
 
-    pub tests : {e : Tree} {base n far m : ℕ} {code : List Instr} → IsTest names e base n far code m → Tests names w env frames e base n far code m
-    tests (tested e base n m far code h) = tests_value names w env frames e base n m far code (does h)
-    tests (both_tested l r at base n k m far a b t h g) = tests_both names w env frames l r at base n k m far a b t (grows_test h) (grows_test g) (tests h) (tests g)
+    offsets : {e : Tree} {base n m : ℕ} {code : List Instr} → IsOffset fs names e base n code m → DoesOffset fs globals names w env frames e base n code m
+    offsets (whole text at base n) = does_whole fs globals names w env frames text at base n
+    offsets (row e place at base n k m a b r g h d) = does_row fs globals names w env frames e place at base n k m a b r g (grows_offset h) (grows d) (offsets h) (does_in d)
+
+    pub tests_in : {e : Tree} {base n far m : ℕ} {code : List Instr} → IsTest fs names e base n far code m → Tests fs globals names w env frames e base n far code m
+    tests_in (tested e base n m far code h) = tests_value fs globals names w env frames e base n m far code (does_in h)
+    tests_in (both_tested l r at base n k m far a b t h g) = tests_both fs globals names w env frames l r at base n k m far a b t (grows_test h) (grows_test g) (tests_in h) (tests_in g)
 
 -- ---- and no other end
 
@@ -159,7 +177,49 @@ ends_as w n m s end (Traps c) o last t r = (one-end w.code w.tokens (outcome.Tra
 ends_as w n m s end Lacks o last t r = tt
 ends_as w n m s end Clashes o last t r = tt
 
-pub evaluates : (names : List Name) (e : Tree) (base n m : ℕ) (code : List Instr) → AreBelow n names → IsCode names e base n code m → Evaluates names e base n m code
+pub evaluates_with : {fs : List Function} (names : List Name) (e : Tree) (base n m : ℕ) (code : List Instr) → AreBelow n names → IsCode fs names e base n code m → EvaluatesWith fs names e base n m code
+evaluates_with {fs = fs} names e base n m code below coded = record {
+  goes = λ w globals env stack frames cells left stands serves p.
+      does_in fs globals names w serves env frames coded stack cells left stands (below, p.globals_below) (p.apart, p.globals_apart) (p.holds, p.holds_globals, p.room);
+  only = λ w globals env stack frames cells left stands serves p o last r.
+      ends_as w n m (state base stack frames cells left) (base + length code) (eval e w.calls env left) o last
+      (does_in fs globals names w serves env frames coded stack cells left stands (below, p.globals_below) (p.apart, p.globals_apart) (p.holds, p.holds_globals, p.room)) r;
+}
+
+-- ---- if there are no functions
+
+pub no_serves : (w : World) → Serves w [] []
+no_serves w text f e = cc
+
+-- what there is to say of globals and routines, if there are none
+no_below : (n : ℕ) → AreBelow n []
+no_below n text x e = cc
+
+no_apart : (low high : ℕ) → AllApart low high []
+no_apart low high text x e = cc
+
+no_held : (tokens : ℕ → List ℤ) (cells : List ℤ) (env : Env) → Holds [] tokens cells env
+no_held tokens cells env text x e = cc
+
+no_room : (high : ℕ) (cells : List ℤ) → HasRoom [] high cells
+no_room high cells some = absurd (omega (arith, some))
+
+-- evaluating and the code come to the same from any operands, cells and turns
+abbrev pub DoesAlone : List Name → World → Env → List ℕ → Tree → ℕ → ℕ → List Instr → ℕ → Type 0
+DoesAlone names w env frames e base n code m = (stack cells : List ℤ) (left : ℕ) → StandsAt w.code.instrs base code → AreBelow n names → AllApart w.low w.high names → Holds names w.tokens cells env
+    → Follows (eval e w.calls env left) (Pushes w n m (state base stack frames cells left) (base + length code)) (CutsOff w n m (state base stack frames cells left))
+
+pub does : (names : List Name) (w : World) (env : Env) (frames : List ℕ) {e : Tree} {base n m : ℕ} {code : List Instr} → IsCode [] names e base n code m → DoesAlone names w env frames e base n code m
+does names w env frames {n = n} coded stack cells left stands below apart holds =
+    does_in [] [] names w (no_serves w) env frames coded stack cells left stands (below, no_below n) (apart, no_apart w.low w.high) (holds, no_held w.tokens cells (outside env.globals), no_room w.high cells)
+
+pub tests : (names : List Name) (w : World) (env : Env) (frames : List ℕ) {e : Tree} {base n far m : ℕ} {code : List Instr} → IsTest [] names e base n far code m
+    → (stack cells : List ℤ) (left : ℕ) → StandsAt w.code.instrs base code → AreBelow n names → AllApart w.low w.high names → Holds names w.tokens cells env
+    → Follows (eval e w.calls env left) (Chooses w n m (state base stack frames cells left) (base + length code) far) (CutsOff w n m (state base stack frames cells left))
+tests names w env frames {n = n} coded stack cells left stands below apart holds =
+    tests_in [] [] names w (no_serves w) env frames coded stack cells left stands (below, no_below n) (apart, no_apart w.low w.high) (holds, no_held w.tokens cells (outside env.globals), no_room w.high cells)
+
+pub evaluates : (names : List Name) (e : Tree) (base n m : ℕ) (code : List Instr) → AreBelow n names → IsCode [] names e base n code m → Evaluates names e base n m code
 evaluates names e base n m code below coded = record {
   goes = λ w env stack frames cells left stands apart holds. does names w env frames coded stack cells left stands below apart holds;
   only = λ w env stack frames cells left stands apart holds o last r.

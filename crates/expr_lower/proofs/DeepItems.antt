@@ -34,8 +34,7 @@ use Rattle.expr_lower.specs.Parted.{leaf_in, number_of, sized}
 use Rattle.expr_lower.specs.Placed.{StandsAt, World, state}
 use Rattle.expr_lower.specs.Stating.{IsKept, no_place, place_more, deep_tail, step_code, step_in}
 use Rattle.expr_lower.proofs.Changed.{IsChanged, kinds_with, list_changed, same_standing}
-use Rattle.expr_lower.proofs.Coded.{does, grows, load_leaves}
-use Rattle.expr_lower.proofs.Doing.{Does}
+use Rattle.expr_lower.proofs.Coded.{DoesAlone, does, grows, load_leaves}
 use Rattle.expr_lower.proofs.Effects.{same_number}
 use Rattle.expr_lower.proofs.Keeping.{below_more, flat_length, holds_still, keeps_all, keeps_join, keeps_wider, scalars_same}
 use Rattle.expr_lower.proofs.Listing.{item_kind, item_past, item_within}
@@ -74,7 +73,7 @@ write_cell c tokens stack cells z less = store_leaves c None tokens stack cells 
 own_cell : (n m low high c : ℕ) → AreApart n m low high → n ≤ c → c < m → AreApart c (c + 1) low high
 own_cell n m low high c apart le less = ⊎_elim (λ (a : m ≤ low). inl (omega (arith, a, less))) (λ (a : high ≤ n). inr (omega (arith, a, le))) apart
 
-pub grows_kept : {names : List Name} {c : ℕ} {places : Tree} {base n m : ℕ} {code : List Instr} → IsKept names c places base n code m → n ≤ m
+pub grows_kept : {names : List Name} {c : ℕ} {places : Tree} {base n m : ℕ} {code : List Instr} → IsKept [] names c places base n code m → n ≤ m
 grows_kept (no_place c base n) = omega arith
 grows_kept (place_more place places c base n k m a b g d) = let x = grows g in let y = grows_kept d in omega (arith, x, y)
 
@@ -99,7 +98,7 @@ module _ (names : List Name) (w : World) (env : Env) (frames : List ℕ) where
       let e : base ≡ base + 0 = omega arith in
       record { cells = cells; reaches = subst (λ p. Reaches w.code w.tokens s (state p stack frames cells left)) e here; keeps = keeps_all c m w.low w.high cells; kept = tt; as_many = refl }
 
-  keep_more : (place places : Tree) (c base n k m : ℕ) (a b : List Instr) → c + 1 ≤ n → n ≤ k → k ≤ m → Does names w env frames place base n a k → Keep (c + 1) places (base + length a + 1) b m
+  keep_more : (place places : Tree) (c base n k m : ℕ) (a b : List Instr) → c + 1 ≤ n → n ≤ k → k ≤ m → DoesAlone names w env frames place base n a k → Keep (c + 1) places (base + length a + 1) b m
       → Keep c (tree.cons place places) base (a ++ op.Store c None ∷ b) m
   keep_more place places c base n k m a b room_c le ge first second stack cells left stands below apart free room holds =
       let i : Instr = op.Store c None in
@@ -135,7 +134,7 @@ module _ (names : List Name) (w : World) (env : Env) (frames : List ℕ) where
       (λ d q. record { cells = q.cells; ends = ends_join reached q.ends; keeps = keeps_join kept (keeps_wider c m (omega arith) (omega arith) q.keeps) }))
       (λ d q. record { cells = q.cells; ends = q.ends; keeps = keeps_wider c m up ge q.keeps })
 
-  pub keep : {c : ℕ} {places : Tree} {base n m : ℕ} {code : List Instr} → c + number_of places ≤ n → IsKept names c places base n code m → Keep c places base code m
+  pub keep : {c : ℕ} {places : Tree} {base n m : ℕ} {code : List Instr} → c + number_of places ≤ n → IsKept [] names c places base n code m → Keep c places base code m
   keep room (no_place c base n) = keep_none c base n
   keep room (place_more place places c base n k m a b g d) =
       let x = grows g in keep_more place places c base n k m a b (omega (arith, room)) x (grows_kept d) (does names w env frames g) (keep (omega (arith, room, x)) d)
@@ -367,7 +366,7 @@ module _ (outer : List Name) (w : World) (frames : List ℕ) (runs : Runs) where
 
   pub set_deep_performs : (inner : List Name) (text : List ℕ) (places value : Tree) (place at base n k m c size : ℕ) (a b : List Instr) (x : Name) (t : Scalar)
       → named text (inner ++ outer) ≡ Some x → x.seat ≡ Cell c → sized x.shape ≡ Some size → leaf_in x.shape places ≡ Some t
-      → IsKept (inner ++ outer) n places base (n + number_of places + 1) a k → IsCode (inner ++ outer) value (base + length a) k b m
+      → IsKept [] (inner ++ outer) n places base (n + number_of places + 1) a k → IsCode [] (inner ++ outer) value (base + length a) k b m
       → Performs outer w frames inner (λ env left. exec (tree.assign (tree.ident text place) places value at) w.calls runs env left) base n (a ++ (b ++ deep_tail c size (n + number_of places) t (step_code n x.shape places))) m
   set_deep_performs inner text places value place at base n k m c size a b x t e seat shape leaf first second stack cells env left stands laid apart room holds =
       let names : List Name = inner ++ outer in

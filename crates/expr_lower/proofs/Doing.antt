@@ -23,6 +23,8 @@ use Rattle.expr_lower.specs.Held.{Holds, AreBelow, AllApart, Keeps}
 use Rattle.expr_lower.specs.Placed.{StandsAt, World, state}
 use Rattle.expr_lower.specs.Following.{Follows, Pushes, Chooses, CutsOff}
 use Rattle.expr_lower.specs.Coding.{prefix_instr, binary_instr}
+use Rattle.expr_lower.specs.Callees.{Function}
+use Rattle.expr_lower.specs.Calling.{HasRoom, outside}
 use Rattle.expr_lower.specs.Truths.{is_truth}
 use Rattle.expr_lower.proofs.Runs.{reaches_join, ends_join, obeys, follows_then, follows_more, follows_both, stands_left, stands_right}
 use Rattle.expr_lower.proofs.Keeping.{keeps_all, keeps_wider, keeps_join, holds_still, below_more}
@@ -147,14 +149,35 @@ choice_reaches w n m base near there stack frames before left a k c =
 
 -- ---- forms
 
-module _ (names : List Name) (w : World) (env : Env) (frames : List ℕ) where
+module _ (fs : List Function) (globals names : List Name) (w : World) (env : Env) (frames : List ℕ) where
+  -- the cells of the names and of the globals lie below n, and outside those of routines
+  abbrev pub Below : ℕ → Type 0
+  Below n = AreBelow n names × AreBelow n globals
+
+  abbrev pub Apart : Type 0
+  Apart = AllApart w.low w.high names × AllApart w.low w.high globals
+
+  -- the cells hold what the names mean and what the globals do, and the cells of routines are there
+  abbrev pub Held : List ℤ → Type 0
+  Held cells = Holds names w.tokens cells env × Holds globals w.tokens cells (outside env.globals) × HasRoom fs w.high cells
+
+  pub below_on : (n m : ℕ) → n ≤ m → Below n → Below m
+  below_on n m le below = (below_more n m names le below.0, below_more n m globals le below.1)
+
+  pub still : {n m : ℕ} {before after : List ℤ} → Keeps n m w.low w.high before after → Below n → Apart → Held before → Held after
+  still keeps below apart holds = (
+    holds_still names w.tokens env keeps below.0 apart.0 holds.0,
+    holds_still globals w.tokens (outside env.globals) keeps below.1 apart.1 holds.1,
+    λ some. let h = holds.2 some in let size = keeps.size in omega (arith, h, size),
+  )
+
   -- evaluating and the code come to the same from any operands, cells and turns
   abbrev pub Does : Tree → ℕ → ℕ → List Instr → ℕ → Type 0
-  Does e base n code m = (stack cells : List ℤ) (left : ℕ) → StandsAt w.code.instrs base code → AreBelow n names → AllApart w.low w.high names → Holds names w.tokens cells env
+  Does e base n code m = (stack cells : List ℤ) (left : ℕ) → StandsAt w.code.instrs base code → Below n → Apart → Held cells
       → Follows (eval e w.calls env left) (Pushes w n m (state base stack frames cells left) (base + length code)) (CutsOff w n m (state base stack frames cells left))
 
   abbrev pub Tests : Tree → ℕ → ℕ → ℕ → List Instr → ℕ → Type 0
-  Tests e base n out code m = (stack cells : List ℤ) (left : ℕ) → StandsAt w.code.instrs base code → AreBelow n names → AllApart w.low w.high names → Holds names w.tokens cells env
+  Tests e base n out code m = (stack cells : List ℤ) (left : ℕ) → StandsAt w.code.instrs base code → Below n → Apart → Held cells
       → Follows (eval e w.calls env left) (Chooses w n m (state base stack frames cells left) (base + length code) out) (CutsOff w n m (state base stack frames cells left))
 
   pub at_end : (o : Out Value) (n m p q : ℕ) (s : State) → p ≡ q → Follows o (Pushes w n m s p) (CutsOff w n m s) → Follows o (Pushes w n m s q) (CutsOff w n m s)
@@ -191,7 +214,7 @@ module _ (names : List Name) (w : World) (env : Env) (frames : List ℕ) where
       follows_then (eval l w.calls env left) (λ v j. with_right o v right j) (Pushes w n k s (base + length a)) (CutsOff w n k s) (Pushes w n m s (base + length (a ++ (b ++ i ∷ [])))) (CutsOff w n m s) (first stack cells left (stands_left w.code.instrs base a (b ++ i ∷ []) stands) below apart holds)
       (λ v j p. subst (λ (x : Out Value). Follows x (Pushes w n m s (base + length (a ++ (b ++ i ∷ [])))) (CutsOff w n m s)) (sym (goes_right o i v right j e))
       (follows_then (right j) (λ u h. applied o v u h) (Pushes w k m (state (base + length a) (p.number ∷ stack) frames p.cells j) (base + length a + length b)) (CutsOff w k m (state (base + length a) (p.number ∷ stack) frames p.cells j)) (Pushes w n m s (base + length (a ++ (b ++ i ∷ [])))) (CutsOff w n m s)
-      (second (p.number ∷ stack) p.cells j (stands_left w.code.instrs (base + length a) b (i ∷ []) rest) (below_more n k names le below) apart (holds_still names w.tokens env p.keeps below apart holds))
+      (second (p.number ∷ stack) p.cells j (stands_left w.code.instrs (base + length a) b (i ∷ []) rest) (below_on n k le below) apart (still p.keeps below apart holds))
       (λ u h q. at_end (applied o v u h) n m _ _ s end
       (acts_after w n m base (base + length a + length b) (q.number ∷ p.number ∷ stack) stack frames cells q.cells left h i (applied o v u h) (binary_straight o i e) place
       (reaches_join p.reaches q.reaches) (keeps_join (keeps_wider n m (omega arith) ge p.keeps) (keeps_wider n m le (omega arith) q.keeps))
@@ -239,7 +262,7 @@ module _ (names : List Name) (w : World) (env : Env) (frames : List ℕ) where
   both_choose n k m base place near there stack before cells left now (Items vs) j le ge r keeps c = tt
 
   both_tests : (l r : Tree) (base n k m out : ℕ) (a b : List Instr) (stack cells : List ℤ) (left : ℕ) (v : Value) (j : ℕ) → n ≤ k → k ≤ m
-      → Tests r (base + length a) k out b m → StandsAt w.code.instrs (base + length a) b → AreBelow n names → AllApart w.low w.high names → Holds names w.tokens cells env
+      → Tests r (base + length a) k out b m → StandsAt w.code.instrs (base + length a) b → Below n → Apart → Held cells
       → IsTruth v → Chooses w n k (state base stack frames cells left) (base + length a) out v j
       → Follows (with_right binaries.And v (λ i. eval r w.calls env i) j) (Chooses w n m (state base stack frames cells left) (base + length (a ++ b)) out) (CutsOff w n m (state base stack frames cells left))
   both_tests l r base n k m out a b stack cells left (Num z) j le ge second stands below apart holds t c = absurd t
@@ -258,17 +281,17 @@ module _ (names : List Name) (w : World) (env : Env) (frames : List ℕ) where
       let end : base + length a + length b ≡ base + length (a ++ b) = omega (arith, length-append a b) in
       let t2 : State = state (base + length a) stack frames c.cells j in
       follows_then (eval r w.calls env j) (λ u h. applied binaries.And (Truth true) u h) (Chooses w k m t2 (base + length a + length b) out) (CutsOff w k m t2) (Chooses w n m s (base + length (a ++ b)) out) (CutsOff w n m s)
-      (second stack c.cells j stands (below_more n k names le below) apart (holds_still names w.tokens env c.keeps below apart holds))
+      (second stack c.cells j stands (below_on n k le below) apart (still c.keeps below apart holds))
       (λ u h q. subst (λ x. Follows (applied binaries.And (Truth true) u h) (Chooses w n m s x out) (CutsOff w n m s)) end
       (both_choose n k m base (base + length a) (base + length a + length b) out stack cells c.cells left j u h le ge reached c.keeps q))
       (λ d q. cut_after w n k m s (state (base + length a) stack frames c.cells j) d le ge reached c.keeps q)
 
-  pub tests_both : (l r : Tree) (at base n k m out : ℕ) (a b : List Instr) → is_truth names l ≡ true → n ≤ k → k ≤ m
+  pub tests_both : (l r : Tree) (at base n k m out : ℕ) (a b : List Instr) → is_truth fs names l ≡ true → n ≤ k → k ≤ m
       → Tests l base n out a k → Tests r (base + length a) k out b m → Tests (tree.binary binaries.And l r at) base n out (a ++ b) m
   tests_both l r at base n k m out a b e le ge first second stack cells left stands below apart holds =
       let s : State = state base stack frames cells left in
       follows_then (eval l w.calls env left) (λ v j. with_right binaries.And v (λ i. eval r w.calls env i) j) (λ v j. Chooses w n k s (base + length a) out v j × IsTruth v) (λ c. CutsOff w n k s c × Unit {0}) (Chooses w n m s (base + length (a ++ b)) out) (CutsOff w n m s)
-      (follows_both (eval l w.calls env left) (Chooses w n k s (base + length a) out) (CutsOff w n k s) (λ v j. IsTruth v) (λ c. Unit {0}) (first stack cells left (stands_left w.code.instrs base a b stands) below apart holds) (truths l names w.tokens cells env w.calls left e holds))
+      (follows_both (eval l w.calls env left) (Chooses w n k s (base + length a) out) (CutsOff w n k s) (λ v j. IsTruth v) (λ c. Unit {0}) (first stack cells left (stands_left w.code.instrs base a b stands) below apart holds) (truths fs w.calls l names w.tokens cells env left e holds.0))
       (λ v j p. both_tests l r base n k m out a b stack cells left v j le ge second (stands_right w.code.instrs base a b stands) below apart holds p.1 p.0)
       (λ c t. cut_wider w n k m s c ge t.0)
 
@@ -284,7 +307,7 @@ module _ (names : List Name) (w : World) (env : Env) (frames : List ℕ) where
 
   both_goes : (r : Tree) (base n k m out end : ℕ) (a b : List Instr) (stack cells : List ℤ) (left : ℕ) (v : Value) (j : ℕ) → n ≤ k → k ≤ m → end ≡ out + 1
       → Does r (base + length a) k b m → StandsAt w.code.instrs (base + length a) b → slice_get w.code.instrs (base + length a + length b) ≡ Some (op.Jump end) → slice_get w.code.instrs out ≡ Some (op.Const (pos 0))
-      → AreBelow n names → AllApart w.low w.high names → Holds names w.tokens cells env
+      → Below n → Apart → Held cells
       → IsTruth v → Chooses w n k (state base stack frames cells left) (base + length a) out v j
       → Follows (with_right binaries.And v (λ i. eval r w.calls env i) j) (Pushes w n m (state base stack frames cells left) end) (CutsOff w n m (state base stack frames cells left))
   both_goes r base n k m out end a b stack cells left (Num z) j le ge e second stands jump const below apart holds t c = absurd t
@@ -297,11 +320,11 @@ module _ (names : List Name) (w : World) (env : Env) (frames : List ℕ) where
       let s : State = state base stack frames cells left in
       follows_then (eval r w.calls env j) (λ u h. applied binaries.And (Truth true) u h) (Pushes w n m s (base + length a + length b)) (CutsOff w n m s) (Pushes w n m s end) (CutsOff w n m s)
       (push_after w n k m base (base + length a) (base + length a + length b) stack frames cells c.cells left j (eval r w.calls env j) le ge reached c.keeps
-      (second stack c.cells j stands (below_more n k names le below) apart (holds_still names w.tokens env c.keeps below apart holds)))
+      (second stack c.cells j stands (below_on n k le below) apart (still c.keeps below apart holds)))
       (λ u h p. right_of_both n m base (base + length a + length b) end stack cells left u h jump p)
       (λ d q. q)
 
-  pub does_both : (l r : Tree) (at base n k m out end : ℕ) (a b : List Instr) → is_truth names l ≡ true → n ≤ k → k ≤ m
+  pub does_both : (l r : Tree) (at base n k m out end : ℕ) (a b : List Instr) → is_truth fs names l ≡ true → n ≤ k → k ≤ m
       → out ≡ base + length a + length b + 1 → end ≡ out + 1
       → Tests l base n out a k → Does r (base + length a) k b m → Does (tree.binary binaries.And l r at) base n (a ++ (b ++ op.Jump end ∷ op.Const (pos 0) ∷ [])) m
   does_both l r at base n k m out end a b e le ge out_is end_is first second stack cells left stands below apart holds =
@@ -313,7 +336,7 @@ module _ (names : List Name) (w : World) (env : Env) (frames : List ℕ) where
       let finish : end ≡ base + length (a ++ (b ++ tail)) = omega (arith, length-append a (b ++ tail), length-append b tail) in
       at_end (eval (tree.binary binaries.And l r at) w.calls env left) n m end (base + length (a ++ (b ++ tail))) s finish
       (follows_then (eval l w.calls env left) (λ v j. with_right binaries.And v (λ i. eval r w.calls env i) j) (λ v j. Chooses w n k s (base + length a) out v j × IsTruth v) (λ c. CutsOff w n k s c × Unit {0}) (Pushes w n m s end) (CutsOff w n m s)
-      (follows_both (eval l w.calls env left) (Chooses w n k s (base + length a) out) (CutsOff w n k s) (λ v j. IsTruth v) (λ c. Unit {0}) (first stack cells left (stands_left w.code.instrs base a (b ++ tail) stands) below apart holds) (truths l names w.tokens cells env w.calls left e holds))
+      (follows_both (eval l w.calls env left) (Chooses w n k s (base + length a) out) (CutsOff w n k s) (λ v j. IsTruth v) (λ c. Unit {0}) (first stack cells left (stands_left w.code.instrs base a (b ++ tail) stands) below apart holds) (truths fs w.calls l names w.tokens cells env left e holds.0))
       (λ v j p. both_goes r base n k m out end a b stack cells left v j le ge end_is second (stands_left w.code.instrs (base + length a) b tail rest) last.0 const below apart holds p.1 p.0)
       (λ c t. cut_wider w n k m s c ge t.0))
 
@@ -326,7 +349,7 @@ module _ (names : List Name) (w : World) (env : Env) (frames : List ℕ) where
 
   either_goes : (r : Tree) (base n k m right end : ℕ) (a b : List Instr) (stack cells : List ℤ) (left : ℕ) (v : Value) (j : ℕ) → n ≤ k → k ≤ m → end ≡ right + length b
       → Does r right k b m → StandsAt w.code.instrs right b → slice_get w.code.instrs (base + length a) ≡ Some (op.Const (pos 1)) → slice_get w.code.instrs (base + length a + 1) ≡ Some (op.Jump end)
-      → AreBelow n names → AllApart w.low w.high names → Holds names w.tokens cells env
+      → Below n → Apart → Held cells
       → IsTruth v → Chooses w n k (state base stack frames cells left) (base + length a) right v j
       → Follows (with_right binaries.Or v (λ i. eval r w.calls env i) j) (Pushes w n m (state base stack frames cells left) end) (CutsOff w n m (state base stack frames cells left))
   either_goes r base n k m right end a b stack cells left (Num z) j le ge e second stands const jump below apart holds t c = absurd t
@@ -340,11 +363,11 @@ module _ (names : List Name) (w : World) (env : Env) (frames : List ℕ) where
       follows_then (eval r w.calls env j) (λ u h. applied binaries.Or (Truth false) u h) (Pushes w n m s end) (CutsOff w n m s) (Pushes w n m s end) (CutsOff w n m s)
       (push_after w n k m base right end stack frames cells c.cells left j (eval r w.calls env j) le ge reached c.keeps
       (at_end (eval r w.calls env j) k m (right + length b) end (state right stack frames c.cells j) (sym e)
-      (second stack c.cells j stands (below_more n k names le below) apart (holds_still names w.tokens env c.keeps below apart holds))))
+      (second stack c.cells j stands (below_on n k le below) apart (still c.keeps below apart holds))))
       (λ u h p. right_of_either n m base end stack cells left u h p)
       (λ d q. q)
 
-  pub does_either : (l r : Tree) (at base n k m right end : ℕ) (a b : List Instr) → is_truth names l ≡ true → n ≤ k → k ≤ m
+  pub does_either : (l r : Tree) (at base n k m right end : ℕ) (a b : List Instr) → is_truth fs names l ≡ true → n ≤ k → k ≤ m
       → right ≡ base + length a + 2 → end ≡ right + length b
       → Tests l base n right a k → Does r right k b m → Does (tree.binary binaries.Or l r at) base n (a ++ (op.Const (pos 1) ∷ op.Jump end ∷ b)) m
   does_either l r at base n k m right end a b e le ge right_is end_is first second stack cells left stands below apart holds =
@@ -356,7 +379,7 @@ module _ (names : List Name) (w : World) (env : Env) (frames : List ℕ) where
       let finish : end ≡ base + length (a ++ tail) = omega (arith, length-append a tail) in
       at_end (eval (tree.binary binaries.Or l r at) w.calls env left) n m end (base + length (a ++ tail)) s finish
       (follows_then (eval l w.calls env left) (λ v j. with_right binaries.Or v (λ i. eval r w.calls env i) j) (λ v j. Chooses w n k s (base + length a) right v j × IsTruth v) (λ c. CutsOff w n k s c × Unit {0}) (Pushes w n m s end) (CutsOff w n m s)
-      (follows_both (eval l w.calls env left) (Chooses w n k s (base + length a) right) (CutsOff w n k s) (λ v j. IsTruth v) (λ c. Unit {0}) (first stack cells left (stands_left w.code.instrs base a tail stands) below apart holds) (truths l names w.tokens cells env w.calls left e holds))
+      (follows_both (eval l w.calls env left) (Chooses w n k s (base + length a) right) (CutsOff w n k s) (λ v j. IsTruth v) (λ c. Unit {0}) (first stack cells left (stands_left w.code.instrs base a tail stands) below apart holds) (truths fs w.calls l names w.tokens cells env left e holds.0))
       (λ v j p. either_goes r base n k m right end a b stack cells left v j le ge end_is second last rest.0 rest.1.0 below apart holds p.1 p.0)
       (λ c t. cut_wider w n k m s c ge t.0))
 
@@ -364,7 +387,7 @@ module _ (names : List Name) (w : World) (env : Env) (frames : List ℕ) where
 
   branch_goes : (first other : Tree) (base n k h m else_at end : ℕ) (a b c : List Instr) (stack cells : List ℤ) (left : ℕ) (v : Value) (j : ℕ) → n ≤ k → k ≤ h → h ≤ m → end ≡ else_at + length c
       → Does first (base + length a) k b h → Does other else_at h c m → StandsAt w.code.instrs (base + length a) b → slice_get w.code.instrs (base + length a + length b) ≡ Some (op.Jump end) → StandsAt w.code.instrs else_at c
-      → AreBelow n names → AllApart w.low w.high names → Holds names w.tokens cells env
+      → Below n → Apart → Held cells
       → Chooses w n k (state base stack frames cells left) (base + length a) else_at v j
       → Follows (chosen v (λ i. eval first w.calls env i) (λ i. eval other w.calls env i) j) (Pushes w n m (state base stack frames cells left) end) (CutsOff w n m (state base stack frames cells left))
   branch_goes first other base n k h m else_at end a b c stack cells left (Num z) j le ge more e one two stands jump last below apart holds p = tt
@@ -374,7 +397,7 @@ module _ (names : List Name) (w : World) (env : Env) (frames : List ℕ) where
       let s : State = state base stack frames cells left in
       follows_more (eval first w.calls env j) (Pushes w n h s (base + length a + length b)) (CutsOff w n h s) (Pushes w n m s end) (CutsOff w n m s)
       (push_after w n k h base (base + length a) (base + length a + length b) stack frames cells p.cells left j (eval first w.calls env j) le ge reached p.keeps
-      (one stack p.cells j stands (below_more n k names le below) apart (holds_still names w.tokens env p.keeps below apart holds)))
+      (one stack p.cells j stands (below_on n k le below) apart (still p.keeps below apart holds)))
       (λ u i q. let wide : Pushes w n m s (base + length a + length b) u i = record { number = q.number; is = q.is; cells = q.cells; reaches = q.reaches; keeps = keeps_wider n m (omega arith) more q.keeps } in
       jump_after w n m base (base + length a + length b) end stack frames cells left u i jump wide)
       (λ d q. cut_wider w n h m s d more q)
@@ -384,7 +407,7 @@ module _ (names : List Name) (w : World) (env : Env) (frames : List ℕ) where
       let far : n ≤ h = omega arith in
       push_after w n h m base else_at end stack frames cells p.cells left j (eval other w.calls env j) far more reached wide
       (at_end (eval other w.calls env j) h m (else_at + length c) end (state else_at stack frames p.cells j) (sym e)
-      (two stack p.cells j last (below_more n h names far below) apart (holds_still names w.tokens env p.keeps below apart holds)))
+      (two stack p.cells j last (below_on n h far below) apart (still p.keeps below apart holds)))
 
   pub does_if : (test first other : Tree) (at base n k h m else_at end : ℕ) (a b c : List Instr) → n ≤ k → k ≤ h → h ≤ m
       → else_at ≡ base + length a + length b + 1 → end ≡ else_at + length c

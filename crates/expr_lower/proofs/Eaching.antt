@@ -114,7 +114,7 @@ module _ (outer : List Name) (w : World) (frames : List ℕ) (runs : Runs) where
 
   -- the whole
   pub each_performs : (inner : List Name) (shape from to : Tree) (text : List ℕ) (M : Env → ℕ → Out Env) (base n k j h m turn_at start out : ℕ) (a b c : List Instr) (t : Scalar) → single_meant shape ≡ Some t
-      → IsCode (inner ++ outer) from base (n + 3) a k → IsCode (inner ++ outer) to (base + length a) k b j
+      → IsCode [] (inner ++ outer) from base (n + 3) a k → IsCode [] (inner ++ outer) to (base + length a) k b j
       → turn_at ≡ base + length a + length b + 6 → start ≡ turn_at + 3 → out ≡ start + length c + 9 → j ≤ h → h ≤ m
       → Performs outer w frames (local text t (n + 2) ∷ inner) M start h c m
       → Performs outer w frames inner (λ env left. and_then (type_meant shape w.calls env left) (λ s i. and_then (eval from w.calls env i) (λ x o. and_then (eval to w.calls env o) (λ y q. range_of x y (λ low high.

@@ -11,20 +11,21 @@ use Rattle.expr_lower.specs.declared.names.ListCells.{ListCells}
 use Rattle.expr_lower.specs.declared.names.OneCell.{OneCell}
 use Rattle.expr_lower.specs.declared.names.Seat.{Seat}
 use Rattle.expr_lower.specs.declared.names.Seat.TheVariants.{Cell, Tokens}
-use Rattle.expr_lower.specs.Growing.{is_short, left_out, left_out_name, left_out_places, ◌or_else◌}
+use Rattle.expr_lower.specs.Growing.{is_short, left_out_in, left_out_args, left_out_name, left_out_places, ◌or_else◌}
 use Rattle.expr_lower.specs.Listed.{items_in, items_of, list_named}
 use Rattle.expr_lower.specs.Meant.{local, single_meant}
 use Rattle.expr_lower.specs.Parted.{Part, deep_cells_at, deep_cells_in, deep_cells_named, deep_named, item_in, item_of, part_at, leaf_in, number_of, part_named, singles_in, sized, whole_in, whole_of}
 use Rattle.expr_lower.specs.Names.{Name, named}
 use Rattle.expr_lower.specs.StmtGrowing.{cell_of, cell_named, cells_of, cells_named, left_out_all, left_out_copy, left_out_deep, left_out_each, left_out_items, left_out_list, left_out_whole, left_out_set, left_out_start, left_out_stmt, left_out_vars}
+use Rattle.expr_lower.specs.Callees.{Function, function_for}
 use Rattle.expr_lower.specs.Truths.{is_truth, is_truth_list, is_truth_shape}
 
 -- a seat without its cell
-abbrev erase_seat : Seat → Seat
+abbrev pub erase_seat : Seat → Seat
 erase_seat (Cell c) = Cell 0
 erase_seat (Tokens port first step) = Tokens port first step
 
-abbrev erase : Name → Name
+abbrev pub erase : Name → Name
 erase x = record { text = x.text; shape = x.shape; seat = erase_seat x.seat }
 
 abbrev erased : Option Name → Option Name
@@ -134,22 +135,22 @@ truth_list : (o : Option ItemList) → is_truth_list (erased_list o) ≡ is_trut
 truth_list None = refl
 truth_list (Some l) = refl
 
-truth_erased : (names : List Name) (e : Tree) → is_truth (map erase names) e ≡ is_truth names e
-truth_erased names (tree.truth b at) = refl
-truth_erased names (tree.variable text at) = ap is_truth_name (named_erased text names) ∙ go (named text names)
+truth_erased : (fs : List Function) (names : List Name) (e : Tree) → is_truth fs (map erase names) e ≡ is_truth fs names e
+truth_erased fs names (tree.truth b at) = refl
+truth_erased fs names (tree.variable text at) = ap is_truth_name (named_erased text names) ∙ go (named text names)
   where
     go : (o : Option Name) → is_truth_name (erased o) ≡ is_truth_name o
     go None = refl
     go (Some x) = refl
-truth_erased names (tree.paren e at) = truth_erased names e
-truth_erased names (tree.if_expr test first other at) =
-    ap (λ b. b && is_truth (map erase names) other) (truth_erased names first) ∙ ap (λ b. is_truth names first && b) (truth_erased names other)
-truth_erased names (tree.index base place at) =
+truth_erased fs names (tree.paren e at) = truth_erased fs names e
+truth_erased fs names (tree.if_expr test first other at) =
+    ap (λ b. b && is_truth fs (map erase names) other) (truth_erased fs names first) ∙ ap (λ b. is_truth fs names first && b) (truth_erased fs names other)
+truth_erased fs names (tree.index base place at) =
     ap (λ b. b || is_truth_list (deep_named (map erase names) (tree.index base place at))) (ap is_truth_list (list_erased names base) ∙ truth_list (list_named names base))
     ∙ ap (λ b. is_truth_list (list_named names base) || b) (ap is_truth_list (deep_erased names (tree.index base place at)) ∙ truth_list (deep_named names (tree.index base place at)))
-truth_erased names (tree.prefix o e at) = refl
-truth_erased names (tree.binary o l r at) = refl
-truth_erased names other = refl
+truth_erased fs names (tree.prefix o e at) = refl
+truth_erased fs names (tree.binary o l r at) = refl
+truth_erased fs names other = refl
 
 -- ---- expressions
 
@@ -165,35 +166,44 @@ index_left None None at x y = refl
 index_left None (Some l) at x y = refl
 index_left (Some k) deep at x y = refl
 
+-- .. and of a call: of the arguments, if there are as many as formals
+abbrev left_call : Option Function → ℕ → Option ℕ → Option ℕ
+left_call o at x = elim o [ None ↦ Some at | Some f ↦ x ]
+
 mutual
-  out_erased : (names : List Name) (e : Tree) → left_out (map erase names) e ≡ left_out names e
-  out_erased names (tree.number k at) = refl
-  out_erased names (tree.truth b at) = refl
-  out_erased names (tree.variable text at) = ap (λ o. left_out_name o at) (named_erased text names) ∙ go (named text names)
+  -- which cells names have doesn't matter to what is left out
+  pub out_erased : (fs : List Function) (names : List Name) (e : Tree) → left_out_in fs (map erase names) e ≡ left_out_in fs names e
+  out_erased fs names (tree.number k at) = refl
+  out_erased fs names (tree.truth b at) = refl
+  out_erased fs names (tree.variable text at) = ap (λ o. left_out_name o at) (named_erased text names) ∙ go (named text names)
     where
       go : (o : Option Name) → left_out_name (erased o) at ≡ left_out_name o at
       go None = refl
       go (Some x) = refl
-  out_erased names (tree.paren e at) = out_erased names e
-  out_erased names (tree.if_expr test first other at) = both_same (out_erased names test) (both_same (out_erased names first) (out_erased names other))
-  out_erased names (tree.prefix o e at) = out_erased names e
-  out_erased names (tree.binary o l r at) =
-      ap (λ b. if is_short o && not b then Some at else left_out (map erase names) l or_else left_out (map erase names) r) (truth_erased names l)
-      ∙ ap (λ x. if is_short o && not (is_truth names l) then Some at else x) (both_same (out_erased names l) (out_erased names r))
-  out_erased names (tree.call name args at) = refl
-  out_erased names (tree.list items at) = refl
-  out_erased names (tree.comp item gens at) = refl
-  out_erased names (tree.index base place at) =
-      ap (λ o. left_index o (deep_named (map erase names) (tree.index base place at)) at (left_out (map erase names) place) (left_out_places (map erase names) base)) (list_erased names base)
-      ∙ ap (λ o. left_index (erased_list (list_named names base)) o at (left_out (map erase names) place) (left_out_places (map erase names) base)) (deep_erased names (tree.index base place at))
-      ∙ index_left (list_named names base) (deep_named names (tree.index base place at)) at (left_out (map erase names) place) (left_out_places (map erase names) base)
-      ∙ ap (λ x. left_index (list_named names base) (deep_named names (tree.index base place at)) at x (left_out_places (map erase names) base)) (out_erased names place)
-      ∙ ap (λ y. left_index (list_named names base) (deep_named names (tree.index base place at)) at (left_out names place) y) (places_erased names base)
-  out_erased names other = refl
+  out_erased fs names (tree.paren e at) = out_erased fs names e
+  out_erased fs names (tree.if_expr test first other at) = both_same (out_erased fs names test) (both_same (out_erased fs names first) (out_erased fs names other))
+  out_erased fs names (tree.prefix o e at) = out_erased fs names e
+  out_erased fs names (tree.binary o l r at) =
+      ap (λ b. if is_short o && not b then Some at else left_out_in fs (map erase names) l or_else left_out_in fs (map erase names) r) (truth_erased fs names l)
+      ∙ ap (λ x. if is_short o && not (is_truth fs names l) then Some at else x) (both_same (out_erased fs names l) (out_erased fs names r))
+  out_erased fs names (tree.call text args at) = ap (left_call (function_for text (number_of args) fs) at) (args_erased fs names args)
+  out_erased fs names (tree.list items at) = refl
+  out_erased fs names (tree.comp item gens at) = refl
+  out_erased fs names (tree.index base place at) =
+      ap (λ o. left_index o (deep_named (map erase names) (tree.index base place at)) at (left_out_in fs (map erase names) place) (left_out_places fs (map erase names) base)) (list_erased names base)
+      ∙ ap (λ o. left_index (erased_list (list_named names base)) o at (left_out_in fs (map erase names) place) (left_out_places fs (map erase names) base)) (deep_erased names (tree.index base place at))
+      ∙ index_left (list_named names base) (deep_named names (tree.index base place at)) at (left_out_in fs (map erase names) place) (left_out_places fs (map erase names) base)
+      ∙ ap (λ x. left_index (list_named names base) (deep_named names (tree.index base place at)) at x (left_out_places fs (map erase names) base)) (out_erased fs names place)
+      ∙ ap (λ y. left_index (list_named names base) (deep_named names (tree.index base place at)) at (left_out_in fs names place) y) (places_erased fs names base)
+  out_erased fs names other = refl
 
-  places_erased : (names : List Name) (e : Tree) → left_out_places (map erase names) e ≡ left_out_places names e
-  places_erased names (tree.index base place at) = both_same (places_erased names base) (out_erased names place)
-  places_erased names other = refl
+  args_erased : (fs : List Function) (names : List Name) (es : Tree) → left_out_args fs (map erase names) es ≡ left_out_args fs names es
+  args_erased fs names (tree.cons e es) = both_same (out_erased fs names e) (args_erased fs names es)
+  args_erased fs names other = refl
+
+  places_erased : (fs : List Function) (names : List Name) (e : Tree) → left_out_places fs (map erase names) e ≡ left_out_places fs names e
+  places_erased fs names (tree.index base place at) = both_same (places_erased fs names base) (out_erased fs names place)
+  places_erased fs names other = refl
 
 -- ---- assignments
 
@@ -221,45 +231,45 @@ named_cells names text at x = ap (λ (o : Option ItemList). left_or (cells_in_li
     go (Some l) = cells_left l l.seat at x
 
 -- the places of an item of a list in lists
-each_place_erased : (names : List Name) (places : Tree) → left_out_each (map erase names) places ≡ left_out_each names places
-each_place_erased names (tree.cons place places) = both_same (out_erased names place) (each_place_erased names places)
-each_place_erased names other = refl
+each_place_erased : (fs : List Function) (names : List Name) (places : Tree) → left_out_each fs (map erase names) places ≡ left_out_each fs names places
+each_place_erased fs names (tree.cons place places) = both_same (out_erased fs names place) (each_place_erased fs names places)
+each_place_erased fs names other = refl
 
 -- what is left out of a list that is stored whole
 abbrev for_cells : Option ListCells → (ListCells → Option ℕ) → ℕ → Option ℕ
 for_cells cells f at = elim cells [ None ↦ Some at | Some c ↦ f c ]
 
-items_same : (names : List Name) (c : ListCells) (items : Tree) (at : ℕ) → left_out_items (map erase names) c items at ≡ left_out_items names c items at
-items_same names c items at = ap (λ o. if nat_eq (number_of items) c.size then o else Some at) (each_place_erased names items)
+items_same : (fs : List Function) (names : List Name) (c : ListCells) (items : Tree) (at : ℕ) → left_out_items fs (map erase names) c items at ≡ left_out_items fs names c items at
+items_same fs names c items at = ap (λ o. if nat_eq (number_of items) c.size then o else Some at) (each_place_erased fs names items)
 
 copy_same : (c : ListCells) (list : Option ItemList) (at : ℕ) → left_out_copy c (erased_list list) at ≡ left_out_copy c list at
 copy_same c None at = refl
 copy_same c (Some l) at = refl
 
-whole_same : (names : List Name) (c : ListCells) (value : Tree) (at : ℕ) → left_out_whole (map erase names) c value at ≡ left_out_whole names c value at
-whole_same names c (tree.list items list) at = items_same names c items at
-whole_same names c value at = ap (λ o. left_out_copy c o at) (list_erased names value) ∙ copy_same c (list_named names value) at
+whole_same : (fs : List Function) (names : List Name) (c : ListCells) (value : Tree) (at : ℕ) → left_out_whole fs (map erase names) c value at ≡ left_out_whole fs names c value at
+whole_same fs names c (tree.list items list) at = items_same fs names c items at
+whole_same fs names c value at = ap (λ o. left_out_copy c o at) (list_erased names value) ∙ copy_same c (list_named names value) at
 
 -- which cell it is doesn't matter
-whole_moved : (names : List Name) (d e size : ℕ) (kind : Scalar) (value : Tree) (at : ℕ) → left_out_whole names (record { cell = d; size = size; kind = kind }) value at ≡ left_out_whole names (record { cell = e; size = size; kind = kind }) value at
-whole_moved names d e size kind (tree.list items list) at = refl
-whole_moved names d e size kind value at = copy_moved (list_named names value)
+whole_moved : (fs : List Function) (names : List Name) (d e size : ℕ) (kind : Scalar) (value : Tree) (at : ℕ) → left_out_whole fs names (record { cell = d; size = size; kind = kind }) value at ≡ left_out_whole fs names (record { cell = e; size = size; kind = kind }) value at
+whole_moved fs names d e size kind (tree.list items list) at = refl
+whole_moved fs names d e size kind value at = copy_moved (list_named names value)
   where
     copy_moved : (o : Option ItemList) → left_out_copy (record { cell = d; size = size; kind = kind }) o at ≡ left_out_copy (record { cell = e; size = size; kind = kind }) o at
     copy_moved None = refl
     copy_moved (Some l) = refl
 
-whole_list : (names : List Name) (text : List ℕ) (value : Tree) (at : ℕ) → left_out_list (map erase names) text value at ≡ left_out_list names text value at
-whole_list names text value at =
-    ap (λ (o : Option ItemList). for_cells (cells_in_list o) (λ c. left_out_whole (map erase names) c value at) at) (list_erased names (tree.variable text 0))
+whole_list : (fs : List Function) (names : List Name) (text : List ℕ) (value : Tree) (at : ℕ) → left_out_list fs (map erase names) text value at ≡ left_out_list fs names text value at
+whole_list fs names text value at =
+    ap (λ (o : Option ItemList). for_cells (cells_in_list o) (λ c. left_out_whole fs (map erase names) c value at) at) (list_erased names (tree.variable text 0))
     ∙ go (list_named names (tree.variable text 0))
   where
-    at_seat : (l : ItemList) (seat : Seat) → for_cells (cells_of (record { seat = erase_seat seat; size = l.size; kind = l.kind })) (λ c. left_out_whole (map erase names) c value at) at
-        ≡ for_cells (cells_of (record { seat = seat; size = l.size; kind = l.kind })) (λ c. left_out_whole names c value at) at
-    at_seat l (Cell c) = whole_same names (record { cell = 0; size = l.size; kind = l.kind }) value at ∙ whole_moved names 0 c l.size l.kind value at
+    at_seat : (l : ItemList) (seat : Seat) → for_cells (cells_of (record { seat = erase_seat seat; size = l.size; kind = l.kind })) (λ c. left_out_whole fs (map erase names) c value at) at
+        ≡ for_cells (cells_of (record { seat = seat; size = l.size; kind = l.kind })) (λ c. left_out_whole fs names c value at) at
+    at_seat l (Cell c) = whole_same fs names (record { cell = 0; size = l.size; kind = l.kind }) value at ∙ whole_moved fs names 0 c l.size l.kind value at
     at_seat l (Tokens port first step) = refl
 
-    go : (o : Option ItemList) → for_cells (cells_in_list (erased_list o)) (λ c. left_out_whole (map erase names) c value at) at ≡ for_cells (cells_in_list o) (λ c. left_out_whole names c value at) at
+    go : (o : Option ItemList) → for_cells (cells_in_list (erased_list o)) (λ c. left_out_whole fs (map erase names) c value at) at ≡ for_cells (cells_in_list o) (λ c. left_out_whole fs names c value at) at
     go None = refl
     go (Some l) = at_seat l l.seat
 
@@ -269,76 +279,80 @@ deep_cells_left (Cell c) size None y x = refl
 deep_cells_left (Cell c) size (Some t) y x = refl
 deep_cells_left (Tokens port first step) size leaf y x = refl
 
-item_erased : (names : List Name) (text : List ℕ) (places value : Tree) (at : ℕ) → left_out_deep (map erase names) text places value at ≡ left_out_deep names text places value at
-item_erased names text places value at =
-    ap (λ (o : Option Part). left_or (elim o [ None ↦ None | Some p ↦ deep_cells_in p places ]) at (left_out_each (map erase names) places or_else left_out (map erase names) value)) (part_erased names (tree.variable text 0))
-    ∙ go (part_named names (tree.variable text 0)) (left_out_each (map erase names) places or_else left_out (map erase names) value)
-    ∙ ap (λ x. left_or (deep_cells_named names text places) at x) (both_same (each_place_erased names places) (out_erased names value))
+item_erased : (fs : List Function) (names : List Name) (text : List ℕ) (places value : Tree) (at : ℕ) → left_out_deep fs (map erase names) text places value at ≡ left_out_deep fs names text places value at
+item_erased fs names text places value at =
+    ap (λ (o : Option Part). left_or (elim o [ None ↦ None | Some p ↦ deep_cells_in p places ]) at (left_out_each fs (map erase names) places or_else left_out_in fs (map erase names) value)) (part_erased names (tree.variable text 0))
+    ∙ go (part_named names (tree.variable text 0)) (left_out_each fs (map erase names) places or_else left_out_in fs (map erase names) value)
+    ∙ ap (λ x. left_or (deep_cells_named names text places) at x) (both_same (each_place_erased fs names places) (out_erased fs names value))
   where
     go : (o : Option Part) (x : Option ℕ) → left_or (elim (erased_part o) [ None ↦ None | Some p ↦ deep_cells_in p places ]) at x ≡ left_or (elim o [ None ↦ None | Some p ↦ deep_cells_in p places ]) at x
     go None x = refl
     go (Some p) x = deep_cells_left p.seat p.size (leaf_in p.shape places) (Some at) x
 
-set_erased : (names : List Name) (text : List ℕ) (places value : Tree) (at : ℕ) → left_out_set (map erase names) text places value at ≡ left_out_set names text places value at
-set_erased names text tree.nil value at =
-    ap (λ y. left_else (cell_named (map erase names) text) y (left_out (map erase names) value)) (whole_list names text value at)
-    ∙ named_cell names text (left_out_list names text value at) (left_out (map erase names) value) ∙ ap (λ x. left_else (cell_named names text) (left_out_list names text value at) x) (out_erased names value)
-set_erased names text (tree.cons spot tree.nil) value at =
-    named_cells names text at (left_out (map erase names) spot or_else left_out (map erase names) value)
-    ∙ ap (λ x. left_or (cells_named names text) at x) (both_same (out_erased names spot) (out_erased names value))
-set_erased names text places value at = item_erased names text places value at
+set_erased : (fs : List Function) (names : List Name) (text : List ℕ) (places value : Tree) (at : ℕ) → left_out_set fs (map erase names) text places value at ≡ left_out_set fs names text places value at
+set_erased fs names text tree.nil value at =
+    ap (λ y. left_else (cell_named (map erase names) text) y (left_out_in fs (map erase names) value)) (whole_list fs names text value at)
+    ∙ named_cell names text (left_out_list fs names text value at) (left_out_in fs (map erase names) value) ∙ ap (λ x. left_else (cell_named names text) (left_out_list fs names text value at) x) (out_erased fs names value)
+set_erased fs names text (tree.cons spot tree.nil) value at =
+    named_cells names text at (left_out_in fs (map erase names) spot or_else left_out_in fs (map erase names) value)
+    ∙ ap (λ x. left_or (cells_named names text) at x) (both_same (out_erased fs names spot) (out_erased fs names value))
+set_erased fs names text places value at = item_erased fs names text places value at
 
 -- ---- statements
 
-each_erased : (names : List Name) (text : List ℕ) (from to body : Tree) (at : ℕ) (o : Option Scalar)
-    → ((t : Scalar) → left_out_all (local text t 0 ∷ map erase names) body ≡ left_out_all (local text t 0 ∷ names) body)
-    → left_each o at (λ t. left_out (map erase names) from or_else (left_out (map erase names) to or_else left_out_all (local text t 0 ∷ map erase names) body))
-    ≡ left_each o at (λ t. left_out names from or_else (left_out names to or_else left_out_all (local text t 0 ∷ names) body))
-each_erased names text from to body at None h = refl
-each_erased names text from to body at (Some t) h = both_same (out_erased names from) (both_same (out_erased names to) (h t))
+each_erased : (fs : List Function) (names : List Name) (text : List ℕ) (from to body : Tree) (at : ℕ) (o : Option Scalar)
+    → ((t : Scalar) → left_out_all fs (local text t 0 ∷ map erase names) body ≡ left_out_all fs (local text t 0 ∷ names) body)
+    → left_each o at (λ t. left_out_in fs (map erase names) from or_else (left_out_in fs (map erase names) to or_else left_out_all fs (local text t 0 ∷ map erase names) body))
+    ≡ left_each o at (λ t. left_out_in fs names from or_else (left_out_in fs names to or_else left_out_all fs (local text t 0 ∷ names) body))
+each_erased fs names text from to body at None h = refl
+each_erased fs names text from to body at (Some t) h = both_same (out_erased fs names from) (both_same (out_erased fs names to) (h t))
 
-start_erased : (names : List Name) (e : Tree) → left_out_start (map erase names) e ≡ left_out_start names e
-start_erased names tree.absent = refl
-start_erased names (tree.present e) = out_erased names e
-start_erased names other = refl
+pub start_erased : (fs : List Function) (names : List Name) (e : Tree) → left_out_start fs (map erase names) e ≡ left_out_start fs names e
+start_erased fs names tree.absent = refl
+start_erased fs names (tree.present e) = out_erased fs names e
+start_erased fs names other = refl
 
-vars_erased : (names : List Name) (vars : Tree) (body : List Name → Option ℕ) → ((inner : List Name) → body (map erase inner) ≡ body inner) → left_out_vars (map erase names) vars body ≡ left_out_vars names vars body
-vars_erased names tree.nil body h = h names
-vars_erased names (tree.cons (tree.var shape (tree.ident text place) start changes at) vars) body h = go (single_meant shape) (λ t. vars_erased (local text t 0 ∷ names) vars body h)
+vars_erased : (fs : List Function) (names : List Name) (vars : Tree) (body : List Name → Option ℕ) → ((inner : List Name) → body (map erase inner) ≡ body inner) → left_out_vars fs (map erase names) vars body ≡ left_out_vars fs names vars body
+vars_erased fs names tree.nil body h = h names
+vars_erased fs names (tree.cons (tree.var shape (tree.ident text place) start changes at) vars) body h = go (single_meant shape) (λ t. vars_erased fs (local text t 0 ∷ names) vars body h)
   where
-    go : (o : Option Scalar) → ((t : Scalar) → left_out_vars (local text t 0 ∷ map erase names) vars body ≡ left_out_vars (local text t 0 ∷ names) vars body)
-        → left_each o at (λ t. left_out_start (map erase names) start or_else left_out_vars (local text t 0 ∷ map erase names) vars body)
-        ≡ left_each o at (λ t. left_out_start names start or_else left_out_vars (local text t 0 ∷ names) vars body)
+    go : (o : Option Scalar) → ((t : Scalar) → left_out_vars fs (local text t 0 ∷ map erase names) vars body ≡ left_out_vars fs (local text t 0 ∷ names) vars body)
+        → left_each o at (λ t. left_out_start fs (map erase names) start or_else left_out_vars fs (local text t 0 ∷ map erase names) vars body)
+        ≡ left_each o at (λ t. left_out_start fs names start or_else left_out_vars fs (local text t 0 ∷ names) vars body)
     go None later = refl
-    go (Some t) later = both_same (start_erased names start) (later t)
-vars_erased names other body h = refl
+    go (Some t) later = both_same (start_erased fs names start) (later t)
+vars_erased fs names other body h = refl
 
 mutual
-  stmt_erased : (names : List Name) (s : Tree) → left_out_stmt (map erase names) s ≡ left_out_stmt names s
-  stmt_erased names (tree.assign (tree.ident text place) places value at) = set_erased names text places value at
-  stmt_erased names (tree.call_stmt name args at) = refl
-  stmt_erased names (tree.if_stmt test first other at) = both_same (out_erased names test) (both_same (all_erased names first) (all_erased names other))
-  stmt_erased names (tree.while_stmt test body at) = both_same (all_erased names body) (out_erased names test)
-  stmt_erased names (tree.foreach_stmt shape (tree.ident text place) from to body at) =
-      each_erased names text from to body at (single_meant shape) (λ t. all_erased (local text t 0 ∷ names) body)
-  stmt_erased names (tree.block vars body at) =
-      vars_erased names vars (λ inner. left_out_all inner body) (λ inner. all_erased inner body)
-  stmt_erased names other = refl
+  stmt_erased : (fs : List Function) (names : List Name) (s : Tree) → left_out_stmt fs (map erase names) s ≡ left_out_stmt fs names s
+  stmt_erased fs names (tree.assign (tree.ident text place) places value at) = set_erased fs names text places value at
+  stmt_erased fs names (tree.call_stmt name args at) = refl
+  stmt_erased fs names (tree.if_stmt test first other at) = both_same (out_erased fs names test) (both_same (all_erased fs names first) (all_erased fs names other))
+  stmt_erased fs names (tree.while_stmt test body at) = both_same (all_erased fs names body) (out_erased fs names test)
+  stmt_erased fs names (tree.foreach_stmt shape (tree.ident text place) from to body at) =
+      each_erased fs names text from to body at (single_meant shape) (λ t. all_erased fs (local text t 0 ∷ names) body)
+  stmt_erased fs names (tree.block vars body at) =
+      vars_erased fs names vars (λ inner. left_out_all fs inner body) (λ inner. all_erased fs inner body)
+  stmt_erased fs names other = refl
 
-  all_erased : (names : List Name) (ss : Tree) → left_out_all (map erase names) ss ≡ left_out_all names ss
-  all_erased names tree.nil = refl
-  all_erased names (tree.cons s rest) = both_same (stmt_erased names s) (all_erased names rest)
-  all_erased names tree.absent = refl
-  all_erased names (tree.present body) = all_erased names body
-  all_erased names other = refl
+  all_erased : (fs : List Function) (names : List Name) (ss : Tree) → left_out_all fs (map erase names) ss ≡ left_out_all fs names ss
+  all_erased fs names tree.nil = refl
+  all_erased fs names (tree.cons s rest) = both_same (stmt_erased fs names s) (all_erased fs names rest)
+  all_erased fs names tree.absent = refl
+  all_erased fs names (tree.present body) = all_erased fs names body
+  all_erased fs names other = refl
 
--- in any cell the local leaves out the same
-pub any_cell : (names : List Name) (text : List ℕ) (t : Scalar) (c : ℕ) (body : Tree) → left_out_all (local text t c ∷ names) body ≡ left_out_all (local text t 0 ∷ names) body
-any_cell names text t c body = sym (all_erased (local text t c ∷ names) body) ∙ all_erased (local text t 0 ∷ names) body
+-- in any cell the local leaves out the same of an expression
+pub any_cell_in : (fs : List Function) (names : List Name) (text : List ℕ) (t : Scalar) (c : ℕ) (e : Tree) → left_out_in fs (local text t c ∷ names) e ≡ left_out_in fs (local text t 0 ∷ names) e
+any_cell_in fs names text t c e = sym (out_erased fs (local text t c ∷ names) e) ∙ out_erased fs (local text t 0 ∷ names) e
+
+-- .. and of statements
+pub any_cell : (fs : List Function) (names : List Name) (text : List ℕ) (t : Scalar) (c : ℕ) (body : Tree) → left_out_all fs (local text t c ∷ names) body ≡ left_out_all fs (local text t 0 ∷ names) body
+any_cell fs names text t c body = sym (all_erased fs (local text t c ∷ names) body) ∙ all_erased fs (local text t 0 ∷ names) body
 
 -- .. and so do the variables of a block behind it
-pub any_cell_vars : (names : List Name) (text : List ℕ) (t : Scalar) (c : ℕ) (vars body : Tree)
-    → left_out_vars (local text t c ∷ names) vars (λ inner. left_out_all inner body) ≡ left_out_vars (local text t 0 ∷ names) vars (λ inner. left_out_all inner body)
-any_cell_vars names text t c vars body =
-    sym (vars_erased (local text t c ∷ names) vars (λ inner. left_out_all inner body) (λ inner. all_erased inner body))
-    ∙ vars_erased (local text t 0 ∷ names) vars (λ inner. left_out_all inner body) (λ inner. all_erased inner body)
+pub any_cell_vars : (fs : List Function) (names : List Name) (text : List ℕ) (t : Scalar) (c : ℕ) (vars body : Tree)
+    → left_out_vars fs (local text t c ∷ names) vars (λ inner. left_out_all fs inner body) ≡ left_out_vars fs (local text t 0 ∷ names) vars (λ inner. left_out_all fs inner body)
+any_cell_vars fs names text t c vars body =
+    sym (vars_erased fs (local text t c ∷ names) vars (λ inner. left_out_all fs inner body) (λ inner. all_erased fs inner body))
+    ∙ vars_erased fs (local text t 0 ∷ names) vars (λ inner. left_out_all fs inner body) (λ inner. all_erased fs inner body)

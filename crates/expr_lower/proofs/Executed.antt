@@ -44,7 +44,7 @@ module _ (outer : List Name) (w : World) (frames : List ℕ) where
 
   -- ---- branches
 
-  pub alone_performs : (inner : List Name) (M : Env → ℕ → Out Env) (test : Tree) (base n k m end : ℕ) (a b : List Instr) → n ≤ k → k ≤ m → IsTest (inner ++ outer) test base n end a k → end ≡ base + length a + length b
+  pub alone_performs : (inner : List Name) (M : Env → ℕ → Out Env) (test : Tree) (base n k m end : ℕ) (a b : List Instr) → n ≤ k → k ≤ m → IsTest [] (inner ++ outer) test base n end a k → end ≡ base + length a + length b
       → Performs outer w frames inner M (base + length a) k b m
       → Performs outer w frames inner (λ env left. and_then (eval test w.calls env left) (λ v j. chosen v (λ i. M env i) (λ i. Gives env i) j)) base n (a ++ b) m
   alone_performs inner M test base n k m end a b le ge coded end_is first stack cells env left stands laid apart room holds =
@@ -57,7 +57,7 @@ module _ (outer : List Name) (w : World) (frames : List ℕ) where
       (first stack now env j (stands_right w.code.instrs base a b stands) (laid_more outer w.tokens w.low w.high n k inner le laid) (apart_last n k m w.low w.high le apart) (omega (arith, size, room)) h)))
       (λ now j size few h. stays outer w frames inner n m end stack now j env h))
 
-  pub else_performs : (inner : List Name) (M N : Env → ℕ → Out Env) (test : Tree) (base n k h m else_at end : ℕ) (a b c : List Instr) → n ≤ k → k ≤ h → h ≤ m → IsTest (inner ++ outer) test base n else_at a k
+  pub else_performs : (inner : List Name) (M N : Env → ℕ → Out Env) (test : Tree) (base n k h m else_at end : ℕ) (a b c : List Instr) → n ≤ k → k ≤ h → h ≤ m → IsTest [] (inner ++ outer) test base n else_at a k
       → else_at ≡ base + length a + length b + 1 → end ≡ else_at + length c
       → Performs outer w frames inner M (base + length a) k b h → Performs outer w frames inner N else_at h c m
       → Performs outer w frames inner (λ env left. and_then (eval test w.calls env left) (λ v j. chosen v (λ i. M env i) (λ i. N env i) j)) base n (a ++ (b ++ op.Jump end ∷ c)) m
@@ -88,7 +88,7 @@ module _ (outer : List Name) (w : World) (frames : List ℕ) where
   -- ---- loops
 
   module _ (inner : List Name) (M : Env → ℕ → Out Env) (test : Tree) (base n k m head out : ℕ) (a b : List Instr) (le : n ≤ k) (ge : k ≤ m)
-      (coded : IsTest (inner ++ outer) test head k out a m) (head_is : head ≡ base + 2 + length b) (out_is : out ≡ head + length a + 1)
+      (coded : IsTest [] (inner ++ outer) test head k out a m) (head_is : head ≡ base + 2 + length b) (out_is : out ≡ head + length a + 1)
       (body : Performs outer w frames inner M (base + 2) n b k)
       (at_turn : slice_get w.code.instrs (base + 1) ≡ Some op.Turn) (at_body : StandsAt w.code.instrs (base + 2) b) (at_test : StandsAt w.code.instrs head a)
       (at_back : slice_get w.code.instrs (head + length a) ≡ Some (op.Jump (base + 1)))
@@ -138,7 +138,7 @@ module _ (outer : List Name) (w : World) (frames : List ℕ) where
         from_test (λ next i. while_loop most (λ now i. eval test w.calls now i) M next i) stack cells env left room holds
         (λ now next i wide few held. loop_moves most stack now next i (omega (arith, few, less)) wide held)
 
-  pub while_performs : (inner : List Name) (M : Env → ℕ → Out Env) (test : Tree) (base n k m head out : ℕ) (a b : List Instr) → n ≤ k → k ≤ m → IsTest (inner ++ outer) test head k out a m
+  pub while_performs : (inner : List Name) (M : Env → ℕ → Out Env) (test : Tree) (base n k m head out : ℕ) (a b : List Instr) → n ≤ k → k ≤ m → IsTest [] (inner ++ outer) test head k out a m
       → head ≡ base + 2 + length b → out ≡ head + length a + 1 → Performs outer w frames inner M (base + 2) n b k
       → Performs outer w frames inner (λ env left. while_loop (suc left) (λ now i. eval test w.calls now i) M env left) base n (op.Jump head ∷ op.Turn ∷ (b ++ (a ++ op.Jump (base + 1) ∷ []))) m
   while_performs inner M test base n k m head out a b le ge coded head_is out_is body stack cells env left stands laid apart room holds =
@@ -157,12 +157,12 @@ module _ (outer : List Name) (w : World) (frames : List ℕ) where
 
 -- ---- cells
 
-pub grows_start : {names : List Name} {t : Scalar} {c : ℕ} {start : Tree} {base n m : ℕ} {code : List Instr} → IsStart names t c start base n code m → n ≤ m
+pub grows_start : {names : List Name} {t : Scalar} {c : ℕ} {start : Tree} {base n m : ℕ} {code : List Instr} → IsStart [] names t c start base n code m → n ≤ m
 grows_start (at_zero base n) = omega arith
 grows_start (at_value e base n m code g) = grows g
 
 mutual
-  pub grows_stmt : {names : List Name} {s : Tree} {base n m : ℕ} {code : List Instr} → IsStmt names s base n code m → n ≤ m
+  pub grows_stmt : {names : List Name} {s : Tree} {base n m : ℕ} {code : List Instr} → IsStmt [] names s base n code m → n ≤ m
   grows_stmt (set names text value place at base n m c code x t e seat shape g) = grows g
   grows_stmt (set_list names text value place at base n c size x t l e seat shape g many) = omega arith
   grows_stmt (set_items names text items list place at base n m c size a x t e seat shape number g) = let x = grows_kept g in omega (arith, x)
@@ -174,11 +174,11 @@ mutual
   grows_stmt (each_code names shape from to body text place at base n k j m turn_at start out a b c t e g d q f1 f2 f3) = let x = grows g in let y = grows d in let z = grows_all q in omega (arith, x, y, z)
   grows_stmt (block_code names vars body at base n m code g) = grows_block g
 
-  pub grows_block : {names : List Name} {vars body : Tree} {base n m : ℕ} {code : List Instr} → IsBlock names vars body base n code m → n ≤ m
+  pub grows_block : {names : List Name} {vars body : Tree} {base n m : ℕ} {code : List Instr} → IsBlock [] names vars body base n code m → n ≤ m
   grows_block (no_more names body base n m code g) = grows_all g
   grows_block (variable_more names shape start vars body text place at base n k m a b t changes e g d) = let x = grows_start g in let y = grows_block d in omega (arith, x, y)
 
-  pub grows_all : {names : List Name} {ss : Tree} {base n m : ℕ} {code : List Instr} → AreStmts names ss base n code m → n ≤ m
+  pub grows_all : {names : List Name} {ss : Tree} {base n m : ℕ} {code : List Instr} → AreStmts [] names ss base n code m → n ≤ m
   grows_all (none names base n) = omega arith
   grows_all (one_more names s rest base n k m a b g d) = let x = grows_stmt g in let y = grows_all d in omega (arith, x, y)
 
@@ -186,40 +186,40 @@ mutual
 
 module _ (outer : List Name) (w : World) (frames : List ℕ) (runs : Runs) where
   mutual
-    pub performs : {names : List Name} {s : Tree} {base n m : ℕ} {code : List Instr} (inner : List Name) → names ≡ inner ++ outer → IsStmt names s base n code m
+    pub performs : {names : List Name} {s : Tree} {base n m : ℕ} {code : List Instr} (inner : List Name) → names ≡ inner ++ outer → IsStmt [] names s base n code m
         → Performs outer w frames inner (λ env left. exec s w.calls runs env left) base n code m
     performs inner is (set names text value place at base n m c code x t e seat shape g) =
-        set_performs outer w frames runs inner text value place at base n m c code x t (subst (λ ns. named text ns ≡ Some x) is e) seat shape (subst (λ ns. IsCode ns value base n code m) is g)
+        set_performs outer w frames runs inner text value place at base n m c code x t (subst (λ ns. named text ns ≡ Some x) is e) seat shape (subst (λ ns. IsCode [] ns value base n code m) is g)
     performs inner is (set_list names text value place at base n c size x t l e seat shape g many) =
         set_list_performs outer w frames runs inner text value place at base n c size x t l (subst (λ ns. named text ns ≡ Some x) is e) seat shape (subst (λ ns. list_named ns value ≡ Some l) is g) many
     performs inner is (set_items names text items list place at base n m c size a x t e seat shape number g) =
-        set_items_performs outer w frames runs inner text items list place at base n m c size a x t (subst (λ ns. named text ns ≡ Some x) is e) seat shape number (subst (λ ns. IsKept ns n items base (n + size) a m) is g)
+        set_items_performs outer w frames runs inner text items list place at base n m c size a x t (subst (λ ns. named text ns ≡ Some x) is e) seat shape number (subst (λ ns. IsKept [] ns n items base (n + size) a m) is g)
     performs inner is (set_item names text spot value place at base n k m c size a b x t e seat shape g d) =
-        set_item_performs outer w frames runs inner text spot value place at base n k m c size a b x t (subst (λ ns. named text ns ≡ Some x) is e) seat shape (subst (λ ns. IsCode ns spot base n a k) is g) (subst (λ ns. IsCode ns value (base + length a) k b m) is d)
+        set_item_performs outer w frames runs inner text spot value place at base n k m c size a b x t (subst (λ ns. named text ns ≡ Some x) is e) seat shape (subst (λ ns. IsCode [] ns spot base n a k) is g) (subst (λ ns. IsCode [] ns value (base + length a) k b m) is d)
     performs inner is (set_deep names text places value place at base n k m c size a b x t e seat shape leaf g d) =
         set_deep_performs outer w frames runs inner text places value place at base n k m c size a b x t (subst (λ ns. named text ns ≡ Some x) is e) seat shape leaf
-        (subst (λ ns. IsKept ns n places base (n + number_of places + 1) a k) is g) (subst (λ ns. IsCode ns value (base + length a) k b m) is d)
+        (subst (λ ns. IsKept [] ns n places base (n + number_of places + 1) a k) is g) (subst (λ ns. IsCode [] ns value (base + length a) k b m) is d)
     performs inner is (if_alone names test first at base n k m end a b g d e) =
-        alone_performs outer w frames inner (λ env left. exec_all first w.calls runs env left) test base n k m end a b (grows_test g) (grows_all d) (subst (λ ns. IsTest ns test base n end a k) is g) e (performs_all inner is d)
+        alone_performs outer w frames inner (λ env left. exec_all first w.calls runs env left) test base n k m end a b (grows_test g) (grows_all d) (subst (λ ns. IsTest [] ns test base n end a k) is g) e (performs_all inner is d)
     performs inner is (if_else names test first other at base n k h m else_at end a b c g d q e f) =
-        else_performs outer w frames inner (λ env left. exec_all first w.calls runs env left) (λ env left. exec_all other w.calls runs env left) test base n k h m else_at end a b c (grows_test g) (grows_all d) (grows_all q) (subst (λ ns. IsTest ns test base n else_at a k) is g) e f (performs_all inner is d) (performs_all inner is q)
+        else_performs outer w frames inner (λ env left. exec_all first w.calls runs env left) (λ env left. exec_all other w.calls runs env left) test base n k h m else_at end a b c (grows_test g) (grows_all d) (grows_all q) (subst (λ ns. IsTest [] ns test base n else_at a k) is g) e f (performs_all inner is d) (performs_all inner is q)
     performs inner is (while_code names test body at base n k m head out a b d g e f) =
-        while_performs outer w frames inner (λ env left. exec_all body w.calls runs env left) test base n k m head out a b (grows_all d) (grows_test g) (subst (λ ns. IsTest ns test head k out a m) is g) e f (performs_all inner is d)
+        while_performs outer w frames inner (λ env left. exec_all body w.calls runs env left) test base n k m head out a b (grows_all d) (grows_test g) (subst (λ ns. IsTest [] ns test head k out a m) is g) e f (performs_all inner is d)
     performs inner is (each_code names shape from to body text place at base n k j m turn_at start out a b c t e g d q f1 f2 f3) =
         each_performs outer w frames runs inner shape from to text (λ env left. exec_all body w.calls runs env left) base n k j j m turn_at start out a b c t e
-        (subst (λ ns. IsCode ns from base (n + 3) a k) is g) (subst (λ ns. IsCode ns to (base + length a) k b j) is d) f1 f2 f3 (omega arith) (grows_all q)
+        (subst (λ ns. IsCode [] ns from base (n + 3) a k) is g) (subst (λ ns. IsCode [] ns to (base + length a) k b j) is d) f1 f2 f3 (omega arith) (grows_all q)
         (performs_all (local text t (n + 2) ∷ inner) (ap (λ ns. local text t (n + 2) ∷ ns) is) q)
     performs inner is (block_code names vars body at base n m code g) = performs_block inner is g
 
-    pub performs_block : {names : List Name} {vars body : Tree} {base n m : ℕ} {code : List Instr} (inner : List Name) → names ≡ inner ++ outer → IsBlock names vars body base n code m
+    pub performs_block : {names : List Name} {vars body : Tree} {base n m : ℕ} {code : List Instr} (inner : List Name) → names ≡ inner ++ outer → IsBlock [] names vars body base n code m
         → Performs outer w frames inner (blocked outer w frames runs vars (λ env left. exec_all body w.calls runs env left)) base n code m
     performs_block inner is (no_more names body base n m code g) = block_none outer w frames runs inner (λ env left. exec_all body w.calls runs env left) base n m code (performs_all inner is g)
     performs_block inner is (variable_more names shape start vars body text place at base n k m a b t changes e g d) =
         let x = grows_start g in
         block_more outer w frames runs inner (λ env left. exec_all body w.calls runs env left) shape start vars text place at base n k m a b t changes e x (grows_block d)
-        (subst (λ ns. IsStart ns t n start base (n + 1) a k) is g) (performs_block (local text t n ∷ inner) (ap (λ ns. local text t n ∷ ns) is) d)
+        (subst (λ ns. IsStart [] ns t n start base (n + 1) a k) is g) (performs_block (local text t n ∷ inner) (ap (λ ns. local text t n ∷ ns) is) d)
 
-    pub performs_all : {names : List Name} {ss : Tree} {base n m : ℕ} {code : List Instr} (inner : List Name) → names ≡ inner ++ outer → AreStmts names ss base n code m
+    pub performs_all : {names : List Name} {ss : Tree} {base n m : ℕ} {code : List Instr} (inner : List Name) → names ≡ inner ++ outer → AreStmts [] names ss base n code m
         → Performs outer w frames inner (λ env left. exec_all ss w.calls runs env left) base n code m
     performs_all inner is (none names base n) = perform_none outer w frames inner base n
     performs_all inner is (one_more names s rest base n k m a b g d) =
@@ -235,7 +235,7 @@ ends_like w names n m s end (Traps c) o last b r =
 ends_like w names n m s end Lacks o last t r = tt
 ends_like w names n m s end Clashes o last t r = tt
 
-pub executes : (names : List Name) (body : Tree) (base n m : ℕ) (code : List Instr) → AreBelow n names → NamesApart names → AreTyped names → AreStmts names body base n code m → Executes names body base n m code
+pub executes : (names : List Name) (body : Tree) (base n m : ℕ) (code : List Instr) → AreBelow n names → NamesApart names → AreTyped names → AreStmts [] names body base n code m → Executes names body base n m code
 executes names body base n m code below distinct typed coded = record {
   goes = λ w runs env stack frames cells left stands apart free room holds. arrives w runs env stack frames cells left stands apart free room holds;
   only = λ w runs env stack frames cells left stands apart free room holds o last r.

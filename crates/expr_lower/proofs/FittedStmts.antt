@@ -74,14 +74,14 @@ module _ (code : Code) (callable limit : ℕ) where
       (λ (f : (bytes_eq text other ≡ false) × (named other names ≡ Some y)). below_more n k names (omega (arith, le)) below other y f.1)
       (choose_name (bytes_eq text other) (local text t n) (named other names) y e)
 
-  fits_start : (names : List Name) (t : Scalar) (c : ℕ) {start : Tree} {base n m : ℕ} {a : List Instr} (h : ℕ) → IsSize t → c + 1 ≤ limit → AreBelow n names → m ≤ limit → IsStart names t c start base n a m → Plain code callable limit base h a h
+  fits_start : (names : List Name) (t : Scalar) (c : ℕ) {start : Tree} {base n m : ℕ} {a : List Instr} (h : ℕ) → IsSize t → c + 1 ≤ limit → AreBelow n names → m ≤ limit → IsStart [] names t c start base n a m → Plain code callable limit base h a h
   fits_start names t c h sized room below le (at_zero base n) =
       plain_then code callable limit base h (h + 1) h (op.Const (pos 0) ∷ []) (op.Store c None ∷ []) (fits_const code callable limit base h (pos 0))
       (fits_one code callable limit (base + 1) (h + 1) h (op.Store c None) (omega arith) (omega arith) refl room tt tt tt)
   fits_start names t c h sized room below le (at_value e base n m instrs g) =
       plain_then code callable limit base h (h + 1) h instrs (op.Store c (Some t) ∷ []) (fits code callable limit names h below le g) (fits_store (base + length instrs) h c t room sized)
 
-  fits_kept : (names : List Name) {c : ℕ} {places : Tree} {base n m : ℕ} {instrs : List Instr} (h : ℕ) → c + number_of places ≤ n → AreBelow c names → m ≤ limit → IsKept names c places base n instrs m → Plain code callable limit base h instrs h
+  fits_kept : (names : List Name) {c : ℕ} {places : Tree} {base n m : ℕ} {instrs : List Instr} (h : ℕ) → c + number_of places ≤ n → AreBelow c names → m ≤ limit → IsKept [] names c places base n instrs m → Plain code callable limit base h instrs h
   fits_kept names h room below le (no_place c base n) = fits_none code callable limit base h
   fits_kept names h room below le (place_more spot rest c base n k m a b g q) =
       let x = grows g in
@@ -114,7 +114,7 @@ module _ (code : Code) (callable limit : ℕ) where
       (fits_store_at (base + 1 + 1 + length steps + 1) h c size t le sized))))
 
   mutual
-    pub fits_stmt : {names : List Name} {s : Tree} {base n m : ℕ} {instrs : List Instr} (h : ℕ) → AreBelow n names → AreTyped names → m ≤ limit → StandsAt code.instrs base instrs → IsStmt names s base n instrs m → Plain code callable limit base h instrs h
+    pub fits_stmt : {names : List Name} {s : Tree} {base n m : ℕ} {instrs : List Instr} (h : ℕ) → AreBelow n names → AreTyped names → m ≤ limit → StandsAt code.instrs base instrs → IsStmt [] names s base n instrs m → Plain code callable limit base h instrs h
     fits_stmt h below typed le stands (set names text value place at base n m c instrs x t e seat shape g) =
         let grown = grows g in
         let one = cells_there n c names text x (Single t) below (omega (arith, grown, le)) e seat shape in
@@ -202,7 +202,7 @@ module _ (code : Code) (callable limit : ℕ) where
         refl f1 f2 f3 (subst (λ p. slice_get code.instrs p ≡ Some op.Turn) at_turn last.1.1.1.1.1.1.0)
     fits_stmt h below typed le stands (block_code names vars body at base n m code g) = fits_block h below typed le stands g
 
-    pub fits_block : {names : List Name} {vars body : Tree} {base n m : ℕ} {instrs : List Instr} (h : ℕ) → AreBelow n names → AreTyped names → m ≤ limit → StandsAt code.instrs base instrs → IsBlock names vars body base n instrs m → Plain code callable limit base h instrs h
+    pub fits_block : {names : List Name} {vars body : Tree} {base n m : ℕ} {instrs : List Instr} (h : ℕ) → AreBelow n names → AreTyped names → m ≤ limit → StandsAt code.instrs base instrs → IsBlock [] names vars body base n instrs m → Plain code callable limit base h instrs h
     fits_block h below typed le stands (no_more names body base n m instrs g) = fits_all h below typed le stands g
     fits_block h below typed le stands (variable_more names shape start vars body text place at base n k m a b t changes e g d) =
         let x = grows_start g in
@@ -212,7 +212,7 @@ module _ (code : Code) (callable limit : ℕ) where
         plain_then code callable limit base h h h a b (fits_start names t n h sized (omega (arith, x, y, le)) (below_more n (n + 1) names wide below) (omega (arith, y, le)) g)
         (fits_block h (cell_below n k names text t x below) (local_typed n names text t sized typed) le (stands_right code.instrs base a b stands) d)
 
-    pub fits_all : {names : List Name} {ss : Tree} {base n m : ℕ} {instrs : List Instr} (h : ℕ) → AreBelow n names → AreTyped names → m ≤ limit → StandsAt code.instrs base instrs → AreStmts names ss base n instrs m → Plain code callable limit base h instrs h
+    pub fits_all : {names : List Name} {ss : Tree} {base n m : ℕ} {instrs : List Instr} (h : ℕ) → AreBelow n names → AreTyped names → m ≤ limit → StandsAt code.instrs base instrs → AreStmts [] names ss base n instrs m → Plain code callable limit base h instrs h
     fits_all h below typed le stands (none names base n) = fits_none code callable limit base h
     fits_all h below typed le stands (one_more names s rest base n k m a b g d) =
         let grown = grows_stmt g in

@@ -24,6 +24,7 @@ use Rattle.expr_lower.specs.Held.{StandAt}
 use Rattle.expr_lower.specs.Placed.{World, state}
 use Rattle.expr_lower.specs.Following.{Follows, Pushes, CutsOff}
 use Rattle.expr_lower.specs.Coding.{item_instr}
+use Rattle.expr_lower.specs.Callees.{Function}
 use Rattle.expr_lower.proofs.Runs.{follows_then, stands_left, stands_right}
 use Rattle.expr_lower.proofs.Keeping.{holds_still}
 use Rattle.expr_lower.proofs.Effects.{Acts, same_number}
@@ -82,21 +83,21 @@ module _ (l : ItemList) (vs : Values) (tokens : ℕ → List ℤ) (stack cells :
   item_acts (Truth b) z e = tt
   item_acts (Items us) z e = tt
 
-pub does_item : (names : List Name) (w : World) (env : Env) (frames : List ℕ) (e place : Tree) (at base n m : ℕ) (code : List Instr) (l : ItemList) → list_named names e ≡ Some l
-    → Does names w env frames place base n code m → Does names w env frames (tree.index e place at) base n (code ++ item_instr l ∷ []) m
-does_item names w env frames e place at base n m code l g does stack cells left stands below apart holds =
+pub does_item : (fs : List Function) (globals names : List Name) (w : World) (env : Env) (frames : List ℕ) (e place : Tree) (at base n m : ℕ) (code : List Instr) (l : ItemList) → list_named names e ≡ Some l
+    → Does fs globals names w env frames place base n code m → Does fs globals names w env frames (tree.index e place at) base n (code ++ item_instr l ∷ []) m
+does_item fs globals names w env frames e place at base n m code l g does stack cells left stands below apart holds =
     let i : Instr = item_instr l in
     let s : State = state base stack frames cells left in
     let there : slice_get w.code.instrs (base + length code) ≡ Some i = (stands_right w.code.instrs base code (i ∷ []) stands).0 in
     let end : base + length code + 1 ≡ base + length (code ++ i ∷ []) = omega (arith, length-append code (i ∷ [])) in
-    let list : IsList w.tokens cells (eval e w.calls env left) left l = named_list names w.tokens cells env e l w.calls left g holds in
+    let list : IsList w.tokens cells (eval e w.calls env left) left l = named_list names w.tokens cells env e l w.calls left g holds.0 in
     subst (λ (o : Out Value). Follows (and_then o (λ v h. and_then (eval place w.calls env h) (λ x k. indexed v x k))) (Pushes w n m s (base + length (code ++ i ∷ []))) (CutsOff w n m s)) (sym list.gives)
     (follows_then (eval place w.calls env left) (λ x k. indexed (Items list.values) x k) (Pushes w n m s (base + length code)) (CutsOff w n m s) (Pushes w n m s (base + length (code ++ i ∷ []))) (CutsOff w n m s)
     (does stack cells left (stands_left w.code.instrs base code (i ∷ []) stands) below apart holds)
     (λ x k p.
-    let later : IsList w.tokens p.cells (eval e w.calls env left) left l = named_list names w.tokens p.cells env e l w.calls left g (holds_still names w.tokens env p.keeps below apart holds) in
+    let later : IsList w.tokens p.cells (eval e w.calls env left) left l = named_list names w.tokens p.cells env e l w.calls left g (holds_still names w.tokens env p.keeps below.0 apart.0 holds.0) in
     let same : later.values ≡ list.values = same_items later.values list.values left (sym later.gives ∙ list.gives) in
-    at_end names w env frames (indexed (Items list.values) x k) n m _ _ s end
+    at_end fs globals names w env frames (indexed (Items list.values) x k) n m _ _ s end
     (acts_after w n m base (base + length code) (p.number ∷ stack) stack frames cells p.cells left k i (indexed (Items list.values) x k) (reads_straight l.seat l.size) there p.reaches p.keeps
     (item_acts l list.values w.tokens stack p.cells k list.size list.kinds (subst (λ vs. StandAt l.seat w.tokens p.cells (flat_all vs)) same later.stands) x p.number p.is)))
     (λ c t. t))

@@ -1,5 +1,5 @@
 -- The code that stores a list of items that are written out does what executing the assignment does.
-use Rattle.std.proofs.Common.{◌≡◌, ℕ, zero, suc, ◌+◌, ◌*◌, ◌≤◌, inr, ℤ, List, ◌++◌, length, refl, sym, ap, ◌∙◌, subst, Some, arith, length-append}
+use Rattle.std.proofs.Common.{◌≡◌, ℕ, zero, suc, ◌+◌, ◌*◌, ◌≤◌, inr, ℤ, List, ◌++◌, length, refl, sym, ap, ◌∙◌, subst, Some, arith, length-append, []}
 use Rattle.std.specs.Prelude.{slice_get}
 use Rattle.rvc_base.specs.declared.scalar.Scalar.{Scalar}
 use Rattle.cal_ast.specs.Tree as tree
@@ -41,7 +41,7 @@ kept_stands c (Cons u us) tokens cells h (suc j) z e =
     subst (λ d. slice_get cells d ≡ Some z) same (kept_stands (c + 1) us tokens cells h.3 j z (sym later ∙ e))
 
 -- each item gives a single value
-kept_singles : (names : List Name) (tokens : ℕ → List ℤ) (cells : List ℤ) (env : Env) (calls : Calls) → Holds names tokens cells env → {c : ℕ} {items : Tree} {base n m : ℕ} {code : List Instr} → IsKept names c items base n code m
+kept_singles : (names : List Name) (tokens : ℕ → List ℤ) (cells : List ℤ) (env : Env) (calls : Calls) → Holds names tokens cells env → {c : ℕ} {items : Tree} {base n m : ℕ} {code : List Instr} → IsKept [] names c items base n code m
     → (left : ℕ) → Follows (eval_all items calls env left) (λ us h. AllSingle us) (λ d. Unit {0})
 kept_singles names tokens cells env calls holds (no_place c base n) left = tt
 kept_singles names tokens cells env calls holds (place_more place places c base n k m a b g d) left =
@@ -53,7 +53,7 @@ kept_singles names tokens cells env calls holds (place_more place places c base 
 
 module _ (outer : List Name) (w : World) (frames : List ℕ) (runs : Runs) where
   pub set_items_performs : (inner : List Name) (text : List ℕ) (items : Tree) (list place at base n m c size : ℕ) (a : List Instr) (x : Name) (t : Scalar)
-      → named text (inner ++ outer) ≡ Some x → x.seat ≡ Cell c → x.shape ≡ Many size (Single t) → number_of items ≡ size → IsKept (inner ++ outer) n items base (n + size) a m
+      → named text (inner ++ outer) ≡ Some x → x.seat ≡ Cell c → x.shape ≡ Many size (Single t) → number_of items ≡ size → IsKept [] (inner ++ outer) n items base (n + size) a m
       → Performs outer w frames inner (λ env left. exec (tree.assign (tree.ident text place) tree.nil (tree.list items list) at) w.calls runs env left) base n (a ++ copy_code c size t (Cell n)) m
   set_items_performs inner text items list place at base n m c size a x t e seat shape number coded stack cells env left stands laid apart room holds =
       let names : List Name = inner ++ outer in

@@ -8,6 +8,12 @@ pub mod Effects
 pub mod Aimed
 pub mod Doing
 pub mod Items
+pub mod Called
+pub mod GivenKinds
+pub mod Routined
+pub mod Served
+pub mod FittedRoutines
+pub mod Finding
 pub mod Coded
 pub mod Fitted
 pub mod Whole
@@ -42,3 +48,4 @@ pub mod FittedEach
 pub mod Erased
 pub mod Seeing
 pub mod Blocking
+pub mod AddingRoutines

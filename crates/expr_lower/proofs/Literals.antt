@@ -9,6 +9,7 @@ use Rattle.cal_ast.specs.Tree.{Tree}
 use Rattle.code_ir.specs.declared.instr.Instr.TheVariants as op
 use Rattle.expr_lower.specs.Names.{Name}
 use Rattle.expr_lower.specs.Coding.{IsCode, negative}
+use Rattle.expr_lower.specs.Callees.{Function}
 use Rattle.expr_lower.specs.Growing.{IsNegative}
 
 pub fits_num : (k : ℕ) → SFits num_width (pos k) → is_num (pos k) ≡ true
@@ -21,6 +22,6 @@ unfit k false e h = e
 pub unfit_num : (k : ℕ) → (SFits num_width (pos k) → ⊥) → is_num (pos k) ≡ false
 unfit_num k h = unfit k (is_num (pos k)) refl h
 
-pub negative_coded : (names : List Name) (o : PrefixOp) (e : Tree) (z : ℤ) (at base n : ℕ) → IsNegative o e z → IsCode names (tree.prefix o e at) base n (op.Const z ∷ []) n
+pub negative_coded : {fs : List Function} (names : List Name) (o : PrefixOp) (e : Tree) (z : ℤ) (at base n : ℕ) → IsNegative o e z → IsCode fs names (tree.prefix o e at) base n (op.Const z ∷ []) n
 negative_coded names prefixes.Neg (tree.number k place) z at base n h = rw h.1 (negative k at base n place h.0)
 negative_coded names o e z at base n h = absurd h

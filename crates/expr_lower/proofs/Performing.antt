@@ -170,7 +170,7 @@ module _ (outer : List Name) (w : World) (frames : List ℕ) where
 
   -- a condition, and what follows it
   pub test_moves : (inner : List Name) (M N : Env → ℕ → Out Env) (test : Tree) (base from n k m there end : ℕ) (a : List Instr) (stack cells : List ℤ) (env : Env) (left : ℕ) → from ≤ n → k ≤ m
-      → IsTest (inner ++ outer) test base n there a k → StandsAt w.code.instrs base a → AreLaid outer w.tokens w.low w.high n inner → HoldsInside outer w.tokens w.low w.high inner cells env
+      → IsTest [] (inner ++ outer) test base n there a k → StandsAt w.code.instrs base a → AreLaid outer w.tokens w.low w.high n inner → HoldsInside outer w.tokens w.low w.high inner cells env
       → ((now : List ℤ) (j : ℕ) → length now ≡ length cells → j ≤ left → HoldsInside outer w.tokens w.low w.high inner now env → Follows (M env j) (Moves inner from m (state (base + length a) stack frames now j) end (length env.locals)) (BreaksOff w (inner ++ outer) from m (state (base + length a) stack frames now j)))
       → ((now : List ℤ) (j : ℕ) → length now ≡ length cells → j ≤ left → HoldsInside outer w.tokens w.low w.high inner now env → Follows (N env j) (Moves inner from m (state there stack frames now j) end (length env.locals)) (BreaksOff w (inner ++ outer) from m (state there stack frames now j)))
       → Follows (and_then (eval test w.calls env left) (λ v j. chosen v (λ i. M env i) (λ i. N env i) j)) (Moves inner from m (state base stack frames cells left) end (length env.locals)) (BreaksOff w (inner ++ outer) from m (state base stack frames cells left))

@@ -26,13 +26,14 @@ use Rattle.expr_lower.specs.Held.{AllApart, AreBelow, Holds, HoldsName, Keeps, S
 use Rattle.expr_lower.specs.Names.{Name, named}
 use Rattle.expr_lower.specs.Parted.{Part, deep_named, item_in, item_of, part_at, part_named, rows_named, sized}
 use Rattle.expr_lower.specs.Placed.{StandsAt, World, state}
+use Rattle.expr_lower.specs.Callees.{Function}
 use Rattle.expr_lower.proofs.Runs.{ends_join, follows_more, follows_then, obeys, reaches_join, stands_left, stands_right}
 use Rattle.expr_lower.proofs.Keeping.{below_more, holds_still, keeps_all, keeps_join, keeps_wider, scalars_same}
 use Rattle.expr_lower.proofs.Effects.{same_number}
 use Rattle.expr_lower.proofs.Items.{reads_inside, reads_straight}
 use Rattle.expr_lower.proofs.Listing.{item_kind, item_past, item_within, single_flat}
 use Rattle.expr_lower.proofs.PartValues.{HasRows, IsDeep, IsWhole, deep_found, item_numbers, rows_found, sized_is, whole_found}
-use Rattle.expr_lower.proofs.Doing.{Does, cut_after, cut_wider}
+use Rattle.expr_lower.proofs.Doing.{Does, cut_after, cut_wider, Below, Apart, Held, below_on, still}
 
 -- a value is that of a part, whose numbers stand from an offset on among those of the whole list
 pub record IsInside (names : List Name) (env : Env) (p : Part) (v : Value) (k : ℕ) : Type 0 where
@@ -157,11 +158,11 @@ row_item names e place at r p h g =
 
 -- ---- chains
 
-module _ (names : List Name) (w : World) (env : Env) (frames : List ℕ) where
+module _ (fs : List Function) (globals names : List Name) (w : World) (env : Env) (frames : List ℕ) where
   -- evaluating and the code come to the same, from any operands, cells and turns
   abbrev pub DoesOffset : Tree → ℕ → ℕ → List Instr → ℕ → Type 0
   DoesOffset e base n code m = (p : Part) → part_named names e ≡ Some p
-      → (stack cells : List ℤ) (left : ℕ) → StandsAt w.code.instrs base code → AreBelow n names → AllApart w.low w.high names → Holds names w.tokens cells env
+      → (stack cells : List ℤ) (left : ℕ) → StandsAt w.code.instrs base code → Below fs globals names w env frames n → Apart fs globals names w env frames → Held fs globals names w env frames cells
       → Follows (eval e w.calls env left) (AtOffset names w env p n m (state base stack frames cells left) (base + length code)) (CutsOff w n m (state base stack frames cells left))
 
   offset_end : (p : Part) (o : Out Value) (n m a b : ℕ) (s : State) → a ≡ b → Follows o (AtOffset names w env p n m s a) (CutsOff w n m s) → Follows o (AtOffset names w env p n m s b) (CutsOff w n m s)
@@ -171,7 +172,7 @@ module _ (names : List Name) (w : World) (env : Env) (frames : List ℕ) where
   does_whole text at base n p g stack cells left stands below apart holds =
       let s : State = state base stack frames cells left in
       let f : IsWhole names text p = whole_found names text at p g in
-      let h : HoldsName w.tokens cells env text f.x = holds text f.x f.is in
+      let h : HoldsName w.tokens cells env text f.x = holds.0 text f.x f.is in
       let size : scalars_of_type p.shape ≡ p.size = sized_is p.shape p.size (ap sized (sym f.shape) ∙ f.size) in
       subst (λ (o : Option Value). Follows (known o left) (AtOffset names w env p n n s (base + 1)) (CutsOff w n n s)) (sym h.meant) (record {
         offset = 0;
@@ -214,7 +215,7 @@ module _ (names : List Name) (w : World) (env : Env) (frames : List ℕ) where
       (λ c g. record { cells = cells; ends = ends_join reach (stop (steps ∙ ap (go_on s) g)); keeps = keeps })
 
   pub does_row : (e place : Tree) (at base n k m : ℕ) (a b : List Instr) (r : Rows) → rows_named names e ≡ Some r → n ≤ k → k ≤ m
-      → DoesOffset e base n a k → Does names w env frames place (base + length a) k b m → DoesOffset (tree.index e place at) base n (a ++ (b ++ row_instr r ∷ [])) m
+      → DoesOffset e base n a k → Does fs globals names w env frames place (base + length a) k b m → DoesOffset (tree.index e place at) base n (a ++ (b ++ row_instr r ∷ [])) m
   does_row e place at base n k m a b r g le ge first second p h stack cells left stands below apart holds =
       let i : Instr = row_instr r in
       let rest = stands_right w.code.instrs base a (b ++ i ∷ []) stands in
@@ -225,7 +226,7 @@ module _ (names : List Name) (w : World) (env : Env) (frames : List ℕ) where
       follows_then (eval e w.calls env left) (λ v j. and_then (eval place w.calls env j) (λ u c. indexed v u c)) (AtOffset names w env rows.part n k s (base + length a)) (CutsOff w n k s) (AtOffset names w env p n m s (base + length (a ++ (b ++ i ∷ [])))) (CutsOff w n m s)
       (first rows.part rows.is stack cells left (stands_left w.code.instrs base a (b ++ i ∷ []) stands) below apart holds)
       (λ v j x. follows_then (eval place w.calls env j) (λ u c. indexed v u c) (Pushes w k m (state (base + length a) (pos x.offset ∷ stack) frames x.cells j) (base + length a + length b)) (CutsOff w k m (state (base + length a) (pos x.offset ∷ stack) frames x.cells j)) (AtOffset names w env p n m s (base + length (a ++ (b ++ i ∷ [])))) (CutsOff w n m s)
-      (second (pos x.offset ∷ stack) x.cells j (stands_left w.code.instrs (base + length a) b (i ∷ []) rest) (below_more n k names le below) apart (holds_still names w.tokens env x.keeps below apart holds))
+      (second (pos x.offset ∷ stack) x.cells j (stands_left w.code.instrs (base + length a) b (i ∷ []) rest) (below_on fs globals names w env frames n k le below) apart (still fs globals names w env frames x.keeps below apart holds))
       (λ u c y. offset_end p (indexed v u c) n m _ _ s end
       (row_after rows.part p r rows.items n m base (base + length a + length b) stack cells y.cells left c x.offset v u y.number rows.shape rows.each (row_item names e place at r p rows h) x.inside y.is there
       (reaches_join x.reaches y.reaches) (keeps_join (keeps_wider n m (omega arith) ge x.keeps) (keeps_wider n m le (omega arith) y.keeps))))
@@ -260,7 +261,7 @@ module _ (names : List Name) (w : World) (env : Env) (frames : List ℕ) where
       same_value : (v u : Value) → ◌≡◌ {A = Option Value} (Some v) (Some u) → v ≡ u
       same_value v u e = cc
 
-  pub does_deep : (e : Tree) (base n m : ℕ) (code : List Instr) (l : ItemList) → deep_named names e ≡ Some l → DoesOffset e base n code m → Does names w env frames e base n (code ++ item_instr l ∷ []) m
+  pub does_deep : (e : Tree) (base n m : ℕ) (code : List Instr) (l : ItemList) → deep_named names e ≡ Some l → DoesOffset e base n code m → Does fs globals names w env frames e base n (code ++ item_instr l ∷ []) m
   does_deep e base n m code l g does stack cells left stands below apart holds =
       let i : Instr = item_instr l in
       let s : State = state base stack frames cells left in
@@ -270,5 +271,5 @@ module _ (names : List Name) (w : World) (env : Env) (frames : List ℕ) where
       follows_more (eval e w.calls env left) (AtOffset names w env d.part n m s (base + length code)) (CutsOff w n m s) (Pushes w n m s (base + length (code ++ i ∷ []))) (CutsOff w n m s)
       (does d.part d.is stack cells left (stands_left w.code.instrs base code (i ∷ []) stands) below apart holds)
       (λ v k x. subst (λ y. Pushes w n m s y v k) end
-      (deep_reads d.part l n m base (base + length code) stack cells x.cells left k x.offset v d.shape d.seat d.size x.inside (holds_still names w.tokens env x.keeps below apart holds) there x.reaches x.keeps))
+      (deep_reads d.part l n m base (base + length code) stack cells x.cells left k x.offset v d.shape d.seat d.size x.inside (holds_still names w.tokens env x.keeps below.0 apart.0 holds.0) there x.reaches x.keeps))
       (λ c t. t)

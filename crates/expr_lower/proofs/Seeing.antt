@@ -17,6 +17,7 @@ use Rattle.expr_lower.specs.Meant.{local}
 use Rattle.expr_lower.specs.Names.{Name, named}
 use Rattle.expr_lower.specs.Seen.{IsHidden, IsNotLocal, one_in, one_of, one_named}
 use Rattle.expr_lower.specs.StmtGrowing.{cell_of, cell_named}
+use Rattle.expr_lower.specs.Callees.{Function}
 use Rattle.expr_lower.specs.Truths.{is_truth, is_truth_shape}
 
 -- the words of the definitions, of what was found
@@ -97,8 +98,8 @@ one_cell names text = go (named text names)
     go (Some x) = at_shape x.seat x.shape
 
 -- whether it is seen to be a truth value
-pub one_truth : (names : List Name) (text : List ℕ) → is_truth names (tree.variable text 0) ≡ is_truth_in (one_named names text)
-one_truth names text = go (named text names)
+pub one_truth : (fs : List Function) (names : List Name) (text : List ℕ) → is_truth fs names (tree.variable text 0) ≡ is_truth_in (one_named names text)
+one_truth fs names text = go (named text names)
   where
     at_shape : (seat : Seat) (shape : Shape) → is_truth_shape shape ≡ is_truth_in (one_in seat shape)
     at_shape seat (Single t) = refl

@@ -108,7 +108,7 @@ module _ (outer : List Name) (w : World) (frames : List ℕ) (runs : Runs) where
       (one.0, at_first c cells one.0 (Some one.0) (stand 0 one.0 refl))
 
   pub set_performs : (inner : List Name) (text : List ℕ) (value : Tree) (place at base n m c : ℕ) (code : List Instr) (x : Name) (t : Scalar)
-      → named text (inner ++ outer) ≡ Some x → x.seat ≡ Cell c → x.shape ≡ Single t → IsCode (inner ++ outer) value base n code m
+      → named text (inner ++ outer) ≡ Some x → x.seat ≡ Cell c → x.shape ≡ Single t → IsCode [] (inner ++ outer) value base n code m
       → Performs outer w frames inner (λ env left. exec (tree.assign (tree.ident text place) tree.nil value at) w.calls runs env left) base n (code ++ op.Store c (Some t) ∷ []) m
   set_performs inner text value place at base n m c code x t e seat shape coded stack cells env left stands laid apart room holds =
       let names : List Name = inner ++ outer in
@@ -287,7 +287,7 @@ module _ (outer : List Name) (w : World) (frames : List ℕ) (runs : Runs) where
       go (Items us) f = never inner n m base place end c text x (z ∷ y ∷ stack) stack before cells (Cons (Items us) Nil) v env left k (λ d. ⊥) (λ d q. absurd q) laid e seat (odd_put x t c size k (Items us) cells v shape seat (λ i g. cc)) now
 
   pub set_item_performs : (inner : List Name) (text : List ℕ) (spot value : Tree) (place at base n k m c size : ℕ) (a b : List Instr) (x : Name) (t : Scalar)
-      → named text (inner ++ outer) ≡ Some x → x.seat ≡ Cell c → x.shape ≡ Many size (Single t) → IsCode (inner ++ outer) spot base n a k → IsCode (inner ++ outer) value (base + length a) k b m
+      → named text (inner ++ outer) ≡ Some x → x.seat ≡ Cell c → x.shape ≡ Many size (Single t) → IsCode [] (inner ++ outer) spot base n a k → IsCode [] (inner ++ outer) value (base + length a) k b m
       → Performs outer w frames inner (λ env left. exec (tree.assign (tree.ident text place) (tree.cons spot tree.nil) value at) w.calls runs env left) base n (a ++ (b ++ op.StoreAt c size (Some t) ∷ [])) m
   set_item_performs inner text spot value place at base n k m c size a b x t e seat shape first second stack cells env left stands laid apart room holds =
       let names : List Name = inner ++ outer in

@@ -1,5 +1,5 @@
 -- Lowered expressions give single values.
-use Rattle.std.proofs.Common.{◌≡◌, ℕ, ℤ, pos, negsuc, List, Bool, true, false, refl, sym, subst, Option, None, Some}
+use Rattle.std.proofs.Common.{◌≡◌, ℕ, ℤ, pos, negsuc, List, Bool, true, false, refl, sym, subst, Option, None, Some, zero, suc, [], length, ap, ◌∙◌}
 use Rattle.std.specs.Prelude.{if◌then◌else◌, nat_le, ◌==◌, unsigned_abs, ◌+ℤ◌, ◌-ℤ◌, ◌*ℤ◌, neg_ℤ, int_div, int_rem, ◌^◌}
 use Rattle.std.specs.Int.{int_shr}
 use Rattle.rvc_base.specs.declared.scalar.Scalar.{Scalar}
@@ -12,21 +12,24 @@ use Rattle.cal_ast.specs.declared.expr.PrefixOp.TheVariants as prefixes
 use Rattle.cal_ast.specs.declared.expr.BinOp.{BinOp}
 use Rattle.cal_ast.specs.declared.expr.BinOp.TheVariants as binaries
 use Rattle.cal_ast.specs.Tree.{Tree}
-use Rattle.cal_model.specs.Value.{Shape, Single, Many, Value, Num, Truth, Items, Values, value_at, HasKind, HaveKind, kind_of_type, kind_of_scalar}
-use Rattle.cal_model.specs.Outcome.{Out, Gives, Traps, and_then, known}
-use Rattle.cal_model.specs.Env.{Env}
-use Rattle.cal_model.specs.Expression.{Calls, eval, computed, prefixed, applied, of_numbers, of_truths, with_right, chosen, indexed}
+use Rattle.cal_model.specs.Value.{Shape, Single, Many, Value, Num, Truth, Items, Values, value_at, HasKind, HaveKind, kind_of_type, kind_of_scalar, Nil, Cons, count}
+use Rattle.cal_model.specs.Outcome.{Out, Gives, Traps, Lacks, Clashes, and_then, known, turn}
+use Rattle.cal_model.specs.Env.{Var, Env}
+use Rattle.cal_model.specs.Expression.{Calls, eval, eval_all, computed, prefixed, applied, of_numbers, of_truths, with_right, chosen, indexed}
 use Rattle.cal_model.proofs.Numbers.{is-num, rest-is-num, shifted-is-num, and-is-num, or-is-num, xor-is-num, not-is-num}
 use Rattle.code_ir.specs.declared.instr.Instr.{Instr}
 use Rattle.expr_lower.specs.Names.{Name, IsSingle}
 use Rattle.expr_lower.specs.Held.{HoldsName, Holds}
 use Rattle.expr_lower.specs.Following.{Follows}
 use Rattle.expr_lower.specs.declared.names.ItemList.{ItemList}
-use Rattle.expr_lower.specs.Coding.{IsCode, IsTest, number, too_great, negative, truth, variable, paren, prefix, binary, both, either, if_code, tested, both_tested, item, deep_item}
+use Rattle.expr_lower.specs.Callees.{Function, function_named}
+use Rattle.expr_lower.specs.Coding.{AreArgs, IsCode, IsTest, arg_more, call, no_arg, number, too_great, negative, truth, variable, paren, prefix, binary, both, either, if_code, tested, both_tested, item, deep_item}
 use Rattle.expr_lower.proofs.Effects.{goes_right}
 use Rattle.cal_ast.specs.Tree as tree
 use Rattle.expr_lower.proofs.Listing.{IsList, named_list, item_kind}
 use Rattle.expr_lower.proofs.PartValues.{deep_only}
+use Rattle.expr_lower.specs.Parted.{number_of}
+use Rattle.expr_lower.proofs.Finding.{is_found}
 use Rattle.expr_lower.proofs.Runs.{follows_more, follows_then}
 
 -- a truth value, or a number of the language
@@ -178,37 +181,69 @@ item_single l vs (Num (pos k)) left h = go (value_at vs k) refl
 
 -- ---- all forms
 
-module _ (names : List Name) (tokens : ℕ → List ℤ) (cells : List ℤ) (env : Env) (calls : Calls) (holds : Holds names tokens cells env) where
+-- each of the values is single
+abbrev pub AreSingles : Values → Type 0
+AreSingles Nil = Unit {0}
+AreSingles (Cons v vs) = IsSingleValue v × AreSingles vs
+
+-- over these globals, and for single values, the functions give values of their types' kinds
+abbrev pub KindsIn : Calls → List Var → List Function → Type 0
+KindsIn calls vars fs = (text : List ℕ) (f : Function) → function_named text fs ≡ Some f → (vs : Values) (left : ℕ) → AreSingles vs → count vs ≡ length f.formals
+    → Follows (calls vars text vs left) (λ v k. HasKind (kind_of_scalar f.result) v) (λ c. Unit {0})
+
+module _ (fs : List Function) (calls : Calls) (names : List Name) (tokens : ℕ → List ℤ) (cells : List ℤ) (env : Env) (gives : KindsIn calls env.globals fs) (holds : Holds names tokens cells env) where
   mutual
-    pub singles : {e : Tree} {base n m : ℕ} {code : List Instr} → IsCode names e base n code m → (left : ℕ) → OnlySingles (eval e calls env left)
-    singles (number k at base n h) left = whole_single (pos k) left
-    singles (too_great k at base n h) left = whole_single (pos k) left
-    singles (negative k at base n place h) left = single_then (computed (arithmetic.whole (pos k)) left) (λ v m. prefixed prefixes.Neg v m) (whole_single (pos k) left) (λ v m i. prefix_single prefixes.Neg v m i)
-    singles (truth b at base n) left = tt
-    singles (variable text at base n x e s) left =
+    pub singles_in : {e : Tree} {base n m : ℕ} {code : List Instr} → IsCode fs names e base n code m → (left : ℕ) → OnlySingles (eval e calls env left)
+    singles_in (number k at base n h) left = whole_single (pos k) left
+    singles_in (too_great k at base n h) left = whole_single (pos k) left
+    singles_in (negative k at base n place h) left = single_then (computed (arithmetic.whole (pos k)) left) (λ v m. prefixed prefixes.Neg v m) (whole_single (pos k) left) (λ v m i. prefix_single prefixes.Neg v m i)
+    singles_in (truth b at base n) left = tt
+    singles_in (variable text at base n x e s) left =
         let h : HoldsName tokens cells env text x = holds text x e in
         subst (λ (o : Option Value). OnlySingles (known o left)) (sym h.meant) (shape_single x.shape h.value s h.of_type)
-    singles (paren e at base n m code h) left = singles h left
-    singles (prefix o e at base n m code h) left = single_then (eval e calls env left) (λ v m. prefixed o v m) (singles h left) (λ v m i. prefix_single o v m i)
-    singles (binary o i l r at base n k m a b e h g) left =
-        single_then (eval l calls env left) (λ v m. with_right o v (λ k. eval r calls env k) m) (singles h left) (λ v m s.
-        subst OnlySingles (sym (goes_right o i v (λ k. eval r calls env k) m e)) (right_single o v (λ k. eval r calls env k) m s (λ k. singles g k)))
-    singles (item e place at base n m code l g h) left =
+    singles_in (paren e at base n m code h) left = singles_in h left
+    singles_in (prefix o e at base n m code h) left = single_then (eval e calls env left) (λ v m. prefixed o v m) (singles_in h left) (λ v m i. prefix_single o v m i)
+    singles_in (binary o i l r at base n k m a b e h g) left =
+        single_then (eval l calls env left) (λ v m. with_right o v (λ k. eval r calls env k) m) (singles_in h left) (λ v m s.
+        subst OnlySingles (sym (goes_right o i v (λ k. eval r calls env k) m e)) (right_single o v (λ k. eval r calls env k) m s (λ k. singles_in g k)))
+    singles_in (call text args at base n m code f e h) left =
+        follows_then (eval_all args calls env left) (λ vs k. turn k (λ j. calls env.globals text vs j)) (λ vs k. AreSingles vs × (count vs ≡ number_of args)) (λ c. Unit {0}) (λ v m. IsSingleValue v) (λ c. Unit {0})
+        (singles_args h left) (λ vs k p. turned vs k p) (λ c t. tt)
+      where
+        turned : (vs : Values) (k : ℕ) → AreSingles vs × (count vs ≡ number_of args) → OnlySingles (turn k (λ j. calls env.globals text vs j))
+        turned vs zero p = tt
+        turned vs (suc j) p =
+            let there = is_found text (number_of args) fs f e in
+            follows_more (calls env.globals text vs j) (λ v m. HasKind (kind_of_scalar f.result) v) (λ c. Unit {0}) (λ v m. IsSingleValue v) (λ c. Unit {0})
+            (gives text f there.0 vs j p.0 (p.1 ∙ sym there.1)) (λ v m k. kind_single f.result v k) (λ c t. tt)
+    singles_in (item e place at base n m code l g h) left =
         let list : IsList tokens cells (eval e calls env left) left l = named_list names tokens cells env e l calls left g holds in
         subst (λ (o : Out Value). OnlySingles (and_then o (λ v h. and_then (eval place calls env h) (λ x k. indexed v x k)))) (sym list.gives)
-        (single_then (eval place calls env left) (λ x k. indexed (Items list.values) x k) (singles h left) (λ x k s. item_single l list.values x k list.kinds))
-    singles (deep_item e place at base n m code l g h) left =
+        (single_then (eval place calls env left) (λ x k. indexed (Items list.values) x k) (singles_in h left) (λ x k s. item_single l list.values x k list.kinds))
+    singles_in (deep_item e place at base n m code l g h) left =
         follows_more (eval (tree.index e place at) calls env left) (λ v m. HasKind (kind_of_scalar l.kind) v) (λ c. Unit {0}) (λ v m. IsSingleValue v) (λ c. Unit {0})
         (deep_only names tokens cells env calls holds (tree.index e place at) l left g) (λ v m k. kind_single l.kind v k) (λ c t. tt)
-    singles (both l r at base n k m far end a b t h g e f) left =
-        single_then (eval l calls env left) (λ v m. with_right binaries.And v (λ k. eval r calls env k) m) (singles_test h left) (λ v m s. and_single v (λ k. eval r calls env k) m s (λ k. singles g k))
-    singles (either l r at base n k m right end a b t h g e f) left =
-        single_then (eval l calls env left) (λ v m. with_right binaries.Or v (λ k. eval r calls env k) m) (singles_test h left) (λ v m s. or_single v (λ k. eval r calls env k) m s (λ k. singles g k))
-    singles (if_code test first other at base n k j m else_at end a b c h g d e f) left =
+    singles_in (both l r at base n k m far end a b t h g e f) left =
+        single_then (eval l calls env left) (λ v m. with_right binaries.And v (λ k. eval r calls env k) m) (singles_test h left) (λ v m s. and_single v (λ k. eval r calls env k) m s (λ k. singles_in g k))
+    singles_in (either l r at base n k m right end a b t h g e f) left =
+        single_then (eval l calls env left) (λ v m. with_right binaries.Or v (λ k. eval r calls env k) m) (singles_test h left) (λ v m s. or_single v (λ k. eval r calls env k) m s (λ k. singles_in g k))
+    singles_in (if_code test first other at base n k j m else_at end a b c h g d e f) left =
         single_then (eval test calls env left) (λ v m. chosen v (λ k. eval first calls env k) (λ k. eval other calls env k) m) (singles_test h left)
-        (λ v m s. chosen_single v (λ k. eval first calls env k) (λ k. eval other calls env k) m (λ k. singles g k) (λ k. singles d k))
+        (λ v m s. chosen_single v (λ k. eval first calls env k) (λ k. eval other calls env k) m (λ k. singles_in g k) (λ k. singles_in d k))
 
-    singles_test : {e : Tree} {base n far m : ℕ} {code : List Instr} → IsTest names e base n far code m → (left : ℕ) → OnlySingles (eval e calls env left)
-    singles_test (tested e base n m far code h) left = singles h left
+    singles_args : {es : Tree} {base n m : ℕ} {code : List Instr} → AreArgs fs names es base n code m → (left : ℕ) → Follows (eval_all es calls env left) (λ vs k. AreSingles vs × (count vs ≡ number_of es)) (λ c. Unit {0})
+    singles_args (no_arg base n) left = (tt, refl)
+    singles_args (arg_more e es base n k m a b h g) left =
+        follows_then (eval e calls env left) (λ v j. and_then (eval_all es calls env j) (λ vs i. Gives (Cons v vs) i)) (λ v j. IsSingleValue v) (λ c. Unit {0}) (λ vs i. AreSingles vs × (count vs ≡ suc (number_of es))) (λ c. Unit {0})
+        (singles_in h left)
+        (λ v j s. follows_then (eval_all es calls env j) (λ vs i. Gives (Cons v vs) i) (λ vs i. AreSingles vs × (count vs ≡ number_of es)) (λ c. Unit {0}) (λ vs i. AreSingles vs × (count vs ≡ suc (number_of es))) (λ c. Unit {0})
+        (singles_args g j) (λ vs i p. ((s, p.0), ap suc p.1)) (λ c t. tt))
+        (λ c t. tt)
+
+    singles_test : {e : Tree} {base n far m : ℕ} {code : List Instr} → IsTest fs names e base n far code m → (left : ℕ) → OnlySingles (eval e calls env left)
+    singles_test (tested e base n m far code h) left = singles_in h left
     singles_test (both_tested l r at base n k m far a b t h g) left =
         single_then (eval l calls env left) (λ v m. with_right binaries.And v (λ k. eval r calls env k) m) (singles_test h left) (λ v m s. and_single v (λ k. eval r calls env k) m s (λ k. singles_test g k))
+
+pub singles : (names : List Name) (tokens : ℕ → List ℤ) (cells : List ℤ) (env : Env) (calls : Calls) → Holds names tokens cells env → {e : Tree} {base n m : ℕ} {code : List Instr} → IsCode [] names e base n code m → (left : ℕ) → OnlySingles (eval e calls env left)
+singles names tokens cells env calls holds coded left = singles_in [] calls names tokens cells env (λ text f e. cc) holds coded left

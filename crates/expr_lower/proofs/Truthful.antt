@@ -22,6 +22,7 @@ use Rattle.expr_lower.proofs.Listing.{IsList, named_list, item_kind}
 use Rattle.expr_lower.proofs.PartValues.{deep_only}
 use Rattle.expr_lower.proofs.Runs.{follows_more}
 use Rattle.expr_lower.specs.Held.{HoldsName, Holds}
+use Rattle.expr_lower.specs.Callees.{Function}
 use Rattle.expr_lower.specs.Following.{Follows}
 
 abbrev pub IsTruth : Value → Type 0
@@ -157,17 +158,17 @@ either_truth : (names : List Name) (tokens : ℕ → List ℤ) (cells : List ℤ
 either_truth names tokens cells env e place at calls left true g h holds = item_truth names tokens cells env e place calls left (list_named names e) refl g holds
 either_truth names tokens cells env e place at calls left false g h holds = deep_truth names tokens cells env (tree.index e place at) calls left (deep_named names (tree.index e place at)) refl h holds
 
-pub truths : (e : Tree) (names : List Name) (tokens : ℕ → List ℤ) (cells : List ℤ) (env : Env) (calls : Calls) (left : ℕ) → is_truth names e ≡ true → Holds names tokens cells env → OnlyTruths (eval e calls env left)
-truths (tree.truth b at) names tokens cells env calls left h holds = tt
-truths (tree.variable text at) names tokens cells env calls left h holds = name_truth names tokens cells env text left (named text names) refl h holds
-truths (tree.paren e at) names tokens cells env calls left h holds = truths e names tokens cells env calls left h holds
-truths (tree.if_expr test first other at) names tokens cells env calls left h holds =
-    let parts = and_parts (is_truth names first) (is_truth names other) h in
+pub truths : (fs : List Function) (calls : Calls) (e : Tree) (names : List Name) (tokens : ℕ → List ℤ) (cells : List ℤ) (env : Env) (left : ℕ) → is_truth fs names e ≡ true → Holds names tokens cells env → OnlyTruths (eval e calls env left)
+truths fs calls (tree.truth b at) names tokens cells env left h holds = tt
+truths fs calls (tree.variable text at) names tokens cells env left h holds = name_truth names tokens cells env text left (named text names) refl h holds
+truths fs calls (tree.paren e at) names tokens cells env left h holds = truths fs calls e names tokens cells env left h holds
+truths fs calls (tree.if_expr test first other at) names tokens cells env left h holds =
+    let parts = and_parts (is_truth fs names first) (is_truth fs names other) h in
     after_any (eval test calls env left) (λ v m. chosen v (λ k. eval first calls env k) (λ k. eval other calls env k) m)
-    (λ v m. chosen_truth v (λ k. eval first calls env k) (λ k. eval other calls env k) m (truths first names tokens cells env calls m parts.0 holds) (truths other names tokens cells env calls m parts.1 holds))
-truths (tree.index e place at) names tokens cells env calls left h holds = either_truth names tokens cells env e place at calls left (is_truth_list (list_named names e)) refl h holds
-truths (tree.prefix o e at) names tokens cells env calls left h holds =
+    (λ v m. chosen_truth v (λ k. eval first calls env k) (λ k. eval other calls env k) m (truths fs calls first names tokens cells env m parts.0 holds) (truths fs calls other names tokens cells env m parts.1 holds))
+truths fs calls (tree.index e place at) names tokens cells env left h holds = either_truth names tokens cells env e place at calls left (is_truth_list (list_named names e)) refl h holds
+truths fs calls (tree.prefix o e at) names tokens cells env left h holds =
     after_any (eval e calls env left) (λ v m. prefixed o v m) (λ v m. prefix_truth o v m h)
-truths (tree.binary o l r at) names tokens cells env calls left h holds =
+truths fs calls (tree.binary o l r at) names tokens cells env left h holds =
     after_any (eval l calls env left) (λ v m. with_right o v (λ k. eval r calls env k) m) (λ v m. with_right_truth o v (λ k. eval r calls env k) m h)
-truths other names tokens cells env calls left h holds = cc
+truths fs calls other names tokens cells env left h holds = cc

@@ -7,6 +7,8 @@ abbrev pub size : Tree → ℕ
 size (tree.paren e at) = 8 + size e
 size (tree.if_expr test first other at) = 8 + size test + size first + size other
 size (tree.index base place at) = 8 + size base + size place
+size (tree.call name args at) = 8 + size args
+size (tree.cons e es) = 3 + size e + size es
 size (tree.prefix op e at) = 8 + size e
 size (tree.binary op l r at) = 8 + size l + size r
 size other = 1

@@ -1,15 +1,17 @@
 -- What was added to a draft for an expression does all that is promised.
-use Rattle.std.proofs.Common.{List, length, arith}
+use Rattle.std.proofs.Common.{List, [], length, arith}
 use Rattle.cal_ast.specs.Tree.{Tree}
 use Rattle.expr_lower.specs.declared.draft.Draft.{Draft}
 use Rattle.expr_lower.specs.Names.{Name}
 use Rattle.expr_lower.specs.Held.{AreBelow}
 use Rattle.expr_lower.specs.Coding.{IsCode}
+use Rattle.expr_lower.specs.Callees.{Function}
+use Rattle.expr_lower.specs.Calling.{IsLoweredWith}
 use Rattle.expr_lower.specs.Lowered.{Adds, IsLowered}
-use Rattle.expr_lower.proofs.Coded.{evaluates, grows}
-use Rattle.expr_lower.proofs.Fitted.{fits}
+use Rattle.expr_lower.proofs.Coded.{evaluates, evaluates_with, grows}
+use Rattle.expr_lower.proofs.Fitted.{fits, fits_in}
 
-pub lowered : (names : List Name) (e : Tree) (old new : Draft) → AreBelow old.cells names → Adds (IsCode names e) old new → Adds (IsLowered names e) old new
+pub lowered : (names : List Name) (e : Tree) (old new : Draft) → AreBelow old.cells names → Adds (IsCode [] names e) old new → Adds (IsLowered names e) old new
 lowered names e old new below a = record {
   code = a.code;
   is = a.is;
@@ -18,5 +20,17 @@ lowered names e old new below a = record {
     cells = grows a.has;
     evaluates = evaluates names e (length old.instrs.items) old.cells new.cells a.code below a.has;
     fits = λ whole callable h. fits whole callable new.cells names h below (omega arith) a.has;
+  };
+}
+
+pub lowered_with : (fs : List Function) (names : List Name) (e : Tree) (old new : Draft) → AreBelow old.cells names → Adds (IsCode fs names e) old new → Adds (IsLoweredWith fs names e) old new
+lowered_with fs names e old new below a = record {
+  code = a.code;
+  is = a.is;
+  routines = a.routines;
+  has = record {
+    cells = grows a.has;
+    evaluates = evaluates_with names e (length old.instrs.items) old.cells new.cells a.code below a.has;
+    fits = λ whole callable h has. fits_in whole callable new.cells fs has names h below (omega arith) a.has;
   };
 }

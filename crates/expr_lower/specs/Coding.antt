@@ -13,11 +13,13 @@ use Rattle.code_ir.specs.declared.instr.Instr.{Instr}
 use Rattle.code_ir.specs.declared.instr.Instr.TheVariants as op
 use Rattle.expr_lower.specs.declared.names.Seat.{Seat}
 use Rattle.expr_lower.specs.declared.names.Seat.TheVariants.{Cell, Tokens}
+use Rattle.expr_lower.specs.declared.callees.Formal.{Formal}
+use Rattle.expr_lower.specs.Callees.{Function, function_for}
 use Rattle.expr_lower.specs.Names.{Name, IsSingle, named}
 use Rattle.expr_lower.specs.declared.names.ItemList.{ItemList}
 use Rattle.expr_lower.specs.Listed.{list_named}
 use Rattle.expr_lower.specs.declared.parts.Rows.{Rows}
-use Rattle.expr_lower.specs.Parted.{rows_named, deep_named}
+use Rattle.expr_lower.specs.Parted.{rows_named, deep_named, number_of}
 use Rattle.expr_lower.specs.Truths.{is_truth}
 
 -- the instruction of an operation with one operand
@@ -69,78 +71,100 @@ row_instr r = op.Index r.count r.each
 abbrev pub one_too_great : List Instr
 one_too_great = op.Const greatest_num ∷ op.Const (pos 1) ∷ op.Add ∷ []
 
+-- the arguments go from the stack to the cells of the formals, the last one first
+abbrev pub formal_stores : List Formal → List Instr
+formal_stores [] = []
+formal_stores (x ∷ xs) = formal_stores xs ++ op.Store x.cell (Some x.kind) ∷ []
+
+-- a call whose arguments stand on the stack: a turn, and then the routine
+abbrev pub call_code : Function → List Instr
+call_code f = op.Turn ∷ (formal_stores f.formals ++ op.Call f.routine ∷ [])
+
 mutual
   -- Code of an expression that stands at a place. It pushes the value. Of the cells, it uses those from n to m.
-  pub data IsCode (names : List Name) : Tree → ℕ → ℕ → List Instr → ℕ → Type 0 where
+  pub data IsCode (fs : List Function) (names : List Name) : Tree → ℕ → ℕ → List Instr → ℕ → Type 0 where
     number : (k at base n : ℕ) → is_num (pos k) ≡ true
-        → IsCode names (tree.number k at) base n (op.Const (pos k) ∷ []) n
+        → IsCode fs names (tree.number k at) base n (op.Const (pos k) ∷ []) n
     -- a literal that is no number traps
     too_great : (k at base n : ℕ) → is_num (pos k) ≡ false
-        → IsCode names (tree.number k at) base n one_too_great n
+        → IsCode fs names (tree.number k at) base n one_too_great n
     negative : (k at base n place : ℕ) → is_num (pos k) ≡ true
-        → IsCode names (tree.prefix prefixes.Neg (tree.number k place) at) base n
+        → IsCode fs names (tree.prefix prefixes.Neg (tree.number k place) at) base n
         (op.Const (neg_ℤ (pos k)) ∷ []) n
     truth : (b : Bool) (at base n : ℕ)
-        → IsCode names (tree.truth b at) base n (op.Const (arithmetic.truth b) ∷ []) n
+        → IsCode fs names (tree.truth b at) base n (op.Const (arithmetic.truth b) ∷ []) n
     variable : (text : List ℕ) (at base n : ℕ) (x : Name) → named text names ≡ Some x
         → IsSingle x.shape
-        → IsCode names (tree.variable text at) base n (seat_instr x.seat ∷ []) n
-    paren : (e : Tree) (at base n m : ℕ) (code : List Instr) → IsCode names e base n code m
-        → IsCode names (tree.paren e at) base n code m
+        → IsCode fs names (tree.variable text at) base n (seat_instr x.seat ∷ []) n
+    paren : (e : Tree) (at base n m : ℕ) (code : List Instr) → IsCode fs names e base n code m
+        → IsCode fs names (tree.paren e at) base n code m
     prefix : (o : PrefixOp) (e : Tree) (at base n m : ℕ) (code : List Instr)
-        → IsCode names e base n code m
-        → IsCode names (tree.prefix o e at) base n (code ++ prefix_instr o ∷ []) m
+        → IsCode fs names e base n code m
+        → IsCode fs names (tree.prefix o e at) base n (code ++ prefix_instr o ∷ []) m
     binary : (o : BinOp) (i : Instr) (l r : Tree) (at base n k m : ℕ) (a b : List Instr)
         → binary_instr o ≡ Some i
-        → IsCode names l base n a k → IsCode names r (base + length a) k b m
-        → IsCode names (tree.binary o l r at) base n (a ++ (b ++ i ∷ [])) m
+        → IsCode fs names l base n a k → IsCode fs names r (base + length a) k b m
+        → IsCode fs names (tree.binary o l r at) base n (a ++ (b ++ i ∷ [])) m
+    -- the arguments, a turn, and the routine of the function
+    call : (text : List ℕ) (args : Tree) (at base n m : ℕ) (code : List Instr) (f : Function)
+        → function_for text (number_of args) fs ≡ Some f
+        → AreArgs fs names args base n code m
+        → IsCode fs names (tree.call text args at) base n (code ++ call_code f) m
     -- the place, and then the item there
     item : (e place : Tree) (at base n m : ℕ) (code : List Instr) (l : ItemList)
-        → list_named names e ≡ Some l → IsCode names place base n code m
-        → IsCode names (tree.index e place at) base n (code ++ item_instr l ∷ []) m
+        → list_named names e ≡ Some l → IsCode fs names place base n code m
+        → IsCode fs names (tree.index e place at) base n (code ++ item_instr l ∷ []) m
     -- the offset of the item in the whole list, and then the item there
     deep_item : (e place : Tree) (at base n m : ℕ) (code : List Instr) (l : ItemList)
         → deep_named names (tree.index e place at) ≡ Some l
-        → IsOffset names (tree.index e place at) base n code m
-        → IsCode names (tree.index e place at) base n (code ++ item_instr l ∷ []) m
+        → IsOffset fs names (tree.index e place at) base n code m
+        → IsCode fs names (tree.index e place at) base n (code ++ item_instr l ∷ []) m
     -- if the left side is false, the right one isn't evaluated
-    both : (l r : Tree) (at base n k m out end : ℕ) (a b : List Instr) → is_truth names l ≡ true
-        → IsTest names l base n out a k → IsCode names r (base + length a) k b m
+    both : (l r : Tree) (at base n k m out end : ℕ) (a b : List Instr) → is_truth fs names l ≡ true
+        → IsTest fs names l base n out a k → IsCode fs names r (base + length a) k b m
         → out ≡ base + length a + length b + 1 → end ≡ out + 1
-        → IsCode names (tree.binary binaries.And l r at) base n
+        → IsCode fs names (tree.binary binaries.And l r at) base n
         (a ++ (b ++ op.Jump end ∷ op.Const (pos 0) ∷ [])) m
     -- if the left side is true, the right one isn't evaluated
-    either : (l r : Tree) (at base n k m right end : ℕ) (a b : List Instr) → is_truth names l ≡ true
-        → IsTest names l base n right a k → IsCode names r right k b m
+    either : (l r : Tree) (at base n k m right end : ℕ) (a b : List Instr) → is_truth fs names l ≡ true
+        → IsTest fs names l base n right a k → IsCode fs names r right k b m
         → right ≡ base + length a + 2 → end ≡ right + length b
-        → IsCode names (tree.binary binaries.Or l r at) base n
+        → IsCode fs names (tree.binary binaries.Or l r at) base n
         (a ++ (op.Const (pos 1) ∷ op.Jump end ∷ b)) m
     -- the condition, the first branch with a jump over the other, and the other branch
     if_code : (test first other : Tree) (at base n k h m else_at end : ℕ) (a b c : List Instr)
-        → IsTest names test base n else_at a k → IsCode names first (base + length a) k b h
-        → IsCode names other else_at h c m
+        → IsTest fs names test base n else_at a k → IsCode fs names first (base + length a) k b h
+        → IsCode fs names other else_at h c m
         → else_at ≡ base + length a + length b + 1 → end ≡ else_at + length c
-        → IsCode names (tree.if_expr test first other at) base n (a ++ (b ++ op.Jump end ∷ c)) m
+        → IsCode fs names (tree.if_expr test first other at) base n (a ++ (b ++ op.Jump end ∷ c)) m
+
+  -- code of arguments, one after the other
+  pub data AreArgs (fs : List Function) (names : List Name) :
+      Tree → ℕ → ℕ → List Instr → ℕ → Type 0 where
+    no_arg : (base n : ℕ) → AreArgs fs names tree.nil base n [] n
+    arg_more : (e es : Tree) (base n k m : ℕ) (a b : List Instr)
+        → IsCode fs names e base n a k → AreArgs fs names es (base + length a) k b m
+        → AreArgs fs names (tree.cons e es) base n (a ++ b) m
 
   -- Code of a chain of indexes on the name of a list, that stands at a place. It pushes the offset of the part in
   -- the whole list; each place is tested before the next one is evaluated.
-  pub data IsOffset (names : List Name) : Tree → ℕ → ℕ → List Instr → ℕ → Type 0 where
+  pub data IsOffset (fs : List Function) (names : List Name) : Tree → ℕ → ℕ → List Instr → ℕ → Type 0 where
     whole : (text : List ℕ) (at base n : ℕ)
-        → IsOffset names (tree.variable text at) base n (op.Const (pos 0) ∷ []) n
+        → IsOffset fs names (tree.variable text at) base n (op.Const (pos 0) ∷ []) n
     row : (e place : Tree) (at base n k m : ℕ) (a b : List Instr) (r : Rows)
         → rows_named names e ≡ Some r
-        → IsOffset names e base n a k → IsCode names place (base + length a) k b m
-        → IsOffset names (tree.index e place at) base n (a ++ (b ++ row_instr r ∷ [])) m
+        → IsOffset fs names e base n a k → IsCode fs names place (base + length a) k b m
+        → IsOffset fs names (tree.index e place at) base n (a ++ (b ++ row_instr r ∷ [])) m
 
   -- Code of a condition that stands at a place. It goes on after itself if the condition is true, and jumps to
   -- `out` if it is false.
-  pub data IsTest (names : List Name) : Tree → ℕ → ℕ → ℕ → List Instr → ℕ → Type 0 where
-    tested : (e : Tree) (base n m out : ℕ) (code : List Instr) → IsCode names e base n code m
-        → IsTest names e base n out (code ++ op.JumpIfNot out ∷ []) m
+  pub data IsTest (fs : List Function) (names : List Name) : Tree → ℕ → ℕ → ℕ → List Instr → ℕ → Type 0 where
+    tested : (e : Tree) (base n m out : ℕ) (code : List Instr) → IsCode fs names e base n code m
+        → IsTest fs names e base n out (code ++ op.JumpIfNot out ∷ []) m
     -- both conditions jump to the same place
-    both_tested : (l r : Tree) (at base n k m out : ℕ) (a b : List Instr) → is_truth names l ≡ true
-        → IsTest names l base n out a k → IsTest names r (base + length a) k out b m
-        → IsTest names (tree.binary binaries.And l r at) base n out (a ++ b) m
+    both_tested : (l r : Tree) (at base n k m out : ℕ) (a b : List Instr) → is_truth fs names l ≡ true
+        → IsTest fs names l base n out a k → IsTest fs names r (base + length a) k out b m
+        → IsTest fs names (tree.binary binaries.And l r at) base n out (a ++ b) m
 
 -- ---- conditions whose place to jump to isn't known yet
 
@@ -150,5 +174,5 @@ aimed out op.Done = op.JumpIfNot out
 aimed out i = i
 
 -- code of a condition, whatever the place is that it is to jump to
-abbrev pub IsOpenTest : List Name → Tree → ℕ → ℕ → List Instr → ℕ → Type 0
-IsOpenTest names e base n code m = (out : ℕ) → IsTest names e base n out (map (aimed out) code) m
+abbrev pub IsOpenTest : List Function → List Name → Tree → ℕ → ℕ → List Instr → ℕ → Type 0
+IsOpenTest fs names e base n code m = (out : ℕ) → IsTest fs names e base n out (map (aimed out) code) m

@@ -1,6 +1,6 @@
 -- What a call that adds to a draft answers.
 -- Trusted but for `IsOpposite` and `IsNegative`: part of what a promise means.
-use Rattle.std.specs.Prelude.{◌≡◌, ◌+◌, ◌^◌, ◌≤◌, ℕ, ℤ, pos, neg_ℤ, Bool, true, false, not, ◌&&◌, if◌then◌else◌, List, length, Option, None, Some}
+use Rattle.std.specs.Prelude.{◌≡◌, ◌+◌, ◌^◌, ◌≤◌, ℕ, ℤ, pos, neg_ℤ, Bool, true, false, not, ◌&&◌, if◌then◌else◌, List, [], length, Option, None, Some}
 use Rattle.rvc_base.specs.Width.{is_num}
 use Rattle.cal_ast.specs.declared.expr.PrefixOp.{PrefixOp}
 use Rattle.cal_ast.specs.declared.expr.PrefixOp.TheVariants.{Neg}
@@ -12,9 +12,10 @@ use Rattle.cal_model.specs.Value.{Single, Many}
 use Rattle.expr_lower.specs.declared.draft.Draft.{Draft}
 use Rattle.expr_lower.specs.declared.fault.LowerFault.{LowerFault}
 use Rattle.expr_lower.specs.declared.fault.LowerFault.TheVariants.{Memory, TooLong, TooManyCells, NotLowered}
+use Rattle.expr_lower.specs.Callees.{Function, function_for}
 use Rattle.expr_lower.specs.Names.{Name, named}
 use Rattle.expr_lower.specs.Listed.{list_named}
-use Rattle.expr_lower.specs.Parted.{deep_named}
+use Rattle.expr_lower.specs.Parted.{deep_named, number_of}
 use Rattle.expr_lower.specs.Truths.{is_truth}
 
 -- the first of two that is there
@@ -35,35 +36,47 @@ is_short binaries.And = true
 is_short o = false
 
 abbrev mutual
-  -- The place of the first part of an expression for which no code is made: a call, a list, a comprehension, a chain
+  -- The place of the first part of an expression for which no code is made: a call of what is none of these functions or
+  -- that has not as many arguments, a list, a comprehension, a chain
   -- of indexes that doesn't choose one of the single values of a named list, a name that isn't that of a single
   -- value, or an `and` or `or` whose left side isn't seen to be a truth value.
-  pub left_out : List Name → Tree → Option ℕ
-  left_out names (tree.number k at) = None
-  left_out names (tree.truth b at) = None
-  left_out names (tree.variable text at) = left_out_name (named text names) at
-  left_out names (tree.paren e at) = left_out names e
-  left_out names (tree.if_expr test first other at) =
-      left_out names test or_else (left_out names first or_else left_out names other)
-  left_out names (tree.prefix o e at) = left_out names e
-  left_out names (tree.binary o l r at) = if is_short o && not (is_truth names l) then Some at
-      else left_out names l or_else left_out names r
-  left_out names (tree.call name args at) = Some at
-  left_out names (tree.list items at) = Some at
-  left_out names (tree.comp item gens at) = Some at
-  left_out names (tree.index base place at) =
+  pub left_out_in : List Function → List Name → Tree → Option ℕ
+  left_out_in fs names (tree.number k at) = None
+  left_out_in fs names (tree.truth b at) = None
+  left_out_in fs names (tree.variable text at) = left_out_name (named text names) at
+  left_out_in fs names (tree.paren e at) = left_out_in fs names e
+  left_out_in fs names (tree.if_expr test first other at) =
+      left_out_in fs names test or_else (left_out_in fs names first or_else left_out_in fs names other)
+  left_out_in fs names (tree.prefix o e at) = left_out_in fs names e
+  left_out_in fs names (tree.binary o l r at) = if is_short o && not (is_truth fs names l) then Some at
+      else left_out_in fs names l or_else left_out_in fs names r
+  left_out_in fs names (tree.call text args at) =
+      elim (function_for text (number_of args) fs)
+      [ None ↦ Some at | Some f ↦ left_out_args fs names args ]
+  left_out_in fs names (tree.list items at) = Some at
+  left_out_in fs names (tree.comp item gens at) = Some at
+  left_out_in fs names (tree.index base place at) =
       elim (list_named names base) [
-        | Some l ↦ left_out names place
+        | Some l ↦ left_out_in fs names place
         | None ↦ elim (deep_named names (tree.index base place at))
-            [ None ↦ Some at | Some l ↦ left_out_places names base or_else left_out names place ]
+            [ None ↦ Some at | Some l ↦ left_out_places fs names base or_else left_out_in fs names place ]
       ]
-  left_out names other = Some 0
+  left_out_in fs names other = Some 0
 
   -- .. of the indexes of a chain
-  pub left_out_places : List Name → Tree → Option ℕ
-  left_out_places names (tree.index base place at) =
-      left_out_places names base or_else left_out names place
-  left_out_places names other = None
+  pub left_out_places : List Function → List Name → Tree → Option ℕ
+  left_out_places fs names (tree.index base place at) =
+      left_out_places fs names base or_else left_out_in fs names place
+  left_out_places fs names other = None
+
+  -- .. of arguments
+  pub left_out_args : List Function → List Name → Tree → Option ℕ
+  left_out_args fs names (tree.cons e es) = left_out_in fs names e or_else left_out_args fs names es
+  left_out_args fs names other = None
+
+-- .. if there are no functions
+abbrev pub left_out : List Name → Tree → Option ℕ
+left_out names e = left_out_in [] names e
 
 -- why nothing was lowered: the place is that of the first part that is left out, and the draft has too many
 -- instructions for a jump to name their places, or too many cells for three more

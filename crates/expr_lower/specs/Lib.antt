@@ -1,3 +1,4 @@
+pub mod Callees
 pub mod Names
 pub mod Flat
 pub mod Held
@@ -7,6 +8,8 @@ pub mod Coding
 pub mod Linking
 pub mod Fitting
 pub mod Lowered
+pub mod Calling
+pub mod Routining
 pub mod Listed
 pub mod Parted
 pub mod PartView
@@ -22,3 +25,4 @@ pub mod Executing
 pub mod StmtGrowing
 pub mod StmtWords
 pub mod SeenWords
+pub mod RoutineWords

@@ -10,6 +10,7 @@ use Rattle.expr_lower.specs.declared.scope.Frame.{Frame}
 use Rattle.expr_lower.specs.declared.scope.Frame.TheOpen.{Frame-F}
 use Rattle.expr_lower.specs.declared.scope.Frame.TheFolds.{fold-Frame}
 use Rattle.expr_lower.specs.declared.scope.Scope.{Scope}
+use Rattle.expr_lower.specs.Callees.{Function, functions_view}
 use Rattle.expr_lower.specs.Meant.{local}
 use Rattle.expr_lower.specs.Names.{Name, named, names_view}
 
@@ -31,6 +32,10 @@ frame_locals = fold-Frame (List Name) frame_step
 abbrev pub locals_of : Option (Bor Frame) → List Name
 locals_of None = []
 locals_of (Some x) = frame_locals x.now
+
+-- the functions that may be called
+abbrev pub called : Scope → List Function
+called s = functions_view s.callees.now
 
 abbrev pub seen : Scope → List Name
 seen s = locals_of s.frame ++ names_view s.names.now

@@ -64,8 +64,8 @@ AddsExecuted names body old new = Adds (IsExecuted (names_view names) body) old 
 
 -- no part of statements is left out
 abbrev pub AreWhole : List Named → Tree → Type 0
-AreWhole names body = left_out_all (names_view names) body ≡ None
+AreWhole names body = left_out_all [] (names_view names) body ≡ None
 
 -- why statements aren't lowered
 abbrev pub IsFaultAmong : List Named → Tree → Draft → LowerFault → Type 0
-IsFaultAmong names body draft fault = IsFault (left_out_all (names_view names) body) draft fault
+IsFaultAmong names body draft fault = IsFault (left_out_all [] (names_view names) body) draft fault

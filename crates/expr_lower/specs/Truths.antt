@@ -10,6 +10,7 @@ use Rattle.cal_ast.specs.Tree as tree
 use Rattle.cal_ast.specs.Tree.{Tree}
 use Rattle.cal_model.specs.Value.{Shape, Single, Many}
 use Rattle.expr_lower.specs.declared.names.ItemList.{ItemList}
+use Rattle.expr_lower.specs.Callees.{Function}
 use Rattle.expr_lower.specs.Names.{Name, named}
 use Rattle.expr_lower.specs.Listed.{list_named}
 use Rattle.expr_lower.specs.Parted.{deep_named}
@@ -45,13 +46,13 @@ is_truth_item names base place at = is_truth_list (list_named names base)
     || is_truth_list (deep_named names (tree.index base place at))
 
 -- what it gives, if anything, is a truth value
-abbrev pub is_truth : List Name → Tree → Bool
-is_truth names (tree.truth b at) = true
-is_truth names (tree.variable text at) =
+abbrev pub is_truth : List Function → List Name → Tree → Bool
+is_truth fs names (tree.truth b at) = true
+is_truth fs names (tree.variable text at) =
     elim (named text names) [ None ↦ false | Some x ↦ is_truth_shape x.shape ]
-is_truth names (tree.paren e at) = is_truth names e
-is_truth names (tree.if_expr test first other at) = is_truth names first && is_truth names other
-is_truth names (tree.index base place at) = is_truth_item names base place at
-is_truth names (tree.prefix o e at) = is_truth_prefix o
-is_truth names (tree.binary o l r at) = is_truth_binary o
-is_truth names other = false
+is_truth fs names (tree.paren e at) = is_truth fs names e
+is_truth fs names (tree.if_expr test first other at) = is_truth fs names first && is_truth fs names other
+is_truth fs names (tree.index base place at) = is_truth_item names base place at
+is_truth fs names (tree.prefix o e at) = is_truth_prefix o
+is_truth fs names (tree.binary o l r at) = is_truth_binary o
+is_truth fs names other = false

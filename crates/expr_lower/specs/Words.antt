@@ -1,8 +1,8 @@
 -- The words of the contracts of calls that lower, over names and expressions as the code has them.
 -- Trusted: part of what a promise means.
-use Rattle.std.specs.Prelude.{◌≡◌, ℕ, List, None}
+use Rattle.std.specs.Prelude.{◌≡◌, ℕ, List, None, map}
 use Rattle.cal_ast.specs.Tree as tree
-use Rattle.cal_ast.specs.Tree.{Tree}
+use Rattle.cal_ast.specs.Tree.{Tree, listed}
 use Rattle.cal_ast.specs.View.{expr_tree}
 use Rattle.cal_ast.specs.declared.expr.BinOp.{BinOp}
 use Rattle.cal_ast.specs.declared.expr.BinOp.TheVariants as binaries
@@ -10,8 +10,11 @@ use Rattle.cal_ast.specs.declared.expr.Expr.{Expr}
 use Rattle.expr_lower.specs.declared.draft.Draft.{Draft}
 use Rattle.expr_lower.specs.declared.fault.LowerFault.{LowerFault}
 use Rattle.expr_lower.specs.declared.names.Named.{Named}
+use Rattle.expr_lower.specs.declared.callees.Callee.{Callee}
+use Rattle.expr_lower.specs.Callees.{functions_view}
+use Rattle.expr_lower.specs.Calling.{IsLoweredWith}
 use Rattle.expr_lower.specs.Names.{names_view}
-use Rattle.expr_lower.specs.Growing.{IsFault, left_out}
+use Rattle.expr_lower.specs.Growing.{IsFault, left_out, left_out_in}
 use Rattle.expr_lower.specs.Lowered.{Adds, IsLowered}
 
 -- ---- expressions that are made of others
@@ -31,6 +34,9 @@ if_of test first other at = tree.if_expr (expr_tree test) (expr_tree first) (exp
 abbrev pub index_of : Expr → Expr → ℕ → Tree
 index_of base place at = tree.index (expr_tree base) (expr_tree place) at
 
+abbrev pub call_of : List ℕ → List Expr → ℕ → Tree
+call_of text args at = tree.call text (listed (map expr_tree args)) at
+
 -- ---- what a call does
 
 -- code was added that evaluates an expression and fits
@@ -44,3 +50,16 @@ IsWhole names e = left_out (names_view names) e ≡ None
 -- why an expression isn't lowered
 abbrev pub IsFaultOf : List Named → Tree → Draft → LowerFault → Type 0
 IsFaultOf names e draft fault = IsFault (left_out (names_view names) e) draft fault
+
+-- .. if functions may be called
+
+abbrev pub AddsLoweredWith : List Callee → List Named → Tree → Draft → Draft → Type 0
+AddsLoweredWith callees names e old new =
+    Adds (IsLoweredWith (functions_view callees) (names_view names) e) old new
+
+abbrev pub IsWholeWith : List Callee → List Named → Tree → Type 0
+IsWholeWith callees names e = left_out_in (functions_view callees) (names_view names) e ≡ None
+
+abbrev pub IsFaultWith : List Callee → List Named → Tree → Draft → LowerFault → Type 0
+IsFaultWith callees names e draft fault =
+    IsFault (left_out_in (functions_view callees) (names_view names) e) draft fault

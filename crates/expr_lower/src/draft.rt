@@ -21,6 +21,7 @@ pub struct Draft {
 pub(crate) fn put(draft: &mut Draft, instr: Instr) -> Result<(), LowerFault>
     ensures added { OnOk result (IsPut (instr ∷ []) draft.old draft.new) }
     ensures memory { IfErr result (λ fault. fault ≡ Memory) }
+    ensures cells { draft.new.cells ≡ draft.old.cells }
 {
     draft.instrs.push(instr)?;
     Ok(())
@@ -30,6 +31,7 @@ pub(crate) fn put(draft: &mut Draft, instr: Instr) -> Result<(), LowerFault>
 pub(crate) fn put_all(draft: &mut Draft, instrs: &[Instr]) -> Result<(), LowerFault>
     ensures added { OnOk result (IsPut instrs.now draft.old draft.new) }
     ensures memory { IfErr result (λ fault. fault ≡ Memory) }
+    ensures cells { draft.new.cells ≡ draft.old.cells }
 {
     draft.instrs.extend_from_slice(instrs)?;
     Ok(())
@@ -39,6 +41,7 @@ pub(crate) fn put_all(draft: &mut Draft, instrs: &[Instr]) -> Result<(), LowerFa
 pub(crate) fn put_const(draft: &mut Draft, value: Num) -> Result<(), LowerFault>
     ensures added { OnOk result (IsPut (op.Const value ∷ []) draft.old draft.new) }
     ensures memory { IfErr result (λ fault. fault ≡ Memory) }
+    ensures cells { draft.new.cells ≡ draft.old.cells }
 {
     put(draft, Instr::Const(value))
 }

@@ -8,7 +8,7 @@ ghost use Rattle.expr_lower.specs.Growing.{IsFault};
 ghost use Rattle.expr_lower.specs.Listed.{list_named};
 ghost use Rattle.expr_lower.specs.Lowered.{IsPut};
 ghost use Rattle.expr_lower.specs.PartView.{places_of};
-ghost use Rattle.expr_lower.specs.Seen.{seen};
+ghost use Rattle.expr_lower.specs.Seen.{called, seen};
 ghost use Rattle.expr_lower.specs.SeenWords.{AddsItems, AddsStmt};
 ghost use Rattle.expr_lower.specs.Stating.{copy_code};
 ghost use Rattle.expr_lower.specs.StmtGrowing.{cells_named, left_out_copy, left_out_items};
@@ -62,9 +62,9 @@ pub(crate) fn set_items(
     requires cells { cells_named (seen scope.now) (string_bytes name.now.text) ≡ Some to }
     ensures ok { OnOk result (AddsItems scope.now name.now items.now draft.old draft.new) }
     ensures whole { OnOk result
-        (left_out_items (seen scope.now) to (places_of items.now) at ≡ None) }
+        (left_out_items (called scope.now) (seen scope.now) to (places_of items.now) at ≡ None) }
     ensures fault { IfErr result
-        (IsFault (left_out_items (seen scope.now) to (places_of items.now) at) draft.new) }
+        (IsFault (left_out_items (called scope.now) (seen scope.now) to (places_of items.now) at) draft.new) }
 {
     if items.len() != to.size as usize {
         return Err(LowerFault::NotLowered { at });

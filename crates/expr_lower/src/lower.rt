@@ -10,15 +10,16 @@ ghost use Rattle.expr_lower.specs.Growing.{IsFault};
 ghost use Rattle.expr_lower.specs.Held.{AreBelow};
 ghost use Rattle.expr_lower.specs.Listed.{list_named};
 ghost use Rattle.expr_lower.specs.Parted.{IsPart};
-ghost use Rattle.expr_lower.specs.Seen.{seen};
+ghost use Rattle.expr_lower.specs.Seen.{called, seen};
 ghost use Rattle.expr_lower.specs.SeenWords.{AreAllPlaces, IsWhyPlaces, Offsets};
 ghost use Rattle.expr_lower.specs.Linking.{Closes, Links, SetsExit, SetsJump};
 ghost use Rattle.expr_lower.specs.Lowered.{IsPut};
 ghost use Rattle.expr_lower.specs.Names.{names_view};
-ghost use Rattle.expr_lower.specs.SeenWords.{Applies, IsAll, IsWhy, Lowers, Opens, first_left_out};
-ghost use Rattle.expr_lower.specs.Words.{AddsLowered, IsFaultOf, IsWhole};
-ghost use Rattle.expr_lower.specs.Words.{and_of, binary_of, if_of, index_of, or_of};
+ghost use Rattle.expr_lower.specs.SeenWords.{AddsArgs, Applies, IsAll, IsWhy, Lowers, Opens, first_left_out, left_out_of_args};
+ghost use Rattle.expr_lower.specs.Words.{AddsLowered, AddsLoweredWith, IsFaultOf, IsFaultWith, IsWhole, IsWholeWith};
+ghost use Rattle.expr_lower.specs.Words.{and_of, binary_of, call_of, if_of, index_of, or_of};
 
+use crate::callees::{Callee, function_for, put_call};
 use crate::draft::{Draft, next_place, put, put_const};
 use crate::fault::LowerFault;
 use crate::names::{Named, list_named, one_named};
@@ -36,6 +37,7 @@ pub(crate) fn lower(scope: &Scope, e: &Expr, draft: &mut Draft) -> Result<(), Lo
     ensures ok { OnOk result (Lowers scope.now (expr_tree e.now) draft.old draft.new) }
     ensures whole { OnOk result (IsAll scope.now (expr_tree e.now)) }
     ensures fault { IfErr result (IsWhy scope.now (expr_tree e.now) draft.new) }
+    ensures cells { draft.new.cells ≡ draft.old.cells }
 {
     match &e.form {
         ExprForm::Number(value) => number(*value, draft),
@@ -45,7 +47,7 @@ pub(crate) fn lower(scope: &Scope, e: &Expr, draft: &mut Draft) -> Result<(), Lo
         ExprForm::If { test, yes, no } => choice(scope, test, yes, no, draft),
         ExprForm::Prefix { op, of } => operation(scope, *op, of, draft),
         ExprForm::Binary { op, left, right } => binary(scope, *op, left, right, e.at, draft),
-        ExprForm::Call { name: _, args: _ } => Err(LowerFault::NotLowered { at: e.at }),
+        ExprForm::Call { name, args } => call(scope, name.as_str(), args, e.at, draft),
         ExprForm::List(_) => Err(LowerFault::NotLowered { at: e.at }),
         ExprForm::Comp { item: _, gens: _ } => Err(LowerFault::NotLowered { at: e.at }),
         ExprForm::Index { base, place } => item(scope, base, place, e.at, draft),
@@ -57,6 +59,7 @@ fn number(value: u128, draft: &mut Draft) -> Result<(), LowerFault>
     ensures ok { (scope : Scope) (at : ℕ)
         → OnOk result (Lowers scope (tree.number value at) draft.old draft.new) }
     ensures memory { IfErr result (λ fault. fault ≡ Memory) }
+    ensures cells { draft.new.cells ≡ draft.old.cells }
 {
     match Num::try_from(value) {
         Ok(value) => put_const(draft, value),
@@ -69,6 +72,7 @@ fn truth(value: bool, draft: &mut Draft) -> Result<(), LowerFault>
     ensures ok { (scope : Scope) (at : ℕ)
         → OnOk result (Lowers scope (tree.truth value at) draft.old draft.new) }
     ensures memory { IfErr result (λ fault. fault ≡ Memory) }
+    ensures cells { draft.new.cells ≡ draft.old.cells }
 {
     if value {
         put_const(draft, 1)
@@ -84,6 +88,7 @@ fn paren(scope: &Scope, inner: &Expr, draft: &mut Draft) -> Result<(), LowerFaul
         → OnOk result (Lowers scope.now (tree.paren (expr_tree inner.now) at) draft.old draft.new) }
     ensures whole { OnOk result (IsAll scope.now (expr_tree inner.now)) }
     ensures fault { IfErr result (IsWhy scope.now (expr_tree inner.now) draft.new) }
+    ensures cells { draft.new.cells ≡ draft.old.cells }
 {
     lower(scope, inner, draft)
 }
@@ -92,6 +97,7 @@ fn paren(scope: &Scope, inner: &Expr, draft: &mut Draft) -> Result<(), LowerFaul
 fn overflow(draft: &mut Draft) -> Result<(), LowerFault>
     ensures added { OnOk result (IsPut one_too_great draft.old draft.new) }
     ensures memory { IfErr result (λ fault. fault ≡ Memory) }
+    ensures cells { draft.new.cells ≡ draft.old.cells }
 {
     put(draft, Instr::Const(Num::MAX))?;
     put(draft, Instr::Const(1))?;
@@ -103,6 +109,7 @@ fn variable(scope: &Scope, text: &str, at: u32, draft: &mut Draft) -> Result<(),
     ensures ok { OnOk result (Lowers scope.now (tree.variable text.now at) draft.old draft.new) }
     ensures whole { OnOk result (IsAll scope.now (tree.variable text.now at)) }
     ensures fault { IfErr result (IsWhy scope.now (tree.variable text.now at) draft.new) }
+    ensures cells { draft.new.cells ≡ draft.old.cells }
 {
     let Some(one) = one_named(scope, text) else {
         return Err(LowerFault::NotLowered { at });
@@ -123,6 +130,7 @@ fn item(
         (Lowers scope.now (index_of base.now place.now at) draft.old draft.new) }
     ensures whole { OnOk result (IsAll scope.now (index_of base.now place.now at)) }
     ensures fault { IfErr result (IsWhy scope.now (index_of base.now place.now at) draft.new) }
+    ensures cells { draft.new.cells ≡ draft.old.cells }
 {
     let Some(list) = list_named(scope, base) else {
         return deep_item(scope, base, place, at, draft);
@@ -145,6 +153,7 @@ fn deep_item(
         (Lowers scope.now (index_of base.now place.now at) draft.old draft.new) }
     ensures whole { OnOk result (IsAll scope.now (index_of base.now place.now at)) }
     ensures fault { IfErr result (IsWhy scope.now (index_of base.now place.now at) draft.new) }
+    ensures cells { draft.new.cells ≡ draft.old.cells }
 {
     let Some(list) = deep_item_named(scope, base) else {
         return Err(LowerFault::NotLowered { at });
@@ -162,6 +171,7 @@ fn row(scope: &Scope, base: &Expr, place: &Expr, draft: &mut Draft) -> Result<()
     ensures whole { OnOk result (AreAllPlaces scope.now (index_of base.now place.now 0)) }
     ensures fault { IfErr result
         (IsWhyPlaces scope.now (index_of base.now place.now 0) draft.new) }
+    ensures cells { draft.new.cells ≡ draft.old.cells }
 {
     let Some(rows) = rows_named(scope, base) else {
         unreachable!();
@@ -178,6 +188,7 @@ fn offset(scope: &Scope, e: &Expr, draft: &mut Draft) -> Result<(), LowerFault>
     ensures ok { OnOk result (Offsets scope.now (expr_tree e.now) draft.old draft.new) }
     ensures whole { OnOk result (AreAllPlaces scope.now (expr_tree e.now)) }
     ensures fault { IfErr result (IsWhyPlaces scope.now (expr_tree e.now) draft.new) }
+    ensures cells { draft.new.cells ≡ draft.old.cells }
 {
     match &e.form {
         ExprForm::Index { base, place } => row(scope, base, place, draft),
@@ -191,6 +202,7 @@ fn whole_offset(draft: &mut Draft) -> Result<(), LowerFault>
     ensures ok { (scope : Scope) (text : List ℕ) (at : ℕ)
         → OnOk result (Offsets scope (tree.variable text at) draft.old draft.new) }
     ensures memory { IfErr result (λ fault. fault ≡ Memory) }
+    ensures cells { draft.new.cells ≡ draft.old.cells }
 {
     put_const(draft, 0)
 }
@@ -202,6 +214,7 @@ fn operation(scope: &Scope, op: PrefixOp, of: &Expr, draft: &mut Draft) -> Resul
         → OnOk result (Lowers scope.now (tree.prefix op (expr_tree of.now) at) draft.old draft.new) }
     ensures whole { OnOk result (IsAll scope.now (expr_tree of.now)) }
     ensures fault { IfErr result (IsWhy scope.now (expr_tree of.now) draft.new) }
+    ensures cells { draft.new.cells ≡ draft.old.cells }
 {
     if let Some(value) = negative(op, of) {
         return put_const(draft, value);
@@ -225,6 +238,7 @@ fn binary(
     ensures whole { OnOk result (IsAll scope.now (binary_of op left.now right.now at)) }
     ensures fault { IfErr result
         (IsWhy scope.now (binary_of op left.now right.now at) draft.new) }
+    ensures cells { draft.new.cells ≡ draft.old.cells }
 {
     match binary_instr(op) {
         Some(instr) => strict(scope, instr, left, right, draft),
@@ -251,6 +265,7 @@ fn strict(
         (Applies scope.now instr left.now right.now draft.old draft.new) }
     ensures whole { OnOk result (first_left_out scope.now left.now right.now ≡ None) }
     ensures fault { IfErr result (IsFault (first_left_out scope.now left.now right.now) draft.new) }
+    ensures cells { draft.new.cells ≡ draft.old.cells }
 {
     lower(scope, left, draft)?;
     lower(scope, right, draft)?;
@@ -269,6 +284,7 @@ fn both(
     ensures ok { OnOk result (Lowers scope.now (and_of left.now right.now at) draft.old draft.new) }
     ensures whole { OnOk result (IsAll scope.now (and_of left.now right.now at)) }
     ensures fault { IfErr result (IsWhy scope.now (and_of left.now right.now at) draft.new) }
+    ensures cells { draft.new.cells ≡ draft.old.cells }
 {
     if !is_truth(scope, left) {
         return Err(LowerFault::NotLowered { at });
@@ -298,6 +314,7 @@ fn either(
     ensures ok { OnOk result (Lowers scope.now (or_of left.now right.now at) draft.old draft.new) }
     ensures whole { OnOk result (IsAll scope.now (or_of left.now right.now at)) }
     ensures fault { IfErr result (IsWhy scope.now (or_of left.now right.now at) draft.new) }
+    ensures cells { draft.new.cells ≡ draft.old.cells }
 {
     if !is_truth(scope, left) {
         return Err(LowerFault::NotLowered { at });
@@ -328,6 +345,7 @@ fn choice(
         → OnOk result (Lowers scope.now (if_of test.now yes.now no.now at) draft.old draft.new) }
     ensures whole { OnOk result (IsAll scope.now (if_of test.now yes.now no.now 0)) }
     ensures fault { IfErr result (IsWhy scope.now (if_of test.now yes.now no.now 0) draft.new) }
+    ensures cells { draft.new.cells ≡ draft.old.cells }
 {
     let start = draft.instrs.len();
     lower_test(scope, test, draft)?;
@@ -342,6 +360,45 @@ fn choice(
     Ok(())
 }
 
+// ---- calls
+
+/// Appends a call: its arguments, a turn, and the instructions that put the arguments into the cells of the formals
+/// and run the routine.
+#[cycle(lower)]
+fn call(
+    scope: &Scope,
+    name: &str,
+    args: &[Expr],
+    at: u32,
+    draft: &mut Draft,
+) -> Result<(), LowerFault>
+    ensures ok { OnOk result (Lowers scope.now (call_of name.now args.now at) draft.old draft.new) }
+    ensures whole { OnOk result (IsAll scope.now (call_of name.now args.now at)) }
+    ensures fault { IfErr result (IsWhy scope.now (call_of name.now args.now at) draft.new) }
+    ensures cells { draft.new.cells ≡ draft.old.cells }
+{
+    let Some(callee) = function_for(scope.callees, name, args) else {
+        return Err(LowerFault::NotLowered { at });
+    };
+    arguments(scope, args, draft)?;
+    put_call(callee, draft)
+}
+
+/// Appends arguments, one after the other.
+#[cycle(lower)]
+fn arguments(scope: &Scope, args: &[Expr], draft: &mut Draft) -> Result<(), LowerFault>
+    ensures ok { OnOk result (AddsArgs scope.now args.now draft.old draft.new) }
+    ensures whole { OnOk result (left_out_of_args scope.now args.now ≡ None) }
+    ensures fault { IfErr result (IsFault (left_out_of_args scope.now args.now) draft.new) }
+    ensures cells { draft.new.cells ≡ draft.old.cells }
+{
+    let Some((first, rest)) = args.split_first() else {
+        return Ok(());
+    };
+    lower(scope, first, draft)?;
+    arguments(scope, rest, draft)
+}
+
 // ---- conditions
 
 /// Appends a condition, which goes on if it is true. If it is false it is to jump elsewhere: `Done` stands for
@@ -351,6 +408,7 @@ pub(crate) fn lower_test(scope: &Scope, e: &Expr, draft: &mut Draft) -> Result<(
     ensures ok { OnOk result (Opens scope.now (expr_tree e.now) draft.old draft.new) }
     ensures whole { OnOk result (IsAll scope.now (expr_tree e.now)) }
     ensures fault { IfErr result (IsWhy scope.now (expr_tree e.now) draft.new) }
+    ensures cells { draft.new.cells ≡ draft.old.cells }
 {
     match &e.form {
         ExprForm::Binary {
@@ -374,6 +432,7 @@ fn test_both(
     ensures ok { OnOk result (Opens scope.now (and_of left.now right.now at) draft.old draft.new) }
     ensures whole { OnOk result (IsAll scope.now (and_of left.now right.now at)) }
     ensures fault { IfErr result (IsWhy scope.now (and_of left.now right.now at) draft.new) }
+    ensures cells { draft.new.cells ≡ draft.old.cells }
 {
     if !is_truth(scope, left) {
         return Err(LowerFault::NotLowered { at });
@@ -388,6 +447,7 @@ fn test_value(scope: &Scope, e: &Expr, draft: &mut Draft) -> Result<(), LowerFau
     ensures ok { OnOk result (Opens scope.now (expr_tree e.now) draft.old draft.new) }
     ensures whole { OnOk result (IsAll scope.now (expr_tree e.now)) }
     ensures fault { IfErr result (IsWhy scope.now (expr_tree e.now) draft.new) }
+    ensures cells { draft.new.cells ≡ draft.old.cells }
 {
     lower(scope, e, draft)?;
     put(draft, Instr::Done)
@@ -458,7 +518,8 @@ fn aimed(instr: Instr, out: u32) -> Instr
 /// Appends code that evaluates an expression of a single value and pushes the value.
 ///
 /// `names` holds the names that the expression uses; the first of several that are the same is meant. The code
-/// reads their cells and tokens where they stand, and writes none. What stood in the draft stays.
+/// reads their cells and tokens where they stand, and writes none. What stood in the draft stays, and no cells are
+/// taken, whatever the answer is.
 ///
 /// Code is made for literals, variables of single values, items of named lists at any depth, operators and `if`.
 ///
@@ -474,6 +535,34 @@ pub fn lower_expr(names: &[Named], e: &Expr, draft: &mut Draft) -> Result<(), Lo
     ensures lowered { OnOk result (AddsLowered names.now (expr_tree e.now) draft.old draft.new) }
     ensures whole { OnOk result (IsWhole names.now (expr_tree e.now)) }
     ensures fault { IfErr result (IsFaultOf names.now (expr_tree e.now) draft.new) }
+    ensures cells { draft.new.cells ≡ draft.old.cells }
 {
-    lower(&Scope::outermost(names), e, draft)
+    lower(&Scope::outermost(names, &[]), e, draft)
+}
+
+/// Appends code that evaluates an expression of a single value, which may call functions, and pushes the value.
+///
+/// `names` holds the names that the expression uses, and `callees` the functions; the first of several that are the
+/// same is meant. The code reads the cells and tokens of names where they stand. It writes only cells of routines: a
+/// call puts its arguments there, each stored in the type of its formal, and runs the routine after one turn. What
+/// stood in the draft stays.
+///
+/// # Errors
+///
+/// As for [`lower_expr`], but that a call is a part for which no code is made only if `callees` doesn't have its
+/// function with as many arguments.
+pub fn lower_calling(
+    names: &[Named],
+    callees: &[Callee],
+    e: &Expr,
+    draft: &mut Draft,
+) -> Result<(), LowerFault>
+    requires below { AreBelow draft.old.cells (names_view names.now) }
+    ensures lowered { OnOk result
+        (AddsLoweredWith callees.now names.now (expr_tree e.now) draft.old draft.new) }
+    ensures whole { OnOk result (IsWholeWith callees.now names.now (expr_tree e.now)) }
+    ensures fault { IfErr result (IsFaultWith callees.now names.now (expr_tree e.now) draft.new) }
+    ensures cells { draft.new.cells ≡ draft.old.cells }
+{
+    lower(&Scope::outermost(names, callees), e, draft)
 }

@@ -1,9 +1,11 @@
 //! What a part sees: the locals round it, and the names outside them.
 
 ghost use Rattle.std.specs.Prelude.{◌≡◌, ◌∷◌, IfNone, IfSome, List};
+ghost use Rattle.expr_lower.specs.Callees.{functions_view};
 ghost use Rattle.expr_lower.specs.Names.{names_view};
-ghost use Rattle.expr_lower.specs.Seen.{IsHidden, IsNotLocal, local_in, locals_of, seen};
+ghost use Rattle.expr_lower.specs.Seen.{IsHidden, IsNotLocal, called, local_in, locals_of, seen};
 
+use crate::callees::Callee;
 use crate::names::{Named, OneCell};
 use rvc_base::Scalar;
 
@@ -21,6 +23,8 @@ pub(crate) struct Frame<'a> {
 #[derive(Clone, Copy)]
 pub(crate) struct Scope<'a> {
     pub names: &'a [Named],
+    /// The functions that may be called.
+    pub callees: &'a [Callee],
     /// The innermost local, if one stands there.
     pub frame: Option<&'a Frame<'a>>,
 }
@@ -29,10 +33,15 @@ impl<'a> Scope<'a> {
     ghost use Rattle.expr_lower.specs.declared.scope.Frame.{out-Frame};
 
     /// What a part sees round which no locals stand.
-    pub(crate) fn outermost(names: &'a [Named]) -> Scope<'a>
-        ensures { seen result ≡ names_view names.entry.now }
+    pub(crate) fn outermost(names: &'a [Named], callees: &'a [Callee]) -> Scope<'a>
+        ensures names { seen result ≡ names_view names.entry.now }
+        ensures callees { called result ≡ functions_view callees.entry.now }
     {
-        Scope { names, frame: None }
+        Scope {
+            names,
+            callees,
+            frame: None,
+        }
     }
 
     /// What is seen inside one local more, which stands inside those that are seen here.
@@ -40,10 +49,12 @@ impl<'a> Scope<'a> {
     where
         'a: 'b,
         requires { locals_of (out-Frame frame.now).outer ≡ locals_of self.now.frame }
-        ensures { seen result ≡ local_in (out-Frame frame.now) ∷ seen self.now }
+        ensures names { seen result ≡ local_in (out-Frame frame.now) ∷ seen self.now }
+        ensures callees { called result ≡ called self.now }
     {
         Scope {
             names: self.names,
+            callees: self.callees,
             frame: Some(frame),
         }
     }

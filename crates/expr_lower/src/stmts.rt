@@ -7,7 +7,7 @@ ghost use Rattle.expr_lower.specs.Held.{AreBelow};
 ghost use Rattle.expr_lower.specs.Names.{names_view};
 ghost use Rattle.expr_lower.specs.Growing.{IsFault};
 ghost use Rattle.expr_lower.specs.StmtGrowing.{cell_named};
-ghost use Rattle.expr_lower.specs.Seen.{seen};
+ghost use Rattle.expr_lower.specs.Seen.{called, seen};
 ghost use Rattle.expr_lower.specs.SeenWords.{AddsBlock, AddsStart, behind, left_out_block, left_out_first};
 ghost use Rattle.expr_lower.specs.SeenWords.{AddsBody, AddsStmt, AddsStmts, AreAllOf, AreWhyNot};
 ghost use Rattle.expr_lower.specs.SeenWords.{IsAllOf, IsAllOfBody, IsWhyNoBody, IsWhyNot};
@@ -325,10 +325,10 @@ fn block(
     body: &[Stmt],
     draft: &mut Draft,
 ) -> Result<(), LowerFault>
-    ensures ok { OnOk result (AddsBlock (seen scope.now) vars.now body.now draft.old draft.new) }
-    ensures whole { OnOk result (left_out_block (seen scope.now) vars.now body.now ≡ None) }
+    ensures ok { OnOk result (AddsBlock (called scope.now) (seen scope.now) vars.now body.now draft.old draft.new) }
+    ensures whole { OnOk result (left_out_block (called scope.now) (seen scope.now) vars.now body.now ≡ None) }
     ensures fault { IfErr result
-        (IsFault (left_out_block (seen scope.now) vars.now body.now) draft.new) }
+        (IsFault (left_out_block (called scope.now) (seen scope.now) vars.now body.now) draft.new) }
 {
     match vars.split_first() {
         Some((first, rest)) => variable(scope, first, rest, body, draft),
@@ -346,11 +346,11 @@ fn variable(
     draft: &mut Draft,
 ) -> Result<(), LowerFault>
     ensures ok { OnOk result
-        (AddsBlock (seen scope.now) (first.now ∷ rest.now) body.now draft.old draft.new) }
+        (AddsBlock (called scope.now) (seen scope.now) (first.now ∷ rest.now) body.now draft.old draft.new) }
     ensures whole { OnOk result
-        (left_out_block (seen scope.now) (first.now ∷ rest.now) body.now ≡ None) }
+        (left_out_block (called scope.now) (seen scope.now) (first.now ∷ rest.now) body.now ≡ None) }
     ensures fault { IfErr result
-        (IsFault (left_out_block (seen scope.now) (first.now ∷ rest.now) body.now) draft.new) }
+        (IsFault (left_out_block (called scope.now) (seen scope.now) (first.now ∷ rest.now) body.now) draft.new) }
 {
     let Some(kind) = single_meant(&first.shape) else {
         return Err(LowerFault::NotLowered { at: first.at });
@@ -372,11 +372,11 @@ fn behind(
     draft: &mut Draft,
 ) -> Result<(), LowerFault>
     ensures ok { OnOk result
-        (AddsBlock (behind first.now kind cell scope.now) rest.now body.now draft.old draft.new) }
+        (AddsBlock (called scope.now) (behind first.now kind cell scope.now) rest.now body.now draft.old draft.new) }
     ensures whole { OnOk result
-        (left_out_block (behind first.now kind cell scope.now) rest.now body.now ≡ None) }
+        (left_out_block (called scope.now) (behind first.now kind cell scope.now) rest.now body.now ≡ None) }
     ensures fault { IfErr result
-        (IsFault (left_out_block (behind first.now kind cell scope.now) rest.now body.now) draft.new) }
+        (IsFault (left_out_block (called scope.now) (behind first.now kind cell scope.now) rest.now body.now) draft.new) }
 {
     let frame = Frame {
         name: first.name.text.as_str(),
@@ -389,7 +389,7 @@ fn behind(
 }
 
 /// Appends the start of a variable, which is zero or false if none is written.
-fn start(
+pub(crate) fn start(
     scope: &Scope,
     value: &Option<Expr>,
     cell: u32,
@@ -446,5 +446,5 @@ pub fn lower_stmts(names: &[Named], body: &[Stmt], draft: &mut Draft) -> Result<
     ensures whole { OnOk result (AreWhole names.now (body_of body.now)) }
     ensures fault { IfErr result (IsFaultAmong names.now (body_of body.now) draft.new) }
 {
-    lower_all(&Scope::outermost(names), body, draft)
+    lower_all(&Scope::outermost(names, &[]), body, draft)
 }

@@ -4,7 +4,7 @@ ghost use Rattle.std.specs.Prelude.{◌≡◌};
 ghost use Rattle.cal_ast.specs.Tree as tree;
 ghost use Rattle.cal_ast.specs.View.{expr_tree};
 ghost use Rattle.expr_lower.specs.Truths.{is_truth, is_truth_binary, is_truth_item, is_truth_list};
-ghost use Rattle.expr_lower.specs.Seen.{seen};
+ghost use Rattle.expr_lower.specs.Seen.{called, seen};
 
 use crate::names::{ItemList, list_named, one_named};
 use crate::parts::deep_item_named;
@@ -14,7 +14,7 @@ use rvc_base::Scalar;
 
 /// Whether what an expression gives, if it gives anything, is seen to be a truth value.
 pub(crate) fn is_truth(scope: &Scope, e: &Expr) -> bool
-    ensures { result ≡ is_truth (seen scope.now) (expr_tree e.now) }
+    ensures { result ≡ is_truth (called scope.now) (seen scope.now) (expr_tree e.now) }
 {
     match &e.form {
         ExprForm::Number(_) => false,
@@ -37,7 +37,7 @@ pub(crate) fn is_truth(scope: &Scope, e: &Expr) -> bool
 
 /// Whether a variable has the type of truth values.
 fn is_truth_name(scope: &Scope, text: &str) -> bool
-    ensures { result ≡ is_truth (seen scope.now) (tree.variable text.now 0) }
+    ensures { result ≡ is_truth (called scope.now) (seen scope.now) (tree.variable text.now 0) }
 {
     match one_named(scope, text) {
         Some(one) => matches!(one.kind, Scalar::Bool),

@@ -5,7 +5,8 @@ use Rattle.cal_ast.specs.View.{expr_tree}
 use Rattle.expr_lower.specs.Parted.{deep_cells_in, part_named}
 use Rattle.expr_lower.specs.PartView.{part_view, places_of}
 use Rattle.expr_lower.specs.Seen.{seen}
-use Rattle.expr_lower.proofs.AddingStmts.{deep_adds, places_number}
+use Rattle.expr_lower.proofs.Adding.{places_number}
+use Rattle.expr_lower.proofs.AddingStmts.{deep_adds}
 use Rattle.expr_lower.proofs.deep.set_deep.Goals as goal
 
 pub returns-clause-ok : goal.returns-clause-ok

@@ -1,4 +1,5 @@
-use Rattle.std.proofs.Common.{◌+◌}
+use Rattle.std.proofs.Common.{◌+◌, map}
+use Rattle.cal_ast.specs.Tree.{listed}
 use Rattle.cal_ast.specs.View.{expr_tree}
 use Rattle.expr_lower.proofs.Weights.{size}
 use Rattle.expr_lower.proofs.lower.+lower.Given as goal
@@ -47,3 +48,9 @@ decreases-row l = 5 + size (expr_tree l.base.now) + size (expr_tree l.place.now)
 
 abbrev pub decreases-offset : goal.decreases-offset
 decreases-offset l = size (expr_tree l.e.now)
+
+abbrev pub decreases-call : goal.decreases-call
+decreases-call l = 6 + size (listed (map expr_tree l.args.now))
+
+abbrev pub decreases-arguments : goal.decreases-arguments
+decreases-arguments l = 2 + size (listed (map expr_tree l.args.now))

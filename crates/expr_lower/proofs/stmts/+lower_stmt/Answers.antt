@@ -10,11 +10,11 @@ use Rattle.code_ir.specs.declared.instr.Instr.TheVariants as op
 use Rattle.expr_lower.specs.declared.counter.Counter.{Counter}
 use Rattle.expr_lower.specs.Stating.{AreStmts, IsBlock, IsStmt, block_code, each_next, no_more}
 use Rattle.expr_lower.specs.Meant.{single_meant}
-use Rattle.expr_lower.specs.Seen.{seen}
+use Rattle.expr_lower.specs.Seen.{called, seen}
 use Rattle.expr_lower.specs.SeenWords.{AddsBlock, AddsStmt, AreWhyNot, IsWhyNot, behind, left_out_block}
 use Rattle.expr_lower.specs.StmtWords.{body_of, foreach_of}
-use Rattle.expr_lower.proofs.Adding.{length_join, same_adds}
-use Rattle.expr_lower.proofs.AddingStmts.{each_adds, each_fault, each_whole, no_items, none_added, variable_adds, variable_open, more_added, fault_among, alone_adds, fork_adds, while_adds, weight_item}
+use Rattle.expr_lower.proofs.Adding.{length_join, same_adds, no_items}
+use Rattle.expr_lower.proofs.AddingStmts.{each_adds, each_fault, each_whole, none_added, variable_adds, variable_open, more_added, fault_among, alone_adds, fork_adds, while_adds, weight_item}
 use Rattle.expr_lower.proofs.StmtForms.{stmt_block, stmt_foreach, stmt_if, stmt_while}
 use Rattle.expr_lower.proofs.stmts.+lower_stmt.Goals as goal
 
@@ -59,7 +59,7 @@ each-returns-clause-ok t c =
 pub each-returns-clause-whole : goal.each-returns-clause-whole
 each-returns-clause-whole t c =
     let found : single_meant (type_tree c.args.shape.now) ≡ Some c.in-Some.kind = sym c.in-Some.ensures in
-    each_whole (seen c.args.scope.now) (type_tree c.args.shape.now) (expr_tree c.args.from.now) (expr_tree c.args.to.now) (body_of c.args.body.now) (string_bytes c.args.name.now.text) c.args.name.now.at c.args.at
+    each_whole (called c.args.scope.now) (seen c.args.scope.now) (type_tree c.args.shape.now) (expr_tree c.args.from.now) (expr_tree c.args.to.now) (body_of c.args.body.now) (string_bytes c.args.name.now.text) c.args.name.now.at c.args.at
     c.in_ok-counter.counter.variable c.in-Some.kind c.in_ok-counter.counter.kind found (ap (λ (x : Counter). x.kind) c.in_ok-counter.ensures.taken.is)
     c.in_ok-lower.ensures.whole c.in_ok-lower-2.ensures.whole c.in_ok-each_body.ensures.whole
 
@@ -67,7 +67,7 @@ pub each-returns-in_err-each_body-clause-fault : goal.each-returns-in_err-each_b
 each-returns-in_err-each_body-clause-fault t c =
     let found : single_meant (type_tree c.args.shape.now) ≡ Some c.in-Some.kind = sym c.in-Some.ensures in
     let made : IsWhyNot c.args.scope.now (foreach_of c.args.shape.now c.args.name.now c.args.from.now c.args.to.now c.args.body.now c.args.at) c.each_body.new.draft c.in_err-each_body.field-0.0 =
-    each_fault (seen c.args.scope.now) (type_tree c.args.shape.now) (expr_tree c.args.from.now) (expr_tree c.args.to.now) (body_of c.args.body.now) (string_bytes c.args.name.now.text) c.args.name.now.at c.args.at
+    each_fault (called c.args.scope.now) (seen c.args.scope.now) (type_tree c.args.shape.now) (expr_tree c.args.from.now) (expr_tree c.args.to.now) (body_of c.args.body.now) (string_bytes c.args.name.now.text) c.args.name.now.at c.args.at
     c.in_ok-counter.counter.variable c.in-Some.kind c.in_ok-counter.counter.kind c.each_body.new.draft c.in_err-each_body.field-0.0 found (ap (λ (x : Counter). x.kind) c.in_ok-counter.ensures.taken.is)
     c.in_ok-lower.ensures.whole c.in_ok-lower-2.ensures.whole c.in_err-each_body.ensures.fault in
     let same : c.from_residual-in_err-each_body.result ≡ Err c.in_err-each_body.field-0.0 = search rules in
@@ -111,7 +111,7 @@ lower_all-lower_stmt-requires t c =
 pub lower_all-returns-in_err-lower_stmt-clause-fault : goal.lower_all-returns-in_err-lower_stmt-clause-fault
 lower_all-returns-in_err-lower_stmt-clause-fault t c =
     let made : AreWhyNot c.args.scope.now (body_of c.args.body.now) c.lower_stmt.new.draft c.in_err-lower_stmt.field-0.0 =
-    fault_among stmt_tree (seen c.args.scope.now) c.args.body.now c.s-item.result c.loop-s.s-index c.lower_stmt.new.draft c.in_err-lower_stmt.field-0.0
+    fault_among (called c.args.scope.now) stmt_tree (seen c.args.scope.now) c.args.body.now c.s-item.result c.loop-s.s-index c.lower_stmt.new.draft c.in_err-lower_stmt.field-0.0
     c.loop-s-test.true c.s-item.is c.loop-s.invariant.whole c.in_err-lower_stmt.ensures.fault in
     let same : c.from_residual.result ≡ Err c.in_err-lower_stmt.field-0.0 = search rules in
     subst (λ r. IfErr r (AreWhyNot c.args.scope.now (body_of c.args.body.now) c.lower_stmt.new.draft)) (sym same) made
@@ -120,7 +120,7 @@ pub lower_stmt-returns-in-Block-clause-ok : goal.lower_stmt-returns-in-Block-cla
 lower_stmt-returns-in-Block-clause-ok t c =
     subst (λ (s : Tree). OnOk c.block.result (AddsStmt c.args.scope.now s c.args.draft.now c.block.new.draft))
     (sym (stmt_block c.args.s.now c.in-Block.vars c.in-Block.body c.deref-in-Block.result.now c.deref-in-Block-2.result.now c.in-Block.is c.deref-in-Block.ensures.value c.deref-in-Block-2.ensures.value))
-    (on_ok_weaker c.block.result (same_adds (IsBlock (seen c.args.scope.now) _ _) (IsStmt (seen c.args.scope.now) _) c.args.draft.now c.block.new.draft (λ base n m code h. block_code (seen c.args.scope.now) _ _ c.args.s.now.at base n m code h)) c.block.ensures.ok)
+    (on_ok_weaker c.block.result (same_adds (IsBlock (called c.args.scope.now) (seen c.args.scope.now) _ _) (IsStmt (called c.args.scope.now) (seen c.args.scope.now) _) c.args.draft.now c.block.new.draft (λ base n m code h. block_code (seen c.args.scope.now) _ _ c.args.s.now.at base n m code h)) c.block.ensures.ok)
 
 pub lower_stmt-returns-in-Block-clause-fault : goal.lower_stmt-returns-in-Block-clause-fault
 lower_stmt-returns-in-Block-clause-fault t c =
@@ -132,9 +132,9 @@ pub block-returns-in-None-clause-ok : goal.block-returns-in-None-clause-ok
 block-returns-in-None-clause-ok t c =
     let size : length c.args.vars.now ≡ 0 = search rules in
     let none : c.args.vars.now ≡ [] = no_items c.args.vars.now size in
-    subst (λ vs. OnOk c.lower_all.result (AddsBlock (seen c.args.scope.now) vs c.args.body.now c.args.draft.now c.lower_all.new.draft)) (sym none)
+    subst (λ vs. OnOk c.lower_all.result (AddsBlock (called c.args.scope.now) (seen c.args.scope.now) vs c.args.body.now c.args.draft.now c.lower_all.new.draft)) (sym none)
     (on_ok_weaker c.lower_all.result
-    (same_adds (AreStmts (seen c.args.scope.now) (body_of c.args.body.now)) (IsBlock (seen c.args.scope.now) tree.nil (body_of c.args.body.now)) c.args.draft.now c.lower_all.new.draft (λ base n m code h. no_more (seen c.args.scope.now) (body_of c.args.body.now) base n m code h))
+    (same_adds (AreStmts (called c.args.scope.now) (seen c.args.scope.now) (body_of c.args.body.now)) (IsBlock (called c.args.scope.now) (seen c.args.scope.now) tree.nil (body_of c.args.body.now)) c.args.draft.now c.lower_all.new.draft (λ base n m code h. no_more (seen c.args.scope.now) (body_of c.args.body.now) base n m code h))
     c.lower_all.ensures.ok)
 
 pub variable-returns-clause-ok : goal.variable-returns-clause-ok
@@ -150,14 +150,14 @@ pub variable-returns-clause-whole : goal.variable-returns-clause-whole
 variable-returns-clause-whole t c =
     let v : VarDecl = c.args.first.now in
     let found : single_meant (type_tree v.shape) ≡ Some c.in-Some.kind = sym c.in-Some.ensures in
-    let same : left_out_block (seen c.args.scope.now) (v ∷ c.args.rest.now) c.args.body.now ≡ left_out_block (behind v c.in-Some.kind c.in_ok-cell.cell c.args.scope.now) c.args.rest.now c.args.body.now =
-    variable_open (seen c.args.scope.now) (type_tree v.shape) (optional_expr v.start) (listed (map var_tree c.args.rest.now)) (body_of c.args.body.now) (string_bytes v.name.text) v.name.at v.at c.in_ok-cell.cell c.in-Some.kind v.changes found c.in_ok-start.ensures.whole in
+    let same : left_out_block (called c.args.scope.now) (seen c.args.scope.now) (v ∷ c.args.rest.now) c.args.body.now ≡ left_out_block (called c.args.scope.now) (behind v c.in-Some.kind c.in_ok-cell.cell c.args.scope.now) c.args.rest.now c.args.body.now =
+    variable_open (called c.args.scope.now) (seen c.args.scope.now) (type_tree v.shape) (optional_expr v.start) (listed (map var_tree c.args.rest.now)) (body_of c.args.body.now) (string_bytes v.name.text) v.name.at v.at c.in_ok-cell.cell c.in-Some.kind v.changes found c.in_ok-start.ensures.whole in
     subst (λ o. OnOk c.behind.result (o ≡ None)) (sym same) c.behind.ensures.whole
 
 pub variable-returns-clause-fault : goal.variable-returns-clause-fault
 variable-returns-clause-fault t c =
     let v : VarDecl = c.args.first.now in
     let found : single_meant (type_tree v.shape) ≡ Some c.in-Some.kind = sym c.in-Some.ensures in
-    let same : left_out_block (seen c.args.scope.now) (v ∷ c.args.rest.now) c.args.body.now ≡ left_out_block (behind v c.in-Some.kind c.in_ok-cell.cell c.args.scope.now) c.args.rest.now c.args.body.now =
-    variable_open (seen c.args.scope.now) (type_tree v.shape) (optional_expr v.start) (listed (map var_tree c.args.rest.now)) (body_of c.args.body.now) (string_bytes v.name.text) v.name.at v.at c.in_ok-cell.cell c.in-Some.kind v.changes found c.in_ok-start.ensures.whole in
+    let same : left_out_block (called c.args.scope.now) (seen c.args.scope.now) (v ∷ c.args.rest.now) c.args.body.now ≡ left_out_block (called c.args.scope.now) (behind v c.in-Some.kind c.in_ok-cell.cell c.args.scope.now) c.args.rest.now c.args.body.now =
+    variable_open (called c.args.scope.now) (seen c.args.scope.now) (type_tree v.shape) (optional_expr v.start) (listed (map var_tree c.args.rest.now)) (body_of c.args.body.now) (string_bytes v.name.text) v.name.at v.at c.in_ok-cell.cell c.in-Some.kind v.changes found c.in_ok-start.ensures.whole in
     subst (λ o. IfErr c.behind.result (IsFault o c.behind.new.draft)) (sym same) c.behind.ensures.fault

@@ -1,13 +1,13 @@
 use Rattle.std.proofs.Common.{◌+◌, map, take}
 use Rattle.cal_ast.specs.Tree.{listed}
 use Rattle.cal_ast.specs.View.{body_tree, stmt_tree, var_tree}
-use Rattle.expr_lower.specs.Seen.{seen}
+use Rattle.expr_lower.specs.Seen.{called, seen}
 use Rattle.expr_lower.proofs.AddingStmts.{AreAdded}
 use Rattle.expr_lower.proofs.Weights.{spread, weight}
 use Rattle.expr_lower.proofs.stmts.+lower_stmt.Given as goal
 
 abbrev pub invariant-lower_all-loop-s : goal.invariant-lower_all-loop-s
-invariant-lower_all-loop-s l = AreAdded (seen l.scope) (map stmt_tree (take l.s-index l.body)) l.initial.draft l.draft
+invariant-lower_all-loop-s l = AreAdded (called l.scope) (seen l.scope) (map stmt_tree (take l.s-index l.body)) l.initial.draft l.draft
 
 abbrev pub decreases-lower_stmt : goal.decreases-lower_stmt
 decreases-lower_stmt l = weight (stmt_tree l.s.now)
