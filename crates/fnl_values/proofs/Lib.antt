@@ -1,0 +1,6 @@
+mod Constants
+mod Starts
+mod Faults
+mod Wrongly
+mod Known
+mod Parts

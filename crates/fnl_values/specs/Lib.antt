@@ -1,0 +1,5 @@
+pub mod Given
+pub mod Steady
+pub mod Judging
+pub mod Visiting
+pub mod Evaluated
