@@ -1,6 +1,6 @@
 mod Constants
 mod Starts
-mod Faults
+pub mod Faults
 mod Wrongly
 mod Known
 mod Parts

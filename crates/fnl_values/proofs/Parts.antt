@@ -1,9 +1,83 @@
 -- Instances, sizes and connections, one after another.
-use Rattle.std.proofs.Common.{◌≡◌, ℕ, true, false, List, [], ◌∷◌, ◌++◌, map, refl, sym, ap, subst, ◌∙◌, arith}
-use Rattle.std.specs.Prelude.{Option, None, Some, max}
-use Rattle.cal_model.specs.Kinding.{Judged, Fine, Broken, Names}
+use Rattle.std.proofs.Common.{◌≡◌, ℕ, Bool, true, false, List, [], ◌∷◌, ◌++◌, map, refl, sym, ap, subst, ◌∙◌, arith, append_assoc, append-nil}
+use Rattle.std.specs.Prelude.{Option, None, Some, max, not}
+use Rattle.rvc_base.specs.Turns.{max_turns}
+use Rattle.cal_ast.specs.Places.{begins}
+use Rattle.cal_ast.specs.Tree.{Tree}
+use Rattle.cal_model.specs.Value.{Kind, NumKind, Value, HasKind}
+use Rattle.cal_model.specs.Outcome.{Out, Gives, Traps, Lacks, Clashes}
+use Rattle.cal_model.specs.Keeping.{GivesOnly}
+use Rattle.cal_model.specs.Kinding.{Judged, Fine, Broken, and_so, Names, kind, constant}
+use Rattle.cal_model.specs.Laws.{ConstantIsValue}
+use Rattle.const_eval.specs.Held.{Kept, names_in}
 use Rattle.cal_check.specs.Violations.{all_fine, and_all}
-use Rattle.fnl_bind.specs.Values.{largest}
+use Rattle.cal_check.specs.Variables.{Given}
+use Rattle.fnl_read.specs.Net.{Port, a_port, Parameter, Instance, Size, a_size}
+use Rattle.fnl_tree.specs.Tree.{Own}
+use Rattle.fnl_bind.specs.Library.{is_input, ports_of, instance_parameters}
+use Rattle.fnl_bind.specs.Values.{all_given, end_judged, ends_judged, given_as, largest, parameter_judged, size_given, size_judged, size_of_kind, size_of_value, value_in}
+use Rattle.fnl_values.proofs.Constants.{keeps}
+use Rattle.fnl_values.proofs.Faults.{behind_more, found_first}
+use Rattle.fnl_values.specs.Judging.{behind, outcome_judged}
+use Rattle.fnl_values.specs.Steady.{IsSteady}
+use Rattle.fnl_values.specs.Visiting.{AreVisits, Visit}
+
+-- ---- ports
+
+-- a port goes to those of its direction
+pub port_first : (input : Bool) (p : Port) (ps : List Port) (names : Names) (e : Own) (found : List Own) → is_input p ≡ input → end_judged p names ≡ Fine e
+    → behind (found ++ e ∷ []) (all_fine (ends_judged (ports_of input ps) names)) ≡ behind found (all_fine (ends_judged (ports_of input (p ∷ ps)) names))
+port_first true (a_port true shape name at) ps names e found i h =
+    behind_more found e (all_fine (ends_judged (ports_of true ps) names))
+    ∙ sym (ap (behind found) (found_first e (end_judged (a_port true shape name at) names) (ends_judged (ports_of true ps) names) h))
+port_first false (a_port false shape name at) ps names e found i h =
+    behind_more found e (all_fine (ends_judged (ports_of false ps) names))
+    ∙ sym (ap (behind found) (found_first e (end_judged (a_port false shape name at) names) (ends_judged (ports_of false ps) names) h))
+port_first true (a_port false shape name at) ps names e found i h = absurd (cc)
+port_first false (a_port true shape name at) ps names e found i h = absurd (cc)
+
+pub port_passed : (input : Bool) (p : Port) (ps : List Port) (names : Names) → is_input p ≡ not input
+    → all_fine (ends_judged (ports_of input ps) names) ≡ all_fine (ends_judged (ports_of input (p ∷ ps)) names)
+port_passed true (a_port false shape name at) ps names i = refl
+port_passed false (a_port true shape name at) ps names i = refl
+port_passed true (a_port true shape name at) ps names i = absurd (cc)
+port_passed false (a_port false shape name at) ps names i = absurd (cc)
+
+-- ---- values that are given
+
+pub given_first : (file : ℕ) (p : Parameter) (ps : List Parameter) (names : Names) (v : Value) (g : Given) → parameter_judged p names ≡ Fine (Some v) → given_as file p (Some v) ≡ Some g
+    → all_given file (p ∷ ps) names ≡ and_all (Some g) (all_given file ps names)
+given_first file p ps names v g h e =
+    ap (λ j. and_all (given_as file p (value_in j)) (all_given file ps names)) h ∙ ap (λ o. and_all o (all_given file ps names)) e
+
+-- an instance more
+pub visit_more : (file : ℕ) (names : Names) (all : List Instance) (i : Instance) (is : List Instance) (done : List Visit) (v : Visit)
+    → ((more : List Visit) → AreVisits file names (i ∷ is) more → AreVisits file names all (done ++ more)) → v.instance ≡ i → all_given file (instance_parameters i) names ≡ Some v.given
+    → (more : List Visit) → AreVisits file names is more → AreVisits file names all ((done ++ v ∷ []) ++ more)
+visit_more file names all i is done v h e f more are =
+    subst (AreVisits file names all) (sym (append_assoc done (v ∷ []) more)) (h (v ∷ more) (e, f, are))
+
+pub visits_all : (file : ℕ) (names : Names) (all : List Instance) (done : List Visit) → ((more : List Visit) → AreVisits file names [] more → AreVisits file names all (done ++ more)) → AreVisits file names all done
+visits_all file names all done h = subst (AreVisits file names all) (append-nil done) (h [] tt)
+
+-- ---- sizes
+
+size_kept : (o : Out Value) (e : Tree) (at : ℕ) → GivesOnly (HasKind NumKind) max_turns o → size_given o e at ≡ and_so (outcome_judged o (begins e)) (λ v. size_of_value v at)
+size_kept (Gives v left) e at h = refl
+size_kept (Traps c) e at h = refl
+size_kept Lacks e at h = refl
+size_kept Clashes e at h = absurd h
+
+-- a size of a number's kind
+pub size_as : ConstantIsValue → (env : Kept) (e : Tree) (at : ℕ) → IsSteady env → kind e (names_in env) ≡ Fine NumKind
+    → size_judged (a_size e at) (names_in env) ≡ and_so (outcome_judged (constant e (names_in env)) (begins e)) (λ v. size_of_value v at)
+size_as law env e at steady h =
+    ap (λ j. and_so j (λ k. size_of_kind k e at (names_in env))) h
+    ∙ size_kept (constant e (names_in env)) e at (keeps law env e NumKind steady h)
+
+-- .. and of any kind
+pub size_of : (env : Kept) (e : Tree) (at : ℕ) (k : Kind) → kind e (names_in env) ≡ Fine k → size_judged (a_size e at) (names_in env) ≡ size_of_kind k e at (names_in env)
+size_of env e at k h = ap (λ j. and_so j (λ l. size_of_kind l e at (names_in env))) h
 
 -- the largest so far, and those behind
 abbrev pub IsLargestBehind : ℕ → Option (List ℕ) → Option (List ℕ) → Type 0

@@ -1,12 +1,11 @@
 -- What calls that evaluate parts of a network answer.
 -- Not trusted: no promise is read with it.
-use Rattle.std.specs.Prelude.{◌≡◌, ℕ, true, false, List, [], ◌∷◌, ◌++◌, map, Option, None, Some, Contains, Vec, if◌then◌else◌}
+use Rattle.std.specs.Prelude.{◌≡◌, ℕ, true, false, List, [], ◌∷◌, ◌++◌, map, Option, None, Some, Vec, if◌then◌else◌}
 use Rattle.std.specs.declared.alloc.Global.{Global}
 use Rattle.std.specs.declared.result.Result.{Result}
 use Rattle.std.specs.declared.result.Result.TheVariants.{Ok, Err}
 use Rattle.rvc_base.specs.Rules.{constant_traps, not_constant, wrong_parameter}
 use Rattle.rvc_base.specs.declared.refusal.Front.{Front}
-use Rattle.rvc_base.specs.declared.refusal.Front.TheVariants as front
 use Rattle.cal_ast.specs.Tree.{Tree}
 use Rattle.cal_model.specs.Value.{Kind, Shape, Value, kind_of_type}
 use Rattle.cal_model.specs.Outcome.{Out, Gives, Traps, Lacks, Clashes}
@@ -17,7 +16,7 @@ use Rattle.cal_model.specs.declared.value.Value.{Value as DeclaredValue}
 use Rattle.const_eval.specs.declared.fault.KindFault.{KindFault}
 use Rattle.const_eval.specs.declared.fault.KindFault.TheVariants as fault
 use Rattle.const_eval.specs.Held.{Kept, globals_of}
-use Rattle.cal_check.specs.Violations.{Violation, violation, all_broken, all_fine}
+use Rattle.cal_check.specs.Violations.{violation, all_broken, all_fine}
 use Rattle.cal_check.specs.Variables.{Spot, Found, found_in, Come, Given, VarDecl, Valued, none_yet, come, with_var, valued, value_of, param_broken, is_bare}
 use Rattle.fnl_read.specs.Net.{Parameter, Size, Connection}
 use Rattle.fnl_tree.specs.View.{wire_of}
@@ -25,20 +24,8 @@ use Rattle.fnl_tree.specs.declared.tree.LeafValue.{LeafValue}
 use Rattle.fnl_tree.specs.declared.tree.Wire.{Wire as DeclaredWire}
 use Rattle.fnl_bind.specs.Values as values
 use Rattle.fnl_bind.specs.Values.{parameters_judged, all_given, sizes_judged, sizes_of, largest, or_no, connections_broken, wires_of}
+use Rattle.fnl_values.specs.Causes.{IsCause, Refuses}
 use Rattle.fnl_values.specs.Given.{all_given_of}
-
--- ---- faults
-
--- the rule that a fault names is broken there; running out of memory says nothing
-abbrev pub Refuses : KindFault → List Violation → Type 0
-Refuses (fault.Broken rule at) vs = Contains vs (record { rule = rule; at = at })
-Refuses fault.Memory vs = Unit {0}
-
--- the same of a fault with its file
-abbrev pub IsCause : Front → List Found → Type 0
-IsCause (front.Refused r) fs = Contains fs
-    (record { violation = record { rule = r.rule; at = r.place.offset }; file = r.place.file })
-IsCause front.Memory fs = Unit {0}
 
 -- ---- values
 

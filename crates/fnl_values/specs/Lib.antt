@@ -1,3 +1,4 @@
+pub mod Causes
 pub mod Given
 pub mod Steady
 pub mod Judging

@@ -1,4 +1,5 @@
 //! The ports of a network.
+#![tactic(auto, using(crate::proofs::Faults::breaks_first, crate::proofs::Faults::fine_first, crate::proofs::Faults::behind_all, crate::proofs::Parts::port_first, crate::proofs::Parts::port_passed))]
 
 ghost use Rattle.std.specs.Prelude.{◌≡◌, [], Some, IfErr, IfOk, OnOk, ◌++◌, ◌∷◌, map};
 ghost use Rattle.cal_ast.specs.View.{type_tree};
@@ -10,7 +11,7 @@ ghost use Rattle.fnl_bind.specs.Library.{ports_of};
 ghost use Rattle.fnl_bind.specs.Values.{end_judged, ends_judged};
 ghost use Rattle.fnl_frames.specs.Views.{port_of};
 ghost use Rattle.fnl_tree.specs.View.{own_of};
-ghost use Rattle.fnl_values.specs.Judging.{Refuses};
+ghost use Rattle.fnl_values.specs.Causes.{Refuses};
 
 use cal_ast::TypeExpr;
 use cal_model::Shape;

@@ -1,4 +1,5 @@
 //! Values that parameters are given.
+#![tactic(auto, using(crate::proofs::Wrongly::wrongly_behind, crate::proofs::Wrongly::given_is))]
 
 ghost use Rattle.std.specs.Prelude.{◌≡◌, ℕ, [], IfOk, Option, Some, map, option_map};
 ghost use Rattle.cal_ast.specs.View.{optional_expr};

@@ -1,4 +1,5 @@
 //! A network with its values.
+#![tactic(auto, using(crate::proofs::Faults::refuses_in_first, crate::proofs::Faults::refuses_in_others, crate::proofs::Faults::cause_in_first, crate::proofs::Faults::cause_in_others))]
 
 ghost use Rattle.std.specs.Prelude.{◌≡◌, [], IfErr, IfOk};
 ghost use Rattle.const_eval.specs.Held.{names_in};
@@ -6,7 +7,7 @@ ghost use Rattle.fnl_bind.specs.Values.{values_broken};
 ghost use Rattle.fnl_frames.specs.Views.{net_of};
 ghost use Rattle.fnl_values.specs.Evaluated.{Evaluates, HasParts, alone};
 ghost use Rattle.fnl_values.specs.Given.{all_given_of, spot_of};
-ghost use Rattle.fnl_values.specs.Judging.{Refuses};
+ghost use Rattle.fnl_values.specs.Causes.{Refuses};
 ghost use Rattle.fnl_values.specs.Steady.{IsSteady};
 
 use crate::declared::{Told, declared};

@@ -1,4 +1,5 @@
 //! Values that a network gives to an instance.
+#![tactic(auto, using(crate::proofs::Faults::breaks_first, crate::proofs::Faults::fine_first, crate::proofs::Faults::behind_all, crate::proofs::Faults::behind_more, crate::proofs::Parts::given_first))]
 
 ghost use Rattle.std.specs.Prelude.{◌≡◌, IfOk, Some, map};
 ghost use Rattle.cal_model.specs.View.{value_view};

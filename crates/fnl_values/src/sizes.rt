@@ -1,4 +1,5 @@
 //! Connections with the sizes that they ask for.
+#![tactic(auto, using(crate::proofs::Faults::breaks_first, crate::proofs::Faults::fine_first, crate::proofs::Faults::refuses_in_first, crate::proofs::Faults::refuses_in_others))]
 
 ghost use Rattle.std.specs.Prelude.{◌≡◌, map};
 ghost use Rattle.cal_model.specs.View.{value_view};

@@ -1,10 +1,11 @@
 //! Instances with what they are given.
+#![tactic(auto, using(crate::proofs::Faults::refuses_in_first, crate::proofs::Faults::refuses_in_others, crate::proofs::Parts::visit_more, crate::proofs::Parts::visits_all))]
 
 ghost use Rattle.std.specs.Prelude.{◌≡◌, [], IfErr, IfOk, map};
 ghost use Rattle.const_eval.specs.Held.{names_in};
 ghost use Rattle.fnl_bind.specs.Values.{instances_broken};
 ghost use Rattle.fnl_frames.specs.Views.{instance_of};
-ghost use Rattle.fnl_values.specs.Judging.{Refuses};
+ghost use Rattle.fnl_values.specs.Causes.{Refuses};
 ghost use Rattle.fnl_values.specs.Steady.{IsSteady};
 ghost use Rattle.fnl_values.specs.Visiting.{AreVisits, visit_of};
 
