@@ -32,13 +32,7 @@ pub(crate) struct Told<'a> {
 }
 
 /// The value of a declaration of a type and its kind.
-fn value(
-    told: Told<'_>,
-    env: &Env,
-    decl: &NetDecl,
-    t: &Shape,
-    k: &Kind,
-) -> Result<Value, Front>
+fn value(told: Told<'_>, env: &Env, decl: &NetDecl, t: &Shape, k: &Kind) -> Result<Value, Front>
     requires steady { IsSteady env.now }
     requires allowed { IsType (shape_view t.now) }
     requires kind { kind_view k.now ≡ kind_of_type (shape_view t.now) }

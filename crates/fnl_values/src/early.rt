@@ -26,7 +26,10 @@ fn late_in_type(fault: KindFault, t: &TypeExpr) -> KindFault
         KindFault::Broken { rule, at } => {
             if rule == Rule::UNKNOWN_NAME {
                 let at = constant_place_in_type(at, t);
-                return KindFault::Broken { rule: Rule::NOT_CONSTANT, at };
+                return KindFault::Broken {
+                    rule: Rule::NOT_CONSTANT,
+                    at,
+                };
             }
             KindFault::Broken { rule, at }
         }
@@ -43,7 +46,10 @@ fn late_in_expr(fault: KindFault, e: &Expr) -> KindFault
         KindFault::Broken { rule, at } => {
             if rule == Rule::UNKNOWN_NAME {
                 let at = constant_place(at, e);
-                return KindFault::Broken { rule: Rule::NOT_CONSTANT, at };
+                return KindFault::Broken {
+                    rule: Rule::NOT_CONSTANT,
+                    at,
+                };
             }
             KindFault::Broken { rule, at }
         }

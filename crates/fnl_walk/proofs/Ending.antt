@@ -124,9 +124,9 @@ step_refused library class e start w (front.Refused r) h s k (inr (rule, passes)
     let full = passes.full in let count = k.count in let one = s.count in
     let met : length k.met ≡ max_instances = omega (arith, full, count, one) in
     let next : slice_get (instances_at (length library) library e (e.class ∷ [])) max_instances ≡ Some spot =
-        ap (λ xs. slice_get xs max_instances) (sym s.spots ∙ k.spots)
-        ∙ ap (slice_get (k.met ++ spots library w)) (sym met)
-        ∙ get_behind k.met (spots library w) ∙ passes.next in
+    ap (λ xs. slice_get xs max_instances) (sym s.spots ∙ k.spots)
+    ∙ ap (slice_get (k.met ++ spots library w)) (sym met)
+    ∙ get_behind k.met (spots library w) ∙ passes.next in
     let c : IsCause (front.Refused r) (passing (Some spot)) = (0, omega arith, ap (λ q. record { violation = record { rule = q; at = r.place.offset }; file = r.place.file }) (sym rule)) in
     subst (IsCause (front.Refused r)) (sym (violations_are library class e h))
     (cause_in_others (front.Refused r) (found_at (length library) library (top_place e)) (passing (slice_get (instances_at (length library) library e (e.class ∷ [])) max_instances))

@@ -1,4 +1,6 @@
+mod Stacks
 mod Parts
+mod Circles
 mod Opening
 mod Visiting
 mod Ending

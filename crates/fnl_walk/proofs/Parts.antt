@@ -39,10 +39,10 @@ part_more number id inner g rest all h =
     let parts : with_parts number (one ++ rest.parts) all.nets ≡ with_parts number rest.parts (with_parts number one all.nets) = sym (parts_twice number one rest.parts all.nets) in
     let k : number < length (with_parts number one all.nets) = subst (λ n. number < n) (sym (parts_length number one all.nets)) h in
     let nets : with_parts number (one ++ rest.parts) all.nets ++ (g.nets ++ rest.grown.nets)
-        ≡ with_parts number rest.parts (with_parts number one all.nets ++ g.nets) ++ rest.grown.nets =
-        ap (λ ns. ns ++ (g.nets ++ rest.grown.nets)) parts
-        ∙ sym (append_assoc (with_parts number rest.parts (with_parts number one all.nets)) g.nets rest.grown.nets)
-        ∙ ap (λ ns. ns ++ rest.grown.nets) (sym (parts_left number rest.parts (with_parts number one all.nets) g.nets k)) in
+    ≡ with_parts number rest.parts (with_parts number one all.nets ++ g.nets) ++ rest.grown.nets =
+    ap (λ ns. ns ++ (g.nets ++ rest.grown.nets)) parts
+    ∙ sym (append_assoc (with_parts number rest.parts (with_parts number one all.nets)) g.nets rest.grown.nets)
+    ∙ ap (λ ns. ns ++ rest.grown.nets) (sym (parts_left number rest.parts (with_parts number one all.nets) g.nets k)) in
     ap (λ ns. record { nets = ns; leaves = all.leaves ++ (g.leaves ++ rest.grown.leaves) }) nets
     ∙ ap (λ ls. record { nets = with_parts number rest.parts (with_parts number one all.nets ++ g.nets) ++ rest.grown.nets; leaves = ls }) (sym (append_assoc all.leaves g.leaves rest.grown.leaves))
 

@@ -60,12 +60,12 @@ keeps_leaf library o v w none steady room =
     let in_range : o.number < nets = steady.are_open.0.is_net in
     let same_nets : length parts ≡ nets = parts_length o.number (record { id = instance_id v.instance; inner = InnerLeaf leaves } ∷ []) w.grown.nets in
     let filled_old : with_filled o.number (filled_by (grown_at o.levels library) (instance_id v.instance) (standing_of library p v) rest nets leaves) w.grown
-        ≡ with_filled o.number (rest (length parts) (length (w.grown.leaves ++ leaf ∷ []))) (record { nets = parts; leaves = w.grown.leaves ++ leaf ∷ [] }) =
-        ap (λ s. with_filled o.number (filled_by (grown_at o.levels library) (instance_id v.instance) s rest nets leaves) w.grown) is
-        ∙ part_more o.number (instance_id v.instance) (InnerLeaf leaves) (record { nets = []; leaves = leaf ∷ [] }) (rest (nets + 0) (leaves + 1)) w.grown in_range
-        ∙ ap (λ ns. with_filled o.number (rest (nets + 0) (leaves + 1)) (record { nets = ns; leaves = w.grown.leaves ++ leaf ∷ [] })) (append-nil parts)
-        ∙ ap (λ n. with_filled o.number (rest n (leaves + 1)) (record { nets = parts; leaves = w.grown.leaves ++ leaf ∷ [] })) (sym same_nets)
-        ∙ ap (λ n. with_filled o.number (rest (length parts) n) (record { nets = parts; leaves = w.grown.leaves ++ leaf ∷ [] })) (sym (length_one w.grown.leaves leaf)) in
+    ≡ with_filled o.number (rest (length parts) (length (w.grown.leaves ++ leaf ∷ []))) (record { nets = parts; leaves = w.grown.leaves ++ leaf ∷ [] }) =
+    ap (λ s. with_filled o.number (filled_by (grown_at o.levels library) (instance_id v.instance) s rest nets leaves) w.grown) is
+    ∙ part_more o.number (instance_id v.instance) (InnerLeaf leaves) (record { nets = []; leaves = leaf ∷ [] }) (rest (nets + 0) (leaves + 1)) w.grown in_range
+    ∙ ap (λ ns. with_filled o.number (rest (nets + 0) (leaves + 1)) (record { nets = ns; leaves = w.grown.leaves ++ leaf ∷ [] })) (append-nil parts)
+    ∙ ap (λ n. with_filled o.number (rest n (leaves + 1)) (record { nets = parts; leaves = w.grown.leaves ++ leaf ∷ [] })) (sym same_nets)
+    ∙ ap (λ n. with_filled o.number (rest (length parts) n) (record { nets = parts; leaves = w.grown.leaves ++ leaf ∷ [] })) (sym (length_one w.grown.leaves leaf)) in
     record {
       found = sym (ap (λ s. (found_standing (found_at o.levels library) s ++ found_in_open library o w.above) ++ found_left library w.open_nets (outside w.above)) is);
       tree = sym (ap (finished library w.open_nets (outside w.above)) filled_old);
@@ -116,25 +116,25 @@ keeps_net library o v e w new some class steady room opens =
       grown = record { nets = parts ++ net_with inner [] ∷ []; leaves = w.grown.leaves };
     } in
     let found_new : found library after ≡ found library (before o v w) =
-        ap (λ fs. fs ++ (found_in_open library o w.above ++ found_left library w.open_nets (outside w.above))) (found_opened library inner o.levels (length parts) opens.visits opens.conforms opens.are_visits)
-        ∙ sym (append_assoc (found_at o.levels library inner) (found_in_open library o w.above) (found_left library w.open_nets (outside w.above)))
-        ∙ sym (ap (λ s. (found_standing (found_at o.levels library) s ++ found_in_open library o w.above) ++ found_left library w.open_nets (outside w.above)) is) in
+    ap (λ fs. fs ++ (found_in_open library o w.above ++ found_left library w.open_nets (outside w.above))) (found_opened library inner o.levels (length parts) opens.visits opens.conforms opens.are_visits)
+    ∙ sym (append_assoc (found_at o.levels library inner) (found_in_open library o w.above) (found_left library w.open_nets (outside w.above)))
+    ∙ sym (ap (λ s. (found_standing (found_at o.levels library) s ++ found_in_open library o w.above) ++ found_left library w.open_nets (outside w.above)) is) in
     let spots_new : spots library (before o v w) ≡ record { file = o.file; at = instance_at v.instance } ∷ spots library after =
-        ap (λ en. (record { file = o.file; at = instance_at v.instance } ∷ (instances_under (instances_at o.levels library) en w.above ++ spots_in_open library o w.above)) ++ spots_left library w.open_nets (outside w.above)) some
-        ∙ ap (λ xs. (record { file = o.file; at = instance_at v.instance } ∷ (xs ++ spots_in_open library o w.above)) ++ spots_left library w.open_nets (outside w.above))
-        (inside (is_among e.class w.above) (instances_at o.levels library e (e.class ∷ w.above)) no_circle ∙ sym (spots_opened library inner o.levels (length parts) opens.visits opens.are_visits))
-        ∙ ap (λ xs. record { file = o.file; at = instance_at v.instance } ∷ xs) (append_assoc (spots_in_open library (opened inner.entry.file (length parts) inner.path o.levels opens.visits) inner.above) (spots_in_open library o w.above) (spots_left library w.open_nets (outside w.above))) in
+    ap (λ en. (record { file = o.file; at = instance_at v.instance } ∷ (instances_under (instances_at o.levels library) en w.above ++ spots_in_open library o w.above)) ++ spots_left library w.open_nets (outside w.above)) some
+    ∙ ap (λ xs. (record { file = o.file; at = instance_at v.instance } ∷ (xs ++ spots_in_open library o w.above)) ++ spots_left library w.open_nets (outside w.above))
+    (inside (is_among e.class w.above) (instances_at o.levels library e (e.class ∷ w.above)) no_circle ∙ sym (spots_opened library inner o.levels (length parts) opens.visits opens.are_visits))
+    ∙ ap (λ xs. record { file = o.file; at = instance_at v.instance } ∷ xs) (append_assoc (spots_in_open library (opened inner.entry.file (length parts) inner.path o.levels opens.visits) inner.above) (spots_in_open library o w.above) (spots_left library w.open_nets (outside w.above))) in
     let filled_old : with_filled o.number (filled_by (grown_at o.levels library) (instance_id v.instance) (standing_of library p v) rest nets leaves) w.grown
-        ≡ with_filled o.number (rest (length (parts ++ more.nets)) (length (w.grown.leaves ++ more.leaves))) (and_more middle more) =
-        ap (λ s. with_filled o.number (filled_by (grown_at o.levels library) (instance_id v.instance) s rest nets leaves) w.grown) is
-        ∙ ap (λ n. with_filled o.number (with_part (instance_id v.instance) (InnerNet nets) (grown_at o.levels library inner n leaves)
-        (rest (n + length (grown_at o.levels library inner n leaves).nets) (leaves + length (grown_at o.levels library inner n leaves).leaves))) w.grown) (sym same_nets)
-        ∙ part_more o.number (instance_id v.instance) (InnerNet nets) more (rest (length parts + length more.nets) (leaves + length more.leaves)) w.grown in_range
-        ∙ ap (λ n. with_filled o.number (rest n (leaves + length more.leaves)) (and_more middle more)) (sym (length-append parts more.nets))
-        ∙ ap (λ n. with_filled o.number (rest (length (parts ++ more.nets)) n) (and_more middle more)) (sym (length-append w.grown.leaves more.leaves)) in
+    ≡ with_filled o.number (rest (length (parts ++ more.nets)) (length (w.grown.leaves ++ more.leaves))) (and_more middle more) =
+    ap (λ s. with_filled o.number (filled_by (grown_at o.levels library) (instance_id v.instance) s rest nets leaves) w.grown) is
+    ∙ ap (λ n. with_filled o.number (with_part (instance_id v.instance) (InnerNet nets) (grown_at o.levels library inner n leaves)
+    (rest (n + length (grown_at o.levels library inner n leaves).nets) (leaves + length (grown_at o.levels library inner n leaves).leaves))) w.grown) (sym same_nets)
+    ∙ part_more o.number (instance_id v.instance) (InnerNet nets) more (rest (length parts + length more.nets) (leaves + length more.leaves)) w.grown in_range
+    ∙ ap (λ n. with_filled o.number (rest n (leaves + length more.leaves)) (and_more middle more)) (sym (length-append parts more.nets))
+    ∙ ap (λ n. with_filled o.number (rest (length (parts ++ more.nets)) n) (and_more middle more)) (sym (length-append w.grown.leaves more.leaves)) in
     let tree_new : finished library after.open_nets after.above after.grown ≡ finished library (before o v w).open_nets w.above w.grown =
-        tree_opened library inner o.levels opens.visits (o ∷ w.open_nets) middle opens.are_visits
-        ∙ sym (ap (finished library w.open_nets (outside w.above)) filled_old) in
+    tree_opened library inner o.levels opens.visits (o ∷ w.open_nets) middle opens.are_visits
+    ∙ sym (ap (finished library w.open_nets (outside w.above)) filled_old) in
     let one = length_one parts (net_with inner []) in
     subst (λ x. Keeps library (before o v w) x) (sym opens.is) (record {
       found = found_new;
@@ -143,8 +143,11 @@ keeps_net library o v e w new some class steady room opens =
       spots = spots_new;
       count = omega (arith, one, same_nets);
       steady = record {
-        are_open = (is_opened o.levels inner.entry.file (length parts) (length (parts ++ net_with inner [] ∷ [])) inner.path opens.visits inner.above (omega (arith, one)) opens.no_circle, more_open nets (length (parts ++ net_with inner [] ∷ [])) w.above (o ∷ w.open_nets) (omega (arith, one, same_nets))
-            (record { is_net = in_range; no_circle = steady.are_open.0.no_circle.1 }, steady.are_open.1));
+        are_open = (
+          is_opened o.levels inner.entry.file (length parts) (length (parts ++ net_with inner [] ∷ [])) inner.path opens.visits inner.above (omega (arith, one)) opens.no_circle,
+          more_open nets (length (parts ++ net_with inner [] ∷ [])) w.above (o ∷ w.open_nets) (omega (arith, one, same_nets))
+              (record { is_net = in_range; no_circle = steady.are_open.0.no_circle.1 }, steady.are_open.1),
+        );
         few = omega (arith, one, same_nets, room);
       };
     })

@@ -1,4 +1,5 @@
 //! Networks that are opened.
+#![tactic(auto, using(crate::proofs::Stacks::innermost, crate::proofs::Stacks::innermost_class, crate::proofs::Stacks::last_net))]
 
 ghost use Rattle.std.specs.Prelude.{◌≡◌, OnOk, length, map, reverse, string_bytes};
 ghost use Rattle.fnl_bind.specs.Scopes.{scope_broken};
@@ -100,7 +101,8 @@ fn add_net<'a>(
     };
     walk.nets.push(net)?;
     let path = String::from_str(alloc, at.path)?;
-    walk.open_nets.push(opened(alloc, at, number, path, values.visits))?;
+    walk.open_nets
+        .push(opened(alloc, at, number, path, values.visits))?;
     Ok(())
 }
 

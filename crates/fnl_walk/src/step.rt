@@ -1,4 +1,5 @@
 //! The steps of a walk.
+#![tactic(auto, using(crate::proofs::Stacks::innermost, crate::proofs::Stacks::innermost_class, crate::proofs::Stacks::last_leaf))]
 
 ghost use Rattle.std.specs.Prelude.{◌≡◌, ◌<◌, ◌≤◌, IfOk, OnOk, length, string_bytes};
 ghost use Rattle.fnl_bind.specs.Networks.{path_under};
@@ -47,7 +48,12 @@ fn put_net<'a>(walk: &mut Walk<'a>, here: Open<'a>, id: &str) -> Result<String, 
     ensures path { IfOk result (λ path. string_bytes path ≡ path_under (open_of here.entry).path id.now) }
 {
     let inner = Inner::Net(walk.nets.len() as u32);
-    add_part(&mut walk.nets, here.number, String::from_str(walk.alloc, id)?, inner)?;
+    add_part(
+        &mut walk.nets,
+        here.number,
+        String::from_str(walk.alloc, id)?,
+        inner,
+    )?;
     let path = path_under(walk.alloc, here.path.as_str(), id)?;
     walk.open_nets.push(here)?;
     Ok(path)
