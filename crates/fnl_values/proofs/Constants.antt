@@ -66,13 +66,13 @@ constant_is law e env =
 same_value : {v w : Value} → Some v ≡ Some w → v ≡ w
 same_value e = cc
 
+known_here : (b : Bool) (x y : Known) (ys : List Known) (name : List ℕ) → IsConstant y → (known_as name ys ≡ Some x → IsConstant x) → (if b then Some y else known_as name ys) ≡ Some x → IsConstant x
+known_here true x y ys name h rest e = let same : y ≡ x = cc in subst IsConstant same h
+known_here false x y ys name h rest e = rest e
+
 known_is : (name : List ℕ) (xs : List Known) (x : Known) → Each IsConstant xs → known_as name xs ≡ Some x → IsConstant x
 known_is name [] x h e = absurd (cc)
-known_is name (y ∷ ys) x h e = go (bytes_eq y.name name) e
-  where
-    go : (b : Bool) → (if b then Some y else known_as name ys) ≡ Some x → IsConstant x
-    go true f = let same : y ≡ x = cc in subst IsConstant same h.0
-    go false f = known_is name ys x h.1 f
+known_is name (y ∷ ys) x h e = known_here (bytes_eq y.name name) x y ys name h.0 (known_is name ys x h.1) e
 
 stands : (x : Known) (v : Value) → IsConstant x → x.value ≡ Some v → StandsFor x v
 stands x v c e =

@@ -1,12 +1,14 @@
 -- Declarations, one after another.
-use Rattle.std.proofs.Common.{◌≡◌, ℕ, Bool, true, false, List, [], ◌∷◌, ◌++◌, refl, sym, ap, subst, ◌∙◌, arith}
+use Rattle.std.proofs.Common.{◌≡◌, ℕ, Bool, true, false, List, [], ◌∷◌, ◌++◌, refl, sym, ap, subst, ◌∙◌, arith, Ok, Err}
 use Rattle.std.specs.Prelude.{Option, None, Some, if◌then◌else◌}
+use Rattle.std.specs.declared.result.Result.{Result}
 use Rattle.rvc_base.specs.declared.refusal.Rule.{Rule}
 use Rattle.rvc_base.specs.declared.refusal.Front.{Front}
 use Rattle.rvc_base.specs.declared.refusal.Front.TheVariants as front
 use Rattle.cal_ast.specs.Tree.{Tree}
 use Rattle.cal_model.specs.Value.{Shape, Value, HasKind, kind_of_type}
 use Rattle.cal_model.specs.Actor.{Held}
+use Rattle.cal_model.specs.declared.value.Value.{Value as DeclaredValue}
 use Rattle.cal_model.specs.Kinding.{Judged, Fine, Broken, Known, Names}
 use Rattle.cal_model.specs.Sound.{Each}
 use Rattle.const_eval.specs.Held.{Kept, globals_of, held, names_in}
@@ -16,9 +18,9 @@ use Rattle.const_eval.specs.declared.fault.KindFault.TheVariants as fault
 use Rattle.cal_check.specs.Constants.{early_type}
 use Rattle.cal_check.specs.Violations.{Violation, said, violation}
 use Rattle.cal_check.specs.Variables.{Spot, Found, found_in, Come, Given, VarDecl, Valued, come, value_of, param_broken, held_if, is_none, value_or, seen, with_var, with_type, with_come, valued}
-use Rattle.fnl_values.proofs.Faults.{cause_in_first, found_of}
+use Rattle.fnl_values.proofs.Faults.{cause_in_first, cause_in_others}
 use Rattle.fnl_values.specs.Causes.{IsCause, Refuses}
-use Rattle.fnl_values.specs.Judging.{fine_so_far, value_breaks}
+use Rattle.fnl_values.specs.Judging.{Comes, Settles, fine_so_far, value_breaks}
 use Rattle.fnl_values.specs.Steady.{IsConstant, IsSteady, names_of}
 
 -- ---- names
@@ -101,3 +103,13 @@ broken_by_one x gs owner vs f h = go vs.whole
 pub stays_broken : (xs : List VarDecl) (gs : List Given) (owner : Spot) (vs : Valued) (f : Front) → IsCause f vs.breaks → IsCause f (valued xs gs owner [] vs).breaks
 stays_broken [] gs owner vs f h = h
 stays_broken (x ∷ xs) gs owner vs f h = stays_broken xs gs owner (with_var x gs owner [] vs) f (broken_by_one x gs owner vs f h)
+
+-- ---- values
+
+-- a start that breaks nothing, and what a parameter is given
+pub comes_of : (r : Result DeclaredValue Front) (x : VarDecl) (gs : List Given) (owner : Spot) (t : Shape) (names : Names) (v : Value)
+    → come t x.start names ≡ record { value = Some v; breaks = [] } → Settles r (value_of x gs t (Some v)) (param_broken x gs owner t) → Comes r x gs owner t names
+comes_of (Ok w) x gs owner t names v c s =
+    (ap (λ d. value_of x gs t d.value) c ∙ s.0, ap (λ d. found_in x.file d.breaks ++ param_broken x gs owner t) c ∙ s.1)
+comes_of (Err f) x gs owner t names v c s =
+    cause_in_others f (found_in x.file (come t x.start names).breaks) (param_broken x gs owner t) s

@@ -15,7 +15,7 @@ use Rattle.cal_check.specs.Variables.{Given}
 use Rattle.fnl_read.specs.Net.{Port, a_port, Parameter, Instance, Size, a_size}
 use Rattle.fnl_tree.specs.Tree.{Own}
 use Rattle.fnl_bind.specs.Library.{is_input, ports_of, instance_parameters}
-use Rattle.fnl_bind.specs.Values.{all_given, end_judged, ends_judged, given_as, largest, parameter_judged, size_given, size_judged, size_of_kind, size_of_value, value_in}
+use Rattle.fnl_bind.specs.Values.{all_given, end_judged, ends_judged, given_as, largest, or_no, parameter_judged, size_given, size_judged, size_of_kind, size_of_value, value_in}
 use Rattle.fnl_values.proofs.Constants.{keeps}
 use Rattle.fnl_values.proofs.Faults.{behind_more, found_first}
 use Rattle.fnl_values.specs.Judging.{behind, outcome_judged}
@@ -91,3 +91,12 @@ largest_more found n rest all h ns e =
   where
     max_assoc : (a b c : ℕ) → max a (max b c) ≡ max (max a b) c
     max_assoc a b c = omega arith
+
+pub largest_all : (found : ℕ) (rest all : Option (List ℕ)) → rest ≡ Some [] → IsLargestBehind found rest all → found ≡ largest (or_no all)
+largest_all found rest all e h =
+    let i = h [] e in
+    let m : largest i.0 ≡ found = i.2 ∙ max_none found in
+    sym m ∙ ap (λ o. largest (or_no o)) (sym i.1)
+  where
+    max_none : (n : ℕ) → max n 0 ≡ n
+    max_none n = omega arith

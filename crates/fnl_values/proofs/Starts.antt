@@ -1,6 +1,6 @@
 -- What declarations start with.
-use Rattle.std.proofs.Common.{◌≡◌, ℕ, Bool, true, false, List, [], refl, sym, ap, subst, ◌∙◌, arith}
-use Rattle.std.specs.Prelude.{Option, None, Some, ◌==◌, if◌then◌else◌}
+use Rattle.std.proofs.Common.{◌≡◌, ℕ, Bool, true, false, List, [], refl, sym, ap, subst, ◌∙◌, arith, Err}
+use Rattle.std.specs.Prelude.{Contains, Option, None, Some, ◌==◌, if◌then◌else◌}
 use Rattle.rvc_base.specs.Rules.{unknown_name, not_constant}
 use Rattle.rvc_base.specs.Turns.{max_turns}
 use Rattle.rvc_base.specs.declared.refusal.Rule.{Rule}
@@ -23,7 +23,8 @@ use Rattle.cal_check.specs.Violations.{violation}
 use Rattle.cal_check.specs.Variables.{Come, come, come_of, come_if}
 use Rattle.typed_values.proofs.Kept.{test_passes}
 use Rattle.fnl_values.proofs.Constants.{keeps}
-use Rattle.fnl_values.specs.Judging.{outcome_judged}
+use Rattle.fnl_values.specs.Causes.{Refuses}
+use Rattle.fnl_values.specs.Judging.{Starts, outcome_judged}
 use Rattle.fnl_values.specs.Steady.{IsSteady}
 
 -- ---- names that aren't known yet
@@ -54,7 +55,7 @@ come_gives t (Traps c) at v h e = absurd (cc)
 come_gives t Lacks at v h e = absurd (cc)
 come_gives t Clashes at v h e = absurd h
 
-without_value : Judged Value → Come
+abbrev without_value : Judged Value → Come
 without_value (Fine w) = record { value = None; breaks = [] }
 without_value (Broken rule at) = record { value = None; breaks = violation rule at }
 
@@ -86,3 +87,7 @@ start_breaks law env t e rule p steady early h =
 pub kind_breaks : (names : Names) (t : Shape) (e : Tree) (rule : Rule) (p : ℕ) → early_kind (kind_of_type t) e names ≡ Broken rule p
     → come t (tree.present e) names ≡ record { value = None; breaks = violation rule p }
 kind_breaks names t e rule p h = ap (λ j. come_if j t e names) h
+
+pub start_refuses : (f : KindFault) (c : Come) → Starts (Err f) c → Refuses f c.breaks
+start_refuses (fault.Broken rule at) c h = subst (λ vs. Contains vs (record { rule = rule; at = at })) (sym (ap (λ d. d.breaks) h)) (0, omega arith, refl)
+start_refuses fault.Memory c h = tt

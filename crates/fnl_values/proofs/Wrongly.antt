@@ -1,8 +1,10 @@
 -- Values that are given: to which parameters, and which of them are given twice.
-use Rattle.std.proofs.Common.{◌≡◌, ℕ, Bool, true, false, not, List, [], ◌∷◌, ◌++◌, refl, sym, ap, ◌∙◌, append-nil, append_assoc}
-use Rattle.std.specs.Prelude.{Option, None, Some, ◌||◌, is_some, reverse, if◌then◌else◌}
+use Rattle.std.proofs.Common.{◌≡◌, ℕ, Bool, true, false, not, List, [], ◌∷◌, ◌++◌, refl, sym, ap, subst, ◌∙◌, arith, append-nil, append_assoc}
+use Rattle.std.specs.Prelude.{Contains, Option, None, Some, ◌||◌, is_some, reverse, if◌then◌else◌}
 use Rattle.std.specs.Str.{bytes_eq}
 use Rattle.std.proofs.lemmas.List.{reverse-append}
+use Rattle.std.proofs.lemmas.List.Elements.{Contains-append_right}
+use Rattle.fnl_values.specs.Judging.{is_wrong}
 use Rattle.rvc_base.specs.Rules.{wrong_parameter}
 use Rattle.cal_check.specs.Actors.{given_wrongly, is_declared, is_given}
 use Rattle.cal_check.specs.Violations.{violation}
@@ -68,3 +70,24 @@ wrongly_behind gs g params =
     last_wrongly gs g [] params
     ∙ ap (λ b. given_wrongly gs [] params ++ (if not (is_declared g.name params) || b then found_in g.place.file (violation wrong_parameter g.place.at) else []))
     (ap (is_given g.name) (append-nil (reverse gs)) ∙ given_reversed g.name gs)
+
+wrong_here : (b : Bool) (g : Given) → b ≡ true → Contains (if b then found_in g.place.file (violation wrong_parameter g.place.at) else []) (record { violation = record { rule = wrong_parameter; at = g.place.at }; file = g.place.file })
+wrong_here true g h = (0, omega arith, refl)
+wrong_here false g h = absurd (cc)
+
+-- the last one is given wrongly
+pub wrongly_here : (gs : List Given) (g : Given) (params : List VarDecl) (all : List Given) → all ≡ gs ++ g ∷ [] → is_wrong g gs params ≡ true
+    → Contains (given_wrongly all [] params) (record { violation = record { rule = wrong_parameter; at = g.place.at }; file = g.place.file })
+wrongly_here gs g params all e h =
+    subst (λ fs. Contains fs (record { violation = record { rule = wrong_parameter; at = g.place.at }; file = g.place.file }))
+    (sym (ap (λ xs. given_wrongly xs [] params) e ∙ wrongly_behind gs g params))
+    (Contains-append_right (given_wrongly gs [] params) (one_wrongly g gs params) _ (wrong_here (is_wrong g gs params) g h))
+
+-- .. or isn't
+pub wrongly_passed : (gs : List Given) (g : Given) (params : List VarDecl) (all : List Given) → all ≡ gs ++ g ∷ [] → is_wrong g gs params ≡ false
+    → given_wrongly gs [] params ≡ given_wrongly all [] params
+wrongly_passed gs g params all e h =
+    sym (append-nil (given_wrongly gs [] params))
+    ∙ ap (λ b. given_wrongly gs [] params ++ (if b then found_in g.place.file (violation wrong_parameter g.place.at) else [])) (sym h)
+    ∙ sym (wrongly_behind gs g params)
+    ∙ ap (λ xs. given_wrongly xs [] params) (sym e)

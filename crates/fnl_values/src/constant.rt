@@ -51,6 +51,7 @@ pub(crate) fn value(alloc: Global, env: &Env, e: &Expr) -> Result<Value, KindFau
     ensures { Judges (λ v. Some (value_view v)) result
         (value_judged (expr_tree e.now) (names_in env.now)) }
 {
+    constants_are_values();
     kind_const(alloc, env, e)?;
     outcome(alloc, env, e)
 }

@@ -36,8 +36,8 @@ fn value(told: Told<'_>, env: &Env, decl: &NetDecl, t: &Shape, k: &Kind) -> Resu
     requires steady { IsSteady env.now }
     requires allowed { IsType (shape_view t.now) }
     requires kind { kind_view k.now ≡ kind_of_type (shape_view t.now) }
-    ensures comes { Comes result (var_decl told.file (decl_of decl.now)) (all_given_of told.given.now)
-        (spot_of told.owner) (shape_view t.now) (names_in env.now) }
+    ensures comes { Comes result (var_decl told.entry.file (decl_of decl.now)) (all_given_of told.entry.given.now)
+        (spot_of told.entry.owner) (shape_view t.now) (names_in env.now) }
     ensures kind { IfOk result (λ v. HasKind (kind_of_type (shape_view t.now)) (value_view v)) }
 {
     let start = match start(told.alloc, env, t, k, &decl.value) {
@@ -50,8 +50,8 @@ fn value(told: Told<'_>, env: &Env, decl: &NetDecl, t: &Shape, k: &Kind) -> Resu
 /// One declaration more, which sees those before it.
 fn declare(told: Told<'_>, env: &mut Env, decl: &NetDecl) -> Result<(), Front>
     requires { IsSteady env.old }
-    ensures declares { Declares result (var_decl told.file (decl_of decl.now)) (all_given_of told.given.now)
-        (spot_of told.owner) (globals_of env.old) (globals_of env.new) }
+    ensures declares { Declares result (var_decl told.entry.file (decl_of decl.now)) (all_given_of told.entry.given.now)
+        (spot_of told.entry.owner) (globals_of env.old) (globals_of env.new) }
     ensures steady { OnOk result (IsSteady env.new) }
 {
     let t = match early_type(told.alloc, env, &decl.shape) {
@@ -70,8 +70,8 @@ fn declare(told: Told<'_>, env: &mut Env, decl: &NetDecl) -> Result<(), Front>
 
 /// All declarations in order, as constants.
 pub(crate) fn declared(told: Told<'_>, decls: &[NetDecl]) -> Result<Env, Front>
-    ensures declares { DeclaresAll result (var_decls told.file (map decl_of decls.now))
-        (all_given_of told.given.now) (spot_of told.owner) }
+    ensures declares { DeclaresAll result (var_decls told.entry.file (map decl_of decls.now))
+        (all_given_of told.entry.given.now) (spot_of told.entry.owner) }
     ensures steady { IfOk result (λ env. IsSteady env) }
 {
     let mut env = Env::new(told.alloc);

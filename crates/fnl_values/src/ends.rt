@@ -1,7 +1,7 @@
 //! The ports of a network.
 #![tactic(auto, using(crate::proofs::Faults::breaks_first, crate::proofs::Faults::fine_first, crate::proofs::Faults::behind_all, crate::proofs::Parts::port_first, crate::proofs::Parts::port_passed))]
 
-ghost use Rattle.std.specs.Prelude.{◌≡◌, [], Some, IfErr, IfOk, OnOk, ◌++◌, ◌∷◌, map};
+ghost use Rattle.std.specs.Prelude.{◌≡◌, [], Some, IfErr, IfOk, OnOk, ◌++◌, ◌∷◌, false, if◌then◌else◌, map, true};
 ghost use Rattle.cal_ast.specs.View.{type_tree};
 ghost use Rattle.cal_check.specs.Routines.{single_type};
 ghost use Rattle.cal_check.specs.Violations.{all_broken, all_fine};
@@ -53,9 +53,9 @@ fn end(alloc: Global, env: &Env, port: &NetPort) -> Result<NetEnd, KindFault>
 /// Adds a port of a direction.
 fn add_end(ends: &mut Ends, input: bool, end: NetEnd) -> Result<(), Memory>
     ensures ins { OnOk result (map own_of ends.new.ins.items
-        ≡ (if input then map own_of ends.old.ins.items ++ own_of end.entry ∷ [] else map own_of ends.old.ins.items)) }
+        ≡ (if input then map own_of ends.old.ins.items ++ own_of end ∷ [] else map own_of ends.old.ins.items)) }
     ensures outs { OnOk result (map own_of ends.new.outs.items
-        ≡ (if input then map own_of ends.old.outs.items else map own_of ends.old.outs.items ++ own_of end.entry ∷ [])) }
+        ≡ (if input then map own_of ends.old.outs.items else map own_of ends.old.outs.items ++ own_of end ∷ [])) }
 {
     if input {
         ends.ins.push(end)?;

@@ -1,16 +1,16 @@
 //! Values that parameters are given.
 #![tactic(auto, using(crate::proofs::Wrongly::wrongly_behind, crate::proofs::Wrongly::given_is))]
 
-ghost use Rattle.std.specs.Prelude.{◌≡◌, ℕ, [], IfOk, Option, Some, map, option_map};
+ghost use Rattle.std.specs.Prelude.{◌≡◌, ℕ, [], IfOk, None, Some, map, option_map};
 ghost use Rattle.cal_ast.specs.View.{optional_expr};
 ghost use Rattle.cal_check.specs.Actors.{given_wrongly, is_declared};
 ghost use Rattle.cal_check.specs.Variables.{given_broken, given_to, given_value, param_broken, value_of};
-ghost use Rattle.cal_model.specs.Value.{HasKind, IsType, Value, kind_of_type};
+ghost use Rattle.cal_model.specs.Value.{HasKind, IsType, kind_of_type};
 ghost use Rattle.cal_model.specs.View.{kind_view, shape_view, value_view};
 ghost use Rattle.fnl_bind.specs.Library.{params_of, var_decl, var_decls};
 ghost use Rattle.fnl_frames.specs.Views.{decl_of};
 ghost use Rattle.fnl_values.specs.Given.{all_given_of, given_of, spot_of};
-ghost use Rattle.fnl_values.specs.Judging.{Finds, Settles, bare_broken};
+ghost use Rattle.fnl_values.specs.Judging.{Finds, Settles, bare_broken, is_wrong};
 
 use cal_model::{Kind, Shape, Value};
 use fnl_read::NetDecl;
@@ -56,6 +56,15 @@ fn given_to<'a>(name: &str, given: &'a [LeafValue]) -> Option<&'a LeafValue>
     None
 }
 
+/// Whether a value is given to no parameter, or to one that is given another before.
+fn is_wrong(given: &LeafValue, before: &[LeafValue], decls: &[NetDecl]) -> bool
+    ensures { (file : ℕ) → result ≡ is_wrong (given_of given.now) (all_given_of before.now)
+        (params_of (var_decls file (map decl_of decls.now))) }
+{
+    let name = given.name.as_str();
+    !is_declared(name, decls) || given_to(name, before).is_some()
+}
+
 /// That each value is given to a parameter, and none of these is given two.
 pub(crate) fn given_rightly(given: &[LeafValue], decls: &[NetDecl]) -> Result<(), Front>
     ensures { (file : ℕ) → Finds result (given_wrongly (all_given_of given.now) []
@@ -63,8 +72,7 @@ pub(crate) fn given_rightly(given: &[LeafValue], decls: &[NetDecl]) -> Result<()
 {
     let mut rest = given;
     'backwards: while let Some((last, before)) = rest.split_last() {
-        let name = last.name.as_str();
-        if !is_declared(name, decls) || given_to(name, before).is_some() {
+        if is_wrong(last, before, decls) {
             return Err(refused(Rule::WRONG_PARAMETER, last.place));
         }
         rest = before;
@@ -78,8 +86,8 @@ pub(crate) fn given_rightly(given: &[LeafValue], decls: &[NetDecl]) -> Result<()
 fn given_stored(alloc: Global, t: &Shape, k: &Kind, given: &LeafValue) -> Result<Value, Front>
     requires allowed { IsType (shape_view t.now) }
     requires kind { kind_view k.now ≡ kind_of_type (shape_view t.now) }
-    ensures settles { (start : Option Value) → Settles result
-        (given_value (Some (given_of given.now)) (shape_view t.now) start)
+    ensures settles { Settles result
+        (given_value (Some (given_of given.now)) (shape_view t.now) None)
         (given_broken (Some (given_of given.now)) (shape_view t.now)) }
     ensures kind { IfOk result (λ v. HasKind (kind_of_type (shape_view t.now)) (value_view v)) }
 {
@@ -97,7 +105,7 @@ fn given_stored(alloc: Global, t: &Shape, k: &Kind, given: &LeafValue) -> Result
 
 /// A parameter that is given no value has its default.
 fn defaulted(decl: &NetDecl, owner: Place, start: Value) -> Result<Value, Front>
-    ensures { Settles result (Some (value_view start.entry))
+    ensures { Settles result (Some (value_view start))
         (bare_broken (optional_expr decl.now.value) (spot_of owner)) }
 {
     if decl.value.is_none() {
@@ -118,9 +126,9 @@ pub(crate) fn value_of(
 ) -> Result<Value, Front>
     requires allowed { IsType (shape_view t.now) }
     requires kind { kind_view k.now ≡ kind_of_type (shape_view t.now) }
-    requires starts { HasKind (kind_of_type (shape_view t.now)) (value_view start.entry) }
+    requires starts { HasKind (kind_of_type (shape_view t.now)) (value_view start) }
     ensures settles { (file : ℕ) → Settles result
-        (value_of (var_decl file (decl_of decl.now)) (all_given_of given.now) (shape_view t.now) (Some (value_view start.entry)))
+        (value_of (var_decl file (decl_of decl.now)) (all_given_of given.now) (shape_view t.now) (Some (value_view start)))
         (param_broken (var_decl file (decl_of decl.now)) (all_given_of given.now) (spot_of owner) (shape_view t.now)) }
     ensures kind { IfOk result (λ v. HasKind (kind_of_type (shape_view t.now)) (value_view v)) }
 {

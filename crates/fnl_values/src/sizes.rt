@@ -2,6 +2,9 @@
 #![tactic(auto, using(crate::proofs::Faults::breaks_first, crate::proofs::Faults::fine_first, crate::proofs::Faults::refuses_in_first, crate::proofs::Faults::refuses_in_others))]
 
 ghost use Rattle.std.specs.Prelude.{◌≡◌, map};
+ghost use Rattle.cal_ast.specs.View.{expr_tree};
+ghost use Rattle.cal_model.specs.Kinding.{Fine, kind};
+ghost use Rattle.cal_model.specs.Value.{NumKind};
 ghost use Rattle.cal_model.specs.View.{value_view};
 ghost use Rattle.const_eval.specs.Held.{names_in};
 ghost use Rattle.const_eval.specs.Judging.{Judges};
@@ -11,7 +14,7 @@ ghost use Rattle.fnl_values.specs.Judging.{IsLargest, Sizes, SizesAll};
 ghost use Rattle.fnl_values.specs.Steady.{IsSteady};
 
 use crate::constant::outcome;
-use cal_model::{Kind, Value};
+use cal_model::{Kind, Value, constants_are_values};
 use const_eval::{Env, KindFault, kind_const};
 use fnl_read::{NetConnection, NetSize};
 use fnl_tree::Wire;
@@ -48,16 +51,24 @@ fn size_of_value(value: &Value, at: u32) -> Result<u32, KindFault>
     }
 }
 
+/// A size that a connection asks for, which is of a number's kind.
+fn number_asked(alloc: Global, env: &Env, asked: &NetSize) -> Result<u32, KindFault>
+    requires steady { IsSteady env.now }
+    requires number { kind (expr_tree asked.now.value) (names_in env.now) ≡ Fine NumKind }
+    ensures { Judges (λ n. n) result (size_judged (size_of asked.now) (names_in env.now)) }
+{
+    constants_are_values();
+    let value = outcome(alloc, env, &asked.value)?;
+    size_of_value(&value, asked.at)
+}
+
 /// A size that a connection asks for.
 fn size(alloc: Global, env: &Env, asked: &NetSize) -> Result<u32, KindFault>
     requires { IsSteady env.now }
     ensures { Judges (λ n. n) result (size_judged (size_of asked.now) (names_in env.now)) }
 {
     match kind_const(alloc, env, &asked.value)? {
-        Kind::Num => {
-            let value = outcome(alloc, env, &asked.value)?;
-            size_of_value(&value, asked.at)
-        }
+        Kind::Num => number_asked(alloc, env, asked),
         Kind::Bool => Err(wrong_size(asked.at)),
         Kind::List(_, _) => Err(wrong_size(asked.at)),
     }

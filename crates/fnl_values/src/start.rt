@@ -13,7 +13,7 @@ ghost use Rattle.fnl_values.specs.Steady.{IsSteady};
 use crate::constant::outcome;
 use crate::early::early_kind;
 use cal_ast::Expr;
-use cal_model::{Kind, Shape, Value};
+use cal_model::{Kind, Shape, Value, constants_are_values};
 use const_eval::{Env, KindFault};
 use std::alloc::Global;
 use typed_values::{stored, zero_of};
@@ -47,7 +47,9 @@ fn start_at(alloc: Global, env: &Env, t: &Shape, k: &Kind, e: &Expr) -> Result<V
     ensures starts { Starts result (come (shape_view t.now) (present (expr_tree e.now)) (names_in env.now)) }
     ensures kind { IfOk result (λ v. HasKind (kind_of_type (shape_view t.now)) (value_view v)) }
 {
+    constants_are_values();
     early_kind(alloc, env, k, e)?;
     let value = outcome(alloc, env, e)?;
-    Ok(stored(alloc, t, &value)?)
+    let kept = stored(alloc, t, &value)?;
+    Ok(kept)
 }

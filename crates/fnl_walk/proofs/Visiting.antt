@@ -1,6 +1,7 @@
 -- What a step of a walk keeps.
-use Rattle.std.proofs.Common.{◌≡◌, ℕ, zero, suc, ◌+◌, ◌*◌, ◌-◌, ◌<◌, ◌≤◌, Bool, true, false, List, [], ◌∷◌, ◌++◌, length, map, refl, sym, ap, subst, ◌∙◌, inl, inr, arith, append_assoc, append-nil, length-append}
+use Rattle.std.proofs.Common.{◌≡◌, ℕ, zero, suc, ◌+◌, ◌*◌, ◌-◌, ◌<◌, ◌≤◌, Bool, true, false, List, [], ◌∷◌, ◌++◌, length, map, refl, sym, ap, subst, ◌∙◌, inl, inr, arith, Ok, Err, append_assoc, append-nil, length-append}
 use Rattle.std.specs.Prelude.{Option, None, Some, if◌then◌else◌}
+use Rattle.std.specs.declared.result.Result.{Result}
 use Rattle.rvc_base.specs.declared.refusal.Front.{Front}
 use Rattle.rvc_base.specs.declared.refusal.Front.TheVariants as front
 use Rattle.net_model.specs.Limits.{max_instances}
@@ -14,7 +15,7 @@ use Rattle.fnl_bind.specs.Trees.{Grown, Filled, filled_by, found_inside, found_o
 use Rattle.fnl_values.specs.Causes.{IsCause}
 use Rattle.fnl_values.specs.Visiting.{Visit}
 use Rattle.fnl_walk.specs.Steps.{Goes, Keeps, Opens, OpensTo, Passes, Stops, opened, found, spots, steps_left}
-use Rattle.fnl_walk.specs.Visited.{before, place_inside, with_inner, with_leaf}
+use Rattle.fnl_walk.specs.Visited.{VisitsNet, before, place_inside, with_inner, with_leaf}
 use Rattle.fnl_walk.specs.Walk.{Open, Walk, IsOpen, AreOpen, IsSteady, count_of, place_of, outside, standing_of, instances_of, found_visits, found_in_open, found_left, spots_in_open, spots_left, with_filled, filled_visits, filled_open, finished, with_parts}
 use Rattle.fnl_values.proofs.Faults.{cause_in_first}
 use Rattle.fnl_walk.proofs.Opening.{and_more, found_opened, length_one, spots_opened, tree_opened}
@@ -180,3 +181,33 @@ stops_inside library o v e w front.Memory some h = tt
 pub stops_full : (library : List Entry) (o : Open) (v : Visit) (w : Walk) → IsSteady (before o v w) → max_instances < count_of w.grown
     → Passes library (before o v w) (record { file = o.file; at = instance_at v.instance })
 stops_full library o v w steady more = record { full = let few = steady.few in omega (arith, few, more); next = refl }
+
+-- ---- fewer steps are left
+
+pub goes_leaf : (library : List Entry) (o : Open) (v : Visit) (w : Walk) → network_of (instance_class v.instance) library ≡ None → IsSteady (before o v w) → count_of w.grown ≤ max_instances
+    → Keeps library (before o v w) (with_leaf o v w) × (steps_left (with_leaf o v w) < steps_left (before o v w))
+goes_leaf library o v w none steady room =
+    let k = keeps_leaf library o v w none steady room in
+    let count : count_of (with_leaf o v w).grown ≡ suc (count_of w.grown) = sym k.count in
+    (k, fewer (suc max_instances) (count_of w.grown) (count_of (with_leaf o v w).grown) (suc (length w.open_nets)) count (omega (arith, room)))
+  where
+    fewer : (most before after open_nets : ℕ) → after ≡ suc before → before < most → 2 * (most - after) + open_nets < 2 * (most - before) + open_nets
+    fewer most before after open_nets e h = omega (arith, e, h)
+
+pub goes_net : (library : List Entry) (o : Open) (v : Visit) (e : Entry) (w new : Walk) → network_of (instance_class v.instance) library ≡ Some e → e.class ≡ instance_class v.instance
+    → IsSteady (before o v w) → count_of w.grown ≤ max_instances → Opens o.levels (place_inside o v e w) (with_inner o v w) new
+    → Keeps library (before o v w) new × (steps_left new < steps_left (before o v w))
+goes_net library o v e w new some class steady room opens =
+    let k = keeps_net library o v e w new some class steady room opens in
+    let count : count_of new.grown ≡ suc (count_of w.grown) = sym k.count in
+    let more : length new.open_nets ≡ suc (suc (length w.open_nets)) = ap (λ x. length x.open_nets) opens.is in
+    (k, fewer (suc max_instances) (count_of w.grown) (count_of new.grown) (length w.open_nets) (length new.open_nets) count more (omega (arith, room)))
+  where
+    fewer : (most before after less open_nets : ℕ) → after ≡ suc before → open_nets ≡ suc (suc less) → before < most → 2 * (most - after) + open_nets < 2 * (most - before) + suc less
+    fewer most before after less open_nets e f h = omega (arith, e, f, h)
+
+-- what a visit of a network answers
+pub visits_net : (library : List Entry) (o : Open) (v : Visit) (e : Entry) (w new : Walk) (r : Result (Unit {0}) Front) → network_of (instance_class v.instance) library ≡ Some e → e.class ≡ instance_class v.instance
+    → IsSteady (before o v w) → count_of w.grown ≤ max_instances → VisitsNet o v e w new r → Goes library (before o v w) new r
+visits_net library o v e w new (Ok u) some class steady room opens = goes_net library o v e w new some class steady room opens
+visits_net library o v e w new (Err f) some class steady room cause = stops_inside library o v e w f some cause

@@ -34,7 +34,7 @@ bare_net file path v = record {
 -- the place of a network inside those of these classes
 abbrev pub place_standing : Standing → List (List ℕ) → Place
 place_standing at above = record {
-  entry = entry_under at.class.now at.entry.now;
+  entry = entry_under at.class.now at.source.now;
   given = all_given_of at.given.now;
   owner = spot_of at.owner;
   above = at.class.now ∷ above;

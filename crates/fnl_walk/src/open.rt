@@ -24,7 +24,7 @@ use std::collections::VecDeque;
 /// A network where it stands, but for those round it.
 #[derive(Clone, Copy)]
 pub(crate) struct Standing<'a, 'b> {
-    pub entry: &'a NetEntry,
+    pub source: &'a NetEntry,
     pub class: &'b str,
     pub path: &'b str,
     /// The values that its parameters are given, and where those are missed that have none.
@@ -57,10 +57,10 @@ fn opened<'a>(
     path: String,
     visits: VecDeque<Visit<'a>>,
 ) -> Open<'a>
-    ensures { open_of result ≡ opened at.entry.now.file number (string_bytes path) at.levels
+    ensures { open_of result ≡ opened at.entry.source.now.file number (string_bytes path) at.entry.levels
         (map visit_of visits.items) }
 {
-    let file = at.entry.file;
+    let file = at.source.file;
     if at.levels == 0 {
         return Open {
             file,
@@ -86,13 +86,13 @@ fn add_net<'a>(
     values: NetValues<'a>,
 ) -> Result<(), Memory>
     ensures { OnOk result (walk_view walk.new ≡ with_net
-        (opened at.entry.now.file (length walk.old.nets.items) at.path.now at.levels (map visit_of values.entry.visits.items))
-        (bare_net at.entry.now.file at.path.now values.entry) (walk_view walk.old)) }
+        (opened at.entry.source.now.file (length walk.old.nets.items) at.entry.path.now at.entry.levels (map visit_of values.entry.visits.items))
+        (bare_net at.entry.source.now.file at.entry.path.now values.entry) (walk_view walk.old)) }
 {
     let alloc = walk.alloc;
     let number = walk.nets.len();
     let net = Net {
-        file: at.entry.file,
+        file: at.source.file,
         path: String::from_str(alloc, at.path)?,
         ins: values.ins,
         outs: values.outs,
@@ -121,15 +121,15 @@ fn add_class(walk: &mut Walk<'_>, class: &str) -> Result<(), Memory>
 ///
 /// `Refused` with a rule that it breaks itself, and its place. `Memory` if memory runs out.
 pub(crate) fn open_net<'a>(walk: &mut Walk<'a>, at: Standing<'a, '_>) -> Result<(), Front>
-    ensures { OpensTo at.levels (place_standing at (walk_view walk.old).above) (walk_view walk.old)
+    ensures { OpensTo at.entry.levels (place_standing at.entry (walk_view walk.old).above) (walk_view walk.old)
         (walk_view walk.new) result }
 {
     let alloc = walk.alloc;
     let Ok(()) = add_class(walk, at.class) else {
         return Err(Front::Memory);
     };
-    scopes_hold(alloc, at.entry.file, &at.entry.net, &walk.above)?;
-    let values = evaluate(alloc, at.entry.file, &at.entry.net, at.given, at.owner)?;
+    scopes_hold(alloc, at.source.file, &at.source.net, &walk.above)?;
+    let values = evaluate(alloc, at.source.file, &at.source.net, at.given, at.owner)?;
     match add_net(walk, at, values) {
         Ok(()) => Ok(()),
         Err(Memory) => Err(Front::Memory),

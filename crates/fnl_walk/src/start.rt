@@ -52,7 +52,7 @@ pub fn bind(alloc: Global, nets: &NetSet, top: &str) -> Result<Tree, Front>
     };
     let mut walk = nothing_open(alloc);
     let at = Standing {
-        entry,
+        source: entry,
         class: top,
         path: "",
         given: &[],

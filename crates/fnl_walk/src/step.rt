@@ -80,7 +80,7 @@ fn visit_net<'a>(
         return Err(Front::Memory);
     };
     let at = Standing {
-        entry,
+        source: entry,
         class: visit.instance.class.as_str(),
         path: path.as_str(),
         given: &visit.given,
