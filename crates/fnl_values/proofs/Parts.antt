@@ -1,5 +1,5 @@
 -- Instances, sizes and connections, one after another.
-use Rattle.std.proofs.Common.{◌≡◌, ℕ, Bool, true, false, List, [], ◌∷◌, ◌++◌, map, refl, sym, ap, subst, ◌∙◌, arith, append_assoc, append-nil}
+use Rattle.std.proofs.Common.{◌≡◌, ℕ, Bool, true, false, List, [], ◌∷◌, ◌++◌, length, refl, sym, ap, subst, ◌∙◌, arith, append_assoc, append-nil}
 use Rattle.std.specs.Prelude.{Option, None, Some, max, not}
 use Rattle.rvc_base.specs.Turns.{max_turns}
 use Rattle.cal_ast.specs.Places.{begins}
@@ -10,6 +10,9 @@ use Rattle.cal_model.specs.Keeping.{GivesOnly}
 use Rattle.cal_model.specs.Kinding.{Judged, Fine, Broken, and_so, Names, kind, constant}
 use Rattle.cal_model.specs.Laws.{ConstantIsValue}
 use Rattle.const_eval.specs.Held.{Kept, names_in}
+use Rattle.const_eval.specs.Judging.{Breaks}
+use Rattle.const_eval.specs.declared.fault.KindFault.{KindFault}
+use Rattle.const_eval.specs.declared.fault.KindFault.TheVariants as fault
 use Rattle.cal_check.specs.Violations.{all_fine, and_all}
 use Rattle.cal_check.specs.Variables.{Given}
 use Rattle.fnl_read.specs.Net.{Port, a_port, Parameter, Instance, Size, a_size}
@@ -21,6 +24,10 @@ use Rattle.fnl_values.proofs.Faults.{behind_more, found_first}
 use Rattle.fnl_values.specs.Judging.{behind, outcome_judged}
 use Rattle.fnl_values.specs.Steady.{IsSteady}
 use Rattle.fnl_values.specs.Visiting.{AreVisits, Visit}
+
+pub no_items : {A : Type 0} (xs : List A) → length xs ≡ 0 → xs ≡ []
+no_items [] h = refl
+no_items (x ∷ xs) h = absurd (omega (arith, h))
 
 -- ---- ports
 
@@ -61,6 +68,10 @@ pub visits_all : (file : ℕ) (names : Names) (all : List Instance) (done : List
 visits_all file names all done h = subst (AreVisits file names all) (append-nil done) (h [] tt)
 
 -- ---- sizes
+
+pub breaks_on : {A B : Type 0} (f : KindFault) (j : Judged A) (g : A → Judged B) → Breaks f j → Breaks f (and_so j g)
+breaks_on (fault.Broken rule at) j g h = ap (λ i. and_so i g) h
+breaks_on fault.Memory j g h = tt
 
 size_kept : (o : Out Value) (e : Tree) (at : ℕ) → GivesOnly (HasKind NumKind) max_turns o → size_given o e at ≡ and_so (outcome_judged o (begins e)) (λ v. size_of_value v at)
 size_kept (Gives v left) e at h = refl

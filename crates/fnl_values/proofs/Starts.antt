@@ -91,3 +91,9 @@ kind_breaks names t e rule p h = ap (λ j. come_if j t e names) h
 pub start_refuses : (f : KindFault) (c : Come) → Starts (Err f) c → Refuses f c.breaks
 start_refuses (fault.Broken rule at) c h = subst (λ vs. Contains vs (record { rule = rule; at = at })) (sym (ap (λ d. d.breaks) h)) (0, omega arith, refl)
 start_refuses fault.Memory c h = tt
+
+pub start_fault : ConstantIsValue → (env : Kept) (t : Shape) (e : Tree) (f : KindFault) → IsSteady env
+    → early_kind (kind_of_type t) e (names_in env) ≡ Fine (kind_of_type t) → Breaks f (outcome_judged (constant e (names_in env)) (begins e))
+    → Starts (Err f) (come t (tree.present e) (names_in env))
+start_fault law env t e (fault.Broken rule at) steady early h = start_breaks law env t e rule at steady early h
+start_fault law env t e fault.Memory steady early h = tt

@@ -1,6 +1,6 @@
 -- Values that are given: to which parameters, and which of them are given twice.
 use Rattle.std.proofs.Common.{◌≡◌, ℕ, Bool, true, false, not, List, [], ◌∷◌, ◌++◌, refl, sym, ap, subst, ◌∙◌, arith, append-nil, append_assoc}
-use Rattle.std.specs.Prelude.{Contains, Option, None, Some, ◌||◌, is_some, reverse, if◌then◌else◌}
+use Rattle.std.specs.Prelude.{Contains, Option, None, Some, ◌||◌, is_some, option_map, reverse, if◌then◌else◌}
 use Rattle.std.specs.Str.{bytes_eq}
 use Rattle.std.proofs.lemmas.List.{reverse-append}
 use Rattle.std.proofs.lemmas.List.Elements.{Contains-append_right}
@@ -91,3 +91,12 @@ wrongly_passed gs g params all e h =
     ∙ ap (λ b. given_wrongly gs [] params ++ (if b then found_in g.place.file (violation wrong_parameter g.place.at) else [])) (sym h)
     ∙ sym (wrongly_behind gs g params)
     ∙ ap (λ xs. given_wrongly xs [] params) (sym e)
+
+pub some_mapped : {A B : Type 0} (f : A → B) (o : Option A) → is_some (option_map f o) ≡ is_some o
+some_mapped f None = refl
+some_mapped f (Some x) = refl
+
+-- a parameter that is declared is given wrongly if it was given before
+pub wrong_if_given : (g : Given) (before : List Given) (params : List VarDecl) (b : Bool) → is_declared g.name params ≡ true → b ≡ is_some (given_to g.name before) → b ≡ is_wrong g before params
+wrong_if_given g before params b d e =
+    e ∙ given_is g.name before ∙ ap (λ c. not c || is_given g.name before) (sym d)

@@ -16,6 +16,8 @@ use Rattle.cal_model.specs.declared.value.Value.{Value as DeclaredValue}
 use Rattle.const_eval.specs.declared.fault.KindFault.{KindFault}
 use Rattle.const_eval.specs.declared.fault.KindFault.TheVariants as fault
 use Rattle.const_eval.specs.Held.{Kept, globals_of}
+use Rattle.const_eval.specs.Judging.{Breaks}
+use Rattle.cal_check.specs.Constants.{not_yet}
 use Rattle.cal_check.specs.Actors.{is_declared, is_given}
 use Rattle.cal_check.specs.Violations.{violation, all_broken, all_fine}
 use Rattle.cal_check.specs.Variables.{Spot, Found, found_in, Come, Given, VarDecl, Valued, none_yet, come, with_var, valued, value_of, param_broken, is_bare}
@@ -61,6 +63,18 @@ is_wrong g before params = not (is_declared g.name params) || is_given g.name be
 abbrev pub Finds : Result (Unit {0}) Front → List Found → Type 0
 Finds (Ok u) fs = fs ≡ []
 Finds (Err f) fs = IsCause f fs
+
+-- ---- names that aren't known yet
+
+-- a fault in a type, and what it is where names aren't known yet
+abbrev pub IsLateInType : KindFault → KindFault → Tree → Type 0
+IsLateInType found late t = (judged : Judged Shape) → Breaks found judged
+    → Breaks late (not_yet judged t)
+
+-- the same of the kind of an expression
+abbrev pub IsLateInExpr : KindFault → KindFault → Tree → Type 0
+IsLateInExpr found late e = (judged : Judged Kind) → Breaks found judged
+    → Breaks late (not_yet judged e)
 
 -- ---- declarations
 

@@ -2,12 +2,12 @@
 
 ghost use Rattle.std.specs.Prelude.{◌≡◌, IfOk};
 ghost use Rattle.cal_ast.specs.View.{expr_tree, type_tree};
-ghost use Rattle.cal_model.specs.Kinding.{Judged};
-ghost use Rattle.cal_model.specs.Value.{IsType, Kind, Shape};
+ghost use Rattle.cal_model.specs.Value.{IsType};
 ghost use Rattle.cal_model.specs.View.{kind_view, shape_view};
 ghost use Rattle.const_eval.specs.Held.{names_in};
-ghost use Rattle.const_eval.specs.Judging.{Breaks, Judges};
-ghost use Rattle.cal_check.specs.Constants.{early_kind, early_type, not_yet, stored_kind};
+ghost use Rattle.const_eval.specs.Judging.{Judges};
+ghost use Rattle.fnl_values.specs.Judging.{IsLateInExpr, IsLateInType};
+ghost use Rattle.cal_check.specs.Constants.{early_kind, early_type, stored_kind};
 
 use crate::constant::place_of;
 use cal_ast::{Expr, TypeExpr};
@@ -19,8 +19,7 @@ use std::alloc::Global;
 
 /// A fault in a type: a name that isn't known yet makes it not constant.
 fn late_in_type(fault: KindFault, t: &TypeExpr) -> KindFault
-    ensures { (judged : Judged Shape) → Breaks fault judged
-        → Breaks result (not_yet judged (type_tree t.now)) }
+    ensures { IsLateInType fault result (type_tree t.now) }
 {
     match fault {
         KindFault::Broken { rule, at } => {
@@ -39,8 +38,7 @@ fn late_in_type(fault: KindFault, t: &TypeExpr) -> KindFault
 
 /// A fault in an expression: a name that isn't known yet makes it not constant.
 fn late_in_expr(fault: KindFault, e: &Expr) -> KindFault
-    ensures { (judged : Judged Kind) → Breaks fault judged
-        → Breaks result (not_yet judged (expr_tree e.now)) }
+    ensures { IsLateInExpr fault result (expr_tree e.now) }
 {
     match fault {
         KindFault::Broken { rule, at } => {
