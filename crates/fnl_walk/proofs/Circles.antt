@@ -117,3 +117,7 @@ scope_cause p vs f e c = subst (λ ws. IsCause f (found_behind ws p)) e (go vs c
     go : (ws : List Violation) → IsCause f (found_in p.entry.file ws) → IsCause f (found_behind ws p)
     go [] d = none f d
     go (w ∷ ws) d = d
+
+pub none_found : (file : ℕ) (vs : List Violation) → found_in file vs ≡ [] → vs ≡ []
+none_found file [] h = refl
+none_found file (v ∷ vs) h = absurd (cc)

@@ -19,7 +19,7 @@ use Rattle.fnl_walk.specs.Walk.{Walk, IsSteady, count_of, finished, found_left, 
 -- ---- steps in a row
 
 pub keeps_all : (library : List Entry) (w : Walk) → IsSteady w → Keeps library w w
-keeps_all library w steady = record { found = refl; tree = refl; met = []; spots = refl; count = refl; steady = steady }
+keeps_all library w steady = record { found = refl; tree = refl; met = []; spots = refl; count = omega arith; steady = steady }
 
 pub keeps_on : (library : List Entry) (a b c : Walk) → Keeps library a b → Keeps library b c → Keeps library a c
 keeps_on library a b c h k = record {
@@ -120,7 +120,7 @@ step_refused library class e start w front.Memory h s k stops = tt
 step_refused library class e start w (front.Refused r) h s k (inl c) =
     cause_of library class e (front.Refused r) h (subst (IsCause (front.Refused r)) (k.found ∙ s.found) c)
 step_refused library class e start w (front.Refused r) h s k (inr (rule, passes)) =
-    let spot = record { file = r.place.file; at = r.place.offset } in
+    let spot : Spot = record { file = r.place.file; at = r.place.offset } in
     let full = passes.full in let count = k.count in let one = s.count in
     let met : length k.met ≡ max_instances = omega (arith, full, count, one) in
     let next : slice_get (instances_at (length library) library e (e.class ∷ [])) max_instances ≡ Some spot =

@@ -3,7 +3,7 @@ use Rattle.std.proofs.Common.{◌≡◌, ℕ, zero, suc, ◌+◌, ◌<◌, ◌�
 use Rattle.std.specs.Prelude.{Option, None, Some}
 use Rattle.cal_check.specs.Variables.{Spot, Found, Given}
 use Rattle.fnl_read.specs.Net.{Instance}
-use Rattle.fnl_tree.specs.Tree.{Part, Net as BoundNet, Leaf}
+use Rattle.fnl_tree.specs.Tree.{InnerNet, InnerLeaf, Net as BoundNet, Leaf}
 use Rattle.fnl_bind.specs.Library.{Entry, network_of, instance_class, instance_id, instance_parameters}
 use Rattle.fnl_bind.specs.Networks.{Place, Standing, StandsNet, StandsLeaf, StandsNot, standing, standing_as, own_found, names_at, net_with}
 use Rattle.fnl_bind.specs.Trees.{Grown, Filled, filled_by, filled, found_inside, found_or_inside, found_standing, found_at, grown_at, instances_at, instances_inside, net_before, with_part}
@@ -45,6 +45,14 @@ found_same inner library p (i ∷ is) (v ∷ vs) h =
     ap (λ s. found_standing inner s ++ found_inside inner library p is) (standing_same library p i v h.0 h.1)
     ∙ ap (λ fs. found_standing inner (standing_of library (bare p) v) ++ fs) (found_same inner library p is vs h.2)
 
+-- the same behind an instance
+filled_behind : (inner : Place → ℕ → ℕ → Grown) (id : List ℕ) (s : Standing) (f g : ℕ → ℕ → Filled) (net leaf : ℕ) → ((n l : ℕ) → f n l ≡ g n l) → filled_by inner id s f net leaf ≡ filled_by inner id s g net leaf
+filled_behind inner id (StandsNet q) f g net leaf h =
+    ap (with_part id (InnerNet net) (inner q net leaf)) (h (net + length (inner q net leaf).nets) (leaf + length (inner q net leaf).leaves))
+filled_behind inner id (StandsLeaf l) f g net leaf h =
+    ap (with_part id (InnerLeaf leaf) (record { nets = []; leaves = l ∷ [] })) (h (net + 0) (leaf + 1))
+filled_behind inner id StandsNot f g net leaf h = h net leaf
+
 filled_same : (inner : Place → ℕ → ℕ → Grown) (library : List Entry) (p : Place) (is : List Instance) (vs : List Visit) (net leaf : ℕ) → AreVisits p.entry.file (names_at p) is vs
     → filled inner library p is net leaf ≡ filled_visits inner library (bare p) vs net leaf
 filled_same inner library p [] [] net leaf h = refl
@@ -53,13 +61,8 @@ filled_same inner library p (i ∷ is) [] net leaf h = absurd h
 filled_same inner library p (i ∷ is) (v ∷ vs) net leaf h =
     ap (λ j. filled_by inner (instance_id j) (standing library p i) (filled inner library p is) net leaf) (sym h.0)
     ∙ ap (λ s. filled_by inner (instance_id v.instance) s (filled inner library p is) net leaf) (standing_same library p i v h.0 h.1)
-    ∙ behind (standing_of library (bare p) v)
-  where
-    behind : (s : Standing) → filled_by inner (instance_id v.instance) s (filled inner library p is) net leaf
-        ≡ filled_by inner (instance_id v.instance) s (filled_visits inner library (bare p) vs) net leaf
-    behind (StandsNet q) = ap (with_part (instance_id v.instance) _ (inner q net leaf)) (filled_same inner library p is vs (net + length (inner q net leaf).nets) (leaf + length (inner q net leaf).leaves) h.2)
-    behind (StandsLeaf l) = ap (with_part (instance_id v.instance) _ _) (filled_same inner library p is vs (net + 0) (leaf + 1) h.2)
-    behind StandsNot = filled_same inner library p is vs net leaf h.2
+    ∙ filled_behind inner (instance_id v.instance) (standing_of library (bare p) v) (filled inner library p is) (filled_visits inner library (bare p) vs) net leaf
+    (λ n l. filled_same inner library p is vs n l h.2)
 
 -- ---- networks as they are opened
 
@@ -91,6 +94,9 @@ and_more g more = record { nets = g.nets ++ more.nets; leaves = g.leaves ++ more
 pub length_one : {A : Type 0} (xs : List A) (x : A) → length (xs ++ x ∷ []) ≡ suc (length xs)
 length_one [] x = refl
 length_one (y ∷ xs) x = ap suc (length_one xs x)
+
+pub length_more : {A : Type 0} (xs : List A) (x : A) → length (xs ++ x ∷ []) ≡ length xs + 1
+length_more xs x = let l = length_one xs x in omega (arith, l)
 
 filled_last : (p : Place) (f : Filled) (g : Grown)
     → with_filled (length g.nets) f (record { nets = g.nets ++ net_with p [] ∷ []; leaves = g.leaves }) ≡ and_more g (net_before p f)

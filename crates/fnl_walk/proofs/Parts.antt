@@ -1,5 +1,8 @@
 -- Parts of networks, as they are added one by one.
-use Rattle.std.proofs.Common.{◌≡◌, ℕ, zero, suc, ◌+◌, ◌<◌, List, [], ◌∷◌, ◌++◌, length, refl, sym, ap, subst, ◌∙◌, arith, append_assoc, append-nil}
+use Rattle.std.proofs.Common.{◌≡◌, ℕ, zero, suc, ◌+◌, ◌<◌, List, [], ◌∷◌, ◌++◌, length, map, refl, sym, ap, subst, ◌∙◌, arith, append_assoc, append-nil}
+use Rattle.std.specs.Prelude.{slice_index_or, slice_set}
+use Rattle.fnl_tree.specs.View.{net_of}
+use Rattle.fnl_tree.specs.declared.tree.Net.{Net as DeclaredNet}
 use Rattle.fnl_tree.specs.Tree.{Inner, Part, Net as BoundNet}
 use Rattle.fnl_bind.specs.Trees.{Grown, Filled, with_part, nothing_filled}
 use Rattle.fnl_walk.specs.Walk.{with_filled, with_parts}
@@ -51,3 +54,11 @@ pub nothing_more : (number : ℕ) (all : Grown) → with_filled number nothing_f
 nothing_more number all =
     ap (λ ns. record { nets = ns; leaves = all.leaves ++ [] }) (append-nil (with_parts number [] all.nets) ∙ parts_none number all.nets)
     ∙ ap (λ ls. record { nets = all.nets; leaves = ls }) (append-nil all.leaves)
+
+-- ---- in memory
+
+pub set_parts : (ns : List DeclaredNet) (k : ℕ) (n m : DeclaredNet) (p : Part) → k < length ns → n ≡ slice_index_or ns k n
+    → net_of m ≡ record (net_of n) { parts = (net_of n).parts ++ p ∷ [] } → map net_of (slice_set ns k m) ≡ with_parts k (p ∷ []) (map net_of ns)
+set_parts [] k n m p h at is = absurd (omega (arith, h))
+set_parts (x ∷ xs) zero n m p h at is = ap (λ y. y ∷ map net_of xs) (is ∙ ap (λ y. record (net_of y) { parts = (net_of y).parts ++ p ∷ [] }) at)
+set_parts (x ∷ xs) (suc k) n m p h at is = ap (λ ys. net_of x ∷ ys) (set_parts xs k n m p (omega (arith, h)) at is)

@@ -1,5 +1,5 @@
 -- Open networks and their classes, the innermost last in memory, and networks and actors as they are found.
-use Rattle.std.proofs.Common.{◌≡◌, ℕ, List, [], ◌∷◌, ◌++◌, map, reverse, refl, ap, ◌∙◌}
+use Rattle.std.proofs.Common.{◌≡◌, ℕ, suc, List, [], ◌∷◌, ◌++◌, length, map, reverse, refl, ap, ◌∙◌}
 use Rattle.std.specs.Prelude.{String, string_bytes}
 use Rattle.std.specs.declared.alloc.Global.{Global as Heap}
 use Rattle.std.proofs.lemmas.List.{map-append, reverse-append}
@@ -20,3 +20,7 @@ last_net ns n = map-append net_of ns (n ∷ [])
 
 pub last_leaf : (ls : List Leaf) (l : Leaf) → map leaf_of (ls ++ l ∷ []) ≡ map leaf_of ls ++ leaf_of l ∷ []
 last_leaf ls l = map-append leaf_of ls (l ∷ [])
+
+pub nets_count : (ns : List Net) → length (map net_of ns) ≡ length ns
+nets_count [] = refl
+nets_count (n ∷ ns) = ap suc (nets_count ns)

@@ -18,7 +18,7 @@ use Rattle.fnl_walk.specs.Steps.{Goes, Keeps, Opens, OpensTo, Passes, Stops, ope
 use Rattle.fnl_walk.specs.Visited.{VisitsNet, before, place_inside, with_inner, with_leaf}
 use Rattle.fnl_walk.specs.Walk.{Open, Walk, IsOpen, AreOpen, IsSteady, count_of, place_of, outside, standing_of, instances_of, found_visits, found_in_open, found_left, spots_in_open, spots_left, with_filled, filled_visits, filled_open, finished, with_parts}
 use Rattle.fnl_values.proofs.Faults.{cause_in_first}
-use Rattle.fnl_walk.proofs.Opening.{and_more, found_opened, length_one, spots_opened, tree_opened}
+use Rattle.fnl_walk.proofs.Opening.{and_more, found_opened, length_more, length_one, spots_opened, tree_opened}
 use Rattle.fnl_walk.proofs.Parts.{nothing_more, part_more, parts_length}
 
 -- ---- networks that are open
@@ -39,7 +39,7 @@ keeps_left library o os above g none steady = record {
       ∙ nothing_more o.number g));
   met = [];
   spots = ap (λ vs. instances_inside (instances_at o.levels library) library o.file (instances_of vs) above ++ spots_left library os (outside above)) none;
-  count = refl;
+  count = omega arith;
   steady = record { are_open = steady.are_open.1; few = steady.few };
 }
 
@@ -66,7 +66,7 @@ keeps_leaf library o v w none steady room =
     ∙ part_more o.number (instance_id v.instance) (InnerLeaf leaves) (record { nets = []; leaves = leaf ∷ [] }) (rest (nets + 0) (leaves + 1)) w.grown in_range
     ∙ ap (λ ns. with_filled o.number (rest (nets + 0) (leaves + 1)) (record { nets = ns; leaves = w.grown.leaves ++ leaf ∷ [] })) (append-nil parts)
     ∙ ap (λ n. with_filled o.number (rest n (leaves + 1)) (record { nets = parts; leaves = w.grown.leaves ++ leaf ∷ [] })) (sym same_nets)
-    ∙ ap (λ n. with_filled o.number (rest (length parts) n) (record { nets = parts; leaves = w.grown.leaves ++ leaf ∷ [] })) (sym (length_one w.grown.leaves leaf)) in
+    ∙ ap (λ n. with_filled o.number (rest (length parts) n) (record { nets = parts; leaves = w.grown.leaves ++ leaf ∷ [] })) (sym (length_more w.grown.leaves leaf)) in
     record {
       found = sym (ap (λ s. (found_standing (found_at o.levels library) s ++ found_in_open library o w.above) ++ found_left library w.open_nets (outside w.above)) is);
       tree = sym (ap (finished library w.open_nets (outside w.above)) filled_old);
@@ -104,14 +104,14 @@ keeps_net library o v e w new some class steady room opens =
     let rest = filled_visits (grown_at o.levels library) library p o.visits in
     let nets = length w.grown.nets in
     let leaves = length w.grown.leaves in
-    let part = record { id = instance_id v.instance; inner = InnerNet nets } ∷ [] in
+    let part : List Part = record { id = instance_id v.instance; inner = InnerNet nets } ∷ [] in
     let parts = with_parts o.number part w.grown.nets in
-    let middle = record { nets = parts; leaves = w.grown.leaves } in
+    let middle : Grown = record { nets = parts; leaves = w.grown.leaves } in
     let in_range : o.number < nets = steady.are_open.0.is_net in
     let same_nets : length parts ≡ nets = parts_length o.number part w.grown.nets in
     let more = grown_at o.levels library inner (length parts) leaves in
     let no_circle : is_among e.class w.above ≡ false = ap (λ c. is_among c w.above) class ∙ steady.are_open.0.no_circle.0 in
-    let after = record {
+    let after : Walk = record {
       open_nets = opened inner.entry.file (length parts) inner.path o.levels opens.visits ∷ o ∷ w.open_nets;
       above = inner.above;
       grown = record { nets = parts ++ net_with inner [] ∷ []; leaves = w.grown.leaves };

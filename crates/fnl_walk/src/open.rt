@@ -58,7 +58,7 @@ fn opened<'a>(
     visits: VecDeque<Visit<'a>>,
 ) -> Open<'a>
     ensures { open_of result ≡ opened at.entry.source.now.file number (string_bytes path) at.entry.levels
-        (map visit_of visits.items) }
+        (map visit_of visits.entry.items) }
 {
     let file = at.source.file;
     if at.levels == 0 {

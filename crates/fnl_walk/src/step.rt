@@ -25,7 +25,7 @@ const MAX_INSTANCES: usize = 1024;
 
 /// Puts an open network back with an actor as one part more.
 fn put_leaf<'a>(walk: &mut Walk<'a>, here: Open<'a>, visit: Visit<'a>) -> Result<(), Memory>
-    requires number { here.entry.number < length walk.old.nets.items }
+    requires number { here.number < length walk.old.nets.items }
     requires few { length walk.old.leaves.items ≤ 1024 }
     ensures { OnOk result (walk_view walk.new
         ≡ with_leaf (open_of here.entry) (visit_of visit.entry) (walk_view walk.old)) }
@@ -41,7 +41,7 @@ fn put_leaf<'a>(walk: &mut Walk<'a>, here: Open<'a>, visit: Visit<'a>) -> Result
 
 /// Puts an open network back with a network as one part more, whose path is answered.
 fn put_net<'a>(walk: &mut Walk<'a>, here: Open<'a>, id: &str) -> Result<String, Memory>
-    requires number { here.entry.number < length walk.old.nets.items }
+    requires number { here.number < length walk.old.nets.items }
     requires few { length walk.old.nets.items ≤ 1024 }
     ensures put { OnOk result (walk_view walk.new ≡ with_part (open_of here.entry) id.now
         (InnerNet (length walk.old.nets.items)) (walk_view walk.old)) }
@@ -66,7 +66,7 @@ fn visit_net<'a>(
     visit: Visit<'a>,
     entry: &'a NetEntry,
 ) -> Result<(), Front>
-    requires number { here.entry.number < length walk.old.nets.items }
+    requires number { here.number < length walk.old.nets.items }
     requires few { length walk.old.nets.items ≤ 1024 }
     ensures { VisitsNet (open_of here.entry) (visit_of visit.entry)
         (entry_under (string_bytes visit.entry.instance.now.class) entry.entry.now) (walk_view walk.old) (walk_view walk.new) result }
@@ -97,7 +97,7 @@ fn visit_one<'a>(
     here: Open<'a>,
     visit: Visit<'a>,
 ) -> Result<(), Front>
-    requires { IsSteady (before (open_of here.entry) (visit_of visit.entry) (walk_view walk.old)) }
+    requires { IsSteady (before (open_of here) (visit_of visit) (walk_view walk.old)) }
     ensures { Goes (networks nets.entry.now) (before (open_of here.entry) (visit_of visit.entry) (walk_view walk.old))
         (walk_view walk.new) result }
 {
