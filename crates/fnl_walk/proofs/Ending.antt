@@ -7,8 +7,8 @@ use Rattle.net_model.specs.Limits.{max_instances}
 use Rattle.cal_check.specs.Variables.{Spot, Found}
 use Rattle.fnl_bind.specs.Answers.{IsRefused}
 use Rattle.fnl_bind.specs.Library.{Entry, network_of}
-use Rattle.fnl_bind.specs.Networks.{own_found}
-use Rattle.fnl_bind.specs.Trees.{bound, found_at, grown_at, instances_at, passing, top_place, tree_of, tree_with, violations, violations_of}
+use Rattle.fnl_bind.specs.Networks.{Place, own_found}
+use Rattle.fnl_bind.specs.Trees.{bound, found_at, grown_at, instances_at, passing, top_place, tree_of, tree_with, violations, violations_of, words}
 use Rattle.fnl_values.proofs.Faults.{cause_in_first, cause_in_others}
 use Rattle.fnl_values.specs.Causes.{IsCause}
 use Rattle.fnl_walk.proofs.Opening.{found_opened, spots_opened, tree_opened}
@@ -35,6 +35,10 @@ keeps_on library a b c h k = record {
 
 abbrev pub nothing : Walk
 nothing = record { open_nets = []; above = []; grown = record { nets = []; leaves = [] } }
+
+-- the place of the top inside nothing
+abbrev pub top_under : Entry → List (List ℕ) → Place
+top_under e above = record { entry = e; given = []; owner = words; above = e.class ∷ above; path = [] }
 
 -- the walk behind the top
 pub record IsStart (library : List Entry) (e : Entry) (w : Walk) : Type 0 where

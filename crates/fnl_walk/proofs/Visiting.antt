@@ -188,7 +188,9 @@ pub goes_leaf : (library : List Entry) (o : Open) (v : Visit) (w : Walk) → net
     → Keeps library (before o v w) (with_leaf o v w) × (steps_left (with_leaf o v w) < steps_left (before o v w))
 goes_leaf library o v w none steady room =
     let k = keeps_leaf library o v w none steady room in
-    let count : count_of (with_leaf o v w).grown ≡ suc (count_of w.grown) = sym k.count in
+    let nets = parts_length o.number (record { id = instance_id v.instance; inner = InnerLeaf (length w.grown.leaves) } ∷ []) w.grown.nets in
+    let leaves = length_one w.grown.leaves (leaf_under (place_of o w.above) v.instance v.given) in
+    let count : count_of (with_leaf o v w).grown ≡ suc (count_of w.grown) = omega (arith, nets, leaves) in
     (k, fewer (suc max_instances) (count_of w.grown) (count_of (with_leaf o v w).grown) (suc (length w.open_nets)) count (omega (arith, room)))
   where
     fewer : (most before after open_nets : ℕ) → after ≡ suc before → before < most → 2 * (most - after) + open_nets < 2 * (most - before) + open_nets
@@ -199,7 +201,10 @@ pub goes_net : (library : List Entry) (o : Open) (v : Visit) (e : Entry) (w new 
     → Keeps library (before o v w) new × (steps_left new < steps_left (before o v w))
 goes_net library o v e w new some class steady room opens =
     let k = keeps_net library o v e w new some class steady room opens in
-    let count : count_of new.grown ≡ suc (count_of w.grown) = sym k.count in
+    let nets = parts_length o.number (record { id = instance_id v.instance; inner = InnerNet (length w.grown.nets) } ∷ []) w.grown.nets in
+    let one = length_one (with_inner o v w).grown.nets (net_with (place_inside o v e w) []) in
+    let same = ap (λ x. count_of x.grown) opens.is in
+    let count : count_of new.grown ≡ suc (count_of w.grown) = omega (arith, same, one, nets) in
     let more : length new.open_nets ≡ suc (suc (length w.open_nets)) = ap (λ x. length x.open_nets) opens.is in
     (k, fewer (suc max_instances) (count_of w.grown) (count_of new.grown) (length w.open_nets) (length new.open_nets) count more (omega (arith, room)))
   where
@@ -211,3 +216,20 @@ pub visits_net : (library : List Entry) (o : Open) (v : Visit) (e : Entry) (w ne
     → IsSteady (before o v w) → count_of w.grown ≤ max_instances → VisitsNet o v e w new r → Goes library (before o v w) new r
 visits_net library o v e w new (Ok u) some class steady room opens = goes_net library o v e w new some class steady room opens
 visits_net library o v e w new (Err f) some class steady room cause = stops_inside library o v e w f some cause
+
+-- a network that is left, as it was in memory
+pub left_so : (library : List Entry) (old new : Walk) (o : Open) → old.open_nets ≡ o ∷ new.open_nets → o.visits ≡ [] → new.above ≡ outside old.above → new.grown ≡ old.grown → IsSteady old
+    → Keeps library old new × (steps_left new < steps_left old)
+left_so library old new o opens none above grown steady =
+    let before_it : old ≡ record { open_nets = o ∷ new.open_nets; above = old.above; grown = old.grown } = ap (λ os. record { open_nets = os; above = old.above; grown = old.grown }) opens in
+    let after_it : new ≡ record { open_nets = new.open_nets; above = outside old.above; grown = old.grown } =
+        ap (λ cs. record { open_nets = new.open_nets; above = cs; grown = new.grown }) above ∙ ap (λ g. record { open_nets = new.open_nets; above = outside old.above; grown = g }) grown in
+    let kept = keeps_left library o new.open_nets old.above old.grown none (subst IsSteady before_it steady) in
+    let many : length old.open_nets ≡ suc (length new.open_nets) = ap length opens in
+    let same : count_of new.grown ≡ count_of old.grown = ap count_of grown in (
+      subst (λ x. Keeps library x new) (sym before_it) (subst (λ x. Keeps library (record { open_nets = o ∷ new.open_nets; above = old.above; grown = old.grown }) x) (sym after_it) kept),
+      nearer (suc max_instances - count_of new.grown) (suc max_instances - count_of old.grown) (length new.open_nets) (length old.open_nets) (ap (λ n. suc max_instances - n) same) many,
+    )
+  where
+    nearer : (a b m n : ℕ) → a ≡ b → n ≡ suc m → 2 * a + m < 2 * b + n
+    nearer a b m n e f = omega (arith, e, f)
