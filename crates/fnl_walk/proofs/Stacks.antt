@@ -45,7 +45,7 @@ walk_is os ps above ns ms ls ks p q r =
 
 -- ---- classes that are taken off
 
-none_left : (n : ℕ) (cs : List (String Heap)) → n ≡ length cs → (0 < n → IsSome {X = String Heap} None) → cs ≡ []
+none_left : (n : ℕ) (cs : List (String Heap)) → n ≡ length cs → (0 < n → ⊥) → cs ≡ []
 none_left n [] e h = refl
 none_left n (c ∷ cs) e h = absurd (h (omega (arith, e)))
 
@@ -53,6 +53,6 @@ pub class_left : (n : ℕ) (old new : List (String Heap)) (r : Option (String He
     → reverse (map string_bytes new) ≡ outside (reverse (map string_bytes old))
 class_left n old new (Some c) e f h = sym (ap (λ cs. outside (reverse (map string_bytes cs))) e ∙ ap outside (innermost_class new c))
 class_left n old new None e f h =
-    let none : old ≡ [] = none_left n old f h in
+    let none : old ≡ [] = none_left n old f (λ less. h less) in
     let same : new ≡ [] = sym (append-nil new) ∙ sym e ∙ none in
     ap (λ cs. reverse (map string_bytes cs)) same ∙ sym (ap (λ cs. outside (reverse (map string_bytes cs))) none)

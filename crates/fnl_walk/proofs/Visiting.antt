@@ -60,12 +60,13 @@ keeps_leaf library o v w none steady room =
     let is = leaf_standing library p v none in
     let in_range : o.number < nets = steady.are_open.0.is_net in
     let same_nets : length parts ≡ nets = parts_length o.number (record { id = instance_id v.instance; inner = InnerLeaf leaves } ∷ []) w.grown.nets in
+    let as_many : nets + 0 ≡ length parts = omega (arith, same_nets) in
     let filled_old : with_filled o.number (filled_by (grown_at o.levels library) (instance_id v.instance) (standing_of library p v) rest nets leaves) w.grown
     ≡ with_filled o.number (rest (length parts) (length (w.grown.leaves ++ leaf ∷ []))) (record { nets = parts; leaves = w.grown.leaves ++ leaf ∷ [] }) =
     ap (λ s. with_filled o.number (filled_by (grown_at o.levels library) (instance_id v.instance) s rest nets leaves) w.grown) is
     ∙ part_more o.number (instance_id v.instance) (InnerLeaf leaves) (record { nets = []; leaves = leaf ∷ [] }) (rest (nets + 0) (leaves + 1)) w.grown in_range
     ∙ ap (λ ns. with_filled o.number (rest (nets + 0) (leaves + 1)) (record { nets = ns; leaves = w.grown.leaves ++ leaf ∷ [] })) (append-nil parts)
-    ∙ ap (λ n. with_filled o.number (rest n (leaves + 1)) (record { nets = parts; leaves = w.grown.leaves ++ leaf ∷ [] })) (sym same_nets)
+    ∙ ap (λ n. with_filled o.number (rest n (leaves + 1)) (record { nets = parts; leaves = w.grown.leaves ++ leaf ∷ [] })) as_many
     ∙ ap (λ n. with_filled o.number (rest (length parts) n) (record { nets = parts; leaves = w.grown.leaves ++ leaf ∷ [] })) (sym (length_more w.grown.leaves leaf)) in
     record {
       found = sym (ap (λ s. (found_standing (found_at o.levels library) s ++ found_in_open library o w.above) ++ found_left library w.open_nets (outside w.above)) is);

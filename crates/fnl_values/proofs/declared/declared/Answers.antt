@@ -18,7 +18,7 @@ returns-in_err-declare-clause-declares c =
     let same : c.from_residual.result ≡ Err c.in_err-declare.field-0.0 = search rules in
     let parts : c.decls.rest.now ≡ c.in-Some.first.now ∷ c.in-Some.others.now = search rules in
     let cause = stays_broken (var_decls c.args.told.file (map decl_of c.in-Some.others.now)) gs owner
-        (with_var (var_decl c.args.told.file (decl_of c.in-Some.first.now)) gs owner [] (fine_so_far known before.0)) c.in_err-declare.field-0.0 (c.in_err-declare.ensures.declares before.0) in
+    (with_var (var_decl c.args.told.file (decl_of c.in-Some.first.now)) gs owner [] (fine_so_far known before.0)) c.in_err-declare.field-0.0 (c.in_err-declare.ensures.declares before.0) in
     subst (λ r. DeclaresAll r (var_decls c.args.told.file (map decl_of c.args.decls.now)) gs owner) (sym same)
     (subst (λ vs. IsCause c.in_err-declare.field-0.0 vs.breaks)
     (ap (λ ds. valued (var_decls c.args.told.file (map decl_of ds)) gs owner [] (fine_so_far known before.0)) (sym parts) ∙ before.1) cause)
@@ -33,6 +33,9 @@ decls-preserved c =
     let step = c.in_ok-declare.ensures.declares before.0 in
     record {
       steady = c.in_ok-declare.ensures.steady;
-      same = (step.0, ap (valued (var_decls c.args.told.file (map decl_of c.in-Some.others.now)) gs owner []) (sym step.1)
-          ∙ ap (λ ds. valued (var_decls c.args.told.file (map decl_of ds)) gs owner [] (fine_so_far known before.0)) (sym parts) ∙ before.1);
+      same = (
+        step.0,
+        ap (valued (var_decls c.args.told.file (map decl_of c.in-Some.others.now)) gs owner []) (sym step.1)
+            ∙ ap (λ ds. valued (var_decls c.args.told.file (map decl_of ds)) gs owner [] (fine_so_far known before.0)) (sym parts) ∙ before.1,
+      );
     }

@@ -12,5 +12,5 @@ returns c =
     let none = no_items c.sizes.rest.now c.in_default.ensures.cases in (
       sym c.sizes.invariant.broken ∙ ap (λ zs. all_broken (sizes_judged (map size_of zs) names)) none,
       largest_all c.sizes.found (all_fine (sizes_judged (map size_of c.sizes.rest.now) names)) (all_fine (sizes_judged (map size_of c.args.sizes.now) names))
-      (ap (λ zs. all_fine (sizes_judged (map size_of zs) names)) none) c.sizes.invariant.largest,
+          (ap (λ zs. all_fine (sizes_judged (map size_of zs) names)) none) c.sizes.invariant.largest,
     )

@@ -16,7 +16,7 @@ use Rattle.fnl_values.proofs.start.start_at.Goals as goal
 pub returns-in_err-value-clause-starts : goal.returns-in_err-value-clause-starts
 returns-in_err-value-clause-starts c =
     let early : early_kind (kind_of_type (shape_view c.args.t.now)) (expr_tree c.args.e.now) (names_in c.args.env.now) ≡ Fine (kind_of_type (shape_view c.args.t.now)) =
-        subst (λ k. early_kind k (expr_tree c.args.e.now) (names_in c.args.env.now) ≡ Fine k) c.requires.kind c.in_ok-early_kind.ensures in
+    subst (λ k. early_kind k (expr_tree c.args.e.now) (names_in c.args.env.now) ≡ Fine k) c.requires.kind c.in_ok-early_kind.ensures in
     let same : c.from_residual-in_err-value.result ≡ Err c.in_err-value.field-0.0 = search rules in
     subst (λ r. Starts r (come (shape_view c.args.t.now) (present (expr_tree c.args.e.now)) (names_in c.args.env.now))) (sym same)
     (start_fault c.constants_are_values.ensures c.args.env.now (shape_view c.args.t.now) (expr_tree c.args.e.now) c.in_err-value.field-0.0 c.requires.steady early c.in_err-value.ensures)
@@ -24,7 +24,7 @@ returns-in_err-value-clause-starts c =
 pub returns-clause-starts : goal.returns-clause-starts
 returns-clause-starts c =
     let early : early_kind (kind_of_type (shape_view c.args.t.now)) (expr_tree c.args.e.now) (names_in c.args.env.now) ≡ Fine (kind_of_type (shape_view c.args.t.now)) =
-        subst (λ k. early_kind k (expr_tree c.args.e.now) (names_in c.args.env.now) ≡ Fine k) c.requires.kind c.in_ok-early_kind.ensures in
+    subst (λ k. early_kind k (expr_tree c.args.e.now) (names_in c.args.env.now) ≡ Fine k) c.requires.kind c.in_ok-early_kind.ensures in
     let kept : value_view c.in_ok-kept.kept ≡ stored (shape_view c.args.t.now) (value_view c.in_ok-value.value) = search rules in
     (start_gives c.constants_are_values.ensures c.args.env.now (shape_view c.args.t.now) (expr_tree c.args.e.now) (value_view c.in_ok-value.value) c.requires.steady early c.in_ok-value.ensures).0
     ∙ ap (λ v. record { value = Some v; breaks = [] }) (sym kept)
@@ -32,7 +32,7 @@ returns-clause-starts c =
 pub returns-clause-kind : goal.returns-clause-kind
 returns-clause-kind c =
     let early : early_kind (kind_of_type (shape_view c.args.t.now)) (expr_tree c.args.e.now) (names_in c.args.env.now) ≡ Fine (kind_of_type (shape_view c.args.t.now)) =
-        subst (λ k. early_kind k (expr_tree c.args.e.now) (names_in c.args.env.now) ≡ Fine k) c.requires.kind c.in_ok-early_kind.ensures in
+    subst (λ k. early_kind k (expr_tree c.args.e.now) (names_in c.args.env.now) ≡ Fine k) c.requires.kind c.in_ok-early_kind.ensures in
     let kept : value_view c.in_ok-kept.kept ≡ stored (shape_view c.args.t.now) (value_view c.in_ok-value.value) = search rules in
     subst (HasKind (kind_of_type (shape_view c.args.t.now))) (sym kept)
     (stored-has-kind (shape_view c.args.t.now) (value_view c.in_ok-value.value) c.requires.allowed
