@@ -1,5 +1,5 @@
 -- Open networks and their classes, the innermost last in memory, and networks and actors as they are found.
-use Rattle.std.proofs.Common.{◌≡◌, ℕ, suc, ◌<◌, List, [], ◌∷◌, ◌++◌, length, map, reverse, refl, sym, ap, ◌∙◌, arith, append-nil}
+use Rattle.std.proofs.Common.{◌≡◌, ℕ, suc, ◌<◌, true, false, List, [], ◌∷◌, ◌++◌, length, map, reverse, refl, sym, ap, ◌∙◌, arith, append-nil}
 use Rattle.std.specs.Prelude.{IsSome, None, Option, Some, String, option_to_list, string_bytes}
 use Rattle.std.specs.declared.alloc.Global.{Global as Heap}
 use Rattle.std.proofs.lemmas.List.{map-append, reverse-append}
@@ -45,6 +45,9 @@ walk_is os ps above ns ms ls ks p q r =
 
 -- ---- classes that are taken off
 
+not_true : false ≡ true → ⊥
+not_true e = grind arith
+
 none_left : (n : ℕ) (cs : List (String Heap)) → n ≡ length cs → (0 < n → ⊥) → cs ≡ []
 none_left n [] e h = refl
 none_left n (c ∷ cs) e h = absurd (h (omega (arith, e)))
@@ -53,6 +56,6 @@ pub class_left : (n : ℕ) (old new : List (String Heap)) (r : Option (String He
     → reverse (map string_bytes new) ≡ outside (reverse (map string_bytes old))
 class_left n old new (Some c) e f h = sym (ap (λ cs. outside (reverse (map string_bytes cs))) e ∙ ap outside (innermost_class new c))
 class_left n old new None e f h =
-    let none : old ≡ [] = none_left n old f (λ less. h less) in
+    let none : old ≡ [] = none_left n old f (λ less. not_true (h less)) in
     let same : new ≡ [] = sym (append-nil new) ∙ sym e ∙ none in
     ap (λ cs. reverse (map string_bytes cs)) same ∙ sym (ap (λ cs. outside (reverse (map string_bytes cs))) none)

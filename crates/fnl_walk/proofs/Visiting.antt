@@ -224,7 +224,7 @@ pub left_so : (library : List Entry) (old new : Walk) (o : Open) → old.open_ne
 left_so library old new o opens none above grown steady =
     let before_it : old ≡ record { open_nets = o ∷ new.open_nets; above = old.above; grown = old.grown } = ap (λ os. record { open_nets = os; above = old.above; grown = old.grown }) opens in
     let after_it : new ≡ record { open_nets = new.open_nets; above = outside old.above; grown = old.grown } =
-        ap (λ cs. record { open_nets = new.open_nets; above = cs; grown = new.grown }) above ∙ ap (λ g. record { open_nets = new.open_nets; above = outside old.above; grown = g }) grown in
+    ap (λ cs. record { open_nets = new.open_nets; above = cs; grown = new.grown }) above ∙ ap (λ g. record { open_nets = new.open_nets; above = outside old.above; grown = g }) grown in
     let kept = keeps_left library o new.open_nets old.above old.grown none (subst IsSteady before_it steady) in
     let many : length old.open_nets ≡ suc (length new.open_nets) = ap length opens in
     let same : count_of new.grown ≡ count_of old.grown = ap count_of grown in (

@@ -19,7 +19,7 @@ returns-in_err-open_net-clause-refused c =
     let some : network_of c.args.top.now library ≡ Some e = sym c.get.ensures ∙ ap (option_map (λ x. entry_under c.args.top.now x.now)) c.in-Some.is in
     let same : c.from_residual.result ≡ Err c.in_err-open_net.field-0.0 = search rules in
     let cause : IsCause c.in_err-open_net.field-0.0 (own_found (top_place e)) =
-        subst (λ w. IsCause c.in_err-open_net.field-0.0 (own_found (top_under e w.above))) c.nothing_open-walk.ensures c.in_err-open_net.ensures in
+    subst (λ w. IsCause c.in_err-open_net.field-0.0 (own_found (top_under e w.above))) c.nothing_open-walk.ensures c.in_err-open_net.ensures in
     subst (λ r. IfErr r (IsRefused library c.args.top.now)) (sym same) (top_refused library c.args.top.now e c.in_err-open_net.field-0.0 some cause)
 
 pub steps-init : goal.steps-init
@@ -27,7 +27,7 @@ steps-init c =
     let library = networks c.args.nets.now in
     let e : Entry = entry_under c.args.top.now c.in-Some.entry.now in
     let first : Opens c.len.result (top_place e) nothing (walk_view c.open_net.new.walk) =
-        subst (λ w. Opens c.len.result (top_under e w.above) w (walk_view c.open_net.new.walk)) c.nothing_open-walk.ensures c.in_ok-open_net.ensures in
+    subst (λ w. Opens c.len.result (top_under e w.above) w (walk_view c.open_net.new.walk)) c.nothing_open-walk.ensures c.in_ok-open_net.ensures in
     let opens : Opens (length library) (top_place e) nothing (walk_view c.open_net.new.walk) = subst (λ n. Opens n (top_place e) nothing (walk_view c.open_net.new.walk)) c.len.ensures first in
     keeps_all library (walk_view c.open_net.new.walk) (starts_steady library e (walk_view c.open_net.new.walk) opens)
 
@@ -37,7 +37,7 @@ returns-in_err-step-clause-refused c =
     let e : Entry = entry_under c.args.top.now c.in-Some.entry.now in
     let some : network_of c.args.top.now library ≡ Some e = sym c.get.ensures ∙ ap (option_map (λ x. entry_under c.args.top.now x.now)) c.in-Some.is in
     let first : Opens c.len.result (top_place e) nothing (walk_view c.open_net.new.walk) =
-        subst (λ w. Opens c.len.result (top_under e w.above) w (walk_view c.open_net.new.walk)) c.nothing_open-walk.ensures c.in_ok-open_net.ensures in
+    subst (λ w. Opens c.len.result (top_under e w.above) w (walk_view c.open_net.new.walk)) c.nothing_open-walk.ensures c.in_ok-open_net.ensures in
     let opens : Opens (length library) (top_place e) nothing (walk_view c.open_net.new.walk) = subst (λ n. Opens n (top_place e) nothing (walk_view c.open_net.new.walk)) c.len.ensures first in
     let same : c.from_residual-in_err-step.result ≡ Err c.in_err-step.field-0.0 = search rules in
     subst (λ r. IfErr r (IsRefused library c.args.top.now)) (sym same)
@@ -55,7 +55,7 @@ returns-clause-bound c =
     let e : Entry = entry_under c.args.top.now c.in-Some.entry.now in
     let some : network_of c.args.top.now library ≡ Some e = sym c.get.ensures ∙ ap (option_map (λ x. entry_under c.args.top.now x.now)) c.in-Some.is in
     let first : Opens c.len.result (top_place e) nothing (walk_view c.open_net.new.walk) =
-        subst (λ w. Opens c.len.result (top_under e w.above) w (walk_view c.open_net.new.walk)) c.nothing_open-walk.ensures c.in_ok-open_net.ensures in
+    subst (λ w. Opens c.len.result (top_under e w.above) w (walk_view c.open_net.new.walk)) c.nothing_open-walk.ensures c.in_ok-open_net.ensures in
     let opens : Opens (length library) (top_place e) nothing (walk_view c.open_net.new.walk) = subst (λ n. Opens n (top_place e) nothing (walk_view c.open_net.new.walk)) c.len.ensures first in
     let start = starts library e (walk_view c.open_net.new.walk) opens in
     let done : (walk_view c.step.new.walk ≡ walk_view c.steps.walk) × ((walk_view c.steps.walk).open_nets ≡ []) = search rules in

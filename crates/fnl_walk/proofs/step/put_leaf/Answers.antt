@@ -20,15 +20,15 @@ returns c =
     let pushed : c.push.new.self.items ≡ c.args.walk.now.leaves.items ++ c.in_ok-leaf.leaf ∷ [] = search rules in
     let opened : c.push-2.new.self.items ≡ c.args.walk.now.open_nets.items ++ c.args.here ∷ [] = search rules in
     let nets : map net_of c.add_part.new.nets.items ≡ with_parts o.number (leaf_part (string_bytes c.args.visit.instance.now.id) (length w.grown.leaves)) w.grown.nets =
-        c.in_ok-add_part.ensures
-        ∙ ap (λ i. with_parts o.number (leaf_part i c.len.result) w.grown.nets) id
-        ∙ ap (λ n. with_parts o.number (leaf_part (string_bytes c.args.visit.instance.now.id) n) w.grown.nets) count in
+    c.in_ok-add_part.ensures
+    ∙ ap (λ i. with_parts o.number (leaf_part i c.len.result) w.grown.nets) id
+    ∙ ap (λ n. with_parts o.number (leaf_part (string_bytes c.args.visit.instance.now.id) n) w.grown.nets) count in
     let leaf : leaf_of c.in_ok-leaf.leaf ≡ leaf_under (place_of o w.above) v.instance v.given =
-        c.in_ok-leaf.ensures w.above ∙ ap (λ p. leaf_under (place_at c.args.here.file p w.above) v.instance v.given) path in
+    c.in_ok-leaf.ensures w.above ∙ ap (λ p. leaf_under (place_at c.args.here.file p w.above) v.instance v.given) path in
     let leaves : map leaf_of c.push.new.self.items ≡ w.grown.leaves ++ leaf_under (place_of o w.above) v.instance v.given ∷ [] =
-        ap (map leaf_of) pushed ∙ last_leaf c.args.walk.now.leaves.items c.in_ok-leaf.leaf ∙ ap (λ l. w.grown.leaves ++ l ∷ []) leaf in
+    ap (map leaf_of) pushed ∙ last_leaf c.args.walk.now.leaves.items c.in_ok-leaf.leaf ∙ ap (λ l. w.grown.leaves ++ l ∷ []) leaf in
     let opens : reverse (map open_of c.push-2.new.self.items) ≡ o ∷ w.open_nets =
-        ap (λ os. reverse (map open_of os)) opened ∙ innermost c.args.walk.now.open_nets.items c.args.here in
+    ap (λ os. reverse (map open_of os)) opened ∙ innermost c.args.walk.now.open_nets.items c.args.here in
     walk_is (reverse (map open_of c.push-2.new.self.items)) (o ∷ w.open_nets) w.above
     (map net_of c.add_part.new.nets.items) (with_parts o.number (leaf_part (string_bytes c.args.visit.instance.now.id) (length w.grown.leaves)) w.grown.nets)
     (map leaf_of c.push.new.self.items) (w.grown.leaves ++ leaf_under (place_of o w.above) v.instance v.given ∷ []) opens nets leaves

@@ -13,7 +13,7 @@ returns-in-None c =
     let split : c.args.walk.now.open_nets.items ≡ c.pop.new.self.items ++ c.in-Some.here ∷ [] = search rules in
     let empty : c.in-Some.here.visits.items ≡ [] = search rules in
     let opens : old.open_nets ≡ open_of c.in-Some.here ∷ reverse (map open_of c.pop.new.self.items) =
-        ap (λ os. reverse (map open_of os)) split ∙ innermost c.pop.new.self.items c.in-Some.here in
+    ap (λ os. reverse (map open_of os)) split ∙ innermost c.pop.new.self.items c.in-Some.here in
     let count : vec_len c.args.walk.now.above ≡ length c.args.walk.now.above.items = search rules in
     left_so (networks c.args.nets.now) old
     (record { open_nets = reverse (map open_of c.pop.new.self.items); above = (walk_view (record c.args.walk.now { above = c.pop-in-None.new.self })).above; grown = old.grown })

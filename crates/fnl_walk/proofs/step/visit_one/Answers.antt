@@ -25,8 +25,8 @@ returns-in-Some c =
     let room : count_of w.grown ≤ max_instances = omega (arith, nets, leaves, few, a, b) in
     let class : c.as_str.result.now ≡ string_bytes c.args.visit.instance.now.class = search rules in
     let some : network_of (string_bytes c.args.visit.instance.now.class) library ≡ Some (entry_under (string_bytes c.args.visit.instance.now.class) c.in-Some.entry.now) =
-        ap (λ n. network_of n library) (sym class) ∙ sym c.get.ensures ∙ ap (option_map (λ e. entry_under c.as_str.result.now e.now)) c.in-Some.is
-        ∙ ap (λ n. Some (entry_under n c.in-Some.entry.now)) class in
+    ap (λ n. network_of n library) (sym class) ∙ sym c.get.ensures ∙ ap (option_map (λ e. entry_under c.as_str.result.now e.now)) c.in-Some.is
+    ∙ ap (λ n. Some (entry_under n c.in-Some.entry.now)) class in
     visits_net library (open_of c.args.here) (visit_of c.args.visit) (entry_under (string_bytes c.args.visit.instance.now.class) c.in-Some.entry.now) w (walk_view c.visit_net.new.walk) c.visit_net.result
     some refl c.requires room c.visit_net.ensures
 
@@ -42,6 +42,6 @@ returns-in-Ok c =
     let room : count_of w.grown ≤ max_instances = omega (arith, nets, leaves, few, a, b) in
     let class : c.as_str.result.now ≡ string_bytes c.args.visit.instance.now.class = search rules in
     let none : network_of (string_bytes c.args.visit.instance.now.class) library ≡ None =
-        ap (λ n. network_of n library) (sym class) ∙ sym c.get.ensures ∙ ap (option_map (λ e. entry_under c.as_str.result.now e.now)) c.in-None.is in
+    ap (λ n. network_of n library) (sym class) ∙ sym c.get.ensures ∙ ap (option_map (λ e. entry_under c.as_str.result.now e.now)) c.in-None.is in
     subst (λ x. Keeps library (before (open_of c.args.here) (visit_of c.args.visit) w) x × (steps_left x < steps_left (before (open_of c.args.here) (visit_of c.args.visit) w))) (sym c.in-Ok.ensures)
     (goes_leaf library (open_of c.args.here) (visit_of c.args.visit) w none c.requires room)
