@@ -1,7 +1,7 @@
 //! Binding: networks with their values, as they stand in each other, from a top network down.
 //!
 //! `specs/Trees.antt` says which rules networks break and what tree they make if they break none;
-//! `proofs/Rows.antt` has worked rows. No call answers it yet.
+//! `proofs/Rows.antt` has worked rows. `bind` of `fnl_walk` answers the tree.
 #![tactic(auto)]
 
 mod laws;

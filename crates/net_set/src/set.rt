@@ -1,6 +1,6 @@
 //! Networks by their classes.
 
-ghost use Rattle.std.specs.Prelude.{◌≡◌, [], ◌∷◌, ◌++◌, IfOk, OnErr, OnOk, None, is_some, option_map};
+ghost use Rattle.std.specs.Prelude.{◌≡◌, [], ◌∷◌, ◌++◌, IfOk, OnErr, OnOk, None, is_some, length, option_map};
 ghost use Rattle.fnl_bind.specs.Library.{network_of};
 ghost use Rattle.fnl_frames.specs.Views.{net_of};
 ghost use Rattle.net_set.specs.View.{entry_under, networks, new_entry};
@@ -48,6 +48,13 @@ impl NetSet {
     {
         let nets = IndexMap::with_capacity(alloc, FIRST_ROOM)?;
         Ok(NetSet { alloc, nets })
+    }
+
+    /// How many networks there are.
+    pub fn len(&self) -> usize
+        ensures { result ≡ length (networks self.now) }
+    {
+        self.nets.len()
     }
 
     /// Whether there is a network of the class.

@@ -1,0 +1,6 @@
+mod Constants
+mod Starts
+pub mod Faults
+mod Wrongly
+mod Known
+mod Parts

@@ -1,0 +1,6 @@
+pub mod Causes
+pub mod Given
+pub mod Steady
+pub mod Judging
+pub mod Visiting
+pub mod Evaluated

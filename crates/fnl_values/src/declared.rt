@@ -1,0 +1,84 @@
+//! The declarations of a network, in the order of the text.
+
+ghost use Rattle.std.specs.Prelude.{◌≡◌, IfOk, OnOk, map};
+ghost use Rattle.cal_model.specs.Value.{HasKind, IsType, kind_of_type};
+ghost use Rattle.cal_model.specs.View.{kind_view, shape_view, value_view};
+ghost use Rattle.const_eval.specs.Held.{globals_of, names_in};
+ghost use Rattle.fnl_bind.specs.Library.{var_decl, var_decls};
+ghost use Rattle.fnl_frames.specs.Views.{decl_of};
+ghost use Rattle.fnl_values.specs.Given.{all_given_of, spot_of};
+ghost use Rattle.fnl_values.specs.Judging.{Comes, Declares, DeclaresAll};
+ghost use Rattle.fnl_values.specs.Steady.{IsSteady};
+
+use crate::early::early_type;
+use crate::fault::in_file;
+use crate::given::value_of;
+use crate::start::start;
+use cal_model::{Kind, Shape, Value, kind_of_type};
+use const_eval::Env;
+use fnl_read::NetDecl;
+use fnl_tree::LeafValue;
+use rvc_base::{Front, Memory, Place};
+use std::alloc::Global;
+
+/// What a network is told where it stands: the number of its file, the values that its parameters are given, and where
+/// those are missed that have none.
+#[derive(Clone, Copy)]
+pub(crate) struct Told<'a> {
+    pub alloc: Global,
+    pub file: u32,
+    pub given: &'a [LeafValue],
+    pub owner: Place,
+}
+
+/// The value of a declaration of a type and its kind.
+fn value(told: Told<'_>, env: &Env, decl: &NetDecl, t: &Shape, k: &Kind) -> Result<Value, Front>
+    requires steady { IsSteady env.now }
+    requires allowed { IsType (shape_view t.now) }
+    requires kind { kind_view k.now ≡ kind_of_type (shape_view t.now) }
+    ensures comes { Comes result (var_decl told.entry.file (decl_of decl.now)) (all_given_of told.entry.given.now)
+        (spot_of told.entry.owner) (shape_view t.now) (names_in env.now) }
+    ensures kind { IfOk result (λ v. HasKind (kind_of_type (shape_view t.now)) (value_view v)) }
+{
+    let start = match start(told.alloc, env, t, k, &decl.value) {
+        Ok(start) => start,
+        Err(fault) => return Err(in_file(told.file, fault)),
+    };
+    value_of(told.alloc, decl, told.given, told.owner, t, k, start)
+}
+
+/// One declaration more, which sees those before it.
+fn declare(told: Told<'_>, env: &mut Env, decl: &NetDecl) -> Result<(), Front>
+    requires { IsSteady env.old }
+    ensures declares { Declares result (var_decl told.entry.file (decl_of decl.now)) (all_given_of told.entry.given.now)
+        (spot_of told.entry.owner) (globals_of env.old) (globals_of env.new) }
+    ensures steady { OnOk result (IsSteady env.new) }
+{
+    let t = match early_type(told.alloc, env, &decl.shape) {
+        Ok(t) => t,
+        Err(fault) => return Err(in_file(told.file, fault)),
+    };
+    let Ok(k) = kind_of_type(told.alloc, &t) else {
+        return Err(Front::Memory);
+    };
+    let value = value(told, env, decl, &t, &k)?;
+    match env.add(decl.name.as_str(), k, Some(value), false) {
+        Ok(()) => Ok(()),
+        Err(Memory) => Err(Front::Memory),
+    }
+}
+
+/// All declarations in order, as constants.
+pub(crate) fn declared(told: Told<'_>, decls: &[NetDecl]) -> Result<Env, Front>
+    ensures declares { DeclaresAll result (var_decls told.entry.file (map decl_of decls.now))
+        (all_given_of told.entry.given.now) (spot_of told.entry.owner) }
+    ensures steady { IfOk result (λ env. IsSteady env) }
+{
+    let mut env = Env::new(told.alloc);
+    let mut rest = decls;
+    'decls: while let Some((first, others)) = rest.split_first() {
+        declare(told, &mut env, first)?;
+        rest = others;
+    }
+    Ok(env)
+}

@@ -1,0 +1,50 @@
+//! Instances with what they are given.
+#![tactic(auto, using(crate::proofs::Faults::refuses_in_first, crate::proofs::Faults::refuses_in_others, crate::proofs::Parts::visit_more, crate::proofs::Parts::visits_all))]
+
+ghost use Rattle.std.specs.Prelude.{◌≡◌, [], IfErr, IfOk, map};
+ghost use Rattle.const_eval.specs.Held.{names_in};
+ghost use Rattle.fnl_bind.specs.Values.{instances_broken};
+ghost use Rattle.fnl_frames.specs.Views.{instance_of};
+ghost use Rattle.fnl_values.specs.Causes.{Refuses};
+ghost use Rattle.fnl_values.specs.Steady.{IsSteady};
+ghost use Rattle.fnl_values.specs.Visiting.{AreVisits, visit_of};
+
+use crate::parameters::parameters;
+use const_eval::{Env, KindFault};
+use fnl_read::NetInstance;
+use fnl_tree::LeafValue;
+use std::alloc::Global;
+use std::collections::VecDeque;
+
+/// An instance with the values of its parameters.
+#[derive(Debug, Drop)]
+pub struct Visit<'a> {
+    pub instance: &'a NetInstance,
+    /// In the order of the `Parameter` elements.
+    pub given: Vec<LeafValue>,
+}
+
+/// All instances in order, with the values that they are given.
+pub(crate) fn visits<'a>(
+    alloc: Global,
+    env: &Env,
+    file: u32,
+    instances: &'a [NetInstance],
+) -> Result<VecDeque<Visit<'a>>, KindFault>
+    requires { IsSteady env.now }
+    ensures conform { IfOk result (λ visits.
+        instances_broken (map instance_of instances.entry.now) (names_in env.now) ≡ []) }
+    ensures given { IfOk result (λ visits. AreVisits file (names_in env.now)
+        (map instance_of instances.entry.now) (map visit_of visits.items)) }
+    ensures refused { IfErr result (λ fault. Refuses fault
+        (instances_broken (map instance_of instances.entry.now) (names_in env.now))) }
+{
+    let mut visits = VecDeque::new(alloc);
+    let mut rest = instances;
+    'instances: while let Some((instance, others)) = rest.split_first() {
+        let given = parameters(alloc, env, file, &instance.parameters)?;
+        visits.push_back(Visit { instance, given })?;
+        rest = others;
+    }
+    Ok(visits)
+}

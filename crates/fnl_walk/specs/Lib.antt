@@ -1,0 +1,5 @@
+pub mod Walk
+pub mod View
+pub mod Steps
+pub mod Opening
+pub mod Visited

@@ -1,0 +1,3 @@
+mod Lists
+mod Sizes
+pub mod Kept
