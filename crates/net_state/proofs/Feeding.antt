@@ -17,7 +17,7 @@ use Rattle.net_model.specs.PortFile.{tokens}
 use Rattle.net_model.specs.Ready.{tokens_of}
 use Rattle.port_files.specs.Coming.{GivesToken, EndsWith}
 use Rattle.net_state.specs.Moving.{EachGains, HasRoomBefore, HasRoomUpTo, IsInput, only_to}
-use Rattle.net_state.specs.Filling.{AreToCome, AtPort, AtReader, IsInputLink, Takes}
+use Rattle.net_state.specs.Filling.{AreToCome, AtPort, AtReader, IsInputLink, SameRest, Takes}
 use Rattle.net_state.specs.Held.{HasRooms, IsWorking}
 use Rattle.net_state.proofs.Kept.{filled_working, filled_rooms, reader_of, room_up_to}
 use Rattle.net_state.proofs.Gaining.{there_too, each_gains_nothing, each_gains_then, each_gains_as, only_none, only_more, only_there}
@@ -40,6 +40,21 @@ pub record IsTaking {X : Type 0} (kind kind_now stored_in : Scalar) (j q capacit
   pub takes : Takes kind stored_in j q count old now coming_old coming
   pub room : HasRoomUpTo now j q capacity
   pub few : count ≤ length (tokens_of (slice_get now j) q)
+  pub rest : SameRest kind coming_old coming
+
+-- the remainder stays if nothing comes, if a token comes, and if what is to come stays
+rest_still : (kind : Scalar) (coming : Option (List ℕ)) → SameRest kind coming coming
+rest_still kind None = refl
+rest_still kind (Some bytes) = refl
+
+rest_given : (kind : Scalar) (v : ℤ) (first before after : Option (List ℕ)) → SameRest kind first before → GivesToken kind v before after → SameRest kind first after
+rest_given kind v None before after same given = subst (λ o. GivesToken kind v o after) same given
+rest_given kind v (Some bytes) None after same given = absurd same
+rest_given kind v (Some bytes) (Some before) None same given = absurd given
+rest_given kind v (Some bytes) (Some before) (Some after) same given = given.1 ∙ same
+
+pub rest_same : (kind : Scalar) (first before after : Option (List ℕ)) → SameRest kind first before → after ≡ before → SameRest kind first after
+rest_same kind first before after same is = subst (SameRest kind first) (sym is) same
 
 pub taking_starts : {X : Type 0} (kind stored_in : Scalar) (j q capacity : ℕ) (cells : List (Cell X)) (coming : Option (List ℕ))
     → HasRoomUpTo cells j q capacity → IsTaking kind kind stored_in j q capacity 0 cells cells coming coming
@@ -53,6 +68,7 @@ taking_starts kind stored_in j q capacity cells coming room = record {
   };
   room = room;
   few = omega arith;
+  rest = rest_still kind coming;
 }
 
 abbrev UpTo : {X : Type 0} → ℕ → ℕ → Cell X → Type 0
@@ -124,6 +140,7 @@ taking_more kind kind_now kind_new stored_in j q capacity count held v old now n
       room = on_some (slice_get new j) (UpTo q capacity) later.0 later.1
           (subst (λ actor. q < actor.ins) (sym gained.actor.same_actor) on.2.0, omega (arith, longer, here, is, low), omega (arith, holds, on.2.2));
       few = omega (arith, so_far.few, longer, here, there);
+      rest = rest_given kind v coming_old coming coming_new so_far.rest (subst (λ k. GivesToken k v coming coming_new) so_far.same_kind given);
     }
 
 -- if nothing more came but bytes may have been pulled

@@ -8,13 +8,18 @@ use Rattle.net_model.specs.Cell.{Cell}
 use Rattle.port_files.specs.Coming.{Reading, coming_on}
 use Rattle.net_state.specs.declared.filling.Filled.{Filled}
 use Rattle.net_state.specs.declared.filling.Inlet.{Inlet}
-use Rattle.net_state.specs.Filling.{AreArrivals, AtPort, Fills, IsFilled, IsFull, Takes, inflow}
+use Rattle.net_state.specs.Filling.{AreArrivals, AtPort, Fills, IsFilled, IsFull, SameRest, Takes, inflow}
 use Rattle.net_state.specs.Held.{Held, seen}
 use Rattle.net_state.specs.Moving.{HasRoomUpTo, IsInput}
 
 -- so many tokens came, if no pull failed
 abbrev pub Came : {E : Type 0} → Result Filled E → ℕ → Type 0
 Came result count = IfOk result (λ filled. filled.tokens ≡ count)
+
+-- the remainder of what is to come on a feed stays
+abbrev pub KeepsRest : {S : Type 0} → (S → Inputs) → ℕ → Reading → Reading → S → S → Type 0
+KeepsRest feeds feed before after old new = SameRest before.kind
+    (coming_on before.pulled (feeds old) feed) (coming_on after.pulled (feeds new) feed)
 
 -- a link leads to an input port, and so many tokens may wait before it
 abbrev pub IsReadBy : {X : Type 0} → List (Cell X) → ℕ → Link → Type 0

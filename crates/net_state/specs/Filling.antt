@@ -12,7 +12,7 @@ use Rattle.net_model.specs.State.{Flow, State}
 use Rattle.net_model.specs.Event.{Deliver, happens}
 use Rattle.net_model.specs.Trace.{arrivals}
 use Rattle.net_model.specs.Cell.{Cell}
-use Rattle.net_model.specs.PortFile.{tokens}
+use Rattle.net_model.specs.PortFile.{rest_of, tokens}
 use Rattle.net_model.specs.Ready.{tokens_of}
 use Rattle.port_files.specs.Coming.{EndsWith, Reading, coming_on}
 use Rattle.net_state.specs.Held.{Held}
@@ -33,6 +33,12 @@ inflow reading feeds feed =
 abbrev pub AreToCome : Scalar → Option (List ℕ) → List ℤ → Type 0
 AreToCome kind None ts = ⊥
 AreToCome kind (Some bytes) ts = tokens kind bytes ≡ ts
+
+-- as many bytes at the end of those to come are no token as before, if they are told
+abbrev pub SameRest : Scalar → Option (List ℕ) → Option (List ℕ) → Type 0
+SameRest kind None after = after ≡ None
+SameRest kind (Some before) None = ⊥
+SameRest kind (Some before) (Some after) = rest_of kind after ≡ rest_of kind before
 
 -- `count` of the tokens to come went behind those before port q of cell j, each stored in the reader's type
 pub record Takes {X : Type 0} (kind stored_in : Scalar) (j q count : ℕ) (old new : List (Cell X)) (coming_old coming_new : Option (List ℕ)) : Type 0 where

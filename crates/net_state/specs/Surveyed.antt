@@ -84,6 +84,12 @@ OutlookIn net s (outlook.Stalled inst action link) = IsStalled net s inst.0 acti
 OutlookIn net s outlook.Going = (IsQuiet net s → ⊥)
     × ((i a l : ℕ) → IsStalled net s i a l → ⊥)
 
+-- a link that is named is one of so many
+abbrev pub NamesLink : ℕ → Outlook → Type 0
+NamesLink count outlook.Quiet = Unit {0}
+NamesLink count (outlook.Stalled inst action link) = link.0 < count
+NamesLink count outlook.Going = Unit {0}
+
 -- .. in each state that stands, if the network is wired and its feeds came as far as they may
 abbrev pub IsOutlook : {X : Type 0} → Outlook → Held (Cell X) → Type 0
 IsOutlook {X} what held = (net : Network X) (s : State X) → StandsIn net held s → IsWired net

@@ -4,11 +4,11 @@ ghost use Rattle.std.specs.Prelude.{◌≡◌, ◌<◌, ◌*◌, ℕ, true, IfNo
 ghost use Rattle.rvc_io.specs.Feeds.{PullsOnly, ReadFails};
 ghost use Rattle.port_files.specs.Coming.{EndIsTrue};
 ghost use Rattle.net_state.specs.Beginning.{AreLawfulIn};
-ghost use Rattle.net_state.specs.Fed.{AllArriveOn, FillsOn, IsFullOn};
+ghost use Rattle.net_state.specs.Fed.{AllArriveOn, FillsOn, IsFullOn, KeepsRest};
 ghost use Rattle.net_state.specs.Filling.{IsInputLink};
 ghost use Rattle.net_state.specs.Held.{AreCounted, CanWork, capacity_of, room_of, seen};
 ghost use Rattle.net_state.specs.Moving.{IsFromCell, IsOutput, SameActors, SameMarks, carried_on};
-ghost use Rattle.net_state.specs.Surveyed.{AreSettled, AreUntrapped, IsOutlook, NamesFound, StallsAt, StillStand, Tells};
+ghost use Rattle.net_state.specs.Surveyed.{AreSettled, AreUntrapped, IsOutlook, NamesFound, NamesLink, StallsAt, StillStand, Tells};
 ghost use Rattle.net_state.specs.Working.{CanHold, GrewTo, HasAction, IsAtRest, IsLowestLacking, LacksAsEnds, LacksAt, LooksAt, MayBurst, MayWork, TriesAt, WorksAt, journal_of};
 ghost use Rattle.net_state.specs.Standing.{AreAllOut, IsTrueOfUnarrived, LeadInside, StandAtStart};
 
@@ -175,6 +175,7 @@ impl<A: Firing> NetState<A> {
         requires untrapped { AreUntrapped (map A.cell self.old.cells) }
         requires rest { IsAtRest (seen A.cell self.old) }
         ensures outlook { IsOutlook result (seen A.cell self.old) }
+        ensures there { NamesLink (length self.old.links) result }
         ensures still { StillStand (seen A.cell self.old) (seen A.cell self.new) }
         ensures rests { IsAtRest (seen A.cell self.new) }
         ensures same_actors { SameActors (map A.cell self.old.cells) (map A.cell self.new.cells) }
@@ -194,7 +195,8 @@ impl<A: Firing> NetState<A> {
     fn stalled_at(&self, inst: InstId, action: ActId) -> Outlook
         requires action { HasAction (map A.cell self.now.cells) inst.0 action.0 }
         requires rest { IsAtRest (seen A.cell self.now) }
-        ensures { StallsAt inst.0 action.0 result (seen A.cell self.now) }
+        ensures stalls { StallsAt inst.0 action.0 result (seen A.cell self.now) }
+        ensures there { NamesLink (length self.now.links) result }
     {
         match self.lacking(inst, action) {
             Some(link) => Outlook::Stalled { inst, action, link },
@@ -295,6 +297,7 @@ impl<A: Firing> NetState<A> {
         ensures waited { self.new.waited ≡ self.old.waited }
         ensures failed { OnErr result (ReadFails F.feeds feeds.old feeds.new) }
         ensures kind { tokens.new.kind ≡ tokens.old.kind }
+        ensures same_rest { KeepsRest F.feeds feed tokens.old tokens.new feeds.old feeds.new }
         ensures still_same_feed { EndIsTrue tokens.new ((F.feeds feeds.new).left feed) }
         ensures elsewhere { PullsOnly F.feeds feeds.old feeds.new feed }
     {

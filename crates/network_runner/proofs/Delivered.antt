@@ -4,7 +4,8 @@ use Rattle.std.specs.Prelude.{Option, None, Some, Result, Ok, Err, OnOk, slice_g
 use Rattle.rvc_io.specs.Feeds.{Inputs}
 use Rattle.port_files.specs.Coming.{Reading}
 use Rattle.net_model.specs.declared.wiring.Link.{Link}
-use Rattle.net_model.specs.Network.{Network, is_input}
+use Rattle.net_model.specs.Network.{NetPort, Network, is_input}
+use Rattle.net_model.specs.Counted.{rest_at}
 use Rattle.net_model.specs.State.{Flow, State}
 use Rattle.net_model.specs.Event.{each_flow}
 use Rattle.net_model.specs.Trace.{after_delivery, delivered}
@@ -14,9 +15,9 @@ use Rattle.net_state.specs.Held.{Held}
 use Rattle.net_state.specs.Standing.{LeadInside, StandsSince, after_inside, inside_delivered, unarrived}
 use Rattle.net_state.specs.Working.{AreFed, IsAtRest}
 use Rattle.net_state.proofs.Coming.{by_bool, if_true, if_false}
-use Rattle.round_runner.specs.Running.{feed_of}
+use Rattle.round_runner.specs.Running.{AreFedBy, ComesBy, feed_of}
 use Rattle.network_runner.specs.Delivering.{Delivers}
-use Rattle.network_runner.specs.Filling.{AreFedBy, CameOn, ComesBy, Fills, IsFilled, after_inputs, input_delivered}
+use Rattle.network_runner.specs.Filling.{CameOn, Fills, IsFilled, after_inputs, input_delivered}
 
 both_ways : (link : Link) (flow : Flow) → input_delivered link (inside_delivered link flow) ≡ delivered link flow
 both_ways link flow = by_bool (is_input link)
@@ -46,22 +47,24 @@ inside_same net s l link at input = by_place l net.links s.flows at
         some_same a b e = cc
     by_place (suc k) (head ∷ links) (flow ∷ flows) h = by_place k links flows h
 
-comes_as : {X : Type 0} (s t : State X) (l f : ℕ) (link : Link) (o : Option (Option Reading)) (feeds : Inputs) → slice_get t.flows l ≡ slice_get s.flows l
-    → ComesBy s l link f o feeds → ComesBy t l link f o feeds
-comes_as s t l f link None feeds same comes = absurd comes
-comes_as s t l f link (Some None) feeds same comes = ap unarrived same ∙ comes
-comes_as s t l f link (Some (Some reading)) feeds same comes = (comes.0, comes.1, ap unarrived same ∙ comes.2)
+-- what is to come stays where what was sent and hasn't arrived stays
+pub comes_as : {X : Type 0} (s t : State X) (l f rest : ℕ) (link : Link) (o : Option (Option Reading)) (feeds : Inputs) → unarrived (slice_get t.flows l) ≡ unarrived (slice_get s.flows l)
+    → ComesBy s l link f rest o feeds → ComesBy t l link f rest o feeds
+comes_as s t l f rest link None feeds same comes = absurd comes
+comes_as s t l f rest link (Some None) feeds same comes = (same ∙ comes.0, comes.1)
+comes_as s t l f rest link (Some (Some reading)) feeds same comes = ((comes.0.0, comes.0.1, same ∙ comes.0.2), comes.1)
 
-told_as : (o : Option Link) (p q : Option Flow) (came : Option Filled) → ((link : Link) → o ≡ Some link → is_input link ≡ true → p ≡ q) → CameOn o p came → CameOn o q came
-told_as None p q came same told = tt
-told_as (Some link) p q came same told = by_bool (is_input link)
-    (λ input. subst (λ r. CameOn (Some link) r came) (same link refl input) told)
+told_as : (ports : List NetPort) (inputs : List (List ℕ)) (o : Option Link) (p q : Option Flow) (came : Option Filled) → ((link : Link) → o ≡ Some link → is_input link ≡ true → p ≡ q)
+    → CameOn ports inputs o p came → CameOn ports inputs o q came
+told_as ports inputs None p q came same told = tt
+told_as ports inputs (Some link) p q came same told = by_bool (is_input link)
+    (λ input. subst (λ r. CameOn ports inputs (Some link) r came) (same link refl input) told)
     (λ other. vacuous q came other)
   where
     no : {P : Type 0} → is_input link ≡ false → is_input link ≡ true → P
     no is not = (let e : true ≡ false = sym not ∙ is in cc)
 
-    vacuous : (r : Option Flow) (c : Option Filled) → is_input link ≡ false → CameOn (Some link) r c
+    vacuous : (r : Option Flow) (c : Option Filled) → is_input link ≡ false → CameOn ports inputs (Some link) r c
     vacuous None c other = λ input. no other input
     vacuous (Some flow) None other = λ input. no other input
     vacuous (Some flow) (Some filled) other = λ input. no other input
@@ -69,17 +72,17 @@ told_as (Some link) p q came same told = by_bool (is_input link)
 pub delivers : {X : Type 0} (old mid new : Held (Cell X)) (before after : List (Option Reading)) (fo fn : Inputs) (came : List Filled)
     → LeadInside old mid → IsAtRest mid → Fills mid new before after fo fn came → Delivers old new before after fo fn came
 delivers {X} old mid new before after fo fn came inside rest fills = record {
-  states = λ net s stands wired fed.
+  states = λ net inputs s stands wired fed.
       let opened : StandsSince net mid (after_inside net s) (after_inside net s) = inside net s stands in
-      let fed_mid : AreFedBy net (after_inside net s) before fo = λ l link at input.
-      comes_as s (after_inside net s) l (feed_of net.links l) link (slice_get before l) fo (inside_same net s l link at input) (fed l link at input) in
-      let filled : IsFilled net (after_inside net s) new after fn came = fills.states net (after_inside net s) opened wired fed_mid in
+      let fed_mid : AreFedBy net inputs (after_inside net s) before fo = λ l link at input.
+      comes_as s (after_inside net s) l (feed_of net.links l) (rest_at net.ins inputs link.from) link (slice_get before l) fo (ap unarrived (inside_same net s l link at input)) (fed l link at input) in
+      let filled : IsFilled net inputs (after_inside net s) new after fn came = fills.states net inputs (after_inside net s) opened wired fed_mid in
       let is : after_inputs net (after_inside net s) ≡ after_delivery net s = delivery_is net s in
       record {
         stands = subst (λ t. StandsSince net new t t) is filled.stands;
-        fed = subst (λ t. AreFedBy net t after fn) is filled.fed;
+        fed = subst (λ t. AreFedBy net inputs t after fn) is filled.fed;
         all = subst (λ t. AreFed net t) is filled.all;
-        told = λ l. told_as (slice_get net.links l) (slice_get (after_inside net s).flows l) (slice_get s.flows l) (slice_get came l)
+        told = λ l. told_as net.ins inputs (slice_get net.links l) (slice_get (after_inside net s).flows l) (slice_get s.flows l) (slice_get came l)
             (λ link at input. inside_same net s l link at input) (filled.told l);
       };
   rests = fills.rests rest;

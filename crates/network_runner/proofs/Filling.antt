@@ -21,8 +21,8 @@ use Rattle.net_state.specs.Working.{AreFed, IsAtRest}
 use Rattle.net_state.proofs.Gaining.{get_set_other, get_set_same, same_actor, some_is, there_too}
 use Rattle.net_state.proofs.Coming.{by_bool, if_true, if_false}
 use Rattle.net_state.proofs.Kept.{same_then}
-use Rattle.round_runner.specs.Running.{count_inputs, feed_of}
-use Rattle.network_runner.specs.Filling.{AreFedBy, CameOn, ComesBy, ComesNow, Fills, FillsOne, IsFilledOn, IsFullOrAll, ReadersFit, SameOpen, after_inputs, input_delivered, next_feed, with_flow}
+use Rattle.round_runner.specs.Running.{AreFedBy, ComesBy, ComesNow, HasRest, count_inputs, feed_of}
+use Rattle.network_runner.specs.Filling.{CameOn, Fills, FillsOne, IsFeedOf, IsFilledOn, IsFullOrAll, ReadersFit, SameOpen, after_inputs, input_delivered, next_feed, with_flow}
 
 -- Feeds are numbered upward.
 
@@ -134,17 +134,17 @@ one_filled (suc l) (head ∷ links) (first ∷ flows) link flow at there =
 abbrev pub filled_to : {X : Type 0} → ℕ → Network X → State X → State X
 filled_to n net s = record s { flows = fill_flows n net.links s.flows }
 
-pub record IsFillingOf {X : Type 0} (net : Network X) (s : State X) (l : ℕ) (held : Held (Cell X)) (readings : List (Option Reading)) (feeds : Inputs) (came : List Filled) : Type 0 where
+pub record IsFillingOf {X : Type 0} (net : Network X) (inputs : List (List ℕ)) (s : State X) (l : ℕ) (held : Held (Cell X)) (readings : List (Option Reading)) (feeds : Inputs) (came : List Filled) : Type 0 where
   pub stands : StandsSince net held (filled_to l net s) (filled_to l net s)
-  pub fed : AreFedBy net (filled_to l net s) readings feeds
+  pub fed : AreFedBy net inputs (filled_to l net s) readings feeds
   pub all : (k : ℕ) (link : Link) (flow : Flow) → k < l → slice_get net.links k ≡ Some link
       → slice_get (filled_to l net s).flows k ≡ Some flow → is_input link ≡ true → IsFullOrAll flow
-  pub told : (k : ℕ) → k < l → CameOn (slice_get net.links k) (slice_get s.flows k) (slice_get came k)
+  pub told : (k : ℕ) → k < l → CameOn net.ins inputs (slice_get net.links k) (slice_get s.flows k) (slice_get came k)
 
 pub record IsFilling {X : Type 0} (l feed : ℕ) (links : List Link) (old now : Held (Cell X)) (before readings : List (Option Reading)) (fo feeds : Inputs) (came_old came : List Filled) : Type 0 where
   pub feed_is : feed ≡ feed_of links l
-  pub states : (net : Network X) (s : State X) → StandsSince net old s s → IsWired net → AreFedBy net s before fo
-      → IsFillingOf net s l now readings feeds came
+  pub states : (net : Network X) (inputs : List (List ℕ)) (s : State X) → StandsSince net old s s → IsWired net → AreFedBy net inputs s before fo
+      → IsFillingOf net inputs s l now readings feeds came
   pub rests : IsAtRest old → IsAtRest now
   pub fit : ReadersFit links readings feeds
   pub same_open : SameOpen fo feeds
@@ -254,16 +254,18 @@ module _ (links : List Link) (readings : List (Option Reading)) (fo fn : Inputs)
   }
 
   -- what is to come on another link stays
-  comes_same : {X : Type 0} (s t : State X) (k f : ℕ) (other : Link) (o : Option (Option Reading)) → slice_get t.flows k ≡ slice_get s.flows k → fn.left f ≡ fo.left f
-      → ComesBy s k other f o fo → ComesBy t k other f o fn
-  comes_same s t k f other None same left comes = absurd comes
-  comes_same s t k f other (Some None) same left comes = ap unarrived same ∙ comes
-  comes_same s t k f other (Some (Some reading)) same left comes =
-      (comes.0, subst (λ bytes. AreToCome reading.kind (coming reading.pulled bytes) comes.0) (sym left) comes.1, ap unarrived same ∙ comes.2)
+  comes_same : {X : Type 0} (s t : State X) (k f rest : ℕ) (other : Link) (o : Option (Option Reading)) → slice_get t.flows k ≡ slice_get s.flows k → fn.left f ≡ fo.left f
+      → ComesBy s k other f rest o fo → ComesBy t k other f rest o fn
+  comes_same s t k f rest other None same left comes = absurd comes
+  comes_same s t k f rest other (Some None) same left comes = (ap unarrived same ∙ comes.0, comes.1)
+  comes_same s t k f rest other (Some (Some reading)) same left comes = (
+    (comes.0.0, subst (λ bytes. AreToCome reading.kind (coming reading.pulled bytes) comes.0.0) (sym left) comes.0.1, ap unarrived same ∙ comes.0.2),
+    subst (λ bytes. HasRest reading.kind rest (coming reading.pulled bytes)) (sym left) comes.1,
+  )
 
   module _ {X : Type 0} (old new : Held (Cell X)) (filled : Filled) (fills : FillsOne l feed old new before after fo fn filled) (came : List Filled) (low_came : l < length came)
-      (net : Network X) (s : State X) (links_are : net.links ≡ links) (flow : Flow) (flow_at : slice_get s.flows l ≡ Some flow) (wired : IsWired net)
-      (so_far : IsFillingOf net s l old readings fo came) where
+      (net : Network X) (inputs : List (List ℕ)) (s : State X) (links_are : net.links ≡ links) (flow : Flow) (flow_at : slice_get s.flows l ≡ Some flow) (wired : IsWired net)
+      (so_far : IsFillingOf net inputs s l old readings fo came) where
     at_net : slice_get net.links l ≡ Some link
     at_net = ap (λ ls. slice_get ls l) links_are ∙ at
 
@@ -273,13 +275,16 @@ module _ (links : List Link) (readings : List (Option Reading)) (fo fn : Inputs)
     flow_there : slice_get t.flows l ≡ Some flow
     flow_there = ahead_filled l l net.links s.flows (omega arith) ∙ flow_at
 
-    comes_here : is_input link ≡ true → ComesNow t l link feed before fo
-    comes_here input =
-        subst (λ f. ComesNow t l link f before fo) (ap (λ ls. feed_of ls l) links_are ∙ sym feed_is)
-        (subst (λ o. ComesBy t l link (feed_of net.links l) o fo) there (so_far.fed l link at_net input))
+    abbrev rest_of_link : Link → ℕ
+    rest_of_link that = rest_at net.ins inputs that.from
 
-    one : IsFilledOn net t l feed link flow new after fn filled
-    one = fills.states net t link flow so_far.stands wired at_net flow_there comes_here
+    comes_here : is_input link ≡ true → ComesNow t l link feed (rest_of_link link) before fo
+    comes_here input =
+        subst (λ f. ComesNow t l link f (rest_of_link link) before fo) (ap (λ ls. feed_of ls l) links_are ∙ sym feed_is)
+        (subst (λ o. ComesBy t l link (feed_of net.links l) (rest_of_link link) o fo) there (so_far.fed l link at_net input))
+
+    one : IsFilledOn net t l feed (rest_of_link link) link flow new after fn filled
+    one = fills.states net t (rest_of_link link) link flow so_far.stands wired at_net flow_there comes_here
 
     abbrev next : State X
     next = with_flow t l (input_delivered link flow)
@@ -296,18 +301,18 @@ module _ (links : List Link) (readings : List (Option Reading)) (fo fn : Inputs)
     link_same : (k : ℕ) (other : Link) → k ≡ l → slice_get net.links k ≡ Some other → link ≡ other
     link_same k other same that = some_is link other (sym at_net ∙ (ap (slice_get net.links) (sym same) ∙ that))
 
-    fed_next : AreFedBy net next now_readings fn
+    fed_next : AreFedBy net inputs next now_readings fn
     fed_next = λ k other that input. ⊎_elim
         (λ same.
         let link_is = link_same k other same that in
-        let here : ComesNow next l link feed after fn = one.fed (ap is_input link_is ∙ input) in
-        subst (λ m. ComesBy next m other (feed_of net.links m) (slice_get now_readings m) fn) (sym same)
-        (subst (λ o. ComesBy next l other (feed_of net.links l) o fn) (sym now_here)
-        (subst (λ f. ComesNow next l other f after fn) (feed_is ∙ ap (λ ls. feed_of ls l) (sym links_are))
-        (subst (λ k2. ComesNow next l k2 feed after fn) link_is here))))
+        let here : ComesNow next l link feed (rest_of_link link) after fn = one.fed (ap is_input link_is ∙ input) in
+        subst (λ m. ComesBy next m other (feed_of net.links m) (rest_of_link other) (slice_get now_readings m) fn) (sym same)
+        (subst (λ o. ComesBy next l other (feed_of net.links l) (rest_of_link other) o fn) (sym now_here)
+        (subst (λ f. ComesNow next l other f (rest_of_link other) after fn) (feed_is ∙ ap (λ ls. feed_of ls l) (sym links_are))
+        (subst (λ k2. ComesNow next l k2 feed (rest_of_link k2) after fn) link_is here))))
         (λ differ.
-        subst (λ o. ComesBy next k other (feed_of net.links k) o fn) (sym (get_set_other readings k l after differ))
-        (comes_same t next k (feed_of net.links k) other (slice_get readings k) (next_other k differ)
+        subst (λ o. ComesBy next k other (feed_of net.links k) (rest_of_link other) o fn) (sym (get_set_other readings k l after differ))
+        (comes_same t next k (feed_of net.links k) (rest_of_link other) other (slice_get readings k) (next_other k differ)
         (subst (λ ls. fn.left (feed_of ls k) ≡ fo.left (feed_of ls k)) (sym links_are) (left_stays k other differ (ap (λ ls. slice_get ls k) (sym links_are) ∙ that) input))
         (so_far.fed k other that input)))
         (cases_eq k l)
@@ -322,21 +327,21 @@ module _ (links : List Link) (readings : List (Option Reading)) (fo fn : Inputs)
         (λ differ. so_far.all k other there_now (omega (arith, low, differ)) that (sym (next_other k differ) ∙ is) input)
         (cases_eq k l)
 
-    told_next : (k : ℕ) → k < suc l → CameOn (slice_get net.links k) (slice_get s.flows k) (slice_get (slice_set came l filled) k)
+    told_next : (k : ℕ) → k < suc l → CameOn net.ins inputs (slice_get net.links k) (slice_get s.flows k) (slice_get (slice_set came l filled) k)
     told_next k low = ⊎_elim
         (λ same.
         let came_here : slice_get (slice_set came l filled) l ≡ Some filled = get_set_same came l (some_at came l low_came).0 filled (some_at came l low_came).1 in
-        subst (λ m. CameOn (slice_get net.links m) (slice_get s.flows m) (slice_get (slice_set came l filled) m)) (sym same)
-        (subst (λ o. CameOn o (slice_get s.flows l) (slice_get (slice_set came l filled) l)) (sym at_net)
-        (subst (λ o. CameOn (Some link) o (slice_get (slice_set came l filled) l)) (sym flow_at)
-        (subst (CameOn (Some link) (Some flow)) (sym came_here) one.told))))
-        (λ differ. subst (CameOn (slice_get net.links k) (slice_get s.flows k)) (sym (get_set_other came k l filled differ)) (so_far.told k (omega (arith, low, differ))))
+        subst (λ m. CameOn net.ins inputs (slice_get net.links m) (slice_get s.flows m) (slice_get (slice_set came l filled) m)) (sym same)
+        (subst (λ o. CameOn net.ins inputs o (slice_get s.flows l) (slice_get (slice_set came l filled) l)) (sym at_net)
+        (subst (λ o. CameOn net.ins inputs (Some link) o (slice_get (slice_set came l filled) l)) (sym flow_at)
+        (subst (CameOn net.ins inputs (Some link) (Some flow)) (sym came_here) one.told))))
+        (λ differ. subst (CameOn net.ins inputs (slice_get net.links k) (slice_get s.flows k)) (sym (get_set_other came k l filled differ)) (so_far.told k (omega (arith, low, differ))))
         (cases_eq k l)
 
-    pub filling_next : IsFillingOf net s (suc l) new now_readings fn (slice_set came l filled)
+    pub filling_next : IsFillingOf net inputs s (suc l) new now_readings fn (slice_set came l filled)
     filling_next = record {
       stands = subst (λ u. StandsSince net new u u) next_is one.stands;
-      fed = subst (λ u. AreFedBy net u now_readings fn) next_is fed_next;
+      fed = subst (λ u. AreFedBy net inputs u now_readings fn) next_is fed_next;
       all = subst (λ u. (k : ℕ) (other : Link) (there_now : Flow) → k < suc l → slice_get net.links k ≡ Some other → slice_get u.flows k ≡ Some there_now
           → is_input other ≡ true → IsFullOrAll there_now) next_is all_next;
       told = told_next;
@@ -353,11 +358,11 @@ pub filling_starts : {X : Type 0} (links : List Link) (held : Held (Cell X)) (re
     → ReadersFit links readings feeds → IsFilling 0 1 links held held readings readings feeds feeds came came
 filling_starts links held readings feeds came fit = record {
   feed_is = sym (no_feeds links);
-  states = λ net s stands wired fed.
+  states = λ net inputs s stands wired fed.
       let same : s ≡ filled_to 0 net s = ap (λ flows. record s { flows = flows }) (sym (none_filled net.links s.flows)) in
       record {
         stands = subst (λ t. StandsSince net held t t) same stands;
-        fed = subst (λ t. AreFedBy net t readings feeds) same fed;
+        fed = subst (λ t. AreFedBy net inputs t readings feeds) same fed;
         all = λ k link flow low at there input. absurd (omega (arith, low));
         told = λ k low. absurd (omega (arith, low));
       };
@@ -397,6 +402,14 @@ module _ {X : Type 0} (l feed : ℕ) (links : List Link) (old now new : Held (Ce
   pub few_now : length links ≤ 4096 → feed ≤ 4096
   few_now few = (let most : count_inputs (take l links) ≤ l = few_feeds links l in let is : feed ≡ suc (count_inputs (take l links)) = so_far.feed_is in omega (arith, most, is, few, low))
 
+  -- the feed of a link that has a reader
+  pub feed_was : is_some reader ≡ true → IsFeedOf links readings feed
+  feed_was some = by_option reader refl some
+    where
+      by_option : (o : Option Reading) → reader ≡ o → is_some o ≡ true → IsFeedOf links readings feed
+      by_option None is no = cc
+      by_option (Some reading) is yes = (l, reading, there ∙ ap Some is, so_far.feed_is)
+
   module _ (after : Option Reading) (still : is_some after ≡ is_some reader) (ends : IfSome after (λ reading. EndIsTrue reading (fn.left feed))) (unread : IfNone reader (fn ≡ feeds))
       (pulls : PullsOnlyAt feed feeds fn) where
     pub fit_after : ReadersFit links (slice_set readings l after) fn
@@ -423,14 +436,14 @@ module _ {X : Type 0} (l feed : ℕ) (links : List Link) (old now new : Held (Ce
           let at : slice_get links l ≡ Some link = at_place links l d link low refl in
           record {
             feed_is = next_is ∙ (ap (λ f. next_feed f link) so_far.feed_is ∙ (sym (feed_next links l link at) ∙ ap (feed_of links) (let e : suc l ≡ l + 1 = omega arith in e)));
-            states = λ net s stands wired fed.
+            states = λ net inputs s stands wired fed.
                 let links_of_net : net.links ≡ links = stands.now.is_of.links_are ∙ sym links_is in
                 let whole : length s.flows ≡ length net.links = stands.now.stands.flows.count in
                 let flow = some_at s.flows l (subst (λ n. l < n) (sym (whole ∙ ap (λ ls. length ls) links_of_net)) low) in
                 let low_came : l < length came = subst (λ n. l < n) (sym (so_far.as_many ∙ as_many)) low in
-                subst (λ n. IsFillingOf net s n new (slice_set readings l after) fn (slice_set came l filled)) (let e : suc l ≡ l + 1 = omega arith in e)
+                subst (λ n. IsFillingOf net inputs s n new (slice_set readings l after) fn (slice_set came l filled)) (let e : suc l ≡ l + 1 = omega arith in e)
                 (filling_next links readings feeds fn so_far.fit l feed link reader after at there so_far.feed_is still ends unread pulls now new filled fills came low_came
-                net s links_of_net flow.0 flow.1 wired (so_far.states net s stands wired fed));
+                net inputs s links_of_net flow.0 flow.1 wired (so_far.states net inputs s stands wired fed));
             rests = λ rest. fills.rests (so_far.rests rest);
             fit = fit_after;
             same_open = open_after;
@@ -450,18 +463,18 @@ none_beyond (x ∷ xs) (suc k) few = none_beyond xs k (omega (arith, few))
 pub filling_all : {X : Type 0} (l feed : ℕ) (links : List Link) (old now : Held (Cell X)) (before readings : List (Option Reading)) (fo feeds : Inputs) (came_old came : List Filled)
     → IsFilling l feed links old now before readings fo feeds came_old came → links ≡ old.links → length links ≤ l → Fills old now before readings fo feeds came
 filling_all {X} l feed links old now before readings fo feeds came_old came so_far links_is all = record {
-  states = λ net s stands wired fed.
-      let here : IsFillingOf net s l now readings feeds came = so_far.states net s stands wired fed in
+  states = λ net inputs s stands wired fed.
+      let here : IsFillingOf net inputs s l now readings feeds came = so_far.states net inputs s stands wired fed in
       let few : length net.links ≤ l = subst (λ ls. length ls ≤ l) (sym (stands.now.is_of.links_are ∙ sym links_is)) all in
       let same : filled_to l net s ≡ after_inputs net s = ap (λ flows. record s { flows = flows }) (all_filled l net.links s.flows few stands.now.stands.flows.count) in
       record {
         stands = subst (λ t. StandsSince net now t t) same here.stands;
-        fed = subst (λ t. AreFedBy net t readings feeds) same here.fed;
+        fed = subst (λ t. AreFedBy net inputs t readings feeds) same here.fed;
         all = subst (λ t. AreFed net t) same
             (λ k link flow at there input. here.all k link flow (below net.links k link at few) at there input);
         told = λ k. ⊎_elim
             (λ low. here.told k low)
-            (λ high. subst (λ o. CameOn o (slice_get s.flows k) (slice_get came k)) (sym (none_beyond net.links k (omega (arith, high, few)))) tt)
+            (λ high. subst (λ o. CameOn net.ins inputs o (slice_get s.flows k) (slice_get came k)) (sym (none_beyond net.links k (omega (arith, high, few)))) tt)
             (cases_lt k l);
       };
   rests = so_far.rests;

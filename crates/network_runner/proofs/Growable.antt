@@ -50,4 +50,5 @@ may_grow {X} grow old new same links capacities waited can = λ i a l lacks.
     (subst (λ ws. LacksOnLink new.cells i a (slice_index_or old.capacities l 0 - slice_index_or ws l 0) (slice_get new.links l)) waited
     (subst (λ cs. LacksOnLink new.cells i a (slice_index_or cs l 0 - slice_index_or new.waited l 0) (slice_get new.links l)) capacities lacks)) in
     let both = can i a l (lacks_link old.cells new.cells same i a (slice_index_or old.capacities l 0 - slice_index_or old.waited l 0) (slice_get old.links l) here) in
-    subst (λ ls. CanHold new.cells grow (slice_get ls l)) (sym links) (hold_same old.cells new.cells same grow (slice_get old.links l) both.0 both.1)
+    let some : 0 < slice_index_or new.capacities l 0 = subst (λ cs. 0 < slice_index_or cs l 0) (sym capacities) both.2 in
+    (subst (λ ls. CanHold new.cells grow (slice_get ls l)) (sym links) (hold_same old.cells new.cells same grow (slice_get old.links l) both.0 both.1), some)

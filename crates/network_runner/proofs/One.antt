@@ -1,11 +1,12 @@
 -- One input link that is filled.
 use Rattle.std.proofs.Common.{◌≡◌, ℕ, ◌+◌, ◌-◌, ◌<◌, ◌≤◌, min, true, false, List, [], ℤ, length, map, drop, refl, sym, ap, subst, ◌∙◌, ⊎_elim, inl, inr, arith, length-drop}
-use Rattle.std.specs.Prelude.{Option, None, Some, slice_get, slice_index_or, if◌then◌else◌}
+use Rattle.std.specs.Prelude.{Option, None, Some, slice_get, slice_index_or, nat_lt, if◌then◌else◌}
+use Rattle.std.proofs.lemmas.Bool.{lt-ltb, ltb-true}
 use Rattle.std.proofs.lemmas.List.{length-map}
 use Rattle.rvc_io.specs.Feeds.{Inputs}
 use Rattle.rvc_base.specs.declared.scalar.Scalar.{Scalar}
 use Rattle.rvc_base.specs.Storing.{conv}
-use Rattle.port_files.specs.Coming.{EndsWith, Reading}
+use Rattle.port_files.specs.Coming.{EndsWith, Reading, coming_on}
 use Rattle.net_model.specs.declared.wiring.End.{End}
 use Rattle.net_model.specs.declared.wiring.End.TheVariants.{Leaf as AtLeaf, Net as AtNet}
 use Rattle.net_model.specs.declared.wiring.Link.{Link}
@@ -14,11 +15,12 @@ use Rattle.net_model.specs.State.{Flow, State, untaken}
 use Rattle.net_model.specs.Event.{after_arrival}
 use Rattle.net_model.specs.Trace.{arrivals, delivered}
 use Rattle.net_model.specs.Cell.{Cell}
+use Rattle.net_model.specs.Counted.{is_short}
 use Rattle.net_model.specs.Ready.{tokens_of}
 use Rattle.net_model.specs.Wired.{HasInput, IsBefore, IsWired, LeadsToPort}
 use Rattle.net_model.proofs.Arriving.{Arrived, arrived_unless}
 use Rattle.net_state.specs.declared.filling.Filled.{Filled}
-use Rattle.net_state.specs.Filling.{AreArrivals, AreToCome, Arrives, AtPort, AtReader, Fills, Inflow, IsFed, IsFilled, IsFull, IsInputLink, inflow}
+use Rattle.net_state.specs.Filling.{AreArrivals, AreToCome, Arrives, AtPort, AtReader, Fills, Inflow, IsFed, IsFilled, IsFull, IsInputLink, SameRest, inflow}
 use Rattle.net_state.specs.Held.{Held}
 use Rattle.net_state.specs.Moving.{AreApart}
 use Rattle.net_state.specs.Standing.{IsHeld, IsNetOf, IsOpened, StandsIn, StandsSince, unarrived}
@@ -28,7 +30,8 @@ use Rattle.net_state.proofs.Coming.{by_bool, if_true, if_false, is_own_port}
 use Rattle.net_state.proofs.Flows.{inbox_at, length_waiting}
 use Rattle.net_state.proofs.Firings.{leaf_of}
 use Rattle.net_state.proofs.Bursting.{set_same}
-use Rattle.network_runner.specs.Filling.{ComesNow, FillsOne, IsFullOrAll, input_delivered, with_flow}
+use Rattle.round_runner.specs.Running.{ComesNow, HasRest}
+use Rattle.network_runner.specs.Filling.{FillsOne, IsFullOrAll, TellsRest, input_delivered, with_flow}
 
 -- Places.
 
@@ -102,21 +105,21 @@ unarrived_at flow there = ap unarrived there
 
 pub one_unfed : {X : Type 0} (l feed : ℕ) (held : Held (Cell X)) (feeds : Inputs) → FillsOne l feed held held None None feeds feeds (record { tokens = 0; rest = None })
 one_unfed {X} l feed held feeds = record {
-  states = λ net s link flow stands wired at there comes.
-      let none : is_input link ≡ true → drop flow.arrived flow.sent ≡ [] = λ input. sym (unarrived_at flow there) ∙ comes input in
+  states = λ net s rest link flow stands wired at there comes.
+      let none : is_input link ≡ true → drop flow.arrived flow.sent ≡ [] = λ input. sym (unarrived_at flow there) ∙ (comes input).0 in
       let still : input_delivered link flow ≡ flow = stays_unfed link flow none in
       let same : with_flow s l (input_delivered link flow) ≡ s =
       ap (with_flow s l) still ∙ ap (λ flows. record s { flows = flows }) (set_same s.flows l flow there) in
       let here : IsHeld held.cells link flow (slice_index_or held.capacities l 0) = stands.now.stands.flows.each l link flow at there in
       record {
         stands = subst (λ t. StandsSince net held t t) (sym same) stands;
-        fed = λ input. subst (λ t. ComesNow t l link feed None feeds) (sym same) (comes input);
+        fed = λ input. subst (λ t. ComesNow t l link feed rest None feeds) (sym same) (comes input);
         all = λ input.
             let left : length flow.sent - flow.arrived ≡ 0 = none_left flow (none input) in
             let within : flow.arrived ≤ length flow.sent = here.arrived in
             let all_in : IsFullOrAll flow = inr (omega (arith, left, within)) in
             subst IsFullOrAll (sym still) all_in;
-        told = λ input. sym (no_arrivals link flow input (none input));
+        told = λ input. record { tokens = sym (no_arrivals link flow input (none input)); rest_told = λ short. (comes input).1 };
       };
   rests = λ rest. rest;
 }
@@ -170,19 +173,59 @@ module _ {X : Type 0} (net : Network X) (held : Held (Cell X)) (s : State X) (st
       full_at rest feed other.to (ap (λ k. k.to) (sym same)) fed
       (subst (λ k. AtPort k (λ that j q. IsFilled feed.kind j q (slice_index_or held.capacities l 0) rest held.cells feed.bytes) other.to) same full)
 
+-- the remainder of what is to come
+rest_after : (kind : Scalar) (rest : ℕ) (before after : Option (List ℕ)) → HasRest kind rest before → SameRest kind before after → HasRest kind rest after
+rest_after kind rest None after has same = absurd has
+rest_after kind rest (Some bytes) None has same = absurd same
+rest_after kind rest (Some bytes) (Some left) has same = same ∙ has
+
+rest_is : (kind : Scalar) (told rest : ℕ) (bytes : Option (List ℕ)) → EndsWith kind told bytes → HasRest kind rest bytes → told ≡ rest
+rest_is kind told rest None ends has = absurd has
+rest_is kind told rest (Some bytes) ends has = ends.2 ∙ has
+
+-- the remainder is told exactly where the link is short
+module _ {X : Type 0} (net : Network X) (held : Held (Cell X)) (s : State X) (stands : StandsIn net held s) (wired : IsWired net)
+    (l : ℕ) (link : Link) (flow : Flow) (at : slice_get net.links l ≡ Some link) (there : slice_get s.flows l ≡ Some flow) where
+  holds_at : slice_index_or held.capacities l 0 ≡ flow.capacity
+  holds_at = sym (is_held net held s stands wired l link flow at there).capacity_is
+
+  told_at : (told : Option ℕ) (rest : ℕ) (feed : Inflow) (to : End) → link.to ≡ to → HasRest feed.kind rest feed.bytes
+      → AtPort link (λ that j q. IsFilled feed.kind j q (slice_index_or held.capacities l 0) told held.cells feed.bytes) to → TellsRest rest (is_short (Some flow)) told
+  told_at told rest feed (AtNet port) to has full = absurd full
+  told_at None rest feed (AtLeaf inst port) to has full = λ short.
+      let waits : length (tokens_of (slice_get held.cells inst.0) port) ≡ untaken flow = waits_at net held s stands wired l link flow at there inst.0 port to in
+      let less : untaken flow < flow.capacity = ltb-true (untaken flow) flow.capacity short in
+      let most : slice_index_or held.capacities l 0 ≡ flow.capacity = holds_at in
+      absurd (omega (arith, waits, less, most, full))
+  told_at (Some told) rest feed (AtLeaf inst port) to has full =
+      let waits : length (tokens_of (slice_get held.cells inst.0) port) ≡ untaken flow = waits_at net held s stands wired l link flow at there inst.0 port to in
+      let few : length (tokens_of (slice_get held.cells inst.0) port) < slice_index_or held.capacities l 0 = full.0 in
+      let most : slice_index_or held.capacities l 0 ≡ flow.capacity = holds_at in
+      let less : untaken flow < flow.capacity = omega (arith, waits, few, most) in
+      (lt-ltb (untaken flow) flow.capacity less, rest_is feed.kind told rest feed.bytes full.1 has)
+
+  pub told_rest : (told : Option ℕ) (rest : ℕ) (feed : Inflow) (o : Option Link) → o ≡ Some link → HasRest feed.kind rest feed.bytes
+      → AtReader o (λ that j q. IsFilled feed.kind j q (slice_index_or held.capacities l 0) told held.cells feed.bytes) → TellsRest rest (is_short (Some flow)) told
+  told_rest told rest feed None o_is has full = absurd full
+  told_rest told rest feed (Some other) o_is has full =
+      let same : other ≡ link = some_is other link o_is in
+      told_at told rest feed other.to (ap (λ k. k.to) (sym same)) has
+      (subst (λ k. AtPort k (λ that j q. IsFilled feed.kind j q (slice_index_or held.capacities l 0) told held.cells feed.bytes) other.to) same full)
+
 pub one_fed : {X : Type 0} (l feed : ℕ) (old new : Held (Cell X)) (before after : Reading) (fo fn : Inputs) (filled : Filled)
     → IsInputLink (slice_get old.links l)
     → Fills l (inflow before fo feed) (inflow after fn feed) (λ count. filled.tokens ≡ count) old new
     → IsFull l filled.rest new (inflow after fn feed)
     → AreArrivals l filled.tokens old (inflow before fo feed)
     → (IsAtRest old → IsAtRest new) → new.links ≡ old.links → new.waited ≡ old.waited
+    → after.kind ≡ before.kind → SameRest before.kind (coming_on before.pulled fo feed) (coming_on after.pulled fn feed)
     → FillsOne l feed old new (Some before) (Some after) fo fn filled
-one_fed {X} l feed old new before after fo fn filled is_in fills full arrive rests links waited = record {
-  states = λ net s link flow stands wired at there comes.
+one_fed {X} l feed old new before after fo fn filled is_in fills full arrive rests links waited kind_is same_rest = record {
+  states = λ net s rest link flow stands wired at there comes.
       let at_old : slice_get old.links l ≡ Some link = ap (λ ls. slice_get ls l) (sym stands.now.is_of.links_are) ∙ at in
       let at_new : slice_get new.links l ≡ Some link = ap (λ ls. slice_get ls l) links ∙ at_old in
       let input : is_input link ≡ true = is_input_of (slice_get old.links l) link is_in at_old in
-      let fed : IsFed s l (slice_get old.links l) (inflow before fo feed) = fed_at s l (slice_get old.links l) link (inflow before fo feed) at_old (comes input) in
+      let fed : IsFed s l (slice_get old.links l) (inflow before fo feed) = fed_at s l (slice_get old.links l) link (inflow before fo feed) at_old (comes input).0 in
       let goes : Arrives net s l fills.count (inflow after fn feed) new = fills.states net s stands.now fed in
       let came : Arrived net s goes.next l fills.count = arrived_unless net s goes.next l fills.count s.trapped refl goes.happens_so in
       let told : filled.tokens ≡ arrivals link flow = arrive net s link flow stands.now fed at there in
@@ -198,11 +241,19 @@ one_fed {X} l feed old new before after fo fn filled is_in fills full arrive res
       let fed_now : IsFed goes.next l (Some link) (inflow after fn feed) = is_fed_at goes.next l (slice_get new.links l) link (inflow after fn feed) at_new goes.fed in
       let there_now : slice_get goes.next.flows l ≡ Some (input_delivered link flow) =
       ap (λ t. slice_get t.flows l) next_is ∙ get_set_same s.flows l flow (input_delivered link flow) there in
+      let at_now : slice_get net.links l ≡ Some link = at in
+      let rest_now : is_input link ≡ true → HasRest after.kind rest (coming_on after.pulled fn feed) =
+      (λ _. subst (λ k. HasRest k rest (coming_on after.pulled fn feed)) (sym kind_is)
+      (rest_after before.kind rest (coming_on before.pulled fo feed) (coming_on after.pulled fn feed) (comes input).1 same_rest)) in
       record {
         stands = subst (λ t. StandsSince net new t t) next_is now;
-        fed = λ _. subst (λ t. ComesNow t l link feed (Some after) fn) next_is fed_now;
+        fed = λ _. (subst (λ t. IsFed t l (Some link) (inflow after fn feed)) next_is fed_now, rest_now input);
         all = λ _. full_or_all net new goes.next goes.stands wired l link (input_delivered link flow) at there_now filled.rest (inflow after fn feed) (slice_get new.links l) at_new fed_now full;
-        told = λ _. told;
+        told = λ _. record {
+            tokens = told;
+            rest_told = subst (λ w. TellsRest rest (is_short (Some w)) filled.rest) (input_so link flow input)
+                (told_rest net new goes.next goes.stands wired l link (input_delivered link flow) at_now there_now filled.rest rest (inflow after fn feed) (slice_get new.links l) at_new (rest_now input) full);
+        };
       };
   rests = rests;
 }

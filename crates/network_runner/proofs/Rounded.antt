@@ -31,7 +31,7 @@ use Rattle.round_runner.specs.Firings.{journals}
 use Rattle.round_runner.specs.Rounds.{Answers}
 use Rattle.network_runner.specs.declared.firing.Turn.{Turn}
 use Rattle.network_runner.specs.Closing.{AnswersTo, IsClosedIdle}
-use Rattle.network_runner.specs.Rounding.{ClosedBy, IsRoundMade, moment_by, pace_by}
+use Rattle.network_runner.specs.Rounding.{ClosedBy, IsRoundMade, is_trap, moment_by, pace_by}
 use Rattle.network_runner.proofs.Trapped.{IsAlive, no_firings, trap_happens}
 
 -- Tests.
@@ -128,8 +128,8 @@ module _ {X : Type 0} (net : Network X) (s : State X) (kind : RoundKind) (budget
   left_some = not_zero turn.left left
 
   build : (close : Close) (last kept : State X) → ClosesBy net turn.grow (picked net pace at) bursted.bursts (first_trap 0 bursted.halts) fires.last close → played net fires.last (close_lines close) ≡ Some last
-      → Answers answer (record { bursts = bursted.bursts; close = close }) → StandsSince net new opened kept → last.flows ≡ kept.flows → (last.trapped ≡ false → last ≡ kept)
-      → IsRoundMade net pace at answer new
+      → Answers answer (record { bursts = bursted.bursts; close = close }) → StandsSince net new opened kept → last.flows ≡ kept.flows → (is_trap answer ≡ false → last ≡ kept)
+      → IsRoundMade net pace at answer fired new
   build close last kept closes leads answers stands flows_are same = record {
     block = record { bursts = bursted.bursts; close = close };
     last = last;
@@ -142,6 +142,7 @@ module _ {X : Type 0} (net : Network X) (s : State X) (kind : RoundKind) (budget
       leads = leads;
     };
     answers = answers;
+    fired_are = sym bursted.fired_is;
     kept = kept;
     stands = stands;
     flows_are = flows_are;
@@ -159,7 +160,7 @@ module _ {X : Type 0} (net : Network X) (s : State X) (kind : RoundKind) (budget
   stands_mid : new ≡ mid → StandsSince net new opened fires.last
   stands_mid same = subst (λ h. StandsSince net h opened fires.last) (sym same) fires.stands
 
-  by_trapped : (trapped : Trapped) → trap ≡ Some trapped → IsRoundMade net pace at answer new
+  by_trapped : (trapped : Trapped) → trap ≡ Some trapped → IsRoundMade net pace at answer fired new
   by_trapped trapped is =
       let said = closed.by_trap trapped is in
       let line : Line = TrapLine trapped.inst.0 trapped.action.0 trapped.trap in
@@ -170,9 +171,9 @@ module _ {X : Type 0} (net : Network X) (s : State X) (kind : RoundKind) (budget
       (subst (λ o. ClosesBy net turn.grow (picked net pace at) bursted.bursts o fires.last (Ends line)) (sym first) refl)
       (ap (λ o. and_then o (λ t. Some t)) happens_so)
       (subst (λ a. Answers a (record { bursts = bursted.bursts; close = Ends line })) (sym said.0) answers)
-      (stands_mid said.1) refl (λ no. cc)
+      (stands_mid said.1) refl (λ no. let yes : is_trap answer ≡ true = ap is_trap said.0 in let both : true ≡ false = sym yes ∙ no in cc)
 
-  by_fired : trap ≡ None → 0 < fired → IsRoundMade net pace at answer new
+  by_fired : trap ≡ None → 0 < fired → IsRoundMade net pace at answer fired new
   by_fired none some =
       let said = closed.by_firing none some in
       let count : count_of bursted.bursts ≡ fired = sym bursted.fired_is in
@@ -186,7 +187,7 @@ module _ {X : Type 0} (net : Network X) (s : State X) (kind : RoundKind) (budget
   test_is : (b : Bool) → all ≡ b → (count_picked (picked net pace at) == length (picked net pace at)) ≡ b
   test_is b is = ap (λ ms. count_picked ms == length ms) (sym marks_is) ∙ (sym all_is ∙ is)
 
-  by_others : trap ≡ None → fired ≡ 0 → all ≡ false → IsRoundMade net pace at answer new
+  by_others : trap ≡ None → fired ≡ 0 → all ≡ false → IsRoundMade net pace at answer fired new
   by_others none zero_fired some =
       let said = closed.by_others none zero_fired some in
       let answers : Answers round.Idle (record { bursts = bursted.bursts; close = GoesOn }) = (refl, sym bursted.fired_is ∙ zero_fired) in
@@ -195,7 +196,7 @@ module _ {X : Type 0} (net : Network X) (s : State X) (kind : RoundKind) (budget
       (and_first (count_picked (picked net pace at) == length (picked net pace at)) (count_of bursted.bursts == 0) (test_is false some)) refl))
       refl (subst (λ a. Answers a (record { bursts = bursted.bursts; close = GoesOn })) (sym said.0) answers) (stands_mid said.1) refl (λ _. refl)
 
-  by_none : trap ≡ None → fired ≡ 0 → all ≡ true → IsRoundMade net pace at answer new
+  by_none : trap ≡ None → fired ≡ 0 → all ≡ true → IsRoundMade net pace at answer fired new
   by_none none zero_fired every =
       let counted : count_picked marks ≡ length marks = eqb-true (count_picked marks) (length marks) (sym all_is ∙ every) in
       let still : Idle (length marks) lacks old mid = idle zero_fired none counted in
@@ -214,14 +215,14 @@ module _ {X : Type 0} (net : Network X) (s : State X) (kind : RoundKind) (budget
       (goes_on_so net turn.grow opened answer bursted.bursts that.close that.closes that.answers)
       that.stands refl (λ _. refl)
 
-  pub round_made : IsRoundMade net pace at answer new
+  pub round_made : IsRoundMade net pace at answer fired new
   round_made = by_option trap refl
     where
-      by_count : trap ≡ None → IsRoundMade net pace at answer new
+      by_count : trap ≡ None → IsRoundMade net pace at answer fired new
       by_count none = ⊎_elim (λ some. by_fired none some)
           (λ few. by_bool all (λ every. by_none none (omega (arith, few)) every) (λ some. by_others none (omega (arith, few)) some))
           (cases_lt 0 fired)
 
-      by_option : (o : Option Trapped) → trap ≡ o → IsRoundMade net pace at answer new
+      by_option : (o : Option Trapped) → trap ≡ o → IsRoundMade net pace at answer fired new
       by_option None is = by_count is
       by_option (Some trapped) is = by_trapped trapped is

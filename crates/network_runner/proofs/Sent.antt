@@ -20,25 +20,25 @@ use Rattle.network_runner.specs.Sending.{OutletsFit, SendsFronts, SendsOnly, Sen
 
 pub record IsSending {X : Type 0} (cells : List (Cell X)) (outlets : List Outlet) (links : List Link) (old now : Channels) (before writers : List (List ℕ)) : Type 0 where
   pub sends : SendsTexts outlets (λ p. outgoing_to p cells links) old now before writers
-  pub only : SendsOnly old now
+  pub only : SendsOnly outlets old now
   pub count : length writers ≡ length before
 
 pub on_err : {T E : Type 0} (r : Result T E) (P : Type 0) → P → OnErr r P
 on_err (Ok v) P p = tt
 on_err (Err e) P p = p
 
-pub only_none : (channels : Channels) → SendsOnly channels channels
-only_none channels = record { same_telling = refl; same_trace = λ told. refl; same_open = λ channel. refl; faults_stay = omega arith }
+pub only_none : (outlets : List Outlet) (channels : Channels) → SendsOnly outlets channels channels
+only_none outlets channels = record { same_telling = refl; same_others = λ told channel other. refl; same_open = λ channel. refl; faults_stay = omega arith }
 
-pub only_more : (old now new : Channels) → SendsOnly old now → SendsOnly now new → SendsOnly old new
-only_more old now new first second = record {
+pub only_more : (outlets : List Outlet) (old now new : Channels) → SendsOnly outlets old now → SendsOnly outlets now new → SendsOnly outlets old new
+only_more outlets old now new first second = record {
   same_telling = second.same_telling ∙ first.same_telling;
-  same_trace = λ told. second.same_trace (first.same_telling ∙ told) ∙ first.same_trace told;
+  same_others = λ told channel other. second.same_others (first.same_telling ∙ told) channel other ∙ first.same_others told channel other;
   same_open = λ channel. second.same_open channel ∙ first.same_open channel;
   faults_stay = (let one = first.faults_stay in let two = second.faults_stay in omega (arith, one, two));
 }
 
-pub fit_still : (links : List Link) (outlets : List Outlet) (old now : Channels) → OutletsFit links outlets old → SendsOnly old now → OutletsFit links outlets now
+pub fit_still : (links : List Link) (outlets : List Outlet) (old now : Channels) → OutletsFit links outlets old → SendsOnly outlets old now → OutletsFit links outlets now
 fit_still links outlets old now fit only = record {
   few = fit.few;
   sizes = fit.sizes;
@@ -56,7 +56,7 @@ pub sending_starts : {X : Type 0} (cells : List (Cell X)) (outlets : List Outlet
     → IsSending cells outlets (take 0 links) channels channels writers writers
 sending_starts cells outlets links channels writers = record {
   sends = subst (λ ls. SendsTexts outlets (λ p. outgoing_to p cells ls) channels channels writers writers) (sym (take_none links)) (none_sent outlets channels writers);
-  only = only_none channels;
+  only = only_none outlets channels;
   count = refl;
 }
   where
@@ -86,7 +86,7 @@ one_more : {X : Type 0} (p : ℕ) (cells : List (Cell X)) (links : List Link) (l
 one_more p cells links link = flat_map-append (outgoing_on p cells) links (link ∷ []) ∙ ap (λ ts. outgoing_to p cells links ++ ts) (append-nil (outgoing_on p cells link))
 
 module _ {X : Type 0} (cells : List (Cell X)) (outlets : List Outlet) (links : List Link) (l : ℕ) (link : Link) (at : slice_get links l ≡ Some link) (old now new : Channels)
-    (before writers after : List (List ℕ)) (so_far : IsSending cells outlets (take l links) old now before writers) (only : SendsOnly now new) where
+    (before writers after : List (List ℕ)) (so_far : IsSending cells outlets (take l links) old now before writers) (only : SendsOnly outlets now new) where
   text_more : (p : ℕ) (kind : Scalar) → stored_bytes kind (outgoing_to p cells (take l links)) ++ stored_bytes kind (outgoing_on p cells link) ≡ stored_bytes kind (outgoing_to p cells (take (l + 1) links))
   text_more p kind =
       sym (bytes_then kind (outgoing_to p cells (take l links)) (outgoing_on p cells link))
@@ -105,7 +105,7 @@ module _ {X : Type 0} (cells : List (Cell X)) (outlets : List Outlet) (links : L
         (writes-then (old.held (2 + p)) (buffered before p) (now.held (2 + p)) (buffered writers p) (new.held (2 + p)) (stored_bytes outlet.kind (outgoing_to p cells (take l links)))
         (so_far.sends p outlet there is_open told) (buffered after p) (stored_bytes outlet.kind (outgoing_on p cells link))
         (sends p outlet there is_open (so_far.only.same_telling ∙ told)));
-    only = only_more old now new so_far.only only;
+    only = only_more outlets old now new so_far.only only;
     count = count ∙ so_far.count;
   }
 
@@ -161,10 +161,10 @@ index_other (y ∷ xs) (suc k) (suc m) x d differ = index_other xs k m x d (λ s
 
 module _ {X : Type 0} (outlets : List Outlet) (cells : List (Cell X)) (link : Link) (port : ℕ) (to : link.to ≡ AtNet port) (outlet : Outlet) (here : slice_get outlets port ≡ Some outlet)
     (old new : Channels) (writers : List (List ℕ)) (low : port < length writers) (only : WritesOnlyAt (2 + port) old new) where
-  pub only_there : SendsOnly old new
-  only_there = record {
+  pub only_there : outlet.is_open ≡ true → SendsOnly outlets old new
+  only_there is_open = record {
     same_telling = only.same_telling;
-    same_trace = λ told. only.same_held told 1 (λ same. absurd (omega (arith, same)));
+    same_others = λ told channel other. only.same_held told channel (λ same. other (port, outlet, here, is_open, same));
     same_open = only.same_open;
     faults_stay = only.faults_stay;
   }

@@ -122,11 +122,6 @@ module _ {X : Type 0} (net : Network X) (s : State X) where
   link_of i a l (Some link) lacks = (link, refl)
 
   module _ (held : Held (Cell X)) (stands : StandsIn net held s) where
-    stalled_low : (i a l : ℕ) → IsStalled net s i a l → l < length held.links
-    stalled_low i a l stalled =
-        let on = link_of i a l (slice_get net.links l) stalled.lacks in
-        subst (λ ls. l < length ls) stands.is_of.links_are (slice_get_within net.links l on.0 on.1)
-
     holds : (i a l : ℕ) → IsStalled net s i a l → capacity_at s l ≡ slice_index_or held.capacities l 0
     holds i a l stalled =
         let on = link_of i a l (slice_get net.links l) stalled.lacks in
@@ -136,14 +131,14 @@ module _ {X : Type 0} (net : Network X) (s : State X) where
     pub stuck_at : (grow i a l : ℕ) → IsStalled net s i a l → grow ≤ slice_index_or held.capacities l 0 → IsStuck net grow s i a l
     stuck_at grow i a l stalled full = (let is : capacity_at s l ≡ slice_index_or held.capacities l 0 = holds i a l stalled in record { stalled = stalled; grown = omega (arith, is, full) })
 
-    pub between_stalled : AreLawful net → IsSettled net s → (grow i a l : ℕ) → IsStalled net s i a l → (l < length held.links → slice_index_or held.capacities l 0 < grow) → IsBetween net grow s
+    pub between_stalled : AreLawful net → IsSettled net s → (grow i a l : ℕ) → IsStalled net s i a l → slice_index_or held.capacities l 0 < grow → IsBetween net grow s
     between_stalled lawful settled grow i a l stalled below = record {
       settled = settled;
       not_quiet = not_quiet lawful i a l stalled;
       not_stuck = λ j b m is_stuck.
           let same : l ≡ m = one_link i a l j b m stalled is_stuck.stalled in
           let is : capacity_at s l ≡ slice_index_or held.capacities l 0 = holds i a l stalled in
-          let less : slice_index_or held.capacities l 0 < grow = below (stalled_low i a l stalled) in
+          let less : slice_index_or held.capacities l 0 < grow = below in
           let grown : grow ≤ capacity_at s l = subst (λ n. grow ≤ capacity_at s n) (sym same) is_stuck.grown in
           omega (arith, is, less, grown);
     }
@@ -161,7 +156,7 @@ pub spent_made : {X : Type 0} (net : Network X) (s : State X) (kind : RoundKind)
     → StandsSince net old (after_delivery net s) (after_delivery net s) → s.trapped ≡ false → turn.left ≡ 0
     → StillStand old new → IsAtRest new → SameActors old.cells new.cells
     → end_line how ≡ Some line → ClosesSpent net turn.grow (after_delivery net s) (Ends line) → played net (after_delivery net s) (line ∷ []) ≡ Some (after_delivery net s)
-    → IsRoundMade net (pace_by kind budget turn) (moment_by turn s) (round.End how) new
+    → IsRoundMade net (pace_by kind budget turn) (moment_by turn s) (round.End how) 0 new
 spent_made net s kind budget turn how line old new since untrapped left still rest same told closes leads =
     let opened = after_delivery net s in
     let marks : List Bool = picked net (pace_by kind budget turn) (moment_by turn s) in
@@ -181,6 +176,7 @@ spent_made net s kind budget turn how line old new since untrapped left still re
         leads = leads;
       };
       answers = (line, told, refl);
+      fired_are = none_count marks;
       kept = opened;
       stands = still.since net opened opened since;
       flows_are = refl;
@@ -188,6 +184,10 @@ spent_made net s kind budget turn how line old new since untrapped left still re
       noted = no_journals new.cells marks as_many (λ i cell at. (rest.all_out i cell at).1);
     }
   where
+    none_count : (marks : List Bool) → count_of (no_actions marks) ≡ 0
+    none_count [] = refl
+    none_count (mark ∷ marks) = none_count marks
+
     spent_closes : (P Q : Type 0) (b : Bool) → b ≡ true → P → MatchBool b P Q
     spent_closes P Q true is p = p
     spent_closes P Q false is p = cc

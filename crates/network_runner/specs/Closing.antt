@@ -1,6 +1,6 @@
 -- What closes a round.
 -- Trusted: part of what a promise means.
-use Rattle.std.specs.Prelude.{◌≡◌, ℕ, length, slice_get, Option, Some}
+use Rattle.std.specs.Prelude.{◌≡◌, ℕ, ◌≤◌, ◌<◌, List, length, slice_get, slice_set, slice_index_or, Option, Some}
 use Rattle.trace_text.specs.declared.line.Line.{Line}
 use Rattle.net_model.specs.Network.{Network}
 use Rattle.net_model.specs.State.{State}
@@ -23,10 +23,20 @@ AnswersTo round.Idle close = close ≡ GoesOn
 AnswersTo (round.Grew link capacity) close = close ≡ Widens link.0 capacity
 AnswersTo (round.End how) close = (line : Line) × (end_line how ≡ Some line) × (close ≡ Ends line)
 
--- The queues of each link on which an action lacks room can hold as many tokens as the limit says.
+-- Each link on which an action lacks room can hold some tokens, and its queues as many as the limit says.
 abbrev pub MayGrow : {X : Type 0} → ℕ → Held (Cell X) → Type 0
 MayGrow grow held = (i a l : ℕ) → LacksAt held i a l
-    → CanHold held.cells grow (slice_get held.links l)
+    → CanHold held.cells grow (slice_get held.links l) × (0 < slice_index_or held.capacities l 0)
+
+-- How present capacities change by an answer: a link that grew can hold more, at most as the limit says, and else
+-- they stay.
+abbrev pub GrowsBy : RoundEnd → ℕ → List ℕ → List ℕ → Type 0
+GrowsBy (round.Fired n) grow old new = new ≡ old
+GrowsBy round.Idle grow old new = new ≡ old
+GrowsBy (round.Grew link capacity) grow old new =
+    (link.0 < length old) × (slice_index_or old link.0 0 < capacity) × (capacity ≤ grow)
+    × (new ≡ slice_set old link.0 capacity)
+GrowsBy (round.End how) grow old new = new ≡ old
 
 -- a round that fired nothing is closed in this state: the line that closes it, what is answered, and the state to
 -- which it leads

@@ -1,39 +1,22 @@
 -- What a delivery of the input links does: each is filled from its feed.
 -- Trusted but for `with_flow`, `IsFullOrAll`, `IsFilledOn`, `FillsOne`, `FillsLink` and `next_feed`: part of what a
 -- promise means.
-use Rattle.std.specs.Prelude.{◌≡◌, ◌⊎◌, ℕ, suc, ◌≤◌, true, List, [], length, Result, IfOk, OnOk, slice_get, slice_set, Option, None, Some, if◌then◌else◌}
+use Rattle.std.specs.Prelude.{◌≡◌, ◌⊎◌, ℕ, suc, ◌≤◌, Bool, true, List, length, Result, IfOk, OnOk, slice_get, slice_set, Option, None, Some, if◌then◌else◌}
 use Rattle.rvc_io.specs.Feeds.{Inputs}
 use Rattle.port_files.specs.Coming.{EndIsTrue, Reading}
 use Rattle.net_model.specs.declared.wiring.Link.{Link}
-use Rattle.net_model.specs.Network.{Network, is_input}
+use Rattle.net_model.specs.Network.{NetPort, Network, is_input}
 use Rattle.net_model.specs.State.{Flow, State, untaken}
 use Rattle.net_model.specs.Event.{each_flow}
 use Rattle.net_model.specs.Trace.{arrivals, delivered}
 use Rattle.net_model.specs.Cell.{Cell}
+use Rattle.net_model.specs.Counted.{is_short, rest_at}
 use Rattle.net_model.specs.Wired.{IsWired}
 use Rattle.net_state.specs.declared.filling.Filled.{Filled}
-use Rattle.net_state.specs.Filling.{IsFed, inflow}
 use Rattle.net_state.specs.Held.{Held, seen}
-use Rattle.net_state.specs.Standing.{StandsSince, unarrived}
+use Rattle.net_state.specs.Standing.{StandsSince}
 use Rattle.net_state.specs.Working.{AreFed, IsAtRest}
-use Rattle.round_runner.specs.Running.{feed_of}
-
--- What is to come on an input link is what is to come on its feed; without a feed nothing is.
-abbrev pub ComesNow : {X : Type 0} → State X → ℕ → Link → ℕ → Option Reading → Inputs → Type 0
-ComesNow s l link feed None feeds = unarrived (slice_get s.flows l) ≡ []
-ComesNow s l link feed (Some reading) feeds = IsFed s l (Some link) (inflow reading feeds feed)
-
--- the same of a link of which it isn't known whether there is a place for its reader
-abbrev pub ComesBy : {X : Type 0} → State X → ℕ → Link → ℕ → Option (Option Reading) → Inputs
-    → Type 0
-ComesBy s l link feed None feeds = ⊥
-ComesBy s l link feed (Some reading) feeds = ComesNow s l link feed reading feeds
-
--- the same of each input link
-abbrev pub AreFedBy : {X : Type 0} → Network X → State X → List (Option Reading) → Inputs → Type 0
-AreFedBy net s readings feeds = (l : ℕ) (link : Link) → slice_get net.links l ≡ Some link
-    → is_input link ≡ true
-    → ComesBy s l link (feed_of net.links l) (slice_get readings l) feeds
+use Rattle.round_runner.specs.Running.{AreFedBy, ComesNow, feed_of}
 
 -- a delivery of the input links alone
 abbrev pub input_delivered : Link → Flow → Flow
@@ -52,46 +35,65 @@ with_flow s l flow = record s { flows = slice_set s.flows l flow }
 abbrev pub IsFullOrAll : Flow → Type 0
 IsFullOrAll flow = (untaken flow ≡ flow.capacity) ⊎ (flow.arrived ≡ length flow.sent)
 
+-- How many bytes at the end of a link's feed are no token is told exactly if the link holds less than its capacity.
+abbrev pub TellsRest : ℕ → Bool → Option ℕ → Type 0
+TellsRest rest short None = short ≡ true → rest ≡ 0
+TellsRest rest short (Some told) = (short ≡ true) × (told ≡ rest)
+
+-- what came over an input link at a delivery
+pub record CameOver (rest : ℕ) (link : Link) (flow : Flow) (filled : Filled) : Type 0 where
+  pub tokens : filled.tokens ≡ arrivals link flow
+  pub rest_told : TellsRest rest (is_short (Some (delivered link flow))) filled.rest
+
 -- A state in which one link was filled from its feed: so many tokens came as arrive there at a delivery.
-pub record IsFilledOn {X : Type 0} (net : Network X) (s : State X) (l feed : ℕ) (link : Link) (flow : Flow) (held : Held (Cell X)) (reading : Option Reading) (feeds : Inputs) (filled : Filled) : Type 0 where
+pub record IsFilledOn {X : Type 0} (net : Network X) (s : State X) (l feed rest : ℕ) (link : Link) (flow : Flow) (held : Held (Cell X)) (reading : Option Reading) (feeds : Inputs) (filled : Filled) : Type 0 where
   pub stands : StandsSince net held (with_flow s l (input_delivered link flow))
       (with_flow s l (input_delivered link flow))
   pub fed : is_input link ≡ true
-      → ComesNow (with_flow s l (input_delivered link flow)) l link feed reading feeds
+      → ComesNow (with_flow s l (input_delivered link flow)) l link feed rest reading feeds
   pub all : is_input link ≡ true → IsFullOrAll (input_delivered link flow)
-  pub told : is_input link ≡ true → filled.tokens ≡ arrivals link flow
+  pub told : is_input link ≡ true → CameOver rest link flow filled
 
 -- Each state of a wired network that was just opened goes on so.
 pub record FillsOne {X : Type 0} (l feed : ℕ) (old new : Held (Cell X)) (before after : Option Reading) (feeds_old feeds_new : Inputs) (filled : Filled) : Type 0 where
-  pub states : (net : Network X) (s : State X) (link : Link) (flow : Flow) → StandsSince net old s s
+  pub states : (net : Network X) (s : State X) (rest : ℕ) (link : Link) (flow : Flow)
+      → StandsSince net old s s
       → IsWired net → slice_get net.links l ≡ Some link → slice_get s.flows l ≡ Some flow
-      → (is_input link ≡ true → ComesNow s l link feed before feeds_old)
-      → IsFilledOn net s l feed link flow new after feeds_new filled
+      → (is_input link ≡ true → ComesNow s l link feed rest before feeds_old)
+      → IsFilledOn net s l feed rest link flow new after feeds_new filled
   pub rests : IsAtRest old → IsAtRest new
 
 -- All input links.
 
--- so many tokens came over an input link as arrive there at a delivery
-abbrev pub CameOn : Option Link → Option Flow → Option Filled → Type 0
-CameOn (Some link) (Some flow) (Some filled) = is_input link ≡ true
-    → filled.tokens ≡ arrivals link flow
-CameOn (Some link) (Some flow) None = is_input link ≡ true → ⊥
-CameOn (Some link) None came = is_input link ≡ true → ⊥
-CameOn None flow came = Unit {0}
+-- what came over a link of these files is told
+abbrev pub CameOn : List NetPort → List (List ℕ) → Option Link → Option Flow → Option Filled
+    → Type 0
+CameOn ports inputs (Some link) (Some flow) (Some filled) = is_input link ≡ true
+    → CameOver (rest_at ports inputs link.from) link flow filled
+CameOn ports inputs (Some link) (Some flow) None = is_input link ≡ true → ⊥
+CameOn ports inputs (Some link) None came = is_input link ≡ true → ⊥
+CameOn ports inputs None flow came = Unit {0}
 
 -- A state at which each input link was filled: it stands, what is to come is what its feeds have still, each input
 -- link is full or has all of its feed, and what came is told.
-pub record IsFilled {X : Type 0} (net : Network X) (s : State X) (held : Held (Cell X)) (readings : List (Option Reading)) (feeds : Inputs) (came : List Filled) : Type 0 where
+pub record IsFilled {X : Type 0} (net : Network X) (inputs : List (List ℕ)) (s : State X) (held : Held (Cell X)) (readings : List (Option Reading)) (feeds : Inputs) (came : List Filled) : Type 0 where
   pub stands : StandsSince net held (after_inputs net s) (after_inputs net s)
-  pub fed : AreFedBy net (after_inputs net s) readings feeds
+  pub fed : AreFedBy net inputs (after_inputs net s) readings feeds
   pub all : AreFed net (after_inputs net s)
-  pub told : (l : ℕ) → CameOn (slice_get net.links l) (slice_get s.flows l) (slice_get came l)
+  pub told : (l : ℕ) → CameOn net.ins inputs (slice_get net.links l) (slice_get s.flows l)
+      (slice_get came l)
 
 -- Each state of a wired network that was just opened goes on so.
 pub record Fills {X : Type 0} (old new : Held (Cell X)) (before after : List (Option Reading)) (feeds_old feeds_new : Inputs) (came : List Filled) : Type 0 where
-  pub states : (net : Network X) (s : State X) → StandsSince net old s s → IsWired net
-      → AreFedBy net s before feeds_old → IsFilled net s new after feeds_new came
+  pub states : (net : Network X) (inputs : List (List ℕ)) (s : State X) → StandsSince net old s s
+      → IsWired net → AreFedBy net inputs s before feeds_old
+      → IsFilled net inputs s new after feeds_new came
   pub rests : IsAtRest old → IsAtRest new
+
+-- a feed that is read for one of the links
+abbrev pub IsFeedOf : List Link → List (Option Reading) → ℕ → Type 0
+IsFeedOf links readings feed = (l : ℕ) × (reading : Reading)
+    × (slice_get readings l ≡ Some (Some reading)) × (feed ≡ feed_of links l)
 
 -- What is asked of the readers: there is one for each input link that is fed; its feed is open, and is the one that
 -- was read before.

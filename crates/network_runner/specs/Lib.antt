@@ -5,3 +5,9 @@ pub mod Closing
 pub mod Rounding
 pub mod Noting
 pub mod Spending
+pub mod Asking
+pub mod Keeping
+pub mod Making
+pub mod Counting
+pub mod Stepping
+pub mod Putting

@@ -20,20 +20,33 @@ outgoing_on p cells link = if is_net_port p link.to then carried cells link else
 abbrev pub outgoing_to : {X : Type 0} → ℕ → List (Cell X) → List Link → List ℤ
 outgoing_to p cells links = flat_map (outgoing_on p cells) links
 
+-- the channel of an output that has one
+abbrev pub IsChannelOf : List Outlet → ℕ → Type 0
+IsChannelOf outlets channel = (p : ℕ) × (outlet : Outlet) × (slice_get outlets p ≡ Some outlet)
+    × (outlet.is_open ≡ true) × (channel ≡ 2 + p)
+
 -- an outlet is there for each output to which a link leads, and such a link begins at a cell
 abbrev pub HasOutlet : List Outlet → Link → End → Type 0
 HasOutlet outlets link (AtLeaf inst port) = Unit {0}
 HasOutlet outlets link (AtNet port) =
     (suc port ≤ length outlets) × (is_input link ≡ false)
 
--- .. and the channel of each that a word names is open
+-- so many outputs have a channel's number
+abbrev pub max_outlets : ℕ
+max_outlets = 4294967293
+
+-- the channel of each output that has one is open
+abbrev pub OutletsOpen : List Outlet → Channels → Type 0
+OutletsOpen outlets channels = (p : ℕ) (outlet : Outlet) → slice_get outlets p ≡ Some outlet
+    → outlet.is_open ≡ true → channels.is_open (2 + p) ≡ true
+
+-- what is asked of the outputs: a link leads to none that isn't there, and the channels are open
 pub record OutletsFit (links : List Link) (outlets : List Outlet) (channels : Channels) :
     Type 0 where
-  pub few : length outlets ≤ 4096
+  pub few : length outlets ≤ max_outlets
   pub sizes : (p : ℕ) (outlet : Outlet) → slice_get outlets p ≡ Some outlet → IsSize outlet.kind
   pub led_to : (l : ℕ) (link : Link) → slice_get links l ≡ Some link → HasOutlet outlets link link.to
-  pub open_channels : (p : ℕ) (outlet : Outlet) → slice_get outlets p ≡ Some outlet
-      → outlet.is_open ≡ true → channels.is_open (2 + p) ≡ true
+  pub open_channels : OutletsOpen outlets channels
 
 -- each output that has a channel: what its text is, and what is buffered for it
 abbrev pub EachOutlet : List Outlet → (ℕ → Outlet → Type 0) → Type 0
@@ -55,10 +68,11 @@ abbrev pub SendsFronts : List Outlet → (ℕ → List ℤ) → Channels → Cha
 SendsFronts outlets tokens old new before = EachOutlet outlets (λ p outlet.
     AppendsFront (2 + p) old new (buffered before p ++ stored_bytes outlet.kind (tokens p)))
 
--- no channel was opened or closed, and nothing went to the trace
-pub record SendsOnly (old new : Channels) : Type 0 where
+-- no channel was opened or closed, and those that aren't of these outputs hold what they held
+pub record SendsOnly (outlets : List Outlet) (old new : Channels) : Type 0 where
   pub same_telling : new.tells ≡ old.tells
-  pub same_trace : old.tells ≡ true → new.held 1 ≡ old.held 1
+  pub same_others : old.tells ≡ true → (channel : ℕ) → (IsChannelOf outlets channel → ⊥)
+      → new.held channel ≡ old.held channel
   pub same_open : (channel : ℕ) → new.is_open channel ≡ old.is_open channel
   pub faults_stay : old.faults ≤ new.faults
 

@@ -23,4 +23,4 @@ EndsSpent {X} grow how old new = (net : Network X) (s : State X) (kind : RoundKi
     (turn : Turn) → StandsSince net old (after_delivery net s) (after_delivery net s)
     → s.trapped ≡ false → IsWired net → AreLawful net → AreFed net (after_delivery net s)
     → turn.left ≡ 0 → turn.grow ≡ grow
-    → IsRoundMade net (pace_by kind budget turn) (moment_by turn s) (round.End how) new
+    → IsRoundMade net (pace_by kind budget turn) (moment_by turn s) (round.End how) 0 new

@@ -1,9 +1,10 @@
 //! What closes a round.
 
-ghost use Rattle.std.specs.Prelude.{◌≡◌, map};
+ghost use Rattle.std.specs.Prelude.{◌≡◌, None, false, map};
 ghost use Rattle.net_state.specs.Held.{seen};
 ghost use Rattle.net_state.specs.Working.{IsAtRest};
-ghost use Rattle.network_runner.specs.Closing.{ClosesAllIdle, MayGrow};
+ghost use Rattle.network_runner.specs.Closing.{ClosesAllIdle, GrowsBy, MayGrow};
+ghost use Rattle.network_runner.specs.Rounding.{CountsTo, is_trap};
 ghost use Rattle.round_runner.specs.Bursting.{NamesIts};
 
 use net_model::Firing;
@@ -18,6 +19,10 @@ pub fn close_idle<A: Firing>(net: &mut NetState<A>, lacks: Option<Lacking>, grow
     requires named { NamesIts (map A.cell net.old.cells) lacks }
     requires queues { MayGrow grow (seen A.cell net.old) }
     ensures closes { ClosesAllIdle grow lacks result (seen A.cell net.old) (seen A.cell net.new) }
+    ensures grows { GrowsBy result grow net.old.capacities net.new.capacities }
+    ensures ended { CountsTo result 0 }
+    ensures no_trap { is_trap result ≡ false }
+    ensures quiet { lacks ≡ None → result ≡ RoundEnd.End RunEnd.Quiet }
     ensures cells { net.new.cells ≡ net.old.cells }
     ensures links { net.new.links ≡ net.old.links }
     ensures waited { net.new.waited ≡ net.old.waited }

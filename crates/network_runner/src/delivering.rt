@@ -1,10 +1,10 @@
 //! Deliveries.
 
-ghost use Rattle.std.specs.Prelude.{◌≡◌, ◌≤◌, OnErr, length, map};
+ghost use Rattle.std.specs.Prelude.{◌≡◌, ◌≤◌, IfErr, OnErr, length, map};
 ghost use Rattle.rvc_io.specs.Feeds.{ReadFails};
 ghost use Rattle.net_state.specs.Moving.{SameActors, SameMarks};
 ghost use Rattle.network_runner.specs.Delivering.{DeliversAll};
-ghost use Rattle.network_runner.specs.Filling.{ReadersFit, SameOpen};
+ghost use Rattle.network_runner.specs.Filling.{IsFeedOf, ReadersFit, SameOpen};
 
 use crate::feeding::{ReadFault, fill_all};
 use net_model::{Firing, Link};
@@ -17,7 +17,7 @@ use rvc_io::Feeds;
 ///
 /// # Errors
 ///
-/// `ReadFault` if a feed couldn't be read (`failed`).
+/// `ReadFault` if a feed couldn't be read (`failed`): that of a link that has a reader (`feed`).
 pub fn deliver_all<A: Firing, F: Feeds>(
     net: &mut NetState<A>,
     links: &[Link],
@@ -32,6 +32,7 @@ pub fn deliver_all<A: Firing, F: Feeds>(
     ensures delivers { DeliversAll A.cell F.feeds net.old net.new readers.old readers.new feeds.old
         feeds.new came.new result }
     ensures failed { OnErr result (ReadFails F.feeds feeds.old feeds.new) }
+    ensures feed { IfErr result (λ fault. IsFeedOf links.now readers.old fault.feed) }
     ensures still_fit { ReadersFit links.now readers.new (F.feeds feeds.new) }
 
     // What stays.

@@ -1,12 +1,12 @@
 //! Input links are filled from their feeds.
 
-ghost use Rattle.std.specs.Prelude.{◌≡◌, ◌≤◌, ◌<◌, true, IfNone, IfSome, OnErr, is_some, length, map, slice_get};
+ghost use Rattle.std.specs.Prelude.{◌≡◌, ◌≤◌, ◌<◌, true, IfErr, IfNone, IfSome, OnErr, is_some, length, map, slice_get};
 ghost use Rattle.rvc_io.specs.Feeds.{PullsOnly, ReadFails};
 ghost use Rattle.port_files.specs.Coming.{EndIsTrue};
 ghost use Rattle.net_state.specs.Filling.{IsInputLink};
 ghost use Rattle.net_state.specs.Held.{seen};
 ghost use Rattle.net_state.specs.Moving.{SameActors, SameMarks};
-ghost use Rattle.network_runner.specs.Filling.{FillsAll, FillsLink, ReadersFit, SameOpen, next_feed};
+ghost use Rattle.network_runner.specs.Filling.{FillsAll, FillsLink, IsFeedOf, ReadersFit, SameOpen, next_feed};
 
 use net_model::{End, Firing, Link};
 use net_state::{Filled, NetState};
@@ -28,7 +28,7 @@ pub struct ReadFault {
 ///
 /// # Errors
 ///
-/// `ReadFault` if a feed couldn't be read (`failed`).
+/// `ReadFault` if a feed couldn't be read (`failed`): that of a link that has a reader (`feed`).
 pub fn fill_all<A: Firing, F: Feeds>(
     net: &mut NetState<A>,
     links: &[Link],
@@ -43,6 +43,7 @@ pub fn fill_all<A: Firing, F: Feeds>(
     ensures fills { FillsAll A.cell F.feeds net.old net.new readers.old readers.new feeds.old
         feeds.new came.new result }
     ensures failed { OnErr result (ReadFails F.feeds feeds.old feeds.new) }
+    ensures feed { IfErr result (λ fault. IsFeedOf links.now readers.old fault.feed) }
     ensures still_fit { ReadersFit links.now readers.new (F.feeds feeds.new) }
 
     // What stays.
@@ -91,6 +92,7 @@ fn fill_one<A: Firing, F: Feeds>(
     ensures fills { FillsLink A.cell F.feeds link.0 feed net.old net.new reader.old reader.new
         feeds.old feeds.new result }
     ensures failed { OnErr result (ReadFails F.feeds feeds.old feeds.new) }
+    ensures read { OnErr result (is_some reader.old ≡ true) }
     ensures still_same_feed { IfSome reader.new (λ reading.
         EndIsTrue reading ((F.feeds feeds.new).left feed)) }
 

@@ -1,16 +1,21 @@
 //! The firings of a round, and what closes it.
 
-ghost use Rattle.std.specs.Prelude.{◌≡◌, ◌≤◌, ◌<◌, ◌+◌, ◌==◌, Bool, None, true, length, map};
+ghost use Rattle.std.specs.Prelude.{◌≡◌, ◌≤◌, ◌<◌, ◌+◌, ◌==◌, Bool, None, false, true, length, map};
 ghost use Rattle.net_state.specs.Held.{seen};
+ghost use Rattle.net_state.specs.Moving.{SameActors};
+ghost use Rattle.net_state.specs.Surveyed.{AreUntrapped};
 ghost use Rattle.net_state.specs.Working.{IsAtRest};
 ghost use Rattle.round_runner.specs.Bursting.{AreFresh};
-ghost use Rattle.network_runner.specs.Rounding.{CanGrow, ClosedBy, MakesRound, MayClose};
+ghost use Rattle.network_runner.specs.Closing.{GrowsBy};
+ghost use Rattle.network_runner.specs.Rounding.{AsksAgain, CanGrow, ClosedBy, CountsTo, MakesRound, MayClose, is_trap};
 
 use crate::closing::close_idle;
+use crate::spending::end_spent;
 use net_model::Firing;
 use net_state::NetState;
 use round_plan::Policy;
 use round_runner::{Bursts, RoundEnd, RunEnd, Trapped, burst_each, choose, count_marks};
+use rvc_io::Gate;
 
 /// By what the firings of a round are made.
 #[derive(Clone, Copy, Debug, PartialEq, Eq)]
@@ -27,6 +32,64 @@ pub struct Turn {
     pub grow: u32,
 }
 
+/// What a round made.
+#[derive(Clone, Copy, Debug, PartialEq, Eq)]
+pub struct RoundMade {
+    pub answer: RoundEnd,
+    /// How many firings there were, also if a trap ended the run.
+    pub fired: u64,
+}
+
+/// A round once its delivery was made: nothing fires if the budget is spent or no instance is there, and else the
+/// instances that the policy picks. `gate` is told when a worker starts.
+pub(crate) fn close_round<A: Firing, P: Policy, G: Gate>(
+    net: &mut NetState<A>,
+    policy: &mut P,
+    marks: &mut [bool],
+    turn: &Turn,
+    gate: &G,
+) -> RoundMade
+    requires next { 0 < length marks.old → turn.now.round ≡ P.rounds policy.old + 1 }
+    requires same_instances { 0 < P.rounds policy.old → length marks.old ≡ P.instances policy.old }
+    requires bursts { 1 ≤ turn.now.burst }
+    requires most { turn.now.burst ≤ 65536 }
+    requires as_many { length marks.old ≡ length net.old.cells }
+    requires few { length marks.old ≤ 1024 }
+    requires fresh { AreFresh turn.now.burst (map A.cell net.old.cells) }
+    requires rest { IsAtRest (seen A.cell net.old) }
+    requires queues { CanGrow turn.now.grow (seen A.cell net.old) }
+    ensures makes { MakesRound (P.kind policy.old) turn.now result.answer result.fired
+        (seen A.cell net.old) (seen A.cell net.new) }
+    ensures within { result.fired ≤ turn.now.left }
+    ensures counted { CountsTo result.answer result.fired }
+    ensures not_idle_again { result.answer ≡ RoundEnd.Idle → turn.now.idle ≡ false }
+    ensures grows { GrowsBy result.answer turn.now.grow net.old.capacities net.new.capacities }
+    ensures untrapped { is_trap result.answer ≡ false → AreUntrapped (map A.cell net.new.cells) }
+
+    // What stays.
+    ensures kind { P.kind policy.new ≡ P.kind policy.old }
+    ensures asked { AsksAgain result.answer (length marks.old) turn.now.round (P.rounds policy.new)
+        (P.instances policy.new) }
+    ensures same_actors { SameActors (map A.cell net.old.cells) (map A.cell net.new.cells) }
+    ensures links { net.new.links ≡ net.old.links }
+    ensures still_as_many { length marks.new ≡ length marks.old }
+{
+    if turn.left == 0 {
+        return RoundMade {
+            answer: RoundEnd::End(end_spent(net, turn.grow)),
+            fired: 0,
+        };
+    }
+    if marks.is_empty() {
+        return RoundMade {
+            answer: close_idle(net, None, turn.grow),
+            fired: 0,
+        };
+    }
+    gate.arrive(turn.round, 0);
+    fire_round(net, policy, marks, turn)
+}
+
 /// Lets the instances fire that the policy picks, and closes the round. Its delivery was made, and some firings are
 /// left of the budget. `marks` says then which instances were picked.
 pub fn fire_round<A: Firing, P: Policy>(
@@ -34,7 +97,7 @@ pub fn fire_round<A: Firing, P: Policy>(
     policy: &mut P,
     marks: &mut [bool],
     turn: &Turn,
-) -> RoundEnd
+) -> RoundMade
     requires next { turn.now.round ≡ P.rounds policy.old + 1 }
     requires some { 0 < length marks.old }
     requires same_instances { 0 < P.rounds policy.old → length marks.old ≡ P.instances policy.old }
@@ -46,20 +109,30 @@ pub fn fire_round<A: Firing, P: Policy>(
     requires fresh { AreFresh turn.now.burst (map A.cell net.old.cells) }
     requires rest { IsAtRest (seen A.cell net.old) }
     requires queues { CanGrow turn.now.grow (seen A.cell net.old) }
-    ensures makes { MakesRound (P.kind policy.old) turn.now result (seen A.cell net.old)
-        (seen A.cell net.new) }
+    ensures makes { MakesRound (P.kind policy.old) turn.now result.answer result.fired
+        (seen A.cell net.old) (seen A.cell net.new) }
+    ensures within { result.fired ≤ turn.now.left }
+    ensures counted { CountsTo result.answer result.fired }
+    ensures not_idle_again { result.answer ≡ RoundEnd.Idle → turn.now.idle ≡ false }
+    ensures grows { GrowsBy result.answer turn.now.grow net.old.capacities net.new.capacities }
+    ensures untrapped { is_trap result.answer ≡ false → AreUntrapped (map A.cell net.new.cells) }
 
     // What stays.
     ensures kind { P.kind policy.new ≡ P.kind policy.old }
     ensures rounds { P.rounds policy.new ≡ turn.now.round }
     ensures instances { P.instances policy.new ≡ length marks.old }
+    ensures same_actors { SameActors (map A.cell net.old.cells) (map A.cell net.new.cells) }
     ensures links { net.new.links ≡ net.old.links }
     ensures still_as_many { length marks.new ≡ length marks.old }
 {
     choose(policy, turn.round, turn.idle, marks);
     let made = burst_each(net, marks, turn.burst, turn.left);
     let all = count_marks(marks) as usize == marks.len();
-    close(net, &made, all, turn.grow)
+    let answer = close(net, &made, all, turn.grow);
+    RoundMade {
+        answer,
+        fired: made.fired,
+    }
 }
 
 /// Closes a round by what came of its bursts. `all` says whether all instances were picked.
@@ -68,6 +141,11 @@ fn close<A: Firing>(net: &mut NetState<A>, made: &Bursts, all: bool, grow: u32) 
         → MayClose grow made.now.lacks (seen A.cell net.old) }
     ensures closed { ClosedBy made.now.trap made.now.fired made.now.lacks all grow result
         (seen A.cell net.old) (seen A.cell net.new) }
+    ensures counted { CountsTo result made.now.fired }
+    ensures not_all { result ≡ RoundEnd.Idle → all ≡ false }
+    ensures grows { GrowsBy result grow net.old.capacities net.new.capacities }
+    ensures no_trap { is_trap result ≡ false → made.now.trap ≡ None }
+    ensures cells { net.new.cells ≡ net.old.cells }
     ensures links { net.new.links ≡ net.old.links }
 {
     if let Some(Trapped { inst, action, trap }) = made.trap {

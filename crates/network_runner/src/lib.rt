@@ -1,23 +1,30 @@
-//! The steps of a round of any network: deliver, fire, write.
+//! Runs of any network: rounds that deliver, fire and write, until an end.
+//!
+//! A [`Runner`] is made of cells, their wiring, a plan and a policy, and makes rounds one by one or until an end.
 //!
 //! A round sends out what goes to the network's outputs ([`send_all`]), makes a delivery ([`deliver_all`]), lets the
 //! instances fire that its policy picks and says what closes it ([`fire_round`], or [`end_spent`] if no firing is left),
 //! and writes its lines ([`note_round`]). Each call says what it does to every state of the network in which the cells
-//! stand. No call joins them yet.
+//! stand.
 #![tactic(auto)]
 
 mod closing;
+mod counting;
 mod delivering;
 mod feeding;
 mod firing;
+mod making;
 mod noting;
+mod putting;
+mod runner;
 mod sending;
 mod spending;
 
 pub use closing::close_idle;
 pub use delivering::deliver_all;
 pub use feeding::{ReadFault, fill_all};
-pub use firing::{Turn, fire_round};
+pub use firing::{RoundMade, Turn, fire_round};
 pub use noting::note_round;
+pub use runner::Runner;
 pub use sending::{Outlet, WriteFault, send_all};
 pub use spending::end_spent;

@@ -1,8 +1,8 @@
 //! What was sent to outputs of the network goes out to their channels.
 
-ghost use Rattle.std.specs.Prelude.{◌≡◌, ◌≤◌, ◌<◌, OnErr, Some, length, slice_get};
+ghost use Rattle.std.specs.Prelude.{◌≡◌, ◌≤◌, ◌<◌, IfErr, OnErr, Some, length, slice_get};
 ghost use Rattle.rvc_io.specs.Channels.{WriteFails};
-ghost use Rattle.network_runner.specs.Sending.{BreaksAll, BreaksLink, OutletsFit, SendsAll, SendsLink, SendsOnly};
+ghost use Rattle.network_runner.specs.Sending.{BreaksAll, BreaksLink, IsChannelOf, OutletsFit, SendsAll, SendsLink, SendsOnly};
 
 use channel_writer::ChannelWriter;
 use net_model::{End, Firing, Link};
@@ -31,8 +31,8 @@ pub struct WriteFault {
 ///
 /// # Errors
 ///
-/// `WriteFault` if a write failed (`failed`): each channel got a prefix of what was buffered for it and of its bytes
-/// (`fronts`).
+/// `WriteFault` if a write failed (`failed`), on the channel of an output that has one (`channel`): each channel got a
+/// prefix of what was buffered for it and of its bytes (`fronts`).
 pub fn send_all<A: Firing, D: Drains>(
     net: &NetState<A>,
     links: &[Link],
@@ -49,7 +49,8 @@ pub fn send_all<A: Firing, D: Drains>(
     ensures fronts { BreaksAll A.cell D.channels outlets.now net.now.cells links.now drains.old
         drains.new writers.old result }
     ensures failed { OnErr result (WriteFails D.channels drains.old drains.new) }
-    ensures only { SendsOnly (D.channels drains.old) (D.channels drains.new) }
+    ensures channel { IfErr result (λ fault. IsChannelOf outlets.now fault.channel) }
+    ensures only { SendsOnly outlets.now (D.channels drains.old) (D.channels drains.new) }
     ensures still_as_many { length writers.new ≡ length writers.old }
 {
     for l in 0..links.len() {
@@ -75,7 +76,8 @@ fn send_link<A: Firing, D: Drains>(
     ensures fronts { BreaksLink A.cell D.channels outlets.now net.now.cells link.now drains.old
         drains.new writers.old result }
     ensures failed { OnErr result (WriteFails D.channels drains.old drains.new) }
-    ensures only { SendsOnly (D.channels drains.old) (D.channels drains.new) }
+    ensures channel { IfErr result (λ fault. IsChannelOf outlets.now fault.channel) }
+    ensures only { SendsOnly outlets.now (D.channels drains.old) (D.channels drains.new) }
     ensures still_as_many { length writers.new ≡ length writers.old }
 {
     let End::Net { port } = link.to else {

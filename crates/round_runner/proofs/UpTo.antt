@@ -14,14 +14,15 @@ use Rattle.net_model.specs.declared.firing.BurstEnd.TheVariants as burst
 use Rattle.net_model.specs.Network.{Network}
 use Rattle.net_model.specs.State.{State}
 use Rattle.net_model.specs.Cell.{Cell, IsSameActor}
+use Rattle.net_model.specs.Ready.{OnCell}
 use Rattle.net_model.specs.Paced.{AreBursts, HaltsAt, Halt, IsBurst, Share, Spent, Waiting, NoRoom, Trapping, Unpicked, count_of, count_picked, first_trap, limit_of}
 use Rattle.net_state.specs.Held.{Held}
 use Rattle.net_state.specs.Moving.{SameActors}
 use Rattle.net_state.specs.Standing.{StandsSince}
 use Rattle.net_model.specs.declared.firing.Look.TheVariants as look
 use Rattle.rvc_base.specs.declared.ids.ActId.{ActId}
-use Rattle.net_state.specs.Surveyed.{LacksNow}
-use Rattle.net_state.specs.Working.{EndsSeeHalt, GoesOn, HasAction, IsAtRest, LooksFed, MayBurst, NamesLacking, WorksAt, halt_of, journal_of}
+use Rattle.net_state.specs.Surveyed.{AreUntrapped, LacksNow}
+use Rattle.net_state.specs.Working.{EndsSeeHalt, GoesOn, HasAction, IsAtRest, LooksFed, MayBurst, NamesLacking, WorksAt, halt_of, journal_of, traps}
 use Rattle.net_state.proofs.Coming.{on_cell, on_some}
 use Rattle.net_state.proofs.Gaining.{same_actor, some_is, there_too}
 use Rattle.net_state.proofs.Kept.{same_then}
@@ -319,6 +320,13 @@ pub record FiresUpTo {X : Type 0} (net : Network X) (share : Share) (marks : Lis
   pub goes : (more : List (List ℕ)) (after : List Halt) (last : State X) → AreBursts net opened share (drop i marks) i k fired s more after last
       → AreBursts net opened share marks 0 0 0 opened (bursts ++ more) (halts ++ after) last
 
+-- a burst that didn't end by a trap leaves no mark
+not_trapped : (inst : InstId) (end : BurstEnd) → trapped_by inst end ≡ None → traps end ≡ false
+not_trapped inst burst.Spent none = refl
+not_trapped inst burst.Waits none = refl
+not_trapped inst (burst.NoRoom action port) none = refl
+not_trapped inst (burst.Trap action cause) none = cc
+
 pub record IsBursting {X : Type 0} (share : Share) (marks : List Bool) (burst i k fired : ℕ) (trap : Option Trapped) (lacks : Option Lacking) (old now : Held (Cell X)) : Type 0 where
   pub bursts : List (List ℕ)
   pub halts : List Halt
@@ -327,6 +335,7 @@ pub record IsBursting {X : Type 0} (share : Share) (marks : List Bool) (burst i 
   pub picks : k ≡ picked_before marks i
   pub fired_is : fired ≡ count_of bursts
   pub trap_is : trap_line trap ≡ first_trap 0 halts
+  pub untrapped : trap ≡ None → AreUntrapped now.cells
   pub noted : (j : ℕ) → journal_of (slice_get now.cells j) ≡ slice_index_or bursts j []
   pub ahead : (j : ℕ) → i ≤ j → slice_get now.cells j ≡ slice_get old.cells j
   pub same_actors : SameActors old.cells now.cells
@@ -358,6 +367,7 @@ bursting_none share marks burst held fresh = record {
   picks = ap count_picked (sym (take_none marks));
   fired_is = refl;
   trap_is = refl;
+  untrapped = λ none j cell at. (fresh j cell at).untrapped;
   noted = journal_none burst held.cells fresh;
   ahead = λ j low. refl;
   same_actors = same_all held.cells;
@@ -417,6 +427,13 @@ module _ {X : Type 0} (share : Share) (marks : List Bool) (burst i k fired : ℕ
         ∙ (ap (λ line. or_line (first_trap 0 so_far.halts) line) (sym (trap_of_end (record { 0 = i }) end))
         ∙ (ap (λ n. or_line (first_trap 0 so_far.halts) (first_trap n (halt_of end ∷ []))) (let e : i ≡ 0 + length so_far.halts = omega (arith, so_far.halted) in e)
         ∙ sym (trap_after 0 so_far.halts (halt_of end ∷ [])))));
+    untrapped = λ none j cell at. ⊎_elim
+        (λ is.
+        let here : slice_get new.cells i ≡ Some cell = ap (slice_get new.cells) (sym is) ∙ at in
+        let mark : cell.trapped ≡ traps end = subst (λ o. OnCell o (λ c. c.trapped ≡ traps end)) here works.marked in
+        mark ∙ not_trapped (record { 0 = i }) end (second_none trap (trapped_by (record { 0 = i }) end) none))
+        (λ differ. so_far.untrapped (first_none trap (trapped_by (record { 0 = i }) end) none) j cell (sym (works.elsewhere j differ) ∙ at))
+        (cases_eq j i);
     noted = λ j. ⊎_elim
         (λ is.
         subst (λ n. journal_of (slice_get new.cells n) ≡ slice_index_or (so_far.bursts ++ works.actions ∷ []) n []) (sym is)
@@ -481,6 +498,7 @@ module _ {X : Type 0} (share : Share) (marks : List Bool) (burst i k fired : ℕ
     picks = so_far.picks ∙ (sym (picked_same marks i here) ∙ ap (λ n. picked_before marks n) (let e : suc i ≡ i + 1 = omega arith in e));
     fired_is = (let all : count_of (so_far.bursts ++ [] ∷ []) ≡ count_of so_far.bursts + 0 = count_more so_far.bursts [] in omega (arith, so_far.fired_is, all));
     trap_is = so_far.trap_is ∙ (sym (or_none (first_trap 0 so_far.halts)) ∙ sym (trap_after 0 so_far.halts (Unpicked ∷ [])));
+    untrapped = so_far.untrapped;
     noted = λ j. so_far.noted j ∙ ⊎_elim
         (λ low. sym (index_before so_far.bursts [] [] j low))
         (λ high. index_beyond so_far.bursts [] j (omega (arith, high)) ∙ sym (none_more so_far.bursts j (omega (arith, high))))
@@ -527,6 +545,7 @@ module _ {X : Type 0} (share : Share) (marks : List Bool) (burst i k fired : ℕ
     noted = so_far.noted;
     fired_is = so_far.fired_is;
     trap_is = so_far.trap_is;
+    untrapped = so_far.untrapped;
     states = λ net opened that.
         let before = so_far.states net opened that in
         record {

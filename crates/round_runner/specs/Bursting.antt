@@ -19,7 +19,7 @@ use Rattle.round_runner.specs.declared.bursting.Bursts.{Bursts}
 use Rattle.round_runner.specs.declared.bursting.Lacking.{Lacking}
 use Rattle.round_runner.specs.declared.bursting.Trapped.{Trapped}
 use Rattle.net_model.specs.declared.firing.Look.TheVariants as look
-use Rattle.net_state.specs.Surveyed.{LacksFirst}
+use Rattle.net_state.specs.Surveyed.{AreUntrapped, LacksFirst}
 
 -- the line of a trap, if a cell trapped
 abbrev pub trap_line : Option Trapped → Option Line
@@ -71,6 +71,7 @@ pub record Bursted {X : Type 0} (share : Share) (marks : List Bool) (fired : ℕ
   pub noted : (i : ℕ) → journal_of (slice_get new.cells i) ≡ slice_index_or bursts i []
   pub fired_is : fired ≡ count_of bursts
   pub trap_is : trap_line trap ≡ first_trap 0 halts
+  pub untrapped : trap ≡ None → AreUntrapped new.cells
   pub states : (net : Network X) (opened : State X) → StandsSince net old opened opened
       → Fires net share marks opened bursts halts new
   pub same_actors : SameActors old.cells new.cells

@@ -1,29 +1,32 @@
 -- What a round does, by its answer, and what a run does.
 -- Trusted: part of what a promise means.
-use Rattle.std.specs.Prelude.{◌≡◌, ◌⊎◌, ℕ, ◌+◌, ◌<◌, true, false, List, [], ◌++◌, ℤ, length, drop, flat_map, slice_index_or, option_to_list, Option, None, Some}
-use Rattle.rvc_io.specs.Channels.{Channels}
+use Rattle.std.specs.Prelude.{◌≡◌, ◌⊎◌, ℕ, suc, ◌<◌, ◌==◌, true, false, List, [], ◌++◌, ℤ, length, drop, flat_map, slice_index_or, option_to_list, Option, None, Some}
+use Rattle.rvc_io.specs.Channels.{Appends, Channels}
 use Rattle.rvc_io.specs.Feeds.{Inputs}
-use Rattle.channel_writer.specs.Held.{HoldsFront, Writes}
+use Rattle.channel_writer.specs.Held.{AppendsFront, WritesOn}
 use Rattle.trace_text.specs.declared.line.Line.{Line}
 use Rattle.trace_text.specs.declared.line.Line.TheVariants.{Quiet, Trap as TrapLine, Stall, Budget}
 use Rattle.trace_text.specs.Text.{line_text}
+use Rattle.net_model.specs.declared.wiring.Counts.{Counts}
 use Rattle.net_model.specs.Network.{Network, kind_at}
 use Rattle.net_model.specs.State.{State, sent_to}
 use Rattle.net_model.specs.Cell.{Cell}
 use Rattle.net_model.specs.Counted.{IsCounted}
-use Rattle.net_model.specs.Paced.{AreRounds, Block, GoesOn, Widens, Ends, IsRound, Moment, Pace, count_of, lines_of}
+use Rattle.net_model.specs.Paced.{AreRounds, Block, Ends, GoesOn, IsRound, Moment, Pace, Widens, count_of, lines_of}
+use Rattle.net_model.specs.PacingLaws.{CanBegin}
 use Rattle.net_model.specs.PortFile.{all_encoded}
+use Rattle.net_model.specs.Trace.{played}
 use Rattle.round_runner.specs.declared.outcome.RoundEnd.{RoundEnd}
 use Rattle.round_runner.specs.declared.outcome.RoundEnd.TheVariants as round
 use Rattle.round_runner.specs.declared.outcome.RunEnd.{RunEnd}
 use Rattle.round_runner.specs.declared.outcome.RunEnd.TheVariants as end
-use Rattle.round_runner.specs.Running.{Running, StandsWith, arrived_to, moment_of, pace_of}
+use Rattle.round_runner.specs.Running.{Running, StandsWith, moment_of, pace_of}
 
 -- What is written.
 
--- the tokens that go out to network output p when all that had arrived at the first state has gone out
+-- the tokens that go out to network output p when all that had been sent at the first state has gone out
 abbrev pub gone_since : {X : Type 0} → Network X → ℕ → State X → List ℤ → List ℤ
-gone_since net p s tokens = drop (length (arrived_to p net.links s.flows)) tokens
+gone_since net p s tokens = drop (length (sent_to p net.links s.flows)) tokens
 
 abbrev pub out_bytes : {X : Type 0} → Network X → ℕ → State X → List ℤ → List ℕ
 out_bytes net p s tokens = all_encoded (kind_at net.outs p) (gone_since net p s tokens)
@@ -38,17 +41,13 @@ EachOut net run P s tokens = (p : ℕ) → slice_index_or run.writes p false ≡
 abbrev pub GetsSome : {C : Type 0} → Running C → Running C → Channels → Channels → ℕ → List ℕ
     → Type 0
 GetsSome run new old now channel text =
-    Writes (old.held channel) (run.pending channel) (now.held channel) (new.pending channel) text
+    WritesOn channel old now (run.pending channel) (new.pending channel) text
 
-abbrev pub GetsAll : {C : Type 0} → Running C → Running C → Channels → Channels → ℕ → List ℕ
-    → Type 0
-GetsAll run new old now channel text =
-    now.held channel ≡ old.held channel ++ (run.pending channel ++ text)
+abbrev pub GetsAll : {C : Type 0} → Running C → Channels → Channels → ℕ → List ℕ → Type 0
+GetsAll run old now channel text = Appends channel old now (run.pending channel ++ text)
 
-abbrev pub GetsFront : {C : Type 0} → Running C → Running C → Channels → Channels → ℕ → List ℕ
-    → Type 0
-GetsFront run new old now channel text =
-    HoldsFront (old.held channel) (now.held channel) (run.pending channel ++ text)
+abbrev pub GetsFront : {C : Type 0} → Running C → Channels → Channels → ℕ → List ℕ → Type 0
+GetsFront run old now channel text = AppendsFront channel old now (run.pending channel ++ text)
 
 abbrev pub text_of : List Line → List ℕ
 text_of lines = flat_map line_text lines
@@ -72,77 +71,80 @@ Answers (round.Grew link capacity) block = block.close ≡ Widens link.0 capacit
 Answers (round.End how) block = (line : Line) × (end_line how ≡ Some line)
     × (block.close ≡ Ends line)
 
--- the numbers go on with the lines
+-- The numbers go on with the lines: if they counted lines that led to the first state, they count these too now.
 abbrev pub CountsOn : {X : Type 0} → Network X → List (List ℕ) → State X → List Line → State X
-    → Running (Cell X) → Running (Cell X) → Type 0
-CountsOn {X} net inputs s lines last run new = (first : State X) (before : List Line)
-    → IsCounted net inputs first before s run.counts
-    → IsCounted net inputs first (before ++ lines) last new.counts
+    → Counts → Counts → Type 0
+CountsOn {X} net inputs s lines last counts new = (first : State X) (before : List Line)
+    → CanBegin net first → played net first before ≡ Some s
+    → IsCounted net inputs first before s counts
+    → IsCounted net inputs first (before ++ lines) last new
 
--- A round was made from this state, and the run goes on.
-pub record Made {X : Type 0} (net : Network X) (inputs : List (List ℕ)) (left : ℕ) (s : State X) (answer : RoundEnd) (run new : Running (Cell X)) (feeds : Inputs) (old now : Channels) : Type 0 where
+-- A round was made from this state, and the run goes on. What was sent to outputs goes out at once.
+pub record Made {X : Type 0} (net : Network X) (inputs : List (List ℕ)) (budget left : ℕ) (s : State X) (answer : RoundEnd) (run new : Running (Cell X)) (feeds : Inputs) (old now : Channels) : Type 0 where
   pub block : Block
   pub last : State X
-  pub is_round : IsRound net (pace_of run left) (moment_of run s left) block last
+  pub is_round : IsRound net (pace_of run budget) (moment_of run s left) block last
   pub answers : Answers answer block
   pub stands : StandsWith net inputs new feeds last
+  pub rounds : new.rounds ≡ suc run.rounds
+  pub idle : new.idle ≡ (count_of block.bursts == 0)
   pub trace : GetsSome run new old now 1 (text_of (lines_of block))
-  pub outputs : EachOut net run (GetsSome run new old now) s
-      (λ p. arrived_to p net.links last.flows)
-  pub counts : CountsOn net inputs s (lines_of block) last run new
+  pub outputs : EachOut net run (GetsSome run new old now) s (λ p. sent_to p net.links last.flows)
+  pub counts : CountsOn net inputs s (lines_of block) last run.counts new.counts
 
--- A round was made that ended the run; nothing is buffered any more.
-pub record Closed {X : Type 0} (net : Network X) (inputs : List (List ℕ)) (left : ℕ) (s : State X) (how : RunEnd) (run new : Running (Cell X)) (old now : Channels) : Type 0 where
+-- A round was made, which ended the run. Nothing stays buffered.
+pub record Closed {X : Type 0} (net : Network X) (inputs : List (List ℕ)) (budget left : ℕ) (s : State X) (how : RunEnd) (run new : Running (Cell X)) (old now : Channels) : Type 0 where
   pub block : Block
   pub last : State X
-  pub is_round : IsRound net (pace_of run left) (moment_of run s left) block last
+  pub is_round : IsRound net (pace_of run budget) (moment_of run s left) block last
   pub answers : Answers (round.End how) block
-  pub trace : GetsAll run new old now 1 (text_of (lines_of block))
-  pub outputs : EachOut net run (GetsAll run new old now) s (λ p. sent_to p net.links last.flows)
-  pub counts : CountsOn net inputs s (lines_of block) last run new
+  pub trace : GetsAll run old now 1 (text_of (lines_of block))
+  pub outputs : EachOut net run (GetsAll run old now) s (λ p. sent_to p net.links last.flows)
+  pub counts : CountsOn net inputs s (lines_of block) last run.counts new.counts
 
--- A feed couldn't be read: no line is written, and what was sent before goes out.
+-- A feed couldn't be read: no line is written, and nothing stays buffered.
 pub record CutOff {X : Type 0} (net : Network X) (s : State X) (run new : Running (Cell X)) (old now : Channels) : Type 0 where
-  pub trace : GetsAll run new old now 1 []
-  pub outputs : EachOut net run (GetsAll run new old now) s (λ p. sent_to p net.links s.flows)
+  pub trace : GetsAll run old now 1 []
+  pub outputs : EachOut net run (GetsAll run old now) s (λ p. sent_to p net.links s.flows)
+  pub counts : new.counts ≡ run.counts
 
--- A channel couldn't be written. Each got a prefix of its text for what was sent before, or for the round.
-pub record Breaks {X : Type 0} (net : Network X) (s last : State X) (lines : List Line) (run new : Running (Cell X)) (old now : Channels) : Type 0 where
-  pub trace : GetsFront run new old now 1 (text_of lines)
-  pub outputs : EachOut net run (GetsFront run new old now) s (λ p. sent_to p net.links last.flows)
+-- A channel couldn't be written. Each got a prefix of what was buffered and of its text for the round, if one was made.
+pub record Breaks {X : Type 0} (net : Network X) (s last : State X) (lines : List Line) (run : Running (Cell X)) (old now : Channels) : Type 0 where
+  pub trace : GetsFront run old now 1 (text_of lines)
+  pub outputs : EachOut net run (GetsFront run old now) s (λ p. sent_to p net.links last.flows)
 
-pub record BreaksRound {X : Type 0} (net : Network X) (left : ℕ) (s : State X) (run new : Running (Cell X)) (old now : Channels) : Type 0 where
+pub record BreaksRound {X : Type 0} (net : Network X) (budget left : ℕ) (s : State X) (run : Running (Cell X)) (old now : Channels) : Type 0 where
   pub block : Block
   pub last : State X
-  pub is_round : IsRound net (pace_of run left) (moment_of run s left) block last
-  pub breaks : Breaks net s last (lines_of block) run new old now
+  pub is_round : IsRound net (pace_of run budget) (moment_of run s left) block last
+  pub breaks : Breaks net s last (lines_of block) run old now
 
-abbrev pub BrokenOff : {X : Type 0} → Network X → ℕ → State X → Running (Cell X) → Running (Cell X)
+abbrev pub BrokenOff : {X : Type 0} → Network X → ℕ → ℕ → State X → Running (Cell X)
     → Channels → Channels → Type 0
-BrokenOff net left s run new old now =
-    Breaks net s s [] run new old now ⊎ BreaksRound net left s run new old now
+BrokenOff net budget left s run old now =
+    Breaks net s s [] run old now ⊎ BreaksRound net budget left s run old now
 
--- what a round leaves, by its answer
-abbrev pub Leaves : {X : Type 0} → Network X → List (List ℕ) → ℕ → State X → RoundEnd
+-- what a round leaves, by its answer; the budget is what a whole run may spend, if this round is one of it
+abbrev pub Leaves : {X : Type 0} → Network X → List (List ℕ) → ℕ → ℕ → State X → RoundEnd
     → Running (Cell X) → Running (Cell X) → Inputs → Channels → Channels → Type 0
-Leaves net inputs left s (round.Fired n) run new feeds old now =
-    Made net inputs left s (round.Fired n) run new feeds old now
-Leaves net inputs left s round.Idle run new feeds old now =
-    Made net inputs left s round.Idle run new feeds old now
-Leaves net inputs left s (round.Grew link capacity) run new feeds old now =
-    Made net inputs left s (round.Grew link capacity) run new feeds old now
-Leaves net inputs left s (round.End end.Quiet) run new feeds old now =
-    Closed net inputs left s end.Quiet run new old now
-Leaves net inputs left s (round.End (end.Trapped inst action trap)) run new feeds old now =
-    Closed net inputs left s (end.Trapped inst action trap) run new old now
-Leaves net inputs left s (round.End (end.Stalled inst action link)) run new feeds old now =
-    Closed net inputs left s (end.Stalled inst action link) run new old now
-Leaves net inputs left s (round.End end.Budget) run new feeds old now =
-    Closed net inputs left s end.Budget run new old now
-Leaves net inputs left s (round.End (end.ReadFault feed)) run new feeds old now =
+Leaves net inputs budget left s (round.Fired n) run new feeds old now =
+    Made net inputs budget left s (round.Fired n) run new feeds old now
+Leaves net inputs budget left s round.Idle run new feeds old now =
+    Made net inputs budget left s round.Idle run new feeds old now
+Leaves net inputs budget left s (round.Grew link capacity) run new feeds old now =
+    Made net inputs budget left s (round.Grew link capacity) run new feeds old now
+Leaves net inputs budget left s (round.End end.Quiet) run new feeds old now =
+    Closed net inputs budget left s end.Quiet run new old now
+Leaves net inputs budget left s (round.End (end.Trapped inst action trap)) run new feeds old now =
+    Closed net inputs budget left s (end.Trapped inst action trap) run new old now
+Leaves net inputs budget left s (round.End (end.Stalled inst action link)) run new feeds old now =
+    Closed net inputs budget left s (end.Stalled inst action link) run new old now
+Leaves net inputs budget left s (round.End end.Budget) run new feeds old now =
+    Closed net inputs budget left s end.Budget run new old now
+Leaves net inputs budget left s (round.End (end.ReadFault feed)) run new feeds old now =
     CutOff net s run new old now
-Leaves net inputs left s (round.End (end.WriteFault channel)) run new feeds old now =
-    BrokenOff net left s run new old now
+Leaves net inputs budget left s (round.End (end.WriteFault channel)) run new feeds old now =
+    BrokenOff net budget left s run old now
 
 -- A run.
 
@@ -157,9 +159,9 @@ AreBegunBy {X} net pace at blocks (Some final) last =
 
 -- A run from this state wrote these lines whole, or without its end.
 pub record RunWrote {X : Type 0} (net : Network X) (inputs : List (List ℕ)) (s last : State X) (lines : List Line) (run new : Running (Cell X)) (old now : Channels) : Type 0 where
-  pub trace : GetsAll run new old now 1 (text_of lines)
-  pub outputs : EachOut net run (GetsAll run new old now) s (λ p. sent_to p net.links last.flows)
-  pub counts : CountsOn net inputs s lines last run new
+  pub trace : GetsAll run old now 1 (text_of lines)
+  pub outputs : EachOut net run (GetsAll run old now) s (λ p. sent_to p net.links last.flows)
+  pub counts : CountsOn net inputs s lines last run.counts new.counts
 
 abbrev pub all_lines : List Block → List Line
 all_lines blocks = flat_map lines_of blocks
@@ -181,12 +183,12 @@ pub record EndedEarly {X : Type 0} (net : Network X) (inputs : List (List ℕ)) 
   pub wrote : RunWrote net inputs s last (all_lines blocks) run new old now
 
 -- a channel couldn't be written after these rounds, or in the last of them
-pub record EndedBroken {X : Type 0} (net : Network X) (budget : ℕ) (s : State X) (run new : Running (Cell X)) (old now : Channels) : Type 0 where
+pub record EndedBroken {X : Type 0} (net : Network X) (budget : ℕ) (s : State X) (run : Running (Cell X)) (old now : Channels) : Type 0 where
   pub blocks : List Block
   pub final : Option Block
   pub last : State X
   pub begun : AreBegunBy net (pace_of run budget) (moment_of run s budget) blocks final last
-  pub breaks : Breaks net s last (all_lines (blocks ++ option_to_list final)) run new old now
+  pub breaks : Breaks net s last (all_lines (blocks ++ option_to_list final)) run old now
 
 -- what a run leaves, by its end
 abbrev pub RunLeaves : {X : Type 0} → Network X → List (List ℕ) → ℕ → State X → RunEnd
@@ -202,4 +204,4 @@ RunLeaves net inputs budget s end.Budget run new old now =
 RunLeaves net inputs budget s (end.ReadFault feed) run new old now =
     EndedEarly net inputs budget s run new old now
 RunLeaves net inputs budget s (end.WriteFault channel) run new old now =
-    EndedBroken net budget s run new old now
+    EndedBroken net budget s run old now

@@ -1,20 +1,22 @@
 -- A runner between two rounds, as contracts see it, and the state of the network at which it stands.
 -- Trusted: part of what a promise means.
-use Rattle.std.specs.Prelude.{◌≡◌, ℕ, suc, Bool, true, false, List, [], ◌∷◌, ℤ, map, take, slice_get, slice_index_or, Option, None, Some, if◌then◌else◌}
+use Rattle.std.specs.Prelude.{◌≡◌, ℕ, suc, Bool, true, false, List, [], ◌∷◌, map, take, slice_get, slice_index_or, Option, None, Some, if◌then◌else◌}
 use Rattle.rvc_base.specs.declared.scalar.Scalar.{Scalar}
 use Rattle.rvc_base.specs.declared.round_kind.RoundKind.{RoundKind}
 use Rattle.rvc_io.specs.Feeds.{Inputs}
-use Rattle.port_files.specs.Coming.{EndIsTrue, Reading}
+use Rattle.port_files.specs.Coming.{EndIsTrue, Reading, coming_on}
 use Rattle.net_model.specs.declared.wiring.Counts.{Counts}
 use Rattle.net_model.specs.declared.wiring.End.{End}
 use Rattle.net_model.specs.declared.wiring.End.TheVariants.{Leaf as AtLeaf, Net as AtNet}
 use Rattle.net_model.specs.declared.wiring.Link.{Link}
-use Rattle.net_model.specs.Network.{Network, is_input, is_net_port}
-use Rattle.net_model.specs.State.{Flow, State}
+use Rattle.net_model.specs.Network.{Network, is_input}
+use Rattle.net_model.specs.State.{State}
 use Rattle.net_model.specs.Cell.{Cell}
 use Rattle.net_model.specs.Counted.{rest_at}
+use Rattle.net_model.specs.Laws.{AreLawful}
 use Rattle.net_model.specs.Paced.{Moment, Pace}
 use Rattle.net_model.specs.PortFile.{rest_of}
+use Rattle.net_model.specs.Wired.{IsWired}
 use Rattle.net_state.specs.Filling.{IsFed, inflow}
 use Rattle.net_state.specs.Held.{Held}
 use Rattle.net_state.specs.Standing.{IsNetOf, StandsIn, unarrived}
@@ -42,11 +44,14 @@ pub record Running (C : Type 0) : Type 0 where
   -- the end, once it has come
   pub ended : Option RunEnd
 
--- the network that is run; its paths, its classes and the names of its ports are any
+-- the network that is run: it is wired, and its actors are lawful; its paths, its classes and the names of its ports
+-- are any
 pub record IsRunOf {X : Type 0} (net : Network X) (run : Running (Cell X)) : Type 0 where
   pub is_of : IsNetOf net run.held.cells run.held.links
   pub ins : map (λ port. port.kind) net.ins ≡ run.ins
   pub outs : map (λ port. port.kind) net.outs ≡ run.outs
+  pub wired : IsWired net
+  pub lawful : AreLawful net
 
 -- by what its rounds are paced, with so many firings left
 abbrev pub pace_of : {C : Type 0} → Running C → ℕ → Pace
@@ -79,36 +84,33 @@ abbrev pub HasRest : Scalar → ℕ → Option (List ℕ) → Type 0
 HasRest kind rest None = ⊥
 HasRest kind rest (Some bytes) = rest_of kind bytes ≡ rest
 
--- what is to come on a link is what is to come on its feed; without a feed nothing is
-abbrev pub ComesBy : {X : Type 0} → Network X → List (List ℕ) → State X → ℕ → Link
-    → Option (Option Reading) → Inputs → Type 0
-ComesBy net inputs s l link None feeds = ⊥
-ComesBy net inputs s l link (Some None) feeds = unarrived (slice_get s.flows l) ≡ []
-ComesBy net inputs s l link (Some (Some reading)) feeds =
-    IsFed s l (Some link) (inflow reading feeds (feed_of net.links l))
-    × HasRest reading.kind (rest_at net.ins inputs link.from)
-    (inflow reading feeds (feed_of net.links l)).bytes
+-- What is to come on link l is what is to come on this feed, at whose end so many bytes are no token; without a
+-- feed nothing is.
+abbrev pub ComesNow : {X : Type 0} → State X → ℕ → Link → ℕ → ℕ → Option Reading → Inputs → Type 0
+ComesNow s l link feed rest None feeds = (unarrived (slice_get s.flows l) ≡ []) × (rest ≡ 0)
+ComesNow s l link feed rest (Some reading) feeds = IsFed s l (Some link) (inflow reading feeds feed)
+    × HasRest reading.kind rest (coming_on reading.pulled feeds feed)
 
-abbrev pub AreFedBy : {X : Type 0} → Network X → List (List ℕ) → State X → Running (Cell X) → Inputs
+-- the same of a link of which it isn't known whether there is a place for its reader
+abbrev pub ComesBy : {X : Type 0} → State X → ℕ → Link → ℕ → ℕ → Option (Option Reading) → Inputs
     → Type 0
-AreFedBy net inputs s run feeds = (l : ℕ) (link : Link) → slice_get net.links l ≡ Some link
-    → is_input link ≡ true → ComesBy net inputs s l link (slice_get run.readings l) feeds
+ComesBy s l link feed rest None feeds = ⊥
+ComesBy s l link feed rest (Some reading) feeds = ComesNow s l link feed rest reading feeds
+
+-- the same of each input link, over the bytes of the files from which the run began
+abbrev pub AreFedBy : {X : Type 0} → Network X → List (List ℕ) → State X → List (Option Reading)
+    → Inputs → Type 0
+AreFedBy net inputs s readings feeds = (l : ℕ) (link : Link) → slice_get net.links l ≡ Some link
+    → is_input link ≡ true
+    → ComesBy s l link (feed_of net.links l) (rest_at net.ins inputs link.from)
+    (slice_get readings l) feeds
 
 -- The state stands in the cells, and what is to come from outside is what its feeds have. `inputs` are the bytes of
 -- the files from which the run began.
 pub record StandsWith {X : Type 0} (net : Network X) (inputs : List (List ℕ)) (run : Running (Cell X)) (feeds : Inputs) (s : State X) : Type 0 where
   pub is_run_of : IsRunOf net run
   pub stands : StandsIn net run.held s
-  pub fed : AreFedBy net inputs s run feeds
-
--- Outputs.
-
--- the tokens that arrived at network output p
-abbrev pub arrived_to : ℕ → List Link → List Flow → List ℤ
-arrived_to p [] flows = []
-arrived_to p (link ∷ links) [] = []
-arrived_to p (link ∷ links) (flow ∷ flows) =
-    if is_net_port p link.to then take flow.arrived flow.sent else arrived_to p links flows
+  pub fed : AreFedBy net inputs s run.readings feeds
 
 -- What a call asks of the outside.
 

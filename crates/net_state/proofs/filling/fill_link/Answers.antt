@@ -22,6 +22,7 @@ returns g c = rw c.in-Leaf.is (record {
   within = c.fill_port.ensures.within;
   failed = c.fill_port.ensures.failed;
   kind = c.fill_port.ensures.kind;
+  same_rest = c.fill_port.ensures.same_rest;
   still_same_feed = c.fill_port.ensures.still_same_feed;
   elsewhere = c.fill_port.ensures.elsewhere;
 })

@@ -6,7 +6,7 @@ use Rattle.rvc_base.specs.Width.{num_width}
 use Rattle.port_files.specs.Coming.{coming_on}
 use Rattle.net_model.specs.Ready.{tokens_of}
 use Rattle.net_state.specs.Moving.{EachGains, only_to}
-use Rattle.net_state.proofs.Feeding.{ends_as, held_most, input_of, nearer, one_more, pulls_nothing, pulls_then, risen_after, takes_same, taking_more, taking_starts}
+use Rattle.net_state.proofs.Feeding.{ends_as, held_most, input_of, nearer, one_more, pulls_nothing, pulls_then, rest_same, risen_after, takes_same, taking_more, taking_starts}
 use Rattle.net_state.proofs.filling.fill_port.Goals as goal
 
 pub held_at-requires-clause-input : goal.held_at-requires-clause-input
@@ -69,6 +69,10 @@ returns-in-End g c = record {
   within = c.loop-tokens.invariant.0.room;
   failed = tt;
   kind = c.in-End.ensures.kind ∙ c.loop-tokens.invariant.0.same_kind;
+  same_rest = rest_same c.args.tokens.now.kind (coming_on c.args.tokens.now.pulled (g.F.Feeds.feeds c.args.feeds.now) c.args.feed)
+      (coming_on c.loop-tokens.tokens.pulled (g.F.Feeds.feeds c.loop-tokens.feeds) c.args.feed)
+      (coming_on c.next.new.self.pulled (g.F.Feeds.feeds c.next.new.feeds) c.args.feed)
+      c.loop-tokens.invariant.0.rest c.in-End.ensures.end_coming;
   still_same_feed = c.in-End.ensures.still_same_feed;
   elsewhere = pulls_then c.args.feed (g.F.Feeds.feeds c.args.feeds.now) (g.F.Feeds.feeds c.loop-tokens.feeds) (g.F.Feeds.feeds c.next.new.feeds) c.loop-tokens.invariant.2 c.in-End.ensures.elsewhere;
 }
@@ -89,6 +93,10 @@ returns-in-Failed g c = record {
   failed = risen_after (g.F.Feeds.feeds c.args.feeds.now).faults (g.F.Feeds.feeds c.loop-tokens.feeds).faults (g.F.Feeds.feeds c.next.new.feeds).faults
       c.loop-tokens.invariant.2.faults_stay c.in-Failed.ensures.failed;
   kind = c.in-Failed.ensures.kind ∙ c.loop-tokens.invariant.0.same_kind;
+  same_rest = rest_same c.args.tokens.now.kind (coming_on c.args.tokens.now.pulled (g.F.Feeds.feeds c.args.feeds.now) c.args.feed)
+      (coming_on c.loop-tokens.tokens.pulled (g.F.Feeds.feeds c.loop-tokens.feeds) c.args.feed)
+      (coming_on c.next.new.self.pulled (g.F.Feeds.feeds c.next.new.feeds) c.args.feed)
+      c.loop-tokens.invariant.0.rest c.in-Failed.ensures.failed_coming;
   still_same_feed = c.in-Failed.ensures.still_same_feed;
   elsewhere = pulls_then c.args.feed (g.F.Feeds.feeds c.args.feeds.now) (g.F.Feeds.feeds c.loop-tokens.feeds) (g.F.Feeds.feeds c.next.new.feeds) c.loop-tokens.invariant.2 c.in-Failed.ensures.elsewhere;
 }
@@ -102,6 +110,7 @@ returns g c =
       within = c.loop-tokens.invariant.0.room;
       failed = tt;
       kind = c.loop-tokens.invariant.0.same_kind;
+      same_rest = c.loop-tokens.invariant.0.rest;
       still_same_feed = c.loop-tokens.invariant.1;
       elsewhere = c.loop-tokens.invariant.2;
     }

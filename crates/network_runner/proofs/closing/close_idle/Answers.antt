@@ -1,5 +1,5 @@
-use Rattle.std.proofs.Common.{length, subst, arith}
-use Rattle.std.specs.Prelude.{None}
+use Rattle.std.proofs.Common.{◌≡◌, ℕ, zero, suc, ◌*◌, ◌<◌, ◌≤◌, List, [], ◌∷◌, min, length, subst, arith}
+use Rattle.std.specs.Prelude.{None, slice_index_or}
 use Rattle.net_state.specs.Held.{seen}
 use Rattle.net_state.specs.Surveyed.{LacksFirst}
 use Rattle.round_runner.specs.Bursting.{Sees}
@@ -26,7 +26,7 @@ returns-then-capacity-grow-clause-closes g c = λ net s stands sees.
     (omega (arith, c.if-capacity-grow.true, c.capacity.ensures)))
 
 pub grow-capacity-requires-clause-queues : goal.grow-capacity-requires-clause-queues
-grow-capacity-requires-clause-queues g c = c.requires.queues c.in-Some.field-0.inst.0 c.in-Some.field-0.action.0 c.in-Some-lacking.link.0 c.in-Some-lacking.ensures.some.lacks
+grow-capacity-requires-clause-queues g c = (c.requires.queues c.in-Some.field-0.inst.0 c.in-Some.field-0.action.0 c.in-Some-lacking.link.0 c.in-Some-lacking.ensures.some.lacks).0
 
 pub returns-clause-closes : goal.returns-clause-closes
 returns-clause-closes g c = λ net s stands sees.
@@ -37,3 +37,19 @@ returns-clause-closes g c = λ net s stands sees.
     (grows net held c.args.grow s stands c.in-Some.field-0.inst.0 c.in-Some.field-0.action.0 first c.in-Some-lacking.ensures.as_ends c.in-Some-lacking.link.0 c.in-Some-lacking.ensures.some
     c.grow-capacity.result (omega (arith, c.if-capacity-grow.false, c.capacity.ensures)) c.grow-capacity.ensures.doubled)
     c.grow-capacity.ensures.states
+
+pub returns-clause-grows : goal.returns-clause-grows
+returns-clause-grows g c =
+    let held = seen g.A.Firing.cell c.args.net.now in
+    let old = slice_index_or c.args.net.now.capacities c.in-Some-lacking.link.0 0 in
+    let some : 0 < old = (c.requires.queues c.in-Some.field-0.inst.0 c.in-Some.field-0.action.0 c.in-Some-lacking.link.0 c.in-Some-lacking.ensures.some.lacks).1 in
+    let below : old < c.args.grow = omega (arith, c.if-capacity-grow.false, c.capacity.ensures) in
+    let is : c.grow-capacity.result ≡ min (2 * old) c.args.grow = c.grow-capacity.ensures.doubled in
+    let more : old < c.grow-capacity.result = omega (arith, some, below, is) in
+    let most : c.grow-capacity.result ≤ c.args.grow = omega (arith, is) in
+    (some_low c.args.net.now.capacities c.in-Some-lacking.link.0 some, more, most, c.grow-capacity.ensures.capacities)
+  where
+    some_low : (xs : List ℕ) (l : ℕ) → 0 < slice_index_or xs l 0 → l < length xs
+    some_low [] l some = absurd (omega (arith, some))
+    some_low (x ∷ xs) zero some = omega arith
+    some_low (x ∷ xs) (suc l) some = (let rest : l < length xs = some_low xs l some in omega (arith, rest))

@@ -1,10 +1,10 @@
 use Rattle.std.proofs.Common.{◌≡◌, ℕ, subst, sym}
 use Rattle.std.specs.Prelude.{Result, Ok, Err, IfOk, None, Some, slice_get}
 use Rattle.rvc_io.specs.Feeds.{Inputs}
-use Rattle.port_files.specs.Coming.{Reading}
+use Rattle.port_files.specs.Coming.{Reading, coming_on}
 use Rattle.net_model.specs.Cell.{Cell}
 use Rattle.net_state.specs.declared.filling.Filled.{Filled}
-use Rattle.net_state.specs.Filling.{AreArrivals, Fills, IsFull, IsInputLink, inflow}
+use Rattle.net_state.specs.Filling.{AreArrivals, Fills, IsFull, IsInputLink, SameRest, inflow}
 use Rattle.net_state.specs.Held.{Held, seen}
 use Rattle.net_state.specs.Working.{IsAtRest}
 use Rattle.network_runner.specs.Filling.{FillsOne}
@@ -25,9 +25,11 @@ answered : {X E : Type 0} (l feed : ℕ) (old new : Held (Cell X)) (before after
     → IfOk result (λ filled. IsFull l filled.rest new (inflow after fn feed))
     → IfOk result (λ filled. AreArrivals l filled.tokens old (inflow before fo feed))
     → (IsAtRest old → IsAtRest new) → new.links ≡ old.links → new.waited ≡ old.waited
+    → after.kind ≡ before.kind → SameRest before.kind (coming_on before.pulled fo feed) (coming_on after.pulled fn feed)
     → IfOk result (λ filled. FillsOne l feed old new (Some before) (Some after) fo fn filled)
-answered l feed old new before after fo fn (Ok filled) is_in fills full arrive rests links waited = one_fed l feed old new before after fo fn filled is_in fills full arrive rests links waited
-answered l feed old new before after fo fn (Err e) is_in fills full arrive rests links waited = tt
+answered l feed old new before after fo fn (Ok filled) is_in fills full arrive rests links waited kind_is same_rest =
+    one_fed l feed old new before after fo fn filled is_in fills full arrive rests links waited kind_is same_rest
+answered l feed old new before after fo fn (Err e) is_in fills full arrive rests links waited kind_is same_rest = tt
 
 pub returns-clause-fills : goal.returns-clause-fills
 returns-clause-fills g c =
@@ -38,4 +40,4 @@ returns-clause-fills g c =
     let input : IsInputLink (slice_get c.args.net.now.links c.args.link.0) = rw c.in-Some.is at c.requires.input in
     subst (λ r. IfOk c.fill.result (λ filled. FillsOne c.args.link.0 c.args.feed old new r (Some c.fill.new.tokens) fo fn filled)) (sym c.in-Some.is)
     (answered c.args.link.0 c.args.feed old new c.in-Some.tokens c.fill.new.tokens fo fn c.fill.result input
-    c.fill.ensures.fills c.fill.ensures.filled c.fill.ensures.arrivals c.fill.ensures.rests c.fill.ensures.links c.fill.ensures.waited)
+    c.fill.ensures.fills c.fill.ensures.filled c.fill.ensures.arrivals c.fill.ensures.rests c.fill.ensures.links c.fill.ensures.waited c.fill.ensures.kind c.fill.ensures.same_rest)

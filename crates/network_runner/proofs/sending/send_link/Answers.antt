@@ -11,7 +11,7 @@ use Rattle.round_runner.specs.Sending.{stored_bytes}
 use Rattle.network_runner.specs.declared.sending.Outlet.{Outlet}
 use Rattle.network_runner.specs.Sending.{HasOutlet, OutletsFit, buffered}
 use Rattle.network_runner.proofs.Filling.{at_place}
-use Rattle.network_runner.proofs.Sent.{at_net, none_to_leaf, one_broken, one_sent}
+use Rattle.network_runner.proofs.Sent.{at_net, none_to_leaf, on_err, one_broken, one_sent, only_there}
 use Rattle.network_runner.proofs.sending.send_link.Goals as goal
 
 index_any : (xs : List (List ℕ)) (k : ℕ) (d : List ℕ) → k < length xs → slice_index_or xs k d ≡ buffered xs k
@@ -88,3 +88,35 @@ returns-in-Err-clause-fronts g c =
     (subst (λ o. AppendsFront (2 + port) old new (c.index-writers-p.result ++ stored_bytes outlet.kind (carried_on cells o))) c.requires.there
     (subst (λ w. AppendsFront (2 + port) old new (w ++ stored_bytes outlet.kind (carried_on cells (slice_get c.args.net.now.links c.args.l.0)))) (sym c.index-writers-p.is) c.in-Err.ensures.front)) in
     one_broken outlets cells c.args.link.now port c.in-Net.is outlet (at_place outlets port d outlet (omega (arith, low)) refl) old new c.args.writers.now low_writer c.in-Err.ensures.elsewhere front
+
+pub returns-in-Ok-clause-only : goal.returns-in-Ok-clause-only
+returns-in-Ok-clause-only g c =
+    let outlets = c.args.outlets.now in
+    let port = c.in-Net.port in
+    let d : Outlet = record { kind = Truth; is_open = false } in
+    let outlet : Outlet = slice_index_or outlets port d in
+    let old = g.D.Drains.channels c.args.drains.now in
+    let low : suc port ≤ length outlets = has_outlet c.args.net.now.links outlets old c.args.l.0 c.args.link.now port c.requires.outlets c.requires.there c.in-Net.is in
+    only_there outlets (map g.A.Firing.cell c.args.net.now.cells) c.args.link.now port c.in-Net.is outlet (at_place outlets port d outlet (omega (arith, low)) refl) old (g.D.Drains.channels c.send_along.new.drains) c.args.writers.now
+    (omega (arith, low, c.requires.as_many)) c.in-Ok.ensures.elsewhere c.if-not-outlets-p.false
+
+pub returns-in-Err-clause-only : goal.returns-in-Err-clause-only
+returns-in-Err-clause-only g c =
+    let outlets = c.args.outlets.now in
+    let port = c.in-Net.port in
+    let d : Outlet = record { kind = Truth; is_open = false } in
+    let outlet : Outlet = slice_index_or outlets port d in
+    let old = g.D.Drains.channels c.args.drains.now in
+    let low : suc port ≤ length outlets = has_outlet c.args.net.now.links outlets old c.args.l.0 c.args.link.now port c.requires.outlets c.requires.there c.in-Net.is in
+    only_there outlets (map g.A.Firing.cell c.args.net.now.cells) c.args.link.now port c.in-Net.is outlet (at_place outlets port d outlet (omega (arith, low)) refl) old (g.D.Drains.channels c.send_along.new.drains) c.args.writers.now
+    (omega (arith, low, c.requires.as_many)) c.in-Err.ensures.elsewhere c.if-not-outlets-p.false
+
+pub returns-in-Err-clause-channel : goal.returns-in-Err-clause-channel
+returns-in-Err-clause-channel g c =
+    let outlets = c.args.outlets.now in
+    let port = c.in-Net.port in
+    let d : Outlet = record { kind = Truth; is_open = false } in
+    let outlet : Outlet = slice_index_or outlets port d in
+    let old = g.D.Drains.channels c.args.drains.now in
+    let low : suc port ≤ length outlets = has_outlet c.args.net.now.links outlets old c.args.l.0 c.args.link.now port c.requires.outlets c.requires.there c.in-Net.is in
+    (port, outlet, at_place outlets port d outlet (omega (arith, low)) refl, c.if-not-outlets-p.false, omega arith)

@@ -109,6 +109,7 @@ returns g c =
       waited = ap (λ h. h.waited) c.self.view_is;
       failed = c.fill_link.ensures.failed;
       kind = c.fill_link.ensures.kind;
+      same_rest = c.fill_link.ensures.same_rest;
       still_same_feed = c.fill_link.ensures.still_same_feed;
       elsewhere = c.fill_link.ensures.elsewhere;
     })

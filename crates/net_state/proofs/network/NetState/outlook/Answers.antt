@@ -16,4 +16,4 @@ returns-in-Lacks-clause-outlook g c net s stands wired fed =
     stalls_here net s (length c.args.self.now.cells)
     (λ j high. leaf_beyond net (map g.A.Firing.cell c.args.self.now.cells) c.args.self.now.links stands.is_of j (omega (arith, few, high)))
     (c.in-Lacks.ensures.settled net s stands) c.in-Lacks.inst.0 c.in-Lacks.action.0 (c.in-Lacks.ensures.tells net s stands wired fed)
-    c.stalled_at.result (c.stalled_at.ensures net s (c.in-Lacks.ensures.still.stays net s stands))
+    c.stalled_at.result (c.stalled_at.ensures.stalls net s (c.in-Lacks.ensures.still.stays net s stands))
