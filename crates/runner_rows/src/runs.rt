@@ -354,10 +354,17 @@ const FAULTS: &[(&[u64], &[u64], u32, RunEnd, &str, &[u8])] = &[
     (&[2], &[], 1, RunEnd::ReadFault { feed: 1 }, "", &[]),
     (&[3], &[], 1, RunEnd::ReadFault { feed: 1 }, "", &[]),
     (&[3], &[], 3, RunEnd::ReadFault { feed: 1 }, "", &[]),
-    (&[], &[3], 65_536, RunEnd::WriteFault { channel: 1 }, "", &[]),
-    (&[], &[4], 65_536, RunEnd::WriteFault { channel: 2 }, "", &[]),
-    (&[], &[4], 1, RunEnd::WriteFault { channel: 1 }, "r", &[]),
-    (&[], &[13], 3, RunEnd::WriteFault { channel: 2 }, "", &[]),
+    (&[], &[3], 65_536, RunEnd::WriteFault { channel: 2 }, "", &[]),
+    (&[], &[4], 65_536, RunEnd::WriteFault { channel: 1 }, "", &[1, 2, 0]),
+    (&[], &[4], 1, RunEnd::WriteFault { channel: 2 }, "", &[1]),
+    (
+        &[],
+        &[11],
+        3,
+        RunEnd::WriteFault { channel: 1 },
+        "r\nf 0 0\nf 0 0\nf 0 0\nr",
+        &[1, 2, 0],
+    ),
 ];
 
 #[test]
