@@ -18,4 +18,6 @@ pub mod Empty
 pub mod Assembled
 pub mod Loops
 pub mod Held
+pub mod Going
+pub mod Fitting
 pub mod Parted

@@ -1,6 +1,6 @@
 -- What a runner keeps between its calls.
 -- Not trusted: no promise is read with it.
-use Rattle.std.specs.Prelude.{◌≡◌, ℕ, ◌+◌, ◌-◌, ◌*◌, ◌≤◌, ◌<◌, Bool, true, false, List, [], ◌∷◌, length, map, slice_get, slice_index_or, Option, None, Some}
+use Rattle.std.specs.Prelude.{◌≡◌, ℕ, suc, ◌+◌, ◌-◌, ◌*◌, ◌≤◌, ◌<◌, Bool, true, false, List, [], ◌∷◌, length, map, slice_get, slice_index_or, Option, None, Some}
 use Rattle.rvc_base.specs.declared.round_kind.RoundKind.{RoundKind}
 use Rattle.rvc_base.specs.Storing.{IsSize}
 use Rattle.port_files.specs.Coming.{Reading}
@@ -68,6 +68,9 @@ pub record HasParts {C : Type 0} (run : Running C) (links : List Link) (outlets 
   pub readers : (l : ℕ) (link : Link) (reader : Option Reading) → slice_get links l ≡ Some link
       → slice_get run.readings l ≡ Some reader → ReaderFits (has_feed run.reads link.from) reader
   pub bursts : (1 ≤ run.burst) × (run.burst ≤ 65536)
+  pub arrived_for_each : length run.counts.arrived.items ≡ length links
+  pub rest_for_each : length run.counts.rests.items ≡ length links
+  pub sent_for_each : length run.counts.sent.items ≡ length outlets
   pub few_grown : run.grow ≤ max_grow
 
 -- how much links of these capacities may still grow, together
