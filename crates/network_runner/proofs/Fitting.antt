@@ -76,12 +76,12 @@ there_alike [] old l reader same at = cc
 there_alike (first ∷ now) [] l reader same at = cc
 there_alike (first ∷ now) (other ∷ old) zero reader same at = (other, refl, ap is_some (sym (some_is first reader at)) ∙ head_is (is_some first) (is_some other) (map is_some now) (map is_some old) same)
   where
-    head_is : (a b : Bool) (as bs : List Bool) → a ∷ as ≡ b ∷ bs → a ≡ b
-    head_is a b as bs e = cc
+    head_is : (a b : Bool) (ones others : List Bool) → a ∷ ones ≡ b ∷ others → a ≡ b
+    head_is a b ones others e = cc
 there_alike (first ∷ now) (other ∷ old) (suc l) reader same at = there_alike now old l reader (tail_is (is_some first) (is_some other) (map is_some now) (map is_some old) same) at
   where
-    tail_is : (a b : Bool) (as bs : List Bool) → a ∷ as ≡ b ∷ bs → as ≡ bs
-    tail_is a b as bs e = cc
+    tail_is : (a b : Bool) (ones others : List Bool) → a ∷ ones ≡ b ∷ others → ones ≡ others
+    tail_is a b ones others e = cc
 
 fits_alike : (b : Bool) (was reader : Option Reading) → is_some reader ≡ is_some was → ReaderFits b was → ReaderFits b reader
 fits_alike true None None same fits = fits

@@ -1,6 +1,6 @@
 -- A run that goes on, behind a delivery and behind the firings of a round.
 use Rattle.std.proofs.Common.{◌≡◌, ◌⊎◌, ⊎_elim, inl, inr, ℕ, zero, suc, ◌+◌, ◌-◌, ◌*◌, ◌<◌, ◌≤◌, Bool, true, false, List, [], ◌∷◌, length, refl, sym, ap, subst, ◌∙◌, arith}
-use Rattle.std.specs.Prelude.{Option, None, Some, slice_get, slice_set, slice_index_or, ◌==◌}
+use Rattle.std.specs.Prelude.{Option, None, Some, IfNone, slice_get, slice_set, slice_index_or, ◌==◌}
 use Rattle.net_model.specs.declared.wiring.End.{End}
 use Rattle.net_model.specs.declared.wiring.End.TheVariants.{Leaf as AtLeaf, Net as AtNet}
 use Rattle.net_model.specs.declared.wiring.Link.{Link}
@@ -10,15 +10,18 @@ use Rattle.net_state.specs.Moving.{SameActors, SameMarks}
 use Rattle.net_state.specs.Surveyed.{AreUntrapped}
 use Rattle.net_state.specs.Working.{gives_of}
 use Rattle.net_state.proofs.Gaining.{there_too}
-use Rattle.net_state.proofs.Kept.{same_inbox, same_outbox, same_reader, same_writer}
+use Rattle.net_state.proofs.Kept.{same_inbox, same_outbox, same_reader, same_then, same_writer}
 use Rattle.round_runner.specs.declared.outcome.RoundEnd.{RoundEnd}
 use Rattle.round_runner.specs.declared.outcome.RoundEnd.TheVariants as round
 use Rattle.round_runner.specs.declared.outcome.RunEnd.{RunEnd}
 use Rattle.round_runner.specs.Running.{Running}
-use Rattle.network_runner.specs.Asking.{end_of}
+use Rattle.network_runner.specs.Asking.{Advances, IsSameRun, end_of, growth_left, one_if}
 use Rattle.network_runner.specs.Closing.{GrowsBy}
-use Rattle.network_runner.specs.Keeping.{GivesWithin, GoesOn, HaveJournals, IsOpenLink, growth_left, most_growth, one_if}
+use Rattle.network_runner.specs.Keeping.{GivesWithin, GoesOn, HaveJournals, HasParts, IsOpenLink, most_growth}
 use Rattle.network_runner.specs.Rounding.{CountsTo, IfGoing}
+use Rattle.network_runner.specs.declared.sending.Outlet.{Outlet}
+use Rattle.network_runner.specs.Counting.{EndsAt, IsToPort}
+use Rattle.network_runner.specs.Sending.{HasOutlet}
 use Rattle.network_runner.proofs.Growable.{gives_same}
 use Rattle.network_runner.proofs.Held.{growth_falls}
 
@@ -184,4 +187,41 @@ going_fired {X} old new marks asked instances marks_now asked_now instances_now 
       let idle_is : one_if new.idle ≡ one_if (fired == 0) = ap one_if idle in
       omega (arith, was, falls, same, idle_is, rounds, firings);
   few_firings = few;
+}
+
+if_none : {A : Type 0} (o : Option A) (P : Type 0) → (o ≡ None → P) → IfNone o P
+if_none None P f = f refl
+if_none (Some x) P f = tt
+
+-- firings bring the run nearer to its end
+pub advances_fired : {C : Type 0} (old new : Running C) (answer : RoundEnd) (fired : ℕ) → GrowsBy answer old.grow old.held.capacities new.held.capacities → new.grow ≡ old.grow → CountsTo answer fired
+    → (answer ≡ round.Idle → old.idle ≡ false) → new.idle ≡ (fired == 0) → new.counts.firings ≡ old.counts.firings + fired → IfNone (end_of answer) (Advances old new)
+advances_fired old new answer fired grows grow counts not_idle idle firings = if_none (end_of answer) (Advances old new) (λ going.
+    let falls : 1 + 2 * growth_left old.grow new.held.capacities + one_if old.idle ≤ 2 * fired + 2 * growth_left old.grow old.held.capacities + one_if (fired == 0) =
+    potential answer old.grow fired old.held.capacities new.held.capacities old.idle grows counts not_idle going in
+    let same : growth_left new.grow new.held.capacities ≡ growth_left old.grow new.held.capacities = ap (λ g. growth_left g new.held.capacities) grow in
+    let idle_is : one_if new.idle ≡ one_if (fired == 0) = ap one_if idle in
+    omega (arith, falls, same, idle_is, firings))
+
+-- a link to an output ends at one of them
+pub to_ports : {C : Type 0} (run : Running C) (links : List Link) (outlets : List Outlet) (came n cells count : ℕ) → HasParts run links outlets came n cells → count ≡ length outlets → IsToPort links count
+to_ports run links outlets came n cells count parts same l link at = by_end link.to (parts.led_to l link at)
+  where
+    by_end : (end : End) → HasOutlet outlets link end → EndsAt link count end
+    by_end (AtLeaf inst port) has = tt
+    by_end (AtNet port) has = (subst (λ m. suc port ≤ m) (sym same) has.0, has.1)
+
+-- A run stays the same, as rounds are made.
+
+pub run_then : {X : Type 0} (a b c : Running (Cell X)) → IsSameRun a b → IsSameRun b c → IsSameRun a c
+run_then a b c one two = record {
+  same_links = two.same_links ∙ one.same_links;
+  same_actors = same_then a.held.cells b.held.cells c.held.cells one.same_actors two.same_actors;
+  same_ins = two.same_ins ∙ one.same_ins;
+  same_outs = two.same_outs ∙ one.same_outs;
+  same_reads = two.same_reads ∙ one.same_reads;
+  same_writes = two.same_writes ∙ one.same_writes;
+  same_kind = two.same_kind ∙ one.same_kind;
+  same_burst = two.same_burst ∙ one.same_burst;
+  same_grow = two.same_grow ∙ one.same_grow;
 }

@@ -18,7 +18,8 @@ use Rattle.net_state.proofs.Gaining.{some_is, there_too}
 use Rattle.net_state.proofs.Kept.{same_inbox, same_outbox}
 use Rattle.round_runner.specs.Bursting.{AreFresh}
 use Rattle.round_runner.specs.Running.{Running}
-use Rattle.network_runner.specs.Keeping.{GivesWithin, GoesOn, HaveJournals, IsOpenLink, growth_left}
+use Rattle.network_runner.specs.Asking.{growth_left}
+use Rattle.network_runner.specs.Keeping.{GivesWithin, GoesOn, HaveJournals, IsOpenLink}
 use Rattle.network_runner.specs.Rounding.{CanGrow, HasEnds}
 
 -- Before the firings.

@@ -21,3 +21,4 @@ pub mod Held
 pub mod Going
 pub mod Fitting
 pub mod Parted
+pub mod Whole

@@ -9,10 +9,11 @@ ghost use Rattle.net_state.specs.Held.{seen};
 ghost use Rattle.net_state.specs.Working.{IsAtRest};
 ghost use Rattle.round_runner.specs.declared.outcome.RunEnd.{RunEnd as HowEnded};
 ghost use Rattle.round_runner.specs.Running.{FeedsFit};
-ghost use Rattle.network_runner.specs.Asking.{Begins, CanRun, ChannelsFit, EndLeaves, FaultIsTrue, FiringsTo, IsChannel, IsFeed, IsSameRun, IsUntouched, RoundLeaves, WritesWithin, end_of, seen_run};
+ghost use Rattle.network_runner.specs.Asking.{Advances, Begins, CanRun, ChannelsFit, EndLeaves, FaultIsTrue, FiringsTo, IsChannel, IsFeed, IsSameRun, IsUntouched, RoundLeaves, WritesWithin, end_of, seen_run};
 ghost use Rattle.network_runner.specs.Filling.{SameOpen};
 ghost use Rattle.network_runner.specs.Noting.{NotesFront, NotesRound};
-ghost use Rattle.network_runner.specs.Stepping.{DeliversRun, FiresRun, IsOutChannel, KeepsOthers, PutsAll, PutsBy, PutsFronts, RoundLeavesSoFar, SameButEnd, SendsFront, SendsOut, with_buffers};
+ghost use Rattle.network_runner.specs.Rounding.{IsNoFault};
+ghost use Rattle.network_runner.specs.Stepping.{DeliversRun, FiresRun, IsOutChannel, KeepsOthers, PutsAll, PutsBy, PutsFronts, RoundLeavesSoFar, SameButEnd, SendsFront, SendsOut, WritesFront, WritesRound, with_buffers};
 
 use crate::counting::{count_arrived, count_sent};
 use crate::delivering::deliver_all;
@@ -164,6 +165,7 @@ impl<A: Firing, P: Policy> Runner<A, P> {
             self.new.counts.firings }
         ensures within { self.new.counts.firings ≤ self.old.counts.firings + left }
         ensures ended { self.old.ended ≡ None → self.new.ended ≡ end_of result }
+        ensures advances { IfNone (end_of result) (Advances self.old self.new) }
 
         // After an end.
         ensures same_end { (how : HowEnded) → self.old.ended ≡ Some how → result ≡ RoundEnd.End how }
@@ -259,6 +261,7 @@ impl<A: Firing, P: Policy> Runner<A, P> {
         ensures firings { FiringsTo result self.old.counts.firings self.new.counts.firings }
         ensures within { self.new.counts.firings ≤ self.old.counts.firings + left }
         ensures ended { IfNone (end_of result) (self.new.ended ≡ None) }
+        ensures advances { IfNone (end_of result) (Advances self.old self.new) }
         ensures same_run { IsSameRun (seen_run A.cell self.old) (seen_run A.cell self.new) }
         ensures feeds_fit { FeedsFit self.new (F.feeds feeds.new) }
         ensures same_feeds { SameOpen (F.feeds feeds.old) (F.feeds feeds.new) }
@@ -268,15 +271,31 @@ impl<A: Firing, P: Policy> Runner<A, P> {
             return RoundEnd::End(RunEnd::ReadFault { feed });
         }
         let answer = self.fire(left, gate);
-        if let Err(WriteFault { channel }) = self.send(drains) {
+        if let Err(WriteFault { channel }) = self.write(answer, drains) {
             return RoundEnd::End(RunEnd::WriteFault { channel });
         }
-        match self.note(answer, drains) {
-            Ok(()) => answer,
-            Err(_) => RoundEnd::End(RunEnd::WriteFault {
+        answer
+    }
+
+    /// What a round sent to outputs goes out, and its lines are written.
+    fn write<D: Drains>(&mut self, answer: RoundEnd, drains: &mut D) -> Result<(), WriteFault>
+        requires channels { ChannelsFit self.old (D.channels drains.old) }
+        ensures written { OnOk result (WritesRound answer (seen_run A.cell self.old)
+            (seen_run A.cell self.new) (D.channels drains.old) (D.channels drains.new)) }
+        ensures broken { OnErr result (WritesFront answer (seen_run A.cell self.old)
+            (D.channels drains.old) (D.channels drains.new)) }
+        ensures failed { OnErr result (WriteFails D.channels drains.old drains.new) }
+        ensures channel { IfErr result (λ fault. IsChannel self.old fault.channel) }
+        ensures others { WritesWithin self.old (D.channels drains.old) (D.channels drains.new) }
+        ensures same { self.new ≡ with_buffers self.old self.new.trace self.new.buffers }
+    {
+        self.send(drains)?;
+        let Ok(()) = self.note(answer, drains) else {
+            return Err(WriteFault {
                 channel: TRACE_CHANNEL,
-            }),
-        }
+            });
+        };
+        Ok(())
     }
 
     /// What was sent to outputs goes out.
@@ -312,6 +331,7 @@ impl<A: Firing, P: Policy> Runner<A, P> {
         ensures failed { OnErr result (ReadFails F.feeds feeds.old feeds.new) }
         ensures feed { IfErr result (λ fault. IsFeed self.old fault.feed) }
         ensures not_counted { OnErr result (self.new.counts ≡ self.old.counts) }
+        ensures same_capacities { self.new.held.capacities ≡ self.old.held.capacities }
         ensures same_firings { self.new.counts.firings ≡ self.old.counts.firings }
         ensures same_run { IsSameRun (seen_run A.cell self.old) (seen_run A.cell self.new) }
         ensures same_others { KeepsOthers self.old self.new }
@@ -340,6 +360,8 @@ impl<A: Firing, P: Policy> Runner<A, P> {
         requires budget { self.old.counts.firings + left ≤ MAX_BUDGET }
         ensures fires { FiresRun left result (seen_run A.cell self.old) (seen_run A.cell self.new) }
         ensures ended { self.new.ended ≡ end_of result }
+        ensures advances { IfNone (end_of result) (Advances self.old self.new) }
+        ensures no_fault { IsNoFault result }
         ensures same_run { IsSameRun (seen_run A.cell self.old) (seen_run A.cell self.new) }
         ensures same_trace { self.new.trace ≡ self.old.trace }
         ensures same_buffers { self.new.buffers ≡ self.old.buffers }
@@ -357,9 +379,7 @@ impl<A: Firing, P: Policy> Runner<A, P> {
         self.idle = made.fired == 0;
         self.counts.firings += made.fired;
         count_sent(&self.net, &self.links, &mut self.counts.sent);
-        if let RoundEnd::End(end) = made.answer {
-            self.ended = Some(end);
-        }
+        self.ended = end_of(made.answer);
         made.answer
     }
 
@@ -433,6 +453,16 @@ impl<A: Firing, P: Policy> Runner<A, P> {
     {
         flush_all(&self.outlets, &mut self.writers, drains)?;
         put_trace(&mut self.trace, drains)
+    }
+}
+
+/// The end that a round answers.
+fn end_of(answer: RoundEnd) -> Option<RunEnd>
+    ensures { result ≡ end_of answer }
+{
+    match answer {
+        RoundEnd::End(end) => Some(end),
+        RoundEnd::Fired(_) | RoundEnd::Idle | RoundEnd::Grew { link: _, capacity: _ } => None,
     }
 }
 
