@@ -22,3 +22,4 @@ pub mod Going
 pub mod Fitting
 pub mod Parted
 pub mod Whole
+pub mod Finished

@@ -21,7 +21,7 @@ use Rattle.round_runner.specs.Rounds.{Answers, text_of}
 use Rattle.round_runner.specs.Running.{FeedsFit, Running, buffer, feed_of, has_feed}
 use Rattle.network_runner.specs.Asking.{Advances, ChannelsFit, FaultIsTrue, FiringsTo, IsChannel, IsSameRun, WritesWithin, end_of, growth_left, one_if, seen_run}
 use Rattle.network_runner.specs.Rounding.{CountsTo, IsNoFault}
-use Rattle.network_runner.specs.Stepping.{CutSoFar, IsOutChannel, SendsFront, SendsOut, WritesFront, WritesRound, with_buffers}
+use Rattle.network_runner.specs.Stepping.{CutSoFar, IsOutChannel, KeepsOthers, SendsFront, SendsOut, WritesFront, WritesRound, with_buffers}
 use Rattle.network_runner.proofs.Going.{if_none}
 use Rattle.network_runner.proofs.Loops.{none_front}
 
@@ -88,6 +88,9 @@ run_written cell run trace buffers = record {
   same_burst = refl;
   same_grow = refl;
 }
+
+pub others_seen : {C X : Type 0} (cell : C → Cell X) (run new : Running C) → KeepsOthers run new → KeepsOthers (seen_run cell run) (seen_run cell new)
+others_seen cell run new keeps = record { rounds = keeps.rounds; idle = keeps.idle; trace = keeps.trace; buffers = keeps.buffers; ended = keeps.ended }
 
 -- Faults.
 
