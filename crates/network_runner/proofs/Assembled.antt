@@ -1,6 +1,6 @@
 -- A round of a runner, put together from its steps.
-use Rattle.std.proofs.Common.{◌≡◌, inr, ℕ, zero, suc, ◌+◌, ◌<◌, ◌≤◌, Bool, true, false, List, [], ◌∷◌, ◌++◌, ℤ, length, map, refl, sym, ap, subst, ◌∙◌, arith}
-use Rattle.std.specs.Prelude.{Option, None, Some, slice_get, slice_index_or, ◌==◌}
+use Rattle.std.proofs.Common.{◌≡◌, inr, ℕ, suc, ◌+◌, ◌≤◌, Bool, true, false, List, [], ◌∷◌, ◌++◌, length, map, refl, sym, ap, subst, ◌∙◌, arith}
+use Rattle.std.specs.Prelude.{None, Some, slice_get, slice_index_or, ◌==◌}
 use Rattle.trace_text.specs.declared.line.Line.{Line}
 use Rattle.trace_text.specs.declared.line.Line.TheVariants.{Fire as FireLine, Trap as TrapLine, Quiet, Stall, Budget}
 use Rattle.rvc_io.specs.Channels.{Channels}
@@ -9,18 +9,16 @@ use Rattle.channel_writer.specs.Held.{AppendsFront, WritesOn}
 use Rattle.net_model.specs.Network.{Network}
 use Rattle.net_model.specs.State.{Flow, State, sent_to}
 use Rattle.net_model.specs.Cell.{Cell}
-use Rattle.net_model.specs.Counted.{IsCounted, deliveries_in}
+use Rattle.net_model.specs.Counted.{deliveries_in}
 use Rattle.net_model.specs.Laws.{AreOrdered, firings_shown}
-use Rattle.net_model.specs.Paced.{Block, Close, Ends, GoesOn, IsRound, Moment, Pace, Widens, close_lines, count_of, fire_lines, lines_of}
-use Rattle.net_model.specs.PacingLaws.{CanBegin}
-use Rattle.net_model.specs.Trace.{after_delivery, played}
+use Rattle.net_model.specs.Paced.{Block, Close, IsRound, close_lines, count_of, fire_lines, lines_of}
+use Rattle.net_model.specs.Trace.{after_delivery}
 use Rattle.net_state.specs.Standing.{StandsIn}
 use Rattle.net_state.proofs.Gaining.{there_too}
 use Rattle.round_runner.specs.declared.outcome.RoundEnd.{RoundEnd}
 use Rattle.round_runner.specs.declared.outcome.RoundEnd.TheVariants as round
 use Rattle.round_runner.specs.declared.outcome.RunEnd.{RunEnd}
 use Rattle.round_runner.specs.declared.outcome.RunEnd.TheVariants as end
-use Rattle.round_runner.specs.Firings.{journals}
 use Rattle.round_runner.specs.Rounds.{Answers, BrokenOff, CountsOn, EachOut, Made, OutGetsSome, TraceGetsSome, end_line, out_bytes, text_of}
 use Rattle.round_runner.specs.Running.{IsRunOf, Running, StandsWith, buffer, moment_of, pace_of}
 use Rattle.network_runner.specs.Asking.{IsSameRun}

@@ -1,5 +1,5 @@
 -- The numbers of a run count the lines of one round more.
-use Rattle.std.proofs.Common.{◌≡◌, ◌⊎◌, ⊎_elim, inl, inr, ℕ, zero, suc, ◌+◌, ◌-◌, ◌*◌, ◌^◌, ◌<◌, ◌≤◌, Bool, true, false, List, [], ◌∷◌, ◌++◌, ℤ, length, drop, refl, sym, ap, subst, ◌∙◌, arith, length-append, length-drop}
+use Rattle.std.proofs.Common.{◌≡◌, ⊎_elim, ℕ, suc, ◌+◌, ◌-◌, ◌*◌, ◌^◌, ◌<◌, ◌≤◌, Bool, true, false, List, [], ◌∷◌, ◌++◌, length, drop, refl, sym, ap, subst, ◌∙◌, arith, length-append, length-drop}
 use Rattle.std.specs.Prelude.{Option, None, Some, slice_get, slice_index_or, ◌||◌, if◌then◌else◌}
 use Rattle.std.proofs.lemmas.Option.{slice_get_within}
 use Rattle.trace_text.specs.declared.line.Line.{Line}
@@ -12,7 +12,7 @@ use Rattle.net_model.specs.Cell.{Cell}
 use Rattle.net_model.specs.Counted.{IsCounted, arrived_at, arrived_of, deliveries_in, is_short, rest_at, sent_count, was_short}
 use Rattle.net_model.specs.Limits.{max_rate}
 use Rattle.net_model.specs.Network.{Network, is_input, is_net_port, is_outside, is_output}
-use Rattle.net_model.specs.State.{Flow, State, sent_to, untaken}
+use Rattle.net_model.specs.State.{Flow, State, sent_to}
 use Rattle.net_model.specs.Laws.{AreLawful, AreOrdered, firings_shown}
 use Rattle.net_model.specs.PacingLaws.{CanBegin}
 use Rattle.net_model.specs.Trace.{after_delivery, arrivals, delivered, played}
@@ -20,9 +20,9 @@ use Rattle.net_model.specs.Wired.{IsWired}
 use Rattle.net_state.specs.declared.filling.Filled.{Filled}
 use Rattle.net_state.proofs.Coming.{by_bool, if_true, if_false}
 use Rattle.net_state.proofs.Flows.{changed_so}
-use Rattle.net_state.proofs.Gaining.{some_is, there_too}
+use Rattle.net_state.proofs.Gaining.{there_too}
 use Rattle.network_runner.specs.Counting.{arrived_with, capped_sum, rests_with, sent_with, told_or}
-use Rattle.network_runner.specs.Filling.{CameOn, CameOver, CameOverOn, NoneCame, TellsRest}
+use Rattle.network_runner.specs.Filling.{CameOn, CameOver, NoneCame, TellsRest}
 use Rattle.network_runner.specs.Sending.{outgoing_to}
 use Rattle.network_runner.specs.Stepping.{left_to}
 use Rattle.network_runner.proofs.Flowing.{AllGoneOn, GoneOn}

@@ -1,13 +1,13 @@
 -- A round of a network without instances.
-use Rattle.std.proofs.Common.{◌≡◌, ℕ, zero, suc, ◌<◌, Bool, true, false, List, [], ◌∷◌, length, map, refl, sym, ap, subst, ◌∙◌, arith}
-use Rattle.std.specs.Prelude.{None, Some, MatchBool, ◌&&◌, ◌==◌}
+use Rattle.std.proofs.Common.{◌≡◌, ℕ, ◌<◌, false, List, [], ◌∷◌, length, refl, sym, ap, subst, ◌∙◌, arith}
+use Rattle.std.specs.Prelude.{None, ◌==◌}
 use Rattle.std.proofs.lemmas.List.{length-map}
 use Rattle.rvc_base.specs.declared.round_kind.RoundKind.{RoundKind}
 use Rattle.net_model.specs.Network.{Network}
 use Rattle.net_model.specs.State.{State}
 use Rattle.net_model.specs.Cell.{Cell}
 use Rattle.net_model.specs.Trace.{after_delivery}
-use Rattle.net_model.specs.Paced.{AreBursts, Close, ClosesBy, ClosesIdle, count_picked, picked, share_of}
+use Rattle.net_model.specs.Paced.{AreBursts, ClosesBy, picked, share_of}
 use Rattle.net_state.specs.Held.{Held}
 use Rattle.net_state.specs.Standing.{StandsSince}
 use Rattle.round_runner.specs.declared.outcome.RoundEnd.{RoundEnd}

@@ -1,12 +1,10 @@
 -- What a round leaves once what is buffered was put.
-use Rattle.std.proofs.Common.{◌≡◌, ◌⊎◌, ⊎_elim, inl, inr, ℕ, ◌+◌, Bool, true, false, List, [], ◌++◌, ℤ, refl, sym, ap, subst, ◌∙◌, append-nil, append_assoc}
-use Rattle.std.specs.Prelude.{Option, None, Some, IfNone, slice_index_or}
+use Rattle.std.proofs.Common.{◌≡◌, ◌⊎◌, ⊎_elim, inl, inr, ℕ, ◌+◌, true, false, List, [], ◌++◌, ℤ, sym, ap, subst, ◌∙◌, append-nil, append_assoc}
+use Rattle.std.specs.Prelude.{IfNone, slice_index_or}
 use Rattle.rvc_io.specs.Channels.{Appends, Channels}
 use Rattle.rvc_io.specs.Feeds.{Inputs}
 use Rattle.channel_writer.specs.Held.{AppendsFront, HoldsFront, WritesOn}
 use Rattle.channel_writer.proofs.Chains.{breaks-then}
-use Rattle.net_model.specs.declared.wiring.Counts.{Counts}
-use Rattle.trace_text.specs.declared.line.Line.{Line}
 use Rattle.net_model.specs.Network.{Network}
 use Rattle.net_model.specs.State.{State, sent_to}
 use Rattle.net_model.specs.Cell.{Cell}
@@ -15,7 +13,7 @@ use Rattle.round_runner.specs.declared.outcome.RoundEnd.{RoundEnd}
 use Rattle.round_runner.specs.declared.outcome.RoundEnd.TheVariants as round
 use Rattle.round_runner.specs.declared.outcome.RunEnd.{RunEnd}
 use Rattle.round_runner.specs.declared.outcome.RunEnd.TheVariants as end
-use Rattle.round_runner.specs.Rounds.{BrokenOff, Closed, CountsOn, CutOff, EachOut, Leaves, Made, OutGetsAll, OutGetsFront, OutGetsSome, out_bytes, text_of}
+use Rattle.round_runner.specs.Rounds.{BrokenOff, Closed, CountsOn, CutOff, EachOut, Leaves, OutGetsAll, OutGetsFront, OutGetsSome, out_bytes, text_of}
 use Rattle.round_runner.specs.Running.{Running, buffer}
 use Rattle.network_runner.specs.Asking.{end_of}
 use Rattle.network_runner.specs.Stepping.{ClosedSoFar, CutSoFar, LeavesSoFar, PutsAll, PutsBy, PutsFronts}

@@ -1,17 +1,14 @@
 -- A round once what is buffered was put, if it ended the run.
-use Rattle.std.proofs.Common.{◌≡◌, ◌⊎◌, ⊎_elim, inl, inr, ℕ, ◌+◌, ◌≤◌, Bool, true, false, List, refl, sym, ap, subst, ◌∙◌, arith}
-use Rattle.std.specs.Prelude.{Option, None, Some, IfNone, slice_index_or}
-use Rattle.rvc_io.specs.Channels.{Channels, WriteFails}
-use Rattle.rvc_io.specs.Count.{HasRisen}
-use Rattle.rvc_io.specs.Feeds.{Inputs}
-use Rattle.net_model.specs.Cell.{Cell, IsSameActor}
-use Rattle.net_state.proofs.Gaining.{same_actor, some_is}
+use Rattle.std.proofs.Common.{◌≡◌, ◌⊎◌, ⊎_elim, inl, inr, ℕ, ◌∙◌, arith}
+use Rattle.std.specs.Prelude.{Option, None, Some, IfNone}
+use Rattle.rvc_io.specs.Channels.{Channels}
+use Rattle.net_model.specs.Cell.{Cell}
 use Rattle.round_runner.specs.declared.outcome.RoundEnd.{RoundEnd}
 use Rattle.round_runner.specs.declared.outcome.RoundEnd.TheVariants as round
 use Rattle.round_runner.specs.declared.outcome.RunEnd.{RunEnd}
 use Rattle.round_runner.specs.declared.outcome.RunEnd.TheVariants as end
 use Rattle.round_runner.specs.Running.{Running}
-use Rattle.network_runner.specs.Asking.{FaultIsTrue, FiringsTo, IsChannel, IsSameRun, WritesWithin, end_of, seen_run}
+use Rattle.network_runner.specs.Asking.{WritesWithin, seen_run}
 use Rattle.network_runner.specs.Stepping.{PutsAll, PutsBy, PutsFronts}
 
 -- What was put, and of whom.

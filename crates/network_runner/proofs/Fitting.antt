@@ -1,6 +1,6 @@
 -- The parts of a runner fit each other, and its feeds, behind a delivery and behind the firings of a round.
 use Rattle.std.proofs.Common.{◌≡◌, ℕ, zero, suc, ◌≤◌, Bool, true, false, List, [], ◌∷◌, length, map, refl, sym, ap, subst, ◌∙◌}
-use Rattle.std.specs.Prelude.{Option, None, Some, Result, OnOk, is_some, slice_get, slice_index_or}
+use Rattle.std.specs.Prelude.{Option, None, Some, is_some, slice_get, slice_index_or}
 use Rattle.std.proofs.lemmas.List.{length-map}
 use Rattle.rvc_io.specs.Feeds.{Inputs}
 use Rattle.port_files.specs.Coming.{EndIsTrue, Reading}
@@ -10,7 +10,6 @@ use Rattle.net_model.specs.declared.wiring.Link.{Link}
 use Rattle.net_model.specs.Network.{is_outside}
 use Rattle.net_model.specs.Cell.{Cell}
 use Rattle.net_state.specs.declared.filling.Filled.{Filled}
-use Rattle.net_state.specs.Held.{Held}
 use Rattle.net_state.proofs.Gaining.{some_is, there_too}
 use Rattle.round_runner.specs.Running.{FeedsFit, Running, feed_of, has_feed}
 use Rattle.network_runner.specs.declared.sending.Outlet.{Outlet}
@@ -52,10 +51,13 @@ module _ {C : Type 0} (run : Running C) (links : List Link) (outlets : List Outl
 
   pub its_feed : (old : Running C) (feed : ℕ) → old.held.links ≡ links → run.reads ≡ old.reads → IsFeedOf links run.readings feed → IsFeed old feed
   its_feed old feed links_are reads is =
-      let on = there_too run.readings links is.0 (Some is.1) parts.reader_for_each is.2 in
-      (is.0, on.0, ap (λ ls. slice_get ls is.0) links_are ∙ on.1,
-      subst (λ rs. has_feed rs on.0.from ≡ true) reads (has_its_feed is.0 on.0 is.1 on.1 is.2),
-      is.3 ∙ ap (λ ls. feed_of ls is.0) (sym links_are))
+      let on = there_too run.readings links is.0 (Some is.1) parts.reader_for_each is.2 in (
+        is.0,
+        on.0,
+        ap (λ ls. slice_get ls is.0) links_are ∙ on.1,
+        subst (λ rs. has_feed rs on.0.from ≡ true) reads (has_its_feed is.0 on.0 is.1 on.1 is.2),
+        is.3 ∙ ap (λ ls. feed_of ls is.0) (sym links_are),
+      )
 
 pub feeds_still : {C : Type 0} (old new : Running C) (links : List Link) (before after : Inputs) → new.held.links ≡ links → old.held.links ≡ links → new.reads ≡ old.reads
     → ReadersFit links new.readings after → SameOpen before after → FeedsFit old before → FeedsFit new after

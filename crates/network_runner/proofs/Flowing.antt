@@ -1,5 +1,5 @@
 -- What the firings of a round and its close make of the flows of a network.
-use Rattle.std.proofs.Common.{◌≡◌, ◌≢◌, ◌⊎◌, inl, inr, ℕ, zero, suc, ◌+◌, ◌-◌, ◌*◌, ◌<◌, ◌≤◌, Bool, true, false, List, [], ◌∷◌, ◌++◌, ℤ, length, map, refl, sym, ap, subst, ◌∙◌, arith, append-nil, append_assoc, length-append}
+use Rattle.std.proofs.Common.{◌≡◌, ◌≢◌, ◌⊎◌, inl, inr, ℕ, zero, suc, ◌+◌, ◌-◌, ◌*◌, ◌≤◌, Bool, true, false, List, [], ◌∷◌, ◌++◌, ℤ, length, map, refl, sym, ap, subst, ◌∙◌, arith, append-nil, append_assoc, length-append}
 use Rattle.std.specs.Prelude.{Option, None, Some, slice_get, slice_set, slice_index_or, ◌==◌, if◌then◌else◌}
 use Rattle.std.proofs.lemmas.Bool.{cases_eq, eqb-true}
 use Rattle.std.proofs.lemmas.List.{length-map}
@@ -13,11 +13,11 @@ use Rattle.net_model.specs.declared.wiring.End.{End}
 use Rattle.net_model.specs.declared.wiring.End.TheVariants.{Leaf as AtLeaf, Net as AtNet}
 use Rattle.net_model.specs.declared.wiring.Link.{Link}
 use Rattle.net_model.specs.Limits.{max_rate}
-use Rattle.net_model.specs.Network.{Leaf, Network, is_input, is_net_port, is_output, is_outside}
-use Rattle.net_model.specs.State.{Flow, State, effect_at, effect_of, need_of, sent_to}
-use Rattle.net_model.specs.Event.{Fire, Trap, after_firing, and_then, each_flow, happens, number_of_trap, sent_on, taken_from, trap}
+use Rattle.net_model.specs.Network.{Leaf, Network, is_input, is_outside}
+use Rattle.net_model.specs.State.{Flow, State, effect_at, effect_of, need_of}
+use Rattle.net_model.specs.Event.{Fire, Trap, after_firing, and_then, happens, number_of_trap, sent_on, taken_from, trap}
 use Rattle.net_model.specs.Laws.{AreLawful}
-use Rattle.net_model.specs.Paced.{AreBursts, Block, Close, Ends, GoesOn, Halt, IsBurst, IsRound, Moment, Pace, Share, Widens, close_lines, count_of, limit_of, picked, share_of}
+use Rattle.net_model.specs.Paced.{AreBursts, Block, Close, GoesOn, Halt, IsBurst, IsRound, Moment, Pace, Share, close_lines, count_of, limit_of, picked, share_of}
 use Rattle.net_model.specs.Trace.{OnNext, after_delivery, goes, grown, played}
 use Rattle.net_model.specs.Wired.{ComesFromPort, HasOutput, IsWired}
 use Rattle.net_model.proofs.Commuting.{Fired, fired_unless}

@@ -1,5 +1,5 @@
 -- A run that goes on, behind a delivery and behind the firings of a round.
-use Rattle.std.proofs.Common.{◌≡◌, ◌⊎◌, ⊎_elim, inl, inr, ℕ, zero, suc, ◌+◌, ◌-◌, ◌*◌, ◌<◌, ◌≤◌, Bool, true, false, List, [], ◌∷◌, length, refl, sym, ap, subst, ◌∙◌, arith}
+use Rattle.std.proofs.Common.{◌≡◌, ℕ, zero, suc, ◌+◌, ◌*◌, ◌<◌, ◌≤◌, Bool, true, false, List, [], ◌∷◌, length, refl, sym, ap, subst, ◌∙◌, arith}
 use Rattle.std.specs.Prelude.{Option, None, Some, IfNone, slice_get, slice_set, slice_index_or, ◌==◌}
 use Rattle.net_model.specs.declared.wiring.End.{End}
 use Rattle.net_model.specs.declared.wiring.End.TheVariants.{Leaf as AtLeaf, Net as AtNet}
@@ -13,7 +13,6 @@ use Rattle.net_state.proofs.Gaining.{there_too}
 use Rattle.net_state.proofs.Kept.{same_inbox, same_outbox, same_reader, same_then, same_writer}
 use Rattle.round_runner.specs.declared.outcome.RoundEnd.{RoundEnd}
 use Rattle.round_runner.specs.declared.outcome.RoundEnd.TheVariants as round
-use Rattle.round_runner.specs.declared.outcome.RunEnd.{RunEnd}
 use Rattle.round_runner.specs.Running.{Running}
 use Rattle.network_runner.specs.Asking.{Advances, IsSameRun, end_of, growth_left, one_if}
 use Rattle.network_runner.specs.Closing.{GrowsBy}
@@ -63,7 +62,8 @@ module _ {X : Type 0} (old new : List (Cell X)) (same : SameActors old new) wher
     gives = gives_still least most more link.from was.gives;
     queues = λ inner inside. (
       same_outbox old new same link.from grow was.writer (was.queues inner inside).0,
-      same_inbox old new same link.to grow was.reader (was.queues inner inside).1);
+      same_inbox old new same link.to grow was.reader (was.queues inner inside).1,
+    );
   }
 
   journals_still : (burst : ℕ) → HaveJournals burst old → HaveJournals burst new

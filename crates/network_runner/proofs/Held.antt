@@ -1,7 +1,6 @@
 -- What a runner keeps, as its rounds go.
-use Rattle.std.proofs.Common.{◌≡◌, ◌≢◌, ◌⊎◌, ⊎_elim, inl, inr, ℕ, zero, suc, ◌+◌, ◌-◌, ◌*◌, ◌<◌, ◌≤◌, Bool, true, false, List, [], ◌∷◌, length, refl, sym, ap, subst, ◌∙◌, arith}
-use Rattle.std.specs.Prelude.{Option, None, Some, slice_get, slice_set, slice_index_or, ◌==◌}
-use Rattle.std.proofs.lemmas.Bool.{cases_eq, eqb-true}
+use Rattle.std.proofs.Common.{◌≡◌, ℕ, zero, suc, ◌-◌, ◌*◌, ◌<◌, ◌≤◌, false, List, [], ◌∷◌, length, refl, ap, subst, ◌∙◌, arith}
+use Rattle.std.specs.Prelude.{Option, None, Some, slice_get, slice_set, slice_index_or}
 use Rattle.net_model.specs.declared.wiring.End.{End}
 use Rattle.net_model.specs.declared.wiring.End.TheVariants.{Leaf as AtLeaf, Net as AtNet}
 use Rattle.net_model.specs.declared.wiring.Link.{Link}
@@ -9,17 +8,12 @@ use Rattle.net_model.specs.Network.{is_input, is_outside, is_output}
 use Rattle.net_model.specs.Cell.{Cell}
 use Rattle.net_model.specs.Limits.{max_grow}
 use Rattle.net_model.specs.Ready.{waiting_at}
-use Rattle.net_state.specs.Held.{Held, IsReader}
-use Rattle.net_state.specs.Moving.{IsWriter, SameActors}
-use Rattle.net_state.specs.Surveyed.{AreUntrapped}
-use Rattle.net_state.specs.Working.{CanHold, IsAtRest, LacksAt, LacksFrom, LacksOnLink, gives_of}
-use Rattle.net_state.proofs.Coming.{by_bool}
-use Rattle.net_state.proofs.Gaining.{some_is, there_too}
-use Rattle.net_state.proofs.Kept.{same_inbox, same_outbox}
+use Rattle.net_state.specs.Held.{Held}
+use Rattle.net_state.specs.Working.{CanHold, IsAtRest, LacksFrom, LacksOnLink, gives_of}
 use Rattle.round_runner.specs.Bursting.{AreFresh}
 use Rattle.round_runner.specs.Running.{Running}
 use Rattle.network_runner.specs.Asking.{growth_left}
-use Rattle.network_runner.specs.Keeping.{GivesWithin, GoesOn, HaveJournals, IsOpenLink}
+use Rattle.network_runner.specs.Keeping.{GivesWithin, GoesOn}
 use Rattle.network_runner.specs.Rounding.{CanGrow, HasEnds}
 
 -- Before the firings.

@@ -1,8 +1,7 @@
 -- What a round leaves of what is to come, and what it sends out.
-use Rattle.std.proofs.Common.{◌≡◌, ◌≢◌, ℕ, zero, suc, ◌+◌, ◌-◌, ◌*◌, ◌<◌, ◌≤◌, Bool, true, false, List, [], ◌∷◌, ◌++◌, ℤ, length, map, drop, refl, sym, ap, subst, ◌∙◌, arith, append-nil}
-use Rattle.std.specs.Prelude.{Option, None, Some, slice_get, slice_index_or, flat_map, ◌==◌, if◌then◌else◌}
+use Rattle.std.proofs.Common.{◌≡◌, ℕ, suc, ◌-◌, ◌≤◌, true, false, List, [], ◌∷◌, ◌++◌, ℤ, length, map, drop, refl, sym, ap, subst, ◌∙◌, arith, append-nil}
+use Rattle.std.specs.Prelude.{Option, Some, slice_get}
 use Rattle.std.proofs.lemmas.Bool.{eqb-true}
-use Rattle.rvc_base.specs.declared.scalar.Scalar.{Scalar}
 use Rattle.rvc_base.specs.Storing.{conv}
 use Rattle.rvc_io.specs.Feeds.{Inputs}
 use Rattle.port_files.specs.Coming.{Reading}
@@ -11,7 +10,6 @@ use Rattle.net_model.specs.declared.wiring.End.TheVariants.{Leaf as AtLeaf, Net 
 use Rattle.net_model.specs.declared.wiring.Link.{Link}
 use Rattle.net_model.specs.Network.{Network, is_input, is_net_port, is_outside, is_output, kind_at}
 use Rattle.net_model.specs.State.{Flow, State, sent_to}
-use Rattle.net_model.specs.Event.{each_flow}
 use Rattle.net_model.specs.Cell.{Cell}
 use Rattle.net_model.specs.Counted.{rest_at}
 use Rattle.net_model.specs.PortFile.{all_encoded}
@@ -19,12 +17,12 @@ use Rattle.net_model.specs.Trace.{after_delivery, arrivals, delivered}
 use Rattle.net_model.specs.Wired.{HasKindOf, IsWired}
 use Rattle.net_state.specs.Held.{Held}
 use Rattle.net_state.specs.Moving.{AreApart, carried, sent_from}
-use Rattle.net_state.specs.Standing.{IsHeld, LiesIn, StandsIn, unarrived}
+use Rattle.net_state.specs.Standing.{LiesIn, StandsIn, unarrived}
 use Rattle.net_state.proofs.Coming.{by_bool, if_true, if_false}
 use Rattle.net_state.proofs.Flows.{changed_count, changed_so}
-use Rattle.net_state.proofs.Gaining.{some_is, there_too}
+use Rattle.net_state.proofs.Gaining.{there_too}
 use Rattle.round_runner.specs.Rounds.{out_bytes}
-use Rattle.round_runner.specs.Running.{AreFedBy, ComesBy, feed_of}
+use Rattle.round_runner.specs.Running.{AreFedBy, feed_of}
 use Rattle.round_runner.specs.Sending.{stored_bytes}
 use Rattle.network_runner.specs.Sending.{outgoing_on, outgoing_to}
 use Rattle.network_runner.specs.Stepping.{left_bytes, left_to}

@@ -1,6 +1,6 @@
 -- How far the loops of counting and putting have come.
-use Rattle.std.proofs.Common.{◌≡◌, ◌≢◌, ◌⊎◌, ⊎_elim, inl, inr, ℕ, zero, suc, ◌+◌, ◌<◌, ◌≤◌, Bool, true, false, List, [], ◌∷◌, ◌++◌, length, take, refl, sym, ap, subst, ◌∙◌, arith, append-nil, length-append}
-use Rattle.std.specs.Prelude.{Option, None, Some, slice_get, slice_set, slice_index_or}
+use Rattle.std.proofs.Common.{◌≡◌, ◌≢◌, ⊎_elim, ℕ, zero, suc, ◌+◌, ◌<◌, ◌≤◌, Bool, true, false, List, [], ◌∷◌, ◌++◌, length, take, refl, sym, ap, subst, ◌∙◌, arith, append-nil, length-append}
+use Rattle.std.specs.Prelude.{Option, Some, slice_get, slice_set, slice_index_or}
 use Rattle.std.proofs.lemmas.Bool.{cases_eq, cases_lt}
 use Rattle.std.proofs.lemmas.Option.{slice_get_within}
 use Rattle.rvc_io.specs.Channels.{Appends, Channels, WritesOnlyAt}
@@ -17,7 +17,7 @@ use Rattle.network_runner.specs.Making.{AreReadersOf, IsReaderOf}
 use Rattle.network_runner.specs.declared.sending.Outlet.{Outlet}
 use Rattle.network_runner.specs.Counting.{arrived_with, capped_sum, rests_with, sent_at, sent_with, told_or}
 use Rattle.network_runner.specs.Putting.{PutsOutletFronts, PutsOutlets}
-use Rattle.network_runner.specs.Sending.{IsChannelOf, SendsOnly, buffered}
+use Rattle.network_runner.specs.Sending.{SendsOnly, buffered}
 use Rattle.network_runner.proofs.Sent.{index_other, only_more, only_none, take_more}
 
 -- Counting.

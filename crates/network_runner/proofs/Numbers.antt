@@ -1,22 +1,20 @@
 -- The numbers of a run go on with the lines of a round.
-use Rattle.std.proofs.Common.{◌≡◌, ◌≢◌, ◌⊎◌, ⊎_elim, inl, inr, ℕ, zero, suc, ◌+◌, ◌-◌, ◌*◌, ◌^◌, ◌<◌, ◌≤◌, min, Bool, true, false, List, [], ◌∷◌, ◌++◌, ℤ, length, map, drop, refl, sym, ap, subst, ◌∙◌, arith, append-nil, append_assoc, length-append}
+use Rattle.std.proofs.Common.{◌≡◌, ◌≢◌, ⊎_elim, ℕ, zero, suc, ◌+◌, ◌-◌, ◌*◌, ◌^◌, ◌<◌, ◌≤◌, min, Bool, true, false, List, [], ◌∷◌, ◌++◌, length, refl, sym, ap, subst, ◌∙◌, arith, length-append}
 use Rattle.std.specs.Prelude.{Option, None, Some, slice_get, slice_set, slice_index_or, ◌==◌, ◌&&◌, ◌||◌, if◌then◌else◌}
 use Rattle.std.proofs.lemmas.Bool.{cases_eq, eq-eqb, eqb-true}
-use Rattle.std.proofs.lemmas.Option.{slice_get_within}
 use Rattle.trace_text.specs.declared.line.Line.{Line}
 use Rattle.trace_text.specs.declared.line.Line.TheVariants.{Fire as FireLine, Deliver as DeliverLine, Grow as GrowLine, Trap as TrapLine, Quiet, Stall, Budget, Header, Inst}
-use Rattle.net_model.specs.declared.wiring.Counts.{Counts}
 use Rattle.net_model.specs.declared.wiring.End.{End}
 use Rattle.net_model.specs.declared.wiring.End.TheVariants.{Leaf as AtLeaf, Net as AtNet}
 use Rattle.net_model.specs.declared.wiring.Link.{Link}
-use Rattle.net_model.specs.Counted.{IsCounted, arrived_at, arrived_of, deliveries_in, is_delivery, is_short, on_next, rest_at, sent_count, was_short}
+use Rattle.net_model.specs.Counted.{deliveries_in, is_delivery, is_short, on_next, was_short}
 use Rattle.net_model.specs.Cell.{Cell}
 use Rattle.net_model.specs.Limits.{max_rate}
-use Rattle.net_model.specs.Network.{Network, is_input, is_net_port, is_outside, is_output}
-use Rattle.net_model.specs.State.{Flow, State, sent_to, untaken}
-use Rattle.net_model.specs.Event.{Fire, after_arrival, and_then, each_flow, happens}
-use Rattle.net_model.specs.Laws.{AreLawful, AreOrdered, firings_shown}
-use Rattle.net_model.specs.Trace.{after_delivery, arrivals, delivered, goes, grown, played}
+use Rattle.net_model.specs.Network.{Network, is_net_port, is_output}
+use Rattle.net_model.specs.State.{Flow, State}
+use Rattle.net_model.specs.Event.{and_then}
+use Rattle.net_model.specs.Laws.{AreLawful, firings_shown}
+use Rattle.net_model.specs.Trace.{after_delivery, delivered, goes, played}
 use Rattle.net_model.specs.Wired.{IsWired}
 use Rattle.net_state.proofs.Coming.{by_bool, if_true, if_false}
 use Rattle.net_state.proofs.Flows.{changed_count, changed_so}
@@ -25,7 +23,7 @@ use Rattle.net_state.specs.declared.filling.Filled.{Filled}
 use Rattle.net_state.specs.Moving.{carried}
 use Rattle.network_runner.specs.Counting.{arrived_with, capped_sum, rests_with, sent_at, sent_with, told_or}
 use Rattle.network_runner.specs.Sending.{outgoing_on, outgoing_to}
-use Rattle.network_runner.proofs.Flowing.{AllGoneOn, GoneOn, SameTokens, fire_count, fire_gone, grown_tokens, same_tokens, some_state, trap_goes}
+use Rattle.network_runner.proofs.Flowing.{GoneOn, SameTokens, fire_count, fire_gone, grown_tokens, same_tokens, some_state, trap_goes}
 
 -- What lines make of the flows.
 

@@ -1,9 +1,8 @@
 -- The parts of a runner, as what is buffered changes, and what it sends out.
-use Rattle.std.proofs.Common.{◌≡◌, ℕ, zero, suc, ◌+◌, ◌<◌, ◌≤◌, Bool, true, false, List, [], ◌∷◌, ◌++◌, inl, inr, length, map, refl, sym, ap, subst, ◌∙◌, arith}
-use Rattle.std.specs.Prelude.{Option, None, Some, Result, Ok, Err, IfErr, OnErr, OnOk, slice_get, slice_index_or}
+use Rattle.std.proofs.Common.{◌≡◌, ℕ, zero, suc, ◌+◌, Bool, true, false, List, [], ◌∷◌, ◌++◌, inl, inr, map, refl, sym, ap, subst, ◌∙◌, arith}
+use Rattle.std.specs.Prelude.{Option, Some, Result, Ok, Err, IfErr, slice_get, slice_index_or}
 use Rattle.rvc_base.specs.declared.round_kind.RoundKind.{RoundKind}
 use Rattle.rvc_base.specs.declared.scalar.Scalar.{Scalar}
-use Rattle.rvc_base.specs.declared.scalar.Scalar.TheVariants.{Bool as Truth}
 use Rattle.rvc_io.specs.Channels.{Appends, Channels, WritesOnlyAt}
 use Rattle.channel_writer.specs.Held.{AppendsFront, HoldsFront, WritesOn}
 use Rattle.port_files.specs.Coming.{Reading}
@@ -17,13 +16,12 @@ use Rattle.net_state.specs.Held.{Held}
 use Rattle.net_state.specs.Standing.{StandsIn}
 use Rattle.round_runner.specs.declared.outcome.Plan.{Plan}
 use Rattle.round_runner.specs.declared.outcome.RunEnd.{RunEnd}
-use Rattle.round_runner.specs.Rounds.{OutGetsFront, OutGetsSome}
 use Rattle.round_runner.specs.Running.{IsRunOf, Running, buffer}
 use Rattle.round_runner.specs.Sending.{stored_bytes}
 use Rattle.network_runner.specs.declared.sending.Outlet.{Outlet}
-use Rattle.network_runner.specs.Asking.{ChannelsFit, IsChannel, WritesWithin, seen_run}
+use Rattle.network_runner.specs.Asking.{ChannelsFit, WritesWithin, seen_run}
 use Rattle.network_runner.specs.Keeping.{GoesOn, HasParts, running_of}
-use Rattle.network_runner.specs.Sending.{IsChannelOf, OutletsFit, OutletsOpen, SendsFronts, SendsOnly, SendsTexts, buffered, outgoing_to}
+use Rattle.network_runner.specs.Sending.{IsChannelOf, OutletsFit, SendsFronts, SendsOnly, SendsTexts, buffered, outgoing_to}
 use Rattle.network_runner.specs.Stepping.{IsOutChannel, PutsAll, PutsFronts, SendsFront, SendsOut, left_bytes}
 use Rattle.network_runner.specs.Putting.{PutsOutletFronts, PutsOutlets}
 use Rattle.network_runner.proofs.Loops.{after_it, none_front, whole_front}

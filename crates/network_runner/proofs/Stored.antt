@@ -1,5 +1,5 @@
 -- A token that is stored stays when it is stored again.
-use Rattle.std.proofs.Common.{◌≡◌, ℕ, suc, ◌+◌, ◌-◌, ◌*◌, ◌%◌, ◌^◌, ◌<◌, ◌≤◌, Bool, true, false, List, [], ◌∷◌, ◌++◌, ℤ, pos, negsuc, ◌+ℤ◌, ◌-ℤ◌, length, map, refl, sym, ap, subst, ◌∙◌, arith, pow_pos}
+use Rattle.std.proofs.Common.{◌≡◌, ℕ, suc, ◌-◌, ◌*◌, ◌%◌, ◌^◌, ◌<◌, ◌≤◌, Bool, true, false, List, [], ◌∷◌, ◌++◌, ℤ, pos, negsuc, ◌+ℤ◌, ◌-ℤ◌, map, refl, sym, ap, subst, ◌∙◌, arith, pow_pos}
 use Rattle.std.specs.Prelude.{nat_lt, unsigned_abs, if◌then◌else◌, ◌==◌}
 use Rattle.std.proofs.Math.Nat.{le-mul_of_pos_right, mod-eq_of_lt, mod-lt}
 use Rattle.std.proofs.lemmas.Int.{ints, int_rem_euclid_is}

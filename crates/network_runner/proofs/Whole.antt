@@ -1,27 +1,21 @@
 -- A round's writing, and what its steps come to together.
-use Rattle.std.proofs.Common.{◌≡◌, ◌⊎◌, inl, inr, ℕ, zero, suc, ◌+◌, ◌*◌, ◌<◌, ◌≤◌, Bool, true, false, List, [], ◌∷◌, ◌++◌, ℤ, length, drop, refl, sym, ap, subst, ◌∙◌, arith, append-nil}
-use Rattle.std.specs.Prelude.{Option, None, Some, IfNone, slice_get, slice_index_or}
-use Rattle.rvc_io.specs.Channels.{Channels, WritesOnlyAt}
-use Rattle.rvc_io.specs.Feeds.{Inputs}
-use Rattle.channel_writer.specs.Held.{AppendsFront, HoldsFront, Writes, WritesOn}
-use Rattle.port_files.specs.Coming.{EndIsTrue}
+use Rattle.std.proofs.Common.{◌≡◌, ◌⊎◌, ℕ, ◌+◌, true, false, List, [], ◌∷◌, ◌++◌, length, drop, refl, sym, ap, subst, ◌∙◌, append-nil}
+use Rattle.std.specs.Prelude.{slice_index_or}
+use Rattle.rvc_io.specs.Channels.{Channels}
+use Rattle.channel_writer.specs.Held.{WritesOn}
 use Rattle.net_model.specs.Network.{Network, kind_at}
 use Rattle.net_model.specs.State.{State, sent_to}
 use Rattle.net_model.specs.Cell.{Cell, IsSameActor}
-use Rattle.net_model.specs.Paced.{Block, lines_of}
+use Rattle.net_model.specs.Paced.{lines_of}
 use Rattle.net_model.specs.PortFile.{all_encoded}
-use Rattle.net_state.specs.Moving.{SameActors}
 use Rattle.net_state.proofs.Gaining.{same_actor, some_is}
 use Rattle.round_runner.specs.declared.outcome.RoundEnd.{RoundEnd}
 use Rattle.round_runner.specs.declared.outcome.RoundEnd.TheVariants as round
-use Rattle.round_runner.specs.declared.outcome.RunEnd.{RunEnd}
 use Rattle.round_runner.specs.declared.outcome.RunEnd.TheVariants as end
-use Rattle.round_runner.specs.Firings.{journals}
-use Rattle.round_runner.specs.Rounds.{Answers, text_of}
-use Rattle.round_runner.specs.Running.{FeedsFit, Running, buffer, feed_of, has_feed}
-use Rattle.network_runner.specs.Asking.{Advances, ChannelsFit, FaultIsTrue, FiringsTo, IsChannel, IsSameRun, WritesWithin, end_of, growth_left, one_if, seen_run}
-use Rattle.network_runner.specs.Rounding.{CountsTo, IsNoFault}
-use Rattle.network_runner.specs.Stepping.{CutSoFar, IsOutChannel, KeepsOthers, SendsFront, SendsOut, WritesFront, WritesRound, with_buffers}
+use Rattle.round_runner.specs.Rounds.{text_of}
+use Rattle.round_runner.specs.Running.{Running, buffer}
+use Rattle.network_runner.specs.Asking.{IsChannel, IsSameRun, WritesWithin, seen_run}
+use Rattle.network_runner.specs.Stepping.{CutSoFar, KeepsOthers, SendsFront, WritesFront, with_buffers}
 use Rattle.network_runner.proofs.Loops.{none_front}
 
 pub send_breaks : {X : Type 0} (answer : RoundEnd) (run : Running (Cell X)) (old mid : Channels) → (old.tells ≡ true → mid.held 1 ≡ old.held 1) → SendsFront run old mid → WritesFront answer run old mid

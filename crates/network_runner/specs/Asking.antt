@@ -19,7 +19,7 @@ use Rattle.net_model.specs.Counted.{IsCounted}
 use Rattle.net_model.specs.PacingLaws.{CanBegin}
 use Rattle.net_model.specs.Ready.{IsNetworkOf, IsReady, given_state}
 use Rattle.net_state.specs.Beginning.{HaveSizes, NoneUnlinked}
-use Rattle.net_state.specs.Held.{Held, seen}
+use Rattle.net_state.specs.Held.{seen}
 use Rattle.net_state.specs.Moving.{SameActors}
 use Rattle.round_runner.specs.declared.outcome.Plan.{Plan}
 use Rattle.round_runner.specs.declared.outcome.RoundEnd.{RoundEnd}

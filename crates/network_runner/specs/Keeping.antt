@@ -1,6 +1,6 @@
 -- What a runner keeps between its calls.
 -- Not trusted: no promise is read with it.
-use Rattle.std.specs.Prelude.{◌≡◌, ℕ, suc, ◌+◌, ◌-◌, ◌*◌, ◌≤◌, ◌<◌, Bool, true, false, List, [], ◌∷◌, length, map, slice_get, slice_index_or, Option, None, Some}
+use Rattle.std.specs.Prelude.{◌≡◌, ℕ, ◌+◌, ◌*◌, ◌≤◌, ◌<◌, Bool, true, false, List, length, map, slice_get, slice_index_or, Option, None, Some}
 use Rattle.rvc_base.specs.declared.round_kind.RoundKind.{RoundKind}
 use Rattle.rvc_base.specs.Storing.{IsSize}
 use Rattle.port_files.specs.Coming.{Reading}

@@ -1,6 +1,6 @@
-//! Runs of any network: rounds that deliver, fire and write, until an end.
+//! Rounds of any network: deliver, fire, write.
 //!
-//! A [`Runner`] is made of cells, their wiring, a plan and a policy, and makes rounds one by one or until an end.
+//! A [`Runner`] holds cells, their wiring, a plan and a policy, and makes rounds one by one.
 //!
 //! A round sends out what goes to the network's outputs ([`send_all`]), makes a delivery ([`deliver_all`]), lets the
 //! instances fire that its policy picks and says what closes it ([`fire_round`], or [`end_spent`] if no firing is left),

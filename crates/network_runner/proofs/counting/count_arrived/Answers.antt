@@ -1,4 +1,4 @@
-use Rattle.std.proofs.Common.{◌≡◌, ◌+◌, ◌<◌, suc, length, take, sym, ap, ◌∙◌, refl, arith}
+use Rattle.std.proofs.Common.{◌≡◌, ◌+◌, suc, take, ap, ◌∙◌, refl, arith}
 use Rattle.std.specs.Prelude.{None, slice_index_or, slice_set}
 use Rattle.net_state.specs.declared.filling.Filled.{Filled}
 use Rattle.network_runner.specs.Counting.{arrived_with, capped_sum, rests_with, told_or}

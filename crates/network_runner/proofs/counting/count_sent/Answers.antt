@@ -1,4 +1,4 @@
-use Rattle.std.proofs.Common.{length, map, take, ap, ◌∙◌, refl}
+use Rattle.std.proofs.Common.{length, map, ap, ◌∙◌, refl}
 use Rattle.std.specs.Prelude.{slice_index_or}
 use Rattle.rvc_base.specs.declared.scalar.Scalar.TheVariants.{Bool as Truth}
 use Rattle.net_model.specs.declared.wiring.End.TheVariants.{Leaf as AtLeaf}

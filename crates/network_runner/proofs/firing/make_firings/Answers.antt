@@ -1,12 +1,9 @@
-use Rattle.std.proofs.Common.{rules, ◌≡◌, ◌<◌, length, map, subst, sym, ap, ◌∙◌, refl, arith}
-use Rattle.std.specs.Prelude.{None}
+use Rattle.std.proofs.Common.{rules, ◌≡◌, ◌<◌, length, map, sym, ap, ◌∙◌}
 use Rattle.std.proofs.lemmas.List.{length-map}
-use Rattle.round_runner.specs.declared.outcome.RoundEnd.{RoundEnd}
 use Rattle.round_runner.specs.declared.outcome.RoundEnd.TheVariants as round
 use Rattle.round_runner.specs.declared.outcome.RunEnd.TheVariants as end
 use Rattle.net_state.specs.Held.{seen}
 use Rattle.net_state.specs.Surveyed.{AreUntrapped}
-use Rattle.network_runner.specs.Rounding.{IfGoing}
 use Rattle.network_runner.proofs.Empty.{if_going, none_made}
 use Rattle.network_runner.proofs.firing.make_firings.Goals as goal
 

@@ -11,7 +11,7 @@ use Rattle.round_runner.specs.Sending.{stored_bytes}
 use Rattle.network_runner.specs.declared.sending.Outlet.{Outlet}
 use Rattle.network_runner.specs.Sending.{HasOutlet, OutletsFit, buffered}
 use Rattle.network_runner.proofs.Filling.{at_place}
-use Rattle.network_runner.proofs.Sent.{at_net, none_to_leaf, on_err, one_broken, one_sent, only_there}
+use Rattle.network_runner.proofs.Sent.{at_net, none_to_leaf, one_broken, one_sent, only_there}
 use Rattle.network_runner.proofs.sending.send_link.Goals as goal
 
 index_any : (xs : List (List ℕ)) (k : ℕ) (d : List ℕ) → k < length xs → slice_index_or xs k d ≡ buffered xs k

@@ -29,14 +29,15 @@ invariant_of-self g c =
     let view = running_of c.self.inside.net c.self.inside.ins.items c.self.inside.open_ins.items c.self.inside.outlets.items c.self.inside.readers.items (g.P.Policy.kind c.self.inside.policy) c.self.inside.plan c.self.inside.idle c.self.inside.trace c.self.inside.writers.items c.self.inside.counts c.self.inside.ended in
     let new = running_of c.deliver_all.new.net c.self.inside.ins.items c.self.inside.open_ins.items c.self.inside.outlets.items (take c.self.inside.readers.len (c.deliver_all.new.readers ++ drop (length c.deliver_all.new.readers) c.self.inside.readers.items)) (g.P.Policy.kind c.self.inside.policy) c.self.inside.plan c.self.inside.idle c.self.inside.trace c.self.inside.writers.items c.self.inside.counts c.self.inside.ended in
     let back : (take c.self.inside.readers.len (c.deliver_all.new.readers ++ drop (length c.deliver_all.new.readers) c.self.inside.readers.items)) ≡ c.deliver_all.new.readers = written_back c.self.inside.readers.items c.deliver_all.new.readers c.self.inside.readers.len (omega (arith, c.deliver_all.auto.readers, c.deref_mut.ensures.len)) in
-    let came_back : (take c.self.inside.came.len (c.deliver_all.new.came ++ drop (length c.deliver_all.new.came) c.self.inside.came.items)) ≡ c.deliver_all.new.came = written_back c.self.inside.came.items c.deliver_all.new.came c.self.inside.came.len (omega (arith, c.deliver_all.auto.came, c.deref_mut-2.ensures.len)) in
-    (parts_kept view new c.self.inside.links.items c.self.inside.outlets.items (length c.self.inside.came.items) (length (take c.self.inside.came.len (c.deliver_all.new.came ++ drop (length c.deliver_all.new.came) c.self.inside.came.items))) (length c.self.inside.writers.items) (length c.self.inside.writers.items) c.self.inside.cells
-    (c.deliver_all.ensures.links ∙ c.self.invariant.0.links_are) (as_many_cells g.A.Firing.cell c.deliver_all.new.net.cells c.self.inside.net.cells c.deliver_all.ensures.same_actors.count)
-    (ap (λ fs. length fs) came_back ∙ (c.deliver_all.ensures.still_as_many ∙ ap (λ fs. length fs) c.deref_mut-2.ensures.value)) refl
-    (ap (map is_some) back ∙ (c.deliver_all.ensures.still_there ∙ ap (map is_some) c.deref_mut.ensures.value)) refl refl refl
-    refl refl refl c.self.invariant.0,
-    λ going. going_delivered (seen_run g.A.Firing.cell view) (seen_run g.A.Firing.cell new) (length c.self.inside.marks.items) (g.P.Policy.rounds c.self.inside.policy) (g.P.Policy.instances c.self.inside.policy)
-    c.deliver_all.ensures.same_actors c.deliver_all.ensures.same_marks c.deliver_all.ensures.links c.deliver_all.ensures.capacities refl refl refl refl refl (c.self.invariant.1 going))
+    let came_back : (take c.self.inside.came.len (c.deliver_all.new.came ++ drop (length c.deliver_all.new.came) c.self.inside.came.items)) ≡ c.deliver_all.new.came = written_back c.self.inside.came.items c.deliver_all.new.came c.self.inside.came.len (omega (arith, c.deliver_all.auto.came, c.deref_mut-2.ensures.len)) in (
+      parts_kept view new c.self.inside.links.items c.self.inside.outlets.items (length c.self.inside.came.items) (length (take c.self.inside.came.len (c.deliver_all.new.came ++ drop (length c.deliver_all.new.came) c.self.inside.came.items))) (length c.self.inside.writers.items) (length c.self.inside.writers.items) c.self.inside.cells
+          (c.deliver_all.ensures.links ∙ c.self.invariant.0.links_are) (as_many_cells g.A.Firing.cell c.deliver_all.new.net.cells c.self.inside.net.cells c.deliver_all.ensures.same_actors.count)
+          (ap (λ fs. length fs) came_back ∙ (c.deliver_all.ensures.still_as_many ∙ ap (λ fs. length fs) c.deref_mut-2.ensures.value)) refl
+          (ap (map is_some) back ∙ (c.deliver_all.ensures.still_there ∙ ap (map is_some) c.deref_mut.ensures.value)) refl refl refl
+          refl refl refl c.self.invariant.0,
+      λ going. going_delivered (seen_run g.A.Firing.cell view) (seen_run g.A.Firing.cell new) (length c.self.inside.marks.items) (g.P.Policy.rounds c.self.inside.policy) (g.P.Policy.instances c.self.inside.policy)
+          c.deliver_all.ensures.same_actors c.deliver_all.ensures.same_marks c.deliver_all.ensures.links c.deliver_all.ensures.capacities refl refl refl refl refl (c.self.invariant.1 going),
+    )
 
 pub returns-in_err-deliver_all-clause-feed : goal.returns-in_err-deliver_all-clause-feed
 returns-in_err-deliver_all-clause-feed g c =
@@ -75,14 +76,15 @@ invariant_of-self-2 g c =
     let arrived_back : (take c.self.inside.counts.arrived.len (c.count_arrived.new.arrived ++ drop (length c.count_arrived.new.arrived) c.self.inside.counts.arrived.items)) ≡ c.count_arrived.new.arrived = written_back c.self.inside.counts.arrived.items c.count_arrived.new.arrived c.self.inside.counts.arrived.len (omega (arith, c.count_arrived.auto.arrived, c.deref_mut-3.ensures.len)) in
     let rests_back : (take c.self.inside.counts.rests.len (c.count_arrived.new.rests ++ drop (length c.count_arrived.new.rests) c.self.inside.counts.rests.items)) ≡ c.count_arrived.new.rests = written_back c.self.inside.counts.rests.items c.count_arrived.new.rests c.self.inside.counts.rests.len (omega (arith, c.count_arrived.auto.rests, c.deref_mut-4.ensures.len)) in
     let arrived_is : (take c.self.inside.counts.arrived.len (c.count_arrived.new.arrived ++ drop (length c.count_arrived.new.arrived) c.self.inside.counts.arrived.items)) ≡ arrived_with c.deref-2.result.now c.self.inside.counts.arrived.items = arrived_back ∙ (c.count_arrived.ensures.arrived ∙ ap (arrived_with c.deref-2.result.now) c.deref_mut-3.ensures.value) in
-    let rests_is : (take c.self.inside.counts.rests.len (c.count_arrived.new.rests ++ drop (length c.count_arrived.new.rests) c.self.inside.counts.rests.items)) ≡ rests_with c.deref-2.result.now c.self.inside.counts.rests.items = rests_back ∙ (c.count_arrived.ensures.rests ∙ ap (rests_with c.deref-2.result.now) c.deref_mut-4.ensures.value) in
-    (parts_kept view new c.self.inside.links.items c.self.inside.outlets.items (length c.self.inside.came.items) (length (take c.self.inside.came.len (c.deliver_all.new.came ++ drop (length c.deliver_all.new.came) c.self.inside.came.items))) (length c.self.inside.writers.items) (length c.self.inside.writers.items) c.self.inside.cells
-    (c.deliver_all.ensures.links ∙ c.self.invariant.0.links_are) (as_many_cells g.A.Firing.cell c.deliver_all.new.net.cells c.self.inside.net.cells c.deliver_all.ensures.same_actors.count)
-    (ap (λ fs. length fs) came_back ∙ (c.deliver_all.ensures.still_as_many ∙ ap (λ fs. length fs) c.deref_mut-2.ensures.value)) refl
-    (ap (map is_some) back ∙ (c.deliver_all.ensures.still_there ∙ ap (map is_some) c.deref_mut.ensures.value)) refl refl refl
-    (ap (λ ns. length ns) arrived_is ∙ arrived_long c.deref-2.result.now c.self.inside.counts.arrived.items) (ap (λ ns. length ns) rests_is ∙ rests_long c.deref-2.result.now c.self.inside.counts.rests.items) refl c.self.invariant.0,
-    λ going. going_delivered (seen_run g.A.Firing.cell view) (seen_run g.A.Firing.cell new) (length c.self.inside.marks.items) (g.P.Policy.rounds c.self.inside.policy) (g.P.Policy.instances c.self.inside.policy)
-    c.deliver_all.ensures.same_actors c.deliver_all.ensures.same_marks c.deliver_all.ensures.links c.deliver_all.ensures.capacities refl refl refl refl refl (c.self.invariant.1 going))
+    let rests_is : (take c.self.inside.counts.rests.len (c.count_arrived.new.rests ++ drop (length c.count_arrived.new.rests) c.self.inside.counts.rests.items)) ≡ rests_with c.deref-2.result.now c.self.inside.counts.rests.items = rests_back ∙ (c.count_arrived.ensures.rests ∙ ap (rests_with c.deref-2.result.now) c.deref_mut-4.ensures.value) in (
+      parts_kept view new c.self.inside.links.items c.self.inside.outlets.items (length c.self.inside.came.items) (length (take c.self.inside.came.len (c.deliver_all.new.came ++ drop (length c.deliver_all.new.came) c.self.inside.came.items))) (length c.self.inside.writers.items) (length c.self.inside.writers.items) c.self.inside.cells
+          (c.deliver_all.ensures.links ∙ c.self.invariant.0.links_are) (as_many_cells g.A.Firing.cell c.deliver_all.new.net.cells c.self.inside.net.cells c.deliver_all.ensures.same_actors.count)
+          (ap (λ fs. length fs) came_back ∙ (c.deliver_all.ensures.still_as_many ∙ ap (λ fs. length fs) c.deref_mut-2.ensures.value)) refl
+          (ap (map is_some) back ∙ (c.deliver_all.ensures.still_there ∙ ap (map is_some) c.deref_mut.ensures.value)) refl refl refl
+          (ap (λ ns. length ns) arrived_is ∙ arrived_long c.deref-2.result.now c.self.inside.counts.arrived.items) (ap (λ ns. length ns) rests_is ∙ rests_long c.deref-2.result.now c.self.inside.counts.rests.items) refl c.self.invariant.0,
+      λ going. going_delivered (seen_run g.A.Firing.cell view) (seen_run g.A.Firing.cell new) (length c.self.inside.marks.items) (g.P.Policy.rounds c.self.inside.policy) (g.P.Policy.instances c.self.inside.policy)
+          c.deliver_all.ensures.same_actors c.deliver_all.ensures.same_marks c.deliver_all.ensures.links c.deliver_all.ensures.capacities refl refl refl refl refl (c.self.invariant.1 going),
+    )
 
 pub returns-clause-delivers : goal.returns-clause-delivers
 returns-clause-delivers g c =

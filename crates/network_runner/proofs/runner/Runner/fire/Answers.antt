@@ -1,4 +1,4 @@
-use Rattle.std.proofs.Common.{rules, ◌≡◌, ◌+◌, ◌≤◌, suc, ◌++◌, length, map, take, drop, sym, ap, subst, refl, ◌∙◌, arith}
+use Rattle.std.proofs.Common.{◌≡◌, ◌+◌, ◌≤◌, suc, ◌++◌, length, map, take, drop, sym, ap, subst, refl, ◌∙◌, arith}
 use Rattle.std.specs.Prelude.{None, IfNone, ◌==◌}
 use Rattle.std.specs.Vec.{with_items}
 use Rattle.net_state.specs.Held.{seen}
@@ -34,18 +34,19 @@ invariant_of-self g c =
     let marks_back : (take c.self.inside.marks.len (c.make_firings-made.new.marks ++ drop (length c.make_firings-made.new.marks) c.self.inside.marks.items)) ≡ c.make_firings-made.new.marks = written_back c.self.inside.marks.items c.make_firings-made.new.marks c.self.inside.marks.len (omega (arith, c.make_firings-made.auto.marks, c.deref_mut.ensures.len)) in
     let marks_are : length (take c.self.inside.marks.len (c.make_firings-made.new.marks ++ drop (length c.make_firings-made.new.marks) c.self.inside.marks.items)) ≡ length c.self.inside.marks.items = ap (λ ms. length ms) marks_back ∙ (c.make_firings-made.ensures.still_as_many ∙ ap (λ ms. length ms) c.deref_mut.ensures.value) in
     let next : c.self.inside.counts.rounds + 1 ≡ suc c.self.inside.counts.rounds = omega arith in
-    let budget : c.self.inside.counts.firings + c.args.left ≤ 1000000000000 = subst (λ r. r.counts.firings + c.args.left ≤ 1000000000000) (sym c.self.view_is) c.requires.budget in
-    (parts_kept view new c.self.inside.links.items c.self.inside.outlets.items (length c.self.inside.came.items) (length c.self.inside.came.items) (length c.self.inside.writers.items) (length c.self.inside.writers.items) c.self.inside.cells
-    (c.make_firings-made.ensures.links ∙ c.self.invariant.0.links_are) (as_many_cells g.A.Firing.cell c.make_firings-made.new.net.cells c.self.inside.net.cells c.make_firings-made.ensures.same_actors.count)
-    refl refl refl refl refl refl refl refl
-    (ap (λ ns. length ns) sent_is ∙ sent_long (map g.A.Firing.cell c.make_firings-made.new.net.cells) c.deref.result.now c.self.inside.counts.sent.items) c.self.invariant.0,
-    λ still.
-    let on : end_of c.make_firings-made.result.answer ≡ None = sym c.end_of-self-inside.ensures ∙ still in
-    going_fired (seen_run g.A.Firing.cell view) (seen_run g.A.Firing.cell new) (length c.self.inside.marks.items) (g.P.Policy.rounds c.self.inside.policy) (g.P.Policy.instances c.self.inside.policy)
-    (length (take c.self.inside.marks.len (c.make_firings-made.new.marks ++ drop (length c.make_firings-made.new.marks) c.self.inside.marks.items))) (g.P.Policy.rounds c.make_firings-made.new.policy) (g.P.Policy.instances c.make_firings-made.new.policy) c.make_firings-made.result.answer c.make_firings-made.result.fired
-    c.make_firings-made.ensures.same_actors (if_goes c.make_firings-made.result.answer (AreUntrapped (map g.A.Firing.cell c.make_firings-made.new.net.cells)) on c.make_firings-made.ensures.untrapped) c.make_firings-made.ensures.links c.make_firings-made.ensures.grows
-    refl refl c.self.invariant.0.few_grown next refl refl (omega (arith, budget, c.make_firings-made.ensures.within)) c.make_firings-made.ensures.counted c.make_firings-made.ensures.not_idle_again on
-    marks_are (if_goes c.make_firings-made.result.answer _ on c.make_firings-made.ensures.asked ∙ next) (if_goes c.make_firings-made.result.answer _ on c.make_firings-made.ensures.instances ∙ ap (λ ms. length ms) c.deref_mut.ensures.value) goes)
+    let budget : c.self.inside.counts.firings + c.args.left ≤ 1000000000000 = subst (λ r. r.counts.firings + c.args.left ≤ 1000000000000) (sym c.self.view_is) c.requires.budget in (
+      parts_kept view new c.self.inside.links.items c.self.inside.outlets.items (length c.self.inside.came.items) (length c.self.inside.came.items) (length c.self.inside.writers.items) (length c.self.inside.writers.items) c.self.inside.cells
+          (c.make_firings-made.ensures.links ∙ c.self.invariant.0.links_are) (as_many_cells g.A.Firing.cell c.make_firings-made.new.net.cells c.self.inside.net.cells c.make_firings-made.ensures.same_actors.count)
+          refl refl refl refl refl refl refl refl
+          (ap (λ ns. length ns) sent_is ∙ sent_long (map g.A.Firing.cell c.make_firings-made.new.net.cells) c.deref.result.now c.self.inside.counts.sent.items) c.self.invariant.0,
+      λ still.
+          let on : end_of c.make_firings-made.result.answer ≡ None = sym c.end_of-self-inside.ensures ∙ still in
+          going_fired (seen_run g.A.Firing.cell view) (seen_run g.A.Firing.cell new) (length c.self.inside.marks.items) (g.P.Policy.rounds c.self.inside.policy) (g.P.Policy.instances c.self.inside.policy)
+          (length (take c.self.inside.marks.len (c.make_firings-made.new.marks ++ drop (length c.make_firings-made.new.marks) c.self.inside.marks.items))) (g.P.Policy.rounds c.make_firings-made.new.policy) (g.P.Policy.instances c.make_firings-made.new.policy) c.make_firings-made.result.answer c.make_firings-made.result.fired
+          c.make_firings-made.ensures.same_actors (if_goes c.make_firings-made.result.answer (AreUntrapped (map g.A.Firing.cell c.make_firings-made.new.net.cells)) on c.make_firings-made.ensures.untrapped) c.make_firings-made.ensures.links c.make_firings-made.ensures.grows
+          refl refl c.self.invariant.0.few_grown next refl refl (omega (arith, budget, c.make_firings-made.ensures.within)) c.make_firings-made.ensures.counted c.make_firings-made.ensures.not_idle_again on
+          marks_are (if_goes c.make_firings-made.result.answer _ on c.make_firings-made.ensures.asked ∙ next) (if_goes c.make_firings-made.result.answer _ on c.make_firings-made.ensures.instances ∙ ap (λ ms. length ms) c.deref_mut.ensures.value) goes,
+    )
 
 pub returns-clause-fires : goal.returns-clause-fires
 returns-clause-fires g c =

@@ -1,4 +1,4 @@
-use Rattle.std.proofs.Common.{◌≡◌, sym, ap, subst, refl}
+use Rattle.std.proofs.Common.{sym, ap, subst}
 use Rattle.net_state.specs.Held.{seen}
 use Rattle.network_runner.specs.Asking.{IsSameRun, seen_run}
 use Rattle.network_runner.proofs.Assembled.{breaks_writing, leaves_so_far}

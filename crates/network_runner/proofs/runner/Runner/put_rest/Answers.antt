@@ -1,13 +1,12 @@
 use Rattle.std.proofs.Common.{rules, inl, inr, ◌≡◌, ◌++◌, length, map, take, drop, sym, ap, subst, refl, ◌∙◌, arith}
 use Rattle.std.specs.Prelude.{OnErr, OnOk, IfErr}
 use Rattle.net_state.proofs.Slices.{written_back}
-use Rattle.round_runner.specs.Running.{Running}
-use Rattle.network_runner.specs.Asking.{ChannelsFit, IsChannel, WritesWithin, seen_run}
+use Rattle.network_runner.specs.Asking.{ChannelsFit, IsChannel, WritesWithin}
 use Rattle.network_runner.specs.Keeping.{HasParts, running_of}
 use Rattle.network_runner.specs.Sending.{IsChannelOf, OutletsFit}
-use Rattle.network_runner.specs.Stepping.{IsOutChannel, PutsAll, PutsFronts, SendsFront, SendsOut}
+use Rattle.network_runner.specs.Stepping.{PutsAll, PutsFronts}
 use Rattle.network_runner.proofs.Lines.{err_so, on_err, on_ok}
-use Rattle.network_runner.proofs.Parted.{all_so, err_as, fronts_so, going_still, only_within, out_channel, outlets_fit, parts_still, sends_front, sends_out, trace_front, within_so}
+use Rattle.network_runner.proofs.Parted.{all_so, err_as, fronts_so, going_still, only_within, out_channel, outlets_fit, parts_still, trace_front, within_so}
 use Rattle.network_runner.proofs.runner.Runner.put_rest.Goals as goal
 
 pub flush_all-requires-clause-open : goal.flush_all-requires-clause-open

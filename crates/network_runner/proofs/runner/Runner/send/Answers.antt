@@ -1,13 +1,12 @@
 use Rattle.std.proofs.Common.{◌≡◌, ◌++◌, length, map, take, drop, sym, ap, subst, refl, ◌∙◌, arith}
 use Rattle.std.specs.Prelude.{OnErr, OnOk, IfErr}
 use Rattle.net_state.proofs.Slices.{written_back}
-use Rattle.round_runner.specs.Running.{Running}
-use Rattle.network_runner.specs.Asking.{ChannelsFit, IsChannel, WritesWithin, seen_run}
+use Rattle.network_runner.specs.Asking.{ChannelsFit, WritesWithin, seen_run}
 use Rattle.network_runner.specs.Keeping.{HasParts, running_of}
 use Rattle.network_runner.specs.Sending.{OutletsFit}
-use Rattle.network_runner.specs.Stepping.{IsOutChannel, PutsAll, PutsFronts, SendsFront, SendsOut}
-use Rattle.network_runner.proofs.Lines.{err_so, on_err, on_ok}
-use Rattle.network_runner.proofs.Parted.{all_so, err_as, fronts_so, going_still, only_within, out_channel, outlets_fit, parts_still, sends_front, sends_out, trace_front, within_so}
+use Rattle.network_runner.specs.Stepping.{IsOutChannel, SendsFront, SendsOut}
+use Rattle.network_runner.proofs.Lines.{on_err, on_ok}
+use Rattle.network_runner.proofs.Parted.{err_as, going_still, only_within, out_channel, outlets_fit, parts_still, sends_front, sends_out}
 use Rattle.network_runner.proofs.runner.Runner.send.Goals as goal
 
 pub send_all-requires-clause-outlets : goal.send_all-requires-clause-outlets
