@@ -10,8 +10,6 @@ use Rattle.net_model.specs.Paced.{lines_of}
 use Rattle.net_model.specs.PortFile.{all_encoded}
 use Rattle.net_state.proofs.Gaining.{same_actor, some_is}
 use Rattle.round_runner.specs.declared.outcome.RoundEnd.{RoundEnd}
-use Rattle.round_runner.specs.declared.outcome.RoundEnd.TheVariants as round
-use Rattle.round_runner.specs.declared.outcome.RunEnd.TheVariants as end
 use Rattle.round_runner.specs.Rounds.{text_of}
 use Rattle.round_runner.specs.Running.{Running, buffer}
 use Rattle.network_runner.specs.Asking.{IsChannel, IsSameRun, WritesWithin, seen_run}

@@ -1,7 +1,5 @@
 use Rattle.std.proofs.Common.{rules, ◌≡◌, ◌<◌, length, map, sym, ap, ◌∙◌}
 use Rattle.std.proofs.lemmas.List.{length-map}
-use Rattle.round_runner.specs.declared.outcome.RoundEnd.TheVariants as round
-use Rattle.round_runner.specs.declared.outcome.RunEnd.TheVariants as end
 use Rattle.net_state.specs.Held.{seen}
 use Rattle.net_state.specs.Surveyed.{AreUntrapped}
 use Rattle.network_runner.proofs.Empty.{if_going, none_made}
