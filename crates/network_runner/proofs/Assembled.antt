@@ -1,11 +1,11 @@
 -- A round of a runner, put together from its steps.
-use Rattle.std.proofs.Common.{◌≡◌, ℕ, suc, ◌+◌, ◌≤◌, Bool, true, false, List, [], ◌∷◌, ◌++◌, length, map, refl, sym, ap, subst, ◌∙◌, arith}
+use Rattle.std.proofs.Common.{◌≡◌, inr, ℕ, suc, ◌+◌, ◌≤◌, Bool, true, false, List, [], ◌∷◌, ◌++◌, length, map, refl, sym, ap, subst, ◌∙◌, arith}
 use Rattle.std.specs.Prelude.{None, Some, slice_get, slice_index_or, ◌==◌}
 use Rattle.trace_text.specs.declared.line.Line.{Line}
 use Rattle.trace_text.specs.declared.line.Line.TheVariants.{Fire as FireLine, Trap as TrapLine, Quiet, Stall, Budget}
-use Rattle.rvc_io.specs.Channels.{Channels, WritesOnlyAt}
+use Rattle.rvc_io.specs.Channels.{Channels}
 use Rattle.rvc_io.specs.Feeds.{Inputs}
-use Rattle.channel_writer.specs.Held.{Writes, WritesOn}
+use Rattle.channel_writer.specs.Held.{AppendsFront, WritesOn}
 use Rattle.net_model.specs.Network.{Network}
 use Rattle.net_model.specs.State.{Flow, State, sent_to}
 use Rattle.net_model.specs.Cell.{Cell}
@@ -19,7 +19,7 @@ use Rattle.round_runner.specs.declared.outcome.RoundEnd.{RoundEnd}
 use Rattle.round_runner.specs.declared.outcome.RoundEnd.TheVariants as round
 use Rattle.round_runner.specs.declared.outcome.RunEnd.{RunEnd}
 use Rattle.round_runner.specs.declared.outcome.RunEnd.TheVariants as end
-use Rattle.round_runner.specs.Rounds.{Answers, CountsOn, EachOut, Made, OutGetsSome, TraceGetsSome, end_line, out_bytes, text_of}
+use Rattle.round_runner.specs.Rounds.{Answers, BrokenOff, CountsOn, EachOut, Made, OutGetsSome, TraceGetsSome, end_line, out_bytes, text_of}
 use Rattle.round_runner.specs.Running.{IsRunOf, Running, StandsWith, buffer, moment_of, pace_of}
 use Rattle.network_runner.specs.Asking.{IsSameRun}
 use Rattle.network_runner.specs.Delivering.{IsDelivered}
@@ -30,7 +30,7 @@ use Rattle.net_model.specs.PortFile.{all_encoded}
 use Rattle.net_state.specs.Standing.{IsNetOf}
 use Rattle.round_runner.specs.Running.{AreFedBy}
 use Rattle.network_runner.specs.Counting.{sent_with}
-use Rattle.network_runner.specs.Stepping.{ClosedSoFar, DeliversRun, FiresRun, KeepsOthers, LeavesSoFar, SendsOut, left_bytes, left_to, turn_of}
+use Rattle.network_runner.specs.Stepping.{ClosedSoFar, DeliversRun, FiresRun, KeepsOthers, LeavesSoFar, WritesFront, WritesRound, left_bytes, left_to, turn_of}
 use Rattle.network_runner.proofs.Counted.{counted_more}
 use Rattle.network_runner.proofs.Flowing.{AllGoneOn, round_gone}
 use Rattle.network_runner.proofs.Leaving.{fed_still, out_left, outgoing_is, whole_after}
@@ -94,7 +94,7 @@ tail_quiet answer block is =
     let count : length (firings_shown (fire_lines 0 block.bursts)) ≡ count_of block.bursts = fire_shows 0 block.bursts in
     (omega (arith, no, sum, one), omega (arith, none, all, count))
 
-module _ {X : Type 0} (net : Network X) (inputs : List (List ℕ)) (budget left : ℕ) (s : State X) (run delivered fired new : Running (Cell X)) (feeds feeds_new : Inputs) (old now last : Channels) (answer : RoundEnd)
+module _ {X : Type 0} (net : Network X) (inputs : List (List ℕ)) (budget left : ℕ) (s : State X) (run delivered fired new : Running (Cell X)) (feeds feeds_new : Inputs) (old last : Channels) (answer : RoundEnd)
     (stands : StandsWith net inputs run feeds s)
     (deliver : DeliversRun run delivered feeds feeds_new) (same : IsSameRun run delivered) (others : KeepsOthers run delivered)
     (fires : FiresRun left answer delivered fired) (same_fired : IsSameRun delivered fired) (trace_fired : fired.trace ≡ delivered.trace) (buffers_fired : fired.buffers ≡ delivered.buffers) (readings_fired : fired.readings ≡ delivered.readings)
@@ -172,26 +172,41 @@ module _ {X : Type 0} (net : Network X) (inputs : List (List ℕ)) (budget left 
       (fires.count ∙ ap suc deliver.rounds)
       (let total : fired.counts.firings ≡ delivered.counts.firings + fires.fired = fires.firings in let had : delivered.counts.firings ≡ run.counts.firings = deliver.firings in let few : fires.fired ≤ left = fires.within in omega (arith, total, had, few, within))
 
-  module _ (sent : Running (Cell X)) (sends : SendsOut fired sent old now) (tells : now.tells ≡ old.tells) (trace_still : old.tells ≡ true → now.held 1 ≡ old.held 1) (trace_sent : sent.trace ≡ fired.trace)
-      (notes : WritesOn 1 now last sent.trace new.trace (text_of (lines_of block))) (only : WritesOnlyAt 1 now last) (buffers_new : new.buffers ≡ sent.buffers)
+  -- what goes out to an output is what is left to go out where the fired cells stand
+  out_text : (p : ℕ) → out_bytes net p s (sent_to p net.links end_state.flows) ≡ left_bytes net round_made.kept p
+  out_text p = out_left net run.held s stands.stands stands.is_run_of.wired end_state (count_of block.bursts) gone.0 gone.1 p ∙ ap (λ fs. all_encoded (kind_at net.outs p) (left_to p net.links fs)) round_made.flows_are
+
+  written_too : (p : ℕ) → slice_index_or run.writes p false ≡ true → slice_index_or fired.writes p false ≡ true
+  written_too p is = ap (λ ws. slice_index_or ws p false) (same_fired.same_writes ∙ same.same_writes) ∙ is
+
+  buffer_still : (p : ℕ) → buffer fired p ≡ buffer run p
+  buffer_still p = ap (λ bs. slice_index_or bs p []) (buffers_fired ∙ others.buffers)
+
+  pub breaks_writing : WritesFront answer fired old last → BrokenOff net budget left s run old last
+  breaks_writing fronts = inr (record {
+    block = block;
+    last = end_state;
+    is_round = is_round;
+    breaks = record {
+      trace = subst (λ t. AppendsFront 1 old last (t ++ text_of (lines_of block))) (trace_fired ∙ others.trace) (fronts.lines block round_made.answers round_made.noted);
+      outputs = λ p is.
+          subst (λ b. AppendsFront (2 + p) old last (b ++ out_bytes net p s (sent_to p net.links end_state.flows))) (buffer_still p)
+          (subst (λ t. AppendsFront (2 + p) old last (buffer fired p ++ t)) (sym (out_text p))
+          (fronts.outputs net round_made.kept is_run_of round_made.stands.now p (written_too p is)));
+    };
+  })
+
+  module _ (wrote : WritesRound answer fired new old last)
       (held_new : new.held ≡ fired.held) (counts_new : new.counts ≡ fired.counts) (readings_new : new.readings ≡ fired.readings) (ins_new : new.ins ≡ fired.ins) (outs_new : new.outs ≡ fired.outs)
       (rounds_new : new.rounds ≡ fired.rounds) (idle_new : new.idle ≡ fired.idle) where
     trace : TraceGetsSome run new old last (text_of (lines_of block))
-    trace told =
-        subst (λ p. Writes (old.held 1) p (last.held 1) new.trace (text_of (lines_of block))) (trace_sent ∙ (trace_fired ∙ others.trace))
-        (subst (λ h. Writes h sent.trace (last.held 1) new.trace (text_of (lines_of block))) (trace_still told) (notes (tells ∙ told)))
+    trace = subst (λ t. WritesOn 1 old last t new.trace (text_of (lines_of block))) (trace_fired ∙ others.trace) (wrote.lines block round_made.answers round_made.noted)
 
     outputs : EachOut net run (OutGetsSome run new old last) s (λ p. sent_to p net.links end_state.flows)
-    outputs p is told =
-        let writes : slice_index_or fired.writes p false ≡ true = ap (λ ws. slice_index_or ws p false) (same_fired.same_writes ∙ same.same_writes) ∙ is in
-        let text : out_bytes net p s (sent_to p net.links end_state.flows) ≡ left_bytes net round_made.kept p =
-        out_left net run.held s stands.stands stands.is_run_of.wired end_state (count_of block.bursts) gone.0 gone.1 p ∙ ap (λ fs. all_encoded (kind_at net.outs p) (left_to p net.links fs)) round_made.flows_are in
-        let wrote : Writes (old.held (2 + p)) (buffer fired p) (now.held (2 + p)) (buffer sent p) (left_bytes net round_made.kept p) = sends net round_made.kept is_run_of round_made.stands.now p writes told in
-        let held : last.held (2 + p) ≡ now.held (2 + p) = only.same_held (tells ∙ told) (2 + p) (λ e. absurd (omega (arith, e))) in
-        subst (Writes (old.held (2 + p)) (buffer run p) (last.held (2 + p)) (buffer new p)) (sym text)
-        (subst (λ b. Writes (old.held (2 + p)) (buffer run p) (last.held (2 + p)) b (left_bytes net round_made.kept p)) (ap (λ bs. slice_index_or bs p []) (sym buffers_new))
-        (subst (λ b. Writes (old.held (2 + p)) b (last.held (2 + p)) (buffer sent p) (left_bytes net round_made.kept p)) (ap (λ bs. slice_index_or bs p []) (buffers_fired ∙ others.buffers))
-        (subst (λ h. Writes (old.held (2 + p)) (buffer fired p) h (buffer sent p) (left_bytes net round_made.kept p)) (sym held) wrote)))
+    outputs p is =
+        subst (λ b. WritesOn (2 + p) old last b (buffer new p) (out_bytes net p s (sent_to p net.links end_state.flows))) (buffer_still p)
+        (subst (λ t. WritesOn (2 + p) old last (buffer fired p) (buffer new p) t) (sym (out_text p))
+        (wrote.outputs net round_made.kept is_run_of round_made.stands.now p (written_too p is)))
 
     counts : CountsOn net inputs s (lines_of block) end_state run.counts new.counts
     counts = subst (CountsOn net inputs s (lines_of block) end_state run.counts) (sym counts_new) counts_on

@@ -1,5 +1,5 @@
 -- How far the input links were filled.
-use Rattle.std.proofs.Common.{◌≡◌, ◌≢◌, ℕ, zero, suc, ◌+◌, ◌-◌, ◌<◌, ◌≤◌, true, List, [], ◌∷◌, length, take, refl, sym, ap, subst, ◌∙◌, ⊎_elim, arith}
+use Rattle.std.proofs.Common.{◌≡◌, ◌≢◌, ℕ, zero, suc, ◌+◌, ◌-◌, ◌<◌, ◌≤◌, true, List, [], ◌∷◌, length, map, take, refl, sym, ap, subst, ◌∙◌, ⊎_elim, arith}
 use Rattle.std.specs.Prelude.{Option, None, Some, IfNone, IfSome, is_some, slice_get, slice_index_or, slice_set, if◌then◌else◌}
 use Rattle.std.proofs.lemmas.Bool.{cases_eq, cases_lt}
 use Rattle.std.proofs.lemmas.List.{length-set}
@@ -149,6 +149,7 @@ pub record IsFilling {X : Type 0} (l feed : ℕ) (links : List Link) (old now : 
   pub rests : IsAtRest old → IsAtRest now
   pub fit : ReadersFit links readings feeds
   pub same_open : SameOpen fo feeds
+  pub as_there : map is_some readings ≡ map is_some before
   pub as_many : length came ≡ length came_old
   pub actors : SameActors old.cells now.cells
   pub marks : SameMarks old.cells now.cells
@@ -370,6 +371,7 @@ filling_starts links held readings feeds came fit = record {
   rests = λ rest. rest;
   fit = fit;
   same_open = record { same_names = λ name. refl; same_open = λ feed. refl; faults_stay = omega arith };
+  as_there = refl;
   as_many = refl;
   actors = record { count = refl; each = λ i before after was is. subst (IsSameActor before) (some_is before after (sym was ∙ is)) (same_actor before) };
   marks = λ i before after was is. ap (λ cell. cell.trapped) (some_is after before (sym is ∙ was));
@@ -377,6 +379,13 @@ filling_starts links held readings feeds came fit = record {
   capacities = refl;
   waited = refl;
 }
+
+-- there is a reader where there was one
+still_there : (readings : List (Option Reading)) (l : ℕ) (reader after : Option Reading) → slice_get readings l ≡ Some reader → is_some after ≡ is_some reader
+    → map is_some (slice_set readings l after) ≡ map is_some readings
+still_there [] l reader after at same = refl
+still_there (first ∷ readings) zero reader after at same = ap (λ b. b ∷ map is_some readings) (same ∙ ap is_some (sym (some_is first reader at)))
+still_there (first ∷ readings) (suc l) reader after at same = ap (λ bs. is_some first ∷ bs) (still_there readings l reader after at same)
 
 opens_then : (feed : ℕ) (a b c : Inputs) → SameOpen a b → PullsOnlyAt feed b c → SameOpen a c
 opens_then feed a b c so_far pulls = record {
@@ -418,6 +427,9 @@ module _ {X : Type 0} (l feed : ℕ) (links : List Link) (old now new : Held (Ce
         let on = some_at links l low in
         fit_now links readings feeds fn so_far.fit l feed on.0 reader after on.1 there so_far.feed_is still ends unread pulls
 
+    pub there_after : map is_some (slice_set readings l after) ≡ map is_some before
+    there_after = still_there readings l reader after there still ∙ so_far.as_there
+
     pub open_after : SameOpen fo fn
     open_after = opens_then feed fo feeds fn so_far.same_open pulls
 
@@ -448,6 +460,7 @@ module _ {X : Type 0} (l feed : ℕ) (links : List Link) (old now new : Held (Ce
             rests = λ rest. fills.rests (so_far.rests rest);
             fit = fit_after;
             same_open = open_after;
+            as_there = there_after;
             as_many = length-set came l filled ∙ so_far.as_many;
             actors = actors_after;
             marks = marks_after;

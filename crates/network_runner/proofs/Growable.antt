@@ -14,7 +14,7 @@ use Rattle.network_runner.specs.Closing.{MayGrow}
 use Rattle.network_runner.specs.Rounding.{CanGrow, HasEnds}
 
 module _ {X : Type 0} (old new : List (Cell X)) (same : SameActors old new) where
-  gives_same : (i a p : ℕ) → gives_of (slice_get new i) a p ≡ gives_of (slice_get old i) a p
+  pub gives_same : (i a p : ℕ) → gives_of (slice_get new i) a p ≡ gives_of (slice_get old i) a p
   gives_same i a p = by_option (slice_get new i) refl
     where
       some_none : {A : Type 0} {x : A} → Some x ≡ None → ⊥

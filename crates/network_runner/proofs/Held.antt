@@ -12,7 +12,8 @@ use Rattle.net_state.specs.Held.{Held}
 use Rattle.net_state.specs.Working.{CanHold, IsAtRest, LacksFrom, LacksOnLink, gives_of}
 use Rattle.round_runner.specs.Bursting.{AreFresh}
 use Rattle.round_runner.specs.Running.{Running}
-use Rattle.network_runner.specs.Keeping.{GivesWithin, GoesOn, growth_left}
+use Rattle.network_runner.specs.Asking.{growth_left}
+use Rattle.network_runner.specs.Keeping.{GivesWithin, GoesOn}
 use Rattle.network_runner.specs.Rounding.{CanGrow, HasEnds}
 
 -- Before the firings.

@@ -18,4 +18,8 @@ pub mod Empty
 pub mod Assembled
 pub mod Loops
 pub mod Held
+pub mod Going
+pub mod Fitting
 pub mod Parted
+pub mod Whole
+pub mod Finished

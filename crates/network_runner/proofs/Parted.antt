@@ -49,6 +49,9 @@ module _ {C : Type 0} (held : Held C) (ins : List Port) (reads : List Bool) (out
     reader_for_each = parts.reader_for_each;
     readers = parts.readers;
     bursts = parts.bursts;
+    arrived_for_each = parts.arrived_for_each;
+    rest_for_each = parts.rest_for_each;
+    sent_for_each = parts.sent_for_each;
     few_grown = parts.few_grown;
   }
 

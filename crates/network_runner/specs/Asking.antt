@@ -1,6 +1,6 @@
 -- What a runner asks of its callers, and what its calls leave, by what the code holds.
 -- Trusted: part of what a promise means.
-use Rattle.std.specs.Prelude.{◌≡◌, ◌⊎◌, ℕ, ◌+◌, ◌≤◌, Bool, true, false, List, [], length, map, slice_get, slice_index_or, Option, None, Some}
+use Rattle.std.specs.Prelude.{◌≡◌, ◌⊎◌, ℕ, ◌+◌, ◌-◌, ◌*◌, ◌≤◌, Bool, true, false, List, [], ◌∷◌, length, map, slice_get, slice_index_or, Option, None, Some}
 use Rattle.rvc_base.specs.declared.round_kind.RoundKind.{RoundKind}
 use Rattle.rvc_base.specs.declared.scalar.Scalar.{Scalar}
 use Rattle.rvc_base.specs.Storing.{IsSize}
@@ -143,6 +143,21 @@ FiringsTo (round.Fired n) old new = new ≡ old + n
 FiringsTo round.Idle old new = new ≡ old
 FiringsTo (round.Grew link capacity) old new = new ≡ old
 FiringsTo (round.End how) old new = old ≤ new
+
+-- how much links of these capacities may still grow, together
+abbrev pub growth_left : ℕ → List ℕ → ℕ
+growth_left grow [] = 0
+growth_left grow (capacity ∷ capacities) = (grow - capacity) + growth_left grow capacities
+
+abbrev pub one_if : Bool → ℕ
+one_if true = 1
+one_if false = 0
+
+-- A round brings the run nearer to its end: it fires, or a link grows, or it is the first that fires nothing.
+abbrev pub Advances : {C : Type 0} → Running C → Running C → Type 0
+Advances old new =
+    1 + 2 * growth_left new.grow new.held.capacities + one_if old.idle + 2 * old.counts.firings
+    ≤ 2 * growth_left old.grow old.held.capacities + one_if new.idle + 2 * new.counts.firings
 
 -- the feed of an input link that has one, and a channel that is written
 abbrev pub IsFeed : {C : Type 0} → Running C → ℕ → Type 0

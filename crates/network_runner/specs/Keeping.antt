@@ -1,6 +1,6 @@
 -- What a runner keeps between its calls.
 -- Not trusted: no promise is read with it.
-use Rattle.std.specs.Prelude.{◌≡◌, ℕ, ◌+◌, ◌-◌, ◌*◌, ◌≤◌, ◌<◌, Bool, true, false, List, [], ◌∷◌, length, map, slice_get, slice_index_or, Option, None, Some}
+use Rattle.std.specs.Prelude.{◌≡◌, ℕ, ◌+◌, ◌*◌, ◌≤◌, ◌<◌, Bool, true, false, List, length, map, slice_get, slice_index_or, Option, None, Some}
 use Rattle.rvc_base.specs.declared.round_kind.RoundKind.{RoundKind}
 use Rattle.rvc_base.specs.Storing.{IsSize}
 use Rattle.port_files.specs.Coming.{Reading}
@@ -20,7 +20,7 @@ use Rattle.round_runner.specs.declared.outcome.Plan.{Plan}
 use Rattle.round_runner.specs.declared.outcome.RunEnd.{RunEnd}
 use Rattle.round_runner.specs.Running.{Running, has_feed}
 use Rattle.network_runner.specs.declared.sending.Outlet.{Outlet}
-use Rattle.network_runner.specs.Asking.{kinds_of}
+use Rattle.network_runner.specs.Asking.{growth_left, kinds_of, one_if}
 use Rattle.network_runner.specs.Sending.{HasOutlet, max_outlets}
 
 -- a runner as contracts see it, by its parts
@@ -68,16 +68,10 @@ pub record HasParts {C : Type 0} (run : Running C) (links : List Link) (outlets 
   pub readers : (l : ℕ) (link : Link) (reader : Option Reading) → slice_get links l ≡ Some link
       → slice_get run.readings l ≡ Some reader → ReaderFits (has_feed run.reads link.from) reader
   pub bursts : (1 ≤ run.burst) × (run.burst ≤ 65536)
+  pub arrived_for_each : length run.counts.arrived.items ≡ length links
+  pub rest_for_each : length run.counts.rests.items ≡ length links
+  pub sent_for_each : length run.counts.sent.items ≡ length outlets
   pub few_grown : run.grow ≤ max_grow
-
--- how much links of these capacities may still grow, together
-abbrev pub growth_left : ℕ → List ℕ → ℕ
-growth_left grow [] = 0
-growth_left grow (capacity ∷ capacities) = (grow - capacity) + growth_left grow capacities
-
-abbrev pub one_if : Bool → ℕ
-one_if true = 1
-one_if false = 0
 
 -- no more rounds can come than firings and growths make room for
 abbrev pub most_growth : ℕ

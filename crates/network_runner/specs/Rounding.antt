@@ -65,6 +65,18 @@ is_trap (round.End end.Budget) = false
 is_trap (round.End (end.ReadFault feed)) = false
 is_trap (round.End (end.WriteFault channel)) = false
 
+-- a round wasn't cut short by a fault of reading or writing
+abbrev pub IsNoFault : RoundEnd → Type 0
+IsNoFault (round.Fired n) = Unit {0}
+IsNoFault round.Idle = Unit {0}
+IsNoFault (round.Grew link capacity) = Unit {0}
+IsNoFault (round.End end.Quiet) = Unit {0}
+IsNoFault (round.End (end.Trapped inst action trap)) = Unit {0}
+IsNoFault (round.End (end.Stalled inst action link)) = Unit {0}
+IsNoFault (round.End end.Budget) = Unit {0}
+IsNoFault (round.End (end.ReadFault feed)) = ⊥
+IsNoFault (round.End (end.WriteFault channel)) = ⊥
+
 -- if the run goes on, this is so
 abbrev pub IfGoing : RoundEnd → Type 0 → Type 0
 IfGoing (round.Fired n) P = P

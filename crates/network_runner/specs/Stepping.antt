@@ -17,7 +17,8 @@ use Rattle.round_runner.specs.declared.outcome.RoundEnd.{RoundEnd}
 use Rattle.round_runner.specs.declared.outcome.RoundEnd.TheVariants as round
 use Rattle.round_runner.specs.declared.outcome.RunEnd.{RunEnd}
 use Rattle.round_runner.specs.declared.outcome.RunEnd.TheVariants as end
-use Rattle.round_runner.specs.Rounds.{Answers, BrokenOff, CountsOn, EachOut, Made, OutGetsFront, OutGetsSome, TraceGetsSome, text_of}
+use Rattle.round_runner.specs.Firings.{journals}
+use Rattle.round_runner.specs.Rounds.{Answers, BrokenOff, CountsOn, EachOut, Made, OutGetsFront, OutGetsSome, TraceGetsFront, TraceGetsSome, text_of}
 use Rattle.round_runner.specs.Running.{IsRunOf, Running, StandsWith, buffer, moment_of, pace_of}
 use Rattle.network_runner.specs.declared.firing.Turn.{Turn}
 use Rattle.network_runner.specs.Asking.{seen_run}
@@ -54,6 +55,18 @@ SendsOut {X} run new old now = (net : Network X) (s : State X) → IsRunOf net r
 abbrev pub SendsFront : {X : Type 0} → Running (Cell X) → Channels → Channels → Type 0
 SendsFront {X} run old now = (net : Network X) (s : State X) → IsRunOf net run
     → StandsIn net run.held s → EachWritten run (OutGetsFront run old now) (left_bytes net s)
+
+-- What a round that is answered so sent to outputs was written, and its lines were, which its firings name.
+pub record WritesRound {X : Type 0} (answer : RoundEnd) (run new : Running (Cell X)) (old now : Channels) : Type 0 where
+  pub lines : (block : Block) → Answers answer block → journals run.held.cells ≡ block.bursts
+      → TraceGetsSome run new old now (text_of (lines_of block))
+  pub outputs : SendsOut run new old now
+
+-- each channel got a prefix of that
+pub record WritesFront {X : Type 0} (answer : RoundEnd) (run : Running (Cell X)) (old now : Channels) : Type 0 where
+  pub lines : (block : Block) → Answers answer block → journals run.held.cells ≡ block.bursts
+      → TraceGetsFront run old now (text_of (lines_of block))
+  pub outputs : SendsFront run old now
 
 -- the channel of an output that is written
 abbrev pub IsOutChannel : {C : Type 0} → Running C → ℕ → Type 0

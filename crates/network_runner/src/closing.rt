@@ -4,7 +4,7 @@ ghost use Rattle.std.specs.Prelude.{◌≡◌, None, false, map};
 ghost use Rattle.net_state.specs.Held.{seen};
 ghost use Rattle.net_state.specs.Working.{IsAtRest};
 ghost use Rattle.network_runner.specs.Closing.{ClosesAllIdle, GrowsBy, MayGrow};
-ghost use Rattle.network_runner.specs.Rounding.{CountsTo, is_trap};
+ghost use Rattle.network_runner.specs.Rounding.{CountsTo, IsNoFault, is_trap};
 ghost use Rattle.round_runner.specs.Bursting.{NamesIts};
 
 use net_model::Firing;
@@ -22,6 +22,7 @@ pub fn close_idle<A: Firing>(net: &mut NetState<A>, lacks: Option<Lacking>, grow
     ensures grows { GrowsBy result grow net.old.capacities net.new.capacities }
     ensures ended { CountsTo result 0 }
     ensures no_trap { is_trap result ≡ false }
+    ensures no_fault { IsNoFault result }
     ensures never_idle { result ≡ RoundEnd.Idle → ⊥ }
     ensures quiet { lacks ≡ None → result ≡ RoundEnd.End RunEnd.Quiet }
     ensures cells { net.new.cells ≡ net.old.cells }

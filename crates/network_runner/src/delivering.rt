@@ -1,6 +1,6 @@
 //! Deliveries.
 
-ghost use Rattle.std.specs.Prelude.{◌≡◌, ◌≤◌, IfErr, OnErr, length, map};
+ghost use Rattle.std.specs.Prelude.{◌≡◌, ◌≤◌, IfErr, OnErr, is_some, length, map};
 ghost use Rattle.rvc_io.specs.Feeds.{ReadFails};
 ghost use Rattle.net_state.specs.Moving.{SameActors, SameMarks};
 ghost use Rattle.network_runner.specs.Delivering.{DeliversAll};
@@ -36,6 +36,7 @@ pub fn deliver_all<A: Firing, F: Feeds>(
     ensures still_fit { ReadersFit links.now readers.new (F.feeds feeds.new) }
 
     // What stays.
+    ensures still_there { map is_some readers.new ≡ map is_some readers.old }
     ensures still_as_many { length came.new ≡ length came.old }
     ensures same_open { SameOpen (F.feeds feeds.old) (F.feeds feeds.new) }
     ensures same_actors { SameActors (map A.cell net.old.cells) (map A.cell net.new.cells) }

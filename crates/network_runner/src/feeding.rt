@@ -47,6 +47,7 @@ pub fn fill_all<A: Firing, F: Feeds>(
     ensures still_fit { ReadersFit links.now readers.new (F.feeds feeds.new) }
 
     // What stays.
+    ensures still_there { map is_some readers.new ≡ map is_some readers.old }
     ensures still_as_many { length came.new ≡ length came.old }
     ensures same_open { SameOpen (F.feeds feeds.old) (F.feeds feeds.new) }
     ensures same_actors { SameActors (map A.cell net.old.cells) (map A.cell net.new.cells) }

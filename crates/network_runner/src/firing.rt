@@ -7,7 +7,7 @@ ghost use Rattle.net_state.specs.Surveyed.{AreUntrapped};
 ghost use Rattle.net_state.specs.Working.{IsAtRest};
 ghost use Rattle.round_runner.specs.Bursting.{AreFresh};
 ghost use Rattle.network_runner.specs.Closing.{GrowsBy};
-ghost use Rattle.network_runner.specs.Rounding.{CanGrow, ClosedBy, CountsTo, IfGoing, MakesRound, MayClose, is_trap};
+ghost use Rattle.network_runner.specs.Rounding.{CanGrow, ClosedBy, CountsTo, IfGoing, IsNoFault, MakesRound, MayClose, is_trap};
 
 use crate::closing::close_idle;
 use crate::spending::end_spent;
@@ -62,6 +62,7 @@ pub fn make_firings<A: Firing, P: Policy, G: Gate>(
         (seen A.cell net.old) (seen A.cell net.new) }
     ensures within { result.fired ≤ turn.now.left }
     ensures counted { CountsTo result.answer result.fired }
+    ensures no_fault { IsNoFault result.answer }
     ensures not_idle_again { result.answer ≡ RoundEnd.Idle → turn.now.idle ≡ false }
     ensures grows { GrowsBy result.answer turn.now.grow net.old.capacities net.new.capacities }
     ensures untrapped { IfGoing result.answer (AreUntrapped (map A.cell net.new.cells)) }
@@ -113,6 +114,7 @@ pub fn fire_round<A: Firing, P: Policy>(
         (seen A.cell net.old) (seen A.cell net.new) }
     ensures within { result.fired ≤ turn.now.left }
     ensures counted { CountsTo result.answer result.fired }
+    ensures no_fault { IsNoFault result.answer }
     ensures not_idle_again { result.answer ≡ RoundEnd.Idle → turn.now.idle ≡ false }
     ensures grows { GrowsBy result.answer turn.now.grow net.old.capacities net.new.capacities }
     ensures untrapped { is_trap result.answer ≡ false → AreUntrapped (map A.cell net.new.cells) }
@@ -142,6 +144,7 @@ fn close<A: Firing>(net: &mut NetState<A>, made: &Bursts, all: bool, grow: u32) 
     ensures closed { ClosedBy made.now.trap made.now.fired made.now.lacks all grow result
         (seen A.cell net.old) (seen A.cell net.new) }
     ensures counted { CountsTo result made.now.fired }
+    ensures no_fault { IsNoFault result }
     ensures not_all { result ≡ RoundEnd.Idle → all ≡ false }
     ensures grows { GrowsBy result grow net.old.capacities net.new.capacities }
     ensures no_trap { is_trap result ≡ false → made.now.trap ≡ None }

@@ -1,4 +1,6 @@
-//! The steps of a round of any network: deliver, fire, write.
+//! Rounds of any network: deliver, fire, write.
+//!
+//! A [`Runner`] holds cells, their wiring, a plan and a policy, and makes rounds one by one.
 //!
 //! A round sends out what goes to the network's outputs ([`send_all`]), makes a delivery ([`deliver_all`]), lets the
 //! instances fire that its policy picks and says what closes it ([`fire_round`], or [`end_spent`] if no firing is left),
@@ -15,6 +17,7 @@ mod firing;
 mod making;
 mod noting;
 mod putting;
+mod runner;
 mod sending;
 mod spending;
 
@@ -26,5 +29,6 @@ pub use firing::{RoundMade, Turn, fire_round, make_firings};
 pub use making::{copy_of, no_counts, no_marks, nothing_came, outlets_of, readers_of, writers_of};
 pub use noting::note_round;
 pub use putting::flush_all;
+pub use runner::Runner;
 pub use sending::{Outlet, WriteFault, send_all};
 pub use spending::end_spent;

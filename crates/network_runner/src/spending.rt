@@ -6,7 +6,7 @@ ghost use Rattle.net_state.specs.Moving.{SameActors};
 ghost use Rattle.net_state.specs.Surveyed.{AreUntrapped};
 ghost use Rattle.net_state.specs.Working.{IsAtRest};
 ghost use Rattle.round_runner.specs.declared.outcome.RoundEnd.{RoundEnd};
-ghost use Rattle.network_runner.specs.Rounding.{is_trap};
+ghost use Rattle.network_runner.specs.Rounding.{IsNoFault, is_trap};
 ghost use Rattle.network_runner.specs.Spending.{EndsSpent};
 
 use net_model::Firing;
@@ -20,6 +20,7 @@ pub fn end_spent<A: Firing>(net: &mut NetState<A>, grow: u32) -> RunEnd
     requires rest { IsAtRest (seen A.cell net.old) }
     ensures ends { EndsSpent grow result (seen A.cell net.old) (seen A.cell net.new) }
     ensures no_trap { is_trap (RoundEnd.End result) ≡ false }
+    ensures no_fault { IsNoFault (RoundEnd.End result) }
     ensures same_actors { SameActors (map A.cell net.old.cells) (map A.cell net.new.cells) }
     ensures links { net.new.links ≡ net.old.links }
     ensures capacities { net.new.capacities ≡ net.old.capacities }
