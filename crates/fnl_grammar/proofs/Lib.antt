@@ -4,3 +4,11 @@ pub mod Runs
 pub mod Stands
 pub mod Steps
 pub mod Whole
+pub mod Spans
+pub mod Places
+pub mod ReadsMarkup
+pub mod ReadsElements
+pub mod Before
+pub mod Kept
+pub mod Spelled
+pub mod Files
