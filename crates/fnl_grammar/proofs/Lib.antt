@@ -12,3 +12,4 @@ pub mod Before
 pub mod Kept
 pub mod Spelled
 pub mod Files
+pub mod MarkupRows

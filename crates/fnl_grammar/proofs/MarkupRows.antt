@@ -1,0 +1,62 @@
+-- Small texts, as the grammar of markup has them: worked examples.
+use Rattle.std.proofs.Common.{◌≡◌, ℕ, List, [], ◌∷◌, ◌++◌, None, Some, codes, refl, sym, ◌∙◌, IsUtf8}
+use Rattle.std.proofs.lemmas.Str.{IsUtf8-from_is_utf8}
+use Rattle.std.specs.Str.{is_utf8}
+use Rattle.fnl_markup.specs.Tags.{Attribute, attribute, Tag, opens, closes}
+use Rattle.fnl_markup.specs.Markup.{broken_of}
+use Rattle.fnl_grammar.specs.Markup.{AreBlanks, no_blanks, one_blank_more, IsSpace, the_space, IsName, first_of_name, next_of_name, HoldsNoEnd, IsComment, the_comment, AreMisc, no_misc, one_comment_more, more_space, less_than, nothing_quoted, one_byte_more, one_reference_more, the_attribute, no_attributes, one_attribute_more, the_start_tag, the_end_tag, an_empty_element, an_element, no_content, one_element_more, more_misc, no_mark, no_declaration, the_declaration, IsProlog, the_prolog, IsDocument, the_document}
+use Rattle.fnl_grammar.proofs.Spelled.{tags_are_read}
+
+-- ---- `<a/>`
+
+plain_empty : IsUtf8 (codes "<a/>")
+unfolding is_utf8
+plain_empty = IsUtf8-from_is_utf8 (codes "<a/>") refl
+
+empty_element : IsDocument (codes "<a/>") (opens (codes "a") [] 0 ∷ closes 2 ∷ [])
+empty_element =
+    the_document (the_prolog no_mark no_declaration no_misc)
+    (an_empty_element {from = []} (first_of_name 97 refl) no_attributes no_blanks) no_misc plain_empty
+
+-- ---- a declaration, a comment, an element in another, an attribute whose value is an entity, and blanks
+
+nothing_ends : HoldsNoEnd []
+nothing_ends [] after e = cc
+nothing_ends (b ∷ before) after e = cc
+
+plain_whole : IsUtf8 (codes "<?xml ?><!----><a x='&lt;'> <b/></a >")
+unfolding is_utf8
+plain_whole = IsUtf8-from_is_utf8 (codes "<?xml ?><!----><a x='&lt;'> <b/></a >") refl
+
+prolog : IsProlog (codes "<?xml ?><!---->")
+prolog =
+    the_prolog no_mark (the_declaration {from = []} no_attributes refl (one_blank_more 32 no_blanks refl))
+    (one_comment_more no_misc (the_comment {from = codes "<?xml ?>"} [] nothing_ends))
+
+whole : IsDocument (codes "<?xml ?><!----><a x='&lt;'> <b/></a >")
+    (opens (codes "a") (attribute (codes "x") (codes "<") 21 ∷ []) 15 ∷ opens (codes "b") [] 28 ∷ closes 30 ∷ closes 33 ∷ [])
+whole =
+    the_document prolog
+    (an_element {from = codes "<?xml ?><!---->"}
+    (the_start_tag (first_of_name 97 refl)
+    (one_attribute_more no_attributes (the_space 32 no_blanks refl)
+    (the_attribute {quote = 39} (first_of_name 120 refl) no_blanks no_blanks refl (one_reference_more nothing_quoted less_than)))
+    no_blanks)
+    (one_element_more (more_misc no_content (more_space no_misc (the_space 32 no_blanks refl)))
+    (an_empty_element {from = codes "<?xml ?><!----><a x='&lt;'> "} (first_of_name 98 refl) no_attributes no_blanks))
+    (the_end_tag (first_of_name 97 refl) (one_blank_more 32 no_blanks refl)))
+    no_misc plain_whole
+
+-- ---- texts that spell no tags
+
+-- the end tag has another name
+other_name : (tags : List Tag) → IsDocument (codes "<a></b>") tags → ⊥
+other_name tags d = let none : broken_of (codes "<a></b>") ≡ None = (tags_are_read (codes "<a></b>") tags d).whole in cc
+
+-- two elements
+two_elements : (tags : List Tag) → IsDocument (codes "<a/><b/>") tags → ⊥
+two_elements tags d = let none : broken_of (codes "<a/><b/>") ≡ None = (tags_are_read (codes "<a/><b/>") tags d).whole in cc
+
+-- a value that the other quote closes
+other_quote : (tags : List Tag) → IsDocument (codes "<a x='1\"/>") tags → ⊥
+other_quote tags d = let none : broken_of (codes "<a x='1\"/>") ≡ None = (tags_are_read (codes "<a x='1\"/>") tags d).whole in cc
