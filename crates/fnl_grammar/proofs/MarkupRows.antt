@@ -1,7 +1,8 @@
 -- Small texts, as the grammar of markup has them: worked examples.
-use Rattle.std.proofs.Common.{◌≡◌, ℕ, List, [], ◌∷◌, ◌++◌, None, Some, codes, refl, sym, ◌∙◌, IsUtf8}
-use Rattle.std.proofs.lemmas.Str.{IsUtf8-from_is_utf8}
-use Rattle.std.specs.Str.{is_utf8}
+use Rattle.std.proofs.Common.{◌≡◌, ℕ, zero, suc, ◌<◌, true, List, [], ◌∷◌, ◌++◌, None, Some, codes, refl, IsUtf8, IsAscii, nat_lt, arith}
+use Rattle.std.proofs.lemmas.Str.{IsUtf8-from_ascii}
+use Rattle.std.proofs.lemmas.Bool.{ltb-true, and_parts}
+use Rattle.std.specs.List.{list_all}
 use Rattle.fnl_markup.specs.Tags.{Attribute, attribute, Tag, opens, closes}
 use Rattle.fnl_markup.specs.Markup.{broken_of}
 use Rattle.fnl_grammar.specs.Markup.{AreBlanks, no_blanks, one_blank_more, IsSpace, the_space, IsName, first_of_name, next_of_name, HoldsNoEnd, IsComment, the_comment, AreMisc, no_misc, one_comment_more, more_space, less_than, nothing_quoted, one_byte_more, one_reference_more, the_attribute, no_attributes, one_attribute_more, the_start_tag, the_end_tag, an_empty_element, an_element, no_content, one_element_more, more_misc, no_mark, no_declaration, the_declaration, IsProlog, the_prolog, IsDocument, the_document}
@@ -9,9 +10,14 @@ use Rattle.fnl_grammar.proofs.Spelled.{tags_are_read}
 
 -- ---- `<a/>`
 
+-- bytes below 128
+ascii : (bytes : List ℕ) → list_all (λ b. nat_lt b 128) bytes ≡ true → IsAscii bytes
+ascii [] h i = omega arith
+ascii (b ∷ bytes) h zero = ltb-true b 128 (and_parts (nat_lt b 128) (list_all (λ b. nat_lt b 128) bytes) h).0
+ascii (b ∷ bytes) h (suc i) = ascii bytes (and_parts (nat_lt b 128) (list_all (λ b. nat_lt b 128) bytes) h).1 i
+
 plain_empty : IsUtf8 (codes "<a/>")
-unfolding is_utf8
-plain_empty = IsUtf8-from_is_utf8 (codes "<a/>") refl
+plain_empty = IsUtf8-from_ascii (codes "<a/>") (ascii (codes "<a/>") refl)
 
 empty_element : IsDocument (codes "<a/>") (opens (codes "a") [] 0 ∷ closes 2 ∷ [])
 empty_element =
@@ -25,8 +31,7 @@ nothing_ends [] after e = cc
 nothing_ends (b ∷ before) after e = cc
 
 plain_whole : IsUtf8 (codes "<?xml ?><!----><a x='&lt;'> <b/></a >")
-unfolding is_utf8
-plain_whole = IsUtf8-from_is_utf8 (codes "<?xml ?><!----><a x='&lt;'> <b/></a >") refl
+plain_whole = IsUtf8-from_ascii (codes "<?xml ?><!----><a x='&lt;'> <b/></a >") (ascii (codes "<?xml ?><!----><a x='&lt;'> <b/></a >") refl)
 
 prolog : IsProlog (codes "<?xml ?><!---->")
 prolog =
@@ -49,14 +54,17 @@ whole =
 
 -- ---- texts that spell no tags
 
+some_broken : {A : Type 0} (x : A) → Some x ≡ None → ⊥
+some_broken x e = cc
+
 -- the end tag has another name
 other_name : (tags : List Tag) → IsDocument (codes "<a></b>") tags → ⊥
-other_name tags d = let none : broken_of (codes "<a></b>") ≡ None = (tags_are_read (codes "<a></b>") tags d).whole in cc
+other_name tags d = some_broken _ (tags_are_read (codes "<a></b>") tags d).whole
 
 -- two elements
 two_elements : (tags : List Tag) → IsDocument (codes "<a/><b/>") tags → ⊥
-two_elements tags d = let none : broken_of (codes "<a/><b/>") ≡ None = (tags_are_read (codes "<a/><b/>") tags d).whole in cc
+two_elements tags d = some_broken _ (tags_are_read (codes "<a/><b/>") tags d).whole
 
--- a value that the other quote closes
-other_quote : (tags : List Tag) → IsDocument (codes "<a x='1\"/>") tags → ⊥
-other_quote tags d = let none : broken_of (codes "<a x='1\"/>") ≡ None = (tags_are_read (codes "<a x='1\"/>") tags d).whole in cc
+-- no blank stands between two attributes
+no_blank_between : (tags : List Tag) → IsDocument (codes "<a x=''y=''/>") tags → ⊥
+no_blank_between tags d = some_broken _ (tags_are_read (codes "<a x=''y=''/>") tags d).whole
