@@ -1,18 +1,16 @@
 -- What was read stands in the productions: what stands before a tag or a comment, and what may follow.
-use Rattle.std.proofs.Common.{◌≡◌, ◌⊎◌, inl, inr, ℕ, zero, suc, ◌+◌, ◌≤◌, ◌<◌, Bool, true, false, List, [], ◌∷◌, ◌++◌, length, Option, None, Some, refl, sym, ap, subst, ◌∙◌, arith, append_assoc, append-nil, length-append, ⊎_elim}
-use Rattle.std.specs.Prelude.{if◌then◌else◌, ◌==◌, ◌||◌, ◌&&◌, not, nat_lt, slice_index, codes}
-use Rattle.std.proofs.Math.Seq.{append_snoc}
+use Rattle.std.proofs.Common.{◌≡◌, ℕ, zero, suc, ◌+◌, Bool, true, false, List, [], ◌∷◌, ◌++◌, length, Option, None, Some, refl, sym, subst, append_assoc}
+use Rattle.std.specs.Prelude.{if◌then◌else◌, ◌==◌, ◌&&◌, codes}
 use Rattle.std.proofs.lemmas.Bool.{eqb-true}
-use Rattle.rvc_base.specs.declared.refusal.Rule.{Rule}
-use Rattle.fnl_markup.specs.Tags.{Attribute, attribute, Tag, opens, closes}
-use Rattle.fnl_markup.specs.State.{State, fresh, Next, Going, Fault}
+use Rattle.fnl_markup.specs.Tags.{Attribute, Tag, opens, closes}
+use Rattle.fnl_markup.specs.State.{State}
 use Rattle.fnl_markup.specs.Entities.{meaning, longer}
 use Rattle.fnl_markup.specs.Step.{step_at, end_name, last_name, other_names, is_nil}
 use Rattle.fnl_markup.specs.Markup.{is_content}
-use Rattle.fnl_grammar.specs.Markup.{AreBlanks, no_blanks, one_blank_more, IsSpace, the_space, IsName, first_of_name, next_of_name, HoldsNoEnd, AreMisc, no_misc, one_comment_more, more_space, IsReference, less_than, greater_than, ampersand, quotation_mark, apostrophe, is_quote, IsQuoted, AreAttributes, IsStartTag, the_start_tag, IsEndTag, the_end_tag, IsElement, an_empty_element, an_element, IsContent, no_content, one_element_more, more_misc, MayBeMark, no_mark, the_mark, MayBeDeclaration, no_declaration, the_declaration, IsProlog, the_prolog}
-use Rattle.fnl_grammar.proofs.Places.{Place, Entity, p_start, p_mark_one, p_mark_two, p_marked, p_first_less, p_question, p_question_x, p_question_xm, p_content, p_less, p_bang, p_bang_dash, p_comment, p_comment_dash, p_comment_dashes, p_name, p_gap, p_word, p_word_gap, p_equal, p_value, p_entity, p_quoted, p_last_question, p_slash, p_end_gap}
+use Rattle.fnl_grammar.specs.Markup.{AreBlanks, IsSpace, IsName, first_of_name, next_of_name, HoldsNoEnd, AreMisc, no_misc, one_comment_more, more_space, IsReference, is_quote, IsQuoted, AreAttributes, IsStartTag, the_start_tag, IsEndTag, the_end_tag, IsElement, an_element, IsContent, one_element_more, more_misc, MayBeMark, no_declaration, IsProlog, the_prolog}
+use Rattle.fnl_grammar.proofs.Places.{Entity, p_start, p_mark_one, p_mark_two, p_marked, p_first_less, p_question, p_question_x, p_question_xm, p_content, p_less, p_bang, p_bang_dash, p_comment, p_comment_dash, p_comment_dashes, p_name, p_gap, p_word, p_word_gap, p_equal, p_value, p_entity, p_quoted, p_last_question, p_slash, p_end_gap}
 use Rattle.fnl_grammar.proofs.ReadsMarkup.{Tagged}
-use Rattle.fnl_grammar.proofs.ReadsElements.{last_added, others_kept, some_names}
+use Rattle.fnl_grammar.proofs.ReadsElements.{last_added, others_kept}
 
 -- ---- between tags
 

@@ -4,8 +4,6 @@ use Rattle.rvc_base.specs.Rules.{spells_no_network}
 use Rattle.fnl_markup.specs.Markup.{IsMarkup, broken_of, fault}
 use Rattle.fnl_markup.specs.Tags.{Tag}
 use Rattle.fnl_frames.specs.Net.{Net}
-use Rattle.fnl_read.specs.Network.{Broke, network}
-use Rattle.fnl_grammar.specs.Markup.{IsDocument}
 use Rattle.fnl_grammar.specs.MarkupLaws.{NoDocumentGoesOn}
 use Rattle.fnl_grammar.specs.Laws.{SpellsNetwork, NoneGoesOn, IsNetworkFile, ReadIsNetworkFile, NetworkFileIsRead, IsOneNetworkFile, NoNetworkFileGoesOn}
 use Rattle.fnl_grammar.proofs.Spelled.{tags_are_spelled, tags_are_read}

@@ -1,16 +1,16 @@
 -- A row that is grouped by its levels is grouped so by what reads it, and the other way round.
 use Rattle.std.proofs.Common.{◌≡◌, ◌⊎◌, inl, inr, ℕ, zero, suc, ◌+◌, ◌-◌, max, ◌≤◌, ◌<◌, Bool, true, false, List, [], ◌∷◌, ◌++◌, Option, None, Some, refl, sym, ap, subst, ◌∙◌, arith}
-use Rattle.std.specs.Prelude.{nat_le, if◌then◌else◌}
+use Rattle.std.specs.Prelude.{nat_le}
 use Rattle.std.proofs.lemmas.Bool.{leb-true, le-leb}
 use Rattle.std.proofs.lemmas.Bool.Decides.{leb_tells}
-use Rattle.std.proofs.lemmas.List.{append_assoc, append-nil}
+use Rattle.std.proofs.lemmas.List.{append_assoc}
 use Rattle.std.proofs.Math.Nat.{le-max_left, le-max_right}
 use Rattle.cal_ast.specs.Tree.{Tree, binary}
 use Rattle.cal_ast.specs.Places.{begins}
 use Rattle.cal_ast.specs.declared.expr.BinOp.{BinOp}
 use Rattle.cal_ast.specs.declared.expr.BinOp.TheVariants as binaries
 use Rattle.cal_grammar.specs.Operators.{height, max_height}
-use Rattle.fnl_expr.specs.Operations.{Pending, pending, fits, made, on, joined, is_due, before_operator, grouped}
+use Rattle.fnl_expr.specs.Operations.{Pending, pending, fits, made, on, before_operator, grouped}
 use Rattle.fnl_expr.specs.Operators.{level}
 use Rattle.fnl_grammar.specs.Rows.{Item, operand, operator, loosest, Groups, the_operand, the_tighter, the_operation}
 use Rattle.fnl_grammar.proofs.Reading.{Read, read, reads, reads_on, then_reads, reads_append, never_read}

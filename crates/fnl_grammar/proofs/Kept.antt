@@ -1,22 +1,21 @@
 -- Each byte that is read keeps what was read in the productions.
-use Rattle.std.proofs.Common.{◌≡◌, ◌⊎◌, inl, inr, ℕ, zero, suc, ◌+◌, ◌≤◌, ◌<◌, Bool, true, false, List, [], ◌∷◌, ◌++◌, length, Option, None, Some, refl, sym, ap, subst, ◌∙◌, arith, append_assoc, append-nil, length-append, ⊎_elim}
-use Rattle.std.specs.Prelude.{if◌then◌else◌, ◌==◌, ◌||◌, ◌&&◌, not, nat_lt, slice_index, codes}
+use Rattle.std.proofs.Common.{◌≡◌, ℕ, zero, suc, ◌+◌, Bool, true, false, List, [], ◌∷◌, ◌++◌, length, Option, None, Some, refl, sym, ap, subst, ◌∙◌, arith, append_assoc, append-nil, length-append}
+use Rattle.std.specs.Prelude.{if◌then◌else◌, ◌==◌, ◌||◌, ◌&&◌, nat_lt, slice_index, codes}
 use Rattle.std.specs.List.{list_all}
 use Rattle.std.proofs.Math.Seq.{append_snoc}
 use Rattle.std.proofs.lemmas.Bool.{eqb-true, le-ltb, lt-ltb}
 use Rattle.rvc_base.specs.declared.refusal.Rule.{Rule}
 use Rattle.fnl_markup.specs.Bytes.{is_blank, begins_name, goes_on_name}
 use Rattle.fnl_markup.specs.Tags.{Attribute, attribute, Tag, opens, closes}
-use Rattle.fnl_markup.specs.State.{State, fresh, Next, Going, Fault}
+use Rattle.fnl_markup.specs.State.{State, Next, Going, Fault}
 use Rattle.fnl_markup.specs.Entities.{meaning, longer}
 use Rattle.fnl_markup.specs.Step as steps
 use Rattle.fnl_markup.specs.Step.{step, step_at, last_name, other_names, is_nil}
-use Rattle.fnl_markup.specs.Markup.{is_content}
-use Rattle.fnl_grammar.specs.Markup.{AreBlanks, no_blanks, one_blank_more, IsSpace, the_space, IsName, first_of_name, next_of_name, HoldsNoEnd, IsComment, the_comment, AreMisc, no_misc, one_comment_more, more_space, IsReference, less_than, greater_than, ampersand, quotation_mark, apostrophe, is_quote, stands_for_itself, IsQuoted, nothing_quoted, one_byte_more, one_reference_more, IsAttribute, the_attribute, AreAttributes, no_attributes, one_attribute_more, IsStartTag, the_start_tag, IsElement, an_empty_element, IsContent, no_content, MayBeMark, no_mark, the_mark, says_utf8, MayBeDeclaration, no_declaration, the_declaration, IsProlog, the_prolog}
-use Rattle.fnl_grammar.proofs.Places.{Place, Entity, p_less, p_first_less, p_value, p_entity, p_comment, p_comment_dash, p_comment_dashes}
+use Rattle.fnl_grammar.specs.Markup.{AreBlanks, no_blanks, one_blank_more, IsSpace, the_space, IsName, first_of_name, next_of_name, HoldsNoEnd, the_comment, AreMisc, no_misc, one_comment_more, more_space, IsReference, less_than, greater_than, ampersand, quotation_mark, apostrophe, nothing_quoted, one_byte_more, one_reference_more, IsAttribute, the_attribute, AreAttributes, no_attributes, one_attribute_more, the_start_tag, an_empty_element, no_content, MayBeMark, the_mark, MayBeDeclaration, the_declaration, the_prolog}
+use Rattle.fnl_grammar.proofs.Places.{Place, Entity, p_less, p_first_less, p_comment, p_comment_dash, p_comment_dashes}
 use Rattle.fnl_grammar.proofs.ReadsMarkup.{Tagged}
 use Rattle.fnl_grammar.proofs.ReadsElements.{there}
-use Rattle.fnl_grammar.proofs.Before.{Lies, before_all, behind_one, inside_one, with_misc, with_element, closed, begun_inside, lies_as, around, OutsideOf, Outside, FreshOf, Fresh, fresh_outside, HasName, has_name, Declares, has_begun, Head, of_element, of_declaration, Spaced, spaced, Equated, equated, Valued, valued, EndsOne, ends_one, OnAll, on_none, on_some, Awaits, letter, Quiet, Stands, stands_start, stands_mark_one, stands_mark_two, stands_marked, stands_first_less, stands_question, stands_question_x, stands_question_xm, stands_content, stands_less, stands_bang, stands_bang_dash, stands_comment, stands_comment_dash, stands_comment_dashes, stands_name, stands_quoted, stands_gap, stands_word, stands_word_gap, stands_equal, stands_value, stands_entity, stands_last_question, stands_slash, stands_end_name, stands_end_gap}
+use Rattle.fnl_grammar.proofs.Before.{Lies, before_all, inside_one, with_misc, with_element, closed, begun_inside, lies_as, around, OutsideOf, Outside, Fresh, fresh_outside, HasName, has_name, Declares, has_begun, Head, of_element, of_declaration, Spaced, spaced, Equated, equated, Valued, valued, EndsOne, ends_one, OnAll, on_none, on_some, Awaits, letter, Quiet, Stands, stands_start, stands_mark_one, stands_mark_two, stands_marked, stands_first_less, stands_question, stands_question_x, stands_question_xm, stands_content, stands_less, stands_bang, stands_bang_dash, stands_comment, stands_comment_dash, stands_comment_dashes, stands_name, stands_quoted, stands_gap, stands_word, stands_word_gap, stands_equal, stands_value, stands_entity, stands_last_question, stands_slash, stands_end_name, stands_end_gap}
 
 -- where a step goes on, what was read stands so
 pub data Good (front : List ℕ) : Next → Type 0 where
@@ -112,9 +111,9 @@ emptied_kept : (s : State) (front a b' : List ℕ) (b at : ℕ) → at ≡ lengt
 emptied_kept s front a b' b at here (has_name {from = from} l free begun plain start n) given bs e =
     let lies : Lies (front ++ codes "/>") s.opened true (s.tags ++ opens s.name s.attributes (length from) ∷ closes (length front) ∷ []) = with_element l free (an_empty_element n given bs) in
     let tags_ : s.tags ++ opens s.name s.attributes (length from) ∷ closes (length front) ∷ [] ≡ (s.tags ++ opens s.name s.attributes s.start ∷ []) ++ closes at ∷ [] =
-        ap (λ n. s.tags ++ opens s.name s.attributes n ∷ closes (length front) ∷ []) (sym start)
-        ∙ ap (λ n. s.tags ++ opens s.name s.attributes s.start ∷ closes n ∷ []) (sym here)
-        ∙ sym (append_snoc s.tags (opens s.name s.attributes s.start) (closes at ∷ [])) in
+    ap (λ n. s.tags ++ opens s.name s.attributes n ∷ closes (length front) ∷ []) (sym start)
+    ∙ ap (λ n. s.tags ++ opens s.name s.attributes s.start ∷ closes n ∷ []) (sym here)
+    ∙ sym (append_snoc s.tags (opens s.name s.attributes s.start) (closes at ∷ [])) in
     let bytes : front ++ codes "/>" ≡ (front ++ b ∷ []) ++ codes ">" = sym (append_snoc front 47 (codes ">")) ∙ ap (λ x. x ++ codes ">") (that front b 47 e) in
     stands_slash refl
     (record {
@@ -183,7 +182,7 @@ valued_kept : (s : State) (front : List ℕ) (quote b : ℕ) → Valued (around 
 valued_kept s front quote b (valued {f = f} (equated {c = c} (spaced {a = a} head given space) n left right) q at inside) e =
     let last : IsAttribute c (front ++ quote ∷ []) (attribute s.word s.value (length f + 1)) = the_attribute n left right q inside in
     let there : IsAttribute c (front ++ b ∷ []) (attribute s.word s.value s.value_at) =
-        subst (λ x. IsAttribute c x (attribute s.word s.value s.value_at)) (that front b quote e) (subst (λ m. IsAttribute c (front ++ quote ∷ []) (attribute s.word s.value m)) (sym at) last) in
+    subst (λ x. IsAttribute c x (attribute s.word s.value s.value_at)) (that front b quote e) (subst (λ m. IsAttribute c (front ++ quote ∷ []) (attribute s.word s.value m)) (sym at) last) in
     stands_quoted {a = a} refl head (one_attribute_more given space there)
 
 plain_kept : {t : Tagged} {attributes : List Attribute} {word value front : List ℕ} {value_at quote : ℕ} (b : ℕ) → Valued t attributes word value value_at quote front → (b == quote) ≡ false → (b == 38) ≡ false → (b == 60) ≡ false
@@ -194,23 +193,33 @@ value_kept : (s : State) (front : List ℕ) (quote b at : ℕ) → Valued (aroun
 value_kept s front quote b at h =
     either (b == quote) _ _ (λ e. good (valued_kept s front quote b h e))
     (λ e1. either (b == 38) _ _
-    (λ e. good (stands_entity {quote = quote} {g = front} 4 (codes "&") refl h
-    (on_none, λ b. letter 3 (codes "&") b 108 _ _
-        (on_none, λ b. letter 2 (codes "&l") b 116 _ _ (on_some (λ g. less_than), λ b. on_none) on_none)
-    (letter 3 (codes "&") b 103 _ _
-        (on_none, λ b. letter 2 (codes "&g") b 116 _ _ (on_some (λ g. greater_than), λ b. on_none) on_none)
-    (letter 3 (codes "&") b 113 _ _
-        (on_none, λ b. letter 2 (codes "&q") b 117 _ _
-        (on_none, λ b. letter 1 (codes "&qu") b 111 _ _
-        (on_none, λ b. letter 0 (codes "&quo") b 116 _ _ (on_some (λ g. quotation_mark), λ b. refl) on_none) on_none) on_none)
-    (letter 3 (codes "&") b 97 _ _
-        (on_none, λ b. letter 2 (codes "&a") b 109 _ _
-            (on_none, λ b. letter 1 (codes "&am") b 112 _ _ (on_some (λ g. ampersand), λ b. on_none) on_none)
-        (letter 2 (codes "&a") b 112 _ _
-            (on_none, λ b. letter 1 (codes "&ap") b 111 _ _
-            (on_none, λ b. letter 0 (codes "&apo") b 115 _ _ (on_some (λ g. apostrophe), λ b. refl) on_none) on_none)
-        on_none))
-    on_none))))
+    (λ e. good (stands_entity {quote = quote} {g = front} 4 (codes "&") refl h (
+      on_none,
+      λ b. letter 3 (codes "&") b 108 _ _
+          (on_none, λ b. letter 2 (codes "&l") b 116 _ _ (on_some (λ g. less_than), λ b. on_none) on_none)
+          (letter 3 (codes "&") b 103 _ _
+          (on_none, λ b. letter 2 (codes "&g") b 116 _ _ (on_some (λ g. greater_than), λ b. on_none) on_none)
+          (letter 3 (codes "&") b 113 _ _ (
+            on_none,
+            λ b. letter 2 (codes "&q") b 117 _ _ (
+              on_none,
+              λ b. letter 1 (codes "&qu") b 111 _ _
+                  (on_none, λ b. letter 0 (codes "&quo") b 116 _ _ (on_some (λ g. quotation_mark), λ b. refl) on_none) on_none,
+            ) on_none,
+          )
+          (letter 3 (codes "&") b 97 _ _ (
+            on_none,
+            λ b. letter 2 (codes "&a") b 109 _ _
+                (on_none, λ b. letter 1 (codes "&am") b 112 _ _ (on_some (λ g. ampersand), λ b. on_none) on_none)
+                (letter 2 (codes "&a") b 112 _ _ (
+                  on_none,
+                  λ b. letter 1 (codes "&ap") b 111 _ _
+                      (on_none, λ b. letter 0 (codes "&apo") b 115 _ _ (on_some (λ g. apostrophe), λ b. refl) on_none) on_none,
+                )
+                on_none),
+          )
+          on_none))),
+    )
     (sym (that front b 38 e))))
     (λ e2. either (b == 60) _ _ (λ e. stopped) (λ e3. good (stands_value {quote = quote} refl (plain_kept b h e1 e2 e3)))))
 
@@ -340,13 +349,16 @@ comment_dashes_kept s front from inside b o e none = either (b == 62) _ _ (λ en
   where
     free : HoldsNoEnd inside
     free before after h = none before (after ++ 45 ∷ 45 ∷ []) (ap (λ x. x ++ 45 ∷ 45 ∷ []) h ∙ append_assoc (before ++ codes "-->") after (45 ∷ 45 ∷ []))
+
     ended : (b == 62) ≡ true → Outside s (front ++ b ∷ [])
     ended ends =
         let bytes : front ++ b ∷ [] ≡ from ++ codes "<!--" ++ inside ++ codes "-->" =
-            one_more front (from ++ codes "<!--") (inside ++ 45 ∷ 45 ∷ []) b 62 e ends ∙ ap (λ x. from ++ codes "<!--" ++ x) (append_assoc inside (45 ∷ 45 ∷ []) (62 ∷ [])) ∙ sym (append_assoc (from ++ codes "<!--") inside (codes "-->")) in
+        one_more front (from ++ codes "<!--") (inside ++ 45 ∷ 45 ∷ []) b 62 e ends ∙ ap (λ x. from ++ codes "<!--" ++ x) (append_assoc inside (45 ∷ 45 ∷ []) (62 ∷ [])) ∙ sym (append_assoc (from ++ codes "<!--") inside (codes "-->")) in
         record { lies = with_misc o.lies (subst (AreMisc from) (sym bytes) (one_comment_more no_misc (the_comment inside free))); plain = o.plain; none = o.none }
+
     more : (inside ++ 45 ∷ 45 ∷ []) ++ 45 ∷ [] ≡ (inside ++ 45 ∷ []) ++ 45 ∷ 45 ∷ []
     more = append_assoc inside (45 ∷ 45 ∷ []) (45 ∷ []) ∙ sym (append_assoc inside (45 ∷ []) (45 ∷ 45 ∷ []))
+
     by : (b == 62) ≡ false → (t : Bool) → (b == 45) ≡ t → Good (front ++ b ∷ []) (steps.goes s (if t then p_comment_dashes else p_comment))
     by no_end true dash =
         good (stands_comment_dashes {from = from} (inside ++ 45 ∷ []) refl o (one_more front (from ++ codes "<!--") (inside ++ 45 ∷ 45 ∷ []) b 45 e dash ∙ ap (λ x. from ++ codes "<!--" ++ x) more)
@@ -360,12 +372,17 @@ byte_kept s front b h = by h
   where
     at_place : {p : Place} → s.place ≡ p → Good (front ++ b ∷ []) (step_at p (length front) s b) → Good (front ++ b ∷ []) (step (length front) s b)
     at_place e k = subst (λ p. Good (front ++ b ∷ []) (step_at p (length front) s b)) (sym e) k
+
     by : Stands s front → Good (front ++ b ∷ []) (step (length front) s b)
     by (stands_start p f e) = at_place p (start_kept s front b (length front) refl f e)
     by (stands_mark_one p f e) = at_place p (either (b == 187) _ _ (λ is. good (stands_mark_two refl f (ap (λ x. x ++ b ∷ []) e ∙ ap (λ c. 239 ∷ c ∷ []) (eqb-true b 187 is)))) (λ other. stopped))
     by (stands_mark_two p f e) = at_place p (either (b == 191) _ _ (λ is. good (stands_marked refl (record {
       mark = subst (MayBeMark []) (sym (ap (λ x. x ++ b ∷ []) e ∙ ap (λ c. 239 ∷ 187 ∷ c ∷ []) (eqb-true b 191 is))) the_mark;
-      no_opened = f.no_opened; not_begun = f.not_begun; no_tags = f.no_tags; plain = f.plain; none = f.none;
+      no_opened = f.no_opened;
+      not_begun = f.not_begun;
+      no_tags = f.no_tags;
+      plain = f.plain;
+      none = f.none;
     }))) (λ other. stopped))
     by (stands_marked p f) = at_place p (after_mark_kept s front b (length front) refl f)
     by (stands_first_less {from = from} p f e start) = at_place p (first_less_kept s front from b (length front) refl f e start)
@@ -375,11 +392,12 @@ byte_kept s front b h = by h
     by (stands_content p o) = at_place p (content_kept s front b (length front) refl o)
     by (stands_less {from = from} p o e start) = at_place p (less_kept s front from b (length front) refl o e start)
     by (stands_bang {from = from} p o e) = at_place p (either (b == 45) _ _ (λ is. good (stands_bang_dash {from = from} refl o (one_more front from (codes "<!") b 45 e is))) (λ other. stopped))
-    by (stands_bang_dash {from = from} p o e) = at_place p (either (b == 45) _ _ (λ is. good (stands_comment {from = from} ([]) refl o (one_more front from (codes "<!-") b 45 e is ∙ sym (append-nil (from ++ codes "<!--"))) no_end none_shorter_) ) (λ other. stopped))
+    by (stands_bang_dash {from = from} p o e) = at_place p (either (b == 45) _ _ (λ is. good (stands_comment {from = from} ([]) refl o (one_more front from (codes "<!-") b 45 e is ∙ sym (append-nil (from ++ codes "<!--"))) no_end none_shorter_)) (λ other. stopped))
       where
         no_end : HoldsNoEnd []
         no_end [] after h = cc
         no_end (c ∷ before) after h = cc
+
         none_shorter_ : Quiet []
         none_shorter_ before h = none_shorter before 45 h
     by (stands_comment {from = from} (inside) p o e none quiet) = at_place p (comment_kept s front from inside b o e none quiet)

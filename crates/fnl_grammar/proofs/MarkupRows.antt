@@ -1,11 +1,10 @@
 -- Small texts, as the grammar of markup has them: worked examples.
-use Rattle.std.proofs.Common.{◌≡◌, ℕ, zero, suc, ◌<◌, true, List, [], ◌∷◌, ◌++◌, None, Some, codes, refl, IsUtf8, IsAscii, nat_lt, arith}
+use Rattle.std.proofs.Common.{◌≡◌, ℕ, zero, suc, true, List, [], ◌∷◌, None, Some, codes, refl, IsUtf8, IsAscii, nat_lt, arith}
 use Rattle.std.proofs.lemmas.Str.{IsUtf8-from_ascii}
 use Rattle.std.proofs.lemmas.Bool.{ltb-true, and_parts}
 use Rattle.std.specs.List.{list_all}
-use Rattle.fnl_markup.specs.Tags.{Attribute, attribute, Tag, opens, closes}
-use Rattle.fnl_markup.specs.Markup.{broken_of}
-use Rattle.fnl_grammar.specs.Markup.{AreBlanks, no_blanks, one_blank_more, IsSpace, the_space, IsName, first_of_name, next_of_name, HoldsNoEnd, IsComment, the_comment, AreMisc, no_misc, one_comment_more, more_space, less_than, nothing_quoted, one_byte_more, one_reference_more, the_attribute, no_attributes, one_attribute_more, the_start_tag, the_end_tag, an_empty_element, an_element, no_content, one_element_more, more_misc, no_mark, no_declaration, the_declaration, IsProlog, the_prolog, IsDocument, the_document}
+use Rattle.fnl_markup.specs.Tags.{attribute, Tag, opens, closes}
+use Rattle.fnl_grammar.specs.Markup.{no_blanks, one_blank_more, the_space, first_of_name, HoldsNoEnd, the_comment, no_misc, one_comment_more, more_space, less_than, nothing_quoted, one_reference_more, the_attribute, no_attributes, one_attribute_more, the_start_tag, the_end_tag, an_empty_element, an_element, no_content, one_element_more, more_misc, no_mark, no_declaration, the_declaration, IsProlog, the_prolog, IsDocument, the_document}
 use Rattle.fnl_grammar.proofs.Spelled.{tags_are_read}
 
 -- ---- `<a/>`

@@ -1,8 +1,8 @@
 -- The places of a reader, which its crate keeps to itself: each is where a text leaves it.
-use Rattle.std.proofs.Common.{ℕ, List, [], ◌∷◌, Option, Some}
+use Rattle.std.proofs.Common.{ℕ, List, [], ◌∷◌, Some}
 use Rattle.std.specs.Prelude.{codes}
 use Rattle.fnl_markup.specs.Entities.{meaning}
-use Rattle.fnl_markup.specs.State.{State, fresh, Next, Going, Fault}
+use Rattle.fnl_markup.specs.State.{fresh, Next, Going, Fault}
 use Rattle.fnl_markup.specs.Step.{longer_value, entity_letter}
 use Rattle.fnl_markup.specs.Markup.{Ended, ended, reading}
 

@@ -1,7 +1,6 @@
 -- A row as it is read: what waits, and the operand that no operator followed yet.
-use Rattle.std.proofs.Common.{◌≡◌, ℕ, List, [], ◌∷◌, ◌++◌, Option, None, Some, refl, sym, ap, ◌∙◌}
+use Rattle.std.proofs.Common.{◌≡◌, List, [], ◌∷◌, ◌++◌, Option, None, Some, refl, sym, ◌∙◌}
 use Rattle.cal_ast.specs.Tree.{Tree}
-use Rattle.cal_ast.specs.declared.expr.BinOp.{BinOp}
 use Rattle.fnl_expr.specs.Operations.{Pending, before_operator}
 use Rattle.fnl_grammar.specs.Rows.{Item, operand, operator}
 

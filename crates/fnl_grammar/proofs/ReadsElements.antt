@@ -1,20 +1,20 @@
 -- What stands between tags is read as it is spelled.
-use Rattle.std.proofs.Common.{◌≡◌, ◌⊎◌, inl, inr, ℕ, suc, ◌+◌, ◌≤◌, ◌<◌, Bool, true, false, List, [], ◌∷◌, ◌++◌, length, Option, None, Some, refl, sym, ap, subst, ◌∙◌, arith, append_assoc, append-nil, length-append}
-use Rattle.std.specs.Prelude.{if◌then◌else◌, ◌==◌, ◌||◌, ◌&&◌, not, nat_lt, slice_index, codes, IsUtf8}
+use Rattle.std.proofs.Common.{◌≡◌, ℕ, ◌+◌, Bool, true, false, List, [], ◌∷◌, ◌++◌, length, None, refl, sym, ap, subst, ◌∙◌, arith, append_assoc, append-nil, length-append}
+use Rattle.std.specs.Prelude.{◌==◌, ◌&&◌, nat_lt, slice_index, codes, IsUtf8}
 use Rattle.std.specs.List.{list_all}
 use Rattle.std.specs.Str.Lossy.{utf8_valid_len}
 use Rattle.std.proofs.Math.Seq.{append_snoc}
 use Rattle.std.proofs.lemmas.Str.{utf8_valid_len-IsUtf8}
 use Rattle.std.proofs.lemmas.Bool.{eqb-true, eq-eqb, le-ltb, lt-ltb}
-use Rattle.fnl_markup.specs.Bytes.{is_blank, begins_name, goes_on_name}
-use Rattle.fnl_markup.specs.Tags.{Attribute, attribute, Tag, opens, closes}
-use Rattle.fnl_markup.specs.State.{State, fresh, Next, Going, Fault}
-use Rattle.fnl_markup.specs.Step.{step, step_at, end_name, goes, encodes, last_name, other_names, is_nil}
-use Rattle.fnl_markup.specs.Markup.{ended, run, is_whole, broken_of, broken_in, reading, tags_of, tags_read, IsMarkup}
-use Rattle.fnl_grammar.proofs.Places.{Place, Entity, place_in, p_start, p_mark_one, p_mark_two, p_marked, p_first_less, p_question, p_question_x, p_question_xm, p_content, p_less, p_bang, p_bang_dash, p_comment, p_comment_dash, p_comment_dashes, p_name, p_gap, p_word, p_word_gap, p_equal, p_value, p_entity, p_quoted, p_last_question, p_slash, p_end_name, p_end_gap}
-use Rattle.fnl_grammar.specs.Markup.{AreBlanks, no_blanks, one_blank_more, IsSpace, the_space, IsName, first_of_name, next_of_name, HoldsNoEnd, IsComment, the_comment, AreMisc, no_misc, one_comment_more, more_space, IsAttribute, AreAttributes, IsStartTag, the_start_tag, IsEndTag, the_end_tag, IsElement, an_empty_element, an_element, IsContent, no_content, one_element_more, more_misc, MayBeMark, no_mark, the_mark, says_utf8, MayBeDeclaration, no_declaration, the_declaration, IsProlog, the_prolog, IsDocument, the_document}
+use Rattle.fnl_markup.specs.Bytes.{begins_name}
+use Rattle.fnl_markup.specs.Tags.{Attribute, Tag, opens, closes}
+use Rattle.fnl_markup.specs.State.{State, Going}
+use Rattle.fnl_markup.specs.Step.{step, step_at, end_name, encodes, last_name, other_names, is_nil}
+use Rattle.fnl_markup.specs.Markup.{ended, broken_in, tags_read, IsMarkup}
+use Rattle.fnl_grammar.proofs.Places.{Place, place_in, p_start, p_marked, p_first_less, p_content, p_less, p_comment, p_comment_dash, p_comment_dashes, p_name, p_quoted, p_end_name, p_end_gap}
+use Rattle.fnl_grammar.specs.Markup.{AreBlanks, IsSpace, the_space, IsName, first_of_name, next_of_name, HoldsNoEnd, IsComment, the_comment, AreMisc, no_misc, one_comment_more, more_space, AreAttributes, the_start_tag, IsEndTag, the_end_tag, IsElement, an_empty_element, an_element, IsContent, no_content, one_element_more, more_misc, MayBeMark, no_mark, the_mark, says_utf8, MayBeDeclaration, no_declaration, the_declaration, the_prolog, IsDocument, the_document}
 use Rattle.fnl_grammar.proofs.Spans.{Reads, reads_more, reads_next, blank_cases, other_byte}
-use Rattle.fnl_grammar.proofs.ReadsMarkup.{st, Is, is_at, Follows, follows, TakesBlanks, blanks_read, blank_read, itself, Tagged, tag_at, AtTag, at_tag, IsBehind, behind_name, behind_value, IsEnding, behind_all, behind_blank, ending, attributes_read}
+use Rattle.fnl_grammar.proofs.ReadsMarkup.{st, Is, is_at, Follows, follows, TakesBlanks, blanks_read, blank_read, Tagged, tag_at, AtTag, at_tag, IsBehind, behind_name, behind_value, IsEnding, behind_all, behind_blank, ending, attributes_read}
 
 -- ---- names of elements that are open
 
@@ -62,18 +62,22 @@ between_blanks start name word value value_at opened begun tags place p b blank 
   where
     f : Place → State
     f p = st p start false name [] word value value_at opened begun tags
+
     by_32 : {begun : Bool} (p : Place) → IsBetween p begun → (at : ℕ) → step at (st p start false name [] word value value_at opened begun tags) 32 ≡ Going (st p_content start false name [] word value value_at opened begun tags)
     by_32 _ at_start at = refl
     by_32 _ at_marked at = refl
     by_32 _ at_content at = refl
+
     by_9 : {begun : Bool} (p : Place) → IsBetween p begun → (at : ℕ) → step at (st p start false name [] word value value_at opened begun tags) 9 ≡ Going (st p_content start false name [] word value value_at opened begun tags)
     by_9 _ at_start at = refl
     by_9 _ at_marked at = refl
     by_9 _ at_content at = refl
+
     by_13 : {begun : Bool} (p : Place) → IsBetween p begun → (at : ℕ) → step at (st p start false name [] word value value_at opened begun tags) 13 ≡ Going (st p_content start false name [] word value value_at opened begun tags)
     by_13 _ at_start at = refl
     by_13 _ at_marked at = refl
     by_13 _ at_content at = refl
+
     by_10 : {begun : Bool} (p : Place) → IsBetween p begun → (at : ℕ) → step at (st p start false name [] word value value_at opened begun tags) 10 ≡ Going (st p_content start false name [] word value value_at opened begun tags)
     by_10 _ at_start at = refl
     by_10 _ at_marked at = refl
@@ -81,7 +85,11 @@ between_blanks start name word value value_at opened begun tags place p b blank 
 
 space_between : {from to : List ℕ} {opened : List (List ℕ)} {begun : Bool} {tags : List Tag} → IsSpace from to → Between from opened begun tags → Between to opened begun tags
 space_between {opened = opened} {begun = begun} {tags = tags} (the_space b bs blank) h = record {
-  start = h.start; name = h.name; word = h.word; value = h.value; value_at = h.value_at;
+  start = h.start;
+  name = h.name;
+  word = h.word;
+  value = h.value;
+  value_at = h.value_at;
   here = blank_read (between_blanks h.start h.name h.word h.value h.value_at opened begun tags) b blank
       (blanks_read (between_blanks h.start h.name h.word h.value h.value_at opened begun tags) bs h.here);
 }
@@ -111,29 +119,35 @@ byte_of_comment t word value value_at from rest b place inside = by place inside
   where
     f : Place → State
     f p = tag_at t [] p word value value_at
+
     longer_ : (inside : List ℕ) (p q : Place) → Reads (from ++ inside) (f p) → ((at : ℕ) → step at (f p) b ≡ Going (f q)) → Reads (from ++ (inside ++ b ∷ [])) (f q)
     longer_ inside p q r s = subst (λ xs. Reads xs (f q)) (append_assoc from inside (b ∷ [])) (reads_next (from ++ inside) (f p) (f q) b r (s (length (from ++ inside))))
+
     first : (inside : List ℕ) (u : Bool) → (b == 45) ≡ u → Reads (from ++ inside) (f p_comment) → InComment f from (inside ++ b ∷ [])
     first inside true e r = in_comment f from (inside ++ b ∷ []) p_comment_dash (subst (λ c. Trails p_comment_dash (inside ++ c ∷ [])) (sym (eqb-true b 45 e)) (dash_trails inside)) (longer_ inside p_comment p_comment_dash r (λ at. rw e refl))
     first inside false e r = in_comment f from (inside ++ b ∷ []) p_comment any_trails (longer_ inside p_comment p_comment r (λ at. rw e refl))
+
     second : (before : List ℕ) (u : Bool) → (b == 45) ≡ u → Reads (from ++ (before ++ 45 ∷ [])) (f p_comment_dash) → InComment f from ((before ++ 45 ∷ []) ++ b ∷ [])
     second before true e r =
         in_comment f from ((before ++ 45 ∷ []) ++ b ∷ []) p_comment_dashes
         (subst (λ c. Trails p_comment_dashes ((before ++ 45 ∷ []) ++ c ∷ [])) (sym (eqb-true b 45 e)) (subst (Trails p_comment_dashes) (sym (append_snoc before 45 (45 ∷ []))) (dashes_trail before)))
         (longer_ (before ++ 45 ∷ []) p_comment_dash p_comment_dashes r (λ at. rw e refl))
     second before false e r = in_comment f from ((before ++ 45 ∷ []) ++ b ∷ []) p_comment any_trails (longer_ (before ++ 45 ∷ []) p_comment_dash p_comment r (λ at. rw e refl))
+
     third_dash : (before : List ℕ) → Trails p_comment_dashes ((before ++ 45 ∷ 45 ∷ []) ++ 45 ∷ [])
     third_dash before =
         subst (Trails p_comment_dashes) (append_assoc before (45 ∷ []) (45 ∷ 45 ∷ []) ∙ sym (append_assoc before (45 ∷ 45 ∷ []) (45 ∷ []))) (dashes_trail (before ++ 45 ∷ []))
+
     third : (before : List ℕ) (u v : Bool) → (b == 62) ≡ u → (b == 45) ≡ v → HoldsNoEnd ((before ++ 45 ∷ 45 ∷ []) ++ b ∷ rest) → Reads (from ++ (before ++ 45 ∷ 45 ∷ [])) (f p_comment_dashes) → InComment f from ((before ++ 45 ∷ 45 ∷ []) ++ b ∷ [])
     third before true v e e1 none r =
         let ends_ : (before ++ 45 ∷ 45 ∷ []) ++ b ∷ rest ≡ (before ++ codes "-->") ++ rest =
-            ap (λ c. (before ++ 45 ∷ 45 ∷ []) ++ c ∷ rest) (eqb-true b 62 e) ∙ append_assoc before (45 ∷ 45 ∷ []) (62 ∷ rest) ∙ sym (append_assoc before (45 ∷ 45 ∷ 62 ∷ []) rest) in
+        ap (λ c. (before ++ 45 ∷ 45 ∷ []) ++ c ∷ rest) (eqb-true b 62 e) ∙ append_assoc before (45 ∷ 45 ∷ []) (62 ∷ rest) ∙ sym (append_assoc before (45 ∷ 45 ∷ 62 ∷ []) rest) in
         absurd (none before rest ends_)
     third before false true e e1 none r =
         in_comment f from ((before ++ 45 ∷ 45 ∷ []) ++ b ∷ []) p_comment_dashes (subst (λ c. Trails p_comment_dashes ((before ++ 45 ∷ 45 ∷ []) ++ c ∷ [])) (sym (eqb-true b 45 e1)) (third_dash before)) (longer_ (before ++ 45 ∷ 45 ∷ []) p_comment_dashes p_comment_dashes r (λ at. rw (e, e1) refl))
     third before false false e e1 none r =
         in_comment f from ((before ++ 45 ∷ 45 ∷ []) ++ b ∷ []) p_comment any_trails (longer_ (before ++ 45 ∷ 45 ∷ []) p_comment_dashes p_comment r (λ at. rw (e, e1) refl))
+
     by : (p : Place) (inside : List ℕ) → Trails p inside → HoldsNoEnd (inside ++ b ∷ rest) → Reads (from ++ inside) (f p) → InComment f from (inside ++ b ∷ [])
     by _ inside any_trails none r = first inside (b == 45) refl r
     by _ inside (dash_trails before) none r = second before (b == 45) refl r
@@ -269,7 +283,7 @@ end_letter t word value value_at from before rest b e h =
     let itself_ : (b == b) ≡ true = eq-eqb b b refl in
     let acts_ : (at : ℕ) (s : State) (c : ℕ) → step_at next at s c ≡ end_name (length before + 1) at s c = (λ at s c. rw (more, same, itself_) refl) in
     let here : step (length from) (tag_at t [] h.place word value value_at) b ≡ Going (tag_at t [] next word value value_at) =
-        h.acts (length from) (tag_at t [] h.place word value value_at) b ∙ rw (more, same, itself_) refl in
+    h.acts (length from) (tag_at t [] h.place word value value_at) b ∙ rw (more, same, itself_) refl in
     record {
       place = next;
       acts = λ at s c. acts_ at s c ∙ ap (λ n. end_name n at s c) size;
@@ -316,6 +330,7 @@ end_read {from} {to} {name} {opened} {tags} (the_end_tag {a = a} {b = b} n bs) h
   where
     two : (from ++ codes "<") ++ 47 ∷ [] ≡ from ++ codes "</"
     two = append_snoc from 60 (47 ∷ [])
+
     begins_ : (p : Place) → IsLess p → Reads (from ++ codes "<") (st p (length from) false h.name [] h.word h.value h.value_at (opened ++ name ∷ []) true tags)
         → Reads (from ++ codes "</") (st p_end_name (length from) false name [] h.word h.value h.value_at opened true (tags ++ closes (length from + 1) ∷ []))
     begins_ p is r =
@@ -389,6 +404,7 @@ declaration_ends {front} {start} {attributes} e h = between _ _ _ _ start [] h.w
   where
     last : Reads front (st p_quoted start true [] attributes h.word h.value h.value_at [] false []) → Unit {0}
     last r = tt
+
     by : (p : Place) → IsEnding p → Reads front (st p start true [] attributes h.word h.value h.value_at [] false [])
         → Reads (front ++ codes "?>") (st p_content start false [] [] h.word h.value h.value_at [] false [])
     by _ (behind_all behind_name) r = reads_more front _ _ (codes "?>") r (rw (all_encode attributes e) refl)

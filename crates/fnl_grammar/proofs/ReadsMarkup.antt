@@ -1,21 +1,28 @@
 -- What a production spells is read so.
-use Rattle.std.proofs.Common.{◌≡◌, ◌⊎◌, inl, inr, ℕ, suc, ◌+◌, ◌≤◌, ◌<◌, Bool, true, false, List, [], ◌∷◌, ◌++◌, length, Option, None, Some, refl, sym, ap, subst, ◌∙◌, arith, append_assoc, append-nil, length-append}
-use Rattle.std.specs.Prelude.{if◌then◌else◌, ◌==◌, ◌||◌, ◌&&◌, not, nat_lt, slice_index, codes, IsUtf8}
-use Rattle.std.specs.List.{list_all}
-use Rattle.std.proofs.lemmas.Bool.{eqb-true, eq-eqb, not-true}
-use Rattle.fnl_markup.specs.Bytes.{is_blank, begins_name, goes_on_name}
-use Rattle.fnl_markup.specs.Tags.{Attribute, attribute, Tag, opens, closes}
-use Rattle.fnl_markup.specs.State.{State, fresh, Next, Going, Fault}
-use Rattle.fnl_markup.specs.Step.{step, goes, last_name, other_names, is_nil}
-use Rattle.fnl_markup.specs.Markup.{ended, run, is_whole, broken_of, tags_of, IsMarkup}
-use Rattle.fnl_grammar.proofs.Places.{Place, Entity, place_in, p_start, p_mark_one, p_mark_two, p_marked, p_first_less, p_question, p_question_x, p_question_xm, p_content, p_less, p_bang, p_bang_dash, p_comment, p_comment_dash, p_comment_dashes, p_name, p_gap, p_word, p_word_gap, p_equal, p_value, p_entity, p_quoted, p_last_question, p_slash, p_end_name, p_end_gap}
-use Rattle.fnl_grammar.specs.Markup.{AreBlanks, no_blanks, one_blank_more, IsSpace, the_space, IsName, first_of_name, next_of_name, HoldsNoEnd, IsComment, the_comment, AreMisc, no_misc, one_comment_more, more_space, IsReference, less_than, greater_than, ampersand, quotation_mark, apostrophe, is_quote, stands_for_itself, IsQuoted, nothing_quoted, one_byte_more, one_reference_more, IsAttribute, the_attribute, AreAttributes, no_attributes, one_attribute_more, IsStartTag, the_start_tag, IsEndTag, the_end_tag, IsElement, an_empty_element, an_element, IsContent, no_content, one_element_more, more_misc, MayBeMark, no_mark, the_mark, says_utf8, MayBeDeclaration, no_declaration, the_declaration, IsProlog, the_prolog, IsDocument, the_document}
-use Rattle.fnl_grammar.proofs.Spans.{Reads, reads_more, reads_next, blank_cases, quote_cases, neither, other_byte}
+use Rattle.std.proofs.Common.{◌≡◌, ℕ, ◌+◌, Bool, true, false, List, [], ◌∷◌, ◌++◌, length, refl, subst}
+use Rattle.std.specs.Prelude.{◌==◌, ◌||◌, codes}
+use Rattle.std.proofs.lemmas.Bool.{eq-eqb, not-true}
+use Rattle.fnl_markup.specs.Bytes.{is_blank}
+use Rattle.fnl_markup.specs.Tags.{Attribute, attribute, Tag}
+use Rattle.fnl_markup.specs.State.{State, Going}
+use Rattle.fnl_markup.specs.Step.{step}
+use Rattle.fnl_grammar.proofs.Places.{Place, p_name, p_gap, p_word, p_word_gap, p_equal, p_value, p_quoted}
+use Rattle.fnl_grammar.specs.Markup.{AreBlanks, no_blanks, one_blank_more, IsSpace, the_space, IsName, first_of_name, next_of_name, IsReference, less_than, greater_than, ampersand, quotation_mark, apostrophe, is_quote, stands_for_itself, IsQuoted, nothing_quoted, one_byte_more, one_reference_more, IsAttribute, the_attribute, AreAttributes, no_attributes, one_attribute_more}
+use Rattle.fnl_grammar.proofs.Spans.{Reads, reads_more, reads_next, blank_cases, quote_cases, neither}
 
 abbrev pub st : Place → ℕ → Bool → List ℕ → List Attribute → List ℕ → List ℕ → ℕ → List (List ℕ) → Bool → List Tag → State
 st place start declares name attributes word value value_at opened begun tags = record {
-  place = place; start = start; declares = declares; name = name; attributes = attributes;
-  word = word; value = value; value_at = value_at; opened = opened; begun = begun; tags = tags;
+  place = place;
+  start = start;
+  declares = declares;
+  name = name;
+  attributes = attributes;
+  word = word;
+  value = value;
+  value_at = value_at;
+  opened = opened;
+  begun = begun;
+  tags = tags;
 }
 
 -- a text is read, and its reader is at one of some places
@@ -104,6 +111,7 @@ quote_read t attributes word value value_at quote front q h = by h.place h.is h.
         cases : (u : Bool) → is_blank b ≡ u → is_blank b ≡ false
         cases true same = blank_cases (λ c. is_quote c ≡ true → is_blank c ≡ false) (λ h. absurd cc) (λ h. absurd cc) (λ h. absurd cc) (λ h. absurd cc) b same e
         cases false same = same
+
     by : (p : Place) → IsEqual p → Reads front (tag_at t attributes p word value value_at) → Reads (front ++ quote ∷ []) (tag_at t attributes (p_value quote) word [] (length front + 1))
     by _ at_equal r = reads_next front _ _ quote r (rw (no_blank quote q, q) refl)
 
@@ -125,6 +133,7 @@ reference_read t attributes word value value_at quote character {from} {to} q e 
     by_34 {from = from} ampersand h = reads_more from _ _ (codes "&amp;") h refl
     by_34 {from = from} quotation_mark h = reads_more from _ _ (codes "&quot;") h refl
     by_34 {from = from} apostrophe h = reads_more from _ _ (codes "&apos;") h refl
+
     by_39 : {character : ℕ} {from to : List ℕ} → IsReference from to character → Reads from (tag_at t attributes (p_value 39) word value value_at) → Reads to (tag_at t attributes (p_value 39) word (value ++ character ∷ []) value_at)
     by_39 {from = from} less_than h = reads_more from _ _ (codes "&lt;") h refl
     by_39 {from = from} greater_than h = reads_more from _ _ (codes "&gt;") h refl
@@ -188,7 +197,9 @@ ending_blanks t attributes word value value_at _ behind_blank b blank =
 
 pub ending : {t : Tagged} {attributes : List Attribute} {from to : List ℕ} → AreBlanks from to → AtTag t attributes IsBehind from → AtTag t attributes IsEnding to
 ending {t} {attributes} {from} bs h = record {
-  word = h.word; value = h.value; value_at = h.value_at;
+  word = h.word;
+  value = h.value;
+  value_at = h.value_at;
   here = blanks_read (ending_blanks t attributes h.word h.value h.value_at) bs
       (is_at IsEnding (λ p. tag_at t attributes p h.word h.value h.value_at) from h.here.place (behind_all h.here.is) h.here.reads);
 }

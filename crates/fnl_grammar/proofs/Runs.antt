@@ -1,6 +1,6 @@
 -- What a production spells is read so.
-use Rattle.std.proofs.Common.{◌≡◌, ◌⊎◌, inl, inr, ℕ, suc, ◌+◌, ◌≤◌, ◌<◌, Bool, true, false, List, [], ◌∷◌, ◌++◌, length, Option, None, Some, refl, sym, ap, subst, ◌∙◌, arith}
-use Rattle.std.specs.Prelude.{nat_le, if◌then◌else◌, codes}
+use Rattle.std.proofs.Common.{◌≡◌, ◌⊎◌, inl, inr, ℕ, suc, ◌+◌, ◌≤◌, Bool, true, false, List, [], ◌∷◌, ◌++◌, length, Option, None, Some, refl, sym, ap, subst, ◌∙◌, arith}
+use Rattle.std.specs.Prelude.{nat_le, codes}
 use Rattle.std.specs.Str.{bytes_eq}
 use Rattle.std.proofs.lemmas.Bool.{leb-true}
 use Rattle.std.proofs.lemmas.List.{append_assoc, append-nil}
@@ -8,25 +8,21 @@ use Rattle.cal_ast.specs.Tree.{Tree, absent, present, ident, listed, variable, p
 use Rattle.cal_ast.specs.declared.expr.PrefixOp.{PrefixOp}
 use Rattle.cal_ast.specs.declared.expr.BinOp.{BinOp}
 use Rattle.cal_ast.specs.declared.expr.BinOp.TheVariants as binaries
-use Rattle.fnl_markup.specs.Tags.{Attribute, attribute, Tag, opens, closes}
-use Rattle.fnl_expr.specs.Given.{given, either_given, Text, text_at, long, has_short_names, earlier, name_given, tag_given, end_given, entry_given, type_given, Literal, literal_given, kind_given, literal_tree}
+use Rattle.fnl_markup.specs.Tags.{Attribute, attribute, Tag, closes}
+use Rattle.fnl_expr.specs.Given.{given, text_at, long, has_short_names, earlier, literal_tree}
 use Rattle.fnl_expr.specs.Operations.{Pending, fits, made, grouped, before_operator}
-use Rattle.fnl_expr.specs.Operators.{binary_given, prefix_given}
-use Rattle.fnl_frames.specs.Allowed.{element_named, allows}
-use Rattle.fnl_frames.specs.Attaching.{with_expr, with_class, with_type, with_arg, with_port, with_decl, with_instance, with_connection, with_parameter, with_size}
+use Rattle.fnl_frames.specs.Allowed.{allows}
+use Rattle.fnl_frames.specs.Attaching.{with_expr, with_type, with_port, with_decl, with_instance, with_connection}
 use Rattle.fnl_frames.specs.Frames.{Frame, outside, in_network, in_port, in_decl, in_instance, in_parameter, in_connection, in_size, in_type, in_value, in_shape, in_list, in_unary, in_sequence, in_empty, in_passed, Class, a_class}
 use Rattle.fnl_frames.specs.Net.{Net, Port, a_port, Decl, a_decl, Parameter, a_parameter, Instance, an_instance, Size, a_size, Connection, a_connection, empty_net}
 use Rattle.fnl_read.specs.Closing.{closed, end_expr}
 use Rattle.fnl_read.specs.Elements.{run}
-use Rattle.fnl_read.specs.Opening.{is_passed, open_element, open_expr, opened, enter, attribute_in, attribute_with}
-use Rattle.fnl_read.specs.States.{State, Next, Going, Fault, fresh}
+use Rattle.fnl_read.specs.Opening.{is_passed, open_element, opened, enter, attribute_in, attribute_with}
+use Rattle.fnl_read.specs.States.{State, Next, Going, fresh}
 use Rattle.fnl_frames.specs.declared.element.Element.{Element}
 use Rattle.fnl_frames.specs.declared.element.Element.TheVariants as elements
-use Rattle.fnl_expr.specs.declared.kind.ExprKind.{ExprKind}
-use Rattle.fnl_expr.specs.declared.kind.ExprKind.TheVariants as kinds
 use Rattle.fnl_grammar.specs.Rows.{Item, operand, operator, loosest, Groups, AreSeveral}
-use Rattle.fnl_grammar.specs.Productions
-use Rattle.fnl_grammar.specs.Productions.{around, IsCalled, IsGiven, is_size_in, is_buffer_size, ArePassed, passed_none, passed_more, IsPassed, the_passed, IsPrefixOp, the_prefix_op, IsBinaryOp, the_binary_op, IsExpr, the_literal, the_variable, the_list, the_operation, the_sequence, AreItems, no_items, one_item_more, IsRow, the_first, the_next, IsType, the_type, AreEntries, no_entries, one_entry_more, IsEntry, the_value, the_shape, IsPort, the_port, HasDeclared, nothing_declared, type_declared, value_declared, IsDecl, the_param, the_decl, IsClass, the_class, IsParameter, the_parameter, InInstance, instance_empty, and_class, and_parameter, and_attribute, IsInstance, the_instance, IsSize, the_size, IsOther, the_other, InConnection, connection_empty, and_size, and_other, IsConnection, the_connection, InNetwork, network_empty, with_a_port, with_a_decl, with_an_instance, with_a_connection, with_an_attribute, IsNetwork, the_network}
+use Rattle.fnl_grammar.specs.Productions.{around, IsCalled, is_size_in, is_buffer_size, ArePassed, passed_none, passed_more, IsPassed, the_passed, IsPrefixOp, the_prefix_op, IsBinaryOp, the_binary_op, IsExpr, the_literal, the_variable, the_list, the_operation, the_sequence, AreItems, no_items, one_item_more, IsRow, the_first, the_next, IsType, the_type, AreEntries, no_entries, one_entry_more, IsEntry, the_value, the_shape, IsPort, the_port, HasDeclared, nothing_declared, type_declared, value_declared, IsDecl, the_param, the_decl, IsClass, the_class, IsParameter, the_parameter, InInstance, instance_empty, and_class, and_parameter, and_attribute, IsInstance, the_instance, the_size, the_other, InConnection, connection_empty, and_size, and_other, IsConnection, the_connection, InNetwork, network_empty, with_a_port, with_a_decl, with_an_instance, with_a_connection, with_an_attribute, IsNetwork, the_network}
 use Rattle.fnl_grammar.proofs.Reading.{Read, read, reads, reads_on, then_reads, reads_append}
 use Rattle.fnl_grammar.proofs.Grouped.{is_read, IsRead, IsWhole}
 

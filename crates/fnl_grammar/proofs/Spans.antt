@@ -1,9 +1,9 @@
 -- How reading goes on behind what was read.
-use Rattle.std.proofs.Common.{◌≡◌, ◌⊎◌, inl, inr, ℕ, suc, ◌+◌, Bool, true, false, List, [], ◌∷◌, ◌++◌, length, Option, None, Some, refl, sym, ap, subst, ◌∙◌, arith, append_assoc, ⊎_elim}
+use Rattle.std.proofs.Common.{◌≡◌, ℕ, suc, ◌+◌, Bool, true, false, List, [], ◌∷◌, ◌++◌, length, None, Some, refl, sym, ap, subst, ◌∙◌, arith, ⊎_elim}
 use Rattle.std.proofs.lemmas.Bool.{eqb-true, or_cases}
-use Rattle.std.specs.Prelude.{if◌then◌else◌, ◌==◌, ◌||◌, nat_eq}
+use Rattle.std.specs.Prelude.{◌==◌, ◌||◌}
 use Rattle.rvc_base.specs.declared.refusal.Rule.{Rule}
-use Rattle.fnl_markup.specs.Bytes.{is_blank, begins_name, goes_on_name}
+use Rattle.fnl_markup.specs.Bytes.{is_blank}
 use Rattle.fnl_markup.specs.State.{State, fresh, Next, Going, Fault}
 use Rattle.fnl_markup.specs.Step.{step}
 use Rattle.fnl_markup.specs.Markup.{Broken, fault, ended, run}

@@ -1,23 +1,22 @@
 -- Markup that is read is spelled, and texts spell at most one.
-use Rattle.std.proofs.Common.{◌≡◌, ℕ, zero, suc, ◌+◌, ◌≤◌, ◌<◌, Bool, true, false, List, [], ◌∷◌, ◌++◌, length, take, Option, None, Some, refl, sym, ap, subst, ◌∙◌, arith, append-nil, length-append, take_all}
-use Rattle.std.specs.Prelude.{if◌then◌else◌, ◌&&◌, nat_lt, nat_le, codes, IsUtf8}
+use Rattle.std.proofs.Common.{◌≡◌, ℕ, zero, suc, ◌+◌, ◌≤◌, Bool, true, false, List, [], ◌∷◌, ◌++◌, length, take, None, Some, refl, sym, ap, subst, ◌∙◌, arith, append-nil, length-append, take_all}
+use Rattle.std.specs.Prelude.{if◌then◌else◌, ◌&&◌, nat_lt, IsUtf8}
 use Rattle.std.specs.Str.{is_utf8}
 use Rattle.std.specs.Str.Lossy.{utf8_valid_len, valid_len_up_to}
 use Rattle.std.proofs.Math.Seq.{append_snoc}
 use Rattle.std.proofs.lemmas.Bool.{ltb-false, and_parts}
-use Rattle.std.proofs.lemmas.Str.{utf8_valid_len_le, IsUtf8-from_is_utf8, IsUtf8-nil}
-use Rattle.rvc_base.specs.declared.refusal.Rule.{Rule}
+use Rattle.std.proofs.lemmas.Str.{IsUtf8-from_is_utf8, IsUtf8-nil}
 use Rattle.rvc_base.specs.Rules.{spells_no_network, wrong_encoding}
 use Rattle.fnl_markup.specs.Tags.{Tag}
 use Rattle.fnl_markup.specs.State.{State, fresh, Next, Going, Fault}
 use Rattle.fnl_markup.specs.Step.{step, is_nil}
-use Rattle.fnl_markup.specs.Markup.{Broken, fault, Ended, ended, run, reading, is_content, is_whole, at_end, first_broken, broken_of, broken_in, tags_of, tags_read, IsMarkup}
-use Rattle.fnl_grammar.specs.Markup.{MayBeMark, no_mark, IsDocument, the_document}
+use Rattle.fnl_markup.specs.Markup.{fault, Ended, ended, run, reading, is_content, is_whole, at_end, broken_of, broken_in, tags_of, tags_read}
+use Rattle.fnl_grammar.specs.Markup.{no_mark, IsDocument, the_document}
 use Rattle.fnl_grammar.specs.MarkupLaws.{TagsAreSpelled, TagsAreRead, SpellsOneMarkup}
 use Rattle.fnl_grammar.proofs.Spans.{goes_on, stops_here, not_broken, same_state}
 use Rattle.fnl_grammar.proofs.ReadsElements.{some_names, document_read}
-use Rattle.fnl_grammar.proofs.Before.{Lies, before_all, behind_one, inside_one, Outside, Fresh, Stands, stands_start, stands_mark_one, stands_mark_two, stands_marked, stands_first_less, stands_question, stands_question_x, stands_question_xm, stands_content, stands_less, stands_bang, stands_bang_dash, stands_comment, stands_comment_dash, stands_comment_dashes, stands_name, stands_quoted, stands_gap, stands_word, stands_word_gap, stands_equal, stands_value, stands_entity, stands_last_question, stands_slash, stands_end_name, stands_end_gap}
-use Rattle.fnl_grammar.proofs.Kept.{Good, good, stopped, byte_kept}
+use Rattle.fnl_grammar.proofs.Before.{Lies, before_all, behind_one, inside_one, Outside, Stands, stands_start, stands_mark_one, stands_mark_two, stands_marked, stands_first_less, stands_question, stands_question_x, stands_question_xm, stands_content, stands_less, stands_bang, stands_bang_dash, stands_comment, stands_comment_dash, stands_comment_dashes, stands_name, stands_quoted, stands_gap, stands_word, stands_word_gap, stands_equal, stands_value, stands_entity, stands_last_question, stands_slash, stands_end_name, stands_end_gap}
+use Rattle.fnl_grammar.proofs.Kept.{Good, good, byte_kept}
 
 -- ---- a whole text
 

@@ -1,25 +1,24 @@
 -- Each tag that is read leaves what stands in the elements that are open; so what is read is spelled.
-use Rattle.std.proofs.Common.{◌≡◌, ◌⊎◌, inl, inr, ℕ, zero, suc, ◌+◌, ◌≤◌, ◌<◌, Bool, true, false, List, [], ◌∷◌, ◌++◌, length, Option, None, Some, refl, sym, ap, subst, ◌∙◌, arith}
+use Rattle.std.proofs.Common.{◌≡◌, ◌⊎◌, inl, inr, ℕ, zero, suc, ◌≤◌, ◌<◌, Bool, true, false, List, [], ◌∷◌, ◌++◌, length, Option, None, Some, refl, sym, ap, subst, ◌∙◌, arith}
 use Rattle.std.specs.Prelude.{nat_le, if◌then◌else◌, codes}
 use Rattle.std.specs.Str.{bytes_eq}
-use Rattle.std.proofs.lemmas.Bool.{leb-true}
 use Rattle.std.proofs.lemmas.Bool.Decides.{leb_tells}
 use Rattle.std.proofs.lemmas.List.{append_assoc, append-nil}
-use Rattle.cal_ast.specs.Tree.{Tree, absent, present, ident, listed, variable, prefix, binary, list, type_of, shape_arg, value_arg}
+use Rattle.cal_ast.specs.Tree.{Tree, absent, present, ident, listed, variable, prefix, list, type_of, shape_arg, value_arg}
 use Rattle.cal_ast.specs.declared.expr.PrefixOp.{PrefixOp}
 use Rattle.cal_ast.specs.declared.expr.BinOp.{BinOp}
 use Rattle.fnl_markup.specs.Tags.{Attribute, attribute, Tag, opens, closes}
 use Rattle.fnl_expr.specs.Given.{given, either_given, Text, text_at, long, has_short_names, earlier, name_given, tag_given, end_given, entry_given, type_given, Literal, literal_given, kind_given, literal_tree}
-use Rattle.fnl_expr.specs.Operations.{Pending, fits, made, grouped, before_operator}
+use Rattle.fnl_expr.specs.Operations.{Pending, made, grouped, before_operator}
 use Rattle.fnl_expr.specs.Operators.{binary_given, prefix_given}
 use Rattle.fnl_frames.specs.Allowed.{element_named, allows}
 use Rattle.fnl_frames.specs.Attaching.{with_net, with_expr, with_class, with_type, with_arg, with_port, with_decl, with_instance, with_connection, with_parameter, with_size}
-use Rattle.fnl_frames.specs.Frames.{Frame, outside, in_network, in_port, in_decl, in_instance, in_parameter, in_connection, in_size, in_type, in_value, in_shape, in_list, in_unary, in_sequence, in_empty, in_passed, Class, a_class}
-use Rattle.fnl_frames.specs.Net.{Net, Port, a_port, Decl, a_decl, Parameter, a_parameter, Instance, an_instance, Size, a_size, Connection, a_connection, empty_net}
+use Rattle.fnl_frames.specs.Frames.{Frame, outside, in_network, in_port, in_decl, in_instance, in_parameter, in_connection, in_size, in_type, in_value, in_shape, in_list, in_unary, in_sequence, in_empty, in_passed, a_class}
+use Rattle.fnl_frames.specs.Net.{Net, a_port, a_decl, a_parameter, an_instance, a_size, a_connection, empty_net}
 use Rattle.fnl_read.specs.Closing.{closed}
 use Rattle.fnl_read.specs.Elements.{step, run}
 use Rattle.fnl_read.specs.Opening.{is_passed}
-use Rattle.fnl_read.specs.States.{State, Next, Going, Fault, fresh}
+use Rattle.fnl_read.specs.States.{State, Next, Going, Fault}
 use Rattle.fnl_read.specs.Opening as opening
 use Rattle.fnl_read.specs.Closing as closing
 use Rattle.rvc_base.specs.declared.refusal.Rule.{Rule}
@@ -28,9 +27,9 @@ use Rattle.fnl_frames.specs.declared.element.Element.{Element}
 use Rattle.fnl_frames.specs.declared.element.Element.TheVariants as elements
 use Rattle.fnl_expr.specs.declared.kind.ExprKind.{ExprKind}
 use Rattle.fnl_expr.specs.declared.kind.ExprKind.TheVariants as kinds
-use Rattle.fnl_grammar.specs.Rows.{Item, operand, operator, loosest, Groups, AreSeveral}
-use Rattle.fnl_grammar.specs.Productions.{around, IsCalled, IsGiven, is_size_in, is_buffer_size, ArePassed, passed_none, passed_more, IsPassed, the_passed, IsPrefixOp, the_prefix_op, IsBinaryOp, the_binary_op, IsExpr, the_literal, the_variable, the_list, the_operation, the_sequence, AreItems, no_items, one_item_more, IsRow, the_first, the_next, IsType, the_type, AreEntries, no_entries, one_entry_more, IsEntry, the_value, the_shape, IsPort, the_port, HasDeclared, nothing_declared, type_declared, value_declared, IsDecl, the_param, the_decl, IsClass, the_class, IsParameter, the_parameter, InInstance, instance_empty, and_class, and_parameter, and_attribute, IsInstance, the_instance, IsSize, the_size, IsOther, the_other, InConnection, connection_empty, and_size, and_other, IsConnection, the_connection, InNetwork, network_empty, with_a_port, with_a_decl, with_an_instance, with_a_connection, with_an_attribute, IsNetwork, the_network}
-use Rattle.fnl_grammar.proofs.Reading.{Read, read, reads, reads_on, then_reads, reads_append}
+use Rattle.fnl_grammar.specs.Rows.{Item, operand, operator, AreSeveral}
+use Rattle.fnl_grammar.specs.Productions.{around, IsCalled, IsGiven, is_size_in, is_buffer_size, passed_none, the_passed, IsPrefixOp, the_prefix_op, IsBinaryOp, the_binary_op, IsExpr, the_literal, the_variable, the_list, the_operation, the_sequence, no_items, IsRow, the_type, no_entries, the_value, the_shape, the_port, nothing_declared, the_param, the_decl, IsClass, the_class, the_parameter, instance_empty, the_instance, the_size, the_other, connection_empty, the_connection, network_empty, IsNetwork, the_network}
+use Rattle.fnl_grammar.proofs.Reading.{read, reads}
 use Rattle.fnl_grammar.proofs.Grouped.{is_made, IsGrouped, is_grouped, read_is_grouped}
 use Rattle.fnl_grammar.proofs.Runs.{st}
 use Rattle.fnl_grammar.proofs.Stands.{Kid, an_element, a_size_of, passed_over, Partial, p_net, p_port0, p_port1, p_decl, p_inst, p_param0, p_param1, p_conn, p_size0, p_size1, p_passed, p_type, p_value0, p_value1, p_shape0, p_shape1, p_list, p_unary0, p_unary1, p_unary2, p_row0, p_row1, p_row2, Takes, Stands, at_bottom, at_end, on_top, within_passed, around_nothing, depth, absorb_expr, absorb_type, absorb_entry, absorb_class, absorb_parameter, absorb_port, absorb_decl, absorb_instance, absorb_connection, absorb_size, absorb_passed, absorb_within, absorb_prefix, absorb_binary}

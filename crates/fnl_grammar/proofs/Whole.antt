@@ -1,17 +1,17 @@
 -- Texts that are read, and the grammar.
-use Rattle.std.proofs.Common.{◌≡◌, ◌+◌, ℕ, Bool, true, false, List, [], ◌∷◌, length, take, Option, None, Some, refl, sym, ap, subst, ◌∙◌}
+use Rattle.std.proofs.Common.{◌≡◌, ◌+◌, ℕ, Bool, true, false, List, [], length, take, Option, None, Some, refl, sym, ap, subst, ◌∙◌}
 use Rattle.std.specs.Prelude.{nat_le, if◌then◌else◌}
 use Rattle.rvc_base.specs.declared.refusal.Rule.{Rule}
 use Rattle.rvc_base.specs.Rules.{spells_no_network}
 use Rattle.fnl_markup.specs.Tags.{Tag}
-use Rattle.fnl_markup.specs.Markup.{Broken, fault, IsMarkup, tags_of, broken_of}
+use Rattle.fnl_markup.specs.Markup.{Broken, fault, tags_of, broken_of}
 use Rattle.fnl_frames.specs.Frames.{Frame, outside, in_network, in_port, in_decl, in_instance, in_parameter, in_connection, in_size, in_type, in_value, in_shape, in_list, in_unary, in_sequence, in_empty, in_passed}
 use Rattle.fnl_frames.specs.Net.{Net}
 use Rattle.fnl_read.specs.Elements.{run, net_in}
-use Rattle.fnl_read.specs.Network.{Answer, Network, Broke, network, found_in, first_of}
+use Rattle.fnl_read.specs.Network.{Network, Broke, network, found_in, first_of}
 use Rattle.fnl_read.specs.States.{State, Next, Going, Fault, fresh}
-use Rattle.fnl_grammar.specs.Productions.{Spells, IsNetwork}
-use Rattle.fnl_grammar.specs.Laws.{SpellsNetwork, ReadIsSpelled, SpelledIsRead, SpellsOne, NoneGoesOn}
+use Rattle.fnl_grammar.specs.Productions.{Spells}
+use Rattle.fnl_grammar.specs.Laws.{ReadIsSpelled, SpelledIsRead, SpellsOne, NoneGoesOn}
 use Rattle.fnl_grammar.proofs.Runs.{network_runs, st}
 use Rattle.fnl_grammar.proofs.Stands.{Stands, at_bottom}
 use Rattle.fnl_grammar.proofs.Steps.{run_after, After, ended}

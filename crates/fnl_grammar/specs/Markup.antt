@@ -8,7 +8,7 @@
 -- two stretches meet, one ends where the next begins, and the offset of a place is the length of the bytes before it.
 -- They say nothing of how a text is read.
 -- Trusted: part of what a promise means.
-use Rattle.std.specs.Prelude.{◌≡◌, ℕ, ◌+◌, List, [], ◌∷◌, ◌++◌, length, Bool, true, false, not, ◌||◌, ◌&&◌, ◌==◌, codes, IsUtf8}
+use Rattle.std.specs.Prelude.{◌≡◌, ℕ, ◌+◌, List, [], ◌∷◌, ◌++◌, length, Bool, true, not, ◌||◌, ◌==◌, codes, IsUtf8}
 use Rattle.std.specs.List.{list_all}
 use Rattle.std.specs.Str.{bytes_eq, str_eq_ignore_ascii_case}
 use Rattle.fnl_markup.specs.Bytes.{is_blank, begins_name, goes_on_name}

@@ -17,7 +17,6 @@ use Rattle.fnl_frames.specs.Frames.{Class, a_class}
 use Rattle.fnl_frames.specs.Net.{Net, Port, a_port, Decl, a_decl, Parameter, a_parameter, Instance, an_instance, Size, a_size, Connection, a_connection}
 use Rattle.fnl_frames.specs.declared.element.Element.{Element}
 use Rattle.fnl_frames.specs.declared.element.Element.TheVariants as elements
-use Rattle.fnl_expr.specs.declared.kind.ExprKind.{ExprKind}
 use Rattle.fnl_expr.specs.declared.kind.ExprKind.TheVariants as kinds
 use Rattle.fnl_grammar.specs.Rows.{Item, operand, operator, loosest, Groups, AreSeveral}
 
