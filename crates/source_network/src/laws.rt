@@ -1,8 +1,11 @@
 //! What holds of source networks.
 
 ghost use Rattle.source_network.specs.Laws.{ActorsAreOne, NetworksAreOne};
+ghost use Rattle.source_network.specs.Library.{FilesAreOne, LibraryNetworksAreOne};
 
+use cal_grammar::one_tree;
 use cal_model::one_line;
+use fnl_grammar::files_are_read_as_they_are_spelled;
 
 /// Files mean at most one network from a class down, and each of its actors is determined by its class and the values of
 /// its parameters.
@@ -11,4 +14,15 @@ pub fn one_network()
     ensures network { NetworksAreOne }
 {
     one_line();
+}
+
+/// If a library tells of each name, the bytes of its files mean at most one network from a top down: which files the top
+/// needs is determined by their bytes, and what each of them says is what its bytes spell.
+pub fn one_library_network()
+    ensures files { FilesAreOne }
+    ensures network { LibraryNetworksAreOne }
+{
+    one_network();
+    one_tree();
+    files_are_read_as_they_are_spelled();
 }

@@ -1,0 +1,24 @@
+-- The source network of a library: what the bytes of its files mean from a top down.
+-- Trusted: part of what a promise means.
+use Rattle.std.specs.Prelude.{◌≡◌, List}
+use Rattle.cal_model.specs.Selection.{State}
+use Rattle.net_model.specs.Network.{Network}
+use Rattle.actor_files.specs.Loading.{Library, TellsAll}
+use Rattle.source_network.specs.Files.{AreLoaded, Asked, Read, class_asked, files_of}
+use Rattle.source_network.specs.Source.{IsSourceNetwork}
+
+-- all files that the top needs are read, and mean this network
+pub record IsLibraryNetwork (library : Library) (top : Asked) (net : Network State) : Type 0 where
+  pub reads : List Read
+  pub are_loaded : AreLoaded library top reads
+  pub means : IsSourceNetwork (files_of reads) (class_asked top) net
+
+-- if a library tells of each name, a top needs at most one list of files
+abbrev pub FilesAreOne : Type 0
+FilesAreOne = (library : Library) (top : Asked) (reads others : List Read) → TellsAll library
+    → AreLoaded library top reads → AreLoaded library top others → reads ≡ others
+
+-- .. and means at most one network
+abbrev pub LibraryNetworksAreOne : Type 0
+LibraryNetworksAreOne = (library : Library) (top : Asked) (net other : Network State) → TellsAll library
+    → IsLibraryNetwork library top net → IsLibraryNetwork library top other → net ≡ other
