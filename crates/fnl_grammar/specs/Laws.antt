@@ -41,16 +41,18 @@ pub record IsNetworkFile (text : List ℕ) (net : Net) : Type 0 where
 
 -- a network that is read is spelled by the bytes
 abbrev pub ReadIsNetworkFile : Type 0
-ReadIsNetworkFile = (text : List ℕ) (net : Net) → network text ≡ Network net → IsNetworkFile text net
+ReadIsNetworkFile =
+    (text : List ℕ) (net : Net) → network text ≡ Network net → IsNetworkFile text net
 
 -- a network that is spelled by the bytes is read
 abbrev pub NetworkFileIsRead : Type 0
-NetworkFileIsRead = (text : List ℕ) (net : Net) → IsNetworkFile text net → network text ≡ Network net
+NetworkFileIsRead =
+    (text : List ℕ) (net : Net) → IsNetworkFile text net → network text ≡ Network net
 
 -- bytes spell at most one network
 abbrev pub IsOneNetworkFile : Type 0
-IsOneNetworkFile =
-    (text : List ℕ) (one other : Net) → IsNetworkFile text one → IsNetworkFile text other → one ≡ other
+IsOneNetworkFile = (text : List ℕ) (one other : Net)
+    → IsNetworkFile text one → IsNetworkFile text other → one ≡ other
 
 -- where no text of a network goes on, the bytes of no text that goes on the same way spell one
 abbrev pub NoNetworkFileGoesOn : Type 0

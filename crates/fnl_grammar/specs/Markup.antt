@@ -29,7 +29,8 @@ pub data IsSpace : (from to : List ℕ) → Type 0 where
 
 -- [5] Name = NameStartChar {NameChar}
 pub data IsName : (from to name : List ℕ) → Type 0 where
-  first_of_name : {from : List ℕ} (b : ℕ) → begins_name b ≡ true → IsName from (from ++ b ∷ []) (b ∷ [])
+  first_of_name : {from : List ℕ} (b : ℕ)
+      → begins_name b ≡ true → IsName from (from ++ b ∷ []) (b ∷ [])
   next_of_name : {from to name : List ℕ} (b : ℕ)
       → IsName from to name → goes_on_name b ≡ true → IsName from (to ++ b ∷ []) (name ++ b ∷ [])
 
@@ -45,8 +46,10 @@ pub data IsComment : (from to : List ℕ) → Type 0 where
 -- {Misc}, [27] Misc = Comment | S
 pub data AreMisc : (from to : List ℕ) → Type 0 where
   no_misc : {from : List ℕ} → AreMisc from from
-  one_comment_more : {from to next : List ℕ} → AreMisc from to → IsComment to next → AreMisc from next
-  more_space : {from to next : List ℕ} → AreMisc from to → IsSpace to next → AreMisc from next
+  one_comment_more : {from to next : List ℕ}
+      → AreMisc from to → IsComment to next → AreMisc from next
+  more_space : {from to next : List ℕ}
+      → AreMisc from to → IsSpace to next → AreMisc from next
 
 -- ---- attributes
 
@@ -109,11 +112,13 @@ mutual
     -- [44] EmptyElemTag = "<" Name {S Attribute} [S] "/>"
     an_empty_element : {from a b c name : List ℕ} {attributes : List Attribute}
         → IsName (from ++ codes "<") a name → AreAttributes a b attributes → AreBlanks b c
-        → IsElement from (c ++ codes "/>") (opens name attributes (length from) ∷ closes (length c) ∷ [])
+        → IsElement from (c ++ codes "/>")
+        (opens name attributes (length from) ∷ closes (length c) ∷ [])
     -- the names in both tags are the same
     an_element : {from a b to name : List ℕ} {attributes : List Attribute} {tags : List Tag}
         → IsStartTag from a name attributes → IsContent a b tags → IsEndTag b to name
-        → IsElement from to (opens name attributes (length from) ∷ tags ++ closes (length b + 1) ∷ [])
+        → IsElement from to
+        (opens name attributes (length from) ∷ tags ++ closes (length b + 1) ∷ [])
 
   -- [43] content = {element | Comment | S}
   pub data IsContent : (from to : List ℕ) → List Tag → Type 0 where
@@ -144,7 +149,8 @@ pub data MayBeDeclaration : (from to : List ℕ) → Type 0 where
 
 -- [22] prolog = [byte order mark] [XMLDecl] {Misc}
 pub data IsProlog : (to : List ℕ) → Type 0 where
-  the_prolog : {a b to : List ℕ} → MayBeMark [] a → MayBeDeclaration a b → AreMisc b to → IsProlog to
+  the_prolog : {a b to : List ℕ}
+      → MayBeMark [] a → MayBeDeclaration a b → AreMisc b to → IsProlog to
 
 -- [1] document = prolog element {Misc}, in UTF-8
 pub data IsDocument : (text : List ℕ) → List Tag → Type 0 where

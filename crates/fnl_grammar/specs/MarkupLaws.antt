@@ -16,11 +16,12 @@ TagsAreRead = (text : List ℕ) (tags : List Tag) → IsDocument text tags → I
 
 -- a text spells at most one list of tags
 abbrev pub SpellsOneMarkup : Type 0
-SpellsOneMarkup =
-    (text : List ℕ) (one other : List Tag) → IsDocument text one → IsDocument text other → one ≡ other
+SpellsOneMarkup = (text : List ℕ) (one other : List Tag)
+    → IsDocument text one → IsDocument text other → one ≡ other
 
 -- where no markup goes on, no text that goes on the same way spells tags
 abbrev pub NoDocumentGoesOn : Type 0
 NoDocumentGoesOn =
-    (text other : List ℕ) (at : ℕ) (tags : List Tag) → broken_of text ≡ Some (fault spells_no_network at)
+    (text other : List ℕ) (at : ℕ) (tags : List Tag)
+    → broken_of text ≡ Some (fault spells_no_network at)
     → take (at + 1) other ≡ take (at + 1) text → IsDocument other tags → ⊥
