@@ -1,2 +1,3 @@
 mod One
 pub mod OneLibrary
+pub mod Rows

@@ -122,7 +122,8 @@ abbrev pub next_wanted : Library → (top : Asked) → List Read → Option Want
 next_wanted library top reads = first_unread library reads (top ∷ asked_by_all reads)
 
 -- this file is read behind those before it
-pub record IsNextRead (library : Library) (top : Asked) (before : List Read) (r : Read) : Type 0 where
+pub record IsNextRead (library : Library) (top : Asked) (before : List Read) (r : Read)
+    : Type 0 where
   pub want : Wanted
   pub is_next : next_wanted library top before ≡ Some want
   pub same_class : r.class ≡ want.class

@@ -20,5 +20,6 @@ FilesAreOne = (library : Library) (top : Asked) (reads others : List Read) → T
 
 -- .. and means at most one network
 abbrev pub LibraryNetworksAreOne : Type 0
-LibraryNetworksAreOne = (library : Library) (top : Asked) (net other : Network State) → TellsAll library
+LibraryNetworksAreOne = (library : Library) (top : Asked) (net other : Network State)
+    → TellsAll library
     → IsLibraryNetwork library top net → IsLibraryNetwork library top other → net ≡ other
