@@ -1,3 +1,4 @@
 mod One
 pub mod OneLibrary
 pub mod Rows
+pub mod ActorFiles

@@ -1,10 +1,11 @@
 -- The source network of a library: what the bytes of its files mean from a top down.
 -- Trusted: part of what a promise means.
-use Rattle.std.specs.Prelude.{◌≡◌, List}
+use Rattle.std.specs.Prelude.{◌≡◌, ℕ, List, [], map}
 use Rattle.cal_model.specs.Selection.{State}
 use Rattle.net_model.specs.Network.{Network}
-use Rattle.actor_files.specs.Loading.{Library, TellsAll}
-use Rattle.source_network.specs.Files.{AreLoaded, Asked, Read, class_asked, files_of}
+use Rattle.actor_files.specs.Loading.{IsLoaded, Library, TellsAll}
+use Rattle.actor_files.specs.Reads.{Read as ActorRead, sources_of}
+use Rattle.source_network.specs.Files.{AreLoaded, Asked, Read, an_actor, class_asked, files_of, source}
 use Rattle.source_network.specs.Source.{IsSourceNetwork}
 
 -- all files that the top needs are read, and mean this network
@@ -23,3 +24,17 @@ abbrev pub LibraryNetworksAreOne : Type 0
 LibraryNetworksAreOne = (library : Library) (top : Asked) (net other : Network State)
     → TellsAll library
     → IsLibraryNetwork library top net → IsLibraryNetwork library top other → net ≡ other
+
+-- a file that an actor needs, as a file of the library
+abbrev pub as_read : ActorRead → Read
+as_read r = record { class = r.class; text = r.text; content = source r.tree }
+
+-- the files that are loaded for an actor are those that it needs as the top
+abbrev pub ActorFilesAreLoaded : Type 0
+ActorFilesAreLoaded = (library : Library) (top : List ℕ) (reads : List ActorRead)
+    → IsLoaded library top reads → AreLoaded library (an_actor top) (map as_read reads)
+
+-- .. and they are its sources, and no networks
+abbrev pub ActorFilesAreSources : Type 0
+ActorFilesAreSources = (reads : List ActorRead)
+    → files_of (map as_read reads) ≡ record { networks = []; sources = sources_of reads }

@@ -1,7 +1,7 @@
 //! What holds of source networks.
 
 ghost use Rattle.source_network.specs.Laws.{ActorsAreOne, NetworksAreOne};
-ghost use Rattle.source_network.specs.Library.{FilesAreOne, LibraryNetworksAreOne};
+ghost use Rattle.source_network.specs.Library.{ActorFilesAreLoaded, ActorFilesAreSources, FilesAreOne, LibraryNetworksAreOne};
 
 use cal_grammar::one_tree;
 use cal_model::one_line;
@@ -26,3 +26,10 @@ pub fn one_library_network()
     one_tree();
     files_are_read_as_they_are_spelled();
 }
+
+/// The files that are loaded for an actor and its imports are those that the actor needs as the top of a network, under
+/// the same classes and numbers.
+pub fn actor_files_are_loaded()
+    ensures loaded { ActorFilesAreLoaded }
+    ensures sources { ActorFilesAreSources }
+{}

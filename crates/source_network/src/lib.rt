@@ -5,9 +5,10 @@
 //! there is at most one. It stands below the calls that build and run networks, so that all of them speak of it.
 //!
 //! `specs/Files.antt` says which files a top needs by what a library tells of their bytes, and `specs/Library.antt` which
-//! network they mean; [`one_library_network`] says that there is at most one.
+//! network they mean; [`one_library_network`] says that there is at most one, and [`actor_files_are_loaded`] that the
+//! files of an actor alone are those that `actor_files` loads.
 #![tactic(auto)]
 
 mod laws;
 
-pub use laws::{one_library_network, one_network};
+pub use laws::{actor_files_are_loaded, one_library_network, one_network};
