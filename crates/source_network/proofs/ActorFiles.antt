@@ -1,5 +1,5 @@
 -- The files of an actor are those that it needs as the top of a network.
-use Rattle.std.proofs.Common.{◌≡◌, ℕ, suc, ◌+◌, ◌≤◌, Bool, true, false, ◌&&◌, ◌||◌, List, [], ◌∷◌, ◌++◌, length, map, Option, None, Some, option_map, is_some, refl, sym, ap, subst, ◌∙◌}
+use Rattle.std.proofs.Common.{◌≡◌, ℕ, suc, ◌+◌, ◌≤◌, Bool, true, false, ◌&&◌, ◌||◌, List, [], ◌∷◌, ◌++◌, length, map, Option, Some, option_map, is_some, refl, sym, ap, subst, ◌∙◌}
 use Rattle.std.specs.Prelude.{if◌then◌else◌}
 use Rattle.std.specs.Str.{bytes_eq}
 use Rattle.std.proofs.lemmas.List.{map-append, length-map}
@@ -15,7 +15,7 @@ use Rattle.actor_files.specs.Reads as reading
 use Rattle.actor_files.specs.Reads.{Request, import_request, import_requests, next_request, requests_from, sources_of}
 use Rattle.fnl_bind.specs.Library.{Entry}
 use Rattle.source_network.specs.Source.{Files}
-use Rattle.source_network.specs.Files.{Asked, an_actor, Wanted, wanted, Read, says_source, is_read, asked_by_import, asked_by_all, first_unread, next_wanted, bytes_of, IsNextRead, AreReadBehind, AreLoaded, networks_from, sources_from, files_of}
+use Rattle.source_network.specs.Files.{Asked, an_actor, Wanted, says_source, is_read, asked_by_import, asked_by_all, first_unread, next_wanted, bytes_of, IsNextRead, AreReadBehind, networks_from, sources_from}
 use Rattle.source_network.specs.Library.{as_read, ActorFilesAreLoaded, ActorFilesAreSources}
 
 abbrev as_asked : Request → Asked
@@ -86,9 +86,10 @@ next_is_read library top before r x = record {
 behind_are_read : (library : Library) (top : List ℕ) (before rs : List reading.Read) → loading.AreReadBehind library top before rs
     → AreReadBehind library (an_actor top) (map as_read before) (map as_read rs)
 behind_are_read library top before [] x = tt
-behind_are_read library top before (r ∷ rs) x =
-    (next_is_read library top before r x.0,
-    subst (λ b. AreReadBehind library (an_actor top) b (map as_read rs)) (map-append as_read before (r ∷ [])) (behind_are_read library top (before ++ r ∷ []) rs x.1))
+behind_are_read library top before (r ∷ rs) x = (
+  next_is_read library top before r x.0,
+  subst (λ b. AreReadBehind library (an_actor top) b (map as_read rs)) (map-append as_read before (r ∷ [])) (behind_are_read library top (before ++ r ∷ []) rs x.1),
+)
 
 pub files_are_loaded : ActorFilesAreLoaded
 files_are_loaded library top rs x = record {

@@ -1,22 +1,19 @@
 -- Files mean at most one network.
 use Rattle.std.proofs.Common.{◌≡◌, List, [], ◌∷◌, map, Option, None, Some, refl, sym, ap, subst, ◌∙◌}
 use Rattle.cal_model.specs.Actor.{Actor}
-use Rattle.cal_model.specs.Firing.{behaviour}
 use Rattle.cal_model.specs.Laws.{BehaviourIsOne}
-use Rattle.cal_model.specs.Selection.{State, Priorities}
+use Rattle.cal_model.specs.Selection.{State}
 use Rattle.net_model.specs.Network.{Network, Leaf as NetLeaf}
-use Rattle.cal_imports.specs.Answer.{Answer, Gives}
+use Rattle.cal_imports.specs.Answer.{Gives}
 use Rattle.cal_imports.specs.Sources.{name_of}
-use Rattle.cal_imports.specs.Whole.{Scope}
 use Rattle.cal_check.specs.Actors.{actor_given}
-use Rattle.fnl_tree.specs.Tree.{Leaf, Tree, Net}
-use Rattle.fnl_bind.specs.Library.{Entry, network_of}
-use Rattle.fnl_bind.specs.Trees.{bound}
+use Rattle.fnl_tree.specs.Tree.{Leaf, Tree}
+use Rattle.fnl_bind.specs.Library.{network_of}
 use Rattle.fnl_flatten.specs.Flat.{IsFlat, port_of}
 use Rattle.fnl_flatten.proofs.OneList.{links_are_one}
 use Rattle.source_network.specs.Actors.{IsActorOf, source_of, given_of, owner_of, head_of}
 use Rattle.source_network.specs.Lone.{lone_leaf, lone_tree}
-use Rattle.source_network.specs.Source.{Files, IsNamed, IsTree, IsLeaf, AreActors, IsSourceNetwork}
+use Rattle.source_network.specs.Source.{Files, IsNamed, IsTree, IsLeaf, AreActors}
 use Rattle.source_network.specs.Laws.{ActorsAreOne, NetworksAreOne}
 
 given_same : {A : Type 0} (x y : A) → Gives x ≡ Gives y → x ≡ y

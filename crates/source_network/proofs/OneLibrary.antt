@@ -1,19 +1,17 @@
 -- A library's files mean at most one network.
-use Rattle.std.proofs.Common.{◌≡◌, ℕ, Bool, true, false, List, [], ◌∷◌, ◌++◌, Option, None, Some, refl, sym, ap, subst, ◌∙◌}
+use Rattle.std.proofs.Common.{◌≡◌, ℕ, Bool, List, [], ◌∷◌, ◌++◌, Option, None, Some, refl, sym, ap, subst, ◌∙◌}
 use Rattle.std.proofs.lemmas.List.{append_assoc, append-nil}
 use Rattle.rvc_io.specs.Told.{Told, Untold, Lacking, Holding, IsTold}
 use Rattle.cal_ast.specs.Tree.{Tree}
 use Rattle.cal_lexer.specs.Lexeme.{Placed}
 use Rattle.cal_lexer.proofs.Once.{one_list}
 use Rattle.cal_grammar.specs.Spells.{spells}
-use Rattle.cal_model.specs.Selection.{State}
-use Rattle.net_model.specs.Network.{Network}
 use Rattle.actor_files.specs.FileText.{IsFile}
 use Rattle.actor_files.specs.Loading.{Library, TellsAll}
 use Rattle.fnl_grammar.specs.Laws.{IsOneNetworkFile}
-use Rattle.source_network.specs.Files.{Asked, Wanted, name_of, class_asked, Content, network, source, Read, Says, says_network, says_source, next_wanted, IsNextRead, AreReadBehind, AreLoaded, files_of}
+use Rattle.source_network.specs.Files.{Asked, Wanted, name_of, class_asked, Content, network, source, Read, Says, says_network, says_source, next_wanted, IsNextRead, AreReadBehind, files_of}
 use Rattle.source_network.specs.Laws.{NetworksAreOne}
-use Rattle.source_network.specs.Library.{IsLibraryNetwork, FilesAreOne, LibraryNetworksAreOne}
+use Rattle.source_network.specs.Library.{FilesAreOne, LibraryNetworksAreOne}
 use Rattle.source_network.specs.Source.{IsSourceNetwork}
 
 -- tokens spell one tree

@@ -1,5 +1,5 @@
 -- A library with one file, and the network that it means: a worked example.
-use Rattle.std.proofs.Common.{◌≡◌, ℕ, zero, suc, ◌≤◌, true, List, [], ◌∷◌, length, Some, refl, sym, ap, ◌∙◌, arith}
+use Rattle.std.proofs.Common.{◌≡◌, ℕ, zero, suc, true, List, [], ◌∷◌, Some, refl, sym, ap, ◌∙◌, arith}
 use Rattle.std.specs.Prelude.{codes, if◌then◌else◌, slice_get}
 use Rattle.std.specs.Str.{bytes_eq}
 use Rattle.rvc_io.specs.Told.{Lacking, Holding}
@@ -25,16 +25,18 @@ reads = record { class = codes "T"; text = codes "<XDF name='T'/>"; content = ne
 
 loaded : AreLoaded one_file (a_network (codes "T")) reads
 loaded = record {
-  are_read =
-      (record {
-        want = record { class = codes "T"; network = true };
-        is_next = refl;
-        same_class = refl;
-        is_text = record { is_told = refl; short = omega arith };
-        says = says_network bare_file;
-        few = omega arith;
-        small = omega arith;
-      }, tt);
+  are_read = (
+    record {
+      want = record { class = codes "T"; network = true };
+      is_next = refl;
+      same_class = refl;
+      is_text = record { is_told = refl; short = omega arith };
+      says = says_network bare_file;
+      few = omega arith;
+      small = omega arith;
+    },
+    tt,
+  );
   whole = refl;
 }
 
