@@ -15,12 +15,10 @@ use Rattle.expr_lower.specs.declared.draft.Draft.{Draft}
 use Rattle.expr_lower.specs.Growing.{left_out_in, ◌or_else◌}
 use Rattle.expr_lower.specs.Listed.{single_of}
 use Rattle.expr_lower.specs.Lowered.{Adds, IsPut}
-use Rattle.expr_lower.specs.Meant.{local}
-use Rattle.expr_lower.specs.Names.{Name}
+use Rattle.expr_lower.specs.Names.{local, Name}
 use Rattle.expr_lower.specs.RoutineWords.{HasFormalCells}
 use Rattle.expr_lower.specs.Routining.{IsBody, StandForFormals, behind_formals, left_out_body, left_out_formals, left_out_fun, no_more_locals, one_more_local, return_code, some_formal}
-use Rattle.expr_lower.specs.Stating.{IsStart}
-use Rattle.expr_lower.specs.StmtGrowing.{left_out_start}
+use Rattle.expr_lower.specs.Starting.{IsStart, left_out_start}
 use Rattle.expr_lower.specs.Taking.{HasOneMore}
 use Rattle.expr_lower.proofs.Erased.{erase, out_erased, start_erased}
 

@@ -31,7 +31,7 @@ use Rattle.expr_lower.proofs.Finding.{some_there}
 use Rattle.expr_lower.proofs.GivenKinds.{keeps_anywhere, routine_keeps, unwritten, written_more}
 use Rattle.expr_lower.proofs.Keeping.{holds_still, keeps_all, keeps_join, keeps_wider}
 use Rattle.expr_lower.proofs.Runs.{ends_join, follows_both, follows_more, follows_then, obeys, reaches_join, stands_left, stands_right}
-use Rattle.expr_lower.proofs.Scoping.{Written}
+use Rattle.expr_lower.proofs.Written.{Written}
 use Rattle.expr_lower.proofs.Singles.{IsSingleValue, OnlySingles}
 use Rattle.expr_lower.proofs.Storing.{set_there, set_written, single_stored, store_leaves}
 
@@ -98,13 +98,13 @@ module _ (fs : List Function) (globals names : List Name) (w : World) (env : Env
 -- ---- .. and in the cells of the formals
 
 -- the run goes on to a place, and the arguments stand in the cells of the formals
-record ArePut (w : World) (xs : List Formal) (c : ℕ) (vs : Values) (s : State) (end : ℕ) (stack : List ℤ) : Type 0 where
-  cells : List ℤ
-  reaches : Reaches w.code w.tokens s (state end stack s.frames cells s.left)
-  written : Written c (length xs) s.cells cells
-  holds : HoldArguments xs cells vs
+pub record ArePut (w : World) (xs : List Formal) (c : ℕ) (vs : Values) (s : State) (end : ℕ) (stack : List ℤ) : Type 0 where
+  pub cells : List ℤ
+  pub reaches : Reaches w.code w.tokens s (state end stack s.frames cells s.left)
+  pub written : Written c (length xs) s.cells cells
+  pub holds : HoldArguments xs cells vs
 
-put_all : (w : World) (frames : List ℕ) (xs : List Formal) (c : ℕ) (vs : Values) (base : ℕ) (stack top cells : List ℤ) (left : ℕ) → AreInRow c xs → AreOfSizes xs → count vs ≡ length xs → ArePiled vs stack top
+pub put_all : (w : World) (frames : List ℕ) (xs : List Formal) (c : ℕ) (vs : Values) (base : ℕ) (stack top cells : List ℤ) (left : ℕ) → AreInRow c xs → AreOfSizes xs → count vs ≡ length xs → ArePiled vs stack top
     → c + length xs ≤ length cells → StandsAt w.code.instrs base (formal_stores xs)
     → ArePut w xs c vs (state base top frames cells left) (base + length (formal_stores xs)) stack
 put_all w frames [] c Nil base stack top cells left row sizes many piled room stands =

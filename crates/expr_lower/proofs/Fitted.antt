@@ -24,7 +24,7 @@ use Rattle.expr_lower.specs.Fitting.{IsInner, FitsAt, Fits}
 use Rattle.expr_lower.specs.declared.names.ItemList.{ItemList}
 use Rattle.expr_lower.specs.Listed.{list_named}
 use Rattle.expr_lower.specs.declared.parts.Rows.{Rows}
-use Rattle.expr_lower.specs.Parted.{deep_named}
+use Rattle.expr_lower.specs.Parted.{deep_named, number_of}
 use Rattle.expr_lower.proofs.Listing.{IsListName, found}
 use Rattle.expr_lower.proofs.PartValues.{IsDeep, IsPartOf, deep_found, part_found, sized_is}
 use Rattle.expr_lower.specs.declared.callees.Formal.{Formal}
@@ -32,7 +32,6 @@ use Rattle.expr_lower.specs.Callees.{Function, function_for}
 use Rattle.expr_lower.specs.Calling.{AreInRow, AreOfSizes, HasFormals, HasRoutines}
 use Rattle.expr_lower.specs.Coding.{AreArgs, IsCode, IsTest, arg_more, call, call_code, formal_stores, no_arg, number, too_great, negative, truth, variable, paren, prefix, binary, both, either, if_code, tested, both_tested, seat_instr, prefix_instr, binary_instr, item, item_instr, IsOffset, deep_item, whole, row, row_instr}
 use Rattle.expr_lower.proofs.Coded.{grows, grows_args, grows_offset, grows_test}
-use Rattle.expr_lower.specs.Parted.{number_of}
 use Rattle.expr_lower.proofs.Finding.{is_found}
 use Rattle.expr_lower.proofs.Keeping.{below_more}
 

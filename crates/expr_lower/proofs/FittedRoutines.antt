@@ -13,7 +13,7 @@ use Rattle.expr_lower.specs.Calling.{HasRoutines}
 use Rattle.expr_lower.specs.Held.{AreBelow}
 use Rattle.expr_lower.specs.Names.{Name}
 use Rattle.expr_lower.specs.Routining.{FitsAsRoutine, FunSized, IsBody, IsRoutine, LocalsSized, no_more_locals, one_more_local, return_code}
-use Rattle.expr_lower.specs.Stating.{IsStart, at_zero, at_value}
+use Rattle.expr_lower.specs.Starting.{IsStart, at_zero, at_value}
 use Rattle.expr_lower.proofs.Coded.{grows}
 use Rattle.expr_lower.proofs.Fitted.{Plain, fits_const, fits_in, fits_one, plain_then}
 use Rattle.expr_lower.proofs.Keeping.{below_more}

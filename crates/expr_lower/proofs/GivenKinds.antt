@@ -18,7 +18,7 @@ use Rattle.expr_lower.specs.Placed.{World, state}
 use Rattle.expr_lower.proofs.Finding.{some_there}
 use Rattle.expr_lower.proofs.Keeping.{holds_still}
 use Rattle.expr_lower.proofs.Runs.{follows_more}
-use Rattle.expr_lower.proofs.Scoping.{Written}
+use Rattle.expr_lower.proofs.Written.{Written}
 use Rattle.expr_lower.proofs.Singles.{AreSingles, IsSingleValue, KindsIn}
 use Rattle.expr_lower.proofs.Storing.{set_there, set_written, single_stored}
 

@@ -26,18 +26,16 @@ use Rattle.expr_lower.specs.Coding.{IsCode}
 use Rattle.expr_lower.specs.Flat.{flat}
 use Rattle.expr_lower.specs.Following.{CutsOff, Follows, Pushes}
 use Rattle.expr_lower.specs.Held.{AllApart, AreApart, AreBelow, Holds, HoldsName, Keeps, SeatIsApart, SeatIsBelow}
-use Rattle.expr_lower.specs.Meant.{local}
-use Rattle.expr_lower.specs.Names.{Name, named}
+use Rattle.expr_lower.specs.Names.{local, Name, named}
 use Rattle.expr_lower.specs.Placed.{StandsAt, World, state}
 use Rattle.expr_lower.specs.Routining.{IsBody, LocalsSized, no_more_locals, one_more_local, return_code}
-use Rattle.expr_lower.specs.Stating.{IsStart, at_zero, at_value}
+use Rattle.expr_lower.specs.Starting.{IsStart, at_zero, at_value}
 use Rattle.expr_lower.proofs.Coded.{does_in, grows, load_leaves}
 use Rattle.expr_lower.proofs.Doing.{Apart, Below, Held, below_on, cut_after, cut_wider, still}
 use Rattle.expr_lower.proofs.GivenKinds.{kinds_in}
 use Rattle.expr_lower.proofs.Keeping.{below_more, keeps_join, keeps_wider}
 use Rattle.expr_lower.proofs.Runs.{ends_join, follows_both, follows_more, follows_then, obeys, reaches_join, stands_left, stands_right}
-use Rattle.expr_lower.proofs.Scoping.{Written, written_keeps}
-use Rattle.expr_lower.proofs.Setting.{stand_one}
+use Rattle.expr_lower.proofs.Written.{Written, written_keeps, stand_one}
 use Rattle.expr_lower.proofs.Singles.{IsSingleValue, singles_in}
 use Rattle.expr_lower.proofs.Storing.{set_there, set_written, single_stored, store_leaves}
 

@@ -12,7 +12,7 @@ ghost use Rattle.expr_lower.specs.Listed.{list_named};
 ghost use Rattle.expr_lower.specs.Parted.{IsPart};
 ghost use Rattle.expr_lower.specs.Seen.{called, seen};
 ghost use Rattle.expr_lower.specs.SeenWords.{AreAllPlaces, IsWhyPlaces, Offsets};
-ghost use Rattle.expr_lower.specs.Linking.{Closes, Links, SetsExit, SetsJump};
+ghost use Rattle.expr_lower.specs.Linking.{Closes, Links};
 ghost use Rattle.expr_lower.specs.Lowered.{IsPut};
 ghost use Rattle.expr_lower.specs.Names.{names_view};
 ghost use Rattle.expr_lower.specs.SeenWords.{AddsArgs, Applies, IsAll, IsWhy, Lowers, Opens, first_left_out, left_out_of_args};
@@ -33,7 +33,7 @@ use rvc_base::Num;
 
 /// Appends code that evaluates an expression and pushes its value.
 #[cycle(lower)]
-pub(crate) fn lower(scope: &Scope, e: &Expr, draft: &mut Draft) -> Result<(), LowerFault>
+pub fn lower(scope: &Scope, e: &Expr, draft: &mut Draft) -> Result<(), LowerFault>
     ensures ok { OnOk result (Lowers scope.now (expr_tree e.now) draft.old draft.new) }
     ensures whole { OnOk result (IsAll scope.now (expr_tree e.now)) }
     ensures fault { IfErr result (IsWhy scope.now (expr_tree e.now) draft.new) }
@@ -380,13 +380,13 @@ fn call(
     let Some(callee) = function_for(scope.callees, name, args) else {
         return Err(LowerFault::NotLowered { at });
     };
-    arguments(scope, args, draft)?;
+    lower_args(scope, args, draft)?;
     put_call(callee, draft)
 }
 
 /// Appends arguments, one after the other.
 #[cycle(lower)]
-fn arguments(scope: &Scope, args: &[Expr], draft: &mut Draft) -> Result<(), LowerFault>
+pub fn lower_args(scope: &Scope, args: &[Expr], draft: &mut Draft) -> Result<(), LowerFault>
     ensures ok { OnOk result (AddsArgs scope.now args.now draft.old draft.new) }
     ensures whole { OnOk result (left_out_of_args scope.now args.now ≡ None) }
     ensures fault { IfErr result (IsFault (left_out_of_args scope.now args.now) draft.new) }
@@ -396,7 +396,7 @@ fn arguments(scope: &Scope, args: &[Expr], draft: &mut Draft) -> Result<(), Lowe
         return Ok(());
     };
     lower(scope, first, draft)?;
-    arguments(scope, rest, draft)
+    lower_args(scope, rest, draft)
 }
 
 // ---- conditions
@@ -404,7 +404,7 @@ fn arguments(scope: &Scope, args: &[Expr], draft: &mut Draft) -> Result<(), Lowe
 /// Appends a condition, which goes on if it is true. If it is false it is to jump elsewhere: `Done` stands for
 /// these jumps, until their target is known.
 #[cycle(lower)]
-pub(crate) fn lower_test(scope: &Scope, e: &Expr, draft: &mut Draft) -> Result<(), LowerFault>
+pub fn lower_test(scope: &Scope, e: &Expr, draft: &mut Draft) -> Result<(), LowerFault>
     ensures ok { OnOk result (Opens scope.now (expr_tree e.now) draft.old draft.new) }
     ensures whole { OnOk result (IsAll scope.now (expr_tree e.now)) }
     ensures fault { IfErr result (IsWhy scope.now (expr_tree e.now) draft.new) }
@@ -455,7 +455,7 @@ fn test_value(scope: &Scope, e: &Expr, draft: &mut Draft) -> Result<(), LowerFau
 
 /// Sets the targets of the jumps that stand from `start` to `exits` for a condition that is false, and that of the
 /// jump at `jump`.
-pub(crate) fn link(draft: &mut Draft, start: usize, exits: usize, out: u32, jump: usize, end: u32)
+pub fn link(draft: &mut Draft, start: usize, exits: usize, out: u32, jump: usize, end: u32)
     requires order { (start ≤ exits) × (exits ≤ jump) × (jump < length draft.old.instrs.items) }
     ensures linked { Links draft.old.instrs.items draft.new.instrs.items start exits out jump end }
     ensures routines { draft.new.routines.items ≡ draft.old.routines.items }
@@ -466,34 +466,13 @@ pub(crate) fn link(draft: &mut Draft, start: usize, exits: usize, out: u32, jump
 }
 
 /// Sets the targets of the jumps that stand from `start` to `exits` for a condition that is false.
-pub(crate) fn close(draft: &mut Draft, start: usize, exits: usize, out: u32)
+pub fn close(draft: &mut Draft, start: usize, exits: usize, out: u32)
     requires order { (start ≤ exits) × (exits ≤ length draft.old.instrs.items) }
     ensures closed { Closes draft.old.instrs.items draft.new.instrs.items start exits out }
     ensures routines { draft.new.routines.items ≡ draft.old.routines.items }
     ensures cells { draft.new.cells ≡ draft.old.cells }
 {
     aim(&mut draft.instrs[start..exits], out);
-}
-
-/// Sets the target of the jump at a place.
-pub(crate) fn jump_at(draft: &mut Draft, place: usize, target: u32)
-    requires inside { place < length draft.old.instrs.items }
-    ensures aimed { SetsJump draft.old.instrs.items draft.new.instrs.items place target }
-    ensures routines { draft.new.routines.items ≡ draft.old.routines.items }
-    ensures cells { draft.new.cells ≡ draft.old.cells }
-{
-    draft.instrs[place] = Instr::Jump(target);
-}
-
-/// Sets the target of the jump at a place that is for a condition that is false.
-pub(crate) fn exit_at(draft: &mut Draft, place: usize, target: u32)
-    requires inside { place < length draft.old.instrs.items }
-    ensures aimed { SetsExit draft.old.instrs.items draft.new.instrs.items place target }
-    ensures size { length draft.new.instrs.items ≡ length draft.old.instrs.items }
-    ensures routines { draft.new.routines.items ≡ draft.old.routines.items }
-    ensures cells { draft.new.cells ≡ draft.old.cells }
-{
-    draft.instrs[place] = Instr::JumpIfNot(target);
 }
 
 /// Sets the target of the jumps for which `Done` stands.

@@ -1,0 +1,10 @@
+pub mod Meant
+pub mod Changing
+pub mod Stating
+pub mod Executing
+pub mod StmtGrowing
+pub mod StmtWords
+pub mod Jumping
+pub mod Reserving
+pub mod SeenStmts
+pub mod Targets

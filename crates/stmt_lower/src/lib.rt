@@ -1,0 +1,15 @@
+//! Code for statements: instructions that do what executing statements does.
+//!
+//! It stands on [`expr_lower`], which makes the code of their expressions. Code is appended to a
+//! [`Draft`](expr_lower::Draft), and leaves what the statements leave in the cells of the names.
+#![tactic(auto)]
+
+mod counter;
+mod deep;
+mod jumps;
+mod lists;
+mod stmts;
+mod targets;
+mod types;
+
+pub use stmts::lower_stmts;
