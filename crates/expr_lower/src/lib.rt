@@ -7,9 +7,9 @@
 
 mod callees;
 mod draft;
+mod exprs;
 mod fault;
 pub mod laws;
-mod lower;
 mod names;
 mod operators;
 mod parts;
@@ -20,8 +20,8 @@ mod truths;
 
 pub use callees::{Callee, Formal, function_for, put_call, put_formals};
 pub use draft::{Draft, next_place, put, put_all, take_cell};
+pub use exprs::{close, link, lower, lower_args, lower_calling, lower_expr, lower_test};
 pub use fault::LowerFault;
-pub use lower::{close, link, lower, lower_args, lower_calling, lower_expr, lower_test};
 pub use names::{ItemList, Named, OneCell, OneSeat, Seat, list_called, list_named, one_named, single};
 pub use parts::{Part, Rows, scalars, whole_called};
 pub use routines::{lower_function, take_formals};

@@ -12,7 +12,7 @@ ghost use Rattle.expr_lower.specs.Seen.{seen};
 use crate::callees::{Callee, Formal};
 use crate::draft::{Draft, next_place, put_all, take_cell};
 use crate::fault::LowerFault;
-use crate::lower::lower;
+use crate::exprs::lower;
 use crate::names::{Named, single};
 use crate::scope::{Frame, Scope};
 use crate::starts::start;

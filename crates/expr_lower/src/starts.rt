@@ -6,7 +6,7 @@ ghost use Rattle.expr_lower.specs.SeenWords.{AddsStart, left_out_first};
 
 use crate::draft::{Draft, put, put_all};
 use crate::fault::LowerFault;
-use crate::lower::lower;
+use crate::exprs::lower;
 use crate::scope::Scope;
 use cal_ast::Expr;
 use code_ir::Instr;

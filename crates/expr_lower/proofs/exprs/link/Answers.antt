@@ -2,7 +2,7 @@ use Rattle.std.proofs.Common.{◌≡◌, ◌++◌, ◌-◌, length, map, take, d
 use Rattle.code_ir.specs.declared.instr.Instr.TheVariants as op
 use Rattle.expr_lower.specs.Coding.{aimed}
 use Rattle.expr_lower.proofs.Linked.{mapped_set}
-use Rattle.expr_lower.proofs.lower.link.Goals as goal
+use Rattle.expr_lower.proofs.exprs.link.Goals as goal
 
 pub returns-clause-linked : goal.returns-clause-linked
 returns-clause-linked c = λ before test first other i is start_is exits_is jump_is.

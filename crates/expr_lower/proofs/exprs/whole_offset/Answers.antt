@@ -6,7 +6,7 @@ use Rattle.expr_lower.specs.Coding.{IsOffset, whole}
 use Rattle.expr_lower.specs.Lowered.{IsPut}
 use Rattle.expr_lower.specs.Seen.{called, seen}
 use Rattle.expr_lower.proofs.Adding.{put_adds}
-use Rattle.expr_lower.proofs.lower.whole_offset.Goals as goal
+use Rattle.expr_lower.proofs.exprs.whole_offset.Goals as goal
 
 pub returns-clause-ok : goal.returns-clause-ok
 returns-clause-ok c = λ scope text at.

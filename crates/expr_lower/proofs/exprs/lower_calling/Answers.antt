@@ -7,7 +7,7 @@ use Rattle.expr_lower.specs.Lowered.{Adds}
 use Rattle.expr_lower.specs.Names.{names_view}
 use Rattle.expr_lower.specs.Seen.{called}
 use Rattle.expr_lower.proofs.Whole.{lowered_with}
-use Rattle.expr_lower.proofs.lower.lower_calling.Goals as goal
+use Rattle.expr_lower.proofs.exprs.lower_calling.Goals as goal
 
 pub returns-clause-lowered : goal.returns-clause-lowered
 returns-clause-lowered c =

@@ -8,7 +8,7 @@ use Rattle.expr_lower.specs.Lowered.{IsPut}
 use Rattle.expr_lower.specs.Seen.{called, one_named, seen}
 use Rattle.expr_lower.proofs.Adding.{put_adds}
 use Rattle.expr_lower.proofs.Seeing.{IsOneOf, one_found, one_missing, one_there}
-use Rattle.expr_lower.proofs.lower.variable.Goals as goal
+use Rattle.expr_lower.proofs.exprs.variable.Goals as goal
 
 pub returns-clause-ok : goal.returns-clause-ok
 returns-clause-ok c =

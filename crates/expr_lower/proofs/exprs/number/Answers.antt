@@ -9,7 +9,7 @@ use Rattle.expr_lower.specs.Seen.{called, seen}
 use Rattle.expr_lower.specs.Lowered.{IsPut}
 use Rattle.expr_lower.proofs.Adding.{put_adds}
 use Rattle.expr_lower.proofs.Literals.{fits_num, unfit_num}
-use Rattle.expr_lower.proofs.lower.number.Goals as goal
+use Rattle.expr_lower.proofs.exprs.number.Goals as goal
 
 pub returns-in-Ok-clause-ok : goal.returns-in-Ok-clause-ok
 returns-in-Ok-clause-ok c = λ scope at.

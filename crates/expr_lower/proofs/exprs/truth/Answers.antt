@@ -7,7 +7,7 @@ use Rattle.expr_lower.specs.Coding.{IsCode}
 use Rattle.expr_lower.specs.Seen.{called, seen}
 use Rattle.expr_lower.specs.Lowered.{Adds, IsPut}
 use Rattle.expr_lower.proofs.Adding.{put_adds}
-use Rattle.expr_lower.proofs.lower.truth.Goals as goal
+use Rattle.expr_lower.proofs.exprs.truth.Goals as goal
 
 pub returns-then-value-clause-ok : goal.returns-then-value-clause-ok
 returns-then-value-clause-ok c = λ scope at.

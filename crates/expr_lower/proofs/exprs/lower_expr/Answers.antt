@@ -6,7 +6,7 @@ use Rattle.expr_lower.specs.Lowered.{Adds}
 use Rattle.expr_lower.specs.Names.{names_view}
 use Rattle.expr_lower.specs.Seen.{called}
 use Rattle.expr_lower.proofs.Whole.{lowered}
-use Rattle.expr_lower.proofs.lower.lower_expr.Goals as goal
+use Rattle.expr_lower.proofs.exprs.lower_expr.Goals as goal
 
 pub returns-clause-lowered : goal.returns-clause-lowered
 returns-clause-lowered c =
