@@ -83,7 +83,7 @@ local_open fs names x xs e kind c shape start =
     ∙ sym (body_erased fs (local x.name kind 0 ∷ names) xs e) ∙ body_erased fs (local x.name kind c ∷ names) xs e
 
 -- formals in other cells
-formals_erased : (xs : List Local) (ys : List Formal) (names others : List Name) → StandForFormals xs ys → map erase names ≡ map erase others → map erase (behind_formals xs ys names) ≡ map erase (behind_formals xs (map some_formal xs) others)
+pub formals_erased : (xs : List Local) (ys : List Formal) (names others : List Name) → StandForFormals xs ys → map erase names ≡ map erase others → map erase (behind_formals xs ys names) ≡ map erase (behind_formals xs (map some_formal xs) others)
 formals_erased [] [] names others h e = e
 formals_erased [] (y ∷ ys) names others h e = absurd h
 formals_erased (x ∷ xs) [] names others h e = absurd h

@@ -178,7 +178,7 @@ mutual
       ∙ ap (λ y. left_index (list_named names base) (deep_named names (tree.index base place at)) at (left_out_in fs names place) y) (places_erased fs names base)
   out_erased fs names other = refl
 
-  args_erased : (fs : List Function) (names : List Name) (es : Tree) → left_out_args fs (map erase names) es ≡ left_out_args fs names es
+  pub args_erased : (fs : List Function) (names : List Name) (es : Tree) → left_out_args fs (map erase names) es ≡ left_out_args fs names es
   args_erased fs names (tree.cons e es) = both_same (out_erased fs names e) (args_erased fs names es)
   args_erased fs names other = refl
 

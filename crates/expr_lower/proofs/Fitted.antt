@@ -336,7 +336,7 @@ module _ (code : Code) (callable limit : ℕ) where
   fits_none : (base h : ℕ) → Plain base h [] h
   fits_none base h = record { height = λ p. h; first = refl; last = refl; exit = refl; at = λ j i e. cc }
 
-  fits_formals : (xs : List Formal) (c base h : ℕ) → AreInRow c xs → c + length xs ≤ limit → AreOfSizes xs → Plain base (h + length xs) (formal_stores xs) h
+  pub fits_formals : (xs : List Formal) (c base h : ℕ) → AreInRow c xs → c + length xs ≤ limit → AreOfSizes xs → Plain base (h + length xs) (formal_stores xs) h
   fits_formals [] c base h inrow room sizes = let e : h ≡ h + 0 = omega arith in subst (λ k. Plain base k [] h) e (fits_none base h)
   fits_formals (x ∷ xs) c base h (at, inrow) room (size, sizes) =
       let sum : h + 1 + length xs ≡ h + suc (length xs) = omega arith in
@@ -399,7 +399,7 @@ module _ (code : Code) (callable limit : ℕ) where
           branch h (h + 1) base else_at a b (op.Jump end ∷ c) (fits_test_in h below (omega (arith, x, y, z)) (omega arith) g) (fits_in h (below_more n k names x below) (omega (arith, z)) d) tail.0
           (omega arith) (omega arith) (tail.1 else_at (omega arith) ∙ ap third.height e ∙ third.first)
 
-      fits_args : {es : Tree} {base n m : ℕ} {instrs : List Instr} (h : ℕ) → AreBelow n names → m ≤ limit → AreArgs fs names es base n instrs m → Plain base h instrs (h + number_of es)
+      pub fits_args : {es : Tree} {base n m : ℕ} {instrs : List Instr} (h : ℕ) → AreBelow n names → m ≤ limit → AreArgs fs names es base n instrs m → Plain base h instrs (h + number_of es)
       fits_args h below le (no_arg base n) = let e : h ≡ h + 0 = omega arith in subst (λ k. Plain base h [] k) e (fits_none base h)
       fits_args h below le (arg_more e es base n k m a b g d) =
           let x = grows g in let y = grows_args d in

@@ -126,26 +126,26 @@ pub row-unreachable-requires : goal.row-unreachable-requires
 row-unreachable-requires t c =
     item_has_rows (seen c.args.scope.now) (expr_tree c.args.base.now) (expr_tree c.args.place.now) 0 c.requires.part (sym c.rows_named.ensures ∙ c.in_default.is)
 
-pub arguments-returns-in_default-clause-ok : goal.arguments-returns-in_default-clause-ok
-arguments-returns-in_default-clause-ok t c =
+pub lower_args-returns-in_default-clause-ok : goal.lower_args-returns-in_default-clause-ok
+lower_args-returns-in_default-clause-ok t c =
     let none : length c.args.args.now ≡ 0 = search rules in
     subst (λ xs. Adds (AreArgs (called c.args.scope.now) (seen c.args.scope.now) (listed (map expr_tree xs))) c.args.draft.now c.args.draft.now) (sym (no_items c.args.args.now none))
     (args_none (seen c.args.scope.now) c.args.draft.now)
 
-pub arguments-returns-clause-ok : goal.arguments-returns-clause-ok
-arguments-returns-clause-ok t c =
+pub lower_args-returns-clause-ok : goal.lower_args-returns-clause-ok
+lower_args-returns-clause-ok t c =
     let opened : map expr_tree c.args.args.now ≡ expr_tree c.in-Some.first.now ∷ map expr_tree c.in-Some.rest.now = search rules in
-    on_ok_weaker c.arguments.result
-    (λ h. subst (λ xs. Adds (AreArgs (called c.args.scope.now) (seen c.args.scope.now) (listed xs)) c.args.draft.now c.arguments.new.draft) (sym opened)
+    on_ok_weaker c.lower_args.result
+    (λ h. subst (λ xs. Adds (AreArgs (called c.args.scope.now) (seen c.args.scope.now) (listed xs)) c.args.draft.now c.lower_args.new.draft) (sym opened)
     (then_adds (IsCode (called c.args.scope.now) (seen c.args.scope.now) (expr_tree c.in-Some.first.now)) (AreArgs (called c.args.scope.now) (seen c.args.scope.now) (listed (map expr_tree c.in-Some.rest.now))) (AreArgs (called c.args.scope.now) (seen c.args.scope.now) (listed (expr_tree c.in-Some.first.now ∷ map expr_tree c.in-Some.rest.now)))
-    c.args.draft.now c.lower.new.draft c.arguments.new.draft
+    c.args.draft.now c.lower.new.draft c.lower_args.new.draft
     (λ base n k m a b g d. arg_more (expr_tree c.in-Some.first.now) (listed (map expr_tree c.in-Some.rest.now)) base n k m a b g d) c.in_ok-lower.ensures.ok h))
-    c.arguments.ensures.ok
+    c.lower_args.ensures.ok
 
 pub call-returns-clause-ok : goal.call-returns-clause-ok
 call-returns-clause-ok t c =
     on_ok_weaker c.put_call.result
     (then_put (AreArgs (called c.args.scope.now) (seen c.args.scope.now) (places_of c.args.args.now)) (IsCode (called c.args.scope.now) (seen c.args.scope.now) (call_of c.args.name.now c.args.args.now c.args.at)) (call_code (function_view c.in-Some.callee.now))
-    c.args.draft.now c.arguments.new.draft c.put_call.new.draft
-    (λ base n m code h. coding.call c.args.name.now (places_of c.args.args.now) c.args.at base n m code (function_view c.in-Some.callee.now) (sym c.in-Some.ensures) h) c.in_ok-arguments.ensures.ok)
+    c.args.draft.now c.lower_args.new.draft c.put_call.new.draft
+    (λ base n m code h. coding.call c.args.name.now (places_of c.args.args.now) c.args.at base n m code (function_view c.in-Some.callee.now) (sym c.in-Some.ensures) h) c.in_ok-lower_args.ensures.ok)
     c.put_call.ensures.added

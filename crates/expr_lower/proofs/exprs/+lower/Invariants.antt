@@ -52,5 +52,5 @@ decreases-offset l = size (expr_tree l.e.now)
 abbrev pub decreases-call : goal.decreases-call
 decreases-call l = 6 + size (listed (map expr_tree l.args.now))
 
-abbrev pub decreases-arguments : goal.decreases-arguments
-decreases-arguments l = 2 + size (listed (map expr_tree l.args.now))
+abbrev pub decreases-lower_args : goal.decreases-lower_args
+decreases-lower_args l = 2 + size (listed (map expr_tree l.args.now))
