@@ -24,18 +24,19 @@ use Rattle.expr_lower.specs.Held.{AreApart, Keeps}
 use Rattle.expr_lower.specs.Placed.{StandsAt, World, state}
 use Rattle.expr_lower.specs.Starting.{IsStart, at_zero, at_value}
 use Rattle.expr_lower.specs.Following.{Follows, Pushes, CutsOff}
-use Rattle.stmt_lower.specs.Executing.{BreaksOff}
-use Rattle.expr_lower.proofs.Coded.{does}
 use Rattle.stmt_lower.proofs.Counting.{store_on, there}
-use Rattle.expr_lower.proofs.Keeping.{below_more, keeps_join, keeps_wider, apart_last}
+use Rattle.expr_lower.proofs.Keeping.{keeps_join, keeps_wider, apart_last}
 use Rattle.stmt_lower.proofs.Locals.{inside_moves, local_held}
 use Rattle.stmt_lower.proofs.MeantIs.{meant_is, meant_sized}
 use Rattle.expr_lower.proofs.Runs.{reaches_join, obeys, follows_both, follows_then, stands_left, stands_right}
-use Rattle.expr_lower.proofs.Singles.{IsSingleValue, singles}
+use Rattle.expr_lower.proofs.Singles.{IsSingleValue}
 use Rattle.expr_lower.proofs.Storing.{set_there, set_written, single_stored}
-use Rattle.stmt_lower.proofs.Scoping.{AreLaid, HoldsInside, inside_still, laid_apart, laid_below, names_held}
+use Rattle.stmt_lower.proofs.Scoping.{AreLaid, HoldsInside, inside_still, laid_more}
 use Rattle.expr_lower.proofs.Written.{Written, written_keeps}
-use Rattle.stmt_lower.proofs.Performing.{Moves, Performs, but_wider, cut_breaks, keeps_but, move_after, moves_at}
+use Rattle.stmt_lower.proofs.Performing.{Moves, Performs, but_wider, cut_breaks, keeps_but, move_after, moves_at, Breaks}
+use Rattle.stmt_lower.specs.Procedures.{Routines}
+use Rattle.expr_lower.specs.Calling.{Serves}
+use Rattle.stmt_lower.proofs.Evaluating.{does_there, singles_there}
 
 -- ---- environments
 
@@ -83,12 +84,12 @@ zero_kind scalar.Bool = (tt, refl)
 zero_kind (scalar.Int n) = (zero_num, refl)
 zero_kind (scalar.Uint n) = (zero_num, refl)
 
-module _ (outer : List Name) (w : World) (frames : List ℕ) (runs : Runs) where
+module _ (rs : Routines) (outer : List Name) (w : World) (serves : Serves w outer rs.functions) (frames : List ℕ) (runs : Runs) where
   abbrev Inside : List Name → List ℤ → Env → Type 0
-  Inside inner cells env = HoldsInside outer w.tokens w.low w.high inner cells env
+  Inside inner cells env = HoldsInside rs outer w.tokens w.low w.high inner cells env
 
   abbrev Laid : ℕ → List Name → Type 0
-  Laid n inner = AreLaid outer w.tokens w.low w.high n inner
+  Laid n inner = AreLaid rs outer w.tokens w.low w.high n inner
 
   -- the start stands in the cell
   record Started (t : Scalar) (n m : ℕ) (s : State) (end : ℕ) (v : Value) (left : ℕ) : Type 0 where
@@ -105,9 +106,9 @@ module _ (outer : List Name) (w : World) (frames : List ℕ) (runs : Runs) where
       let wrote : Written n 1 cells (slice_set cells n z) = let e : n + 0 ≡ n = omega arith in subst (λ d. Written n 1 cells (slice_set cells d z)) e (set_written cells n 1 0 z (omega arith)) in
       written_keeps n 1 n m w.low w.high cells (slice_set cells n z) (omega arith) le wrote
 
-  start_moves : (inner : List Name) (t : Scalar) (n : ℕ) {base m : ℕ} {start : Tree} {a : List Instr} → IsSize t → n + 1 ≤ m → IsStart [] (inner ++ outer) t n start base (n + 1) a m
+  start_moves : (inner : List Name) (t : Scalar) (n : ℕ) {base m : ℕ} {start : Tree} {a : List Instr} → IsSize t → n + 1 ≤ m → IsStart rs.functions (inner ++ outer) t n start base (n + 1) a m
       → (stack cells : List ℤ) (env : Env) (left : ℕ) → StandsAt w.code.instrs base a → Laid n inner → n + 1 ≤ length cells → Inside inner cells env
-      → Follows (first_of (Single t) start w.calls env left) (Started t n m (state base stack frames cells left) (base + length a)) (BreaksOff w (inner ++ outer) n m (state base stack frames cells left))
+      → Follows (first_of (Single t) start w.calls env left) (Started t n m (state base stack frames cells left) (base + length a)) (Breaks w (inner ++ outer) outer n m (state base stack frames cells left))
   start_moves inner t n sized le (at_zero base h) stack cells env left stands laid room holds =
       let old = there cells n (omega (arith, room)) in
       let s : State = state base stack frames cells left in
@@ -116,7 +117,7 @@ module _ (outer : List Name) (w : World) (frames : List ℕ) (runs : Runs) where
       record {
         cells = slice_set cells n (pos 0);
         reaches = subst (λ p. Reaches w.code w.tokens s (state p stack frames (slice_set cells n (pos 0)) left)) end
-            (reaches_join (after (obeys w.code w.tokens s (op.Const (pos 0)) stands.0) here) (store_on outer w frames (base + 1) n None stack cells left (pos 0) old.0 stands.1.0 old.1));
+            (reaches_join (after (obeys w.code w.tokens s (op.Const (pos 0)) stands.0) here) (store_on rs outer w serves frames (base + 1) n None stack cells left (pos 0) old.0 stands.1.0 old.1));
         keeps = one_cell cells n h (pos 0) le;
         kind = made.0;
         number = pos 0;
@@ -127,17 +128,15 @@ module _ (outer : List Name) (w : World) (frames : List ℕ) (runs : Runs) where
       let names : List Name = inner ++ outer in
       let s : State = state base stack frames cells left in
       let i : List Instr = op.Store n (Some t) ∷ [] in
-      let held = names_held outer w.tokens w.low w.high inner cells env holds in
-      let below = laid_below outer w.tokens w.low w.high n inner laid in
-      let away = laid_apart outer w.tokens w.low w.high n inner laid in
       let wide : n ≤ n + 1 = omega arith in
+      let more : Laid (n + 1) inner = laid_more rs outer w.tokens w.low w.high n (n + 1) inner wide laid in
       let size : length (code ++ i) ≡ length code + 1 = length-append code i in
       follows_then (eval e w.calls env left) (λ v j. Gives (stored (Single t) v) j)
       (λ v j. Pushes w (n + 1) m s (base + length code) v j × IsSingleValue v) (λ d. CutsOff w (n + 1) m s d × Unit {0})
-      (Started t n m s (base + length (code ++ i))) (BreaksOff w names n m s)
+      (Started t n m s (base + length (code ++ i))) (Breaks w names outer n m s)
       (follows_both (eval e w.calls env left) (Pushes w (n + 1) m s (base + length code)) (CutsOff w (n + 1) m s) (λ v j. IsSingleValue v) (λ d. Unit {0})
-      (does names w env frames coded stack cells left (stands_left w.code.instrs base code i stands) (below_more n (n + 1) names wide below) away held)
-      (singles names w.tokens cells env w.calls held coded left))
+      (does_there rs outer w serves frames inner coded stack cells env left (stands_left w.code.instrs base code i stands) more holds)
+      (singles_there rs outer w serves frames inner coded cells env left (n + 1) more holds))
       (λ v j both.
       let p : Pushes w (n + 1) m s (base + length code) v j = both.0 in
       let y = there p.cells n (let same = p.keeps.size in omega (arith, same, room)) in
@@ -146,14 +145,14 @@ module _ (outer : List Name) (w : World) (frames : List ℕ) (runs : Runs) where
       record {
         cells = slice_set p.cells n (conv t p.number);
         reaches = subst (λ q. Reaches w.code w.tokens s (state q stack frames (slice_set p.cells n (conv t p.number)) j)) end
-            (reaches_join p.reaches (store_on outer w frames (base + length code) n (Some t) stack p.cells j p.number y.0 (stands_right w.code.instrs base code i stands).0 y.1));
+            (reaches_join p.reaches (store_on rs outer w serves frames (base + length code) n (Some t) stack p.cells j p.number y.0 (stands_right w.code.instrs base code i stands).0 y.1));
         keeps = keeps_join (keeps_wider n m wide (omega arith) p.keeps) (one_cell p.cells n m (conv t p.number) le);
         kind = made.0;
         number = conv t p.number;
         is = made.1;
         stands = set_there p.cells n y.0 (conv t p.number) y.1;
       })
-      (λ d q. cut_breaks outer w frames names n (n + 1) m m s d wide (omega arith) q.0)
+      (λ d q. cut_breaks rs outer w serves frames names n (n + 1) m m s d wide (omega arith) q.0)
 
   -- ---- blocks
 
@@ -161,21 +160,21 @@ module _ (outer : List Name) (w : World) (frames : List ℕ) (runs : Runs) where
   abbrev pub blocked : Tree → (Env → ℕ → Out Env) → Env → ℕ → Out Env
   blocked vars M env left = and_then (with_vars vars w.calls env left) (λ x k. inside env x M k)
 
-  pub block_none : (inner : List Name) (M : Env → ℕ → Out Env) (base n m : ℕ) (code : List Instr) → Performs outer w frames inner M base n code m → Performs outer w frames inner (blocked tree.nil M) base n code m
+  pub block_none : (inner : List Name) (M : Env → ℕ → Out Env) (base n m : ℕ) (code : List Instr) → Performs rs outer w serves frames inner M base n code m → Performs rs outer w serves frames inner (blocked tree.nil M) base n code m
   block_none inner M base n m code body stack cells env left stands laid apart room holds =
       let s : State = state base stack frames cells left in
-      follows_then (M env left) (λ next k. Gives (back_to env next) k) (Moves outer w frames inner n m s (base + length code) (length env.locals)) (BreaksOff w (inner ++ outer) n m s)
-      (Moves outer w frames inner n m s (base + length code) (length env.locals)) (BreaksOff w (inner ++ outer) n m s)
+      follows_then (M env left) (λ next k. Gives (back_to env next) k) (Moves rs outer w serves frames inner n m s (base + length code) (length env.locals)) (Breaks w (inner ++ outer) outer n m s)
+      (Moves rs outer w serves frames inner n m s (base + length code) (length env.locals)) (Breaks w (inner ++ outer) outer n m s)
       (body stack cells env left stands laid apart room holds)
       (λ next k p.
       let same : back_to env next ≡ next = back_same env next p.as_many in
-      subst (λ x. Moves outer w frames inner n m s (base + length code) (length env.locals) x k) (sym same) p)
+      subst (λ x. Moves rs outer w serves frames inner n m s (base + length code) (length env.locals) x k) (sym same) p)
       (λ d b. b)
 
   pub block_more : (inner : List Name) (M : Env → ℕ → Out Env) (shape start vars : Tree) (text : List ℕ) (place at base n k m : ℕ) (a b : List Instr) (t : Scalar) (changes : Bool)
-      → single_meant shape ≡ Some t → n + 1 ≤ k → k ≤ m → IsStart [] (inner ++ outer) t n start base (n + 1) a k
-      → Performs outer w frames (local text t n ∷ inner) (blocked vars M) (base + length a) k b m
-      → Performs outer w frames inner (blocked (tree.cons (tree.var shape (tree.ident text place) start changes at) vars) M) base n (a ++ b) m
+      → single_meant shape ≡ Some t → n + 1 ≤ k → k ≤ m → IsStart rs.functions (inner ++ outer) t n start base (n + 1) a k
+      → Performs rs outer w serves frames (local text t n ∷ inner) (blocked vars M) (base + length a) k b m
+      → Performs rs outer w serves frames inner (blocked (tree.cons (tree.var shape (tree.ident text place) start changes at) vars) M) base n (a ++ b) m
   block_more inner M shape start vars text place at base n k m a b t changes meant le ge starts body stack cells env left stands laid apart room holds =
       let s : State = state base stack frames cells left in
       let names : List Name = inner ++ outer in
@@ -185,21 +184,21 @@ module _ (outer : List Name) (w : World) (frames : List ℕ) (runs : Runs) where
       let whole : blocked (tree.cons (tree.var shape (tree.ident text place) start changes at) vars) M env left ≡ and_then (first_of (Single t) start w.calls env left) rest =
       ap (λ (o : Out Shape). and_then (and_then o (λ u h. and_then (first_of u start w.calls env h) (λ v j. with_vars vars w.calls (with_local (variable text u changes v) env) j))) (λ x h. inside env x M h)) (meant_is shape t w.calls env left meant)
       ∙ then_then (first_of (Single t) start w.calls env left) (λ v j. with_vars vars w.calls (with_local (variable text (Single t) changes v) env) j) (λ x h. inside env x M h) in
-      subst (λ (o : Out Env). Follows o (Moves outer w frames inner n m s (base + length (a ++ b)) (length env.locals)) (BreaksOff w names n m s)) (sym whole)
-      (follows_then (first_of (Single t) start w.calls env left) rest (Started t n k s (base + length a)) (BreaksOff w names n k s)
-      (Moves outer w frames inner n m s (base + length (a ++ b)) (length env.locals)) (BreaksOff w names n m s)
+      subst (λ (o : Out Env). Follows o (Moves rs outer w serves frames inner n m s (base + length (a ++ b)) (length env.locals)) (Breaks w names outer n m s)) (sym whole)
+      (follows_then (first_of (Single t) start w.calls env left) rest (Started t n k s (base + length a)) (Breaks w names outer n k s)
+      (Moves rs outer w serves frames inner n m s (base + length (a ++ b)) (length env.locals)) (Breaks w names outer n m s)
       (start_moves inner t n sized le starts stack cells env left (stands_left w.code.instrs base a b stands) laid (omega (arith, room, le, ge)) holds)
       (λ v j p.
       let var : Var = variable text (Single t) changes v in
       let r : State = state (base + length a) stack frames p.cells j in
       let held : Inside (local text t n ∷ inner) p.cells (with_local var env) =
-      local_held outer w frames inner text t n p.cells env changes v p.number p.kind p.is p.stands (inside_still outer w.tokens w.low w.high n k inner cells p.cells env laid p.keeps holds) in
+      local_held rs outer w serves frames inner text t n p.cells env changes v p.number p.kind p.is p.stands (inside_still rs outer w.tokens w.low w.high n k inner cells p.cells env laid p.keeps holds) in
       let away : AreApart n (n + 1) w.low w.high = ⊎_elim (λ (x : m ≤ w.low). inl (omega (arith, x, le, ge))) (λ (x : w.high ≤ n). inr x) apart in
       let deeper : Laid k (local text t n ∷ inner) = (n, refl, le, sized, away, laid) in
       let done = body stack p.cells (with_local var env) j (stands_right w.code.instrs base a b stands) deeper (apart_last n k m w.low w.high (omega (arith, le)) apart) (let same = p.keeps.size in omega (arith, same, room)) held in
-      subst (λ (o : Out Env). Follows o (Moves outer w frames inner n m s (base + length (a ++ b)) (length env.locals)) (BreaksOff w names n m s)) (sym (leave_twice M var env (with_vars vars w.calls (with_local var env) j)))
-      (moves_at outer w frames (inside env (with_local var env) (blocked vars M) j) inner n m (base + length a + length b) (base + length (a ++ b)) (length env.locals) s finish
-      (move_after outer w frames inner n n m m base (base + length a) (base + length a + length b) (length env.locals) stack cells p.cells left j (inside env (with_local var env) (blocked vars M) j) (omega arith) (omega arith)
+      subst (λ (o : Out Env). Follows o (Moves rs outer w serves frames inner n m s (base + length (a ++ b)) (length env.locals)) (Breaks w names outer n m s)) (sym (leave_twice M var env (with_vars vars w.calls (with_local var env) j)))
+      (moves_at rs outer w serves frames (inside env (with_local var env) (blocked vars M) j) inner n m (base + length a + length b) (base + length (a ++ b)) (length env.locals) s finish
+      (move_after rs outer w serves frames inner n n m m base (base + length a) (base + length a + length b) (length env.locals) stack cells p.cells left j (inside env (with_local var env) (blocked vars M) j) (omega arith) (omega arith)
       p.reaches (but_wider n m (omega arith) ge (keeps_but names p.keeps))
-      (inside_moves outer w frames inner text t (blocked vars M) env var n n k m (base + length a + length b) r j (omega arith) (omega (arith, le, ge)) (omega (arith, le)) done))))
+      (inside_moves rs outer w serves frames inner text t (blocked vars M) env var n n k m (base + length a + length b) r j (omega arith) (omega (arith, le, ge)) (omega (arith, le)) done))))
       (λ d x. record { cells = x.cells; ends = x.ends; keeps = but_wider n m (omega arith) ge x.keeps }))

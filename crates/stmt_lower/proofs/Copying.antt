@@ -24,7 +24,6 @@ use Rattle.expr_lower.specs.declared.names.ItemList.{ItemList}
 use Rattle.expr_lower.specs.declared.names.Seat.{Seat}
 use Rattle.expr_lower.specs.declared.names.Seat.TheVariants.{Cell, Tokens}
 use Rattle.stmt_lower.specs.Changing.{NamesApart, SeatsApart}
-use Rattle.stmt_lower.specs.Executing.{BreaksOff}
 use Rattle.expr_lower.specs.Flat.{flat, flat_all}
 use Rattle.expr_lower.specs.Following.{Follows}
 use Rattle.expr_lower.specs.Held.{HoldsName, SeatIsBelow, StandAt}
@@ -34,12 +33,14 @@ use Rattle.expr_lower.specs.Placed.{StandsAt, World, state}
 use Rattle.stmt_lower.specs.Stating.{copy_code}
 use Rattle.expr_lower.proofs.Keeping.{flat_length, scalars_same}
 use Rattle.expr_lower.proofs.Listing.{IsList, IsListName, first_of_two, found, named_list}
-use Rattle.stmt_lower.proofs.Performing.{Moves, Performs, but_written}
+use Rattle.stmt_lower.proofs.Performing.{Moves, Performs, but_written, Breaks}
 use Rattle.expr_lower.proofs.Runs.{follows_more, obeys}
 use Rattle.stmt_lower.proofs.Scoping.{AreLaid, Assigned, HoldsInside, PutsAt, assigns, choose_name, laid_below, laid_typed, names_held}
 use Rattle.expr_lower.proofs.Written.{Written}
 use Rattle.expr_lower.proofs.Singles.{IsSingleValue, kind_single}
 use Rattle.expr_lower.proofs.Storing.{single_stored}
+use Rattle.stmt_lower.specs.Procedures.{Routines}
+use Rattle.expr_lower.specs.Calling.{Serves}
 
 -- ---- ranges of cells
 
@@ -200,7 +201,7 @@ list_stands t c vs tokens cells size kinds laid =
 -- ---- names that share no cell
 
 -- what is laid side by side shares no cell
-module _ (outer : List Name) (tokens : ℕ → List ℤ) (low high : ℕ) where
+module _ (rs : Routines) (outer : List Name) (tokens : ℕ → List ℤ) (low high : ℕ) where
   below_apart : (n size c : ℕ) (seat : Seat) (many : ℕ) → n ≤ c → SeatIsBelow n size seat → SeatsApart seat size (Cell c) many
   below_apart n size c (Cell d) many le h = inr (omega (arith, h, le))
   below_apart n size c (Tokens port first step) many le h = tt
@@ -215,7 +216,7 @@ module _ (outer : List Name) (tokens : ℕ → List ℤ) (low high : ℕ) where
       let two : bytes_eq text other ≡ true = ap (λ t. bytes_eq t other) (sym one) ∙ f in
       let both : true ≡ false = sym two ∙ differ in cc
 
-  pub laid_distinct : (n : ℕ) (inner : List Name) → AreLaid outer tokens low high n inner → NamesApart (inner ++ outer)
+  pub laid_distinct : (n : ℕ) (inner : List Name) → AreLaid rs outer tokens low high n inner → NamesApart (inner ++ outer)
   laid_distinct n [] h text other a b e f differ = h.1 text other a b e f differ
   laid_distinct n (x ∷ inner) (c, at, le, typed, apart, rest) text other a b e f differ =
       ⊎_elim (λ (p : (bytes_eq x.text text ≡ true) × (x ≡ a)).
@@ -223,34 +224,34 @@ module _ (outer : List Name) (tokens : ℕ → List ℤ) (low high : ℕ) where
       (λ (q : (bytes_eq x.text other ≡ false) × (named other (inner ++ outer) ≡ Some b)).
       subst (λ (z : Name). SeatsApart z.seat (scalars_of_type z.shape) b.seat (scalars_of_type b.shape)) p.1
       (subst (λ s. SeatsApart s (scalars_of_type x.shape) b.seat (scalars_of_type b.shape)) (sym at)
-      (apart_below c (scalars_of_type b.shape) c b.seat (scalars_of_type x.shape) (omega arith) (laid_below outer tokens low high c inner rest other b q.1))))
+      (apart_below c (scalars_of_type b.shape) c b.seat (scalars_of_type x.shape) (omega arith) (laid_below rs outer tokens low high c inner rest other b q.1))))
       (choose_name (bytes_eq x.text other) x (named other (inner ++ outer)) b f))
       (λ (p : (bytes_eq x.text text ≡ false) × (named text (inner ++ outer) ≡ Some a)).
       ⊎_elim (λ (q : (bytes_eq x.text other ≡ true) × (x ≡ b)).
       subst (λ (z : Name). SeatsApart a.seat (scalars_of_type a.shape) z.seat (scalars_of_type z.shape)) q.1
       (subst (λ s. SeatsApart a.seat (scalars_of_type a.shape) s (scalars_of_type x.shape)) (sym at)
-      (below_apart c (scalars_of_type a.shape) c a.seat (scalars_of_type x.shape) (omega arith) (laid_below outer tokens low high c inner rest text a p.1))))
+      (below_apart c (scalars_of_type a.shape) c a.seat (scalars_of_type x.shape) (omega arith) (laid_below rs outer tokens low high c inner rest text a p.1))))
       (λ (q : (bytes_eq x.text other ≡ false) × (named other (inner ++ outer) ≡ Some b)). laid_distinct c inner rest text other a b p.1 q.1 differ)
       (choose_name (bytes_eq x.text other) x (named other (inner ++ outer)) b f))
       (choose_name (bytes_eq x.text text) x (named text (inner ++ outer)) a e)
 
 -- ---- the assignment
 
-module _ (outer : List Name) (w : World) (frames : List ℕ) (runs : Runs) where
+module _ (rs : Routines) (outer : List Name) (w : World) (serves : Serves w outer rs.functions) (frames : List ℕ) (runs : Runs) where
   abbrev Inside : List Name → List ℤ → Env → Type 0
-  Inside inner cells env = HoldsInside outer w.tokens w.low w.high inner cells env
+  Inside inner cells env = HoldsInside rs outer w.tokens w.low w.high inner cells env
 
   -- a run that writes what is assigned in the cells of the name
   pub stores_run : (inner : List Name) (n base end c : ℕ) (text : List ℕ) (x : Name) (stack cells written : List ℤ) (v : Value) (env : Env) (left : ℕ)
       → Reaches w.code w.tokens (state base stack frames cells left) (state end stack frames written left)
-      → AreLaid outer w.tokens w.low w.high n inner → named text (inner ++ outer) ≡ Some x → x.seat ≡ Cell c → Written c (scalars_of_type x.shape) cells written
-      → PutsAt outer w.tokens w.low w.high (Unit {0}) x cells written Nil v left (λ t. ⊥) → Inside inner cells env
-      → Follows (assign env text Nil v left) (Moves outer w frames inner n n (state base stack frames cells left) end (length env.locals)) (BreaksOff w (inner ++ outer) n n (state base stack frames cells left))
+      → AreLaid rs outer w.tokens w.low w.high n inner → named text (inner ++ outer) ≡ Some x → x.seat ≡ Cell c → Written c (scalars_of_type x.shape) cells written
+      → PutsAt rs outer w.tokens w.low w.high (Unit {0}) x cells written Nil v left (λ t. ⊥) → Inside inner cells env
+      → Follows (assign env text Nil v left) (Moves rs outer w serves frames inner n n (state base stack frames cells left) end (length env.locals)) (Breaks w (inner ++ outer) outer n n (state base stack frames cells left))
   stores_run inner n base end c text x stack cells written v env left r laid e seat wrote puts holds =
       let s : State = state base stack frames cells left in
       let names : List Name = inner ++ outer in
-      follows_more (assign env text Nil v left) (Assigned outer w.tokens w.low w.high (Unit {0}) inner written env left) (λ t. ⊥) (Moves outer w frames inner n n s end (length env.locals)) (BreaksOff w names n n s)
-      (assigns outer w.tokens w.low w.high (Unit {0}) n inner cells written env text x c Nil v left (λ t. ⊥) laid e seat wrote puts holds)
+      follows_more (assign env text Nil v left) (Assigned rs outer w.tokens w.low w.high (Unit {0}) inner written env left) (λ t. ⊥) (Moves rs outer w serves frames inner n n s end (length env.locals)) (Breaks w names outer n n s)
+      (assigns rs outer w.tokens w.low w.high (Unit {0}) n inner cells written env text x c Nil v left (λ t. ⊥) laid e seat wrote puts holds)
       (λ next j p. record {
         cells = written;
         reaches = subst (λ h. Reaches w.code w.tokens s (state end stack frames written h)) (sym p.0) r;
@@ -308,7 +309,7 @@ module _ (outer : List Name) (w : World) (frames : List ℕ) (runs : Runs) where
       token j small = (get_or (flat_all vs) j (pos 0), stands j (get_or (flat_all vs) j (pos 0)) (slice_get-get_or (flat_all vs) j (pos 0) small))
 
   -- another list stands elsewhere, or it is the same one
-  elsewhere : (inner : List Name) (n c s size : ℕ) (text : List ℕ) (value : Tree) (x : Name) (t : Scalar) (l : ItemList) → AreLaid outer w.tokens w.low w.high n inner → named text (inner ++ outer) ≡ Some x → x.seat ≡ Cell c → x.shape ≡ Many size (Single t)
+  elsewhere : (inner : List Name) (n c s size : ℕ) (text : List ℕ) (value : Tree) (x : Name) (t : Scalar) (l : ItemList) → AreLaid rs outer w.tokens w.low w.high n inner → named text (inner ++ outer) ≡ Some x → x.seat ≡ Cell c → x.shape ≡ Many size (Single t)
       → list_named (inner ++ outer) value ≡ Some l → l.size ≡ size → l.seat ≡ Cell s → (s + size ≤ c) ⊎ ((c ≡ s) ⊎ (c + size ≤ s))
   elsewhere inner n c s size text value x t l laid e seat shape g many at = go (bytes_eq text f.text) refl
     where
@@ -333,13 +334,13 @@ module _ (outer : List Name) (w : World) (frames : List ℕ) (runs : Runs) where
           let one : x ≡ f.x = same_name x f.x (sym e ∙ ap (λ u. named u (inner ++ outer)) text_same ∙ f.is) in
           inr (inl (same_cell c s (sym seat ∙ ap (λ (y : Name). y.seat) one ∙ f.seat ∙ at)))
       go false h =
-          let apart : SeatsApart x.seat (scalars_of_type x.shape) f.x.seat (scalars_of_type f.x.shape) = laid_distinct outer w.tokens w.low w.high n inner laid text f.text x f.x e f.is h in
+          let apart : SeatsApart x.seat (scalars_of_type x.shape) f.x.seat (scalars_of_type f.x.shape) = laid_distinct rs outer w.tokens w.low w.high n inner laid text f.text x f.x e f.is h in
           let cells : SeatsApart (Cell c) (scalars_of_type x.shape) (Cell s) (scalars_of_type f.x.shape) =
           subst (λ z. SeatsApart (Cell c) (scalars_of_type x.shape) z (scalars_of_type f.x.shape)) (f.seat ∙ at) (subst (λ z. SeatsApart z (scalars_of_type x.shape) f.x.seat (scalars_of_type f.x.shape)) seat apart)
           in
           ⊎_elim (λ (a : s + scalars_of_type f.x.shape ≤ c). inl (omega (arith, a, other))) (λ (a : c + scalars_of_type x.shape ≤ s). inr (inr (omega (arith, a, mine)))) cells
 
-  stores_at : (inner : List Name) (base n c size : ℕ) (text : List ℕ) (value : Tree) (x : Name) (t : Scalar) (l : ItemList) (seat : Seat) (vs : Values) (stack cells : List ℤ) (left : ℕ) → l.seat ≡ seat → AreLaid outer w.tokens w.low w.high n inner
+  stores_at : (inner : List Name) (base n c size : ℕ) (text : List ℕ) (value : Tree) (x : Name) (t : Scalar) (l : ItemList) (seat : Seat) (vs : Values) (stack cells : List ℤ) (left : ℕ) → l.seat ≡ seat → AreLaid rs outer w.tokens w.low w.high n inner
       → named text (inner ++ outer) ≡ Some x → x.seat ≡ Cell c → x.shape ≡ Many size (Single t) → list_named (inner ++ outer) value ≡ Some l → l.size ≡ size
       → 1 ≤ size → c + size ≤ length cells → count vs ≡ size → AllSingle vs → StandAt seat w.tokens cells (flat_all vs)
       → StandsAt w.code.instrs base (copy_code c size t seat) → Stores base c size t seat vs stack cells left
@@ -351,7 +352,7 @@ module _ (outer : List Name) (w : World) (frames : List ℕ) (runs : Runs) where
   -- what is put is the list whose numbers stand in the cells
   pub puts_list : (x : Name) (t : Scalar) (c size left : ℕ) (cells written : List ℤ) (vs : Values) → x.shape ≡ Many size (Single t) → x.seat ≡ Cell c → IsSize t → count vs ≡ size → AllSingle vs
       → ((j : ℕ) (y : ℤ) → slice_get (flat_all vs) j ≡ Some y → slice_get written (c + j) ≡ Some (conv t y))
-      → PutsAt outer w.tokens w.low w.high (Unit {0}) x cells written Nil (Items vs) left (λ d. ⊥)
+      → PutsAt rs outer w.tokens w.low w.high (Unit {0}) x cells written Nil (Items vs) left (λ d. ⊥)
   puts_list x t c size left cells written vs shape seat sized as_many singles is_laid u kind stand =
       let one = list_stands t c vs w.tokens written sized singles is_laid in
       let shaped : Many (count vs) (Single t) ≡ x.shape = ap (λ k. Many k (Single t)) as_many ∙ sym shape in
@@ -360,15 +361,15 @@ module _ (outer : List Name) (w : World) (frames : List ℕ) (runs : Runs) where
 
   pub set_list_performs : (inner : List Name) (text : List ℕ) (value : Tree) (place at base n c size : ℕ) (x : Name) (t : Scalar) (l : ItemList)
       → named text (inner ++ outer) ≡ Some x → x.seat ≡ Cell c → x.shape ≡ Many size (Single t) → list_named (inner ++ outer) value ≡ Some l → l.size ≡ size
-      → Performs outer w frames inner (λ env left. exec (tree.assign (tree.ident text place) tree.nil value at) w.calls runs env left) base n (copy_code c size t l.seat) n
+      → Performs rs outer w serves frames inner (λ env left. exec (tree.assign (tree.ident text place) tree.nil value at) w.calls runs env left) base n (copy_code c size t l.seat) n
   set_list_performs inner text value place at base n c size x t l e seat shape g many stack cells env left stands laid apart room holds =
       let names : List Name = inner ++ outer in
       let s : State = state base stack frames cells left in
       let end : ℕ = base + length (copy_code c size t l.seat) in
-      let held = names_held outer w.tokens w.low w.high inner cells env holds in
+      let held = names_held rs outer w.tokens w.low w.high inner cells env holds in
       let list : IsList w.tokens cells (eval value w.calls env left) left l = named_list names w.tokens cells env value l w.calls left g held in
       let mine : HoldsName w.tokens cells env text x = held text x e in
-      let typed : IsType (Many size (Single t)) = subst IsType shape (laid_typed outer w.tokens w.low w.high n inner laid text x e) in
+      let typed : IsType (Many size (Single t)) = subst IsType shape (laid_typed rs outer w.tokens w.low w.high n inner laid text x e) in
       let wide : length (flat mine.value) ≡ size * 1 = flat_length (kind_of_type x.shape) mine.value mine.of_type ∙ scalars_same x.shape ∙ ap scalars_of_type shape in
       let some : 1 ≤ size = typed.0 in
       let there = range_there c w.tokens cells (flat mine.value) (omega (arith, wide, some)) (subst (λ z. StandAt z w.tokens cells (flat mine.value)) seat mine.stands) in
@@ -379,6 +380,6 @@ module _ (outer : List Name) (w : World) (frames : List ℕ) (runs : Runs) where
       in
       let all : scalars_of_type x.shape ≡ size = let one : scalars_of_type x.shape ≡ size * 1 = ap scalars_of_type shape in omega (arith, one) in
       let wrote : Written c (scalars_of_type x.shape) cells done.written = subst (λ k. Written c k cells done.written) (sym all) (record { length_same = done.same_size; cell = done.others }) in
-      subst (λ (o : Out Value). Follows (and_then o (λ v k. assign env text Nil v k)) (Moves outer w frames inner n n s end (length env.locals)) (BreaksOff w names n n s)) (sym list.gives)
+      subst (λ (o : Out Value). Follows (and_then o (λ v k. assign env text Nil v k)) (Moves rs outer w serves frames inner n n s end (length env.locals)) (Breaks w names outer n n s)) (sym list.gives)
       (stores_run inner n base end c text x stack cells done.written (Items list.values) env left done.reaches laid e seat wrote
       (puts_list x t c size left cells done.written list.values shape seat typed.2 as_many singles done.laid) holds)

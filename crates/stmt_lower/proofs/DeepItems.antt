@@ -25,29 +25,31 @@ use Rattle.code_ir.specs.Running.{State, Ends, Reaches, go, go_on, here, after, 
 use Rattle.code_ir.proofs.Marks.{get-set, get-other}
 use Rattle.expr_lower.specs.declared.names.Seat.TheVariants.{Cell}
 use Rattle.expr_lower.specs.Coding.{IsCode}
-use Rattle.stmt_lower.specs.Executing.{BreaksOff}
 use Rattle.expr_lower.specs.Flat.{flat, flat_all}
 use Rattle.expr_lower.specs.Following.{Follows, Pushes, CutsOff}
-use Rattle.expr_lower.specs.Held.{AllApart, AreApart, AreBelow, Holds, HoldsName, Keeps, StandAt}
+use Rattle.expr_lower.specs.Held.{AreApart, HoldsName, Keeps, StandAt}
 use Rattle.expr_lower.specs.Names.{Name, named}
 use Rattle.stmt_lower.specs.Targets.{leaf_in}
 use Rattle.expr_lower.specs.Parted.{number_of, sized}
 use Rattle.expr_lower.specs.Placed.{StandsAt, World, state}
 use Rattle.stmt_lower.specs.Stating.{IsKept, no_place, place_more, deep_tail, step_code, step_in}
 use Rattle.stmt_lower.proofs.Changed.{IsChanged, kinds_with, list_changed, same_standing}
-use Rattle.expr_lower.proofs.Coded.{DoesAlone, does, grows, load_leaves}
+use Rattle.expr_lower.proofs.Coded.{does, grows, load_leaves}
 use Rattle.expr_lower.proofs.Effects.{same_number}
-use Rattle.expr_lower.proofs.Keeping.{below_more, flat_length, holds_still, keeps_all, keeps_join, keeps_wider, scalars_same, apart_first, apart_last}
+use Rattle.expr_lower.proofs.Keeping.{flat_length, keeps_all, keeps_join, keeps_wider, scalars_same, apart_first, apart_last}
 use Rattle.expr_lower.proofs.Listing.{item_kind, item_past, item_within}
 use Rattle.expr_lower.proofs.PartValues.{IsSized, sized_is, sized_list}
-use Rattle.stmt_lower.proofs.Performing.{Moves, Performs, but_wider, breaks_after, cut_breaks, keeps_but}
+use Rattle.stmt_lower.proofs.Performing.{Moves, Performs, but_wider, breaks_after, cut_breaks, keeps_but, Breaks}
 use Rattle.expr_lower.proofs.Rowed.{small_num}
 use Rattle.expr_lower.proofs.Runs.{ends_join, follows_both, follows_then, obeys, reaches_join, stands_left, stands_right}
-use Rattle.stmt_lower.proofs.Scoping.{AreLaid, HoldsInside, NewAt, PutsAt, inside_still, laid_apart, laid_below, laid_typed, names_held}
+use Rattle.stmt_lower.proofs.Scoping.{AreLaid, HoldsInside, NewAt, PutsAt, inside_still, laid_typed, names_held, laid_more}
 use Rattle.expr_lower.proofs.Written.{Written}
 use Rattle.stmt_lower.proofs.Setting.{never, stores}
-use Rattle.expr_lower.proofs.Singles.{IsSingleValue, singles}
+use Rattle.expr_lower.proofs.Singles.{IsSingleValue}
 use Rattle.expr_lower.proofs.Storing.{item_count, set_there, set_written, single_stored, store_item_leaves, store_leaves}
+use Rattle.stmt_lower.specs.Procedures.{Routines}
+use Rattle.expr_lower.specs.Calling.{Serves}
+use Rattle.stmt_lower.proofs.Evaluating.{does_there, singles_there}
 
 -- ---- cells that keep values
 
@@ -75,7 +77,7 @@ write_cell c tokens stack cells z less = store_leaves c None tokens stack cells 
 own_cell : (n m low high c : ℕ) → AreApart n m low high → n ≤ c → c < m → AreApart c (c + 1) low high
 own_cell n m low high c apart le less = ⊎_elim (λ (a : m ≤ low). inl (omega (arith, a, less))) (λ (a : high ≤ n). inr (omega (arith, a, le))) apart
 
-pub grows_kept : {names : List Name} {c : ℕ} {places : Tree} {base n m : ℕ} {code : List Instr} → IsKept [] names c places base n code m → n ≤ m
+pub grows_kept : {names : List Name} {c : ℕ} {places : Tree} {base n m : ℕ} {code : List Instr} → IsKept rs.functions names c places base n code m → n ≤ m
 grows_kept (no_place c base n) = omega arith
 grows_kept (place_more place places c base n k m a b g d) = let x = grows g in let y = grows_kept d in omega (arith, x, y)
 
@@ -89,27 +91,27 @@ pub record AtKept (w : World) (c m many : ℕ) (s : State) (end : ℕ) (us : Val
   pub kept : AreKept c us cells
   pub as_many : count us ≡ many
 
-module _ (names : List Name) (w : World) (env : Env) (frames : List ℕ) where
+module _ (rs : Routines) (outer : List Name) (w : World) (serves : Serves w outer rs.functions) (frames : List ℕ) (inner : List Name) (env : Env) where
   abbrev pub Keep : ℕ → Tree → ℕ → List Instr → ℕ → Type 0
-  Keep c places base code m = (stack cells : List ℤ) (left : ℕ) → StandsAt w.code.instrs base code → AreBelow c names → AllApart w.low w.high names → AreApart c m w.low w.high → m ≤ length cells → Holds names w.tokens cells env
+  Keep c places base code m = (stack cells : List ℤ) (left : ℕ) → StandsAt w.code.instrs base code → AreLaid rs outer w.tokens w.low w.high c inner → AreApart c m w.low w.high → m ≤ length cells → HoldsInside rs outer w.tokens w.low w.high inner cells env
       → Follows (eval_all places w.calls env left) (AtKept w c m (number_of places) (state base stack frames cells left) (base + length code)) (CutsOff w c m (state base stack frames cells left))
 
   keep_none : (c base m : ℕ) → Keep c tree.nil base [] m
-  keep_none c base m stack cells left stands below apart free room holds =
+  keep_none c base m stack cells left stands laid free room holds =
       let s : State = state base stack frames cells left in
       let e : base ≡ base + 0 = omega arith in
       record { cells = cells; reaches = subst (λ p. Reaches w.code w.tokens s (state p stack frames cells left)) e here; keeps = keeps_all c m w.low w.high cells; kept = tt; as_many = refl }
 
-  keep_more : (place places : Tree) (c base n k m : ℕ) (a b : List Instr) → c + 1 ≤ n → n ≤ k → k ≤ m → DoesAlone names w env frames place base n a k → Keep (c + 1) places (base + length a + 1) b m
+  keep_more : (place places : Tree) (c base n k m : ℕ) (a b : List Instr) → c + 1 ≤ n → n ≤ k → k ≤ m → IsCode rs.functions (inner ++ outer) place base n a k → Keep (c + 1) places (base + length a + 1) b m
       → Keep c (tree.cons place places) base (a ++ op.Store c None ∷ b) m
-  keep_more place places c base n k m a b room_c le ge first second stack cells left stands below apart free room holds =
+  keep_more place places c base n k m a b room_c le ge first second stack cells left stands laid free room holds =
       let i : Instr = op.Store c None in
       let s : State = state base stack frames cells left in
       let rest = stands_right w.code.instrs base a (i ∷ b) stands in
       let end : base + length a + 1 + length b ≡ base + length (a ++ i ∷ b) = omega (arith, length-append a (i ∷ b)) in
       let up : c ≤ n = omega (arith, room_c) in
       follows_then (eval place w.calls env left) (λ v j. and_then (eval_all places w.calls env j) (λ vs h. Gives (Cons v vs) h)) (Pushes w n k s (base + length a)) (CutsOff w n k s) (AtKept w c m (suc (number_of places)) s (base + length (a ++ i ∷ b))) (CutsOff w c m s)
-      (first stack cells left (stands_left w.code.instrs base a (i ∷ b) stands) (below_more c n names up below) apart holds)
+      (does_there rs outer w serves frames inner first stack cells env left (stands_left w.code.instrs base a (i ∷ b) stands) (laid_more rs outer w.tokens w.low w.high c n inner up laid) holds)
       (λ v j p.
       let wide = p.keeps.size in
       let t : State = state (base + length a) (p.number ∷ stack) frames p.cells j in
@@ -120,7 +122,7 @@ module _ (names : List Name) (w : World) (env : Env) (frames : List ℕ) where
       let kept : Keeps c m w.low w.high cells now = keeps_join (keeps_wider c m up ge p.keeps) (set_keeps c m c w.low w.high p.cells p.number (omega arith) (omega (arith, room_c, le, ge))) in
       let long : length now ≡ length p.cells = length-set p.cells c p.number in
       follows_then (eval_all places w.calls env j) (λ vs h. Gives (Cons v vs) h) (AtKept w (c + 1) m (number_of places) r (base + length a + 1 + length b)) (CutsOff w (c + 1) m r) (AtKept w c m (suc (number_of places)) s (base + length (a ++ i ∷ b))) (CutsOff w c m s)
-      (second stack now j rest.1 (below_more c (c + 1) names (omega arith) below) apart (apart_last c (c + 1) m w.low w.high (omega arith) free) (omega (arith, long, wide, room)) (holds_still names w.tokens env kept below apart holds))
+      (second stack now j rest.1 (laid_more rs outer w.tokens w.low w.high c (c + 1) inner (omega arith) laid) (apart_last c (c + 1) m w.low w.high (omega arith) free) (omega (arith, long, wide, room)) (inside_still rs outer w.tokens w.low w.high c m inner cells now env laid kept holds))
       (λ vs h q. record {
         cells = q.cells;
         reaches = subst (λ e. Reaches w.code w.tokens s (state e stack frames q.cells h)) end (reaches_join reached q.reaches);
@@ -136,10 +138,10 @@ module _ (names : List Name) (w : World) (env : Env) (frames : List ℕ) where
       (λ d q. record { cells = q.cells; ends = ends_join reached q.ends; keeps = keeps_join kept (keeps_wider c m (omega arith) (omega arith) q.keeps) }))
       (λ d q. record { cells = q.cells; ends = q.ends; keeps = keeps_wider c m up ge q.keeps })
 
-  pub keep : {c : ℕ} {places : Tree} {base n m : ℕ} {code : List Instr} → c + number_of places ≤ n → IsKept [] names c places base n code m → Keep c places base code m
+  pub keep : {c : ℕ} {places : Tree} {base n m : ℕ} {code : List Instr} → c + number_of places ≤ n → IsKept rs.functions (inner ++ outer) c places base n code m → Keep c places base code m
   keep room (no_place c base n) = keep_none c base n
   keep room (place_more place places c base n k m a b g d) =
-      let x = grows g in keep_more place places c base n k m a b (omega (arith, room)) x (grows_kept d) (does names w env frames g) (keep (omega (arith, room, x)) d)
+      let x = grows g in keep_more place places c base n k m a b (omega (arith, room)) x (grows_kept d) g (keep (omega (arith, room, x)) d)
 
 -- ---- the places are tested
 
@@ -299,9 +301,9 @@ size_small (Many n items) k e = (sized_list n items k e).less
 
 -- ---- the assignment
 
-module _ (outer : List Name) (w : World) (frames : List ℕ) (runs : Runs) where
+module _ (rs : Routines) (outer : List Name) (w : World) (serves : Serves w outer rs.functions) (frames : List ℕ) (runs : Runs) where
   abbrev Inside : List Name → List ℤ → Env → Type 0
-  Inside inner cells env = HoldsInside outer w.tokens w.low w.high inner cells env
+  Inside inner cells env = HoldsInside rs outer w.tokens w.low w.high inner cells env
 
   -- the number at an offset is stored
   changed_stands : (c o : ℕ) (cells : List ℤ) (old new : Value) (y y0 : ℤ) → slice_get cells (c + o) ≡ Some y0 → StandAt (Cell c) w.tokens cells (flat old) → IsChanged (flat old) (flat new) o y → StandAt (Cell c) w.tokens (slice_set cells (c + o) y) (flat new)
@@ -315,22 +317,22 @@ module _ (outer : List Name) (w : World) (frames : List ℕ) (runs : Runs) where
 
   -- what is put comes to the same whatever value stands in the cells
   as_put : (x : Name) (c : ℕ) (us : Values) (v : Value) (k : ℕ) (o : Out Value) (cells : List ℤ) (T : Trap → Type 0) → x.seat ≡ Cell c → (u : Value) → HasKind (kind_of_type x.shape) u → StandAt (Cell c) w.tokens cells (flat u) → put x.shape u us v k ≡ o
-      → Follows o (λ a b. (b ≡ k) × NewAt outer w.tokens w.low w.high ⊥ x cells a) T → PutsAt outer w.tokens w.low w.high ⊥ x cells cells us v k T
+      → Follows o (λ a b. (b ≡ k) × NewAt rs outer w.tokens w.low w.high ⊥ x cells a) T → PutsAt rs outer w.tokens w.low w.high ⊥ x cells cells us v k T
   as_put x c us v k o cells T seat u kind stand is h u2 kind2 stand2 =
       let one : u ≡ u2 = same_standing (kind_of_type x.shape) u u2 c w.tokens cells kind kind2 stand (subst (λ q. StandAt q w.tokens cells (flat u2)) seat stand2) in
-      subst (λ q. Follows (put x.shape q us v k) (λ a b. (b ≡ k) × NewAt outer w.tokens w.low w.high ⊥ x cells a) T) one
-      (subst (λ (q : Out Value). Follows q (λ a b. (b ≡ k) × NewAt outer w.tokens w.low w.high ⊥ x cells a) T) (sym is) h)
+      subst (λ q. Follows (put x.shape q us v k) (λ a b. (b ≡ k) × NewAt rs outer w.tokens w.low w.high ⊥ x cells a) T) one
+      (subst (λ (q : Out Value). Follows q (λ a b. (b ≡ k) × NewAt rs outer w.tokens w.low w.high ⊥ x cells a) T) (sym is) h)
 
   -- what the last instruction does, when the places are tested
   deep_ends : (inner : List Name) (n m base place end c cv size : ℕ) (text : List ℕ) (x : Name) (t : Scalar) (stack before cells : List ℤ) (us : Values) (v : Value) (z : ℤ) (env : Env) (left k from : ℕ)
       → slice_get w.code.instrs place ≡ Some (op.Load cv) → slice_get w.code.instrs (place + 1) ≡ Some (op.StoreAt c size (Some t)) → end ≡ place + 1 + 1 → n ≤ m
-      → AreLaid outer w.tokens w.low w.high n inner → named text (inner ++ outer) ≡ Some x → x.seat ≡ Cell c → scalars_of_type x.shape ≡ size → slice_get cells cv ≡ Some z
+      → AreLaid rs outer w.tokens w.low w.high n inner → named text (inner ++ outer) ≡ Some x → x.seat ≡ Cell c → scalars_of_type x.shape ≡ size → slice_get cells cv ≡ Some z
       → (u : Value) → HasKind (kind_of_type x.shape) u → StandAt (Cell c) w.tokens cells (flat u)
       → (o : Out Value) → put x.shape u us v k ≡ o
       → (is_size : IsSize t) (single : IsSingleValue v) (number : flat v ≡ z ∷ []) (small : size < 2 ^ 32)
       → Follows o (Found w frames stack cells k t v z size is_size single number small x.shape u 0 place (state from (pos 0 ∷ stack) frames cells k)) (λ d. Ends w.code w.tokens (state from (pos 0 ∷ stack) frames cells k) (outcome.Trap d) cells)
       → Reaches w.code w.tokens (state base stack frames before left) (state from (pos 0 ∷ stack) frames cells k) → Keeps n m w.low w.high before cells → Inside inner before env → Inside inner cells env
-      → Follows (assign env text us v k) (Moves outer w frames inner n m (state base stack frames before left) end (length env.locals)) (BreaksOff w (inner ++ outer) n m (state base stack frames before left))
+      → Follows (assign env text us v k) (Moves rs outer w serves frames inner n m (state base stack frames before left) end (length env.locals)) (Breaks w (inner ++ outer) outer n m (state base stack frames before left))
   deep_ends inner n m base place end c cv size text x t stack before cells us v z env left k from load store end_is le laid e seat many value u kind stand (Gives new h) is is_size single number small f r keeps holds now =
       let o : ℕ = f.offset in
       let within = f.within in
@@ -348,28 +350,28 @@ module _ (outer : List Name) (w : World) (frames : List ℕ) (runs : Runs) where
       (after (obeys w.code w.tokens (state place (pos o ∷ stack) frames cells k) (op.Load cv) load ∙ ap (go_on (state place (pos o ∷ stack) frames cells k)) (load_leaves cv w.tokens (pos o ∷ stack) cells z value)) here))
       in
       let wrote : Written c (scalars_of_type x.shape) cells written = set_written cells c (scalars_of_type x.shape) o y within in
-      stores outer w frames runs inner n m base (place + 1) end c text x (z ∷ pos o ∷ stack) stack before cells written us v env left k (op.StoreAt c size (Some t))
+      stores rs outer w serves frames runs inner n m base (place + 1) end c text x (z ∷ pos o ∷ stack) stack before cells written us v env left k (op.StoreAt c size (Some t))
       (λ s. obeys w.code w.tokens b (op.StoreAt c size (Some t)) store ∙ ap (go_on b) (store_item_leaves c size o (Some t) w.tokens stack cells z y0 (omega (arith, within, many)) there))
       end_is le laid e seat wrote
       (λ u2 kind2 stand2.
       let one : u ≡ u2 = same_standing (kind_of_type x.shape) u u2 c w.tokens cells kind kind2 stand (subst (λ q. StandAt q w.tokens cells (flat u2)) seat stand2) in
-      subst (λ q. Follows (put x.shape q us v k) (λ a b. (b ≡ k) × NewAt outer w.tokens w.low w.high (Unit {0}) x written a) (λ d. ⊥)) one
-      (subst (λ (q : Out Value). Follows q (λ a b. (b ≡ k) × NewAt outer w.tokens w.low w.high (Unit {0}) x written a) (λ d. ⊥)) (sym is)
+      subst (λ q. Follows (put x.shape q us v k) (λ a b. (b ≡ k) × NewAt rs outer w.tokens w.low w.high (Unit {0}) x written a) (λ d. ⊥)) one
+      (subst (λ (q : Out Value). Follows q (λ a b. (b ≡ k) × NewAt rs outer w.tokens w.low w.high (Unit {0}) x written a) (λ d. ⊥)) (sym is)
       (f.same, ((f.kind, subst (λ q. StandAt q w.tokens written (flat new)) (sym seat) (changed_stands c o cells u new y y0 there stand f.changed)), tt))))
       reached keeps holds
   deep_ends inner n m base place end c cv size text x t stack before cells us v z env left k from load store end_is le laid e seat many value u kind stand (Traps d) is is_size single number small f r keeps holds now =
-      never outer w frames runs inner n m base from end c text x (pos 0 ∷ stack) stack before cells us v env left k (λ b. b ≡ d)
-      (λ b same. subst (λ q. BreaksOff w (inner ++ outer) n m (state base stack frames before left) q) (sym same) (record { cells = cells; ends = ends_join r f; keeps = keeps_but (inner ++ outer) keeps }))
+      never rs outer w serves frames runs inner n m base from end c text x (pos 0 ∷ stack) stack before cells us v env left k (λ b. b ≡ d)
+      (λ b same. subst (λ q. Breaks w (inner ++ outer) outer n m (state base stack frames before left) q) (sym same) (record { cells = cells; ends = ends_join r f; keeps = keeps_but (inner ++ outer) keeps }))
       laid e seat (as_put x c us v k (Traps d) cells (λ b. b ≡ d) seat u kind stand is refl) now
   deep_ends inner n m base place end c cv size text x t stack before cells us v z env left k from load store end_is le laid e seat many value u kind stand Lacks is is_size single number small f r keeps holds now =
-      never outer w frames runs inner n m base from end c text x (pos 0 ∷ stack) stack before cells us v env left k (λ b. ⊥) (λ b q. absurd q) laid e seat (as_put x c us v k Lacks cells (λ b. ⊥) seat u kind stand is tt) now
+      never rs outer w serves frames runs inner n m base from end c text x (pos 0 ∷ stack) stack before cells us v env left k (λ b. ⊥) (λ b q. absurd q) laid e seat (as_put x c us v k Lacks cells (λ b. ⊥) seat u kind stand is tt) now
   deep_ends inner n m base place end c cv size text x t stack before cells us v z env left k from load store end_is le laid e seat many value u kind stand Clashes is is_size single number small f r keeps holds now =
-      never outer w frames runs inner n m base from end c text x (pos 0 ∷ stack) stack before cells us v env left k (λ b. ⊥) (λ b q. absurd q) laid e seat (as_put x c us v k Clashes cells (λ b. ⊥) seat u kind stand is tt) now
+      never rs outer w serves frames runs inner n m base from end c text x (pos 0 ∷ stack) stack before cells us v env left k (λ b. ⊥) (λ b q. absurd q) laid e seat (as_put x c us v k Clashes cells (λ b. ⊥) seat u kind stand is tt) now
 
   pub set_deep_performs : (inner : List Name) (text : List ℕ) (places value : Tree) (place at base n k m c size : ℕ) (a b : List Instr) (x : Name) (t : Scalar)
       → named text (inner ++ outer) ≡ Some x → x.seat ≡ Cell c → sized x.shape ≡ Some size → leaf_in x.shape places ≡ Some t
-      → IsKept [] (inner ++ outer) n places base (n + number_of places + 1) a k → IsCode [] (inner ++ outer) value (base + length a) k b m
-      → Performs outer w frames inner (λ env left. exec (tree.assign (tree.ident text place) places value at) w.calls runs env left) base n (a ++ (b ++ deep_tail c size (n + number_of places) t (step_code n x.shape places))) m
+      → IsKept rs.functions (inner ++ outer) n places base (n + number_of places + 1) a k → IsCode rs.functions (inner ++ outer) value (base + length a) k b m
+      → Performs rs outer w serves frames inner (λ env left. exec (tree.assign (tree.ident text place) places value at) w.calls runs env left) base n (a ++ (b ++ deep_tail c size (n + number_of places) t (step_code n x.shape places))) m
   set_deep_performs inner text places value place at base n k m c size a b x t e seat shape leaf first second stack cells env left stands laid apart room holds =
       let names : List Name = inner ++ outer in
       let cv : ℕ = n + number_of places in
@@ -386,22 +388,20 @@ module _ (outer : List Name) (w : World) (frames : List ℕ) (runs : Runs) where
       let tests = stands_left w.code.instrs from steps last ending.1.1 in
       let final = stands_right w.code.instrs from steps last ending.1.1 in
       let end : base + length (a ++ (b ++ tail)) ≡ from + length steps + 1 + 1 = omega (arith, length-append a (b ++ tail), length-append b tail, length-append steps last) in
-      let below = laid_below outer w.tokens w.low w.high n inner laid in
-      let away = laid_apart outer w.tokens w.low w.high n inner laid in
-      let held = names_held outer w.tokens w.low w.high inner cells env holds in
-      let typed : IsType x.shape = laid_typed outer w.tokens w.low w.high n inner laid text x e in
+      let typed : IsType x.shape = laid_typed rs outer w.tokens w.low w.high n inner laid text x e in
       let sized_leaf : IsSize t = leaf_sized x.shape places typed leaf in
       let small : size < 2 ^ 32 = size_small x.shape size shape in
       let free : AreApart n k w.low w.high = apart_first n k m w.low w.high ge apart in
-      follows_then (eval_all places w.calls env left) (λ us h. and_then (eval value w.calls env h) (λ v j. assign env text us v j)) (AtKept w n k (number_of places) s (base + length a)) (CutsOff w n k s) (Moves outer w frames inner n m s (base + length (a ++ (b ++ tail))) (length env.locals)) (BreaksOff w names n m s)
-      (keep names w env frames (omega arith) first stack cells left (stands_left w.code.instrs base a (b ++ tail) stands) below away free (omega (arith, ge, room)) held)
+      follows_then (eval_all places w.calls env left) (λ us h. and_then (eval value w.calls env h) (λ v j. assign env text us v j)) (AtKept w n k (number_of places) s (base + length a)) (CutsOff w n k s) (Moves rs outer w serves frames inner n m s (base + length (a ++ (b ++ tail))) (length env.locals)) (Breaks w names outer n m s)
+      (keep rs outer w serves frames inner env (omega arith) first stack cells left (stands_left w.code.instrs base a (b ++ tail) stands) laid free (omega (arith, ge, room)) holds)
       (λ us h q.
       let r : State = state (base + length a) stack frames q.cells h in
-      let still = holds_still names w.tokens env q.keeps below away held in
-      follows_then (eval value w.calls env h) (λ v j. assign env text us v j) (λ v j. Pushes w k m r (base + length a + length b) v j × IsSingleValue v) (λ d. CutsOff w k m r d × Unit {0}) (Moves outer w frames inner n m s (base + length (a ++ (b ++ tail))) (length env.locals)) (BreaksOff w names n m s)
+      let still : Inside inner q.cells env = inside_still rs outer w.tokens w.low w.high n k inner cells q.cells env laid q.keeps holds in
+      let wider : AreLaid rs outer w.tokens w.low w.high k inner = laid_more rs outer w.tokens w.low w.high n k inner le laid in
+      follows_then (eval value w.calls env h) (λ v j. assign env text us v j) (λ v j. Pushes w k m r (base + length a + length b) v j × IsSingleValue v) (λ d. CutsOff w k m r d × Unit {0}) (Moves rs outer w serves frames inner n m s (base + length (a ++ (b ++ tail))) (length env.locals)) (Breaks w names outer n m s)
       (follows_both (eval value w.calls env h) (Pushes w k m r (base + length a + length b)) (CutsOff w k m r) (λ v j. IsSingleValue v) (λ d. Unit {0})
-      (does names w env frames second stack q.cells h (stands_left w.code.instrs (base + length a) b tail rest) (below_more n k names le below) away still)
-      (singles names w.tokens q.cells env w.calls still second h))
+      (does_there rs outer w serves frames inner second stack q.cells env h (stands_left w.code.instrs (base + length a) b tail rest) wider still)
+      (singles_there rs outer w serves frames inner second q.cells env h k wider still))
       (λ v j both.
       let o : Pushes w k m r (base + length a + length b) v j = both.0 in
       let p1 : State = state (base + length a + length b) (o.number ∷ stack) frames o.cells j in
@@ -414,8 +414,8 @@ module _ (outer : List Name) (w : World) (frames : List ℕ) (runs : Runs) where
       reaches_join q.reaches (reaches_join o.reaches (after (obeys w.code w.tokens p1 (op.Store cv None) ending.0 ∙ ap (go_on p1) (write_cell cv w.tokens stack o.cells o.number there))
       (after (obeys w.code w.tokens p2 (op.Const (pos 0)) ending.1.0) here))) in
       let keeps : Keeps n m w.low w.high cells now = keeps_join (keeps_wider n m (omega arith) ge q.keeps) (keeps_join (keeps_wider n m le (omega arith) o.keeps) (set_keeps n m cv w.low w.high o.cells o.number (omega arith) (omega (arith, wide, ge)))) in
-      let inside : Inside inner now env = inside_still outer w.tokens w.low w.high n m inner cells now env laid keeps holds in
-      let mine : HoldsName w.tokens now env text x = names_held outer w.tokens w.low w.high inner now env inside text x e in
+      let inside : Inside inner now env = inside_still rs outer w.tokens w.low w.high n m inner cells now env laid keeps holds in
+      let mine : HoldsName w.tokens now env text x = names_held rs outer w.tokens w.low w.high inner now env inside text x e in
       let many = q.as_many in
       let kept : AreKept n us now = kept_still n us q.cells now
       (λ d low less. get-other o.cells cv d o.number (λ f. omega (arith, f, less, many)) ∙ o.keeps.cell d (inl (omega (arith, less, many, wide))) (own_cell n m w.low w.high d apart low (omega (arith, less, many, wide, ge))))
@@ -425,5 +425,5 @@ module _ (outer : List Name) (w : World) (frames : List ℕ) (runs : Runs) where
       (put x.shape mine.value us v j) refl sized_leaf both.1 o.is small
       (choose w frames stack now j t v o.number size sized_leaf both.1 o.is small places x.shape mine.value us n 0 size from leaf shape (omega arith) mine.of_type kept q.as_many tests)
       reached keeps holds inside)
-      (λ d y. breaks_after outer w frames names n m s r d q.reaches (but_wider n m (omega arith) ge (keeps_but names q.keeps)) (cut_breaks outer w frames names n k m m r d le (omega arith) y.0)))
-      (λ d q. cut_breaks outer w frames names n n k m s d (omega arith) ge q)
+      (λ d y. breaks_after rs outer w serves frames names n m s r d q.reaches (but_wider n m (omega arith) ge (keeps_but names q.keeps)) (cut_breaks rs outer w serves frames names n k m m r d le (omega arith) y.0)))
+      (λ d q. cut_breaks rs outer w serves frames names n n k m s d (omega arith) ge q)

@@ -10,7 +10,7 @@ use Rattle.stmt_lower.specs.declared.targets.ListCells.{ListCells}
 use Rattle.expr_lower.specs.declared.names.OneCell.{OneCell}
 use Rattle.expr_lower.specs.declared.names.Seat.{Seat}
 use Rattle.expr_lower.specs.declared.names.Seat.TheVariants.{Cell, Tokens}
-use Rattle.expr_lower.specs.Growing.{left_out_in, ◌or_else◌}
+use Rattle.expr_lower.specs.Growing.{left_out_in, ◌or_else◌, left_out_args}
 use Rattle.expr_lower.specs.Listed.{list_named}
 use Rattle.expr_lower.specs.Names.{local, Name, named}
 use Rattle.stmt_lower.specs.Meant.{single_meant}
@@ -20,6 +20,7 @@ use Rattle.stmt_lower.specs.StmtGrowing.{left_out_all, left_out_copy, left_out_d
 use Rattle.expr_lower.specs.Starting.{left_out_start}
 use Rattle.expr_lower.specs.Callees.{Function}
 use Rattle.expr_lower.proofs.Erased.{erase, erase_seat, erased, erased_list, erased_part, list_erased, named_erased, part_erased, both_same, out_erased, start_erased}
+use Rattle.stmt_lower.specs.Procedures.{Procedure, Routines, procedure_for}
 
 abbrev cell_in_name : Option Name → Option OneCell
 cell_in_name o = elim o [ None ↦ None | Some x ↦ cell_of x.seat x.shape ]
@@ -33,6 +34,10 @@ left_else o y x = elim o [ None ↦ y | Some a ↦ x ]
 
 abbrev left_or : {A : Type 0} → Option A → ℕ → Option ℕ → Option ℕ
 left_or o at x = left_else o (Some at) x
+
+-- what is left out of a call: of the arguments, if there are as many as formals
+abbrev left_call : Option Procedure → ℕ → Option ℕ → Option ℕ
+left_call o at x = elim o [ None ↦ Some at | Some p ↦ x ]
 
 abbrev left_each : Option Scalar → ℕ → (Scalar → Option ℕ) → Option ℕ
 left_each o at f = elim o [ None ↦ Some at | Some t ↦ f t ]
@@ -131,50 +136,54 @@ set_erased fs names text places value at = item_erased fs names text places valu
 
 -- ---- statements
 
-each_erased : (fs : List Function) (names : List Name) (text : List ℕ) (from to body : Tree) (at : ℕ) (o : Option Scalar)
-    → ((t : Scalar) → left_out_all fs (local text t 0 ∷ map erase names) body ≡ left_out_all fs (local text t 0 ∷ names) body)
-    → left_each o at (λ t. left_out_in fs (map erase names) from or_else (left_out_in fs (map erase names) to or_else left_out_all fs (local text t 0 ∷ map erase names) body))
-    ≡ left_each o at (λ t. left_out_in fs names from or_else (left_out_in fs names to or_else left_out_all fs (local text t 0 ∷ names) body))
-each_erased fs names text from to body at None h = refl
-each_erased fs names text from to body at (Some t) h = both_same (out_erased fs names from) (both_same (out_erased fs names to) (h t))
+args_same : (fs : List Function) (names : List Name) (es : Tree) → left_out_args fs (map erase names) es ≡ left_out_args fs names es
+args_same fs names (tree.cons e es) = both_same (out_erased fs names e) (args_same fs names es)
+args_same fs names other = refl
 
-vars_erased : (fs : List Function) (names : List Name) (vars : Tree) (body : List Name → Option ℕ) → ((inner : List Name) → body (map erase inner) ≡ body inner) → left_out_vars fs (map erase names) vars body ≡ left_out_vars fs names vars body
-vars_erased fs names tree.nil body h = h names
-vars_erased fs names (tree.cons (tree.var shape (tree.ident text place) start changes at) vars) body h = go (single_meant shape) (λ t. vars_erased fs (local text t 0 ∷ names) vars body h)
+each_erased : (rs : Routines) (names : List Name) (text : List ℕ) (from to body : Tree) (at : ℕ) (o : Option Scalar)
+    → ((t : Scalar) → left_out_all rs (local text t 0 ∷ map erase names) body ≡ left_out_all rs (local text t 0 ∷ names) body)
+    → left_each o at (λ t. left_out_in rs.functions (map erase names) from or_else (left_out_in rs.functions (map erase names) to or_else left_out_all rs (local text t 0 ∷ map erase names) body))
+    ≡ left_each o at (λ t. left_out_in rs.functions names from or_else (left_out_in rs.functions names to or_else left_out_all rs (local text t 0 ∷ names) body))
+each_erased rs names text from to body at None h = refl
+each_erased rs names text from to body at (Some t) h = both_same (out_erased rs.functions names from) (both_same (out_erased rs.functions names to) (h t))
+
+vars_erased : (rs : Routines) (names : List Name) (vars : Tree) (body : List Name → Option ℕ) → ((inner : List Name) → body (map erase inner) ≡ body inner) → left_out_vars rs (map erase names) vars body ≡ left_out_vars rs names vars body
+vars_erased rs names tree.nil body h = h names
+vars_erased rs names (tree.cons (tree.var shape (tree.ident text place) start changes at) vars) body h = go (single_meant shape) (λ t. vars_erased rs (local text t 0 ∷ names) vars body h)
   where
-    go : (o : Option Scalar) → ((t : Scalar) → left_out_vars fs (local text t 0 ∷ map erase names) vars body ≡ left_out_vars fs (local text t 0 ∷ names) vars body)
-        → left_each o at (λ t. left_out_start fs (map erase names) start or_else left_out_vars fs (local text t 0 ∷ map erase names) vars body)
-        ≡ left_each o at (λ t. left_out_start fs names start or_else left_out_vars fs (local text t 0 ∷ names) vars body)
+    go : (o : Option Scalar) → ((t : Scalar) → left_out_vars rs (local text t 0 ∷ map erase names) vars body ≡ left_out_vars rs (local text t 0 ∷ names) vars body)
+        → left_each o at (λ t. left_out_start rs.functions (map erase names) start or_else left_out_vars rs (local text t 0 ∷ map erase names) vars body)
+        ≡ left_each o at (λ t. left_out_start rs.functions names start or_else left_out_vars rs (local text t 0 ∷ names) vars body)
     go None later = refl
-    go (Some t) later = both_same (start_erased fs names start) (later t)
-vars_erased fs names other body h = refl
+    go (Some t) later = both_same (start_erased rs.functions names start) (later t)
+vars_erased rs names other body h = refl
 
 mutual
-  stmt_erased : (fs : List Function) (names : List Name) (s : Tree) → left_out_stmt fs (map erase names) s ≡ left_out_stmt fs names s
-  stmt_erased fs names (tree.assign (tree.ident text place) places value at) = set_erased fs names text places value at
-  stmt_erased fs names (tree.call_stmt name args at) = refl
-  stmt_erased fs names (tree.if_stmt test first other at) = both_same (out_erased fs names test) (both_same (all_erased fs names first) (all_erased fs names other))
-  stmt_erased fs names (tree.while_stmt test body at) = both_same (all_erased fs names body) (out_erased fs names test)
-  stmt_erased fs names (tree.foreach_stmt shape (tree.ident text place) from to body at) =
-      each_erased fs names text from to body at (single_meant shape) (λ t. all_erased fs (local text t 0 ∷ names) body)
-  stmt_erased fs names (tree.block vars body at) =
-      vars_erased fs names vars (λ inner. left_out_all fs inner body) (λ inner. all_erased fs inner body)
-  stmt_erased fs names other = refl
+  stmt_erased : (rs : Routines) (names : List Name) (s : Tree) → left_out_stmt rs (map erase names) s ≡ left_out_stmt rs names s
+  stmt_erased rs names (tree.assign (tree.ident text place) places value at) = set_erased rs.functions names text places value at
+  stmt_erased rs names (tree.call_stmt (tree.ident text place) args at) = ap (λ x. left_call (procedure_for text (number_of args) rs.procedures) at x) (args_same rs.functions names args)
+  stmt_erased rs names (tree.if_stmt test first other at) = both_same (out_erased rs.functions names test) (both_same (all_erased rs names first) (all_erased rs names other))
+  stmt_erased rs names (tree.while_stmt test body at) = both_same (all_erased rs names body) (out_erased rs.functions names test)
+  stmt_erased rs names (tree.foreach_stmt shape (tree.ident text place) from to body at) =
+      each_erased rs names text from to body at (single_meant shape) (λ t. all_erased rs (local text t 0 ∷ names) body)
+  stmt_erased rs names (tree.block vars body at) =
+      vars_erased rs names vars (λ inner. left_out_all rs inner body) (λ inner. all_erased rs inner body)
+  stmt_erased rs names other = refl
 
-  all_erased : (fs : List Function) (names : List Name) (ss : Tree) → left_out_all fs (map erase names) ss ≡ left_out_all fs names ss
-  all_erased fs names tree.nil = refl
-  all_erased fs names (tree.cons s rest) = both_same (stmt_erased fs names s) (all_erased fs names rest)
-  all_erased fs names tree.absent = refl
-  all_erased fs names (tree.present body) = all_erased fs names body
-  all_erased fs names other = refl
+  all_erased : (rs : Routines) (names : List Name) (ss : Tree) → left_out_all rs (map erase names) ss ≡ left_out_all rs names ss
+  all_erased rs names tree.nil = refl
+  all_erased rs names (tree.cons s rest) = both_same (stmt_erased rs names s) (all_erased rs names rest)
+  all_erased rs names tree.absent = refl
+  all_erased rs names (tree.present body) = all_erased rs names body
+  all_erased rs names other = refl
 
 -- in any cell a local leaves out the same of statements
-pub any_cell : (fs : List Function) (names : List Name) (text : List ℕ) (t : Scalar) (c : ℕ) (body : Tree) → left_out_all fs (local text t c ∷ names) body ≡ left_out_all fs (local text t 0 ∷ names) body
-any_cell fs names text t c body = sym (all_erased fs (local text t c ∷ names) body) ∙ all_erased fs (local text t 0 ∷ names) body
+pub any_cell : (rs : Routines) (names : List Name) (text : List ℕ) (t : Scalar) (c : ℕ) (body : Tree) → left_out_all rs (local text t c ∷ names) body ≡ left_out_all rs (local text t 0 ∷ names) body
+any_cell rs names text t c body = sym (all_erased rs (local text t c ∷ names) body) ∙ all_erased rs (local text t 0 ∷ names) body
 
 -- .. and so do the variables of a block behind it
-pub any_cell_vars : (fs : List Function) (names : List Name) (text : List ℕ) (t : Scalar) (c : ℕ) (vars body : Tree)
-    → left_out_vars fs (local text t c ∷ names) vars (λ inner. left_out_all fs inner body) ≡ left_out_vars fs (local text t 0 ∷ names) vars (λ inner. left_out_all fs inner body)
-any_cell_vars fs names text t c vars body =
-    sym (vars_erased fs (local text t c ∷ names) vars (λ inner. left_out_all fs inner body) (λ inner. all_erased fs inner body))
-    ∙ vars_erased fs (local text t 0 ∷ names) vars (λ inner. left_out_all fs inner body) (λ inner. all_erased fs inner body)
+pub any_cell_vars : (rs : Routines) (names : List Name) (text : List ℕ) (t : Scalar) (c : ℕ) (vars body : Tree)
+    → left_out_vars rs (local text t c ∷ names) vars (λ inner. left_out_all rs inner body) ≡ left_out_vars rs (local text t 0 ∷ names) vars (λ inner. left_out_all rs inner body)
+any_cell_vars rs names text t c vars body =
+    sym (vars_erased rs (local text t c ∷ names) vars (λ inner. left_out_all rs inner body) (λ inner. all_erased rs inner body))
+    ∙ vars_erased rs (local text t 0 ∷ names) vars (λ inner. left_out_all rs inner body) (λ inner. all_erased rs inner body)

@@ -1,12 +1,14 @@
 pub mod Assigning
 pub mod Fewer
 pub mod Scoping
+pub mod Evaluating
 pub mod Performing
 pub mod Setting
 pub mod Copying
 pub mod Changed
 pub mod DeepItems
 pub mod ItemsKept
+pub mod ProcCalls
 pub mod Executed
 pub mod FittedStmts
 pub mod AddingStmts

@@ -11,25 +11,25 @@ use Rattle.code_ir.specs.Running.{State}
 use Rattle.expr_lower.specs.Flat.{flat}
 use Rattle.expr_lower.specs.Names.{Name, named, local}
 use Rattle.expr_lower.specs.Held.{SeatIsApart}
-use Rattle.stmt_lower.specs.Changing.{KeepsBut}
 use Rattle.expr_lower.specs.Placed.{World}
 use Rattle.expr_lower.specs.Following.{Follows}
-use Rattle.stmt_lower.specs.Executing.{BreaksOff}
 use Rattle.expr_lower.proofs.Runs.{follows_then}
 use Rattle.stmt_lower.proofs.Scoping.{AreLaid, HoldsInside, choose_name}
 use Rattle.expr_lower.proofs.Written.{stand_one}
-use Rattle.stmt_lower.proofs.Performing.{Moves}
+use Rattle.stmt_lower.proofs.Performing.{Moves, Breaks, KeepsOver}
+use Rattle.stmt_lower.specs.Procedures.{Routines}
+use Rattle.expr_lower.specs.Calling.{Serves}
 
 -- of the cells of a local, and of what is outside it
-pub but_local : (names : List Name) (text : List ℕ) (t : Scalar) (c n h m low high : ℕ) (before now : List ℤ) → n ≤ c → c + 1 ≤ m → n ≤ h → KeepsBut (local text t c ∷ names) h m low high before now → KeepsBut names n m low high before now
+pub but_local : {outer : List Name} (names : List Name) (text : List ℕ) (t : Scalar) (c n h m low high : ℕ) (before now : List ℤ) → n ≤ c → c + 1 ≤ m → n ≤ h → KeepsOver (local text t c ∷ names) outer h m low high before now → KeepsOver names outer n m low high before now
 but_local names text t c n h m low high before now le ge wide keeps = record {
   size = keeps.size;
-  cell = λ d free apart none.
+  cell = λ d free apart none far.
       keeps.cell d (⊎_elim (λ (a : d < n). inl (omega (arith, a, wide))) (λ (a : m ≤ d). inr a) free) apart (λ other y e.
       ⊎_elim (λ (f : (bytes_eq text other ≡ true) × (local text t c ≡ y)). subst (λ (z : Name). SeatIsApart d (d + 1) (scalars_of_type z.shape) z.seat) f.1
       (⊎_elim (λ (a : d < n). inr (omega (arith, a, le))) (λ (a : m ≤ d). inl (omega (arith, a, ge))) free))
       (λ (f : (bytes_eq text other ≡ false) × (named other names ≡ Some y)). none other y f.1)
-      (choose_name (bytes_eq text other) (local text t c) (named other names) y e));
+      (choose_name (bytes_eq text other) (local text t c) (named other names) y e)) far;
 }
 
 -- the locals of an environment without the innermost
@@ -38,12 +38,12 @@ drop_one v rest now e =
     let count : suc (length rest.locals) - length now.locals ≡ 1 = omega (arith, e) in
     ap (λ k. record (with_local v rest) { locals = drop k (v ∷ rest.locals) }) count
 
-module _ (outer : List Name) (w : World) (frames : List ℕ) where
+module _ (rs : Routines) (outer : List Name) (w : World) (serves : Serves w outer rs.functions) (frames : List ℕ) where
   abbrev Inside : List Name → List ℤ → Env → Type 0
-  Inside inner cells env = HoldsInside outer w.tokens w.low w.high inner cells env
+  Inside inner cells env = HoldsInside rs outer w.tokens w.low w.high inner cells env
 
   abbrev Laid : ℕ → List Name → Type 0
-  Laid n inner = AreLaid outer w.tokens w.low w.high n inner
+  Laid n inner = AreLaid rs outer w.tokens w.low w.high n inner
 
   -- a local in its cell
   pub local_held : (inner : List Name) (text : List ℕ) (t : Scalar) (c : ℕ) (cells : List ℤ) (env : Env) (changes : Bool) (v : Value) (z : ℤ) → HasKind (kind_of_scalar t) v → flat v ≡ z ∷ [] → slice_get cells c ≡ Some z → Inside inner cells env
@@ -75,11 +75,11 @@ module _ (outer : List Name) (w : World) (frames : List ℕ) where
 
   -- a part inside a local, and back
   pub inside_moves : (inner : List Name) (text : List ℕ) (t : Scalar) (M : Env → ℕ → Out Env) (now : Env) (v : Var) (c n h m end : ℕ) (s : State) (left : ℕ) → n ≤ c → c + 1 ≤ m → n ≤ h
-      → Follows (M (with_local v now) left) (Moves outer w frames (local text t c ∷ inner) h m s end (suc (length now.locals))) (BreaksOff w (local text t c ∷ (inner ++ outer)) h m s)
-      → Follows (inside now (with_local v now) M left) (Moves outer w frames inner n m s end (length now.locals)) (BreaksOff w (inner ++ outer) n m s)
+      → Follows (M (with_local v now) left) (Moves rs outer w serves frames (local text t c ∷ inner) h m s end (suc (length now.locals))) (Breaks w (local text t c ∷ (inner ++ outer)) outer h m s)
+      → Follows (inside now (with_local v now) M left) (Moves rs outer w serves frames inner n m s end (length now.locals)) (Breaks w (inner ++ outer) outer n m s)
   inside_moves inner text t M now v c n h m end s left le ge wide follows =
       follows_then (M (with_local v now) left) (λ next k. Gives (back_to now next) k)
-      (Moves outer w frames (local text t c ∷ inner) h m s end (suc (length now.locals))) (BreaksOff w (local text t c ∷ (inner ++ outer)) h m s) (Moves outer w frames inner n m s end (length now.locals)) (BreaksOff w (inner ++ outer) n m s) follows
+      (Moves rs outer w serves frames (local text t c ∷ inner) h m s end (suc (length now.locals))) (Breaks w (local text t c ∷ (inner ++ outer)) outer h m s) (Moves rs outer w serves frames inner n m s end (length now.locals)) (Breaks w (inner ++ outer) outer n m s) follows
       (λ next k p.
       let back = popped inner text t c p.cells next now p.holds p.as_many in
       record {

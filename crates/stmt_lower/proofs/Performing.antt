@@ -9,81 +9,96 @@ use Rattle.cal_model.specs.Env.{Env}
 use Rattle.cal_model.specs.Expression.{eval, chosen}
 use Rattle.code_ir.specs.declared.instr.Instr.{Instr}
 use Rattle.code_ir.specs.declared.instr.Instr.TheVariants as op
-use Rattle.code_ir.specs.Running.{State, Reaches, here, after}
+use Rattle.code_ir.specs.Running.{State, Reaches, Ends, here, after}
 use Rattle.expr_lower.specs.declared.names.Seat.TheVariants.{Cell}
 use Rattle.expr_lower.specs.Names.{Name, named}
 use Rattle.expr_lower.specs.Held.{Keeps, SeatIsApart, AreApart}
-use Rattle.stmt_lower.specs.Changing.{KeepsBut}
 use Rattle.expr_lower.specs.Coding.{IsTest}
 use Rattle.expr_lower.specs.Placed.{StandsAt, World, state}
 use Rattle.expr_lower.specs.Following.{Follows, Chooses, CutsOff}
-use Rattle.stmt_lower.specs.Executing.{BreaksOff}
 use Rattle.expr_lower.proofs.Runs.{reaches_join, ends_join, obeys, follows_then, follows_more, stands_left, stands_right}
 use Rattle.expr_lower.proofs.Keeping.{apart_first, apart_last}
 use Rattle.expr_lower.proofs.Written.{Written}
-use Rattle.stmt_lower.proofs.Scoping.{AreLaid, HoldsInside, laid_more, laid_below, laid_apart, names_held, inside_still}
-use Rattle.expr_lower.proofs.Coded.{tests}
+use Rattle.stmt_lower.proofs.Scoping.{AreLaid, HoldsInside, laid_more, inside_still}
+use Rattle.stmt_lower.specs.Changing.{IsOfNone}
+use Rattle.code_ir.specs.declared.outcome.Outcome.TheVariants as outcome
+use Rattle.stmt_lower.proofs.Evaluating.{tests_there}
 use Rattle.stmt_lower.proofs.Fewer.{reaches_fewer}
 use Rattle.expr_lower.proofs.Doing.{choice_reaches}
+use Rattle.stmt_lower.specs.Procedures.{Routines}
+use Rattle.expr_lower.specs.Calling.{Serves}
 
 -- ---- cells that stay
 
-pub but_all : (names : List Name) (n m low high : ℕ) (cells : List ℤ) → KeepsBut names n m low high cells cells
-but_all names n m low high cells = record { size = refl; cell = λ c free apart none. refl }
+-- of the cells, only those of names, of the names outside, hidden or not, those from n to m and those from low to high may
+-- have changed
+pub record KeepsOver (names outer : List Name) (n m low high : ℕ) (before after : List ℤ) : Type 0 where
+  pub size : length after ≡ length before
+  pub cell : (c : ℕ) → (c < n) ⊎ (m ≤ c) → AreApart c (c + 1) low high → IsOfNone names c → IsOfNone outer c
+      → slice_get after c ≡ slice_get before c
 
-pub but_wider : {names : List Name} {n m low high : ℕ} {before after : List ℤ} (k h : ℕ) → k ≤ n → m ≤ h → KeepsBut names n m low high before after → KeepsBut names k h low high before after
+-- the run ends by a trap
+pub record Breaks (w : World) (names outer : List Name) (n m : ℕ) (s : State) (c : Trap) : Type 0 where
+  pub cells : List ℤ
+  pub ends : Ends w.code w.tokens s (outcome.Trap c) cells
+  pub keeps : KeepsOver names outer n m w.low w.high s.cells cells
+
+pub but_all : {outer : List Name} (names : List Name) (n m low high : ℕ) (cells : List ℤ) → KeepsOver names outer n m low high cells cells
+but_all names n m low high cells = record { size = refl; cell = λ c free apart none far. refl }
+
+pub but_wider : {names outer : List Name} {n m low high : ℕ} {before after : List ℤ} (k h : ℕ) → k ≤ n → m ≤ h → KeepsOver names outer n m low high before after → KeepsOver names outer k h low high before after
 but_wider {n = n} {m = m} k h le ge keeps = record {
   size = keeps.size;
-  cell = λ c free apart none. keeps.cell c (⊎_elim (λ (a : c < k). inl (omega arith)) (λ (a : h ≤ c). inr (omega arith)) free) apart none;
+  cell = λ c free apart none far. keeps.cell c (⊎_elim (λ (a : c < k). inl (omega arith)) (λ (a : h ≤ c). inr (omega arith)) free) apart none far;
 }
 
-pub but_join : {names : List Name} {n m low high : ℕ} {a b c : List ℤ} → KeepsBut names n m low high a b → KeepsBut names n m low high b c → KeepsBut names n m low high a c
+pub but_join : {names outer : List Name} {n m low high : ℕ} {a b c : List ℤ} → KeepsOver names outer n m low high a b → KeepsOver names outer n m low high b c → KeepsOver names outer n m low high a c
 but_join first second = record {
   size = second.size ∙ first.size;
-  cell = λ c free apart none. second.cell c free apart none ∙ first.cell c free apart none;
+  cell = λ c free apart none far. second.cell c free apart none far ∙ first.cell c free apart none far;
 }
 
-pub keeps_but : {n m low high : ℕ} {before after : List ℤ} (names : List Name) → Keeps n m low high before after → KeepsBut names n m low high before after
-keeps_but names keeps = record { size = keeps.size; cell = λ c free apart none. keeps.cell c free apart }
+pub keeps_but : {outer : List Name} {n m low high : ℕ} {before after : List ℤ} (names : List Name) → Keeps n m low high before after → KeepsOver names outer n m low high before after
+keeps_but names keeps = record { size = keeps.size; cell = λ c free apart none far. keeps.cell c free apart }
 
 -- what is written in the cells of a name
-pub but_written : (names : List Name) (text : List ℕ) (x : Name) (c n m low high : ℕ) (before after : List ℤ) → named text names ≡ Some x → x.seat ≡ Cell c → Written c (scalars_of_type x.shape) before after
-    → KeepsBut names n m low high before after
+pub but_written : {outer : List Name} (names : List Name) (text : List ℕ) (x : Name) (c n m low high : ℕ) (before after : List ℤ) → named text names ≡ Some x → x.seat ≡ Cell c → Written c (scalars_of_type x.shape) before after
+    → KeepsOver names outer n m low high before after
 but_written names text x c n m low high old new e seat w = record {
   size = w.length_same;
-  cell = λ d free apart none.
+  cell = λ d free apart none far.
       let away : AreApart c (c + scalars_of_type x.shape) d (d + 1) = subst (λ s. SeatIsApart d (d + 1) (scalars_of_type x.shape) s) seat (none text x e) in
       w.cell d (⊎_elim (λ (a : c + scalars_of_type x.shape ≤ d). inr a) (λ (a : d + 1 ≤ c). inl (omega (arith, a))) away);
 }
 
 -- ---- runs
 
-module _ (outer : List Name) (w : World) (frames : List ℕ) where
+module _ (rs : Routines) (outer : List Name) (w : World) (serves : Serves w outer rs.functions) (frames : List ℕ) where
   -- The run goes on to a place with the operands that there were, with so many turns left, with cells that hold an
   -- environment, and with as many locals.
   pub record Moves (inner : List Name) (n m : ℕ) (s : State) (end size : ℕ) (env : Env) (left : ℕ) : Type 0 where
     pub cells : List ℤ
     pub reaches : Reaches w.code w.tokens s (state end s.stack s.frames cells left)
-    pub keeps : KeepsBut (inner ++ outer) n m w.low w.high s.cells cells
-    pub holds : HoldsInside outer w.tokens w.low w.high inner cells env
+    pub keeps : KeepsOver (inner ++ outer) outer n m w.low w.high s.cells cells
+    pub holds : HoldsInside rs outer w.tokens w.low w.high inner cells env
     pub as_many : length env.locals ≡ size
 
   -- executing and the code come to the same
   abbrev pub Performs : List Name → (Env → ℕ → Out Env) → ℕ → ℕ → List Instr → ℕ → Type 0
   Performs inner M base n code m = (stack cells : List ℤ) (env : Env) (left : ℕ) → StandsAt w.code.instrs base code
-      → AreLaid outer w.tokens w.low w.high n inner → AreApart n m w.low w.high → m ≤ length cells → HoldsInside outer w.tokens w.low w.high inner cells env
-      → Follows (M env left) (Moves inner n m (state base stack frames cells left) (base + length code) (length env.locals)) (BreaksOff w (inner ++ outer) n m (state base stack frames cells left))
+      → AreLaid rs outer w.tokens w.low w.high n inner → AreApart n m w.low w.high → m ≤ length cells → HoldsInside rs outer w.tokens w.low w.high inner cells env
+      → Follows (M env left) (Moves inner n m (state base stack frames cells left) (base + length code) (length env.locals)) (Breaks w (inner ++ outer) outer n m (state base stack frames cells left))
 
-  pub moves_at : (o : Out Env) (inner : List Name) (n m p q size : ℕ) (s : State) → p ≡ q → Follows o (Moves inner n m s p size) (BreaksOff w (inner ++ outer) n m s) → Follows o (Moves inner n m s q size) (BreaksOff w (inner ++ outer) n m s)
-  moves_at o inner n m p q size s e h = subst (λ x. Follows o (Moves inner n m s x size) (BreaksOff w (inner ++ outer) n m s)) e h
+  pub moves_at : (o : Out Env) (inner : List Name) (n m p q size : ℕ) (s : State) → p ≡ q → Follows o (Moves inner n m s p size) (Breaks w (inner ++ outer) outer n m s) → Follows o (Moves inner n m s q size) (Breaks w (inner ++ outer) outer n m s)
+  moves_at o inner n m p q size s e h = subst (λ x. Follows o (Moves inner n m s x size) (Breaks w (inner ++ outer) outer n m s)) e h
 
-  pub breaks_wider : (names : List Name) (n k h m : ℕ) (s : State) (c : Trap) → n ≤ k → h ≤ m → BreaksOff w names k h s c → BreaksOff w names n m s c
+  pub breaks_wider : (names : List Name) (n k h m : ℕ) (s : State) (c : Trap) → n ≤ k → h ≤ m → Breaks w names outer k h s c → Breaks w names outer n m s c
   breaks_wider names n k h m s c le ge b = record { cells = b.cells; ends = b.ends; keeps = but_wider n m le ge b.keeps }
 
-  pub cut_breaks : (names : List Name) (n k h m : ℕ) (s : State) (c : Trap) → n ≤ k → h ≤ m → CutsOff w k h s c → BreaksOff w names n m s c
+  pub cut_breaks : (names : List Name) (n k h m : ℕ) (s : State) (c : Trap) → n ≤ k → h ≤ m → CutsOff w k h s c → Breaks w names outer n m s c
   cut_breaks names n k h m s c le ge b = record { cells = b.cells; ends = b.ends; keeps = but_wider n m le ge (keeps_but names b.keeps) }
 
-  pub breaks_after : (names : List Name) (n m : ℕ) (s t : State) (c : Trap) → Reaches w.code w.tokens s t → KeepsBut names n m w.low w.high s.cells t.cells → BreaksOff w names n m t c → BreaksOff w names n m s c
+  pub breaks_after : (names : List Name) (n m : ℕ) (s t : State) (c : Trap) → Reaches w.code w.tokens s t → KeepsOver names outer n m w.low w.high s.cells t.cells → Breaks w names outer n m t c → Breaks w names outer n m s c
   breaks_after names n m s t c r keeps b = record { cells = b.cells; ends = ends_join r b.ends; keeps = but_join keeps b.keeps }
 
   pub moves_wider : (inner : List Name) (n k h m : ℕ) (s : State) (end size : ℕ) (env : Env) (left : ℕ) → n ≤ k → h ≤ m → Moves inner k h s end size env left → Moves inner n m s end size env left
@@ -91,13 +106,13 @@ module _ (outer : List Name) (w : World) (frames : List ℕ) where
 
   -- what follows from a state on the way, with the same operands, follows from the start
   pub move_after : (inner : List Name) (n k h m base place end size : ℕ) (stack : List ℤ) (before cells : List ℤ) (left now : ℕ) (o : Out Env) → n ≤ k → h ≤ m
-      → Reaches w.code w.tokens (state base stack frames before left) (state place stack frames cells now) → KeepsBut (inner ++ outer) n m w.low w.high before cells
-      → Follows o (Moves inner k h (state place stack frames cells now) end size) (BreaksOff w (inner ++ outer) k h (state place stack frames cells now))
-      → Follows o (Moves inner n m (state base stack frames before left) end size) (BreaksOff w (inner ++ outer) n m (state base stack frames before left))
+      → Reaches w.code w.tokens (state base stack frames before left) (state place stack frames cells now) → KeepsOver (inner ++ outer) outer n m w.low w.high before cells
+      → Follows o (Moves inner k h (state place stack frames cells now) end size) (Breaks w (inner ++ outer) outer k h (state place stack frames cells now))
+      → Follows o (Moves inner n m (state base stack frames before left) end size) (Breaks w (inner ++ outer) outer n m (state base stack frames before left))
   move_after inner n k h m base place end size stack before cells left now o le ge r keeps follows =
       let s : State = state place stack frames cells now in
       let t : State = state base stack frames before left in
-      follows_more o (Moves inner k h s end size) (BreaksOff w (inner ++ outer) k h s) (Moves inner n m t end size) (BreaksOff w (inner ++ outer) n m t) follows
+      follows_more o (Moves inner k h s end size) (Breaks w (inner ++ outer) outer k h s) (Moves inner n m t end size) (Breaks w (inner ++ outer) outer n m t) follows
       (λ env j p. record {
         cells = p.cells;
         reaches = reaches_join r p.reaches;
@@ -119,7 +134,7 @@ module _ (outer : List Name) (w : World) (frames : List ℕ) where
   }
 
   -- nothing is done
-  pub stays : (inner : List Name) (n m place : ℕ) (stack cells : List ℤ) (left : ℕ) (env : Env) → HoldsInside outer w.tokens w.low w.high inner cells env
+  pub stays : (inner : List Name) (n m place : ℕ) (stack cells : List ℤ) (left : ℕ) (env : Env) → HoldsInside rs outer w.tokens w.low w.high inner cells env
       → Moves inner n m (state place stack frames cells left) place (length env.locals) env left
   stays inner n m place stack cells left env holds = record { cells = cells; reaches = here; keeps = but_all (inner ++ outer) n m w.low w.high cells; holds = holds; as_many = refl }
 
@@ -136,44 +151,44 @@ module _ (outer : List Name) (w : World) (frames : List ℕ) where
   perform_then inner M N base n k m a b le ge first second stack cells env left stands laid apart room holds =
       let s : State = state base stack frames cells left in
       let end : base + length a + length b ≡ base + length (a ++ b) = omega (arith, length-append a b) in
-      follows_then (M env left) N (Moves inner n k s (base + length a) (length env.locals)) (BreaksOff w (inner ++ outer) n k s) (Moves inner n m s (base + length (a ++ b)) (length env.locals)) (BreaksOff w (inner ++ outer) n m s)
+      follows_then (M env left) N (Moves inner n k s (base + length a) (length env.locals)) (Breaks w (inner ++ outer) outer n k s) (Moves inner n m s (base + length (a ++ b)) (length env.locals)) (Breaks w (inner ++ outer) outer n m s)
       (first stack cells env left (stands_left w.code.instrs base a b stands) laid (apart_first n k m w.low w.high ge apart) (omega (arith, ge, room)) holds)
       (λ next j p.
       let t : State = state (base + length a) stack frames p.cells j in
       moves_at (N next j) inner n m (base + length a + length b) (base + length (a ++ b)) (length env.locals) s end
       (move_after inner n k m m base (base + length a) (base + length a + length b) (length env.locals) stack cells p.cells left j (N next j) le (omega arith) p.reaches (but_wider n m (omega arith) ge p.keeps)
-      (subst (λ z. Follows (N next j) (Moves inner k m t (base + length a + length b) z) (BreaksOff w (inner ++ outer) k m t)) p.as_many
-      (second stack p.cells next j (stands_right w.code.instrs base a b stands) (laid_more outer w.tokens w.low w.high n k inner le laid) (apart_last n k m w.low w.high le apart) (let size = p.keeps.size in omega (arith, size, room)) p.holds))))
+      (subst (λ z. Follows (N next j) (Moves inner k m t (base + length a + length b) z) (Breaks w (inner ++ outer) outer k m t)) p.as_many
+      (second stack p.cells next j (stands_right w.code.instrs base a b stands) (laid_more rs outer w.tokens w.low w.high n k inner le laid) (apart_last n k m w.low w.high le apart) (let size = p.keeps.size in omega (arith, size, room)) p.holds))))
       (λ c b. breaks_wider (inner ++ outer) n n k m s c (omega arith) ge b)
 
   -- ---- conditions
 
   -- what is chosen, and what follows there
   pub choose_moves : (inner : List Name) (M N : Env → ℕ → Out Env) (base from n k m near there end : ℕ) (stack cells : List ℤ) (env : Env) (left : ℕ) (v : Value) (j : ℕ) → from ≤ n → k ≤ m
-      → AreLaid outer w.tokens w.low w.high n inner → HoldsInside outer w.tokens w.low w.high inner cells env
+      → AreLaid rs outer w.tokens w.low w.high n inner → HoldsInside rs outer w.tokens w.low w.high inner cells env
       → Chooses w n k (state base stack frames cells left) near there v j
-      → ((now : List ℤ) → length now ≡ length cells → HoldsInside outer w.tokens w.low w.high inner now env → Follows (M env j) (Moves inner from m (state near stack frames now j) end (length env.locals)) (BreaksOff w (inner ++ outer) from m (state near stack frames now j)))
-      → ((now : List ℤ) → length now ≡ length cells → HoldsInside outer w.tokens w.low w.high inner now env → Follows (N env j) (Moves inner from m (state there stack frames now j) end (length env.locals)) (BreaksOff w (inner ++ outer) from m (state there stack frames now j)))
-      → Follows (chosen v (λ i. M env i) (λ i. N env i) j) (Moves inner from m (state base stack frames cells left) end (length env.locals)) (BreaksOff w (inner ++ outer) from m (state base stack frames cells left))
+      → ((now : List ℤ) → length now ≡ length cells → HoldsInside rs outer w.tokens w.low w.high inner now env → Follows (M env j) (Moves inner from m (state near stack frames now j) end (length env.locals)) (Breaks w (inner ++ outer) outer from m (state near stack frames now j)))
+      → ((now : List ℤ) → length now ≡ length cells → HoldsInside rs outer w.tokens w.low w.high inner now env → Follows (N env j) (Moves inner from m (state there stack frames now j) end (length env.locals)) (Breaks w (inner ++ outer) outer from m (state there stack frames now j)))
+      → Follows (chosen v (λ i. M env i) (λ i. N env i) j) (Moves inner from m (state base stack frames cells left) end (length env.locals)) (Breaks w (inner ++ outer) outer from m (state base stack frames cells left))
   choose_moves inner M N base from n k m near there end stack cells env left (Num z) j le ge laid holds c first other = tt
   choose_moves inner M N base from n k m near there end stack cells env left (Items vs) j le ge laid holds c first other = tt
   choose_moves inner M N base from n k m near there end stack cells env left (Truth true) j le ge laid holds c first other =
       move_after inner from from m m base near end (length env.locals) stack cells c.cells left j (M env j) (omega arith) (omega arith) (choice_reaches w n k base near there stack frames cells left true j c) (but_wider from m le ge (keeps_but (inner ++ outer) c.keeps))
-      (first c.cells c.keeps.size (inside_still outer w.tokens w.low w.high n k inner cells c.cells env laid c.keeps holds))
+      (first c.cells c.keeps.size (inside_still rs outer w.tokens w.low w.high n k inner cells c.cells env laid c.keeps holds))
   choose_moves inner M N base from n k m near there end stack cells env left (Truth false) j le ge laid holds c first other =
       move_after inner from from m m base there end (length env.locals) stack cells c.cells left j (N env j) (omega arith) (omega arith) (choice_reaches w n k base near there stack frames cells left false j c) (but_wider from m le ge (keeps_but (inner ++ outer) c.keeps))
-      (other c.cells c.keeps.size (inside_still outer w.tokens w.low w.high n k inner cells c.cells env laid c.keeps holds))
+      (other c.cells c.keeps.size (inside_still rs outer w.tokens w.low w.high n k inner cells c.cells env laid c.keeps holds))
 
   -- a condition, and what follows it
   pub test_moves : (inner : List Name) (M N : Env → ℕ → Out Env) (test : Tree) (base from n k m there end : ℕ) (a : List Instr) (stack cells : List ℤ) (env : Env) (left : ℕ) → from ≤ n → k ≤ m
-      → IsTest [] (inner ++ outer) test base n there a k → StandsAt w.code.instrs base a → AreLaid outer w.tokens w.low w.high n inner → HoldsInside outer w.tokens w.low w.high inner cells env
-      → ((now : List ℤ) (j : ℕ) → length now ≡ length cells → j ≤ left → HoldsInside outer w.tokens w.low w.high inner now env → Follows (M env j) (Moves inner from m (state (base + length a) stack frames now j) end (length env.locals)) (BreaksOff w (inner ++ outer) from m (state (base + length a) stack frames now j)))
-      → ((now : List ℤ) (j : ℕ) → length now ≡ length cells → j ≤ left → HoldsInside outer w.tokens w.low w.high inner now env → Follows (N env j) (Moves inner from m (state there stack frames now j) end (length env.locals)) (BreaksOff w (inner ++ outer) from m (state there stack frames now j)))
-      → Follows (and_then (eval test w.calls env left) (λ v j. chosen v (λ i. M env i) (λ i. N env i) j)) (Moves inner from m (state base stack frames cells left) end (length env.locals)) (BreaksOff w (inner ++ outer) from m (state base stack frames cells left))
+      → IsTest rs.functions (inner ++ outer) test base n there a k → StandsAt w.code.instrs base a → AreLaid rs outer w.tokens w.low w.high n inner → HoldsInside rs outer w.tokens w.low w.high inner cells env
+      → ((now : List ℤ) (j : ℕ) → length now ≡ length cells → j ≤ left → HoldsInside rs outer w.tokens w.low w.high inner now env → Follows (M env j) (Moves inner from m (state (base + length a) stack frames now j) end (length env.locals)) (Breaks w (inner ++ outer) outer from m (state (base + length a) stack frames now j)))
+      → ((now : List ℤ) (j : ℕ) → length now ≡ length cells → j ≤ left → HoldsInside rs outer w.tokens w.low w.high inner now env → Follows (N env j) (Moves inner from m (state there stack frames now j) end (length env.locals)) (Breaks w (inner ++ outer) outer from m (state there stack frames now j)))
+      → Follows (and_then (eval test w.calls env left) (λ v j. chosen v (λ i. M env i) (λ i. N env i) j)) (Moves inner from m (state base stack frames cells left) end (length env.locals)) (Breaks w (inner ++ outer) outer from m (state base stack frames cells left))
   test_moves inner M N test base from n k m there end a stack cells env left le ge coded stands laid holds first other =
       let s : State = state base stack frames cells left in
-      follows_then (eval test w.calls env left) (λ v j. chosen v (λ i. M env i) (λ i. N env i) j) (Chooses w n k s (base + length a) there) (CutsOff w n k s) (Moves inner from m s end (length env.locals)) (BreaksOff w (inner ++ outer) from m s)
-      (tests (inner ++ outer) w env frames coded stack cells left stands (laid_below outer w.tokens w.low w.high n inner laid) (laid_apart outer w.tokens w.low w.high n inner laid) (names_held outer w.tokens w.low w.high inner cells env holds))
+      follows_then (eval test w.calls env left) (λ v j. chosen v (λ i. M env i) (λ i. N env i) j) (Chooses w n k s (base + length a) there) (CutsOff w n k s) (Moves inner from m s end (length env.locals)) (Breaks w (inner ++ outer) outer from m s)
+      (tests_there rs outer w serves frames inner coded stack cells env left stands laid holds)
       (λ v j c.
       let less : j ≤ left = reaches_fewer c.reaches in
       choose_moves inner M N base from n k m (base + length a) there end stack cells env left v j le ge laid holds c (λ now size h. first now j size less h) (λ now size h. other now j size less h))

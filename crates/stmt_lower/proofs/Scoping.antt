@@ -1,5 +1,5 @@
 -- Names inside others, and the cells that hold their variables.
-use Rattle.std.proofs.Common.{◌≡◌, ℕ, suc, ◌+◌, ◌≤◌, ◌⊎◌, inl, inr, ⊎_elim, ℤ, List, [], ◌∷◌, ◌++◌, length, Bool, true, false, refl, sym, ap, ◌∙◌, subst, Option, Some, arith}
+use Rattle.std.proofs.Common.{◌≡◌, ℕ, suc, ◌+◌, ◌<◌, ◌≤◌, ◌⊎◌, inl, inr, ⊎_elim, ℤ, List, [], ◌∷◌, ◌++◌, length, Bool, true, false, refl, sym, ap, ◌∙◌, subst, Option, Some, arith}
 use Rattle.std.specs.Prelude.{if◌then◌else◌}
 use Rattle.std.proofs.lemmas.Option.{slice_get_within}
 use Rattle.std.specs.Str.{bytes_eq}
@@ -19,6 +19,7 @@ use Rattle.stmt_lower.proofs.Assigning.{EnvReplaced, assign_follows, assign_top,
 use Rattle.expr_lower.proofs.Written.{Written, written_keeps}
 use Rattle.expr_lower.proofs.Keeping.{keeps_wider, holds_still, below_more, seat_stands, flat_length, scalars_same}
 use Rattle.expr_lower.proofs.Runs.{follows_then, follows_more}
+use Rattle.stmt_lower.specs.Procedures.{Routines}
 
 -- a variable whose value stands in the cells of a name and is stored in the name's type
 pub record HoldsVar (tokens : ℕ → List ℤ) (cells : List ℤ) (v : Var) (x : Name) : Type 0 where
@@ -27,10 +28,18 @@ pub record HoldsVar (tokens : ℕ → List ℤ) (cells : List ℤ) (v : Var) (x 
   pub of_type : HasKind (kind_of_type x.shape) v.value
   pub stands : StandAt x.seat tokens cells (flat v.value)
 
+no_locals : (xs : List Var) → length xs ≡ 0 → xs ≡ []
+no_locals [] e = refl
+no_locals (x ∷ xs) e = cc
+
 -- the first of the names that a text means
 pub choose_name : (b : Bool) (x : Name) (o : Option Name) (y : Name) → (if b then Some x else o) ≡ Some y → ((b ≡ true) × (x ≡ y)) ⊎ ((b ≡ false) × (o ≡ Some y))
 choose_name true x o y e = inl (refl, cc)
 choose_name false x o y e = inr (refl, e)
+
+-- What else holds where something may be called: no locals stand outside, and the cells of routines are there.
+abbrev pub CanCall : Routines → ℕ → List ℤ → Env → Type 0
+CanCall rs high cells env = 0 < length rs.functions + length rs.procedures → (env.locals ≡ []) × (high ≤ length cells)
 
 -- what is written elsewhere leaves a seat
 pub seat_unwritten : (seat : Seat) (c size : ℕ) (tokens : ℕ → List ℤ) (before after zs : List ℤ) → Written c size before after → SeatIsApart c (c + size) (length zs) seat → StandAt seat tokens before zs → StandAt seat tokens after zs
@@ -39,7 +48,7 @@ seat_unwritten (Cell d) c size tokens before after zs w apart stands k z e =
     w.cell (d + k) (⊎_elim (λ (a : d + length zs ≤ c). inl (omega (arith, within, a))) (λ (a : c + size ≤ d). inr (omega (arith, a))) apart) ∙ stands k z e
 seat_unwritten (Tokens port first step) c size tokens before after zs w apart stands k z e = stands k z e
 
-module _ (outer : List Name) (tokens : ℕ → List ℤ) (low high : ℕ) where
+module _ (rs : Routines) (outer : List Name) (tokens : ℕ → List ℤ) (low high : ℕ) where
   -- the cells of each name lie behind those of the names outside it, and before n
   abbrev pub AreLaid : ℕ → List Name → Type 0
   AreLaid n [] = AreBelow n outer × NamesApart outer × AreTyped outer × AllApart low high outer
@@ -47,7 +56,7 @@ module _ (outer : List Name) (tokens : ℕ → List ℤ) (low high : ℕ) where
 
   -- the cells hold the variables of all of these names, hidden or not
   abbrev pub HoldsInside : List Name → List ℤ → Env → Type 0
-  HoldsInside [] cells env = HoldsVars outer tokens cells env
+  HoldsInside [] cells env = HoldsVars outer tokens cells env × CanCall rs high cells env
   HoldsInside (x ∷ inner) cells env = (v : Var) × (rest : Env) × (env ≡ with_local v rest) × HoldsVar tokens cells v x × HoldsInside inner cells rest
 
   pub laid_more : (n m : ℕ) (inner : List Name) → n ≤ m → AreLaid n inner → AreLaid m inner
@@ -75,6 +84,14 @@ module _ (outer : List Name) (tokens : ℕ → List ℤ) (low high : ℕ) where
       (λ (f : (bytes_eq x.text text ≡ false) × (named text (inner ++ outer) ≡ Some y)). laid_typed c inner rest text y f.1)
       (choose_name (bytes_eq x.text text) x (named text (inner ++ outer)) y e)
 
+  pub outer_below : (n : ℕ) (inner : List Name) → AreLaid n inner → AreBelow n outer
+  outer_below n [] h text y e = h.0 text y e
+  outer_below n (x ∷ inner) (c, at, le, typed, apart, rest) text y e = below_more c n outer (omega (arith, le)) (outer_below c inner rest) text y e
+
+  pub outer_apart : (n : ℕ) (inner : List Name) → AreLaid n inner → AllApart low high outer
+  outer_apart n [] h text y e = h.3 text y e
+  outer_apart n (x ∷ inner) (c, at, le, typed, apart, rest) text y e = outer_apart c inner rest text y e
+
   -- ---- what the names mean
 
   find_first : (b : Bool) (v : Var) (o : Option Value) → b ≡ true → (if b then Some v.value else o) ≡ Some v.value
@@ -86,7 +103,7 @@ module _ (outer : List Name) (tokens : ℕ → List ℤ) (low high : ℕ) where
   find_later false v o e = refl
 
   pub names_held : (inner : List Name) (cells : List ℤ) (env : Env) → HoldsInside inner cells env → Holds (inner ++ outer) tokens cells env
-  names_held [] cells env h text y e = h.0 text y e
+  names_held [] cells env h text y e = h.0.0 text y e
   names_held (x ∷ inner) cells env (v, rest, is, var, below) text y e =
       subst (λ (now : Env). HoldsName tokens cells now text y) (sym is)
       (⊎_elim (λ (f : (bytes_eq x.text text ≡ true) × (x ≡ y)). subst (λ (z : Name). HoldsName tokens cells (with_local v rest) text z) f.1 (record {
@@ -122,7 +139,8 @@ module _ (outer : List Name) (tokens : ℕ → List ℤ) (low high : ℕ) where
   size_of x v h = sym (flat_length (kind_of_type x.shape) v h ∙ scalars_same x.shape)
 
   pub inside_still : (n m : ℕ) (inner : List Name) (before after : List ℤ) (env : Env) → AreLaid n inner → Keeps n m low high before after → HoldsInside inner before env → HoldsInside inner after env
-  inside_still n m [] before after env laid keeps (holds, stored) = (holds_still outer tokens env keeps laid.0 laid.3 holds, stored)
+  inside_still n m [] before after env laid keeps ((holds, stored), can) =
+      let same = keeps.size in ((holds_still outer tokens env keeps laid.0 laid.3 holds, stored), λ some. let c = can some in let room = c.1 in (c.0, omega (arith, room, same)))
   inside_still n m (x ∷ inner) before after env (c, at, le, typed, apart, rest) keeps (v, under, is, var, below) = (
     v,
     under,
@@ -205,10 +223,23 @@ module _ (outer : List Name) (tokens : ℕ → List ℤ) (low high : ℕ) where
   assigns P n [] cells after env text x c places v left T laid e seat w puts holds =
       follows_more (assign env text places v left) (λ next k. (k ≡ left) × EnvReplaced env next text (NewAt P x after)) T (Assigned P [] after env left) T
       (assign_follows env text places v left (NewAt P x after) T (λ u t f g.
-      let same : t ≡ x.shape = holds.1 text x u t e f g in
-      let there = value_at_name [] cells env text x u holds.0 e f in
+      let same : t ≡ x.shape = holds.0.1 text x u t e f g in
+      let there = value_at_name [] cells env text x u holds.0.0 e f in
       subst (λ s. Follows (put s u.value places v left) (λ w k. (k ≡ left) × NewAt P x after w) T) (sym same) (puts u.value there.0 there.1)))
-      (λ next k p. (p.0, outermost P cells after env next text x c laid.1 e seat w holds p.1, p.1.size, p.1.new.1))
+      (λ next k p. (
+        p.0,
+        (
+          outermost P cells after env next text x c laid.1 e seat w holds.0 p.1,
+          λ some.
+              let can = holds.1 some in
+              let room = can.1 in
+              let same = w.length_same in
+              let none = p.1.size ∙ ap length can.0 in
+              (no_locals next.locals none, omega (arith, room, same)),
+        ),
+        p.1.size,
+        p.1.new.1,
+      ))
       (λ t h. h)
   assigns P n (y ∷ inner) cells after env text x c places v left T (d, at, le, typed, apart, laid) e seat w puts (u, rest, is, var, below) =
       subst (λ (now : Env). Follows (assign now text places v left) (Assigned P (y ∷ inner) after now left) T) (sym is)

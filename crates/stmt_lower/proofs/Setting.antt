@@ -24,18 +24,20 @@ use Rattle.expr_lower.specs.Held.{StandAt, HoldsName, Keeps}
 use Rattle.expr_lower.specs.Coding.{IsCode}
 use Rattle.expr_lower.specs.Placed.{World, state}
 use Rattle.expr_lower.specs.Following.{Follows, Pushes, CutsOff}
-use Rattle.stmt_lower.specs.Executing.{BreaksOff}
 use Rattle.expr_lower.proofs.Effects.{same_number}
-use Rattle.expr_lower.proofs.Keeping.{keeps_wider, keeps_join, holds_still, below_more}
+use Rattle.expr_lower.proofs.Keeping.{keeps_wider, keeps_join}
 use Rattle.expr_lower.proofs.Listing.{single_flat, item_flat, item_within, item_past}
 use Rattle.expr_lower.proofs.Runs.{reaches_join, ends_join, obeys, follows_then, follows_more, follows_both, stands_left, stands_right}
-use Rattle.expr_lower.proofs.Singles.{IsSingleValue, singles}
+use Rattle.expr_lower.proofs.Singles.{IsSingleValue}
 use Rattle.expr_lower.proofs.Storing.{single_stored, set_written, set_there, store_leaves, store_item_leaves, store_item_past, item_changed, item_count, item_kinds}
 use Rattle.expr_lower.proofs.Written.{Written, stand_one}
-use Rattle.stmt_lower.proofs.Scoping.{AreLaid, HoldsInside, NewAt, Assigned, PutsAt, laid_below, laid_apart, laid_typed, names_held, inside_still, assigns}
+use Rattle.stmt_lower.proofs.Scoping.{AreLaid, HoldsInside, NewAt, Assigned, PutsAt, laid_typed, laid_more, names_held, inside_still, assigns}
 use Rattle.code_ir.proofs.Marks.{get-other}
-use Rattle.expr_lower.proofs.Coded.{does, grows}
-use Rattle.stmt_lower.proofs.Performing.{Moves, Performs, cut_breaks, breaks_after, but_written, but_wider, but_join, keeps_but}
+use Rattle.expr_lower.proofs.Coded.{grows}
+use Rattle.stmt_lower.proofs.Evaluating.{does_there, singles_there}
+use Rattle.stmt_lower.proofs.Performing.{Moves, Performs, cut_breaks, breaks_after, but_written, but_wider, but_join, keeps_but, Breaks}
+use Rattle.stmt_lower.specs.Procedures.{Routines}
+use Rattle.expr_lower.specs.Calling.{Serves}
 
 at_first : (c : ℕ) (cells : List ℤ) (y : ℤ) (o : Option ℤ) → slice_get cells (c + 0) ≡ o → slice_get cells c ≡ o
 at_first c cells y o e = let same : c + 0 ≡ c = omega arith in subst (λ d. slice_get cells d ≡ o) same e
@@ -43,26 +45,26 @@ at_first c cells y o e = let same : c + 0 ≡ c = omega arith in subst (λ d. sl
 shape_size : (s t : Shape) → s ≡ t → IsType s → IsType t
 shape_size s t e h = subst IsType e h
 
-module _ (outer : List Name) (w : World) (frames : List ℕ) (runs : Runs) where
+module _ (rs : Routines) (outer : List Name) (w : World) (serves : Serves w outer rs.functions) (frames : List ℕ) (runs : Runs) where
   abbrev Inside : List Name → List ℤ → Env → Type 0
-  Inside inner cells env = HoldsInside outer w.tokens w.low w.high inner cells env
+  Inside inner cells env = HoldsInside rs outer w.tokens w.low w.high inner cells env
 
   abbrev Laid : ℕ → List Name → Type 0
-  Laid n inner = AreLaid outer w.tokens w.low w.high n inner
+  Laid n inner = AreLaid rs outer w.tokens w.low w.high n inner
 
   -- the last instruction of an assignment stores what is on the stack in cells of the name
   pub stores : (inner : List Name) (n m base place end c : ℕ) (text : List ℕ) (x : Name) (top stack before cells written : List ℤ) (places : Values) (v : Value) (env : Env) (left k : ℕ) (i : Instr)
       → ((s : State) → step w.code w.tokens (state place top frames cells k) ≡ go_on (state place top frames cells k) (Leaves stack written))
       → end ≡ place + 1 → n ≤ m → Laid n inner → named text (inner ++ outer) ≡ Some x → x.seat ≡ Cell c → Written c (scalars_of_type x.shape) cells written
-      → PutsAt outer w.tokens w.low w.high (Unit {0}) x cells written places v k (λ t. ⊥)
+      → PutsAt rs outer w.tokens w.low w.high (Unit {0}) x cells written places v k (λ t. ⊥)
       → Reaches w.code w.tokens (state base stack frames before left) (state place top frames cells k) → Keeps n m w.low w.high before cells
       → Inside inner before env
-      → Follows (assign env text places v k) (Moves outer w frames inner n m (state base stack frames before left) end (length env.locals)) (BreaksOff w (inner ++ outer) n m (state base stack frames before left))
+      → Follows (assign env text places v k) (Moves rs outer w serves frames inner n m (state base stack frames before left) end (length env.locals)) (Breaks w (inner ++ outer) outer n m (state base stack frames before left))
   stores inner n m base place end c text x top stack before cells written places v env left k i steps end_is le laid e seat wrote puts r keeps holds =
       let s : State = state base stack frames before left in
       let names : List Name = inner ++ outer in
-      follows_more (assign env text places v k) (Assigned outer w.tokens w.low w.high (Unit {0}) inner written env k) (λ t. ⊥) (Moves outer w frames inner n m s end (length env.locals)) (BreaksOff w names n m s)
-      (assigns outer w.tokens w.low w.high (Unit {0}) n inner cells written env text x c places v k (λ t. ⊥) laid e seat wrote puts (inside_still outer w.tokens w.low w.high n m inner before cells env laid keeps holds))
+      follows_more (assign env text places v k) (Assigned rs outer w.tokens w.low w.high (Unit {0}) inner written env k) (λ t. ⊥) (Moves rs outer w serves frames inner n m s end (length env.locals)) (Breaks w names outer n m s)
+      (assigns rs outer w.tokens w.low w.high (Unit {0}) n inner cells written env text x c places v k (λ t. ⊥) laid e seat wrote puts (inside_still rs outer w.tokens w.low w.high n m inner before cells env laid keeps holds))
       (λ next j p. record {
         cells = written;
         reaches = subst (λ q. Reaches w.code w.tokens s (state q stack frames written j)) (sym end_is)
@@ -76,7 +78,7 @@ module _ (outer : List Name) (w : World) (frames : List ℕ) (runs : Runs) where
   -- ---- single variables
 
   single_put : (x : Name) (t : Scalar) (c k : ℕ) (cells : List ℤ) (v : Value) (z y : ℤ) → x.shape ≡ Single t → x.seat ≡ Cell c → IsSize t → IsSingleValue v → flat v ≡ z ∷ [] → slice_get cells c ≡ Some y
-      → PutsAt outer w.tokens w.low w.high (Unit {0}) x cells (slice_set cells c (conv t z)) Nil v k (λ d. ⊥)
+      → PutsAt rs outer w.tokens w.low w.high (Unit {0}) x cells (slice_set cells c (conv t z)) Nil v k (λ d. ⊥)
   single_put x t c k cells v z y shape seat size one is there u kind stand =
       let made = single_stored t v z size one is in (
         refl,
@@ -95,29 +97,28 @@ module _ (outer : List Name) (w : World) (frames : List ℕ) (runs : Runs) where
   single_there : (inner : List Name) (cells : List ℤ) (env : Env) (text : List ℕ) (x : Name) (t : Scalar) (c : ℕ) → Inside inner cells env → named text (inner ++ outer) ≡ Some x → x.seat ≡ Cell c → x.shape ≡ Single t
       → (y : ℤ) × (slice_get cells c ≡ Some y)
   single_there inner cells env text x t c holds e seat shape =
-      let h : HoldsName w.tokens cells env text x = names_held outer w.tokens w.low w.high inner cells env holds text x e in
+      let h : HoldsName w.tokens cells env text x = names_held rs outer w.tokens w.low w.high inner cells env holds text x e in
       let one = single_flat (Single t) h.value tt (subst (λ s. HasKind (kind_of_type s) h.value) shape h.of_type) in
       let stand : StandAt (Cell c) w.tokens cells (one.0 ∷ []) = subst (λ zs. StandAt (Cell c) w.tokens cells zs) one.1 (subst (λ s. StandAt s w.tokens cells (flat h.value)) seat h.stands) in
       (one.0, at_first c cells one.0 (Some one.0) (stand 0 one.0 refl))
 
   pub set_performs : (inner : List Name) (text : List ℕ) (value : Tree) (place at base n m c : ℕ) (code : List Instr) (x : Name) (t : Scalar)
-      → named text (inner ++ outer) ≡ Some x → x.seat ≡ Cell c → x.shape ≡ Single t → IsCode [] (inner ++ outer) value base n code m
-      → Performs outer w frames inner (λ env left. exec (tree.assign (tree.ident text place) tree.nil value at) w.calls runs env left) base n (code ++ op.Store c (Some t) ∷ []) m
+      → named text (inner ++ outer) ≡ Some x → x.seat ≡ Cell c → x.shape ≡ Single t → IsCode rs.functions (inner ++ outer) value base n code m
+      → Performs rs outer w serves frames inner (λ env left. exec (tree.assign (tree.ident text place) tree.nil value at) w.calls runs env left) base n (code ++ op.Store c (Some t) ∷ []) m
   set_performs inner text value place at base n m c code x t e seat shape coded stack cells env left stands laid apart room holds =
       let names : List Name = inner ++ outer in
       let i : Instr = op.Store c (Some t) in
       let s : State = state base stack frames cells left in
       let there : slice_get w.code.instrs (base + length code) ≡ Some i = (stands_right w.code.instrs base code (i ∷ []) stands).0 in
       let end : base + length (code ++ i ∷ []) ≡ base + length code + 1 = omega (arith, length-append code (i ∷ [])) in
-      let held = names_held outer w.tokens w.low w.high inner cells env holds in
-      let size : IsSize t = shape_size x.shape (Single t) shape (laid_typed outer w.tokens w.low w.high n inner laid text x e) in
-      follows_then (eval value w.calls env left) (λ v k. assign env text Nil v k) (λ v k. Pushes w n m s (base + length code) v k × IsSingleValue v) (λ d. CutsOff w n m s d × Unit {0}) (Moves outer w frames inner n m s (base + length (code ++ i ∷ [])) (length env.locals)) (BreaksOff w names n m s)
+      let size : IsSize t = shape_size x.shape (Single t) shape (laid_typed rs outer w.tokens w.low w.high n inner laid text x e) in
+      follows_then (eval value w.calls env left) (λ v k. assign env text Nil v k) (λ v k. Pushes w n m s (base + length code) v k × IsSingleValue v) (λ d. CutsOff w n m s d × Unit {0}) (Moves rs outer w serves frames inner n m s (base + length (code ++ i ∷ [])) (length env.locals)) (Breaks w names outer n m s)
       (follows_both (eval value w.calls env left) (Pushes w n m s (base + length code)) (CutsOff w n m s) (λ v k. IsSingleValue v) (λ d. Unit {0})
-      (does names w env frames coded stack cells left (stands_left w.code.instrs base code (i ∷ []) stands) (laid_below outer w.tokens w.low w.high n inner laid) (laid_apart outer w.tokens w.low w.high n inner laid) held)
-      (singles names w.tokens cells env w.calls held coded left))
+      (does_there rs outer w serves frames inner coded stack cells env left (stands_left w.code.instrs base code (i ∷ []) stands) laid holds)
+      (singles_there rs outer w serves frames inner coded cells env left n laid holds))
       (λ v k q.
       let p : Pushes w n m s (base + length code) v k = q.0 in
-      let now : Inside inner p.cells env = inside_still outer w.tokens w.low w.high n m inner cells p.cells env laid p.keeps holds in
+      let now : Inside inner p.cells env = inside_still rs outer w.tokens w.low w.high n m inner cells p.cells env laid p.keeps holds in
       let y = single_there inner p.cells env text x t c now e seat shape in
       let one : scalars_of_type x.shape ≡ 1 = ap scalars_of_type shape in
       let wrote : Written c (scalars_of_type x.shape) p.cells (slice_set p.cells c (conv t p.number)) =
@@ -125,7 +126,7 @@ module _ (outer : List Name) (w : World) (frames : List ℕ) (runs : Runs) where
       stores inner n m base (base + length code) (base + length (code ++ i ∷ [])) c text x (p.number ∷ stack) stack cells p.cells (slice_set p.cells c (conv t p.number)) Nil v env left k i
       (λ a. obeys w.code w.tokens (state (base + length code) (p.number ∷ stack) frames p.cells k) i there ∙ ap (go_on (state (base + length code) (p.number ∷ stack) frames p.cells k)) (store_leaves c (Some t) w.tokens stack p.cells p.number y.0 y.1))
       end (grows coded) laid e seat wrote (single_put x t c k p.cells v p.number y.0 shape seat size q.1 p.is y.1) p.reaches p.keeps holds)
-      (λ d q. cut_breaks outer w frames names n n m m s d (omega arith) (omega arith) q.0)
+      (λ d q. cut_breaks rs outer w serves frames names n n m m s d (omega arith) (omega arith) q.0)
 
   -- ---- items of lists
 
@@ -147,12 +148,12 @@ module _ (outer : List Name) (w : World) (frames : List ℕ) (runs : Runs) where
 
   -- a list with a new item
   item_put : (x : Name) (t : Scalar) (c size k j : ℕ) (cells : List ℤ) (v : Value) (z y : ℤ) → x.shape ≡ Many size (Single t) → x.seat ≡ Cell c → IsSize t → IsSingleValue v → flat v ≡ z ∷ [] → j < size → slice_get cells (c + j) ≡ Some y
-      → PutsAt outer w.tokens w.low w.high (Unit {0}) x cells (slice_set cells (c + j) (conv t z)) (Cons (Num (pos j)) Nil) v k (λ d. ⊥)
+      → PutsAt rs outer w.tokens w.low w.high (Unit {0}) x cells (slice_set cells (c + j) (conv t z)) (Cons (Num (pos j)) Nil) v k (λ d. ⊥)
   item_put x t c size k j cells v z y shape seat sized one is less there u kind stand =
       let l : ListThere cells x t c size u = list_there cells x t c size u seat shape kind stand in
       let new : List ℤ = slice_set cells (c + j) (conv t z) in
       let put_there : Follows (put (Many size (Single t)) (Items l.values) (Cons (Num (pos j)) Nil) v k) (λ a b. (b ≡ k) × ((HasKind (kind_of_type (Many size (Single t))) a × StandAt (Cell c) w.tokens new (flat a)) × Unit {0})) (λ d. ⊥) = placed l (value_at l.values j) refl in
-      subst (λ a. Follows (put x.shape a (Cons (Num (pos j)) Nil) v k) (λ a b. (b ≡ k) × NewAt outer w.tokens w.low w.high (Unit {0}) x new a) (λ d. ⊥)) (sym l.is)
+      subst (λ a. Follows (put x.shape a (Cons (Num (pos j)) Nil) v k) (λ a b. (b ≡ k) × NewAt rs outer w.tokens w.low w.high (Unit {0}) x new a) (λ d. ⊥)) (sym l.is)
       (subst (λ r. Follows (put r (Items l.values) (Cons (Num (pos j)) Nil) v k) (λ a b. (b ≡ k) × ((HasKind (kind_of_type r) a × StandAt x.seat w.tokens new (flat a)) × Unit {0})) (λ d. ⊥)) (sym shape)
       (subst (λ r. Follows (put (Many size (Single t)) (Items l.values) (Cons (Num (pos j)) Nil) v k) (λ a b. (b ≡ k) × ((HasKind (kind_of_type (Many size (Single t))) a × StandAt r w.tokens new (flat a)) × Unit {0})) (λ d. ⊥)) (sym seat) put_there))
     where
@@ -180,10 +181,10 @@ module _ (outer : List Name) (w : World) (frames : List ℕ) (runs : Runs) where
 
   -- a place that the list doesn't have
   past_put : (x : Name) (t : Scalar) (c size k : ℕ) (i : ℤ) (cells : List ℤ) (v : Value) → x.shape ≡ Many size (Single t) → x.seat ≡ Cell c → ((j : ℕ) → i ≡ pos j → size ≤ j)
-      → PutsAt outer w.tokens w.low w.high ⊥ x cells cells (Cons (Num i) Nil) v k (λ d. d ≡ IndexRange)
+      → PutsAt rs outer w.tokens w.low w.high ⊥ x cells cells (Cons (Num i) Nil) v k (λ d. d ≡ IndexRange)
   past_put x t c size k i cells v shape seat past u kind stand =
       let l : ListThere cells x t c size u = list_there cells x t c size u seat shape kind stand in
-      subst (λ a. Follows (put x.shape a (Cons (Num i) Nil) v k) (λ a b. (b ≡ k) × NewAt outer w.tokens w.low w.high ⊥ x cells a) (λ d. d ≡ IndexRange)) (sym l.is)
+      subst (λ a. Follows (put x.shape a (Cons (Num i) Nil) v k) (λ a b. (b ≡ k) × NewAt rs outer w.tokens w.low w.high ⊥ x cells a) (λ d. d ≡ IndexRange)) (sym l.is)
       (subst (λ r. Follows (put r (Items l.values) (Cons (Num i) Nil) v k) (λ a b. (b ≡ k) × ((HasKind (kind_of_type r) a × StandAt x.seat w.tokens cells (flat a)) × ⊥)) (λ d. d ≡ IndexRange)) (sym shape) (traps l i past))
     where
       found : (l : ListThere cells x t c size u) (j : ℕ) (o : Option Value) → size ≤ j → value_at l.values j ≡ o
@@ -198,10 +199,10 @@ module _ (outer : List Name) (w : World) (frames : List ℕ) (runs : Runs) where
 
   -- a place that is no number
   odd_put : (x : Name) (t : Scalar) (c size k : ℕ) (i : Value) (cells : List ℤ) (v : Value) → x.shape ≡ Many size (Single t) → x.seat ≡ Cell c → ((z : ℤ) → i ≢ Num z)
-      → PutsAt outer w.tokens w.low w.high ⊥ x cells cells (Cons i Nil) v k (λ d. ⊥)
+      → PutsAt rs outer w.tokens w.low w.high ⊥ x cells cells (Cons i Nil) v k (λ d. ⊥)
   odd_put x t c size k i cells v shape seat odd u kind stand =
       let l : ListThere cells x t c size u = list_there cells x t c size u seat shape kind stand in
-      subst (λ a. Follows (put x.shape a (Cons i Nil) v k) (λ a b. (b ≡ k) × NewAt outer w.tokens w.low w.high ⊥ x cells a) (λ d. ⊥)) (sym l.is)
+      subst (λ a. Follows (put x.shape a (Cons i Nil) v k) (λ a b. (b ≡ k) × NewAt rs outer w.tokens w.low w.high ⊥ x cells a) (λ d. ⊥)) (sym l.is)
       (subst (λ r. Follows (put r (Items l.values) (Cons i Nil) v k) (λ a b. (b ≡ k) × ((HasKind (kind_of_type r) a × StandAt x.seat w.tokens cells (flat a)) × ⊥)) (λ d. ⊥)) (sym shape) (clashes l i odd))
     where
       clashes : (l : ListThere cells x t c size u) (i : Value) → ((z : ℤ) → i ≢ Num z) → Follows (put (Many size (Single t)) (Items l.values) (Cons i Nil) v k) (λ a b. (b ≡ k) × ((HasKind (kind_of_type (Many size (Single t))) a × StandAt x.seat w.tokens cells (flat a)) × ⊥)) (λ d. ⊥)
@@ -213,7 +214,7 @@ module _ (outer : List Name) (w : World) (frames : List ℕ) (runs : Runs) where
   list_size : (inner : List Name) (cells : List ℤ) (env : Env) (text : List ℕ) (x : Name) (t : Scalar) (c size j : ℕ) → Inside inner cells env → named text (inner ++ outer) ≡ Some x → x.seat ≡ Cell c → x.shape ≡ Many size (Single t)
       → j < size → (y : ℤ) × (slice_get cells (c + j) ≡ Some y)
   list_size inner cells env text x t c size j holds e seat shape less =
-      let h : HoldsName w.tokens cells env text x = names_held outer w.tokens w.low w.high inner cells env holds text x e in
+      let h : HoldsName w.tokens cells env text x = names_held rs outer w.tokens w.low w.high inner cells env holds text x e in
       let l : ListThere cells x t c size h.value = list_there cells x t c size h.value seat shape h.of_type h.stands in
       go l (value_at l.values j) refl
     where
@@ -223,14 +224,14 @@ module _ (outer : List Name) (w : World) (frames : List ℕ) (runs : Runs) where
 
   -- an assignment that never gives an environment, since it traps or clashes
   pub never : (inner : List Name) (n m base place end c : ℕ) (text : List ℕ) (x : Name) (top stack before cells : List ℤ) (places : Values) (v : Value) (env : Env) (left k : ℕ) (T : Trap → Type 0)
-      → ((d : Trap) → T d → BreaksOff w (inner ++ outer) n m (state base stack frames before left) d)
-      → Laid n inner → named text (inner ++ outer) ≡ Some x → x.seat ≡ Cell c → PutsAt outer w.tokens w.low w.high ⊥ x cells cells places v k T
+      → ((d : Trap) → T d → Breaks w (inner ++ outer) outer n m (state base stack frames before left) d)
+      → Laid n inner → named text (inner ++ outer) ≡ Some x → x.seat ≡ Cell c → PutsAt rs outer w.tokens w.low w.high ⊥ x cells cells places v k T
       → Inside inner cells env
-      → Follows (assign env text places v k) (Moves outer w frames inner n m (state base stack frames before left) end (length env.locals)) (BreaksOff w (inner ++ outer) n m (state base stack frames before left))
+      → Follows (assign env text places v k) (Moves rs outer w serves frames inner n m (state base stack frames before left) end (length env.locals)) (Breaks w (inner ++ outer) outer n m (state base stack frames before left))
   never inner n m base place end c text x top stack before cells places v env left k T traps laid e seat puts holds =
       let s : State = state base stack frames before left in
-      follows_more (assign env text places v k) (Assigned outer w.tokens w.low w.high ⊥ inner cells env k) T (Moves outer w frames inner n m s end (length env.locals)) (BreaksOff w (inner ++ outer) n m s)
-      (assigns outer w.tokens w.low w.high ⊥ n inner cells cells env text x c places v k T laid e seat (record { length_same = refl; cell = λ d away. refl }) puts holds)
+      follows_more (assign env text places v k) (Assigned rs outer w.tokens w.low w.high ⊥ inner cells env k) T (Moves rs outer w serves frames inner n m s end (length env.locals)) (Breaks w (inner ++ outer) outer n m s)
+      (assigns rs outer w.tokens w.low w.high ⊥ n inner cells cells env text x c places v k T laid e seat (record { length_same = refl; cell = λ d away. refl }) puts holds)
       (λ next j p. absurd p.3) traps
 
   -- the last instruction of an assignment to an item
@@ -238,22 +239,22 @@ module _ (outer : List Name) (w : World) (frames : List ℕ) (runs : Runs) where
       → slice_get w.code.instrs place ≡ Some (op.StoreAt c size (Some t)) → end ≡ place + 1 → n ≤ m → Laid n inner → named text (inner ++ outer) ≡ Some x → x.seat ≡ Cell c → x.shape ≡ Many size (Single t) → IsSize t
       → IsSingleValue v → flat v ≡ z ∷ [] → flat u ≡ y ∷ []
       → Reaches w.code w.tokens (state base stack frames before left) (state place (z ∷ y ∷ stack) frames cells k) → Keeps n m w.low w.high before cells → Inside inner before env
-      → Follows (assign env text (Cons u Nil) v k) (Moves outer w frames inner n m (state base stack frames before left) end (length env.locals)) (BreaksOff w (inner ++ outer) n m (state base stack frames before left))
+      → Follows (assign env text (Cons u Nil) v k) (Moves rs outer w serves frames inner n m (state base stack frames before left) end (length env.locals)) (Breaks w (inner ++ outer) outer n m (state base stack frames before left))
   item_stores inner n m base place end c size text x t stack before cells u v y z env left k there end_is le laid e seat shape sized one v_is u_is r keeps holds = go u u_is
     where
       now : Inside inner cells env
-      now = inside_still outer w.tokens w.low w.high n m inner before cells env laid keeps holds
+      now = inside_still rs outer w.tokens w.low w.high n m inner before cells env laid keeps holds
 
-      traps : (i : ℤ) → y ≡ i → effect w.tokens (op.StoreAt c size (Some t)) (z ∷ i ∷ stack) cells ≡ Fails IndexRange → (d : Trap) → d ≡ IndexRange → BreaksOff w (inner ++ outer) n m (state base stack frames before left) d
+      traps : (i : ℤ) → y ≡ i → effect w.tokens (op.StoreAt c size (Some t)) (z ∷ i ∷ stack) cells ≡ Fails IndexRange → (d : Trap) → d ≡ IndexRange → Breaks w (inner ++ outer) outer n m (state base stack frames before left) d
       traps i same fails d is =
           let a : State = state place (z ∷ y ∷ stack) frames cells k in
-          subst (λ f. BreaksOff w (inner ++ outer) n m (state base stack frames before left) f) (sym is) (record {
+          subst (λ f. Breaks w (inner ++ outer) outer n m (state base stack frames before left) f) (sym is) (record {
             cells = cells;
             ends = ends_join r (stop (obeys w.code w.tokens a (op.StoreAt c size (Some t)) there ∙ ap (go_on a) (ap (λ b. effect w.tokens (op.StoreAt c size (Some t)) (z ∷ b ∷ stack) cells) same ∙ fails)));
             keeps = keeps_but (inner ++ outer) keeps;
           })
 
-      at_place : (j : ℕ) → y ≡ pos j → (j < size) ⊎ (size ≤ j) → Follows (assign env text (Cons (Num (pos j)) Nil) v k) (Moves outer w frames inner n m (state base stack frames before left) end (length env.locals)) (BreaksOff w (inner ++ outer) n m (state base stack frames before left))
+      at_place : (j : ℕ) → y ≡ pos j → (j < size) ⊎ (size ≤ j) → Follows (assign env text (Cons (Num (pos j)) Nil) v k) (Moves rs outer w serves frames inner n m (state base stack frames before left) end (length env.locals)) (Breaks w (inner ++ outer) outer n m (state base stack frames before left))
       at_place j same (inl less) =
           let a : State = state place (z ∷ y ∷ stack) frames cells k in
           let old = list_size inner cells env text x t c size j now e seat shape less in
@@ -267,21 +268,21 @@ module _ (outer : List Name) (w : World) (frames : List ℕ) (runs : Runs) where
           (traps (pos j) same (store_item_past c size j (Some t) w.tokens stack cells z past))
           laid e seat (past_put x t c size k (pos j) cells v shape seat (λ h f. let g : j ≡ h = cc in omega (arith, past, g))) now
 
-      at_number : (i : ℤ) → y ≡ i → Follows (assign env text (Cons (Num i) Nil) v k) (Moves outer w frames inner n m (state base stack frames before left) end (length env.locals)) (BreaksOff w (inner ++ outer) n m (state base stack frames before left))
+      at_number : (i : ℤ) → y ≡ i → Follows (assign env text (Cons (Num i) Nil) v k) (Moves rs outer w serves frames inner n m (state base stack frames before left) end (length env.locals)) (Breaks w (inner ++ outer) outer n m (state base stack frames before left))
       at_number (pos j) same = at_place j same (cases_lt j size)
       at_number (negsuc j) same =
           never inner n m base place end c text x (z ∷ y ∷ stack) stack before cells (Cons (Num (negsuc j)) Nil) v env left k (λ d. d ≡ IndexRange)
           (traps (negsuc j) same refl)
           laid e seat (past_put x t c size k (negsuc j) cells v shape seat (λ h f. cc)) now
 
-      go : (u : Value) → flat u ≡ y ∷ [] → Follows (assign env text (Cons u Nil) v k) (Moves outer w frames inner n m (state base stack frames before left) end (length env.locals)) (BreaksOff w (inner ++ outer) n m (state base stack frames before left))
+      go : (u : Value) → flat u ≡ y ∷ [] → Follows (assign env text (Cons u Nil) v k) (Moves rs outer w serves frames inner n m (state base stack frames before left) end (length env.locals)) (Breaks w (inner ++ outer) outer n m (state base stack frames before left))
       go (Num i) f = at_number i (sym (same_number i y f))
       go (Truth b) f = never inner n m base place end c text x (z ∷ y ∷ stack) stack before cells (Cons (Truth b) Nil) v env left k (λ d. ⊥) (λ d q. absurd q) laid e seat (odd_put x t c size k (Truth b) cells v shape seat (λ i g. cc)) now
       go (Items us) f = never inner n m base place end c text x (z ∷ y ∷ stack) stack before cells (Cons (Items us) Nil) v env left k (λ d. ⊥) (λ d q. absurd q) laid e seat (odd_put x t c size k (Items us) cells v shape seat (λ i g. cc)) now
 
   pub set_item_performs : (inner : List Name) (text : List ℕ) (spot value : Tree) (place at base n k m c size : ℕ) (a b : List Instr) (x : Name) (t : Scalar)
-      → named text (inner ++ outer) ≡ Some x → x.seat ≡ Cell c → x.shape ≡ Many size (Single t) → IsCode [] (inner ++ outer) spot base n a k → IsCode [] (inner ++ outer) value (base + length a) k b m
-      → Performs outer w frames inner (λ env left. exec (tree.assign (tree.ident text place) (tree.cons spot tree.nil) value at) w.calls runs env left) base n (a ++ (b ++ op.StoreAt c size (Some t) ∷ [])) m
+      → named text (inner ++ outer) ≡ Some x → x.seat ≡ Cell c → x.shape ≡ Many size (Single t) → IsCode rs.functions (inner ++ outer) spot base n a k → IsCode rs.functions (inner ++ outer) value (base + length a) k b m
+      → Performs rs outer w serves frames inner (λ env left. exec (tree.assign (tree.ident text place) (tree.cons spot tree.nil) value at) w.calls runs env left) base n (a ++ (b ++ op.StoreAt c size (Some t) ∷ [])) m
   set_item_performs inner text spot value place at base n k m c size a b x t e seat shape first second stack cells env left stands laid apart room holds =
       let names : List Name = inner ++ outer in
       let i : Instr = op.StoreAt c size (Some t) in
@@ -291,29 +292,27 @@ module _ (outer : List Name) (w : World) (frames : List ℕ) (runs : Runs) where
       let rest = stands_right w.code.instrs base a (b ++ i ∷ []) stands in
       let there : slice_get w.code.instrs (base + length a + length b) ≡ Some i = (stands_right w.code.instrs (base + length a) b (i ∷ []) rest).0 in
       let end : base + length (a ++ (b ++ i ∷ [])) ≡ base + length a + length b + 1 = omega (arith, length-append a (b ++ i ∷ []), length-append b (i ∷ [])) in
-      let below = laid_below outer w.tokens w.low w.high n inner laid in
-      let away = laid_apart outer w.tokens w.low w.high n inner laid in
-      let held = names_held outer w.tokens w.low w.high inner cells env holds in
-      let listed : IsType (Many size (Single t)) = shape_size x.shape (Many size (Single t)) shape (laid_typed outer w.tokens w.low w.high n inner laid text x e) in
+      let listed : IsType (Many size (Single t)) = shape_size x.shape (Many size (Single t)) shape (laid_typed rs outer w.tokens w.low w.high n inner laid text x e) in
       let sized : IsSize t = listed.2 in
       follows_then (eval_all (tree.cons spot tree.nil) w.calls env left) (λ is h. and_then (eval value w.calls env h) (λ v j. assign env text is v j))
-      (λ is h. (u : Value) × (is ≡ Cons u Nil) × Pushes w n k s (base + length a) u h) (CutsOff w n k s) (Moves outer w frames inner n m s (base + length (a ++ (b ++ i ∷ []))) (length env.locals)) (BreaksOff w names n m s)
+      (λ is h. (u : Value) × (is ≡ Cons u Nil) × Pushes w n k s (base + length a) u h) (CutsOff w n k s) (Moves rs outer w serves frames inner n m s (base + length (a ++ (b ++ i ∷ []))) (length env.locals)) (Breaks w names outer n m s)
       (follows_then (eval spot w.calls env left) (λ u h. Gives (Cons u Nil) h) (Pushes w n k s (base + length a)) (CutsOff w n k s) (λ is h. (u : Value) × (is ≡ Cons u Nil) × Pushes w n k s (base + length a) u h) (CutsOff w n k s)
-      (does names w env frames first stack cells left (stands_left w.code.instrs base a (b ++ i ∷ []) stands) below away held)
+      (does_there rs outer w serves frames inner first stack cells env left (stands_left w.code.instrs base a (b ++ i ∷ []) stands) laid holds)
       (λ u h p. (u, refl, p)) (λ d q. q))
       (λ is h q.
       let u : Value = q.0 in
       let p : Pushes w n k s (base + length a) u h = q.2 in
       let r : State = state (base + length a) (p.number ∷ stack) frames p.cells h in
-      let still = holds_still names w.tokens env p.keeps below away held in
-      subst (λ (us : Values). Follows (and_then (eval value w.calls env h) (λ v j. assign env text us v j)) (Moves outer w frames inner n m s (base + length (a ++ (b ++ i ∷ []))) (length env.locals)) (BreaksOff w names n m s)) (sym q.1)
-      (follows_then (eval value w.calls env h) (λ v j. assign env text (Cons u Nil) v j) (λ v j. Pushes w k m r (base + length a + length b) v j × IsSingleValue v) (λ d. CutsOff w k m r d × Unit {0}) (Moves outer w frames inner n m s (base + length (a ++ (b ++ i ∷ []))) (length env.locals)) (BreaksOff w names n m s)
+      let still : Inside inner p.cells env = inside_still rs outer w.tokens w.low w.high n k inner cells p.cells env laid p.keeps holds in
+      let wider : Laid k inner = laid_more rs outer w.tokens w.low w.high n k inner le laid in
+      subst (λ (us : Values). Follows (and_then (eval value w.calls env h) (λ v j. assign env text us v j)) (Moves rs outer w serves frames inner n m s (base + length (a ++ (b ++ i ∷ []))) (length env.locals)) (Breaks w names outer n m s)) (sym q.1)
+      (follows_then (eval value w.calls env h) (λ v j. assign env text (Cons u Nil) v j) (λ v j. Pushes w k m r (base + length a + length b) v j × IsSingleValue v) (λ d. CutsOff w k m r d × Unit {0}) (Moves rs outer w serves frames inner n m s (base + length (a ++ (b ++ i ∷ []))) (length env.locals)) (Breaks w names outer n m s)
       (follows_both (eval value w.calls env h) (Pushes w k m r (base + length a + length b)) (CutsOff w k m r) (λ v j. IsSingleValue v) (λ d. Unit {0})
-      (does names w env frames second (p.number ∷ stack) p.cells h (stands_left w.code.instrs (base + length a) b (i ∷ []) rest) (below_more n k names le below) away still)
-      (singles names w.tokens p.cells env w.calls still second h))
+      (does_there rs outer w serves frames inner second (p.number ∷ stack) p.cells env h (stands_left w.code.instrs (base + length a) b (i ∷ []) rest) wider still)
+      (singles_there rs outer w serves frames inner second p.cells env h k wider still))
       (λ v j both.
       let o : Pushes w k m r (base + length a + length b) v j = both.0 in
       item_stores inner n m base (base + length a + length b) (base + length (a ++ (b ++ i ∷ []))) c size text x t stack cells o.cells u v p.number o.number env left j there end (omega arith) laid e seat shape sized
       both.1 o.is p.is (reaches_join p.reaches o.reaches) (keeps_join (keeps_wider n m (omega arith) ge p.keeps) (keeps_wider n m le (omega arith) o.keeps)) holds)
-      (λ d q. breaks_after outer w frames names n m s r d p.reaches (but_wider n m (omega arith) ge (keeps_but names p.keeps)) (cut_breaks outer w frames names n k m m r d le (omega arith) q.0))))
-      (λ d q. cut_breaks outer w frames names n n k m s d (omega arith) ge q)
+      (λ d q. breaks_after rs outer w serves frames names n m s r d p.reaches (but_wider n m (omega arith) ge (keeps_but names p.keeps)) (cut_breaks rs outer w serves frames names n k m m r d le (omega arith) q.0))))
+      (λ d q. cut_breaks rs outer w serves frames names n n k m s d (omega arith) ge q)

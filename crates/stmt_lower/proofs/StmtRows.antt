@@ -11,6 +11,7 @@ use Rattle.expr_lower.specs.declared.names.Seat.TheVariants.{Cell}
 use Rattle.expr_lower.specs.Coding.{binary, number, variable, tested}
 use Rattle.expr_lower.specs.Names.{Name}
 use Rattle.stmt_lower.specs.Stating.{IsStmt, set, while_code, none, one_more}
+use Rattle.stmt_lower.specs.Procedures.{no_routines}
 
 abbrev a : List ℕ
 a = codes "a"
@@ -32,14 +33,14 @@ abbrev test : Tree
 test = tree.binary binaries.Lt (tree.variable a 0) (tree.number 3 0) 0
 
 -- the code of the step, wherever it stands
-pub step_row : (base : ℕ) → IsStmt [] names step base 5 (op.Load 0 ∷ op.Const (pos 1) ∷ op.Add ∷ op.Store 0 (Some (scalar.Int 8)) ∷ []) 5
+pub step_row : (base : ℕ) → IsStmt no_routines names step base 5 (op.Load 0 ∷ op.Const (pos 1) ∷ op.Add ∷ op.Store 0 (Some (scalar.Int 8)) ∷ []) 5
 step_row base =
     set names a sum 0 0 base 5 5 0 (op.Load 0 ∷ op.Const (pos 1) ∷ op.Add ∷ []) (record { text = codes "a"; shape = Single (scalar.Int 8); seat = Cell 0 }) (scalar.Int 8) refl refl refl
     (binary binaries.Add op.Add (tree.variable a 0) (tree.number 1 0) 0 base 5 5 5 (op.Load 0 ∷ []) (op.Const (pos 1) ∷ []) refl
     (variable a 0 base 5 (record { text = codes "a"; shape = Single (scalar.Int 8); seat = Cell 0 }) refl tt) (number 1 0 (base + 1) 5 refl))
 
 -- `while a < 3 do a := a + 1; end`
-pub loop_row : IsStmt [] names (tree.while_stmt test (tree.cons step tree.nil) 0) 0 5
+pub loop_row : IsStmt no_routines names (tree.while_stmt test (tree.cons step tree.nil) 0) 0 5
     (op.Jump 6 ∷ op.Turn ∷ op.Load 0 ∷ op.Const (pos 1) ∷ op.Add ∷ op.Store 0 (Some (scalar.Int 8)) ∷ op.Load 0 ∷ op.Const (pos 3) ∷ op.Lt ∷ op.JumpIfNot 11 ∷ op.Jump 1 ∷ []) 5
 loop_row =
     while_code names test (tree.cons step tree.nil) 0 0 5 5 5 6 11 (op.Load 0 ∷ op.Const (pos 3) ∷ op.Lt ∷ op.JumpIfNot 11 ∷ []) (op.Load 0 ∷ op.Const (pos 1) ∷ op.Add ∷ op.Store 0 (Some (scalar.Int 8)) ∷ [])

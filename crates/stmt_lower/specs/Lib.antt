@@ -1,7 +1,11 @@
 pub mod Meant
 pub mod Changing
+pub mod Procedures
+pub mod StmtSeen
 pub mod Stating
 pub mod Executing
+pub mod Acting
+pub mod Calls
 pub mod StmtGrowing
 pub mod StmtWords
 pub mod Jumping

@@ -16,6 +16,7 @@ use Rattle.expr_lower.specs.Growing.{IsFault}
 use Rattle.expr_lower.specs.Lowered.{Adds}
 use Rattle.expr_lower.specs.declared.names.Named.{Named}
 use Rattle.expr_lower.specs.Names.{names_view}
+use Rattle.stmt_lower.specs.Procedures.{no_routines}
 use Rattle.stmt_lower.specs.StmtGrowing.{left_out_all}
 
 -- ---- statements that are made of others
@@ -36,6 +37,9 @@ set_item_of name place value at = set_of name (place ∷ []) value at
 abbrev pub set_items_of : Ident → List Expr → ℕ → ℕ → Tree
 set_items_of name items list at =
     tree.assign (ident_tree name) tree.nil (tree.list (listed (map expr_tree items)) list) at
+
+abbrev pub run_of : Ident → List Expr → ℕ → Tree
+run_of name args at = tree.call_stmt (ident_tree name) (listed (map expr_tree args)) at
 
 abbrev pub branch_of : Expr → List Stmt → Option (Vec Stmt Global) → ℕ → Tree
 branch_of test first other at =
@@ -64,8 +68,8 @@ AddsExecuted names body old new = Adds (IsExecuted (names_view names) body) old 
 
 -- no part of statements is left out
 abbrev pub AreWhole : List Named → Tree → Type 0
-AreWhole names body = left_out_all [] (names_view names) body ≡ None
+AreWhole names body = left_out_all no_routines (names_view names) body ≡ None
 
 -- why statements aren't lowered
 abbrev pub IsFaultAmong : List Named → Tree → Draft → LowerFault → Type 0
-IsFaultAmong names body draft fault = IsFault (left_out_all [] (names_view names) body) draft fault
+IsFaultAmong names body draft fault = IsFault (left_out_all no_routines (names_view names) body) draft fault

@@ -12,16 +12,17 @@ ghost use Rattle.stmt_lower.specs.Stating.{step_code};
 ghost use Rattle.stmt_lower.specs.StmtWords.{set_of};
 
 use crate::counter::take_kept;
+use crate::scope::StmtScope;
 use crate::targets::deep_cells;
 use cal_ast::{Expr, Ident};
 use cal_model::Shape;
 use code_ir::Instr;
-use expr_lower::{Draft, LowerFault, Scope, lower, put, put_all, scalars, whole_called};
+use expr_lower::{Draft, LowerFault, lower, put, put_all, scalars, whole_called};
 
 /// Appends an assignment to an item of a list in lists: its places and the value, each of which is kept, the tests of
 /// the places, and the instruction that stores the value.
 pub(crate) fn set_deep(
-    scope: &Scope,
+    scope: &StmtScope,
     name: &Ident,
     places: &[Expr],
     value: &Expr,
@@ -35,7 +36,7 @@ pub(crate) fn set_deep(
     ensures fault { IfErr result
         (IsFault (left_out_item scope.now name.now places.now value.now at) draft.new) }
 {
-    let Some(whole) = whole_called(scope, name.text.as_str()) else {
+    let Some(whole) = whole_called(&scope.values, name.text.as_str()) else {
         return Err(LowerFault::NotLowered { at });
     };
     let Some(to) = deep_cells(whole, places) else {
@@ -43,7 +44,7 @@ pub(crate) fn set_deep(
     };
     let kept = take_kept(places.len(), draft)?;
     keep(scope, places, kept.places, draft)?;
-    lower(scope, value, draft)?;
+    lower(&scope.values, value, draft)?;
     put_all(draft, &[Instr::Store(kept.value, None), Instr::Const(0)])?;
     put_steps(whole.shape, places, kept.places, draft)?;
     put_all(
@@ -57,7 +58,7 @@ pub(crate) fn set_deep(
 
 /// Appends places, each of which is kept in a cell, from this one on.
 pub(crate) fn keep(
-    scope: &Scope,
+    scope: &StmtScope,
     places: &[Expr],
     cell: u32,
     draft: &mut Draft,
@@ -70,7 +71,7 @@ pub(crate) fn keep(
     let Some((first, rest)) = places.split_first() else {
         return Ok(());
     };
-    lower(scope, first, draft)?;
+    lower(&scope.values, first, draft)?;
     put(draft, Instr::Store(cell, None))?;
     keep(scope, rest, cell + 1, draft)
 }

@@ -4,12 +4,15 @@
 //! [`Draft`](expr_lower::Draft), and leaves what the statements leave in the cells of the names.
 #![tactic(auto)]
 
+mod callees;
 mod counter;
 mod deep;
 mod jumps;
 mod lists;
+mod scope;
 mod stmts;
 mod targets;
 mod types;
 
+pub use callees::ProcCallee;
 pub use stmts::lower_stmts;

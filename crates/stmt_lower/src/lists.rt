@@ -8,7 +8,7 @@ ghost use Rattle.expr_lower.specs.Growing.{IsFault};
 ghost use Rattle.expr_lower.specs.Listed.{list_named};
 ghost use Rattle.expr_lower.specs.Lowered.{IsPut};
 ghost use Rattle.expr_lower.specs.PartView.{places_of};
-ghost use Rattle.expr_lower.specs.Seen.{called, seen};
+ghost use Rattle.stmt_lower.specs.StmtSeen.{called, seen};
 ghost use Rattle.stmt_lower.specs.SeenStmts.{AddsItems, AddsStmt};
 ghost use Rattle.stmt_lower.specs.Stating.{copy_code};
 ghost use Rattle.stmt_lower.specs.Targets.{cells_named};
@@ -17,14 +17,15 @@ ghost use Rattle.stmt_lower.specs.StmtWords.{set_one_of};
 
 use crate::counter::take_row;
 use crate::deep::keep;
+use crate::scope::StmtScope;
 use crate::targets::ListCells;
 use cal_ast::{Expr, Ident};
 use code_ir::Instr;
-use expr_lower::{Draft, LowerFault, Scope, Seat, list_named, put, put_all};
+use expr_lower::{Draft, LowerFault, Seat, list_named, put, put_all};
 
 /// Appends an assignment of the list that an expression names to another one of the same size.
 pub(crate) fn set_copy(
-    scope: &Scope,
+    scope: &StmtScope,
     name: &Ident,
     to: ListCells,
     value: &Expr,
@@ -39,7 +40,7 @@ pub(crate) fn set_copy(
     ensures fault { IfErr result
         (IsFault (left_out_copy to (list_named (seen scope.now) (expr_tree value.now)) at) draft.new) }
 {
-    let Some(from) = list_named(scope, value) else {
+    let Some(from) = list_named(&scope.values, value) else {
         return Err(LowerFault::NotLowered { at });
     };
     if from.size != to.size {
@@ -51,7 +52,7 @@ pub(crate) fn set_copy(
 /// Appends an assignment of items that are written out: each of them, kept in a cell, and then the instruction that
 /// stores them, since they may read what the list held.
 pub(crate) fn set_items(
-    scope: &Scope,
+    scope: &StmtScope,
     name: &Ident,
     to: ListCells,
     items: &[Expr],
@@ -61,9 +62,9 @@ pub(crate) fn set_items(
     requires cells { cells_named (seen scope.now) (string_bytes name.now.text) ≡ Some to }
     ensures ok { OnOk result (AddsItems scope.now name.now items.now draft.old draft.new) }
     ensures whole { OnOk result
-        (left_out_items (called scope.now) (seen scope.now) to (places_of items.now) at ≡ None) }
+        (left_out_items (called scope.now).functions (seen scope.now) to (places_of items.now) at ≡ None) }
     ensures fault { IfErr result
-        (IsFault (left_out_items (called scope.now) (seen scope.now) to (places_of items.now) at) draft.new) }
+        (IsFault (left_out_items (called scope.now).functions (seen scope.now) to (places_of items.now) at) draft.new) }
 {
     if items.len() != to.size as usize {
         return Err(LowerFault::NotLowered { at });

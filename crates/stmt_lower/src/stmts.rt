@@ -7,28 +7,30 @@ ghost use Rattle.expr_lower.specs.Held.{AreBelow};
 ghost use Rattle.expr_lower.specs.Names.{names_view};
 ghost use Rattle.expr_lower.specs.Growing.{IsFault};
 ghost use Rattle.stmt_lower.specs.Targets.{cell_named};
-ghost use Rattle.expr_lower.specs.Seen.{called, seen};
+ghost use Rattle.stmt_lower.specs.StmtSeen.{called, seen};
 ghost use Rattle.stmt_lower.specs.SeenStmts.{AddsBlock, behind, left_out_block};
 ghost use Rattle.stmt_lower.specs.SeenStmts.{AddsBody, AddsStmt, AddsStmts, AreAllOf, AreWhyNot};
 ghost use Rattle.stmt_lower.specs.SeenStmts.{IsAllOf, IsAllOfBody, IsWhyNoBody, IsWhyNot};
 ghost use Rattle.stmt_lower.specs.StmtWords.{AddsExecuted, AreWhole, IsFaultAmong};
 ghost use Rattle.stmt_lower.specs.StmtWords.{alone_of, body_of, branch_of, foreach_of, fork_of};
-ghost use Rattle.stmt_lower.specs.StmtWords.{set_item_of, set_of, set_one_of, while_of};
+ghost use Rattle.stmt_lower.specs.StmtWords.{run_of, set_item_of, set_of, set_one_of, while_of};
 
+use crate::callees::{procedure_for, put_run};
 use crate::counter::{Counter, put_bounds, put_less, put_next, put_turn, take_cells};
 use crate::deep::set_deep;
 use crate::lists::{set_copy, set_items};
 use crate::types::single_meant;
 use crate::jumps::{exit_at, jump_at};
+use crate::scope::StmtScope;
 use crate::targets::{cell_named, cells_named};
 use cal_ast::{Expr, ExprForm, Ident, Stmt, StmtForm, TypeExpr, VarDecl};
 use code_ir::Instr;
-use expr_lower::{Draft, Frame, LowerFault, Named, Scope, close, link, lower, lower_test, next_place, put, put_all, start, take_cell};
+use expr_lower::{Draft, Frame, LowerFault, Named, close, link, lower, lower_args, lower_test, next_place, put, put_all, start, take_cell};
 use rvc_base::Scalar;
 
 /// Appends code that executes a statement.
 #[cycle(lower_stmt)]
-fn lower_stmt(scope: &Scope, s: &Stmt, draft: &mut Draft) -> Result<(), LowerFault>
+fn lower_stmt(scope: &StmtScope, s: &Stmt, draft: &mut Draft) -> Result<(), LowerFault>
     ensures ok { OnOk result (AddsStmt scope.now (stmt_tree s.now) draft.old draft.new) }
     ensures whole { OnOk result (IsAllOf scope.now (stmt_tree s.now)) }
     ensures fault { IfErr result (IsWhyNot scope.now (stmt_tree s.now) draft.new) }
@@ -39,7 +41,7 @@ fn lower_stmt(scope: &Scope, s: &Stmt, draft: &mut Draft) -> Result<(), LowerFau
             places,
             value,
         } => set(scope, name, places, value, s.at, draft),
-        StmtForm::Call { name: _, args: _ } => Err(LowerFault::NotLowered { at: s.at }),
+        StmtForm::Call { name, args } => call(scope, name, args, s.at, draft),
         StmtForm::If { test, yes, no } => branch(scope, test, yes, no, draft),
         StmtForm::While { test, body } => repeat(scope, test, body, draft),
         StmtForm::Foreach {
@@ -55,7 +57,7 @@ fn lower_stmt(scope: &Scope, s: &Stmt, draft: &mut Draft) -> Result<(), LowerFau
 
 /// Appends code of statements, one after the other.
 #[cycle(lower_stmt)]
-fn lower_all(scope: &Scope, body: &[Stmt], draft: &mut Draft) -> Result<(), LowerFault>
+fn lower_all(scope: &StmtScope, body: &[Stmt], draft: &mut Draft) -> Result<(), LowerFault>
     ensures ok { OnOk result (AddsStmts scope.now (body_of body.now) draft.old draft.new) }
     ensures whole { OnOk result (AreAllOf scope.now (body_of body.now)) }
     ensures fault { IfErr result (AreWhyNot scope.now (body_of body.now) draft.new) }
@@ -68,7 +70,7 @@ fn lower_all(scope: &Scope, body: &[Stmt], draft: &mut Draft) -> Result<(), Lowe
 
 /// Appends an assignment to a variable or to an item of it.
 fn set(
-    scope: &Scope,
+    scope: &StmtScope,
     name: &Ident,
     places: &[Expr],
     value: &Expr,
@@ -90,7 +92,7 @@ fn set(
 
 /// Appends an assignment to a variable of single values: its value, and the instruction that stores it.
 fn set_one(
-    scope: &Scope,
+    scope: &StmtScope,
     name: &Ident,
     value: &Expr,
     at: u32,
@@ -102,16 +104,16 @@ fn set_one(
     ensures fault { IfErr result
         (IsWhyNot scope.now (set_one_of name.now value.now at) draft.new) }
 {
-    let Some(to) = cell_named(scope, name.text.as_str()) else {
+    let Some(to) = cell_named(&scope.values, name.text.as_str()) else {
         return set_list(scope, name, value, at, draft);
     };
-    lower(scope, value, draft)?;
+    lower(&scope.values, value, draft)?;
     put(draft, Instr::Store(to.cell, Some(to.kind)))
 }
 
 /// Appends an assignment to a whole list: the instructions that store the items of another one.
 fn set_list(
-    scope: &Scope,
+    scope: &StmtScope,
     name: &Ident,
     value: &Expr,
     at: u32,
@@ -124,7 +126,7 @@ fn set_list(
     ensures fault { IfErr result
         (IsWhyNot scope.now (set_one_of name.now value.now at) draft.new) }
 {
-    let Some(to) = cells_named(scope, name.text.as_str()) else {
+    let Some(to) = cells_named(&scope.values, name.text.as_str()) else {
         return Err(LowerFault::NotLowered { at });
     };
     match &value.form {
@@ -135,7 +137,7 @@ fn set_list(
 
 /// Appends an assignment to an item of a list: the place, the value, and the instruction that stores it there.
 fn set_item(
-    scope: &Scope,
+    scope: &StmtScope,
     name: &Ident,
     place: &Expr,
     value: &Expr,
@@ -149,18 +151,39 @@ fn set_item(
     ensures fault { IfErr result
         (IsWhyNot scope.now (set_item_of name.now place.now value.now at) draft.new) }
 {
-    let Some(to) = cells_named(scope, name.text.as_str()) else {
+    let Some(to) = cells_named(&scope.values, name.text.as_str()) else {
         return Err(LowerFault::NotLowered { at });
     };
-    lower(scope, place, draft)?;
-    lower(scope, value, draft)?;
+    lower(&scope.values, place, draft)?;
+    lower(&scope.values, value, draft)?;
     put(draft, Instr::StoreAt(to.cell, to.size, Some(to.kind)))
+}
+
+/// Appends a call of a procedure: its arguments, a turn, and the instructions that put the arguments into the cells of
+/// the formals and run the routine.
+fn call(
+    scope: &StmtScope,
+    name: &Ident,
+    args: &[Expr],
+    at: u32,
+    draft: &mut Draft,
+) -> Result<(), LowerFault>
+    ensures ok { OnOk result
+        (AddsStmt scope.now (run_of name.now args.now at) draft.old draft.new) }
+    ensures whole { OnOk result (IsAllOf scope.now (run_of name.now args.now at)) }
+    ensures fault { IfErr result (IsWhyNot scope.now (run_of name.now args.now at) draft.new) }
+{
+    let Some(callee) = procedure_for(scope.procedures, name.text.as_str(), args) else {
+        return Err(LowerFault::NotLowered { at });
+    };
+    lower_args(&scope.values, args, draft)?;
+    put_run(callee, draft)
 }
 
 /// Appends an `if`, with or without an `else`.
 #[cycle(lower_stmt)]
 fn branch(
-    scope: &Scope,
+    scope: &StmtScope,
     test: &Expr,
     yes: &[Stmt],
     no: &Option<Vec<Stmt>>,
@@ -181,14 +204,14 @@ fn branch(
 
 /// Appends an `if` without an `else`: the condition, and what is done if it is true.
 #[cycle(lower_stmt)]
-fn alone(scope: &Scope, test: &Expr, yes: &[Stmt], draft: &mut Draft) -> Result<(), LowerFault>
+fn alone(scope: &StmtScope, test: &Expr, yes: &[Stmt], draft: &mut Draft) -> Result<(), LowerFault>
     ensures ok { (at : ℕ)
         → OnOk result (AddsStmt scope.now (alone_of test.now yes.now at) draft.old draft.new) }
     ensures whole { OnOk result (IsAllOf scope.now (alone_of test.now yes.now 0)) }
     ensures fault { IfErr result (IsWhyNot scope.now (alone_of test.now yes.now 0) draft.new) }
 {
     let start = draft.instrs.len();
-    lower_test(scope, test, draft)?;
+    lower_test(&scope.values, test, draft)?;
     let exits = draft.instrs.len();
     lower_all(scope, yes, draft)?;
     let end = next_place(draft)?;
@@ -199,7 +222,7 @@ fn alone(scope: &Scope, test: &Expr, yes: &[Stmt], draft: &mut Draft) -> Result<
 /// Appends an `if` with an `else`: the condition, and a branch for each answer.
 #[cycle(lower_stmt)]
 fn fork(
-    scope: &Scope,
+    scope: &StmtScope,
     test: &Expr,
     yes: &[Stmt],
     no: &[Stmt],
@@ -212,7 +235,7 @@ fn fork(
         (IsWhyNot scope.now (fork_of test.now yes.now no.now 0) draft.new) }
 {
     let start = draft.instrs.len();
-    lower_test(scope, test, draft)?;
+    lower_test(&scope.values, test, draft)?;
     let exits = draft.instrs.len();
     lower_all(scope, yes, draft)?;
     let jump = draft.instrs.len();
@@ -226,7 +249,7 @@ fn fork(
 
 /// Appends a `while`: a jump to the condition, a turn and the body, and the condition with a jump back to the turn.
 #[cycle(lower_stmt)]
-fn repeat(scope: &Scope, test: &Expr, body: &[Stmt], draft: &mut Draft) -> Result<(), LowerFault>
+fn repeat(scope: &StmtScope, test: &Expr, body: &[Stmt], draft: &mut Draft) -> Result<(), LowerFault>
     ensures ok { (at : ℕ)
         → OnOk result (AddsStmt scope.now (while_of test.now body.now at) draft.old draft.new) }
     ensures whole { OnOk result (IsAllOf scope.now (while_of test.now body.now 0)) }
@@ -239,7 +262,7 @@ fn repeat(scope: &Scope, test: &Expr, body: &[Stmt], draft: &mut Draft) -> Resul
     lower_all(scope, body, draft)?;
     let first = draft.instrs.len();
     let head = next_place(draft)?;
-    lower_test(scope, test, draft)?;
+    lower_test(&scope.values, test, draft)?;
     let exits = draft.instrs.len();
     put(draft, Instr::Jump(turn))?;
     let out = next_place(draft)?;
@@ -252,7 +275,7 @@ fn repeat(scope: &Scope, test: &Expr, body: &[Stmt], draft: &mut Draft) -> Resul
 /// number is never one too great.
 #[cycle(lower_stmt)]
 fn each(
-    scope: &Scope,
+    scope: &StmtScope,
     shape: &TypeExpr,
     name: &Ident,
     from: &Expr,
@@ -272,8 +295,8 @@ fn each(
         return Err(LowerFault::NotLowered { at });
     };
     let counter = take_cells(kind, draft)?;
-    lower(scope, from, draft)?;
-    lower(scope, to, draft)?;
+    lower(&scope.values, from, draft)?;
+    lower(&scope.values, to, draft)?;
     put_bounds(counter, draft)?;
     let skip = draft.instrs.len();
     put(draft, Instr::JumpIfNot(0))?;
@@ -293,7 +316,7 @@ fn each(
 /// Appends the body of a `foreach`, which sees its variable.
 #[cycle(lower_stmt)]
 fn each_body(
-    scope: &Scope,
+    scope: &StmtScope,
     name: &Ident,
     counter: Counter,
     body: &[Stmt],
@@ -309,7 +332,7 @@ fn each_body(
         name: name.text.as_str(),
         kind: counter.kind,
         cell: counter.variable,
-        outer: scope.frame,
+        outer: scope.values.frame,
     };
     let inner = scope.under(&frame);
     lower_all(&inner, body, draft)
@@ -318,7 +341,7 @@ fn each_body(
 /// Appends a block: its variables, each of which is seen by those behind it, and its statements.
 #[cycle(lower_stmt)]
 fn block(
-    scope: &Scope,
+    scope: &StmtScope,
     vars: &[VarDecl],
     body: &[Stmt],
     draft: &mut Draft,
@@ -337,7 +360,7 @@ fn block(
 /// Appends a variable of a block, and what sees it.
 #[cycle(lower_stmt)]
 fn variable(
-    scope: &Scope,
+    scope: &StmtScope,
     first: &VarDecl,
     rest: &[VarDecl],
     body: &[Stmt],
@@ -354,14 +377,14 @@ fn variable(
         return Err(LowerFault::NotLowered { at: first.at });
     };
     let cell = take_cell(draft)?;
-    start(scope, &first.start, cell, kind, draft)?;
+    start(&scope.values, &first.start, cell, kind, draft)?;
     behind(scope, first, kind, cell, rest, body, draft)
 }
 
 /// Appends what stands behind a variable of a block, and sees it.
 #[cycle(lower_stmt)]
 fn behind(
-    scope: &Scope,
+    scope: &StmtScope,
     first: &VarDecl,
     kind: Scalar,
     cell: u32,
@@ -380,7 +403,7 @@ fn behind(
         name: first.name.text.as_str(),
         kind,
         cell,
-        outer: scope.frame,
+        outer: scope.values.frame,
     };
     let inner = scope.under(&frame);
     block(&inner, rest, body, draft)
@@ -410,5 +433,5 @@ pub fn lower_stmts(names: &[Named], body: &[Stmt], draft: &mut Draft) -> Result<
     ensures whole { OnOk result (AreWhole names.now (body_of body.now)) }
     ensures fault { IfErr result (IsFaultAmong names.now (body_of body.now) draft.new) }
 {
-    lower_all(&Scope::outermost(names, &[]), body, draft)
+    lower_all(&StmtScope::outermost(names, &[], &[]), body, draft)
 }

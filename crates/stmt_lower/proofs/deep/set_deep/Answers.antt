@@ -5,7 +5,7 @@ use Rattle.cal_ast.specs.View.{expr_tree}
 use Rattle.stmt_lower.specs.Targets.{deep_cells_in}
 use Rattle.expr_lower.specs.Parted.{part_named}
 use Rattle.expr_lower.specs.PartView.{part_view, places_of}
-use Rattle.expr_lower.specs.Seen.{seen}
+use Rattle.stmt_lower.specs.StmtSeen.{seen}
 use Rattle.expr_lower.proofs.Adding.{places_number}
 use Rattle.stmt_lower.proofs.AddingStmts.{deep_adds}
 use Rattle.stmt_lower.proofs.deep.set_deep.Goals as goal

@@ -4,7 +4,7 @@ use Rattle.cal_ast.specs.View.{expr_tree}
 use Rattle.std.specs.Prelude.{IfErr, OnOk}
 use Rattle.expr_lower.specs.Growing.{IsFault}
 use Rattle.expr_lower.specs.PartView.{places_of}
-use Rattle.expr_lower.specs.Seen.{called, seen}
+use Rattle.stmt_lower.specs.StmtSeen.{called, seen}
 use Rattle.expr_lower.proofs.Adding.{places_number}
 use Rattle.stmt_lower.proofs.AddingStmts.{items_adds, items_differ, items_fit}
 use Rattle.stmt_lower.proofs.lists.set_items.Goals as goal
@@ -21,16 +21,16 @@ returns-clause-ok c =
 pub returns-then-items-to-clause-fault : goal.returns-then-items-to-clause-fault
 returns-then-items-to-clause-fault c =
     let other : length c.args.items.now ≢ c.args.to.size = search rules in
-    items_differ (called c.args.scope.now) (seen c.args.scope.now) c.args.to (places_of c.args.items.now) c.args.at (length c.args.items.now) (places_number expr_tree c.args.items.now) other
+    items_differ (called c.args.scope.now).functions (seen c.args.scope.now) c.args.to (places_of c.args.items.now) c.args.at (length c.args.items.now) (places_number expr_tree c.args.items.now) other
 
 pub returns-in_err-keep-clause-fault : goal.returns-in_err-keep-clause-fault
 returns-in_err-keep-clause-fault c =
     let size : length c.args.items.now ≡ c.args.to.size = search rules in
     subst (λ o. IfErr c.from_residual-in_err-keep.result (IsFault o c.keep.new.draft))
-    (sym (items_fit (called c.args.scope.now) (seen c.args.scope.now) c.args.to (places_of c.args.items.now) c.args.at (length c.args.items.now) (places_number expr_tree c.args.items.now) size)) (search rules)
+    (sym (items_fit (called c.args.scope.now).functions (seen c.args.scope.now) c.args.to (places_of c.args.items.now) c.args.at (length c.args.items.now) (places_number expr_tree c.args.items.now) size)) (search rules)
 
 pub returns-clause-whole : goal.returns-clause-whole
 returns-clause-whole c =
     let size : length c.args.items.now ≡ c.args.to.size = search rules in
     subst (λ o. OnOk c.copy.result (o ≡ None))
-    (sym (items_fit (called c.args.scope.now) (seen c.args.scope.now) c.args.to (places_of c.args.items.now) c.args.at (length c.args.items.now) (places_number expr_tree c.args.items.now) size)) (search rules)
+    (sym (items_fit (called c.args.scope.now).functions (seen c.args.scope.now) c.args.to (places_of c.args.items.now) c.args.at (length c.args.items.now) (places_number expr_tree c.args.items.now) size)) (search rules)

@@ -10,7 +10,7 @@ use Rattle.code_ir.specs.declared.instr.Instr.TheVariants as op
 use Rattle.stmt_lower.specs.declared.counter.Counter.{Counter}
 use Rattle.stmt_lower.specs.Stating.{AreStmts, IsBlock, IsStmt, block_code, each_next, no_more}
 use Rattle.stmt_lower.specs.Meant.{single_meant}
-use Rattle.expr_lower.specs.Seen.{called, seen}
+use Rattle.stmt_lower.specs.StmtSeen.{called, seen}
 use Rattle.stmt_lower.specs.SeenStmts.{AddsBlock, AddsStmt, AreWhyNot, IsWhyNot, behind, left_out_block}
 use Rattle.stmt_lower.specs.StmtWords.{body_of, foreach_of}
 use Rattle.expr_lower.proofs.Adding.{length_join, same_adds, no_items}

@@ -1,7 +1,7 @@
 use Rattle.std.proofs.Common.{◌+◌, map, take}
 use Rattle.cal_ast.specs.Tree.{listed}
 use Rattle.cal_ast.specs.View.{body_tree, stmt_tree, var_tree}
-use Rattle.expr_lower.specs.Seen.{called, seen}
+use Rattle.stmt_lower.specs.StmtSeen.{called, seen}
 use Rattle.stmt_lower.proofs.AddingStmts.{AreAdded}
 use Rattle.expr_lower.proofs.Weights.{spread, weight}
 use Rattle.stmt_lower.proofs.stmts.+lower_stmt.Given as goal

@@ -1,7 +1,7 @@
 use Rattle.std.proofs.Common.{◌≡◌, Some, rules, string_bytes}
 use Rattle.std.proofs.lemmas.Result.{on_ok_weaker}
 use Rattle.cal_ast.specs.View.{expr_tree}
-use Rattle.expr_lower.specs.Seen.{seen}
+use Rattle.stmt_lower.specs.StmtSeen.{seen}
 use Rattle.stmt_lower.specs.Targets.{cells_named}
 use Rattle.stmt_lower.proofs.AddingStmts.{item_adds}
 use Rattle.stmt_lower.proofs.stmts.set_item.Goals as goal
