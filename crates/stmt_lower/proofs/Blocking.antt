@@ -54,7 +54,7 @@ back_twice v env next =
     ap (λ xs. record next { locals = xs }) (drop-drop (length (drop j next.locals) - length env.locals) j next.locals)
     ∙ ap (λ k. record next { locals = drop k next.locals }) count
 
-then_then : {A B C : Type 0} (o : Out A) (f : A → ℕ → Out B) (g : B → ℕ → Out C) → and_then (and_then o f) g ≡ and_then o (λ x k. and_then (f x k) g)
+pub then_then : {A B C : Type 0} (o : Out A) (f : A → ℕ → Out B) (g : B → ℕ → Out C) → and_then (and_then o f) g ≡ and_then o (λ x k. and_then (f x k) g)
 then_then (Gives x k) f g = refl
 then_then (Traps c) f g = refl
 then_then Lacks f g = refl
@@ -92,21 +92,21 @@ module _ (rs : Routines) (outer : List Name) (w : World) (serves : Serves w oute
   Laid n inner = AreLaid rs outer w.tokens w.low w.high n inner
 
   -- the start stands in the cell
-  record Started (t : Scalar) (n m : ℕ) (s : State) (end : ℕ) (v : Value) (left : ℕ) : Type 0 where
-    cells : List ℤ
-    reaches : Reaches w.code w.tokens s (state end s.stack s.frames cells left)
-    keeps : Keeps n m w.low w.high s.cells cells
-    kind : HasKind (kind_of_scalar t) v
-    number : ℤ
-    is : flat v ≡ number ∷ []
-    stands : slice_get cells n ≡ Some number
+  pub record Started (t : Scalar) (n m : ℕ) (s : State) (end : ℕ) (v : Value) (left : ℕ) : Type 0 where
+    pub cells : List ℤ
+    pub reaches : Reaches w.code w.tokens s (state end s.stack s.frames cells left)
+    pub keeps : Keeps n m w.low w.high s.cells cells
+    pub kind : HasKind (kind_of_scalar t) v
+    pub number : ℤ
+    pub is : flat v ≡ number ∷ []
+    pub stands : slice_get cells n ≡ Some number
 
   one_cell : (cells : List ℤ) (n m : ℕ) (z : ℤ) → n + 1 ≤ m → Keeps n m w.low w.high cells (slice_set cells n z)
   one_cell cells n m z le =
       let wrote : Written n 1 cells (slice_set cells n z) = let e : n + 0 ≡ n = omega arith in subst (λ d. Written n 1 cells (slice_set cells d z)) e (set_written cells n 1 0 z (omega arith)) in
       written_keeps n 1 n m w.low w.high cells (slice_set cells n z) (omega arith) le wrote
 
-  start_moves : (inner : List Name) (t : Scalar) (n : ℕ) {base m : ℕ} {start : Tree} {a : List Instr} → IsSize t → n + 1 ≤ m → IsStart rs.functions (inner ++ outer) t n start base (n + 1) a m
+  pub start_moves : (inner : List Name) (t : Scalar) (n : ℕ) {base m : ℕ} {start : Tree} {a : List Instr} → IsSize t → n + 1 ≤ m → IsStart rs.functions (inner ++ outer) t n start base (n + 1) a m
       → (stack cells : List ℤ) (env : Env) (left : ℕ) → StandsAt w.code.instrs base a → Laid n inner → n + 1 ≤ length cells → Inside inner cells env
       → Follows (first_of (Single t) start w.calls env left) (Started t n m (state base stack frames cells left) (base + length a)) (Breaks w (inner ++ outer) outer n m (state base stack frames cells left))
   start_moves inner t n sized le (at_zero base h) stack cells env left stands laid room holds =

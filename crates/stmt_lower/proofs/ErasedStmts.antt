@@ -170,7 +170,7 @@ mutual
       vars_erased rs names vars (λ inner. left_out_all rs inner body) (λ inner. all_erased rs inner body)
   stmt_erased rs names other = refl
 
-  all_erased : (rs : Routines) (names : List Name) (ss : Tree) → left_out_all rs (map erase names) ss ≡ left_out_all rs names ss
+  pub all_erased : (rs : Routines) (names : List Name) (ss : Tree) → left_out_all rs (map erase names) ss ≡ left_out_all rs names ss
   all_erased rs names tree.nil = refl
   all_erased rs names (tree.cons s rest) = both_same (stmt_erased rs names s) (all_erased rs names rest)
   all_erased rs names tree.absent = refl

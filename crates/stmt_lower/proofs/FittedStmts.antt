@@ -34,7 +34,7 @@ use Rattle.expr_lower.proofs.Runs.{stands_left, stands_right}
 use Rattle.code_ir.specs.Code.{results_of}
 use Rattle.expr_lower.specs.declared.callees.Formal.{Formal}
 use Rattle.expr_lower.specs.Calling.{AreInRow, AreOfSizes}
-use Rattle.expr_lower.specs.Coding.{AreArgs, IsCode, IsTest, arg_more, formal_stores, no_arg}
+use Rattle.expr_lower.specs.Coding.{AreArgs, arg_more, formal_stores, no_arg}
 use Rattle.expr_lower.proofs.Coded.{grows_args}
 use Rattle.stmt_lower.specs.Acting.{HasCells}
 use Rattle.stmt_lower.specs.Calls.{HasRunRoutines}
@@ -70,14 +70,14 @@ module _ (code : Code) (callable limit : ℕ) where
       (λ (f : (bytes_eq text other ≡ false) × (named other names ≡ Some y)). below_more n j names (omega (arith, le)) below other y f.1)
       (choose_name (bytes_eq text other) (local text t (n + 2)) (named other names) y e)
 
-  local_typed : (c : ℕ) (names : List Name) (text : List ℕ) (t : Scalar) → IsSize t → AreTyped names → AreTyped (local text t c ∷ names)
+  pub local_typed : (c : ℕ) (names : List Name) (text : List ℕ) (t : Scalar) → IsSize t → AreTyped names → AreTyped (local text t c ∷ names)
   local_typed c names text t sized typed other y e =
       ⊎_elim (λ (f : (bytes_eq text other ≡ true) × (local text t c ≡ y)). subst (λ (z : Name). IsType z.shape) f.1 sized)
       (λ (f : (bytes_eq text other ≡ false) × (named other names ≡ Some y)). typed other y f.1)
       (choose_name (bytes_eq text other) (local text t c) (named other names) y e)
 
   -- a local in the next cell
-  cell_below : (n k : ℕ) (names : List Name) (text : List ℕ) (t : Scalar) → n + 1 ≤ k → AreBelow n names → AreBelow k (local text t n ∷ names)
+  pub cell_below : (n k : ℕ) (names : List Name) (text : List ℕ) (t : Scalar) → n + 1 ≤ k → AreBelow n names → AreBelow k (local text t n ∷ names)
   cell_below n k names text t le below other y e =
       ⊎_elim (λ (f : (bytes_eq text other ≡ true) × (local text t n ≡ y)). subst (λ (z : Name). SeatIsBelow k (scalars_of_type z.shape) z.seat) f.1 (omega (arith, le)))
       (λ (f : (bytes_eq text other ≡ false) × (named other names ≡ Some y)). below_more n k names (omega (arith, le)) below other y f.1)
@@ -102,7 +102,7 @@ module _ (code : Code) (callable limit : ℕ) where
       (fits_one code callable limit (base + 1 + length puts) h h (op.Call p.routine) (omega arith) (omega (arith, none)) refl tt small tt tt))
 
   module _ (rs : Routines) (has : HasRunRoutines code callable limit rs) where
-    fits_start : (names : List Name) (t : Scalar) (c : ℕ) {start : Tree} {base n m : ℕ} {a : List Instr} (h : ℕ) → IsSize t → c + 1 ≤ limit → AreBelow n names → m ≤ limit → IsStart rs.functions names t c start base n a m → Plain code callable limit base h a h
+    pub fits_start : (names : List Name) (t : Scalar) (c : ℕ) {start : Tree} {base n m : ℕ} {a : List Instr} (h : ℕ) → IsSize t → c + 1 ≤ limit → AreBelow n names → m ≤ limit → IsStart rs.functions names t c start base n a m → Plain code callable limit base h a h
     fits_start names t c h sized room below le (at_zero base n) =
         plain_then code callable limit base h (h + 1) h (op.Const (pos 0) ∷ []) (op.Store c None ∷ []) (fits_const code callable limit base h (pos 0))
         (fits_one code callable limit (base + 1) (h + 1) h (op.Store c None) (omega arith) (omega arith) refl room tt tt tt)

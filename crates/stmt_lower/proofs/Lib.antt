@@ -22,3 +22,6 @@ pub mod FittedJumps
 pub mod FittedEach
 pub mod Blocking
 pub mod ErasedStmts
+pub mod AddingProcs
+pub mod ProcServed
+pub mod FittedProcs

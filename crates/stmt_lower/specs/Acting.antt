@@ -2,10 +2,13 @@
 -- Trusted: part of what a promise means.
 use Rattle.std.specs.Prelude.{◌≡◌, ℕ, ◌+◌, ◌≤◌, ℤ, List, ◌∷◌, length, Some, slice_get}
 use Rattle.cal_model.specs.Value.{Values}
+use Rattle.cal_model.specs.Outcome.{Out, Gives, Traps, Lacks, Clashes}
 use Rattle.cal_model.specs.Env.{Var}
 use Rattle.cal_model.specs.Statement.{Runs}
 use Rattle.code_ir.specs.declared.instr.Routine.{Routine}
-use Rattle.code_ir.specs.Running.{State, Reaches}
+use Rattle.code_ir.specs.declared.outcome.Outcome.{Outcome}
+use Rattle.code_ir.specs.declared.outcome.Outcome.TheVariants as outcome
+use Rattle.code_ir.specs.Running.{State, Reaches, Ends}
 use Rattle.expr_lower.specs.declared.callees.Formal.{Formal}
 use Rattle.expr_lower.specs.Calling.{AreInRow, AreOfSizes, HoldArguments, outside}
 use Rattle.expr_lower.specs.Following.{Follows}
@@ -31,8 +34,20 @@ pub record ComesBack (w : World) (globals : List Name) (s : State) (back : ℕ) 
   pub keeps : KeepsBut globals 0 0 w.low w.high s.cells cells
   pub holds : HoldsVars globals w.tokens cells (outside vars)
 
+-- How a run ends that goes as a procedure does: if that gives globals, as it ends from the place to which it comes back,
+-- with cells that hold these globals; if it traps, by that trap.
+abbrev pub EndsAsRun : World → List Name → State → ℕ → List ℕ → Out (List Var) → Outcome → List ℤ → Type 0
+EndsAsRun w globals s back frames (Gives vars left) o last =
+    (cells : List ℤ) × KeepsBut globals 0 0 w.low w.high s.cells cells
+    × HoldsVars globals w.tokens cells (outside vars)
+    × Ends w.code w.tokens (state back s.stack frames cells left) o last
+EndsAsRun w globals s back frames (Traps c) o last = (o ≡ outcome.Trap c)
+    × KeepsBut globals 0 0 w.low w.high s.cells last
+EndsAsRun w globals s back frames Lacks o last = Unit {0}
+EndsAsRun w globals s back frames Clashes o last = Unit {0}
+
 -- The routine of a procedure does what the procedure does: called with cells that hold the globals and the arguments,
--- it comes back with cells that hold what the globals are then and with as many turns left, or traps.
+-- it comes back with cells that hold what the globals are then and with as many turns left, or traps; and a run of it has no other end.
 pub record ActsAs (w : World) (runs : Runs) (globals : List Name) (text : List ℕ) (p : Procedure) : Type 0 where
   pub formals : HasCells w.low w.high p.formals
   pub routine : Routine
@@ -44,6 +59,14 @@ pub record ActsAs (w : World) (runs : Runs) (globals : List Name) (text : List �
       → Follows (runs vars text args left)
       (ComesBack w globals (state routine.start stack (back ∷ frames) cells left) back frames)
       (BreaksOff w globals 0 0 (state routine.start stack (back ∷ frames) cells left))
+  pub only : (vars : List Var) (args : Values) (stack : List ℤ) (back : ℕ) (frames : List ℕ)
+      (cells : List ℤ) (left : ℕ)
+      → w.high ≤ length cells → HoldsVars globals w.tokens cells (outside vars)
+      → HoldArguments p.formals cells args
+      → (o : Outcome) (last : List ℤ)
+      → Ends w.code w.tokens (state routine.start stack (back ∷ frames) cells left) o last
+      → EndsAsRun w globals (state routine.start stack (back ∷ frames) cells left) back frames
+      (runs vars text args left) o last
 
 -- each of these procedures has a routine in the code
 abbrev pub ServesRuns : World → Runs → List Name → List Procedure → Type 0

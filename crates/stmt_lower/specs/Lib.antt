@@ -11,4 +11,6 @@ pub mod StmtWords
 pub mod Jumping
 pub mod Reserving
 pub mod SeenStmts
+pub mod Proceeding
+pub mod ProcWords
 pub mod Targets

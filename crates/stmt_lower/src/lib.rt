@@ -8,11 +8,14 @@ mod callees;
 mod counter;
 mod deep;
 mod jumps;
+pub mod laws;
 mod lists;
+mod procedures;
 mod scope;
 mod stmts;
 mod targets;
 mod types;
 
 pub use callees::ProcCallee;
+pub use procedures::lower_procedure;
 pub use stmts::lower_stmts;

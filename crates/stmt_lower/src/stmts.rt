@@ -57,7 +57,7 @@ fn lower_stmt(scope: &StmtScope, s: &Stmt, draft: &mut Draft) -> Result<(), Lowe
 
 /// Appends code of statements, one after the other.
 #[cycle(lower_stmt)]
-fn lower_all(scope: &StmtScope, body: &[Stmt], draft: &mut Draft) -> Result<(), LowerFault>
+pub(crate) fn lower_all(scope: &StmtScope, body: &[Stmt], draft: &mut Draft) -> Result<(), LowerFault>
     ensures ok { OnOk result (AddsStmts scope.now (body_of body.now) draft.old draft.new) }
     ensures whole { OnOk result (AreAllOf scope.now (body_of body.now)) }
     ensures fault { IfErr result (AreWhyNot scope.now (body_of body.now) draft.new) }
