@@ -10,7 +10,7 @@ use Rattle.stmt_lower.specs.declared.targets.ListCells.{ListCells}
 use Rattle.expr_lower.specs.declared.names.OneCell.{OneCell}
 use Rattle.expr_lower.specs.declared.names.Seat.{Seat}
 use Rattle.expr_lower.specs.declared.names.Seat.TheVariants.{Cell, Tokens}
-use Rattle.expr_lower.specs.Growing.{left_out_in, ◌or_else◌, left_out_args}
+use Rattle.expr_lower.specs.Growing.{left_out_in, ◌or_else◌}
 use Rattle.expr_lower.specs.Listed.{list_named}
 use Rattle.expr_lower.specs.Names.{local, Name, named}
 use Rattle.stmt_lower.specs.Meant.{single_meant}
@@ -19,7 +19,7 @@ use Rattle.stmt_lower.specs.Targets.{deep_cells_at, deep_cells_in, deep_cells_na
 use Rattle.stmt_lower.specs.StmtGrowing.{left_out_all, left_out_copy, left_out_deep, left_out_each, left_out_items, left_out_list, left_out_whole, left_out_set, left_out_stmt, left_out_vars}
 use Rattle.expr_lower.specs.Starting.{left_out_start}
 use Rattle.expr_lower.specs.Callees.{Function}
-use Rattle.expr_lower.proofs.Erased.{erase, erase_seat, erased, erased_list, erased_part, list_erased, named_erased, part_erased, both_same, out_erased, start_erased}
+use Rattle.expr_lower.proofs.Erased.{erase, erase_seat, erased, erased_list, erased_part, list_erased, named_erased, part_erased, args_erased, both_same, out_erased, start_erased}
 use Rattle.stmt_lower.specs.Procedures.{Procedure, Routines, procedure_for}
 
 abbrev cell_in_name : Option Name → Option OneCell
@@ -136,10 +136,6 @@ set_erased fs names text places value at = item_erased fs names text places valu
 
 -- ---- statements
 
-args_same : (fs : List Function) (names : List Name) (es : Tree) → left_out_args fs (map erase names) es ≡ left_out_args fs names es
-args_same fs names (tree.cons e es) = both_same (out_erased fs names e) (args_same fs names es)
-args_same fs names other = refl
-
 each_erased : (rs : Routines) (names : List Name) (text : List ℕ) (from to body : Tree) (at : ℕ) (o : Option Scalar)
     → ((t : Scalar) → left_out_all rs (local text t 0 ∷ map erase names) body ≡ left_out_all rs (local text t 0 ∷ names) body)
     → left_each o at (λ t. left_out_in rs.functions (map erase names) from or_else (left_out_in rs.functions (map erase names) to or_else left_out_all rs (local text t 0 ∷ map erase names) body))
@@ -161,7 +157,7 @@ vars_erased rs names other body h = refl
 mutual
   stmt_erased : (rs : Routines) (names : List Name) (s : Tree) → left_out_stmt rs (map erase names) s ≡ left_out_stmt rs names s
   stmt_erased rs names (tree.assign (tree.ident text place) places value at) = set_erased rs.functions names text places value at
-  stmt_erased rs names (tree.call_stmt (tree.ident text place) args at) = ap (λ x. left_call (procedure_for text (number_of args) rs.procedures) at x) (args_same rs.functions names args)
+  stmt_erased rs names (tree.call_stmt (tree.ident text place) args at) = ap (λ x. left_call (procedure_for text (number_of args) rs.procedures) at x) (args_erased rs.functions names args)
   stmt_erased rs names (tree.if_stmt test first other at) = both_same (out_erased rs.functions names test) (both_same (all_erased rs names first) (all_erased rs names other))
   stmt_erased rs names (tree.while_stmt test body at) = both_same (all_erased rs names body) (out_erased rs.functions names test)
   stmt_erased rs names (tree.foreach_stmt shape (tree.ident text place) from to body at) =

@@ -24,7 +24,7 @@ use Rattle.expr_lower.proofs.Coded.{grows, grows_test}
 use Rattle.stmt_lower.proofs.DeepItems.{grows_kept, leaf_sized}
 use Rattle.expr_lower.proofs.PartValues.{sized_is}
 use Rattle.stmt_lower.proofs.Executed.{grows_stmt, grows_all, grows_block, grows_start}
-use Rattle.expr_lower.proofs.Fitted.{Plain, branch, fits_const, fits_in, fits_jump, fits_one, fits_test_in, fits_then, list_below, plain_then}
+use Rattle.expr_lower.proofs.Fitted.{Plain, branch, fits_args, fits_const, fits_formals, fits_in, fits_jump, fits_one, fits_test_in, fits_then, list_below, plain_then}
 use Rattle.stmt_lower.proofs.FittedEach.{fits_each}
 use Rattle.stmt_lower.proofs.FittedJumps.{fits_back, fits_goto, fits_none}
 use Rattle.expr_lower.proofs.Keeping.{below_more}
@@ -32,10 +32,7 @@ use Rattle.stmt_lower.proofs.MeantIs.{meant_sized}
 use Rattle.stmt_lower.proofs.Scoping.{choose_name}
 use Rattle.expr_lower.proofs.Runs.{stands_left, stands_right}
 use Rattle.code_ir.specs.Code.{results_of}
-use Rattle.expr_lower.specs.declared.callees.Formal.{Formal}
-use Rattle.expr_lower.specs.Calling.{AreInRow, AreOfSizes}
-use Rattle.expr_lower.specs.Coding.{AreArgs, arg_more, formal_stores, no_arg}
-use Rattle.expr_lower.proofs.Coded.{grows_args}
+use Rattle.expr_lower.specs.Coding.{formal_stores}
 use Rattle.stmt_lower.specs.Acting.{HasCells}
 use Rattle.stmt_lower.specs.Calls.{HasRunRoutines}
 use Rattle.stmt_lower.specs.Procedures.{Procedure, Routines}
@@ -85,20 +82,12 @@ module _ (code : Code) (callable limit : ℕ) where
 
   -- ---- calls
 
-  fits_formals : (xs : List Formal) (c base h : ℕ) → AreInRow c xs → c + length xs ≤ limit → AreOfSizes xs → Plain code callable limit base (h + length xs) (formal_stores xs) h
-  fits_formals [] c base h inrow room sizes = let e : h ≡ h + 0 = omega arith in subst (λ k. Plain code callable limit base k [] h) e (fits_none code callable limit base h)
-  fits_formals (x ∷ xs) c base h (at, inrow) room (size, sizes) =
-      let sum : h + 1 + length xs ≡ h + suc (length xs) = omega arith in
-      subst (λ k. Plain code callable limit base k (formal_stores xs ++ op.Store x.cell (Some x.kind) ∷ []) h) sum
-      (plain_then code callable limit base (h + 1 + length xs) (h + 1) h (formal_stores xs) (op.Store x.cell (Some x.kind) ∷ []) (fits_formals xs (c + 1) base (h + 1) inrow (omega (arith, room)) sizes)
-      (fits_one code callable limit (base + length (formal_stores xs)) (h + 1) h (op.Store x.cell (Some x.kind)) (omega arith) (omega arith) refl (omega (arith, at, room)) tt tt size))
-
   fits_run : (base h : ℕ) (p : Procedure) → p.routine < callable → results_of code p.routine ≡ 0 → HasCells 0 limit p.formals → Plain code callable limit base (h + length p.formals) (run_code p) h
   fits_run base h p small none formals =
       let top : ℕ = h + length p.formals in
       let puts : List Instr = formal_stores p.formals in
       plain_then code callable limit base top top h (op.Turn ∷ []) (puts ++ op.Call p.routine ∷ []) (fits_one code callable limit base top top op.Turn (omega arith) (omega arith) refl tt tt tt tt)
-      (plain_then code callable limit (base + 1) top h h puts (op.Call p.routine ∷ []) (fits_formals p.formals formals.first (base + 1) h formals.row formals.high_end formals.sizes)
+      (plain_then code callable limit (base + 1) top h h puts (op.Call p.routine ∷ []) (fits_formals code callable limit p.formals formals.first (base + 1) h formals.row formals.high_end formals.sizes)
       (fits_one code callable limit (base + 1 + length puts) h h (op.Call p.routine) (omega arith) (omega (arith, none)) refl tt small tt tt))
 
   module _ (rs : Routines) (has : HasRunRoutines code callable limit rs) where
@@ -141,14 +130,6 @@ module _ (code : Code) (callable limit : ℕ) where
         (fits_one code callable limit (base + 1 + 1 + length steps) (h + 1) (h + 1 + 1) (op.Load v) (omega arith) (omega arith) refl room tt tt tt)
         (fits_store_at (base + 1 + 1 + length steps + 1) h c size t le sized))))
 
-    fits_args : (names : List Name) {es : Tree} {base n m : ℕ} {instrs : List Instr} (h : ℕ) → AreBelow n names → m ≤ limit → AreArgs rs.functions names es base n instrs m → Plain code callable limit base h instrs (h + number_of es)
-    fits_args names h below le (no_arg base n) = let e : h ≡ h + 0 = omega arith in subst (λ k. Plain code callable limit base h [] k) e (fits_none code callable limit base h)
-    fits_args names h below le (arg_more e es base n k m a b g d) =
-        let x = grows g in let y = grows_args d in
-        let sum : h + 1 + number_of es ≡ h + suc (number_of es) = omega arith in
-        subst (λ j. Plain code callable limit base h (a ++ b) j) sum
-        (plain_then code callable limit base h (h + 1) (h + 1 + number_of es) a b (fits_in code callable limit rs.functions has.functions names h below (omega (arith, y, le)) g) (fits_args names (h + 1) (below_more n k names x below) le d))
-
     mutual
       pub fits_stmt : {names : List Name} {s : Tree} {base n m : ℕ} {instrs : List Instr} (h : ℕ) → AreBelow n names → AreTyped names → m ≤ limit → StandsAt code.instrs base instrs → IsStmt rs names s base n instrs m → Plain code callable limit base h instrs h
       fits_stmt h below typed le stands (set names text value place at base n m c instrs x t e seat shape g) =
@@ -189,7 +170,7 @@ module _ (code : Code) (callable limit : ℕ) where
       fits_stmt h below typed le stands (call names text args place at base n m part p e g) =
           let f = proc_found text (number_of args) rs.procedures p e in
           let r = has.procedures text p f.0 in
-          plain_then code callable limit base h (h + number_of args) h part (run_code p) (fits_args names h below le g)
+          plain_then code callable limit base h (h + number_of args) h part (run_code p) (fits_args code callable limit rs.functions has.functions names h below le g)
           (subst (λ k. Plain code callable limit (base + length part) (h + k) (run_code p) h) f.1 (fits_run (base + length part) h p r.0 r.1 r.2))
       fits_stmt h below typed le stands (if_alone names test first at base n k m end a b g d e) =
           let grown = grows_test g in
