@@ -33,7 +33,7 @@ use Rattle.expr_lower.proofs.Singles.{IsSingleValue}
 use Rattle.expr_lower.proofs.Storing.{set_there, set_written, single_stored}
 use Rattle.stmt_lower.proofs.Scoping.{AreLaid, HoldsInside, inside_still, laid_more}
 use Rattle.expr_lower.proofs.Written.{Written, written_keeps}
-use Rattle.stmt_lower.proofs.Performing.{Moves, Performs, but_wider, cut_breaks, keeps_but, move_after, moves_at, Breaks}
+use Rattle.stmt_lower.proofs.Performing.{Moves, Performs, but_wider, cut_breaks, keeps_but, move_after, moves_at, CutShort}
 use Rattle.stmt_lower.specs.Procedures.{Routines}
 use Rattle.expr_lower.specs.Calling.{Serves}
 use Rattle.stmt_lower.proofs.Evaluating.{does_there, singles_there}
@@ -108,7 +108,7 @@ module _ (rs : Routines) (outer : List Name) (w : World) (serves : Serves w oute
 
   pub start_moves : (inner : List Name) (t : Scalar) (n : ℕ) {base m : ℕ} {start : Tree} {a : List Instr} → IsSize t → n + 1 ≤ m → IsStart rs.functions (inner ++ outer) t n start base (n + 1) a m
       → (stack cells : List ℤ) (env : Env) (left : ℕ) → StandsAt w.code.instrs base a → Laid n inner → n + 1 ≤ length cells → Inside inner cells env
-      → Follows (first_of (Single t) start w.calls env left) (Started t n m (state base stack frames cells left) (base + length a)) (Breaks w (inner ++ outer) outer n m (state base stack frames cells left))
+      → Follows (first_of (Single t) start w.calls env left) (Started t n m (state base stack frames cells left) (base + length a)) (CutShort w (inner ++ outer) outer n m (state base stack frames cells left))
   start_moves inner t n sized le (at_zero base h) stack cells env left stands laid room holds =
       let old = there cells n (omega (arith, room)) in
       let s : State = state base stack frames cells left in
@@ -133,7 +133,7 @@ module _ (rs : Routines) (outer : List Name) (w : World) (serves : Serves w oute
       let size : length (code ++ i) ≡ length code + 1 = length-append code i in
       follows_then (eval e w.calls env left) (λ v j. Gives (stored (Single t) v) j)
       (λ v j. Pushes w (n + 1) m s (base + length code) v j × IsSingleValue v) (λ d. CutsOff w (n + 1) m s d × Unit {0})
-      (Started t n m s (base + length (code ++ i))) (Breaks w names outer n m s)
+      (Started t n m s (base + length (code ++ i))) (CutShort w names outer n m s)
       (follows_both (eval e w.calls env left) (Pushes w (n + 1) m s (base + length code)) (CutsOff w (n + 1) m s) (λ v j. IsSingleValue v) (λ d. Unit {0})
       (does_there rs outer w serves frames inner coded stack cells env left (stands_left w.code.instrs base code i stands) more holds)
       (singles_there rs outer w serves frames inner coded cells env left (n + 1) more holds))
@@ -163,8 +163,8 @@ module _ (rs : Routines) (outer : List Name) (w : World) (serves : Serves w oute
   pub block_none : (inner : List Name) (M : Env → ℕ → Out Env) (base n m : ℕ) (code : List Instr) → Performs rs outer w serves frames inner M base n code m → Performs rs outer w serves frames inner (blocked tree.nil M) base n code m
   block_none inner M base n m code body stack cells env left stands laid apart room holds =
       let s : State = state base stack frames cells left in
-      follows_then (M env left) (λ next k. Gives (back_to env next) k) (Moves rs outer w serves frames inner n m s (base + length code) (length env.locals)) (Breaks w (inner ++ outer) outer n m s)
-      (Moves rs outer w serves frames inner n m s (base + length code) (length env.locals)) (Breaks w (inner ++ outer) outer n m s)
+      follows_then (M env left) (λ next k. Gives (back_to env next) k) (Moves rs outer w serves frames inner n m s (base + length code) (length env.locals)) (CutShort w (inner ++ outer) outer n m s)
+      (Moves rs outer w serves frames inner n m s (base + length code) (length env.locals)) (CutShort w (inner ++ outer) outer n m s)
       (body stack cells env left stands laid apart room holds)
       (λ next k p.
       let same : back_to env next ≡ next = back_same env next p.as_many in
@@ -184,9 +184,9 @@ module _ (rs : Routines) (outer : List Name) (w : World) (serves : Serves w oute
       let whole : blocked (tree.cons (tree.var shape (tree.ident text place) start changes at) vars) M env left ≡ and_then (first_of (Single t) start w.calls env left) rest =
       ap (λ (o : Out Shape). and_then (and_then o (λ u h. and_then (first_of u start w.calls env h) (λ v j. with_vars vars w.calls (with_local (variable text u changes v) env) j))) (λ x h. inside env x M h)) (meant_is shape t w.calls env left meant)
       ∙ then_then (first_of (Single t) start w.calls env left) (λ v j. with_vars vars w.calls (with_local (variable text (Single t) changes v) env) j) (λ x h. inside env x M h) in
-      subst (λ (o : Out Env). Follows o (Moves rs outer w serves frames inner n m s (base + length (a ++ b)) (length env.locals)) (Breaks w names outer n m s)) (sym whole)
-      (follows_then (first_of (Single t) start w.calls env left) rest (Started t n k s (base + length a)) (Breaks w names outer n k s)
-      (Moves rs outer w serves frames inner n m s (base + length (a ++ b)) (length env.locals)) (Breaks w names outer n m s)
+      subst (λ (o : Out Env). Follows o (Moves rs outer w serves frames inner n m s (base + length (a ++ b)) (length env.locals)) (CutShort w names outer n m s)) (sym whole)
+      (follows_then (first_of (Single t) start w.calls env left) rest (Started t n k s (base + length a)) (CutShort w names outer n k s)
+      (Moves rs outer w serves frames inner n m s (base + length (a ++ b)) (length env.locals)) (CutShort w names outer n m s)
       (start_moves inner t n sized le starts stack cells env left (stands_left w.code.instrs base a b stands) laid (omega (arith, room, le, ge)) holds)
       (λ v j p.
       let var : Var = variable text (Single t) changes v in
@@ -196,7 +196,7 @@ module _ (rs : Routines) (outer : List Name) (w : World) (serves : Serves w oute
       let away : AreApart n (n + 1) w.low w.high = ⊎_elim (λ (x : m ≤ w.low). inl (omega (arith, x, le, ge))) (λ (x : w.high ≤ n). inr x) apart in
       let deeper : Laid k (local text t n ∷ inner) = (n, refl, le, sized, away, laid) in
       let done = body stack p.cells (with_local var env) j (stands_right w.code.instrs base a b stands) deeper (apart_last n k m w.low w.high (omega (arith, le)) apart) (let same = p.keeps.size in omega (arith, same, room)) held in
-      subst (λ (o : Out Env). Follows o (Moves rs outer w serves frames inner n m s (base + length (a ++ b)) (length env.locals)) (Breaks w names outer n m s)) (sym (leave_twice M var env (with_vars vars w.calls (with_local var env) j)))
+      subst (λ (o : Out Env). Follows o (Moves rs outer w serves frames inner n m s (base + length (a ++ b)) (length env.locals)) (CutShort w names outer n m s)) (sym (leave_twice M var env (with_vars vars w.calls (with_local var env) j)))
       (moves_at rs outer w serves frames (inside env (with_local var env) (blocked vars M) j) inner n m (base + length a + length b) (base + length (a ++ b)) (length env.locals) s finish
       (move_after rs outer w serves frames inner n n m m base (base + length a) (base + length a + length b) (length env.locals) stack cells p.cells left j (inside env (with_local var env) (blocked vars M) j) (omega arith) (omega arith)
       p.reaches (but_wider n m (omega arith) ge (keeps_but names p.keeps))

@@ -33,7 +33,7 @@ use Rattle.expr_lower.specs.Placed.{StandsAt, World, state}
 use Rattle.stmt_lower.specs.Stating.{copy_code}
 use Rattle.expr_lower.proofs.Keeping.{flat_length, scalars_same}
 use Rattle.expr_lower.proofs.Listing.{IsList, IsListName, first_of_two, found, named_list}
-use Rattle.stmt_lower.proofs.Performing.{Moves, Performs, but_written, Breaks}
+use Rattle.stmt_lower.proofs.Performing.{Moves, Performs, but_written, CutShort}
 use Rattle.expr_lower.proofs.Runs.{follows_more, obeys}
 use Rattle.stmt_lower.proofs.Scoping.{AreLaid, Assigned, HoldsInside, PutsAt, assigns, choose_name, laid_below, laid_typed, names_held}
 use Rattle.expr_lower.proofs.Written.{Written}
@@ -246,11 +246,11 @@ module _ (rs : Routines) (outer : List Name) (w : World) (serves : Serves w oute
       → Reaches w.code w.tokens (state base stack frames cells left) (state end stack frames written left)
       → AreLaid rs outer w.tokens w.low w.high n inner → named text (inner ++ outer) ≡ Some x → x.seat ≡ Cell c → Written c (scalars_of_type x.shape) cells written
       → PutsAt rs outer w.tokens w.low w.high (Unit {0}) x cells written Nil v left (λ t. ⊥) → Inside inner cells env
-      → Follows (assign env text Nil v left) (Moves rs outer w serves frames inner n n (state base stack frames cells left) end (length env.locals)) (Breaks w (inner ++ outer) outer n n (state base stack frames cells left))
+      → Follows (assign env text Nil v left) (Moves rs outer w serves frames inner n n (state base stack frames cells left) end (length env.locals)) (CutShort w (inner ++ outer) outer n n (state base stack frames cells left))
   stores_run inner n base end c text x stack cells written v env left r laid e seat wrote puts holds =
       let s : State = state base stack frames cells left in
       let names : List Name = inner ++ outer in
-      follows_more (assign env text Nil v left) (Assigned rs outer w.tokens w.low w.high (Unit {0}) inner written env left) (λ t. ⊥) (Moves rs outer w serves frames inner n n s end (length env.locals)) (Breaks w names outer n n s)
+      follows_more (assign env text Nil v left) (Assigned rs outer w.tokens w.low w.high (Unit {0}) inner written env left) (λ t. ⊥) (Moves rs outer w serves frames inner n n s end (length env.locals)) (CutShort w names outer n n s)
       (assigns rs outer w.tokens w.low w.high (Unit {0}) n inner cells written env text x c Nil v left (λ t. ⊥) laid e seat wrote puts holds)
       (λ next j p. record {
         cells = written;
@@ -380,6 +380,6 @@ module _ (rs : Routines) (outer : List Name) (w : World) (serves : Serves w oute
       in
       let all : scalars_of_type x.shape ≡ size = let one : scalars_of_type x.shape ≡ size * 1 = ap scalars_of_type shape in omega (arith, one) in
       let wrote : Written c (scalars_of_type x.shape) cells done.written = subst (λ k. Written c k cells done.written) (sym all) (record { length_same = done.same_size; cell = done.others }) in
-      subst (λ (o : Out Value). Follows (and_then o (λ v k. assign env text Nil v k)) (Moves rs outer w serves frames inner n n s end (length env.locals)) (Breaks w names outer n n s)) (sym list.gives)
+      subst (λ (o : Out Value). Follows (and_then o (λ v k. assign env text Nil v k)) (Moves rs outer w serves frames inner n n s end (length env.locals)) (CutShort w names outer n n s)) (sym list.gives)
       (stores_run inner n base end c text x stack cells done.written (Items list.values) env left done.reaches laid e seat wrote
       (puts_list x t c size left cells done.written list.values shape seat typed.2 as_many singles done.laid) holds)

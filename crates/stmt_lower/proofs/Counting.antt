@@ -32,7 +32,7 @@ use Rattle.expr_lower.proofs.Runs.{reaches_join, obeys, follows_then}
 use Rattle.expr_lower.proofs.Storing.{set_written, set_there, single_stored, store_leaves}
 use Rattle.stmt_lower.proofs.Scoping.{AreLaid, HoldsInside, choose_name, inside_still, laid_below, laid_more, outer_below}
 use Rattle.expr_lower.proofs.Written.{Written, written_keeps}
-use Rattle.stmt_lower.proofs.Performing.{Moves, Performs, but_all, but_join, keeps_but, breaks_after, move_after, Breaks, KeepsOver}
+use Rattle.stmt_lower.proofs.Performing.{Moves, Performs, but_all, but_join, keeps_but, breaks_after, move_after, CutShort, KeepsOver}
 use Rattle.expr_lower.proofs.Keeping.{apart_last}
 use Rattle.stmt_lower.proofs.Locals.{but_local, local_held, popped}
 use Rattle.stmt_lower.specs.Procedures.{Routines}
@@ -114,7 +114,7 @@ module _ (rs : Routines) (outer : List Name) (w : World) (serves : Serves w oute
     IsDone s end size i high next k = (p : Moves rs outer w serves frames inner n m s end size next k) × (slice_get p.cells n ≡ Some i) × (slice_get p.cells (n + 1) ≡ Some high)
 
     one_number : (i high : ℤ) (stack cells : List ℤ) (env : Env) (left : ℕ) → IsNum i → m ≤ length cells → Inside inner cells env → slice_get cells n ≡ Some i → slice_get cells (n + 1) ≡ Some high
-        → Follows (at_number i env left) (IsDone (state (turn_at + 1) stack frames cells left) (start + length c) (length env.locals) i high) (Breaks w (inner ++ outer) outer n m (state (turn_at + 1) stack frames cells left))
+        → Follows (at_number i env left) (IsDone (state (turn_at + 1) stack frames cells left) (start + length c) (length env.locals) i high) (CutShort w (inner ++ outer) outer n m (state (turn_at + 1) stack frames cells left))
     one_number i high stack cells env left num room holds low_is high_is =
         let old = there cells (n + 2) (omega (arith, room, le, ge)) in
         let now : List ℤ = slice_set cells (n + 2) (conv t i) in
@@ -130,8 +130,8 @@ module _ (rs : Routines) (outer : List Name) (w : World) (serves : Serves w oute
         let deeper : Laid h (local text t (n + 2) ∷ inner) = (n + 2, refl, omega (arith, le), sized, away, laid_more rs outer w.tokens w.low w.high n (n + 2) inner (omega arith) laid) in
         let wider : n ≤ h = omega (arith, le) in
         follows_then (M (with_local (counted i) env) left) (λ next k. Gives (back_to env next) k)
-        (Moves rs outer w serves frames (local text t (n + 2) ∷ inner) h m r (start + length c) (suc (length env.locals))) (Breaks w (local text t (n + 2) ∷ (inner ++ outer)) outer h m r)
-        (IsDone s (start + length c) (length env.locals) i high) (Breaks w (inner ++ outer) outer n m s)
+        (Moves rs outer w serves frames (local text t (n + 2) ∷ inner) h m r (start + length c) (suc (length env.locals))) (CutShort w (local text t (n + 2) ∷ (inner ++ outer)) outer h m r)
+        (IsDone s (start + length c) (length env.locals) i high) (CutShort w (inner ++ outer) outer n m s)
         (body stack now (with_local (counted i) env) left at_body deeper (apart_last n h m w.low w.high wider apart) (let size = wrote.length_same in omega (arith, size, room)) held)
         (λ next k p.
         let back = popped rs outer w serves frames inner text t (n + 2) p.cells next env p.holds p.as_many in (
@@ -151,8 +151,8 @@ module _ (rs : Routines) (outer : List Name) (w : World) (serves : Serves w oute
     -- one turn, and what follows the number
     turns_with : (count : ℕ) (i high : ℤ) (stack cells : List ℤ) (env : Env) (left : ℕ) → IsNum i → m ≤ length cells → Inside inner cells env → slice_get cells n ≡ Some i → slice_get cells (n + 1) ≡ Some high
         → ((now : List ℤ) (next : Env) (j : ℕ) → m ≤ length now → Inside inner now next → slice_get now n ≡ Some i → slice_get now (n + 1) ≡ Some high
-        → Follows (for_loop count (i +ℤ pos 1) at_number next j) (Moves rs outer w serves frames inner n m (state (start + length c) stack frames now j) out (length next.locals)) (Breaks w (inner ++ outer) outer n m (state (start + length c) stack frames now j)))
-        → Follows (for_loop (suc count) i at_number env left) (Moves rs outer w serves frames inner n m (state turn_at stack frames cells left) out (length env.locals)) (Breaks w (inner ++ outer) outer n m (state turn_at stack frames cells left))
+        → Follows (for_loop count (i +ℤ pos 1) at_number next j) (Moves rs outer w serves frames inner n m (state (start + length c) stack frames now j) out (length next.locals)) (CutShort w (inner ++ outer) outer n m (state (start + length c) stack frames now j)))
+        → Follows (for_loop (suc count) i at_number env left) (Moves rs outer w serves frames inner n m (state turn_at stack frames cells left) out (length env.locals)) (CutShort w (inner ++ outer) outer n m (state turn_at stack frames cells left))
     turns_with count i high stack cells env zero num room holds low_is high_is again = record {
       cells = cells;
       ends = stop (obeys w.code w.tokens (state turn_at stack frames cells 0) op.Turn i_turn);
@@ -163,12 +163,12 @@ module _ (rs : Routines) (outer : List Name) (w : World) (serves : Serves w oute
         let r : State = state (turn_at + 1) stack frames cells k in
         move_after rs outer w serves frames inner n n m m turn_at (turn_at + 1) out (length env.locals) stack cells cells (suc k) k (and_then (at_number i env k) (λ next j. for_loop count (i +ℤ pos 1) at_number next j)) (omega arith) (omega arith)
         (after (obeys w.code w.tokens s op.Turn i_turn) here) (but_all (inner ++ outer) n m w.low w.high cells)
-        (follows_then (at_number i env k) (λ next j. for_loop count (i +ℤ pos 1) at_number next j) (IsDone r (start + length c) (length env.locals) i high) (Breaks w (inner ++ outer) outer n m r)
-        (Moves rs outer w serves frames inner n m r out (length env.locals)) (Breaks w (inner ++ outer) outer n m r)
+        (follows_then (at_number i env k) (λ next j. for_loop count (i +ℤ pos 1) at_number next j) (IsDone r (start + length c) (length env.locals) i high) (CutShort w (inner ++ outer) outer n m r)
+        (Moves rs outer w serves frames inner n m r out (length env.locals)) (CutShort w (inner ++ outer) outer n m r)
         (one_number i high stack cells env k num room holds low_is high_is)
         (λ next j d.
         let p = d.0 in
-        subst (λ z. Follows (for_loop count (i +ℤ pos 1) at_number next j) (Moves rs outer w serves frames inner n m r out z) (Breaks w (inner ++ outer) outer n m r)) p.as_many
+        subst (λ z. Follows (for_loop count (i +ℤ pos 1) at_number next j) (Moves rs outer w serves frames inner n m r out z) (CutShort w (inner ++ outer) outer n m r)) p.as_many
         (move_after rs outer w serves frames inner n n m m (turn_at + 1) (start + length c) out (length next.locals) stack cells p.cells k j (for_loop count (i +ℤ pos 1) at_number next j) (omega arith) (omega arith) p.reaches p.keeps
         (again p.cells next j (let size = p.keeps.size in omega (arith, size, room)) p.holds d.1 d.2)))
         (λ f b. b))
@@ -200,7 +200,7 @@ module _ (rs : Routines) (outer : List Name) (w : World) (serves : Serves w oute
         (after (obeys w.code w.tokens back (op.Jump turn_at) rest.1.1.1.1.0) here))))
 
     pub each_turns : (count : ℕ) (i high : ℤ) (stack cells : List ℤ) (env : Env) (left : ℕ) → high ≡ i +ℤ pos count → IsNum i → IsNum high → m ≤ length cells → Inside inner cells env → slice_get cells n ≡ Some i → slice_get cells (n + 1) ≡ Some high
-        → Follows (for_loop (suc count) i at_number env left) (Moves rs outer w serves frames inner n m (state turn_at stack frames cells left) out (length env.locals)) (Breaks w (inner ++ outer) outer n m (state turn_at stack frames cells left))
+        → Follows (for_loop (suc count) i at_number env left) (Moves rs outer w serves frames inner n m (state turn_at stack frames cells left) out (length env.locals)) (CutShort w (inner ++ outer) outer n m (state turn_at stack frames cells left))
     each_turns zero i high stack cells env left is num high_num room holds low_is high_is =
         turns_with zero i high stack cells env left num room holds low_is high_is (λ now next j wide held low now_high.
         record {

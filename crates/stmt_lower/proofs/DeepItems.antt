@@ -39,7 +39,7 @@ use Rattle.expr_lower.proofs.Effects.{same_number}
 use Rattle.expr_lower.proofs.Keeping.{flat_length, keeps_all, keeps_join, keeps_wider, scalars_same, apart_first, apart_last}
 use Rattle.expr_lower.proofs.Listing.{item_kind, item_past, item_within}
 use Rattle.expr_lower.proofs.PartValues.{IsSized, sized_is, sized_list}
-use Rattle.stmt_lower.proofs.Performing.{Moves, Performs, but_wider, breaks_after, cut_breaks, keeps_but, Breaks}
+use Rattle.stmt_lower.proofs.Performing.{Moves, Performs, but_wider, breaks_after, cut_breaks, keeps_but, CutShort}
 use Rattle.expr_lower.proofs.Rowed.{small_num}
 use Rattle.expr_lower.proofs.Runs.{ends_join, follows_both, follows_then, obeys, reaches_join, stands_left, stands_right}
 use Rattle.stmt_lower.proofs.Scoping.{AreLaid, HoldsInside, NewAt, PutsAt, inside_still, laid_typed, names_held, laid_more}
@@ -50,6 +50,7 @@ use Rattle.expr_lower.proofs.Storing.{item_count, set_there, set_written, single
 use Rattle.stmt_lower.specs.Procedures.{Routines}
 use Rattle.expr_lower.specs.Calling.{Serves}
 use Rattle.stmt_lower.proofs.Evaluating.{does_there, singles_there}
+use Rattle.expr_lower.specs.Callees.{Function}
 
 -- ---- cells that keep values
 
@@ -77,7 +78,7 @@ write_cell c tokens stack cells z less = store_leaves c None tokens stack cells 
 own_cell : (n m low high c : ℕ) → AreApart n m low high → n ≤ c → c < m → AreApart c (c + 1) low high
 own_cell n m low high c apart le less = ⊎_elim (λ (a : m ≤ low). inl (omega (arith, a, less))) (λ (a : high ≤ n). inr (omega (arith, a, le))) apart
 
-pub grows_kept : {names : List Name} {c : ℕ} {places : Tree} {base n m : ℕ} {code : List Instr} → IsKept rs.functions names c places base n code m → n ≤ m
+pub grows_kept : {fs : List Function} {names : List Name} {c : ℕ} {places : Tree} {base n m : ℕ} {code : List Instr} → IsKept fs names c places base n code m → n ≤ m
 grows_kept (no_place c base n) = omega arith
 grows_kept (place_more place places c base n k m a b g d) = let x = grows g in let y = grows_kept d in omega (arith, x, y)
 
@@ -332,7 +333,7 @@ module _ (rs : Routines) (outer : List Name) (w : World) (serves : Serves w oute
       → (is_size : IsSize t) (single : IsSingleValue v) (number : flat v ≡ z ∷ []) (small : size < 2 ^ 32)
       → Follows o (Found w frames stack cells k t v z size is_size single number small x.shape u 0 place (state from (pos 0 ∷ stack) frames cells k)) (λ d. Ends w.code w.tokens (state from (pos 0 ∷ stack) frames cells k) (outcome.Trap d) cells)
       → Reaches w.code w.tokens (state base stack frames before left) (state from (pos 0 ∷ stack) frames cells k) → Keeps n m w.low w.high before cells → Inside inner before env → Inside inner cells env
-      → Follows (assign env text us v k) (Moves rs outer w serves frames inner n m (state base stack frames before left) end (length env.locals)) (Breaks w (inner ++ outer) outer n m (state base stack frames before left))
+      → Follows (assign env text us v k) (Moves rs outer w serves frames inner n m (state base stack frames before left) end (length env.locals)) (CutShort w (inner ++ outer) outer n m (state base stack frames before left))
   deep_ends inner n m base place end c cv size text x t stack before cells us v z env left k from load store end_is le laid e seat many value u kind stand (Gives new h) is is_size single number small f r keeps holds now =
       let o : ℕ = f.offset in
       let within = f.within in
@@ -361,7 +362,7 @@ module _ (rs : Routines) (outer : List Name) (w : World) (serves : Serves w oute
       reached keeps holds
   deep_ends inner n m base place end c cv size text x t stack before cells us v z env left k from load store end_is le laid e seat many value u kind stand (Traps d) is is_size single number small f r keeps holds now =
       never rs outer w serves frames runs inner n m base from end c text x (pos 0 ∷ stack) stack before cells us v env left k (λ b. b ≡ d)
-      (λ b same. subst (λ q. Breaks w (inner ++ outer) outer n m (state base stack frames before left) q) (sym same) (record { cells = cells; ends = ends_join r f; keeps = keeps_but (inner ++ outer) keeps }))
+      (λ b same. subst (λ q. CutShort w (inner ++ outer) outer n m (state base stack frames before left) q) (sym same) (record { cells = cells; ends = ends_join r f; keeps = keeps_but (inner ++ outer) keeps }))
       laid e seat (as_put x c us v k (Traps d) cells (λ b. b ≡ d) seat u kind stand is refl) now
   deep_ends inner n m base place end c cv size text x t stack before cells us v z env left k from load store end_is le laid e seat many value u kind stand Lacks is is_size single number small f r keeps holds now =
       never rs outer w serves frames runs inner n m base from end c text x (pos 0 ∷ stack) stack before cells us v env left k (λ b. ⊥) (λ b q. absurd q) laid e seat (as_put x c us v k Lacks cells (λ b. ⊥) seat u kind stand is tt) now
@@ -392,13 +393,13 @@ module _ (rs : Routines) (outer : List Name) (w : World) (serves : Serves w oute
       let sized_leaf : IsSize t = leaf_sized x.shape places typed leaf in
       let small : size < 2 ^ 32 = size_small x.shape size shape in
       let free : AreApart n k w.low w.high = apart_first n k m w.low w.high ge apart in
-      follows_then (eval_all places w.calls env left) (λ us h. and_then (eval value w.calls env h) (λ v j. assign env text us v j)) (AtKept w n k (number_of places) s (base + length a)) (CutsOff w n k s) (Moves rs outer w serves frames inner n m s (base + length (a ++ (b ++ tail))) (length env.locals)) (Breaks w names outer n m s)
+      follows_then (eval_all places w.calls env left) (λ us h. and_then (eval value w.calls env h) (λ v j. assign env text us v j)) (AtKept w n k (number_of places) s (base + length a)) (CutsOff w n k s) (Moves rs outer w serves frames inner n m s (base + length (a ++ (b ++ tail))) (length env.locals)) (CutShort w names outer n m s)
       (keep rs outer w serves frames inner env (omega arith) first stack cells left (stands_left w.code.instrs base a (b ++ tail) stands) laid free (omega (arith, ge, room)) holds)
       (λ us h q.
       let r : State = state (base + length a) stack frames q.cells h in
       let still : Inside inner q.cells env = inside_still rs outer w.tokens w.low w.high n k inner cells q.cells env laid q.keeps holds in
       let wider : AreLaid rs outer w.tokens w.low w.high k inner = laid_more rs outer w.tokens w.low w.high n k inner le laid in
-      follows_then (eval value w.calls env h) (λ v j. assign env text us v j) (λ v j. Pushes w k m r (base + length a + length b) v j × IsSingleValue v) (λ d. CutsOff w k m r d × Unit {0}) (Moves rs outer w serves frames inner n m s (base + length (a ++ (b ++ tail))) (length env.locals)) (Breaks w names outer n m s)
+      follows_then (eval value w.calls env h) (λ v j. assign env text us v j) (λ v j. Pushes w k m r (base + length a + length b) v j × IsSingleValue v) (λ d. CutsOff w k m r d × Unit {0}) (Moves rs outer w serves frames inner n m s (base + length (a ++ (b ++ tail))) (length env.locals)) (CutShort w names outer n m s)
       (follows_both (eval value w.calls env h) (Pushes w k m r (base + length a + length b)) (CutsOff w k m r) (λ v j. IsSingleValue v) (λ d. Unit {0})
       (does_there rs outer w serves frames inner second stack q.cells env h (stands_left w.code.instrs (base + length a) b tail rest) wider still)
       (singles_there rs outer w serves frames inner second q.cells env h k wider still))

@@ -34,7 +34,7 @@ use Rattle.expr_lower.proofs.Singles.{IsSingleValue}
 use Rattle.expr_lower.proofs.Storing.{set_there, set_written}
 use Rattle.stmt_lower.proofs.Scoping.{AreLaid, HoldsInside, inside_still, laid_more}
 use Rattle.expr_lower.proofs.Written.{Written, written_keeps}
-use Rattle.stmt_lower.proofs.Performing.{Moves, Performs, breaks_after, but_all, but_wider, cut_breaks, keeps_but, move_after, moves_at, Breaks}
+use Rattle.stmt_lower.proofs.Performing.{Moves, Performs, breaks_after, but_all, but_wider, cut_breaks, keeps_but, move_after, moves_at, CutShort}
 use Rattle.stmt_lower.specs.Procedures.{Routines}
 use Rattle.expr_lower.specs.Calling.{Serves}
 use Rattle.stmt_lower.proofs.Evaluating.{does_there, singles_there}
@@ -60,7 +60,7 @@ module _ (rs : Routines) (outer : List Name) (w : World) (serves : Serves w oute
 
     -- from the comparison of the bounds on
     from_stored : (low high : ℤ) (stack cells : List ℤ) (env : Env) (left : ℕ) → IsNum low → IsNum high → m ≤ length cells → Inside inner cells env → slice_get cells n ≡ Some low → slice_get cells (n + 1) ≡ Some high
-        → Follows (for_loop (span low high) low at_number env left) (Moves rs outer w serves frames inner n m (state (place + 1 + 1) stack frames cells left) out (length env.locals)) (Breaks w (inner ++ outer) outer n m (state (place + 1 + 1) stack frames cells left))
+        → Follows (for_loop (span low high) low at_number env left) (Moves rs outer w serves frames inner n m (state (place + 1 + 1) stack frames cells left) out (length env.locals)) (CutShort w (inner ++ outer) outer n m (state (place + 1 + 1) stack frames cells left))
     from_stored low high stack cells env left x y room holds low_is high_is = go (int_lt high low) refl
       where
         p : ℕ
@@ -75,7 +75,7 @@ module _ (rs : Routines) (outer : List Name) (w : World) (serves : Serves w oute
             reaches_join (load_on rs outer w serves frames q n stack cells left low head.1.1.0 low_is) (reaches_join (load_on rs outer w serves frames (q + 1) (n + 1) (low ∷ stack) cells left high head.1.1.1.0 high_is)
             (reaches_join less (test_on rs outer w serves frames (q + 1 + 1 + 1) out (not b) stack cells left head.1.1.1.1.1.0)))
 
-        go : (b : Bool) → int_lt high low ≡ b → Follows (for_loop (if b then 0 else suc (unsigned_abs (high -ℤ low))) low at_number env left) (Moves rs outer w serves frames inner n m (state (place + 1 + 1) stack frames cells left) out (length env.locals)) (Breaks w (inner ++ outer) outer n m (state (place + 1 + 1) stack frames cells left))
+        go : (b : Bool) → int_lt high low ≡ b → Follows (for_loop (if b then 0 else suc (unsigned_abs (high -ℤ low))) low at_number env left) (Moves rs outer w serves frames inner n m (state (place + 1 + 1) stack frames cells left) out (length env.locals)) (CutShort w (inner ++ outer) outer n m (state (place + 1 + 1) stack frames cells left))
         go true e = record { cells = cells; reaches = compared true e; keeps = but_all (inner ++ outer) n m w.low w.high cells; holds = holds; as_many = refl }
         go false e =
             let at : place + 1 + 1 + 1 + 1 + 1 + 1 ≡ turn_at = omega (arith, turn_is) in
@@ -91,7 +91,7 @@ module _ (rs : Routines) (outer : List Name) (w : World) (serves : Serves w oute
     -- from the two bounds on the stack on
     ranged : (a b : Value) (y z : ℤ) (base : ℕ) (stack before cells : List ℤ) (env : Env) (left k : ℕ) → flat a ≡ y ∷ [] → flat b ≡ z ∷ [] → IsSingleValue a → IsSingleValue b
         → Reaches w.code w.tokens (state base stack frames before left) (state place (z ∷ y ∷ stack) frames cells k) → Keeps n m w.low w.high before cells → m ≤ length before → Inside inner before env
-        → Follows (range_of a b (λ low high. for_loop (span low high) low at_number env k)) (Moves rs outer w serves frames inner n m (state base stack frames before left) out (length env.locals)) (Breaks w (inner ++ outer) outer n m (state base stack frames before left))
+        → Follows (range_of a b (λ low high. for_loop (span low high) low at_number env k)) (Moves rs outer w serves frames inner n m (state base stack frames before left) out (length env.locals)) (CutShort w (inner ++ outer) outer n m (state base stack frames before left))
     ranged (Truth a) b y z base stack before cells env left k e f x1 x2 r keeps room holds = tt
     ranged (Items a) b y z base stack before cells env left k e f x1 x2 r keeps room holds = tt
     ranged (Num a) (Truth b) y z base stack before cells env left k e f x1 x2 r keeps room holds = tt
@@ -141,8 +141,8 @@ module _ (rs : Routines) (outer : List Name) (w : World) (serves : Serves w oute
       let low_laid : Laid (n + 3) inner = laid_more rs outer w.tokens w.low w.high n (n + 3) inner few laid in
       subst (λ (o : Out Shape). Follows (and_then o (λ s i. and_then (eval from w.calls env i) (λ x o. and_then (eval to w.calls env o) (λ y q. range_of x y (λ low high.
       for_loop (span low high) low (λ z now r. inside now (with_local (variable text s false (stored s (Num z))) now) M r) env q)))))
-      (Moves rs outer w serves frames inner n m s (base + length (a ++ (b ++ (each_head n t out ++ tail_code)))) (length env.locals)) (Breaks w names outer n m s)) (sym (meant_is shape t w.calls env left meant))
-      (follows_then (eval from w.calls env left) (λ x o. and_then (eval to w.calls env o) (λ y q. range_of x y (λ low high. for_loop (span low high) low (λ z now r. inside now (with_local (variable text (Single t) false (stored (Single t) (Num z))) now) M r) env q))) (λ x o. Pushes w (n + 3) k s (base + length a) x o × IsSingleValue x) (λ d. CutsOff w (n + 3) k s d × Unit {0}) (Moves rs outer w serves frames inner n m s (base + length (a ++ (b ++ (each_head n t out ++ tail_code)))) (length env.locals)) (Breaks w names outer n m s)
+      (Moves rs outer w serves frames inner n m s (base + length (a ++ (b ++ (each_head n t out ++ tail_code)))) (length env.locals)) (CutShort w names outer n m s)) (sym (meant_is shape t w.calls env left meant))
+      (follows_then (eval from w.calls env left) (λ x o. and_then (eval to w.calls env o) (λ y q. range_of x y (λ low high. for_loop (span low high) low (λ z now r. inside now (with_local (variable text (Single t) false (stored (Single t) (Num z))) now) M r) env q))) (λ x o. Pushes w (n + 3) k s (base + length a) x o × IsSingleValue x) (λ d. CutsOff w (n + 3) k s d × Unit {0}) (Moves rs outer w serves frames inner n m s (base + length (a ++ (b ++ (each_head n t out ++ tail_code)))) (length env.locals)) (CutShort w names outer n m s)
       (follows_both (eval from w.calls env left) (Pushes w (n + 3) k s (base + length a)) (CutsOff w (n + 3) k s) (λ x o. IsSingleValue x) (λ d. Unit {0})
       (does_there rs outer w serves frames inner first stack cells env left (stands_left w.code.instrs base a (b ++ (each_head n t out ++ tail_code)) stands) low_laid holds)
       (singles_there rs outer w serves frames inner first cells env left (n + 3) low_laid holds))
@@ -152,7 +152,7 @@ module _ (rs : Routines) (outer : List Name) (w : World) (serves : Serves w oute
       let still : Inside inner p.cells env = inside_still rs outer w.tokens w.low w.high (n + 3) k inner cells p.cells env low_laid p.keeps holds in
       let wider : Laid k inner = laid_more rs outer w.tokens w.low w.high n k inner wide laid in
       follows_then (eval to w.calls env o) (λ y q. range_of x y (λ low high. for_loop (span low high) low (λ z now r. inside now (with_local (variable text (Single t) false (stored (Single t) (Num z))) now) M r) env q))
-      (λ y q. Pushes w k j r (base + length a + length b) y q × IsSingleValue y) (λ d. CutsOff w k j r d × Unit {0}) (Moves rs outer w serves frames inner n m s (base + length (a ++ (b ++ (each_head n t out ++ tail_code)))) (length env.locals)) (Breaks w names outer n m s)
+      (λ y q. Pushes w k j r (base + length a + length b) y q × IsSingleValue y) (λ d. CutsOff w k j r d × Unit {0}) (Moves rs outer w serves frames inner n m s (base + length (a ++ (b ++ (each_head n t out ++ tail_code)))) (length env.locals)) (CutShort w names outer n m s)
       (follows_both (eval to w.calls env o) (Pushes w k j r (base + length a + length b)) (CutsOff w k j r) (λ y q. IsSingleValue y) (λ d. Unit {0})
       (does_there rs outer w serves frames inner second (p.number ∷ stack) p.cells env o (stands_left w.code.instrs (base + length a) b (each_head n t out ++ tail_code) rest) wider still)
       (singles_there rs outer w serves frames inner second p.cells env o k wider still))

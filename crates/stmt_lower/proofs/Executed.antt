@@ -25,7 +25,7 @@ use Rattle.stmt_lower.proofs.Fewer.{reaches_fewer}
 use Rattle.expr_lower.proofs.Runs.{ends_back, obeys, follows_then, follows_more, stands_left, stands_right}
 use Rattle.stmt_lower.proofs.Scoping.{AreLaid, HoldsInside, laid_more}
 use Rattle.expr_lower.proofs.Coded.{grows, grows_args, grows_test}
-use Rattle.stmt_lower.proofs.Performing.{Moves, Performs, but_all, but_wider, moves_at, breaks_wider, move_after, jump_moves, stays, perform_none, perform_then, test_moves, Breaks}
+use Rattle.stmt_lower.proofs.Performing.{Moves, Performs, but_all, but_wider, moves_at, breaks_wider, move_after, jump_moves, stays, perform_none, perform_then, test_moves, CutShort}
 use Rattle.expr_lower.proofs.Keeping.{apart_first, apart_last}
 use Rattle.expr_lower.specs.Listed.{list_named}
 use Rattle.expr_lower.specs.Parted.{number_of}
@@ -79,7 +79,7 @@ module _ (rs : Routines) (outer : List Name) (w : World) (serves : Serves w oute
       (test_moves rs outer w serves frames inner M N test base n n k m else_at end a stack cells env left (omega arith) wide coded (stands_left w.code.instrs base a (b ++ tail) stands) laid holds
       (λ now j size few held.
       let t : State = state (base + length a) stack frames now j in
-      follows_more (M env j) (Moves rs outer w serves frames inner n m t (base + length a + length b) (length env.locals)) (Breaks w (inner ++ outer) outer n m t) (Moves rs outer w serves frames inner n m t end (length env.locals)) (Breaks w (inner ++ outer) outer n m t)
+      follows_more (M env j) (Moves rs outer w serves frames inner n m t (base + length a + length b) (length env.locals)) (CutShort w (inner ++ outer) outer n m t) (Moves rs outer w serves frames inner n m t end (length env.locals)) (CutShort w (inner ++ outer) outer n m t)
       (move_after rs outer w serves frames inner n k h m (base + length a) (base + length a) (base + length a + length b) (length env.locals) stack now now j j (M env j) le more here (but_all (inner ++ outer) n m w.low w.high now)
       (first stack now env j (stands_left w.code.instrs (base + length a) b tail rest) (laid_more rs outer w.tokens w.low w.high n k inner le laid) (apart_first k h m w.low w.high more (apart_last n k m w.low w.high le apart)) (omega (arith, size, room, more)) held))
       (λ next i p. jump_moves rs outer w serves frames inner n m (base + length a) (base + length a + length b) end (length env.locals) stack now j next i last.0 p)
@@ -100,8 +100,8 @@ module _ (rs : Routines) (outer : List Name) (w : World) (serves : Serves w oute
       (laid : Laid n inner) (apart : AreApart n m w.low w.high) where
     -- from the condition on, if the loop goes on as this does
     from_test : (rest : Env → ℕ → Out Env) (stack cells : List ℤ) (env : Env) (left : ℕ) → m ≤ length cells → Inside inner cells env
-        → ((now : List ℤ) (next : Env) (i : ℕ) → m ≤ length now → i < left → Inside inner now next → Follows (rest next i) (Moves rs outer w serves frames inner n m (state head stack frames now i) out (length next.locals)) (Breaks w (inner ++ outer) outer n m (state head stack frames now i)))
-        → Follows (and_then (eval test w.calls env left) (λ v j. chosen v (λ i. turn i (λ h. and_then (M env h) rest)) (λ i. Gives env i) j)) (Moves rs outer w serves frames inner n m (state head stack frames cells left) out (length env.locals)) (Breaks w (inner ++ outer) outer n m (state head stack frames cells left))
+        → ((now : List ℤ) (next : Env) (i : ℕ) → m ≤ length now → i < left → Inside inner now next → Follows (rest next i) (Moves rs outer w serves frames inner n m (state head stack frames now i) out (length next.locals)) (CutShort w (inner ++ outer) outer n m (state head stack frames now i)))
+        → Follows (and_then (eval test w.calls env left) (λ v j. chosen v (λ i. turn i (λ h. and_then (M env h) rest)) (λ i. Gives env i) j)) (Moves rs outer w serves frames inner n m (state head stack frames cells left) out (length env.locals)) (CutShort w (inner ++ outer) outer n m (state head stack frames cells left))
     from_test rest stack cells env left room holds again =
         test_moves rs outer w serves frames inner (λ now i. turn i (λ h. and_then (M now h) rest)) (λ now i. Gives now i) test head n k m m out out a stack cells env left le (omega arith) coded at_test (laid_more rs outer w.tokens w.low w.high n k inner le laid) holds
         (λ now j size few held. one_turn j few now (omega (arith, size, room)) held)
@@ -109,7 +109,7 @@ module _ (rs : Routines) (outer : List Name) (w : World) (serves : Serves w oute
       where
         -- a jump back to the turn, the turn, the body, and the loop again
         one_turn : (j : ℕ) → j ≤ left → (now : List ℤ) → m ≤ length now → Inside inner now env
-            → Follows (turn j (λ h. and_then (M env h) rest)) (Moves rs outer w serves frames inner n m (state (head + length a) stack frames now j) out (length env.locals)) (Breaks w (inner ++ outer) outer n m (state (head + length a) stack frames now j))
+            → Follows (turn j (λ h. and_then (M env h) rest)) (Moves rs outer w serves frames inner n m (state (head + length a) stack frames now j) out (length env.locals)) (CutShort w (inner ++ outer) outer n m (state (head + length a) stack frames now j))
         one_turn zero few now there held =
             let s : State = state (head + length a) stack frames now 0 in
             let t : State = state (base + 1) stack frames now 0 in
@@ -125,19 +125,19 @@ module _ (rs : Routines) (outer : List Name) (w : World) (serves : Serves w oute
             let reached : Reaches w.code w.tokens s (state (base + 2) stack frames now h) = subst (λ p. Reaches w.code w.tokens s (state p stack frames now h)) place (after (obeys w.code w.tokens s (op.Jump (base + 1)) at_back) (after (obeys w.code w.tokens t op.Turn at_turn) here)) in
             let done : base + 2 + length b ≡ head = sym head_is in
             move_after rs outer w serves frames inner n n m m (head + length a) (base + 2) out (length env.locals) stack now now (suc h) h (and_then (M env h) rest) (omega arith) (omega arith) reached (but_all (inner ++ outer) n m w.low w.high now)
-            (follows_then (M env h) rest (Moves rs outer w serves frames inner n k (state (base + 2) stack frames now h) (base + 2 + length b) (length env.locals)) (Breaks w (inner ++ outer) outer n k (state (base + 2) stack frames now h))
-            (Moves rs outer w serves frames inner n m (state (base + 2) stack frames now h) out (length env.locals)) (Breaks w (inner ++ outer) outer n m (state (base + 2) stack frames now h))
+            (follows_then (M env h) rest (Moves rs outer w serves frames inner n k (state (base + 2) stack frames now h) (base + 2 + length b) (length env.locals)) (CutShort w (inner ++ outer) outer n k (state (base + 2) stack frames now h))
+            (Moves rs outer w serves frames inner n m (state (base + 2) stack frames now h) out (length env.locals)) (CutShort w (inner ++ outer) outer n m (state (base + 2) stack frames now h))
             (body stack now env h at_body laid (apart_first n k m w.low w.high ge apart) (omega (arith, ge, wide)) held)
             (λ next i p.
             let fewer : i ≤ h = reaches_fewer p.reaches in
             let there : Reaches w.code w.tokens (state (base + 2) stack frames now h) (state head stack frames p.cells i) = subst (λ q. Reaches w.code w.tokens (state (base + 2) stack frames now h) (state q stack frames p.cells i)) done p.reaches in
-            subst (λ z. Follows (rest next i) (Moves rs outer w serves frames inner n m (state (base + 2) stack frames now h) out z) (Breaks w (inner ++ outer) outer n m (state (base + 2) stack frames now h))) p.as_many
+            subst (λ z. Follows (rest next i) (Moves rs outer w serves frames inner n m (state (base + 2) stack frames now h) out z) (CutShort w (inner ++ outer) outer n m (state (base + 2) stack frames now h))) p.as_many
             (move_after rs outer w serves frames inner n n m m (base + 2) head out (length next.locals) stack now p.cells h i (rest next i) (omega arith) (omega arith) there (but_wider n m (omega arith) ge p.keeps)
             (again p.cells next i (let size = p.keeps.size in omega (arith, size, wide)) (omega (arith, fewer, few)) p.holds)))
             (λ c q. breaks_wider rs outer w serves frames (inner ++ outer) n n k m (state (base + 2) stack frames now h) c (omega arith) ge q))
 
     loop_moves : (most : ℕ) (stack cells : List ℤ) (env : Env) (left : ℕ) → left < most → m ≤ length cells → Inside inner cells env
-        → Follows (while_loop most (λ now i. eval test w.calls now i) M env left) (Moves rs outer w serves frames inner n m (state head stack frames cells left) out (length env.locals)) (Breaks w (inner ++ outer) outer n m (state head stack frames cells left))
+        → Follows (while_loop most (λ now i. eval test w.calls now i) M env left) (Moves rs outer w serves frames inner n m (state head stack frames cells left) out (length env.locals)) (CutShort w (inner ++ outer) outer n m (state head stack frames cells left))
     loop_moves zero stack cells env left less room holds = absurd (omega arith)
     loop_moves (suc most) stack cells env left less room holds =
         from_test (λ next i. while_loop most (λ now i. eval test w.calls now i) M next i) stack cells env left room holds
@@ -265,7 +265,7 @@ executes names body base n m code below distinct typed coded = record {
     arrives w runs env stack frames cells left stands apart free room holds =
         let s : State = state base stack frames cells left in
         let serves : Serves w names [] = none_served w names in
-        follows_more (exec_all body w.calls runs env left) (Moves no_routines names w serves frames [] n m s (base + length code) (length env.locals)) (Breaks w names names n m s) (Arrives w names n m s (base + length code)) (BreaksOff w names n m s)
+        follows_more (exec_all body w.calls runs env left) (Moves no_routines names w serves frames [] n m s (base + length code) (length env.locals)) (CutShort w names names n m s) (Arrives w names n m s (base + length code)) (BreaksOff w names n m s)
         (performs_all no_routines names w serves frames runs (none_acts w runs names) [] refl coded stack cells env left stands (below, distinct, typed, apart) free room (holds, λ some. absurd (omega (arith, some))))
         (λ next j p. record { cells = p.cells; reaches = p.reaches; keeps = all_kept p.keeps; holds = p.holds.0 })
         (λ c q. record { cells = q.cells; ends = q.ends; keeps = all_kept q.keeps })

@@ -22,7 +22,7 @@ use Rattle.stmt_lower.specs.Stating.{IsKept, copy_code, no_place, place_more}
 use Rattle.stmt_lower.proofs.Copying.{AllSingle, Stores, copies, puts_list, stores_run}
 use Rattle.stmt_lower.proofs.DeepItems.{AreKept, AtKept, grows_kept, keep}
 use Rattle.expr_lower.proofs.Listing.{first_of_two}
-use Rattle.stmt_lower.proofs.Performing.{Moves, Performs, cut_breaks, keeps_but, move_after, moves_at, Breaks}
+use Rattle.stmt_lower.proofs.Performing.{Moves, Performs, cut_breaks, keeps_but, move_after, moves_at, CutShort}
 use Rattle.expr_lower.proofs.Runs.{follows_both, follows_then, stands_left, stands_right}
 use Rattle.expr_lower.proofs.Written.{Written}
 use Rattle.stmt_lower.proofs.Scoping.{inside_still, laid_below, laid_typed, AreLaid, HoldsInside}
@@ -69,7 +69,7 @@ module _ (rs : Routines) (outer : List Name) (w : World) (serves : Serves w oute
       let all : scalars_of_type x.shape ≡ size * 1 = ap scalars_of_type shape in
       let under : c + scalars_of_type x.shape ≤ n = subst (λ z. SeatIsBelow n (scalars_of_type x.shape) z) seat (below text x e) in
       follows_then (eval (tree.list items list) w.calls env left) (λ v k. assign env text Nil v k)
-      (λ v h. (us : Values) × (v ≡ Items us) × AtKept w n m (number_of items) s (base + length a) us h × AllSingle us) (CutsOff w n m s) (Moves rs outer w serves frames inner n m s (base + length (a ++ last)) (length env.locals)) (Breaks w names outer n m s)
+      (λ v h. (us : Values) × (v ≡ Items us) × AtKept w n m (number_of items) s (base + length a) us h × AllSingle us) (CutsOff w n m s) (Moves rs outer w serves frames inner n m s (base + length (a ++ last)) (length env.locals)) (CutShort w names outer n m s)
       (follows_then (eval_all items w.calls env left) (λ us h. Gives (Items us) h) (λ us h. AtKept w n m (number_of items) s (base + length a) us h × AllSingle us) (λ d. CutsOff w n m s d × Unit {0})
       (λ v h. (us : Values) × (v ≡ Items us) × AtKept w n m (number_of items) s (base + length a) us h × AllSingle us) (CutsOff w n m s)
       (follows_both (eval_all items w.calls env left) (AtKept w n m (number_of items) s (base + length a)) (CutsOff w n m s) (λ us h. AllSingle us) (λ d. Unit {0})
@@ -86,7 +86,7 @@ module _ (rs : Routines) (outer : List Name) (w : World) (serves : Serves w oute
       (stands_right w.code.instrs base a last stands) in
       let exact : scalars_of_type x.shape ≡ size = omega (arith, all) in
       let wrote : Written c (scalars_of_type x.shape) k.cells done.written = subst (λ z. Written c z k.cells done.written) (sym exact) (record { length_same = done.same_size; cell = done.others }) in
-      subst (λ u. Follows (assign env text Nil u h) (Moves rs outer w serves frames inner n m s (base + length (a ++ last)) (length env.locals)) (Breaks w names outer n m s)) (sym q.1)
+      subst (λ u. Follows (assign env text Nil u h) (Moves rs outer w serves frames inner n m s (base + length (a ++ last)) (length env.locals)) (CutShort w names outer n m s)) (sym q.1)
       (moves_at rs outer w serves frames (assign env text Nil (Items us) h) inner n m (base + length a + length last) (base + length (a ++ last)) (length env.locals) s end
       (move_after rs outer w serves frames inner n n n m base (base + length a) (base + length a + length last) (length env.locals) stack cells k.cells left h (assign env text Nil (Items us) h) (omega arith) (omega (arith, wide)) k.reaches (keeps_but names k.keeps)
       (stores_run rs outer w serves frames runs inner n (base + length a) (base + length a + length last) c text x stack k.cells done.written (Items us) env h done.reaches laid e seat wrote

@@ -16,7 +16,7 @@ use Rattle.expr_lower.specs.Following.{Follows}
 use Rattle.expr_lower.proofs.Runs.{follows_then}
 use Rattle.stmt_lower.proofs.Scoping.{AreLaid, HoldsInside, choose_name}
 use Rattle.expr_lower.proofs.Written.{stand_one}
-use Rattle.stmt_lower.proofs.Performing.{Moves, Breaks, KeepsOver}
+use Rattle.stmt_lower.proofs.Performing.{Moves, CutShort, KeepsOver}
 use Rattle.stmt_lower.specs.Procedures.{Routines}
 use Rattle.expr_lower.specs.Calling.{Serves}
 
@@ -75,11 +75,11 @@ module _ (rs : Routines) (outer : List Name) (w : World) (serves : Serves w oute
 
   -- a part inside a local, and back
   pub inside_moves : (inner : List Name) (text : List ℕ) (t : Scalar) (M : Env → ℕ → Out Env) (now : Env) (v : Var) (c n h m end : ℕ) (s : State) (left : ℕ) → n ≤ c → c + 1 ≤ m → n ≤ h
-      → Follows (M (with_local v now) left) (Moves rs outer w serves frames (local text t c ∷ inner) h m s end (suc (length now.locals))) (Breaks w (local text t c ∷ (inner ++ outer)) outer h m s)
-      → Follows (inside now (with_local v now) M left) (Moves rs outer w serves frames inner n m s end (length now.locals)) (Breaks w (inner ++ outer) outer n m s)
+      → Follows (M (with_local v now) left) (Moves rs outer w serves frames (local text t c ∷ inner) h m s end (suc (length now.locals))) (CutShort w (local text t c ∷ (inner ++ outer)) outer h m s)
+      → Follows (inside now (with_local v now) M left) (Moves rs outer w serves frames inner n m s end (length now.locals)) (CutShort w (inner ++ outer) outer n m s)
   inside_moves inner text t M now v c n h m end s left le ge wide follows =
       follows_then (M (with_local v now) left) (λ next k. Gives (back_to now next) k)
-      (Moves rs outer w serves frames (local text t c ∷ inner) h m s end (suc (length now.locals))) (Breaks w (local text t c ∷ (inner ++ outer)) outer h m s) (Moves rs outer w serves frames inner n m s end (length now.locals)) (Breaks w (inner ++ outer) outer n m s) follows
+      (Moves rs outer w serves frames (local text t c ∷ inner) h m s end (suc (length now.locals))) (CutShort w (local text t c ∷ (inner ++ outer)) outer h m s) (Moves rs outer w serves frames inner n m s end (length now.locals)) (CutShort w (inner ++ outer) outer n m s) follows
       (λ next k p.
       let back = popped inner text t c p.cells next now p.holds p.as_many in
       record {

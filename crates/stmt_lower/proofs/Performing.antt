@@ -1,5 +1,5 @@
 -- What runs do for statements, put together.
-use Rattle.std.proofs.Common.{◌≡◌, ℕ, ◌+◌, ◌<◌, ◌≤◌, inl, inr, ⊎_elim, ℤ, List, ◌++◌, length, true, false, refl, ◌∙◌, subst, Some, arith, length-append, []}
+use Rattle.std.proofs.Common.{◌≡◌, ℕ, ◌+◌, ◌<◌, ◌≤◌, ◌⊎◌, inl, inr, ⊎_elim, ℤ, List, ◌++◌, length, true, false, refl, ◌∙◌, subst, Some, arith, length-append, []}
 use Rattle.std.specs.Prelude.{slice_get}
 use Rattle.rvc_base.specs.declared.trap.Trap.{Trap}
 use Rattle.cal_ast.specs.Tree.{Tree}
@@ -38,7 +38,7 @@ pub record KeepsOver (names outer : List Name) (n m low high : ℕ) (before afte
       → slice_get after c ≡ slice_get before c
 
 -- the run ends by a trap
-pub record Breaks (w : World) (names outer : List Name) (n m : ℕ) (s : State) (c : Trap) : Type 0 where
+pub record CutShort (w : World) (names outer : List Name) (n m : ℕ) (s : State) (c : Trap) : Type 0 where
   pub cells : List ℤ
   pub ends : Ends w.code w.tokens s (outcome.Trap c) cells
   pub keeps : KeepsOver names outer n m w.low w.high s.cells cells
@@ -87,18 +87,18 @@ module _ (rs : Routines) (outer : List Name) (w : World) (serves : Serves w oute
   abbrev pub Performs : List Name → (Env → ℕ → Out Env) → ℕ → ℕ → List Instr → ℕ → Type 0
   Performs inner M base n code m = (stack cells : List ℤ) (env : Env) (left : ℕ) → StandsAt w.code.instrs base code
       → AreLaid rs outer w.tokens w.low w.high n inner → AreApart n m w.low w.high → m ≤ length cells → HoldsInside rs outer w.tokens w.low w.high inner cells env
-      → Follows (M env left) (Moves inner n m (state base stack frames cells left) (base + length code) (length env.locals)) (Breaks w (inner ++ outer) outer n m (state base stack frames cells left))
+      → Follows (M env left) (Moves inner n m (state base stack frames cells left) (base + length code) (length env.locals)) (CutShort w (inner ++ outer) outer n m (state base stack frames cells left))
 
-  pub moves_at : (o : Out Env) (inner : List Name) (n m p q size : ℕ) (s : State) → p ≡ q → Follows o (Moves inner n m s p size) (Breaks w (inner ++ outer) outer n m s) → Follows o (Moves inner n m s q size) (Breaks w (inner ++ outer) outer n m s)
-  moves_at o inner n m p q size s e h = subst (λ x. Follows o (Moves inner n m s x size) (Breaks w (inner ++ outer) outer n m s)) e h
+  pub moves_at : (o : Out Env) (inner : List Name) (n m p q size : ℕ) (s : State) → p ≡ q → Follows o (Moves inner n m s p size) (CutShort w (inner ++ outer) outer n m s) → Follows o (Moves inner n m s q size) (CutShort w (inner ++ outer) outer n m s)
+  moves_at o inner n m p q size s e h = subst (λ x. Follows o (Moves inner n m s x size) (CutShort w (inner ++ outer) outer n m s)) e h
 
-  pub breaks_wider : (names : List Name) (n k h m : ℕ) (s : State) (c : Trap) → n ≤ k → h ≤ m → Breaks w names outer k h s c → Breaks w names outer n m s c
+  pub breaks_wider : (names : List Name) (n k h m : ℕ) (s : State) (c : Trap) → n ≤ k → h ≤ m → CutShort w names outer k h s c → CutShort w names outer n m s c
   breaks_wider names n k h m s c le ge b = record { cells = b.cells; ends = b.ends; keeps = but_wider n m le ge b.keeps }
 
-  pub cut_breaks : (names : List Name) (n k h m : ℕ) (s : State) (c : Trap) → n ≤ k → h ≤ m → CutsOff w k h s c → Breaks w names outer n m s c
+  pub cut_breaks : (names : List Name) (n k h m : ℕ) (s : State) (c : Trap) → n ≤ k → h ≤ m → CutsOff w k h s c → CutShort w names outer n m s c
   cut_breaks names n k h m s c le ge b = record { cells = b.cells; ends = b.ends; keeps = but_wider n m le ge (keeps_but names b.keeps) }
 
-  pub breaks_after : (names : List Name) (n m : ℕ) (s t : State) (c : Trap) → Reaches w.code w.tokens s t → KeepsOver names outer n m w.low w.high s.cells t.cells → Breaks w names outer n m t c → Breaks w names outer n m s c
+  pub breaks_after : (names : List Name) (n m : ℕ) (s t : State) (c : Trap) → Reaches w.code w.tokens s t → KeepsOver names outer n m w.low w.high s.cells t.cells → CutShort w names outer n m t c → CutShort w names outer n m s c
   breaks_after names n m s t c r keeps b = record { cells = b.cells; ends = ends_join r b.ends; keeps = but_join keeps b.keeps }
 
   pub moves_wider : (inner : List Name) (n k h m : ℕ) (s : State) (end size : ℕ) (env : Env) (left : ℕ) → n ≤ k → h ≤ m → Moves inner k h s end size env left → Moves inner n m s end size env left
@@ -107,12 +107,12 @@ module _ (rs : Routines) (outer : List Name) (w : World) (serves : Serves w oute
   -- what follows from a state on the way, with the same operands, follows from the start
   pub move_after : (inner : List Name) (n k h m base place end size : ℕ) (stack : List ℤ) (before cells : List ℤ) (left now : ℕ) (o : Out Env) → n ≤ k → h ≤ m
       → Reaches w.code w.tokens (state base stack frames before left) (state place stack frames cells now) → KeepsOver (inner ++ outer) outer n m w.low w.high before cells
-      → Follows o (Moves inner k h (state place stack frames cells now) end size) (Breaks w (inner ++ outer) outer k h (state place stack frames cells now))
-      → Follows o (Moves inner n m (state base stack frames before left) end size) (Breaks w (inner ++ outer) outer n m (state base stack frames before left))
+      → Follows o (Moves inner k h (state place stack frames cells now) end size) (CutShort w (inner ++ outer) outer k h (state place stack frames cells now))
+      → Follows o (Moves inner n m (state base stack frames before left) end size) (CutShort w (inner ++ outer) outer n m (state base stack frames before left))
   move_after inner n k h m base place end size stack before cells left now o le ge r keeps follows =
       let s : State = state place stack frames cells now in
       let t : State = state base stack frames before left in
-      follows_more o (Moves inner k h s end size) (Breaks w (inner ++ outer) outer k h s) (Moves inner n m t end size) (Breaks w (inner ++ outer) outer n m t) follows
+      follows_more o (Moves inner k h s end size) (CutShort w (inner ++ outer) outer k h s) (Moves inner n m t end size) (CutShort w (inner ++ outer) outer n m t) follows
       (λ env j p. record {
         cells = p.cells;
         reaches = reaches_join r p.reaches;
@@ -151,13 +151,13 @@ module _ (rs : Routines) (outer : List Name) (w : World) (serves : Serves w oute
   perform_then inner M N base n k m a b le ge first second stack cells env left stands laid apart room holds =
       let s : State = state base stack frames cells left in
       let end : base + length a + length b ≡ base + length (a ++ b) = omega (arith, length-append a b) in
-      follows_then (M env left) N (Moves inner n k s (base + length a) (length env.locals)) (Breaks w (inner ++ outer) outer n k s) (Moves inner n m s (base + length (a ++ b)) (length env.locals)) (Breaks w (inner ++ outer) outer n m s)
+      follows_then (M env left) N (Moves inner n k s (base + length a) (length env.locals)) (CutShort w (inner ++ outer) outer n k s) (Moves inner n m s (base + length (a ++ b)) (length env.locals)) (CutShort w (inner ++ outer) outer n m s)
       (first stack cells env left (stands_left w.code.instrs base a b stands) laid (apart_first n k m w.low w.high ge apart) (omega (arith, ge, room)) holds)
       (λ next j p.
       let t : State = state (base + length a) stack frames p.cells j in
       moves_at (N next j) inner n m (base + length a + length b) (base + length (a ++ b)) (length env.locals) s end
       (move_after inner n k m m base (base + length a) (base + length a + length b) (length env.locals) stack cells p.cells left j (N next j) le (omega arith) p.reaches (but_wider n m (omega arith) ge p.keeps)
-      (subst (λ z. Follows (N next j) (Moves inner k m t (base + length a + length b) z) (Breaks w (inner ++ outer) outer k m t)) p.as_many
+      (subst (λ z. Follows (N next j) (Moves inner k m t (base + length a + length b) z) (CutShort w (inner ++ outer) outer k m t)) p.as_many
       (second stack p.cells next j (stands_right w.code.instrs base a b stands) (laid_more rs outer w.tokens w.low w.high n k inner le laid) (apart_last n k m w.low w.high le apart) (let size = p.keeps.size in omega (arith, size, room)) p.holds))))
       (λ c b. breaks_wider (inner ++ outer) n n k m s c (omega arith) ge b)
 
@@ -167,9 +167,9 @@ module _ (rs : Routines) (outer : List Name) (w : World) (serves : Serves w oute
   pub choose_moves : (inner : List Name) (M N : Env → ℕ → Out Env) (base from n k m near there end : ℕ) (stack cells : List ℤ) (env : Env) (left : ℕ) (v : Value) (j : ℕ) → from ≤ n → k ≤ m
       → AreLaid rs outer w.tokens w.low w.high n inner → HoldsInside rs outer w.tokens w.low w.high inner cells env
       → Chooses w n k (state base stack frames cells left) near there v j
-      → ((now : List ℤ) → length now ≡ length cells → HoldsInside rs outer w.tokens w.low w.high inner now env → Follows (M env j) (Moves inner from m (state near stack frames now j) end (length env.locals)) (Breaks w (inner ++ outer) outer from m (state near stack frames now j)))
-      → ((now : List ℤ) → length now ≡ length cells → HoldsInside rs outer w.tokens w.low w.high inner now env → Follows (N env j) (Moves inner from m (state there stack frames now j) end (length env.locals)) (Breaks w (inner ++ outer) outer from m (state there stack frames now j)))
-      → Follows (chosen v (λ i. M env i) (λ i. N env i) j) (Moves inner from m (state base stack frames cells left) end (length env.locals)) (Breaks w (inner ++ outer) outer from m (state base stack frames cells left))
+      → ((now : List ℤ) → length now ≡ length cells → HoldsInside rs outer w.tokens w.low w.high inner now env → Follows (M env j) (Moves inner from m (state near stack frames now j) end (length env.locals)) (CutShort w (inner ++ outer) outer from m (state near stack frames now j)))
+      → ((now : List ℤ) → length now ≡ length cells → HoldsInside rs outer w.tokens w.low w.high inner now env → Follows (N env j) (Moves inner from m (state there stack frames now j) end (length env.locals)) (CutShort w (inner ++ outer) outer from m (state there stack frames now j)))
+      → Follows (chosen v (λ i. M env i) (λ i. N env i) j) (Moves inner from m (state base stack frames cells left) end (length env.locals)) (CutShort w (inner ++ outer) outer from m (state base stack frames cells left))
   choose_moves inner M N base from n k m near there end stack cells env left (Num z) j le ge laid holds c first other = tt
   choose_moves inner M N base from n k m near there end stack cells env left (Items vs) j le ge laid holds c first other = tt
   choose_moves inner M N base from n k m near there end stack cells env left (Truth true) j le ge laid holds c first other =
@@ -182,12 +182,12 @@ module _ (rs : Routines) (outer : List Name) (w : World) (serves : Serves w oute
   -- a condition, and what follows it
   pub test_moves : (inner : List Name) (M N : Env → ℕ → Out Env) (test : Tree) (base from n k m there end : ℕ) (a : List Instr) (stack cells : List ℤ) (env : Env) (left : ℕ) → from ≤ n → k ≤ m
       → IsTest rs.functions (inner ++ outer) test base n there a k → StandsAt w.code.instrs base a → AreLaid rs outer w.tokens w.low w.high n inner → HoldsInside rs outer w.tokens w.low w.high inner cells env
-      → ((now : List ℤ) (j : ℕ) → length now ≡ length cells → j ≤ left → HoldsInside rs outer w.tokens w.low w.high inner now env → Follows (M env j) (Moves inner from m (state (base + length a) stack frames now j) end (length env.locals)) (Breaks w (inner ++ outer) outer from m (state (base + length a) stack frames now j)))
-      → ((now : List ℤ) (j : ℕ) → length now ≡ length cells → j ≤ left → HoldsInside rs outer w.tokens w.low w.high inner now env → Follows (N env j) (Moves inner from m (state there stack frames now j) end (length env.locals)) (Breaks w (inner ++ outer) outer from m (state there stack frames now j)))
-      → Follows (and_then (eval test w.calls env left) (λ v j. chosen v (λ i. M env i) (λ i. N env i) j)) (Moves inner from m (state base stack frames cells left) end (length env.locals)) (Breaks w (inner ++ outer) outer from m (state base stack frames cells left))
+      → ((now : List ℤ) (j : ℕ) → length now ≡ length cells → j ≤ left → HoldsInside rs outer w.tokens w.low w.high inner now env → Follows (M env j) (Moves inner from m (state (base + length a) stack frames now j) end (length env.locals)) (CutShort w (inner ++ outer) outer from m (state (base + length a) stack frames now j)))
+      → ((now : List ℤ) (j : ℕ) → length now ≡ length cells → j ≤ left → HoldsInside rs outer w.tokens w.low w.high inner now env → Follows (N env j) (Moves inner from m (state there stack frames now j) end (length env.locals)) (CutShort w (inner ++ outer) outer from m (state there stack frames now j)))
+      → Follows (and_then (eval test w.calls env left) (λ v j. chosen v (λ i. M env i) (λ i. N env i) j)) (Moves inner from m (state base stack frames cells left) end (length env.locals)) (CutShort w (inner ++ outer) outer from m (state base stack frames cells left))
   test_moves inner M N test base from n k m there end a stack cells env left le ge coded stands laid holds first other =
       let s : State = state base stack frames cells left in
-      follows_then (eval test w.calls env left) (λ v j. chosen v (λ i. M env i) (λ i. N env i) j) (Chooses w n k s (base + length a) there) (CutsOff w n k s) (Moves inner from m s end (length env.locals)) (Breaks w (inner ++ outer) outer from m s)
+      follows_then (eval test w.calls env left) (λ v j. chosen v (λ i. M env i) (λ i. N env i) j) (Chooses w n k s (base + length a) there) (CutsOff w n k s) (Moves inner from m s end (length env.locals)) (CutShort w (inner ++ outer) outer from m s)
       (tests_there rs outer w serves frames inner coded stack cells env left stands laid holds)
       (λ v j c.
       let less : j ≤ left = reaches_fewer c.reaches in

@@ -34,7 +34,7 @@ use Rattle.expr_lower.proofs.GivenKinds.{routine_keeps}
 use Rattle.expr_lower.proofs.Keeping.{flat_length, keeps_join, scalars_same}
 use Rattle.expr_lower.proofs.Runs.{ends_join, follows_then, obeys, reaches_join, stands_left, stands_right}
 use Rattle.stmt_lower.proofs.Evaluating.{GlobalsHeld, args_there, globals_held}
-use Rattle.stmt_lower.proofs.Performing.{Breaks, KeepsOver, Moves, Performs, but_join, cut_breaks, keeps_but}
+use Rattle.stmt_lower.proofs.Performing.{CutShort, KeepsOver, Moves, Performs, but_join, cut_breaks, keeps_but}
 use Rattle.stmt_lower.proofs.Scoping.{AreLaid, HoldsInside, inside_still, outer_below}
 
 -- ---- what is found
@@ -121,7 +121,7 @@ module _ (rs : Routines) (outer : List Name) (w : World) (serves : Serves w oute
       → Performs rs outer w serves frames inner (λ env left. exec (tree.call_stmt (tree.ident text place) args at) w.calls runs env left) base n (code ++ run_code p) m
   run_performs inner text args place at base n m code p e coded stack cells env left stands laid apart room holds =
       follows_then (eval_all args w.calls env left) (λ vs j. turn j (λ k. and_then (runs env.globals text vs k) (λ globals i. Gives (record env { globals = globals }) i)))
-      (Piles w n m (number_of args) s (base + length code)) (CutsOff w n m s) (Moves rs outer w serves frames inner n m s end (length env.locals)) (Breaks w (inner ++ outer) outer n m s)
+      (Piles w n m (number_of args) s (base + length code)) (CutsOff w n m s) (Moves rs outer w serves frames inner n m s end (length env.locals)) (CutShort w (inner ++ outer) outer n m s)
       (args_there rs outer w serves frames inner coded stack cells env left (stands_left w.code.instrs base code (run_code p) stands) laid holds some)
       (λ vs j q. turned vs j q)
       (λ c t. cut_breaks rs outer w serves frames (inner ++ outer) n n m m s c (omega arith) (omega arith) t)
@@ -151,7 +151,7 @@ module _ (rs : Routines) (outer : List Name) (w : World) (serves : Serves w oute
       here_stands = stands_right w.code.instrs base code (run_code p) stands
 
       turned : (vs : Values) (j : ℕ) → Piles w n m (number_of args) s (base + length code) vs j
-          → Follows (turn j (λ k. and_then (runs env.globals text vs k) (λ globals i. Gives (record env { globals = globals }) i))) (Moves rs outer w serves frames inner n m s end (length env.locals)) (Breaks w (inner ++ outer) outer n m s)
+          → Follows (turn j (λ k. and_then (runs env.globals text vs k) (λ globals i. Gives (record env { globals = globals }) i))) (Moves rs outer w serves frames inner n m s end (length env.locals)) (CutShort w (inner ++ outer) outer n m s)
       turned vs zero q =
           let t : State = state (base + length code) q.top frames q.cells 0 in
           record { cells = q.cells; ends = ends_join q.reaches (stop (obeys w.code w.tokens t op.Turn here_stands.0)); keeps = keeps_but (inner ++ outer) q.keeps }
@@ -180,7 +180,7 @@ module _ (rs : Routines) (outer : List Name) (w : World) (serves : Serves w oute
           let held : HoldsInside rs outer w.tokens w.low w.high inner put.cells env = inside_still rs outer w.tokens w.low w.high n m inner cells put.cells env laid kept holds in
           let now : GlobalsHeld outer w.tokens w.high put.cells env = globals_held rs outer w.tokens w.low w.high inner put.cells env held some in
           follows_then (runs env.globals text vs j) (λ globals i. Gives (record env { globals = globals }) i) (ComesBack w outer within (spot + 1) frames) (BreaksOff w outer 0 0 within)
-          (Moves rs outer w serves frames inner n m s end (length env.locals)) (Breaks w (inner ++ outer) outer n m s)
+          (Moves rs outer w serves frames inner n m s end (length env.locals)) (CutShort w (inner ++ outer) outer n m s)
           (a.goes env.globals vs stack (spot + 1) frames put.cells j (omega (arith, wide, known)) now.vars put.holds)
           (λ globals i r. record {
             cells = r.cells;

@@ -41,7 +41,7 @@ use Rattle.stmt_lower.specs.Procedures.{Procedure, Routines, procedure_named}
 use Rattle.stmt_lower.proofs.Blocking.{Started, start_moves, then_then}
 use Rattle.stmt_lower.proofs.Executed.{grows_all, grows_start, performs_all}
 use Rattle.stmt_lower.proofs.Locals.{local_held}
-use Rattle.stmt_lower.proofs.Performing.{Breaks, KeepsOver, Moves}
+use Rattle.stmt_lower.proofs.Performing.{CutShort, KeepsOver, Moves}
 use Rattle.stmt_lower.proofs.Scoping.{AreLaid, HoldsInside, choose_name, inside_still}
 
 pub proc_grows : {rs : Routines} {body : Tree} {names : List Name} {xs : List Local} {base n m : ℕ} {code : List Instr} → IsProcBody rs body names xs base n code m → n ≤ m
@@ -122,7 +122,7 @@ module _ (rs : Routines) (outer : List Name) (w : World) (serves : Serves w oute
       let s : State = state base stack open_frames cells left in
       let done = stands_right w.code.instrs base code (op.Return ∷ []) stands in
       let ge : n ≤ m = grows_all coded in
-      follows_then (exec_all body w.calls runs env left) (λ last k. Gives last.globals k) (Moves rs outer w serves open_frames inner n m s (base + length code) (length env.locals)) (Breaks w (inner ++ outer) outer n m s)
+      follows_then (exec_all body w.calls runs env left) (λ last k. Gives last.globals k) (Moves rs outer w serves open_frames inner n m s (base + length code) (length env.locals)) (CutShort w (inner ++ outer) outer n m s)
       (Finishes from m s) (BreaksOff w outer from m s)
       (performs_all rs outer w serves open_frames runs acts inner is coded stack cells env left (stands_left w.code.instrs base code (op.Return ∷ []) stands) laid apart room holds)
       (λ last k p.
@@ -139,7 +139,7 @@ module _ (rs : Routines) (outer : List Name) (w : World) (serves : Serves w oute
       subst (λ (h : Shape). Follows (and_then (and_then (first_value h x.start w.calls env left) (λ v j. declared xs w.calls (with_local (variable x.name h x.changes v) env) j)) (λ now i. and_then (exec_all body w.calls runs now i) (λ last q. Gives last.globals q))) (Finishes from m s) (BreaksOff w outer from m s)) (sym shape)
       (subst (λ (o : Out (List Var)). Follows o (Finishes from m s) (BreaksOff w outer from m s)) (sym (then_then (first_value (Single kind) x.start w.calls env left) (λ v j. declared xs w.calls (with_local (variable x.name (Single kind) x.changes v) env) j) (λ now i. and_then (exec_all body w.calls runs now i) (λ last q. Gives last.globals q))))
       (subst (λ (o : Out Value). Follows (and_then o (λ v j. ends_proc body xs (with_local (variable x.name (Single kind) x.changes v) env) j)) (Finishes from m s) (BreaksOff w outer from m s)) (first_same (Single kind) x.start w.calls env left)
-      (follows_then (first_of (Single kind) (optional x.start) w.calls env left) (λ v j. ends_proc body xs (with_local (variable x.name (Single kind) x.changes v) env) j) (Started rs outer w serves open_frames runs kind n k s (base + length a)) (Breaks w (inner ++ outer) outer n k s) (Finishes from m s) (BreaksOff w outer from m s)
+      (follows_then (first_of (Single kind) (optional x.start) w.calls env left) (λ v j. ends_proc body xs (with_local (variable x.name (Single kind) x.changes v) env) j) (Started rs outer w serves open_frames runs kind n k s (base + length a)) (CutShort w (inner ++ outer) outer n k s) (Finishes from m s) (BreaksOff w outer from m s)
       (start_moves rs outer w serves open_frames runs inner kind n (sizes.0 kind shape) up (subst (λ ns. IsStart rs.functions ns kind n (optional x.start) base (n + 1) a k) is first) stack cells env left (stands_left w.code.instrs base a b stands) laid (omega (arith, room, up, more)) holds)
       (λ v j p. later v j p)
       (λ d q. record { cells = q.cells; ends = q.ends; keeps = keeps_outer rs outer w.tokens w.low w.high from n k m inner laid all le (omega (arith, up, more)) more q.keeps }))))

@@ -35,7 +35,7 @@ use Rattle.stmt_lower.proofs.Scoping.{AreLaid, HoldsInside, NewAt, Assigned, Put
 use Rattle.code_ir.proofs.Marks.{get-other}
 use Rattle.expr_lower.proofs.Coded.{grows}
 use Rattle.stmt_lower.proofs.Evaluating.{does_there, singles_there}
-use Rattle.stmt_lower.proofs.Performing.{Moves, Performs, cut_breaks, breaks_after, but_written, but_wider, but_join, keeps_but, Breaks}
+use Rattle.stmt_lower.proofs.Performing.{Moves, Performs, cut_breaks, breaks_after, but_written, but_wider, but_join, keeps_but, CutShort}
 use Rattle.stmt_lower.specs.Procedures.{Routines}
 use Rattle.expr_lower.specs.Calling.{Serves}
 
@@ -59,11 +59,11 @@ module _ (rs : Routines) (outer : List Name) (w : World) (serves : Serves w oute
       → PutsAt rs outer w.tokens w.low w.high (Unit {0}) x cells written places v k (λ t. ⊥)
       → Reaches w.code w.tokens (state base stack frames before left) (state place top frames cells k) → Keeps n m w.low w.high before cells
       → Inside inner before env
-      → Follows (assign env text places v k) (Moves rs outer w serves frames inner n m (state base stack frames before left) end (length env.locals)) (Breaks w (inner ++ outer) outer n m (state base stack frames before left))
+      → Follows (assign env text places v k) (Moves rs outer w serves frames inner n m (state base stack frames before left) end (length env.locals)) (CutShort w (inner ++ outer) outer n m (state base stack frames before left))
   stores inner n m base place end c text x top stack before cells written places v env left k i steps end_is le laid e seat wrote puts r keeps holds =
       let s : State = state base stack frames before left in
       let names : List Name = inner ++ outer in
-      follows_more (assign env text places v k) (Assigned rs outer w.tokens w.low w.high (Unit {0}) inner written env k) (λ t. ⊥) (Moves rs outer w serves frames inner n m s end (length env.locals)) (Breaks w names outer n m s)
+      follows_more (assign env text places v k) (Assigned rs outer w.tokens w.low w.high (Unit {0}) inner written env k) (λ t. ⊥) (Moves rs outer w serves frames inner n m s end (length env.locals)) (CutShort w names outer n m s)
       (assigns rs outer w.tokens w.low w.high (Unit {0}) n inner cells written env text x c places v k (λ t. ⊥) laid e seat wrote puts (inside_still rs outer w.tokens w.low w.high n m inner before cells env laid keeps holds))
       (λ next j p. record {
         cells = written;
@@ -112,7 +112,7 @@ module _ (rs : Routines) (outer : List Name) (w : World) (serves : Serves w oute
       let there : slice_get w.code.instrs (base + length code) ≡ Some i = (stands_right w.code.instrs base code (i ∷ []) stands).0 in
       let end : base + length (code ++ i ∷ []) ≡ base + length code + 1 = omega (arith, length-append code (i ∷ [])) in
       let size : IsSize t = shape_size x.shape (Single t) shape (laid_typed rs outer w.tokens w.low w.high n inner laid text x e) in
-      follows_then (eval value w.calls env left) (λ v k. assign env text Nil v k) (λ v k. Pushes w n m s (base + length code) v k × IsSingleValue v) (λ d. CutsOff w n m s d × Unit {0}) (Moves rs outer w serves frames inner n m s (base + length (code ++ i ∷ [])) (length env.locals)) (Breaks w names outer n m s)
+      follows_then (eval value w.calls env left) (λ v k. assign env text Nil v k) (λ v k. Pushes w n m s (base + length code) v k × IsSingleValue v) (λ d. CutsOff w n m s d × Unit {0}) (Moves rs outer w serves frames inner n m s (base + length (code ++ i ∷ [])) (length env.locals)) (CutShort w names outer n m s)
       (follows_both (eval value w.calls env left) (Pushes w n m s (base + length code)) (CutsOff w n m s) (λ v k. IsSingleValue v) (λ d. Unit {0})
       (does_there rs outer w serves frames inner coded stack cells env left (stands_left w.code.instrs base code (i ∷ []) stands) laid holds)
       (singles_there rs outer w serves frames inner coded cells env left n laid holds))
@@ -224,13 +224,13 @@ module _ (rs : Routines) (outer : List Name) (w : World) (serves : Serves w oute
 
   -- an assignment that never gives an environment, since it traps or clashes
   pub never : (inner : List Name) (n m base place end c : ℕ) (text : List ℕ) (x : Name) (top stack before cells : List ℤ) (places : Values) (v : Value) (env : Env) (left k : ℕ) (T : Trap → Type 0)
-      → ((d : Trap) → T d → Breaks w (inner ++ outer) outer n m (state base stack frames before left) d)
+      → ((d : Trap) → T d → CutShort w (inner ++ outer) outer n m (state base stack frames before left) d)
       → Laid n inner → named text (inner ++ outer) ≡ Some x → x.seat ≡ Cell c → PutsAt rs outer w.tokens w.low w.high ⊥ x cells cells places v k T
       → Inside inner cells env
-      → Follows (assign env text places v k) (Moves rs outer w serves frames inner n m (state base stack frames before left) end (length env.locals)) (Breaks w (inner ++ outer) outer n m (state base stack frames before left))
+      → Follows (assign env text places v k) (Moves rs outer w serves frames inner n m (state base stack frames before left) end (length env.locals)) (CutShort w (inner ++ outer) outer n m (state base stack frames before left))
   never inner n m base place end c text x top stack before cells places v env left k T traps laid e seat puts holds =
       let s : State = state base stack frames before left in
-      follows_more (assign env text places v k) (Assigned rs outer w.tokens w.low w.high ⊥ inner cells env k) T (Moves rs outer w serves frames inner n m s end (length env.locals)) (Breaks w (inner ++ outer) outer n m s)
+      follows_more (assign env text places v k) (Assigned rs outer w.tokens w.low w.high ⊥ inner cells env k) T (Moves rs outer w serves frames inner n m s end (length env.locals)) (CutShort w (inner ++ outer) outer n m s)
       (assigns rs outer w.tokens w.low w.high ⊥ n inner cells cells env text x c places v k T laid e seat (record { length_same = refl; cell = λ d away. refl }) puts holds)
       (λ next j p. absurd p.3) traps
 
@@ -239,22 +239,22 @@ module _ (rs : Routines) (outer : List Name) (w : World) (serves : Serves w oute
       → slice_get w.code.instrs place ≡ Some (op.StoreAt c size (Some t)) → end ≡ place + 1 → n ≤ m → Laid n inner → named text (inner ++ outer) ≡ Some x → x.seat ≡ Cell c → x.shape ≡ Many size (Single t) → IsSize t
       → IsSingleValue v → flat v ≡ z ∷ [] → flat u ≡ y ∷ []
       → Reaches w.code w.tokens (state base stack frames before left) (state place (z ∷ y ∷ stack) frames cells k) → Keeps n m w.low w.high before cells → Inside inner before env
-      → Follows (assign env text (Cons u Nil) v k) (Moves rs outer w serves frames inner n m (state base stack frames before left) end (length env.locals)) (Breaks w (inner ++ outer) outer n m (state base stack frames before left))
+      → Follows (assign env text (Cons u Nil) v k) (Moves rs outer w serves frames inner n m (state base stack frames before left) end (length env.locals)) (CutShort w (inner ++ outer) outer n m (state base stack frames before left))
   item_stores inner n m base place end c size text x t stack before cells u v y z env left k there end_is le laid e seat shape sized one v_is u_is r keeps holds = go u u_is
     where
       now : Inside inner cells env
       now = inside_still rs outer w.tokens w.low w.high n m inner before cells env laid keeps holds
 
-      traps : (i : ℤ) → y ≡ i → effect w.tokens (op.StoreAt c size (Some t)) (z ∷ i ∷ stack) cells ≡ Fails IndexRange → (d : Trap) → d ≡ IndexRange → Breaks w (inner ++ outer) outer n m (state base stack frames before left) d
+      traps : (i : ℤ) → y ≡ i → effect w.tokens (op.StoreAt c size (Some t)) (z ∷ i ∷ stack) cells ≡ Fails IndexRange → (d : Trap) → d ≡ IndexRange → CutShort w (inner ++ outer) outer n m (state base stack frames before left) d
       traps i same fails d is =
           let a : State = state place (z ∷ y ∷ stack) frames cells k in
-          subst (λ f. Breaks w (inner ++ outer) outer n m (state base stack frames before left) f) (sym is) (record {
+          subst (λ f. CutShort w (inner ++ outer) outer n m (state base stack frames before left) f) (sym is) (record {
             cells = cells;
             ends = ends_join r (stop (obeys w.code w.tokens a (op.StoreAt c size (Some t)) there ∙ ap (go_on a) (ap (λ b. effect w.tokens (op.StoreAt c size (Some t)) (z ∷ b ∷ stack) cells) same ∙ fails)));
             keeps = keeps_but (inner ++ outer) keeps;
           })
 
-      at_place : (j : ℕ) → y ≡ pos j → (j < size) ⊎ (size ≤ j) → Follows (assign env text (Cons (Num (pos j)) Nil) v k) (Moves rs outer w serves frames inner n m (state base stack frames before left) end (length env.locals)) (Breaks w (inner ++ outer) outer n m (state base stack frames before left))
+      at_place : (j : ℕ) → y ≡ pos j → (j < size) ⊎ (size ≤ j) → Follows (assign env text (Cons (Num (pos j)) Nil) v k) (Moves rs outer w serves frames inner n m (state base stack frames before left) end (length env.locals)) (CutShort w (inner ++ outer) outer n m (state base stack frames before left))
       at_place j same (inl less) =
           let a : State = state place (z ∷ y ∷ stack) frames cells k in
           let old = list_size inner cells env text x t c size j now e seat shape less in
@@ -268,14 +268,14 @@ module _ (rs : Routines) (outer : List Name) (w : World) (serves : Serves w oute
           (traps (pos j) same (store_item_past c size j (Some t) w.tokens stack cells z past))
           laid e seat (past_put x t c size k (pos j) cells v shape seat (λ h f. let g : j ≡ h = cc in omega (arith, past, g))) now
 
-      at_number : (i : ℤ) → y ≡ i → Follows (assign env text (Cons (Num i) Nil) v k) (Moves rs outer w serves frames inner n m (state base stack frames before left) end (length env.locals)) (Breaks w (inner ++ outer) outer n m (state base stack frames before left))
+      at_number : (i : ℤ) → y ≡ i → Follows (assign env text (Cons (Num i) Nil) v k) (Moves rs outer w serves frames inner n m (state base stack frames before left) end (length env.locals)) (CutShort w (inner ++ outer) outer n m (state base stack frames before left))
       at_number (pos j) same = at_place j same (cases_lt j size)
       at_number (negsuc j) same =
           never inner n m base place end c text x (z ∷ y ∷ stack) stack before cells (Cons (Num (negsuc j)) Nil) v env left k (λ d. d ≡ IndexRange)
           (traps (negsuc j) same refl)
           laid e seat (past_put x t c size k (negsuc j) cells v shape seat (λ h f. cc)) now
 
-      go : (u : Value) → flat u ≡ y ∷ [] → Follows (assign env text (Cons u Nil) v k) (Moves rs outer w serves frames inner n m (state base stack frames before left) end (length env.locals)) (Breaks w (inner ++ outer) outer n m (state base stack frames before left))
+      go : (u : Value) → flat u ≡ y ∷ [] → Follows (assign env text (Cons u Nil) v k) (Moves rs outer w serves frames inner n m (state base stack frames before left) end (length env.locals)) (CutShort w (inner ++ outer) outer n m (state base stack frames before left))
       go (Num i) f = at_number i (sym (same_number i y f))
       go (Truth b) f = never inner n m base place end c text x (z ∷ y ∷ stack) stack before cells (Cons (Truth b) Nil) v env left k (λ d. ⊥) (λ d q. absurd q) laid e seat (odd_put x t c size k (Truth b) cells v shape seat (λ i g. cc)) now
       go (Items us) f = never inner n m base place end c text x (z ∷ y ∷ stack) stack before cells (Cons (Items us) Nil) v env left k (λ d. ⊥) (λ d q. absurd q) laid e seat (odd_put x t c size k (Items us) cells v shape seat (λ i g. cc)) now
@@ -295,7 +295,7 @@ module _ (rs : Routines) (outer : List Name) (w : World) (serves : Serves w oute
       let listed : IsType (Many size (Single t)) = shape_size x.shape (Many size (Single t)) shape (laid_typed rs outer w.tokens w.low w.high n inner laid text x e) in
       let sized : IsSize t = listed.2 in
       follows_then (eval_all (tree.cons spot tree.nil) w.calls env left) (λ is h. and_then (eval value w.calls env h) (λ v j. assign env text is v j))
-      (λ is h. (u : Value) × (is ≡ Cons u Nil) × Pushes w n k s (base + length a) u h) (CutsOff w n k s) (Moves rs outer w serves frames inner n m s (base + length (a ++ (b ++ i ∷ []))) (length env.locals)) (Breaks w names outer n m s)
+      (λ is h. (u : Value) × (is ≡ Cons u Nil) × Pushes w n k s (base + length a) u h) (CutsOff w n k s) (Moves rs outer w serves frames inner n m s (base + length (a ++ (b ++ i ∷ []))) (length env.locals)) (CutShort w names outer n m s)
       (follows_then (eval spot w.calls env left) (λ u h. Gives (Cons u Nil) h) (Pushes w n k s (base + length a)) (CutsOff w n k s) (λ is h. (u : Value) × (is ≡ Cons u Nil) × Pushes w n k s (base + length a) u h) (CutsOff w n k s)
       (does_there rs outer w serves frames inner first stack cells env left (stands_left w.code.instrs base a (b ++ i ∷ []) stands) laid holds)
       (λ u h p. (u, refl, p)) (λ d q. q))
@@ -305,8 +305,8 @@ module _ (rs : Routines) (outer : List Name) (w : World) (serves : Serves w oute
       let r : State = state (base + length a) (p.number ∷ stack) frames p.cells h in
       let still : Inside inner p.cells env = inside_still rs outer w.tokens w.low w.high n k inner cells p.cells env laid p.keeps holds in
       let wider : Laid k inner = laid_more rs outer w.tokens w.low w.high n k inner le laid in
-      subst (λ (us : Values). Follows (and_then (eval value w.calls env h) (λ v j. assign env text us v j)) (Moves rs outer w serves frames inner n m s (base + length (a ++ (b ++ i ∷ []))) (length env.locals)) (Breaks w names outer n m s)) (sym q.1)
-      (follows_then (eval value w.calls env h) (λ v j. assign env text (Cons u Nil) v j) (λ v j. Pushes w k m r (base + length a + length b) v j × IsSingleValue v) (λ d. CutsOff w k m r d × Unit {0}) (Moves rs outer w serves frames inner n m s (base + length (a ++ (b ++ i ∷ []))) (length env.locals)) (Breaks w names outer n m s)
+      subst (λ (us : Values). Follows (and_then (eval value w.calls env h) (λ v j. assign env text us v j)) (Moves rs outer w serves frames inner n m s (base + length (a ++ (b ++ i ∷ []))) (length env.locals)) (CutShort w names outer n m s)) (sym q.1)
+      (follows_then (eval value w.calls env h) (λ v j. assign env text (Cons u Nil) v j) (λ v j. Pushes w k m r (base + length a + length b) v j × IsSingleValue v) (λ d. CutsOff w k m r d × Unit {0}) (Moves rs outer w serves frames inner n m s (base + length (a ++ (b ++ i ∷ []))) (length env.locals)) (CutShort w names outer n m s)
       (follows_both (eval value w.calls env h) (Pushes w k m r (base + length a + length b)) (CutsOff w k m r) (λ v j. IsSingleValue v) (λ d. Unit {0})
       (does_there rs outer w serves frames inner second (p.number ∷ stack) p.cells env h (stands_left w.code.instrs (base + length a) b (i ∷ []) rest) wider still)
       (singles_there rs outer w serves frames inner second p.cells env h k wider still))

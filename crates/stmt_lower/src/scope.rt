@@ -38,7 +38,7 @@ impl<'a> StmtScope<'a> {
     pub(crate) fn under<'b>(&self, frame: &'b Frame<'b>) -> StmtScope<'b>
     where
         'a: 'b,
-        requires { (out-Frame frame.now).outer ≡ locals_of self.now.values.frame }
+        requires { locals_of (out-Frame frame.now).outer ≡ locals_of self.now.values.frame }
         ensures names { seen result ≡ local_in (out-Frame frame.now) ∷ seen self.now }
         ensures callees { called result ≡ called self.now }
     {
