@@ -17,13 +17,16 @@ ghost use Rattle.stmt_lower.specs.StmtWords.{set_item_of, set_of, set_one_of, wh
 
 use crate::counter::{Counter, put_bounds, put_less, put_next, put_turn, take_cells};
 use crate::deep::set_deep;
-use crate::lists::{set_copy, set_items};
-use crate::types::single_meant;
 use crate::jumps::{exit_at, jump_at};
+use crate::lists::{set_copy, set_items};
 use crate::targets::{cell_named, cells_named};
+use crate::types::single_meant;
 use cal_ast::{Expr, ExprForm, Ident, Stmt, StmtForm, TypeExpr, VarDecl};
 use code_ir::Instr;
-use expr_lower::{Draft, Frame, LowerFault, Named, Scope, close, link, lower, lower_test, next_place, put, put_all, start, take_cell};
+use expr_lower::{
+    Draft, Frame, LowerFault, Named, Scope, close, link, lower, lower_test, next_place, put,
+    put_all, start, take_cell,
+};
 use rvc_base::Scalar;
 
 /// Appends code that executes a statement.
