@@ -6,13 +6,12 @@ use Rattle.cal_ast.specs.Tree.{Tree}
 use Rattle.cal_ast.specs.View.{optional}
 use Rattle.cal_model.specs.Value.{Shape, Single, Many}
 use Rattle.cal_model.specs.Actor.{Local, Fun}
-use Rattle.code_ir.specs.declared.instr.Instr.{Instr}
 use Rattle.expr_lower.specs.Callees.{Function}
 use Rattle.expr_lower.specs.Calling.{AreInRow}
 use Rattle.expr_lower.specs.Coding.{IsCode}
 use Rattle.expr_lower.specs.declared.callees.Formal.{Formal}
 use Rattle.expr_lower.specs.declared.draft.Draft.{Draft}
-use Rattle.expr_lower.specs.Growing.{left_out_in, ◌or_else◌}
+use Rattle.expr_lower.specs.Growing.{◌or_else◌}
 use Rattle.expr_lower.specs.Listed.{single_of}
 use Rattle.expr_lower.specs.Lowered.{Adds, IsPut}
 use Rattle.expr_lower.specs.Names.{local, Name}

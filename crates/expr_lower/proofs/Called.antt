@@ -1,28 +1,26 @@
 -- A call does what calling the function does.
-use Rattle.std.proofs.Common.{◌≡◌, ℕ, zero, suc, ◌+◌, ◌<◌, ◌≤◌, inl, inr, ⊎_elim, ℤ, pos, List, [], ◌∷◌, ◌++◌, length, refl, sym, ap, ◌∙◌, subst, Option, None, Some, arith, length-append}
+use Rattle.std.proofs.Common.{◌≡◌, ℕ, zero, suc, ◌+◌, ◌≤◌, ℤ, pos, List, [], ◌∷◌, ◌++◌, length, refl, ap, ◌∙◌, subst, Option, None, Some, arith, length-append}
 use Rattle.std.specs.Prelude.{slice_get, slice_index_or, slice_set}
 use Rattle.std.proofs.lemmas.Option.{slice_get-get_or}
-use Rattle.rvc_base.specs.declared.trap.Trap.{Trap}
-use Rattle.rvc_base.specs.declared.trap.Trap.TheVariants.{TurnLimit}
 use Rattle.rvc_base.specs.Storing.{conv}
 use Rattle.cal_ast.specs.Tree as tree
 use Rattle.cal_ast.specs.Tree.{Tree}
-use Rattle.cal_model.specs.Value.{Single, Value, Values, Nil, Cons, count, stored}
-use Rattle.cal_model.specs.Outcome.{Out, Gives, Traps, and_then, turn}
+use Rattle.cal_model.specs.Value.{Values, Nil, Cons, count}
+use Rattle.cal_model.specs.Outcome.{Gives, and_then, turn}
 use Rattle.cal_model.specs.Env.{Env}
 use Rattle.cal_model.specs.Expression.{eval, eval_all}
 use Rattle.code_ir.specs.declared.instr.Instr.{Instr}
 use Rattle.code_ir.specs.declared.instr.Instr.TheVariants as op
 use Rattle.code_ir.specs.declared.instr.Routine.{Routine}
 use Rattle.code_ir.specs.Effect.{Leaves}
-use Rattle.code_ir.specs.Running.{Goes, Next, State, Stuck, step, go_on, stop, Reaches, here, after}
+use Rattle.code_ir.specs.Running.{Goes, State, Stuck, step, go_on, stop, Reaches, here, after}
 use Rattle.expr_lower.specs.declared.callees.Formal.{Formal}
 use Rattle.expr_lower.specs.Callees.{Function, function_named}
-use Rattle.expr_lower.specs.Calling.{Answers, AreInRow, AreOfSizes, HoldArguments, HoldsArgument, Returns, Serves, outside}
+use Rattle.expr_lower.specs.Calling.{Answers, AreInRow, AreOfSizes, HoldArguments, Returns, Serves, outside}
 use Rattle.expr_lower.specs.Coding.{call_code, formal_stores}
 use Rattle.expr_lower.specs.Flat.{flat}
 use Rattle.expr_lower.specs.Following.{CutsOff, Follows, Pushes}
-use Rattle.expr_lower.specs.Held.{AreApart, Holds, Keeps}
+use Rattle.expr_lower.specs.Held.{Keeps}
 use Rattle.expr_lower.specs.Names.{Name}
 use Rattle.expr_lower.specs.Parted.{number_of}
 use Rattle.expr_lower.specs.Placed.{StandsAt, World, state}

@@ -1,10 +1,8 @@
 -- The routine of a function does what calling the function does.
-use Rattle.std.proofs.Common.{◌≡◌, ℕ, zero, suc, ◌⊎◌, Bool, true, false, ◌+◌, ◌<◌, ◌≤◌, inl, inr, ⊎_elim, ℤ, pos, List, [], ◌∷◌, ◌++◌, length, refl, sym, ap, ◌∙◌, subst, Option, None, Some, arith, append_assoc, append-nil}
+use Rattle.std.proofs.Common.{◌≡◌, ℕ, zero, suc, ◌⊎◌, Bool, true, false, ◌+◌, ◌≤◌, inl, inr, ⊎_elim, ℤ, List, [], ◌∷◌, ◌++◌, length, refl, sym, ap, ◌∙◌, subst, Option, None, Some, arith, append_assoc, append-nil}
 use Rattle.std.specs.Prelude.{slice_get, option_map, if◌then◌else◌}
 use Rattle.std.specs.Str.{bytes_eq}
 use Rattle.std.proofs.lemmas.Slice.Eq.{bytes_eq-Decides}
-use Rattle.rvc_base.specs.declared.scalar.Scalar.{Scalar}
-use Rattle.rvc_base.specs.Storing.{IsSize}
 use Rattle.cal_model.specs.Value.{Shape, Single, Value, Values, Nil, Cons, HasKind, kind_of_scalar, scalars_of_type, stored}
 use Rattle.cal_model.specs.Outcome.{Out, Gives, Lacks, and_then, needed}
 use Rattle.cal_model.specs.Env.{Var, Env, variable}
@@ -17,12 +15,12 @@ use Rattle.code_ir.specs.Code.{Code}
 use Rattle.code_ir.specs.Running.{State}
 use Rattle.expr_lower.specs.declared.callees.Formal.{Formal}
 use Rattle.expr_lower.specs.Callees.{Function, function_named}
-use Rattle.expr_lower.specs.Calling.{Answers, AreInRow, AreOfSizes, HasFormals, HoldArguments, HoldsArgument, Returns, Serves, outside}
+use Rattle.expr_lower.specs.Calling.{Answers, AreInRow, AreOfSizes, HoldArguments, HoldsArgument, Returns, Serves, outside}
 use Rattle.expr_lower.specs.declared.names.Seat.{Seat}
 use Rattle.expr_lower.specs.declared.names.Seat.TheVariants.{Cell, Tokens}
 use Rattle.expr_lower.specs.Flat.{flat}
 use Rattle.expr_lower.specs.Following.{CutsOff, Follows}
-use Rattle.expr_lower.specs.Held.{AllApart, AreApart, AreBelow, Holds, Keeps, SeatIsApart, SeatIsBelow}
+use Rattle.expr_lower.specs.Held.{AllApart, AreBelow, Holds, Keeps, SeatIsApart, SeatIsBelow}
 use Rattle.expr_lower.specs.Names.{local, Name}
 use Rattle.expr_lower.specs.Placed.{StandsAt, World, state}
 use Rattle.expr_lower.specs.Routining.{AreRoutines, no_routine, routine_more, FunSized, IsRoutine, LocalsSized, StandForFormals, behind_formals, world_of}

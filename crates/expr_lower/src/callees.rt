@@ -47,11 +47,7 @@ pub fn function_named<'a>(callees: &'a [Callee], text: &str) -> Option<&'a Calle
 }
 
 /// The function that a call means: it has this name, and as many formals as there are arguments.
-pub fn function_for<'a>(
-    callees: &'a [Callee],
-    text: &str,
-    args: &[Expr],
-) -> Option<&'a Callee>
+pub fn function_for<'a>(callees: &'a [Callee], text: &str, args: &[Expr]) -> Option<&'a Callee>
     ensures { option_map (λ x. function_view x.now) result
         ≡ function_for text.now (number_of (places_of args.now)) (functions_view callees.entry.now) }
 {

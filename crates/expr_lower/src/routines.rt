@@ -11,8 +11,8 @@ ghost use Rattle.expr_lower.specs.Seen.{seen};
 
 use crate::callees::{Callee, Formal};
 use crate::draft::{Draft, next_place, put_all, take_cell};
-use crate::fault::LowerFault;
 use crate::exprs::lower;
+use crate::fault::LowerFault;
 use crate::names::{Named, single};
 use crate::scope::{Frame, Scope};
 use crate::starts::start;

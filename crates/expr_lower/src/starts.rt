@@ -5,8 +5,8 @@ ghost use Rattle.expr_lower.specs.Growing.{IsFault};
 ghost use Rattle.expr_lower.specs.SeenWords.{AddsStart, left_out_first};
 
 use crate::draft::{Draft, put, put_all};
-use crate::fault::LowerFault;
 use crate::exprs::lower;
+use crate::fault::LowerFault;
 use crate::scope::Scope;
 use cal_ast::Expr;
 use code_ir::Instr;

@@ -41,6 +41,7 @@ left_call o at x = elim o [ None ↦ Some at | Some p ↦ x ]
 
 abbrev left_each : Option Scalar → ℕ → (Scalar → Option ℕ) → Option ℕ
 left_each o at f = elim o [ None ↦ Some at | Some t ↦ f t ]
+
 -- ---- assignments
 
 cell_left : (seat : Seat) (shape : Shape) (y x : Option ℕ) → left_else (cell_of (erase_seat seat) shape) y x ≡ left_else (cell_of seat shape) y x

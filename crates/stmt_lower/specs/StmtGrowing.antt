@@ -11,7 +11,7 @@ use Rattle.stmt_lower.specs.Procedures.{Routines, procedure_for}
 use Rattle.stmt_lower.specs.Targets.{cell_named, cells_named}
 use Rattle.expr_lower.specs.Growing.{left_out_args, left_out_in, ◌or_else◌}
 use Rattle.expr_lower.specs.Listed.{list_named}
-use Rattle.expr_lower.specs.Names.{local, Name, named}
+use Rattle.expr_lower.specs.Names.{local, Name}
 use Rattle.stmt_lower.specs.Meant.{single_meant}
 use Rattle.stmt_lower.specs.Targets.{deep_cells_named}
 use Rattle.expr_lower.specs.Parted.{number_of}

@@ -18,11 +18,10 @@ ghost use Rattle.stmt_lower.specs.StmtWords.{run_of, set_item_of, set_of, set_on
 use crate::callees::{procedure_for, put_run};
 use crate::counter::{Counter, put_bounds, put_less, put_next, put_turn, take_cells};
 use crate::deep::set_deep;
-use crate::lists::{set_copy, set_items};
-use crate::types::single_meant;
 use crate::jumps::{exit_at, jump_at};
 use crate::scope::StmtScope;
 use crate::targets::{cell_named, cells_named};
+use crate::types::single_meant;
 use cal_ast::{Expr, ExprForm, Ident, Stmt, StmtForm, TypeExpr, VarDecl};
 use code_ir::Instr;
 use expr_lower::{Draft, Frame, LowerFault, Named, close, link, lower, lower_args, lower_test, next_place, put, put_all, start, take_cell};
