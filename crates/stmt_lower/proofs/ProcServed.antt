@@ -141,7 +141,16 @@ module _ (rs : Routines) (outer : List Name) (w : World) (serves : Serves w oute
       (subst (λ (o : Out Value). Follows (and_then o (λ v j. ends_proc body xs (with_local (variable x.name (Single kind) x.changes v) env) j)) (Finishes from m s) (BreaksOff w outer from m s)) (first_same (Single kind) x.start w.calls env left)
       (follows_then (first_of (Single kind) (optional x.start) w.calls env left) (λ v j. ends_proc body xs (with_local (variable x.name (Single kind) x.changes v) env) j) (Started rs outer w serves open_frames runs kind n k s (base + length a)) (CutShort w (inner ++ outer) outer n k s) (Finishes from m s) (BreaksOff w outer from m s)
       (start_moves rs outer w serves open_frames runs inner kind n (sizes.0 kind shape) up (subst (λ ns. IsStart rs.functions ns kind n (optional x.start) base (n + 1) a k) is first) stack cells env left (stands_left w.code.instrs base a b stands) laid (omega (arith, room, up, more)) holds)
-      (λ v j p. later v j p)
+      (λ v j p.
+      let var : Var = variable x.name (Single kind) x.changes v in
+      let size_same = p.keeps.size in
+      let held : HoldsInside rs outer w.tokens w.low w.high (local x.name kind n ∷ inner) p.cells (with_local var env) =
+      local_held rs outer w serves open_frames inner x.name kind n p.cells env x.changes v p.number p.kind p.is p.stands (inside_still rs outer w.tokens w.low w.high n k inner cells p.cells env laid p.keeps holds) in
+      let away : AreApart n (n + 1) w.low w.high = ⊎_elim (λ (g : m ≤ w.low). inl (omega (arith, g, up, more))) (λ (g : w.high ≤ n). inr g) apart in
+      let deeper : AreLaid rs outer w.tokens w.low w.high k (local x.name kind n ∷ inner) = (n, refl, up, sizes.0 kind shape, away, laid) in
+      later v j p
+      (body_comes_back from body (local x.name kind n ∷ inner) (ap (λ ns. local x.name kind n ∷ ns) is) rest sizes.1 stack p.cells (with_local var env) j (stands_right w.code.instrs base a b stands) deeper ((n, refl, le), all) (omega (arith, le, up))
+      (apart_last n k m w.low w.high (omega (arith, up)) apart) (omega (arith, room, size_same)) held (ap suc as_many)))
       (λ d q. record { cells = q.cells; ends = q.ends; keeps = keeps_outer rs outer w.tokens w.low w.high from n k m inner laid all le (omega (arith, up, more)) more q.keeps }))))
     where
       s : State
@@ -153,23 +162,17 @@ module _ (rs : Routines) (outer : List Name) (w : World) (serves : Serves w oute
       more : k ≤ m
       more = proc_grows rest
 
-      later : (v : Value) (j : ℕ) → Started rs outer w serves open_frames runs kind n k s (base + length a) v j
+      later : (v : Value) (j : ℕ) (p : Started rs outer w serves open_frames runs kind n k s (base + length a) v j)
+          → Follows (ends_proc body xs (with_local (variable x.name (Single kind) x.changes v) env) j) (Finishes from m (state (base + length a) stack open_frames p.cells j)) (BreaksOff w outer from m (state (base + length a) stack open_frames p.cells j))
           → Follows (ends_proc body xs (with_local (variable x.name (Single kind) x.changes v) env) j) (Finishes from m s) (BreaksOff w outer from m s)
-      later v j p =
+      later v j p done =
           let var : Var = variable x.name (Single kind) x.changes v in
           let u : State = state (base + length a) stack open_frames p.cells j in
-          let size_same = p.keeps.size in
           let kept : KeepsBut outer from m w.low w.high cells p.cells = record {
             size = p.keeps.size;
             cell = λ c free apart none. p.keeps.cell c (⊎_elim (λ (a : c < from). inl (omega (arith, a, le))) (λ (a : m ≤ c). inr (omega (arith, a, more))) free) apart;
           } in
-          let held : HoldsInside rs outer w.tokens w.low w.high (local x.name kind n ∷ inner) p.cells (with_local var env) =
-          local_held rs outer w serves open_frames inner x.name kind n p.cells env x.changes v p.number p.kind p.is p.stands (inside_still rs outer w.tokens w.low w.high n k inner cells p.cells env laid p.keeps holds) in
-          let away : AreApart n (n + 1) w.low w.high = ⊎_elim (λ (g : m ≤ w.low). inl (omega (arith, g, up, more))) (λ (g : w.high ≤ n). inr g) apart in
-          let deeper : AreLaid rs outer w.tokens w.low w.high k (local x.name kind n ∷ inner) = (n, refl, up, sizes.0 kind shape, away, laid) in
-          follows_more (ends_proc body xs (with_local var env) j) (Finishes from m u) (BreaksOff w outer from m u) (Finishes from m s) (BreaksOff w outer from m s)
-          (body_comes_back from body (local x.name kind n ∷ inner) (ap (λ ns. local x.name kind n ∷ ns) is) rest sizes.1 stack p.cells (with_local var env) j (stands_right w.code.instrs base a b stands) deeper ((n, refl, le), all) (omega (arith, le, up))
-          (apart_last n k m w.low w.high (omega (arith, up)) apart) (omega (arith, room, size_same)) held (ap suc as_many))
+          follows_more (ends_proc body xs (with_local var env) j) (Finishes from m u) (BreaksOff w outer from m u) (Finishes from m s) (BreaksOff w outer from m s) done
           (λ vars i q. record { cells = q.cells; reaches = reaches_join p.reaches q.reaches; keeps = joins_but kept q.keeps; holds = q.holds })
           (λ d q. record { cells = q.cells; ends = ends_join p.reaches q.ends; keeps = joins_but kept q.keeps })
 

@@ -19,6 +19,7 @@ use crate::callees::{procedure_for, put_run};
 use crate::counter::{Counter, put_bounds, put_less, put_next, put_turn, take_cells};
 use crate::deep::set_deep;
 use crate::jumps::{exit_at, jump_at};
+use crate::lists::{set_copy, set_items};
 use crate::scope::StmtScope;
 use crate::targets::{cell_named, cells_named};
 use crate::types::single_meant;
