@@ -83,12 +83,12 @@ module _ (code : Code) (callable limit : ℕ) where
   -- ---- calls
 
   fits_run : (base h : ℕ) (p : Procedure) → p.routine < callable → results_of code p.routine ≡ 0 → HasCells 0 limit p.formals → Plain code callable limit base (h + length p.formals) (run_code p) h
-  fits_run base h p small none formals =
+  fits_run base h p small empty formals =
       let top : ℕ = h + length p.formals in
       let puts : List Instr = formal_stores p.formals in
       plain_then code callable limit base top top h (op.Turn ∷ []) (puts ++ op.Call p.routine ∷ []) (fits_one code callable limit base top top op.Turn (omega arith) (omega arith) refl tt tt tt tt)
       (plain_then code callable limit (base + 1) top h h puts (op.Call p.routine ∷ []) (fits_formals code callable limit p.formals formals.first (base + 1) h formals.row formals.high_end formals.sizes)
-      (fits_one code callable limit (base + 1 + length puts) h h (op.Call p.routine) (omega arith) (omega (arith, none)) refl tt small tt tt))
+      (fits_one code callable limit (base + 1 + length puts) h h (op.Call p.routine) (omega arith) (omega (arith, empty)) refl tt small tt tt))
 
   module _ (rs : Routines) (has : HasRunRoutines code callable limit rs) where
     pub fits_start : (names : List Name) (t : Scalar) (c : ℕ) {start : Tree} {base n m : ℕ} {a : List Instr} (h : ℕ) → IsSize t → c + 1 ≤ limit → AreBelow n names → m ≤ limit → IsStart rs.functions names t c start base n a m → Plain code callable limit base h a h
