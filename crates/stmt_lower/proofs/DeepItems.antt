@@ -34,7 +34,7 @@ use Rattle.expr_lower.specs.Parted.{number_of, sized}
 use Rattle.expr_lower.specs.Placed.{StandsAt, World, state}
 use Rattle.stmt_lower.specs.Stating.{IsKept, no_place, place_more, deep_tail, step_code, step_in}
 use Rattle.stmt_lower.proofs.Changed.{IsChanged, kinds_with, list_changed, same_standing}
-use Rattle.expr_lower.proofs.Coded.{does, grows, load_leaves}
+use Rattle.expr_lower.proofs.Coded.{grows, load_leaves}
 use Rattle.expr_lower.proofs.Effects.{same_number}
 use Rattle.expr_lower.proofs.Keeping.{flat_length, keeps_all, keeps_join, keeps_wider, scalars_same, apart_first, apart_last}
 use Rattle.expr_lower.proofs.Listing.{item_kind, item_past, item_within}

@@ -45,7 +45,7 @@ pub(crate) fn procedure_for<'a>(
 ) -> Option<&'a ProcCallee>
     ensures { option_map (λ x. procedure_view x.now) result
         ≡ procedure_for text.now (number_of (places_of args.now))
-            (procedures_view procedures.entry.now) }
+        (procedures_view procedures.entry.now) }
 {
     let callee = procedure_named(procedures, text)?;
     if callee.formals.len() == args.len() {

@@ -25,7 +25,10 @@ use crate::targets::{cell_named, cells_named};
 use crate::types::single_meant;
 use cal_ast::{Expr, ExprForm, Ident, Stmt, StmtForm, TypeExpr, VarDecl};
 use code_ir::Instr;
-use expr_lower::{Draft, Frame, LowerFault, Named, close, link, lower, lower_args, lower_test, next_place, put, put_all, start, take_cell};
+use expr_lower::{
+    Draft, Frame, LowerFault, Named, close, link, lower, lower_args, lower_test, next_place, put,
+    put_all, start, take_cell,
+};
 use rvc_base::Scalar;
 
 /// Appends code that executes a statement.
@@ -57,7 +60,11 @@ fn lower_stmt(scope: &StmtScope, s: &Stmt, draft: &mut Draft) -> Result<(), Lowe
 
 /// Appends code of statements, one after the other.
 #[cycle(lower_stmt)]
-pub(crate) fn lower_all(scope: &StmtScope, body: &[Stmt], draft: &mut Draft) -> Result<(), LowerFault>
+pub(crate) fn lower_all(
+    scope: &StmtScope,
+    body: &[Stmt],
+    draft: &mut Draft,
+) -> Result<(), LowerFault>
     ensures ok { OnOk result (AddsStmts scope.now (body_of body.now) draft.old draft.new) }
     ensures whole { OnOk result (AreAllOf scope.now (body_of body.now)) }
     ensures fault { IfErr result (AreWhyNot scope.now (body_of body.now) draft.new) }
@@ -249,7 +256,12 @@ fn fork(
 
 /// Appends a `while`: a jump to the condition, a turn and the body, and the condition with a jump back to the turn.
 #[cycle(lower_stmt)]
-fn repeat(scope: &StmtScope, test: &Expr, body: &[Stmt], draft: &mut Draft) -> Result<(), LowerFault>
+fn repeat(
+    scope: &StmtScope,
+    test: &Expr,
+    body: &[Stmt],
+    draft: &mut Draft,
+) -> Result<(), LowerFault>
     ensures ok { (at : ℕ)
         → OnOk result (AddsStmt scope.now (while_of test.now body.now at) draft.old draft.new) }
     ensures whole { OnOk result (IsAllOf scope.now (while_of test.now body.now 0)) }

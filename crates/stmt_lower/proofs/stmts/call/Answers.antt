@@ -1,7 +1,6 @@
 use Rattle.std.proofs.Common.{◌≡◌, None, Some, rules, string_bytes, subst, sym}
-use Rattle.std.specs.Prelude.{IfErr, OnOk}
+use Rattle.std.specs.Prelude.{OnOk}
 use Rattle.std.proofs.lemmas.Result.{on_ok_weaker}
-use Rattle.expr_lower.specs.Growing.{IsFault}
 use Rattle.expr_lower.specs.Parted.{number_of}
 use Rattle.expr_lower.specs.PartView.{places_of}
 use Rattle.stmt_lower.specs.Procedures.{procedure_for, procedure_view}
