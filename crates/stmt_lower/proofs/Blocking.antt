@@ -33,10 +33,11 @@ use Rattle.expr_lower.proofs.Singles.{IsSingleValue}
 use Rattle.expr_lower.proofs.Storing.{set_there, set_written, single_stored}
 use Rattle.stmt_lower.proofs.Scoping.{AreLaid, HoldsInside, inside_still, laid_more}
 use Rattle.expr_lower.proofs.Written.{Written, written_keeps}
-use Rattle.stmt_lower.proofs.Performing.{Moves, Performs, but_wider, cut_breaks, keeps_but, move_after, moves_at, CutShort}
+use Rattle.stmt_lower.proofs.Performing.{Moves, Performs, but_wider, cut_breaks, keeps_but, move_after, moves_at}
 use Rattle.stmt_lower.specs.Procedures.{Routines}
 use Rattle.expr_lower.specs.Calling.{Serves}
 use Rattle.stmt_lower.proofs.Evaluating.{does_there, singles_there}
+use Rattle.stmt_lower.specs.Bodies.{CutShort}
 
 -- ---- environments
 
@@ -194,7 +195,7 @@ module _ (rs : Routines) (outer : List Name) (w : World) (serves : Serves w oute
       let held : Inside (local text t n ∷ inner) p.cells (with_local var env) =
       local_held rs outer w serves frames inner text t n p.cells env changes v p.number p.kind p.is p.stands (inside_still rs outer w.tokens w.low w.high n k inner cells p.cells env laid p.keeps holds) in
       let away : AreApart n (n + 1) w.low w.high = ⊎_elim (λ (x : m ≤ w.low). inl (omega (arith, x, le, ge))) (λ (x : w.high ≤ n). inr x) apart in
-      let deeper : Laid k (local text t n ∷ inner) = (n, refl, le, sized, away, laid) in
+      let deeper : Laid k (local text t n ∷ inner) = (n, (omega arith, le), omega (arith, le), sized, away, laid) in
       let done = body stack p.cells (with_local var env) j (stands_right w.code.instrs base a b stands) deeper (apart_last n k m w.low w.high (omega (arith, le)) apart) (let same = p.keeps.size in omega (arith, same, room)) held in
       subst (λ (o : Out Env). Follows o (Moves rs outer w serves frames inner n m s (base + length (a ++ b)) (length env.locals)) (CutShort w names outer n m s)) (sym (leave_twice M var env (with_vars vars w.calls (with_local var env) j)))
       (moves_at rs outer w serves frames (inside env (with_local var env) (blocked vars M) j) inner n m (base + length a + length b) (base + length (a ++ b)) (length env.locals) s finish

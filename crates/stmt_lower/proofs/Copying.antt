@@ -33,7 +33,7 @@ use Rattle.expr_lower.specs.Placed.{StandsAt, World, state}
 use Rattle.stmt_lower.specs.Stating.{copy_code}
 use Rattle.expr_lower.proofs.Keeping.{flat_length, scalars_same}
 use Rattle.expr_lower.proofs.Listing.{IsList, IsListName, first_of_two, found, named_list}
-use Rattle.stmt_lower.proofs.Performing.{Moves, Performs, but_written, CutShort}
+use Rattle.stmt_lower.proofs.Performing.{Moves, Performs, but_written}
 use Rattle.expr_lower.proofs.Runs.{follows_more, obeys}
 use Rattle.stmt_lower.proofs.Scoping.{AreLaid, Assigned, HoldsInside, PutsAt, assigns, choose_name, laid_below, laid_typed, names_held}
 use Rattle.expr_lower.proofs.Written.{Written}
@@ -41,6 +41,7 @@ use Rattle.expr_lower.proofs.Singles.{IsSingleValue, kind_single}
 use Rattle.expr_lower.proofs.Storing.{single_stored}
 use Rattle.stmt_lower.specs.Procedures.{Routines}
 use Rattle.expr_lower.specs.Calling.{Serves}
+use Rattle.stmt_lower.specs.Bodies.{CutShort, SeatLies}
 
 -- ---- ranges of cells
 
@@ -202,13 +203,12 @@ list_stands t c vs tokens cells size kinds laid =
 
 -- what is laid side by side shares no cell
 module _ (rs : Routines) (outer : List Name) (tokens : ℕ → List ℤ) (low high : ℕ) where
-  below_apart : (n size c : ℕ) (seat : Seat) (many : ℕ) → n ≤ c → SeatIsBelow n size seat → SeatsApart seat size (Cell c) many
-  below_apart n size c (Cell d) many le h = inr (omega (arith, h, le))
-  below_apart n size c (Tokens port first step) many le h = tt
-
-  apart_below : (n size c : ℕ) (seat : Seat) (many : ℕ) → n ≤ c → SeatIsBelow n size seat → SeatsApart (Cell c) many seat size
-  apart_below n size c (Cell d) many le h = inl (omega (arith, h, le))
-  apart_below n size c (Tokens port first step) many le h = tt
+  -- what lies from a cell on shares no cell with what lies below it
+  seats_apart : (s other : Seat) (c n size many : ℕ) → SeatLies c n size s → SeatIsBelow c many other → SeatsApart s size other many × SeatsApart other many s size
+  seats_apart (Cell d) (Cell e) c n size many lies below = let from = lies.0 in (inl (omega (arith, below, from)), inr (omega (arith, below, from)))
+  seats_apart (Cell d) (Tokens port first step) c n size many lies below = (tt, tt)
+  seats_apart (Tokens port first step) (Cell e) c n size many lies below = (tt, tt)
+  seats_apart (Tokens port first step) (Tokens p f q) c n size many lies below = (tt, tt)
 
   both_first : (x : Name) (text other : List ℕ) → bytes_eq text other ≡ false → bytes_eq x.text text ≡ true → bytes_eq x.text other ≡ true → ⊥
   both_first x text other differ e f =
@@ -223,14 +223,12 @@ module _ (rs : Routines) (outer : List Name) (tokens : ℕ → List ℤ) (low hi
       ⊎_elim (λ (q : (bytes_eq x.text other ≡ true) × (x ≡ b)). absurd (both_first x text other differ p.0 q.0))
       (λ (q : (bytes_eq x.text other ≡ false) × (named other (inner ++ outer) ≡ Some b)).
       subst (λ (z : Name). SeatsApart z.seat (scalars_of_type z.shape) b.seat (scalars_of_type b.shape)) p.1
-      (subst (λ s. SeatsApart s (scalars_of_type x.shape) b.seat (scalars_of_type b.shape)) (sym at)
-      (apart_below c (scalars_of_type b.shape) c b.seat (scalars_of_type x.shape) (omega arith) (laid_below rs outer tokens low high c inner rest other b q.1))))
+      (seats_apart x.seat b.seat c n (scalars_of_type x.shape) (scalars_of_type b.shape) at (laid_below rs outer tokens low high c inner rest other b q.1)).0)
       (choose_name (bytes_eq x.text other) x (named other (inner ++ outer)) b f))
       (λ (p : (bytes_eq x.text text ≡ false) × (named text (inner ++ outer) ≡ Some a)).
       ⊎_elim (λ (q : (bytes_eq x.text other ≡ true) × (x ≡ b)).
       subst (λ (z : Name). SeatsApart a.seat (scalars_of_type a.shape) z.seat (scalars_of_type z.shape)) q.1
-      (subst (λ s. SeatsApart a.seat (scalars_of_type a.shape) s (scalars_of_type x.shape)) (sym at)
-      (below_apart c (scalars_of_type a.shape) c a.seat (scalars_of_type x.shape) (omega arith) (laid_below rs outer tokens low high c inner rest text a p.1))))
+      (seats_apart x.seat a.seat c n (scalars_of_type x.shape) (scalars_of_type a.shape) at (laid_below rs outer tokens low high c inner rest text a p.1)).1)
       (λ (q : (bytes_eq x.text other ≡ false) × (named other (inner ++ outer) ≡ Some b)). laid_distinct c inner rest text other a b p.1 q.1 differ)
       (choose_name (bytes_eq x.text other) x (named other (inner ++ outer)) b f))
       (choose_name (bytes_eq x.text text) x (named text (inner ++ outer)) a e)

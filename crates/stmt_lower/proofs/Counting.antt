@@ -32,11 +32,12 @@ use Rattle.expr_lower.proofs.Runs.{reaches_join, obeys, follows_then}
 use Rattle.expr_lower.proofs.Storing.{set_written, set_there, single_stored, store_leaves}
 use Rattle.stmt_lower.proofs.Scoping.{AreLaid, HoldsInside, choose_name, inside_still, laid_below, laid_more, outer_below}
 use Rattle.expr_lower.proofs.Written.{Written, written_keeps}
-use Rattle.stmt_lower.proofs.Performing.{Moves, Performs, but_all, but_join, keeps_but, breaks_after, move_after, CutShort, KeepsOver}
+use Rattle.stmt_lower.proofs.Performing.{Moves, Performs, but_all, but_join, keeps_but, breaks_after, move_after}
 use Rattle.expr_lower.proofs.Keeping.{apart_last}
 use Rattle.stmt_lower.proofs.Locals.{but_local, local_held, popped}
 use Rattle.stmt_lower.specs.Procedures.{Routines}
 use Rattle.expr_lower.specs.Calling.{Serves}
+use Rattle.stmt_lower.specs.Bodies.{CutShort, KeepsOver}
 
 -- a cell that is there holds a number
 pub there : (cells : List ℤ) (c : ℕ) → c < length cells → (y : ℤ) × (slice_get cells c ≡ Some y)
@@ -127,7 +128,7 @@ module _ (rs : Routines) (outer : List Name) (w : World) (serves : Serves w oute
         let held : Inside (local text t (n + 2) ∷ inner) now (with_local (counted i) env) =
         local_held rs outer w serves frames inner text t (n + 2) now env false (stored (Single t) (Num i)) (conv t i) made.0 made.1 (set_there cells (n + 2) old.0 (conv t i) old.1) (inside_still rs outer w.tokens w.low w.high n m inner cells now env laid keeps holds) in
         let away : AreApart (n + 2) (n + 2 + 1) w.low w.high = ⊎_elim (λ (a : m ≤ w.low). inl (omega (arith, a, le, ge))) (λ (a : w.high ≤ n). inr (omega (arith, a))) apart in
-        let deeper : Laid h (local text t (n + 2) ∷ inner) = (n + 2, refl, omega (arith, le), sized, away, laid_more rs outer w.tokens w.low w.high n (n + 2) inner (omega arith) laid) in
+        let deeper : Laid h (local text t (n + 2) ∷ inner) = (n + 2, (omega arith, omega (arith, le)), omega (arith, le), sized, away, laid_more rs outer w.tokens w.low w.high n (n + 2) inner (omega arith) laid) in
         let wider : n ≤ h = omega (arith, le) in
         follows_then (M (with_local (counted i) env) left) (λ next k. Gives (back_to env next) k)
         (Moves rs outer w serves frames (local text t (n + 2) ∷ inner) h m r (start + length c) (suc (length env.locals))) (CutShort w (local text t (n + 2) ∷ (inner ++ outer)) outer h m r)

@@ -39,7 +39,7 @@ use Rattle.expr_lower.proofs.Effects.{same_number}
 use Rattle.expr_lower.proofs.Keeping.{flat_length, keeps_all, keeps_join, keeps_wider, scalars_same, apart_first, apart_last}
 use Rattle.expr_lower.proofs.Listing.{item_kind, item_past, item_within}
 use Rattle.expr_lower.proofs.PartValues.{IsSized, sized_is, sized_list}
-use Rattle.stmt_lower.proofs.Performing.{Moves, Performs, but_wider, breaks_after, cut_breaks, keeps_but, CutShort}
+use Rattle.stmt_lower.proofs.Performing.{Moves, Performs, but_wider, breaks_after, cut_breaks, keeps_but}
 use Rattle.expr_lower.proofs.Rowed.{small_num}
 use Rattle.expr_lower.proofs.Runs.{ends_join, follows_both, follows_then, obeys, reaches_join, stands_left, stands_right}
 use Rattle.stmt_lower.proofs.Scoping.{AreLaid, HoldsInside, NewAt, PutsAt, inside_still, laid_typed, names_held, laid_more}
@@ -51,6 +51,7 @@ use Rattle.stmt_lower.specs.Procedures.{Routines}
 use Rattle.expr_lower.specs.Calling.{Serves}
 use Rattle.stmt_lower.proofs.Evaluating.{does_there, singles_there}
 use Rattle.expr_lower.specs.Callees.{Function}
+use Rattle.stmt_lower.specs.Bodies.{CutShort}
 
 -- ---- cells that keep values
 

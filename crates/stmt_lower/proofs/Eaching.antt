@@ -34,10 +34,11 @@ use Rattle.expr_lower.proofs.Singles.{IsSingleValue}
 use Rattle.expr_lower.proofs.Storing.{set_there, set_written}
 use Rattle.stmt_lower.proofs.Scoping.{AreLaid, HoldsInside, inside_still, laid_more}
 use Rattle.expr_lower.proofs.Written.{Written, written_keeps}
-use Rattle.stmt_lower.proofs.Performing.{Moves, Performs, breaks_after, but_all, but_wider, cut_breaks, keeps_but, move_after, moves_at, CutShort}
+use Rattle.stmt_lower.proofs.Performing.{Moves, Performs, breaks_after, but_all, but_wider, cut_breaks, keeps_but, move_after, moves_at}
 use Rattle.stmt_lower.specs.Procedures.{Routines}
 use Rattle.expr_lower.specs.Calling.{Serves}
 use Rattle.stmt_lower.proofs.Evaluating.{does_there, singles_there}
+use Rattle.stmt_lower.specs.Bodies.{CutShort}
 
 -- the numbers of a range behind the first
 range_count : (low high : ℤ) → int_lt high low ≡ false → high ≡ low +ℤ pos (unsigned_abs (high -ℤ low))

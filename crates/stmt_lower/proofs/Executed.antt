@@ -25,7 +25,7 @@ use Rattle.stmt_lower.proofs.Fewer.{reaches_fewer}
 use Rattle.expr_lower.proofs.Runs.{ends_back, obeys, follows_then, follows_more, stands_left, stands_right}
 use Rattle.stmt_lower.proofs.Scoping.{AreLaid, HoldsInside, laid_more}
 use Rattle.expr_lower.proofs.Coded.{grows, grows_args, grows_test}
-use Rattle.stmt_lower.proofs.Performing.{Moves, Performs, but_all, but_wider, moves_at, breaks_wider, move_after, jump_moves, stays, perform_none, perform_then, test_moves, CutShort, KeepsOver}
+use Rattle.stmt_lower.proofs.Performing.{Moves, Performs, but_all, but_wider, moves_at, breaks_wider, move_after, jump_moves, stays, perform_none, perform_then, test_moves}
 use Rattle.expr_lower.proofs.Keeping.{apart_first, apart_last}
 use Rattle.expr_lower.specs.Listed.{list_named}
 use Rattle.expr_lower.specs.Parted.{number_of}
@@ -40,6 +40,7 @@ use Rattle.expr_lower.specs.Calling.{Serves}
 use Rattle.stmt_lower.specs.Acting.{ServesRuns}
 use Rattle.stmt_lower.proofs.ProcCalls.{run_performs}
 use Rattle.expr_lower.specs.Callees.{Function}
+use Rattle.stmt_lower.specs.Bodies.{CutShort, KeepsOver}
 
 module _ (rs : Routines) (outer : List Name) (w : World) (serves : Serves w outer rs.functions) (frames : List ℕ) where
   abbrev Inside : List Name → List ℤ → Env → Type 0

@@ -22,7 +22,7 @@ use Rattle.stmt_lower.specs.Stating.{IsKept, copy_code, no_place, place_more}
 use Rattle.stmt_lower.proofs.Copying.{AllSingle, Stores, copies, puts_list, stores_run}
 use Rattle.stmt_lower.proofs.DeepItems.{AreKept, AtKept, grows_kept, keep}
 use Rattle.expr_lower.proofs.Listing.{first_of_two}
-use Rattle.stmt_lower.proofs.Performing.{Moves, Performs, cut_breaks, keeps_but, move_after, moves_at, CutShort}
+use Rattle.stmt_lower.proofs.Performing.{Moves, Performs, cut_breaks, keeps_but, move_after, moves_at}
 use Rattle.expr_lower.proofs.Runs.{follows_both, follows_then, stands_left, stands_right}
 use Rattle.expr_lower.proofs.Written.{Written}
 use Rattle.stmt_lower.proofs.Scoping.{inside_still, laid_below, laid_typed, AreLaid, HoldsInside}
@@ -30,6 +30,7 @@ use Rattle.expr_lower.proofs.Singles.{IsSingleValue}
 use Rattle.stmt_lower.specs.Procedures.{Routines}
 use Rattle.expr_lower.specs.Calling.{Serves}
 use Rattle.stmt_lower.proofs.Evaluating.{singles_there}
+use Rattle.stmt_lower.specs.Bodies.{CutShort}
 
 -- what is kept stands in the cells
 kept_stands : (c : ℕ) (us : Values) (tokens : ℕ → List ℤ) (cells : List ℤ) → AreKept c us cells → StandAt (Cell c) tokens cells (flat_all us)

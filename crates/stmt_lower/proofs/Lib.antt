@@ -25,3 +25,4 @@ pub mod ErasedStmts
 pub mod AddingProcs
 pub mod ProcServed
 pub mod FittedProcs
+pub mod Readied

@@ -16,9 +16,10 @@ use Rattle.expr_lower.specs.Following.{Follows}
 use Rattle.expr_lower.proofs.Runs.{follows_then}
 use Rattle.stmt_lower.proofs.Scoping.{AreLaid, HoldsInside, choose_name}
 use Rattle.expr_lower.proofs.Written.{stand_one}
-use Rattle.stmt_lower.proofs.Performing.{Moves, CutShort, KeepsOver}
+use Rattle.stmt_lower.proofs.Performing.{Moves}
 use Rattle.stmt_lower.specs.Procedures.{Routines}
 use Rattle.expr_lower.specs.Calling.{Serves}
+use Rattle.stmt_lower.specs.Bodies.{CutShort, KeepsOver}
 
 -- of the cells of a local, and of what is outside it
 pub but_local : {outer : List Name} (names : List Name) (text : List ℕ) (t : Scalar) (c n h m low high : ℕ) (before now : List ℤ) → n ≤ c → c + 1 ≤ m → n ≤ h → KeepsOver (local text t c ∷ names) outer h m low high before now → KeepsOver names outer n m low high before now

@@ -9,7 +9,7 @@ use Rattle.cal_model.specs.Env.{Env}
 use Rattle.cal_model.specs.Expression.{eval, chosen}
 use Rattle.code_ir.specs.declared.instr.Instr.{Instr}
 use Rattle.code_ir.specs.declared.instr.Instr.TheVariants as op
-use Rattle.code_ir.specs.Running.{State, Reaches, Ends, here, after}
+use Rattle.code_ir.specs.Running.{State, Reaches, here, after}
 use Rattle.expr_lower.specs.declared.names.Seat.TheVariants.{Cell}
 use Rattle.expr_lower.specs.Names.{Name, named}
 use Rattle.expr_lower.specs.Held.{Keeps, SeatIsApart, AreApart}
@@ -20,28 +20,14 @@ use Rattle.expr_lower.proofs.Runs.{reaches_join, ends_join, obeys, follows_then,
 use Rattle.expr_lower.proofs.Keeping.{apart_first, apart_last}
 use Rattle.expr_lower.proofs.Written.{Written}
 use Rattle.stmt_lower.proofs.Scoping.{AreLaid, HoldsInside, laid_more, inside_still}
-use Rattle.stmt_lower.specs.Changing.{IsOfNone}
-use Rattle.code_ir.specs.declared.outcome.Outcome.TheVariants as outcome
 use Rattle.stmt_lower.proofs.Evaluating.{tests_there}
 use Rattle.stmt_lower.proofs.Fewer.{reaches_fewer}
 use Rattle.expr_lower.proofs.Doing.{choice_reaches}
 use Rattle.stmt_lower.specs.Procedures.{Routines}
 use Rattle.expr_lower.specs.Calling.{Serves}
+use Rattle.stmt_lower.specs.Bodies.{KeepsOver, CutShort}
 
 -- ---- cells that stay
-
--- of the cells, only those of names, of the names outside, hidden or not, those from n to m and those from low to high may
--- have changed
-pub record KeepsOver (names outer : List Name) (n m low high : ℕ) (before after : List ℤ) : Type 0 where
-  pub size : length after ≡ length before
-  pub cell : (c : ℕ) → (c < n) ⊎ (m ≤ c) → AreApart c (c + 1) low high → IsOfNone names c → IsOfNone outer c
-      → slice_get after c ≡ slice_get before c
-
--- the run ends by a trap
-pub record CutShort (w : World) (names outer : List Name) (n m : ℕ) (s : State) (c : Trap) : Type 0 where
-  pub cells : List ℤ
-  pub ends : Ends w.code w.tokens s (outcome.Trap c) cells
-  pub keeps : KeepsOver names outer n m w.low w.high s.cells cells
 
 pub but_all : {outer : List Name} (names : List Name) (n m low high : ℕ) (cells : List ℤ) → KeepsOver names outer n m low high cells cells
 but_all names n m low high cells = record { size = refl; cell = λ c free apart none far. refl }

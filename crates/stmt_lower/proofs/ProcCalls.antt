@@ -34,8 +34,9 @@ use Rattle.expr_lower.proofs.GivenKinds.{routine_keeps}
 use Rattle.expr_lower.proofs.Keeping.{flat_length, keeps_join, scalars_same}
 use Rattle.expr_lower.proofs.Runs.{ends_join, follows_then, obeys, reaches_join, stands_left, stands_right}
 use Rattle.stmt_lower.proofs.Evaluating.{GlobalsHeld, args_there, globals_held}
-use Rattle.stmt_lower.proofs.Performing.{CutShort, KeepsOver, Moves, Performs, but_join, cut_breaks, keeps_but}
+use Rattle.stmt_lower.proofs.Performing.{Moves, Performs, but_join, cut_breaks, keeps_but}
 use Rattle.stmt_lower.proofs.Scoping.{AreLaid, HoldsInside, inside_still, outer_below}
+use Rattle.stmt_lower.specs.Bodies.{CutShort, KeepsOver, SeatLies}
 
 -- ---- what is found
 
@@ -98,20 +99,19 @@ module _ (rs : Routines) (outer : List Name) (tokens : ℕ → List ℤ) (low hi
     v,
     record under { globals = vars },
     ap (λ (e : Env). record e { globals = vars }) is,
-    record { called = var.called; stored = var.stored; of_type = var.of_type; stands = subst (λ s. StandAt s tokens now (flat v.value)) (sym at) still },
+    record { called = var.called; stored = var.stored; of_type = var.of_type; stands = still x.seat at apart var.stands },
     inside_run c inner before now under vars rest keeps held some below,
   )
     where
       size : scalars_of_type x.shape ≡ length (flat v.value)
       size = sym (flat_length _ v.value var.of_type ∙ scalars_same x.shape)
 
-      was : StandAt (Cell c) tokens before (flat v.value)
-      was = subst (λ s. StandAt s tokens before (flat v.value)) at var.stands
-
-      still : StandAt (Cell c) tokens now (flat v.value)
-      still k z e =
+      still : (seat : Seat) → SeatLies c n (scalars_of_type x.shape) seat → SeatIsApart low high (scalars_of_type x.shape) seat → StandAt seat tokens before (flat v.value) → StandAt seat tokens now (flat v.value)
+      still (Cell d) lies away was k z e =
           let within = slice_get_within (flat v.value) k z e in
-          keeps.cell (c + k) (inr (omega arith)) (⊎_elim (λ (a : c + scalars_of_type x.shape ≤ low). inl (omega (arith, a, within, size))) (λ (a : high ≤ c). inr (omega (arith, a))) apart) (behind_outer c (c + k) n inner rest (omega arith)) ∙ was k z e
+          let from = lies.0 in
+          keeps.cell (d + k) (inr (omega arith)) (⊎_elim (λ (a : d + scalars_of_type x.shape ≤ low). inl (omega (arith, a, within, size))) (λ (a : high ≤ d). inr (omega (arith, a))) away) (behind_outer c (d + k) n inner rest (omega (arith, from))) ∙ was k z e
+      still (Tokens port first step) lies away was k z e = was k z e
 
 -- ---- the call
 

@@ -41,8 +41,9 @@ use Rattle.stmt_lower.specs.Procedures.{Procedure, Routines, procedure_named}
 use Rattle.stmt_lower.proofs.Blocking.{Started, start_moves, then_then}
 use Rattle.stmt_lower.proofs.Executed.{grows_all, grows_start, performs_all}
 use Rattle.stmt_lower.proofs.Locals.{local_held}
-use Rattle.stmt_lower.proofs.Performing.{CutShort, KeepsOver, Moves}
+use Rattle.stmt_lower.proofs.Performing.{Moves}
 use Rattle.stmt_lower.proofs.Scoping.{AreLaid, HoldsInside, choose_name, inside_still}
+use Rattle.stmt_lower.specs.Bodies.{CutShort, KeepsOver, SeatLies}
 
 pub proc_grows : {rs : Routines} {body : Tree} {names : List Name} {xs : List Local} {base n m : ℕ} {code : List Instr} → IsProcBody rs body names xs base n code m → n ≤ m
 proc_grows (no_local names base n m code h) = grows_all h
@@ -55,22 +56,28 @@ first_same t (Some e) calls env left = refl
 
 -- ---- cells that stay
 
+-- the cells of a seat begin at n or later
+abbrev BeginsFrom : ℕ → Seat → Type 0
+BeginsFrom n (Cell c) = n ≤ c
+BeginsFrom n (Tokens port first step) = Unit {0}
+
+-- a cell before those of a seat, or behind them, is none of them
+begins_apart : (seat : Seat) (from n d size m c : ℕ) → n ≤ m → SeatLies d n size seat → BeginsFrom from seat → (c < from) ⊎ (m ≤ c) → SeatIsApart c (c + 1) size seat
+begins_apart (Cell k) from n d size m c le lies begins free = let to = lies.1 in ⊎_elim (λ (a : c < from). inr (omega (arith, a, begins))) (λ (a : m ≤ c). inl (omega (arith, a, to, le))) free
+begins_apart (Tokens port first step) from n d size m c le lies begins free = tt
+
 -- the cells of these names begin at n or later
 abbrev AreFrom : ℕ → List Name → Type 0
 AreFrom n [] = Unit {0}
-AreFrom n (x ∷ inner) = ((c : ℕ) × (x.seat ≡ Cell c) × (n ≤ c)) × AreFrom n inner
+AreFrom n (x ∷ inner) = BeginsFrom n x.seat × AreFrom n inner
 
 module _ (rs : Routines) (outer : List Name) (tokens : ℕ → List ℤ) (low high : ℕ) where
   none_inside : (from n m c : ℕ) (inner : List Name) → AreLaid rs outer tokens low high n inner → AreFrom from inner → n ≤ m → (c < from) ⊎ (m ≤ c) → IsOfNone outer c → IsOfNone (inner ++ outer) c
   none_inside from n m c [] laid all le free none text y e = none text y e
-  none_inside from n m c (x ∷ inner) (d, at, size, typed, apart, rest) ((k, is, ge), all) le free none text y e =
-      ⊎_elim (λ (f : (bytes_eq x.text text ≡ true) × (x ≡ y)). subst (λ (z : Name). SeatIsApart c (c + 1) (scalars_of_type z.shape) z.seat) f.1 (subst (λ s. SeatIsApart c (c + 1) (scalars_of_type x.shape) s) (sym at)
-      (let same : d ≡ k = one_cell d k (sym at ∙ is) in ⊎_elim (λ (a : c < from). inr (omega (arith, a, ge, same))) (λ (a : m ≤ c). inl (omega (arith, a, size, le))) free)))
-      (λ (f : (bytes_eq x.text text ≡ false) × (named text (inner ++ outer) ≡ Some y)). none_inside from d m c inner rest all (omega (arith, size, le)) free none text y f.1)
+  none_inside from n m c (x ∷ inner) (d, at, le, typed, apart, rest) (begins, all) ge free none text y e =
+      ⊎_elim (λ (f : (bytes_eq x.text text ≡ true) × (x ≡ y)). subst (λ (z : Name). SeatIsApart c (c + 1) (scalars_of_type z.shape) z.seat) f.1 (begins_apart x.seat from n d (scalars_of_type x.shape) m c ge at begins free))
+      (λ (f : (bytes_eq x.text text ≡ false) × (named text (inner ++ outer) ≡ Some y)). none_inside from d m c inner rest all (omega (arith, le, ge)) free none text y f.1)
       (choose_name (bytes_eq x.text text) x (named text (inner ++ outer)) y e)
-    where
-      one_cell : (a b : ℕ) → Cell a ≡ Cell b → a ≡ b
-      one_cell a b h = cc
 
   keeps_outer : {before now : List ℤ} (from n h m : ℕ) (inner : List Name) → AreLaid rs outer tokens low high n inner → AreFrom from inner → from ≤ n → n ≤ m → h ≤ m
       → KeepsOver (inner ++ outer) outer n h low high before now → KeepsBut outer from m low high before now
@@ -147,9 +154,9 @@ module _ (rs : Routines) (outer : List Name) (w : World) (serves : Serves w oute
       let held : HoldsInside rs outer w.tokens w.low w.high (local x.name kind n ∷ inner) p.cells (with_local var env) =
       local_held rs outer w serves open_frames inner x.name kind n p.cells env x.changes v p.number p.kind p.is p.stands (inside_still rs outer w.tokens w.low w.high n k inner cells p.cells env laid p.keeps holds) in
       let away : AreApart n (n + 1) w.low w.high = ⊎_elim (λ (g : m ≤ w.low). inl (omega (arith, g, up, more))) (λ (g : w.high ≤ n). inr g) apart in
-      let deeper : AreLaid rs outer w.tokens w.low w.high k (local x.name kind n ∷ inner) = (n, refl, up, sizes.0 kind shape, away, laid) in
+      let deeper : AreLaid rs outer w.tokens w.low w.high k (local x.name kind n ∷ inner) = (n, (omega arith, up), omega (arith, up), sizes.0 kind shape, away, laid) in
       later v j p
-      (body_comes_back from body (local x.name kind n ∷ inner) (ap (λ ns. local x.name kind n ∷ ns) is) rest sizes.1 stack p.cells (with_local var env) j (stands_right w.code.instrs base a b stands) deeper ((n, refl, le), all) (omega (arith, le, up))
+      (body_comes_back from body (local x.name kind n ∷ inner) (ap (λ ns. local x.name kind n ∷ ns) is) rest sizes.1 stack p.cells (with_local var env) j (stands_right w.code.instrs base a b stands) deeper (le, all) (omega (arith, le, up))
       (apart_last n k m w.low w.high (omega (arith, up)) apart) (omega (arith, room, size_same)) held (ap suc as_many)))
       (λ d q. record { cells = q.cells; ends = q.ends; keeps = keeps_outer rs outer w.tokens w.low w.high from n k m inner laid all le (omega (arith, up, more)) more q.keeps }))))
     where
@@ -204,9 +211,9 @@ module _ (rs : Routines) (outer : List Name) (w : World) (serves : Serves w oute
       subst (λ (s : Shape). HoldsInside rs outer w.tokens w.low w.high (local x.name y.kind y.cell ∷ inner) cells (with_local (variable x.name s x.changes (stored s v)) env)) (sym shape)
       (local_held rs outer w serves open_frames inner x.name y.kind y.cell cells env x.changes (stored (Single y.kind) v) one.number one.kind one.is one.there holds) in
       let deeper : AreLaid rs outer w.tokens w.low w.high (n + 1) (local x.name y.kind y.cell ∷ inner) =
-      (y.cell, refl, omega (arith, at), size, inr (omega (arith, at, far)), subst (λ k. AreLaid rs outer w.tokens w.low w.high k inner) (sym at) laid) in
+      (y.cell, (omega arith, omega (arith, at)), omega (arith, at), size, inr (omega (arith, at, far)), subst (λ k. AreLaid rs outer w.tokens w.low w.high k inner) (sym at) laid) in
       let rest : Enters xs ys vs (local x.name y.kind y.cell ∷ inner) from (n + 1 + length ys) cells (with_local var env) =
-      enters xs ys vs (local x.name y.kind y.cell ∷ inner) from (n + 1) cells (with_local var env) h row sizes held (omega (arith, far)) (omega (arith, le)) deeper ((y.cell, refl, omega (arith, at, le)), all) front (ap suc as_many) in
+      enters xs ys vs (local x.name y.kind y.cell ∷ inner) from (n + 1) cells (with_local var env) h row sizes held (omega (arith, far)) (omega (arith, le)) deeper (omega (arith, at, le), all) front (ap suc as_many) in
       let sum : n + 1 + length ys ≡ n + suc (length ys) = omega arith in
       let moved : rest.args ++ var ∷ env.locals ≡ (rest.args ++ var ∷ []) ++ env.locals = sym (append_assoc rest.args (var ∷ []) env.locals) in
       record {

@@ -5,14 +5,14 @@ use Rattle.std.proofs.lemmas.Option.{slice_get_within}
 use Rattle.std.specs.Str.{bytes_eq}
 use Rattle.std.proofs.lemmas.Slice.Eq.{bytes_eq-Decides}
 use Rattle.rvc_base.specs.declared.trap.Trap.{Trap}
-use Rattle.cal_model.specs.Value.{Shape, Value, Values, HasKind, IsType, kind_of_type, scalars_of_type}
+use Rattle.cal_model.specs.Value.{Value, Values, HasKind, IsType, kind_of_type, scalars_of_type}
 use Rattle.cal_model.specs.Outcome.{Out, Gives}
 use Rattle.cal_model.specs.Env.{Var, Env, look_up, with_local, put, assigned_to, assign}
 use Rattle.expr_lower.specs.declared.names.Seat.{Seat}
 use Rattle.expr_lower.specs.declared.names.Seat.TheVariants.{Cell, Tokens}
 use Rattle.expr_lower.specs.Flat.{flat}
 use Rattle.expr_lower.specs.Names.{Name, named}
-use Rattle.expr_lower.specs.Held.{StandAt, HoldsName, Holds, SeatIsBelow, AreBelow, SeatIsApart, AllApart, AreApart, Keeps}
+use Rattle.expr_lower.specs.Held.{StandAt, HoldsName, Holds, SeatIsBelow, AreBelow, SeatIsApart, AllApart, Keeps}
 use Rattle.stmt_lower.specs.Changing.{var_named, AreStored, HoldsVars, AreTyped, SeatsApart, NamesApart}
 use Rattle.expr_lower.specs.Following.{Follows}
 use Rattle.stmt_lower.proofs.Assigning.{EnvReplaced, assign_follows, assign_top, assign_under, assigned_to_follows, vars_of, found_value}
@@ -20,13 +20,7 @@ use Rattle.expr_lower.proofs.Written.{Written, written_keeps}
 use Rattle.expr_lower.proofs.Keeping.{keeps_wider, holds_still, below_more, seat_stands, flat_length, scalars_same}
 use Rattle.expr_lower.proofs.Runs.{follows_then, follows_more}
 use Rattle.stmt_lower.specs.Procedures.{Routines}
-
--- a variable whose value stands in the cells of a name and is stored in the name's type
-pub record HoldsVar (tokens : ℕ → List ℤ) (cells : List ℤ) (v : Var) (x : Name) : Type 0 where
-  pub called : v.name ≡ x.text
-  pub stored : (t : Shape) → v.kept ≡ Some t → t ≡ x.shape
-  pub of_type : HasKind (kind_of_type x.shape) v.value
-  pub stands : StandAt x.seat tokens cells (flat v.value)
+use Rattle.stmt_lower.specs.Bodies.{AreLaid as LaidOver, HoldsVar, SeatLies}
 
 no_locals : (xs : List Var) → length xs ≡ 0 → xs ≡ []
 no_locals [] e = refl
@@ -48,11 +42,25 @@ seat_unwritten (Cell d) c size tokens before after zs w apart stands k z e =
     w.cell (d + k) (⊎_elim (λ (a : d + length zs ≤ c). inl (omega (arith, within, a))) (λ (a : c + size ≤ d). inr (omega (arith, a))) apart) ∙ stands k z e
 seat_unwritten (Tokens port first step) c size tokens before after zs w apart stands k z e = stands k z e
 
+-- ---- seats among others
+
+lies_more : (seat : Seat) (c n m size : ℕ) → n ≤ m → SeatLies c n size seat → SeatLies c m size seat
+lies_more (Cell d) c n m size le h = let to = h.1 in (h.0, omega (arith, to, le))
+lies_more (Tokens port first step) c n m size le h = tt
+
+lies_below : (seat : Seat) (c n size : ℕ) → SeatLies c n size seat → SeatIsBelow n size seat
+lies_below (Cell d) c n size h = h.1
+lies_below (Tokens port first step) c n size h = tt
+
+-- what ends before the cells of a seat begin is none of them
+lies_apart : (seat : Seat) (c n size many from to : ℕ) → to ≤ c → SeatLies c n size seat → SeatIsApart from to many seat
+lies_apart (Cell d) c n size many from to le h = let at = h.0 in inr (omega (arith, le, at))
+lies_apart (Tokens port first step) c n size many from to le h = tt
+
 module _ (rs : Routines) (outer : List Name) (tokens : ℕ → List ℤ) (low high : ℕ) where
   -- the cells of each name lie behind those of the names outside it, and before n
   abbrev pub AreLaid : ℕ → List Name → Type 0
-  AreLaid n [] = AreBelow n outer × NamesApart outer × AreTyped outer × AllApart low high outer
-  AreLaid n (x ∷ inner) = (c : ℕ) × (x.seat ≡ Cell c) × (c + scalars_of_type x.shape ≤ n) × IsType x.shape × AreApart c (c + scalars_of_type x.shape) low high × AreLaid c inner
+  AreLaid n inner = LaidOver outer low high n inner
 
   -- the cells hold the variables of all of these names, hidden or not
   abbrev pub HoldsInside : List Name → List ℤ → Env → Type 0
@@ -61,19 +69,19 @@ module _ (rs : Routines) (outer : List Name) (tokens : ℕ → List ℤ) (low hi
 
   pub laid_more : (n m : ℕ) (inner : List Name) → n ≤ m → AreLaid n inner → AreLaid m inner
   laid_more n m [] le h = (below_more n m outer le h.0, h.1, h.2, h.3)
-  laid_more n m (x ∷ inner) le h = let l = h.2 in (h.0, h.1, omega (arith, le, l), h.3, h.4, h.5)
+  laid_more n m (x ∷ inner) le h = let l = h.2 in (h.0, lies_more x.seat h.0 n m (scalars_of_type x.shape) le h.1, omega (arith, le, l), h.3, h.4, h.5)
 
   pub laid_below : (n : ℕ) (inner : List Name) → AreLaid n inner → AreBelow n (inner ++ outer)
   laid_below n [] h text y e = h.0 text y e
   laid_below n (x ∷ inner) (c, at, le, typed, apart, rest) text y e =
-      ⊎_elim (λ (f : (bytes_eq x.text text ≡ true) × (x ≡ y)). subst (λ (z : Name). SeatIsBelow n (scalars_of_type z.shape) z.seat) f.1 (subst (λ s. SeatIsBelow n (scalars_of_type x.shape) s) (sym at) le))
+      ⊎_elim (λ (f : (bytes_eq x.text text ≡ true) × (x ≡ y)). subst (λ (z : Name). SeatIsBelow n (scalars_of_type z.shape) z.seat) f.1 (lies_below x.seat c n (scalars_of_type x.shape) at))
       (λ (f : (bytes_eq x.text text ≡ false) × (named text (inner ++ outer) ≡ Some y)). below_more c n (inner ++ outer) (omega (arith, le)) (laid_below c inner rest) text y f.1)
       (choose_name (bytes_eq x.text text) x (named text (inner ++ outer)) y e)
 
   pub laid_apart : (n : ℕ) (inner : List Name) → AreLaid n inner → AllApart low high (inner ++ outer)
   laid_apart n [] h text y e = h.3 text y e
   laid_apart n (x ∷ inner) (c, at, le, typed, apart, rest) text y e =
-      ⊎_elim (λ (f : (bytes_eq x.text text ≡ true) × (x ≡ y)). subst (λ (z : Name). SeatIsApart low high (scalars_of_type z.shape) z.seat) f.1 (subst (λ s. SeatIsApart low high (scalars_of_type x.shape) s) (sym at) apart))
+      ⊎_elim (λ (f : (bytes_eq x.text text ≡ true) × (x ≡ y)). subst (λ (z : Name). SeatIsApart low high (scalars_of_type z.shape) z.seat) f.1 apart)
       (λ (f : (bytes_eq x.text text ≡ false) × (named text (inner ++ outer) ≡ Some y)). laid_apart c inner rest text y f.1)
       (choose_name (bytes_eq x.text text) x (named text (inner ++ outer)) y e)
 
@@ -152,10 +160,10 @@ module _ (rs : Routines) (outer : List Name) (tokens : ℕ → List ℤ) (low hi
       stands =
           let size = size_of x v.value var.of_type in
           seat_stands x.seat n m low high tokens before after (flat v.value) keeps
-          (subst (λ s. SeatIsBelow n (length (flat v.value)) s) (sym at) (omega (arith, le, size)))
-          (subst (λ s. SeatIsApart low high (length (flat v.value)) s) (sym at) (subst (λ k. AreApart c (c + k) low high) size apart)) var.stands;
+          (subst (λ k. SeatIsBelow n k x.seat) size (lies_below x.seat c n (scalars_of_type x.shape) at))
+          (subst (λ k. SeatIsApart low high k x.seat) size apart) var.stands;
     },
-    inside_still c m inner before after under rest (keeps_wider c m (omega (arith, le)) (omega arith) keeps) below,
+    inside_still c m inner before after under rest (keeps_wider c m le (omega arith) keeps) below,
   )
 
   -- ---- assignments
@@ -249,9 +257,10 @@ module _ (rs : Routines) (outer : List Name) (tokens : ℕ → List ℤ) (low hi
     where
       top : bytes_eq y.text text ≡ true → y ≡ x → Follows (assign (with_local u rest) text places v left) (Assigned P (y ∷ inner) after (with_local u rest) left) T
       top f same =
-          let same_seat : Cell d ≡ Cell c = sym at ∙ ap (λ (z : Name). z.seat) same ∙ seat in
-          let here : d ≡ c = cell_same d c same_seat in
           let size : scalars_of_type y.shape ≡ scalars_of_type x.shape = ap (λ (z : Name). scalars_of_type z.shape) same in
+          let lies : (d ≤ c) × (c + scalars_of_type y.shape ≤ n) = subst (λ s. SeatLies d n (scalars_of_type y.shape) s) (ap (λ (z : Name). z.seat) same ∙ seat) at in
+          let from = lies.0 in
+          let to = lies.1 in
           subst (λ (o : Out Env). Follows o (Assigned P (y ∷ inner) after (with_local u rest) left) T) (sym (assign_top rest u text places v left (ap (λ n. bytes_eq n text) var.called ∙ f)))
           (follows_then (assigned_to u places v left) (λ z k. Gives (with_local z rest) k) (λ z k. (k ≡ left) × ((w : Value) × NewAt P x after w × (z ≡ record u { value = w }))) T (Assigned P (y ∷ inner) after (with_local u rest) left) T
           (assigned_to_follows u places v left (NewAt P x after) T (λ t g.
@@ -265,17 +274,14 @@ module _ (rs : Routines) (outer : List Name) (tokens : ℕ → List ℤ) (low hi
               rest,
               refl,
               new_var z p.1.0 p.1.1 p.1.2,
-              inside_still d (d + scalars_of_type y.shape) inner cells after rest laid
-                  (written_keeps c (scalars_of_type x.shape) d (d + scalars_of_type y.shape) low high cells after (omega (arith, here)) (omega (arith, here, size)) w) below,
+              inside_still d n inner cells after rest laid
+                  (written_keeps c (scalars_of_type x.shape) d n low high cells after from (omega (arith, to, size)) w) below,
             ),
             refl,
             p.1.1.1,
           ))
           (λ t h. h))
         where
-          cell_same : (a b : ℕ) → Cell a ≡ Cell b → a ≡ b
-          cell_same a b h = cc
-
           new_var : (z : Var) (w : Value) → NewAt P x after w → z ≡ record u { value = w } → HoldsVar tokens after z y
           new_var z w new is = subst (λ (a : Var). HoldsVar tokens after a y) (sym is) (record {
             called = var.called;
@@ -301,7 +307,7 @@ module _ (rs : Routines) (outer : List Name) (tokens : ℕ → List ℤ) (low hi
                 stored = var.stored;
                 of_type = var.of_type;
                 stands = seat_unwritten y.seat c (scalars_of_type x.shape) tokens cells after (flat u.value) w
-                    (subst (λ s. SeatIsApart c (c + scalars_of_type x.shape) (length (flat u.value)) s) (sym at) (inr (omega (arith, low_seat)))) var.stands;
+                    (lies_apart y.seat d n (scalars_of_type y.shape) (length (flat u.value)) c (c + scalars_of_type x.shape) low_seat at) var.stands;
               },
               p.1,
             ),

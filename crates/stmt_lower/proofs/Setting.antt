@@ -35,9 +35,10 @@ use Rattle.stmt_lower.proofs.Scoping.{AreLaid, HoldsInside, NewAt, Assigned, Put
 use Rattle.code_ir.proofs.Marks.{get-other}
 use Rattle.expr_lower.proofs.Coded.{grows}
 use Rattle.stmt_lower.proofs.Evaluating.{does_there, singles_there}
-use Rattle.stmt_lower.proofs.Performing.{Moves, Performs, cut_breaks, breaks_after, but_written, but_wider, but_join, keeps_but, CutShort}
+use Rattle.stmt_lower.proofs.Performing.{Moves, Performs, cut_breaks, breaks_after, but_written, but_wider, but_join, keeps_but}
 use Rattle.stmt_lower.specs.Procedures.{Routines}
 use Rattle.expr_lower.specs.Calling.{Serves}
+use Rattle.stmt_lower.specs.Bodies.{CutShort}
 
 at_first : (c : ℕ) (cells : List ℤ) (y : ℤ) (o : Option ℤ) → slice_get cells (c + 0) ≡ o → slice_get cells c ≡ o
 at_first c cells y o e = let same : c + 0 ≡ c = omega arith in subst (λ d. slice_get cells d ≡ o) same e

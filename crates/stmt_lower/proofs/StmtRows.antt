@@ -1,4 +1,4 @@
--- The code of a loop with an assignment in it, put together by the definitions.
+-- The code of a loop with an assignment in it, and of a call, put together by the definitions.
 use Rattle.std.proofs.Common.{ℕ, ◌+◌, pos, List, [], ◌∷◌, Some, refl}
 use Rattle.std.specs.Prelude.{codes}
 use Rattle.rvc_base.specs.declared.scalar.Scalar.TheVariants as scalar
@@ -8,10 +8,10 @@ use Rattle.cal_ast.specs.Tree.{Tree}
 use Rattle.cal_model.specs.Value.{Single}
 use Rattle.code_ir.specs.declared.instr.Instr.TheVariants as op
 use Rattle.expr_lower.specs.declared.names.Seat.TheVariants.{Cell}
-use Rattle.expr_lower.specs.Coding.{binary, number, variable, tested}
+use Rattle.expr_lower.specs.Coding.{arg_more, binary, no_arg, number, variable, tested}
 use Rattle.expr_lower.specs.Names.{Name}
-use Rattle.stmt_lower.specs.Stating.{IsStmt, set, while_code, none, one_more}
-use Rattle.stmt_lower.specs.Procedures.{no_routines}
+use Rattle.stmt_lower.specs.Stating.{IsStmt, call, set, while_code, none, one_more}
+use Rattle.stmt_lower.specs.Procedures.{Procedure, Routines, no_routines}
 
 abbrev a : List ℕ
 a = codes "a"
@@ -49,3 +49,19 @@ loop_row =
     (binary binaries.Lt op.Lt (tree.variable a 0) (tree.number 3 0) 0 6 5 5 5 (op.Load 0 ∷ []) (op.Const (pos 3) ∷ []) refl
     (variable a 0 6 5 (record { text = codes "a"; shape = Single (scalar.Int 8); seat = Cell 0 }) refl tt) (number 3 0 7 5 refl)))
     refl refl
+
+-- a procedure of two formals of 8 bits
+abbrev p : Procedure
+p = record { text = codes "p"; routine = 2; formals = record { cell = 8; kind = scalar.Int 8 } ∷ record { cell = 9; kind = scalar.Int 8 } ∷ [] }
+
+abbrev routines : Routines
+routines = record { functions = []; procedures = p ∷ [] }
+
+-- `p(a, 1);`
+pub call_row : IsStmt routines names (tree.call_stmt (tree.ident (codes "p") 0) (tree.cons (tree.variable a 0) (tree.cons (tree.number 1 0) tree.nil)) 0) 0 5
+    (op.Load 0 ∷ op.Const (pos 1) ∷ op.Turn ∷ op.Store 9 (Some (scalar.Int 8)) ∷ op.Store 8 (Some (scalar.Int 8)) ∷ op.Call 2 ∷ []) 5
+call_row =
+    call names (codes "p") (tree.cons (tree.variable a 0) (tree.cons (tree.number 1 0) tree.nil)) 0 0 0 5 5 (op.Load 0 ∷ op.Const (pos 1) ∷ []) p refl
+    (arg_more (tree.variable a 0) (tree.cons (tree.number 1 0) tree.nil) 0 5 5 5 (op.Load 0 ∷ []) (op.Const (pos 1) ∷ [])
+    (variable a 0 0 5 (record { text = codes "a"; shape = Single (scalar.Int 8); seat = Cell 0 }) refl tt)
+    (arg_more (tree.number 1 0) tree.nil 1 5 5 5 (op.Const (pos 1) ∷ []) [] (number 1 0 1 5 refl) (no_arg 2 5)))

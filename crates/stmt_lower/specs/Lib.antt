@@ -14,3 +14,4 @@ pub mod SeenStmts
 pub mod Proceeding
 pub mod ProcWords
 pub mod Targets
+pub mod Bodies

@@ -18,4 +18,4 @@ mod types;
 
 pub use callees::ProcCallee;
 pub use procedures::lower_procedure;
-pub use stmts::lower_stmts;
+pub use stmts::{lower_calling_stmts, lower_stmts};

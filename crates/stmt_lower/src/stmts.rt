@@ -2,6 +2,7 @@
 
 ghost use Rattle.std.specs.Prelude.{◌≡◌, ◌∷◌, ℕ, IfErr, None, OnOk, Some, string_bytes};
 ghost use Rattle.cal_ast.specs.View.{stmt_tree};
+ghost use Rattle.stmt_lower.specs.Bodies.{AddsCalling, AreWholeCalling, IsFaultCalling};
 ghost use Rattle.stmt_lower.specs.Changing.{AreTyped, NamesApart};
 ghost use Rattle.expr_lower.specs.Held.{AreBelow};
 ghost use Rattle.expr_lower.specs.Names.{names_view};
@@ -15,7 +16,7 @@ ghost use Rattle.stmt_lower.specs.StmtWords.{AddsExecuted, AreWhole, IsFaultAmon
 ghost use Rattle.stmt_lower.specs.StmtWords.{alone_of, body_of, branch_of, foreach_of, fork_of};
 ghost use Rattle.stmt_lower.specs.StmtWords.{run_of, set_item_of, set_of, set_one_of, while_of};
 
-use crate::callees::{procedure_for, put_run};
+use crate::callees::{ProcCallee, procedure_for, put_run};
 use crate::counter::{Counter, put_bounds, put_less, put_next, put_turn, take_cells};
 use crate::deep::set_deep;
 use crate::jumps::{exit_at, jump_at};
@@ -25,10 +26,7 @@ use crate::targets::{cell_named, cells_named};
 use crate::types::single_meant;
 use cal_ast::{Expr, ExprForm, Ident, Stmt, StmtForm, TypeExpr, VarDecl};
 use code_ir::Instr;
-use expr_lower::{
-    Draft, Frame, LowerFault, Named, close, link, lower, lower_args, lower_test, next_place, put,
-    put_all, start, take_cell,
-};
+use expr_lower::{Callee, Draft, Frame, LowerFault, Named, close, link, lower, lower_args, lower_test, next_place, put, put_all, start, take_cell};
 use rvc_base::Scalar;
 
 /// Appends code that executes a statement.
@@ -446,4 +444,39 @@ pub fn lower_stmts(names: &[Named], body: &[Stmt], draft: &mut Draft) -> Result<
     ensures fault { IfErr result (IsFaultAmong names.now (body_of body.now) draft.new) }
 {
     lower_all(&StmtScope::outermost(names, &[], &[]), body, draft)
+}
+
+/// Appends code that executes statements, which may call functions and procedures.
+///
+/// `names` holds the names that the statements use: those of locals, the innermost first, and then those of globals,
+/// which procedures may change. `callees` holds the functions and `procedures` the procedures that may be called; the
+/// first of several that are the same is meant. A call puts its arguments into the cells of the routine, each stored
+/// in the type of its formal, and runs the routine after one turn. Beside what [`lower_stmts`] says, the code changes
+/// cells of routines, and through them those of globals. What stood in the draft stays.
+///
+/// # Errors
+///
+/// As for [`lower_stmts`], but that a call is a part for which no code is made only if `callees` or `procedures`
+/// doesn't have what it names with as many arguments.
+pub fn lower_calling_stmts(
+    names: &[Named],
+    callees: &[Callee],
+    procedures: &[ProcCallee],
+    body: &[Stmt],
+    draft: &mut Draft,
+) -> Result<(), LowerFault>
+    requires below { AreBelow draft.old.cells (names_view names.now) }
+    requires typed { AreTyped (names_view names.now) }
+    ensures lowered { OnOk result (AddsCalling callees.now procedures.now names.now
+        (body_of body.now) draft.old draft.new) }
+    ensures whole { OnOk result
+        (AreWholeCalling callees.now procedures.now names.now (body_of body.now)) }
+    ensures fault { IfErr result
+        (IsFaultCalling callees.now procedures.now names.now (body_of body.now) draft.new) }
+{
+    lower_all(
+        &StmtScope::outermost(names, callees, procedures),
+        body,
+        draft,
+    )
 }
