@@ -1,5 +1,5 @@
 -- What runs do for statements, put together.
-use Rattle.std.proofs.Common.{◌≡◌, ℕ, ◌+◌, ◌<◌, ◌≤◌, ◌⊎◌, inl, inr, ⊎_elim, ℤ, List, ◌++◌, length, true, false, refl, ◌∙◌, subst, Some, arith, length-append, []}
+use Rattle.std.proofs.Common.{◌≡◌, ℕ, ◌+◌, ◌<◌, ◌≤◌, inl, inr, ⊎_elim, ℤ, List, ◌++◌, length, true, false, refl, ◌∙◌, subst, Some, arith, length-append, []}
 use Rattle.std.specs.Prelude.{slice_get}
 use Rattle.rvc_base.specs.declared.trap.Trap.{Trap}
 use Rattle.cal_ast.specs.Tree.{Tree}

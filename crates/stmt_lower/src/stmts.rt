@@ -26,7 +26,10 @@ use crate::targets::{cell_named, cells_named};
 use crate::types::single_meant;
 use cal_ast::{Expr, ExprForm, Ident, Stmt, StmtForm, TypeExpr, VarDecl};
 use code_ir::Instr;
-use expr_lower::{Callee, Draft, Frame, LowerFault, Named, close, link, lower, lower_args, lower_test, next_place, put, put_all, start, take_cell};
+use expr_lower::{
+    Callee, Draft, Frame, LowerFault, Named, close, link, lower, lower_args, lower_test,
+    next_place, put, put_all, start, take_cell,
+};
 use rvc_base::Scalar;
 
 /// Appends code that executes a statement.
@@ -426,7 +429,8 @@ fn behind(
 /// the draft stays.
 ///
 /// Code is made for assignments to variables of single values and to items of lists of them at any depth, and to
-/// lists of them from another one of the same size that is named or written out, `if`, `while`, and `foreach` and blocks whose types are written without names, over the expressions for which
+/// lists of them from another one of the same size that is named or written out, `if`, `while`, and `foreach` and
+/// blocks whose types are written without names, over the expressions for which
 /// [`lower_expr`](expr_lower::lower_expr) makes code. A `foreach` uses three cells more, a variable of a block one,
 /// an item of lists in lists one for each of its places and one for its value, and items that are written out one
 /// each; they are added to the draft.
@@ -434,7 +438,8 @@ fn behind(
 /// # Errors
 ///
 /// `Memory` if an allocation was refused. `TooLong` if the draft has 2 to the power of 32 instructions.
-/// `TooManyCells` if the numbers of the cells that are used don't fit; then all are taken. `NotLowered` with the offset of the first part for which no code is made; of a `while` the body comes first.
+/// `TooManyCells` if the numbers of the cells that are used don't fit; then all are taken. `NotLowered` with the offset
+/// of the first part for which no code is made, as a call; of a `while` the body comes first.
 pub fn lower_stmts(names: &[Named], body: &[Stmt], draft: &mut Draft) -> Result<(), LowerFault>
     requires below { AreBelow draft.old.cells (names_view names.now) }
     requires apart { NamesApart (names_view names.now) }
