@@ -26,3 +26,4 @@ pub mod AddingProcs
 pub mod ProcServed
 pub mod FittedProcs
 pub mod Readied
+pub mod ProcRows

@@ -13,19 +13,19 @@ use Rattle.expr_lower.specs.Names.{Name}
 use Rattle.stmt_lower.specs.Stating.{IsStmt, call, set, while_code, none, one_more}
 use Rattle.stmt_lower.specs.Procedures.{Procedure, Routines, no_routines}
 
-abbrev a : List ℕ
+abbrev pub a : List ℕ
 a = codes "a"
 
 -- `int(size=8) a` in cell 0
-abbrev names : List Name
+abbrev pub names : List Name
 names = record { text = codes "a"; shape = Single (scalar.Int 8); seat = Cell 0 } ∷ []
 
 -- `a + 1`
-abbrev sum : Tree
+abbrev pub sum : Tree
 sum = tree.binary binaries.Add (tree.variable a 0) (tree.number 1 0) 0
 
 -- `a := a + 1;`
-abbrev step : Tree
+abbrev pub step : Tree
 step = tree.assign (tree.ident a 0) tree.nil sum 0
 
 -- `a < 3`
