@@ -1,5 +1,5 @@
 -- A procedure that adds one to a global: its routine meets all that is asked of routines, and so does what it does.
-use Rattle.std.proofs.Common.{◌≡◌, ℕ, ◌+◌, ◌≤◌, ℤ, pos, List, [], ◌∷◌, ◌++◌, Bool, true, false, refl, sym, ap, ◌∙◌, subst, Option, None, Some, arith}
+use Rattle.std.proofs.Common.{◌≡◌, ℕ, ℤ, pos, List, [], ◌∷◌, ◌++◌, Bool, true, false, refl, sym, ap, ◌∙◌, subst, None, Some, arith}
 use Rattle.std.specs.Prelude.{codes, if◌then◌else◌}
 use Rattle.std.specs.Str.{bytes_eq}
 use Rattle.std.proofs.lemmas.Slice.Eq.{bytes_eq-Decides}
@@ -17,10 +17,10 @@ use Rattle.code_ir.specs.Code.{Code}
 use Rattle.expr_lower.specs.declared.names.Seat.TheVariants.{Cell}
 use Rattle.expr_lower.specs.Coding.{binary, number, variable}
 use Rattle.expr_lower.specs.Held.{AreBelow, SeatIsBelow}
-use Rattle.expr_lower.specs.Names.{Name, named}
+use Rattle.expr_lower.specs.Names.{Name}
 use Rattle.expr_lower.specs.Routining.{no_routine, world_of}
 use Rattle.stmt_lower.specs.Acting.{ServesRuns}
-use Rattle.stmt_lower.specs.Changing.{AreTyped, NamesApart, SeatsApart}
+use Rattle.stmt_lower.specs.Changing.{AreTyped, NamesApart}
 use Rattle.stmt_lower.specs.Proceeding.{AreProcRoutines, no_local, no_procedure, procedure_more}
 use Rattle.stmt_lower.specs.Procedures.{Procedure}
 use Rattle.stmt_lower.specs.Stating.{none, one_more, set}
