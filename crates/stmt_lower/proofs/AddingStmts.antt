@@ -41,7 +41,7 @@ use Rattle.expr_lower.specs.Callees.{Function}
 use Rattle.stmt_lower.specs.StmtGrowing.{left_out_deep, left_out_each, left_out_items, left_out_set, left_out_stmt, left_out_all, left_out_vars}
 use Rattle.expr_lower.proofs.Adding.{length_join, put_adds}
 use Rattle.stmt_lower.proofs.ErasedStmts.{any_cell, any_cell_vars}
-use Rattle.stmt_lower.proofs.Executed.{executes}
+use Rattle.stmt_lower.proofs.Executed.{executes, grows_all}
 use Rattle.stmt_lower.proofs.FittedStmts.{fits_all}
 use Rattle.expr_lower.proofs.Listing.{IsListName, found}
 use Rattle.expr_lower.proofs.Weights.{weight}
@@ -600,6 +600,7 @@ executed names body old new below apart typed a = record {
   is = a.is;
   routines = a.routines;
   has = record {
+    cells = grows_all a.has;
     executes = executes names body (length old.instrs.items) old.cells new.cells a.code below apart typed a.has;
     fits = λ whole callable h stands. fits_all whole callable new.cells no_routines (none_had whole callable new.cells) h below typed (omega arith) stands a.has;
   };

@@ -20,7 +20,7 @@ use Rattle.stmt_lower.specs.Bodies.{CutShort, EndsOn, ExecutesCalling, GoesOn, H
 use Rattle.stmt_lower.specs.Changing.{AreTyped, HoldsVars}
 use Rattle.stmt_lower.specs.Procedures.{Routines}
 use Rattle.stmt_lower.specs.Stating.{AreStmts}
-use Rattle.stmt_lower.proofs.Executed.{performs_all}
+use Rattle.stmt_lower.proofs.Executed.{grows_all, performs_all}
 use Rattle.stmt_lower.proofs.FittedStmts.{fits_all}
 use Rattle.stmt_lower.proofs.Performing.{Moves}
 use Rattle.stmt_lower.proofs.ProcServed.{globals_behind}
@@ -90,6 +90,7 @@ executed_calling rs names body old new below typed a = record {
   is = a.is;
   routines = a.routines;
   has = record {
+    cells = grows_all a.has;
     executes = executes_calling rs names body (length old.instrs.items) old.cells new.cells a.code a.has;
     fits = λ whole callable h has stands. fits_all whole callable new.cells rs has h below typed (omega arith) stands a.has;
   };

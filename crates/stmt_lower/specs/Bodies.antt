@@ -134,6 +134,7 @@ pub record ExecutesCalling (rs : Routines) (names : List Name) (body : Tree) (ba
 
 -- The instructions execute the statements. In any code that has the routines they fit where they stand, at any height.
 pub record IsExecutedCalling (rs : Routines) (names : List Name) (body : Tree) (base n : ℕ) (code : List Instr) (m : ℕ) : Type 0 where
+  pub cells : n ≤ m
   pub executes : ExecutesCalling rs names body base n m code
   pub fits : (whole : Code) (callable h : ℕ) → HasRunRoutines whole callable m rs
       → StandsAt whole.instrs base code

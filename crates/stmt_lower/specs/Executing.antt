@@ -68,6 +68,7 @@ pub record Executes (names : List Name) (body : Tree) (base n m : ℕ) (code : L
 -- The instructions execute the statements. In any code in which they stand they fit, at any height.
 pub record IsExecuted (names : List Name) (body : Tree) (base n : ℕ) (code : List Instr) (m : ℕ) :
     Type 0 where
+  pub cells : n ≤ m
   pub executes : Executes names body base n m code
   pub fits : (whole : Code) (callable h : ℕ) → StandsAt whole.instrs base code
       → Fits whole callable m base h code h (base + length code) h
