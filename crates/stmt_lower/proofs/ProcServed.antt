@@ -318,15 +318,17 @@ named_last text (x ∷ ps) g h e = by (bytes_eq x.text text) e (named_last text 
     by true i later = inl i
     by false i later = later i
 
+pub procs_low : {globals : List Name} {whole : Code} {funs : List Fun} {procs : List Proc} {low : ℕ} {fs : List Function} {ps : List Procedure} {n : ℕ} → AreProcRoutines globals whole funs procs low fs ps n → low ≤ n
+procs_low (no_procedure n are) = routines_low are
+procs_low (procedure_more ps p g r base n m code before is named sized at starts stands) = let h = procs_low before in let u = proc_grows is.body in omega (arith, h, u)
+
+pub functions_served : (globals : List Name) (whole : Code) (tokens : ℕ → List ℤ) (funs : List Fun) (procs : List Proc) (low : ℕ) (fs : List Function) → AreBelow low globals → {ps : List Procedure} {n : ℕ} (high : ℕ)
+    → AreProcRoutines globals whole funs procs low fs ps n → n ≤ high → Serves (world_of whole tokens (calls_of funs) low high) globals fs
+functions_served globals whole tokens funs procs low fs below high (no_procedure n are) le = served_within globals whole tokens funs low below (length funs) high are le
+functions_served globals whole tokens funs procs low fs below high (procedure_more ps p g r base n m code before is named sized at starts stands) le =
+    let u = proc_grows is.body in functions_served globals whole tokens funs procs low fs below high before (omega (arith, u, le))
+
 module _ (globals : List Name) (whole : Code) (tokens : ℕ → List ℤ) (funs : List Fun) (procs : List Proc) (low : ℕ) (fs : List Function) (below : AreBelow low globals) (distinct : NamesApart globals) (typed : AreTyped globals) where
-  procs_low : {ps : List Procedure} {n : ℕ} → AreProcRoutines globals whole funs procs low fs ps n → low ≤ n
-  procs_low (no_procedure n are) = routines_low are
-  procs_low (procedure_more ps p g r base n m code before is named sized at starts stands) = let h = procs_low before in let u = proc_grows is.body in omega (arith, h, u)
-
-  functions_served : {ps : List Procedure} {n : ℕ} (high : ℕ) → AreProcRoutines globals whole funs procs low fs ps n → n ≤ high → Serves (world_of whole tokens (calls_of funs) low high) globals fs
-  functions_served high (no_procedure n are) le = served_within globals whole tokens funs low below (length funs) high are le
-  functions_served high (procedure_more ps p g r base n m code before is named sized at starts stands) le = let u = proc_grows is.body in functions_served high before (omega (arith, u, le))
-
   same_text : (high : ℕ) (runs : Runs) (text : List ℕ) (g h : Procedure) → g ≡ h → bytes_eq g.text text ≡ true → ActsAs (world_of whole tokens (calls_of funs) low high) runs globals g.text g → ActsAs (world_of whole tokens (calls_of funs) low high) runs globals text h
   same_text high runs text g h e f a =
       subst (λ (x : Procedure). ActsAs (world_of whole tokens (calls_of funs) low high) runs globals text x) e (subst (λ t. ActsAs (world_of whole tokens (calls_of funs) low high) runs globals t g) ((bytes_eq-Decides g.text text).0 f) a)
@@ -356,7 +358,7 @@ module _ (globals : List Name) (whole : Code) (tokens : ℕ → List ℤ) (funs 
       let rs : Routines = record { functions = fs; procedures = ps } in
       ⊎_elim (λ (i : procedure_named text ps ≡ Some h). acts_within (suc k) high before (omega (arith, up, le)) text h i)
       (λ (i : (g ≡ h) × (bytes_eq g.text text ≡ true)). same_text high (runs_within (suc k) procs (calls_of funs)) text g h i.0 i.1
-      (acts_one whole tokens (calls_of funs) low high globals rs (runs_within k procs (calls_of funs)) (runs_within (suc k) procs (calls_of funs)) p g base n m code r is sized (functions_served n before (omega arith)) (acts_within k n before (omega arith))
+      (acts_one whole tokens (calls_of funs) low high globals rs (runs_within k procs (calls_of funs)) (runs_within (suc k) procs (calls_of funs)) p g base n m code r is sized (functions_served globals whole tokens funs procs low fs below n before (omega arith)) (acts_within k n before (omega arith))
       (procs_low before) le below distinct typed at starts stands
       (λ vars args left. ap (λ (o : Option Proc). elim o [ None ↦ Lacks | Some x ↦ performed x (calls_of funs) (runs_within k procs (calls_of funs)) vars args left ]) (ap (λ t. proc_named t procs) is.text ∙ named))))
       (named_last text ps g h e)

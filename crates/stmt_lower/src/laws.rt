@@ -7,6 +7,7 @@ ghost use Rattle.cal_model.specs.Statement.{runs_of};
 ghost use Rattle.code_ir.specs.Code.{Code};
 ghost use Rattle.code_ir.specs.declared.instr.Instr.{Instr};
 ghost use Rattle.expr_lower.specs.Callees.{Function};
+ghost use Rattle.expr_lower.specs.Calling.{Serves};
 ghost use Rattle.expr_lower.specs.Held.{AreBelow};
 ghost use Rattle.expr_lower.specs.Names.{Name};
 ghost use Rattle.expr_lower.specs.Placed.{StandsAt};
@@ -18,12 +19,18 @@ ghost use Rattle.stmt_lower.specs.Proceeding.{AreProcRoutines, FitsAsProc, IsPro
 ghost use Rattle.stmt_lower.specs.Procedures.{Procedure, Routines};
 
 /// Routines that stand in code for procedures, each behind those that it calls and all behind those of functions, do
-/// what the procedures do, and have no other ends.
+/// what the procedures do, and have no other ends. Those of the functions do what these do there, and the cells of all
+/// of them are in a row.
 pub fn routines_do_what_procedures_do()
-    ensures { (globals : List Name) (whole : Code) (tokens : ℕ → List ℤ) (funs : List Fun) (procs : List Proc) (fs : List Function) (ps : List Procedure) (low n : ℕ)
+    ensures procedures { (globals : List Name) (whole : Code) (tokens : ℕ → List ℤ) (funs : List Fun) (procs : List Proc) (fs : List Function) (ps : List Procedure) (low n : ℕ)
         → AreBelow low globals → NamesApart globals → AreTyped globals
         → AreProcRoutines globals whole funs procs low fs ps n
         → ServesRuns (world_of whole tokens (calls_of funs) low n) (runs_of procs (calls_of funs)) globals ps }
+    ensures functions { (globals : List Name) (whole : Code) (tokens : ℕ → List ℤ) (funs : List Fun) (procs : List Proc) (fs : List Function) (ps : List Procedure) (low n : ℕ)
+        → AreBelow low globals → AreProcRoutines globals whole funs procs low fs ps n
+        → Serves (world_of whole tokens (calls_of funs) low n) globals fs }
+    ensures cells { (globals : List Name) (whole : Code) (funs : List Fun) (procs : List Proc) (fs : List Function) (ps : List Procedure) (low n : ℕ)
+        → AreProcRoutines globals whole funs procs low fs ps n → low ≤ n }
 {}
 
 /// The code of a procedure's routine fits where it stands in code that has the routines which it calls, with cells for
