@@ -22,14 +22,11 @@ use Rattle.code_ir.specs.Running.{Reaches, State, after, go_on, here, step}
 use Rattle.expr_lower.specs.Flat.{flat}
 use Rattle.expr_lower.specs.Following.{CutsOff, Follows}
 use Rattle.expr_lower.specs.Held.{AllApart, AreApart, AreBelow, Holds, HoldsName, Keeps, SeatIsApart, SeatIsBelow}
-use Rattle.expr_lower.specs.Meant.{local}
-use Rattle.expr_lower.specs.Names.{Name, named}
+use Rattle.expr_lower.specs.Names.{local, Name, named}
 use Rattle.expr_lower.specs.Placed.{StandsAt, World, state}
-use Rattle.expr_lower.proofs.Keeping.{below_more, holds_still, keeps_all, keeps_join, keeps_wider}
-use Rattle.expr_lower.proofs.Performing.{apart_last}
+use Rattle.expr_lower.proofs.Keeping.{below_more, holds_still, keeps_all, keeps_join, keeps_wider, apart_last}
 use Rattle.expr_lower.proofs.Runs.{ends_join, follows_both, follows_then, obeys, reaches_join, stands_left, stands_right}
-use Rattle.expr_lower.proofs.Scoping.{Written, written_keeps}
-use Rattle.expr_lower.proofs.Setting.{stand_one}
+use Rattle.expr_lower.proofs.Written.{Written, written_keeps, stand_one}
 use Rattle.expr_lower.proofs.Singles.{kind_single}
 use Rattle.expr_lower.proofs.Storing.{set_there, set_written, single_stored, store_leaves}
 use Rattle.action_lower.specs.Declaring.{AreDeclared, Declares, DeclaresAs, IsFirst, StartFits, StartsFit, at_start, at_zero, local_more, no_local}

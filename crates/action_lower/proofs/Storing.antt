@@ -23,10 +23,9 @@ use Rattle.expr_lower.specs.Held.{AllApart, AreApart, AreBelow, Holds, Keeps}
 use Rattle.expr_lower.specs.Names.{Name}
 use Rattle.expr_lower.specs.Placed.{StandsAt, World, state}
 use Rattle.expr_lower.proofs.Effects.{same_number}
-use Rattle.expr_lower.proofs.Keeping.{below_more, holds_still, keeps_all, keeps_join, keeps_wider}
-use Rattle.expr_lower.proofs.Performing.{apart_first, apart_last}
+use Rattle.expr_lower.proofs.Keeping.{below_more, holds_still, keeps_all, keeps_join, keeps_wider, apart_first, apart_last}
 use Rattle.expr_lower.proofs.Runs.{ends_join, follows_then, obeys, reaches_join, stands_left, stands_right}
-use Rattle.expr_lower.proofs.Scoping.{Written, written_keeps}
+use Rattle.expr_lower.proofs.Written.{Written, written_keeps}
 use Rattle.expr_lower.proofs.Storing.{set_there, set_written, store_leaves}
 use Rattle.action_lower.specs.Sending.{AreOutputs, AreStored, GivesSingle, GiveSingles, IsSingleValue, IsStored, SendSingles, Sends, SendsAs, StandFrom, no_output, no_value, output_more, value_more}
 

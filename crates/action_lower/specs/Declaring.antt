@@ -14,8 +14,7 @@ use Rattle.code_ir.specs.declared.instr.Instr.TheVariants as op
 use Rattle.code_ir.specs.Running.{State, Reaches}
 use Rattle.expr_lower.specs.Following.{Follows, CutsOff}
 use Rattle.expr_lower.specs.Held.{AllApart, AreApart, Holds, Keeps}
-use Rattle.expr_lower.specs.Meant.{local}
-use Rattle.expr_lower.specs.Names.{Name}
+use Rattle.expr_lower.specs.Names.{local, Name}
 use Rattle.expr_lower.specs.Placed.{StandsAt, World, state}
 use Rattle.action_lower.specs.Sending.{IsStored}
 

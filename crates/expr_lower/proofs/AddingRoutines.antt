@@ -6,21 +6,18 @@ use Rattle.cal_ast.specs.Tree.{Tree}
 use Rattle.cal_ast.specs.View.{optional}
 use Rattle.cal_model.specs.Value.{Shape, Single, Many}
 use Rattle.cal_model.specs.Actor.{Local, Fun}
-use Rattle.code_ir.specs.declared.instr.Instr.{Instr}
 use Rattle.expr_lower.specs.Callees.{Function}
 use Rattle.expr_lower.specs.Calling.{AreInRow}
 use Rattle.expr_lower.specs.Coding.{IsCode}
 use Rattle.expr_lower.specs.declared.callees.Formal.{Formal}
 use Rattle.expr_lower.specs.declared.draft.Draft.{Draft}
-use Rattle.expr_lower.specs.Growing.{left_out_in, ◌or_else◌}
+use Rattle.expr_lower.specs.Growing.{◌or_else◌}
 use Rattle.expr_lower.specs.Listed.{single_of}
 use Rattle.expr_lower.specs.Lowered.{Adds, IsPut}
-use Rattle.expr_lower.specs.Meant.{local}
-use Rattle.expr_lower.specs.Names.{Name}
+use Rattle.expr_lower.specs.Names.{local, Name}
 use Rattle.expr_lower.specs.RoutineWords.{HasFormalCells}
 use Rattle.expr_lower.specs.Routining.{IsBody, StandForFormals, behind_formals, left_out_body, left_out_formals, left_out_fun, no_more_locals, one_more_local, return_code, some_formal}
-use Rattle.expr_lower.specs.Stating.{IsStart}
-use Rattle.expr_lower.specs.StmtGrowing.{left_out_start}
+use Rattle.expr_lower.specs.Starting.{IsStart, left_out_start}
 use Rattle.expr_lower.specs.Taking.{HasOneMore}
 use Rattle.expr_lower.proofs.Erased.{erase, out_erased, start_erased}
 
@@ -85,7 +82,7 @@ local_open fs names x xs e kind c shape start =
     ∙ sym (body_erased fs (local x.name kind 0 ∷ names) xs e) ∙ body_erased fs (local x.name kind c ∷ names) xs e
 
 -- formals in other cells
-formals_erased : (xs : List Local) (ys : List Formal) (names others : List Name) → StandForFormals xs ys → map erase names ≡ map erase others → map erase (behind_formals xs ys names) ≡ map erase (behind_formals xs (map some_formal xs) others)
+pub formals_erased : (xs : List Local) (ys : List Formal) (names others : List Name) → StandForFormals xs ys → map erase names ≡ map erase others → map erase (behind_formals xs ys names) ≡ map erase (behind_formals xs (map some_formal xs) others)
 formals_erased [] [] names others h e = e
 formals_erased [] (y ∷ ys) names others h e = absurd h
 formals_erased (x ∷ xs) [] names others h e = absurd h

@@ -1,28 +1,26 @@
 -- A call does what calling the function does.
-use Rattle.std.proofs.Common.{◌≡◌, ℕ, zero, suc, ◌+◌, ◌<◌, ◌≤◌, inl, inr, ⊎_elim, ℤ, pos, List, [], ◌∷◌, ◌++◌, length, refl, sym, ap, ◌∙◌, subst, Option, None, Some, arith, length-append}
+use Rattle.std.proofs.Common.{◌≡◌, ℕ, zero, suc, ◌+◌, ◌≤◌, ℤ, pos, List, [], ◌∷◌, ◌++◌, length, refl, ap, ◌∙◌, subst, Option, None, Some, arith, length-append}
 use Rattle.std.specs.Prelude.{slice_get, slice_index_or, slice_set}
 use Rattle.std.proofs.lemmas.Option.{slice_get-get_or}
-use Rattle.rvc_base.specs.declared.trap.Trap.{Trap}
-use Rattle.rvc_base.specs.declared.trap.Trap.TheVariants.{TurnLimit}
 use Rattle.rvc_base.specs.Storing.{conv}
 use Rattle.cal_ast.specs.Tree as tree
 use Rattle.cal_ast.specs.Tree.{Tree}
-use Rattle.cal_model.specs.Value.{Single, Value, Values, Nil, Cons, count, stored}
-use Rattle.cal_model.specs.Outcome.{Out, Gives, Traps, and_then, turn}
+use Rattle.cal_model.specs.Value.{Values, Nil, Cons, count}
+use Rattle.cal_model.specs.Outcome.{Gives, and_then, turn}
 use Rattle.cal_model.specs.Env.{Env}
 use Rattle.cal_model.specs.Expression.{eval, eval_all}
 use Rattle.code_ir.specs.declared.instr.Instr.{Instr}
 use Rattle.code_ir.specs.declared.instr.Instr.TheVariants as op
 use Rattle.code_ir.specs.declared.instr.Routine.{Routine}
 use Rattle.code_ir.specs.Effect.{Leaves}
-use Rattle.code_ir.specs.Running.{Goes, Next, State, Stuck, step, go_on, stop, Reaches, here, after}
+use Rattle.code_ir.specs.Running.{Goes, State, Stuck, step, go_on, stop, Reaches, here, after}
 use Rattle.expr_lower.specs.declared.callees.Formal.{Formal}
 use Rattle.expr_lower.specs.Callees.{Function, function_named}
-use Rattle.expr_lower.specs.Calling.{Answers, AreInRow, AreOfSizes, HoldArguments, HoldsArgument, Returns, Serves, outside}
+use Rattle.expr_lower.specs.Calling.{Answers, AreInRow, AreOfSizes, HoldArguments, Returns, Serves, outside}
 use Rattle.expr_lower.specs.Coding.{call_code, formal_stores}
 use Rattle.expr_lower.specs.Flat.{flat}
 use Rattle.expr_lower.specs.Following.{CutsOff, Follows, Pushes}
-use Rattle.expr_lower.specs.Held.{AreApart, Holds, Keeps}
+use Rattle.expr_lower.specs.Held.{Keeps}
 use Rattle.expr_lower.specs.Names.{Name}
 use Rattle.expr_lower.specs.Parted.{number_of}
 use Rattle.expr_lower.specs.Placed.{StandsAt, World, state}
@@ -31,7 +29,7 @@ use Rattle.expr_lower.proofs.Finding.{some_there}
 use Rattle.expr_lower.proofs.GivenKinds.{keeps_anywhere, routine_keeps, unwritten, written_more}
 use Rattle.expr_lower.proofs.Keeping.{holds_still, keeps_all, keeps_join, keeps_wider}
 use Rattle.expr_lower.proofs.Runs.{ends_join, follows_both, follows_more, follows_then, obeys, reaches_join, stands_left, stands_right}
-use Rattle.expr_lower.proofs.Scoping.{Written}
+use Rattle.expr_lower.proofs.Written.{Written}
 use Rattle.expr_lower.proofs.Singles.{IsSingleValue, OnlySingles}
 use Rattle.expr_lower.proofs.Storing.{set_there, set_written, single_stored, store_leaves}
 
@@ -98,13 +96,13 @@ module _ (fs : List Function) (globals names : List Name) (w : World) (env : Env
 -- ---- .. and in the cells of the formals
 
 -- the run goes on to a place, and the arguments stand in the cells of the formals
-record ArePut (w : World) (xs : List Formal) (c : ℕ) (vs : Values) (s : State) (end : ℕ) (stack : List ℤ) : Type 0 where
-  cells : List ℤ
-  reaches : Reaches w.code w.tokens s (state end stack s.frames cells s.left)
-  written : Written c (length xs) s.cells cells
-  holds : HoldArguments xs cells vs
+pub record ArePut (w : World) (xs : List Formal) (c : ℕ) (vs : Values) (s : State) (end : ℕ) (stack : List ℤ) : Type 0 where
+  pub cells : List ℤ
+  pub reaches : Reaches w.code w.tokens s (state end stack s.frames cells s.left)
+  pub written : Written c (length xs) s.cells cells
+  pub holds : HoldArguments xs cells vs
 
-put_all : (w : World) (frames : List ℕ) (xs : List Formal) (c : ℕ) (vs : Values) (base : ℕ) (stack top cells : List ℤ) (left : ℕ) → AreInRow c xs → AreOfSizes xs → count vs ≡ length xs → ArePiled vs stack top
+pub put_all : (w : World) (frames : List ℕ) (xs : List Formal) (c : ℕ) (vs : Values) (base : ℕ) (stack top cells : List ℤ) (left : ℕ) → AreInRow c xs → AreOfSizes xs → count vs ≡ length xs → ArePiled vs stack top
     → c + length xs ≤ length cells → StandsAt w.code.instrs base (formal_stores xs)
     → ArePut w xs c vs (state base top frames cells left) (base + length (formal_stores xs)) stack
 put_all w frames [] c Nil base stack top cells left row sizes many piled room stands =

@@ -156,7 +156,7 @@ module _ (fs : List Function) (globals names : List Name) (w : World) (serves : 
     does_in (if_code test first other at base n k j m else_at end a b c h g d e f) =
         does_if fs globals names w env frames test first other at base n k j m else_at end a b c (grows_test h) (grows g) (grows d) e f (tests_in h) (does_in g) (does_in d)
 
-    does_args : {es : Tree} {base n m : ℕ} {code : List Instr} → AreArgs fs names es base n code m → DoesArgs fs globals names w env frames es base n code m
+    pub does_args : {es : Tree} {base n m : ℕ} {code : List Instr} → AreArgs fs names es base n code m → DoesArgs fs globals names w env frames es base n code m
     does_args (no_arg base n) = does_no_arg fs globals names w env frames base n
     does_args (arg_more e es base n k m a b h g) =
         does_arg_more fs globals names w env frames e es base n k m a b (grows h) (grows_args g) (does_in h) (λ cells left below apart holds. singles_in fs w.calls names w.tokens cells env (kinds_in fs globals w serves env.globals n cells below.1 apart.1 holds.1 holds.2) holds.0 h left) (does_args g)

@@ -24,7 +24,7 @@ use Rattle.expr_lower.specs.Fitting.{IsInner, FitsAt, Fits}
 use Rattle.expr_lower.specs.declared.names.ItemList.{ItemList}
 use Rattle.expr_lower.specs.Listed.{list_named}
 use Rattle.expr_lower.specs.declared.parts.Rows.{Rows}
-use Rattle.expr_lower.specs.Parted.{deep_named}
+use Rattle.expr_lower.specs.Parted.{deep_named, number_of}
 use Rattle.expr_lower.proofs.Listing.{IsListName, found}
 use Rattle.expr_lower.proofs.PartValues.{IsDeep, IsPartOf, deep_found, part_found, sized_is}
 use Rattle.expr_lower.specs.declared.callees.Formal.{Formal}
@@ -32,7 +32,6 @@ use Rattle.expr_lower.specs.Callees.{Function, function_for}
 use Rattle.expr_lower.specs.Calling.{AreInRow, AreOfSizes, HasFormals, HasRoutines}
 use Rattle.expr_lower.specs.Coding.{AreArgs, IsCode, IsTest, arg_more, call, call_code, formal_stores, no_arg, number, too_great, negative, truth, variable, paren, prefix, binary, both, either, if_code, tested, both_tested, seat_instr, prefix_instr, binary_instr, item, item_instr, IsOffset, deep_item, whole, row, row_instr}
 use Rattle.expr_lower.proofs.Coded.{grows, grows_args, grows_offset, grows_test}
-use Rattle.expr_lower.specs.Parted.{number_of}
 use Rattle.expr_lower.proofs.Finding.{is_found}
 use Rattle.expr_lower.proofs.Keeping.{below_more}
 
@@ -337,7 +336,7 @@ module _ (code : Code) (callable limit : ℕ) where
   fits_none : (base h : ℕ) → Plain base h [] h
   fits_none base h = record { height = λ p. h; first = refl; last = refl; exit = refl; at = λ j i e. cc }
 
-  fits_formals : (xs : List Formal) (c base h : ℕ) → AreInRow c xs → c + length xs ≤ limit → AreOfSizes xs → Plain base (h + length xs) (formal_stores xs) h
+  pub fits_formals : (xs : List Formal) (c base h : ℕ) → AreInRow c xs → c + length xs ≤ limit → AreOfSizes xs → Plain base (h + length xs) (formal_stores xs) h
   fits_formals [] c base h inrow room sizes = let e : h ≡ h + 0 = omega arith in subst (λ k. Plain base k [] h) e (fits_none base h)
   fits_formals (x ∷ xs) c base h (at, inrow) room (size, sizes) =
       let sum : h + 1 + length xs ≡ h + suc (length xs) = omega arith in
@@ -400,7 +399,7 @@ module _ (code : Code) (callable limit : ℕ) where
           branch h (h + 1) base else_at a b (op.Jump end ∷ c) (fits_test_in h below (omega (arith, x, y, z)) (omega arith) g) (fits_in h (below_more n k names x below) (omega (arith, z)) d) tail.0
           (omega arith) (omega arith) (tail.1 else_at (omega arith) ∙ ap third.height e ∙ third.first)
 
-      fits_args : {es : Tree} {base n m : ℕ} {instrs : List Instr} (h : ℕ) → AreBelow n names → m ≤ limit → AreArgs fs names es base n instrs m → Plain base h instrs (h + number_of es)
+      pub fits_args : {es : Tree} {base n m : ℕ} {instrs : List Instr} (h : ℕ) → AreBelow n names → m ≤ limit → AreArgs fs names es base n instrs m → Plain base h instrs (h + number_of es)
       fits_args h below le (no_arg base n) = let e : h ≡ h + 0 = omega arith in subst (λ k. Plain base h [] k) e (fits_none base h)
       fits_args h below le (arg_more e es base n k m a b g d) =
           let x = grows g in let y = grows_args d in

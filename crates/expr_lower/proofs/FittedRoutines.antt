@@ -1,9 +1,8 @@
 -- The code of a routine fits where it stands.
-use Rattle.std.proofs.Common.{◌≡◌, ℕ, ◌+◌, ◌≤◌, pos, List, [], ◌∷◌, ◌++◌, length, refl, sym, ap, ◌∙◌, subst, Option, None, Some, arith, append_assoc}
+use Rattle.std.proofs.Common.{ℕ, ◌+◌, ◌≤◌, pos, List, [], ◌∷◌, ◌++◌, length, refl, sym, ap, ◌∙◌, None, Some, arith, append_assoc}
 use Rattle.rvc_base.specs.declared.scalar.Scalar.{Scalar}
 use Rattle.rvc_base.specs.Storing.{IsSize}
 use Rattle.cal_ast.specs.Tree.{Tree}
-use Rattle.cal_ast.specs.View.{optional}
 use Rattle.cal_model.specs.Actor.{Local, Fun}
 use Rattle.code_ir.specs.declared.instr.Instr.{Instr}
 use Rattle.code_ir.specs.declared.instr.Instr.TheVariants as op
@@ -12,8 +11,8 @@ use Rattle.expr_lower.specs.Callees.{Function}
 use Rattle.expr_lower.specs.Calling.{HasRoutines}
 use Rattle.expr_lower.specs.Held.{AreBelow}
 use Rattle.expr_lower.specs.Names.{Name}
-use Rattle.expr_lower.specs.Routining.{FitsAsRoutine, FunSized, IsBody, IsRoutine, LocalsSized, no_more_locals, one_more_local, return_code}
-use Rattle.expr_lower.specs.Stating.{IsStart, at_zero, at_value}
+use Rattle.expr_lower.specs.Routining.{FitsAsRoutine, FunSized, IsBody, IsRoutine, LocalsSized, no_more_locals, one_more_local}
+use Rattle.expr_lower.specs.Starting.{IsStart, at_zero, at_value}
 use Rattle.expr_lower.proofs.Coded.{grows}
 use Rattle.expr_lower.proofs.Fitted.{Plain, fits_const, fits_in, fits_one, plain_then}
 use Rattle.expr_lower.proofs.Keeping.{below_more}

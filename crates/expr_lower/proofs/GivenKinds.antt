@@ -1,24 +1,24 @@
 -- What functions give is of the kinds of their types, since their routines leave it so.
-use Rattle.std.proofs.Common.{◌≡◌, ℕ, suc, ◌+◌, ◌<◌, ◌≤◌, inl, inr, ⊎_elim, ℤ, pos, List, [], ◌∷◌, length, refl, sym, ap, ◌∙◌, subst, Some, arith}
+use Rattle.std.proofs.Common.{◌≡◌, ℕ, suc, ◌+◌, ◌<◌, ◌≤◌, inl, inr, ⊎_elim, ℤ, pos, List, [], ◌∷◌, length, refl, ◌∙◌, subst, Some, arith}
 use Rattle.std.specs.Prelude.{slice_get, slice_index_or, slice_set}
 use Rattle.std.proofs.lemmas.Option.{slice_get-get_or}
 use Rattle.rvc_base.specs.Arithmetic.{truth}
 use Rattle.rvc_base.specs.Storing.{conv}
-use Rattle.cal_model.specs.Value.{Single, Value, Num, Truth, Items, Values, Nil, Cons, HasKind, count, kind_of_scalar, stored}
+use Rattle.cal_model.specs.Value.{Value, Num, Truth, Items, Values, Nil, Cons, HasKind, count, kind_of_scalar}
 use Rattle.cal_model.specs.Env.{Var}
 use Rattle.code_ir.specs.Running.{State}
 use Rattle.expr_lower.specs.declared.callees.Formal.{Formal}
-use Rattle.expr_lower.specs.Callees.{Function, function_named}
+use Rattle.expr_lower.specs.Callees.{Function}
 use Rattle.expr_lower.specs.Calling.{Answers, AreInRow, AreOfSizes, HasRoom, HoldArguments, HoldsArgument, Returns, Serves, outside}
 use Rattle.expr_lower.specs.Flat.{flat}
-use Rattle.expr_lower.specs.Following.{CutsOff, Follows}
-use Rattle.expr_lower.specs.Held.{AllApart, AreApart, AreBelow, Holds, Keeps}
+use Rattle.expr_lower.specs.Following.{CutsOff}
+use Rattle.expr_lower.specs.Held.{AllApart, AreBelow, Holds, Keeps}
 use Rattle.expr_lower.specs.Names.{Name}
 use Rattle.expr_lower.specs.Placed.{World, state}
 use Rattle.expr_lower.proofs.Finding.{some_there}
 use Rattle.expr_lower.proofs.Keeping.{holds_still}
 use Rattle.expr_lower.proofs.Runs.{follows_more}
-use Rattle.expr_lower.proofs.Scoping.{Written}
+use Rattle.expr_lower.proofs.Written.{Written}
 use Rattle.expr_lower.proofs.Singles.{AreSingles, IsSingleValue, KindsIn}
 use Rattle.expr_lower.proofs.Storing.{set_there, set_written, single_stored}
 

@@ -8,7 +8,7 @@ use Rattle.expr_lower.specs.declared.names.Seat.{Seat}
 use Rattle.expr_lower.specs.declared.names.Seat.TheVariants.{Cell, Tokens}
 use Rattle.expr_lower.specs.Names.{Name}
 use Rattle.expr_lower.specs.Flat.{flat, flat_all}
-use Rattle.expr_lower.specs.Held.{StandAt, HoldsName, Holds, SeatIsBelow, AreBelow, SeatIsApart, AllApart, Keeps}
+use Rattle.expr_lower.specs.Held.{StandAt, HoldsName, Holds, SeatIsBelow, AreBelow, SeatIsApart, AllApart, AreApart, Keeps}
 
 pub keeps_all : (n m low high : ℕ) (cells : List ℤ) → Keeps n m low high cells cells
 keeps_all n m low high cells = record { size = refl; cell = λ c free apart. refl }
@@ -80,3 +80,11 @@ below_more n m names le below text x e = seat_more x.seat (below text x e)
     seat_more : (seat : Seat) → SeatIsBelow n (scalars_of_type x.shape) seat → SeatIsBelow m (scalars_of_type x.shape) seat
     seat_more (Cell c) h = omega (arith, h)
     seat_more (Tokens port first step) h = tt
+
+-- ---- ranges of cells that are apart
+
+pub apart_first : (n k m low high : ℕ) → k ≤ m → AreApart n m low high → AreApart n k low high
+apart_first n k m low high le apart = ⊎_elim (λ (a : m ≤ low). inl (omega (arith, a, le))) (λ (a : high ≤ n). inr a) apart
+
+pub apart_last : (n k m low high : ℕ) → n ≤ k → AreApart n m low high → AreApart k m low high
+apart_last n k m low high le apart = ⊎_elim (λ (a : m ≤ low). inl a) (λ (a : high ≤ n). inr (omega (arith, a, le))) apart

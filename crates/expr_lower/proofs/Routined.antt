@@ -1,16 +1,15 @@
 -- The code of a function does what calling it does.
-use Rattle.std.proofs.Common.{◌≡◌, ℕ, suc, ◌+◌, ◌<◌, ◌≤◌, inl, inr, ⊎_elim, Bool, true, false, ℤ, pos, List, [], ◌∷◌, ◌++◌, length, refl, sym, ap, ◌∙◌, subst, Option, None, Some, arith, length-append}
+use Rattle.std.proofs.Common.{◌≡◌, ℕ, ◌+◌, ◌<◌, ◌≤◌, inl, inr, ⊎_elim, Bool, true, false, ℤ, pos, List, [], ◌∷◌, ◌++◌, length, refl, sym, ap, ◌∙◌, subst, Option, None, Some, arith, length-append}
 use Rattle.std.specs.Prelude.{if◌then◌else◌, slice_get, slice_index_or, slice_set}
 use Rattle.std.specs.Str.{bytes_eq}
 use Rattle.std.proofs.lemmas.Option.{slice_get-get_or}
 use Rattle.rvc_base.specs.declared.scalar.Scalar.{Scalar}
 use Rattle.rvc_base.specs.declared.scalar.Scalar.TheVariants as scalar
 use Rattle.rvc_base.specs.Storing.{conv, IsSize}
-use Rattle.rvc_base.specs.Width.{IsNum}
 use Rattle.cal_ast.specs.Tree.{Tree}
 use Rattle.cal_ast.specs.View.{optional}
 use Rattle.cal_model.proofs.Numbers.{is-num}
-use Rattle.cal_model.specs.Value.{Shape, Single, Value, HasKind, kind_of_scalar, of_number, scalars_of_type, stored, zero_of}
+use Rattle.cal_model.specs.Value.{Shape, Single, Value, HasKind, kind_of_scalar, of_number, scalars_of_type, stored}
 use Rattle.cal_model.specs.Outcome.{Out, Gives, Traps, Lacks, Clashes, and_then}
 use Rattle.cal_model.specs.Env.{Env, find, variable, with_local}
 use Rattle.cal_model.specs.Expression.{eval}
@@ -18,26 +17,24 @@ use Rattle.cal_model.specs.Actor.{Local}
 use Rattle.cal_model.specs.Call.{declared, first_value}
 use Rattle.code_ir.specs.declared.instr.Instr.{Instr}
 use Rattle.code_ir.specs.declared.instr.Instr.TheVariants as op
-use Rattle.code_ir.specs.Effect.{Leaves, stored as in_type}
-use Rattle.code_ir.specs.Running.{State, step, go_on, Reaches, here, after}
+use Rattle.code_ir.specs.Effect.{stored as in_type}
+use Rattle.code_ir.specs.Running.{State, go_on, Reaches, here, after}
 use Rattle.expr_lower.specs.Callees.{Function}
-use Rattle.expr_lower.specs.Calling.{HasRoom, Returns, Serves, outside}
+use Rattle.expr_lower.specs.Calling.{Serves}
 use Rattle.expr_lower.specs.Coding.{IsCode}
 use Rattle.expr_lower.specs.Flat.{flat}
 use Rattle.expr_lower.specs.Following.{CutsOff, Follows, Pushes}
 use Rattle.expr_lower.specs.Held.{AllApart, AreApart, AreBelow, Holds, HoldsName, Keeps, SeatIsApart, SeatIsBelow}
-use Rattle.expr_lower.specs.Meant.{local}
-use Rattle.expr_lower.specs.Names.{Name, named}
+use Rattle.expr_lower.specs.Names.{local, Name, named}
 use Rattle.expr_lower.specs.Placed.{StandsAt, World, state}
 use Rattle.expr_lower.specs.Routining.{IsBody, LocalsSized, no_more_locals, one_more_local, return_code}
-use Rattle.expr_lower.specs.Stating.{IsStart, at_zero, at_value}
+use Rattle.expr_lower.specs.Starting.{IsStart, at_zero, at_value}
 use Rattle.expr_lower.proofs.Coded.{does_in, grows, load_leaves}
 use Rattle.expr_lower.proofs.Doing.{Apart, Below, Held, below_on, cut_after, cut_wider, still}
 use Rattle.expr_lower.proofs.GivenKinds.{kinds_in}
-use Rattle.expr_lower.proofs.Keeping.{below_more, keeps_join, keeps_wider}
-use Rattle.expr_lower.proofs.Runs.{ends_join, follows_both, follows_more, follows_then, obeys, reaches_join, stands_left, stands_right}
-use Rattle.expr_lower.proofs.Scoping.{Written, written_keeps}
-use Rattle.expr_lower.proofs.Setting.{stand_one}
+use Rattle.expr_lower.proofs.Keeping.{keeps_join, keeps_wider}
+use Rattle.expr_lower.proofs.Runs.{follows_both, follows_more, follows_then, obeys, reaches_join, stands_left, stands_right}
+use Rattle.expr_lower.proofs.Written.{Written, written_keeps, stand_one}
 use Rattle.expr_lower.proofs.Singles.{IsSingleValue, singles_in}
 use Rattle.expr_lower.proofs.Storing.{set_there, set_written, single_stored, store_leaves}
 

@@ -22,13 +22,13 @@ use Rattle.expr_lower.specs.declared.parts.Rows.{Rows}
 use Rattle.expr_lower.specs.Coding.{item_instr, row_instr}
 use Rattle.expr_lower.specs.Flat.{flat, flat_all}
 use Rattle.expr_lower.specs.Following.{Follows, Pushes, CutsOff}
-use Rattle.expr_lower.specs.Held.{AllApart, AreBelow, Holds, HoldsName, Keeps, StandAt}
+use Rattle.expr_lower.specs.Held.{Holds, HoldsName, Keeps, StandAt}
 use Rattle.expr_lower.specs.Names.{Name, named}
 use Rattle.expr_lower.specs.Parted.{Part, deep_named, item_in, item_of, part_at, part_named, rows_named, sized}
 use Rattle.expr_lower.specs.Placed.{StandsAt, World, state}
 use Rattle.expr_lower.specs.Callees.{Function}
 use Rattle.expr_lower.proofs.Runs.{ends_join, follows_more, follows_then, obeys, reaches_join, stands_left, stands_right}
-use Rattle.expr_lower.proofs.Keeping.{below_more, holds_still, keeps_all, keeps_join, keeps_wider, scalars_same}
+use Rattle.expr_lower.proofs.Keeping.{holds_still, keeps_all, keeps_join, keeps_wider, scalars_same}
 use Rattle.expr_lower.proofs.Effects.{same_number}
 use Rattle.expr_lower.proofs.Items.{reads_inside, reads_straight}
 use Rattle.expr_lower.proofs.Listing.{item_kind, item_past, item_within, single_flat}

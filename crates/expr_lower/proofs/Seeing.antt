@@ -10,13 +10,11 @@ use Rattle.expr_lower.specs.declared.names.ItemList.{ItemList}
 use Rattle.expr_lower.specs.declared.names.OneCell.{OneCell}
 use Rattle.expr_lower.specs.declared.names.OneSeat.{OneSeat}
 use Rattle.expr_lower.specs.declared.names.Seat.{Seat}
-use Rattle.expr_lower.specs.declared.names.Seat.TheVariants.{Cell, Tokens}
+use Rattle.expr_lower.specs.declared.names.Seat.TheVariants.{Cell}
 use Rattle.expr_lower.specs.Growing.{left_out_name}
 use Rattle.expr_lower.specs.Listed.{items_of, list_named}
-use Rattle.expr_lower.specs.Meant.{local}
-use Rattle.expr_lower.specs.Names.{Name, named}
+use Rattle.expr_lower.specs.Names.{local, Name, named}
 use Rattle.expr_lower.specs.Seen.{IsHidden, IsNotLocal, one_in, one_of, one_named}
-use Rattle.expr_lower.specs.StmtGrowing.{cell_of, cell_named}
 use Rattle.expr_lower.specs.Callees.{Function}
 use Rattle.expr_lower.specs.Truths.{is_truth, is_truth_shape}
 
@@ -28,9 +26,6 @@ one_in_name o = elim o [ None ↦ None | Some x ↦ one_of x ]
 abbrev list_in_name : Option Name → Option ItemList
 list_in_name o = elim o [ None ↦ None | Some x ↦ items_of x ]
 
-abbrev cell_in_name : Option Name → Option OneCell
-cell_in_name o = elim o [ None ↦ None | Some x ↦ cell_of x.seat x.shape ]
-
 abbrev is_truth_name : Option Name → Bool
 is_truth_name o = elim o [ None ↦ false | Some x ↦ is_truth_shape x.shape ]
 
@@ -38,9 +33,6 @@ abbrev left_shape : Shape → ℕ → Option ℕ
 left_shape t at = elim t [ Single u ↦ None | Many n items ↦ Some at ]
 
 -- what is made of a single value that was found
-
-abbrev pub cell_in : Option OneSeat → Option OneCell
-cell_in o = elim o [ None ↦ None | Some s ↦ cell_of s.seat (Single s.kind) ]
 
 abbrev pub is_truth_in : Option OneSeat → Bool
 is_truth_in o = elim o [ None ↦ false | Some s ↦ is_truth_shape (Single s.kind) ]
@@ -83,19 +75,6 @@ pub one_there : (names : List Name) (text : List ℕ) (at : ℕ) (s : OneSeat) �
 one_there names text at s e =
     let f : IsOneOf names text s = one_found names text s e in
     ap (λ o. left_out_name o at) f.is ∙ ap (λ (t : Shape). left_shape t at) f.shape
-
--- the cell of what is named
-pub one_cell : (names : List Name) (text : List ℕ) → cell_named names text ≡ cell_in (one_named names text)
-one_cell names text = go (named text names)
-  where
-    at_shape : (seat : Seat) (shape : Shape) → cell_of seat shape ≡ cell_in (one_in seat shape)
-    at_shape seat (Single t) = refl
-    at_shape (Cell c) (Many n items) = refl
-    at_shape (Tokens port first step) (Many n items) = refl
-
-    go : (o : Option Name) → cell_in_name o ≡ cell_in (one_in_name o)
-    go None = refl
-    go (Some x) = at_shape x.seat x.shape
 
 -- whether it is seen to be a truth value
 pub one_truth : (fs : List Function) (names : List Name) (text : List ℕ) → is_truth fs names (tree.variable text 0) ≡ is_truth_in (one_named names text)

@@ -1,10 +1,8 @@
 -- The routine of a function does what calling the function does.
-use Rattle.std.proofs.Common.{◌≡◌, ℕ, zero, suc, ◌⊎◌, Bool, true, false, ◌+◌, ◌<◌, ◌≤◌, inl, inr, ⊎_elim, ℤ, pos, List, [], ◌∷◌, ◌++◌, length, refl, sym, ap, ◌∙◌, subst, Option, None, Some, arith, append_assoc, append-nil}
+use Rattle.std.proofs.Common.{◌≡◌, ℕ, zero, suc, ◌⊎◌, Bool, true, false, ◌+◌, ◌≤◌, inl, inr, ⊎_elim, ℤ, List, [], ◌∷◌, ◌++◌, length, refl, sym, ap, ◌∙◌, subst, Option, None, Some, arith, append_assoc, append-nil}
 use Rattle.std.specs.Prelude.{slice_get, option_map, if◌then◌else◌}
 use Rattle.std.specs.Str.{bytes_eq}
 use Rattle.std.proofs.lemmas.Slice.Eq.{bytes_eq-Decides}
-use Rattle.rvc_base.specs.declared.scalar.Scalar.{Scalar}
-use Rattle.rvc_base.specs.Storing.{IsSize}
 use Rattle.cal_model.specs.Value.{Shape, Single, Value, Values, Nil, Cons, HasKind, kind_of_scalar, scalars_of_type, stored}
 use Rattle.cal_model.specs.Outcome.{Out, Gives, Lacks, and_then, needed}
 use Rattle.cal_model.specs.Env.{Var, Env, variable}
@@ -17,14 +15,13 @@ use Rattle.code_ir.specs.Code.{Code}
 use Rattle.code_ir.specs.Running.{State}
 use Rattle.expr_lower.specs.declared.callees.Formal.{Formal}
 use Rattle.expr_lower.specs.Callees.{Function, function_named}
-use Rattle.expr_lower.specs.Calling.{Answers, AreInRow, AreOfSizes, HasFormals, HoldArguments, HoldsArgument, Returns, Serves, outside}
+use Rattle.expr_lower.specs.Calling.{Answers, AreInRow, AreOfSizes, HoldArguments, HoldsArgument, Returns, Serves, outside}
 use Rattle.expr_lower.specs.declared.names.Seat.{Seat}
 use Rattle.expr_lower.specs.declared.names.Seat.TheVariants.{Cell, Tokens}
 use Rattle.expr_lower.specs.Flat.{flat}
 use Rattle.expr_lower.specs.Following.{CutsOff, Follows}
-use Rattle.expr_lower.specs.Held.{AllApart, AreApart, AreBelow, Holds, Keeps, SeatIsApart, SeatIsBelow}
-use Rattle.expr_lower.specs.Meant.{local}
-use Rattle.expr_lower.specs.Names.{Name}
+use Rattle.expr_lower.specs.Held.{AllApart, AreBelow, Holds, Keeps, SeatIsApart, SeatIsBelow}
+use Rattle.expr_lower.specs.Names.{local, Name}
 use Rattle.expr_lower.specs.Placed.{StandsAt, World, state}
 use Rattle.expr_lower.specs.Routining.{AreRoutines, no_routine, routine_more, FunSized, IsRoutine, LocalsSized, StandForFormals, behind_formals, world_of}
 use Rattle.expr_lower.proofs.Keeping.{below_more}
@@ -40,26 +37,26 @@ formals_below (x ∷ xs) (y ∷ ys) c n names row le below =
     let at = row.0 in
     formals_below xs ys (c + 1) n (local x.name y.kind y.cell ∷ names) row.1 (omega (arith, le)) (front_below names x.name y.kind y.cell n (omega (arith, at, le)) below)
 
-formals_apart : (xs : List Local) (ys : List Formal) (c low high : ℕ) (names : List Name) → AreInRow c ys → high ≤ c → AllApart low high names → AllApart low high (behind_formals xs ys names)
+pub formals_apart : (xs : List Local) (ys : List Formal) (c low high : ℕ) (names : List Name) → AreInRow c ys → high ≤ c → AllApart low high names → AllApart low high (behind_formals xs ys names)
 formals_apart [] ys c low high names row le apart = apart
 formals_apart (x ∷ xs) [] c low high names row le apart = apart
 formals_apart (x ∷ xs) (y ∷ ys) c low high names row le apart =
     let at = row.0 in
     formals_apart xs ys (c + 1) low high (local x.name y.kind y.cell ∷ names) row.1 (omega (arith, le)) (front_apart low high names x.name y.kind y.cell (inr (omega (arith, at, le))) apart)
 
-sizes_of : (xs : List Local) (ys : List Formal) → StandForFormals xs ys → LocalsSized xs → AreOfSizes ys
+pub sizes_of : (xs : List Local) (ys : List Formal) → StandForFormals xs ys → LocalsSized xs → AreOfSizes ys
 sizes_of [] [] h s = tt
 sizes_of [] (y ∷ ys) h s = absurd h
 sizes_of (x ∷ xs) [] h s = absurd h
 sizes_of (x ∷ xs) (y ∷ ys) h s = (s.0 y.kind h.0, sizes_of xs ys h.1 s.1)
 
 -- what a function sees at first
-record Enters (globals : List Var) (xs : List Local) (ys : List Formal) (vs : Values) (names : List Name) (tokens : ℕ → List ℤ) (cells : List ℤ) (locals : List Var) : Type 0 where
-  args : List Var
-  are : arguments xs vs ≡ Some args
-  holds : Holds (behind_formals xs ys names) tokens cells (record { globals = globals; locals = args ++ locals })
+pub record Enters (globals : List Var) (xs : List Local) (ys : List Formal) (vs : Values) (names : List Name) (tokens : ℕ → List ℤ) (cells : List ℤ) (locals : List Var) : Type 0 where
+  pub args : List Var
+  pub are : arguments xs vs ≡ Some args
+  pub holds : Holds (behind_formals xs ys names) tokens cells (record { globals = globals; locals = args ++ locals })
 
-enters : (globals : List Var) (xs : List Local) (ys : List Formal) (vs : Values) (names : List Name) (tokens : ℕ → List ℤ) (cells : List ℤ) (locals : List Var) → StandForFormals xs ys → HoldArguments ys cells vs
+pub enters : (globals : List Var) (xs : List Local) (ys : List Formal) (vs : Values) (names : List Name) (tokens : ℕ → List ℤ) (cells : List ℤ) (locals : List Var) → StandForFormals xs ys → HoldArguments ys cells vs
     → Holds names tokens cells (record { globals = globals; locals = locals }) → Enters globals xs ys vs names tokens cells locals
 enters globals [] [] Nil names tokens cells locals h held holds = record { args = []; are = refl; holds = holds }
 enters globals [] [] (Cons v vs) names tokens cells locals h held holds = absurd held
@@ -145,7 +142,7 @@ answers_one code tokens low high globals fs inner outer f g base n m instrs r is
 -- ---- all routines
 
 -- the last of the functions is found if none before it has the name
-named_last : (text : List ℕ) (fs : List Function) (g h : Function) → function_named text (fs ++ g ∷ []) ≡ Some h → (function_named text fs ≡ Some h) ⊎ ((g ≡ h) × (bytes_eq g.text text ≡ true))
+pub named_last : (text : List ℕ) (fs : List Function) (g h : Function) → function_named text (fs ++ g ∷ []) ≡ Some h → (function_named text fs ≡ Some h) ⊎ ((g ≡ h) × (bytes_eq g.text text ≡ true))
 named_last text [] g h e = by (bytes_eq g.text text) refl e
   where
     by : (b : Bool) → bytes_eq g.text text ≡ b → (if b then Some g else None) ≡ Some h → (function_named text [] ≡ Some h) ⊎ ((g ≡ h) × (bytes_eq g.text text ≡ true))

@@ -13,7 +13,7 @@ use Rattle.cal_ast.specs.declared.expr.BinOp.{BinOp}
 use Rattle.cal_ast.specs.declared.expr.BinOp.TheVariants as binaries
 use Rattle.cal_ast.specs.Tree.{Tree}
 use Rattle.cal_model.specs.Value.{Shape, Single, Many, Value, Num, Truth, Items, Values, value_at, HasKind, HaveKind, kind_of_type, kind_of_scalar, Nil, Cons, count}
-use Rattle.cal_model.specs.Outcome.{Out, Gives, Traps, Lacks, Clashes, and_then, known, turn}
+use Rattle.cal_model.specs.Outcome.{Out, Gives, Traps, and_then, known, turn}
 use Rattle.cal_model.specs.Env.{Var, Env}
 use Rattle.cal_model.specs.Expression.{Calls, eval, eval_all, computed, prefixed, applied, of_numbers, of_truths, with_right, chosen, indexed}
 use Rattle.cal_model.proofs.Numbers.{is-num, rest-is-num, shifted-is-num, and-is-num, or-is-num, xor-is-num, not-is-num}

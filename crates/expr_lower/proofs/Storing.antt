@@ -19,7 +19,7 @@ use Rattle.code_ir.proofs.Marks.{get-set, get-other}
 use Rattle.expr_lower.specs.Flat.{flat, flat_all}
 use Rattle.expr_lower.proofs.Effects.{same_number}
 use Rattle.expr_lower.proofs.Listing.{single_flat}
-use Rattle.expr_lower.proofs.Scoping.{Written}
+use Rattle.expr_lower.proofs.Written.{Written}
 use Rattle.expr_lower.proofs.Singles.{IsSingleValue}
 
 -- ---- one number

@@ -6,7 +6,7 @@ use Rattle.rvc_base.specs.Storing.{IsSize}
 use Rattle.cal_ast.specs.Tree.{Tree}
 use Rattle.cal_model.specs.Value.{Single, Value, Values, Nil, Cons, HasKind, kind_of_scalar, stored}
 use Rattle.cal_model.specs.Env.{Var, Env}
-use Rattle.cal_model.specs.Expression.{Calls, eval}
+use Rattle.cal_model.specs.Expression.{eval}
 use Rattle.code_ir.specs.declared.instr.Instr.{Instr}
 use Rattle.code_ir.specs.declared.instr.Routine.{Routine}
 use Rattle.code_ir.specs.declared.outcome.Outcome.{Outcome}

@@ -13,16 +13,11 @@ pub mod Routining
 pub mod Listed
 pub mod Parted
 pub mod PartView
-pub mod Meant
 pub mod Seen
 pub mod Truths
 pub mod Growing
 pub mod Words
-pub mod Changing
-pub mod Stating
 pub mod Taking
-pub mod Executing
-pub mod StmtGrowing
-pub mod StmtWords
 pub mod SeenWords
 pub mod RoutineWords
+pub mod Starting

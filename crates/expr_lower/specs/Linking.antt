@@ -19,14 +19,3 @@ Closes old new start exits out =
     (before test rest : List Instr)
     → old ≡ before ++ (test ++ rest) → start ≡ length before → exits ≡ start + length test
     → new ≡ before ++ (map (aimed out) test ++ rest)
-
--- the jump at a place leads to its target
-abbrev pub SetsJump : List Instr → List Instr → ℕ → ℕ → Type 0
-SetsJump old new place target =
-    (before rest : List Instr) (i : Instr) → old ≡ before ++ i ∷ rest → place ≡ length before
-    → new ≡ before ++ op.Jump target ∷ rest
-
-abbrev pub SetsExit : List Instr → List Instr → ℕ → ℕ → Type 0
-SetsExit old new place target =
-    (before rest : List Instr) (i : Instr) → old ≡ before ++ i ∷ rest → place ≡ length before
-    → new ≡ before ++ op.JumpIfNot target ∷ rest

@@ -4,8 +4,10 @@ use Rattle.std.specs.Prelude.{ℕ, List, [], ◌∷◌, map, if◌then◌else◌
 use Rattle.std.specs.Str.{bytes_eq}
 use Rattle.cal_model.specs.Value.{Shape, Single, Many}
 use Rattle.cal_model.specs.View.{shape_view}
+use Rattle.rvc_base.specs.declared.scalar.Scalar.{Scalar}
 use Rattle.expr_lower.specs.declared.names.Named.{Named}
 use Rattle.expr_lower.specs.declared.names.Seat.{Seat}
+use Rattle.expr_lower.specs.declared.names.Seat.TheVariants.{Cell}
 
 pub record Name : Type 0 where
   pub text : List ℕ
@@ -17,6 +19,10 @@ name_view x = record { text = string_bytes x.name; shape = shape_view x.shape; s
 
 abbrev pub names_view : List Named → List Name
 names_view names = map name_view names
+
+-- a name inside others, with its value in a cell
+abbrev pub local : List ℕ → Scalar → ℕ → Name
+local text t c = record { text = text; shape = Single t; seat = Cell c }
 
 -- the name that a text means among these, of which the first hides the others
 abbrev pub named : List ℕ → List Name → Option Name

@@ -1,16 +1,12 @@
 -- Parts of named lists that chains of indexes give.
 -- Trusted: part of what a promise means.
 use Rattle.std.specs.Prelude.{◌≢◌, ℕ, suc, ◌*◌, ◌^◌, nat_lt, if◌then◌else◌, List, Option, None, Some}
-use Rattle.rvc_base.specs.declared.scalar.Scalar.{Scalar}
 use Rattle.cal_ast.specs.Tree as tree
 use Rattle.cal_ast.specs.Tree.{Tree}
 use Rattle.cal_model.specs.Value.{Shape, Single, Many}
 use Rattle.expr_lower.specs.declared.names.ItemList.{ItemList}
-use Rattle.expr_lower.specs.declared.names.ListCells.{ListCells}
 use Rattle.expr_lower.specs.declared.names.Seat.{Seat}
-use Rattle.expr_lower.specs.declared.names.Seat.TheVariants.{Cell, Tokens}
 use Rattle.expr_lower.specs.declared.parts.Rows.{Rows}
-use Rattle.expr_lower.specs.Listed.{single_of}
 use Rattle.expr_lower.specs.Names.{Name, named}
 
 -- how many numbers a type has, if 32 bits hold this number and that of each part of it
@@ -84,22 +80,3 @@ deep_named names e =
 abbrev pub number_of : Tree → ℕ
 number_of (tree.cons place places) = suc (number_of places)
 number_of other = 0
-
--- the type of the single value that so many indexes choose, if they choose one
-abbrev pub leaf_in : Shape → Tree → Option Scalar
-leaf_in shape tree.nil = single_of shape
-leaf_in (Many n items) (tree.cons place places) = leaf_in items places
-leaf_in shape other = None
-
--- the cells of the list in which they choose one
-abbrev pub deep_cells_at : Seat → ℕ → Option Scalar → Option ListCells
-deep_cells_at (Cell c) size None = None
-deep_cells_at (Cell c) size (Some t) = Some (record { cell = c; size = size; kind = t })
-deep_cells_at (Tokens port first step) size leaf = None
-
-abbrev pub deep_cells_in : Part → Tree → Option ListCells
-deep_cells_in p places = deep_cells_at p.seat p.size (leaf_in p.shape places)
-
-abbrev pub deep_cells_named : List Name → List ℕ → Tree → Option ListCells
-deep_cells_named names text places = elim (part_named names (tree.variable text 0))
-    [ None ↦ None | Some p ↦ deep_cells_in p places ]

@@ -1,6 +1,6 @@
 -- Code of functions as routines, and what calling them does.
 -- Trusted: part of what a promise means.
-use Rattle.std.specs.Prelude.{◌≡◌, ℕ, ◌+◌, ◌≤◌, ℤ, List, [], ◌∷◌, ◌++◌, length, map, Option, None, Some, slice_get}
+use Rattle.std.specs.Prelude.{◌≡◌, ℕ, ◌+◌, ℤ, List, [], ◌∷◌, ◌++◌, length, map, Option, None, Some, slice_get}
 use Rattle.rvc_base.specs.declared.scalar.Scalar.{Scalar}
 use Rattle.rvc_base.specs.declared.scalar.Scalar.TheVariants as scalar
 use Rattle.rvc_base.specs.Storing.{IsSize}
@@ -25,11 +25,9 @@ use Rattle.expr_lower.specs.Coding.{IsCode}
 use Rattle.expr_lower.specs.Fitting.{Fits}
 use Rattle.expr_lower.specs.Growing.{IsFault, left_out_in, ◌or_else◌}
 use Rattle.expr_lower.specs.Listed.{single_of}
-use Rattle.expr_lower.specs.Meant.{local}
-use Rattle.expr_lower.specs.Names.{Name, names_view}
+use Rattle.expr_lower.specs.Names.{local, Name, names_view}
 use Rattle.expr_lower.specs.Placed.{StandsAt, World}
-use Rattle.expr_lower.specs.Stating.{IsStart}
-use Rattle.expr_lower.specs.StmtGrowing.{left_out_start}
+use Rattle.expr_lower.specs.Starting.{IsStart, left_out_start}
 
 -- the formals of a function stand in these cells, with the types of single values that they have
 abbrev pub StandForFormals : List Local → List Formal → Type 0

@@ -11,8 +11,7 @@ use Rattle.expr_lower.specs.declared.scope.Frame.TheOpen.{Frame-F}
 use Rattle.expr_lower.specs.declared.scope.Frame.TheFolds.{fold-Frame}
 use Rattle.expr_lower.specs.declared.scope.Scope.{Scope}
 use Rattle.expr_lower.specs.Callees.{Function, functions_view}
-use Rattle.expr_lower.specs.Meant.{local}
-use Rattle.expr_lower.specs.Names.{Name, named, names_view}
+use Rattle.expr_lower.specs.Names.{local, Name, named, names_view}
 
 abbrev pub outer_locals : Option (Bor (List Name)) → List Name
 outer_locals None = []

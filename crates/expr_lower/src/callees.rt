@@ -32,7 +32,7 @@ pub struct Formal {
 }
 
 /// The first of the functions that has this name.
-pub(crate) fn function_named<'a>(callees: &'a [Callee], text: &str) -> Option<&'a Callee>
+pub fn function_named<'a>(callees: &'a [Callee], text: &str) -> Option<&'a Callee>
     ensures { option_map (λ x. function_view x.now) result
         ≡ function_named text.now (functions_view callees.entry.now) }
 {
@@ -47,11 +47,7 @@ pub(crate) fn function_named<'a>(callees: &'a [Callee], text: &str) -> Option<&'
 }
 
 /// The function that a call means: it has this name, and as many formals as there are arguments.
-pub(crate) fn function_for<'a>(
-    callees: &'a [Callee],
-    text: &str,
-    args: &[Expr],
-) -> Option<&'a Callee>
+pub fn function_for<'a>(callees: &'a [Callee], text: &str, args: &[Expr]) -> Option<&'a Callee>
     ensures { option_map (λ x. function_view x.now) result
         ≡ function_for text.now (number_of (places_of args.now)) (functions_view callees.entry.now) }
 {
@@ -64,7 +60,7 @@ pub(crate) fn function_for<'a>(
 }
 
 /// Appends a turn, and the instructions that put the arguments into the cells of the formals and run the routine.
-pub(crate) fn put_call(callee: &Callee, draft: &mut Draft) -> Result<(), LowerFault>
+pub fn put_call(callee: &Callee, draft: &mut Draft) -> Result<(), LowerFault>
     ensures added { OnOk result (IsPut (call_code (function_view callee.now)) draft.old draft.new) }
     ensures memory { IfErr result (λ fault. fault ≡ Memory) }
     ensures cells { draft.new.cells ≡ draft.old.cells }
@@ -75,7 +71,7 @@ pub(crate) fn put_call(callee: &Callee, draft: &mut Draft) -> Result<(), LowerFa
 }
 
 /// Appends the instructions that put the arguments into the cells of the formals, the last one first.
-fn put_formals(formals: &[Formal], draft: &mut Draft) -> Result<(), LowerFault>
+pub fn put_formals(formals: &[Formal], draft: &mut Draft) -> Result<(), LowerFault>
     ensures added { OnOk result (IsPut (formal_stores formals.now) draft.old draft.new) }
     ensures memory { IfErr result (λ fault. fault ≡ Memory) }
     ensures cells { draft.new.cells ≡ draft.old.cells }

@@ -1,9 +1,10 @@
 //! Code that is being written.
 
-ghost use Rattle.std.specs.Prelude.{◌≡◌, ◌∷◌, [], ◌^◌, ◌≤◌, length, IfOk, IfErr, OnOk};
+ghost use Rattle.std.specs.Prelude.{◌≡◌, ◌+◌, ◌∷◌, [], ◌^◌, ◌≤◌, length, IfOk, IfErr, OnOk};
 ghost use Rattle.code_ir.specs.declared.instr.Instr.TheVariants as op;
-ghost use Rattle.expr_lower.specs.declared.fault.LowerFault.TheVariants.{Memory, TooLong};
+ghost use Rattle.expr_lower.specs.declared.fault.LowerFault.TheVariants.{Memory, TooLong, TooManyCells};
 ghost use Rattle.expr_lower.specs.Lowered.{IsPut};
+ghost use Rattle.expr_lower.specs.Taking.{HasOneMore};
 
 use crate::fault::LowerFault;
 use code_ir::{Instr, Routine};
@@ -18,7 +19,7 @@ pub struct Draft {
 }
 
 /// Appends an instruction.
-pub(crate) fn put(draft: &mut Draft, instr: Instr) -> Result<(), LowerFault>
+pub fn put(draft: &mut Draft, instr: Instr) -> Result<(), LowerFault>
     ensures added { OnOk result (IsPut (instr ∷ []) draft.old draft.new) }
     ensures memory { IfErr result (λ fault. fault ≡ Memory) }
     ensures cells { draft.new.cells ≡ draft.old.cells }
@@ -28,7 +29,7 @@ pub(crate) fn put(draft: &mut Draft, instr: Instr) -> Result<(), LowerFault>
 }
 
 /// Appends instructions.
-pub(crate) fn put_all(draft: &mut Draft, instrs: &[Instr]) -> Result<(), LowerFault>
+pub fn put_all(draft: &mut Draft, instrs: &[Instr]) -> Result<(), LowerFault>
     ensures added { OnOk result (IsPut instrs.now draft.old draft.new) }
     ensures memory { IfErr result (λ fault. fault ≡ Memory) }
     ensures cells { draft.new.cells ≡ draft.old.cells }
@@ -47,7 +48,7 @@ pub(crate) fn put_const(draft: &mut Draft, value: Num) -> Result<(), LowerFault>
 }
 
 /// The place of the instruction that is appended next.
-pub(crate) fn next_place(draft: &Draft) -> Result<u32, LowerFault>
+pub fn next_place(draft: &Draft) -> Result<u32, LowerFault>
     ensures place { IfOk result (λ place. place ≡ length draft.now.instrs.items) }
     ensures too_long { IfErr result
         (λ fault. (fault ≡ TooLong) × (2 ^ 32 ≤ length draft.now.instrs.items)) }
@@ -56,4 +57,18 @@ pub(crate) fn next_place(draft: &Draft) -> Result<u32, LowerFault>
         Ok(place) => Ok(place),
         Err(_) => Err(LowerFault::TooLong),
     }
+}
+
+/// Takes a cell more.
+pub fn take_cell(draft: &mut Draft) -> Result<u32, LowerFault>
+    ensures taken { IfOk result (HasOneMore draft.old draft.new) }
+    ensures fault { IfErr result
+        (λ fault. (fault ≡ TooManyCells) × (2 ^ 32 ≤ draft.new.cells + 3)) }
+{
+    let cell = draft.cells;
+    let Some(after) = cell.checked_add(1) else {
+        return Err(LowerFault::TooManyCells);
+    };
+    draft.cells = after;
+    Ok(cell)
 }

@@ -1,30 +1,31 @@
-//! Code for expressions and statements: instructions that do what evaluating an expression or executing statements
+//! Code for expressions and for functions: instructions that do what evaluating an expression or calling a function
 //! does.
 //!
-//! Code is appended to a [`Draft`]. Names stand for cells or tokens that hold their values, number by number.
+//! Code is appended to a [`Draft`]. Names stand for cells or tokens that hold their values, number by number. The
+//! crate `stmt_lower` makes code of statements over what is public here.
 #![tactic(auto)]
 
 mod callees;
-mod counter;
-mod deep;
 mod draft;
+mod exprs;
 mod fault;
 pub mod laws;
-mod lists;
-mod lower;
 mod names;
 mod operators;
 mod parts;
 mod routines;
 mod scope;
-mod stmts;
+mod starts;
 mod truths;
-mod types;
 
-pub use callees::{Callee, Formal};
-pub use draft::Draft;
+pub use callees::{Callee, Formal, function_for, put_call, put_formals};
+pub use draft::{Draft, next_place, put, put_all, take_cell};
+pub use exprs::{close, link, lower, lower_args, lower_calling, lower_expr, lower_test};
 pub use fault::LowerFault;
-pub use lower::{lower_calling, lower_expr};
-pub use names::{Named, Seat};
-pub use routines::lower_function;
-pub use stmts::lower_stmts;
+pub use names::{
+    ItemList, Named, OneCell, OneSeat, Seat, list_called, list_named, one_named, single,
+};
+pub use parts::{Part, Rows, scalars, whole_called};
+pub use routines::{lower_function, take_formals};
+pub use scope::{Frame, Scope};
+pub use starts::start;

@@ -7,7 +7,6 @@ ghost use Rattle.cal_model.specs.View.{shape_view};
 ghost use Rattle.expr_lower.specs.Listed.{items_of, list_named, single_of};
 ghost use Rattle.expr_lower.specs.Names.{name_view, named, names_view};
 ghost use Rattle.expr_lower.specs.Seen.{one_named, one_of, seen};
-ghost use Rattle.expr_lower.specs.StmtGrowing.{cell_named, cells_named};
 
 use crate::scope::{Scope, local_named};
 use cal_ast::{Expr, ExprForm};
@@ -33,7 +32,7 @@ pub enum Seat {
 
 /// Where the items of a list stand, and of which type they are.
 #[derive(Clone, Copy)]
-pub(crate) struct ItemList {
+pub struct ItemList {
     pub seat: Seat,
     pub size: u32,
     pub kind: Scalar,
@@ -41,65 +40,20 @@ pub(crate) struct ItemList {
 
 /// Where a single value stands, and its type.
 #[derive(Clone, Copy)]
-pub(crate) struct OneSeat {
+pub struct OneSeat {
     pub seat: Seat,
     pub kind: Scalar,
 }
 
 /// The cell of a single value, and its type.
 #[derive(Clone, Copy)]
-pub(crate) struct OneCell {
+pub struct OneCell {
     pub cell: u32,
     pub kind: Scalar,
-}
-
-/// The cells of a list, from the first on, and the type of its items.
-#[derive(Clone, Copy)]
-pub(crate) struct ListCells {
-    pub cell: u32,
-    pub size: u32,
-    pub kind: Scalar,
-}
-
-/// The cell of the single value that a text names, if it names one.
-pub(crate) fn cell_named(scope: &Scope, text: &str) -> Option<OneCell>
-    ensures { result ≡ cell_named (seen scope.now) text.now }
-{
-    let one = one_named(scope, text)?;
-    match one.seat {
-        Seat::Cell(cell) => Some(OneCell {
-            cell,
-            kind: one.kind,
-        }),
-        Seat::Tokens {
-            port: _,
-            first: _,
-            step: _,
-        } => None,
-    }
-}
-
-/// The cells of the list of single values that a text names, if it names one.
-pub(crate) fn cells_named(scope: &Scope, text: &str) -> Option<ListCells>
-    ensures { result ≡ cells_named (seen scope.now) text.now }
-{
-    let list = list_called(scope, text)?;
-    match list.seat {
-        Seat::Cell(cell) => Some(ListCells {
-            cell,
-            size: list.size,
-            kind: list.kind,
-        }),
-        Seat::Tokens {
-            port: _,
-            first: _,
-            step: _,
-        } => None,
-    }
 }
 
 /// The single value that a text names, if it names one.
-pub(crate) fn one_named(scope: &Scope, text: &str) -> Option<OneSeat>
+pub fn one_named(scope: &Scope, text: &str) -> Option<OneSeat>
     ensures { result ≡ one_named (seen scope.now) text.now }
 {
     match local_named(text, scope.frame) {
@@ -133,7 +87,7 @@ fn one_of(named: &Named) -> Option<OneSeat>
 }
 
 /// The list of single values that an expression names, if it names one.
-pub(crate) fn list_named(scope: &Scope, e: &Expr) -> Option<ItemList>
+pub fn list_named(scope: &Scope, e: &Expr) -> Option<ItemList>
     ensures { result ≡ list_named (seen scope.now) (expr_tree e.now) }
 {
     match &e.form {
@@ -143,7 +97,7 @@ pub(crate) fn list_named(scope: &Scope, e: &Expr) -> Option<ItemList>
 }
 
 /// The list of single values that a text names, if it names one. A local is none.
-fn list_called(scope: &Scope, text: &str) -> Option<ItemList>
+pub fn list_called(scope: &Scope, text: &str) -> Option<ItemList>
     ensures { result ≡ list_named (seen scope.now) (tree.variable text.now 0) }
 {
     match local_named(text, scope.frame) {
@@ -180,7 +134,7 @@ fn items_of(named: &Named) -> Option<ItemList>
 }
 
 /// The type of single values that a type is, if it is one.
-pub(crate) fn single(shape: &Shape) -> Option<Scalar>
+pub fn single(shape: &Shape) -> Option<Scalar>
     ensures { result ≡ single_of (shape_view shape.now) }
 {
     match shape {

@@ -5,12 +5,12 @@ ghost use Rattle.cal_ast.specs.Tree as tree;
 ghost use Rattle.cal_ast.specs.View.{expr_tree};
 ghost use Rattle.cal_model.specs.View.{shape_view};
 ghost use Rattle.expr_lower.specs.Names.{name_view, named, names_view};
-ghost use Rattle.expr_lower.specs.PartView.{part_view, places_of};
-ghost use Rattle.expr_lower.specs.Parted.{deep_cells_in, deep_named, item_of, leaf_in, part_named, rows_in, rows_named};
+ghost use Rattle.expr_lower.specs.PartView.{part_view};
+ghost use Rattle.expr_lower.specs.Parted.{deep_named, item_of, part_named, rows_in, rows_named};
 ghost use Rattle.expr_lower.specs.Parted.{singles_in, sized, whole_of};
 ghost use Rattle.expr_lower.specs.Seen.{seen};
 
-use crate::names::{ItemList, ListCells, Named, Seat, find, single};
+use crate::names::{ItemList, Named, Seat, find};
 use crate::scope::{Scope, local_named};
 use cal_ast::{Expr, ExprForm};
 use cal_model::Shape;
@@ -18,7 +18,7 @@ use rvc_base::Scalar;
 
 /// A part of a list: where the whole list stands, how many numbers that has, and the type of the part.
 #[derive(Clone, Copy)]
-pub(crate) struct Part<'a> {
+pub struct Part<'a> {
     pub seat: Seat,
     pub size: u32,
     pub shape: &'a Shape,
@@ -26,7 +26,7 @@ pub(crate) struct Part<'a> {
 
 /// How many items a list has, and how many numbers each of them.
 #[derive(Clone, Copy)]
-pub(crate) struct Rows {
+pub struct Rows {
     pub count: u32,
     pub each: u32,
 }
@@ -38,34 +38,6 @@ pub(crate) fn deep_item_named(scope: &Scope, base: &Expr) -> Option<ItemList>
 {
     let part = item_named(scope, base)?;
     singles_in(part)
-}
-
-/// The cells of the list in which so many indexes choose a single value, if they choose one.
-pub(crate) fn deep_cells(whole: Part, places: &[Expr]) -> Option<ListCells>
-    ensures { result ≡ deep_cells_in (part_view whole.entry) (places_of places.now) }
-{
-    let Seat::Cell(cell) = whole.seat else {
-        return None;
-    };
-    let kind = leaf_in(whole.shape, places)?;
-    Some(ListCells {
-        cell,
-        size: whole.size,
-        kind,
-    })
-}
-
-/// The type of the single value that so many indexes choose, if they choose one.
-fn leaf_in(shape: &Shape, places: &[Expr]) -> Option<Scalar>
-    ensures { result ≡ leaf_in (shape_view shape.now) (places_of places.now) }
-{
-    let Some((_, rest)) = places.split_first() else {
-        return single(shape);
-    };
-    match shape {
-        Shape::Scalar(_) => None,
-        Shape::List(_, items) => leaf_in(items, rest),
-    }
 }
 
 /// How many items the list has that a chain of indexes on a name gives, if it gives one.
@@ -99,7 +71,7 @@ fn item_named<'a>(scope: &Scope<'a>, base: &Expr) -> Option<Part<'a>>
 }
 
 /// The list that a text names, if it names one. A local is none.
-pub(crate) fn whole_called<'a>(scope: &Scope<'a>, text: &str) -> Option<Part<'a>>
+pub fn whole_called<'a>(scope: &Scope<'a>, text: &str) -> Option<Part<'a>>
     ensures { option_map part_view result ≡
         part_named (seen scope.now) (tree.variable text.now 0) }
 {
@@ -182,7 +154,7 @@ fn rows_in(shape: &Shape) -> Option<Rows>
 }
 
 /// How many numbers a type has, if 32 bits hold this number and that of each part of it.
-pub(crate) fn scalars(shape: &Shape) -> Option<u32>
+pub fn scalars(shape: &Shape) -> Option<u32>
     ensures { result ≡ sized (shape_view shape.now) }
 {
     match shape {

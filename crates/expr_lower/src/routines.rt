@@ -10,13 +10,12 @@ ghost use Rattle.expr_lower.specs.Routining.{left_out_formals};
 ghost use Rattle.expr_lower.specs.Seen.{seen};
 
 use crate::callees::{Callee, Formal};
-use crate::counter::take_cell;
-use crate::draft::{Draft, next_place, put_all};
+use crate::draft::{Draft, next_place, put_all, take_cell};
+use crate::exprs::lower;
 use crate::fault::LowerFault;
-use crate::lower::lower;
 use crate::names::{Named, single};
 use crate::scope::{Frame, Scope};
-use crate::stmts::start;
+use crate::starts::start;
 use cal_model::{BoundFun, BoundLocal};
 use code_ir::{Instr, Routine};
 use std::alloc::Global;
@@ -67,7 +66,7 @@ pub fn lower_function(
 }
 
 /// Takes a cell for each formal.
-fn take_formals(
+pub fn take_formals(
     formals: &[BoundLocal],
     cells: &mut Vec<Formal>,
     draft: &mut Draft,

@@ -11,7 +11,7 @@ use rvc_base::Scalar;
 
 /// A local of a single value, and the locals outside it.
 #[derive(Clone, Copy, Drop)]
-pub(crate) struct Frame<'a> {
+pub struct Frame<'a> {
     pub name: &'a str,
     pub kind: Scalar,
     pub cell: u32,
@@ -21,7 +21,7 @@ pub(crate) struct Frame<'a> {
 
 /// What a part sees: names, and the locals that hide them.
 #[derive(Clone, Copy)]
-pub(crate) struct Scope<'a> {
+pub struct Scope<'a> {
     pub names: &'a [Named],
     /// The functions that may be called.
     pub callees: &'a [Callee],
@@ -33,7 +33,7 @@ impl<'a> Scope<'a> {
     ghost use Rattle.expr_lower.specs.declared.scope.Frame.{out-Frame};
 
     /// What a part sees round which no locals stand.
-    pub(crate) fn outermost(names: &'a [Named], callees: &'a [Callee]) -> Scope<'a>
+    pub fn outermost(names: &'a [Named], callees: &'a [Callee]) -> Scope<'a>
         ensures names { seen result ≡ names_view names.entry.now }
         ensures callees { called result ≡ functions_view callees.entry.now }
     {
@@ -45,7 +45,7 @@ impl<'a> Scope<'a> {
     }
 
     /// What is seen inside one local more, which stands inside those that are seen here.
-    pub(crate) fn under<'b>(&self, frame: &'b Frame<'b>) -> Scope<'b>
+    pub fn under<'b>(&self, frame: &'b Frame<'b>) -> Scope<'b>
     where
         'a: 'b,
         requires { locals_of (out-Frame frame.now).outer ≡ locals_of self.now.frame }

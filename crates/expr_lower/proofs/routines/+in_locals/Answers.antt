@@ -8,7 +8,7 @@ use Rattle.expr_lower.specs.declared.scope.Frame as chain
 use Rattle.expr_lower.specs.Growing.{IsFault}
 use Rattle.expr_lower.specs.Listed.{single_of}
 use Rattle.expr_lower.specs.Lowered.{Adds}
-use Rattle.expr_lower.specs.Meant.{local}
+use Rattle.expr_lower.specs.Names.{local}
 use Rattle.expr_lower.specs.Routining.{IsBody, left_out_body}
 use Rattle.expr_lower.specs.Seen.{called, seen}
 use Rattle.expr_lower.proofs.AddingRoutines.{local_adds, local_open}

@@ -7,8 +7,8 @@ use Rattle.expr_lower.specs.Callees.{Function, functions_view}
 use Rattle.expr_lower.specs.declared.callees.Formal.{Formal}
 use Rattle.expr_lower.specs.Growing.{IsFault}
 use Rattle.expr_lower.specs.Names.{Name, names_view}
-use Rattle.expr_lower.specs.Routining.{IsFaultOfFun, StandForFormals, behind_formals, left_out_body, left_out_formals, left_out_fun}
-use Rattle.expr_lower.specs.Seen.{called, seen}
+use Rattle.expr_lower.specs.Routining.{IsFaultOfFun, StandForFormals, behind_formals, left_out_body, left_out_formals}
+use Rattle.expr_lower.specs.Seen.{called}
 use Rattle.expr_lower.proofs.AddingRoutines.{fun_open}
 use Rattle.expr_lower.proofs.routines.lower_function.Goals as goal
 

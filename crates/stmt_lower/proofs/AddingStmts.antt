@@ -1,0 +1,615 @@
+-- Code of statements that was added to a draft, part by part.
+use Rattle.std.specs.Prelude.{if◌then◌else◌, nat_eq}
+use Rattle.std.proofs.lemmas.Bool.Decides.{nat_tests}
+use Rattle.std.proofs.Common.{◌≡◌, ◌≢◌, true, false, ℕ, pos, zero, suc, ◌+◌, ◌<◌, ◌≤◌, List, [], ◌∷◌, ◌++◌, length, map, take, drop, get_or, Bool, refl, sym, ap, ◌∙◌, subst, Option, None, Some, arith, append_assoc, length-append}
+use Rattle.std.proofs.lemmas.List.{append-nil, length-map, map-append, take_more, take_all, take-append-drop}
+use Rattle.rvc_base.specs.declared.scalar.Scalar.{Scalar}
+use Rattle.cal_ast.specs.Tree as tree
+use Rattle.cal_ast.specs.Tree.{Tree, listed}
+use Rattle.cal_model.specs.Value.{Shape, Single, Many}
+use Rattle.code_ir.specs.declared.instr.Instr.{Instr}
+use Rattle.code_ir.specs.declared.instr.Instr.TheVariants as op
+use Rattle.stmt_lower.specs.declared.counter.Counter.{Counter}
+use Rattle.stmt_lower.specs.declared.counter.Kept.{Kept}
+use Rattle.expr_lower.specs.Parted.{Part, number_of, part_named}
+use Rattle.stmt_lower.specs.Targets.{deep_cells_at, deep_cells_in, leaf_in, cell_of, cell_named, cells_of, cells_named}
+use Rattle.expr_lower.proofs.PartValues.{IsWhole, whole_found}
+use Rattle.expr_lower.specs.declared.draft.Draft.{Draft}
+use Rattle.expr_lower.specs.declared.fault.LowerFault.{LowerFault}
+use Rattle.expr_lower.specs.declared.fault.LowerFault.TheVariants.{Memory, TooLong, TooManyCells, NotLowered}
+use Rattle.expr_lower.specs.declared.names.ItemList.{ItemList}
+use Rattle.stmt_lower.specs.declared.targets.ListCells.{ListCells}
+use Rattle.expr_lower.specs.declared.names.OneCell.{OneCell}
+use Rattle.expr_lower.specs.declared.names.Seat.{Seat}
+use Rattle.expr_lower.specs.declared.names.Seat.TheVariants.{Cell, Tokens}
+use Rattle.expr_lower.specs.Names.{Name, named, local}
+use Rattle.expr_lower.specs.Held.{AreBelow}
+use Rattle.stmt_lower.specs.Changing.{AreTyped, NamesApart}
+use Rattle.expr_lower.specs.Coding.{IsCode, IsTest, IsOpenTest, aimed, AreArgs}
+use Rattle.stmt_lower.specs.Executing.{IsExecuted}
+use Rattle.expr_lower.specs.Growing.{IsFault, left_out_in, ◌or_else◌, left_out_args}
+use Rattle.expr_lower.specs.Listed.{list_named}
+use Rattle.expr_lower.specs.Linking.{Closes, Links}
+use Rattle.stmt_lower.specs.Jumping.{SetsExit, SetsJump}
+use Rattle.expr_lower.specs.Lowered.{Adds, IsPut}
+use Rattle.stmt_lower.specs.Meant.{single_meant}
+use Rattle.stmt_lower.specs.Stating.{IsKept, IsStmt, copy_code, deep_tail, no_place, place_more, set_deep, set_items, set_list, step_code, AreStmts, set, set_item, if_alone, if_else, while_code, each_code, none, one_more, IsBlock, variable_more, counter_at, each_bounds, each_head, each_less, each_next, each_tail, each_turn, call, run_code}
+use Rattle.expr_lower.specs.Starting.{IsStart, left_out_start}
+use Rattle.stmt_lower.specs.Reserving.{HasKept, HasMore, HasTaken}
+use Rattle.expr_lower.specs.Taking.{HasOneMore}
+use Rattle.expr_lower.specs.Callees.{Function}
+use Rattle.stmt_lower.specs.StmtGrowing.{left_out_deep, left_out_each, left_out_items, left_out_set, left_out_stmt, left_out_all, left_out_vars}
+use Rattle.expr_lower.proofs.Adding.{length_join, put_adds}
+use Rattle.stmt_lower.proofs.ErasedStmts.{any_cell, any_cell_vars}
+use Rattle.stmt_lower.proofs.Executed.{executes, grows_all}
+use Rattle.stmt_lower.proofs.FittedStmts.{fits_all}
+use Rattle.expr_lower.proofs.Listing.{IsListName, found}
+use Rattle.expr_lower.proofs.Weights.{weight}
+use Rattle.stmt_lower.specs.Procedures.{Routines, Procedure, no_routines, procedure_for}
+use Rattle.stmt_lower.specs.Calls.{HasRunRoutines}
+use Rattle.code_ir.specs.Code.{Code}
+
+-- ---- statements in a row
+
+-- one statement more at the end
+all_more : {rs : Routines} (ts : List Tree) (t : Tree) {names : List Name} {base n k m : ℕ} {a b : List Instr} → AreStmts rs names (listed ts) base n a k → IsStmt rs names t (base + length a) k b m
+    → AreStmts rs names (listed (ts ++ t ∷ [])) base n (a ++ b) m
+all_more {rs = rs} [] t {m = m} {b = b} (none names base n) h =
+    subst (λ is. AreStmts rs names (tree.cons t tree.nil) base n is m) (append-nil b)
+    (one_more names t tree.nil base n m m b [] (subst (λ p. IsStmt rs names t p n b m) (let e : base + 0 ≡ base = omega arith in e) h) (none names (base + length b) m))
+all_more {rs = rs} (s ∷ ts) t {m = m} {b = b} (one_more names first rest base n j k c d g f) h =
+    let place : base + length (c ++ d) ≡ base + length c + length d = omega (arith, length-append c d) in
+    subst (λ is. AreStmts rs names (tree.cons s (listed (ts ++ t ∷ []))) base n is m) (sym (append_assoc c d b))
+    (one_more names s (listed (ts ++ t ∷ [])) base n j m c (d ++ b) g
+    (all_more ts t f (subst (λ p. IsStmt rs names t p k b m) place h)))
+
+-- what is left out of statements that are whole up to the last
+left_more : (rs : Routines) (names : List Name) (ts : List Tree) (t : Tree) → left_out_all rs names (listed ts) ≡ None → left_out_all rs names (listed (ts ++ t ∷ [])) ≡ left_out_stmt rs names t
+left_more rs names [] t e = none_after (left_out_stmt rs names t)
+  where
+    none_after : (o : Option ℕ) → o or_else None ≡ o
+    none_after None = refl
+    none_after (Some x) = refl
+left_more rs names (s ∷ ts) t e =
+    let parts = both_none (left_out_stmt rs names s) (left_out_all rs names (listed ts)) e in
+    ap (λ o. o or_else left_out_all rs names (listed (ts ++ t ∷ []))) parts.0 ∙ left_more rs names ts t parts.1
+  where
+    both_none : (a b : Option ℕ) → a or_else b ≡ None → (a ≡ None) × (b ≡ None)
+    both_none None b e = (refl, e)
+    both_none (Some x) b e = cc
+
+-- the statements that come later don't change what is the first that is left out
+left_first : (rs : Routines) (names : List Name) (ts us : List Tree) (at : ℕ) → left_out_all rs names (listed ts) ≡ Some at → left_out_all rs names (listed (ts ++ us)) ≡ Some at
+left_first rs names [] us at e = cc
+left_first rs names (s ∷ ts) us at e = go (left_out_stmt rs names s) (left_first rs names ts us at) e
+  where
+    go : (o : Option ℕ) → (left_out_all rs names (listed ts) ≡ Some at → left_out_all rs names (listed (ts ++ us)) ≡ Some at) → o or_else left_out_all rs names (listed ts) ≡ Some at → o or_else left_out_all rs names (listed (ts ++ us)) ≡ Some at
+    go None later e = later e
+    go (Some x) later e = e
+
+-- some of the statements are added
+pub record AreAdded (rs : Routines) (names : List Name) (ts : List Tree) (old new : Draft) : Type 0 where
+  pub added : Adds (AreStmts rs names (listed ts)) old new
+  pub whole : left_out_all rs names (listed ts) ≡ None
+
+pub none_added : {rs : Routines} (names : List Name) (old : Draft) → AreAdded rs names [] old old
+none_added names old = record {
+  added = record { code = []; is = sym (append-nil old.instrs.items); routines = refl; has = none names (length old.instrs.items) old.cells };
+  whole = refl;
+}
+
+pub more_added : {rs : Routines} {X : Type 0} (f : X → Tree) (names : List Name) (xs : List X) (x : X) (i : ℕ) (old mid new : Draft) → i < length xs → x ≡ get_or xs i x
+    → AreAdded rs names (map f (take i xs)) old mid → Adds (IsStmt rs names (f x)) mid new → left_out_stmt rs names (f x) ≡ None → AreAdded rs names (map f (take (i + 1) xs)) old new
+more_added {rs = rs} f names xs x i old mid new small is before now whole =
+    let split : map f (take (i + 1) xs) ≡ map f (take i xs) ++ f x ∷ [] = ap (map f) (take_more xs i x small ∙ ap (λ y. take i xs ++ y ∷ []) (sym is)) ∙ map-append f (take i xs) (x ∷ []) in
+    let a = before.added in
+    let place : length mid.instrs.items ≡ length old.instrs.items + length a.code = length_join old.instrs.items mid.instrs.items a.code a.is in
+    subst (λ ts. AreAdded rs names ts old new) (sym split) (record {
+      added = record {
+        code = a.code ++ now.code;
+        is = now.is ∙ ap (λ is. is ++ now.code) a.is ∙ append_assoc old.instrs.items a.code now.code;
+        routines = now.routines ∙ a.routines;
+        has = all_more (map f (take i xs)) (f x) a.has (subst (λ p. IsStmt rs names (f x) p mid.cells now.code new.cells) place now.has);
+      };
+      whole = left_more rs names (map f (take i xs)) (f x) before.whole ∙ whole;
+    })
+
+pub all_added : {rs : Routines} {X : Type 0} (f : X → Tree) (names : List Name) (xs : List X) (i : ℕ) (old new : Draft) → length xs ≤ i → AreAdded rs names (map f (take i xs)) old new → AreAdded rs names (map f xs) old new
+all_added {rs = rs} f names xs i old new large h = subst (λ ys. AreAdded rs names (map f ys) old new) (take_all i xs large) h
+
+-- the fault of a statement is that of all
+pub fault_among : (rs : Routines) {X : Type 0} (f : X → Tree) (names : List Name) (xs : List X) (x : X) (i : ℕ) (draft : Draft) (fault : LowerFault) → i < length xs → x ≡ get_or xs i x
+    → left_out_all rs names (listed (map f (take i xs))) ≡ None → IsFault (left_out_stmt rs names (f x)) draft fault → IsFault (left_out_all rs names (listed (map f xs))) draft fault
+fault_among rs f names xs x i draft Memory small is whole h = tt
+fault_among rs f names xs x i draft TooLong small is whole h = h
+fault_among rs f names xs x i draft TooManyCells small is whole h = h
+fault_among rs f names xs x i draft (NotLowered at) small is whole h =
+    let split : map f (take (i + 1) xs) ≡ map f (take i xs) ++ f x ∷ [] = ap (map f) (take_more xs i x small ∙ ap (λ y. take i xs ++ y ∷ []) (sym is)) ∙ map-append f (take i xs) (x ∷ []) in
+    let first : left_out_all rs names (listed (map f (take (i + 1) xs))) ≡ Some at = ap (λ ts. left_out_all rs names (listed ts)) split ∙ left_more rs names (map f (take i xs)) (f x) whole ∙ h in
+    let all : map f (take (i + 1) xs) ++ map f (drop (i + 1) xs) ≡ map f xs = sym (map-append f (take (i + 1) xs) (drop (i + 1) xs)) ∙ ap (map f) (take-append-drop (i + 1) xs) in
+    ap (λ ts. left_out_all rs names (listed ts)) (sym all) ∙ left_first rs names (map f (take (i + 1) xs)) (map f (drop (i + 1) xs)) at first
+
+-- ---- assignments
+
+pub record IsCellOf (names : List Name) (text : List ℕ) (c : OneCell) : Type 0 where
+  pub x : Name
+  pub is : named text names ≡ Some x
+  pub seat : x.seat ≡ Cell c.cell
+  pub shape : x.shape ≡ Single c.kind
+
+pub cell_found : (names : List Name) (text : List ℕ) (c : OneCell) → cell_named names text ≡ Some c → IsCellOf names text c
+cell_found names text c e = go (named text names) refl e
+  where
+    at_seat : (x : Name) (seat : Seat) (shape : Shape) → x.seat ≡ seat → x.shape ≡ shape → named text names ≡ Some x → cell_of seat shape ≡ Some c → IsCellOf names text c
+    at_seat x (Cell d) (Single t) s p is h =
+        let made : OneCell = record { cell = d; kind = t } in
+        let same : made ≡ c = cc in
+        record { x = x; is = is; seat = s ∙ ap (λ (o : OneCell). Cell o.cell) same; shape = p ∙ ap (λ (o : OneCell). Single o.kind) same }
+    at_seat x (Cell d) (Many n items) s p is h = cc
+    at_seat x (Tokens port first step) shape s p is h = cc
+
+    go : (o : Option Name) → named text names ≡ o → elim o [ None ↦ None | Some x ↦ cell_of x.seat x.shape ] ≡ Some c → IsCellOf names text c
+    go None is h = cc
+    go (Some x) is h = at_seat x x.seat x.shape refl refl is h
+
+pub record AreCellsOf (names : List Name) (text : List ℕ) (c : ListCells) : Type 0 where
+  pub x : Name
+  pub is : named text names ≡ Some x
+  pub seat : x.seat ≡ Cell c.cell
+  pub shape : x.shape ≡ Many c.size (Single c.kind)
+
+pub cells_found : (names : List Name) (text : List ℕ) (c : ListCells) → cells_named names text ≡ Some c → AreCellsOf names text c
+cells_found names text c e = go (list_named names (tree.variable text 0)) refl e
+  where
+    same_text : (a b : List ℕ) (p : ℕ) → tree.variable a 0 ≡ tree.variable b p → a ≡ b
+    same_text a b p h = cc
+
+    at_seat : (l : ItemList) (seat : Seat) → l.seat ≡ seat → list_named names (tree.variable text 0) ≡ Some l
+        → elim seat [ Cell d ↦ Some (record { cell = d; size = l.size; kind = l.kind }) | Tokens port first step ↦ None ] ≡ Some c → AreCellsOf names text c
+    at_seat l (Cell d) s is h =
+        let f : IsListName names (tree.variable text 0) l = found names (tree.variable text 0) l is in
+        let made : ListCells = record { cell = d; size = l.size; kind = l.kind } in
+        let same : made ≡ c = cc in
+        let called : text ≡ f.text = same_text text f.text f.place f.tree_is in
+        record {
+          x = f.x;
+          is = subst (λ t. named t names ≡ Some f.x) (sym called) f.is;
+          seat = f.seat ∙ s ∙ ap (λ (o : ListCells). Cell o.cell) same;
+          shape = f.shape ∙ ap (λ (o : ListCells). Many o.size (Single o.kind)) same;
+        }
+    at_seat l (Tokens port first step) s is h = cc
+
+    go : (o : Option ItemList) → list_named names (tree.variable text 0) ≡ o → elim o [ None ↦ None | Some l ↦ cells_of l ] ≡ Some c → AreCellsOf names text c
+    go None is h = cc
+    go (Some l) is h = at_seat l l.seat refl is h
+
+pub set_adds : {rs : Routines} (names : List Name) (text : List ℕ) (value : Tree) (place at : ℕ) (c : OneCell) (old mid new : Draft) → cell_named names text ≡ Some c → Adds (IsCode rs.functions names value) old mid
+    → IsPut (op.Store c.cell (Some c.kind) ∷ []) mid new → Adds (IsStmt rs names (tree.assign (tree.ident text place) tree.nil value at)) old new
+set_adds {rs = rs} names text value place at c old mid new e a p =
+    let f : IsCellOf names text c = cell_found names text c e in
+    record {
+      code = a.code ++ op.Store c.cell (Some c.kind) ∷ [];
+      is = p.is ∙ ap (λ xs. xs ++ op.Store c.cell (Some c.kind) ∷ []) a.is ∙ append_assoc old.instrs.items a.code (op.Store c.cell (Some c.kind) ∷ []);
+      routines = p.routines ∙ a.routines;
+      has = subst (λ m. IsStmt rs names (tree.assign (tree.ident text place) tree.nil value at) (length old.instrs.items) old.cells (a.code ++ op.Store c.cell (Some c.kind) ∷ []) m) (sym p.cells)
+          (set names text value place at (length old.instrs.items) old.cells mid.cells c.cell a.code f.x c.kind f.is f.seat f.shape a.has);
+    }
+
+pub list_adds : {rs : Routines} (names : List Name) (text : List ℕ) (value : Tree) (place at : ℕ) (c : ListCells) (l : ItemList) (old new : Draft) → cells_named names text ≡ Some c → list_named names value ≡ Some l → l.size ≡ c.size
+    → IsPut (copy_code c.cell c.size c.kind l.seat) old new → Adds (IsStmt rs names (tree.assign (tree.ident text place) tree.nil value at)) old new
+list_adds {rs = rs} names text value place at c l old new e g many p =
+    let f : AreCellsOf names text c = cells_found names text c e in
+    put_adds (IsStmt rs names (tree.assign (tree.ident text place) tree.nil value at)) (copy_code c.cell c.size c.kind l.seat) old new p
+    (λ base n. set_list names text value place at base n c.cell c.size f.x c.kind l f.is f.seat f.shape g many)
+
+pub record AreDeepCells (p : Part) (places : Tree) (c : ListCells) : Type 0 where
+  pub seat : p.seat ≡ Cell c.cell
+  pub size : p.size ≡ c.size
+  pub leaf : leaf_in p.shape places ≡ Some c.kind
+
+pub deep_cells_found : (p : Part) (places : Tree) (c : ListCells) → deep_cells_in p places ≡ Some c → AreDeepCells p places c
+deep_cells_found p places c e = go p.seat (leaf_in p.shape places) refl refl e
+  where
+    go : (seat : Seat) (leaf : Option Scalar) → p.seat ≡ seat → leaf_in p.shape places ≡ leaf → deep_cells_at seat p.size leaf ≡ Some c → AreDeepCells p places c
+    go (Cell d) None s l h = cc
+    go (Cell d) (Some t) s l h =
+        let made : ListCells = record { cell = d; size = p.size; kind = t } in
+        let same : made ≡ c = cc in
+        record { seat = s ∙ ap (λ (o : ListCells). Cell o.cell) same; size = ap (λ (o : ListCells). o.size) same; leaf = l ∙ ap (λ (o : ListCells). Some o.kind) same }
+    go (Tokens port first step) leaf s l h = cc
+
+pub deep_adds : {rs : Routines} (names : List Name) (text : List ℕ) (places value : Tree) (place at count : ℕ) (p : Part) (c : ListCells) (kept : Kept) (old d0 d1 d2 d3 d4 new : Draft) → part_named names (tree.variable text 0) ≡ Some p → deep_cells_in p places ≡ Some c → count ≡ number_of places → HasKept count old d0 kept
+    → Adds (IsKept rs.functions names kept.places places) d0 d1 → Adds (IsCode rs.functions names value) d1 d2 → IsPut (op.Store kept.value None ∷ op.Const (pos 0) ∷ []) d2 d3 → IsPut (step_code kept.places p.shape places) d3 d4
+    → IsPut (op.Load kept.value ∷ op.StoreAt c.cell c.size (Some c.kind) ∷ []) d4 new
+    → Adds (IsStmt rs names (tree.assign (tree.ident text place) places value at)) old new
+deep_adds {rs = rs} names text places value place at count p c kept old d0 d1 d2 d3 d4 new e g many k a b p1 p2 p3 =
+    let w : IsWhole names text p = whole_found names text 0 p e in
+    let f : AreDeepCells p places c = deep_cells_found p places c g in
+    let cv : ℕ = old.cells + number_of places in
+    let v_is : kept.value ≡ cv = let x = k.value in omega (arith, x, many) in
+    let st : List Instr = op.Store kept.value None ∷ op.Const (pos 0) ∷ [] in
+    let steps : List Instr = step_code kept.places p.shape places in
+    let last : List Instr = op.Load kept.value ∷ op.StoreAt c.cell c.size (Some c.kind) ∷ [] in
+    let l1 = length_join d0.instrs.items d1.instrs.items a.code a.is in
+    let start : length d0.instrs.items ≡ length old.instrs.items = ap length k.instrs in
+    let at1 : length d1.instrs.items ≡ length old.instrs.items + length a.code = omega (arith, l1, start) in
+    let taken : d0.cells ≡ old.cells + number_of places + 1 = let x = k.cells in omega (arith, x, many) in
+    let all : new.instrs.items ≡ ((((old.instrs.items ++ a.code) ++ b.code) ++ st) ++ steps) ++ last = cc (p3.is, p2.is, p1.is, b.is, a.is, k.instrs) in
+    let flat : ((((old.instrs.items ++ a.code) ++ b.code) ++ st) ++ steps) ++ last ≡ old.instrs.items ++ (a.code ++ (b.code ++ (st ++ (steps ++ last)))) = simp append_assoc in
+    let shaped : steps ≡ step_code old.cells w.x.shape places = ap (λ q. step_code q p.shape places) k.places ∙ ap (λ s. step_code old.cells s places) (sym w.shape) in
+    let code : a.code ++ (b.code ++ (st ++ (steps ++ last))) ≡ a.code ++ (b.code ++ deep_tail c.cell c.size cv c.kind (step_code old.cells w.x.shape places)) =
+    ap (λ q. a.code ++ (b.code ++ (op.Store q None ∷ op.Const (pos 0) ∷ (steps ++ op.Load q ∷ op.StoreAt c.cell c.size (Some c.kind) ∷ [])))) v_is
+    ∙ ap (λ q. a.code ++ (b.code ++ deep_tail c.cell c.size cv c.kind q)) shaped
+    in
+    record {
+      code = a.code ++ (b.code ++ deep_tail c.cell c.size cv c.kind (step_code old.cells w.x.shape places));
+      is = all ∙ flat ∙ ap (λ xs. old.instrs.items ++ xs) code;
+      routines = p3.routines ∙ p2.routines ∙ p1.routines ∙ b.routines ∙ a.routines ∙ k.routines;
+      has = subst (λ m. IsStmt rs names (tree.assign (tree.ident text place) places value at) (length old.instrs.items) old.cells (a.code ++ (b.code ++ deep_tail c.cell c.size cv c.kind (step_code old.cells w.x.shape places))) m) (sym (p3.cells ∙ p2.cells ∙ p1.cells))
+          (set_deep names text places value place at (length old.instrs.items) old.cells d1.cells d2.cells c.cell c.size a.code b.code w.x c.kind w.is (w.seat ∙ f.seat) (w.size ∙ ap Some f.size) (ap (λ s. leaf_in s places) w.shape ∙ f.leaf)
+          (subst (λ q. IsKept rs.functions names q places (length old.instrs.items) (old.cells + number_of places + 1) a.code d1.cells) k.places
+          (subst (λ q. IsKept rs.functions names kept.places places q (old.cells + number_of places + 1) a.code d1.cells) start (subst (λ q. IsKept rs.functions names kept.places places (length d0.instrs.items) q a.code d1.cells) taken a.has)))
+          (subst (λ q. IsCode rs.functions names value q d1.cells b.code d2.cells) at1 b.has));
+    }
+
+-- one place more that is kept
+pub kept_adds : {fs : List Function} (names : List Name) (place places : Tree) (c : ℕ) (old d1 d2 new : Draft) → Adds (IsCode fs names place) old d1 → IsPut (op.Store c None ∷ []) d1 d2 → Adds (IsKept fs names (c + 1) places) d2 new → Adds (IsKept fs names c (tree.cons place places)) old new
+kept_adds {fs = fs} names place places c old d1 d2 new a p b =
+    let i : Instr = op.Store c None in
+    let l1 = length_join old.instrs.items d1.instrs.items a.code a.is in
+    let l2 = length_join d1.instrs.items d2.instrs.items (i ∷ []) p.is in
+    let at : length d2.instrs.items ≡ length old.instrs.items + length a.code + 1 = omega (arith, l1, l2) in
+    let all : new.instrs.items ≡ ((old.instrs.items ++ a.code) ++ i ∷ []) ++ b.code = cc (b.is, p.is, a.is) in
+    let flat : ((old.instrs.items ++ a.code) ++ i ∷ []) ++ b.code ≡ old.instrs.items ++ (a.code ++ i ∷ b.code) = simp append_assoc in
+    record {
+      code = a.code ++ i ∷ b.code;
+      is = all ∙ flat;
+      routines = b.routines ∙ p.routines ∙ a.routines;
+      has = place_more place places c (length old.instrs.items) old.cells d1.cells new.cells a.code b.code a.has
+          (subst (λ q. IsKept fs names (c + 1) places q d1.cells b.code new.cells) at (subst (λ q. IsKept fs names (c + 1) places (length d2.instrs.items) q b.code new.cells) p.cells b.has));
+    }
+
+pub kept_none : {fs : List Function} (names : List Name) (c : ℕ) (draft : Draft) → Adds (IsKept fs names c tree.nil) draft draft
+kept_none names c draft = record { code = []; is = sym (append-nil draft.instrs.items); routines = refl; has = no_place c (length draft.instrs.items) draft.cells }
+
+-- an assignment with two places or more
+pub many_places : (fs : List Function) (names : List Name) (text : List ℕ) (value : Tree) (at : ℕ) (ts : List Tree) → 2 ≤ length ts → left_out_set fs names text (listed ts) value at ≡ left_out_deep fs names text (listed ts) value at
+many_places fs names text value at [] h = absurd (omega (arith, h))
+many_places fs names text value at (t ∷ []) h = absurd (omega (arith, h))
+many_places fs names text value at (t ∷ u ∷ ts) h = refl
+
+-- as many items as the list has, and another number
+pub items_fit : (fs : List Function) (names : List Name) (c : ListCells) (items : Tree) (at count : ℕ) → count ≡ number_of items → count ≡ c.size → left_out_items fs names c items at ≡ left_out_each fs names items
+items_fit fs names c items at count number size =
+    let same : nat_eq (number_of items) c.size ≡ true = grind (arith, nat_tests, number, size) in
+    ap (λ b. if b then left_out_each fs names items else Some at) same
+
+pub items_differ : (fs : List Function) (names : List Name) (c : ListCells) (items : Tree) (at count : ℕ) → count ≡ number_of items → count ≢ c.size → left_out_items fs names c items at ≡ Some at
+items_differ fs names c items at count number size =
+    let other : number_of items ≢ c.size = λ e. size (number ∙ e) in
+    go (nat_eq (number_of items) c.size) refl other
+  where
+    go : (b : Bool) → nat_eq (number_of items) c.size ≡ b → number_of items ≢ c.size → (if b then left_out_each fs names items else Some at) ≡ Some at
+    go true e h = absurd (h (grind (arith, nat_tests, e)))
+    go false e h = refl
+
+pub items_adds : {rs : Routines} (names : List Name) (text : List ℕ) (items : Tree) (list place at count first : ℕ) (c : ListCells) (old d0 d1 new : Draft) → cells_named names text ≡ Some c → count ≡ number_of items → count ≡ c.size → HasMore count old d0 first
+    → Adds (IsKept rs.functions names first items) d0 d1 → IsPut (copy_code c.cell c.size c.kind (Cell first)) d1 new → Adds (IsStmt rs names (tree.assign (tree.ident text place) tree.nil (tree.list items list) at)) old new
+items_adds {rs = rs} names text items list place at count first c old d0 d1 new e number size k a p =
+    let f : AreCellsOf names text c = cells_found names text c e in
+    let last : List Instr = copy_code c.cell c.size c.kind (Cell first) in
+    let here : List Instr = copy_code c.cell c.size c.kind (Cell old.cells) in
+    let start : length d0.instrs.items ≡ length old.instrs.items = ap length k.instrs in
+    let taken : d0.cells ≡ old.cells + c.size = let x = k.cells in omega (arith, x, size) in
+    let all : new.instrs.items ≡ (old.instrs.items ++ a.code) ++ last = cc (p.is, a.is, k.instrs) in
+    record {
+      code = a.code ++ here;
+      is = all ∙ append_assoc old.instrs.items a.code last ∙ ap (λ q. old.instrs.items ++ (a.code ++ copy_code c.cell c.size c.kind (Cell q))) k.is;
+      routines = p.routines ∙ a.routines ∙ k.routines;
+      has = subst (λ m. IsStmt rs names (tree.assign (tree.ident text place) tree.nil (tree.list items list) at) (length old.instrs.items) old.cells (a.code ++ here) m) (sym p.cells)
+          (set_items names text items list place at (length old.instrs.items) old.cells d1.cells c.cell c.size a.code f.x c.kind f.is f.seat f.shape (sym number ∙ size)
+          (subst (λ q. IsKept rs.functions names q items (length old.instrs.items) (old.cells + c.size) a.code d1.cells) k.is
+          (subst (λ q. IsKept rs.functions names first items q (old.cells + c.size) a.code d1.cells) start (subst (λ q. IsKept rs.functions names first items (length d0.instrs.items) q a.code d1.cells) taken a.has))));
+    }
+
+pub item_adds : {rs : Routines} (names : List Name) (text : List ℕ) (spot value : Tree) (place at : ℕ) (c : ListCells) (old d1 d2 new : Draft) → cells_named names text ≡ Some c
+    → Adds (IsCode rs.functions names spot) old d1 → Adds (IsCode rs.functions names value) d1 d2 → IsPut (op.StoreAt c.cell c.size (Some c.kind) ∷ []) d2 new
+    → Adds (IsStmt rs names (tree.assign (tree.ident text place) (tree.cons spot tree.nil) value at)) old new
+item_adds {rs = rs} names text spot value place at c old d1 d2 new e a b p =
+    let f : AreCellsOf names text c = cells_found names text c e in
+    let i : Instr = op.StoreAt c.cell c.size (Some c.kind) in
+    let l1 = length_join old.instrs.items d1.instrs.items a.code a.is in
+    record {
+      code = a.code ++ (b.code ++ i ∷ []);
+      is = p.is ∙ ap (λ xs. xs ++ i ∷ []) (b.is ∙ ap (λ xs. xs ++ b.code) a.is) ∙ simp append_assoc;
+      routines = p.routines ∙ b.routines ∙ a.routines;
+      has = subst (λ m. IsStmt rs names (tree.assign (tree.ident text place) (tree.cons spot tree.nil) value at) (length old.instrs.items) old.cells (a.code ++ (b.code ++ i ∷ [])) m) (sym p.cells)
+          (set_item names text spot value place at (length old.instrs.items) old.cells d1.cells d2.cells c.cell c.size a.code b.code f.x c.kind f.is f.seat f.shape a.has
+          (subst (λ q. IsCode rs.functions names value q d1.cells b.code d2.cells) l1 b.has));
+    }
+
+-- ---- branches and loops
+
+pub alone_adds : {rs : Routines} (names : List Name) (test first : Tree) (at : ℕ) (old d1 d2 new : Draft) (start exits end : ℕ)
+    → Adds (IsOpenTest rs.functions names test) old d1 → Adds (AreStmts rs names first) d1 d2
+    → start ≡ length old.instrs.items → exits ≡ length d1.instrs.items → end ≡ length d2.instrs.items
+    → Closes d2.instrs.items new.instrs.items start exits end → new.routines.items ≡ d2.routines.items → new.cells ≡ d2.cells
+    → Adds (IsStmt rs names (tree.if_stmt test first tree.absent at)) old new
+alone_adds {rs = rs} names test first at old d1 d2 new start exits end t f start_is exits_is end_is closes routines cells =
+    let l1 = length_join old.instrs.items d1.instrs.items t.code t.is in
+    let l2 = length_join d1.instrs.items d2.instrs.items f.code f.is in
+    let a : List Instr = map (aimed end) t.code in
+    let la : length a ≡ length t.code = length-map t.code (aimed end) in
+    let all : d2.instrs.items ≡ old.instrs.items ++ (t.code ++ f.code) = f.is ∙ ap (λ xs. xs ++ f.code) t.is ∙ append_assoc old.instrs.items t.code f.code in
+    let e1 : end ≡ length old.instrs.items + length a + length f.code = omega (arith, l1, l2, la) in
+    let at1 : length d1.instrs.items ≡ length old.instrs.items + length a = omega (arith, l1, la) in
+    record {
+      code = a ++ f.code;
+      is = closes old.instrs.items t.code f.code all start_is (omega (arith, l1));
+      routines = routines ∙ f.routines ∙ t.routines;
+      has = subst (λ m. IsStmt rs names (tree.if_stmt test first tree.absent at) (length old.instrs.items) old.cells (a ++ f.code) m) (sym cells)
+          (if_alone names test first at (length old.instrs.items) old.cells d1.cells d2.cells end a f.code (t.has end) (subst (λ x. AreStmts rs names first x d1.cells f.code d2.cells) at1 f.has) e1);
+    }
+
+pub fork_adds : {rs : Routines} (names : List Name) (test first other : Tree) (at : ℕ) (old d1 d2 d3 d4 new : Draft) (i : Instr) (start exits out jump end : ℕ)
+    → Adds (IsOpenTest rs.functions names test) old d1 → Adds (AreStmts rs names first) d1 d2 → IsPut (i ∷ []) d2 d3 → Adds (AreStmts rs names other) d3 d4
+    → start ≡ length old.instrs.items → exits ≡ length d1.instrs.items → jump ≡ length d2.instrs.items → out ≡ length d3.instrs.items → end ≡ length d4.instrs.items
+    → Links d4.instrs.items new.instrs.items start exits out jump end → new.routines.items ≡ d4.routines.items → new.cells ≡ d4.cells
+    → Adds (IsStmt rs names (tree.if_stmt test first (tree.present other) at)) old new
+fork_adds {rs = rs} names test first other at old d1 d2 d3 d4 new i start exits out jump end t f p o start_is exits_is jump_is out_is end_is links routines cells =
+    let l1 = length_join old.instrs.items d1.instrs.items t.code t.is in
+    let l2 = length_join d1.instrs.items d2.instrs.items f.code f.is in
+    let l3 = length_join d2.instrs.items d3.instrs.items (i ∷ []) p.is in
+    let l4 = length_join d3.instrs.items d4.instrs.items o.code o.is in
+    let a : List Instr = map (aimed out) t.code in
+    let la : length a ≡ length t.code = length-map t.code (aimed out) in
+    let all : d4.instrs.items ≡ (((old.instrs.items ++ t.code) ++ f.code) ++ i ∷ []) ++ o.code = cc (o.is, p.is, f.is, t.is) in
+    let flat : (((old.instrs.items ++ t.code) ++ f.code) ++ i ∷ []) ++ o.code ≡ old.instrs.items ++ (t.code ++ (f.code ++ i ∷ o.code)) = simp append_assoc in
+    let m1 : exits ≡ start + length t.code = omega (arith, l1) in
+    let m2 : jump ≡ exits + length f.code = omega (arith, l2) in
+    let e1 : out ≡ length old.instrs.items + length a + length f.code + 1 = omega (arith, l1, l2, l3, la) in
+    let e2 : end ≡ out + length o.code = omega (arith, l4) in
+    let at1 : length d1.instrs.items ≡ length old.instrs.items + length a = omega (arith, l1, la) in
+    record {
+      code = a ++ (f.code ++ op.Jump end ∷ o.code);
+      is = links old.instrs.items t.code f.code o.code i (all ∙ flat) start_is m1 m2;
+      routines = routines ∙ o.routines ∙ p.routines ∙ f.routines ∙ t.routines;
+      has = subst (λ m. IsStmt rs names (tree.if_stmt test first (tree.present other) at) (length old.instrs.items) old.cells (a ++ (f.code ++ op.Jump end ∷ o.code)) m) (sym cells)
+          (if_else names test first other at (length old.instrs.items) old.cells d1.cells d2.cells d4.cells out end a f.code o.code (t.has out)
+          (subst (λ x. AreStmts rs names first x d1.cells f.code d2.cells) at1 f.has)
+          (subst (λ x. AreStmts rs names other x d2.cells o.code d4.cells) (sym out_is) (subst (λ c. AreStmts rs names other (length d3.instrs.items) c o.code d4.cells) p.cells o.has))
+          e1 e2);
+    }
+
+pub while_adds : {rs : Routines} (names : List Name) (test body : Tree) (at : ℕ) (old d1 d2 d3 d4 d5 d6 new : Draft) (i : Instr) (start turn first head exits out : ℕ)
+    → IsPut (i ∷ []) old d1 → IsPut (op.Turn ∷ []) d1 d2 → Adds (AreStmts rs names body) d2 d3 → Adds (IsOpenTest rs.functions names test) d3 d4 → IsPut (op.Jump turn ∷ []) d4 d5
+    → start ≡ length old.instrs.items → turn ≡ length d1.instrs.items → first ≡ length d3.instrs.items → head ≡ length d3.instrs.items → exits ≡ length d4.instrs.items → out ≡ length d5.instrs.items
+    → Closes d5.instrs.items d6.instrs.items first exits out → d6.routines.items ≡ d5.routines.items → d6.cells ≡ d5.cells
+    → SetsJump d6.instrs.items new.instrs.items start head → new.routines.items ≡ d6.routines.items → new.cells ≡ d6.cells
+    → Adds (IsStmt rs names (tree.while_stmt test body at)) old new
+while_adds {rs = rs} names test body at old d1 d2 d3 d4 d5 d6 new i start turn first head exits out p q b t r start_is turn_is first_is head_is exits_is out_is closes routines cells sets routines_too cells_too =
+    let l1 = length_join old.instrs.items d1.instrs.items (i ∷ []) p.is in
+    let l2 = length_join d1.instrs.items d2.instrs.items (op.Turn ∷ []) q.is in
+    let l3 = length_join d2.instrs.items d3.instrs.items b.code b.is in
+    let l4 = length_join d3.instrs.items d4.instrs.items t.code t.is in
+    let l5 = length_join d4.instrs.items d5.instrs.items (op.Jump turn ∷ []) r.is in
+    let base : ℕ = length old.instrs.items in
+    let a : List Instr = map (aimed out) t.code in
+    let la : length a ≡ length t.code = length-map t.code (aimed out) in
+    let front : List Instr = old.instrs.items ++ (i ∷ op.Turn ∷ b.code) in
+    let all : d5.instrs.items ≡ ((((old.instrs.items ++ i ∷ []) ++ op.Turn ∷ []) ++ b.code) ++ t.code) ++ op.Jump turn ∷ [] = cc (r.is, t.is, b.is, q.is, p.is) in
+    let flat : ((((old.instrs.items ++ i ∷ []) ++ op.Turn ∷ []) ++ b.code) ++ t.code) ++ op.Jump turn ∷ [] ≡ front ++ (t.code ++ op.Jump turn ∷ []) = simp append_assoc in
+    let lf : length front ≡ length old.instrs.items + length (i ∷ op.Turn ∷ b.code) = length-append old.instrs.items (i ∷ op.Turn ∷ b.code) in
+    let closed : d6.instrs.items ≡ front ++ (a ++ op.Jump turn ∷ []) = closes front t.code (op.Jump turn ∷ []) (all ∙ flat) (omega (arith, l1, l2, l3, lf)) (omega (arith, l4)) in
+    let regroup : front ++ (a ++ op.Jump turn ∷ []) ≡ old.instrs.items ++ (i ∷ (op.Turn ∷ (b.code ++ (a ++ op.Jump turn ∷ [])))) = simp append_assoc in
+    let set_it : new.instrs.items ≡ old.instrs.items ++ (op.Jump head ∷ (op.Turn ∷ (b.code ++ (a ++ op.Jump turn ∷ [])))) = sets old.instrs.items (op.Turn ∷ (b.code ++ (a ++ op.Jump turn ∷ []))) i (closed ∙ regroup) start_is in
+    let turn_at : turn ≡ base + 1 = omega (arith, l1) in
+    let head_at : head ≡ base + 2 + length b.code = omega (arith, l1, l2, l3) in
+    let out_at : out ≡ head + length a + 1 = omega (arith, l4, l5, la) in
+    let body_at : length d2.instrs.items ≡ base + 2 = omega (arith, l1, l2) in
+    let cells_at : d2.cells ≡ old.cells = q.cells ∙ p.cells in
+    let end_cells : new.cells ≡ d4.cells = cells_too ∙ cells ∙ r.cells in
+    record {
+      code = op.Jump head ∷ op.Turn ∷ (b.code ++ (a ++ op.Jump turn ∷ []));
+      is = set_it;
+      routines = routines_too ∙ routines ∙ r.routines ∙ t.routines ∙ b.routines ∙ q.routines ∙ p.routines;
+      has = subst (λ m. IsStmt rs names (tree.while_stmt test body at) base old.cells (op.Jump head ∷ op.Turn ∷ (b.code ++ (a ++ op.Jump turn ∷ []))) m) (sym end_cells)
+          (subst (λ j. IsStmt rs names (tree.while_stmt test body at) base old.cells (op.Jump head ∷ op.Turn ∷ (b.code ++ (a ++ op.Jump j ∷ []))) d4.cells) (sym turn_at)
+          (while_code names test body at base old.cells d3.cells d4.cells head out a b.code
+          (subst (λ x. AreStmts rs names body x old.cells b.code d3.cells) body_at (subst (λ c. AreStmts rs names body (length d2.instrs.items) c b.code d3.cells) cells_at b.has))
+          (subst (λ x. IsTest rs.functions names test x d3.cells out a d4.cells) (sym head_is) (t.has out))
+          head_at out_at));
+    }
+
+-- ---- a `foreach`
+
+-- the instructions of all parts in a row, with the two jumps out of the loop
+arranged : (old a b h t c l x d10 d11 new : List Instr) (out first second : ℕ)
+    → d10 ≡ (((((((old ++ a) ++ b) ++ h) ++ op.JumpIfNot 0 ∷ []) ++ t) ++ c) ++ l) ++ (op.JumpIfNot 0 ∷ x)
+    → first ≡ length (((old ++ a) ++ b) ++ h) → second ≡ length ((((((old ++ a) ++ b) ++ h) ++ op.JumpIfNot 0 ∷ []) ++ t) ++ c) + length l
+    → SetsExit d10 d11 first out → SetsExit d11 new second out
+    → new ≡ old ++ (a ++ (b ++ ((h ++ op.JumpIfNot out ∷ t) ++ (c ++ (l ++ op.JumpIfNot out ∷ x)))))
+arranged old a b h t c l x d10 d11 new out first second all first_is second_is one two =
+    let front : List Instr = ((old ++ a) ++ b) ++ h in
+    let flat : (((((((old ++ a) ++ b) ++ h) ++ op.JumpIfNot 0 ∷ []) ++ t) ++ c) ++ l) ++ (op.JumpIfNot 0 ∷ x) ≡ front ++ op.JumpIfNot 0 ∷ (t ++ (c ++ (l ++ op.JumpIfNot 0 ∷ x))) = simp append_assoc in
+    let once : d11 ≡ front ++ op.JumpIfNot out ∷ (t ++ (c ++ (l ++ op.JumpIfNot 0 ∷ x))) = one front (t ++ (c ++ (l ++ op.JumpIfNot 0 ∷ x))) (op.JumpIfNot 0) (all ∙ flat) first_is in
+    let upto : List Instr = front ++ op.JumpIfNot out ∷ (t ++ (c ++ l)) in
+    let regroup : front ++ op.JumpIfNot out ∷ (t ++ (c ++ (l ++ op.JumpIfNot 0 ∷ x))) ≡ upto ++ op.JumpIfNot 0 ∷ x = simp append_assoc in
+    let a1 = length-append front (op.JumpIfNot out ∷ (t ++ (c ++ l))) in
+    let a2 = length-append t (c ++ l) in
+    let a3 = length-append c l in
+    let size : length upto ≡ length front + 1 + length t + length c + length l = omega (arith, a1, a2, a3) in
+    let b1 = length-append ((front ++ op.JumpIfNot 0 ∷ []) ++ t) c in
+    let b2 = length-append (front ++ op.JumpIfNot 0 ∷ []) t in
+    let b3 = length-append front (op.JumpIfNot 0 ∷ []) in
+    let reach : length (((front ++ op.JumpIfNot 0 ∷ []) ++ t) ++ c) ≡ length front + 1 + length t + length c = omega (arith, b1, b2, b3) in
+    let twice : new ≡ upto ++ op.JumpIfNot out ∷ x = two upto x (op.JumpIfNot 0) (once ∙ regroup) (omega (arith, second_is, size, reach)) in
+    twice ∙ simp append_assoc
+
+pub each_adds : {rs : Routines} (names : List Name) (shape from to body : Tree) (text : List ℕ) (place at : ℕ) (t : Scalar) (c : Counter) (old d1 d2 d3 d4 d5 d6 d7 d8 d9 d10 d11 new : Draft) (skip turn exit out : ℕ)
+    → single_meant shape ≡ Some t → HasTaken t old d1 c → Adds (IsCode rs.functions names from) d1 d2 → Adds (IsCode rs.functions names to) d2 d3
+    → IsPut (each_bounds c) d3 d4 → IsPut (op.JumpIfNot 0 ∷ []) d4 d5 → IsPut (each_turn c) d5 d6 → Adds (AreStmts rs (local text c.kind c.variable ∷ names) body) d6 d7
+    → IsPut (each_less c) d7 d8 → IsPut (op.JumpIfNot 0 ∷ []) d8 d9 → IsPut (each_next c turn) d9 d10
+    → skip ≡ length d4.instrs.items → turn ≡ length d5.instrs.items → exit ≡ length d8.instrs.items → out ≡ length d10.instrs.items
+    → SetsExit d10.instrs.items d11.instrs.items skip out → d11.routines.items ≡ d10.routines.items → d11.cells ≡ d10.cells
+    → SetsExit d11.instrs.items new.instrs.items exit out → new.routines.items ≡ d11.routines.items → new.cells ≡ d11.cells
+    → Adds (IsStmt rs names (tree.foreach_stmt shape (tree.ident text place) from to body at)) old new
+each_adds {rs = rs} names shape from to body text place at t c old d1 d2 d3 d4 d5 d6 d7 d8 d9 d10 d11 new skip turn exit out meant taken f g p4 p5 p6 b p8 p9 p10 skip_is turn_is exit_is out_is one routines1 cells1 two routines2 cells2 =
+    let n : ℕ = old.cells in
+    let k : Counter = counter_at n t in
+    let base : ℕ = length old.instrs.items in
+    let q4 : IsPut (each_bounds k) d3 d4 = subst (λ x. IsPut (each_bounds x) d3 d4) taken.is p4 in
+    let q6 : IsPut (each_turn k) d5 d6 = subst (λ x. IsPut (each_turn x) d5 d6) taken.is p6 in
+    let q7 : Adds (AreStmts rs (local text t (n + 2) ∷ names) body) d6 d7 = subst (λ (x : Counter). Adds (AreStmts rs (local text x.kind x.variable ∷ names) body) d6 d7) taken.is b in
+    let q8 : IsPut (each_less k) d7 d8 = subst (λ x. IsPut (each_less x) d7 d8) taken.is p8 in
+    let q10 : IsPut (each_next k turn) d9 d10 = subst (λ x. IsPut (each_next x turn) d9 d10) taken.is p10 in
+    let i0 : List Instr = old.instrs.items in
+    let e2 : d2.instrs.items ≡ i0 ++ f.code = f.is ∙ ap (λ xs. xs ++ f.code) taken.instrs in
+    let e3 : d3.instrs.items ≡ (i0 ++ f.code) ++ g.code = g.is ∙ ap (λ xs. xs ++ g.code) e2 in
+    let e4 : d4.instrs.items ≡ ((i0 ++ f.code) ++ g.code) ++ each_bounds k = q4.is ∙ ap (λ xs. xs ++ each_bounds k) e3 in
+    let e5 : d5.instrs.items ≡ (((i0 ++ f.code) ++ g.code) ++ each_bounds k) ++ op.JumpIfNot 0 ∷ [] = p5.is ∙ ap (λ xs. xs ++ op.JumpIfNot 0 ∷ []) e4 in
+    let e6 : d6.instrs.items ≡ ((((i0 ++ f.code) ++ g.code) ++ each_bounds k) ++ op.JumpIfNot 0 ∷ []) ++ each_turn k = q6.is ∙ ap (λ xs. xs ++ each_turn k) e5 in
+    let e7 : d7.instrs.items ≡ (((((i0 ++ f.code) ++ g.code) ++ each_bounds k) ++ op.JumpIfNot 0 ∷ []) ++ each_turn k) ++ q7.code = q7.is ∙ ap (λ xs. xs ++ q7.code) e6 in
+    let e8 : d8.instrs.items ≡ ((((((i0 ++ f.code) ++ g.code) ++ each_bounds k) ++ op.JumpIfNot 0 ∷ []) ++ each_turn k) ++ q7.code) ++ each_less k = q8.is ∙ ap (λ xs. xs ++ each_less k) e7 in
+    let e10 : d10.instrs.items ≡ (((((((i0 ++ f.code) ++ g.code) ++ each_bounds k) ++ op.JumpIfNot 0 ∷ []) ++ each_turn k) ++ q7.code) ++ each_less k) ++ (op.JumpIfNot 0 ∷ each_next k turn) =
+    q10.is ∙ ap (λ xs. xs ++ each_next k turn) (p9.is ∙ ap (λ xs. xs ++ op.JumpIfNot 0 ∷ []) e8)
+    ∙ append_assoc (((((((i0 ++ f.code) ++ g.code) ++ each_bounds k) ++ op.JumpIfNot 0 ∷ []) ++ each_turn k) ++ q7.code) ++ each_less k) (op.JumpIfNot 0 ∷ []) (each_next k turn) in
+    let s2 : length d2.instrs.items ≡ base + length f.code = ap length e2 ∙ length-append i0 f.code in
+    let s3 : length d3.instrs.items ≡ base + length f.code + length g.code = ap length g.is ∙ length-append d2.instrs.items g.code ∙ ap (λ z. z + length g.code) s2 in
+    let s4 : length d4.instrs.items ≡ length d3.instrs.items + 5 = length_join d3.instrs.items d4.instrs.items (each_bounds k) q4.is in
+    let s5 : length d5.instrs.items ≡ length d4.instrs.items + 1 = length_join d4.instrs.items d5.instrs.items (op.JumpIfNot 0 ∷ []) p5.is in
+    let s6 : length d6.instrs.items ≡ length d5.instrs.items + 3 = length_join d5.instrs.items d6.instrs.items (each_turn k) q6.is in
+    let s7 : length d7.instrs.items ≡ length d6.instrs.items + length q7.code = length_join d6.instrs.items d7.instrs.items q7.code q7.is in
+    let s8 : length d8.instrs.items ≡ length d7.instrs.items + 3 = length_join d7.instrs.items d8.instrs.items (each_less k) q8.is in
+    let s9 : length d9.instrs.items ≡ length d8.instrs.items + 1 = length_join d8.instrs.items d9.instrs.items (op.JumpIfNot 0 ∷ []) p9.is in
+    let s10 : length d10.instrs.items ≡ length d9.instrs.items + 5 = length_join d9.instrs.items d10.instrs.items (each_next k turn) q10.is in
+    let turn_at : turn ≡ base + length f.code + length g.code + 6 = omega (arith, turn_is, s3, s4, s5) in
+    let start_at : length d6.instrs.items ≡ turn + 3 = omega (arith, turn_is, s6) in
+    let out_at : out ≡ length d6.instrs.items + length q7.code + 9 = omega (arith, out_is, s7, s8, s9, s10) in
+    let cells_at : d6.cells ≡ d3.cells = q6.cells ∙ p5.cells ∙ q4.cells in
+    let end_cells : new.cells ≡ d7.cells = cells2 ∙ cells1 ∙ q10.cells ∙ p9.cells ∙ q8.cells in
+    let code : List Instr = f.code ++ (g.code ++ (each_head n t out ++ (q7.code ++ each_tail n turn out))) in
+    record {
+      code = code;
+      is = arranged i0 f.code g.code (each_bounds k) (each_turn k) q7.code (each_less k) (each_next k turn) d10.instrs.items d11.instrs.items new.instrs.items out skip exit e10
+          (skip_is ∙ ap length e4) (exit_is ∙ s8 ∙ ap (λ z. z + 3) (ap length e7)) one two;
+      routines = routines2 ∙ routines1 ∙ q10.routines ∙ p9.routines ∙ q8.routines ∙ q7.routines ∙ q6.routines ∙ p5.routines ∙ q4.routines ∙ g.routines ∙ f.routines ∙ taken.routines;
+      has = subst (λ m. IsStmt rs names (tree.foreach_stmt shape (tree.ident text place) from to body at) base n code m) (sym end_cells)
+          (each_code names shape from to body text place at base n d2.cells d3.cells d7.cells turn (length d6.instrs.items) out f.code g.code q7.code t meant
+          (subst (λ p. IsCode rs.functions names from p (n + 3) f.code d2.cells) (ap length taken.instrs) (subst (λ x. IsCode rs.functions names from (length d1.instrs.items) x f.code d2.cells) taken.cells f.has))
+          (subst (λ p. IsCode rs.functions names to p d2.cells g.code d3.cells) s2 g.has)
+          (subst (λ x. AreStmts rs (local text t (n + 2) ∷ names) body (length d6.instrs.items) x q7.code d7.cells) cells_at q7.has)
+          turn_at start_at out_at);
+    }
+
+abbrev each_left : Option Scalar → ℕ → (Scalar → Option ℕ) → Option ℕ
+each_left o at f = elim o [ None ↦ Some at | Some t ↦ f t ]
+
+-- a `foreach` of which nothing is left out before its body
+each_open : (rs : Routines) (names : List Name) (shape from to body : Tree) (text : List ℕ) (place at c : ℕ) (t k : Scalar) → single_meant shape ≡ Some t → k ≡ t
+    → left_out_in rs.functions names from ≡ None → left_out_in rs.functions names to ≡ None
+    → left_out_stmt rs names (tree.foreach_stmt shape (tree.ident text place) from to body at) ≡ left_out_all rs (local text k c ∷ names) body
+each_open rs names shape from to body text place at c t k meant is e f =
+    go (single_meant shape) meant
+    ∙ ap (λ x. x or_else (left_out_in rs.functions names to or_else left_out_all rs (local text t 0 ∷ names) body)) e
+    ∙ ap (λ x. x or_else left_out_all rs (local text t 0 ∷ names) body) f
+    ∙ sym (any_cell rs names text t c body) ∙ ap (λ s. left_out_all rs (local text s c ∷ names) body) (sym is)
+  where
+    go : (o : Option Scalar) → o ≡ Some t
+        → each_left o at (λ s. left_out_in rs.functions names from or_else (left_out_in rs.functions names to or_else left_out_all rs (local text s 0 ∷ names) body))
+        ≡ left_out_in rs.functions names from or_else (left_out_in rs.functions names to or_else left_out_all rs (local text t 0 ∷ names) body)
+    go None h = cc
+    go (Some s) h = let same : s ≡ t = cc in ap (λ r. left_out_in rs.functions names from or_else (left_out_in rs.functions names to or_else left_out_all rs (local text r 0 ∷ names) body)) same
+
+-- .. and nothing at all
+pub each_whole : (rs : Routines) (names : List Name) (shape from to body : Tree) (text : List ℕ) (place at c : ℕ) (t k : Scalar) → single_meant shape ≡ Some t → k ≡ t
+    → left_out_in rs.functions names from ≡ None → left_out_in rs.functions names to ≡ None → left_out_all rs (local text k c ∷ names) body ≡ None
+    → left_out_stmt rs names (tree.foreach_stmt shape (tree.ident text place) from to body at) ≡ None
+each_whole rs names shape from to body text place at c t k meant is e f g =
+    each_open rs names shape from to body text place at c t k meant is e f ∙ g
+
+pub each_fault : (rs : Routines) (names : List Name) (shape from to body : Tree) (text : List ℕ) (place at c : ℕ) (t k : Scalar) (draft : Draft) (fault : LowerFault) → single_meant shape ≡ Some t → k ≡ t
+    → left_out_in rs.functions names from ≡ None → left_out_in rs.functions names to ≡ None → IsFault (left_out_all rs (local text k c ∷ names) body) draft fault
+    → IsFault (left_out_stmt rs names (tree.foreach_stmt shape (tree.ident text place) from to body at)) draft fault
+each_fault rs names shape from to body text place at c t k draft fault meant is e f h =
+    subst (λ o. IsFault o draft fault) (sym (each_open rs names shape from to body text place at c t k meant is e f)) h
+
+-- ---- blocks
+
+pub variable_adds : {rs : Routines} (names : List Name) (shape start vars body : Tree) (text : List ℕ) (place at c : ℕ) (t : Scalar) (changes : Bool) (old d1 d2 new : Draft)
+    → single_meant shape ≡ Some t → HasOneMore old d1 c → Adds (IsStart rs.functions names t c start) d1 d2 → Adds (IsBlock rs (local text t c ∷ names) vars body) d2 new
+    → Adds (IsBlock rs names (tree.cons (tree.var shape (tree.ident text place) start changes at) vars) body) old new
+variable_adds {rs = rs} names shape start vars body text place at c t changes old d1 d2 new meant taken f g =
+    let n : ℕ = old.cells in
+    let base : ℕ = length old.instrs.items in
+    let f1 : Adds (IsStart rs.functions names t n start) d1 d2 = subst (λ x. Adds (IsStart rs.functions names t x start) d1 d2) taken.is f in
+    let g1 : Adds (IsBlock rs (local text t n ∷ names) vars body) d2 new = subst (λ x. Adds (IsBlock rs (local text t x ∷ names) vars body) d2 new) taken.is g in
+    let e2 : d2.instrs.items ≡ old.instrs.items ++ f1.code = f1.is ∙ ap (λ xs. xs ++ f1.code) taken.instrs in
+    let s2 : length d2.instrs.items ≡ base + length f1.code = ap length e2 ∙ length-append old.instrs.items f1.code in
+    record {
+      code = f1.code ++ g1.code;
+      is = g1.is ∙ ap (λ xs. xs ++ g1.code) e2 ∙ append_assoc old.instrs.items f1.code g1.code;
+      routines = g1.routines ∙ f1.routines ∙ taken.routines;
+      has = variable_more names shape start vars body text place at base n d2.cells new.cells f1.code g1.code t changes meant
+          (subst (λ p. IsStart rs.functions names t n start p (n + 1) f1.code d2.cells) (ap length taken.instrs) (subst (λ x. IsStart rs.functions names t n start (length d1.instrs.items) x f1.code d2.cells) taken.cells f1.has))
+          (subst (λ p. IsBlock rs (local text t n ∷ names) vars body p d2.cells g1.code new.cells) s2 g1.has);
+    }
+
+-- a block of which nothing is left out before what stands behind its first variable
+pub variable_open : (rs : Routines) (names : List Name) (shape start vars body : Tree) (text : List ℕ) (place at c : ℕ) (t : Scalar) (changes : Bool) → single_meant shape ≡ Some t → left_out_start rs.functions names start ≡ None
+    → left_out_vars rs names (tree.cons (tree.var shape (tree.ident text place) start changes at) vars) (λ inner. left_out_all rs inner body) ≡ left_out_vars rs (local text t c ∷ names) vars (λ inner. left_out_all rs inner body)
+variable_open rs names shape start vars body text place at c t changes meant e =
+    go (single_meant shape) meant ∙ ap (λ x. x or_else left_out_vars rs (local text t 0 ∷ names) vars (λ inner. left_out_all rs inner body)) e ∙ sym (any_cell_vars rs names text t c vars body)
+  where
+    go : (o : Option Scalar) → o ≡ Some t
+        → each_left o at (λ s. left_out_start rs.functions names start or_else left_out_vars rs (local text s 0 ∷ names) vars (λ inner. left_out_all rs inner body))
+        ≡ left_out_start rs.functions names start or_else left_out_vars rs (local text t 0 ∷ names) vars (λ inner. left_out_all rs inner body)
+    go None h = cc
+    go (Some s) h = let same : s ≡ t = cc in ap (λ r. left_out_start rs.functions names start or_else left_out_vars rs (local text r 0 ∷ names) vars (λ inner. left_out_all rs inner body)) same
+
+-- ---- calls of procedures
+
+pub run_adds : {rs : Routines} (names : List Name) (text : List ℕ) (args : Tree) (place at : ℕ) (p : Procedure) (old mid new : Draft) → procedure_for text (number_of args) rs.procedures ≡ Some p → Adds (AreArgs rs.functions names args) old mid
+    → IsPut (run_code p) mid new → Adds (IsStmt rs names (tree.call_stmt (tree.ident text place) args at)) old new
+run_adds {rs = rs} names text args place at p old mid new e a put = record {
+  code = a.code ++ run_code p;
+  is = put.is ∙ ap (λ xs. xs ++ run_code p) a.is ∙ append_assoc old.instrs.items a.code (run_code p);
+  routines = put.routines ∙ a.routines;
+  has = subst (λ m. IsStmt rs names (tree.call_stmt (tree.ident text place) args at) (length old.instrs.items) old.cells (a.code ++ run_code p) m) (sym put.cells)
+      (call names text args place at (length old.instrs.items) old.cells mid.cells a.code p e a.has);
+}
+
+-- what is left out of a call of a procedure that is there
+pub run_open : (rs : Routines) (names : List Name) (text : List ℕ) (args : Tree) (place at : ℕ) (p : Procedure) → procedure_for text (number_of args) rs.procedures ≡ Some p
+    → left_out_stmt rs names (tree.call_stmt (tree.ident text place) args at) ≡ left_out_args rs.functions names args
+run_open rs names text args place at p e = ap (λ (o : Option Procedure). elim o [ None ↦ Some at | Some q ↦ left_out_args rs.functions names args ]) e
+
+pub run_none : (rs : Routines) (names : List Name) (text : List ℕ) (args : Tree) (place at : ℕ) → procedure_for text (number_of args) rs.procedures ≡ None
+    → left_out_stmt rs names (tree.call_stmt (tree.ident text place) args at) ≡ Some at
+run_none rs names text args place at e = ap (λ (o : Option Procedure). elim o [ None ↦ Some at | Some q ↦ left_out_args rs.functions names args ]) e
+
+-- ---- all that is promised
+
+-- if nothing may be called
+none_had : (whole : Code) (callable limit : ℕ) → HasRunRoutines whole callable limit no_routines
+none_had whole callable limit = record { functions = λ text f e. cc; procedures = λ text p e. cc }
+
+pub executed : (names : List Name) (body : Tree) (old new : Draft) → AreBelow old.cells names → NamesApart names → AreTyped names → Adds (AreStmts no_routines names body) old new → Adds (IsExecuted names body) old new
+executed names body old new below apart typed a = record {
+  code = a.code;
+  is = a.is;
+  routines = a.routines;
+  has = record {
+    cells = grows_all a.has;
+    executes = executes names body (length old.instrs.items) old.cells new.cells a.code below apart typed a.has;
+    fits = λ whole callable h stands. fits_all whole callable new.cells no_routines (none_had whole callable new.cells) h below typed (omega arith) stands a.has;
+  };
+}
+
+-- ---- measures
+
+-- a statement weighs less than a list in which it stands
+pub weight_item : {X : Type 0} (f : X → Tree) (xs : List X) (x : X) (i : ℕ) → i < length xs → x ≡ get_or xs i x → weight (f x) < weight (listed (map f xs))
+weight_item f [] x i small is = absurd (omega arith)
+weight_item f (y ∷ xs) x zero small is = subst (λ z. weight (f z) < 1 + weight (f y) + weight (listed (map f xs))) (sym is) (omega arith)
+weight_item f (y ∷ xs) x (suc i) small is = let later = weight_item f xs x i (omega (arith, small)) is in omega (arith, later)

@@ -1,0 +1,67 @@
+-- The code of a loop with an assignment in it, and of a call, put together by the definitions.
+use Rattle.std.proofs.Common.{ℕ, ◌+◌, pos, List, [], ◌∷◌, Some, refl}
+use Rattle.std.specs.Prelude.{codes}
+use Rattle.rvc_base.specs.declared.scalar.Scalar.TheVariants as scalar
+use Rattle.cal_ast.specs.declared.expr.BinOp.TheVariants as binaries
+use Rattle.cal_ast.specs.Tree as tree
+use Rattle.cal_ast.specs.Tree.{Tree}
+use Rattle.cal_model.specs.Value.{Single}
+use Rattle.code_ir.specs.declared.instr.Instr.TheVariants as op
+use Rattle.expr_lower.specs.declared.names.Seat.TheVariants.{Cell}
+use Rattle.expr_lower.specs.Coding.{arg_more, binary, no_arg, number, variable, tested}
+use Rattle.expr_lower.specs.Names.{Name}
+use Rattle.stmt_lower.specs.Stating.{IsStmt, call, set, while_code, none, one_more}
+use Rattle.stmt_lower.specs.Procedures.{Procedure, Routines, no_routines}
+
+abbrev pub a : List ℕ
+a = codes "a"
+
+-- `int(size=8) a` in cell 0
+abbrev pub names : List Name
+names = record { text = codes "a"; shape = Single (scalar.Int 8); seat = Cell 0 } ∷ []
+
+-- `a + 1`
+abbrev pub sum : Tree
+sum = tree.binary binaries.Add (tree.variable a 0) (tree.number 1 0) 0
+
+-- `a := a + 1;`
+abbrev pub step : Tree
+step = tree.assign (tree.ident a 0) tree.nil sum 0
+
+-- `a < 3`
+abbrev test : Tree
+test = tree.binary binaries.Lt (tree.variable a 0) (tree.number 3 0) 0
+
+-- the code of the step, wherever it stands
+pub step_row : (base : ℕ) → IsStmt no_routines names step base 5 (op.Load 0 ∷ op.Const (pos 1) ∷ op.Add ∷ op.Store 0 (Some (scalar.Int 8)) ∷ []) 5
+step_row base =
+    set names a sum 0 0 base 5 5 0 (op.Load 0 ∷ op.Const (pos 1) ∷ op.Add ∷ []) (record { text = codes "a"; shape = Single (scalar.Int 8); seat = Cell 0 }) (scalar.Int 8) refl refl refl
+    (binary binaries.Add op.Add (tree.variable a 0) (tree.number 1 0) 0 base 5 5 5 (op.Load 0 ∷ []) (op.Const (pos 1) ∷ []) refl
+    (variable a 0 base 5 (record { text = codes "a"; shape = Single (scalar.Int 8); seat = Cell 0 }) refl tt) (number 1 0 (base + 1) 5 refl))
+
+-- `while a < 3 do a := a + 1; end`
+pub loop_row : IsStmt no_routines names (tree.while_stmt test (tree.cons step tree.nil) 0) 0 5
+    (op.Jump 6 ∷ op.Turn ∷ op.Load 0 ∷ op.Const (pos 1) ∷ op.Add ∷ op.Store 0 (Some (scalar.Int 8)) ∷ op.Load 0 ∷ op.Const (pos 3) ∷ op.Lt ∷ op.JumpIfNot 11 ∷ op.Jump 1 ∷ []) 5
+loop_row =
+    while_code names test (tree.cons step tree.nil) 0 0 5 5 5 6 11 (op.Load 0 ∷ op.Const (pos 3) ∷ op.Lt ∷ op.JumpIfNot 11 ∷ []) (op.Load 0 ∷ op.Const (pos 1) ∷ op.Add ∷ op.Store 0 (Some (scalar.Int 8)) ∷ [])
+    (one_more names step tree.nil 2 5 5 5 (op.Load 0 ∷ op.Const (pos 1) ∷ op.Add ∷ op.Store 0 (Some (scalar.Int 8)) ∷ []) [] (step_row 2) (none names 6 5))
+    (tested test 6 5 5 11 (op.Load 0 ∷ op.Const (pos 3) ∷ op.Lt ∷ [])
+    (binary binaries.Lt op.Lt (tree.variable a 0) (tree.number 3 0) 0 6 5 5 5 (op.Load 0 ∷ []) (op.Const (pos 3) ∷ []) refl
+    (variable a 0 6 5 (record { text = codes "a"; shape = Single (scalar.Int 8); seat = Cell 0 }) refl tt) (number 3 0 7 5 refl)))
+    refl refl
+
+-- a procedure of two formals of 8 bits
+abbrev p : Procedure
+p = record { text = codes "p"; routine = 2; formals = record { cell = 8; kind = scalar.Int 8 } ∷ record { cell = 9; kind = scalar.Int 8 } ∷ [] }
+
+abbrev routines : Routines
+routines = record { functions = []; procedures = p ∷ [] }
+
+-- `p(a, 1);`
+pub call_row : IsStmt routines names (tree.call_stmt (tree.ident (codes "p") 0) (tree.cons (tree.variable a 0) (tree.cons (tree.number 1 0) tree.nil)) 0) 0 5
+    (op.Load 0 ∷ op.Const (pos 1) ∷ op.Turn ∷ op.Store 9 (Some (scalar.Int 8)) ∷ op.Store 8 (Some (scalar.Int 8)) ∷ op.Call 2 ∷ []) 5
+call_row =
+    call names (codes "p") (tree.cons (tree.variable a 0) (tree.cons (tree.number 1 0) tree.nil)) 0 0 0 5 5 (op.Load 0 ∷ op.Const (pos 1) ∷ []) p refl
+    (arg_more (tree.variable a 0) (tree.cons (tree.number 1 0) tree.nil) 0 5 5 5 (op.Load 0 ∷ []) (op.Const (pos 1) ∷ [])
+    (variable a 0 0 5 (record { text = codes "a"; shape = Single (scalar.Int 8); seat = Cell 0 }) refl tt)
+    (arg_more (tree.number 1 0) tree.nil 1 5 5 5 (op.Const (pos 1) ∷ []) [] (number 1 0 1 5 refl) (no_arg 2 5)))

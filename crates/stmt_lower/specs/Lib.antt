@@ -1,0 +1,17 @@
+pub mod Meant
+pub mod Changing
+pub mod Procedures
+pub mod StmtSeen
+pub mod Stating
+pub mod Executing
+pub mod Acting
+pub mod Calls
+pub mod StmtGrowing
+pub mod StmtWords
+pub mod Jumping
+pub mod Reserving
+pub mod SeenStmts
+pub mod Proceeding
+pub mod ProcWords
+pub mod Targets
+pub mod Bodies

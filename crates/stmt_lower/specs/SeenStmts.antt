@@ -1,0 +1,96 @@
+-- The words of the contracts of the parts that lower statements, over what they see.
+-- Not trusted: no promise is read with it.
+use Rattle.std.specs.Prelude.{◌≡◌, ℕ, List, ◌∷◌, map, Option, None, string_bytes}
+use Rattle.rvc_base.specs.declared.scalar.Scalar.{Scalar}
+use Rattle.cal_ast.specs.Tree.{Tree, listed}
+use Rattle.cal_ast.specs.View.{expr_tree, var_tree}
+use Rattle.cal_ast.specs.declared.member.VarDecl.{VarDecl}
+use Rattle.cal_ast.specs.declared.stmt.Stmt.{Stmt}
+use Rattle.cal_ast.specs.declared.expr.Expr.{Expr}
+use Rattle.cal_ast.specs.declared.ident.Ident.{Ident}
+use Rattle.expr_lower.specs.declared.draft.Draft.{Draft}
+use Rattle.expr_lower.specs.declared.fault.LowerFault.{LowerFault}
+use Rattle.stmt_lower.specs.declared.scope.StmtScope.{StmtScope}
+use Rattle.stmt_lower.specs.Procedures.{Routines}
+use Rattle.expr_lower.specs.Growing.{IsFault}
+use Rattle.expr_lower.specs.Lowered.{Adds}
+use Rattle.expr_lower.specs.Names.{Name, local}
+use Rattle.expr_lower.specs.PartView.{places_of}
+use Rattle.stmt_lower.specs.StmtSeen.{called, seen}
+use Rattle.stmt_lower.specs.declared.counter.Counter.{Counter}
+use Rattle.stmt_lower.specs.Stating.{AreStmts, IsBlock, IsKept, IsStmt}
+use Rattle.stmt_lower.specs.StmtGrowing.{left_out_all, left_out_deep, left_out_each, left_out_stmt, left_out_vars}
+use Rattle.stmt_lower.specs.StmtWords.{body_of, set_items_of}
+
+-- the code of a statement was added to a draft
+abbrev pub AddsStmt : StmtScope → Tree → Draft → Draft → Type 0
+AddsStmt scope s old new = Adds (IsStmt (called scope) (seen scope) s) old new
+
+-- the code of statements was added
+abbrev pub AddsStmts : StmtScope → Tree → Draft → Draft → Type 0
+AddsStmts scope body old new = Adds (AreStmts (called scope) (seen scope) body) old new
+
+-- the code of places was added, each of which is kept
+abbrev pub AddsKept : StmtScope → ℕ → List Expr → Draft → Draft → Type 0
+AddsKept scope c places old new = Adds (IsKept (called scope).functions (seen scope) c (places_of places)) old new
+
+-- the code of an assignment of items that are written out was added
+abbrev pub AddsItems : StmtScope → Ident → List Expr → Draft → Draft → Type 0
+AddsItems scope name items old new = (list at : ℕ)
+    → Adds (IsStmt (called scope) (seen scope) (set_items_of name items list at)) old new
+
+-- the first part of places that is left out, and of an assignment to an item of a list in lists
+abbrev pub left_out_kept : StmtScope → List Expr → Option ℕ
+left_out_kept scope places = left_out_each (called scope).functions (seen scope) (places_of places)
+
+abbrev pub left_out_item : StmtScope → Ident → List Expr → Expr → ℕ → Option ℕ
+left_out_item scope name places value at =
+    left_out_deep (called scope).functions (seen scope) (string_bytes name.text) (places_of places) (expr_tree value) at
+
+-- no part of a statement is left out, and none of statements
+abbrev pub IsAllOf : StmtScope → Tree → Type 0
+IsAllOf scope s = left_out_stmt (called scope) (seen scope) s ≡ None
+
+abbrev pub AreAllOf : StmtScope → Tree → Type 0
+AreAllOf scope body = left_out_all (called scope) (seen scope) body ≡ None
+
+-- why a statement isn't lowered, and why statements aren't
+abbrev pub IsWhyNot : StmtScope → Tree → Draft → LowerFault → Type 0
+IsWhyNot scope s draft fault = IsFault (left_out_stmt (called scope) (seen scope) s) draft fault
+
+abbrev pub AreWhyNot : StmtScope → Tree → Draft → LowerFault → Type 0
+AreWhyNot scope body draft fault = IsFault (left_out_all (called scope) (seen scope) body) draft fault
+
+-- ---- the body of a `foreach`
+
+-- the names that it sees
+abbrev pub in_each : Ident → Counter → StmtScope → List Name
+in_each name c scope = local (string_bytes name.text) c.kind c.variable ∷ seen scope
+
+-- its code was added
+abbrev pub AddsBody : Ident → Counter → StmtScope → Tree → Draft → Draft → Type 0
+AddsBody name c scope body old new = Adds (AreStmts (called scope) (in_each name c scope) body) old new
+
+-- no part of it is left out
+abbrev pub IsAllOfBody : Ident → Counter → StmtScope → Tree → Type 0
+IsAllOfBody name c scope body = left_out_all (called scope) (in_each name c scope) body ≡ None
+
+-- why it isn't lowered
+abbrev pub IsWhyNoBody : Ident → Counter → StmtScope → Tree → Draft → LowerFault → Type 0
+IsWhyNoBody name c scope body draft fault =
+    IsFault (left_out_all (called scope) (in_each name c scope) body) draft fault
+
+-- ---- blocks
+
+-- the variables of a block, and its statements
+abbrev pub AddsBlock : Routines → List Name → List VarDecl → List Stmt → Draft → Draft → Type 0
+AddsBlock rs names vars body old new =
+    Adds (IsBlock rs names (listed (map var_tree vars)) (body_of body)) old new
+
+abbrev pub left_out_block : Routines → List Name → List VarDecl → List Stmt → Option ℕ
+left_out_block rs names vars body =
+    left_out_vars rs names (listed (map var_tree vars)) (λ inner. left_out_all rs inner (body_of body))
+
+-- the names that are seen behind a variable
+abbrev pub behind : VarDecl → Scalar → ℕ → StmtScope → List Name
+behind v t c scope = local (string_bytes v.name.text) t c ∷ seen scope

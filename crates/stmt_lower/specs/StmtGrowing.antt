@@ -1,0 +1,106 @@
+-- Which statements are left out.
+-- Trusted: part of what a promise means.
+use Rattle.std.specs.Prelude.{ℕ, nat_eq, if◌then◌else◌, List, ◌∷◌, Option, None, Some}
+use Rattle.cal_ast.specs.Tree as tree
+use Rattle.cal_ast.specs.Tree.{Tree}
+use Rattle.expr_lower.specs.declared.names.ItemList.{ItemList}
+use Rattle.stmt_lower.specs.declared.targets.ListCells.{ListCells}
+use Rattle.expr_lower.specs.Callees.{Function}
+use Rattle.expr_lower.specs.Starting.{left_out_start}
+use Rattle.stmt_lower.specs.Procedures.{Routines, procedure_for}
+use Rattle.stmt_lower.specs.Targets.{cell_named, cells_named}
+use Rattle.expr_lower.specs.Growing.{left_out_args, left_out_in, ◌or_else◌}
+use Rattle.expr_lower.specs.Listed.{list_named}
+use Rattle.expr_lower.specs.Names.{local, Name}
+use Rattle.stmt_lower.specs.Meant.{single_meant}
+use Rattle.stmt_lower.specs.Targets.{deep_cells_named}
+use Rattle.expr_lower.specs.Parted.{number_of}
+
+-- a list is stored whole only from the name of a list of as many single values ..
+abbrev pub left_out_copy : ListCells → Option ItemList → ℕ → Option ℕ
+left_out_copy c None at = Some at
+left_out_copy c (Some l) at = if nat_eq l.size c.size then None else Some at
+
+-- the places of an item, or items that are written
+abbrev pub left_out_each : List Function → List Name → Tree → Option ℕ
+left_out_each fs names (tree.cons place places) =
+    left_out_in fs names place or_else left_out_each fs names places
+left_out_each fs names other = None
+
+abbrev pub left_out_items : List Function → List Name → ListCells → Tree → ℕ → Option ℕ
+left_out_items fs names c items at =
+    if nat_eq (number_of items) c.size then left_out_each fs names items else Some at
+
+-- .. or from as many items that are written
+abbrev pub left_out_whole : List Function → List Name → ListCells → Tree → ℕ → Option ℕ
+left_out_whole fs names c (tree.list items list) at = left_out_items fs names c items at
+left_out_whole fs names c other at = left_out_copy c (list_named names other) at
+
+abbrev pub left_out_list : List Function → List Name → List ℕ → Tree → ℕ → Option ℕ
+left_out_list fs names text value at = elim (cells_named names text)
+    [ None ↦ Some at | Some c ↦ left_out_whole fs names c value at ]
+
+-- an assignment to an item of a list in lists
+abbrev pub left_out_deep : List Function → List Name → List ℕ → Tree → Tree → ℕ → Option ℕ
+left_out_deep fs names text places value at = elim (deep_cells_named names text places) [
+  | None ↦ Some at
+  | Some c ↦ left_out_each fs names places or_else left_out_in fs names value
+]
+
+-- an assignment to the whole variable, or to one item of it
+abbrev pub left_out_set : List Function → List Name → List ℕ → Tree → Tree → ℕ → Option ℕ
+left_out_set fs names text tree.nil value at =
+    elim (cell_named names text) [
+      | None ↦ left_out_list fs names text value at
+      | Some c ↦ left_out_in fs names value
+    ]
+left_out_set fs names text (tree.cons spot tree.nil) value at =
+    elim (cells_named names text) [
+      | None ↦ Some at
+      | Some c ↦ left_out_in fs names spot or_else left_out_in fs
+          names value
+    ]
+left_out_set fs names text places value at = left_out_deep fs names text places value at
+
+-- the variables of a block, and what sees them all
+abbrev pub left_out_vars : Routines → List Name → Tree → (List Name → Option ℕ) → Option ℕ
+left_out_vars rs names tree.nil body = body names
+left_out_vars rs names (tree.cons (tree.var shape (tree.ident text place) start changes at) vars) body =
+    elim (single_meant shape) [
+      | None ↦ Some at
+      | Some t ↦ left_out_start rs.functions names start or_else left_out_vars rs (local text t 0 ∷ names) vars body
+    ]
+left_out_vars rs names other body = Some 0
+
+abbrev mutual
+  -- The place of the first part of a statement for which no code is made: an assignment to what isn't a variable of
+  -- single values in a cell or an item of lists of them in cells, unless it stores as many of them whole that are named or written as a list, a call of what is none of these procedures or that has not as many arguments, or a `foreach` or a variable of a block
+  -- whose type isn't seen to be one of single values; or such a part of an expression. Of a `while` the body comes first, as in its
+  -- code. Which cell a local has doesn't matter here.
+  pub left_out_stmt : Routines → List Name → Tree → Option ℕ
+  left_out_stmt rs names (tree.assign (tree.ident text place) places value at) =
+      left_out_set rs.functions names text places value at
+  left_out_stmt rs names (tree.call_stmt (tree.ident text place) args at) =
+      elim (procedure_for text (number_of args) rs.procedures)
+      [ None ↦ Some at | Some p ↦ left_out_args rs.functions names args ]
+  left_out_stmt rs names (tree.if_stmt test first other at) =
+      left_out_in rs.functions names test or_else (left_out_all rs names first or_else left_out_all rs names other)
+  left_out_stmt rs names (tree.while_stmt test body at) =
+      left_out_all rs names body or_else left_out_in rs.functions names test
+  left_out_stmt rs names (tree.foreach_stmt shape (tree.ident text place) from to body at) =
+      elim (single_meant shape) [
+        | None ↦ Some at
+        | Some t ↦ left_out_in rs.functions names from or_else (left_out_in rs.functions names to or_else left_out_all rs
+            (local text t 0 ∷ names) body)
+      ]
+  left_out_stmt rs names (tree.block vars body at) =
+      left_out_vars rs names vars (λ inner. left_out_all rs inner body)
+  left_out_stmt rs names other = Some 0
+
+  -- .. of statements; those of an `else` may be absent
+  pub left_out_all : Routines → List Name → Tree → Option ℕ
+  left_out_all rs names tree.nil = None
+  left_out_all rs names (tree.cons s rest) = left_out_stmt rs names s or_else left_out_all rs names rest
+  left_out_all rs names tree.absent = None
+  left_out_all rs names (tree.present body) = left_out_all rs names body
+  left_out_all rs names other = Some 0

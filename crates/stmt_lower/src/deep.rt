@@ -1,0 +1,99 @@
+//! Assignments to items of lists in lists.
+
+ghost use Rattle.std.specs.Prelude.{◌≡◌, ◌+◌, ◌<◌, ◌^◌, length};
+ghost use Rattle.std.specs.Prelude.{IfErr, None, OnOk};
+ghost use Rattle.cal_model.specs.View.{shape_view};
+ghost use Rattle.expr_lower.specs.declared.fault.LowerFault.TheVariants.{Memory};
+ghost use Rattle.expr_lower.specs.Growing.{IsFault};
+ghost use Rattle.expr_lower.specs.Lowered.{IsPut};
+ghost use Rattle.expr_lower.specs.PartView.{places_of};
+ghost use Rattle.stmt_lower.specs.SeenStmts.{AddsKept, AddsStmt, left_out_item, left_out_kept};
+ghost use Rattle.stmt_lower.specs.Stating.{step_code};
+ghost use Rattle.stmt_lower.specs.StmtWords.{set_of};
+
+use crate::counter::take_kept;
+use crate::scope::StmtScope;
+use crate::targets::deep_cells;
+use cal_ast::{Expr, Ident};
+use cal_model::Shape;
+use code_ir::Instr;
+use expr_lower::{Draft, LowerFault, lower, put, put_all, scalars, whole_called};
+
+/// Appends an assignment to an item of a list in lists: its places and the value, each of which is kept, the tests of
+/// the places, and the instruction that stores the value.
+pub(crate) fn set_deep(
+    scope: &StmtScope,
+    name: &Ident,
+    places: &[Expr],
+    value: &Expr,
+    at: u32,
+    draft: &mut Draft,
+) -> Result<(), LowerFault>
+    ensures ok { OnOk result
+        (AddsStmt scope.now (set_of name.now places.now value.now at) draft.old draft.new) }
+    ensures whole { OnOk result
+        (left_out_item scope.now name.now places.now value.now at ≡ None) }
+    ensures fault { IfErr result
+        (IsFault (left_out_item scope.now name.now places.now value.now at) draft.new) }
+{
+    let Some(whole) = whole_called(&scope.values, name.text.as_str()) else {
+        return Err(LowerFault::NotLowered { at });
+    };
+    let Some(to) = deep_cells(whole, places) else {
+        return Err(LowerFault::NotLowered { at });
+    };
+    let kept = take_kept(places.len(), draft)?;
+    keep(scope, places, kept.places, draft)?;
+    lower(&scope.values, value, draft)?;
+    put_all(draft, &[Instr::Store(kept.value, None), Instr::Const(0)])?;
+    put_steps(whole.shape, places, kept.places, draft)?;
+    put_all(
+        draft,
+        &[
+            Instr::Load(kept.value),
+            Instr::StoreAt(to.cell, to.size, Some(to.kind)),
+        ],
+    )
+}
+
+/// Appends places, each of which is kept in a cell, from this one on.
+pub(crate) fn keep(
+    scope: &StmtScope,
+    places: &[Expr],
+    cell: u32,
+    draft: &mut Draft,
+) -> Result<(), LowerFault>
+    requires room { cell + length places.now < 2 ^ 32 }
+    ensures ok { OnOk result (AddsKept scope.now cell places.now draft.old draft.new) }
+    ensures whole { OnOk result (left_out_kept scope.now places.now ≡ None) }
+    ensures fault { IfErr result (IsFault (left_out_kept scope.now places.now) draft.new) }
+{
+    let Some((first, rest)) = places.split_first() else {
+        return Ok(());
+    };
+    lower(&scope.values, first, draft)?;
+    put(draft, Instr::Store(cell, None))?;
+    keep(scope, rest, cell + 1, draft)
+}
+
+/// Appends the tests of places that are kept in cells, each of which adds to the offset of an item.
+fn put_steps(shape: &Shape, places: &[Expr], cell: u32, draft: &mut Draft) -> Result<(), LowerFault>
+    requires room { cell + length places.now < 2 ^ 32 }
+    ensures added { OnOk result
+        (IsPut (step_code cell (shape_view shape.now) (places_of places.now)) draft.old draft.new) }
+    ensures memory { IfErr result (λ fault. fault ≡ Memory) }
+{
+    let Some((_, rest)) = places.split_first() else {
+        return Ok(());
+    };
+    match shape {
+        Shape::Scalar(_) => Ok(()),
+        Shape::List(count, items) => {
+            let Some(each) = scalars(items) else {
+                return Ok(());
+            };
+            put_all(draft, &[Instr::Load(cell), Instr::Index(*count, each)])?;
+            put_steps(items, rest, cell + 1, draft)
+        }
+    }
+}

@@ -1,0 +1,21 @@
+//! Code for statements and procedures: instructions that do what executing statements and calling procedures does.
+//!
+//! It stands on [`expr_lower`], which makes the code of their expressions and of functions. Code is appended to a
+//! [`Draft`](expr_lower::Draft), and leaves what the statements leave in the cells of the names.
+#![tactic(auto)]
+
+mod callees;
+mod counter;
+mod deep;
+mod jumps;
+pub mod laws;
+mod lists;
+mod procedures;
+mod scope;
+mod stmts;
+mod targets;
+mod types;
+
+pub use callees::ProcCallee;
+pub use procedures::lower_procedure;
+pub use stmts::{lower_calling_stmts, lower_stmts};

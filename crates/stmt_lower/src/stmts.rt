@@ -1,0 +1,487 @@
+//! Statements as code: one small function a form.
+
+ghost use Rattle.std.specs.Prelude.{◌≡◌, ◌∷◌, ℕ, IfErr, None, OnOk, Some, string_bytes};
+ghost use Rattle.cal_ast.specs.View.{stmt_tree};
+ghost use Rattle.stmt_lower.specs.Bodies.{AddsCalling, AreWholeCalling, IsFaultCalling};
+ghost use Rattle.stmt_lower.specs.Changing.{AreTyped, NamesApart};
+ghost use Rattle.expr_lower.specs.Held.{AreBelow};
+ghost use Rattle.expr_lower.specs.Names.{names_view};
+ghost use Rattle.expr_lower.specs.Growing.{IsFault};
+ghost use Rattle.stmt_lower.specs.Targets.{cell_named};
+ghost use Rattle.stmt_lower.specs.StmtSeen.{called, seen};
+ghost use Rattle.stmt_lower.specs.SeenStmts.{AddsBlock, behind, left_out_block};
+ghost use Rattle.stmt_lower.specs.SeenStmts.{AddsBody, AddsStmt, AddsStmts, AreAllOf, AreWhyNot};
+ghost use Rattle.stmt_lower.specs.SeenStmts.{IsAllOf, IsAllOfBody, IsWhyNoBody, IsWhyNot};
+ghost use Rattle.stmt_lower.specs.StmtWords.{AddsExecuted, AreWhole, IsFaultAmong};
+ghost use Rattle.stmt_lower.specs.StmtWords.{alone_of, body_of, branch_of, foreach_of, fork_of};
+ghost use Rattle.stmt_lower.specs.StmtWords.{run_of, set_item_of, set_of, set_one_of, while_of};
+
+use crate::callees::{ProcCallee, procedure_for, put_run};
+use crate::counter::{Counter, put_bounds, put_less, put_next, put_turn, take_cells};
+use crate::deep::set_deep;
+use crate::jumps::{exit_at, jump_at};
+use crate::lists::{set_copy, set_items};
+use crate::scope::StmtScope;
+use crate::targets::{cell_named, cells_named};
+use crate::types::single_meant;
+use cal_ast::{Expr, ExprForm, Ident, Stmt, StmtForm, TypeExpr, VarDecl};
+use code_ir::Instr;
+use expr_lower::{
+    Callee, Draft, Frame, LowerFault, Named, close, link, lower, lower_args, lower_test,
+    next_place, put, put_all, start, take_cell,
+};
+use rvc_base::Scalar;
+
+/// Appends code that executes a statement.
+#[cycle(lower_stmt)]
+fn lower_stmt(scope: &StmtScope, s: &Stmt, draft: &mut Draft) -> Result<(), LowerFault>
+    ensures ok { OnOk result (AddsStmt scope.now (stmt_tree s.now) draft.old draft.new) }
+    ensures whole { OnOk result (IsAllOf scope.now (stmt_tree s.now)) }
+    ensures fault { IfErr result (IsWhyNot scope.now (stmt_tree s.now) draft.new) }
+{
+    match &s.form {
+        StmtForm::Assign {
+            name,
+            places,
+            value,
+        } => set(scope, name, places, value, s.at, draft),
+        StmtForm::Call { name, args } => call(scope, name, args, s.at, draft),
+        StmtForm::If { test, yes, no } => branch(scope, test, yes, no, draft),
+        StmtForm::While { test, body } => repeat(scope, test, body, draft),
+        StmtForm::Foreach {
+            shape,
+            name,
+            from,
+            to,
+            body,
+        } => each(scope, shape, name, from, to, body, s.at, draft),
+        StmtForm::Block { vars, body } => block(scope, vars, body, draft),
+    }
+}
+
+/// Appends code of statements, one after the other.
+#[cycle(lower_stmt)]
+pub(crate) fn lower_all(
+    scope: &StmtScope,
+    body: &[Stmt],
+    draft: &mut Draft,
+) -> Result<(), LowerFault>
+    ensures ok { OnOk result (AddsStmts scope.now (body_of body.now) draft.old draft.new) }
+    ensures whole { OnOk result (AreAllOf scope.now (body_of body.now)) }
+    ensures fault { IfErr result (AreWhyNot scope.now (body_of body.now) draft.new) }
+{
+    for s in body {
+        lower_stmt(scope, s, draft)?;
+    }
+    Ok(())
+}
+
+/// Appends an assignment to a variable or to an item of it.
+fn set(
+    scope: &StmtScope,
+    name: &Ident,
+    places: &[Expr],
+    value: &Expr,
+    at: u32,
+    draft: &mut Draft,
+) -> Result<(), LowerFault>
+    ensures ok { OnOk result
+        (AddsStmt scope.now (set_of name.now places.now value.now at) draft.old draft.new) }
+    ensures whole { OnOk result (IsAllOf scope.now (set_of name.now places.now value.now at)) }
+    ensures fault { IfErr result
+        (IsWhyNot scope.now (set_of name.now places.now value.now at) draft.new) }
+{
+    match places {
+        [] => set_one(scope, name, value, at, draft),
+        [place] => set_item(scope, name, place, value, at, draft),
+        _ => set_deep(scope, name, places, value, at, draft),
+    }
+}
+
+/// Appends an assignment to a variable of single values: its value, and the instruction that stores it.
+fn set_one(
+    scope: &StmtScope,
+    name: &Ident,
+    value: &Expr,
+    at: u32,
+    draft: &mut Draft,
+) -> Result<(), LowerFault>
+    ensures ok { OnOk result
+        (AddsStmt scope.now (set_one_of name.now value.now at) draft.old draft.new) }
+    ensures whole { OnOk result (IsAllOf scope.now (set_one_of name.now value.now at)) }
+    ensures fault { IfErr result
+        (IsWhyNot scope.now (set_one_of name.now value.now at) draft.new) }
+{
+    let Some(to) = cell_named(&scope.values, name.text.as_str()) else {
+        return set_list(scope, name, value, at, draft);
+    };
+    lower(&scope.values, value, draft)?;
+    put(draft, Instr::Store(to.cell, Some(to.kind)))
+}
+
+/// Appends an assignment to a whole list: the instructions that store the items of another one.
+fn set_list(
+    scope: &StmtScope,
+    name: &Ident,
+    value: &Expr,
+    at: u32,
+    draft: &mut Draft,
+) -> Result<(), LowerFault>
+    requires not_one { cell_named (seen scope.now) (string_bytes name.now.text) ≡ None }
+    ensures ok { OnOk result
+        (AddsStmt scope.now (set_one_of name.now value.now at) draft.old draft.new) }
+    ensures whole { OnOk result (IsAllOf scope.now (set_one_of name.now value.now at)) }
+    ensures fault { IfErr result
+        (IsWhyNot scope.now (set_one_of name.now value.now at) draft.new) }
+{
+    let Some(to) = cells_named(&scope.values, name.text.as_str()) else {
+        return Err(LowerFault::NotLowered { at });
+    };
+    match &value.form {
+        ExprForm::List(items) => set_items(scope, name, to, items, at, draft),
+        _ => set_copy(scope, name, to, value, at, draft),
+    }
+}
+
+/// Appends an assignment to an item of a list: the place, the value, and the instruction that stores it there.
+fn set_item(
+    scope: &StmtScope,
+    name: &Ident,
+    place: &Expr,
+    value: &Expr,
+    at: u32,
+    draft: &mut Draft,
+) -> Result<(), LowerFault>
+    ensures ok { OnOk result
+        (AddsStmt scope.now (set_item_of name.now place.now value.now at) draft.old draft.new) }
+    ensures whole { OnOk result
+        (IsAllOf scope.now (set_item_of name.now place.now value.now at)) }
+    ensures fault { IfErr result
+        (IsWhyNot scope.now (set_item_of name.now place.now value.now at) draft.new) }
+{
+    let Some(to) = cells_named(&scope.values, name.text.as_str()) else {
+        return Err(LowerFault::NotLowered { at });
+    };
+    lower(&scope.values, place, draft)?;
+    lower(&scope.values, value, draft)?;
+    put(draft, Instr::StoreAt(to.cell, to.size, Some(to.kind)))
+}
+
+/// Appends a call of a procedure: its arguments, a turn, and the instructions that put the arguments into the cells of
+/// the formals and run the routine.
+fn call(
+    scope: &StmtScope,
+    name: &Ident,
+    args: &[Expr],
+    at: u32,
+    draft: &mut Draft,
+) -> Result<(), LowerFault>
+    ensures ok { OnOk result
+        (AddsStmt scope.now (run_of name.now args.now at) draft.old draft.new) }
+    ensures whole { OnOk result (IsAllOf scope.now (run_of name.now args.now at)) }
+    ensures fault { IfErr result (IsWhyNot scope.now (run_of name.now args.now at) draft.new) }
+{
+    let Some(callee) = procedure_for(scope.procedures, name.text.as_str(), args) else {
+        return Err(LowerFault::NotLowered { at });
+    };
+    lower_args(&scope.values, args, draft)?;
+    put_run(callee, draft)
+}
+
+/// Appends an `if`, with or without an `else`.
+#[cycle(lower_stmt)]
+fn branch(
+    scope: &StmtScope,
+    test: &Expr,
+    yes: &[Stmt],
+    no: &Option<Vec<Stmt>>,
+    draft: &mut Draft,
+) -> Result<(), LowerFault>
+    ensures ok { (at : ℕ)
+        → OnOk result
+        (AddsStmt scope.now (branch_of test.now yes.now no.now at) draft.old draft.new) }
+    ensures whole { OnOk result (IsAllOf scope.now (branch_of test.now yes.now no.now 0)) }
+    ensures fault { IfErr result
+        (IsWhyNot scope.now (branch_of test.now yes.now no.now 0) draft.new) }
+{
+    match no {
+        Some(no) => fork(scope, test, yes, no, draft),
+        None => alone(scope, test, yes, draft),
+    }
+}
+
+/// Appends an `if` without an `else`: the condition, and what is done if it is true.
+#[cycle(lower_stmt)]
+fn alone(scope: &StmtScope, test: &Expr, yes: &[Stmt], draft: &mut Draft) -> Result<(), LowerFault>
+    ensures ok { (at : ℕ)
+        → OnOk result (AddsStmt scope.now (alone_of test.now yes.now at) draft.old draft.new) }
+    ensures whole { OnOk result (IsAllOf scope.now (alone_of test.now yes.now 0)) }
+    ensures fault { IfErr result (IsWhyNot scope.now (alone_of test.now yes.now 0) draft.new) }
+{
+    let start = draft.instrs.len();
+    lower_test(&scope.values, test, draft)?;
+    let exits = draft.instrs.len();
+    lower_all(scope, yes, draft)?;
+    let end = next_place(draft)?;
+    close(draft, start, exits, end);
+    Ok(())
+}
+
+/// Appends an `if` with an `else`: the condition, and a branch for each answer.
+#[cycle(lower_stmt)]
+fn fork(
+    scope: &StmtScope,
+    test: &Expr,
+    yes: &[Stmt],
+    no: &[Stmt],
+    draft: &mut Draft,
+) -> Result<(), LowerFault>
+    ensures ok { (at : ℕ)
+        → OnOk result (AddsStmt scope.now (fork_of test.now yes.now no.now at) draft.old draft.new) }
+    ensures whole { OnOk result (IsAllOf scope.now (fork_of test.now yes.now no.now 0)) }
+    ensures fault { IfErr result
+        (IsWhyNot scope.now (fork_of test.now yes.now no.now 0) draft.new) }
+{
+    let start = draft.instrs.len();
+    lower_test(&scope.values, test, draft)?;
+    let exits = draft.instrs.len();
+    lower_all(scope, yes, draft)?;
+    let jump = draft.instrs.len();
+    put(draft, Instr::Jump(0))?;
+    let out = next_place(draft)?;
+    lower_all(scope, no, draft)?;
+    let end = next_place(draft)?;
+    link(draft, start, exits, out, jump, end);
+    Ok(())
+}
+
+/// Appends a `while`: a jump to the condition, a turn and the body, and the condition with a jump back to the turn.
+#[cycle(lower_stmt)]
+fn repeat(
+    scope: &StmtScope,
+    test: &Expr,
+    body: &[Stmt],
+    draft: &mut Draft,
+) -> Result<(), LowerFault>
+    ensures ok { (at : ℕ)
+        → OnOk result (AddsStmt scope.now (while_of test.now body.now at) draft.old draft.new) }
+    ensures whole { OnOk result (IsAllOf scope.now (while_of test.now body.now 0)) }
+    ensures fault { IfErr result (IsWhyNot scope.now (while_of test.now body.now 0) draft.new) }
+{
+    let start = draft.instrs.len();
+    put(draft, Instr::Jump(0))?;
+    let turn = next_place(draft)?;
+    put(draft, Instr::Turn)?;
+    lower_all(scope, body, draft)?;
+    let first = draft.instrs.len();
+    let head = next_place(draft)?;
+    lower_test(&scope.values, test, draft)?;
+    let exits = draft.instrs.len();
+    put(draft, Instr::Jump(turn))?;
+    let out = next_place(draft)?;
+    close(draft, first, exits, out);
+    jump_at(draft, start, head);
+    Ok(())
+}
+
+/// Appends a `foreach`: the bounds, and for each number a turn and the body. At the last number it ends, so that the
+/// number is never one too great.
+#[cycle(lower_stmt)]
+fn each(
+    scope: &StmtScope,
+    shape: &TypeExpr,
+    name: &Ident,
+    from: &Expr,
+    to: &Expr,
+    body: &[Stmt],
+    at: u32,
+    draft: &mut Draft,
+) -> Result<(), LowerFault>
+    ensures ok { OnOk result (AddsStmt scope.now
+        (foreach_of shape.now name.now from.now to.now body.now at) draft.old draft.new) }
+    ensures whole { OnOk result
+        (IsAllOf scope.now (foreach_of shape.now name.now from.now to.now body.now at)) }
+    ensures fault { IfErr result (IsWhyNot scope.now
+        (foreach_of shape.now name.now from.now to.now body.now at) draft.new) }
+{
+    let Some(kind) = single_meant(shape) else {
+        return Err(LowerFault::NotLowered { at });
+    };
+    let counter = take_cells(kind, draft)?;
+    lower(&scope.values, from, draft)?;
+    lower(&scope.values, to, draft)?;
+    put_bounds(counter, draft)?;
+    let skip = draft.instrs.len();
+    put(draft, Instr::JumpIfNot(0))?;
+    let turn = next_place(draft)?;
+    put_turn(counter, draft)?;
+    each_body(scope, name, counter, body, draft)?;
+    put_less(counter, draft)?;
+    let exit = draft.instrs.len();
+    put(draft, Instr::JumpIfNot(0))?;
+    put_next(counter, turn, draft)?;
+    let out = next_place(draft)?;
+    exit_at(draft, skip, out);
+    exit_at(draft, exit, out);
+    Ok(())
+}
+
+/// Appends the body of a `foreach`, which sees its variable.
+#[cycle(lower_stmt)]
+fn each_body(
+    scope: &StmtScope,
+    name: &Ident,
+    counter: Counter,
+    body: &[Stmt],
+    draft: &mut Draft,
+) -> Result<(), LowerFault>
+    ensures ok { OnOk result
+        (AddsBody name.now counter scope.now (body_of body.now) draft.old draft.new) }
+    ensures whole { OnOk result (IsAllOfBody name.now counter scope.now (body_of body.now)) }
+    ensures fault { IfErr result
+        (IsWhyNoBody name.now counter scope.now (body_of body.now) draft.new) }
+{
+    let frame = Frame {
+        name: name.text.as_str(),
+        kind: counter.kind,
+        cell: counter.variable,
+        outer: scope.values.frame,
+    };
+    let inner = scope.under(&frame);
+    lower_all(&inner, body, draft)
+}
+
+/// Appends a block: its variables, each of which is seen by those behind it, and its statements.
+#[cycle(lower_stmt)]
+fn block(
+    scope: &StmtScope,
+    vars: &[VarDecl],
+    body: &[Stmt],
+    draft: &mut Draft,
+) -> Result<(), LowerFault>
+    ensures ok { OnOk result (AddsBlock (called scope.now) (seen scope.now) vars.now body.now draft.old draft.new) }
+    ensures whole { OnOk result (left_out_block (called scope.now) (seen scope.now) vars.now body.now ≡ None) }
+    ensures fault { IfErr result
+        (IsFault (left_out_block (called scope.now) (seen scope.now) vars.now body.now) draft.new) }
+{
+    match vars.split_first() {
+        Some((first, rest)) => variable(scope, first, rest, body, draft),
+        None => lower_all(scope, body, draft),
+    }
+}
+
+/// Appends a variable of a block, and what sees it.
+#[cycle(lower_stmt)]
+fn variable(
+    scope: &StmtScope,
+    first: &VarDecl,
+    rest: &[VarDecl],
+    body: &[Stmt],
+    draft: &mut Draft,
+) -> Result<(), LowerFault>
+    ensures ok { OnOk result
+        (AddsBlock (called scope.now) (seen scope.now) (first.now ∷ rest.now) body.now draft.old draft.new) }
+    ensures whole { OnOk result
+        (left_out_block (called scope.now) (seen scope.now) (first.now ∷ rest.now) body.now ≡ None) }
+    ensures fault { IfErr result
+        (IsFault (left_out_block (called scope.now) (seen scope.now) (first.now ∷ rest.now) body.now) draft.new) }
+{
+    let Some(kind) = single_meant(&first.shape) else {
+        return Err(LowerFault::NotLowered { at: first.at });
+    };
+    let cell = take_cell(draft)?;
+    start(&scope.values, &first.start, cell, kind, draft)?;
+    behind(scope, first, kind, cell, rest, body, draft)
+}
+
+/// Appends what stands behind a variable of a block, and sees it.
+#[cycle(lower_stmt)]
+fn behind(
+    scope: &StmtScope,
+    first: &VarDecl,
+    kind: Scalar,
+    cell: u32,
+    rest: &[VarDecl],
+    body: &[Stmt],
+    draft: &mut Draft,
+) -> Result<(), LowerFault>
+    ensures ok { OnOk result
+        (AddsBlock (called scope.now) (behind first.now kind cell scope.now) rest.now body.now draft.old draft.new) }
+    ensures whole { OnOk result
+        (left_out_block (called scope.now) (behind first.now kind cell scope.now) rest.now body.now ≡ None) }
+    ensures fault { IfErr result
+        (IsFault (left_out_block (called scope.now) (behind first.now kind cell scope.now) rest.now body.now) draft.new) }
+{
+    let frame = Frame {
+        name: first.name.text.as_str(),
+        kind,
+        cell,
+        outer: scope.values.frame,
+    };
+    let inner = scope.under(&frame);
+    block(&inner, rest, body, draft)
+}
+
+/// Appends code that executes statements.
+///
+/// `names` holds the names that the statements use; the first of several that are the same is meant. The code
+/// changes the cells of these names as the statements change the variables, each stored in its type. What stood in
+/// the draft stays.
+///
+/// Code is made for assignments to variables of single values and to items of lists of them at any depth, and to
+/// lists of them from another one of the same size that is named or written out, `if`, `while`, and `foreach` and
+/// blocks whose types are written without names, over the expressions for which
+/// [`lower_expr`](expr_lower::lower_expr) makes code. A `foreach` uses three cells more, a variable of a block one,
+/// an item of lists in lists one for each of its places and one for its value, and items that are written out one
+/// each; they are added to the draft.
+///
+/// # Errors
+///
+/// `Memory` if an allocation was refused. `TooLong` if the draft has 2 to the power of 32 instructions.
+/// `TooManyCells` if the numbers of the cells that are used don't fit; then all are taken. `NotLowered` with the offset
+/// of the first part for which no code is made, as a call; of a `while` the body comes first.
+pub fn lower_stmts(names: &[Named], body: &[Stmt], draft: &mut Draft) -> Result<(), LowerFault>
+    requires below { AreBelow draft.old.cells (names_view names.now) }
+    requires apart { NamesApart (names_view names.now) }
+    requires typed { AreTyped (names_view names.now) }
+    ensures lowered { OnOk result (AddsExecuted names.now (body_of body.now) draft.old draft.new) }
+    ensures whole { OnOk result (AreWhole names.now (body_of body.now)) }
+    ensures fault { IfErr result (IsFaultAmong names.now (body_of body.now) draft.new) }
+{
+    lower_all(&StmtScope::outermost(names, &[], &[]), body, draft)
+}
+
+/// Appends code that executes statements, which may call functions and procedures.
+///
+/// `names` holds the names that the statements use: those of locals, the innermost first, and then those of globals,
+/// which procedures may change. `callees` holds the functions and `procedures` the procedures that may be called; the
+/// first of several that are the same is meant. A call puts its arguments into the cells of the routine, each stored
+/// in the type of its formal, and runs the routine after one turn. Beside what [`lower_stmts`] says, the code changes
+/// cells of routines, and through them those of globals. What stood in the draft stays.
+///
+/// # Errors
+///
+/// As for [`lower_stmts`], but that a call is a part for which no code is made only if `callees` or `procedures`
+/// doesn't have what it names with as many arguments.
+pub fn lower_calling_stmts(
+    names: &[Named],
+    callees: &[Callee],
+    procedures: &[ProcCallee],
+    body: &[Stmt],
+    draft: &mut Draft,
+) -> Result<(), LowerFault>
+    requires below { AreBelow draft.old.cells (names_view names.now) }
+    requires typed { AreTyped (names_view names.now) }
+    ensures lowered { OnOk result (AddsCalling callees.now procedures.now names.now
+        (body_of body.now) draft.old draft.new) }
+    ensures whole { OnOk result
+        (AreWholeCalling callees.now procedures.now names.now (body_of body.now)) }
+    ensures fault { IfErr result
+        (IsFaultCalling callees.now procedures.now names.now (body_of body.now) draft.new) }
+{
+    lower_all(
+        &StmtScope::outermost(names, callees, procedures),
+        body,
+        draft,
+    )
+}

@@ -1,0 +1,85 @@
+//! Cells of names that are assigned.
+
+ghost use Rattle.std.specs.Prelude.{◌≡◌};
+ghost use Rattle.cal_model.specs.View.{shape_view};
+ghost use Rattle.expr_lower.specs.PartView.{part_view, places_of};
+ghost use Rattle.expr_lower.specs.Seen.{seen};
+ghost use Rattle.stmt_lower.specs.Targets.{cell_named, cells_named, deep_cells_in, leaf_in};
+
+use cal_ast::Expr;
+use cal_model::Shape;
+use expr_lower::{OneCell, Part, Scope, Seat, list_called, one_named, single};
+use rvc_base::Scalar;
+
+/// The cells of a list, from the first on, and the type of its items.
+#[derive(Clone, Copy)]
+pub(crate) struct ListCells {
+    pub cell: u32,
+    pub size: u32,
+    pub kind: Scalar,
+}
+
+/// The cell of the single value that a text names, if it names one.
+pub(crate) fn cell_named(scope: &Scope, text: &str) -> Option<OneCell>
+    ensures { result ≡ cell_named (seen scope.now) text.now }
+{
+    let one = one_named(scope, text)?;
+    match one.seat {
+        Seat::Cell(cell) => Some(OneCell {
+            cell,
+            kind: one.kind,
+        }),
+        Seat::Tokens {
+            port: _,
+            first: _,
+            step: _,
+        } => None,
+    }
+}
+
+/// The cells of the list of single values that a text names, if it names one.
+pub(crate) fn cells_named(scope: &Scope, text: &str) -> Option<ListCells>
+    ensures { result ≡ cells_named (seen scope.now) text.now }
+{
+    let list = list_called(scope, text)?;
+    match list.seat {
+        Seat::Cell(cell) => Some(ListCells {
+            cell,
+            size: list.size,
+            kind: list.kind,
+        }),
+        Seat::Tokens {
+            port: _,
+            first: _,
+            step: _,
+        } => None,
+    }
+}
+
+/// The cells of the list in which so many indexes choose a single value, if they choose one.
+pub(crate) fn deep_cells(whole: Part, places: &[Expr]) -> Option<ListCells>
+    ensures { result ≡ deep_cells_in (part_view whole.entry) (places_of places.now) }
+{
+    let Seat::Cell(cell) = whole.seat else {
+        return None;
+    };
+    let kind = leaf_in(whole.shape, places)?;
+    Some(ListCells {
+        cell,
+        size: whole.size,
+        kind,
+    })
+}
+
+/// The type of the single value that so many indexes choose, if they choose one.
+fn leaf_in(shape: &Shape, places: &[Expr]) -> Option<Scalar>
+    ensures { result ≡ leaf_in (shape_view shape.now) (places_of places.now) }
+{
+    let Some((_, rest)) = places.split_first() else {
+        return single(shape);
+    };
+    match shape {
+        Shape::Scalar(_) => None,
+        Shape::List(_, items) => leaf_in(items, rest),
+    }
+}
