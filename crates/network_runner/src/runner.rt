@@ -228,7 +228,7 @@ impl<A: Firing, P: Policy> Runner<A, P> {
         ensures others { WritesWithin self.old (D.channels drains.old) (D.channels drains.new) }
     {
         let mut left = budget;
-        loop {
+        'rounds: loop {
             match self.round(left, feeds, drains, gate) {
                 RoundEnd::Fired(count) => left -= count,
                 RoundEnd::Idle | RoundEnd::Grew { link: _, capacity: _ } => {}
