@@ -4,6 +4,7 @@ use Rattle.std.specs.Prelude.{Option, None, Some, flat_map, option_to_list, slic
 use Rattle.std.proofs.lemmas.Grind.{flat_map-append}
 use Rattle.std.proofs.Math.Seq.{drop-append_seam}
 use Rattle.rvc_base.specs.declared.round_kind.RoundKind.{RoundKind}
+use Rattle.rvc_base.specs.declared.scalar.Scalar.{Scalar}
 use Rattle.rvc_io.specs.Channels.{Appends, Channels}
 use Rattle.rvc_io.specs.Feeds.{Inputs}
 use Rattle.channel_writer.specs.Held.{AppendsFront, HoldsFront, Writes, WritesOn}
@@ -32,6 +33,7 @@ use Rattle.round_runner.specs.declared.outcome.RunEnd.TheVariants as end
 use Rattle.round_runner.specs.Rounds.{AreBegunBy, Answers, Breaks, BreaksRound, BrokenOff, Closed, CountsOn, CutOff, EachOut, Ended, EndedBroken, EndedEarly, Leaves, Made, OutGetsAll, OutGetsFront, OutGetsSome, RunLeaves, TraceGetsAll, TraceGetsFront, TraceGetsSome, all_lines, out_bytes, text_of}
 use Rattle.round_runner.specs.Running.{Running, StandsWith, buffer, moment_of, pace_of}
 use Rattle.network_runner.specs.Asking.{IsSameRun, end_of}
+use Rattle.network_runner.proofs.Rounded.{not_zero}
 use Rattle.network_runner.proofs.Whole.{drop_all}
 
 -- Rounds and their lines.
@@ -45,19 +47,19 @@ rounds_play net pace at (block ∷ blocks) reached are =
     (rounds_play net pace (next_moment at block are.0) blocks reached are.3)
 
 -- one round more
-rounds_more : {X : Type 0} (net : Network X) (pace : Pace) (at : Moment X) (blocks : List Block) (reached : Moment X) (block : Block) (last : State X)
+pub rounds_more : {X : Type 0} (net : Network X) (pace : Pace) (at : Moment X) (blocks : List Block) (reached : Moment X) (block : Block) (last : State X)
     → AreRounds net pace at blocks reached → IsRound net pace reached block last → (EndsRun block.close → ⊥)
     → AreRounds net pace at (blocks ++ block ∷ []) (next_moment reached block last)
-rounds_more {X} net pace at [] reached block last same is open = (
+rounds_more {X} net pace at [] reached block last same is unended = (
   last,
   subst (λ (m : Moment X). IsRound net pace m block last) (sym same) is,
-  open,
+  unended,
   ap (λ (m : Moment X). next_moment m block last) same,
 )
-rounds_more net pace at (first ∷ blocks) reached block last are is open =
-    (are.0, are.1, are.2, rounds_more net pace (next_moment at first are.0) blocks reached block last are.3 is open)
+rounds_more net pace at (first ∷ blocks) reached block last are is unended =
+    (are.0, are.1, are.2, rounds_more net pace (next_moment at first are.0) blocks reached block last are.3 is unended)
 
-lines_more : (blocks : List Block) (block : Block) → all_lines (blocks ++ block ∷ []) ≡ all_lines blocks ++ lines_of block
+pub lines_more : (blocks : List Block) (block : Block) → all_lines (blocks ++ block ∷ []) ≡ all_lines blocks ++ lines_of block
 lines_more blocks block = flat_map-append lines_of blocks (block ∷ []) ∙ ap (λ ls. all_lines blocks ++ ls) (append-nil (lines_of block))
 
 text_more : (lines more : List Line) → text_of (lines ++ more) ≡ text_of lines ++ text_of more
@@ -86,7 +88,7 @@ stays_open (round.End how) block is going ends = cc
 
 is_zero : (n : ℕ) → (n == 0) ≡ true → n ≡ 0
 is_zero zero is = refl
-is_zero (suc n) is = cc
+is_zero (suc n) is = (let no : true ≡ false = sym is ∙ not_zero (suc n) (omega arith) in cc)
 
 second_true : (a b : Bool) → (a && b) ≡ true → b ≡ true
 second_true true b is = is

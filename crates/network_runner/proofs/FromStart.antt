@@ -112,9 +112,9 @@ module _ {X : Type 0} (net : Network X) (inputs : List (List ℕ)) (budget : ℕ
         breaks = subst (λ ls. Breaks net s last ls run old now) same breaks;
       }
   runs_broken blocks (Some final) last are breaks = ⊎_elim
-      (λ open.
+      (λ unended.
       let begun : IsBegun net (pace_of run budget) s (all_lines (blocks ++ final ∷ [])) (next_moment are.0 final last) =
-      begins (blocks ++ final ∷ []) (next_moment are.0 final last) (rounds_more net (pace_of run budget) (moment_of run s budget) blocks are.0 final last are.1 are.2 open) in
+      begins (blocks ++ final ∷ []) (next_moment are.0 final last) (rounds_more net (pace_of run budget) (moment_of run s budget) blocks are.0 final last are.1 are.2 unended) in
       record {
         lines = all_lines (blocks ++ final ∷ []);
         last = last;
