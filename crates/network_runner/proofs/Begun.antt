@@ -57,7 +57,10 @@ map_index f [] k x other at = cc
 map_index f (y ∷ xs) zero x other at = ap f (some_is y x at)
 map_index f (y ∷ xs) (suc k) x other at = map_index f xs k x other at
 
-none_counted : (n k : ℕ) → slice_index_or (replicate n 0) k 0 ≡ 0
+abbrev none_of : ℕ → List ℕ
+none_of n = replicate n 0
+
+none_counted : (n k : ℕ) → slice_index_or (none_of n) k 0 ≡ 0
 none_counted zero k = refl
 none_counted (suc n) zero = refl
 none_counted (suc n) (suc k) = none_counted n k
@@ -285,8 +288,8 @@ module _ {C X : Type 0} (cell : C → Cell X) (cells : List C) (wiring : Wiring)
     as_many_outlets : length outlets ≡ length wiring.outs.items
     as_many_outlets = sym (length-map outlets (λ (o : Outlet). o.kind)) ∙ (ap length outlets_are.kinds ∙ length-map wiring.outs.items (λ (port : Port). port.kind))
 
-    pub parts_fit : (came n count : ℕ) → came ≡ length wiring.links.items → n ≡ length wiring.outs.items → count ≡ length cells → HasParts run wiring.links.items outlets came n count
-    parts_fit came n count came_is n_is count_is = record {
+    fit : (came n count : ℕ) → came ≡ length wiring.links.items → n ≡ length wiring.outs.items → count ≡ length cells → HasParts run wiring.links.items outlets came n count
+    fit came n count came_is n_is count_is = record {
       links_are = links_are;
       few_links = few_links;
       cells_are = count_is ∙ ap length (sym cells_are);
@@ -308,6 +311,9 @@ module _ {C X : Type 0} (cell : C → Cell X) (cells : List C) (wiring : Wiring)
       sent_for_each = ap length counts_are.sent ∙ (length-replicate (length wiring.outs.items) 0 ∙ sym as_many_outlets);
       few_grown = can.ready.few_grown;
     }
+
+    pub parts_fit : (came n count : ℕ) → came ≡ length wiring.links.items → n ≡ length wiring.outs.items → count ≡ length cells → (copy : List Link) → copy ≡ wiring.links.items → HasParts run copy outlets came n count
+    parts_fit came n count came_is n_is count_is copy copied = subst (λ ls. HasParts run ls outlets came n count) (sym copied) (fit came n count came_is n_is count_is)
 
     pub goes : (marks asked instances : ℕ) → marks ≡ length cells → asked ≡ 0 → ((l : ℕ) → slice_index_or held.capacities l 0 ≤ 4294967295) → GoesOn (seen_run cell run) marks asked instances
     goes marks asked instances marks_are not_asked few = record {

@@ -1,6 +1,6 @@
 //! The parts of a runner, made before its run.
 
-ghost use Rattle.std.specs.Prelude.{◌≡◌, ℕ, [], IfOk, length, map, slice_index_or};
+ghost use Rattle.std.specs.Prelude.{◌≡◌, ◌≤◌, ℕ, [], IfOk, length, map, slice_index_or};
 ghost use Rattle.net_state.specs.Held.{HoldFew, capacity_of};
 ghost use Rattle.network_runner.specs.Asking.{HavePortSizes};
 ghost use Rattle.network_runner.specs.Making.{AreOutletsOf, AreReadersOf, CountNothing, IsReaderOf};
@@ -87,7 +87,6 @@ pub fn copy_of(alloc: Global, links: &[Link]) -> Result<Vec<Link>, Memory>
 {
     let mut copy = Vec::with_capacity(alloc, links.len())?;
     for l in 0..links.len() {
-        // Taken apart, since what is known of a number is known of a field that is read.
         let Link {
             from,
             to,
@@ -97,11 +96,19 @@ pub fn copy_of(alloc: Global, links: &[Link]) -> Result<Vec<Link>, Memory>
         copy.push(Link {
             from,
             to,
-            capacity,
+            capacity: fitting(capacity),
             kind,
         })?;
     }
     Ok(copy)
+}
+
+/// A number of 32 bits, of which it is known then that it fits them.
+fn fitting(capacity: u32) -> u32
+    ensures same { result ≡ capacity }
+    ensures few { capacity ≤ 4294967295 }
+{
+    capacity
 }
 
 /// The numbers of a run of which nothing was made yet.
