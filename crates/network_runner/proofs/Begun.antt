@@ -132,8 +132,7 @@ comes_at : {X : Type 0} (s : State X) (l : ℕ) (link : Link) (ports : List Port
 comes_at s l link ports opens inputs feed feeds reader (AtLeaf inst port) outside is told comes = cc
 comes_at s l link ports opens inputs feed feeds None (AtNet port) outside is told comes =
     let kind = kind_at (map port_of ports) port in
-    let none : slice_index_or inputs port [] ≡ [] = subst (λ b. HasInput inputs b port (feeds.left feed)) is told in
-    (
+    let none : slice_index_or inputs port [] ≡ [] = subst (λ b. HasInput inputs b port (feeds.left feed)) is told in (
       comes ∙ (ap (λ bytes. map (conv link.kind) (tokens kind bytes)) none ∙ ap (map (conv link.kind)) (no_tokens kind)),
       ap (rest_of kind) none ∙ no_rest kind,
     )
@@ -187,7 +186,7 @@ module _ {X : Type 0} (net : Network X) (cells : List (Cell X)) (inputs : List (
         subst (λ f. IsOrdered f) (given_at l on.0 flow on.1 here) (
           omega arith,
           (let long : length (waiting_at cells on.0.to ++ fed_by net.ins inputs on.0 on.0.from) ≡ length (waiting_at cells on.0.to) + length (fed_by net.ins inputs on.0 on.0.from) =
-          length-append (waiting_at cells on.0.to) (fed_by net.ins inputs on.0 on.0.from) in omega (arith, long)),
+              length-append (waiting_at cells on.0.to) (fed_by net.ins inputs on.0 on.0.from) in omega (arith, long)),
         );
     arrived = all_arrived net.links;
     fits = all_fit net.links (λ l link at. (ready.queues l link at).waiting);

@@ -103,12 +103,12 @@ pub fn copy_of(alloc: Global, links: &[Link]) -> Result<Vec<Link>, Memory>
     Ok(copy)
 }
 
-/// A number of 32 bits, of which it is known then that it fits them.
-fn fitting(capacity: u32) -> u32
-    ensures same { result ≡ capacity }
-    ensures few { capacity ≤ 4294967295 }
+/// A number as it is. That a number fits 32 bits is known of an argument, and not of one inside a list of links.
+fn fitting(number: u32) -> u32
+    ensures same { result ≡ number }
+    ensures few { number ≤ 4294967295 }
 {
-    capacity
+    number
 }
 
 /// The numbers of a run of which nothing was made yet.

@@ -231,7 +231,11 @@ impl<A: Firing, P: Policy> Runner<A, P> {
         'rounds: loop {
             match self.round(left, feeds, drains, gate) {
                 RoundEnd::Fired(count) => left -= count,
-                RoundEnd::Idle | RoundEnd::Grew { link: _, capacity: _ } => {}
+                RoundEnd::Idle
+                | RoundEnd::Grew {
+                    link: _,
+                    capacity: _,
+                } => {}
                 RoundEnd::End(end) => return end,
             }
         }
