@@ -1,5 +1,5 @@
 -- A runner that was just made: its parts fit each other, and it stands where a run begins.
-use Rattle.std.proofs.Common.{◌≡◌, ℕ, zero, suc, ◌+◌, ◌-◌, ◌*◌, ◌<◌, ◌≤◌, Bool, true, false, List, [], ◌∷◌, ◌++◌, ℤ, length, map, replicate, refl, sym, ap, subst, ◌∙◌, arith, append-nil}
+use Rattle.std.proofs.Common.{◌≡◌, ℕ, zero, suc, ◌+◌, ◌-◌, ◌*◌, ◌<◌, ◌≤◌, Bool, true, false, List, [], ◌∷◌, ◌++◌, length, map, replicate, refl, sym, ap, subst, ◌∙◌, arith, append-nil}
 use Rattle.std.specs.Prelude.{Option, None, Some, slice_get, slice_index_or, if◌then◌else◌}
 use Rattle.std.proofs.Math.Nat.{zero-div, zero-mod}
 use Rattle.std.proofs.Math.Seq.{drop-append_seam}
@@ -24,11 +24,11 @@ use Rattle.net_model.specs.PacingLaws.{CanBegin}
 use Rattle.net_model.specs.PortFile.{pieces, rest_of, token_bytes, token_of, tokens}
 use Rattle.net_model.specs.Ready.{HasQueues, IsNetworkOf, IsReady, given_flow, given_state, port_of, waiting_at}
 use Rattle.net_model.specs.State.{Flow, State, fed_by}
-use Rattle.net_model.specs.Trace.{FitFlows, held_since}
+use Rattle.net_model.specs.Trace.{FitFlows}
 use Rattle.net_model.specs.Laws.{IsOrdered}
-use Rattle.net_model.specs.Wired.{CoversGives, HoldsGives, IsJoined, IsWired, LeadsToPort}
+use Rattle.net_model.specs.Wired.{CoversGives, HoldsGives, IsJoined, LeadsToPort}
 use Rattle.net_state.specs.Beginning.{AreLawfulIn, HaveSizes, NoneUnlinked}
-use Rattle.net_state.specs.Filling.{AreToCome, IsFed}
+use Rattle.net_state.specs.Filling.{AreToCome}
 use Rattle.net_state.specs.Held.{CanWork, Held, IsJoinedTo, capacity_of, seen}
 use Rattle.net_state.specs.Standing.{IsNetOf, StandAtStart, StandsIn, unarrived}
 use Rattle.net_state.specs.Surveyed.{AreUntrapped}
@@ -37,9 +37,9 @@ use Rattle.net_state.proofs.Firings.{leaf_of}
 use Rattle.net_state.proofs.Gaining.{some_is, there_too}
 use Rattle.net_state.proofs.Readied.{ready_can_work}
 use Rattle.round_runner.specs.declared.outcome.Plan.{Plan}
-use Rattle.round_runner.specs.Running.{AreFedBy, ComesBy, ComesNow, HasRest, Running, StandsWith, buffer, feed_of, has_feed}
+use Rattle.round_runner.specs.Running.{AreFedBy, ComesBy, ComesNow, HasRest, Running, StandsWith, feed_of, has_feed}
 use Rattle.network_runner.specs.declared.sending.Outlet.{Outlet}
-use Rattle.network_runner.specs.Asking.{Begins, CanRun, HasInput, HasInputOn, HavePortSizes, IsAtStart, growth_left, kinds_of, seen_run}
+use Rattle.network_runner.specs.Asking.{Begins, CanRun, HasInput, HasInputOn, IsAtStart, growth_left, kinds_of, seen_run}
 use Rattle.network_runner.specs.Keeping.{GivesWithin, GoesOn, HasParts, HaveJournals, IsOpenLink, ReaderFits, running_of}
 use Rattle.network_runner.specs.Making.{AreOutletsOf, AreReadersOf, CountNothing, HasKind, IsReaderOf, ReadsAt}
 use Rattle.network_runner.specs.Sending.{HasOutlet}

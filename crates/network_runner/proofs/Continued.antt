@@ -1,13 +1,13 @@
 -- Rounds one after another, and the round that ends a run.
-use Rattle.std.proofs.Common.{◌≡◌, ◌⊎◌, ⊎_elim, inl, inr, ℕ, zero, suc, ◌+◌, ◌-◌, ◌*◌, ◌<◌, ◌≤◌, Bool, true, false, List, [], ◌∷◌, ◌++◌, ℤ, length, drop, refl, sym, ap, subst, ◌∙◌, arith, append_assoc, append-nil}
-use Rattle.std.specs.Prelude.{Option, None, Some, flat_map, option_to_list, slice_get, slice_index_or, if◌then◌else◌, MatchBool, ◌==◌, ◌&&◌}
+use Rattle.std.proofs.Common.{◌≡◌, ⊎_elim, ℕ, zero, suc, ◌+◌, ◌-◌, ◌<◌, Bool, true, false, List, [], ◌∷◌, ◌++◌, ℤ, length, drop, refl, sym, ap, subst, ◌∙◌, arith, append_assoc, append-nil}
+use Rattle.std.specs.Prelude.{Option, None, Some, slice_get, slice_index_or, if◌then◌else◌, MatchBool, ◌==◌, ◌&&◌}
 use Rattle.std.proofs.lemmas.Grind.{flat_map-append}
 use Rattle.std.proofs.Math.Seq.{drop-append_seam}
 use Rattle.rvc_base.specs.declared.round_kind.RoundKind.{RoundKind}
 use Rattle.rvc_base.specs.declared.scalar.Scalar.{Scalar}
 use Rattle.rvc_io.specs.Channels.{Appends, Channels}
 use Rattle.rvc_io.specs.Feeds.{Inputs}
-use Rattle.channel_writer.specs.Held.{AppendsFront, HoldsFront, Writes, WritesOn}
+use Rattle.channel_writer.specs.Held.{AppendsFront, Writes, WritesOn}
 use Rattle.channel_writer.proofs.Chains.{breaks-then, writes-nothing, writes-then}
 use Rattle.trace_text.specs.declared.line.Line.{Line}
 use Rattle.trace_text.specs.Text.{line_text}
@@ -15,9 +15,9 @@ use Rattle.net_model.specs.declared.wiring.Counts.{Counts}
 use Rattle.net_model.specs.declared.wiring.Link.{Link}
 use Rattle.net_model.specs.Counted.{IsCounted}
 use Rattle.net_model.specs.Event.{and_then}
-use Rattle.net_model.specs.Laws.{SentGrows, sent_of}
+use Rattle.net_model.specs.Laws.{sent_of}
 use Rattle.net_model.specs.Network.{Network, is_net_port, kind_at}
-use Rattle.net_model.specs.Paced.{AreRounds, Block, Close, Closes, ClosesBy, ClosesIdle, ClosesSpent, Ends, EndsRun, GoesOn, IsRound, Moment, Pace, Widens, count_of, count_picked, first_trap, lines_of, next_moment, picked}
+use Rattle.net_model.specs.Paced.{AreRounds, Block, Close, ClosesBy, ClosesIdle, ClosesSpent, Ends, EndsRun, GoesOn, IsRound, Moment, Pace, Widens, count_of, count_picked, first_trap, lines_of, next_moment, picked}
 use Rattle.net_model.specs.PortFile.{all_encoded, encoded}
 use Rattle.net_model.specs.Stable.{IsPrefix}
 use Rattle.net_model.specs.State.{Flow, State, sent_to}
@@ -30,7 +30,7 @@ use Rattle.round_runner.specs.declared.outcome.RoundEnd.{RoundEnd}
 use Rattle.round_runner.specs.declared.outcome.RoundEnd.TheVariants as round
 use Rattle.round_runner.specs.declared.outcome.RunEnd.{RunEnd}
 use Rattle.round_runner.specs.declared.outcome.RunEnd.TheVariants as end
-use Rattle.round_runner.specs.Rounds.{AreBegunBy, Answers, Breaks, BreaksRound, BrokenOff, Closed, CountsOn, CutOff, EachOut, Ended, EndedBroken, EndedEarly, Leaves, Made, OutGetsAll, OutGetsFront, OutGetsSome, RunLeaves, TraceGetsAll, TraceGetsFront, TraceGetsSome, all_lines, out_bytes, text_of}
+use Rattle.round_runner.specs.Rounds.{Answers, Breaks, BreaksRound, Closed, CountsOn, CutOff, EachOut, Ended, EndedBroken, EndedEarly, Leaves, Made, OutGetsAll, OutGetsFront, OutGetsSome, RunLeaves, TraceGetsAll, TraceGetsFront, TraceGetsSome, all_lines, out_bytes, text_of}
 use Rattle.round_runner.specs.Running.{Running, StandsWith, buffer, moment_of, pace_of}
 use Rattle.network_runner.specs.Asking.{IsSameRun, end_of}
 use Rattle.network_runner.proofs.Rounded.{not_zero}

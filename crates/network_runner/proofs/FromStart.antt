@@ -1,20 +1,19 @@
 -- A run from its start, as paced lines.
 use Rattle.std.proofs.Common.{◌≡◌, ◌⊎◌, ⊎_elim, inl, inr, ℕ, Bool, false, List, [], ◌∷◌, ◌++◌, refl, sym, ap, subst, ◌∙◌, append_assoc, append-nil}
-use Rattle.std.specs.Prelude.{Option, None, Some, flat_map, option_to_list}
+use Rattle.std.specs.Prelude.{Option, None, Some, option_to_list}
 use Rattle.rvc_io.specs.Channels.{Channels}
 use Rattle.trace_text.specs.declared.line.Line.{Line}
 use Rattle.trace_text.specs.declared.line.Line.TheVariants.{Deliver as DeliverLine}
 use Rattle.net_model.specs.Network.{Network}
 use Rattle.net_model.specs.State.{State}
 use Rattle.net_model.specs.Cell.{Cell}
-use Rattle.net_model.specs.Counted.{IsCounted}
-use Rattle.net_model.specs.Paced.{AreRounds, Block, Close, Ends, EndsRun, GoesOn, IsBegun, IsPaced, IsRound, Moment, Pace, Widens, close_lines, fire_lines, first_moment, lines_of, next_moment}
+use Rattle.net_model.specs.Paced.{AreRounds, Block, Close, Ends, EndsRun, GoesOn, IsBegun, IsPaced, IsRound, Moment, Widens, close_lines, fire_lines, first_moment, lines_of, next_moment}
 use Rattle.net_model.proofs.KeepingRuns.{begun_keep, paced_keep}
 use Rattle.net_model.proofs.Rounds.{begun_play, paced_play}
 use Rattle.round_runner.specs.declared.outcome.RoundEnd.TheVariants as round
 use Rattle.round_runner.specs.declared.outcome.RunEnd.{RunEnd}
 use Rattle.round_runner.specs.declared.outcome.RunEnd.TheVariants as end
-use Rattle.round_runner.specs.Rounds.{AreBegunBy, Answers, Breaks, Ended, EndedBroken, EndedEarly, RunLeaves, RunWrote, all_lines, end_line}
+use Rattle.round_runner.specs.Rounds.{AreBegunBy, Answers, Breaks, Ended, EndedEarly, RunLeaves, RunWrote, all_lines}
 use Rattle.round_runner.specs.Running.{Running, moment_of, pace_of}
 use Rattle.network_runner.specs.FromStart.{EndsBy, HasMadeNone, PlaysAndKeeps, RunsArePaced, RunsBroken, RunsFromStart, RunsShort, RunsWhole, WritesWhole}
 use Rattle.network_runner.proofs.Continued.{lines_more, rounds_more}

@@ -1,10 +1,9 @@
 -- How far a run has come between two of its rounds, as its loop keeps it.
-use Rattle.std.proofs.Common.{◌≡◌, ◌⊎◌, ⊎_elim, inl, inr, ℕ, ◌+◌, ◌-◌, ◌*◌, ◌<◌, ◌≤◌, Bool, true, false, List, refl, sym, ap, subst, ◌∙◌, arith}
+use Rattle.std.proofs.Common.{◌≡◌, ⊎_elim, inl, inr, ℕ, ◌+◌, ◌-◌, ◌*◌, ◌<◌, ◌≤◌, Bool, true, false, List, refl, sym, ap, subst, ◌∙◌, arith}
 use Rattle.std.specs.Prelude.{Option, None, Some, IfNone, slice_get, slice_index_or}
 use Rattle.rvc_io.specs.Channels.{Channels}
 use Rattle.rvc_io.specs.Count.{HasRisen}
 use Rattle.rvc_io.specs.Feeds.{Inputs}
-use Rattle.net_model.specs.declared.wiring.Link.{Link}
 use Rattle.net_model.specs.Network.{Network}
 use Rattle.net_model.specs.State.{State}
 use Rattle.net_model.specs.Cell.{Cell, IsSameActor}
@@ -15,7 +14,7 @@ use Rattle.round_runner.specs.declared.outcome.RunEnd.{RunEnd}
 use Rattle.round_runner.specs.declared.outcome.RunEnd.TheVariants as end
 use Rattle.round_runner.specs.Rounds.{Leaves, Made}
 use Rattle.round_runner.specs.Running.{FeedsFit, Running, StandsWith, feed_of, has_feed}
-use Rattle.network_runner.specs.Asking.{Advances, ChannelsFit, EndLeaves, FaultIsTrue, FiringsTo, IsChannel, IsFeed, IsSameRun, IsUntouched, RoundLeaves, WritesWithin, end_of, growth_left, one_if, seen_run}
+use Rattle.network_runner.specs.Asking.{Advances, ChannelsFit, EndLeaves, FaultIsTrue, FiringsTo, IsFeed, IsSameRun, IsUntouched, RoundLeaves, WritesWithin, end_of, growth_left, one_if, seen_run}
 use Rattle.network_runner.specs.Filling.{SameOpen}
 use Rattle.network_runner.proofs.Continued.{RunSoFar, left_after, run_ends, run_goes_on, run_starts}
 use Rattle.network_runner.proofs.Finished.{within_then}

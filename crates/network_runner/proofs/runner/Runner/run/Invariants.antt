@@ -1,4 +1,3 @@
-use Rattle.std.specs.Prelude.{ℕ}
 use Rattle.network_runner.proofs.Onward.{IsOnward, still_to_do}
 use Rattle.network_runner.proofs.runner.Runner.run.Given as goal
 
