@@ -1,0 +1,5 @@
+mod Stepping
+mod Ordering
+mod Rated
+mod Behaving
+mod Stateful

@@ -1,6 +1,6 @@
 -- The steps of which the automaton of an actor is built.
 -- Not trusted: no promise is read with it.
-use Rattle.std.specs.Prelude.{ℕ, zero, suc, Bool, ◌||◌, ◌==◌, List, [], ◌∷◌, ◌++◌, map, if◌then◌else◌, Option, None, Some}
+use Rattle.std.specs.Prelude.{ℕ, zero, suc, ◌+◌, Bool, true, false, ◌||◌, ◌==◌, List, [], ◌∷◌, ◌++◌, map, if◌then◌else◌, Option, None, Some}
 use Rattle.schedule_fsm.specs.declared.fsm.Step.{Step}
 use Rattle.cal_model.specs.Actor.{Action, Move, Actor}
 use Rattle.cal_model.specs.Eligible.{fresh, is_empty}
@@ -38,3 +38,8 @@ fixed_steps first stateless acts (suc s) =
 abbrev pub all_steps : Actor → ℕ → List Step
 all_steps actor n = fixed_steps (fresh actor) (is_empty actor.states) actor.actions n
     ++ map step_of actor.moves
+
+-- how many states there are, if so many are those of the schedule
+abbrev pub state_total : ℕ → Bool → ℕ
+state_total first true = first + 1
+state_total first false = first

@@ -26,7 +26,7 @@ pub fn tables_are_meant()
 pub fn lowered_actors_behave_as_meant()
     ensures { BehavesAsMeant }
 {
-    tables_are_meant();
+    one_line();
     behaviour_is_the_firing_rule();
     ports_keep_tokens();
     actors_stay_in_their_states();

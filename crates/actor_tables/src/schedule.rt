@@ -4,7 +4,7 @@ ghost use Rattle.std.specs.Prelude.{◌≡◌, ◌≤◌, ◌++◌, IfOk, OnOk, 
 ghost use Rattle.cal_model.specs.Eligible.{fresh, has_initialize, start_state};
 ghost use Rattle.cal_model.specs.Sound.{IsSound, max_actions, max_states};
 ghost use Rattle.cal_model.specs.View.{action_view, actor_of, move_view};
-ghost use Rattle.actor_tables.specs.Steps.{all_steps, fixed_from, fixed_target, step_if, step_of};
+ghost use Rattle.actor_tables.specs.Steps.{all_steps, fixed_from, fixed_target, state_total, step_if, step_of};
 ghost use Rattle.actor_tables.specs.Tables.{IsSchedule};
 
 use cal_model::{Bound, BoundAction, BoundMove};
@@ -27,11 +27,7 @@ pub fn automaton(alloc: Global, b: &Bound) -> Result<Fsm, Memory>
     ensures schedule { IfOk result (IsSchedule (actor_of b.now)) }
 {
     let first = state_count(b.states.len());
-    let states = if has_initialize(&b.actions) {
-        first + 1
-    } else {
-        first
-    };
+    let states = state_total(first, has_initialize(&b.actions));
     let steps = steps(alloc, b, first, states)?;
     let free = vec![in alloc; false; b.actions.len()]?;
     match build(alloc, &steps, &free, states) {
@@ -64,6 +60,14 @@ fn state_count(names: usize) -> u16
     ensures { result ≡ max 1 names }
 {
     if names == 0 { 1 } else { names as u16 }
+}
+
+/// How many states there are with that of the `initialize`, if there is one.
+fn state_total(first: u16, begins: bool) -> u16
+    requires { first ≤ max_states }
+    ensures { result ≡ state_total first begins }
+{
+    if begins { first + 1 } else { first }
 }
 
 /// Whether one of the actions is an `initialize`.
