@@ -58,7 +58,7 @@ choices_agree ready actor y v [] agree = refl
 choices_agree ready actor y v (a ∷ line) agree = by (choices_agree ready actor y v line agree) (ready a) (readiness actor y v a) (agree a)
   where
     by : ◌≡◌ {A = Choice} (lowered.choice_among ready line) (selection.choice_among actor y v line) → (g : lowered.Guards) (h : Guards) → GuardsAgree g h
-        → ◌≡◌ {A = Choice} (elim g [ AreTrue ↦ Picks a | AreFalse ↦ lowered.choice_among ready line | AreTrapping cause ↦ Faults a cause ])
+        → ◌≡◌ {A = Choice} (elim g [ lowered.AreTrue ↦ Picks a | lowered.AreFalse ↦ lowered.choice_among ready line | lowered.AreTrapping cause ↦ Faults a cause ])
         (elim h [ AreTrue ↦ Picks a | AreFalse ↦ selection.choice_among actor y v line | AreTrapping c ↦ Faults a c ])
     by rest lowered.AreTrue AreTrue e = refl
     by rest lowered.AreFalse AreFalse e = rest
