@@ -1,30 +1,27 @@
 -- A lowered actor with the tables of an actor behaves as it does, if its guards and firings do.
-use Rattle.std.proofs.Common.{◌≡◌, ℕ, zero, suc, ◌+◌, ◌<◌, ◌≤◌, ◌⊎◌, inl, inr, Bool, true, false, ℤ, List, [], ◌∷◌, ◌++◌, map, length, take, get_or, refl, sym, ap, subst, ◌∙◌, arith, ⊎_elim}
-use Rattle.std.specs.Prelude.{not, ◌&&◌, ◌||◌, ◌==◌, if◌then◌else◌, nat_le, Contains, Option, None, Some, is_some, slice_get, slice_index_or}
+use Rattle.std.proofs.Common.{◌≡◌, ℕ, zero, suc, ◌<◌, ◌≤◌, Bool, true, false, ℤ, List, [], ◌∷◌, map, length, take, get_or, refl, sym, ap, subst, ◌∙◌, arith, ⊎_elim}
+use Rattle.std.specs.Prelude.{not, ◌&&◌, ◌||◌, ◌==◌, if◌then◌else◌, nat_le, Contains, Option, None, Some, slice_get}
 use Rattle.std.proofs.Math.Path.{fun_ext}
 use Rattle.std.proofs.lemmas.Bool.{eq-eqb, le-leb, cases_lt}
 use Rattle.std.proofs.lemmas.List.{get_or_default}
-use Rattle.rvc_base.specs.Behaviour.{Choice, Effect, Waits, Picks, Faults, Fires, TrapsInGuard, TrapsInBody}
+use Rattle.rvc_base.specs.Behaviour.{Choice, Effect, Waits, Picks, Faults, Fires, TrapsInBody}
 use Rattle.rvc_base.specs.Line.{IsLine}
 use Rattle.rvc_base.specs.Lawful.{tokens_on}
 use Rattle.rvc_base.specs.Turns.{max_turns}
 use Rattle.rvc_base.specs.declared.scalar.Scalar.{Scalar}
 use Rattle.rvc_base.specs.Storing.{IsSize, InRange, conv}
-use Rattle.code_ir.specs.declared.outcome.Outcome.{Outcome}
-use Rattle.code_ir.specs.declared.outcome.Outcome.TheVariants as outcome
 use Rattle.priority_order.specs.Ranking.{is_above}
 use Rattle.net_model.specs.Alike.{BehaveAlike, EachIs, EffectsAlike}
 use Rattle.cal_model.specs.Env.{Var}
 use Rattle.cal_model.specs.Outcome.{Out, Gives, Traps, Lacks, Clashes, and_then}
 use Rattle.cal_model.specs.Actor.{Action, Actor, Port}
-use Rattle.cal_model.specs.ActorState.{AreTokensOf, IsActorState, kept_on, kept_tokens}
+use Rattle.cal_model.specs.ActorState.{IsActorState, kept_on, kept_tokens}
 use Rattle.cal_model.specs.Call.{calls_of, declared}
 use Rattle.cal_model.specs.Statement.{exec_all, runs_of}
-use Rattle.cal_model.specs.Eligible.{IsStateOf, eligible, leads, next}
+use Rattle.cal_model.specs.Eligible.{IsStateOf, eligible, next}
 use Rattle.cal_model.specs.Firing.{Fired, behaviour, body, body_of, effect_of_body, effect_of_exposed, outputs}
-use Rattle.cal_model.specs.Firing as firing
 use Rattle.cal_model.specs.Keeping.{GivesOrTraps}
-use Rattle.cal_model.specs.Laws.{AsManyAreKept, BehaviourStoresTokens, BodiesGiveOrTrap, KeptAreTokens, LineIsOne, StartIsState}
+use Rattle.cal_model.specs.Laws.{BehaviourStoresTokens, BodiesGiveOrTrap, KeptAreTokens, LineIsOne, StartIsState}
 use Rattle.cal_model.specs.Selection.{Above, AreFalse, AreTrapping, AreTrue, Guards, Priorities, State, are_true, guards_say, has_its_tokens, is_exposed, kind_of_port, outranked, readiness, seen_by, start_of}
 use Rattle.cal_model.specs.Selection as selection
 use Rattle.cal_model.specs.Sound.{Each, IsSound}
@@ -132,6 +129,7 @@ body_leads actor y v a act fired left is gives = led (next actor y.at a) refl
   where
     here : body actor y v a ≡ elim (next actor y.at a) [ None ↦ Clashes | Some to ↦ body_of actor y v to act ]
     here = ap (λ o. elim o [ None ↦ Clashes | Some x ↦ elim (next actor y.at a) [ None ↦ Clashes | Some to ↦ body_of actor y v to x ] ]) is
+
     led : (o : Option ℕ) → next actor y.at a ≡ o → next actor y.at a ≡ Some fired.state.at
     led None e =
         let no : Clashes ≡ Gives fired left = sym (here ∙ ap (λ o. elim o [ None ↦ Clashes | Some to ↦ body_of actor y v to act ]) e) ∙ gives in
@@ -212,10 +210,10 @@ module _ (actor : Actor) (p : Priorities actor) (l : coded.Actor) (numbers : Lis
           let c = lowered.is_eligible l x.at a && lowered.has_its_tokens l (tokens_on u) a in
           let d = eligible actor y.at a && has_its_tokens actor (kept_tokens actor u) a in
           let said : lowered.readiness l x (tokens_on u) a
-              ≡ (if c then lowered.guards_say l.code (lowered.cells_of l x) (lowered.taken l (tokens_on u) a) pair.action.guards else lowered.AreFalse) =
+          ≡ (if c then lowered.guards_say l.code (lowered.cells_of l x) (lowered.taken l (tokens_on u) a) pair.action.guards else lowered.AreFalse) =
           ap (λ o. elim o [ None ↦ lowered.AreFalse | Some action ↦ if c then lowered.guards_say l.code (lowered.cells_of l x) (lowered.taken l (tokens_on u) a) action.guards else lowered.AreFalse ]) pair.coded_is in
           let says : readiness actor y (kept_tokens actor u) a
-              ≡ (if d then guards_say pair.act.guards (calls_of actor.funs) (seen_by actor y (kept_tokens actor u) pair.act) else AreFalse) =
+          ≡ (if d then guards_say pair.act.guards (calls_of actor.funs) (seen_by actor y (kept_tokens actor u) pair.act) else AreFalse) =
           ap (λ o. elim o [ None ↦ AreFalse | Some act ↦ if d then guards_say act.guards (calls_of actor.funs) (seen_by actor y (kept_tokens actor u) act) else AreFalse ]) pair.is in
           subst (λ g. GuardsAgree g (readiness actor y (kept_tokens actor u) a)) (sym said)
           (subst (GuardsAgree (if c then lowered.guards_say l.code (lowered.cells_of l x) (lowered.taken l (tokens_on u) a) pair.action.guards else lowered.AreFalse)) (sym says)
@@ -268,7 +266,7 @@ module _ (actor : Actor) (p : Priorities actor) (l : coded.Actor) (numbers : Lis
           subst (λ t. BodiesAgree numbers l pair.action (lowered.end_of l.code pair.action.fire (lowered.cells_of l x) t) (body actor y (kept_tokens actor u) a))
           (sym (taken_same a)) (bodies x y (kept_tokens actor u) a pair.act pair.action r ready enabled) in
           let here : lowered.effect_of_body l x (tokens_on u) a
-              ≡ lowered.effect_of_end l x a pair.action (lowered.end_of l.code pair.action.fire (lowered.cells_of l x) (lowered.taken l (tokens_on u) a)) =
+          ≡ lowered.effect_of_end l x a pair.action (lowered.end_of l.code pair.action.fire (lowered.cells_of l x) (lowered.taken l (tokens_on u) a)) =
           ap (λ o. elim o [ None ↦ None | Some action ↦ lowered.effect_of_end l x a action (lowered.end_of l.code action.fire (lowered.cells_of l x) (lowered.taken l (tokens_on u) a)) ]) pair.coded_is in
           subst (λ f. EffectsAlike (StandsFor actor numbers) f (effect_of_body (body actor y (kept_tokens actor u) a))) (sym here)
           (body_by a pair.act pair.action pair.is low ready.may_fire (lowered.end_of l.code pair.action.fire (lowered.cells_of l x) (lowered.taken l (tokens_on u) a)) (body actor y (kept_tokens actor u) a) refl agree)

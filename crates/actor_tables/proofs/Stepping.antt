@@ -1,10 +1,10 @@
 -- The steps of an actor lead exactly where its schedule says.
-use Rattle.std.proofs.Common.{◌≡◌, ◌≢◌, ℕ, zero, suc, ◌+◌, ◌<◌, ◌≤◌, ◌⊎◌, inl, inr, Bool, true, false, List, [], ◌∷◌, ◌++◌, map, length, All, Contains, refl, sym, ap, subst, ◌∙◌, arith, ⊎_elim}
+use Rattle.std.proofs.Common.{◌≡◌, ◌≢◌, ℕ, zero, suc, ◌+◌, ◌<◌, ◌≤◌, ◌⊎◌, inl, inr, Bool, true, false, List, [], ◌∷◌, map, length, All, Contains, refl, sym, ap, subst, ◌∙◌, arith, ⊎_elim}
 use Rattle.std.specs.Prelude.{◌&&◌, ◌||◌, ◌==◌, if◌then◌else◌, ◌↔◌, Option, None, Some, slice_get, slice_index_or}
 use Rattle.std.proofs.lemmas.Bool.{eqb-true, eq-eqb, cases_lt}
 use Rattle.std.proofs.lemmas.List.{get_or_default}
 use Rattle.std.proofs.lemmas.List.Elements.{Contains-append_left, Contains-append_right, Contains-append_cases}
-use Rattle.std.proofs.lemmas.Option.{slice_get_within, slice_get-get_or}
+use Rattle.std.proofs.lemmas.Option.{slice_get_within}
 use Rattle.schedule_fsm.specs.Automaton.{Automaton, target}
 use Rattle.schedule_fsm.specs.declared.fsm.Step.{Step}
 use Rattle.schedule_fsm.specs.Leads.{Leads, StepLeads, IsFree, HasTwoTargets}
@@ -166,8 +166,10 @@ target_is (n ∷ ms) m one h = by (λ o i. target_is ms m o i) (n.from == m.from
   where
     later : n.from ≡ m.from → n.action ≡ m.action → n.to ≡ m.to
     later f g = one n m (member_here n n ms refl) h f g
+
     others : LeadToOne ms
     others p q i j = one p q (member_behind n p ms i) (member_behind n q ms j)
+
     by : (LeadToOne ms → Contains ms m → eligibility.target ms m.from m.action ≡ Some m.to)
         → (b : Bool) → (n.from == m.from && n.action == m.action) ≡ b → (if b then Some n.to else eligibility.target ms m.from m.action) ≡ Some m.to
     by rest true e = let both = two_true (n.from == m.from) (n.action == m.action) e in ap (λ t. Some t) (later (eqb-true n.from m.from both.0) (eqb-true n.action m.action both.1))
@@ -373,8 +375,10 @@ module _ (actor : Actor) (moves : Each (IsMove actor) actor.moves) (one : LeadTo
     where
       low_in : (s : ℕ) → s < fsm.states → s < state_total (fresh actor) (has_initialize actor.actions)
       low_in s h = subst (λ k. s < k) (f ∙ e) h
+
       in_low : (s : ℕ) → s < state_total (fresh actor) (has_initialize actor.actions) → s < fsm.states
       in_low s h = subst (λ k. s < k) (sym (f ∙ e)) h
+
       same : (s a : ℕ) → s < n → a < length free → target fsm s a ≡ next actor s a
       same s a in_s in_a =
           option_same (target fsm s a) (next actor s a)

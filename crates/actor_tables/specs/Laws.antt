@@ -6,7 +6,7 @@ use Rattle.net_model.specs.Alike.{BehaveAlike}
 use Rattle.priority_order.specs.Ranking.{is_above}
 use Rattle.cal_model.specs.Env.{Var}
 use Rattle.cal_model.specs.Actor.{Actor}
-use Rattle.cal_model.specs.Eligible.{IsStateOf, eligible, next, start_state}
+use Rattle.cal_model.specs.Eligible.{IsStateOf, eligible, next}
 use Rattle.cal_model.specs.Rates.{need, give}
 use Rattle.cal_model.specs.Selection.{Priorities, has_its_tokens}
 use Rattle.cal_model.specs.Firing.{behaviour}

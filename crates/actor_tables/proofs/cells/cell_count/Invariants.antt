@@ -1,4 +1,4 @@
-use Rattle.std.proofs.Common.{◌≡◌, ◌≤◌, ◌+◌, drop, map}
+use Rattle.std.proofs.Common.{◌≡◌, ◌+◌, drop, map}
 use Rattle.cal_model.specs.Sound.{Each, scalars_of_vars}
 use Rattle.cal_model.specs.Value.{IsOf, IsType}
 use Rattle.cal_model.specs.View.{var_view}

@@ -1,12 +1,11 @@
 use Rattle.std.proofs.Common.{◌≡◌, ◌<◌, ◌≤◌, All, false, length, map, refl, sym, ap, subst, ◌∙◌, arith}
-use Rattle.std.specs.Prelude.{◌↔◌, Some, vec_len}
+use Rattle.std.specs.Prelude.{◌↔◌, Some}
 use Rattle.std.proofs.lemmas.List.{length-map}
 use Rattle.std.proofs.lemmas.List.Elements.{All-replicate}
 use Rattle.schedule_fsm.specs.Automaton.{target}
 use Rattle.schedule_fsm.specs.Fault.{IsCause}
 use Rattle.schedule_fsm.specs.Leads.{HasTwoTargets, Leads}
 use Rattle.schedule_fsm.specs.declared.fsm.FsmFault.TheVariants.{Ambiguous}
-use Rattle.cal_model.specs.Actor.{Actor}
 use Rattle.cal_model.specs.Eligible.{fresh, has_initialize}
 use Rattle.cal_model.specs.View.{action_view, actor_of}
 use Rattle.actor_tables.specs.Steps.{all_steps, state_total}
@@ -59,7 +58,7 @@ returns-in-Ok c =
       schedule = schedule_is (actor_of c.args.b.now) c.requires.sound.moves c.requires.sound.one_target c.in-Ok.fsm c.deref-3.result.now c.state_total-states.result
           (total_is d) c.in-Ok.ensures.states c.in-Ok.ensures.actions (many d) (none_free d)
           (λ s a to in_s in_a.
-              subst (λ xs. (target c.in-Ok.fsm s a ≡ Some to) ↔ Leads xs c.deref-3.result.now s a to) (steps_are d) (c.in-Ok.ensures.leads s a to in_s in_a));
+          subst (λ xs. (target c.in-Ok.fsm s a ≡ Some to) ↔ Leads xs c.deref-3.result.now s a to) (steps_are d) (c.in-Ok.ensures.leads s a to in_s in_a));
     }
 
 pub unreachable-requires : goal.unreachable-requires
