@@ -3,3 +3,5 @@ mod Ordering
 mod Rated
 mod Behaving
 mod Stateful
+mod RunAlike
+mod EchoRow

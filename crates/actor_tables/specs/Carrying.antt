@@ -1,10 +1,16 @@
 -- Lowered actors with the tables of an actor, and what else they need in order to behave as it does.
 -- Trusted: part of what a promise means.
-use Rattle.std.specs.Prelude.{◌≡◌, ℕ, true, ℤ, List, length, take, Option, None, Some, slice_get}
+use Rattle.std.specs.Prelude.{◌≡◌, ℕ, true, false, ℤ, List, [], ◌∷◌, length, take, Option, None, Some, slice_get}
 use Rattle.rvc_base.specs.Storing.{InRange}
 use Rattle.rvc_base.specs.Lawful.{tokens_on}
+use Rattle.rvc_base.specs.Turns.{max_turns}
+use Rattle.cal_ast.specs.Tree.{Tree}
+use Rattle.code_ir.specs.declared.outcome.Outcome.{Outcome}
 use Rattle.code_ir.specs.declared.outcome.Outcome.TheVariants as outcome
-use Rattle.cal_model.specs.Env.{Var}
+use Rattle.code_ir.specs.Running.{runs}
+use Rattle.cal_model.specs.Value.{Value, Num, Truth, Items}
+use Rattle.cal_model.specs.Env.{Env, Var}
+use Rattle.cal_model.specs.Expression.{Calls, eval}
 use Rattle.cal_model.specs.Outcome.{Out, Gives, Traps, Lacks, Clashes}
 use Rattle.cal_model.specs.Actor.{Action, Actor}
 use Rattle.cal_model.specs.ActorState.{IsActorState, AreTokensOf}
@@ -14,6 +20,7 @@ use Rattle.cal_model.specs.Selection.{State, Guards, AreTrue, AreFalse, AreTrapp
 use Rattle.cal_model.specs.Firing.{Fired, body}
 use Rattle.cal_model.specs.Sound.{scalars_of_vars}
 use Rattle.lowered_actor.specs.Actor as coded
+use Rattle.lowered_actor.specs.Laws.{AreCellsOf}
 use Rattle.lowered_actor.specs.Meaning as lowered
 use Rattle.actor_tables.specs.Tables.{IsSchedule, IsPriority, AreRatesOf, saved_from}
 
@@ -98,3 +105,58 @@ BodiesAreAlike actor numbers l =
     → BodiesAgree numbers l action
     (lowered.end_of l.code action.fire (lowered.cells_of l x) (lowered.taken l (tokens_on u) a))
     (body actor y u a)
+
+-- ---- the same, said of runs
+
+-- so a run of a guard ends if this is what the guard comes to: a guard is a truth value, or traps
+abbrev pub IsSaid : Out Value → Outcome → Type 0
+IsSaid (Gives (Truth true) left) o = o ≡ outcome.True
+IsSaid (Gives (Truth false) left) o = o ≡ outcome.False
+IsSaid (Gives (Num z) left) o = ⊥
+IsSaid (Gives (Items vs) left) o = ⊥
+IsSaid (Traps cause) o = o ≡ outcome.Trap cause
+IsSaid Lacks o = ⊥
+IsSaid Clashes o = ⊥
+
+-- a run of a guard's code, from cells of a state and over these tokens, ends as the guard says
+pub record GuardRuns (l : coded.Actor) (x : lowered.ActorState) (tokens : ℕ → List ℤ) (entry : ℕ) (says : Out Value) : Type 0 where
+  pub cells : List ℤ
+  pub are : AreCellsOf l x cells
+  pub o : Outcome
+  pub left : List ℤ
+  pub ends : runs l.code entry cells tokens o left
+  pub said : IsSaid says o
+
+-- guard by guard
+abbrev pub GuardsRun : coded.Actor → lowered.ActorState → (ℕ → List ℤ) → Calls → Env → List Tree
+    → List ℕ → Type 0
+GuardsRun l x tokens calls env [] [] = Unit {0}
+GuardsRun l x tokens calls env (g ∷ guards) (entry ∷ entries) =
+    GuardRuns l x tokens entry (eval g calls env max_turns)
+    × GuardsRun l x tokens calls env guards entries
+GuardsRun l x tokens calls env guards entries = ⊥
+
+-- .. so it is for each action, in each state and over all tokens
+abbrev pub GuardsRunAlike : Actor → (List Var → List ℤ) → coded.Actor → Type 0
+GuardsRunAlike actor numbers l =
+    (x : lowered.ActorState) (y : State) (u : List (List ℤ)) (a : ℕ) (act : Action)
+    (action : coded.Action) → StandsFor actor numbers x y → IsReady actor l y u a act action
+    → GuardsRun l x (lowered.taken l (tokens_on u) a) (calls_of actor.funs) (seen_by actor y u act)
+    act.guards action.guards
+
+-- a run of a firing's code, from cells of a state and over these tokens, ends as locals, body and outputs do
+pub record BodyRuns (numbers : List Var → List ℤ) (l : coded.Actor) (x : lowered.ActorState) (tokens : ℕ → List ℤ) (action : coded.Action) (out : Out Fired) : Type 0 where
+  pub cells : List ℤ
+  pub are : AreCellsOf l x cells
+  pub o : Outcome
+  pub left : List ℤ
+  pub ends : runs l.code action.fire cells tokens o left
+  pub agrees : BodiesAgree numbers l action (Some (record { outcome = o; cells = left })) out
+
+-- .. so it is for each action that is enabled, in each state and over all tokens
+abbrev pub BodiesRunAlike : Actor → (List Var → List ℤ) → coded.Actor → Type 0
+BodiesRunAlike actor numbers l =
+    (x : lowered.ActorState) (y : State) (u : List (List ℤ)) (a : ℕ) (act : Action)
+    (action : coded.Action) → StandsFor actor numbers x y → IsReady actor l y u a act action
+    → IsEnabled actor y u a
+    → BodyRuns numbers l x (lowered.taken l (tokens_on u) a) action (body actor y u a)

@@ -12,8 +12,9 @@ use Rattle.cal_model.specs.Selection.{Priorities, has_its_tokens}
 use Rattle.cal_model.specs.Firing.{behaviour}
 use Rattle.cal_model.specs.Sound.{IsSound}
 use Rattle.lowered_actor.specs.Actor as coded
+use Rattle.lowered_actor.specs.Facts.{IsLowered}
 use Rattle.lowered_actor.specs.Meaning as lowered
-use Rattle.actor_tables.specs.Carrying.{HasTables, StandsFor, HoldsNumbers, MayCome, GuardsAreAlike, BodiesAreAlike}
+use Rattle.actor_tables.specs.Carrying.{HasTables, StandsFor, HoldsNumbers, MayCome, GuardsAreAlike, GuardsRunAlike, BodiesAreAlike, BodiesRunAlike}
 
 -- each action takes and sends as many tokens as that of the actor, on each port ..
 abbrev pub RatesAreMeant : Type 0
@@ -57,3 +58,16 @@ BehavesAsMeant = (actor : Actor) (p : Priorities actor) (l : coded.Actor)
     → BodiesAreAlike actor numbers l
     → BehaveAlike (StandsFor actor numbers) (MayCome actor) (lowered.behaviour l)
     (behaviour actor p)
+
+-- Whether guards say the same is seen from one run of each in each state, whatever the cells behind the state cells hold
+-- at first ..
+abbrev pub GuardRunsSuffice : Type 0
+GuardRunsSuffice = (actor : Actor) (l : coded.Actor) (numbers : List Var → List ℤ) → IsSound actor
+    → HasTables actor l → IsLowered l → GuardsRunAlike actor numbers l
+    → GuardsAreAlike actor numbers l
+
+-- .. and so it is with firings
+abbrev pub FiringRunsSuffice : Type 0
+FiringRunsSuffice = (actor : Actor) (l : coded.Actor) (numbers : List Var → List ℤ)
+    → IsSound actor → HasTables actor l → IsLowered l → BodiesRunAlike actor numbers l
+    → BodiesAreAlike actor numbers l
