@@ -1,5 +1,5 @@
 -- A worked actor and its code, which have what the laws of behaviour and runs ask for: `In:[x] ==> Out:[x]`, with its code.
-use Rattle.std.proofs.Common.{take, ◌≡◌, ◌≢◌, ℕ, zero, suc, ◌<◌, ◌≤◌, ◌⊎◌, inl, inr, Bool, true, false, ℤ, List, [], ◌∷◌, ◌++◌, drop, length, refl, sym, ap, subst, ◌∙◌, arith, codes, Option, None, Some}
+use Rattle.std.proofs.Common.{take, ◌≡◌, ℕ, zero, suc, ◌<◌, ◌≤◌, inl, inr, Bool, true, false, ℤ, List, [], ◌∷◌, length, refl, sym, ap, subst, ◌∙◌, arith, codes, None, Some}
 use Rattle.std.specs.Prelude.{slice_index, Contains, slice_get, if◌then◌else◌, ◌==◌, IsTrue}
 use Rattle.rvc_base.specs.Chain.{ChainLeads}
 use Rattle.rvc_base.specs.Lawful.{tokens_on}
@@ -14,7 +14,7 @@ use Rattle.cal_model.specs.ActorState.{AreTokensOf, AreVarsOf}
 use Rattle.cal_model.specs.Eligible.{IsStateOf, next}
 use Rattle.cal_model.specs.Firing.{body}
 use Rattle.cal_model.specs.Rates.{need, give}
-use Rattle.cal_model.specs.Selection.{Above, State, guards_say, has_its_tokens, seen_by}
+use Rattle.cal_model.specs.Selection.{Above, State, has_its_tokens, seen_by}
 use Rattle.cal_model.specs.Sound.{IsSound, IsAction}
 use Rattle.schedule_fsm.specs.Automaton.{target}
 use Rattle.lowered_actor.specs.Actor as coded
@@ -206,6 +206,7 @@ echo_has_tables = record {
       may = record { in_range = omega arith; new = nothing-in 0; after = λ a h up. absurd (no-chain a 0 up.0 up.1) };
       least = λ c may. omega arith;
     }
+
     only : (k : ℕ) → k < 1 → IsNext 1 (Above echo) (Contains (take k (0 ∷ []))) (slice_index (0 ∷ []) k)
     only zero h = first
     only (suc k) h = absurd (omega arith)

@@ -1,6 +1,6 @@
 -- What one run of each guard and each firing shows of what a lowered actor does.
-use Rattle.std.proofs.Common.{◌≡◌, ℕ, zero, suc, ◌+◌, ◌<◌, ◌≤◌, ◌⊎◌, Bool, true, false, ℤ, List, [], ◌∷◌, length, take, refl, sym, ap, subst, ◌∙◌, arith, ⊎_elim}
-use Rattle.std.specs.Prelude.{Contains, Option, None, Some, slice_get}
+use Rattle.std.proofs.Common.{◌≡◌, ℕ, zero, suc, ◌+◌, ◌<◌, ◌≤◌, true, false, ℤ, List, [], ◌∷◌, length, take, refl, sym, ap, subst, ◌∙◌, arith}
+use Rattle.std.specs.Prelude.{Contains, Some}
 use Rattle.rvc_base.specs.Turns.{max_turns}
 use Rattle.rvc_base.specs.Lawful.{tokens_on}
 use Rattle.cal_ast.specs.Tree.{Tree}
@@ -20,7 +20,7 @@ use Rattle.lowered_actor.specs.Facts.{IsLowered, cells_from}
 use Rattle.lowered_actor.specs.Laws.{FiringsEnd, GuardsEnd}
 use Rattle.lowered_actor.specs.Laws as lowered_laws
 use Rattle.lowered_actor.specs.Meaning as lowered
-use Rattle.actor_tables.specs.Carrying.{BodiesAgree, BodiesAreAlike, BodiesRunAlike, GuardRuns, GuardsAgree, GuardsAreAlike, GuardsRun, GuardsRunAlike, HasTables, IsReady, IsSaid, StandsFor}
+use Rattle.actor_tables.specs.Carrying.{BodiesAgree, BodiesAreAlike, BodiesRunAlike, GuardRuns, GuardsAgree, GuardsAreAlike, GuardsRun, GuardsRunAlike, HasTables, IsReady, IsSaid}
 use Rattle.actor_tables.proofs.Rated.{has_same}
 
 -- ---- guards

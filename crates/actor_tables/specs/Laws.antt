@@ -59,8 +59,8 @@ BehavesAsMeant = (actor : Actor) (p : Priorities actor) (l : coded.Actor)
     → BehaveAlike (StandsFor actor numbers) (MayCome actor) (lowered.behaviour l)
     (behaviour actor p)
 
--- Whether guards say the same is seen from one run of each in each state, whatever the cells behind the state cells hold
--- at first ..
+-- Whether guards say the same is seen from one run of each in each state, whatever the cells behind the state cells
+-- hold at first ..
 abbrev pub GuardRunsSuffice : Type 0
 GuardRunsSuffice = (actor : Actor) (l : coded.Actor) (numbers : List Var → List ℤ) → IsSound actor
     → HasTables actor l → IsLowered l → GuardsRunAlike actor numbers l
