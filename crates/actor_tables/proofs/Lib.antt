@@ -5,3 +5,4 @@ mod Behaving
 mod Stateful
 mod RunAlike
 mod EchoRow
+mod IdleActor

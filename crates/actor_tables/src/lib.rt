@@ -12,6 +12,8 @@ mod priority;
 mod rates;
 mod schedule;
 mod tables;
+#[cfg(test)]
+mod tests;
 
 pub use priority::order;
 pub use rates::{Rates, action_rates};
