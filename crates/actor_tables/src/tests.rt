@@ -14,13 +14,13 @@ use std::test::Fail;
 /// An untagged action that does nothing.
 fn bare_action(a: Global, initialize: bool) -> BoundAction
     ensures { action_view result ≡ record {
-        tag = [];
-        patterns = [];
-        outputs = [];
-        guards = [];
-        locals = [];
-        body = nil;
-        initialize = initialize;
+      tag = [];
+      patterns = [];
+      outputs = [];
+      guards = [];
+      locals = [];
+      body = nil;
+      initialize = initialize;
     } }
 {
     BoundAction {
@@ -56,10 +56,7 @@ fn idle(a: Global) -> Result<Bound, AllocError>
 
 /// Where an action leads from a state.
 fn target(fsm: &Fsm, state: u16, action: u16) -> Option<u16> {
-    if state < fsm.states()
-        && usize::from(action) < fsm.actions()
-        && fsm.eligible(state, action)
-    {
+    if state < fsm.states() && usize::from(action) < fsm.actions() && fsm.eligible(state, action) {
         return Some(fsm.next(state, action));
     }
     None
