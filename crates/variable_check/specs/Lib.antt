@@ -1,0 +1,4 @@
+pub mod Causes
+pub mod Declared
+pub mod Faults
+pub mod Valuing
