@@ -6,10 +6,12 @@
 //! it is judged. `cal_check` says which names those are (ISO/IEC 23001-4, RVC-CAL: state variables and functions).
 #![tactic(auto)]
 
+mod calls;
 mod declared;
 mod known;
 mod seen;
 
+pub use calls::{calls_alone_need_functions, calls_any, type_calls_any};
 pub use declared::{DeclaredFun, names_differ};
 pub use known::KnownName;
 pub use seen::{names_at_rest, names_seen};
