@@ -18,12 +18,10 @@ pub struct DeclaredFun<'a> {
 fn is_named_in(name: &str, funs: &[DeclaredFun]) -> bool
     ensures { result ≡ is_named_in name.now (fun_decls funs.now) }
 {
-    let mut rest = funs;
-    'funs: while let Some((first, others)) = rest.split_first() {
-        if name == first.name {
+    for f in funs {
+        if name == f.name {
             return true;
         }
-        rest = others;
     }
     false
 }
@@ -32,12 +30,12 @@ fn is_named_in(name: &str, funs: &[DeclaredFun]) -> bool
 pub fn names_differ(funs: &[DeclaredFun]) -> bool
     ensures { result ≡ names_differ (fun_decls funs.now) }
 {
-    let mut rest = funs;
-    'funs: while let Some((first, others)) = rest.split_first() {
-        if is_named_in(first.name, others) {
+    let mut behind = 0usize;
+    for f in funs {
+        behind += 1;
+        if is_named_in(f.name, &funs[behind..]) {
             return false;
         }
-        rest = others;
     }
     true
 }

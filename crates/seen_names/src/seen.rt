@@ -48,10 +48,8 @@ fn round(
 {
     let mut next = names_alone(alloc, at_rest, known)?;
     let names = Names::outermost(alloc, before);
-    let mut rest = funs;
-    'funs: while let Some((first, others)) = rest.split_first() {
-        add_over(&mut next, &names, *first)?;
-        rest = others;
+    for f in funs {
+        add_over(&mut next, &names, *f)?;
     }
     Ok(next)
 }

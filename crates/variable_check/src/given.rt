@@ -30,12 +30,10 @@ use typed_values::{has_kind, is_like_value, stored};
 fn is_declared(name: &str, params: &[DeclaredVar]) -> bool
     ensures { result ≡ is_declared name.now (var_decls params.now) }
 {
-    let mut rest = params;
-    'params: while let Some((first, others)) = rest.split_first() {
-        if first.name == name {
+    for x in params {
+        if x.name == name {
             return true;
         }
-        rest = others;
     }
     false
 }

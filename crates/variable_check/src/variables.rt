@@ -131,10 +131,8 @@ pub fn value_all(told: Told<'_>, so_far: &mut Valued, vars: &[DeclaredVar]) -> R
     ensures { Declares result (valued (var_decls vars.now) (all_given told.entry.given.now)
         (spot_of told.owner) (fun_decls told.entry.funs.now)) so_far.old so_far.new }
 {
-    let mut rest = vars;
-    'vars: while let Some((first, others)) = rest.split_first() {
-        add_variable(told, so_far, *first)?;
-        rest = others;
+    for x in vars {
+        add_variable(told, so_far, *x)?;
     }
     Ok(())
 }
