@@ -20,7 +20,7 @@ use std::alloc::Global;
 
 /// Adds a function as it is over these names, if its head breaks no rule there.
 fn add_over(next: &mut Env, names: &Names, f: DeclaredFun) -> Result<(), Memory>
-    requires new { has_fun f.entry.name.now (held next.old).funs ≡ false }
+    requires new { has_fun f.name.now (held next.old).funs ≡ false }
     ensures added { OnOk result ((held next.new).funs ≡ (held next.old).funs
         ++ with_fun (fun_judged f.entry.name.now (function_tree f.entry.decl.now) (names_view names.now)) []) }
     ensures same_names { OnOk result (globals_of next.new ≡ globals_of next.old) }

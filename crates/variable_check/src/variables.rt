@@ -102,7 +102,7 @@ fn add_over(told: Told<'_>, so_far: &mut Valued, env: &Env, x: DeclaredVar) -> R
 
 /// Adds a variable, unless one before it has no type.
 fn add_variable(told: Told<'_>, so_far: &mut Valued, x: DeclaredVar) -> Result<(), Front>
-    requires { names_differ (fun_decls told.entry.funs.now) ≡ true }
+    requires { names_differ (fun_decls told.funs.now) ≡ true }
     ensures { Declares result (with_var (var_decl x.entry) (all_given told.entry.given.now)
         (spot_of told.owner) (fun_decls told.entry.funs.now)) so_far.old so_far.new }
 {
@@ -127,7 +127,7 @@ fn add_variable(told: Told<'_>, so_far: &mut Valued, x: DeclaredVar) -> Result<(
 /// types and starts; T7 and T9 if what must be constant traps or isn't constant. `Memory` if memory runs out. What the
 /// variables so far come to isn't said then.
 pub fn value_all(told: Told<'_>, so_far: &mut Valued, vars: &[DeclaredVar]) -> Result<(), Front>
-    requires { names_differ (fun_decls told.entry.funs.now) ≡ true }
+    requires { names_differ (fun_decls told.funs.now) ≡ true }
     ensures { Declares result (valued (var_decls vars.now) (all_given told.entry.given.now)
         (spot_of told.owner) (fun_decls told.entry.funs.now)) so_far.old so_far.new }
 {

@@ -10,7 +10,7 @@ use Rattle.seen_names.proofs.seen.add_over.Goals as goal
 pub add_fun-requires-clause-new : goal.add_fun-requires-clause-new
 add_fun-requires-clause-new c =
     subst (λ n. has_fun n (held c.args.next.now).funs ≡ false)
-    (sym (fun_named_so c.args.f.name.now (function_tree c.args.f.decl.now) (names_view c.args.names.now) (fun_view c.in-Ok.fun) c.in-Ok.ensures)) c.requires
+    (sym (fun_named_so c.args.f.name.now (function_tree c.args.f.decl.now) (names_view c.args.names.now) (fun_view c.in-Ok.fun) c.in-Ok.ensures)) c.requires.new
 
 pub add_fun-requires-clause-sized : goal.add_fun-requires-clause-sized
 add_fun-requires-clause-sized c =
