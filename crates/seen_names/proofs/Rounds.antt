@@ -1,8 +1,11 @@
 -- Functions that are found in rounds.
-use Rattle.std.proofs.Common.{◌≡◌, ℕ, zero, suc, Bool, true, false, not, List, [], ◌∷◌, ◌++◌, map, refl, sym, ap, subst, ◌∙◌, arith, append_assoc, append-nil, length, Option, None, Some}
+use Rattle.std.proofs.Common.{◌≡◌, ℕ, zero, suc, ◌+◌, ◌<◌, Bool, true, false, not, List, [], ◌∷◌, ◌++◌, map, refl, sym, ap, subst, ◌∙◌, arith, append_assoc, append-nil, length, drop, get_or, Option, None, Some}
 use Rattle.std.specs.Prelude.{◌&&◌, ◌||◌, if◌then◌else◌}
 use Rattle.std.specs.Str.{bytes_eq}
+use Rattle.std.proofs.Math.Seq.{drop-cons}
 use Rattle.cal_ast.specs.Tree.{Tree}
+use Rattle.cal_model.specs.Value.{Value}
+use Rattle.cal_model.specs.View.{value_view}
 use Rattle.cal_model.specs.Actor.{Fun}
 use Rattle.cal_model.specs.Call.{fun_named}
 use Rattle.cal_model.specs.Kinding.{Judged, Fine, Broken, Known, Names}
@@ -44,12 +47,12 @@ none_found (f ∷ fs) = (refl, none_found fs)
 
 has_behind : (name : List ℕ) (found : List Fun) (g : Fun) → has_fun name found ≡ false → bytes_eq g.name name ≡ false → has_fun name (found ++ g ∷ []) ≡ false
 has_behind name [] g h e = ap (λ b. elim (if b then Some g else None) [ None ↦ false | Some f ↦ true ]) e
-has_behind name (f ∷ found) g h e = go (bytes_eq f.name name) h
+has_behind name (f ∷ found) g h e = go (bytes_eq f.name name) h (λ i. has_behind name found g i e)
   where
-    go : (b : Bool) → elim (if b then Some f else fun_named name found) [ None ↦ false | Some f ↦ true ] ≡ false
+    go : (b : Bool) → elim (if b then Some f else fun_named name found) [ None ↦ false | Some f ↦ true ] ≡ false → (has_fun name found ≡ false → has_fun name (found ++ g ∷ []) ≡ false)
         → elim (if b then Some f else fun_named name (found ++ g ∷ [])) [ None ↦ false | Some f ↦ true ] ≡ false
-    go true h = h
-    go false h = has_behind name found g h e
+    go true h more = h
+    go false h more = more h
 
 new_behind : (fs : List FunDecl) (found : List Fun) (g : Fun) → AreNew fs found → is_named_in g.name fs ≡ false → AreNew fs (found ++ g ∷ [])
 new_behind [] found g h e = tt
@@ -136,14 +139,26 @@ pub known_first : (xs : List KnownName) (later : List Known) → last_first (kno
 known_first [] later = refl
 known_first (x ∷ xs) later = known_first xs (known_view x ∷ later)
 
+abbrev known_with : KnownName → Bool → Option Value → Known
+known_with x changes v = record { name = (known_view x).name; kind = (known_view x).kind; value = v; changes = changes }
+
+none_at_rest : (x : KnownName) (b : Bool) (v : Value) → known_with x b (if true && b then None else Some v) ≡ known_with x b (if b then None else Some v)
+none_at_rest x true v = refl
+none_at_rest x false v = refl
+
 rest_at : (x : KnownName) → known_at true x ≡ at_rest (known_view x)
-rest_at x = go x.changes
-  where
-    go : (b : Bool) → record { name = (known_view x).name; kind = (known_view x).kind; value = (if true && b then None else (known_view x).value); changes = x.changes }
-        ≡ record { name = (known_view x).name; kind = (known_view x).kind; value = (if b then None else (known_view x).value); changes = x.changes }
-    go true = refl
-    go false = refl
+rest_at x = none_at_rest x x.changes (value_view x.value)
 
 pub rest_first : (xs : List KnownName) (later : List Known) → last_first (known_at true) xs (map at_rest later) ≡ map at_rest (last_first known_view xs later)
 rest_first [] later = refl
 rest_first (x ∷ xs) later = ap (λ k. last_first (known_at true) xs (k ∷ map at_rest later)) (rest_at x) ∙ rest_first xs (known_view x ∷ later)
+
+pub rest_seen : (fs : List FunDecl) (ks : List KnownName) (names : Names) → names ≡ seen fs (last_first (known_at true) ks []) → names ≡ seen fs (map at_rest (all_known ks))
+rest_seen fs ks names h = h ∙ ap (seen fs) (rest_first ks [])
+
+-- ---- a slice from a place on
+
+pub opened : {A : Type 0} (xs : List A) (x : A) (i : ℕ) → i < length xs → x ≡ get_or xs i x → drop i xs ≡ x ∷ drop (i + 1) xs
+opened xs x i l e =
+    let more : suc i ≡ i + 1 = omega arith in
+    drop-cons xs i x l ∙ ap (λ y. y ∷ drop (suc i) xs) (sym e) ∙ ap (λ k. x ∷ drop k xs) more

@@ -2,8 +2,8 @@
 
 ghost use Rattle.std.specs.Prelude.{◌≡◌, ◌∷◌, [], IfOk, OnOk, option_map};
 ghost use Rattle.cal_model.specs.View.{value_view};
-ghost use Rattle.const_eval.specs.Held.{globals_of, held, last_first};
-ghost use Rattle.seen_names.specs.Known.{known_at, value_seen};
+ghost use Rattle.const_eval.specs.Held.{globals_of, held, last_first, names_in};
+ghost use Rattle.seen_names.specs.Known.{all_known, known_at, known_view, names_alone, value_seen};
 
 use cal_model::{Kind, Value};
 use const_eval::{Env, Meant};
@@ -47,8 +47,8 @@ fn add_known(env: &mut Env, alloc: Global, at_rest: bool, x: &KnownName) -> Resu
     env.add(x.name.as_str(), kind, value, x.changes)
 }
 
-/// The names alone, without functions.
-pub(crate) fn names_alone(alloc: Global, at_rest: bool, known: &[KnownName]) -> Result<Env, Memory>
+/// Names without functions.
+pub(crate) fn names_without(alloc: Global, at_rest: bool, known: &[KnownName]) -> Result<Env, Memory>
     ensures names { IfOk result (λ env. globals_of env ≡ last_first (known_at at_rest) known.now []) }
     ensures no_funs { IfOk result (λ env. (held env).funs ≡ []) }
 {
@@ -59,4 +59,28 @@ pub(crate) fn names_alone(alloc: Global, at_rest: bool, known: &[KnownName]) -> 
         rest = others;
     }
     Ok(env)
+}
+
+/// The names alone, without functions.
+///
+/// # Errors
+///
+/// `Memory` if memory runs out.
+pub fn names_alone(alloc: Global, known: &[KnownName]) -> Result<Env, Memory>
+    ensures { IfOk result (λ env. names_in env ≡ names_alone (all_known known.now)) }
+{
+    let env = names_without(alloc, false, known)?;
+    Ok(env)
+}
+
+/// Adds a name with its value to those of an environment.
+///
+/// # Errors
+///
+/// `Memory` if memory runs out. What the environment has isn't said then.
+pub fn add_name(env: &mut Env, alloc: Global, x: &KnownName) -> Result<(), Memory>
+    ensures added { OnOk result (globals_of env.new ≡ known_view x.now ∷ globals_of env.old) }
+    ensures same_funs { OnOk result ((held env.new).funs ≡ (held env.old).funs) }
+{
+    add_known(env, alloc, false, x)
 }

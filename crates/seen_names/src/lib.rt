@@ -13,5 +13,5 @@ mod seen;
 
 pub use calls::{calls_alone_need_functions, calls_any, type_calls_any};
 pub use declared::{DeclaredFun, names_differ};
-pub use known::KnownName;
+pub use known::{KnownName, add_name, names_alone};
 pub use seen::{names_at_rest, names_seen};

@@ -11,7 +11,7 @@ ghost use Rattle.const_eval.specs.Held.{globals_of, held, last_first, names_in};
 ghost use Rattle.seen_names.specs.Known.{all_known, fun_decls, known_at, names_differ};
 
 use crate::declared::DeclaredFun;
-use crate::known::{KnownName, names_alone};
+use crate::known::{KnownName, names_without};
 use cal_model::types_are_kept;
 use const_eval::{Env, KindFault, Names};
 use routine_build::fun_of;
@@ -46,7 +46,7 @@ fn round(
     ensures funs { IfOk result (λ env. (held env).funs
         ≡ funs_over (fun_decls funs.now) (names_in before.now)) }
 {
-    let mut next = names_alone(alloc, at_rest, known)?;
+    let mut next = names_without(alloc, at_rest, known)?;
     let names = Names::outermost(alloc, before);
     for f in funs {
         add_over(&mut next, &names, *f)?;
@@ -65,7 +65,7 @@ fn with_funs(
     ensures { IfOk result (λ env. names_in env
         ≡ seen (fun_decls funs.now) (last_first (known_at at_rest) known.now [])) }
 {
-    let mut env = names_alone(alloc, at_rest, known)?;
+    let mut env = names_without(alloc, at_rest, known)?;
     let mut rounds = 0usize;
     'rounds: while rounds < funs.len() {
         env = round(alloc, at_rest, known, funs, &env)?;

@@ -1,7 +1,7 @@
 use Rattle.std.proofs.Common.{◌≡◌, [], length}
 use Rattle.const_eval.specs.Held.{globals_of, held, last_first}
 use Rattle.seen_names.specs.Known.{known_at}
-use Rattle.seen_names.proofs.known.names_alone.Given as goal
+use Rattle.seen_names.proofs.known.names_without.Given as goal
 
 abbrev pub invariant-names : goal.invariant-names
 invariant-names l = record {
