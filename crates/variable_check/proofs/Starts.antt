@@ -8,6 +8,7 @@ use Rattle.rvc_base.specs.Rules.{constant_traps, not_constant}
 use Rattle.rvc_base.specs.declared.refusal.Rule.{Rule}
 use Rattle.rvc_base.specs.declared.trap.Trap.{Trap}
 use Rattle.cal_ast.specs.Places.{begins}
+use Rattle.cal_ast.specs.Tree as tree
 use Rattle.cal_ast.specs.Tree.{Tree}
 use Rattle.cal_model.specs.Value.{Kind, Shape, Value, kind_of_type, stored}
 use Rattle.cal_model.specs.Outcome.{Out, Gives, Traps, Lacks, Clashes}
@@ -23,12 +24,12 @@ use Rattle.const_eval.specs.Judging.{Breaks}
 use Rattle.const_eval.specs.declared.fault.KindFault.{KindFault}
 use Rattle.const_eval.specs.declared.fault.KindFault.TheVariants as fault
 use Rattle.stmt_check.specs.Judging.{Refuses}
-use Rattle.cal_check.specs.Constants.{has_kind, start_value, value_given}
+use Rattle.cal_check.specs.Constants.{early_kind, has_kind, start_value, value_given}
 use Rattle.cal_check.specs.Violations.{Violation, said, violation, without_constants}
-use Rattle.cal_check.specs.Variables.{Come, come_if, come_of}
+use Rattle.cal_check.specs.Variables.{Come, come, come_if, come_of}
 use Rattle.cal_check.proofs.Lists.{at-head}
 use Rattle.variable_check.specs.Valuing.{ComesTo, came, said_of}
-use Rattle.variable_check.specs.declared.start.Started.{Started}
+use Rattle.variable_check.specs.declared.starting.Started.{Started}
 
 -- ---- constants among names
 
@@ -114,3 +115,11 @@ not_said false rule at u h = cc
 pub start_refuses : (f : KindFault) (c : Come) (at : ℕ) → ComesTo (Err f) c at → Refuses f c.breaks
 start_refuses (fault.Broken rule p) c at h = subst (λ d. Contains d.breaks (record { rule = rule; at = p })) (sym h) (at-head (record { rule = rule; at = p }) (record { rule = rule; at = p }) [] refl)
 start_refuses fault.Memory c at h = tt
+
+-- a start that may be stored is what evaluation gives
+pub come_at : (t : Shape) (e : Tree) (names : Names) (k j : Kind) → k ≡ kind_of_type t → early_kind k e names ≡ Fine j → come t (tree.present e) names ≡ come_of (start_value t e names)
+come_at t e names k j same h = ap (λ i. come_if i t e names) (subst (λ l. early_kind l e names ≡ Fine j) same h)
+
+-- .. or breaks a rule
+pub come_breaks : (f : KindFault) (t : Shape) (e : Tree) (names : Names) (k : Kind) (at : ℕ) → k ≡ kind_of_type t → Breaks f (early_kind k e names) → ComesTo (Err f) (come t (tree.present e) names) at
+come_breaks f t e names k at same h = kind_breaks f (early_kind (kind_of_type t) e names) t e names at (subst (λ l. Breaks f (early_kind l e names)) same h)

@@ -1,4 +1,4 @@
 pub mod Causes
-pub mod Declared
+pub mod Views
 pub mod Faults
 pub mod Valuing

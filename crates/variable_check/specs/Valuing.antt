@@ -16,8 +16,8 @@ use Rattle.cal_check.specs.Violations.{Violation, said, violation}
 use Rattle.cal_check.specs.Variables.{Come, Found, Given, Spot, VarDecl, Valued, found_in, param_broken, value_of}
 use Rattle.seen_names.specs.Known.{all_known}
 use Rattle.variable_check.specs.Causes.{AreDoubts, IsCause}
-use Rattle.variable_check.specs.declared.start.Started.{Started}
-use Rattle.variable_check.specs.declared.start.Started.TheVariants as started
+use Rattle.variable_check.specs.declared.starting.Started.{Started}
+use Rattle.variable_check.specs.declared.starting.Started.TheVariants as started
 use Rattle.variable_check.specs.declared.given.Settled.{Settled}
 use Rattle.variable_check.specs.declared.valued.Valued.{Valued as Kept}
 

@@ -3,7 +3,7 @@
 ghost use Rattle.std.specs.Prelude.{◌≡◌, ◌++◌, OnOk};
 ghost use Rattle.cal_check.specs.Actors.{funs_in, params_in, vars_in};
 ghost use Rattle.seen_names.specs.Known.{fun_decls};
-ghost use Rattle.variable_check.specs.Declared.{members_tree, params_tree, var_decls};
+ghost use Rattle.variable_check.specs.Views.{members_tree, params_tree, var_decls};
 
 use cal_ast::{Expr, Member, Param, TypeExpr};
 use rvc_base::Memory;

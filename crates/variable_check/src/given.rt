@@ -10,12 +10,12 @@ ghost use Rattle.cal_check.specs.Variables.{Come, Given, found_in, given_broken,
 ghost use Rattle.cal_model.specs.Value.{IsType, Shape as ShapeOf, kind_of_type};
 ghost use Rattle.cal_model.specs.View.{kind_view, shape_view, value_view};
 ghost use Rattle.variable_check.specs.Causes.{AreDoubts};
-ghost use Rattle.variable_check.specs.Declared.{all_given, given_of, spot_of, var_decl, var_decls};
+ghost use Rattle.variable_check.specs.Views.{all_given, given_of, spot_of, var_decl, var_decls};
 ghost use Rattle.variable_check.specs.Valuing.{ComesTo, Finds, GivenStored, Settles, doubts_in, is_wrong};
 
 use crate::declared::DeclaredVar;
 use crate::fault::refused;
-use crate::start::Started;
+use crate::starting::Started;
 use crate::valued::Told;
 use cal_ast::Expr;
 use cal_model::{Kind, Shape, Value};
@@ -145,9 +145,9 @@ fn defaulted(
     started: Started,
     doubt: Option<Place>,
 ) -> Result<Settled, Front>
-    ensures { (c : Come) (at : ℕ) (gs : List Given) (t : ShapeOf) → x.is_param ≡ true
+    ensures { (c : Come) (at : ℕ) (gs : List Given) (t : ShapeOf) → x.entry.is_param ≡ true
         → given_to x.entry.name.now gs ≡ None → ComesTo (Ok started) c at
-        → AreDoubts (doubts_in doubt) (found_in x.file c.breaks)
+        → AreDoubts (doubts_in doubt) (found_in x.entry.file c.breaks)
         → Settles result (var_decl x.entry) gs (spot_of owner) t c }
 {
     if x.start.is_none() {
@@ -168,7 +168,7 @@ pub(crate) fn settle(
     requires allowed { IsType (shape_view t.now) }
     requires kind { kind_view k.now ≡ kind_of_type (shape_view t.now) }
     ensures { (c : Come) → ComesTo (Ok started) c (begins (optional_expr x.entry.start.now))
-        → Settles result (var_decl x.entry) (all_given told.entry.given.now) (spot_of told.owner)
+        → Settles result (var_decl x.entry) (all_given told.entry.given.now) (spot_of told.entry.owner)
         (shape_view t.now) c }
 {
     let doubt = doubt_started(x.file, place_of(x.start), &started);

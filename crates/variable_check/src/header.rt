@@ -10,7 +10,7 @@ ghost use Rattle.const_eval.specs.Counting.{names_view};
 ghost use Rattle.const_eval.specs.Judging.{Judges};
 ghost use Rattle.member_check.specs.Parts.{bare_header_broken};
 ghost use Rattle.stmt_check.specs.Judging.{Checks, Refuses};
-ghost use Rattle.variable_check.specs.Declared.{ports_tree};
+ghost use Rattle.variable_check.specs.Views.{ports_tree};
 ghost use Rattle.variable_check.specs.Faults.{kind_fault};
 
 use cal_ast::PortDecl;
@@ -83,7 +83,7 @@ fn bare_header(names: &Names, ins: &[PortDecl], outs: &[PortDecl], at: u32) -> R
 /// `Broken` with a rule that the header breaks, and its place: what the type of a port breaks, T8 if it is that of
 /// lists, A1 at a second port of one name, Z3 at the actor if there are more than 32 of one direction. `Memory` if memory
 /// runs out.
-pub fn header(
+pub fn header_ports(
     names: &Names,
     ins: &[PortDecl],
     outs: &[PortDecl],

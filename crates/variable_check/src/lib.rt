@@ -10,13 +10,13 @@ mod declared;
 mod fault;
 mod given;
 mod header;
-mod start;
+mod starting;
 mod valued;
 mod variables;
 
 pub use declared::{DeclaredVar, add_functions, add_parameters, add_variables};
 pub use given::{given_rightly, given_to};
-pub use header::{Header, header};
-pub use start::{Started, start};
+pub use header::{Header, header_ports};
+pub use starting::{Started, start};
 pub use valued::{Told, Valued};
 pub use variables::value_all;

@@ -6,7 +6,7 @@ ghost use Rattle.cal_check.specs.Variables.{Found, Valued as ValuedOf, held_if, 
 ghost use Rattle.cal_model.specs.Value.{Items, Nil, kind_of_type};
 ghost use Rattle.cal_model.specs.View.{kind_view, shape_view, value_view, var_view};
 ghost use Rattle.variable_check.specs.Causes.{AreDoubts};
-ghost use Rattle.variable_check.specs.Declared.{var_decl};
+ghost use Rattle.variable_check.specs.Views.{var_decl};
 ghost use Rattle.variable_check.specs.Valuing.{IsValued, doubts_in};
 
 use crate::declared::DeclaredVar;

@@ -10,13 +10,13 @@ ghost use Rattle.cal_model.specs.View.{kind_view, shape_view};
 ghost use Rattle.const_eval.specs.Held.{names_in};
 ghost use Rattle.const_eval.specs.Judging.{Breaks};
 ghost use Rattle.seen_names.specs.Known.{fun_decls, names_differ};
-ghost use Rattle.variable_check.specs.Declared.{all_given, spot_of, var_decl, var_decls};
+ghost use Rattle.variable_check.specs.Views.{all_given, spot_of, var_decl, var_decls};
 ghost use Rattle.variable_check.specs.Valuing.{Declares, Settles, said_of};
 
 use crate::declared::DeclaredVar;
 use crate::fault::in_file;
 use crate::given::{Settled, settle};
-use crate::start::{said, start};
+use crate::starting::{said, start};
 use crate::valued::{Told, Valued};
 use cal_model::{Kind, Shape, kind_of_type, types_are_kept};
 use const_eval::{Env, KindFault, Names};
@@ -25,7 +25,7 @@ use rvc_base::{Front, Memory, Rule};
 use seen_names::names_seen;
 
 /// What a variable of a type and its kind comes to.
-fn settled(
+fn value_of(
     told: Told<'_>,
     useless: bool,
     env: &Env,
@@ -35,7 +35,7 @@ fn settled(
 ) -> Result<Settled, Front>
     requires allowed { IsType (shape_view t.now) }
     requires kind { kind_view k.now ≡ kind_of_type (shape_view t.now) }
-    ensures { Settles result (var_decl x.entry) (all_given told.entry.given.now) (spot_of told.owner)
+    ensures { Settles result (var_decl x.entry) (all_given told.entry.given.now) (spot_of told.entry.owner)
         (shape_view t.now)
         (said_of useless (come (shape_view t.now) (optional_expr x.entry.start.now) (names_in env.now))) }
 {
@@ -55,14 +55,14 @@ fn add_typed(
 ) -> Result<(), Front>
     requires { IsType (shape_view t) }
     ensures { Declares result (λ vs. with_come (var_decl x.entry) (all_given told.entry.given.now)
-        (spot_of told.owner) (shape_view t)
+        (spot_of told.entry.owner) (shape_view t)
         (come (shape_view t) (optional_expr x.entry.start.now) (names_in env.now)) vs)
         so_far.old so_far.new }
 {
     let Ok(k) = kind_of_type(told.alloc, &t) else {
         return Err(Front::Memory);
     };
-    let settled = settled(told, so_far.useless, env, x, &t, &k)?;
+    let settled = value_of(told, so_far.useless, env, x, &t, &k)?;
     match so_far.add(told.alloc, x, t, k, settled) {
         Ok(()) => Ok(()),
         Err(Memory) => Err(Front::Memory),
@@ -90,7 +90,7 @@ fn untyped(so_far: &mut Valued, file: u32, fault: KindFault) -> Result<(), Front
 /// Adds a variable over the names that it sees.
 fn add_over(told: Told<'_>, so_far: &mut Valued, env: &Env, x: DeclaredVar) -> Result<(), Front>
     ensures { Declares result (λ vs. with_type (early_type (type_tree x.entry.shape.now) (names_in env.now))
-        (var_decl x.entry) (all_given told.entry.given.now) (spot_of told.owner) (names_in env.now) vs)
+        (var_decl x.entry) (all_given told.entry.given.now) (spot_of told.entry.owner) (names_in env.now) vs)
         so_far.old so_far.new }
 {
     types_are_kept();
@@ -104,7 +104,7 @@ fn add_over(told: Told<'_>, so_far: &mut Valued, env: &Env, x: DeclaredVar) -> R
 fn add_variable(told: Told<'_>, so_far: &mut Valued, x: DeclaredVar) -> Result<(), Front>
     requires { names_differ (fun_decls told.funs.now) ≡ true }
     ensures { Declares result (with_var (var_decl x.entry) (all_given told.entry.given.now)
-        (spot_of told.owner) (fun_decls told.entry.funs.now)) so_far.old so_far.new }
+        (spot_of told.entry.owner) (fun_decls told.entry.funs.now)) so_far.old so_far.new }
 {
     if !so_far.whole {
         return Ok(());
@@ -129,7 +129,7 @@ fn add_variable(told: Told<'_>, so_far: &mut Valued, x: DeclaredVar) -> Result<(
 pub fn value_all(told: Told<'_>, so_far: &mut Valued, vars: &[DeclaredVar]) -> Result<(), Front>
     requires { names_differ (fun_decls told.funs.now) ≡ true }
     ensures { Declares result (valued (var_decls vars.now) (all_given told.entry.given.now)
-        (spot_of told.owner) (fun_decls told.entry.funs.now)) so_far.old so_far.new }
+        (spot_of told.entry.owner) (fun_decls told.entry.funs.now)) so_far.old so_far.new }
 {
     for x in vars {
         add_variable(told, so_far, *x)?;

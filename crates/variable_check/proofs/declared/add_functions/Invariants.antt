@@ -1,7 +1,7 @@
 use Rattle.std.proofs.Common.{◌≡◌, ◌++◌, length}
 use Rattle.cal_check.specs.Actors.{funs_in}
 use Rattle.seen_names.specs.Known.{fun_decls}
-use Rattle.variable_check.specs.Declared.{members_tree}
+use Rattle.variable_check.specs.Views.{members_tree}
 use Rattle.variable_check.proofs.declared.add_functions.Given as goal
 
 abbrev pub invariant-members : goal.invariant-members

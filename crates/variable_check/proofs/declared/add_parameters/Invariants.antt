@@ -1,6 +1,6 @@
 use Rattle.std.proofs.Common.{◌≡◌, ◌++◌, length}
 use Rattle.cal_check.specs.Actors.{params_in}
-use Rattle.variable_check.specs.Declared.{params_tree, var_decls}
+use Rattle.variable_check.specs.Views.{params_tree, var_decls}
 use Rattle.variable_check.proofs.declared.add_parameters.Given as goal
 
 abbrev pub invariant-params : goal.invariant-params

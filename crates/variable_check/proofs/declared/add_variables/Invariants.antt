@@ -1,6 +1,6 @@
 use Rattle.std.proofs.Common.{◌≡◌, ◌++◌, length}
 use Rattle.cal_check.specs.Actors.{vars_in}
-use Rattle.variable_check.specs.Declared.{members_tree, var_decls}
+use Rattle.variable_check.specs.Views.{members_tree, var_decls}
 use Rattle.variable_check.proofs.declared.add_variables.Given as goal
 
 abbrev pub invariant-members : goal.invariant-members

@@ -3,7 +3,7 @@ use Rattle.std.proofs.lemmas.List.{map-append}
 use Rattle.cal_check.specs.Actors.{given_wrongly}
 use Rattle.variable_check.proofs.Wrongly.{wrongly_here, wrongly_passed}
 use Rattle.variable_check.specs.Causes.{IsCause}
-use Rattle.variable_check.specs.Declared.{all_given, given_of, var_decls}
+use Rattle.variable_check.specs.Views.{all_given, given_of, var_decls}
 use Rattle.variable_check.proofs.given.given_rightly.Goals as goal
 
 pub returns-then-is_wrong : goal.returns-then-is_wrong

@@ -1,6 +1,6 @@
 use Rattle.std.proofs.Common.{◌≡◌, [], length}
 use Rattle.cal_check.specs.Actors.{given_wrongly}
-use Rattle.variable_check.specs.Declared.{all_given, var_decls}
+use Rattle.variable_check.specs.Views.{all_given, var_decls}
 use Rattle.variable_check.proofs.given.given_rightly.Given as goal
 
 abbrev pub invariant-backwards : goal.invariant-backwards

@@ -1,6 +1,6 @@
 use Rattle.std.proofs.Common.{◌≡◌, length}
 use Rattle.cal_check.specs.Variables.{given_to}
-use Rattle.variable_check.specs.Declared.{all_given}
+use Rattle.variable_check.specs.Views.{all_given}
 use Rattle.variable_check.proofs.given.given_to.Given as goal
 
 abbrev pub invariant-given : goal.invariant-given

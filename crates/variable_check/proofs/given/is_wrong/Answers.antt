@@ -3,7 +3,7 @@ use Rattle.std.specs.Prelude.{is_some, string_bytes}
 use Rattle.cal_check.specs.Actors.{is_declared}
 use Rattle.cal_check.specs.Variables.{given_to}
 use Rattle.variable_check.proofs.Wrongly.{some_mapped, wrong_if_given}
-use Rattle.variable_check.specs.Declared.{all_given, given_of, var_decls}
+use Rattle.variable_check.specs.Views.{all_given, given_of, var_decls}
 use Rattle.variable_check.proofs.given.is_wrong.Goals as goal
 
 pub returns-else-not-is_declared : goal.returns-else-not-is_declared

@@ -3,7 +3,7 @@ use Rattle.cal_model.specs.View.{port_view}
 use Rattle.const_eval.specs.Counting.{names_view}
 use Rattle.cal_check.specs.Ports.{each_port}
 use Rattle.cal_check.specs.Violations.{all_broken, all_fine}
-use Rattle.variable_check.specs.Declared.{ports_tree}
+use Rattle.variable_check.specs.Views.{ports_tree}
 use Rattle.variable_check.specs.Faults.{behind}
 use Rattle.variable_check.proofs.header.ports.Given as goal
 

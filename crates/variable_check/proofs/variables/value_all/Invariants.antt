@@ -1,7 +1,7 @@
 use Rattle.std.proofs.Common.{drop}
 use Rattle.cal_check.specs.Variables.{Valued}
 use Rattle.seen_names.specs.Known.{fun_decls}
-use Rattle.variable_check.specs.Declared.{all_given, spot_of, var_decls}
+use Rattle.variable_check.specs.Views.{all_given, spot_of, var_decls}
 use Rattle.variable_check.specs.Valuing.{IsValued}
 use Rattle.variable_check.proofs.Adding.{AreAdded}
 use Rattle.variable_check.proofs.variables.value_all.Given as goal
