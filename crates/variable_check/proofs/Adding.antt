@@ -1,5 +1,6 @@
 -- Variables, one after another.
-use Rattle.std.proofs.Common.{◌≡◌, ℕ, Bool, true, false, List, [], ◌∷◌, ◌++◌, map, refl, sym, ap, subst, ◌∙◌, Ok, Err}
+use Rattle.std.proofs.Common.{◌≡◌, ℕ, suc, ◌+◌, ◌<◌, Bool, true, false, List, [], ◌∷◌, ◌++◌, length, drop, get_or, map, refl, sym, ap, subst, ◌∙◌, arith, Ok, Err}
+use Rattle.std.proofs.Math.Seq.{drop-cons}
 use Rattle.std.specs.Prelude.{Option, None, Some, ◌||◌, if◌then◌else◌}
 use Rattle.std.specs.declared.result.Result.{Result}
 use Rattle.rvc_base.specs.declared.refusal.Rule.{Rule}
@@ -128,3 +129,10 @@ pub added_refused : (f : Front) (x : VarDecl) (left all : List VarDecl) (gs : Li
     → AreAdded (x ∷ left) all gs owner fs old vs → Declares (Err f) (with_var x gs owner fs) old new → IsCause f (valued all gs owner fs vs).breaks
 added_refused f x left all gs owner fs old new vs h d =
     subst (λ us. IsCause f us.breaks) h.same (stays_broken left gs owner fs (with_var x gs owner fs h.after) f (d h.after h.is_valued))
+
+-- ---- a slice from a place on
+
+pub opened : {A : Type 0} (xs : List A) (x : A) (i : ℕ) → i < length xs → x ≡ get_or xs i x → drop i xs ≡ x ∷ drop (i + 1) xs
+opened xs x i l e =
+    let more : suc i ≡ i + 1 = omega arith in
+    drop-cons xs i x l ∙ ap (λ y. y ∷ drop (suc i) xs) (sym e) ∙ ap (λ k. x ∷ drop k xs) more

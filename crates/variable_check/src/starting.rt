@@ -76,15 +76,23 @@ fn value_at(alloc: Global, env: &Env, t: &Shape, k: &Kind, e: &Expr) -> Result<S
         (begins (expr_tree e.now)) }
 {
     constants_are_values();
+    let at = place_of(e);
     match eval_const(alloc, env, e) {
         Ok(value) => Ok(kept(alloc, t, k, &value)?),
         Err(ConstFault::Trap(_)) => Err(KindFault::Broken {
             rule: Rule::CONSTANT_TRAPS,
-            at: e.at,
+            at,
         }),
         Err(ConstFault::NotConstant) => Ok(Started::Doubtful),
         Err(ConstFault::Memory) => Err(KindFault::Memory),
     }
+}
+
+/// The offset at which an expression begins.
+fn place_of(e: &Expr) -> u32
+    ensures { result ≡ begins (expr_tree e.now) }
+{
+    e.at
 }
 
 /// A value that evaluation gives, stored in a type if it is of its kind.

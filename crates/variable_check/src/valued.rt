@@ -2,9 +2,9 @@
 
 ghost use Rattle.std.specs.Prelude.{◌≡◌, ◌++◌, ◌||◌, IfOk, List, OnOk, map, option_map};
 ghost use Rattle.cal_check.specs.Constants.{useless};
-ghost use Rattle.cal_check.specs.Variables.{Found, Valued as ValuedOf, held_if, none_yet, value_or, with_value};
+ghost use Rattle.cal_check.specs.Variables.{Found, Valued as ValuedOf, held_if, is_none, none_yet, value_or, with_value};
 ghost use Rattle.cal_model.specs.Value.{Items, Nil, kind_of_type};
-ghost use Rattle.cal_model.specs.View.{kind_view, shape_view, value_view, var_view};
+ghost use Rattle.cal_model.specs.View.{in_order, kind_view, shape_view, value_view, var_view};
 ghost use Rattle.variable_check.specs.Causes.{AreDoubts};
 ghost use Rattle.variable_check.specs.Views.{var_decl};
 ghost use Rattle.variable_check.specs.Valuing.{IsValued, doubts_in};
@@ -82,10 +82,11 @@ impl Valued {
             value,
             changes,
         })?;
-        self.useless = either(self.useless, settled.value.is_none());
+        self.useless = either(self.useless, is_absent(&settled.value));
         self.whole = true;
         add_doubt(&mut self.doubts, settled.doubt)?;
-        add_held(alloc, &mut self.held, x, t, settled.value)
+        add_held(alloc, &mut self.held, x, t, settled.value)?;
+        Ok(())
     }
 }
 
@@ -94,6 +95,16 @@ fn either(a: bool, b: bool) -> bool
     ensures { result ≡ (a || b) }
 {
     a || b
+}
+
+/// Whether there is no value.
+fn is_absent(value: &Option<Value>) -> bool
+    ensures { result ≡ is_none (option_map value_view value.now) }
+{
+    match value {
+        Some(_) => false,
+        None => true,
+    }
 }
 
 /// A value, or one of another kind in its place.
@@ -122,7 +133,13 @@ fn useless(alloc: Global, k: &Kind) -> Value
 fn empty_list(alloc: Global) -> Value
     ensures { value_view result ≡ Items Nil }
 {
-    let items = Vec::new(alloc);
+    list_of(Vec::new(alloc))
+}
+
+/// The list of values.
+fn list_of(items: Vec<Value>) -> Value
+    ensures { value_view result ≡ Items (in_order (map value_view items.items)) }
+{
     Value::List(Values { items })
 }
 
