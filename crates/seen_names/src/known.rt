@@ -48,7 +48,11 @@ fn add_known(env: &mut Env, alloc: Global, at_rest: bool, x: &KnownName) -> Resu
 }
 
 /// Names without functions.
-pub(crate) fn names_without(alloc: Global, at_rest: bool, known: &[KnownName]) -> Result<Env, Memory>
+pub(crate) fn names_without(
+    alloc: Global,
+    at_rest: bool,
+    known: &[KnownName],
+) -> Result<Env, Memory>
     ensures names { IfOk result (λ env. globals_of env ≡ last_first (known_at at_rest) known.now []) }
     ensures no_funs { IfOk result (λ env. (held env).funs ≡ []) }
 {

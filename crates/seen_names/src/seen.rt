@@ -96,7 +96,11 @@ pub fn names_seen(alloc: Global, known: &[KnownName], funs: &[DeclaredFun]) -> R
 /// # Errors
 ///
 /// `Memory` if memory runs out.
-pub fn names_at_rest(alloc: Global, known: &[KnownName], funs: &[DeclaredFun]) -> Result<Env, Memory>
+pub fn names_at_rest(
+    alloc: Global,
+    known: &[KnownName],
+    funs: &[DeclaredFun],
+) -> Result<Env, Memory>
     requires { names_differ (fun_decls funs.now) ≡ true }
     ensures { IfOk result (λ env. names_in env
         ≡ seen (fun_decls funs.now) (map at_rest (all_known known.now))) }

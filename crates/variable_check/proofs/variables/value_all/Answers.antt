@@ -1,4 +1,5 @@
-use Rattle.std.proofs.Common.{◌≡◌, ◌+◌, [], ◌∷◌, Err, drop, sym, ap, subst, ◌∙◌, rules}
+use Rattle.std.proofs.Common.{◌≡◌, ◌+◌, [], ◌∷◌, Err, drop, sym, subst, arith, rules}
+use Rattle.std.proofs.Math.ListN.{drop_of_length-le}
 use Rattle.seen_names.specs.Known.{fun_decls}
 use Rattle.cal_check.specs.Variables.{valued}
 use Rattle.variable_check.specs.Valuing.{Values}
@@ -33,6 +34,6 @@ returns c = λ vs h.
     let gs = all_given c.args.told.given.now in
     let owner = spot_of c.args.told.owner in
     let fs = fun_decls c.args.told.funs.now in
-    let none : drop c.loop-x.x-index c.args.vars.now ≡ [] = search rules in
+    let none : drop c.loop-x.x-index c.args.vars.now ≡ [] = drop_of_length-le c.args.vars.now (omega (arith, c.loop-x-test.false)) in
     added_all (var_decls c.args.vars.now) gs owner fs c.loop-x.so_far vs
     (subst (λ xs. AreAdded (var_decls xs) (var_decls c.args.vars.now) gs owner fs c.loop-x.so_far vs) none (c.loop-x.invariant vs h))
