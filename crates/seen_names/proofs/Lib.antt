@@ -1,0 +1,5 @@
+mod Sized
+mod Rounds
+mod SameCalls
+mod SameKinds
+mod Callless

@@ -1,0 +1,109 @@
+//! Names with all functions that are seen over them.
+
+ghost use Rattle.std.specs.Prelude.{◌≡◌, ◌++◌, [], IfOk, OnOk, false, map, true};
+ghost use Rattle.cal_ast.specs.View.{function_tree};
+ghost use Rattle.cal_check.specs.Actors.{at_rest};
+ghost use Rattle.cal_check.specs.Routines.{fun_judged, funs_over, with_fun};
+ghost use Rattle.cal_check.specs.Variables.{seen};
+ghost use Rattle.const_eval.specs.Constants.{has_fun};
+ghost use Rattle.const_eval.specs.Counting.{names_view};
+ghost use Rattle.const_eval.specs.Held.{globals_of, held, last_first, names_in};
+ghost use Rattle.seen_names.specs.Known.{all_known, fun_decls, known_at, names_differ};
+
+use crate::declared::DeclaredFun;
+use crate::known::{KnownName, names_without};
+use cal_model::types_are_kept;
+use const_eval::{Env, KindFault, Names};
+use routine_build::fun_of;
+use rvc_base::Memory;
+use std::alloc::Global;
+
+/// Adds a function as it is over these names, if its head breaks no rule there.
+fn add_over(next: &mut Env, names: &Names, f: DeclaredFun) -> Result<(), Memory>
+    requires new { has_fun f.name.now (held next.old).funs ≡ false }
+    ensures added { OnOk result ((held next.new).funs ≡ (held next.old).funs
+        ++ with_fun (fun_judged f.entry.name.now (function_tree f.entry.decl.now) (names_view names.now)) []) }
+    ensures same_names { OnOk result (globals_of next.new ≡ globals_of next.old) }
+{
+    types_are_kept();
+    match fun_of(names, f.name, f.decl) {
+        Ok(fun) => next.add_fun(fun),
+        Err(KindFault::Broken { .. }) => Ok(()),
+        Err(KindFault::Memory) => Err(Memory),
+    }
+}
+
+/// The names with the functions as they are over the names and the functions that were found before.
+fn round(
+    alloc: Global,
+    at_rest: bool,
+    known: &[KnownName],
+    funs: &[DeclaredFun],
+    before: &Env,
+) -> Result<Env, Memory>
+    requires { names_differ (fun_decls funs.now) ≡ true }
+    ensures names { IfOk result (λ env. globals_of env ≡ last_first (known_at at_rest) known.now []) }
+    ensures funs { IfOk result (λ env. (held env).funs
+        ≡ funs_over (fun_decls funs.now) (names_in before.now)) }
+{
+    let mut next = names_without(alloc, at_rest, known)?;
+    let names = Names::outermost(alloc, before);
+    for f in funs {
+        add_over(&mut next, &names, *f)?;
+    }
+    Ok(next)
+}
+
+/// The names with all functions. A head may call functions in its sizes, so there are as many rounds as functions.
+fn with_funs(
+    alloc: Global,
+    at_rest: bool,
+    known: &[KnownName],
+    funs: &[DeclaredFun],
+) -> Result<Env, Memory>
+    requires { names_differ (fun_decls funs.now) ≡ true }
+    ensures { IfOk result (λ env. names_in env
+        ≡ seen (fun_decls funs.now) (last_first (known_at at_rest) known.now [])) }
+{
+    let mut env = names_without(alloc, at_rest, known)?;
+    let mut rounds = 0usize;
+    'rounds: while rounds < funs.len() {
+        env = round(alloc, at_rest, known, funs, &env)?;
+        rounds += 1;
+    }
+    Ok(env)
+}
+
+/// What is seen of names that are known while values are sought: their values, and all functions over them. The names of
+/// the functions differ.
+///
+/// [`names_differ`](crate::names_differ) tests the condition.
+///
+/// # Errors
+///
+/// `Memory` if memory runs out.
+pub fn names_seen(alloc: Global, known: &[KnownName], funs: &[DeclaredFun]) -> Result<Env, Memory>
+    requires { names_differ (fun_decls funs.now) ≡ true }
+    ensures { IfOk result (λ env. names_in env ≡ seen (fun_decls funs.now) (all_known known.now)) }
+{
+    with_funs(alloc, false, known, funs)
+}
+
+/// What is seen of them inside an actor, once all values are known: of what changes only the kind.
+///
+/// [`names_differ`](crate::names_differ) tests the condition.
+///
+/// # Errors
+///
+/// `Memory` if memory runs out.
+pub fn names_at_rest(
+    alloc: Global,
+    known: &[KnownName],
+    funs: &[DeclaredFun],
+) -> Result<Env, Memory>
+    requires { names_differ (fun_decls funs.now) ≡ true }
+    ensures { IfOk result (λ env. names_in env
+        ≡ seen (fun_decls funs.now) (map at_rest (all_known known.now))) }
+{
+    with_funs(alloc, true, known, funs)
+}

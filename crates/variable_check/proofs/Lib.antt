@@ -1,0 +1,6 @@
+mod Wrongly
+mod Faults
+mod Starts
+mod Settling
+mod Adding
+mod Headers

@@ -1,0 +1,4 @@
+pub mod Causes
+pub mod Views
+pub mod Faults
+pub mod Valuing

@@ -1,0 +1,187 @@
+//! Values that parameters are given.
+#![tactic(auto, using(crate::proofs::Wrongly::wrongly_behind, crate::proofs::Wrongly::given_is))]
+
+ghost use Rattle.std.specs.Prelude.{◌≡◌, ℕ, List, [], None, Some, option_map, true};
+ghost use Rattle.std.specs.declared.result.Result.TheVariants.{Ok};
+ghost use Rattle.cal_ast.specs.Places.{begins};
+ghost use Rattle.cal_ast.specs.View.{optional_expr};
+ghost use Rattle.cal_check.specs.Actors.{given_wrongly, is_declared};
+ghost use Rattle.cal_check.specs.Variables.{Come, Given, found_in, given_broken, given_to, given_value};
+ghost use Rattle.cal_model.specs.Value.{IsType, Shape as ShapeOf, kind_of_type};
+ghost use Rattle.cal_model.specs.View.{kind_view, shape_view, value_view};
+ghost use Rattle.variable_check.specs.Causes.{AreDoubts};
+ghost use Rattle.variable_check.specs.Views.{all_given, given_of, spot_of, var_decl, var_decls};
+ghost use Rattle.variable_check.specs.Valuing.{ComesTo, Finds, GivenStored, Settles, doubts_in, is_wrong};
+
+use crate::declared::DeclaredVar;
+use crate::fault::refused;
+use crate::starting::Started;
+use crate::valued::Told;
+use cal_ast::Expr;
+use cal_model::{Kind, Shape, Value};
+use fnl_tree::LeafValue;
+use rvc_base::{Front, Memory, Place, Rule};
+use std::alloc::Global;
+use typed_values::{has_kind, is_like_value, stored};
+
+// ---- which are given
+
+/// Whether a variable of the name is among these.
+fn is_declared(name: &str, params: &[DeclaredVar]) -> bool
+    ensures { result ≡ is_declared name.now (var_decls params.now) }
+{
+    for x in params {
+        if x.name == name {
+            return true;
+        }
+    }
+    false
+}
+
+/// The value that is given to a parameter of the name: the first of those that are given.
+pub fn given_to<'a>(name: &str, given: &'a [LeafValue]) -> Option<&'a LeafValue>
+    ensures { option_map (λ g. given_of g.now) result ≡ given_to name.now (all_given given.entry.now) }
+{
+    let mut rest = given;
+    'given: while let Some((first, others)) = rest.split_first() {
+        if first.name.as_str() == name {
+            return Some(first);
+        }
+        rest = others;
+    }
+    None
+}
+
+/// Whether a value is given to no parameter, or to one that is given another before.
+fn is_wrong(given: &LeafValue, before: &[LeafValue], params: &[DeclaredVar]) -> bool
+    ensures { result ≡ is_wrong (given_of given.now) (all_given before.now) (var_decls params.now) }
+{
+    let name = given.name.as_str();
+    !is_declared(name, params) || given_to(name, before).is_some()
+}
+
+/// That each value is given to a parameter, and none of these is given two.
+///
+/// # Errors
+///
+/// `Refused`: N2 at a value that is given to no parameter, or to one that is given another before it.
+pub fn given_rightly(given: &[LeafValue], params: &[DeclaredVar]) -> Result<(), Front>
+    ensures { Finds result (given_wrongly (all_given given.now) [] (var_decls params.now)) }
+{
+    let mut rest = given;
+    'backwards: while let Some((last, before)) = rest.split_last() {
+        if is_wrong(last, before, params) {
+            return Err(refused(Rule::WRONG_PARAMETER, last.place));
+        }
+        rest = before;
+    }
+    Ok(())
+}
+
+// ---- values
+
+/// What a variable holds at first, if it has a value that is of use, and where its start begins if that is in doubt.
+#[derive(Debug, Drop)]
+pub(crate) struct Settled {
+    pub value: Option<Value>,
+    pub doubt: Option<Place>,
+}
+
+/// What a parameter of a type and its kind holds once the value is stored in it.
+fn given_stored(alloc: Global, t: &Shape, k: &Kind, given: &LeafValue) -> Result<Value, Front>
+    requires allowed { IsType (shape_view t.now) }
+    requires kind { kind_view k.now ≡ kind_of_type (shape_view t.now) }
+    ensures { GivenStored result (given_value (Some (given_of given.now)) (shape_view t.now) None)
+        (given_broken (Some (given_of given.now)) (shape_view t.now)) }
+{
+    if has_kind(k, &given.value) {
+        return match stored(alloc, t, &given.value) {
+            Ok(value) => Ok(value),
+            Err(Memory) => Err(Front::Memory),
+        };
+    }
+    if is_like_value(k, &given.value) {
+        return Err(refused(Rule::WRONG_LENGTH, given.place));
+    }
+    Err(refused(Rule::WRONG_KIND, given.place))
+}
+
+/// The offset at which a start begins, or 0 if there is none.
+fn place_of(start: &Option<Expr>) -> u32
+    ensures { result ≡ begins (optional_expr start.now) }
+{
+    match start {
+        Some(e) => e.at,
+        None => 0,
+    }
+}
+
+/// The value that a start comes to.
+fn value_started(started: Started) -> Option<Value>
+    ensures { (c : Come) (at : ℕ) → ComesTo (Ok started) c at → c.value ≡ option_map value_view result }
+{
+    match started {
+        Started::Value(value) => Some(value),
+        Started::Useless => None,
+        Started::Doubtful => None,
+    }
+}
+
+/// The place of a start that is in doubt.
+fn doubt_started(file: u32, at: u32, started: &Started) -> Option<Place>
+    ensures { (c : Come) → ComesTo (Ok started.now) c at → AreDoubts (doubts_in result) (found_in file c.breaks) }
+{
+    match started {
+        Started::Value(_) => None,
+        Started::Useless => None,
+        Started::Doubtful => Some(Place { file, offset: at }),
+    }
+}
+
+/// What a parameter holds at first that starts so and isn't given a value.
+fn defaulted(
+    x: DeclaredVar,
+    owner: Place,
+    started: Started,
+    doubt: Option<Place>,
+) -> Result<Settled, Front>
+    ensures { (c : Come) (at : ℕ) (gs : List Given) (t : ShapeOf) → x.entry.is_param ≡ true
+        → given_to x.entry.name.now gs ≡ None → ComesTo (Ok started) c at
+        → AreDoubts (doubts_in doubt) (found_in x.entry.file c.breaks)
+        → Settles result (var_decl x.entry) gs (spot_of owner) t c }
+{
+    if x.start.is_none() {
+        return Err(refused(Rule::WRONG_PARAMETER, owner));
+    }
+    let value = value_started(started);
+    Ok(Settled { value, doubt })
+}
+
+/// What a variable holds at first that starts so: of a parameter the value that it is given, if it is given one.
+pub(crate) fn settle(
+    told: Told<'_>,
+    x: DeclaredVar,
+    t: &Shape,
+    k: &Kind,
+    started: Started,
+) -> Result<Settled, Front>
+    requires allowed { IsType (shape_view t.now) }
+    requires kind { kind_view k.now ≡ kind_of_type (shape_view t.now) }
+    ensures { (c : Come) → ComesTo (Ok started) c (begins (optional_expr x.entry.start.now))
+        → Settles result (var_decl x.entry) (all_given told.entry.given.now) (spot_of told.entry.owner)
+        (shape_view t.now) c }
+{
+    let doubt = doubt_started(x.file, place_of(x.start), &started);
+    if !x.is_param {
+        let value = value_started(started);
+        return Ok(Settled { value, doubt });
+    }
+    let Some(g) = given_to(x.name, told.given) else {
+        return defaulted(x, told.owner, started, doubt);
+    };
+    let value = given_stored(told.alloc, t, k, g)?;
+    Ok(Settled {
+        value: Some(value),
+        doubt,
+    })
+}

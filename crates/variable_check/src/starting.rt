@@ -1,0 +1,148 @@
+//! The values with which variables start.
+
+ghost use Rattle.std.specs.Prelude.{◌≡◌, ℕ, IfOk, true};
+ghost use Rattle.std.specs.declared.result.Result.TheVariants.{Err, Ok};
+ghost use Rattle.cal_ast.specs.Places.{begins};
+ghost use Rattle.cal_ast.specs.Tree.{present};
+ghost use Rattle.cal_ast.specs.View.{expr_tree, optional_expr};
+ghost use Rattle.cal_check.specs.Constants.{start_value, value_given};
+ghost use Rattle.cal_check.specs.Variables.{Come, come, come_of};
+ghost use Rattle.cal_model.specs.Outcome.{Gives};
+ghost use Rattle.cal_model.specs.Value.{IsType, kind_of_type};
+ghost use Rattle.cal_model.specs.View.{kind_view, shape_view, value_view};
+ghost use Rattle.const_eval.specs.Held.{names_in};
+ghost use Rattle.variable_check.specs.Valuing.{ComesTo, said_of};
+
+use cal_ast::Expr;
+use cal_model::{Kind, Shape, Value, constants_are_values};
+use const_eval::{ConstFault, Env, KindFault, Names, eval_const};
+use early_check::early_kind;
+use rvc_base::{Memory, Rule};
+use std::alloc::Global;
+use typed_values::{has_kind, stored, zero_of};
+
+/// What a start comes to that breaks no rule.
+#[derive(Debug, Drop)]
+pub enum Started {
+    /// Its value, stored in the type.
+    Value(Value),
+    /// No value: it needs one that is of no use, since what it belongs to broke a rule.
+    Useless,
+    /// No value: either it isn't constant, or it needs a value that is of no use.
+    Doubtful,
+}
+
+/// What a start comes to that is to be stored in a type, over what is declared before it (ISO/IEC 23001-4, RVC-CAL:
+/// state variables). A variable without a start begins with 0, false, or lists of these. `k` is the kind of the type.
+///
+/// # Errors
+///
+/// `Broken`: the first rule that the start breaks, and its place; T1 or T5 at it if its kind is another one, T7 if its
+/// evaluation traps, T9 if it needs a name that isn't known yet. `Memory` if memory runs out.
+pub fn start(
+    alloc: Global,
+    env: &Env,
+    t: &Shape,
+    k: &Kind,
+    value: &Option<Expr>,
+) -> Result<Started, KindFault>
+    requires allowed { IsType (shape_view t.now) }
+    requires kind { kind_view k.now ≡ kind_of_type (shape_view t.now) }
+    ensures { ComesTo result (come (shape_view t.now) (optional_expr value.now) (names_in env.now))
+        (begins (optional_expr value.now)) }
+{
+    match value {
+        Some(e) => start_at(alloc, env, t, k, e),
+        None => Ok(Started::Value(zero_of(alloc, t)?)),
+    }
+}
+
+/// What the start that an expression is comes to.
+fn start_at(alloc: Global, env: &Env, t: &Shape, k: &Kind, e: &Expr) -> Result<Started, KindFault>
+    requires allowed { IsType (shape_view t.now) }
+    requires kind { kind_view k.now ≡ kind_of_type (shape_view t.now) }
+    ensures { ComesTo result (come (shape_view t.now) (present (expr_tree e.now)) (names_in env.now))
+        (begins (expr_tree e.now)) }
+{
+    early_kind(&Names::outermost(alloc, env), k, e)?;
+    value_at(alloc, env, t, k, e)
+}
+
+/// What evaluation gives of an expression of a kind, stored in a type of this kind.
+fn value_at(alloc: Global, env: &Env, t: &Shape, k: &Kind, e: &Expr) -> Result<Started, KindFault>
+    requires allowed { IsType (shape_view t.now) }
+    requires kind { kind_view k.now ≡ kind_of_type (shape_view t.now) }
+    ensures { ComesTo result (come_of (start_value (shape_view t.now) (expr_tree e.now) (names_in env.now)))
+        (begins (expr_tree e.now)) }
+{
+    constants_are_values();
+    let at = place_of(e);
+    match eval_const(alloc, env, e) {
+        Ok(value) => Ok(kept(alloc, t, k, &value)?),
+        Err(ConstFault::Trap(_)) => Err(KindFault::Broken {
+            rule: Rule::CONSTANT_TRAPS,
+            at,
+        }),
+        Err(ConstFault::NotConstant) => Ok(Started::Doubtful),
+        Err(ConstFault::Memory) => Err(KindFault::Memory),
+    }
+}
+
+/// The offset at which an expression begins.
+fn place_of(e: &Expr) -> u32
+    ensures { result ≡ begins (expr_tree e.now) }
+{
+    e.at
+}
+
+/// A value that evaluation gives, stored in a type if it is of its kind.
+fn kept(alloc: Global, t: &Shape, k: &Kind, value: &Value) -> Result<Started, Memory>
+    requires allowed { IsType (shape_view t.now) }
+    requires kind { kind_view k.now ≡ kind_of_type (shape_view t.now) }
+    ensures { IfOk result (λ s. (left at : ℕ) → ComesTo (Ok s)
+        (come_of (value_given (Gives (value_view value.now) left) (shape_view t.now) at)) at) }
+{
+    if !has_kind(k, value) {
+        return Ok(Started::Useless);
+    }
+    Ok(Started::Value(stored(alloc, t, value)?))
+}
+
+/// What is said of a start: nothing of what isn't constant, once an earlier value is of no use.
+pub(crate) fn said(useless: bool, found: Result<Started, KindFault>) -> Result<Started, KindFault>
+    ensures { (c : Come) (at : ℕ) → ComesTo found c at → ComesTo result (said_of useless c) at }
+{
+    if !useless {
+        return found;
+    }
+    match found {
+        Ok(started) => Ok(said_of_start(started)),
+        Err(fault) => said_of_fault(fault),
+    }
+}
+
+/// A start without value, whatever the reason.
+fn said_of_start(started: Started) -> Started
+    ensures { (c : Come) (at : ℕ) → ComesTo (Ok started) c at → ComesTo (Ok result) (said_of true c) at }
+{
+    match started {
+        Started::Value(value) => Started::Value(value),
+        Started::Useless => Started::Useless,
+        Started::Doubtful => Started::Useless,
+    }
+}
+
+/// A fault of which nothing is said if it is that of what isn't constant.
+fn said_of_fault(fault: KindFault) -> Result<Started, KindFault>
+    ensures { (c : Come) (at : ℕ) → ComesTo (Err fault) c at → ComesTo result (said_of true c) at }
+{
+    match fault {
+        KindFault::Broken { rule, at } => {
+            if rule.0 == Rule::NOT_CONSTANT.0 {
+                return Ok(Started::Useless);
+            }
+            Err(KindFault::Broken { rule, at })
+        }
+        KindFault::Memory => Err(KindFault::Memory),
+    }
+}

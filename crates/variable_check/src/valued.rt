@@ -1,0 +1,180 @@
+//! What variables come to.
+
+ghost use Rattle.std.specs.Prelude.{◌≡◌, ◌++◌, ◌||◌, IfOk, List, OnOk, map, option_map};
+ghost use Rattle.cal_check.specs.Constants.{useless};
+ghost use Rattle.cal_check.specs.Variables.{Found, Valued as ValuedOf, held_if, is_none, none_yet, value_or, with_value};
+ghost use Rattle.cal_model.specs.Value.{Items, Nil, kind_of_type};
+ghost use Rattle.cal_model.specs.View.{in_order, kind_view, shape_view, value_view, var_view};
+ghost use Rattle.variable_check.specs.Causes.{AreDoubts};
+ghost use Rattle.variable_check.specs.Views.{var_decl};
+ghost use Rattle.variable_check.specs.Valuing.{IsValued, doubts_in};
+
+use crate::declared::DeclaredVar;
+use crate::given::Settled;
+use cal_model::{BoundVar, Kind, Shape, Value, Values};
+use fnl_tree::LeafValue;
+use rvc_base::{Memory, Place};
+use seen_names::{DeclaredFun, KnownName};
+use std::alloc::Global;
+use typed_values::copy;
+
+/// What the variables of an actor are told where it stands: the values that its parameters are given, where those are
+/// missed that have none, and the functions that are seen.
+#[derive(Clone, Copy)]
+pub struct Told<'a> {
+    pub alloc: Global,
+    pub given: &'a [LeafValue],
+    /// The instance as which the actor stands, or the command line.
+    pub owner: Place,
+    pub funs: &'a [DeclaredFun<'a>],
+}
+
+/// What variables come to that break no rule, but perhaps that some starts aren't constant.
+#[derive(Debug, Drop)]
+pub struct Valued {
+    /// As names while values are sought, in the order of the text.
+    pub known: Vec<KnownName>,
+    /// Those that have a value, in the order of the text.
+    pub held: Vec<BoundVar>,
+    /// Where those starts begin of which it isn't known whether they are constant.
+    pub doubts: Vec<Place>,
+    /// Whether some variable has no value that is of use. Nothing is said then of what isn't constant behind it.
+    pub useless: bool,
+    /// Whether all types were found. Else the last name that is known is the one before the first without a type.
+    pub whole: bool,
+}
+
+impl Valued {
+    /// No variables.
+    pub fn none_yet(alloc: Global) -> Valued
+        ensures { IsValued result none_yet }
+    {
+        Valued {
+            known: Vec::new(alloc),
+            held: Vec::new(alloc),
+            doubts: Vec::new(alloc),
+            useless: false,
+            whole: true,
+        }
+    }
+
+    /// Adds a variable of a type and its kind, which comes to this.
+    pub(crate) fn add(
+        &mut self,
+        alloc: Global,
+        x: DeclaredVar,
+        t: Shape,
+        k: Kind,
+        settled: Settled,
+    ) -> Result<(), Memory>
+        requires { kind_view k ≡ kind_of_type (shape_view t) }
+        ensures { OnOk result ((vs : ValuedOf) (breaks : List Found) → IsValued self.old vs
+            → AreDoubts (doubts_in settled.doubt) breaks
+            → IsValued self.new (with_value (var_decl x.entry) (shape_view t)
+            (option_map value_view settled.value) breaks vs)) }
+    {
+        let value = value_or_useless(alloc, &settled.value, &k)?;
+        let name = String::from_str(alloc, x.name)?;
+        let changes = x.changes;
+        self.known.push(KnownName {
+            name,
+            kind: k,
+            value,
+            changes,
+        })?;
+        self.useless = either(self.useless, is_absent(&settled.value));
+        self.whole = true;
+        add_doubt(&mut self.doubts, settled.doubt)?;
+        add_held(alloc, &mut self.held, x, t, settled.value)?;
+        Ok(())
+    }
+}
+
+/// Whether one of both holds.
+fn either(a: bool, b: bool) -> bool
+    ensures { result ≡ (a || b) }
+{
+    a || b
+}
+
+/// Whether there is no value.
+fn is_absent(value: &Option<Value>) -> bool
+    ensures { result ≡ is_none (option_map value_view value.now) }
+{
+    match value {
+        Some(_) => false,
+        None => true,
+    }
+}
+
+/// A value, or one of another kind in its place.
+fn value_or_useless(alloc: Global, value: &Option<Value>, k: &Kind) -> Result<Value, Memory>
+    ensures { IfOk result (λ v. value_view v
+        ≡ value_or (option_map value_view value.now) (kind_view k.now)) }
+{
+    match value {
+        Some(value) => copy(alloc, value),
+        None => Ok(useless(alloc, k)),
+    }
+}
+
+/// A value of another kind, which is of no use.
+fn useless(alloc: Global, k: &Kind) -> Value
+    ensures { value_view result ≡ useless (kind_view k.now) }
+{
+    match k {
+        Kind::List(_, _) => Value::Num(0),
+        Kind::Num => empty_list(alloc),
+        Kind::Bool => empty_list(alloc),
+    }
+}
+
+/// A list without items.
+fn empty_list(alloc: Global) -> Value
+    ensures { value_view result ≡ Items Nil }
+{
+    list_of(Vec::new(alloc))
+}
+
+/// The list of values.
+fn list_of(items: Vec<Value>) -> Value
+    ensures { value_view result ≡ Items (in_order (map value_view items.items)) }
+{
+    Value::List(Values { items })
+}
+
+/// Adds the place of a start that is in doubt.
+fn add_doubt(doubts: &mut Vec<Place>, doubt: Option<Place>) -> Result<(), Memory>
+    ensures { OnOk result (doubts.new.items ≡ doubts.old.items ++ doubts_in doubt) }
+{
+    if let Some(place) = doubt {
+        doubts.push(place)?;
+    }
+    Ok(())
+}
+
+/// Adds a variable that has a value.
+fn add_held(
+    alloc: Global,
+    held: &mut Vec<BoundVar>,
+    x: DeclaredVar,
+    shape: Shape,
+    value: Option<Value>,
+) -> Result<(), Memory>
+    ensures { OnOk result (map var_view held.new.items
+        ≡ held_if (option_map value_view value) (var_decl x.entry) (shape_view shape)
+        (map var_view held.old.items)) }
+{
+    let Some(value) = value else {
+        return Ok(());
+    };
+    let name = String::from_str(alloc, x.name)?;
+    let changes = x.changes;
+    held.push(BoundVar {
+        name,
+        shape,
+        value,
+        changes,
+    })?;
+    Ok(())
+}
