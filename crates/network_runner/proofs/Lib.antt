@@ -23,3 +23,7 @@ pub mod Fitting
 pub mod Parted
 pub mod Whole
 pub mod Finished
+pub mod Continued
+pub mod Begun
+pub mod Onward
+pub mod FromStart

@@ -1,5 +1,5 @@
 -- How far the loops of counting and putting have come.
-use Rattle.std.proofs.Common.{◌≡◌, ◌≢◌, ⊎_elim, ℕ, zero, suc, ◌+◌, ◌<◌, ◌≤◌, Bool, true, false, List, [], ◌∷◌, ◌++◌, length, take, refl, sym, ap, subst, ◌∙◌, arith, append-nil, length-append}
+use Rattle.std.proofs.Common.{◌≡◌, ◌≢◌, ⊎_elim, ℕ, zero, suc, ◌+◌, ◌<◌, ◌≤◌, Bool, true, false, List, [], ◌∷◌, ◌++◌, length, map, take, refl, sym, ap, subst, ◌∙◌, arith, append-nil, length-append}
 use Rattle.std.specs.Prelude.{Option, Some, slice_get, slice_set, slice_index_or}
 use Rattle.std.proofs.lemmas.Bool.{cases_eq, cases_lt}
 use Rattle.std.proofs.lemmas.Option.{slice_get_within}
@@ -8,6 +8,7 @@ use Rattle.channel_writer.specs.Held.{AppendsFront, HoldsFront}
 use Rattle.net_model.specs.declared.wiring.Link.{Link}
 use Rattle.net_model.specs.Cell.{Cell}
 use Rattle.net_state.specs.declared.filling.Filled.{Filled}
+use Rattle.net_state.specs.Held.{HoldFew, capacity_of}
 use Rattle.net_state.specs.Moving.{carried}
 use Rattle.net_state.proofs.Gaining.{some_is}
 use Rattle.net_state.proofs.Starting.{get_pushed}
@@ -160,3 +161,23 @@ readers_more ports opens links readers l link reader at so_far is =
           subst (λ r. IsReaderOf ports opens other r) (sym reader_is) (subst (λ k2. IsReaderOf ports opens k2 reader) (sym link_is) is))
           (cases_lt k (length (take l links)));
     })
+
+-- Copies of links.
+
+few_more : (xs : List ℕ) (x : ℕ) → HoldFew xs → x ≤ 4294967295 → HoldFew (xs ++ x ∷ [])
+few_more [] x few low zero = low
+few_more [] x few low (suc l) = omega arith
+few_more (y ∷ xs) x few low zero = few 0
+few_more (y ∷ xs) x few low (suc l) = few_more xs x (λ k. few (suc k)) low l
+
+capacities_more : (links : List Link) (link : Link) → map capacity_of (links ++ link ∷ []) ≡ map capacity_of links ++ link.capacity ∷ []
+capacities_more [] link = refl
+capacities_more (first ∷ links) link = ap (λ ns. first.capacity ∷ ns) (capacities_more links link)
+
+-- one link more was copied
+pub copy_more : (links : List Link) (l : ℕ) (copy : List Link) (link : Link) → slice_get links l ≡ Some link → link.capacity ≤ 4294967295 → copy ≡ take l links → HoldFew (map capacity_of copy)
+    → (copy ++ link ∷ [] ≡ take (l + 1) links) × HoldFew (map capacity_of (copy ++ link ∷ []))
+copy_more links l copy link at low is few = (
+  ap (λ ls. ls ++ link ∷ []) is ∙ sym (take_more links l link at),
+  subst HoldFew (sym (capacities_more copy link)) (few_more (map capacity_of copy) link.capacity few low),
+)

@@ -53,7 +53,7 @@ within_too run old before after writes within = record {
 
 -- A feed couldn't be read.
 
-drop_all : {A : Type 0} (xs : List A) → drop (length xs) xs ≡ []
+pub drop_all : {A : Type 0} (xs : List A) → drop (length xs) xs ≡ []
 drop_all [] = refl
 drop_all (x ∷ xs) = drop_all xs
 

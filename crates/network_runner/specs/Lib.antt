@@ -11,3 +11,4 @@ pub mod Making
 pub mod Counting
 pub mod Stepping
 pub mod Putting
+pub mod FromStart

@@ -1,6 +1,6 @@
-//! Rounds of any network: deliver, fire, write.
+//! Rounds and runs of any network: deliver, fire, write, to an end.
 //!
-//! A [`Runner`] holds cells, their wiring, a plan and a policy, and makes rounds one by one.
+//! A [`Runner`] holds cells, their wiring, a plan and a policy. It makes rounds one by one, or all to an end.
 //!
 //! A round sends out what goes to the network's outputs ([`send_all`]), makes a delivery ([`deliver_all`]), lets the
 //! instances fire that its policy picks and says what closes it ([`fire_round`], or [`end_spent`] if no firing is left),
@@ -14,6 +14,7 @@ mod counting;
 mod delivering;
 mod feeding;
 mod firing;
+mod laws;
 mod making;
 mod noting;
 mod putting;
@@ -26,6 +27,7 @@ pub use counting::{count_arrived, count_sent};
 pub use delivering::deliver_all;
 pub use feeding::{ReadFault, fill_all};
 pub use firing::{RoundMade, Turn, fire_round, make_firings};
+pub use laws::runs_are_paced;
 pub use making::{copy_of, no_counts, no_marks, nothing_came, outlets_of, readers_of, writers_of};
 pub use noting::note_round;
 pub use putting::flush_all;

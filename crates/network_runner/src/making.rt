@@ -1,6 +1,7 @@
 //! The parts of a runner, made before its run.
 
-ghost use Rattle.std.specs.Prelude.{◌≡◌, ℕ, [], IfOk, length, slice_index_or};
+ghost use Rattle.std.specs.Prelude.{◌≡◌, ◌≤◌, ℕ, [], IfOk, length, map, slice_index_or};
+ghost use Rattle.net_state.specs.Held.{HoldFew, capacity_of};
 ghost use Rattle.network_runner.specs.Asking.{HavePortSizes};
 ghost use Rattle.network_runner.specs.Making.{AreOutletsOf, AreReadersOf, CountNothing, IsReaderOf};
 
@@ -79,15 +80,35 @@ pub fn writers_of(alloc: Global, count: usize) -> Result<Vec<ChannelWriter>, Mem
     Ok(writers)
 }
 
-/// A copy of the links.
+/// A copy of the links. Their capacities fit 32 bits.
 pub fn copy_of(alloc: Global, links: &[Link]) -> Result<Vec<Link>, Memory>
     ensures same { IfOk result (λ v. v.items ≡ links.now) }
+    ensures few { IfOk result (λ _. HoldFew (map capacity_of links.now)) }
 {
     let mut copy = Vec::with_capacity(alloc, links.len())?;
     for l in 0..links.len() {
-        copy.push(links[l])?;
+        let Link {
+            from,
+            to,
+            capacity,
+            kind,
+        } = links[l];
+        copy.push(Link {
+            from,
+            to,
+            capacity: fitting(capacity),
+            kind,
+        })?;
     }
     Ok(copy)
+}
+
+/// A number as it is. That a number fits 32 bits is known of an argument, and not of one inside a list of links.
+fn fitting(number: u32) -> u32
+    ensures same { result ≡ number }
+    ensures few { number ≤ 4294967295 }
+{
+    number
 }
 
 /// The numbers of a run of which nothing was made yet.

@@ -1,6 +1,6 @@
-//! Rounds of a network, one after another, to an end.
+//! Runs of a network: rounds, from its cells as they are given to an end.
 
-ghost use Rattle.std.specs.Prelude.{◌≡◌, ◌⊎◌, ◌+◌, ◌≤◌, ℕ, true, IfErr, IfNone, None, OnErr, OnOk, Some};
+ghost use Rattle.std.specs.Prelude.{◌≡◌, ◌⊎◌, ◌+◌, ◌≤◌, ℕ, true, IfErr, IfNone, IfOk, None, OnErr, OnOk, Some, map};
 ghost use Rattle.rvc_io.specs.Channels.{Appends, WriteFails, WritesOnly};
 ghost use Rattle.channel_writer.specs.Held.{AppendsFront};
 ghost use Rattle.round_runner.specs.declared.TheConstants.{TRACE_CHANNEL};
@@ -9,7 +9,7 @@ ghost use Rattle.net_state.specs.Held.{seen};
 ghost use Rattle.net_state.specs.Working.{IsAtRest};
 ghost use Rattle.round_runner.specs.declared.outcome.RunEnd.{RunEnd as HowEnded};
 ghost use Rattle.round_runner.specs.Running.{FeedsFit};
-ghost use Rattle.network_runner.specs.Asking.{Advances, ChannelsFit, FaultIsTrue, FiringsTo, IsChannel, IsFeed, IsSameRun, IsUntouched, RoundLeaves, WritesWithin, end_of, seen_run};
+ghost use Rattle.network_runner.specs.Asking.{Advances, Begins, CanRun, ChannelsFit, EndLeaves, FaultIsTrue, FiringsTo, IsChannel, IsFeed, IsSameRun, IsUntouched, RoundLeaves, WritesWithin, end_of, seen_run};
 ghost use Rattle.network_runner.specs.Filling.{SameOpen};
 ghost use Rattle.network_runner.specs.Noting.{NotesFront, NotesRound};
 ghost use Rattle.network_runner.specs.Rounding.{IsNoFault};
@@ -19,17 +19,21 @@ use crate::counting::{count_arrived, count_sent};
 use crate::delivering::deliver_all;
 use crate::feeding::ReadFault;
 use crate::firing::{Turn, make_firings};
+use crate::making::{
+    copy_of, no_counts, no_marks, nothing_came, outlets_of, readers_of, writers_of,
+};
 use crate::noting::note_round;
 use crate::putting::flush_all;
 use crate::sending::{Outlet, WriteFault, send_all};
 use channel_writer::ChannelWriter;
-use net_model::{Counts, Firing, Link, Port};
+use net_model::{Counts, Firing, Link, Port, Wiring};
 use net_state::{Filled, NetState};
 use port_files::TokenFeed;
 use round_plan::Policy;
 use round_runner::{Plan, RoundEnd, RunEnd, TRACE_CHANNEL};
-use rvc_base::MAX_BUDGET;
+use rvc_base::{MAX_BUDGET, Memory};
 use rvc_io::{Drains, Failed, Feeds, Gate};
+use std::alloc::Global;
 use std::marker::Model;
 
 /// A network that is ready to run, with all the memory that its run takes.
@@ -76,6 +80,63 @@ impl<A: Firing, P: Policy> Model for Runner<A, P> {
 }
 
 impl<A: Firing, P: Policy> Runner<A, P> {
+    /// A runner of these cells, joined so, whose rounds are made by this plan and this policy. The run starts from the
+    /// cells as they are given. All its memory is taken here.
+    ///
+    /// The cells and their wiring make a network that is ready to be run, and the policy wasn't asked yet.
+    ///
+    /// # Errors
+    ///
+    /// `Memory` if memory runs out.
+    pub fn new(
+        alloc: Global,
+        cells: Vec<A>,
+        wiring: Wiring,
+        plan: Plan,
+        policy: P,
+    ) -> Result<Runner<A, P>, Memory>
+        requires can_run { CanRun (map A.cell cells.items) wiring plan }
+        requires not_asked { P.rounds policy ≡ 0 }
+        ensures begins { IfOk result (λ r. Begins (map A.cell cells.items) wiring plan (P.kind policy)
+            (seen_run A.cell r)) }
+    {
+        let Wiring {
+            links,
+            ins,
+            outs,
+            open_ins,
+            open_outs,
+        } = wiring;
+        let outlets = outlets_of(alloc, &outs, &open_outs)?;
+        let readers = readers_of(alloc, &links, &ins, &open_ins)?;
+        let writers = writers_of(alloc, outs.len())?;
+        let trace = ChannelWriter::new(alloc)?;
+        let counts = no_counts(alloc, links.len(), outs.len())?;
+        let came = nothing_came(alloc, links.len())?;
+        let marks = no_marks(alloc, cells.len())?;
+        let copy = copy_of(alloc, &links)?;
+        let count = cells.len() as u32;
+        let net = NetState::new(alloc, cells, links)?;
+        Ok(Runner {
+            net,
+            cells: count,
+            links: copy,
+            ins,
+            open_ins,
+            outlets,
+            readers,
+            came,
+            writers,
+            trace,
+            policy,
+            marks,
+            plan,
+            idle: false,
+            counts,
+            ended: None,
+        })
+    }
+
     /// Makes one round, which an end may cut short, with at most `left` firings, and says what came of it. After an end
     /// each further call answers that end and touches nothing.
     ///
@@ -124,6 +185,60 @@ impl<A: Firing, P: Policy> Runner<A, P> {
         }
         let answer = self.make_round(left, feeds, drains, gate);
         self.finish(answer, drains)
+    }
+
+    /// Makes rounds until one ends the run, with at most `budget` firings, and says how it ended. After an end each
+    /// further call answers that end and touches nothing.
+    ///
+    /// The feeds and channels that the wiring needs are open, and are the same ones in each call. `gate` is told in each
+    /// round when a worker starts.
+    ///
+    /// # Errors
+    ///
+    /// The run ends in `ReadFault` if a feed couldn't be read, and in `WriteFault` if a channel couldn't be written: the
+    /// failure was counted (`faults`).
+    pub fn run<F: Feeds, D: Drains, G: Gate>(
+        &mut self,
+        budget: u64,
+        feeds: &mut F,
+        drains: &mut D,
+        gate: &G,
+    ) -> RunEnd
+        requires feeds { FeedsFit self.old (F.feeds feeds.old) }
+        requires channels { ChannelsFit self.old (D.channels drains.old) }
+        requires budget { self.old.counts.firings + budget ≤ MAX_BUDGET }
+
+        // What the run leaves, by its end.
+        ensures leaves { EndLeaves A.cell F.feeds D.channels self.old self.new feeds.old feeds.new
+            drains.old drains.new budget result }
+        ensures faults { self.old.ended ≡ None → FaultIsTrue A.cell F.feeds D.channels self.old
+            self.new feeds.old feeds.new drains.old drains.new (Some result) }
+        ensures within { self.new.counts.firings ≤ self.old.counts.firings + budget }
+        ensures ended { self.new.ended ≡ Some result }
+
+        // After an end.
+        ensures same_end { (how : HowEnded) → self.old.ended ≡ Some how → result ≡ how }
+        ensures untouched { (how : HowEnded) → self.old.ended ≡ Some how → IsUntouched A.cell F.feeds
+            D.channels self.old self.new feeds.old feeds.new drains.old drains.new }
+
+        // What stays.
+        ensures same_run { IsSameRun (seen_run A.cell self.old) (seen_run A.cell self.new) }
+        ensures feeds_fit { FeedsFit self.new (F.feeds feeds.new) }
+        ensures same_feeds { SameOpen (F.feeds feeds.old) (F.feeds feeds.new) }
+        ensures others { WritesWithin self.old (D.channels drains.old) (D.channels drains.new) }
+    {
+        let mut left = budget;
+        'rounds: loop {
+            match self.round(left, feeds, drains, gate) {
+                RoundEnd::Fired(count) => left -= count,
+                RoundEnd::Idle
+                | RoundEnd::Grew {
+                    link: _,
+                    capacity: _,
+                } => {}
+                RoundEnd::End(end) => return end,
+            }
+        }
     }
 
     /// The numbers of the run so far.
