@@ -1,0 +1,6 @@
+mod Ordered
+mod Roomy
+mod Picked
+mod Opened
+mod Celled
+mod Whole

@@ -1,0 +1,5 @@
+pub mod Links
+pub mod Rooms
+pub mod Fits
+pub mod Cells
+pub mod Outside

@@ -1,0 +1,29 @@
+-- What a network asks of its feeds and channels before its run.
+-- Not trusted: no promise is read with it.
+use Rattle.std.specs.Prelude.{◌≡◌, ℕ, ◌+◌, ◌≤◌, Bool, true, false, List, length, slice_get, slice_index_or, Some}
+use Rattle.rvc_io.specs.Channels.{Channels}
+use Rattle.rvc_io.specs.Feeds.{Inputs}
+use Rattle.net_model.specs.declared.wiring.Link.{Link}
+use Rattle.net_model.specs.declared.wiring.Wiring.{Wiring}
+use Rattle.round_runner.specs.Running.{count_inputs, feed_of, has_feed}
+
+-- the feed of each input link that has one is open
+abbrev pub AreFeedsOpen : Wiring → Inputs → Type 0
+AreFeedsOpen wiring feeds = (l : ℕ) (link : Link) → slice_get wiring.links.items l ≡ Some link
+    → has_feed wiring.open_ins.items link.from ≡ true
+    → feeds.is_open (feed_of wiring.links.items l) ≡ true
+
+-- the trace's channel is open, and that of each output that has one
+abbrev pub AreChannelsOpen : Wiring → Channels → Type 0
+AreChannelsOpen wiring channels = (channels.is_open 1 ≡ true)
+    × ((p : ℕ) → slice_index_or wiring.open_outs.items p false ≡ true
+    → channels.is_open (2 + p) ≡ true)
+
+-- the feeds 1 and 2 are open
+abbrev pub AreTwoOpen : Inputs → Type 0
+AreTwoOpen feeds = (feeds.is_open 1 ≡ true) × (feeds.is_open 2 ≡ true)
+
+-- the channels 1, 2 and 3 are open
+abbrev pub AreThreeOpen : Channels → Type 0
+AreThreeOpen channels = (channels.is_open 1 ≡ true) × (channels.is_open 2 ≡ true)
+    × (channels.is_open 3 ≡ true)
