@@ -1,0 +1,90 @@
+-- The whole actor of its parts.
+use Rattle.std.proofs.Common.{◌≡◌, ℕ, ◌⊎◌, inl, inr, ⊎_elim, List, [], ◌∷◌, ◌++◌, length, map, refl, sym, ap, subst, string_bytes, ◌∙◌}
+use Rattle.rvc_base.specs.Chain.{IsAbove}
+use Rattle.cal_ast.specs.Tree.{Tree}
+use Rattle.cal_ast.specs.View.{actor_tree}
+use Rattle.cal_ast.specs.declared.file.Actor.{Actor as DeclaredActor}
+use Rattle.cal_model.specs.Actor.{Action, Actor, Fun, Held, Move, Port, Proc}
+use Rattle.cal_model.specs.Kinding.{Names}
+use Rattle.cal_model.specs.View.{fun_view, move_view, proc_view, var_view}
+use Rattle.cal_model.specs.declared.bound.BoundAction.{BoundAction}
+use Rattle.const_eval.specs.declared.fault.KindFault.{KindFault}
+use Rattle.cal_check.specs.Violations.{all_fine}
+use Rattle.cal_check.specs.Variables.{Given, Spot}
+use Rattle.cal_check.specs.Actions.{Around, or_none}
+use Rattle.cal_check.specs.Schedules.{moves_in, pairs_in, schedule_in, states_of}
+use Rattle.cal_check.specs.Actors.{IsAboveItself, Source, actions_in, actions_of, actor_given, all_funs, all_valued, around_of, bare_actor, funs_of, kept_funs, kept_vars, members_of}
+use Rattle.member_check.specs.Asking.{port_views}
+use Rattle.member_check.specs.Parts.{action_views, members_tree}
+use Rattle.stmt_check.specs.Judging.{Refuses}
+use Rattle.stmt_check.proofs.Checked.{refuses_later, refuses_on}
+use Rattle.actor_build.specs.Building.{AreFine, ArePartsOf, BreaksMembers, HasActions, IsCycle, IsFineOrder, IsOrderOf, acts_broken, around_bare, members_broken, order_broken, whole_view}
+use Rattle.actor_build.specs.declared.order.ActorOrder.{ActorOrder}
+use Rattle.actor_build.specs.declared.whole.BareActor.{BareActor}
+
+map_pairs : (xs : List (ℕ × ℕ)) → map (λ p. (p.0, p.1)) xs ≡ xs
+map_pairs [] = refl
+map_pairs (x ∷ xs) = ap (λ ys. x ∷ ys) (map_pairs xs)
+
+-- ---- an actor of its actions and what orders these
+
+-- what is asked of the actor that was put together
+pub has_actions : (found : Actor) (bare : BareActor) (acts : List BoundAction) (order : ActorOrder) (members : Tree) (at : ℕ) → found ≡ whole_view bare acts order
+    → IsFineOrder order (action_views acts) members at → HasActions found (action_views acts) members
+has_actions found bare acts order members at is fine =
+    let bare_one : Actor = record (whole_view bare acts order) { states = states_of (schedule_in members) } in
+    let own = fine.is bare_one (record { actions = refl; states = refl }) in
+    record { actions = ap (λ x. x.actions) is; states = ap (λ x. x.states) is ∙ own.states }
+
+pub whole_fine : (found : Actor) (bare : BareActor) (acts : List BoundAction) (order : ActorOrder) (members : Tree) (around : Around) (at : ℕ) → found ≡ whole_view bare acts order
+    → AreFine acts members around at → IsFineOrder order (action_views acts) members at → members_broken members around found at ≡ []
+whole_fine found bare acts order members around at is actions fine =
+    ap (λ vs. vs ++ order_broken members found at) actions.fine ∙ fine.fine found (has_actions found bare acts order members at is fine)
+
+pub whole_ordered : (found : Actor) (bare : BareActor) (acts : List BoundAction) (order : ActorOrder) (members : Tree) (at : ℕ) → found ≡ whole_view bare acts order
+    → IsFineOrder order (action_views acts) members at → ¬ IsAboveItself found
+whole_ordered found bare acts order members at is fine h =
+    fine.without_cycle h.action
+    (subst (λ ps. IsAbove ps h.action h.action) (ap (λ x. x.pairs) is ∙ map_pairs order.pairs.items) h.above)
+
+-- ---- what is broken
+
+pub actions_break : (f : KindFault) (members : Tree) (around : Around) (actor : Actor) (at : ℕ) → Refuses f (acts_broken members around at) → BreaksMembers f members around actor at
+actions_break f members around actor at h = inl (refuses_on f (acts_broken members around at) (order_broken members actor at) h)
+
+pub order_breaks : (f : KindFault) (acts : List BoundAction) (members : Tree) (around : Around) (actor : Actor) (at : ℕ) → AreFine acts members around at
+    → ((x : Actor) → HasActions x (action_views acts) members → Refuses f (order_broken members x at) ⊎ IsCycle f members x)
+    → HasActions actor (actions_of (actions_in members) around) members → BreaksMembers f members around actor at
+order_breaks f acts members around actor at actions h has =
+    ⊎_elim (λ l. inl (refuses_later f (acts_broken members around at) (order_broken members actor at) l)) (λ r. inr r)
+    (h actor (record { actions = has.actions ∙ sym actions.is; states = has.states }))
+
+-- ---- the actor that a source is
+
+actor_same : (c d : List ℕ) (i j o p : List Port) (v w : List Held) (f g : List Fun) (q r : List Proc) (a b : List Action) (s t : List (List ℕ)) (m n : List Move) (x y : List (ℕ × ℕ))
+    → c ≡ d → i ≡ j → o ≡ p → v ≡ w → f ≡ g → q ≡ r → a ≡ b → s ≡ t → m ≡ n → x ≡ y
+    → record { class = c; ins = i; outs = o; vars = v; funs = f; procs = q; actions = a; states = s; moves = m; pairs = x }
+    ≡ record { class = d; ins = j; outs = p; vars = w; funs = g; procs = r; actions = b; states = t; moves = n; pairs = y }
+actor_same c d i j o p v w f g q r a b s t m n x y e1 e2 e3 e4 e5 e6 e7 e8 e9 e10 = cc
+
+pub whole_is : (found : Actor) (bare : BareActor) (acts : List BoundAction) (order : ActorOrder) (decl : DeclaredActor) (names : Names) (at : ℕ) (s : Source) (gs : List Given) (owner : Spot)
+    → found ≡ whole_view bare acts order → AreFine acts (members_tree decl.members.items) (around_bare bare names) at
+    → IsFineOrder order (action_views acts) (members_tree decl.members.items) at → ArePartsOf bare (actor_tree decl) names s gs owner
+    → found ≡ actor_given s gs owner
+whole_is found bare acts order decl names at s gs owner is actions fine parts =
+    let members = members_tree decl.members.items in
+    let bare_one = bare_actor s gs owner (around_of s gs owner) in
+    let same : members_of s.actor ≡ members = ap members_of parts.actor in
+    let acted : bare_one.actions ≡ action_views acts =
+    ap (λ t. actions_of (actions_in t) (around_of s gs owner)) same ∙ ap (actions_of (actions_in members)) parts.around ∙ sym actions.is in
+    let stated : bare_one.states ≡ states_of (schedule_in members) = ap (λ t. states_of (schedule_in t)) same in
+    let own = fine.is bare_one (record { actions = acted; states = stated }) in
+    is ∙ actor_same (string_bytes bare.class) s.class (port_views bare.ins.items) bare_one.ins (port_views bare.outs.items) bare_one.outs (map var_view bare.vars.items) bare_one.vars
+    (map fun_view bare.funs.items) bare_one.funs (map proc_view bare.procs.items) bare_one.procs (action_views acts) bare_one.actions
+    (map string_bytes order.states.items) bare_one.states (map move_view order.moves.items) (moves_in (schedule_in (members_of s.actor)) bare_one)
+    (map (λ p. (p.0, p.1)) order.pairs.items) (pairs_in (members_of s.actor) bare_one)
+    (sym parts.class) (sym (ap (λ x. x.ins) parts.around)) (sym (ap (λ x. x.outs) parts.around)) (sym parts.vars)
+    (sym (ap (λ x. kept_funs (or_none (all_fine (funs_of (all_funs s) x.names))) s) parts.around ∙ parts.funs))
+    (sym (ap (λ x. x.procs) parts.around)) (sym acted) (own.states ∙ sym stated)
+    (own.moves ∙ sym (ap (λ t. moves_in (schedule_in t) bare_one) same))
+    (map_pairs order.pairs.items ∙ own.pairs ∙ sym (ap (λ t. pairs_in t bare_one) same))
