@@ -11,7 +11,7 @@ use Rattle.cal_check.proofs.Lists.{at-head, head-or-rest, in-none, in-rest}
 use Rattle.used_names.proofs.Collected.{collected}
 use Rattle.used_names.proofs.Rounds.{among-kept, kept-if-wanted, never, or-cases, or-left, or-right, used-in, wanted}
 use Rattle.used_names.specs.Naming.{with_names}
-use Rattle.used_names.specs.Using.{IsFound, IsKeptTest, IsSettled, IsSourceOf, is_outer, round_left, round_names, visited_left, visited_names}
+use Rattle.used_names.specs.Using.{IsFound, IsSettled, IsSourceOf, is_outer, round_left, round_names, visited_left, visited_names}
 
 -- ---- lists
 

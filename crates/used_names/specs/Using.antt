@@ -1,6 +1,6 @@
 -- Declarations of other files, and which of them an actor uses, as calls are asked about them.
 -- Trusted but for the rounds: part of what a promise means.
-use Rattle.std.specs.Prelude.{◌≡◌, ◌⊎◌, ℕ, Bool, true, false, ◌||◌, List, [], ◌∷◌, ◌++◌, Contains, if◌then◌else◌}
+use Rattle.std.specs.Prelude.{◌≡◌, ◌⊎◌, ℕ, Bool, true, false, ◌||◌, List, [], ◌∷◌, ◌++◌, Contains, not, if◌then◌else◌}
 use Rattle.std.specs.Str.{bytes_eq}
 use Rattle.cal_ast.specs.Tree as tree
 use Rattle.cal_ast.specs.Tree.{Tree}
@@ -22,13 +22,22 @@ abbrev pub outer_view : OuterDecl → Outer
 outer_view d = record { name = d.name.now; decl = form_tree d.form }
 
 -- a source of this actor with these declarations of other files
-pub record IsSourceOf (s : Source) (actor : Tree) (decls : List Outer) : Type 0 where
-  pub actor : s.actor ≡ actor
+pub record IsSourceOf (s : Source) (decl : Tree) (decls : List Outer) : Type 0 where
+  pub actor : s.actor ≡ decl
   pub outers : outers s ≡ decls
 
--- the test whether a name is kept
-abbrev pub IsKeptTest : (List ℕ → Bool) → Source → Type 0
-IsKeptTest keeps s = (name : List ℕ) → keeps name ≡ is_kept name (outers s) (used s)
+-- the names that other files declare, and names that are used
+pub record KeptNames : Type 0 where
+  pub others : List (List ℕ)
+  pub used : List (List ℕ)
+
+-- a name that isn't one of others, or is used
+abbrev pub keeps : List ℕ → KeptNames → Bool
+keeps name kept = not (is_seen name kept.others) || is_seen name kept.used
+
+-- the names that are kept are those that the actor of a source keeps
+abbrev pub Keeps : KeptNames → Source → Type 0
+Keeps kept s = (name : List ℕ) → keeps name kept ≡ is_kept name (outers s) (used s)
 
 -- ---- rounds
 

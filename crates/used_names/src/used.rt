@@ -4,7 +4,7 @@ ghost use Rattle.std.specs.Prelude.{◌≡◌, ◌++◌, ℕ, [], List, IfOk, On
 ghost use Rattle.cal_ast.specs.View.{actor_tree};
 ghost use Rattle.cal_check.specs.Actors.{Outer, Source};
 ghost use Rattle.cal_model.specs.Tags.{is_seen};
-ghost use Rattle.used_names.specs.Using.{IsFound, IsKeptTest, IsSettled, IsSourceOf, is_outer, outer_view, round_left, round_names, visited_left, visited_names};
+ghost use Rattle.used_names.specs.Using.{IsFound, IsSettled, IsSourceOf, Keeps, is_outer, keeps, outer_view, round_left, round_names, visited_left, visited_names};
 
 use crate::members::add_actor;
 use crate::name_set::NameSet;
@@ -16,7 +16,7 @@ use std::marker::Model;
 
 /// The names that an actor keeps: those of its own file, and those of others that it uses, directly or indirectly.
 ///
-/// It is seen as the test whether a name is kept.
+/// It is seen as the names of others and those that are used.
 #[derive(Drop)]
 pub struct UsedNames {
     /// The names of what other files declare.
@@ -26,18 +26,17 @@ pub struct UsedNames {
 }
 
 impl Model for UsedNames {
-    ghost use Rattle.std.specs.Prelude.{ℕ, Bool, ◌||◌, List, not};
-    ghost use Rattle.cal_model.specs.Tags.{is_seen};
+    ghost use Rattle.used_names.specs.Using.{KeptNames};
 
-    ghost Value = { List ℕ → Bool };
+    ghost Value = { KeptNames };
 
-    ghost view = { λ kept. λ name. not (is_seen name kept.others) || is_seen name kept.used };
+    ghost view = { λ kept. record { others = kept.others; used = kept.used } };
 }
 
 impl UsedNames {
     /// Whether a name is kept.
     pub fn keeps(&self, name: &str) -> bool
-        ensures { result ≡ self.now name.now }
+        ensures { result ≡ keeps name.now self.now }
     {
         !self.others.contains(name) || self.used.contains(name)
     }
@@ -49,8 +48,8 @@ impl UsedNames {
 ///
 /// `Memory` if memory runs out.
 pub fn used_names(alloc: Global, actor: &Actor, decls: &[OuterDecl]) -> Result<UsedNames, Memory>
-    ensures { IfOk result (λ keeps. (s : Source)
-        → IsSourceOf s (actor_tree actor.now) (map outer_view decls.now) → IsKeptTest keeps s) }
+    ensures { IfOk result (λ kept. (s : Source)
+        → IsSourceOf s (actor_tree actor.now) (map outer_view decls.now) → Keeps kept s) }
 {
     let others = names_of(alloc, decls)?;
     let used = found_names(alloc, actor, decls)?;
@@ -63,10 +62,8 @@ fn names_of(alloc: Global, decls: &[OuterDecl]) -> Result<NameSet, Memory>
         → is_seen name names ≡ is_outer name (map outer_view decls.now)) }
 {
     let mut names = NameSet::new(alloc);
-    let mut rest = decls;
-    'decls: while let Some((first, others)) = rest.split_first() {
-        names.add(first.name)?;
-        rest = others;
+    for d in decls {
+        names.add(d.name)?;
     }
     Ok(names)
 }
@@ -99,10 +96,8 @@ fn round<'a>(
         ≡ round_left (map outer_view decls.now) names.old) }
 {
     let mut left = Vec::new(alloc);
-    let mut rest = decls;
-    'decls: while let Some((first, others)) = rest.split_first() {
-        visit(names, &mut left, first)?;
-        rest = others;
+    for d in decls {
+        visit(names, &mut left, d)?;
     }
     Ok(left)
 }
