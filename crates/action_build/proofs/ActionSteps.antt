@@ -1,12 +1,13 @@
 -- Actions by their parts, and actions among members.
-use Rattle.std.proofs.Common.{◌≡◌, List, [], ◌∷◌, ◌++◌, map, Some, sym, ap, subst, ◌∙◌}
+use Rattle.std.proofs.Common.{◌≡◌, List, [], ◌∷◌, ◌++◌, Some, Ok, Err, Result, sym, ap, subst, ◌∙◌}
 use Rattle.std.proofs.lemmas.List.{append-nil}
 use Rattle.cal_ast.specs.Tree.{Tree}
 use Rattle.cal_ast.specs.View.{action_tree}
 use Rattle.cal_ast.specs.declared.action.Action.{Action as DeclaredAction}
-use Rattle.cal_ast.specs.declared.member.Member.{Member}
 use Rattle.cal_model.specs.Actor.{Action, Pattern}
 use Rattle.cal_model.specs.Kinding.{Names}
+use Rattle.cal_model.specs.View.{action_view}
+use Rattle.cal_model.specs.declared.bound.BoundAction.{BoundAction}
 use Rattle.const_eval.specs.declared.fault.KindFault.{KindFault}
 use Rattle.cal_check.specs.Violations.{Violation}
 use Rattle.cal_check.specs.Actions.{Around, action_broken, action_if, action_of, behind_patterns, guard_allowed, or_none, patterns_broken, patterns_fine, with_all_patterns}
@@ -16,7 +17,7 @@ use Rattle.member_check.specs.Parts.{exprs_tree}
 use Rattle.stmt_check.specs.Judging.{Refuses}
 use Rattle.stmt_check.proofs.Checked.{refuses_later, refuses_on}
 use Rattle.action_check.specs.Parts.{inside_of}
-use Rattle.action_build.specs.Building.{action_over}
+use Rattle.action_build.specs.Building.{BuildsAction, BuildsInside, action_over}
 
 -- ---- behind its patterns
 
@@ -45,6 +46,11 @@ inside_breaks f a qs around inner fine seen h =
     refuses_later f (guard_allowed a.initialize (exprs_tree a.guards.items) a.at) (patterns_broken ps around.ins around.names ++ rest)
     (refuses_later f (patterns_broken ps around.ins around.names) rest
     (subst (Refuses f) (ap (inside_of a around) seen ∙ sym (ap (λ o. behind_patterns o (behind a around)) fine)) h))
+
+pub built_of : (r : Result BoundAction KindFault) (a : DeclaredAction) (qs : List Pattern) (around : Around) (inner : Names) → patterns_fine (patterns_tree a.patterns.items) around.ins around.names ≡ Some qs
+    → inner ≡ with_all_patterns around.ins qs around.names → BuildsInside r a qs around inner → BuildsAction r (action_tree a) around
+built_of (Ok found) a qs around inner fine seen is = action_done a qs (action_view found) around inner fine seen is
+built_of (Err f) a qs around inner fine seen h = inside_breaks f a qs around inner fine seen h
 
 -- ---- actions among members
 

@@ -54,11 +54,12 @@ same_fine : (here there : Names) → Fine here ≡ Fine there → here ≡ there
 same_fine here there e = cc
 
 pub action_made : (a : DeclaredAction) (tag : List (List ℕ)) (qs : List Pattern) (os : List Output) (guards : List Tree) (locals : List Local) (body : Tree) (around : Around) (inner here : Names)
-    → names_behind (vars_tree a.vars.items) inner ≡ Fine here → names_behind (vars_tree a.vars.items) inner ≡ Fine (behind_vars (vars_tree a.vars.items) inner)
+    → names_behind (vars_tree a.vars.items) inner ≡ Fine here
     → tag ≡ tag_parts (optional (option_map tag_tree a.tag)) → os ≡ or_none (outputs_fine (outputs_tree a.outputs.items) around.outs here)
     → guards ≡ guards_written (exprs_tree a.guards.items) inner → locals ≡ locals_of (vars_tree a.vars.items) inner → body ≡ statement_written (body_of (body_tree a.body)) here
     → record { tag = tag; patterns = qs; outputs = os; guards = guards; locals = locals; body = body; initialize = a.initialize } ≡ action_over a qs around inner
-action_made a tag qs os guards locals body around inner here found typed t o g l b =
+action_made a tag qs os guards locals body around inner here found t o g l b =
+    let typed : names_behind (vars_tree a.vars.items) inner ≡ Fine (behind_vars (vars_tree a.vars.items) inner) = typed_behind (vars_tree a.vars.items) inner (ap is_fine found) in
     let same : here ≡ behind_vars (vars_tree a.vars.items) inner = same_fine here (behind_vars (vars_tree a.vars.items) inner) (sym found ∙ typed) in
     ap (λ x. record { tag = x; patterns = qs; outputs = os; guards = guards; locals = locals; body = body; initialize = a.initialize }) t
     ∙ ap (λ x. record { tag = tag_parts (optional (option_map tag_tree a.tag)); patterns = qs; outputs = x; guards = guards; locals = locals; body = body; initialize = a.initialize })

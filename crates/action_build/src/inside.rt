@@ -18,7 +18,7 @@ ghost use Rattle.routine_build.specs.Declaring.{is_fine};
 ghost use Rattle.action_check.specs.Parts.{HasFewPorts, around_view};
 ghost use Rattle.action_build.specs.Building.{BuildsBehind, BuildsInside, vars_broken, vars_tree};
 
-use crate::outputs::outputs;
+use crate::output::outputs;
 use action_check::ActorParts;
 use cal_ast::{Action, Expr, Ident, Stmt, Tag, VarDecl};
 use cal_model::{BoundAction, BoundOutput, BoundPattern};

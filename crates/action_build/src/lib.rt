@@ -8,7 +8,7 @@
 
 mod acting;
 mod inside;
-mod outputs;
+mod output;
 
 pub use acting::{action, actions};
-pub use outputs::outputs;
+pub use output::outputs;

@@ -19,7 +19,7 @@ use Rattle.member_check.specs.Parts.{action_views, members_tree}
 use Rattle.stmt_check.specs.Judging.{Refuses}
 use Rattle.stmt_check.proofs.Checked.{refuses_later, refuses_on}
 use Rattle.actor_build.specs.Building.{AreFine, ArePartsOf, BreaksMembers, HasActions, IsCycle, IsFineOrder, IsOrderOf, acts_broken, around_bare, members_broken, order_broken, whole_view}
-use Rattle.actor_build.specs.declared.order.ActorOrder.{ActorOrder}
+use Rattle.actor_build.specs.declared.ordering.ActorOrder.{ActorOrder}
 use Rattle.actor_build.specs.declared.whole.BareActor.{BareActor}
 
 map_pairs : (xs : List (ℕ × ℕ)) → map (λ p. (p.0, p.1)) xs ≡ xs

@@ -22,7 +22,7 @@ use Rattle.cal_check.specs.Actors.{Source, actions_broken, actions_in, actions_o
 use Rattle.member_check.specs.Asking.{port_views}
 use Rattle.member_check.specs.Parts.{action_views}
 use Rattle.stmt_check.specs.Judging.{Refuses}
-use Rattle.actor_build.specs.declared.order.ActorOrder.{ActorOrder}
+use Rattle.actor_build.specs.declared.ordering.ActorOrder.{ActorOrder}
 use Rattle.actor_build.specs.declared.whole.BareActor.{BareActor}
 
 -- ---- what orders actions

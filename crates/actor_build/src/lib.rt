@@ -5,10 +5,10 @@
 //! RVC-CAL: actors; CAL Language Report, action schedules and priorities).
 #![tactic(auto)]
 
-mod moves;
-mod order;
+mod move_list;
+mod ordering;
 mod whole;
 
-pub use moves::moves;
-pub use order::{ActorOrder, order};
+pub use move_list::moves;
+pub use ordering::{ActorOrder, order};
 pub use whole::{BareActor, actor};

@@ -17,7 +17,7 @@ ghost use Rattle.stmt_check.specs.Judging.{Checks};
 ghost use Rattle.action_check.specs.Faults.{as_kind_fault};
 ghost use Rattle.actor_build.specs.Building.{ArePartsOf, BreaksMembers, FindsActions, FindsOrder, HasActions, around_bare, members_broken, whole_view};
 
-use crate::order::{ActorOrder, order};
+use crate::ordering::{ActorOrder, order};
 use action_build::actions;
 use action_check::{ActorParts, check_actions};
 use cal_ast::{Actor, Member};

@@ -10,11 +10,11 @@ use Rattle.cal_check.specs.Actors.{uses}
 use Rattle.used_names.proofs.Keys.{eq_turned}
 use Rattle.used_names.specs.Naming.{with_names}
 
-or_assoc : (a b c : Bool) → ((a || b) || c) ≡ (a || (b || c))
+pub or_assoc : (a b c : Bool) → ((a || b) || c) ≡ (a || (b || c))
 or_assoc true b c = refl
 or_assoc false b c = refl
 
-or_none : (a : Bool) → (a || false) ≡ a
+pub or_none : (a : Bool) → (a || false) ≡ a
 or_none true = refl
 or_none false = refl
 

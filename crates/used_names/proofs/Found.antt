@@ -5,13 +5,14 @@ use Rattle.std.specs.Str.{bytes_eq}
 use Rattle.std.proofs.lemmas.List.{append-nil, append_assoc}
 use Rattle.cal_ast.specs.Tree.{Tree}
 use Rattle.cal_model.proofs.KindNames.{same-text}
-use Rattle.cal_model.specs.Tags.{is_seen}
+use Rattle.cal_model.specs.Tags.{is_seen, with_seen}
 use Rattle.cal_check.specs.Actors.{Outer, Source, among, is_kept, outers, used, used_after, used_by, used_now, uses}
 use Rattle.cal_check.proofs.Lists.{at-head, head-or-rest, in-none, in-rest}
-use Rattle.used_names.proofs.Collected.{collected}
+use Rattle.used_names.proofs.Collected.{collected, or_assoc, or_none, seen_added}
+use Rattle.used_names.proofs.Keys.{eq_turned}
 use Rattle.used_names.proofs.Rounds.{among-kept, kept-if-wanted, never, or-cases, or-left, or-right, used-in, wanted}
 use Rattle.used_names.specs.Naming.{with_names}
-use Rattle.used_names.specs.Using.{IsFound, IsSettled, IsSourceOf, is_outer, round_left, round_names, visited_left, visited_names}
+use Rattle.used_names.specs.Using.{IsFound, IsSettled, IsSourceOf, is_outer, round_left, round_names, visited_left, visited_names, with_outers}
 
 -- ---- lists
 
@@ -164,6 +165,12 @@ all_found (suc n) s names left found settled x h =
 
 -- ---- the test
 
+named_behind : (name : List ℕ) (ds : List Outer) (names : List (List ℕ)) → is_seen name (with_outers ds names) ≡ (is_seen name names || is_outer name ds)
+named_behind name [] names = sym (or_none (is_seen name names))
+named_behind name (d ∷ ds) names =
+    named_behind name ds (with_seen names d.name) ∙ ap (λ b. b || is_outer name ds) (seen_added name d.name names)
+    ∙ or_assoc (is_seen name names) (bytes_eq name d.name) (is_outer name ds) ∙ ap (λ b. is_seen name names || (b || is_outer name ds)) (eq_turned name d.name)
+
 kept_by : (name : List ℕ) (ds : List Outer) (u : List (List ℕ)) → is_kept name ds u ≡ (not (is_outer name ds) || among name u)
 kept_by name [] u = refl
 kept_by name (d ∷ ds) u = go (bytes_eq d.name name) (kept_by name ds u)
@@ -173,10 +180,10 @@ kept_by name (d ∷ ds) u = go (bytes_eq d.name name) (kept_by name ds u)
     go false h = h
 
 pub kept_test : (s : Source) (actor : Tree) (decls : List Outer) (others names : List (List ℕ)) (left : List Outer) → IsSourceOf s actor decls
-    → ((name : List ℕ) → is_seen name others ≡ is_outer name decls) → IsFound s names left → IsSettled names left
+    → others ≡ with_outers decls [] → IsFound s names left → IsSettled names left
     → (name : List ℕ) → (not (is_seen name others) || is_seen name names) ≡ is_kept name (outers s) (used s)
 kept_test s actor decls others names left is named found settled name =
-    ap (λ b. not b || is_seen name names) (named name)
+    ap (λ ns. not (is_seen name ns) || is_seen name names) named ∙ ap (λ b. not b || is_seen name names) (named_behind name decls [])
     ∙ go (is_outer name decls) (is_seen name names) (among name (used s))
     (λ h. all_found (suc (length (outers s))) s names left found settled name h)
     (λ h o. sym (ap (λ b. not b || among name (used s)) o) ∙ sym kept ∙ kept-if-wanted s name (found.wanted name h))

@@ -5,7 +5,7 @@ use Rattle.std.specs.Str.{bytes_eq}
 use Rattle.cal_ast.specs.Tree as tree
 use Rattle.cal_ast.specs.Tree.{Tree}
 use Rattle.cal_ast.specs.View.{function_tree, optional_expr, type_tree}
-use Rattle.cal_model.specs.Tags.{is_seen}
+use Rattle.cal_model.specs.Tags.{is_seen, with_seen}
 use Rattle.cal_check.specs.Actors.{Outer, Source, is_kept, outers, used, used_by, uses}
 use Rattle.used_names.specs.Naming.{with_names}
 use Rattle.used_names.specs.declared.outer.OuterDecl.{OuterDecl}
@@ -60,6 +60,11 @@ round_left (d ∷ ds) names = visited_left d names ++ round_left ds (visited_nam
 abbrev pub is_outer : List ℕ → List Outer → Bool
 is_outer name [] = false
 is_outer name (d ∷ ds) = bytes_eq d.name name || is_outer name ds
+
+-- names with those of declarations
+abbrev pub with_outers : List Outer → List (List ℕ) → List (List ℕ)
+with_outers [] names = names
+with_outers (d ∷ ds) names = with_outers ds (with_seen names d.name)
 
 -- what is found behind rounds: all that the actor uses, and of other files nothing else
 pub record IsFound (s : Source) (names : List (List ℕ)) (left : List Outer) : Type 0 where

@@ -3,8 +3,7 @@
 ghost use Rattle.std.specs.Prelude.{◌≡◌, ◌++◌, ℕ, [], List, IfOk, OnOk, map};
 ghost use Rattle.cal_ast.specs.View.{actor_tree};
 ghost use Rattle.cal_check.specs.Actors.{Outer, Source};
-ghost use Rattle.cal_model.specs.Tags.{is_seen};
-ghost use Rattle.used_names.specs.Using.{IsFound, IsSettled, IsSourceOf, Keeps, is_outer, keeps, outer_view, round_left, round_names, visited_left, visited_names};
+ghost use Rattle.used_names.specs.Using.{IsFound, IsSettled, IsSourceOf, Keeps, keeps, outer_view, round_left, round_names, visited_left, visited_names, with_outers};
 
 use crate::members::add_actor;
 use crate::name_set::NameSet;
@@ -58,8 +57,7 @@ pub fn used_names(alloc: Global, actor: &Actor, decls: &[OuterDecl]) -> Result<U
 
 /// The names of declarations.
 fn names_of(alloc: Global, decls: &[OuterDecl]) -> Result<NameSet, Memory>
-    ensures { IfOk result (λ names. (name : List ℕ)
-        → is_seen name names ≡ is_outer name (map outer_view decls.now)) }
+    ensures { IfOk result (λ names. names ≡ with_outers (map outer_view decls.now) []) }
 {
     let mut names = NameSet::new(alloc);
     for d in decls {

@@ -9,7 +9,7 @@ ghost use Rattle.member_check.specs.Judging.{BreaksPriorities};
 ghost use Rattle.member_check.specs.Parts.{action_views, members_tree};
 ghost use Rattle.actor_build.specs.Building.{HasActions, IsOrderOf, order_broken};
 
-use crate::moves::moves;
+use crate::move_list::moves;
 use cal_ast::Member;
 use cal_model::{BoundAction, BoundMove};
 use member_check::{MemberFault, check_priorities, check_schedule, schedule_among};

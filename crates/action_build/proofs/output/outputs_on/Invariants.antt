@@ -4,7 +4,7 @@ use Rattle.cal_model.specs.View.{output_view}
 use Rattle.const_eval.specs.Counting.{names_view}
 use Rattle.cal_check.specs.Actions.{outputs_on}
 use Rattle.member_check.specs.Asking.{outputs_tree, port_views}
-use Rattle.action_build.proofs.outputs.outputs_on.Given as goal
+use Rattle.action_build.proofs.output.outputs_on.Given as goal
 
 abbrev pub invariant-outputs : goal.invariant-outputs
 invariant-outputs l =
