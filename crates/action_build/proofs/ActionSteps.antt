@@ -1,9 +1,12 @@
 -- Actions by their parts, and actions among members.
 use Rattle.std.proofs.Common.{◌≡◌, List, [], ◌∷◌, ◌++◌, Some, Ok, Err, Result, sym, ap, subst, ◌∙◌}
 use Rattle.std.proofs.lemmas.List.{append-nil}
+use Rattle.cal_ast.specs.Tree as tree
 use Rattle.cal_ast.specs.Tree.{Tree}
-use Rattle.cal_ast.specs.View.{action_tree}
+use Rattle.cal_ast.specs.View.{action_tree, member_tree}
 use Rattle.cal_ast.specs.declared.action.Action.{Action as DeclaredAction}
+use Rattle.cal_ast.specs.declared.member.Member.{Member}
+use Rattle.cal_ast.specs.declared.member.Member.TheVariants as members
 use Rattle.cal_model.specs.Actor.{Action, Pattern}
 use Rattle.cal_model.specs.Kinding.{Names}
 use Rattle.cal_model.specs.View.{action_view}
@@ -65,3 +68,13 @@ built_start found all around e = (ap (λ xs. xs ++ actions_of all around) e, λ 
 
 pub built_done : (found : List Action) (rest all : List Tree) (around : Around) → rest ≡ [] → AreBuiltUpTo found rest all around → found ≡ actions_of all around
 built_done found rest all around e inv = sym (append-nil found) ∙ sym (ap (λ ts. found ++ actions_of ts around) e) ∙ inv.0
+
+-- what is broken behind a member is broken behind it too
+pub member_breaks : (f : KindFault) (m : Member) (more : Tree) (around : Around) → Refuses f (actions_broken (actions_in more) around)
+    → Refuses f (actions_broken (actions_in (tree.cons (member_tree m) more)) around)
+member_breaks f (members.Var v) more around h = h
+member_breaks f (members.Function x) more around h = h
+member_breaks f (members.Procedure p) more around h = h
+member_breaks f (members.Action a) more around h = refuses_later f (action_broken (action_tree a) around) (actions_broken (actions_in more) around) h
+member_breaks f (members.Schedule s) more around h = h
+member_breaks f (members.Priority p) more around h = h
