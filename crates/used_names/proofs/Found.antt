@@ -1,12 +1,13 @@
 -- What rounds over declarations find is what an actor uses.
 use Rattle.std.proofs.Common.{◌≡◌, ℕ, zero, suc, ◌<◌, ◌≤◌, ◌⊎◌, inl, inr, ⊎_elim, Bool, true, false, ◌||◌, not, List, [], ◌∷◌, ◌++◌, length, map, refl, sym, ap, subst, ◌∙◌, arith, Contains}
-use Rattle.std.specs.Prelude.{if◌then◌else◌}
+use Rattle.std.specs.Prelude.{cond, filter, if◌then◌else◌}
 use Rattle.std.specs.Str.{bytes_eq}
 use Rattle.std.proofs.lemmas.List.{append-nil, append_assoc}
 use Rattle.cal_ast.specs.Tree.{Tree}
 use Rattle.cal_model.proofs.KindNames.{same-text}
+use Rattle.cal_model.specs.Actor.{Fun, Held}
 use Rattle.cal_model.specs.Tags.{is_seen, with_seen}
-use Rattle.cal_check.specs.Actors.{Outer, Source, among, is_kept, outers, used, used_after, used_by, used_now, uses}
+use Rattle.cal_check.specs.Actors.{Outer, Source, among, is_kept, kept_funs, kept_vars, outers, used, used_after, used_by, used_now, uses}
 use Rattle.cal_check.proofs.Lists.{at-head, head-or-rest, in-none, in-rest}
 use Rattle.used_names.proofs.Collected.{collected, or_assoc, or_none, seen_added}
 use Rattle.used_names.proofs.Keys.{eq_turned}
@@ -79,21 +80,22 @@ round_behind s names before (d ∷ ds) found =
 pub round_found : (s : Source) (names : List (List ℕ)) (ds : List Outer) → IsFound s names ds → IsFound s (round_names ds names) (round_left ds names)
 round_found s names ds found = round_behind s names [] ds found
 
-pub start_found : (s : Source) (actor : Tree) (decls : List Outer) → IsSourceOf s actor decls → IsFound s (with_names actor []) decls
-start_found s actor decls is = record {
-  actor = λ name h. brings name actor [] (subst (λ t. uses name t ≡ true) is.actor h);
-  wanted = λ name h. or-left (uses name s.actor) (used_by name (outers s) (used s)) (subst (λ t. uses name t ≡ true) (sym is.actor) (sym (collected name actor []) ∙ h));
+pub start_found : (s : Source) (decl : Tree) (decls : List Outer) → IsSourceOf s decl decls → IsFound s (with_names decl []) decls
+start_found s decl decls is = record {
+  actor = λ name h. brings name decl [] (subst (λ t. uses name t ≡ true) is.actor h);
+  wanted = λ name h. or-left (uses name s.actor) (used_by name (outers s) (used s)) (subst (λ t. uses name t ≡ true) (sym is.actor) (sym (collected name decl []) ∙ h));
   inside = λ d c. subst (λ ds. Contains ds d) (sym is.outers) c;
   visited = λ d c. inl (subst (λ ds. Contains ds d) is.outers c);
 }
 
 pub round_fewer : (ds : List Outer) (names : List (List ℕ)) → length (round_left ds names) ≤ length ds
 round_fewer [] names = omega arith
-round_fewer (d ∷ ds) names = go (is_seen d.name names)
+round_fewer (d ∷ ds) names = go (is_seen d.name names) (λ n. round_fewer ds n)
   where
-    go : (b : Bool) → length ((if b then [] else d ∷ []) ++ round_left ds (if b then with_names d.decl names else names)) ≤ suc (length ds)
-    go true = let h = round_fewer ds (with_names d.decl names) in omega arith
-    go false = let h = round_fewer ds names in omega arith
+    go : (b : Bool) → ((n : List (List ℕ)) → length (round_left ds n) ≤ length ds)
+        → length ((if b then [] else d ∷ []) ++ round_left ds (if b then with_names d.decl names else names)) ≤ suc (length ds)
+    go true few = let h = few (with_names d.decl names) in omega arith
+    go false few = let h = few names in omega arith
 
 -- a round after which as many are left has found nothing
 record FindsNothing (ds : List Outer) (names : List (List ℕ)) : Type 0 where
@@ -123,6 +125,31 @@ pub round_settles : (ds : List Outer) (names : List (List ℕ)) → length (roun
 round_settles ds names e =
     let nothing = nothing_found ds names e in
     subst (λ xs. IsSettled (round_names ds names) xs) (sym nothing.all_left) (subst (λ n. IsSettled n ds) (sym nothing.names_stay) nothing.settled)
+
+-- ---- a round as it is told
+
+length_map : {A B : Type 0} (f : A → B) (xs : List A) → length (map f xs) ≡ length xs
+length_map f [] = refl
+length_map f (x ∷ xs) = ap suc (length_map f xs)
+
+pub round_is : (s : Source) (names new : List (List ℕ)) (ds left : List Outer) → new ≡ round_names ds names → left ≡ round_left ds names → IsFound s names ds → IsFound s new left
+round_is s names new ds left n l found = subst (λ xs. IsFound s new xs) (sym l) (subst (λ m. IsFound s m (round_left ds names)) (sym n) (round_found s names ds found))
+
+module _ {A : Type 0} (view : A → Outer) (names : List (List ℕ)) (ds left : List A) (l : map view left ≡ round_left (map view ds) names) where
+  pub round_few : length left ≤ length ds
+  round_few =
+      let few = round_fewer (map view ds) names in
+      let a = length_map view left in
+      let b = length_map view ds in
+      let e : length (map view left) ≡ length (round_left (map view ds) names) = ap length l in
+      omega arith
+
+  pub round_done : (new : List (List ℕ)) → new ≡ round_names (map view ds) names → length left ≡ length ds → IsSettled new (map view left)
+  round_done new n e =
+      let a = length_map view left in
+      let b = length_map view ds in
+      let c : length (map view left) ≡ length (round_left (map view ds) names) = ap length l in
+      subst (λ xs. IsSettled new xs) (sym l) (subst (λ m. IsSettled m (round_left (map view ds) names)) (sym n) (round_settles (map view ds) names (omega arith)))
 
 -- ---- all that is used is found
 
@@ -179,10 +206,10 @@ kept_by name (d ∷ ds) u = go (bytes_eq d.name name) (kept_by name ds u)
     go true h = refl
     go false h = h
 
-pub kept_test : (s : Source) (actor : Tree) (decls : List Outer) (others names : List (List ℕ)) (left : List Outer) → IsSourceOf s actor decls
+pub kept_test : (s : Source) (decl : Tree) (decls : List Outer) (others names : List (List ℕ)) (left : List Outer) → IsSourceOf s decl decls
     → others ≡ with_outers decls [] → IsFound s names left → IsSettled names left
     → (name : List ℕ) → (not (is_seen name others) || is_seen name names) ≡ is_kept name (outers s) (used s)
-kept_test s actor decls others names left is named found settled name =
+kept_test s decl decls others names left is named found settled name =
     ap (λ ns. not (is_seen name ns) || is_seen name names) named ∙ ap (λ b. not b || is_seen name names) (named_behind name decls [])
     ∙ go (is_outer name decls) (is_seen name names) (among name (used s))
     (λ h. all_found (suc (length (outers s))) s names left found settled name h)
@@ -197,3 +224,36 @@ kept_test s actor decls others names left is named found settled name =
     go true true b f g = sym (g refl refl)
     go true false true f g = f refl
     go true false false f g = refl
+
+-- ---- what is kept of variables and functions
+
+pub vars_kept : (xs : List Held) (s : Source) (keeping : List ℕ → Bool) → ((name : List ℕ) → keeping name ≡ is_kept name (outers s) (used s)) → filter (λ x. keeping x.name) xs ≡ kept_vars xs s
+vars_kept [] s keeping h = refl
+vars_kept (x ∷ xs) s keeping h = go (keeping x.name) (is_kept x.name (outers s) (used s)) (h x.name) (vars_kept xs s keeping h)
+  where
+    go : (b c : Bool) → b ≡ c → filter (λ y. keeping y.name) xs ≡ kept_vars xs s
+        → cond b (x ∷ filter (λ y. keeping y.name) xs) (filter (λ y. keeping y.name) xs) ≡ (if c then x ∷ kept_vars xs s else kept_vars xs s)
+    go true true e i = ap (λ ys. x ∷ ys) i
+    go true false e i = absurd (cc)
+    go false true e i = absurd (cc)
+    go false false e i = i
+
+pub funs_kept : (xs : List Fun) (s : Source) (keeping : List ℕ → Bool) → ((name : List ℕ) → keeping name ≡ is_kept name (outers s) (used s)) → filter (λ x. keeping x.name) xs ≡ kept_funs xs s
+funs_kept [] s keeping h = refl
+funs_kept (x ∷ xs) s keeping h = go (keeping x.name) (is_kept x.name (outers s) (used s)) (h x.name) (funs_kept xs s keeping h)
+  where
+    go : (b c : Bool) → b ≡ c → filter (λ y. keeping y.name) xs ≡ kept_funs xs s
+        → cond b (x ∷ filter (λ y. keeping y.name) xs) (filter (λ y. keeping y.name) xs) ≡ (if c then x ∷ kept_funs xs s else kept_funs xs s)
+    go true true e i = ap (λ ys. x ∷ ys) i
+    go true false e i = absurd (cc)
+    go false true e i = absurd (cc)
+    go false false e i = i
+
+pub filtered : {A B : Type 0} (view : A → B) (test : B → Bool) (xs : List A) → map view (filter (λ x. test (view x)) xs) ≡ filter test (map view xs)
+filtered view test [] = refl
+filtered view test (x ∷ xs) = go (test (view x)) (filtered view test xs)
+  where
+    go : (b : Bool) → map view (filter (λ y. test (view y)) xs) ≡ filter test (map view xs)
+        → map view (cond b (x ∷ filter (λ y. test (view y)) xs) (filter (λ y. test (view y)) xs)) ≡ cond b (view x ∷ filter test (map view xs)) (filter test (map view xs))
+    go true e = ap (λ ys. view x ∷ ys) e
+    go false e = e

@@ -9,8 +9,7 @@ use Rattle.action_build.proofs.acting.actions.Goals as goal
 pub members-preserved : goal.members-preserved
 members-preserved c =
     let around = around_view c.args.parts.now c.args.names.now in
-    let is = c.in-Some.ensures.cases.0 in
-    (
+    let is = c.in-Some.ensures.cases.0 in (
       c.in_ok-add_member.ensures.added (members_tree c.in-Some.others.now)
           ∙ sym (ap (λ ms. action_views c.members.found.items ++ actions_of (actions_in (members_tree ms)) around) is) ∙ c.members.invariant.0,
       λ f h. c.members.invariant.1 f

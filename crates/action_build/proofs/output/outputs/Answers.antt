@@ -4,7 +4,7 @@ use Rattle.const_eval.specs.Counting.{names_view}
 use Rattle.cal_check.specs.Actions.{outputs_on}
 use Rattle.member_check.specs.Asking.{outputs_tree, port_views}
 use Rattle.action_check.specs.Parts.{JudgesAll}
-use Rattle.action_build.proofs.OutputSteps.{found_outputs, ports_refuse}
+use Rattle.action_build.proofs.OutputSteps.{found_outputs}
 use Rattle.action_build.proofs.output.outputs.Goals as goal
 
 pub returns-in-Ok : goal.returns-in-Ok
