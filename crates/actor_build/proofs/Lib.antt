@@ -1,3 +1,0 @@
-mod Faults
-mod OrderSteps
-mod WholeSteps
