@@ -51,16 +51,22 @@ fn is_sound(tree: &Tree) -> bool
     is_numbered(tree)
 }
 
+/// Whether a sound tree, such as binding gives, may be flattened over these ports of its actors: there are as many ports
+/// as actors, told apart and within their limits.
+pub fn heads_fit(tree: &Tree, heads: &[Head]) -> bool
+    ensures { result ≡ true → IsSound (tree_of tree.now)
+        → IsWhole (tree_of tree.now) (heads_of heads.now) }
+{
+    if heads.len() != tree.leaves.len() {
+        return false;
+    }
+    are_heads_fine(heads)
+}
+
 /// Whether a tree may be flattened over these ports of its actors: it is sound, and there are as many ports as actors,
 /// told apart and within their limits.
 pub fn is_whole(tree: &Tree, heads: &[Head]) -> bool
     ensures { result ≡ true → IsWhole (tree_of tree.now) (heads_of heads.now) }
 {
-    if heads.len() != tree.leaves.len() {
-        return false;
-    }
-    if !are_heads_fine(heads) {
-        return false;
-    }
-    is_sound(tree)
+    heads_fit(tree, heads) && is_sound(tree)
 }

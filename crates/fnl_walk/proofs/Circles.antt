@@ -9,7 +9,7 @@ use Rattle.rvc_base.specs.declared.refusal.Front.TheVariants as front
 use Rattle.cal_model.specs.Kinding.{Names}
 use Rattle.cal_model.specs.Sound.{Each}
 use Rattle.cal_check.specs.Violations.{Violation, violation}
-use Rattle.cal_check.specs.Variables.{Found, found_in}
+use Rattle.cal_check.specs.Variables.{found_in}
 use Rattle.fnl_read.specs.Net.{Net, Instance}
 use Rattle.fnl_bind.specs.Library.{is_among, instance_class, instance_class_at}
 use Rattle.fnl_bind.specs.Networks.{Place, found_behind, own_found, values_found}

@@ -1,10 +1,10 @@
 -- A walk from its start to its end.
-use Rattle.std.proofs.Common.{◌≡◌, ℕ, zero, suc, ◌+◌, ◌<◌, ◌≤◌, List, [], ◌∷◌, ◌++◌, length, refl, sym, ap, subst, ◌∙◌, inl, inr, arith, append_assoc, append-nil, length-append}
-use Rattle.std.specs.Prelude.{Option, None, Some, slice_get}
+use Rattle.std.proofs.Common.{◌≡◌, ℕ, zero, suc, ◌≤◌, List, [], ◌∷◌, ◌++◌, length, refl, sym, ap, subst, ◌∙◌, inl, inr, arith, append_assoc, append-nil, length-append}
+use Rattle.std.specs.Prelude.{None, Some, slice_get}
 use Rattle.rvc_base.specs.declared.refusal.Front.{Front}
 use Rattle.rvc_base.specs.declared.refusal.Front.TheVariants as front
 use Rattle.net_model.specs.Limits.{max_instances}
-use Rattle.cal_check.specs.Variables.{Spot, Found}
+use Rattle.cal_check.specs.Variables.{Spot}
 use Rattle.fnl_bind.specs.Answers.{IsRefused}
 use Rattle.fnl_bind.specs.Library.{Entry, network_of}
 use Rattle.fnl_bind.specs.Networks.{Place, own_found}
@@ -12,7 +12,7 @@ use Rattle.fnl_bind.specs.Trees.{bound, found_at, grown_at, instances_at, passin
 use Rattle.fnl_values.proofs.Faults.{cause_in_first, cause_in_others}
 use Rattle.fnl_values.specs.Causes.{IsCause}
 use Rattle.fnl_walk.proofs.Opening.{found_opened, spots_opened, tree_opened}
-use Rattle.fnl_walk.specs.Steps.{Keeps, Opens, Passes, Stops, found, spots}
+use Rattle.fnl_walk.specs.Steps.{Keeps, Opens, Stops, found, spots}
 use Rattle.fnl_walk.proofs.Visiting.{is_opened, own_in_found}
 use Rattle.fnl_walk.specs.Walk.{Walk, IsSteady, count_of, finished, found_left, spots_left}
 
@@ -85,7 +85,7 @@ bound_is : (library : List Entry) (class : List ℕ) (e : Entry) → network_of 
 bound_is library class e h = ap (tree_of library) h
 
 -- a walk with nothing left to come
-pub ends_conform : (library : List Entry) (class : List ℕ) (e : Entry) (start w : Walk) → network_of class library ≡ Some e → IsStart library e start → Keeps library start w → w.open_nets ≡ []
+ends_conform : (library : List Entry) (class : List ℕ) (e : Entry) (start w : Walk) → network_of class library ≡ Some e → IsStart library e start → Keeps library start w → w.open_nets ≡ []
     → violations library class ≡ []
 ends_conform library class e start w h s k none =
     let no_spots : spots library w ≡ [] = ap (λ os. spots_left library os w.above) none in
@@ -97,10 +97,22 @@ ends_conform library class e start w h s k none =
     ∙ append-nil (found_at (length library) library (top_place e))
     ∙ sym s.found ∙ sym k.found ∙ ap (λ os. found_left library os w.above) none
 
-pub ends_bound : (library : List Entry) (class : List ℕ) (e : Entry) (start w : Walk) → network_of class library ≡ Some e → IsStart library e start → Keeps library start w → w.open_nets ≡ []
+ends_bound : (library : List Entry) (class : List ℕ) (e : Entry) (start w : Walk) → network_of class library ≡ Some e → IsStart library e start → Keeps library start w → w.open_nets ≡ []
     → tree_with w.grown ≡ bound library class
 ends_bound library class e start w h s k none =
     ap tree_with (sym (ap (λ os. finished library os w.above w.grown) none) ∙ k.tree ∙ s.tree) ∙ sym (bound_is library class e h)
+
+-- what a walk has found in the end
+pub record Ends (library : List Entry) (class : List ℕ) (w : Walk) : Type 0 where
+  pub conforms : violations library class ≡ []
+  pub bound : tree_with w.grown ≡ bound library class
+
+pub ends_so : (library : List Entry) (class : List ℕ) (e : Entry) (start w : Walk) → network_of class library ≡ Some e → Opens (length library) (top_place e) nothing start
+    → Keeps library start w → w.open_nets ≡ [] → Ends library class w
+ends_so library class e start w h opens k none = record {
+  conforms = ends_conform library class e start w h (starts library e start opens) k none;
+  bound = ends_bound library class e start w h (starts library e start opens) k none;
+}
 
 -- ---- a rule that is broken
 

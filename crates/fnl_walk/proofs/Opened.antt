@@ -5,7 +5,7 @@ use Rattle.cal_check.specs.Actors.{given_wrongly}
 use Rattle.cal_check.specs.Variables.{found_in}
 use Rattle.cal_check.specs.Violations.{said}
 use Rattle.fnl_tree.specs.View.{own_of, wire_of}
-use Rattle.fnl_bind.specs.Library.{params_of, ports_of}
+use Rattle.fnl_bind.specs.Library.{params_of}
 use Rattle.fnl_bind.specs.Networks.{Place, behind_decls, decls_at, names_at, net_with, own_found, valued_at, values_found}
 use Rattle.fnl_bind.specs.Scopes.{scope_broken}
 use Rattle.fnl_values.specs.Causes.{IsCause}

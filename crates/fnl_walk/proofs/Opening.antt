@@ -1,16 +1,16 @@
 -- What a network that is opened adds to a walk.
-use Rattle.std.proofs.Common.{◌≡◌, ℕ, zero, suc, ◌+◌, ◌<◌, ◌≤◌, Bool, true, false, List, [], ◌∷◌, ◌++◌, length, map, refl, sym, ap, subst, ◌∙◌, arith, append_assoc, append-nil, length-append}
+use Rattle.std.proofs.Common.{◌≡◌, ℕ, zero, suc, ◌+◌, List, [], ◌∷◌, ◌++◌, length, refl, sym, ap, ◌∙◌, arith, append_assoc}
 use Rattle.std.specs.Prelude.{Option, None, Some}
-use Rattle.cal_check.specs.Variables.{Spot, Found, Given}
+use Rattle.cal_check.specs.Variables.{Found, Given}
 use Rattle.fnl_read.specs.Net.{Instance}
-use Rattle.fnl_tree.specs.Tree.{InnerNet, InnerLeaf, Net as BoundNet, Leaf}
+use Rattle.fnl_tree.specs.Tree.{InnerNet, InnerLeaf}
 use Rattle.fnl_bind.specs.Library.{Entry, network_of, instance_class, instance_id, instance_parameters}
 use Rattle.fnl_bind.specs.Networks.{Place, Standing, StandsNet, StandsLeaf, StandsNot, standing, standing_as, own_found, names_at, net_with}
 use Rattle.fnl_bind.specs.Trees.{Grown, Filled, filled_by, filled, found_inside, found_or_inside, found_standing, found_at, grown_at, instances_at, instances_inside, net_before, with_part}
 use Rattle.fnl_bind.specs.Values.{all_given}
 use Rattle.fnl_values.specs.Visiting.{Visit, AreVisits}
-use Rattle.fnl_walk.specs.Steps.{Opens, opened, found, spots}
-use Rattle.fnl_walk.specs.Walk.{Open, Walk, place_at, place_of, outside, standing_of, instances_of, found_visits, found_in_open, found_left, spots_in_open, spots_left, with_filled, filled_visits, filled_open, finished, with_parts}
+use Rattle.fnl_walk.specs.Steps.{opened}
+use Rattle.fnl_walk.specs.Walk.{Open, place_at, outside, standing_of, instances_of, found_visits, found_in_open, spots_in_open, with_filled, filled_visits, filled_open, finished}
 use Rattle.fnl_walk.proofs.Parts.{parts_last}
 
 -- the place of a network, as an open one has it

@@ -1,22 +1,21 @@
 -- What a step of a walk keeps.
-use Rattle.std.proofs.Common.{◌≡◌, ℕ, zero, suc, ◌+◌, ◌*◌, ◌-◌, ◌<◌, ◌≤◌, Bool, true, false, List, [], ◌∷◌, ◌++◌, length, map, refl, sym, ap, subst, ◌∙◌, inl, inr, arith, Ok, Err, append_assoc, append-nil, length-append}
-use Rattle.std.specs.Prelude.{Option, None, Some, if◌then◌else◌}
+use Rattle.std.proofs.Common.{◌≡◌, ℕ, zero, suc, ◌+◌, ◌*◌, ◌-◌, ◌<◌, ◌≤◌, Bool, true, false, List, [], ◌∷◌, ◌++◌, length, refl, sym, ap, subst, ◌∙◌, inl, arith, Ok, Err, append_assoc, append-nil, length-append}
+use Rattle.std.specs.Prelude.{None, Some, if◌then◌else◌}
 use Rattle.std.specs.declared.result.Result.{Result}
 use Rattle.rvc_base.specs.declared.refusal.Front.{Front}
 use Rattle.rvc_base.specs.declared.refusal.Front.TheVariants as front
 use Rattle.net_model.specs.Limits.{max_instances}
 use Rattle.cal_model.specs.Sound.{Each}
 use Rattle.cal_check.specs.Variables.{Spot, Found}
-use Rattle.fnl_read.specs.Net.{Instance}
-use Rattle.fnl_tree.specs.Tree.{InnerNet, InnerLeaf, Part, Net as BoundNet, Leaf}
+use Rattle.fnl_tree.specs.Tree.{InnerNet, InnerLeaf, Part}
 use Rattle.fnl_bind.specs.Library.{Entry, network_of, is_among, instance_class, instance_id, instance_at}
-use Rattle.fnl_bind.specs.Networks.{Place, Standing, StandsNet, StandsLeaf, standing_as, own_found, net_with, net_under, leaf_under}
-use Rattle.fnl_bind.specs.Trees.{Grown, Filled, filled_by, found_inside, found_or_inside, found_standing, found_at, grown_at, instances_at, instances_inside, instances_under, with_part, nothing_filled}
+use Rattle.fnl_bind.specs.Networks.{Place, StandsNet, StandsLeaf, standing_as, own_found, net_with, net_under, leaf_under}
+use Rattle.fnl_bind.specs.Trees.{Grown, filled_by, found_inside, found_or_inside, found_standing, found_at, grown_at, instances_at, instances_inside, instances_under, with_part}
 use Rattle.fnl_values.specs.Causes.{IsCause}
 use Rattle.fnl_values.specs.Visiting.{Visit}
-use Rattle.fnl_walk.specs.Steps.{Goes, Keeps, Opens, OpensTo, Passes, Stops, opened, found, spots, steps_left}
+use Rattle.fnl_walk.specs.Steps.{Goes, Keeps, Opens, Passes, Stops, opened, found, spots, steps_left}
 use Rattle.fnl_walk.specs.Visited.{VisitsNet, before, place_inside, with_inner, with_leaf}
-use Rattle.fnl_walk.specs.Walk.{Open, Walk, IsOpen, AreOpen, IsSteady, count_of, place_of, outside, standing_of, instances_of, found_visits, found_in_open, found_left, spots_in_open, spots_left, with_filled, filled_visits, filled_open, finished, with_parts}
+use Rattle.fnl_walk.specs.Walk.{Open, Walk, IsOpen, AreOpen, IsSteady, count_of, place_of, outside, standing_of, instances_of, found_visits, found_in_open, found_left, spots_in_open, spots_left, with_filled, filled_visits, finished, with_parts}
 use Rattle.fnl_values.proofs.Faults.{cause_in_first}
 use Rattle.fnl_walk.proofs.Opening.{and_more, found_opened, length_more, length_one, spots_opened, tree_opened}
 use Rattle.fnl_walk.proofs.Parts.{nothing_more, part_more, parts_length}

@@ -3,3 +3,4 @@ pub mod View
 pub mod Steps
 pub mod Opening
 pub mod Visited
+pub mod InMemory

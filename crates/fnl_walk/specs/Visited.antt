@@ -1,6 +1,6 @@
 -- Instances as they are visited by the code.
 -- Not trusted: no promise is read with it.
-use Rattle.std.specs.Prelude.{ℕ, suc, ◌+◌, ◌*◌, ◌-◌, List, [], ◌∷◌, ◌++◌, length}
+use Rattle.std.specs.Prelude.{ℕ, List, [], ◌∷◌, ◌++◌, length}
 use Rattle.std.specs.declared.result.Result.{Result}
 use Rattle.rvc_base.specs.declared.refusal.Front.{Front}
 use Rattle.fnl_tree.specs.Tree.{Inner, InnerNet, InnerLeaf}
@@ -31,7 +31,10 @@ with_leaf o v w = record {
   open_nets = o ∷ w.open_nets;
   above = w.above;
   grown = record {
-    nets = with_parts o.number (record { id = instance_id v.instance; inner = InnerLeaf (length w.grown.leaves) } ∷ []) w.grown.nets;
+    nets = with_parts o.number (record {
+      id = instance_id v.instance;
+      inner = InnerLeaf (length w.grown.leaves);
+    } ∷ []) w.grown.nets;
     leaves = w.grown.leaves ++ leaf_under (place_of o w.above) v.instance v.given ∷ [];
   };
 }

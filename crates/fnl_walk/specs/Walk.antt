@@ -5,7 +5,7 @@ use Rattle.net_model.specs.Limits.{max_instances}
 use Rattle.cal_model.specs.Sound.{Each}
 use Rattle.cal_check.specs.Variables.{Spot, Found}
 use Rattle.fnl_read.specs.Net.{Net, Instance}
-use Rattle.fnl_tree.specs.Tree.{Part, Net as BoundNet, Leaf}
+use Rattle.fnl_tree.specs.Tree.{Part, Net as BoundNet}
 use Rattle.fnl_bind.specs.Library.{Entry, network_of, is_among, instance_id, instance_class}
 use Rattle.fnl_bind.specs.Networks.{Place, Standing, standing_as}
 use Rattle.fnl_bind.specs.Trees.{Grown, Filled, nothing_filled, filled_by, found_standing, found_at, grown_at, instances_at, instances_inside, words}

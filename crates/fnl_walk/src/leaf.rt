@@ -1,10 +1,8 @@
 //! Actors.
 
-ghost use Rattle.std.specs.Prelude.{◌≡◌, ℕ, List, IfOk};
-ghost use Rattle.fnl_bind.specs.Networks.{leaf_under};
-ghost use Rattle.fnl_tree.specs.View.{leaf_of};
+ghost use Rattle.std.specs.Prelude.{IfOk};
 ghost use Rattle.fnl_values.specs.Visiting.{visit_of};
-ghost use Rattle.fnl_walk.specs.Walk.{place_at};
+ghost use Rattle.fnl_walk.specs.InMemory.{IsLeafOf};
 
 use crate::paths::path_under;
 use fnl_tree::Leaf;
@@ -14,8 +12,7 @@ use std::alloc::Global;
 
 /// The actor that an instance is.
 pub(crate) fn leaf(alloc: Global, file: u32, path: &str, visit: Visit<'_>) -> Result<Leaf, Memory>
-    ensures { IfOk result (λ leaf. (above : List (List ℕ)) → leaf_of leaf ≡ leaf_under (place_at file path.now above)
-        (visit_of visit.entry).instance (visit_of visit.entry).given) }
+    ensures { IfOk result (λ leaf. IsLeafOf leaf file path.now (visit_of visit.entry)) }
 {
     let instance = visit.instance;
     let path = path_under(alloc, path, instance.id.as_str())?;

@@ -7,8 +7,8 @@ ghost use Rattle.cal_check.specs.Variables.{found_in};
 ghost use Rattle.fnl_frames.specs.Views.{net_of};
 ghost use Rattle.fnl_values.specs.Judging.{Finds};
 ghost use Rattle.fnl_values.specs.Visiting.{visit_of};
-ghost use Rattle.fnl_walk.specs.Opening.{bare_net, place_standing, with_class, with_net};
-ghost use Rattle.fnl_walk.specs.Steps.{OpensTo, opened};
+ghost use Rattle.fnl_walk.specs.InMemory.{OpensAt, opened_at, with_values};
+ghost use Rattle.fnl_walk.specs.Opening.{with_class};
 ghost use Rattle.fnl_walk.specs.View.{open_of, walk_view};
 
 use crate::walk::{Open, Walk};
@@ -36,7 +36,8 @@ pub(crate) struct Standing<'a, 'b> {
 
 /// Tests the rules of scope in a network of a file that stands in networks of these classes, its own among them.
 fn scopes_hold(alloc: Global, file: u32, net: &NetFile, above: &[String]) -> Result<(), Front>
-    ensures { Finds result (found_in file (scope_broken (net_of net.now) (reverse (map string_bytes above.now)))) }
+    ensures { Finds result
+        (found_in file (scope_broken (net_of net.now) (reverse (map string_bytes above.now)))) }
 {
     match check_scopes(alloc, net, above) {
         Ok(()) => Ok(()),
@@ -57,8 +58,8 @@ fn opened<'a>(
     path: String,
     visits: VecDeque<Visit<'a>>,
 ) -> Open<'a>
-    ensures { open_of result ≡ opened at.entry.source.now.file number (string_bytes path) at.entry.levels
-        (map visit_of visits.entry.items) }
+    ensures { open_of result
+        ≡ opened_at at.entry number (string_bytes path) (map visit_of visits.entry.items) }
 {
     let file = at.source.file;
     if at.levels == 0 {
@@ -85,9 +86,8 @@ fn add_net<'a>(
     at: Standing<'a, '_>,
     values: NetValues<'a>,
 ) -> Result<(), Memory>
-    ensures { OnOk result (walk_view walk.new ≡ with_net
-        (opened at.entry.source.now.file (length walk.old.nets.items) at.entry.path.now at.entry.levels (map visit_of values.entry.visits.items))
-        (bare_net at.entry.source.now.file at.entry.path.now values.entry) (walk_view walk.old)) }
+    ensures { OnOk result (walk_view walk.new
+        ≡ with_values at.entry values.entry (length walk.old.nets.items) (walk_view walk.old)) }
 {
     let alloc = walk.alloc;
     let number = walk.nets.len();
@@ -121,8 +121,7 @@ fn add_class(walk: &mut Walk<'_>, class: &str) -> Result<(), Memory>
 ///
 /// `Refused` with a rule that it breaks itself, and its place. `Memory` if memory runs out.
 pub(crate) fn open_net<'a>(walk: &mut Walk<'a>, at: Standing<'a, '_>) -> Result<(), Front>
-    ensures { OpensTo at.entry.levels (place_standing at.entry (walk_view walk.old).above) (walk_view walk.old)
-        (walk_view walk.new) result }
+    ensures { OpensAt at.entry (walk_view walk.old) (walk_view walk.new) result }
 {
     let alloc = walk.alloc;
     let Ok(()) = add_class(walk, at.class) else {

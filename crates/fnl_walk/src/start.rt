@@ -3,12 +3,15 @@
 ghost use Rattle.std.specs.Prelude.{◌≡◌, [], IfErr, IfOk, is_some, true};
 ghost use Rattle.fnl_bind.specs.Answers.{IsBound, IsRefused};
 ghost use Rattle.fnl_bind.specs.Library.{network_of};
+ghost use Rattle.fnl_tree.specs.Sound.{IsSound};
+ghost use Rattle.fnl_tree.specs.View.{tree_of};
 ghost use Rattle.fnl_walk.specs.View.{walk_view};
 ghost use Rattle.net_set.specs.View.{networks};
 
 use crate::open::{Standing, open_net};
 use crate::step::step;
 use crate::walk::Walk;
+use fnl_bind::bound_trees_are_sound;
 use fnl_tree::Tree;
 use net_set::NetSet;
 use rvc_base::{Front, Place};
@@ -19,7 +22,8 @@ const WORDS: Place = Place { file: 0, offset: 0 };
 
 /// A walk with nothing open.
 fn nothing_open<'a>(alloc: Global) -> Walk<'a>
-    ensures { walk_view result ≡ record { open_nets = []; above = []; grown = record { nets = []; leaves = [] } } }
+    ensures { walk_view result
+        ≡ record { open_nets = []; above = []; grown = record { nets = []; leaves = [] } } }
 {
     Walk {
         alloc,
@@ -32,7 +36,7 @@ fn nothing_open<'a>(alloc: Global) -> Walk<'a>
 
 /// The tree that the networks of a set make from the one of a class down (ISO/IEC 23001-4, FNL): networks with their
 /// values as they stand in each other, depth first, and the actors at its leaves with the values of their parameters.
-/// An instance whose class isn't in the set is an actor.
+/// An instance whose class isn't in the set is an actor. The tree is one that can be flattened (`sound`).
 ///
 /// [`NetSet::has`] tests the condition.
 ///
@@ -45,8 +49,10 @@ fn nothing_open<'a>(alloc: Global) -> Walk<'a>
 pub fn bind(alloc: Global, nets: &NetSet, top: &str) -> Result<Tree, Front>
     requires { is_some (network_of top.now (networks nets.now)) ≡ true }
     ensures bound { IfOk result (IsBound (networks nets.now) top.now) }
+    ensures sound { IfOk result (λ tree. IsSound (tree_of tree)) }
     ensures refused { IfErr result (IsRefused (networks nets.now) top.now) }
 {
+    bound_trees_are_sound();
     let Some(entry) = nets.get(top) else {
         unreachable!()
     };

@@ -3,13 +3,11 @@
 
 ghost use Rattle.std.specs.Prelude.{◌≡◌, ◌<◌, ◌≤◌, IfOk, OnOk, length, string_bytes};
 ghost use Rattle.fnl_bind.specs.Networks.{path_under};
-ghost use Rattle.fnl_tree.specs.Tree.{InnerNet};
-ghost use Rattle.fnl_values.specs.Visiting.{visit_of};
+ghost use Rattle.fnl_walk.specs.InMemory.{VisitsEntry, leaf_put, net_put, untaken};
 ghost use Rattle.fnl_walk.specs.Steps.{Goes, StepsTo};
 ghost use Rattle.fnl_walk.specs.View.{open_of, walk_view};
-ghost use Rattle.fnl_walk.specs.Visited.{VisitsNet, before, with_leaf, with_part};
 ghost use Rattle.fnl_walk.specs.Walk.{IsSteady};
-ghost use Rattle.net_set.specs.View.{entry_under, networks};
+ghost use Rattle.net_set.specs.View.{networks};
 
 use crate::leaf::leaf;
 use crate::open::{Standing, open_net};
@@ -27,8 +25,7 @@ const MAX_INSTANCES: usize = 1024;
 fn put_leaf<'a>(walk: &mut Walk<'a>, here: Open<'a>, visit: Visit<'a>) -> Result<(), Memory>
     requires number { here.number < length walk.old.nets.items }
     requires few { length walk.old.leaves.items ≤ 1024 }
-    ensures { OnOk result (walk_view walk.new
-        ≡ with_leaf (open_of here.entry) (visit_of visit.entry) (walk_view walk.old)) }
+    ensures { OnOk result (walk_view walk.new ≡ leaf_put here.entry visit.entry walk.old) }
 {
     let inner = Inner::Leaf(InstId(walk.leaves.len() as u32));
     let id = visit.instance.id.clone()?;
@@ -43,9 +40,9 @@ fn put_leaf<'a>(walk: &mut Walk<'a>, here: Open<'a>, visit: Visit<'a>) -> Result
 fn put_net<'a>(walk: &mut Walk<'a>, here: Open<'a>, id: &str) -> Result<String, Memory>
     requires number { here.number < length walk.old.nets.items }
     requires few { length walk.old.nets.items ≤ 1024 }
-    ensures put { OnOk result (walk_view walk.new ≡ with_part (open_of here.entry) id.now
-        (InnerNet (length walk.old.nets.items)) (walk_view walk.old)) }
-    ensures path { IfOk result (λ path. string_bytes path ≡ path_under (open_of here.entry).path id.now) }
+    ensures put { OnOk result (walk_view walk.new ≡ net_put here.entry id.now walk.old) }
+    ensures path { IfOk result
+        (λ path. string_bytes path ≡ path_under (open_of here.entry).path id.now) }
 {
     let inner = Inner::Net(walk.nets.len() as u32);
     add_part(
@@ -68,8 +65,7 @@ fn visit_net<'a>(
 ) -> Result<(), Front>
     requires number { here.number < length walk.old.nets.items }
     requires few { length walk.old.nets.items ≤ 1024 }
-    ensures { VisitsNet (open_of here.entry) (visit_of visit.entry)
-        (entry_under (string_bytes visit.entry.instance.now.class) entry.entry.now) (walk_view walk.old) (walk_view walk.new) result }
+    ensures { VisitsEntry here.entry visit.entry entry.entry.now walk.old walk.new result }
 {
     let owner = Place {
         file: here.file,
@@ -97,9 +93,9 @@ fn visit_one<'a>(
     here: Open<'a>,
     visit: Visit<'a>,
 ) -> Result<(), Front>
-    requires { IsSteady (before (open_of here) (visit_of visit) (walk_view walk.old)) }
-    ensures { Goes (networks nets.entry.now) (before (open_of here.entry) (visit_of visit.entry) (walk_view walk.old))
-        (walk_view walk.new) result }
+    requires { IsSteady (untaken here visit walk.old) }
+    ensures { Goes (networks nets.entry.now)
+        (untaken here.entry visit.entry walk.old) (walk_view walk.new) result }
 {
     let instance = visit.instance;
     if walk.nets.len() + walk.leaves.len() > MAX_INSTANCES {

@@ -1,8 +1,8 @@
 //! How a walk stands.
 
-ghost use Rattle.std.specs.Prelude.{◌≡◌, ◌<◌, [], ◌∷◌, OnOk, length, map, string_bytes};
-ghost use Rattle.fnl_tree.specs.View.{inner_of, net_of};
-ghost use Rattle.fnl_walk.specs.Walk.{with_parts};
+ghost use Rattle.std.specs.Prelude.{◌≡◌, ◌<◌, OnOk, length, map, string_bytes};
+ghost use Rattle.fnl_tree.specs.View.{net_of};
+ghost use Rattle.fnl_walk.specs.InMemory.{with_new_part};
 
 use fnl_tree::{Inner, Leaf, Net, Part};
 use fnl_values::Visit;
@@ -46,8 +46,8 @@ pub(crate) fn add_part(
     inner: Inner,
 ) -> Result<(), Memory>
     requires { number < length nets.old.items }
-    ensures { OnOk result (map net_of nets.new.items ≡ with_parts number
-        (record { id = string_bytes id; inner = inner_of inner } ∷ []) (map net_of nets.old.items)) }
+    ensures { OnOk result (map net_of nets.new.items
+        ≡ with_new_part number (string_bytes id) inner (map net_of nets.old.items)) }
 {
     nets[number].parts.push(Part { id, inner })?;
     Ok(())

@@ -4,8 +4,9 @@ use Rattle.fnl_bind.specs.Answers.{IsRefused}
 use Rattle.fnl_bind.specs.Library.{Entry, network_of}
 use Rattle.fnl_bind.specs.Networks.{own_found}
 use Rattle.fnl_bind.specs.Trees.{top_place, tree_with}
+use Rattle.fnl_tree.specs.Sound.{IsSound}
 use Rattle.fnl_values.specs.Causes.{IsCause}
-use Rattle.fnl_walk.proofs.Ending.{ends_bound, ends_conform, keeps_all, keeps_on, nothing, starts, starts_steady, step_refused, top_refused, top_under}
+use Rattle.fnl_walk.proofs.Ending.{Ends, ends_so, keeps_all, keeps_on, nothing, starts, starts_steady, step_refused, top_refused, top_under}
 use Rattle.fnl_walk.specs.Steps.{Keeps, Opens, steps_left}
 use Rattle.fnl_walk.specs.View.{walk_view}
 use Rattle.net_set.specs.View.{entry_under, networks}
@@ -57,9 +58,19 @@ returns-clause-bound c =
     let first : Opens c.len.result (top_place e) nothing (walk_view c.open_net.new.walk) =
     subst (λ w. Opens c.len.result (top_under e w.above) w (walk_view c.open_net.new.walk)) c.nothing_open-walk.ensures c.in_ok-open_net.ensures in
     let opens : Opens (length library) (top_place e) nothing (walk_view c.open_net.new.walk) = subst (λ n. Opens n (top_place e) nothing (walk_view c.open_net.new.walk)) c.len.ensures first in
-    let start = starts library e (walk_view c.open_net.new.walk) opens in
     let done : (walk_view c.step.new.walk ≡ walk_view c.steps.walk) × ((walk_view c.steps.walk).open_nets ≡ []) = search rules in
-    record {
-      conforms = ends_conform library c.args.top.now e (walk_view c.open_net.new.walk) (walk_view c.steps.walk) some start c.steps.invariant done.1;
-      is = ap (λ w. tree_with w.grown) done.0 ∙ ends_bound library c.args.top.now e (walk_view c.open_net.new.walk) (walk_view c.steps.walk) some start c.steps.invariant done.1;
-    }
+    let ends : Ends library c.args.top.now (walk_view c.steps.walk) = ends_so library c.args.top.now e (walk_view c.open_net.new.walk) (walk_view c.steps.walk) some opens c.steps.invariant done.1 in
+    record { conforms = ends.conforms; is = ap (λ w. tree_with w.grown) done.0 ∙ ends.bound }
+
+pub returns-clause-sound : goal.returns-clause-sound
+returns-clause-sound c =
+    let library = networks c.args.nets.now in
+    let e : Entry = entry_under c.args.top.now c.in-Some.entry.now in
+    let some : network_of c.args.top.now library ≡ Some e = sym c.get.ensures ∙ ap (option_map (λ x. entry_under c.args.top.now x.now)) c.in-Some.is in
+    let first : Opens c.len.result (top_place e) nothing (walk_view c.open_net.new.walk) =
+    subst (λ w. Opens c.len.result (top_under e w.above) w (walk_view c.open_net.new.walk)) c.nothing_open-walk.ensures c.in_ok-open_net.ensures in
+    let opens : Opens (length library) (top_place e) nothing (walk_view c.open_net.new.walk) = subst (λ n. Opens n (top_place e) nothing (walk_view c.open_net.new.walk)) c.len.ensures first in
+    let done : (walk_view c.step.new.walk ≡ walk_view c.steps.walk) × ((walk_view c.steps.walk).open_nets ≡ []) = search rules in
+    let ends : Ends library c.args.top.now (walk_view c.steps.walk) = ends_so library c.args.top.now e (walk_view c.open_net.new.walk) (walk_view c.steps.walk) some opens c.steps.invariant done.1 in
+    subst IsSound (sym (ap (λ w. tree_with w.grown) done.0 ∙ ends.bound))
+    (c.bound_trees_are_sound.ensures.sound library c.args.top.now e some ends.conforms)

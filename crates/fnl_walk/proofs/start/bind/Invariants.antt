@@ -1,4 +1,3 @@
-use Rattle.std.proofs.Common.{◌≡◌}
 use Rattle.fnl_walk.specs.Steps.{Keeps, steps_left}
 use Rattle.fnl_walk.specs.View.{walk_view}
 use Rattle.net_set.specs.View.{networks}

@@ -1,8 +1,7 @@
 use Rattle.std.proofs.Common.{◌≡◌, [], ◌∷◌, ◌++◌, map, ap, ◌∙◌, rules}
-use Rattle.std.specs.Prelude.{slice_index_or, string_bytes}
+use Rattle.std.specs.Prelude.{slice_index_or}
 use Rattle.std.proofs.lemmas.List.{map-append}
-use Rattle.fnl_tree.specs.Tree.{Part, Net as BoundNet}
-use Rattle.fnl_tree.specs.View.{inner_of, net_of, part_of}
+use Rattle.fnl_tree.specs.View.{net_of, part_of}
 use Rattle.fnl_tree.specs.declared.tree.Net.{Net}
 use Rattle.fnl_tree.specs.declared.tree.Part.{Part as DeclaredPart}
 use Rattle.fnl_walk.proofs.Parts.{set_parts}
