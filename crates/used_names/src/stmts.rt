@@ -166,7 +166,10 @@ fn add_stmts(names: &mut NameSet, body: &[Stmt]) -> Result<(), Memory>
 
 /// Adds the names in statements that may be missing.
 #[cycle(names_in)]
-pub(crate) fn add_optional_stmts(names: &mut NameSet, body: &Option<Vec<Stmt>>) -> Result<(), Memory>
+pub(crate) fn add_optional_stmts(
+    names: &mut NameSet,
+    body: &Option<Vec<Stmt>>,
+) -> Result<(), Memory>
     ensures { AddsNames result (body_tree body.now) names.old names.new }
 {
     match body {
