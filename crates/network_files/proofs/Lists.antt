@@ -1,0 +1,161 @@
+-- Lists of files, and what they ask for.
+use Rattle.std.proofs.Common.{◌≡◌, ℕ, suc, ◌+◌, Bool, true, false, ◌&&◌, ◌||◌, List, [], ◌∷◌, ◌++◌, length, map, refl, sym, ap, subst, ◌∙◌, arith}
+use Rattle.std.proofs.lemmas.List.{append_assoc, append-nil, length-map, map-append}
+use Rattle.std.proofs.lemmas.Slice.Eq.{bytes_eq-Decides}
+use Rattle.std.specs.Prelude.{None, Some, if◌then◌else◌}
+use Rattle.std.specs.Str.{bytes_eq}
+use Rattle.cal_imports.specs.Sources.{imports_of}
+use Rattle.cal_imports.specs.Walk.{Edge}
+use Rattle.cal_imports.specs.Whole.{import_edges}
+use Rattle.actor_files.specs.Loading.{Library}
+use Rattle.fnl_read.specs.Net.{Instance}
+use Rattle.source_network.specs.Files.{Asked, Content, network, source, Read, Wanted, asked_by, asked_by_all, asked_by_import, asked_by_instance, bytes_of, first_unread, is_network, is_read, is_same_kind, networks_from, networks_in, next_wanted, sources_from, sources_in, wanted}
+use Rattle.network_files.specs.Requests.{AreAllRead, Request, import_request, instance_request, names_of, read_name, requests, requests_by, requests_from, top_request}
+
+-- ---- lists of files
+
+plus_zero : (n : ℕ) → n ≡ n + 0
+plus_zero n = omega arith
+
+one_more : (n : ℕ) → 1 + n ≡ suc n
+one_more n = omega arith
+
+further : (n : ℕ) (x : Read) (xs : List Read) → suc n + length xs ≡ n + length (x ∷ xs)
+further n x xs = omega arith
+
+networks_join : (n : ℕ) (xs ys : List Read) → networks_from n (xs ++ ys) ≡ networks_from n xs ++ networks_from (n + length xs) ys
+networks_join n [] ys = ap (λ k. networks_from k ys) (plus_zero n)
+networks_join n (x ∷ xs) ys =
+    ap (λ l. networks_in x.class n x.content ++ l) (networks_join (suc n) xs ys ∙ ap (λ k. networks_from (suc n) xs ++ networks_from k ys) (further n x xs))
+    ∙ sym (append_assoc (networks_in x.class n x.content) (networks_from (suc n) xs) (networks_from (n + length (x ∷ xs)) ys))
+
+sources_join : (n : ℕ) (xs ys : List Read) → sources_from n (xs ++ ys) ≡ sources_from n xs ++ sources_from (n + length xs) ys
+sources_join n [] ys = ap (λ k. sources_from k ys) (plus_zero n)
+sources_join n (x ∷ xs) ys =
+    ap (λ l. sources_in x.class n x.content ++ l) (sources_join (suc n) xs ys ∙ ap (λ k. sources_from (suc n) xs ++ sources_from k ys) (further n x xs))
+    ∙ sym (append_assoc (sources_in x.class n x.content) (sources_from (suc n) xs) (sources_from (n + length (x ∷ xs)) ys))
+
+requests_join : (n : ℕ) (xs ys : List Read) → requests_from n (xs ++ ys) ≡ requests_from n xs ++ requests_from (n + length xs) ys
+requests_join n [] ys = ap (λ k. requests_from k ys) (plus_zero n)
+requests_join n (x ∷ xs) ys =
+    ap (λ l. requests_by n x.content ++ l) (requests_join (suc n) xs ys ∙ ap (λ k. requests_from (suc n) xs ++ requests_from k ys) (further n x xs))
+    ∙ sym (append_assoc (requests_by n x.content) (requests_from (suc n) xs) (requests_from (n + length (x ∷ xs)) ys))
+
+pub networks_more : (done : List Read) (r : Read) → networks_from 1 (done ++ r ∷ []) ≡ networks_from 1 done ++ networks_in r.class (suc (length done)) r.content
+networks_more done r =
+    networks_join 1 done (r ∷ [])
+    ∙ ap (λ xs. networks_from 1 done ++ xs) (append-nil (networks_in r.class (1 + length done) r.content)
+    ∙ ap (λ n. networks_in r.class n r.content) (one_more (length done)))
+
+pub sources_more : (done : List Read) (r : Read) → sources_from 1 (done ++ r ∷ []) ≡ sources_from 1 done ++ sources_in r.class (suc (length done)) r.content
+sources_more done r =
+    sources_join 1 done (r ∷ [])
+    ∙ ap (λ xs. sources_from 1 done ++ xs) (append-nil (sources_in r.class (1 + length done) r.content)
+    ∙ ap (λ n. sources_in r.class n r.content) (one_more (length done)))
+
+pub requests_more : (top : Asked) (done : List Read) (r : Read) → requests top (done ++ r ∷ []) ≡ requests top done ++ requests_by (suc (length done)) r.content
+requests_more top done r =
+    ap (λ qs. top_request top ∷ qs) (requests_join 1 done (r ∷ [])
+    ∙ ap (λ qs. requests_from 1 done ++ qs) (append-nil (requests_by (1 + length done) r.content)
+    ∙ ap (λ n. requests_by n r.content) (one_more (length done))))
+
+pub names_more : (done : List Read) (r : Read) → names_of (done ++ r ∷ []) ≡ names_of done ++ read_name r ∷ []
+names_more done r = map-append read_name done (r ∷ [])
+
+pub bytes_more : (done : List Read) (r : Read) → bytes_of (done ++ r ∷ []) ≡ bytes_of done + length r.text
+bytes_more [] r = omega arith
+bytes_more (x ∷ xs) r = let h = bytes_more xs r in omega arith
+
+pub length_more : (done : List Read) (r : Read) → length (done ++ r ∷ []) ≡ suc (length done)
+length_more [] r = refl
+length_more (x ∷ xs) r = ap suc (length_more xs r)
+
+pub count_names : (done : List Read) (names : List (List ℕ)) → names ≡ names_of done → length names ≡ length done
+count_names done names e = ap length e ∙ length-map done read_name
+
+-- ---- files that were read
+
+pub same_class : (a b : List ℕ) → bytes_eq a b ≡ true → a ≡ b
+same_class a b h = (bytes_eq-Decides a b).0 h
+
+is_itself : (a : List ℕ) → bytes_eq a a ≡ true
+is_itself a = (bytes_eq-Decides a a).1 refl
+
+read_stays : (w : Wanted) (done later : List Read) → is_read w done ≡ true → is_read w (done ++ later) ≡ true
+read_stays w [] later h = cc
+read_stays w (r ∷ done) later h = go (bytes_eq w.class r.class && is_same_kind w.network (is_network r.content)) h (read_stays w done later)
+  where
+    go : (b : Bool) → (b || is_read w done) ≡ true → (is_read w done ≡ true → is_read w (done ++ later) ≡ true) → (b || is_read w (done ++ later)) ≡ true
+    go true k rest = refl
+    go false k rest = rest k
+
+read_there : (w : Wanted) (done : List Read) (r : Read) → r.class ≡ w.class → is_network r.content ≡ w.network → is_read w (done ++ r ∷ []) ≡ true
+read_there w [] r c k = both (bytes_eq w.class r.class) (is_same_kind w.network (is_network r.content)) (subst (λ x. bytes_eq w.class x ≡ true) (sym c) (is_itself w.class))
+    (subst (λ x. is_same_kind w.network x ≡ true) (sym k) (kind_itself w.network))
+  where
+    kind_itself : (b : Bool) → is_same_kind b b ≡ true
+    kind_itself true = refl
+    kind_itself false = refl
+
+    both : (a b : Bool) → a ≡ true → b ≡ true → ((a && b) || false) ≡ true
+    both true true h k = refl
+    both true false h k = cc
+    both false b h k = cc
+read_there w (x ∷ done) r c k = go (bytes_eq w.class x.class && is_same_kind w.network (is_network x.content)) (read_there w done r c k)
+  where
+    go : (b : Bool) → is_read w (done ++ r ∷ []) ≡ true → (b || is_read w (done ++ r ∷ [])) ≡ true
+    go true h = refl
+    go false h = h
+
+pub all_read_stays : (library : Library) (done later : List Read) (qs : List Request) → AreAllRead library done qs → AreAllRead library (done ++ later) qs
+all_read_stays library done later [] h = tt
+all_read_stays library done later (q ∷ qs) h = (read_stays (wanted library q.asked) done later h.0, all_read_stays library done later qs h.1)
+
+pub all_read_join : (library : Library) (done : List Read) (qs : List Request) (q : Request) → AreAllRead library done qs
+    → is_read (wanted library q.asked) done ≡ true → AreAllRead library done (qs ++ q ∷ [])
+all_read_join library done [] q h k = (k, tt)
+all_read_join library done (p ∷ qs) q h k = (h.0, all_read_join library done qs q h.1 k)
+
+pub all_read_more : (library : Library) (done : List Read) (qs : List Request) (q : Request) (r : Read) → AreAllRead library done qs
+    → r.class ≡ (wanted library q.asked).class → is_network r.content ≡ (wanted library q.asked).network → AreAllRead library (done ++ r ∷ []) (qs ++ q ∷ [])
+all_read_more library done qs q r h c k =
+    all_read_join library (done ++ r ∷ []) qs q (all_read_stays library done (r ∷ []) qs h) (read_there (wanted library q.asked) done r c k)
+
+-- ---- what is asked for
+
+same_instances : (n : ℕ) (is : List Instance) → map (λ q. q.asked) (map (instance_request n) is) ≡ map asked_by_instance is
+same_instances n [] = refl
+same_instances n (i ∷ is) = ap (λ zs. asked_by_instance i ∷ zs) (same_instances n is)
+
+same_imports : (n : ℕ) (es : List Edge) → map (λ q. q.asked) (map (import_request n) es) ≡ map asked_by_import es
+same_imports n [] = refl
+same_imports n (e ∷ es) = ap (λ zs. asked_by_import e ∷ zs) (same_imports n es)
+
+same_asked_by : (n : ℕ) (content : Content) → map (λ q. q.asked) (requests_by n content) ≡ asked_by content
+same_asked_by n (network net) = same_instances n net.instances
+same_asked_by n (source tree) = same_imports n (import_edges (imports_of tree))
+
+same_asked : (n : ℕ) (rs : List Read) → map (λ q. q.asked) (requests_from n rs) ≡ asked_by_all rs
+same_asked n [] = refl
+same_asked n (r ∷ rs) =
+    map-append (λ q. q.asked) (requests_by n r.content) (requests_from (suc n) rs)
+    ∙ ap (λ xs. xs ++ map (λ q. q.asked) (requests_from (suc n) rs)) (same_asked_by n r.content)
+    ∙ ap (λ xs. asked_by r.content ++ xs) (same_asked (suc n) rs)
+
+pub next_is : (library : Library) (top : Asked) (rs : List Read) (qs : List Request) → requests top rs ≡ qs
+    → next_wanted library top rs ≡ first_unread library rs (map (λ q. q.asked) qs)
+next_is library top rs qs e =
+    ap (λ zs. first_unread library rs (top ∷ zs)) (sym (same_asked 1 rs))
+    ∙ ap (λ zs. first_unread library rs (map (λ q. q.asked) zs)) e
+
+pub first_past : (library : Library) (rs : List Read) (before after : List Request) (q : Request) → AreAllRead library rs before
+    → is_read (wanted library q.asked) rs ≡ false → first_unread library rs (map (λ p. p.asked) (before ++ q ∷ after)) ≡ Some (wanted library q.asked)
+first_past library rs [] after q h unread = ap (λ b. if b then first_unread library rs (map (λ p. p.asked) after) else Some (wanted library q.asked)) unread
+first_past library rs (p ∷ before) after q h unread =
+    ap (λ b. if b then first_unread library rs (map (λ x. x.asked) (before ++ q ∷ after)) else Some (wanted library p.asked)) h.0
+    ∙ first_past library rs before after q h.1 unread
+
+pub first_none : (library : Library) (rs : List Read) (qs : List Request) → AreAllRead library rs qs → first_unread library rs (map (λ q. q.asked) qs) ≡ None
+first_none library rs [] h = refl
+first_none library rs (q ∷ qs) h =
+    ap (λ b. if b then first_unread library rs (map (λ x. x.asked) qs) else Some (wanted library q.asked)) h.0 ∙ first_none library rs qs h.1

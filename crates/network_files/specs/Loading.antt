@@ -1,0 +1,84 @@
+-- What refuses the files that a top needs, by what a library tells of them.
+-- Trusted: part of what a promise means.
+use Rattle.std.specs.Prelude.{◌≡◌, ◌<◌, ◌+◌, ◌⊎◌, ℕ, suc, Bool, true, false, List, [], ◌∷◌, ◌++◌, length}
+use Rattle.rvc_base.specs.Rules.{file_too_long, too_many_files}
+use Rattle.rvc_base.specs.declared.refusal.Refusal.{Refusal}
+use Rattle.rvc_base.specs.declared.refusal.Rule.{Rule}
+use Rattle.rvc_io.specs.Count.{HasRisen}
+use Rattle.rvc_io.specs.Library.{IsTooLong, max_file_bytes}
+use Rattle.rvc_io.specs.Told.{Told, IsLacking}
+use Rattle.actor_files.specs.FileText as actor
+use Rattle.actor_files.specs.FileText.{IsText}
+use Rattle.actor_files.specs.Loading.{Counts, Library, max_bytes, max_files}
+use Rattle.actor_files.specs.Reads.{refusal_at}
+use Rattle.fnl_read.specs.Network as net
+use Rattle.source_network.specs.Files.{AreReadBehind, Asked, a_class, Content, Read, Says, bytes_of, is_read, name_of, network_file, wanted}
+use Rattle.network_files.specs.Requests.{AreAllRead, Request, names_of, requests}
+
+-- the rule that a text breaks first, as a network or as a file of the language, and where
+pub data BreaksRule (text : List ℕ) : Bool → Rule → ℕ → Type 0 where
+  in_network : (rule : Rule) (at : ℕ) → net.network text ≡ net.Broke rule at
+      → BreaksRule text true rule at
+  in_source : (rule : Rule) (at : ℕ) → actor.BreaksRules text rule at
+      → BreaksRule text false rule at
+
+-- what refuses a text that would be the file of this number behind so many bytes: its own rules come first
+pub data RefusesText (text : List ℕ) (network : Bool) (number bytes : ℕ) : Refusal → Type 0 where
+  breaks_rule : (rule : Rule) (at : ℕ) → BreaksRule text network rule at
+      → RefusesText text network number bytes (refusal_at rule number at)
+  is_too_much : (content : Content) → Says text network content
+      → (max_files < number) ⊎ (max_bytes < bytes + length text)
+      → RefusesText text network number bytes (refusal_at too_many_files number 0)
+
+-- what refuses a file that is there: its length comes first
+pub data RefusesFile (told : Told) (network : Bool) (number bytes : ℕ) : Refusal → Type 0 where
+  is_too_long : IsTooLong told
+      → RefusesFile told network number bytes (refusal_at file_too_long number max_file_bytes)
+  is_refused : (text : List ℕ) (refusal : Refusal) → IsText told text
+      → RefusesText text network number bytes refusal
+      → RefusesFile told network number bytes refusal
+
+-- The file of a request, which would have this number behind so many bytes, is refused, and these names stand then: a
+-- file that is there has its name there, one that is missing hasn't.
+pub data Refuses (library : Library) (q : Request) (number bytes : ℕ) (misses : Counts) (names : List (List ℕ)) : Refusal
+    → List (List ℕ) → Type 0 where
+  is_missing : HasRisen misses.old misses.new → IsLacking (library (name_of (wanted library q.asked)))
+      → Refuses library q number bytes misses names q.missing names
+  is_there : (refusal : Refusal)
+      → RefusesFile (library (name_of (wanted library q.asked))) ((wanted library q.asked).network)
+      number bytes refusal
+      → Refuses library q number bytes misses names
+      refusal (names ++ name_of (wanted library q.asked) ∷ [])
+
+-- files were read, and a request is looked at: the files of all those before it are among them
+pub record ComesTo (library : Library) (top : Asked) (reads : List Read) (q : Request) : Type 0 where
+  pub are_read : AreReadBehind library top [] reads
+  pub before : List Request
+  pub after : List Request
+  pub splits : requests top reads ≡ before ++ q ∷ after
+  pub all_read : AreAllRead library reads before
+
+-- files are read up to one that is refused
+pub record IsRefused (library : Library) (top : Asked) (misses : Counts) (refusal : Refusal) (names : List (List ℕ))
+    : Type 0 where
+  pub reads : List Read
+  pub request : Request
+  pub comes : ComesTo library top reads request
+  pub unread : is_read (wanted library request.asked) reads ≡ false
+  pub refuses : Refuses library request (suc (length reads)) (bytes_of reads) misses
+      (names_of reads) refusal names
+
+-- a name that is looked up for what is asked for: of a class that may be either, that of its network comes first
+pub data LooksUp (library : Library) : Asked → List ℕ → Type 0 where
+  looks_up_file : (asked : Asked) → LooksUp library asked (name_of (wanted library asked))
+  looks_up_network : (class : List ℕ) → LooksUp library (a_class class) (network_file class)
+
+-- files are read up to a name whose reading fails: the last name is this one
+pub record IsFaulted (library : Library) (top : Asked) (file : ℕ) (names : List (List ℕ)) : Type 0 where
+  pub reads : List Read
+  pub request : Request
+  pub comes : ComesTo library top reads request
+  pub name : List ℕ
+  pub looks_up : LooksUp library request.asked name
+  pub file_is : file ≡ suc (length reads)
+  pub names_are : names ≡ names_of reads ++ name ∷ []

@@ -1,0 +1,58 @@
+-- What a top and its files ask for, and what is refused if it isn't there.
+-- Trusted: part of what a promise means.
+use Rattle.std.specs.Prelude.{◌≡◌, ℕ, suc, true, List, [], ◌∷◌, ◌++◌, map}
+use Rattle.rvc_base.specs.Rules.{no_file, import_not_found}
+use Rattle.rvc_base.specs.declared.refusal.Refusal.{Refusal}
+use Rattle.cal_imports.specs.Sources.{imports_of}
+use Rattle.cal_imports.specs.Walk.{Edge}
+use Rattle.cal_imports.specs.Whole.{import_edges}
+use Rattle.actor_files.specs.Loading.{Library}
+use Rattle.actor_files.specs.Reads.{refusal_at}
+use Rattle.fnl_read.specs.Net.{Instance}
+use Rattle.fnl_bind.specs.Library.{instance_class_at}
+use Rattle.source_network.specs.Files.{Asked, Content, Read, network, source, asked_by_import, asked_by_instance, is_network, is_read, name_of, wanted}
+
+-- what is asked for, and what is refused if it has no file
+pub record Request : Type 0 where
+  pub asked : Asked
+  pub missing : Refusal
+
+-- the words ask for the top
+abbrev pub top_request : (top : Asked) → Request
+top_request top = record { asked = top; missing = refusal_at no_file 0 0 }
+
+-- an instance asks for its class
+abbrev pub instance_request : (file : ℕ) → Instance → Request
+instance_request file i =
+    record { asked = asked_by_instance i; missing = refusal_at no_file file (instance_class_at i) }
+
+-- an import asks for a unit
+abbrev pub import_request : (file : ℕ) → Edge → Request
+import_request file e =
+    record { asked = asked_by_import e; missing = refusal_at import_not_found file e.at }
+
+-- what the file of a number asks for, in the order of its text
+abbrev pub requests_by : (file : ℕ) → Content → List Request
+requests_by file (network net) = map (instance_request file) net.instances
+requests_by file (source tree) = map (import_request file) (import_edges (imports_of tree))
+
+-- what files ask for, the first of which has this number
+abbrev pub requests_from : (number : ℕ) → List Read → List Request
+requests_from number [] = []
+requests_from number (r ∷ rs) = requests_by number r.content ++ requests_from (suc number) rs
+
+abbrev pub requests : (top : Asked) → List Read → List Request
+requests top reads = top_request top ∷ requests_from 1 reads
+
+-- the files of all of these are read
+abbrev pub AreAllRead : Library → List Read → List Request → Type 0
+AreAllRead library reads [] = Unit {0}
+AreAllRead library reads (q ∷ qs) =
+    (is_read (wanted library q.asked) reads ≡ true) × AreAllRead library reads qs
+
+-- the names of files: that of file k stands at place k - 1
+abbrev pub read_name : Read → List ℕ
+read_name r = name_of (record { class = r.class; network = is_network r.content })
+
+abbrev pub names_of : List Read → List (List ℕ)
+names_of reads = map read_name reads
