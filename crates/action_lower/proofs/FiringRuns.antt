@@ -1,5 +1,5 @@
 -- Code of a firing does what the firing does.
-use Rattle.std.proofs.Common.{◌≡◌, ℕ, suc, ◌+◌, ◌<◌, ◌≤◌, inl, inr, Bool, true, false, ℤ, List, [], ◌∷◌, ◌++◌, map, length, take, refl, sym, ap, subst, ◌∙◌, Option, None, Some, arith}
+use Rattle.std.proofs.Common.{◌≡◌, ℕ, suc, ◌+◌, ◌≤◌, inr, Bool, true, false, ℤ, List, [], ◌∷◌, ◌++◌, map, length, take, refl, sym, ap, subst, ◌∙◌, Option, None, Some, arith}
 use Rattle.std.specs.Prelude.{◌==◌, if◌then◌else◌, slice_get}
 use Rattle.std.specs.List.{range_with_len}
 use Rattle.rvc_base.specs.declared.trap.Trap.{Trap}
@@ -24,18 +24,15 @@ use Rattle.cal_model.proofs.ActorStates.{first-sized}
 use Rattle.cal_model.proofs.KeptByFirings.{action-at}
 use Rattle.code_ir.specs.declared.instr.Instr.{Instr}
 use Rattle.code_ir.specs.declared.instr.Instr.TheVariants as op
-use Rattle.code_ir.specs.declared.outcome.Outcome.{Outcome}
 use Rattle.code_ir.specs.declared.outcome.Outcome.TheVariants as outcome
 use Rattle.code_ir.specs.Code.{Code}
-use Rattle.code_ir.specs.Running.{Ends, Reaches, State, stop}
+use Rattle.code_ir.specs.Running.{Ends, State, stop}
 use Rattle.code_ir.proofs.Ends.{one-end}
 use Rattle.expr_lower.specs.Calling.{outside}
 use Rattle.expr_lower.specs.Following.{CutsOff, Follows}
-use Rattle.expr_lower.specs.Held.{AreApart}
 use Rattle.expr_lower.specs.Names.{Name}
 use Rattle.expr_lower.specs.Placed.{StandsAt, World, state}
-use Rattle.expr_lower.specs.Routining.{LocalsSized, world_of}
-use Rattle.expr_lower.proofs.Keeping.{apart_first, apart_last}
+use Rattle.expr_lower.specs.Routining.{LocalsSized}
 use Rattle.expr_lower.proofs.Runs.{ends_join, follows_then, obeys, stands_left, stands_right}
 use Rattle.stmt_lower.specs.Bodies.{AreLaid, CutShort, GoesOn, IsReady}
 use Rattle.stmt_lower.specs.Changing.{HoldsVars}
@@ -43,7 +40,7 @@ use Rattle.stmt_lower.specs.Procedures.{Routines}
 use Rattle.stmt_lower.proofs.Scoping.{inside_still, laid_more}
 use Rattle.action_lower.specs.FiringCode.{EndsAsFiring, Fires, FiresAs, HasRoutinesOf, HoldSent, IsFiringCode, first_on, globals_of, round}
 use Rattle.action_lower.specs.LocalCode.{Starts}
-use Rattle.action_lower.specs.Seats.{HoldVars, numbers_of_vars, pattern_seats, seen_seats, state_cells, taken, var_seats}
+use Rattle.action_lower.specs.Seats.{HoldVars, numbers_of_vars, pattern_seats, seen_seats, state_cells, taken}
 use Rattle.action_lower.specs.Sending.{AreSent, Sends, StandFrom}
 use Rattle.action_lower.proofs.Holding.{inputs-held, size-at, state-held}
 use Rattle.action_lower.proofs.LocalRuns.{started_grows, starts_as}

@@ -23,7 +23,6 @@ use Rattle.expr_lower.specs.Routining.{LocalsSized}
 use Rattle.expr_lower.specs.Starting.{IsStart}
 use Rattle.expr_lower.proofs.Keeping.{apart_last, keeps_all, keeps_join, keeps_wider}
 use Rattle.expr_lower.proofs.Runs.{ends_back, ends_join, follows_more, follows_then, reaches_join, stands_left, stands_right}
-use Rattle.stmt_lower.specs.Acting.{ServesRuns}
 use Rattle.stmt_lower.specs.Bodies.{CutShort, HoldLocals, IsReady, KeepsOver}
 use Rattle.stmt_lower.specs.Changing.{HoldsVars}
 use Rattle.stmt_lower.specs.Procedures.{Routines}

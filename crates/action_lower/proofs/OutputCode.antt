@@ -21,11 +21,9 @@ use Rattle.expr_lower.specs.Growing.{IsFault, left_out_in, ◌or_else◌}
 use Rattle.expr_lower.specs.Lowered.{Adds, IsPut}
 use Rattle.expr_lower.specs.Names.{Name}
 use Rattle.expr_lower.proofs.Adding.{then_put}
-use Rattle.expr_lower.proofs.Coded.{grows}
 use Rattle.action_lower.specs.SendWords.{AddsOutput, AddsOutputs, AddsSent, HasTaken, IsSendFault, first_at, left_out_output, left_out_outputs, left_out_values}
 use Rattle.action_lower.specs.Sending.{AreOutputs, AreStored, IsOutputCode, IsStored, no_output, no_value, output_more, value_more}
 use Rattle.action_lower.proofs.Storing.{sends-as}
-use Rattle.stmt_lower.specs.Procedures.{Procedure}
 
 first-taken : {X Y : Type 0} (f : X → Y) (xs : List X) (x : X) (i : ℕ) → i < length xs → x ≡ get_or xs i x → map f (take (i + 1) xs) ≡ map f (take i xs) ++ f x ∷ []
 first-taken f xs x i small is = ap (map f) (take_more xs i x small ∙ ap (λ y. take i xs ++ y ∷ []) (sym is)) ∙ map-append f (take i xs) (x ∷ [])

@@ -1,5 +1,5 @@
 -- The variables of an actor as globals, and the pattern variables of an action as locals.
-use Rattle.std.proofs.Common.{◌≡◌, ℕ, zero, suc, ◌+◌, ◌*◌, ◌<◌, ◌≤◌, ◌⊎◌, inl, inr, ⊎_elim, Bool, true, false, ℤ, List, [], ◌∷◌, ◌++◌, map, length, take, refl, sym, ap, subst, ◌∙◌, Option, None, Some, arith, append_assoc, length-append}
+use Rattle.std.proofs.Common.{◌≡◌, ℕ, zero, suc, ◌+◌, ◌*◌, ◌≤◌, ◌⊎◌, inl, inr, ⊎_elim, Bool, true, false, ℤ, List, [], ◌∷◌, ◌++◌, map, length, take, refl, sym, ap, subst, ◌∙◌, Option, None, Some, arith, append_assoc, length-append}
 use Rattle.std.specs.Prelude.{Contains, if◌then◌else◌, slice_get}
 use Rattle.std.specs.Str.{bytes_eq}
 use Rattle.std.proofs.Math.Nat.{mul-le-mul_right}
@@ -7,13 +7,13 @@ use Rattle.std.proofs.lemmas.Bool.{true≢false}
 use Rattle.std.proofs.lemmas.Slice.Eq.{bytes_eq-Decides}
 use Rattle.rvc_base.specs.Storing.{IsSize}
 use Rattle.rvc_base.specs.declared.scalar.Scalar.{Scalar}
-use Rattle.cal_model.specs.Actor.{Action, Actor, Held, Pattern, Port}
-use Rattle.cal_model.specs.ActorState.{AreVarsOf, kept_in}
-use Rattle.cal_model.specs.Env.{Env, Var, find, look_up}
-use Rattle.cal_model.specs.Rates.{need, parts_times, taken_on}
+use Rattle.cal_model.specs.Actor.{Actor, Held, Pattern}
+use Rattle.cal_model.specs.ActorState.{AreVarsOf}
+use Rattle.cal_model.specs.Env.{Var, find, look_up}
+use Rattle.cal_model.specs.Rates.{parts_times, taken_on}
 use Rattle.cal_model.specs.Selection.{kind_of_port, pattern_var, pattern_vars, pattern_vars_from, tokens_on}
-use Rattle.cal_model.specs.Sound.{AreDistinct, Each, IsAction, IsPattern, IsRepeat, IsSound, max_rate, scalars_of_vars}
-use Rattle.cal_model.specs.Value.{HasKind, IsOf, IsType, Shape, Single, Value, kind_of_type, scalars_of_type}
+use Rattle.cal_model.specs.Sound.{AreDistinct, Each, IsPattern, IsRepeat, IsSound, max_rate, scalars_of_vars}
+use Rattle.cal_model.specs.Value.{IsOf, IsType, Shape, kind_of_type, scalars_of_type}
 use Rattle.cal_model.proofs.KindValues.{of-type}
 use Rattle.expr_lower.specs.declared.names.Seat.{Seat}
 use Rattle.expr_lower.specs.declared.names.Seat.TheVariants.{Cell, Tokens}

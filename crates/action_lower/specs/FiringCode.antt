@@ -1,6 +1,6 @@
 -- Code of a firing of an action, and what it does.
 -- Trusted: part of what a promise means.
-use Rattle.std.specs.Prelude.{◌≡◌, ℕ, ◌+◌, ◌≤◌, ◌==◌, ℤ, true, List, [], ◌∷◌, ◌++◌, length, map, if◌then◌else◌, Some, slice_get}
+use Rattle.std.specs.Prelude.{◌≡◌, ℕ, ◌+◌, ◌≤◌, ◌==◌, ℤ, true, List, [], ◌∷◌, ◌++◌, length, if◌then◌else◌, Some, slice_get}
 use Rattle.cal_model.specs.Actor.{Action, Actor, Output, Port}
 use Rattle.cal_model.specs.ActorState.{IsActorState, AreTokensOf}
 use Rattle.cal_model.specs.Call.{calls_of}

@@ -1,6 +1,6 @@
 -- Code of the locals of an action, whose starts may call functions, and what it does.
 -- Trusted: part of what a promise means.
-use Rattle.std.specs.Prelude.{◌≡◌, ℕ, ◌+◌, ◌≤◌, ℤ, List, [], ◌∷◌, ◌++◌, length, map, Option, None, Some}
+use Rattle.std.specs.Prelude.{◌≡◌, ℕ, ◌+◌, ℤ, List, [], ◌∷◌, ◌++◌, length, map, Option, None, Some}
 use Rattle.rvc_base.specs.declared.scalar.Scalar.{Scalar}
 use Rattle.cal_ast.specs.View.{optional}
 use Rattle.cal_model.specs.declared.bound.BoundLocal.{BoundLocal}
@@ -14,7 +14,6 @@ use Rattle.cal_model.specs.View.{local_view}
 use Rattle.code_ir.specs.declared.instr.Instr.{Instr}
 use Rattle.code_ir.specs.declared.outcome.Outcome.{Outcome}
 use Rattle.code_ir.specs.declared.outcome.Outcome.TheVariants as outcome
-use Rattle.code_ir.specs.Code.{Code}
 use Rattle.code_ir.specs.Running.{State, Reaches, Ends}
 use Rattle.expr_lower.specs.declared.draft.Draft.{Draft}
 use Rattle.expr_lower.specs.declared.names.Named.{Named}

@@ -10,10 +10,9 @@ use Rattle.expr_lower.specs.Lowered.{Adds}
 use Rattle.expr_lower.specs.Names.{Name, local, names_view}
 use Rattle.expr_lower.proofs.Adding.{no_items}
 use Rattle.expr_lower.specs.Seen.{called, seen}
-use Rattle.expr_lower.specs.SeenWords.{AddsStart, left_out_first}
 use Rattle.expr_lower.specs.Starting.{IsStart, left_out_start}
 use Rattle.cal_ast.specs.View.{optional}
-use Rattle.action_lower.specs.LocalCode.{AddsLocals, AreStarted, left_out_locals}
+use Rattle.action_lower.specs.LocalCode.{AreStarted, left_out_locals}
 use Rattle.action_lower.proofs.AddingLocals.{local_adds, local_open, none_adds}
 use Rattle.action_lower.proofs.locals.+lower_locals.Goals as goal
 
