@@ -12,7 +12,7 @@ use Rattle.expr_lower.specs.Names.{Name, named}
 use Rattle.action_lower.specs.Seats.{pattern_seats, pattern_seats_from, seen_seats, state_cells, var_seats}
 
 module _ (n : ℕ) where
-  abbrev EachBelow : List Name → Type 0
+  abbrev pub EachBelow : List Name → Type 0
   EachBelow [] = Unit {0}
   EachBelow (x ∷ xs) = SeatIsBelow n (scalars_of_type x.shape) x.seat × EachBelow xs
 
@@ -20,7 +20,7 @@ module _ (n : ℕ) where
   below-join [] ys h g = g
   below-join (x ∷ xs) ys h g = (h.0, below-join xs ys h.1 g)
 
-  each-below : (xs : List Name) → EachBelow xs → AreBelow n xs
+  pub each-below : (xs : List Name) → EachBelow xs → AreBelow n xs
   each-below [] h text x e = cc
   each-below (y ∷ ys) h text x e = by (bytes_eq y.text text) e (each-below ys h.1 text x)
     where
@@ -28,7 +28,7 @@ module _ (n : ℕ) where
       by true f more = let same : y ≡ x = cc in subst (λ z. SeatIsBelow n (scalars_of_type z.shape) z.seat) same h.0
       by false f more = more f
 
-  vars-below : (c : ℕ) (hs : List Held) → c + scalars_of_vars hs ≤ n → EachBelow (var_seats c hs)
+  pub vars-below : (c : ℕ) (hs : List Held) → c + scalars_of_vars hs ≤ n → EachBelow (var_seats c hs)
   vars-below c [] le = tt
   vars-below c (h ∷ hs) le = (omega (arith, le), vars-below (c + scalars_of_type h.shape) hs (omega (arith, le)))
 

@@ -30,12 +30,12 @@ use Rattle.action_lower.proofs.PatternRates.{TakesItsOwn, take-their-own}
 
 -- ---- names side by side with variables
 
-record IsHeld (tokens : ℕ → List ℤ) (cells : List ℤ) (n : Name) (x : Var) : Type 0 where
-  name : x.name ≡ n.text
-  of_type : HasKind (kind_of_type n.shape) x.value
-  stands : StandAt n.seat tokens cells (flat x.value)
+pub record IsHeld (tokens : ℕ → List ℤ) (cells : List ℤ) (n : Name) (x : Var) : Type 0 where
+  pub name : x.name ≡ n.text
+  pub of_type : HasKind (kind_of_type n.shape) x.value
+  pub stands : StandAt n.seat tokens cells (flat x.value)
 
-abbrev AreHeld : (ℕ → List ℤ) → List ℤ → List Name → List Var → Type 0
+abbrev pub AreHeld : (ℕ → List ℤ) → List ℤ → List Name → List Var → Type 0
 AreHeld tokens cells [] [] = Unit {0}
 AreHeld tokens cells (n ∷ ns) (x ∷ xs) = IsHeld tokens cells n x × AreHeld tokens cells ns xs
 AreHeld tokens cells ns xs = ⊥
@@ -47,13 +47,13 @@ module _ (tokens : ℕ → List ℤ) (cells : List ℤ) where
   held-join (n ∷ ns) ms [] ys h g = absurd h
   held-join (n ∷ ns) ms (x ∷ xs) ys h g = (h.0, held-join ns ms xs ys h.1 g)
 
-  record Found (text : List ℕ) (xs : List Var) (n : Name) : Type 0 where
-    value : Value
-    meant : find text xs ≡ Some value
-    of_type : HasKind (kind_of_type n.shape) value
-    stands : StandAt n.seat tokens cells (flat value)
+  pub record Found (text : List ℕ) (xs : List Var) (n : Name) : Type 0 where
+    pub value : Value
+    pub meant : find text xs ≡ Some value
+    pub of_type : HasKind (kind_of_type n.shape) value
+    pub stands : StandAt n.seat tokens cells (flat value)
 
-  held-found : (ns : List Name) (xs : List Var) (text : List ℕ) (n : Name) → AreHeld tokens cells ns xs → named text ns ≡ Some n → Found text xs n
+  pub held-found : (ns : List Name) (xs : List Var) (text : List ℕ) (n : Name) → AreHeld tokens cells ns xs → named text ns ≡ Some n → Found text xs n
   held-found [] [] text n h e = cc
   held-found [] (x ∷ xs) text n h e = absurd h
   held-found (m ∷ ns) [] text n h e = absurd h
@@ -76,7 +76,7 @@ pub get-after : {X : Type 0} (xs ys : List X) (k : ℕ) → slice_get (xs ++ ys)
 get-after [] ys k = let e : 0 + k ≡ k = omega arith in ap (slice_get ys) e
 get-after (x ∷ xs) ys k = let e : suc (length xs) + k ≡ suc (length xs + k) = omega arith in ap (slice_get (x ∷ (xs ++ ys))) e ∙ get-after xs ys k
 
-of-take : {X : Type 0} (n : ℕ) (xs : List X) (k : ℕ) (z : X) → slice_get (take n xs) k ≡ Some z → slice_get xs k ≡ Some z
+pub of-take : {X : Type 0} (n : ℕ) (xs : List X) (k : ℕ) (z : X) → slice_get (take n xs) k ≡ Some z → slice_get xs k ≡ Some z
 of-take zero xs k z e = cc
 of-take (suc n) [] k z e = e
 of-take (suc n) (x ∷ xs) zero z e = e
@@ -90,7 +90,7 @@ in-take (suc n) (x ∷ xs) (suc k) z low e = in-take n xs k z (omega arith) e
 
 -- ---- variables in cells
 
-vars-held : (tokens : ℕ → List ℤ) (cells : List ℤ) (c : ℕ) (hs : List Held) (xs : List Var) → AreVarsOf hs xs → Each (λ h. IsType h.shape × IsOf h.shape h.value) hs
+pub vars-held : (tokens : ℕ → List ℤ) (cells : List ℤ) (c : ℕ) (hs : List Held) (xs : List Var) → AreVarsOf hs xs → Each (λ h. IsType h.shape × IsOf h.shape h.value) hs
     → ((k : ℕ) (z : ℤ) → slice_get (numbers_of_vars xs) k ≡ Some z → slice_get cells (c + k) ≡ Some z) → AreHeld tokens cells (var_seats c hs) xs
 vars-held tokens cells c [] [] is types at = tt
 vars-held tokens cells c [] (x ∷ xs) is types at = absurd is
@@ -117,7 +117,7 @@ tokens-at (p ∷ ps) [] port h = absurd h
 tokens-at (p ∷ ps) (us ∷ u) zero h = h.0
 tokens-at (p ∷ ps) (us ∷ u) (suc port) h = tokens-at ps u port h.1
 
-size-at : (ps : List Port) (port : ℕ) → Each (λ p. IsSize p.kind) ps → IsSize (kind_of_port ps port)
+pub size-at : (ps : List Port) (port : ℕ) → Each (λ p. IsSize p.kind) ps → IsSize (kind_of_port ps port)
 size-at [] port h = tt
 size-at (p ∷ ps) zero h = h.0
 size-at (p ∷ ps) (suc port) h = size-at ps port h.1
@@ -257,7 +257,7 @@ module _ (actor : Actor) (x : State) (u : List (List ℤ)) (a : ℕ) (act : Acti
       let within : i < length (tokens_on u q.port) = omega (arith, enough, same) in
       (in-take (need actor a q.port) (tokens_on u q.port) i (slice_index_or (tokens_on u q.port) i (pos 0)) (omega (arith, same)) (slice_get-get_or (tokens_on u q.port) i (pos 0) within), within)
 
-  patterns-held : (qs : List Pattern) → Each (IsPattern actor) qs → Each (TakesItsOwn act.patterns) qs → AreHeld (taken actor u a) cells (pattern_seats actor.ins qs) (pattern_vars actor u qs)
+  pub patterns-held : (qs : List Pattern) → Each (IsPattern actor) qs → Each (TakesItsOwn act.patterns) qs → AreHeld (taken actor u a) cells (pattern_seats actor.ins qs) (pattern_vars actor u qs)
   patterns-held [] is own = tt
   patterns-held (q ∷ qs) is own =
       held-join (taken actor u a) cells (pattern_seats actor.ins qs) (pattern_seats_from (kind_of_port actor.ins q.port) q 0 q.names)
@@ -265,13 +265,19 @@ module _ (actor : Actor) (x : State) (u : List (List ℤ)) (a : ℕ) (act : Acti
       (patterns-held qs is.1 own.1)
       (names-held actor u cells (taken actor u a) q (sizes q.port) (tokens-at actor.ins u q.port of_ports) (is-there q is.0 own.0) 0 q.names (omega arith))
 
+  pub inputs-held : AreHeld (taken actor u a) cells (pattern_seats actor.ins act.patterns) (pattern_vars actor u act.patterns)
+  inputs-held =
+      let is : IsAction actor act = action-at actor actor.actions a act sound.actions is_act in
+      patterns-held act.patterns is.patterns (take-their-own act.patterns is.ports_in)
+
+  pub state-held : AreHeld (taken actor u a) cells (var_seats 0 actor.vars) x.vars
+  state-held =
+      vars-held (taken actor u a) cells 0 actor.vars x.vars in_state.vars sound.vars
+      (λ k z e. let f : 0 + k ≡ k = omega arith in ap (slice_get cells) f ∙ of-take (state_cells actor) cells k z (ap (λ l. slice_get l k) hold ∙ e))
+
   all-held : AreHeld (taken actor u a) cells (seen_seats actor act) (pattern_vars actor u act.patterns ++ x.vars)
   all-held =
-      let is : IsAction actor act = action-at actor actor.actions a act sound.actions is_act in
-      held-join (taken actor u a) cells (pattern_seats actor.ins act.patterns) (var_seats 0 actor.vars) (pattern_vars actor u act.patterns) x.vars
-      (patterns-held act.patterns is.patterns (take-their-own act.patterns is.ports_in))
-      (vars-held (taken actor u a) cells 0 actor.vars x.vars in_state.vars sound.vars
-      (λ k z e. let f : 0 + k ≡ k = omega arith in ap (slice_get cells) f ∙ of-take (state_cells actor) cells k z (ap (λ l. slice_get l k) hold ∙ e)))
+      held-join (taken actor u a) cells (pattern_seats actor.ins act.patterns) (var_seats 0 actor.vars) (pattern_vars actor u act.patterns) x.vars inputs-held state-held
 
   pub seen-is-held : Holds (seen_seats actor act) (taken actor u a) cells (seen_by actor x u act)
   seen-is-held text n e =

@@ -7,4 +7,7 @@ pub mod ActionAt
 pub mod Storing
 pub mod OutputCode
 pub mod FirstCells
-pub mod Declaring
+pub mod AddingLocals
+pub mod LocalRuns
+pub mod StateSeats
+pub mod FiringRuns

@@ -11,17 +11,17 @@ use Rattle.cal_model.specs.Sound.{AreDistinct, Each, IsPattern, IsRepeat, max_ra
 abbrev pub TakesItsOwn : List Pattern → Pattern → Type 0
 TakesItsOwn all q = taken_on q.port all ≡ parts_times (length q.names) q.repeat
 
-same-port : (p : ℕ) → (p == p) ≡ true
+pub same-port : (p : ℕ) → (p == p) ≡ true
 same-port p = grind (arith, nat_tests)
 
-other-port : (p r : ℕ) (b : Bool) → (p == r) ≡ b → (p ≡ r → ⊥) → b ≡ false
+pub other-port : (p r : ℕ) (b : Bool) → (p == r) ≡ b → (p ≡ r → ⊥) → b ≡ false
 other-port p r true e h = let s : p ≡ r = grind (arith, nat_tests) in absurd (h s)
 other-port p r false e h = refl
 
-not-first : (p r : ℕ) (ps : List ℕ) → ¬ Contains (p ∷ ps) r → p ≡ r → ⊥
+pub not-first : (p r : ℕ) (ps : List ℕ) → ¬ Contains (p ∷ ps) r → p ≡ r → ⊥
 not-first p r ps h e = h (0, omega arith, e)
 
-not-later : (p r : ℕ) (ps : List ℕ) → ¬ Contains (p ∷ ps) r → ¬ Contains ps r
+pub not-later : (p r : ℕ) (ps : List ℕ) → ¬ Contains (p ∷ ps) r → ¬ Contains ps r
 not-later p r ps h (k, low, e) = h (suc k, omega arith, e)
 
 behind : (q : Pattern) (all qs : List Pattern) → ¬ Contains (map (λ r. r.port) qs) q.port → Each (TakesItsOwn all) qs → Each (TakesItsOwn (q ∷ all)) qs

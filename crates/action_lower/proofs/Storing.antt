@@ -10,24 +10,36 @@ use Rattle.cal_model.specs.Actor.{Output, Port}
 use Rattle.cal_model.specs.Env.{Env}
 use Rattle.cal_model.specs.Expression.{eval, eval_all}
 use Rattle.cal_model.specs.Firing.{number_of, numbers_of, outputs}
+use Rattle.cal_model.specs.Statement.{Runs}
 use Rattle.cal_model.specs.Outcome.{Out, Gives, Traps, Lacks, Clashes, and_then}
 use Rattle.cal_model.specs.Selection.{kind_of_port}
 use Rattle.cal_model.specs.Value.{Cons, Items, Num, Truth, Value, Values}
 use Rattle.code_ir.specs.declared.instr.Instr.{Instr}
 use Rattle.code_ir.specs.declared.instr.Instr.TheVariants as op
 use Rattle.code_ir.specs.Effect.{Leaves}
-use Rattle.code_ir.specs.Running.{Reaches, State, after, go_on, here, step}
+use Rattle.code_ir.specs.declared.outcome.Outcome.{Outcome}
+use Rattle.code_ir.specs.Running.{Ends, Reaches, State, after, go_on, here, step}
+use Rattle.code_ir.proofs.Ends.{one-end}
 use Rattle.expr_lower.specs.Flat.{flat}
 use Rattle.expr_lower.specs.Following.{CutsOff, Follows, Pushes}
-use Rattle.expr_lower.specs.Held.{AllApart, AreApart, AreBelow, Holds, Keeps}
+use Rattle.expr_lower.specs.Callees.{Function}
+use Rattle.expr_lower.specs.Calling.{Serves}
+use Rattle.expr_lower.specs.Held.{AreApart, Keeps}
 use Rattle.expr_lower.specs.Names.{Name}
 use Rattle.expr_lower.specs.Placed.{StandsAt, World, state}
+use Rattle.expr_lower.proofs.Coded.{grows}
+use Rattle.expr_lower.proofs.Singles.{IsSingleValue}
 use Rattle.expr_lower.proofs.Effects.{same_number}
-use Rattle.expr_lower.proofs.Keeping.{below_more, holds_still, keeps_all, keeps_join, keeps_wider, apart_first, apart_last}
-use Rattle.expr_lower.proofs.Runs.{ends_join, follows_then, obeys, reaches_join, stands_left, stands_right}
+use Rattle.expr_lower.proofs.Keeping.{keeps_all, keeps_join, keeps_wider, apart_first, apart_last}
+use Rattle.expr_lower.proofs.Runs.{ends_back, ends_join, follows_then, obeys, reaches_join, stands_left, stands_right}
 use Rattle.expr_lower.proofs.Written.{Written, written_keeps}
 use Rattle.expr_lower.proofs.Storing.{set_there, set_written, store_leaves}
-use Rattle.action_lower.specs.Sending.{AreOutputs, AreStored, GivesSingle, GiveSingles, IsSingleValue, IsStored, SendSingles, Sends, SendsAs, StandFrom, no_output, no_value, output_more, value_more}
+use Rattle.stmt_lower.specs.Bodies.{IsReady}
+use Rattle.stmt_lower.specs.Procedures.{Routines}
+use Rattle.stmt_lower.proofs.Evaluating.{does_there, singles_there}
+use Rattle.stmt_lower.proofs.Scoping.{AreLaid, HoldsInside, inside_still, laid_more}
+use Rattle.action_lower.specs.Sending.{AreOutputs, AreStored, EndsSent, IsStored, Sends, SendsAs, StandFrom, no_output, no_value, output_more, value_more}
+use Rattle.action_lower.proofs.LocalRuns.{inside_from}
 
 -- the number of a single value
 number-is : (v : Value) (z : ℤ) → IsSingleValue v → flat v ≡ z ∷ [] → number_of v ≡ z
@@ -35,7 +47,27 @@ number-is (Num x) z h e = same_number x z e
 number-is (Truth b) z h e = same_number (truth b) z e
 number-is (Items vs) z h e = absurd h
 
-module _ (names : List Name) (t : Scalar) (w : World) (env : Env) (stack : List ℤ) (frames : List ℕ) (apart : AllApart w.low w.high names) where
+pub stored-grows : {fs : List Function} {names : List Name} {t : Scalar} {es : List Tree} {c base n m : ℕ} {part : List Instr} → AreStored fs names t es c base n part m → n ≤ m
+stored-grows (no_value c base n) = omega arith
+stored-grows (value_more e es c base n k m a b first rest) = let x = grows first.coded in let y = stored-grows rest in omega (arith, x, y)
+
+pub outputs-grow : {fs : List Function} {names : List Name} {ports : List Port} {os : List Output} {firsts : List ℕ} {base n m : ℕ} {part : List Instr} → AreOutputs fs names ports os firsts base n part m → n ≤ m
+outputs-grow (no_output base n) = omega arith
+outputs-grow (output_more o others firsts base n k m a b first rest) = let x = stored-grows first.stored in let y = outputs-grow rest in omega (arith, x, y)
+
+module _ (rs : Routines) (outer : List Name) (w : World) (serves : Serves w outer rs.functions) (frames : List ℕ) (inner : List Name) (t : Scalar) (env : Env) (stack : List ℤ) where
+  abbrev fs : List Function
+  fs = rs.functions
+
+  abbrev names : List Name
+  names = inner ++ outer
+
+  abbrev Laid : ℕ → Type 0
+  Laid n = AreLaid rs outer w.tokens w.low w.high n inner
+
+  abbrev Inside : List ℤ → Type 0
+  Inside cells = HoldsInside rs outer w.tokens w.low w.high inner cells env
+
   -- the numbers of values stand in the cells from c on
   record Stores (size c m : ℕ) (s : State) (end : ℕ) (vs : Values) (left : ℕ) : Type 0 where
     many : length (map (conv t) (numbers_of vs)) ≡ size
@@ -50,10 +82,10 @@ module _ (names : List Name) (t : Scalar) (w : World) (env : Env) (stack : List 
     pub keeps : Keeps c m w.low w.high s.cells cells
     pub there : slice_get cells c ≡ Some (conv t (number_of v))
 
-  pub one-stored : (e : Tree) (c base n m : ℕ) (part : List Instr) (cells : List ℤ) (left : ℕ) → IsStored names t e c base n part m → StandsAt w.code.instrs base part → c + 1 ≤ n → m ≤ length cells
-      → Holds names w.tokens cells env → GivesSingle e w.calls env
+  pub one-stored : (e : Tree) (c base n m : ℕ) (part : List Instr) (cells : List ℤ) (left : ℕ) → IsStored fs names t e c base n part m → StandsAt w.code.instrs base part → c + 1 ≤ n → m ≤ length cells
+      → Laid c → Inside cells
       → Follows (eval e w.calls env left) (StoresOne c m (state base stack frames cells left) (base + length part)) (CutsOff w c m (state base stack frames cells left))
-  one-stored e c base n m part cells left is stands le room holds single = go (eval e w.calls env left) (single left) (is.lowered.evaluates.goes w env stack frames cells left (stands_left w.code.instrs base is.body (op.Store c (Some t) ∷ []) there) apart holds)
+  one-stored e c base n m part cells left is stands le room laid holds = go (eval e w.calls env left) (singles_there rs outer w serves frames inner is.coded cells env left n deep holds) (does_there rs outer w serves frames inner is.coded stack cells env left (stands_left w.code.instrs base is.body (op.Store c (Some t) ∷ []) there) deep holds)
     where
       there : StandsAt w.code.instrs base (is.body ++ op.Store c (Some t) ∷ [])
       there = subst (StandsAt w.code.instrs base) is.is stands
@@ -61,15 +93,18 @@ module _ (names : List Name) (t : Scalar) (w : World) (env : Env) (stack : List 
       finish : base + length is.body + 1 ≡ base + length part
       finish = let size : length part ≡ length is.body + 1 = ap length is.is ∙ length-append is.body (op.Store c (Some t) ∷ []) in omega (arith, size)
 
-      grows : n ≤ m
-      grows = is.lowered.cells
+      wide : n ≤ m
+      wide = grows is.coded
+
+      deep : Laid n
+      deep = laid_more rs outer w.tokens w.low w.high c n inner (omega (arith, le)) laid
 
       go : (o : Out Value) → Follows o (λ v j. IsSingleValue v) (λ cause. Unit {0}) → Follows o (Pushes w n m (state base stack frames cells left) (base + length is.body)) (CutsOff w n m (state base stack frames cells left))
           → Follows o (StoresOne c m (state base stack frames cells left) (base + length part)) (CutsOff w c m (state base stack frames cells left))
       go (Gives v j) one p =
           let number : number_of v ≡ p.number = number-is v p.number one p.is in
           let size : length p.cells ≡ length cells = p.keeps.size in
-          let old : slice_get p.cells c ≡ Some (slice_index_or p.cells c (pos 0)) = slice_get-get_or p.cells c (pos 0) (omega (arith, size, room, le, grows)) in
+          let old : slice_get p.cells c ≡ Some (slice_index_or p.cells c (pos 0)) = slice_get-get_or p.cells c (pos 0) (omega (arith, size, room, le, wide)) in
           let at = stands_right w.code.instrs base is.body (op.Store c (Some t) ∷ []) there in
           let s : State = state (base + length is.body) (p.number ∷ stack) frames p.cells j in
           let last : step w.code w.tokens s ≡ go_on s (Leaves stack (slice_set p.cells c (conv t p.number))) = obeys w.code w.tokens s (op.Store c (Some t)) at.0 ∙ ap (go_on s) (store_leaves c (Some t) w.tokens stack p.cells p.number (slice_index_or p.cells c (pos 0)) old) in
@@ -78,7 +113,7 @@ module _ (names : List Name) (t : Scalar) (w : World) (env : Env) (stack : List 
           record {
             cells = slice_set p.cells c (conv t p.number);
             reaches = subst (λ q. Reaches w.code w.tokens (state base stack frames cells left) (state q stack frames (slice_set p.cells c (conv t p.number)) j)) finish (reaches_join p.reaches (after last here));
-            keeps = keeps_join (keeps_wider c m (omega (arith, le)) (omega arith) p.keeps) (written_keeps c 1 c m w.low w.high p.cells (slice_set p.cells c (conv t p.number)) (omega arith) (omega (arith, le, grows)) written);
+            keeps = keeps_join (keeps_wider c m (omega (arith, le)) (omega arith) p.keeps) (written_keeps c 1 c m w.low w.high p.cells (slice_set p.cells c (conv t p.number)) (omega arith) (omega (arith, le, wide)) written);
             there = set_there p.cells c (slice_index_or p.cells c (pos 0)) (conv t p.number) old ∙ ap (λ z. Some (conv t z)) (sym number);
           }
       go (Traps cause) one p = record { cells = p.cells; ends = p.ends; keeps = keeps_wider c m (omega (arith, le)) (omega arith) p.keeps }
@@ -121,14 +156,10 @@ module _ (names : List Name) (t : Scalar) (w : World) (env : Env) (stack : List 
           stand zero z e = let at : c + 0 ≡ c = omega arith in ap (slice_get q.cells) at ∙ q.keeps.cell c (inl (omega arith)) (one-apart c c m (omega arith) (omega (arith, low, le)) far) ∙ p.there ∙ e
           stand (suc h) z e = let at : c + suc h ≡ c + 1 + h = omega arith in ap (slice_get q.cells) at ∙ q.stand h z e
 
-  pub stored-grows : {es : List Tree} {c base n m : ℕ} {part : List Instr} → AreStored names t es c base n part m → n ≤ m
-  stored-grows (no_value c base n) = omega arith
-  stored-grows (value_more e es c base n k m a b first rest) = let x = first.lowered.cells in let y = stored-grows rest in omega (arith, x, y)
-
-  values-stored : {es : List Tree} {c base n m : ℕ} {part : List Instr} (cells : List ℤ) (left : ℕ) → AreStored names t es c base n part m → StandsAt w.code.instrs base part → c + length es ≤ n → m ≤ length cells
-      → AreBelow c names → AreApart c m w.low w.high → Holds names w.tokens cells env → GiveSingles (listed es) w.calls env
+  values-stored : {es : List Tree} {c base n m : ℕ} {part : List Instr} (cells : List ℤ) (left : ℕ) → AreStored fs names t es c base n part m → StandsAt w.code.instrs base part → c + length es ≤ n → m ≤ length cells
+      → Laid c → AreApart c m w.low w.high → Inside cells
       → Follows (eval_all (listed es) w.calls env left) (Stores (length es) c m (state base stack frames cells left) (base + length part)) (CutsOff w c m (state base stack frames cells left))
-  values-stored cells left (no_value c base n) stands le room below far holds single =
+  values-stored cells left (no_value c base n) stands le room laid far holds =
       let finish : base ≡ base + 0 = omega arith in
       record {
         many = refl;
@@ -137,24 +168,22 @@ module _ (names : List Name) (t : Scalar) (w : World) (env : Env) (stack : List 
         keeps = keeps_all c n w.low w.high cells;
         stand = λ k z e. cc;
       }
-  values-stored cells left (value_more e es c base n k m a b first rest) stands le room below far holds single =
+  values-stored cells left (value_more e es c base n k m a b first rest) stands le room laid far holds =
       let more : k ≤ m = stored-grows rest in
-      let grows : n ≤ k = first.lowered.cells in
+      let wide : n ≤ k = grows first.coded in
       let end : base + length a + length b ≡ base + length (a ++ b) = omega (arith, length-append a b) in
       subst (λ q. Follows (eval_all (listed (e ∷ es)) w.calls env left) (Stores (suc (length es)) c m (state base stack frames cells left) q) (CutsOff w c m (state base stack frames cells left))) end
-      (join-values e es c base k m (base + length a) (base + length a + length b) cells left (omega (arith, le, grows)) more far
-      (one-stored e c base n k a cells left first (stands_left w.code.instrs base a b stands) (omega (arith, le)) (omega (arith, more, room)) holds single.0)
-      (λ now j keeps. values-stored now j rest (stands_right w.code.instrs base a b stands) (omega (arith, le, grows)) (let size = keeps.size in omega (arith, size, room))
-      (below_more c (c + 1) names (omega arith) below) (apart_last c (c + 1) m w.low w.high (omega arith) far)
-      (holds_still names w.tokens env keeps below apart holds) single.1))
+      (join-values e es c base k m (base + length a) (base + length a + length b) cells left (omega (arith, le, wide)) more far
+      (one-stored e c base n k a cells left first (stands_left w.code.instrs base a b stands) (omega (arith, le)) (omega (arith, more, room)) laid holds)
+      (λ now j keeps. values-stored now j rest (stands_right w.code.instrs base a b stands) (omega (arith, le, wide)) (let size = keeps.size in omega (arith, size, room))
+      (laid_more rs outer w.tokens w.low w.high c (c + 1) inner (omega arith) laid) (apart_last c (c + 1) m w.low w.high (omega arith) far)
+      (inside_still rs outer w.tokens w.low w.high c k inner cells now env laid keeps holds)))
 
 -- ---- outputs
 
-module _ (names : List Name) (ports : List Port) (w : World) (env : Env) (stack : List ℤ) (frames : List ℕ) (apart : AllApart w.low w.high names) where
-  pub outputs-grow : {os : List Output} {firsts : List ℕ} {base n m : ℕ} {part : List Instr} → AreOutputs names ports os firsts base n part m → n ≤ m
-  outputs-grow (no_output base n) = omega arith
-  outputs-grow (output_more o others firsts base n k m a b first rest) =
-      let x = stored-grows names (kind_of_port ports o.port) w env stack frames apart first.stored in let y = outputs-grow rest in omega (arith, x, y)
+module _ (rs : Routines) (outer : List Name) (w : World) (serves : Serves w outer rs.functions) (frames : List ℕ) (inner : List Name) (ports : List Port) (env : Env) (stack : List ℤ) where
+  abbrev Stored : ℕ → ℕ → ℕ → ℕ → State → ℕ → Values → ℕ → Type 0
+  Stored port = Stores rs outer w serves frames inner (kind_of_port ports port) env stack
 
   -- an output of single values
   abbrev one-of : ℕ → List Tree → Output
@@ -162,13 +191,13 @@ module _ (names : List Name) (ports : List Port) (w : World) (env : Env) (stack 
 
   -- an output, and those behind it
   join-outputs : (port : ℕ) (es : List Tree) (others : List Output) (firsts : List ℕ) (n base k m mid end : ℕ) (cells : List ℤ) (left : ℕ) → n + length es ≤ k → k ≤ m → AreApart n m w.low w.high
-      → Follows (eval_all (listed es) w.calls env left) (Stores names (kind_of_port ports port) w env stack frames apart (length es) n k (state base stack frames cells left) mid) (CutsOff w n k (state base stack frames cells left))
+      → Follows (eval_all (listed es) w.calls env left) (Stored port (length es) n k (state base stack frames cells left) mid) (CutsOff w n k (state base stack frames cells left))
       → ((now : List ℤ) (j : ℕ) → Keeps n k w.low w.high cells now
       → Follows (outputs ports others w.calls env j) (Sends w firsts k m (state mid stack frames now j) end) (CutsOff w k m (state mid stack frames now j)))
       → Follows (outputs ports (record { port = port; values = listed es; repeat = None } ∷ others) w.calls env left) (Sends w (n ∷ firsts) n m (state base stack frames cells left) end) (CutsOff w n m (state base stack frames cells left))
   join-outputs port es others firsts n base k m mid end cells left low le far first rest =
       follows_then (eval_all (listed es) w.calls env left) (λ vs j. and_then (outputs ports others w.calls env j) (λ sent i. Gives ((port, map (conv (kind_of_port ports port)) (numbers_of vs)) ∷ sent) i))
-      (Stores names (kind_of_port ports port) w env stack frames apart (length es) n k s mid) (CutsOff w n k s) (Sends w (n ∷ firsts) n m s end) (CutsOff w n m s)
+      (Stored port (length es) n k s mid) (CutsOff w n k s) (Sends w (n ∷ firsts) n m s end) (CutsOff w n m s)
       first
       (λ vs j p. follows_then (outputs ports others w.calls env j) (λ sent i. Gives ((port, map (conv (kind_of_port ports port)) (numbers_of vs)) ∷ sent) i)
       (Sends w firsts k m (state mid stack frames p.cells j) end) (CutsOff w k m (state mid stack frames p.cells j)) (Sends w (n ∷ firsts) n m s end) (CutsOff w n m s)
@@ -180,7 +209,7 @@ module _ (names : List Name) (ports : List Port) (w : World) (env : Env) (stack 
       s : State
       s = state base stack frames cells left
 
-      both : (vs : Values) (j : ℕ) (p : Stores names (kind_of_port ports port) w env stack frames apart (length es) n k s mid vs j) (sent : List (ℕ × List ℤ)) (i : ℕ) → Sends w firsts k m (state mid stack frames p.cells j) end sent i
+      both : (vs : Values) (j : ℕ) (p : Stored port (length es) n k s mid vs j) (sent : List (ℕ × List ℤ)) (i : ℕ) → Sends w firsts k m (state mid stack frames p.cells j) end sent i
           → Sends w (n ∷ firsts) n m s end ((port, map (conv (kind_of_port ports port)) (numbers_of vs)) ∷ sent) i
       both vs j p sent i q = record {
         cells = q.cells;
@@ -194,12 +223,12 @@ module _ (names : List Name) (ports : List Port) (w : World) (env : Env) (stack 
               let within : h < length (map (conv (kind_of_port ports port)) (numbers_of vs)) = slice_get_within (map (conv (kind_of_port ports port)) (numbers_of vs)) h z e in
               let many = p.many in
               q.keeps.cell (n + h) (inl (omega (arith, within, many, low)))
-              (one-apart names (kind_of_port ports port) w env stack frames apart n (n + h) m (omega arith) (omega (arith, within, many, low, le)) far) ∙ p.stand h z e
+              (one-apart rs outer w serves frames inner (kind_of_port ports port) env stack n (n + h) m (omega arith) (omega (arith, within, many, low, le)) far) ∙ p.stand h z e
 
-  outputs-sent : {os : List Output} {firsts : List ℕ} {base n m : ℕ} {part : List Instr} (cells : List ℤ) (left : ℕ) → AreOutputs names ports os firsts base n part m → StandsAt w.code.instrs base part → m ≤ length cells
-      → AreBelow n names → AreApart n m w.low w.high → Holds names w.tokens cells env → SendSingles os w.calls env
+  outputs-sent : {os : List Output} {firsts : List ℕ} {base n m : ℕ} {part : List Instr} (cells : List ℤ) (left : ℕ) → AreOutputs rs.functions (inner ++ outer) ports os firsts base n part m → StandsAt w.code.instrs base part → m ≤ length cells
+      → AreLaid rs outer w.tokens w.low w.high n inner → AreApart n m w.low w.high → HoldsInside rs outer w.tokens w.low w.high inner cells env
       → Follows (outputs ports os w.calls env left) (Sends w firsts n m (state base stack frames cells left) (base + length part)) (CutsOff w n m (state base stack frames cells left))
-  outputs-sent cells left (no_output base n) stands room below far holds single =
+  outputs-sent cells left (no_output base n) stands room laid far holds =
       let finish : base ≡ base + 0 = omega arith in
       record {
         cells = cells;
@@ -207,21 +236,42 @@ module _ (names : List Name) (ports : List Port) (w : World) (env : Env) (stack 
         keeps = keeps_all n n w.low w.high cells;
         stand = tt;
       }
-  outputs-sent cells left (output_more o others firsts base n k m a b first rest) stands room below far holds single =
+  outputs-sent cells left (output_more o others firsts base n k m a b first rest) stands room laid far holds =
       let es : List Tree = first.parts in
       let more : k ≤ m = outputs-grow rest in
-      let grows : n + length es ≤ k = stored-grows names (kind_of_port ports o.port) w env stack frames apart first.stored in
+      let grows : n + length es ≤ k = stored-grows first.stored in
       let end : base + length a + length b ≡ base + length (a ++ b) = omega (arith, length-append a b) in
-      let values : GiveSingles (listed es) w.calls env = subst (λ es. GiveSingles es w.calls env) first.values single.0 in
       let same : one-of o.port es ≡ o = ap (λ v. record { port = o.port; values = v; repeat = None }) (sym first.values) ∙ ap (λ r. record { port = o.port; values = o.values; repeat = r }) (sym first.once) in
       subst (λ p. Follows (outputs ports (p ∷ others) w.calls env left) (Sends w (n ∷ firsts) n m (state base stack frames cells left) (base + length (a ++ b))) (CutsOff w n m (state base stack frames cells left))) same
       (subst (λ q. Follows (outputs ports (record { port = o.port; values = listed es; repeat = None } ∷ others) w.calls env left) (Sends w (n ∷ firsts) n m (state base stack frames cells left) q) (CutsOff w n m (state base stack frames cells left))) end
       (join-outputs o.port es others firsts n base k m (base + length a) (base + length a + length b) cells left grows more far
-      (values-stored names (kind_of_port ports o.port) w env stack frames apart cells left first.stored (stands_left w.code.instrs base a b stands) (omega arith) (omega (arith, more, room)) below (apart_first n k m w.low w.high more far) holds values)
+      (values-stored rs outer w serves frames inner (kind_of_port ports o.port) env stack cells left first.stored (stands_left w.code.instrs base a b stands) (omega arith) (omega (arith, more, room)) laid (apart_first n k m w.low w.high more far) holds)
       (λ now j keeps. outputs-sent now j rest (stands_right w.code.instrs base a b stands) (let size = keeps.size in omega (arith, size, room))
-      (below_more n k names (omega (arith, grows)) below) (apart_last n k m w.low w.high (omega (arith, grows)) far)
-      (holds_still names w.tokens env keeps below apart holds) single.1)))
+      (laid_more rs outer w.tokens w.low w.high n k inner (omega (arith, grows)) laid) (apart_last n k m w.low w.high (omega (arith, grows)) far)
+      (inside_still rs outer w.tokens w.low w.high n k inner cells now env laid keeps holds))))
 
-pub sends-as : (names : List Name) (ports : List Port) (os : List Output) (firsts : List ℕ) (base n m : ℕ) (part : List Instr) → AreBelow n names → AreOutputs names ports os firsts base n part m → SendsAs names ports os firsts base n part m
-sends-as names ports os firsts base n m part below coded w env stack frames cells left stands apart far room holds single =
-    outputs-sent names ports w env stack frames apart cells left coded stands room below far holds single
+-- ---- both directions
+
+ends-sent : (w : World) (firsts : List ℕ) (n m : ℕ) (s : State) (end : ℕ) (out : Out (List (ℕ × List ℤ))) (o : Outcome) (last : List ℤ) → Follows out (Sends w firsts n m s end) (CutsOff w n m s) → Ends w.code w.tokens s o last
+    → EndsSent w firsts n m s end out o last
+ends-sent w firsts n m s end (Gives sent left) o last p r = (p, ends_back o last p.reaches r)
+ends-sent w firsts n m s end (Traps c) o last b r =
+    let one = one-end w.code w.tokens _ b.cells r b.ends in
+    (one.0, subst (λ cells. Keeps n m w.low w.high s.cells cells) (sym one.1) b.keeps)
+ends-sent w firsts n m s end Lacks o last t r = tt
+ends-sent w firsts n m s end Clashes o last t r = tt
+
+pub sends-as : (rs : Routines) (names : List Name) (ports : List Port) (os : List Output) (firsts : List ℕ) (base n m : ℕ) (part : List Instr) → AreOutputs rs.functions names ports os firsts base n part m
+    → SendsAs rs names ports os firsts base n part m
+sends-as rs names ports os firsts base n m part coded = record {
+  goes = λ w runs globals locals env stack frames cells left is stands ready. sent w runs globals locals env stack frames cells left is stands ready;
+  only = λ w runs globals locals env stack frames cells left is stands ready o last r.
+      ends-sent w firsts n m (state base stack frames cells left) (base + length part) (outputs ports os w.calls env left) o last (sent w runs globals locals env stack frames cells left is stands ready) r;
+}
+  where
+    sent : (w : World) (runs : Runs) (globals locals : List Name) (env : Env) (stack : List ℤ) (frames : List ℕ) (cells : List ℤ) (left : ℕ) → names ≡ locals ++ globals → StandsAt w.code.instrs base part
+        → IsReady rs w runs globals locals n m cells env
+        → Follows (outputs ports os w.calls env left) (Sends w firsts n m (state base stack frames cells left) (base + length part)) (CutsOff w n m (state base stack frames cells left))
+    sent w runs globals locals env stack frames cells left is stands ready =
+        outputs-sent rs globals w ready.functions frames locals ports env stack cells left (subst (λ ns. AreOutputs rs.functions ns ports os firsts base n part m) is coded) stands ready.room ready.laid ready.apart
+        (inside_from rs globals w.tokens w.low w.high locals env.locals env.globals cells ready.holds.0 ready.holds.1 ready.routine_room)

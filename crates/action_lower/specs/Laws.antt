@@ -6,9 +6,11 @@ use Rattle.cal_model.specs.ActorState.{IsActorState, AreTokensOf}
 use Rattle.cal_model.specs.Selection.{State, has_its_tokens, seen_by}
 use Rattle.cal_model.specs.Sound.{IsSound}
 use Rattle.code_ir.specs.declared.instr.Instr.{Instr}
-use Rattle.expr_lower.specs.Held.{AreBelow, Holds}
+use Rattle.expr_lower.specs.Held.{Holds}
 use Rattle.expr_lower.specs.Names.{Name}
-use Rattle.action_lower.specs.Declaring.{AreDeclared, DeclaresAs}
+use Rattle.stmt_lower.specs.Procedures.{Routines}
+use Rattle.action_lower.specs.FiringCode.{FiresAs, IsFiringCode}
+use Rattle.action_lower.specs.LocalCode.{AreStarted, StartsAs}
 use Rattle.action_lower.specs.Sending.{AreOutputs, SendsAs}
 use Rattle.action_lower.specs.Seats.{HoldVars, seen_seats, taken}
 
@@ -23,14 +25,22 @@ SeenIsHeld = (actor : Actor) (x : State) (u : List (List ℤ)) (a : ℕ) (act : 
 
 -- Code of outputs of single values does what the outputs do.
 abbrev pub OutputsAreSent : Type 0
-OutputsAreSent = (names : List Name) (ports : List Port) (outs : List Output) (firsts : List ℕ)
-    (base n m : ℕ) (code : List Instr) → AreBelow n names
-    → AreOutputs names ports outs firsts base n code m
-    → SendsAs names ports outs firsts base n code m
+OutputsAreSent = (rs : Routines) (names : List Name) (ports : List Port) (outs : List Output) (firsts : List ℕ)
+    (base n m : ℕ) (code : List Instr)
+    → AreOutputs rs.functions names ports outs firsts base n code m
+    → SendsAs rs names ports outs firsts base n code m
 
 -- Code of locals of single values does what declaring them does.
-abbrev pub LocalsAreDeclared : Type 0
-LocalsAreDeclared = (names : List Name) (locals : List Local) (behind : List Name)
-    (base n m : ℕ) (code : List Instr) → AreBelow n names
-    → AreDeclared names locals behind base n code m
-    → DeclaresAs names locals behind base n code m
+abbrev pub LocalsAreStarted : Type 0
+LocalsAreStarted = (rs : Routines) (names : List Name) (locals : List Local) (behind : List Name)
+    (base n m : ℕ) (code : List Instr)
+    → AreStarted rs.functions names locals behind base n code m
+    → StartsAs rs names locals behind base n m code
+
+-- Code of a firing does what the locals, the body and the outputs of the action do, in each state of a sound actor in
+-- which the action is eligible, over tokens of its ports.
+abbrev pub FiringsAreFired : Type 0
+FiringsAreFired = (actor : Actor) (a : ℕ) (act : Action) (rs : Routines) (firsts : List ℕ)
+    (base n m : ℕ) (code : List Instr) → IsSound actor → slice_get actor.actions a ≡ Some act
+    → IsFiringCode rs (seen_seats actor act) actor.outs act firsts base n code m
+    → FiresAs actor a act rs firsts base n code m

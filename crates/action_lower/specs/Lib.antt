@@ -4,4 +4,5 @@ pub mod GuardWords
 pub mod Sending
 pub mod SendWords
 pub mod Laws
-pub mod Declaring
+pub mod LocalCode
+pub mod FiringCode

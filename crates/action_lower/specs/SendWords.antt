@@ -10,17 +10,19 @@ use Rattle.cal_model.specs.Sound.{max_rate}
 use Rattle.expr_lower.specs.declared.draft.Draft.{Draft}
 use Rattle.expr_lower.specs.declared.fault.LowerFault.{LowerFault}
 use Rattle.expr_lower.specs.declared.fault.LowerFault.TheVariants.{Memory, NotLowered, TooLong, TooManyCells}
-use Rattle.expr_lower.specs.Growing.{left_out, ◌or_else◌}
+use Rattle.expr_lower.specs.Callees.{Function}
+use Rattle.expr_lower.specs.Growing.{left_out_in, ◌or_else◌}
 use Rattle.expr_lower.specs.Lowered.{Adds}
 use Rattle.expr_lower.specs.Names.{Name}
+use Rattle.stmt_lower.specs.Procedures.{Procedure}
 use Rattle.action_lower.specs.Sending.{AreOutputs, IsOutputCode, SendsAs}
 
 -- ---- what is left out
 
 -- the place of the first part of values for which no code is made
-abbrev pub left_out_values : List Name → List Tree → Option ℕ
-left_out_values names [] = None
-left_out_values names (e ∷ es) = left_out names e or_else left_out_values names es
+abbrev pub left_out_values : List Function → List Name → List Tree → Option ℕ
+left_out_values fs names [] = None
+left_out_values fs names (e ∷ es) = left_out_in fs names e or_else left_out_values fs names es
 
 -- the offset of the first of some expressions, and 0 if there is none
 abbrev pub first_at : List Expr → ℕ
@@ -28,30 +30,32 @@ first_at [] = 0
 first_at (e ∷ es) = e.at
 
 -- .. of an output: a repeated one is left out at its first value
-abbrev pub left_out_output : List Name → BoundOutput → Option ℕ
-left_out_output names o = elim o.repeat [
-  | None ↦ left_out_values names (map expr_tree o.values.items)
+abbrev pub left_out_output : List Function → List Name → BoundOutput → Option ℕ
+left_out_output fs names o = elim o.repeat [
+  | None ↦ left_out_values fs names (map expr_tree o.values.items)
   | Some times ↦ Some (first_at o.values.items)
 ]
 
 -- .. of outputs
-abbrev pub left_out_outputs : List Name → List BoundOutput → Option ℕ
-left_out_outputs names [] = None
-left_out_outputs names (o ∷ others) = left_out_output names o or_else left_out_outputs names others
+abbrev pub left_out_outputs : List Function → List Name → List BoundOutput → Option ℕ
+left_out_outputs fs names [] = None
+left_out_outputs fs names (o ∷ others) = left_out_output fs names o or_else left_out_outputs fs names others
 
 -- ---- what a call does
 
 -- the code of an output was added to a draft, with this first cell
-abbrev pub AddsOutput : List Name → List Port → Output → ℕ → Draft → Draft → Type 0
-AddsOutput names ports o first old new = (first ≡ old.cells)
-    × Adds (IsOutputCode names ports o) old new
+abbrev pub AddsOutput : List Function → List Name → List Port → Output → ℕ → Draft → Draft → Type 0
+AddsOutput fs names ports o first old new = (first ≡ old.cells)
+    × Adds (IsOutputCode fs names ports o) old new
 
 -- code was added to a draft that sends what outputs send, with the first cell of each
-abbrev pub AddsOutputs : List Name → List Port → List Output → List ℕ → Draft → Draft → Type 0
-AddsOutputs names ports outs firsts old new = Adds (AreOutputs names ports outs firsts) old new
+abbrev pub AddsOutputs : List Function → List Name → List Port → List Output → List ℕ → Draft → Draft → Type 0
+AddsOutputs fs names ports outs firsts old new = Adds (AreOutputs fs names ports outs firsts) old new
 
-abbrev pub AddsSent : List Name → List Port → List Output → List ℕ → Draft → Draft → Type 0
-AddsSent names ports outs firsts old new = Adds (SendsAs names ports outs firsts) old new
+-- .. whatever procedures there are
+abbrev pub AddsSent : List Function → List Name → List Port → List Output → List ℕ → Draft → Draft → Type 0
+AddsSent fs names ports outs firsts old new = (ps : List Procedure)
+    → Adds (SendsAs (record { functions = fs; procedures = ps }) names ports outs firsts) old new
 
 -- so many cells were added to a draft, and nothing else changed
 pub record HasTaken (count first : ℕ) (old new : Draft) : Type 0 where

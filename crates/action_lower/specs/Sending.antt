@@ -1,56 +1,60 @@
 -- Code of what an action sends: single values, stored in cells side by side.
 -- Trusted: part of what a promise means.
-use Rattle.std.specs.Prelude.{◌≡◌, ℕ, ◌+◌, ◌≤◌, ℤ, List, [], ◌∷◌, ◌++◌, length, None, Some, slice_get}
+use Rattle.std.specs.Prelude.{◌≡◌, ℕ, ◌+◌, ℤ, List, [], ◌∷◌, ◌++◌, length, None, Some, slice_get}
 use Rattle.rvc_base.specs.declared.scalar.Scalar.{Scalar}
-use Rattle.cal_ast.specs.Tree as tree
 use Rattle.cal_ast.specs.Tree.{Tree, listed}
-use Rattle.cal_model.specs.Value.{Value, Num, Truth, Items}
-use Rattle.cal_model.specs.Env.{Env}
-use Rattle.cal_model.specs.Expression.{Calls, eval}
 use Rattle.cal_model.specs.Actor.{Port, Output}
+use Rattle.cal_model.specs.Env.{Env}
 use Rattle.cal_model.specs.Firing.{outputs}
+use Rattle.cal_model.specs.Outcome.{Out, Gives, Traps, Lacks, Clashes}
 use Rattle.cal_model.specs.Selection.{kind_of_port}
+use Rattle.cal_model.specs.Statement.{Runs}
 use Rattle.code_ir.specs.declared.instr.Instr.{Instr}
 use Rattle.code_ir.specs.declared.instr.Instr.TheVariants as op
-use Rattle.code_ir.specs.Running.{State, Reaches}
+use Rattle.code_ir.specs.declared.outcome.Outcome.{Outcome}
+use Rattle.code_ir.specs.declared.outcome.Outcome.TheVariants as outcome
+use Rattle.code_ir.specs.Running.{State, Reaches, Ends}
+use Rattle.expr_lower.specs.Callees.{Function}
+use Rattle.expr_lower.specs.Coding.{IsCode}
 use Rattle.expr_lower.specs.Following.{Follows, CutsOff}
-use Rattle.expr_lower.specs.Held.{AllApart, AreApart, Holds, Keeps}
-use Rattle.expr_lower.specs.Lowered.{IsLowered}
+use Rattle.expr_lower.specs.Held.{Keeps}
 use Rattle.expr_lower.specs.Names.{Name}
 use Rattle.expr_lower.specs.Placed.{StandsAt, World, state}
+use Rattle.stmt_lower.specs.Bodies.{IsReady}
+use Rattle.stmt_lower.specs.Procedures.{Routines}
 
 -- ---- code
 
--- code of a value that is sent: that of its expression, and a store into a cell, in the type of the port
-pub record IsStored (names : List Name) (t : Scalar) (e : Tree) (c base n : ℕ) (code : List Instr) (m : ℕ) : Type 0 where
+-- code of a value that is sent: that of its expression, which may call functions, and a store into a cell, in the type of the port
+pub record IsStored (fs : List Function) (names : List Name) (t : Scalar) (e : Tree) (c base n : ℕ) (code : List Instr) (m : ℕ) : Type 0 where
   pub body : List Instr
   pub is : code ≡ body ++ op.Store c (Some t) ∷ []
-  pub lowered : IsLowered names e base n body m
+  pub coded : IsCode fs names e base n body m
 
 -- code of values, one after the other, each of which goes into the next cell
-pub data AreStored (names : List Name) (t : Scalar) :
+pub data AreStored (fs : List Function) (names : List Name) (t : Scalar) :
     List Tree → ℕ → ℕ → ℕ → List Instr → ℕ → Type 0 where
-  no_value : (c base n : ℕ) → AreStored names t [] c base n [] n
+  no_value : (c base n : ℕ) → AreStored fs names t [] c base n [] n
   value_more : (e : Tree) (es : List Tree) (c base n k m : ℕ) (a b : List Instr)
-      → IsStored names t e c base n a k → AreStored names t es (c + 1) (base + length a) k b m
-      → AreStored names t (e ∷ es) c base n (a ++ b) m
+      → IsStored fs names t e c base n a k → AreStored fs names t es (c + 1) (base + length a) k b m
+      → AreStored fs names t (e ∷ es) c base n (a ++ b) m
 
 -- Code of an output of single values. It takes as many cells more as there are values, from the number of cells on
 -- that there were before it.
-pub record IsOutputCode (names : List Name) (ports : List Port) (o : Output) (base n : ℕ) (code : List Instr) (m : ℕ) : Type 0 where
+pub record IsOutputCode (fs : List Function) (names : List Name) (ports : List Port) (o : Output) (base n : ℕ) (code : List Instr) (m : ℕ) : Type 0 where
   pub parts : List Tree
   pub values : o.values ≡ listed parts
   pub once : o.repeat ≡ None
-  pub stored : AreStored names (kind_of_port ports o.port) parts n base (n + length parts) code m
+  pub stored : AreStored fs names (kind_of_port ports o.port) parts n base (n + length parts) code m
 
 -- code of outputs, one after the other, with the first cell of each
-pub data AreOutputs (names : List Name) (ports : List Port) :
+pub data AreOutputs (fs : List Function) (names : List Name) (ports : List Port) :
     List Output → List ℕ → ℕ → ℕ → List Instr → ℕ → Type 0 where
-  no_output : (base n : ℕ) → AreOutputs names ports [] [] base n [] n
+  no_output : (base n : ℕ) → AreOutputs fs names ports [] [] base n [] n
   output_more : (o : Output) (others : List Output) (firsts : List ℕ) (base n k m : ℕ)
-      (a b : List Instr) → IsOutputCode names ports o base n a k
-      → AreOutputs names ports others firsts (base + length a) k b m
-      → AreOutputs names ports (o ∷ others) (n ∷ firsts) base n (a ++ b) m
+      (a b : List Instr) → IsOutputCode fs names ports o base n a k
+      → AreOutputs fs names ports others firsts (base + length a) k b m
+      → AreOutputs fs names ports (o ∷ others) (n ∷ firsts) base n (a ++ b) m
 
 -- ---- what a run of it leaves
 
@@ -72,38 +76,35 @@ pub record Sends (w : World) (firsts : List ℕ) (n m : ℕ) (s : State) (end : 
   pub keeps : Keeps n m w.low w.high s.cells cells
   pub stand : AreSent firsts sent cells
 
--- ---- single values
-
-abbrev pub IsSingleValue : Value → Type 0
-IsSingleValue (Num z) = Unit {0}
-IsSingleValue (Truth b) = Unit {0}
-IsSingleValue (Items vs) = ⊥
-
--- what an expression gives, if anything, is a single value
-abbrev pub GivesSingle : Tree → Calls → Env → Type 0
-GivesSingle e calls env = (left : ℕ)
-    → Follows (eval e calls env left) (λ v m. IsSingleValue v) (λ cause. Unit {0})
-
--- .. so for each of a list
-abbrev pub GiveSingles : Tree → Calls → Env → Type 0
-GiveSingles (tree.cons e es) calls env = GivesSingle e calls env × GiveSingles es calls env
-GiveSingles other calls env = Unit {0}
-
--- .. and for each value of outputs
-abbrev pub SendSingles : List Output → Calls → Env → Type 0
-SendSingles [] calls env = Unit {0}
-SendSingles (o ∷ others) calls env =
-    GiveSingles o.values calls env × SendSingles others calls env
+-- how a run ends that goes as outputs do
+abbrev pub EndsSent : World → List ℕ → ℕ → ℕ → State → ℕ → Out (List (ℕ × List ℤ)) → Outcome → List ℤ
+    → Type 0
+EndsSent w firsts n m s end (Gives sent left) o last =
+    (p : Sends w firsts n m s end sent left)
+    × Ends w.code w.tokens (state end s.stack s.frames p.cells left) o last
+EndsSent w firsts n m s end (Traps c) o last = (o ≡ outcome.Trap c)
+    × Keeps n m w.low w.high s.cells last
+EndsSent w firsts n m s end Lacks o last = Unit {0}
+EndsSent w firsts n m s end Clashes o last = Unit {0}
 
 -- ---- what it does
 
--- Wherever these instructions stand, with cells that hold an environment, they do what the outputs of an action do:
--- they leave the tokens in their cells, each stored in the type of its port, or trap, after as many turns.
-abbrev pub SendsAs : List Name → List Port → List Output → List ℕ → ℕ → ℕ → List Instr → ℕ → Type 0
-SendsAs names ports outs firsts base n code m =
-    (w : World) (env : Env) (stack : List ℤ) (frames : List ℕ) (cells : List ℤ) (left : ℕ)
-    → StandsAt w.code.instrs base code → AllApart w.low w.high names → AreApart n m w.low w.high
-    → m ≤ length cells → Holds names w.tokens cells env → SendSingles outs w.calls env
-    → Follows (outputs ports outs w.calls env left)
-    (Sends w firsts n m (state base stack frames cells left) (base + length code))
-    (CutsOff w n m (state base stack frames cells left))
+-- Wherever these instructions stand, in code that has the routines, with cells that hold an environment, they do what
+-- the outputs of an action do: they leave the tokens in their cells, each stored in the type of its port, or trap, after
+-- as many turns; and a run of them has no other end. The names are locals and then globals.
+pub record SendsAs (rs : Routines) (names : List Name) (ports : List Port) (outs : List Output) (firsts : List ℕ) (base n : ℕ) (code : List Instr) (m : ℕ) : Type 0 where
+  pub goes : (w : World) (runs : Runs) (globals locals : List Name) (env : Env) (stack : List ℤ) (frames : List ℕ)
+      (cells : List ℤ) (left : ℕ)
+      → names ≡ locals ++ globals → StandsAt w.code.instrs base code
+      → IsReady rs w runs globals locals n m cells env
+      → Follows (outputs ports outs w.calls env left)
+      (Sends w firsts n m (state base stack frames cells left) (base + length code))
+      (CutsOff w n m (state base stack frames cells left))
+  pub only : (w : World) (runs : Runs) (globals locals : List Name) (env : Env) (stack : List ℤ) (frames : List ℕ)
+      (cells : List ℤ) (left : ℕ)
+      → names ≡ locals ++ globals → StandsAt w.code.instrs base code
+      → IsReady rs w runs globals locals n m cells env
+      → (o : Outcome) (last : List ℤ)
+      → Ends w.code w.tokens (state base stack frames cells left) o last
+      → EndsSent w firsts n m (state base stack frames cells left) (base + length code)
+      (outputs ports outs w.calls env left) o last

@@ -1,6 +1,8 @@
 //! What holds of the code of actions. Each law is a function that does nothing: its contract is what is proved.
 
-ghost use Rattle.action_lower.specs.Laws.{LocalsAreDeclared, OutputsAreSent, SeenIsHeld};
+ghost use Rattle.action_lower.specs.Laws.{FiringsAreFired, LocalsAreStarted, OutputsAreSent, SeenIsHeld};
+
+use cal_model::actions_fire_or_trap;
 
 /// The state cells and the tokens that an action takes hold what each name means that its guards see: in each state of
 /// a sound actor, over tokens of its ports.
@@ -8,13 +10,24 @@ pub fn what_is_seen_is_held()
     ensures { SeenIsHeld }
 {}
 
-/// Code of outputs leaves the tokens that the outputs send, each stored in the type of its port, or traps as they do.
+/// Code of outputs leaves the tokens that the outputs send, each stored in the type of its port, or traps as they do; and
+/// a run of it has no other end.
 pub fn outputs_are_sent()
     ensures { OutputsAreSent }
 {}
 
 /// Code of locals of single values leaves cells that hold the environment that declaring the locals gives, or traps as
-/// that does.
-pub fn locals_are_declared()
-    ensures { LocalsAreDeclared }
+/// that does; and a run of it has no other end.
+pub fn locals_are_started()
+    ensures { LocalsAreStarted }
 {}
+
+/// Code of a firing of an action of a sound actor ends as the locals, the body and the outputs of the action do, and in
+/// no other way: done, with the variables of the state that the firing leaves in the state cells and the tokens that it
+/// sends in their cells, or by the same trap.
+pub fn firings_are_fired()
+    ensures { FiringsAreFired }
+{
+    // it tells that the body of an eligible action gives a state or traps
+    actions_fire_or_trap();
+}

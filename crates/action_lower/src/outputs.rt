@@ -4,8 +4,8 @@ ghost use Rattle.std.specs.Prelude.{◌≡◌, ◌+◌, ◌≤◌, ◌^◌, IfEr
 ghost use Rattle.cal_ast.specs.View.{expr_tree};
 ghost use Rattle.cal_model.specs.Sound.{Each, max_rate};
 ghost use Rattle.cal_model.specs.View.{output_view, port_view};
-ghost use Rattle.expr_lower.specs.Growing.{IsFault, left_out};
-ghost use Rattle.expr_lower.specs.Held.{AreBelow};
+ghost use Rattle.expr_lower.specs.Growing.{IsFault, left_out_in};
+ghost use Rattle.expr_lower.specs.Callees.{functions_view};
 ghost use Rattle.expr_lower.specs.Lowered.{Adds};
 ghost use Rattle.expr_lower.specs.Names.{names_view};
 ghost use Rattle.expr_lower.specs.declared.fault.LowerFault.TheVariants.{TooManyCells};
@@ -16,42 +16,43 @@ use crate::seats::kind_on;
 use cal_ast::Expr;
 use cal_model::{BoundOutput, Port};
 use code_ir::Instr;
-use expr_lower::{Draft, LowerFault, Named, lower_expr};
+use expr_lower::{Callee, Draft, LowerFault, Named, Scope, lower, put};
 use rvc_base::Scalar;
 use std::alloc::Global;
 
 /// Appends the code of outputs, one after the other. The first cell of each comes back.
 ///
-/// `names` holds the names that the outputs use; the first of several that are the same is meant. An output takes as
+/// `names` holds the names that the outputs use, and `callees` the functions that they may call; the first of several
+/// that are the same is meant. An output takes as
 /// many cells more as it has values. The code leaves there what the output sends, each token stored in the type of the
 /// output's port, and changes no cell that there was. What stood in the draft stays.
 ///
 /// # Errors
 ///
 /// `NotLowered` with the offset of the first part for which no code is made: such a part of a value, as
-/// [`lower_expr`](expr_lower::lower_expr) says, or the first value of a repeated output. `TooLong` if the draft has 2
+/// [`lower_calling`](expr_lower::lower_calling) says, or the first value of a repeated output. `TooLong` if the draft has 2
 /// to the power of 32 instructions. `TooManyCells` if it has so many cells that those of an output don't fit. `Memory`
 /// if memory runs out.
 pub fn lower_outputs(
     alloc: Global,
     names: &[Named],
+    callees: &[Callee],
     ports: &[Port],
     outputs: &[BoundOutput],
     draft: &mut Draft,
 ) -> Result<Vec<u32>, LowerFault>
-    requires below { AreBelow draft.old.cells (names_view names.now) }
     requires few { Each (λ o. length o.values.items ≤ max_rate) outputs.now }
-    ensures code { IfOk result (λ firsts. AddsOutputs (names_view names.now)
+    ensures code { IfOk result (λ firsts. AddsOutputs (functions_view callees.now) (names_view names.now)
         (map port_view ports.now) (map output_view outputs.now) firsts.items draft.old draft.new) }
-    ensures sent { IfOk result (λ firsts. AddsSent (names_view names.now)
+    ensures sent { IfOk result (λ firsts. AddsSent (functions_view callees.now) (names_view names.now)
         (map port_view ports.now) (map output_view outputs.now) firsts.items draft.old draft.new) }
-    ensures whole { OnOk result (left_out_outputs (names_view names.now) outputs.now ≡ None) }
+    ensures whole { OnOk result (left_out_outputs (functions_view callees.now) (names_view names.now) outputs.now ≡ None) }
     ensures fault { IfErr result
-        (IsSendFault (left_out_outputs (names_view names.now) outputs.now) draft.new) }
+        (IsSendFault (left_out_outputs (functions_view callees.now) (names_view names.now) outputs.now) draft.new) }
 {
     let mut firsts = Vec::new(alloc);
     for output in outputs {
-        let first = put_output(names, ports, output, draft)?;
+        let first = put_output(names, callees, ports, output, draft)?;
         firsts.push(first)?;
     }
     Ok(firsts)
@@ -60,17 +61,17 @@ pub fn lower_outputs(
 /// Appends the code of an output. Its first cell comes back.
 fn put_output(
     names: &[Named],
+    callees: &[Callee],
     ports: &[Port],
     output: &BoundOutput,
     draft: &mut Draft,
 ) -> Result<u32, LowerFault>
-    requires below { AreBelow draft.old.cells (names_view names.now) }
     requires few { length output.now.values.items ≤ max_rate }
-    ensures code { IfOk result (λ first. AddsOutput (names_view names.now)
+    ensures code { IfOk result (λ first. AddsOutput (functions_view callees.now) (names_view names.now)
         (map port_view ports.now) (output_view output.now) first draft.old draft.new) }
-    ensures whole { OnOk result (left_out_output (names_view names.now) output.now ≡ None) }
+    ensures whole { OnOk result (left_out_output (functions_view callees.now) (names_view names.now) output.now ≡ None) }
     ensures fault { IfErr result
-        (IsSendFault (left_out_output (names_view names.now) output.now) draft.new) }
+        (IsSendFault (left_out_output (functions_view callees.now) (names_view names.now) output.now) draft.new) }
 {
     if output.repeat.is_some() {
         return Err(LowerFault::NotLowered {
@@ -79,7 +80,7 @@ fn put_output(
     }
     let first = take_cells(output.values.len(), draft)?;
     let kind = kind_on(ports, output.port);
-    put_values(names, &output.values, first, kind, draft)?;
+    put_values(names, callees, &output.values, first, kind, draft)?;
     Ok(first)
 }
 
@@ -111,26 +112,26 @@ fn take_cells(count: usize, draft: &mut Draft) -> Result<u32, LowerFault>
 /// Appends the code of values, each of which goes into the next cell.
 fn put_values(
     names: &[Named],
+    callees: &[Callee],
     values: &[Expr],
     cell: u32,
     kind: Scalar,
     draft: &mut Draft,
 ) -> Result<(), LowerFault>
-    requires below { AreBelow draft.old.cells (names_view names.now) }
     requires room { cell + length values.now ≤ draft.old.cells }
     ensures code { OnOk result
-        (Adds (AreStored (names_view names.now) kind (map expr_tree values.now) cell)
+        (Adds (AreStored (functions_view callees.now) (names_view names.now) kind (map expr_tree values.now) cell)
         draft.old draft.new) }
     ensures whole { OnOk result
-        (left_out_values (names_view names.now) (map expr_tree values.now) ≡ None) }
+        (left_out_values (functions_view callees.now) (names_view names.now) (map expr_tree values.now) ≡ None) }
     ensures fault { IfErr result
-        (IsFault (left_out_values (names_view names.now) (map expr_tree values.now)) draft.new) }
+        (IsFault (left_out_values (functions_view callees.now) (names_view names.now) (map expr_tree values.now)) draft.new) }
 {
     // it tells that the numbers of the cells fit
     let _cells = draft.cells;
     let mut at = cell;
     for value in values {
-        put_value(names, value, at, kind, draft)?;
+        put_value(names, callees, value, at, kind, draft)?;
         at += 1;
     }
     Ok(())
@@ -139,20 +140,19 @@ fn put_values(
 /// Appends the code of a value, and the store into its cell.
 fn put_value(
     names: &[Named],
+    callees: &[Callee],
     value: &Expr,
     cell: u32,
     kind: Scalar,
     draft: &mut Draft,
 ) -> Result<(), LowerFault>
-    requires below { AreBelow draft.old.cells (names_view names.now) }
     ensures code { OnOk result
-        (Adds (IsStored (names_view names.now) kind (expr_tree value.now) cell)
+        (Adds (IsStored (functions_view callees.now) (names_view names.now) kind (expr_tree value.now) cell)
         draft.old draft.new) }
-    ensures whole { OnOk result (left_out (names_view names.now) (expr_tree value.now) ≡ None) }
+    ensures whole { OnOk result (left_out_in (functions_view callees.now) (names_view names.now) (expr_tree value.now) ≡ None) }
     ensures fault { IfErr result
-        (IsFault (left_out (names_view names.now) (expr_tree value.now)) draft.new) }
+        (IsFault (left_out_in (functions_view callees.now) (names_view names.now) (expr_tree value.now)) draft.new) }
 {
-    lower_expr(names, value, draft)?;
-    draft.instrs.push(Instr::Store(cell, Some(kind)))?;
-    Ok(())
+    lower(&Scope::outermost(names, callees), value, draft)?;
+    put(draft, Instr::Store(cell, Some(kind)))
 }

@@ -1,0 +1,106 @@
+-- Code of the locals of an action, whose starts may call functions, and what it does.
+-- Trusted: part of what a promise means.
+use Rattle.std.specs.Prelude.{◌≡◌, ℕ, ◌+◌, ℤ, List, [], ◌∷◌, ◌++◌, length, map, Option, None, Some}
+use Rattle.rvc_base.specs.declared.scalar.Scalar.{Scalar}
+use Rattle.cal_ast.specs.View.{optional}
+use Rattle.cal_model.specs.declared.bound.BoundLocal.{BoundLocal}
+use Rattle.cal_model.specs.Actor.{Local}
+use Rattle.cal_model.specs.Call.{declared}
+use Rattle.cal_model.specs.Env.{Env}
+use Rattle.cal_model.specs.Outcome.{Out, Gives, Traps, Lacks, Clashes}
+use Rattle.cal_model.specs.Statement.{Runs}
+use Rattle.cal_model.specs.Value.{Single}
+use Rattle.cal_model.specs.View.{local_view}
+use Rattle.code_ir.specs.declared.instr.Instr.{Instr}
+use Rattle.code_ir.specs.declared.outcome.Outcome.{Outcome}
+use Rattle.code_ir.specs.declared.outcome.Outcome.TheVariants as outcome
+use Rattle.code_ir.specs.Running.{State, Reaches, Ends}
+use Rattle.expr_lower.specs.declared.draft.Draft.{Draft}
+use Rattle.expr_lower.specs.declared.names.Named.{Named}
+use Rattle.expr_lower.specs.Callees.{Function}
+use Rattle.expr_lower.specs.Following.{Follows}
+use Rattle.expr_lower.specs.Growing.{◌or_else◌}
+use Rattle.expr_lower.specs.Held.{Keeps}
+use Rattle.expr_lower.specs.Listed.{single_of}
+use Rattle.expr_lower.specs.Lowered.{Adds}
+use Rattle.expr_lower.specs.Names.{Name, local, names_view}
+use Rattle.expr_lower.specs.Placed.{StandsAt, World, state}
+use Rattle.expr_lower.specs.Routining.{LocalsSized}
+use Rattle.expr_lower.specs.Starting.{IsStart, left_out_start}
+use Rattle.stmt_lower.specs.Bodies.{AreLaid, CutShort, HoldsBody, IsReady, KeepsOver}
+use Rattle.stmt_lower.specs.Procedures.{Routines}
+
+-- ---- code
+
+-- Code of locals of single values, one after the other, and the names that are seen behind them: the start of each
+-- stands in a cell of its own, in front of the names that it sees.
+pub data AreStarted (fs : List Function) :
+    List Name → List Local → List Name → ℕ → ℕ → List Instr → ℕ → Type 0 where
+  none_started : (names : List Name) (base n : ℕ) → AreStarted fs names [] names base n [] n
+  start_more : (names behind : List Name) (x : Local) (others : List Local) (t : Scalar)
+      (base n k m : ℕ) (a b : List Instr)
+      → x.shape ≡ Single t → IsStart fs names t n (optional x.start) base (n + 1) a k
+      → AreStarted fs (local x.name t n ∷ names) others behind (base + length a) k b m
+      → AreStarted fs names (x ∷ others) behind base n (a ++ b) m
+
+-- ---- what a run of it leaves
+
+-- The run goes on to a place with the operands that there were, with so many turns left, and with cells that hold an
+-- environment. The names that are seen there are locals whose cells lie below m, in a row, and then the globals. Of
+-- the cells, only those from n to m and those of routines may have changed.
+pub record Starts (w : World) (globals behind : List Name) (n m : ℕ) (s : State) (end : ℕ) (env : Env) (left : ℕ) : Type 0 where
+  pub locals : List Name
+  pub are : behind ≡ locals ++ globals
+  pub cells : List ℤ
+  pub reaches : Reaches w.code w.tokens s (state end s.stack s.frames cells left)
+  pub keeps : Keeps n m w.low w.high s.cells cells
+  pub laid : AreLaid globals w.low w.high m locals
+  pub holds : HoldsBody globals locals w.tokens cells env
+
+-- how a run ends that goes as declaring locals does
+abbrev pub EndsStarted : World → List Name → List Name → List Name → ℕ → ℕ → State → ℕ → Out Env
+    → Outcome → List ℤ → Type 0
+EndsStarted w globals names behind n m s end (Gives env left) o last =
+    (p : Starts w globals behind n m s end env left)
+    × Ends w.code w.tokens (state end s.stack s.frames p.cells left) o last
+EndsStarted w globals names behind n m s end (Traps c) o last = (o ≡ outcome.Trap c)
+    × KeepsOver names globals n m w.low w.high s.cells last
+EndsStarted w globals names behind n m s end Lacks o last = Unit {0}
+EndsStarted w globals names behind n m s end Clashes o last = Unit {0}
+
+-- Wherever these instructions stand, in code that has the routines, they do what declaring the locals does: they leave
+-- cells that hold the environment that comes of it, or trap, after as many turns; and a run of them has no other end.
+pub record StartsAs (rs : Routines) (names : List Name) (xs : List Local) (behind : List Name) (base n m : ℕ) (code : List Instr) : Type 0 where
+  pub goes : (w : World) (runs : Runs) (globals locals : List Name) (env : Env) (stack : List ℤ) (frames : List ℕ)
+      (cells : List ℤ) (left : ℕ)
+      → names ≡ locals ++ globals → StandsAt w.code.instrs base code → LocalsSized xs
+      → IsReady rs w runs globals locals n m cells env
+      → Follows (declared xs w.calls env left)
+      (Starts w globals behind n m (state base stack frames cells left) (base + length code))
+      (CutShort w names globals n m (state base stack frames cells left))
+  pub only : (w : World) (runs : Runs) (globals locals : List Name) (env : Env) (stack : List ℤ) (frames : List ℕ)
+      (cells : List ℤ) (left : ℕ)
+      → names ≡ locals ++ globals → StandsAt w.code.instrs base code → LocalsSized xs
+      → IsReady rs w runs globals locals n m cells env
+      → (o : Outcome) (last : List ℤ)
+      → Ends w.code w.tokens (state base stack frames cells left) o last
+      → EndsStarted w globals names behind n m (state base stack frames cells left)
+      (base + length code) (declared xs w.calls env left) o last
+
+-- ---- what a call does
+
+-- the place of the first part of the starts of locals for which no code is made, or 0 if one before it is no single
+-- value
+abbrev pub left_out_locals : List Function → List Name → List Local → Option ℕ
+left_out_locals fs names [] = None
+left_out_locals fs names (x ∷ xs) =
+    elim (single_of x.shape) [
+      | None ↦ Some 0
+      | Some t ↦ left_out_start fs names (optional x.start) or_else left_out_locals fs
+          (local x.name t 0 ∷ names) xs
+    ]
+
+-- the code of locals was added to a draft, and the names that are seen behind them
+abbrev pub AddsLocals : List Function → List BoundLocal → List Named → List Named → Draft → Draft → Type 0
+AddsLocals fs xs before behind old new =
+    Adds (AreStarted fs (names_view before) (map local_view xs) (names_view behind)) old new
