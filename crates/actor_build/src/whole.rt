@@ -90,7 +90,7 @@ fn fine_actions(
 }
 
 /// That at most one action is an `initialize`, and that actions aren't too many.
-#[tactic(auto, using(crate::proofs::Faults::checks_as))]
+#[tactic(auto, using(crate::proofs::Faults::refuses_as))]
 fn check_members(members: &[Member], at: u32) -> Result<(), KindFault>
     ensures { Checks result (initialized_twice false (actions_in (members_tree members.now))
         ++ unless (nat_le (length (actions_in (members_tree members.now))) max_actions)
@@ -103,7 +103,6 @@ fn check_members(members: &[Member], at: u32) -> Result<(), KindFault>
 }
 
 /// The same, with a fault of members.
-#[tactic(auto, using(member_check::proofs::Broken::refuses-left))]
 fn check_counts(members: &[Member], at: u32) -> Result<(), MemberFault>
     ensures { MemberChecks result (initialized_twice false (actions_in (members_tree members.now))
         ++ unless (nat_le (length (actions_in (members_tree members.now))) max_actions)
@@ -115,6 +114,7 @@ fn check_counts(members: &[Member], at: u32) -> Result<(), MemberFault>
 }
 
 /// What orders these actions, as it is declared in an actor.
+#[tactic(auto, using(crate::proofs::Faults::breaks_as))]
 fn fine_order(
     names: &Names,
     decl: &Actor,
