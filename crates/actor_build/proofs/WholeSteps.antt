@@ -106,10 +106,13 @@ order_breaks f acts members around actor at actions h has =
 
 -- ---- the actor that a source is
 
+made : List ℕ → List Port → List Port → List Held → List Fun → List Proc → List Action → List (List ℕ) → List Move → List (ℕ × ℕ) → Actor
+made class ins outs vars funs procs acts states moves pairs =
+    record { class = class; ins = ins; outs = outs; vars = vars; funs = funs; procs = procs; actions = acts; states = states; moves = moves; pairs = pairs }
+
 actor_same : (c d : List ℕ) (i j o p : List Port) (v w : List Held) (f g : List Fun) (q r : List Proc) (a b : List Action) (s t : List (List ℕ)) (m n : List Move) (x y : List (ℕ × ℕ))
     → c ≡ d → i ≡ j → o ≡ p → v ≡ w → f ≡ g → q ≡ r → a ≡ b → s ≡ t → m ≡ n → x ≡ y
-    → record { class = c; ins = i; outs = o; vars = v; funs = f; procs = q; actions = a; states = s; moves = m; pairs = x }
-    ≡ record { class = d; ins = j; outs = p; vars = w; funs = g; procs = r; actions = b; states = t; moves = n; pairs = y }
+    → made c i o v f q a s m x ≡ made d j p w g r b t n y
 actor_same c d i j o p v w f g q r a b s t m n x y e1 e2 e3 e4 e5 e6 e7 e8 e9 e10 = cc
 
 pub whole_is : (found : Actor) (bare : BareActor) (acts : List BoundAction) (order : ActorOrder) (decl : DeclaredActor) (names : Names) (at : ℕ) (s : Source) (gs : List Given) (owner : Spot)

@@ -1,5 +1,5 @@
 //! The whole actor.
-#![tactic(auto, using(stmt_check::proofs::Checked::refuses_on))]
+#![tactic(auto)]
 
 ghost use Rattle.std.specs.Prelude.{◌≡◌, ◌≤◌, ◌++◌, [], false, IfErr, IfOk, List, length, nat_le};
 ghost use Rattle.rvc_base.specs.Rules.{too_many_actions};
@@ -7,7 +7,7 @@ ghost use Rattle.cal_ast.specs.View.{actor_tree};
 ghost use Rattle.cal_check.specs.Actors.{IsAboveItself, Source, actions_in, actions_of, actor_given, initialized_twice};
 ghost use Rattle.cal_check.specs.Variables.{Given, Spot};
 ghost use Rattle.cal_check.specs.Violations.{unless};
-ghost use Rattle.cal_model.specs.Actor.{Actor};
+ghost use Rattle.cal_model.specs.Actor.{Actor as Meaning};
 ghost use Rattle.cal_model.specs.Sound.{max_actions, max_ports};
 ghost use Rattle.cal_model.specs.View.{actor_of};
 ghost use Rattle.const_eval.specs.Counting.{names_view};
@@ -15,6 +15,7 @@ ghost use Rattle.member_check.specs.Judging.{Checks as MemberChecks};
 ghost use Rattle.member_check.specs.Parts.{action_views, members_tree};
 ghost use Rattle.stmt_check.specs.Judging.{Checks};
 ghost use Rattle.action_check.specs.Faults.{as_kind_fault};
+ghost use Rattle.action_check.specs.Parts.{HasFewPorts, around_view};
 ghost use Rattle.actor_build.specs.Building.{ArePartsOf, BreaksMembers, FindsActions, FindsOrder, HasActions, around_bare, members_broken, whole_view};
 
 use crate::ordering::{ActorOrder, order};
@@ -57,14 +58,14 @@ pub fn actor(names: &Names, bare: BareActor, decl: &Actor) -> Result<Bound, Kind
     ensures fine { IfOk result (λ found. members_broken (members_tree decl.now.members.items)
         (around_bare bare (names_view names.now)) (actor_of found) decl.now.at ≡ []) }
     ensures ordered { IfOk result (λ found. ¬ IsAboveItself (actor_of found)) }
-    ensures broken { IfErr result (λ fault. (actor : Actor)
+    ensures broken { IfErr result (λ fault. (actor : Meaning)
         → HasActions actor (actions_of (actions_in (members_tree decl.now.members.items))
         (around_bare bare (names_view names.now))) (members_tree decl.now.members.items)
         → BreaksMembers fault (members_tree decl.now.members.items)
         (around_bare bare (names_view names.now)) actor decl.now.at) }
 {
     let actions = fine_actions(names, &bare, decl)?;
-    let order = fine_order(names, decl, &actions)?;
+    let order = fine_order(names, &decl.members, &actions, decl.at)?;
     Ok(whole(bare, actions, order))
 }
 
@@ -79,18 +80,30 @@ fn fine_actions(
     ensures { FindsActions result (members_tree decl.now.members.items)
         (around_bare bare.now (names_view names.now)) decl.now.at }
 {
-    check_members(&decl.members, decl.at)?;
     let parts = ActorParts {
         ins: &bare.ins,
         outs: &bare.outs,
         procs: &bare.procs,
     };
-    check_actions(names, &parts, &decl.members)?;
-    actions(names, &parts, &decl.members)
+    actions_among(names, &parts, &decl.members, decl.at)
+}
+
+/// The actions among members, none of which breaks a rule; `at` is the offset of the actor.
+fn actions_among(
+    names: &Names,
+    parts: &ActorParts,
+    members: &[Member],
+    at: u32,
+) -> Result<Vec<BoundAction>, KindFault>
+    requires { HasFewPorts parts.now }
+    ensures { FindsActions result (members_tree members.now) (around_view parts.now names.now) at }
+{
+    check_members(members, at)?;
+    check_actions(names, parts, members)?;
+    actions(names, parts, members)
 }
 
 /// That at most one action is an `initialize`, and that actions aren't too many.
-#[tactic(auto, using(crate::proofs::Faults::refuses_as))]
 fn check_members(members: &[Member], at: u32) -> Result<(), KindFault>
     ensures { Checks result (initialized_twice false (actions_in (members_tree members.now))
         ++ unless (nat_le (length (actions_in (members_tree members.now))) max_actions)
@@ -113,18 +126,17 @@ fn check_counts(members: &[Member], at: u32) -> Result<(), MemberFault>
     Ok(())
 }
 
-/// What orders these actions, as it is declared in an actor.
-#[tactic(auto, using(crate::proofs::Faults::breaks_as))]
+/// What orders these actions, as it is declared among members; `at` is the offset of the actor.
 fn fine_order(
     names: &Names,
-    decl: &Actor,
+    members: &[Member],
     actions: &[BoundAction],
+    at: u32,
 ) -> Result<ActorOrder, KindFault>
     requires { length actions.now ≤ max_actions }
-    ensures { FindsOrder result (action_views actions.now) (members_tree decl.now.members.items)
-        decl.now.at }
+    ensures { FindsOrder result (action_views actions.now) (members_tree members.now) at }
 {
-    match order(names.alloc, &decl.members, actions, decl.at) {
+    match order(names.alloc, members, actions, at) {
         Ok(order) => Ok(order),
         Err(f) => Err(as_kind_fault(f)),
     }

@@ -1,9 +1,9 @@
-use Rattle.std.proofs.Common.{◌≡◌, Err, sym, ap, subst, ◌∙◌, rules}
+use Rattle.std.proofs.Common.{◌≡◌, Err, map, sym, ap, subst, ◌∙◌, rules}
 use Rattle.std.specs.Prelude.{IfErr}
 use Rattle.cal_check.specs.Schedules.{first_priority, moves_in, pairs_in, priorities_broken, states_of}
 use Rattle.cal_model.specs.Actor.{Actor}
 use Rattle.member_check.specs.Judging.{BreaksPriorities}
-use Rattle.member_check.specs.Parts.{action_views, members_tree, schedule_view}
+use Rattle.member_check.specs.Parts.{action_views, members_tree, move_of_step, schedule_view}
 use Rattle.actor_build.proofs.OrderSteps.{order_fine, priorities_break, schedule_breaks}
 use Rattle.actor_build.specs.Building.{HasActions, order_broken}
 use Rattle.actor_build.proofs.ordering.order.Goals as goal
@@ -38,7 +38,7 @@ returns-clause-is c = λ actor has.
     let among = c.schedule_among.ensures in
     record {
       states = c.in_ok-scheduled.ensures.states ∙ ap states_of among;
-      moves = c.in_ok-moves.ensures ∙ c.in_ok-scheduled.ensures.moves actor has.actions (has.states ∙ ap states_of (sym among)) ∙ ap (λ o. moves_in o actor) among;
+      moves = c.in_ok-moves.ensures ∙ ap (map move_of_step) c.deref.ensures.value ∙ c.in_ok-scheduled.ensures.moves actor has.actions (has.states ∙ ap states_of (sym among)) ∙ ap (λ o. moves_in o actor) among;
       pairs = c.in_ok-pairs.ensures.pairs actor has.actions;
     }
 
