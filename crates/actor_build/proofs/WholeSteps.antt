@@ -119,6 +119,7 @@ pub whole_is : (found : Actor) (bare : BareActor) (acts : List BoundAction) (ord
     → found ≡ whole_view bare acts order → AreFine acts (members_tree decl.members.items) (around_bare bare names) at
     → IsFineOrder order (action_views acts) (members_tree decl.members.items) at → ArePartsOf bare (actor_tree decl) names s gs owner
     → found ≡ actor_given s gs owner
+unfolding made
 whole_is found bare acts order decl names at s gs owner is actions fine parts =
     let members = members_tree decl.members.items in
     let bare_one = bare_actor s gs owner (around_of s gs owner) in
