@@ -20,13 +20,13 @@ use Rattle.cal_check.specs.Violations.{Violation, all_fine, unless}
 use Rattle.cal_check.specs.Variables.{Given, Spot}
 use Rattle.cal_check.specs.Actions.{Around, or_none}
 use Rattle.cal_check.specs.Schedules.{moves_in, pairs_in, schedule_in, states_of}
-use Rattle.cal_check.specs.Actors.{IsAboveItself, Source, actions_broken, actions_in, actions_of, actor_given, all_funs, all_valued, around_of, bare_actor, funs_of, initialized_twice, kept_funs, kept_vars, members_of}
+use Rattle.cal_check.specs.Actors.{IsAboveItself, Source, actions_broken, actions_in, actions_of, actor_given, all_funs, around_of, bare_actor, funs_of, initialized_twice, kept_funs, members_of}
 use Rattle.member_check.specs.Asking.{port_views}
 use Rattle.member_check.specs.Parts.{action_views, members_tree}
 use Rattle.stmt_check.specs.Judging.{Refuses}
 use Rattle.stmt_check.proofs.Checked.{refuses_later, refuses_on}
 use Rattle.action_build.specs.Building.{BuildsActions}
-use Rattle.actor_build.specs.Building.{AreFine, ArePartsOf, BreaksMembers, FindsActions, HasActions, IsCycle, IsFineOrder, IsOrderOf, acts_broken, around_bare, members_broken, order_broken, whole_view}
+use Rattle.actor_build.specs.Building.{AreFine, ArePartsOf, BreaksMembers, FindsActions, HasActions, IsCycle, IsFineOrder, acts_broken, around_bare, members_broken, order_broken, whole_view}
 use Rattle.actor_build.specs.declared.ordering.ActorOrder.{ActorOrder}
 use Rattle.actor_build.specs.declared.whole.BareActor.{BareActor}
 

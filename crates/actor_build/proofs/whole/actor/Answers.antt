@@ -1,4 +1,4 @@
-use Rattle.std.proofs.Common.{◌≡◌, ◌≤◌, ◌⊎◌, Err, length, sym, ap, subst, rules}
+use Rattle.std.proofs.Common.{◌≡◌, ◌≤◌, ◌⊎◌, Err, length, sym, subst, rules}
 use Rattle.std.specs.Prelude.{IfErr}
 use Rattle.cal_check.specs.Actors.{actions_in, actions_of}
 use Rattle.cal_model.specs.Actor.{Actor}
