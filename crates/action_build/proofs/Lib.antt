@@ -1,0 +1,4 @@
+mod Each
+mod OutputSteps
+mod InsideSteps
+mod ActionSteps

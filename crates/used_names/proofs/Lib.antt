@@ -1,0 +1,5 @@
+mod Sizes
+mod Keys
+mod Rounds
+mod Collected
+mod Found
