@@ -14,7 +14,7 @@ use Rattle.const_eval.specs.Judging.{Breaks}
 use Rattle.const_eval.specs.declared.fault.KindFault.{KindFault}
 use Rattle.cal_check.specs.Actors.{formals_broken, funs_of, heads_broken, procs_in, procs_of}
 use Rattle.cal_check.specs.Routines.{FunDecl, formals_judged, fun_judged, head_judged, proc_judged}
-use Rattle.cal_check.specs.Variables.{Found, found_in}
+use Rattle.cal_check.specs.Variables.{found_in}
 use Rattle.cal_check.specs.Violations.{all_fine, and_all, broken, fine}
 use Rattle.stmt_check.specs.Judging.{Refuses}
 use Rattle.stmt_check.proofs.Checked.{refuses_alone, refuses_broken, refuses_on}

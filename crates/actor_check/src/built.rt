@@ -24,11 +24,7 @@ use rvc_base::Front;
 use seen_names::DeclaredFun;
 
 /// Adds what a function is, if its head breaks no rule.
-fn add_function(
-    found: &mut Vec<BoundFun>,
-    names: &Names,
-    f: DeclaredFun,
-) -> Result<(), Front>
+fn add_function(found: &mut Vec<BoundFun>, names: &Names, f: DeclaredFun) -> Result<(), Front>
     ensures { AddsFun result (fun_decl f.entry) (names_view names.now) (map fun_view found.old.items)
         (map fun_view found.new.items) }
 {
@@ -64,11 +60,7 @@ pub fn functions(names: &Names, funs: &[DeclaredFun]) -> Result<Vec<BoundFun>, F
 }
 
 /// Adds what a procedure is, if its formals break no rule.
-fn add_procedure(
-    found: &mut Vec<BoundProc>,
-    names: &Names,
-    p: &Procedure,
-) -> Result<(), KindFault>
+fn add_procedure(found: &mut Vec<BoundProc>, names: &Names, p: &Procedure) -> Result<(), KindFault>
     ensures { AddsProc result (procedure_tree p.now) (names_view names.now) (map proc_view found.old.items)
         (map proc_view found.new.items) }
 {
@@ -78,11 +70,7 @@ fn add_procedure(
 }
 
 /// Adds what a member is, if it is a procedure.
-fn add_member(
-    found: &mut Vec<BoundProc>,
-    names: &Names,
-    member: &Member,
-) -> Result<(), KindFault>
+fn add_member(found: &mut Vec<BoundProc>, names: &Names, member: &Member) -> Result<(), KindFault>
     ensures added { OnOk result ((more : Tree)
         → behind (map proc_view found.new.items) (all_fine (procs_of (procs_in more) (names_view names.now)))
         ≡ behind (map proc_view found.old.items)

@@ -5,7 +5,7 @@ use Rattle.cal_check.specs.Actors.{funs_broken}
 use Rattle.cal_check.specs.Routines.{fun_broken}
 use Rattle.cal_check.specs.Variables.{found_in}
 use Rattle.const_eval.specs.Counting.{names_view}
-use Rattle.seen_names.specs.Known.{fun_decl, fun_decls}
+use Rattle.seen_names.specs.Known.{fun_decls}
 use Rattle.variable_check.specs.Causes.{IsCause}
 use Rattle.variable_check.specs.Valuing.{Finds}
 use Rattle.actor_check.proofs.Causes.{cause_in_first}
