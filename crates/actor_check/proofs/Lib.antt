@@ -1,3 +1,4 @@
 mod Causes
 mod Heads
+mod Behind
 mod Chain
