@@ -1,0 +1,4 @@
+mod Causes
+mod Heads
+mod Behind
+mod Chain

@@ -1,0 +1,42 @@
+//! What is inside functions.
+#![tactic(auto, using(crate::proofs::Causes::cause_in_first))]
+
+ghost use Rattle.std.specs.Prelude.{◌≡◌};
+ghost use Rattle.cal_ast.specs.View.{function_tree};
+ghost use Rattle.cal_check.specs.Actors.{funs_broken};
+ghost use Rattle.cal_check.specs.Routines.{fun_broken};
+ghost use Rattle.cal_check.specs.Variables.{found_in};
+ghost use Rattle.const_eval.specs.Counting.{names_view};
+ghost use Rattle.seen_names.specs.Known.{fun_decls};
+ghost use Rattle.variable_check.specs.Valuing.{Finds};
+
+use crate::fault::in_file;
+use const_eval::Names;
+use routine_check::check_function;
+use rvc_base::Front;
+use seen_names::DeclaredFun;
+
+/// What is inside a function, in its file.
+fn check_body(names: &Names, f: DeclaredFun) -> Result<(), Front>
+    ensures { Finds result (found_in f.entry.file
+        (fun_broken (function_tree f.entry.decl.now) (names_view names.now))) }
+{
+    match check_function(names, f.decl) {
+        Ok(()) => Ok(()),
+        Err(fault) => Err(in_file(f.file, fault)),
+    }
+}
+
+/// What is inside functions, of the actor's file and of others, as [`check_function`] judges each.
+///
+/// # Errors
+///
+/// `Refused` if what is inside breaks a rule: one of those that are broken, with its place. `Memory` if memory runs out.
+pub fn check_bodies(names: &Names, funs: &[DeclaredFun]) -> Result<(), Front>
+    ensures { Finds result (funs_broken (fun_decls funs.now) (names_view names.now)) }
+{
+    for f in funs {
+        check_body(names, *f)?;
+    }
+    Ok(())
+}

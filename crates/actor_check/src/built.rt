@@ -1,0 +1,105 @@
+//! Functions and procedures with their heads.
+#![tactic(auto, using(crate::proofs::Heads::behind_none, crate::proofs::Heads::behind_all, crate::proofs::Heads::built_none, crate::proofs::Heads::adds_proc, crate::proofs::Heads::formals_break))]
+
+ghost use Rattle.std.specs.Prelude.{◌≡◌, IfErr, OnOk, map};
+ghost use Rattle.cal_ast.specs.Tree as tree;
+ghost use Rattle.cal_ast.specs.Tree.{Tree};
+ghost use Rattle.cal_ast.specs.View.{member_tree, procedure_tree};
+ghost use Rattle.cal_check.specs.Actors.{formals_broken, procs_in, procs_of};
+ghost use Rattle.cal_check.specs.Violations.{all_fine};
+ghost use Rattle.cal_model.specs.View.{fun_view, proc_view};
+ghost use Rattle.const_eval.specs.Counting.{names_view};
+ghost use Rattle.member_check.specs.Parts.{members_tree};
+ghost use Rattle.stmt_check.specs.Judging.{Refuses};
+ghost use Rattle.variable_check.specs.Faults.{behind};
+ghost use Rattle.seen_names.specs.Known.{fun_decl, fun_decls};
+ghost use Rattle.actor_check.specs.Checking.{AddsFun, AddsProc, BuildsFuns, BuildsProcs, KeepsFun};
+
+use crate::fault::in_file;
+use cal_ast::{Member, Procedure};
+use cal_model::{BoundFun, BoundProc};
+use const_eval::{KindFault, Names};
+use routine_build::{fun_of, proc_of};
+use rvc_base::Front;
+use seen_names::DeclaredFun;
+
+/// Adds what a function is, if its head breaks no rule.
+fn add_function(found: &mut Vec<BoundFun>, names: &Names, f: DeclaredFun) -> Result<(), Front>
+    ensures { AddsFun result (fun_decl f.entry) (names_view names.now) (map fun_view found.old.items)
+        (map fun_view found.new.items) }
+{
+    match fun_of(names, f.name, f.decl) {
+        Ok(fun) => keep_function(found, fun),
+        Err(fault) => Err(in_file(f.file, fault)),
+    }
+}
+
+/// Adds a function.
+fn keep_function(found: &mut Vec<BoundFun>, fun: BoundFun) -> Result<(), Front>
+    ensures { KeepsFun result (fun_view fun) (map fun_view found.old.items) (map fun_view found.new.items) }
+{
+    match found.push(fun) {
+        Ok(()) => Ok(()),
+        Err(_) => Err(Front::Memory),
+    }
+}
+
+/// What functions are whose heads break no rule.
+///
+/// # Errors
+///
+/// `Refused` if a head breaks a rule: one of those that are broken, with its place. `Memory` if memory runs out.
+pub fn functions(names: &Names, funs: &[DeclaredFun]) -> Result<Vec<BoundFun>, Front>
+    ensures { BuildsFuns result (fun_decls funs.now) (names_view names.now) }
+{
+    let mut found = Vec::new(names.alloc);
+    for f in funs {
+        add_function(&mut found, names, *f)?;
+    }
+    Ok(found)
+}
+
+/// Adds what a procedure is, if its formals break no rule.
+fn add_procedure(found: &mut Vec<BoundProc>, names: &Names, p: &Procedure) -> Result<(), KindFault>
+    ensures { AddsProc result (procedure_tree p.now) (names_view names.now) (map proc_view found.old.items)
+        (map proc_view found.new.items) }
+{
+    let proc = proc_of(names, p)?;
+    found.push(proc)?;
+    Ok(())
+}
+
+/// Adds what a member is, if it is a procedure.
+fn add_member(found: &mut Vec<BoundProc>, names: &Names, member: &Member) -> Result<(), KindFault>
+    ensures added { OnOk result ((more : Tree)
+        → behind (map proc_view found.new.items) (all_fine (procs_of (procs_in more) (names_view names.now)))
+        ≡ behind (map proc_view found.old.items)
+        (all_fine (procs_of (procs_in (tree.cons (member_tree member.now) more)) (names_view names.now)))) }
+    ensures fine { OnOk result ((more : Tree)
+        → formals_broken (procs_in more) (names_view names.now)
+        ≡ formals_broken (procs_in (tree.cons (member_tree member.now) more)) (names_view names.now)) }
+    ensures broken { IfErr result (λ fault. (more : Tree) → Refuses fault
+        (formals_broken (procs_in (tree.cons (member_tree member.now) more)) (names_view names.now))) }
+{
+    match member {
+        Member::Procedure(p) => add_procedure(found, names, p),
+        _ => Ok(()),
+    }
+}
+
+/// What the procedures among members are whose formals break no rule, in the order of the text.
+///
+/// # Errors
+///
+/// `Broken` if a formal breaks a rule: one of those that are broken, with its place. `Memory` if memory runs out.
+pub fn procedures(names: &Names, members: &[Member]) -> Result<Vec<BoundProc>, KindFault>
+    ensures { BuildsProcs result (procs_in (members_tree members.now)) (names_view names.now) }
+{
+    let mut found = Vec::new(names.alloc);
+    let mut rest = members;
+    'members: while let Some((first, others)) = rest.split_first() {
+        add_member(&mut found, names, first)?;
+        rest = others;
+    }
+    Ok(found)
+}

@@ -1,0 +1,26 @@
+//! What the variables of an actor come to.
+
+ghost use Rattle.std.specs.Prelude.{◌≡◌, true};
+ghost use Rattle.cal_check.specs.Variables.{none_yet, valued};
+ghost use Rattle.seen_names.specs.Known.{fun_decls, names_differ};
+ghost use Rattle.variable_check.specs.Valuing.{Values};
+ghost use Rattle.variable_check.specs.Views.{all_given, spot_of, var_decls};
+ghost use Rattle.actor_check.specs.Checking.{Comes};
+
+use rvc_base::Front;
+use variable_check::{DeclaredVar, Told, Valued, value_all};
+
+/// What variables come to that stand behind no others.
+///
+/// # Errors
+///
+/// As those of [`value_all`].
+pub fn value_declared(told: Told<'_>, vars: &[DeclaredVar]) -> Result<Valued, Front>
+    requires { names_differ (fun_decls told.funs.now) ≡ true }
+    ensures { Comes result (valued (var_decls vars.now) (all_given told.entry.given.now)
+        (spot_of told.entry.owner) (fun_decls told.entry.funs.now) none_yet) }
+{
+    let mut so_far = Valued::none_yet(told.alloc);
+    value_all(told, &mut so_far, vars)?;
+    Ok(so_far)
+}
