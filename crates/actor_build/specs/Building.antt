@@ -1,5 +1,5 @@
 -- What calls that put an actor together answer.
--- Trusted but for `FindsActions`, `FindsOrder` and `whole_view`: part of what a promise means.
+-- Trusted but for `AreFine`, `FindsActions`, `IsFineOrder`, `FindsOrder` and `whole_view`: part of what a promise means.
 use Rattle.std.specs.Prelude.{◌≡◌, ◌≤◌, ◌⊎◌, ℕ, false, List, [], ◌++◌, length, map, nat_le, Some, Vec, string_bytes}
 use Rattle.std.specs.declared.alloc.Global.{Global}
 use Rattle.std.specs.declared.result.Result.{Result}
