@@ -63,7 +63,7 @@ const REFUSED: &[Row] = &[
     ),
     (
         &[
-            ("T", "<!--Ã¤--><XDF version=\"1\" name=\"T\"><Port kind=\"Input\" name=\"In\"><Type name=\"uint\"><Entry kind=\"Expr\" name=\"size\"><Expr kind=\"Literal\" literal-kind=\"Integer\" value=\"8\"/></Entry>\n</Type></Port><Instance id=\"a\"><Class name=\"Copy\"/></Instance><Connection src=\"\" src-port=\"Out\" dst=\"a\" dst-port=\"In\"/><Port kind=\"Output\" name=\"Out\">\n<Type name=\"uint\"><Entry kind=\"Expr\" name=\"size\"><Expr kind=\"Literal\" literal-kind=\"Integer\" value=\"8\"/></Entry></Type> </Port></XDF>"),
+            ("T", "<!--ä--><XDF version=\"1\" name=\"T\"><Port kind=\"Input\" name=\"In\"><Type name=\"uint\"><Entry kind=\"Expr\" name=\"size\"><Expr kind=\"Literal\" literal-kind=\"Integer\" value=\"8\"/></Entry>\n</Type></Port><Instance id=\"a\"><Class name=\"Copy\"/></Instance><Connection src=\"\" src-port=\"Out\" dst=\"a\" dst-port=\"In\"/><Port kind=\"Output\" name=\"Out\">\n<Type name=\"uint\"><Entry kind=\"Expr\" name=\"size\"><Expr kind=\"Literal\" literal-kind=\"Integer\" value=\"8\"/></Entry></Type> </Port></XDF>"),
         ],
         &[("Copy", "In:u8 ; Out:u8")],
         "N5 1 239",
@@ -91,7 +91,7 @@ const REFUSED: &[Row] = &[
     ),
     (
         &[
-            ("T", "<!--Ã¤--><XDF version=\"1\" name=\"T\"><Port kind=\"Input\" name=\"In\"><!-- c --><Type name=\"uint\"><Entry kind=\"Expr\" name=\"size\"><Expr kind=\"Literal\" literal-kind=\"Integer\" value=\"8\"/>\t</Entry><!-- c --></Type></Port><Instance id=\"a\"><Class name=\"Flag\"/></Instance><Instance id=\"b\">\t<Class name=\"Copy\"/></Instance><Connection src=\"a\" src-port=\"Out\" dst=\"b\" dst-port=\"In\"/><Port kind=\"Output\" name=\"Out\"><Type name=\"uint\">\n<Entry kind=\"Expr\" name=\"size\"> <!----> <Expr kind=\"Literal\" literal-kind=\"Integer\" value=\"8\"/></Entry></Type></Port></XDF>"),
+            ("T", "<!--ä--><XDF version=\"1\" name=\"T\"><Port kind=\"Input\" name=\"In\"><!-- c --><Type name=\"uint\"><Entry kind=\"Expr\" name=\"size\"><Expr kind=\"Literal\" literal-kind=\"Integer\" value=\"8\"/>\t</Entry><!-- c --></Type></Port><Instance id=\"a\"><Class name=\"Flag\"/></Instance><Instance id=\"b\">\t<Class name=\"Copy\"/></Instance><Connection src=\"a\" src-port=\"Out\" dst=\"b\" dst-port=\"In\"/><Port kind=\"Output\" name=\"Out\"><Type name=\"uint\">\n<Entry kind=\"Expr\" name=\"size\"> <!----> <Expr kind=\"Literal\" literal-kind=\"Integer\" value=\"8\"/></Entry></Type></Port></XDF>"),
         ],
         &[("Copy", "In:u8 ; Out:u8"), ("Flag", "In:bool ; Out:bool")],
         "N6 1 308",
@@ -147,7 +147,7 @@ const REFUSED: &[Row] = &[
     ),
     (
         &[
-            ("T", "<!--Ã¤--><XDF version=\"1\" name=\"T\"><Port kind=\"Input\" name=\"In\"><Type name=\"uint\"><Entry kind=\"Expr\" name=\"size\"><Expr kind=\"Literal\" literal-kind=\"Integer\" value=\"8\"/></Entry></Type></Port><Decl kind=\"Variable\" name=\"v\"><Type name=\"float\"/><Expr kind=\"Literal\" literal-kind=\"Integer\" value=\"1\"/></Decl><Port kind=\"Output\" name=\"Out\"><Type name=\"uint\"><Entry kind=\"Expr\" name=\"size\">\t<Expr kind=\"Literal\" literal-kind=\"Integer\" value=\"8\"/></Entry></Type></Port></XDF>"),
+            ("T", "<!--ä--><XDF version=\"1\" name=\"T\"><Port kind=\"Input\" name=\"In\"><Type name=\"uint\"><Entry kind=\"Expr\" name=\"size\"><Expr kind=\"Literal\" literal-kind=\"Integer\" value=\"8\"/></Entry></Type></Port><Decl kind=\"Variable\" name=\"v\"><Type name=\"float\"/><Expr kind=\"Literal\" literal-kind=\"Integer\" value=\"1\"/></Decl><Port kind=\"Output\" name=\"Out\"><Type name=\"uint\"><Entry kind=\"Expr\" name=\"size\">\t<Expr kind=\"Literal\" literal-kind=\"Integer\" value=\"8\"/></Entry></Type></Port></XDF>"),
         ],
         &[],
         "T3 1 221",
@@ -168,7 +168,7 @@ const REFUSED: &[Row] = &[
     ),
     (
         &[
-            ("T", "<!--Ã¤--><XDF version=\"1\" name=\"T\"><Port kind=\"Input\" name=\"In\"><Type name=\"uint\"><Entry kind=\"Expr\" name=\"size\"><Expr kind=\"Literal\" literal-kind=\"Integer\" value=\"8\"/></Entry>\n</Type></Port><Port kind=\"Input\" name=\"X\">\t<Type name=\"List\"><Entry kind=\"Type\" name=\"type\"><Type name=\"int\"/></Entry><Entry kind=\"Expr\" name=\"size\"><Expr kind=\"Literal\" literal-kind=\"Integer\" value=\"3\"/></Entry>\n</Type></Port><Port kind=\"Output\" name=\"Out\"><Type name=\"uint\"><Entry kind=\"Expr\" name=\"size\">\t<Expr kind=\"Literal\" literal-kind=\"Integer\" value=\"8\"/> <!----> </Entry></Type><!-- c --></Port></XDF>"),
+            ("T", "<!--ä--><XDF version=\"1\" name=\"T\"><Port kind=\"Input\" name=\"In\"><Type name=\"uint\"><Entry kind=\"Expr\" name=\"size\"><Expr kind=\"Literal\" literal-kind=\"Integer\" value=\"8\"/></Entry>\n</Type></Port><Port kind=\"Input\" name=\"X\">\t<Type name=\"List\"><Entry kind=\"Type\" name=\"type\"><Type name=\"int\"/></Entry><Entry kind=\"Expr\" name=\"size\"><Expr kind=\"Literal\" literal-kind=\"Integer\" value=\"3\"/></Entry>\n</Type></Port><Port kind=\"Output\" name=\"Out\"><Type name=\"uint\"><Entry kind=\"Expr\" name=\"size\">\t<Expr kind=\"Literal\" literal-kind=\"Integer\" value=\"8\"/> <!----> </Entry></Type><!-- c --></Port></XDF>"),
         ],
         &[],
         "T8 1 220",
