@@ -20,3 +20,5 @@ mod refusals;
 mod scopes;
 #[cfg(test)]
 mod told;
+#[cfg(test)]
+mod unfit_values;

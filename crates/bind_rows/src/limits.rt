@@ -22,14 +22,20 @@ enum Part {
 
 fn add_ports(text: &mut String, kind: &str, count: u32) -> Result<(), AllocError> {
     for k in 0..count {
-        write!(text, "<Port kind='{kind}' name='p{kind}{k}'><Type name='bool'/></Port>")?;
+        write!(
+            text,
+            "<Port kind='{kind}' name='p{kind}{k}'><Type name='bool'/></Port>"
+        )?;
     }
     Ok(())
 }
 
 fn add_instances(text: &mut String, class: &str, count: u32) -> Result<(), AllocError> {
     for k in 0..count {
-        write!(text, "<Instance id='{class}{k}'><Class name='{class}'/></Instance>")?;
+        write!(
+            text,
+            "<Instance id='{class}{k}'><Class name='{class}'/></Instance>"
+        )?;
     }
     Ok(())
 }
@@ -42,7 +48,10 @@ fn add_connections(
 ) -> Result<(), AllocError> {
     for k in 0..instances {
         for i in 0..inputs {
-            write!(text, "<Connection src='' src-port='In' dst='A{k}' dst-port='I{i}'>{size}</Connection>")?;
+            write!(
+                text,
+                "<Connection src='' src-port='In' dst='A{k}' dst-port='I{i}'>{size}</Connection>"
+            )?;
         }
     }
     Ok(())
@@ -112,7 +121,8 @@ const OUTPUT: Part = Part::Text(
     "<Port kind='Output' name='Out'><Type name='bool'/></Port><Connection src='A0' src-port='O' dst='' dst-port='Out'/>",
 );
 
-const MOST: &str = "<Attribute name='bufferSize'><Expr kind='Literal' literal-kind='Integer' value='1048576'/></Attribute>";
+const MOST: &str =
+    "<Attribute name='bufferSize'><Expr kind='Literal' literal-kind='Integer' value='1048576'/></Attribute>";
 
 /// A network of two actors.
 const TWO: (&str, &str) = (
@@ -141,11 +151,36 @@ fn instances(rt: HostRuntime) -> Result<(), Fail> {
 /// An instance counts before those inside it.
 const INSTANCES: &[Row] = &[
     (&[Part::Instances(1024, "A")], &[], &[], "whole"),
-    (&[Part::Instances(1025, "A")], &[], &[], "Z7 at the last instance"),
-    (&[Part::Instances(341, "M"), Part::Instances(1, "A")], &[TWO], &[], "whole"),
-    (&[Part::Instances(341, "M"), Part::Instances(2, "A")], &[TWO], &[], "Z7 at the last instance"),
-    (&[Part::Instances(1, "A"), Part::Instances(341, "M")], &[TWO], &[], "whole"),
-    (&[Part::Instances(2, "A"), Part::Instances(341, "M")], &[TWO], &[], "Z7 2 59"),
+    (
+        &[Part::Instances(1025, "A")],
+        &[],
+        &[],
+        "Z7 at the last instance",
+    ),
+    (
+        &[Part::Instances(341, "M"), Part::Instances(1, "A")],
+        &[TWO],
+        &[],
+        "whole",
+    ),
+    (
+        &[Part::Instances(341, "M"), Part::Instances(2, "A")],
+        &[TWO],
+        &[],
+        "Z7 at the last instance",
+    ),
+    (
+        &[Part::Instances(1, "A"), Part::Instances(341, "M")],
+        &[TWO],
+        &[],
+        "whole",
+    ),
+    (
+        &[Part::Instances(2, "A"), Part::Instances(341, "M")],
+        &[TWO],
+        &[],
+        "Z7 2 59",
+    ),
 ];
 
 #[test]
@@ -155,13 +190,22 @@ fn links(rt: HostRuntime) -> Result<(), Fail> {
 
 const LINKS: &[Row] = &[
     (
-        &[INPUT, Part::Instances(1024, "A"), Part::Connections(1024, 4, "")],
+        &[
+            INPUT,
+            Part::Instances(1024, "A"),
+            Part::Connections(1024, 4, ""),
+        ],
         &[],
         &[FOUR],
         "whole",
     ),
     (
-        &[INPUT, Part::Instances(1024, "A"), Part::Connections(1024, 4, ""), OUTPUT],
+        &[
+            INPUT,
+            Part::Instances(1024, "A"),
+            Part::Connections(1024, 4, ""),
+            OUTPUT,
+        ],
         &[],
         &[FOUR],
         "Z8 1 0",
@@ -175,13 +219,22 @@ fn capacities(rt: HostRuntime) -> Result<(), Fail> {
 
 const CAPACITIES: &[Row] = &[
     (
-        &[INPUT, Part::Instances(4, "A"), Part::Connections(4, 4, MOST)],
+        &[
+            INPUT,
+            Part::Instances(4, "A"),
+            Part::Connections(4, 4, MOST),
+        ],
         &[],
         &[FOUR],
         "whole",
     ),
     (
-        &[INPUT, Part::Instances(4, "A"), Part::Connections(4, 4, MOST), OUTPUT],
+        &[
+            INPUT,
+            Part::Instances(4, "A"),
+            Part::Connections(4, 4, MOST),
+            OUTPUT,
+        ],
         &[],
         &[FOUR],
         "Z9 1 0",

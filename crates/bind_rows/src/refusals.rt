@@ -10,37 +10,23 @@ fn texts(rt: HostRuntime) -> Result<(), Fail> {
 
 /// Texts that are no networks.
 const TEXTS: &[Row] = &[
+    (&[("T", "<XDF name=\"T\"><Port ki")], &[], "F1 1 22"),
+    (&[("T", "<XDF name=\"T\"><Foo/></XDF>")], &[], "F2 1 14"),
+    (&[("T", "<XDF></XDF>")], &[], "F3 1 0"),
     (
-        &[
-            ("T", "<XDF name=\"T\"><Port ki"),
-        ],
-        &[],
-        "F1 1 22",
-    ),
-    (
-        &[
-            ("T", "<XDF name=\"T\"><Foo/></XDF>"),
-        ],
-        &[],
-        "F2 1 14",
-    ),
-    (
-        &[
-            ("T", "<XDF></XDF>"),
-        ],
-        &[],
-        "F3 1 0",
-    ),
-    (
-        &[
-            ("T", "<?xml version=\"1.0\" encoding=\"latin-1\"?><XDF name=\"T\"></XDF>"),
-        ],
+        &[(
+            "T",
+            "<?xml version=\"1.0\" encoding=\"latin-1\"?><XDF name=\"T\"></XDF>",
+        )],
         &[],
         "F4 1 0",
     ),
     (
         &[
-            ("T", "<XDF name='T'><Instance id='m'><Class name='M'/></Instance></XDF>"),
+            (
+                "T",
+                "<XDF name='T'><Instance id='m'><Class name='M'/></Instance></XDF>",
+            ),
             ("M", "<XDF name='M'><Port kind='In' name='x'/></XDF>"),
         ],
         &[],
@@ -58,8 +44,14 @@ const PARAMETERS: &[Row] = &[
     // unknown
     (
         &[
-            ("T", "<XDF name='T'><Instance id='m'><Class name='M'/><Parameter name='p'><Expr kind='Literal' literal-kind='Integer' value='1'/></Parameter><Parameter name='q'><Expr kind='Literal' literal-kind='Integer' value='1'/></Parameter></Instance></XDF>"),
-            ("M", "<XDF name='M'><Decl kind='Param' name='p'><Type name='int'/></Decl></XDF>"),
+            (
+                "T",
+                "<XDF name='T'><Instance id='m'><Class name='M'/><Parameter name='p'><Expr kind='Literal' literal-kind='Integer' value='1'/></Parameter><Parameter name='q'><Expr kind='Literal' literal-kind='Integer' value='1'/></Parameter></Instance></XDF>",
+            ),
+            (
+                "M",
+                "<XDF name='M'><Decl kind='Param' name='p'><Type name='int'/></Decl></XDF>",
+            ),
         ],
         &[],
         "N2 1 135",
@@ -67,8 +59,14 @@ const PARAMETERS: &[Row] = &[
     // given twice
     (
         &[
-            ("T", "<XDF name='T'><Instance id='m'><Class name='M'/><Parameter name='p'><Expr kind='Literal' literal-kind='Integer' value='1'/></Parameter><Parameter name='p'><Expr kind='Literal' literal-kind='Integer' value='2'/></Parameter></Instance></XDF>"),
-            ("M", "<XDF name='M'><Decl kind='Param' name='p'><Type name='int'/></Decl></XDF>"),
+            (
+                "T",
+                "<XDF name='T'><Instance id='m'><Class name='M'/><Parameter name='p'><Expr kind='Literal' literal-kind='Integer' value='1'/></Parameter><Parameter name='p'><Expr kind='Literal' literal-kind='Integer' value='2'/></Parameter></Instance></XDF>",
+            ),
+            (
+                "M",
+                "<XDF name='M'><Decl kind='Param' name='p'><Type name='int'/></Decl></XDF>",
+            ),
         ],
         &[],
         "N2 1 135",
@@ -76,8 +74,14 @@ const PARAMETERS: &[Row] = &[
     // a variable
     (
         &[
-            ("T", "<XDF name='T'><Instance id='m'><Class name='M'/><Parameter name='v'><Expr kind='Literal' literal-kind='Integer' value='1'/></Parameter></Instance></XDF>"),
-            ("M", "<XDF name='M'><Decl kind='Variable' name='v'><Type name='int'/><Expr kind='Literal' literal-kind='Integer' value='1'/></Decl></XDF>"),
+            (
+                "T",
+                "<XDF name='T'><Instance id='m'><Class name='M'/><Parameter name='v'><Expr kind='Literal' literal-kind='Integer' value='1'/></Parameter></Instance></XDF>",
+            ),
+            (
+                "M",
+                "<XDF name='M'><Decl kind='Variable' name='v'><Type name='int'/><Expr kind='Literal' literal-kind='Integer' value='1'/></Decl></XDF>",
+            ),
         ],
         &[],
         "N2 1 48",
@@ -85,8 +89,14 @@ const PARAMETERS: &[Row] = &[
     // neither value nor default
     (
         &[
-            ("T", "<XDF name='T'><Instance id='a'><Class name='A'/></Instance><Instance id='m'><Class name='M'/></Instance></XDF>"),
-            ("M", "<XDF name='M'><Decl kind='Param' name='p'><Type name='int'/></Decl></XDF>"),
+            (
+                "T",
+                "<XDF name='T'><Instance id='a'><Class name='A'/></Instance><Instance id='m'><Class name='M'/></Instance></XDF>",
+            ),
+            (
+                "M",
+                "<XDF name='M'><Decl kind='Param' name='p'><Type name='int'/></Decl></XDF>",
+            ),
         ],
         &[],
         "N2 1 59",
@@ -94,18 +104,28 @@ const PARAMETERS: &[Row] = &[
     // .. inside another
     (
         &[
-            ("T", "<XDF name='T'><Instance id='m'><Class name='M'/></Instance></XDF>"),
-            ("M", "<XDF name='M'><Instance id='n'><Class name='N'/></Instance></XDF>"),
-            ("N", "<XDF name='N'><Decl kind='Param' name='p'><Type name='int'/></Decl></XDF>"),
+            (
+                "T",
+                "<XDF name='T'><Instance id='m'><Class name='M'/></Instance></XDF>",
+            ),
+            (
+                "M",
+                "<XDF name='M'><Instance id='n'><Class name='N'/></Instance></XDF>",
+            ),
+            (
+                "N",
+                "<XDF name='N'><Decl kind='Param' name='p'><Type name='int'/></Decl></XDF>",
+            ),
         ],
         &[],
         "N2 2 14",
     ),
     // .. of the top
     (
-        &[
-            ("T", "<XDF name='T'><Decl kind='Param' name='p'><Type name='int'/></Decl></XDF>"),
-        ],
+        &[(
+            "T",
+            "<XDF name='T'><Decl kind='Param' name='p'><Type name='int'/></Decl></XDF>",
+        )],
         &[],
         "N2 0 0",
     ),
@@ -119,18 +139,28 @@ fn circles(rt: HostRuntime) -> Result<(), Fail> {
 /// Networks inside themselves.
 const CIRCLES: &[Row] = &[
     (
-        &[
-            ("Self", "<XDF name=\"Self\"><Instance id=\"a\"><Class name=\"Self\"/></Instance></XDF>"),
-        ],
+        &[(
+            "Self",
+            "<XDF name=\"Self\"><Instance id=\"a\"><Class name=\"Self\"/></Instance></XDF>",
+        )],
         &[],
         "N3 1 34",
     ),
     // a circle of three
     (
         &[
-            ("T", "<XDF name='T'><Instance id='a'><Class name='A'/></Instance></XDF>"),
-            ("A", "<XDF name='A'><Instance id='x'><Class name='X'/></Instance><Instance id='b'><Class name='B'/></Instance></XDF>"),
-            ("B", "<XDF name='B'><Instance id='t'><Class name='T'/></Instance></XDF>"),
+            (
+                "T",
+                "<XDF name='T'><Instance id='a'><Class name='A'/></Instance></XDF>",
+            ),
+            (
+                "A",
+                "<XDF name='A'><Instance id='x'><Class name='X'/></Instance><Instance id='b'><Class name='B'/></Instance></XDF>",
+            ),
+            (
+                "B",
+                "<XDF name='B'><Instance id='t'><Class name='T'/></Instance></XDF>",
+            ),
         ],
         &[],
         "N3 3 31",
@@ -138,9 +168,18 @@ const CIRCLES: &[Row] = &[
     // one without the top
     (
         &[
-            ("T", "<XDF name='T'><Instance id='a'><Class name='A'/></Instance></XDF>"),
-            ("A", "<XDF name='A'><Instance id='b'><Class name='B'/></Instance></XDF>"),
-            ("B", "<XDF name='B'><Instance id='x'><Class name='X'/></Instance><Instance id='a'><Class name='A'/></Instance></XDF>"),
+            (
+                "T",
+                "<XDF name='T'><Instance id='a'><Class name='A'/></Instance></XDF>",
+            ),
+            (
+                "A",
+                "<XDF name='A'><Instance id='b'><Class name='B'/></Instance></XDF>",
+            ),
+            (
+                "B",
+                "<XDF name='B'><Instance id='x'><Class name='X'/></Instance><Instance id='a'><Class name='A'/></Instance></XDF>",
+            ),
         ],
         &[],
         "N3 3 76",
@@ -148,9 +187,18 @@ const CIRCLES: &[Row] = &[
     // one network in itself, inside another
     (
         &[
-            ("T", "<XDF name='T'><Instance id='a'><Class name='A'/></Instance><Instance id='b'><Class name='A'/></Instance></XDF>"),
-            ("A", "<XDF name='A'><Instance id='b'><Class name='B'/></Instance><Instance id='a'><Class name='A'/></Instance></XDF>"),
-            ("B", "<XDF name='B'><Instance id='x'><Class name='X'/></Instance></XDF>"),
+            (
+                "T",
+                "<XDF name='T'><Instance id='a'><Class name='A'/></Instance><Instance id='b'><Class name='A'/></Instance></XDF>",
+            ),
+            (
+                "A",
+                "<XDF name='A'><Instance id='b'><Class name='B'/></Instance><Instance id='a'><Class name='A'/></Instance></XDF>",
+            ),
+            (
+                "B",
+                "<XDF name='B'><Instance id='x'><Class name='X'/></Instance></XDF>",
+            ),
         ],
         &[],
         "N3 2 76",
@@ -166,25 +214,33 @@ fn writers(rt: HostRuntime) -> Result<(), Fail> {
 const WRITERS: &[Row] = &[
     // of an actor
     (
-        &[
-            ("T", "<XDF name='T'><Port kind='Input' name='In'><Type name='bool'/></Port><Instance id='a'><Class name='A'/></Instance><Connection src='' src-port='In' dst='a' dst-port='In'/><Connection src='a' src-port='Out' dst='a' dst-port='In'/></XDF>"),
-        ],
+        &[(
+            "T",
+            "<XDF name='T'><Port kind='Input' name='In'><Type name='bool'/></Port><Instance id='a'><Class name='A'/></Instance><Connection src='' src-port='In' dst='a' dst-port='In'/><Connection src='a' src-port='Out' dst='a' dst-port='In'/></XDF>",
+        )],
         &[("A", "In:bool ; Out:bool")],
         "N4 1 170",
     ),
     // of the network's own output
     (
-        &[
-            ("T", "<XDF name='T'><Port kind='Output' name='Out'><Type name='bool'/></Port><Instance id='a'><Class name='A'/></Instance><Instance id='b'><Class name='A'/></Instance><Connection src='a' src-port='Out' dst='' dst-port='Out'/><Connection src='b' src-port='Out' dst='' dst-port='Out'/></XDF>"),
-        ],
+        &[(
+            "T",
+            "<XDF name='T'><Port kind='Output' name='Out'><Type name='bool'/></Port><Instance id='a'><Class name='A'/></Instance><Instance id='b'><Class name='A'/></Instance><Connection src='a' src-port='Out' dst='' dst-port='Out'/><Connection src='b' src-port='Out' dst='' dst-port='Out'/></XDF>",
+        )],
         &[("A", "In:bool ; Out:bool")],
         "N4 1 219",
     ),
     // of an inner network
     (
         &[
-            ("T", "<XDF name='T'><Port kind='Input' name='In'><Type name='bool'/></Port><Instance id='a'><Class name='A'/></Instance><Instance id='m'><Class name='M'/></Instance><Connection src='' src-port='In' dst='m' dst-port='In'/><Connection src='a' src-port='Out' dst='m' dst-port='In'/></XDF>"),
-            ("M", "<XDF name='M'><Port kind='Input' name='In'><Type name='bool'/></Port><Instance id='b'><Class name='A'/></Instance><Connection src='' src-port='In' dst='b' dst-port='In'/></XDF>"),
+            (
+                "T",
+                "<XDF name='T'><Port kind='Input' name='In'><Type name='bool'/></Port><Instance id='a'><Class name='A'/></Instance><Instance id='m'><Class name='M'/></Instance><Connection src='' src-port='In' dst='m' dst-port='In'/><Connection src='a' src-port='Out' dst='m' dst-port='In'/></XDF>",
+            ),
+            (
+                "M",
+                "<XDF name='M'><Port kind='Input' name='In'><Type name='bool'/></Port><Instance id='b'><Class name='A'/></Instance><Connection src='' src-port='In' dst='b' dst-port='In'/></XDF>",
+            ),
         ],
         &[("A", "In:bool ; Out:bool")],
         "N4 1 215",
@@ -192,8 +248,14 @@ const WRITERS: &[Row] = &[
     // the same writer, inside
     (
         &[
-            ("T", "<XDF name='T'><Port kind='Input' name='In'><Type name='bool'/></Port><Instance id='m'><Class name='M'/></Instance><Connection src='' src-port='In' dst='m' dst-port='In'/></XDF>"),
-            ("M", "<XDF name='M'><Port kind='Input' name='In'><Type name='bool'/></Port><Port kind='Output' name='Out'><Type name='bool'/></Port><Instance id='b'><Class name='A'/></Instance><Connection src='' src-port='In' dst='b' dst-port='In'/><Connection src='b' src-port='Out' dst='' dst-port='Out'/><Connection src='b' src-port='Out' dst='' dst-port='Out'/></XDF>"),
+            (
+                "T",
+                "<XDF name='T'><Port kind='Input' name='In'><Type name='bool'/></Port><Instance id='m'><Class name='M'/></Instance><Connection src='' src-port='In' dst='m' dst-port='In'/></XDF>",
+            ),
+            (
+                "M",
+                "<XDF name='M'><Port kind='Input' name='In'><Type name='bool'/></Port><Port kind='Output' name='Out'><Type name='bool'/></Port><Instance id='b'><Class name='A'/></Instance><Connection src='' src-port='In' dst='b' dst-port='In'/><Connection src='b' src-port='Out' dst='' dst-port='Out'/><Connection src='b' src-port='Out' dst='' dst-port='Out'/></XDF>",
+            ),
         ],
         &[("A", "In:bool ; Out:bool")],
         "N4 2 285",
@@ -209,98 +271,126 @@ fn ends(rt: HostRuntime) -> Result<(), Fail> {
 const ENDS: &[Row] = &[
     // no such instance
     (
-        &[
-            ("T", "<XDF name='T'><Port kind='Input' name='In'><Type name='bool'/></Port><Instance id='a'><Class name='A'/></Instance><Connection src='' src-port='In' dst='b' dst-port='In'/></XDF>"),
-        ],
+        &[(
+            "T",
+            "<XDF name='T'><Port kind='Input' name='In'><Type name='bool'/></Port><Instance id='a'><Class name='A'/></Instance><Connection src='' src-port='In' dst='b' dst-port='In'/></XDF>",
+        )],
         &[("A", "In:bool ; Out:bool")],
         "N5 1 114",
     ),
     (
-        &[
-            ("T", "<XDF name='T'><Instance id='a'><Class name='A'/></Instance><Connection src='b' src-port='Out' dst='a' dst-port='In'/></XDF>"),
-        ],
+        &[(
+            "T",
+            "<XDF name='T'><Instance id='a'><Class name='A'/></Instance><Connection src='b' src-port='Out' dst='a' dst-port='In'/></XDF>",
+        )],
         &[("A", "In:bool ; Out:bool")],
         "N5 1 59",
     ),
     // no such port of an actor
     (
-        &[
-            ("T", "<XDF name='T'><Port kind='Input' name='In'><Type name='bool'/></Port><Instance id='a'><Class name='A'/></Instance><Connection src='' src-port='In' dst='a' dst-port='Inn'/></XDF>"),
-        ],
+        &[(
+            "T",
+            "<XDF name='T'><Port kind='Input' name='In'><Type name='bool'/></Port><Instance id='a'><Class name='A'/></Instance><Connection src='' src-port='In' dst='a' dst-port='Inn'/></XDF>",
+        )],
         &[("A", "In:bool ; Out:bool")],
         "N5 1 114",
     ),
     (
-        &[
-            ("T", "<XDF name='T'><Port kind='Output' name='Out'><Type name='bool'/></Port><Instance id='a'><Class name='A'/></Instance><Connection src='a' src-port='Outt' dst='' dst-port='Out'/></XDF>"),
-        ],
+        &[(
+            "T",
+            "<XDF name='T'><Port kind='Output' name='Out'><Type name='bool'/></Port><Instance id='a'><Class name='A'/></Instance><Connection src='a' src-port='Outt' dst='' dst-port='Out'/></XDF>",
+        )],
         &[("A", "In:bool ; Out:bool")],
         "N5 1 116",
     ),
     // no such port of a network
     (
         &[
-            ("T", "<XDF name='T'><Port kind='Input' name='In'><Type name='bool'/></Port><Instance id='m'><Class name='M'/></Instance><Connection src='' src-port='In' dst='m' dst-port='Inn'/></XDF>"),
-            ("M", "<XDF name='M'><Port kind='Input' name='In'><Type name='bool'/></Port></XDF>"),
+            (
+                "T",
+                "<XDF name='T'><Port kind='Input' name='In'><Type name='bool'/></Port><Instance id='m'><Class name='M'/></Instance><Connection src='' src-port='In' dst='m' dst-port='Inn'/></XDF>",
+            ),
+            (
+                "M",
+                "<XDF name='M'><Port kind='Input' name='In'><Type name='bool'/></Port></XDF>",
+            ),
         ],
         &[("A", "In:bool ; Out:bool")],
         "N5 1 114",
     ),
     (
-        &[
-            ("T", "<XDF name='T'><Instance id='a'><Class name='A'/></Instance><Connection src='' src-port='In' dst='a' dst-port='In'/></XDF>"),
-        ],
+        &[(
+            "T",
+            "<XDF name='T'><Instance id='a'><Class name='A'/></Instance><Connection src='' src-port='In' dst='a' dst-port='In'/></XDF>",
+        )],
         &[("A", "In:bool ; Out:bool")],
         "N5 1 59",
     ),
     (
-        &[
-            ("T", "<XDF name='T'><Instance id='a'><Class name='A'/></Instance><Connection src='a' src-port='Out' dst='' dst-port='Out'/></XDF>"),
-        ],
+        &[(
+            "T",
+            "<XDF name='T'><Instance id='a'><Class name='A'/></Instance><Connection src='a' src-port='Out' dst='' dst-port='Out'/></XDF>",
+        )],
         &[("A", "In:bool ; Out:bool")],
         "N5 1 59",
     ),
     // of the wrong direction
     (
-        &[
-            ("T", "<XDF name='T'><Port kind='Input' name='In'><Type name='bool'/></Port><Instance id='a'><Class name='A'/></Instance><Connection src='' src-port='In' dst='a' dst-port='Out'/></XDF>"),
-        ],
+        &[(
+            "T",
+            "<XDF name='T'><Port kind='Input' name='In'><Type name='bool'/></Port><Instance id='a'><Class name='A'/></Instance><Connection src='' src-port='In' dst='a' dst-port='Out'/></XDF>",
+        )],
         &[("A", "In:bool ; Out:bool")],
         "N5 1 114",
     ),
     (
-        &[
-            ("T", "<XDF name='T'><Port kind='Output' name='Out'><Type name='bool'/></Port><Instance id='a'><Class name='A'/></Instance><Connection src='a' src-port='In' dst='' dst-port='Out'/></XDF>"),
-        ],
+        &[(
+            "T",
+            "<XDF name='T'><Port kind='Output' name='Out'><Type name='bool'/></Port><Instance id='a'><Class name='A'/></Instance><Connection src='a' src-port='In' dst='' dst-port='Out'/></XDF>",
+        )],
+        &[("A", "In:bool ; Out:bool")],
+        "N5 1 116",
+    ),
+    (
+        &[(
+            "T",
+            "<XDF name='T'><Port kind='Input' name='In'><Type name='bool'/></Port><Instance id='a'><Class name='A'/></Instance><Connection src='a' src-port='Out' dst='' dst-port='In'/></XDF>",
+        )],
+        &[("A", "In:bool ; Out:bool")],
+        "N5 1 114",
+    ),
+    (
+        &[(
+            "T",
+            "<XDF name='T'><Port kind='Output' name='Out'><Type name='bool'/></Port><Instance id='a'><Class name='A'/></Instance><Connection src='' src-port='Out' dst='a' dst-port='In'/></XDF>",
+        )],
         &[("A", "In:bool ; Out:bool")],
         "N5 1 116",
     ),
     (
         &[
-            ("T", "<XDF name='T'><Port kind='Input' name='In'><Type name='bool'/></Port><Instance id='a'><Class name='A'/></Instance><Connection src='a' src-port='Out' dst='' dst-port='In'/></XDF>"),
+            (
+                "T",
+                "<XDF name='T'><Port kind='Input' name='In'><Type name='bool'/></Port><Instance id='m'><Class name='M'/></Instance><Connection src='' src-port='In' dst='m' dst-port='Out'/></XDF>",
+            ),
+            (
+                "M",
+                "<XDF name='M'><Port kind='Output' name='Out'><Type name='bool'/></Port></XDF>",
+            ),
         ],
         &[("A", "In:bool ; Out:bool")],
         "N5 1 114",
     ),
     (
         &[
-            ("T", "<XDF name='T'><Port kind='Output' name='Out'><Type name='bool'/></Port><Instance id='a'><Class name='A'/></Instance><Connection src='' src-port='Out' dst='a' dst-port='In'/></XDF>"),
-        ],
-        &[("A", "In:bool ; Out:bool")],
-        "N5 1 116",
-    ),
-    (
-        &[
-            ("T", "<XDF name='T'><Port kind='Input' name='In'><Type name='bool'/></Port><Instance id='m'><Class name='M'/></Instance><Connection src='' src-port='In' dst='m' dst-port='Out'/></XDF>"),
-            ("M", "<XDF name='M'><Port kind='Output' name='Out'><Type name='bool'/></Port></XDF>"),
-        ],
-        &[("A", "In:bool ; Out:bool")],
-        "N5 1 114",
-    ),
-    (
-        &[
-            ("T", "<XDF name='T'><Port kind='Output' name='Out'><Type name='bool'/></Port><Instance id='m'><Class name='M'/></Instance><Connection src='m' src-port='In' dst='' dst-port='Out'/></XDF>"),
-            ("M", "<XDF name='M'><Port kind='Input' name='In'><Type name='bool'/></Port></XDF>"),
+            (
+                "T",
+                "<XDF name='T'><Port kind='Output' name='Out'><Type name='bool'/></Port><Instance id='m'><Class name='M'/></Instance><Connection src='m' src-port='In' dst='' dst-port='Out'/></XDF>",
+            ),
+            (
+                "M",
+                "<XDF name='M'><Port kind='Input' name='In'><Type name='bool'/></Port></XDF>",
+            ),
         ],
         &[("A", "In:bool ; Out:bool")],
         "N5 1 116",
@@ -315,38 +405,53 @@ fn kinds(rt: HostRuntime) -> Result<(), Fail> {
 /// Truth values and numbers.
 const KINDS: &[Row] = &[
     (
-        &[
-            ("T", "<XDF name='T'><Port kind='Input' name='In'><Type name='uint'/></Port><Instance id='a'><Class name='A'/></Instance><Connection src='' src-port='In' dst='a' dst-port='In'/></XDF>"),
-        ],
+        &[(
+            "T",
+            "<XDF name='T'><Port kind='Input' name='In'><Type name='uint'/></Port><Instance id='a'><Class name='A'/></Instance><Connection src='' src-port='In' dst='a' dst-port='In'/></XDF>",
+        )],
         &[("A", "In:bool ; Out:bool")],
         "N6 1 114",
     ),
     (
-        &[
-            ("T", "<XDF name='T'><Port kind='Output' name='Out'><Type name='uint'><Entry kind='Expr' name='size'><Expr kind='Literal' literal-kind='Integer' value='8'/></Entry></Type></Port><Instance id='a'><Class name='A'/></Instance><Connection src='a' src-port='Out' dst='' dst-port='Out'/></XDF>"),
-        ],
+        &[(
+            "T",
+            "<XDF name='T'><Port kind='Output' name='Out'><Type name='uint'><Entry kind='Expr' name='size'><Expr kind='Literal' literal-kind='Integer' value='8'/></Entry></Type></Port><Instance id='a'><Class name='A'/></Instance><Connection src='a' src-port='Out' dst='' dst-port='Out'/></XDF>",
+        )],
         &[("A", "In:bool ; Out:bool")],
         "N6 1 216",
     ),
     (
-        &[
-            ("T", "<XDF name='T'><Instance id='a'><Class name='A'/></Instance><Instance id='b'><Class name='B'/></Instance><Connection src='a' src-port='Out' dst='b' dst-port='In'/></XDF>"),
-        ],
+        &[(
+            "T",
+            "<XDF name='T'><Instance id='a'><Class name='A'/></Instance><Instance id='b'><Class name='B'/></Instance><Connection src='a' src-port='Out' dst='b' dst-port='In'/></XDF>",
+        )],
         &[("A", "In:bool ; Out:bool"), ("B", "In:u8 ; Out:u8")],
         "N6 1 104",
     ),
     (
         &[
-            ("T", "<XDF name='T'><Port kind='Input' name='In'><Type name='int'/></Port><Instance id='m'><Class name='M'/></Instance><Connection src='' src-port='In' dst='m' dst-port='In'/></XDF>"),
-            ("M", "<XDF name='M'><Port kind='Input' name='In'><Type name='bool'/></Port><Instance id='a'><Class name='A'/></Instance><Connection src='' src-port='In' dst='a' dst-port='In'/></XDF>"),
+            (
+                "T",
+                "<XDF name='T'><Port kind='Input' name='In'><Type name='int'/></Port><Instance id='m'><Class name='M'/></Instance><Connection src='' src-port='In' dst='m' dst-port='In'/></XDF>",
+            ),
+            (
+                "M",
+                "<XDF name='M'><Port kind='Input' name='In'><Type name='bool'/></Port><Instance id='a'><Class name='A'/></Instance><Connection src='' src-port='In' dst='a' dst-port='In'/></XDF>",
+            ),
         ],
         &[("A", "In:bool ; Out:bool")],
         "N6 1 113",
     ),
     (
         &[
-            ("T", "<XDF name='T'><Port kind='Input' name='In'><Type name='int'/></Port><Instance id='m'><Class name='M'/></Instance><Connection src='' src-port='In' dst='m' dst-port='In'/></XDF>"),
-            ("M", "<XDF name='M'><Port kind='Input' name='In'><Type name='int'/></Port><Instance id='a'><Class name='A'/></Instance><Connection src='' src-port='In' dst='a' dst-port='In'/></XDF>"),
+            (
+                "T",
+                "<XDF name='T'><Port kind='Input' name='In'><Type name='int'/></Port><Instance id='m'><Class name='M'/></Instance><Connection src='' src-port='In' dst='m' dst-port='In'/></XDF>",
+            ),
+            (
+                "M",
+                "<XDF name='M'><Port kind='Input' name='In'><Type name='int'/></Port><Instance id='a'><Class name='A'/></Instance><Connection src='' src-port='In' dst='a' dst-port='In'/></XDF>",
+            ),
         ],
         &[("A", "In:bool ; Out:bool")],
         "N6 2 113",
@@ -361,17 +466,24 @@ fn straight(rt: HostRuntime) -> Result<(), Fail> {
 /// Inputs passed straight to outputs.
 const STRAIGHT: &[Row] = &[
     (
-        &[
-            ("T", "<XDF name='T'><Port kind='Input' name='In'><Type name='bool'/></Port><Port kind='Output' name='Out'><Type name='bool'/></Port><Connection src='' src-port='In' dst='' dst-port='Out'/></XDF>"),
-        ],
+        &[(
+            "T",
+            "<XDF name='T'><Port kind='Input' name='In'><Type name='bool'/></Port><Port kind='Output' name='Out'><Type name='bool'/></Port><Connection src='' src-port='In' dst='' dst-port='Out'/></XDF>",
+        )],
         &[],
         "N7 1 126",
     ),
     // in an inner network
     (
         &[
-            ("T", "<XDF name='T'><Port kind='Input' name='In'><Type name='bool'/></Port><Port kind='Output' name='Out'><Type name='bool'/></Port><Instance id='m'><Class name='M'/></Instance><Connection src='' src-port='In' dst='m' dst-port='In'/><Connection src='m' src-port='Out' dst='' dst-port='Out'/></XDF>"),
-            ("M", "<XDF name='M'><Port kind='Input' name='In'><Type name='bool'/></Port><Port kind='Output' name='Out'><Type name='bool'/></Port><Connection src='' src-port='In' dst='' dst-port='Out'/></XDF>"),
+            (
+                "T",
+                "<XDF name='T'><Port kind='Input' name='In'><Type name='bool'/></Port><Port kind='Output' name='Out'><Type name='bool'/></Port><Instance id='m'><Class name='M'/></Instance><Connection src='' src-port='In' dst='m' dst-port='In'/><Connection src='m' src-port='Out' dst='' dst-port='Out'/></XDF>",
+            ),
+            (
+                "M",
+                "<XDF name='M'><Port kind='Input' name='In'><Type name='bool'/></Port><Port kind='Output' name='Out'><Type name='bool'/></Port><Connection src='' src-port='In' dst='' dst-port='Out'/></XDF>",
+            ),
         ],
         &[],
         "N7 2 126",
@@ -386,53 +498,65 @@ fn twice(rt: HostRuntime) -> Result<(), Fail> {
 /// Names that stand twice.
 const TWICE: &[Row] = &[
     (
-        &[
-            ("T", "<XDF name='T'><Port kind='Input' name='x'><Type name='bool'/></Port><Port kind='Input' name='x'><Type name='bool'/></Port></XDF>"),
-        ],
+        &[(
+            "T",
+            "<XDF name='T'><Port kind='Input' name='x'><Type name='bool'/></Port><Port kind='Input' name='x'><Type name='bool'/></Port></XDF>",
+        )],
         &[],
         "N8 1 68",
     ),
     (
-        &[
-            ("T", "<XDF name='T'><Port kind='Output' name='x'><Type name='bool'/></Port><Port kind='Output' name='x'><Type name='bool'/></Port></XDF>"),
-        ],
+        &[(
+            "T",
+            "<XDF name='T'><Port kind='Output' name='x'><Type name='bool'/></Port><Port kind='Output' name='x'><Type name='bool'/></Port></XDF>",
+        )],
         &[],
         "N8 1 69",
     ),
     // over both directions
     (
-        &[
-            ("T", "<XDF name='T'><Port kind='Input' name='x'><Type name='bool'/></Port><Port kind='Output' name='x'><Type name='bool'/></Port></XDF>"),
-        ],
+        &[(
+            "T",
+            "<XDF name='T'><Port kind='Input' name='x'><Type name='bool'/></Port><Port kind='Output' name='x'><Type name='bool'/></Port></XDF>",
+        )],
         &[],
         "N8 1 68",
     ),
     (
-        &[
-            ("T", "<XDF name='T'><Decl kind='Param' name='x'><Type name='int'/><Expr kind='Literal' literal-kind='Integer' value='1'/></Decl><Decl kind='Variable' name='x'><Type name='int'/><Expr kind='Literal' literal-kind='Integer' value='1'/></Decl></XDF>"),
-        ],
+        &[(
+            "T",
+            "<XDF name='T'><Decl kind='Param' name='x'><Type name='int'/><Expr kind='Literal' literal-kind='Integer' value='1'/></Decl><Decl kind='Variable' name='x'><Type name='int'/><Expr kind='Literal' literal-kind='Integer' value='1'/></Decl></XDF>",
+        )],
         &[],
         "N8 1 122",
     ),
     (
-        &[
-            ("T", "<XDF name='T'><Decl kind='Variable' name='x'><Type name='int'/><Expr kind='Literal' literal-kind='Integer' value='1'/></Decl><Decl kind='Variable' name='x'><Type name='bool'/><Expr kind='Literal' literal-kind='Boolean' value='true'/></Decl></XDF>"),
-        ],
+        &[(
+            "T",
+            "<XDF name='T'><Decl kind='Variable' name='x'><Type name='int'/><Expr kind='Literal' literal-kind='Integer' value='1'/></Decl><Decl kind='Variable' name='x'><Type name='bool'/><Expr kind='Literal' literal-kind='Boolean' value='true'/></Decl></XDF>",
+        )],
         &[],
         "N8 1 125",
     ),
     (
-        &[
-            ("T", "<XDF name='T'><Instance id='x'><Class name='A'/></Instance><Instance id='y'><Class name='A'/></Instance><Instance id='x'><Class name='B'/></Instance></XDF>"),
-        ],
+        &[(
+            "T",
+            "<XDF name='T'><Instance id='x'><Class name='A'/></Instance><Instance id='y'><Class name='A'/></Instance><Instance id='x'><Class name='B'/></Instance></XDF>",
+        )],
         &[],
         "N8 1 104",
     ),
     // in an inner network
     (
         &[
-            ("T", "<XDF name='T'><Instance id='m'><Class name='M'/></Instance></XDF>"),
-            ("M", "<XDF name='M'><Instance id='x'><Class name='A'/></Instance><Instance id='x'><Class name='A'/></Instance></XDF>"),
+            (
+                "T",
+                "<XDF name='T'><Instance id='m'><Class name='M'/></Instance></XDF>",
+            ),
+            (
+                "M",
+                "<XDF name='M'><Instance id='x'><Class name='A'/></Instance><Instance id='x'><Class name='A'/></Instance></XDF>",
+            ),
         ],
         &[],
         "N8 2 59",
@@ -447,277 +571,76 @@ fn sizes(rt: HostRuntime) -> Result<(), Fail> {
 /// Sizes of connections.
 const SIZES: &[Row] = &[
     (
-        &[
-            ("T", "<XDF name='T'><Port kind='Input' name='In'><Type name='bool'/></Port><Instance id='a'><Class name='A'/></Instance><Connection src='' src-port='In' dst='a' dst-port='In'><Attribute name='bufferSize'><Expr kind='Literal' literal-kind='Integer' value='0'/></Attribute></Connection></XDF>"),
-        ],
+        &[(
+            "T",
+            "<XDF name='T'><Port kind='Input' name='In'><Type name='bool'/></Port><Instance id='a'><Class name='A'/></Instance><Connection src='' src-port='In' dst='a' dst-port='In'><Attribute name='bufferSize'><Expr kind='Literal' literal-kind='Integer' value='0'/></Attribute></Connection></XDF>",
+        )],
         &[("A", "In:bool ; Out:bool")],
         "N9 1 169",
     ),
     (
-        &[
-            ("T", "<XDF name='T'><Port kind='Input' name='In'><Type name='bool'/></Port><Instance id='a'><Class name='A'/></Instance><Connection src='' src-port='In' dst='a' dst-port='In'><Attribute name='bufferSize'><Expr kind='Literal' literal-kind='Integer' value='1048577'/></Attribute></Connection></XDF>"),
-        ],
+        &[(
+            "T",
+            "<XDF name='T'><Port kind='Input' name='In'><Type name='bool'/></Port><Instance id='a'><Class name='A'/></Instance><Connection src='' src-port='In' dst='a' dst-port='In'><Attribute name='bufferSize'><Expr kind='Literal' literal-kind='Integer' value='1048577'/></Attribute></Connection></XDF>",
+        )],
         &[("A", "In:bool ; Out:bool")],
         "N9 1 169",
     ),
     (
-        &[
-            ("T", "<XDF name='T'><Port kind='Input' name='In'><Type name='bool'/></Port><Instance id='a'><Class name='A'/></Instance><Connection src='' src-port='In' dst='a' dst-port='In'><Attribute name='bufferSize'><Expr kind='Literal' literal-kind='Integer' value='-1'/></Attribute></Connection></XDF>"),
-        ],
+        &[(
+            "T",
+            "<XDF name='T'><Port kind='Input' name='In'><Type name='bool'/></Port><Instance id='a'><Class name='A'/></Instance><Connection src='' src-port='In' dst='a' dst-port='In'><Attribute name='bufferSize'><Expr kind='Literal' literal-kind='Integer' value='-1'/></Attribute></Connection></XDF>",
+        )],
         &[("A", "In:bool ; Out:bool")],
         "N9 1 169",
     ),
     (
-        &[
-            ("T", "<XDF name='T'><Port kind='Input' name='In'><Type name='bool'/></Port><Instance id='a'><Class name='A'/></Instance><Connection src='' src-port='In' dst='a' dst-port='In'><Attribute name='bufferSize'><Expr kind='Literal' literal-kind='Boolean' value='true'/></Attribute></Connection></XDF>"),
-        ],
+        &[(
+            "T",
+            "<XDF name='T'><Port kind='Input' name='In'><Type name='bool'/></Port><Instance id='a'><Class name='A'/></Instance><Connection src='' src-port='In' dst='a' dst-port='In'><Attribute name='bufferSize'><Expr kind='Literal' literal-kind='Boolean' value='true'/></Attribute></Connection></XDF>",
+        )],
         &[("A", "In:bool ; Out:bool")],
         "N9 1 169",
     ),
     (
-        &[
-            ("T", "<XDF name='T'><Port kind='Input' name='In'><Type name='bool'/></Port><Instance id='a'><Class name='A'/></Instance><Connection src='' src-port='In' dst='a' dst-port='In'><Attribute name='bufferSize'><Expr kind='List'><Expr kind='Literal' literal-kind='Integer' value='1'/></Expr></Attribute></Connection></XDF>"),
-        ],
+        &[(
+            "T",
+            "<XDF name='T'><Port kind='Input' name='In'><Type name='bool'/></Port><Instance id='a'><Class name='A'/></Instance><Connection src='' src-port='In' dst='a' dst-port='In'><Attribute name='bufferSize'><Expr kind='List'><Expr kind='Literal' literal-kind='Integer' value='1'/></Expr></Attribute></Connection></XDF>",
+        )],
         &[("A", "In:bool ; Out:bool")],
         "N9 1 169",
     ),
     (
-        &[
-            ("T", "<XDF name='T'><Port kind='Input' name='In'><Type name='bool'/></Port><Instance id='a'><Class name='A'/></Instance><Connection src='' src-port='In' dst='a' dst-port='In'><Attribute name='bufferSize'><Expr kind='BinOpSeq'><Expr kind='Literal' literal-kind='Integer' value='1'/><Op name='-'/><Expr kind='Literal' literal-kind='Integer' value='1'/></Expr></Attribute></Connection></XDF>"),
-        ],
+        &[(
+            "T",
+            "<XDF name='T'><Port kind='Input' name='In'><Type name='bool'/></Port><Instance id='a'><Class name='A'/></Instance><Connection src='' src-port='In' dst='a' dst-port='In'><Attribute name='bufferSize'><Expr kind='BinOpSeq'><Expr kind='Literal' literal-kind='Integer' value='1'/><Op name='-'/><Expr kind='Literal' literal-kind='Integer' value='1'/></Expr></Attribute></Connection></XDF>",
+        )],
         &[("A", "In:bool ; Out:bool")],
         "N9 1 169",
     ),
     // the second of two
     (
-        &[
-            ("T", "<XDF name='T'><Port kind='Input' name='In'><Type name='bool'/></Port><Instance id='a'><Class name='A'/></Instance><Connection src='' src-port='In' dst='a' dst-port='In'><Attribute name='bufferSize'><Expr kind='Literal' literal-kind='Integer' value='7'/></Attribute><Attribute name='bufferSize'><Expr kind='Literal' literal-kind='Integer' value='0'/></Attribute></Connection></XDF>"),
-        ],
+        &[(
+            "T",
+            "<XDF name='T'><Port kind='Input' name='In'><Type name='bool'/></Port><Instance id='a'><Class name='A'/></Instance><Connection src='' src-port='In' dst='a' dst-port='In'><Attribute name='bufferSize'><Expr kind='Literal' literal-kind='Integer' value='7'/></Attribute><Attribute name='bufferSize'><Expr kind='Literal' literal-kind='Integer' value='0'/></Attribute></Connection></XDF>",
+        )],
         &[("A", "In:bool ; Out:bool")],
         "N9 1 265",
     ),
     (
-        &[
-            ("T", "<XDF name='T'><Port kind='Input' name='In'><Type name='bool'/></Port><Instance id='a'><Class name='A'/></Instance><Connection src='' src-port='In' dst='a' dst-port='In'><Attribute name='bufferSize'><Expr kind='BinOpSeq'><Expr kind='Literal' literal-kind='Integer' value='1'/><Op name='/'/><Expr kind='Literal' literal-kind='Integer' value='0'/></Expr></Attribute></Connection></XDF>"),
-        ],
+        &[(
+            "T",
+            "<XDF name='T'><Port kind='Input' name='In'><Type name='bool'/></Port><Instance id='a'><Class name='A'/></Instance><Connection src='' src-port='In' dst='a' dst-port='In'><Attribute name='bufferSize'><Expr kind='BinOpSeq'><Expr kind='Literal' literal-kind='Integer' value='1'/><Op name='/'/><Expr kind='Literal' literal-kind='Integer' value='0'/></Expr></Attribute></Connection></XDF>",
+        )],
         &[("A", "In:bool ; Out:bool")],
         "T7 1 198",
     ),
     (
-        &[
-            ("T", "<XDF name='T'><Port kind='Input' name='In'><Type name='bool'/></Port><Instance id='a'><Class name='A'/></Instance><Connection src='' src-port='In' dst='a' dst-port='In'><Attribute name='bufferSize'><Expr kind='Var' name='n'/></Attribute></Connection></XDF>"),
-        ],
+        &[(
+            "T",
+            "<XDF name='T'><Port kind='Input' name='In'><Type name='bool'/></Port><Instance id='a'><Class name='A'/></Instance><Connection src='' src-port='In' dst='a' dst-port='In'><Attribute name='bufferSize'><Expr kind='Var' name='n'/></Attribute></Connection></XDF>",
+        )],
         &[("A", "In:bool ; Out:bool")],
         "S1 1 198",
-    ),
-];
-
-#[test]
-fn unknown(rt: HostRuntime) -> Result<(), Fail> {
-    hold(&rt, rt.alloc(), UNKNOWN)
-}
-
-/// Names that are unknown.
-const UNKNOWN: &[Row] = &[
-    (
-        &[
-            ("T", "<XDF name='T'><Instance id='a'><Class name='A'/><Parameter name='k'><Expr kind='Var' name='n'/></Parameter></Instance></XDF>"),
-        ],
-        &[],
-        "S1 1 68",
-    ),
-    (
-        &[
-            ("T", "<XDF name='T'><Decl kind='Variable' name='v'><Type name='int'/><Expr kind='Var' name='n'/></Decl></XDF>"),
-        ],
-        &[],
-        "S1 1 63",
-    ),
-    (
-        &[
-            ("T", "<XDF name='T'><Port kind='Input' name='In'><Type name='uint'><Entry kind='Expr' name='size'><Expr kind='Var' name='n'/></Entry></Type></Port></XDF>"),
-        ],
-        &[],
-        "S1 1 92",
-    ),
-    // of the network outside
-    (
-        &[
-            ("T", "<XDF name='T'><Decl kind='Variable' name='n'><Type name='int'/><Expr kind='Literal' literal-kind='Integer' value='1'/></Decl><Instance id='m'><Class name='M'/></Instance></XDF>"),
-            ("M", "<XDF name='M'><Instance id='a'><Class name='A'/><Parameter name='k'><Expr kind='Var' name='n'/></Parameter></Instance></XDF>"),
-        ],
-        &[],
-        "S1 2 68",
-    ),
-    // of a network inside
-    (
-        &[
-            ("T", "<XDF name='T'><Instance id='m'><Class name='M'/></Instance><Instance id='a'><Class name='A'/><Parameter name='k'><Expr kind='Var' name='n'/></Parameter></Instance></XDF>"),
-            ("M", "<XDF name='M'><Decl kind='Variable' name='n'><Type name='int'/><Expr kind='Literal' literal-kind='Integer' value='1'/></Decl></XDF>"),
-        ],
-        &[],
-        "S1 1 113",
-    ),
-];
-
-#[test]
-fn constants(rt: HostRuntime) -> Result<(), Fail> {
-    hold(&rt, rt.alloc(), CONSTANTS)
-}
-
-/// Kinds, types and values.
-const CONSTANTS: &[Row] = &[
-    // kinds
-    (
-        &[
-            ("T", "<XDF name='T'><Decl kind='Variable' name='v'><Type name='int'/><Expr kind='Literal' literal-kind='Boolean' value='true'/></Decl></XDF>"),
-        ],
-        &[],
-        "T1 1 63",
-    ),
-    (
-        &[
-            ("T", "<XDF name='T'><Decl kind='Variable' name='v'><Type name='bool'/><Expr kind='Literal' literal-kind='Integer' value='1'/></Decl></XDF>"),
-        ],
-        &[],
-        "T1 1 64",
-    ),
-    (
-        &[
-            ("T", "<XDF name='T'><Decl kind='Variable' name='v'><Type name='bool'/><Expr kind='UnaryOp'><Op name='not'/><Expr kind='Literal' literal-kind='Integer' value='1'/></Expr></Decl></XDF>"),
-        ],
-        &[],
-        "T1 1 64",
-    ),
-    // .. of what a network is given
-    (
-        &[
-            ("T", "<XDF name='T'><Instance id='m'><Class name='M'/><Parameter name='p'><Expr kind='Literal' literal-kind='Boolean' value='true'/></Parameter></Instance></XDF>"),
-            ("M", "<XDF name='M'><Decl kind='Param' name='p'><Type name='int'/></Decl></XDF>"),
-        ],
-        &[],
-        "T1 1 48",
-    ),
-    // arguments of types
-    (
-        &[
-            ("T", "<XDF name='T'><Port kind='Input' name='In'><Type name='uint'><Entry kind='Expr' name='size'><Expr kind='Literal' literal-kind='Integer' value='65'/></Entry></Type></Port></XDF>"),
-        ],
-        &[],
-        "T2 1 43",
-    ),
-    (
-        &[
-            ("T", "<XDF name='T'><Port kind='Input' name='In'><Type name='int'><Entry kind='Expr' name='size'><Expr kind='Literal' literal-kind='Integer' value='0'/></Entry></Type></Port></XDF>"),
-        ],
-        &[],
-        "T2 1 43",
-    ),
-    (
-        &[
-            ("T", "<XDF name='T'><Decl kind='Variable' name='v'><Type name='List'/><Expr kind='Literal' literal-kind='Integer' value='1'/></Decl></XDF>"),
-        ],
-        &[],
-        "T2 1 45",
-    ),
-    (
-        &[
-            ("T", "<XDF name='T'><Decl kind='Variable' name='v'><Type name='bool'><Entry kind='Expr' name='size'><Expr kind='Literal' literal-kind='Integer' value='1'/></Entry></Type><Expr kind='Literal' literal-kind='Boolean' value='true'/></Decl></XDF>"),
-        ],
-        &[],
-        "T2 1 45",
-    ),
-    // types that there aren't yet
-    (
-        &[
-            ("T", "<XDF name='T'><Port kind='Input' name='In'><Type name='float'/></Port></XDF>"),
-        ],
-        &[],
-        "T3 1 43",
-    ),
-    (
-        &[
-            ("T", "<XDF name='T'><Decl kind='Variable' name='v'><Type name='String'/><Expr kind='Literal' literal-kind='Integer' value='1'/></Decl></XDF>"),
-        ],
-        &[],
-        "T3 1 45",
-    ),
-    (
-        &[
-            ("T", "<XDF name='T'><Decl kind='Variable' name='v'><Type name='half'/><Expr kind='Literal' literal-kind='Integer' value='1'/></Decl></XDF>"),
-        ],
-        &[],
-        "T3 1 45",
-    ),
-    // lengths of lists
-    (
-        &[
-            ("T", "<XDF name='T'><Decl kind='Variable' name='v'><Type name='List'><Entry kind='Type' name='type'><Type name='int'/></Entry><Entry kind='Expr' name='size'><Expr kind='Literal' literal-kind='Integer' value='2'/></Entry></Type><Expr kind='List'><Expr kind='Literal' literal-kind='Integer' value='1'/></Expr></Decl></XDF>"),
-        ],
-        &[],
-        "T5 1 221",
-    ),
-    (
-        &[
-            ("T", "<XDF name='T'><Instance id='m'><Class name='M'/><Parameter name='p'><Expr kind='List'><Expr kind='Literal' literal-kind='Integer' value='1'/></Expr></Parameter></Instance></XDF>"),
-            ("M", "<XDF name='M'><Decl kind='Param' name='p'><Type name='List'><Entry kind='Type' name='type'><Type name='int'/></Entry><Entry kind='Expr' name='size'><Expr kind='Literal' literal-kind='Integer' value='2'/></Entry></Type></Decl></XDF>"),
-        ],
-        &[],
-        "T5 1 48",
-    ),
-    // traps
-    (
-        &[
-            ("T", "<XDF name='T'><Instance id='a'><Class name='A'/><Parameter name='k'><Expr kind='BinOpSeq'><Expr kind='Literal' literal-kind='Integer' value='1'/><Op name='/'/><Expr kind='Literal' literal-kind='Integer' value='0'/></Expr></Parameter></Instance></XDF>"),
-        ],
-        &[],
-        "T7 1 68",
-    ),
-    (
-        &[
-            ("T", "<XDF name='T'><Decl kind='Variable' name='v'><Type name='int'/><Expr kind='BinOpSeq'><Expr kind='Literal' literal-kind='Integer' value='1'/><Op name='&lt;&lt;'/><Expr kind='Literal' literal-kind='Integer' value='128'/></Expr></Decl></XDF>"),
-        ],
-        &[],
-        "T7 1 63",
-    ),
-    // .. in a default, though a value is given
-    (
-        &[
-            ("T", "<XDF name='T'><Instance id='m'><Class name='M'/><Parameter name='p'><Expr kind='Literal' literal-kind='Integer' value='1'/></Parameter></Instance></XDF>"),
-            ("M", "<XDF name='M'><Decl kind='Param' name='p'><Type name='int'/><Expr kind='BinOpSeq'><Expr kind='Literal' literal-kind='Integer' value='1'/><Op name='mod'/><Expr kind='Literal' literal-kind='Integer' value='0'/></Expr></Decl></XDF>"),
-        ],
-        &[],
-        "T7 2 60",
-    ),
-    // a list as the type of a port
-    (
-        &[
-            ("T", "<XDF name='T'><Port kind='Input' name='In'><Type name='List'><Entry kind='Type' name='type'><Type name='bool'/></Entry><Entry kind='Expr' name='size'><Expr kind='Literal' literal-kind='Integer' value='2'/></Entry></Type></Port></XDF>"),
-        ],
-        &[],
-        "T8 1 43",
-    ),
-    // names that aren't known yet
-    (
-        &[
-            ("T", "<XDF name='T'><Decl kind='Variable' name='v'><Type name='int'/><Expr kind='Var' name='w'/></Decl><Decl kind='Variable' name='w'><Type name='int'/><Expr kind='Literal' literal-kind='Integer' value='1'/></Decl></XDF>"),
-        ],
-        &[],
-        "T9 1 63",
-    ),
-    (
-        &[
-            ("T", "<XDF name='T'><Decl kind='Variable' name='v'><Type name='int'/><Expr kind='Var' name='v'/></Decl></XDF>"),
-        ],
-        &[],
-        "T9 1 63",
-    ),
-    // a list that is too long
-    (
-        &[
-            ("T", "<XDF name='T'><Decl kind='Variable' name='v'><Type name='List'><Entry kind='Type' name='type'><Type name='bool'/></Entry><Entry kind='Expr' name='size'><Expr kind='Literal' literal-kind='Integer' value='16385'/></Entry></Type><Expr kind='Literal' literal-kind='Boolean' value='true'/></Decl></XDF>"),
-        ],
-        &[],
-        "Z4 1 45",
     ),
 ];

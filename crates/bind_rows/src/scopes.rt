@@ -43,28 +43,96 @@ fn scopes(rt: HostRuntime) -> Result<(), Fail> {
 
 const SCOPES: &[Row] = &[
     ("<XDF name='T'></XDF>", "T", "fine"),
-    ("<XDF name='T'><Instance id='a'><Class name='A'/></Instance><Instance id='b'><Class name='A'/></Instance></XDF>", "T M", "fine"),
-    ("<XDF name='T'><Decl kind='Param' name='p'><Type name='int'/></Decl><Decl kind='Variable' name='v'><Type name='int'/><Expr kind='Var' name='p'/></Decl><Instance id='a'><Class name='A'/><Parameter name='k'><Expr kind='Var' name='v'/></Parameter></Instance></XDF>", "T", "fine"),
-    ("<XDF name='T'><Instance id='a'><Class name='A'/></Instance></XDF>", "A", "N3 at 31"),
+    (
+        "<XDF name='T'><Instance id='a'><Class name='A'/></Instance><Instance id='b'><Class name='A'/></Instance></XDF>",
+        "T M",
+        "fine",
+    ),
+    (
+        "<XDF name='T'><Decl kind='Param' name='p'><Type name='int'/></Decl><Decl kind='Variable' name='v'><Type name='int'/><Expr kind='Var' name='p'/></Decl><Instance id='a'><Class name='A'/><Parameter name='k'><Expr kind='Var' name='v'/></Parameter></Instance></XDF>",
+        "T",
+        "fine",
+    ),
+    (
+        "<XDF name='T'><Instance id='a'><Class name='A'/></Instance></XDF>",
+        "A",
+        "N3 at 31",
+    ),
     // one of those outside
-    ("<XDF name='T'><Instance id='x'><Class name='X'/></Instance><Instance id='m'><Class name='M'/></Instance></XDF>", "T M", "N3 at 76"),
-    ("<XDF name='T'><Instance id='x'><Class name='X'/></Instance><Instance id='t'><Class name='T'/></Instance></XDF>", "M T", "N3 at 76"),
+    (
+        "<XDF name='T'><Instance id='x'><Class name='X'/></Instance><Instance id='m'><Class name='M'/></Instance></XDF>",
+        "T M",
+        "N3 at 76",
+    ),
+    (
+        "<XDF name='T'><Instance id='x'><Class name='X'/></Instance><Instance id='t'><Class name='T'/></Instance></XDF>",
+        "M T",
+        "N3 at 76",
+    ),
     // its own class is one of those that are told
-    ("<XDF name='T'><Instance id='t'><Class name='T'/></Instance></XDF>", "M", "fine"),
+    (
+        "<XDF name='T'><Instance id='t'><Class name='T'/></Instance></XDF>",
+        "M",
+        "fine",
+    ),
     // classes are whole
-    ("<XDF name='T'><Instance id='a'><Class name='x.A'/></Instance></XDF>", "A", "fine"),
-    ("<XDF name='T'><Port kind='Input' name='a'><Type name='bool'/></Port><Port kind='Output' name='a'><Type name='bool'/></Port></XDF>", "T", "N8 at 68"),
-    ("<XDF name='T'><Decl kind='Variable' name='a'><Type name='int'/><Expr kind='Literal' literal-kind='Integer' value='1'/></Decl><Decl kind='Param' name='a'><Type name='int'/></Decl></XDF>", "T", "N8 at 125"),
-    ("<XDF name='T'><Instance id='a'><Class name='A'/></Instance><Instance id='a'><Class name='B'/></Instance></XDF>", "T", "N8 at 59"),
+    (
+        "<XDF name='T'><Instance id='a'><Class name='x.A'/></Instance></XDF>",
+        "A",
+        "fine",
+    ),
+    (
+        "<XDF name='T'><Port kind='Input' name='a'><Type name='bool'/></Port><Port kind='Output' name='a'><Type name='bool'/></Port></XDF>",
+        "T",
+        "N8 at 68",
+    ),
+    (
+        "<XDF name='T'><Decl kind='Variable' name='a'><Type name='int'/><Expr kind='Literal' literal-kind='Integer' value='1'/></Decl><Decl kind='Param' name='a'><Type name='int'/></Decl></XDF>",
+        "T",
+        "N8 at 125",
+    ),
+    (
+        "<XDF name='T'><Instance id='a'><Class name='A'/></Instance><Instance id='a'><Class name='B'/></Instance></XDF>",
+        "T",
+        "N8 at 59",
+    ),
     // a port, a declaration and an instance of one name
-    ("<XDF name='T'><Port kind='Input' name='a'><Type name='bool'/></Port><Decl kind='Variable' name='a'><Type name='int'/><Expr kind='Literal' literal-kind='Integer' value='1'/></Decl><Instance id='a'><Class name='A'/></Instance></XDF>", "T", "fine"),
-    ("<XDF name='T'><Decl kind='Variable' name='v'><Type name='int'/><Expr kind='BinOpSeq'><Expr kind='Literal' literal-kind='Integer' value='1'/><Op name='+'/><Expr kind='Var' name='w'/></Expr></Decl></XDF>", "T", "S1 at 154"),
-    ("<XDF name='T'><Decl kind='Variable' name='v'><Type name='int'/><Expr kind='List'><Expr kind='Var' name='w'/></Expr></Decl></XDF>", "T", "S1 at 81"),
-    ("<XDF name='T'><Port kind='Input' name='In'><Type name='int'><Entry kind='Expr' name='size'><Expr kind='Var' name='w'/></Entry></Type></Port></XDF>", "T", "S1 at 91"),
-    ("<XDF name='T'><Port kind='Input' name='In'><Type name='bool'/></Port><Instance id='a'><Class name='A'/></Instance><Connection src='' src-port='In' dst='a' dst-port='In'><Attribute name='bufferSize'><Expr kind='Var' name='w'/></Attribute></Connection></XDF>", "T", "S1 at 198"),
-    ("<XDF name='T'><Instance id='a'><Class name='A'/><Parameter name='k'><Expr kind='UnaryOp'><Op name='-'/><Expr kind='Var' name='w'/></Expr></Parameter></Instance></XDF>", "T", "S1 at 103"),
+    (
+        "<XDF name='T'><Port kind='Input' name='a'><Type name='bool'/></Port><Decl kind='Variable' name='a'><Type name='int'/><Expr kind='Literal' literal-kind='Integer' value='1'/></Decl><Instance id='a'><Class name='A'/></Instance></XDF>",
+        "T",
+        "fine",
+    ),
+    (
+        "<XDF name='T'><Decl kind='Variable' name='v'><Type name='int'/><Expr kind='BinOpSeq'><Expr kind='Literal' literal-kind='Integer' value='1'/><Op name='+'/><Expr kind='Var' name='w'/></Expr></Decl></XDF>",
+        "T",
+        "S1 at 154",
+    ),
+    (
+        "<XDF name='T'><Decl kind='Variable' name='v'><Type name='int'/><Expr kind='List'><Expr kind='Var' name='w'/></Expr></Decl></XDF>",
+        "T",
+        "S1 at 81",
+    ),
+    (
+        "<XDF name='T'><Port kind='Input' name='In'><Type name='int'><Entry kind='Expr' name='size'><Expr kind='Var' name='w'/></Entry></Type></Port></XDF>",
+        "T",
+        "S1 at 91",
+    ),
+    (
+        "<XDF name='T'><Port kind='Input' name='In'><Type name='bool'/></Port><Instance id='a'><Class name='A'/></Instance><Connection src='' src-port='In' dst='a' dst-port='In'><Attribute name='bufferSize'><Expr kind='Var' name='w'/></Attribute></Connection></XDF>",
+        "T",
+        "S1 at 198",
+    ),
+    (
+        "<XDF name='T'><Instance id='a'><Class name='A'/><Parameter name='k'><Expr kind='UnaryOp'><Op name='-'/><Expr kind='Var' name='w'/></Expr></Parameter></Instance></XDF>",
+        "T",
+        "S1 at 103",
+    ),
     // declared later, and types that there are in the language
-    ("<XDF name='T'><Decl kind='Variable' name='v'><Type name='float'/><Expr kind='Var' name='w'/></Decl><Decl kind='Variable' name='w'><Type name='half'/><Expr kind='Literal' literal-kind='Integer' value='1'/></Decl></XDF>", "T", "fine"),
+    (
+        "<XDF name='T'><Decl kind='Variable' name='v'><Type name='float'/><Expr kind='Var' name='w'/></Decl><Decl kind='Variable' name='w'><Type name='half'/><Expr kind='Literal' literal-kind='Integer' value='1'/></Decl></XDF>",
+        "T",
+        "fine",
+    ),
 ];
 
 /// A set of networks of these classes, whose files are numbered from 5.
