@@ -1,0 +1,184 @@
+//! What networks are asked.
+
+ghost use Rattle.std.specs.Prelude.{IfOk};
+ghost use Rattle.fnl_tree.specs.Sound.{IsSound};
+ghost use Rattle.fnl_tree.specs.View.{tree_of};
+
+use crate::told::{in_outline, network, refusal};
+use flatten_rows::heads_fit;
+use fnl_flatten::{Flat, Head, HeadPort, flatten};
+use fnl_read::{NetFile, read_network};
+use fnl_tree::{Leaf, Tree};
+use fnl_walk::bind;
+use net_set::NetSet;
+use rvc_base::{Front, Scalar};
+use std::alloc::Global;
+use std::process::Abort;
+use std::test::Fail;
+
+/// Networks: the class and the text of each. They are numbered from 1, and the first is the top.
+pub(crate) type Nets = &'static [(&'static str, &'static str)];
+
+/// Actors: the class of each, and its ports as `INPUTS ; OUTPUTS`, of which each is `name:type` or `name:type:rate`.
+pub(crate) type Actors = &'static [(&'static str, &'static str)];
+
+/// Networks, the ports of their actors, and what they come to.
+pub(crate) type Row = (Nets, Actors, &'static str);
+
+/// Why nothing is asked.
+const NOTHING: Front = Front::Memory;
+
+fn cut<'a>(text: &'a str, at: &str) -> (&'a str, &'a str) {
+    text.split_once(at).unwrap_or((text, ""))
+}
+
+fn scalar(text: &str) -> Scalar {
+    match text {
+        "bool" => Scalar::Bool,
+        "i16" => Scalar::Int(16),
+        "u32" => Scalar::Uint(32),
+        _ => Scalar::Uint(8),
+    }
+}
+
+fn ports(alloc: Global, text: &str) -> Result<Vec<HeadPort>, Fail> {
+    let mut ports = Vec::new(alloc);
+    for word in text.split_whitespace() {
+        let (name, rest) = cut(word, ":");
+        let (kind, largest) = cut(rest, ":");
+        ports.push(HeadPort {
+            name: String::from_str(alloc, name)?,
+            kind: scalar(kind),
+            largest: largest.parse().unwrap_or(1),
+        })?;
+    }
+    Ok(ports)
+}
+
+/// The ports of the actor of a class; none if it isn't told.
+fn head(alloc: Global, class: &str, actors: &[(&str, &str)]) -> Result<Head, Fail> {
+    let mut line = "";
+    for &(name, told) in actors {
+        if name == class {
+            line = told;
+        }
+    }
+    let (ins, outs) = cut(line, ";");
+    Ok(Head {
+        ins: ports(alloc, ins)?,
+        outs: ports(alloc, outs)?,
+    })
+}
+
+fn heads(alloc: Global, leaves: &[Leaf], actors: &[(&str, &str)]) -> Result<Vec<Head>, Fail> {
+    let mut heads = Vec::new(alloc);
+    for leaf in leaves {
+        heads.push(head(alloc, leaf.class.as_str(), actors)?)?;
+    }
+    Ok(heads)
+}
+
+/// A network that is read from its text.
+pub(crate) fn read(alloc: Global, file: u32, text: &str) -> Result<NetFile, Front> {
+    let text = text.as_bytes();
+    if text.len() >= 1 << 32 {
+        return Err(NOTHING);
+    }
+    read_network(alloc, file, text)
+}
+
+/// Adds a network to a set, in which its class isn't yet.
+pub(crate) fn add(set: &mut NetSet, class: &str, file: u32, net: NetFile) -> Result<(), Front> {
+    if set.has(class) {
+        return Err(NOTHING);
+    }
+    match set.add(class, file, net) {
+        Ok(()) => Ok(()),
+        Err(_) => Err(NOTHING),
+    }
+}
+
+/// The set of these networks.
+fn set_of(alloc: Global, nets: &[(&str, &str)]) -> Result<NetSet, Front> {
+    let Ok(mut set) = NetSet::new(alloc) else {
+        return Err(NOTHING);
+    };
+    let mut file = 0u32;
+    for &(class, text) in nets {
+        file = file.saturating_add(1);
+        let net = read(alloc, file, text)?;
+        add(&mut set, class, file, net)?;
+    }
+    Ok(set)
+}
+
+/// The tree that networks make from the class of the top down.
+fn tree_from(alloc: Global, top: &str, nets: &[(&str, &str)]) -> Result<Tree, Front>
+    ensures { IfOk result (λ tree. IsSound (tree_of tree)) }
+{
+    let set = set_of(alloc, nets)?;
+    if !set.has(top) {
+        return Err(NOTHING);
+    }
+    bind(alloc, &set, top)
+}
+
+/// The class of the top.
+fn top_of<'a>(nets: &'a [(&'a str, &'a str)]) -> &'a str {
+    match nets.first() {
+        Some(&(class, _)) => class,
+        None => "",
+    }
+}
+
+/// The actors and the flat network that a tree is.
+fn flat(alloc: Global, tree: &Tree, actors: &[(&str, &str)]) -> Result<Result<Flat, Front>, Fail>
+    requires { IsSound (tree_of tree.now) }
+{
+    let heads = heads(alloc, &tree.leaves, actors)?;
+    if !heads_fit(tree, &heads) {
+        return Ok(Err(NOTHING));
+    }
+    Ok(flatten(alloc, tree, &heads))
+}
+
+/// What networks come to.
+pub(crate) fn answer(
+    alloc: Global,
+    nets: &[(&str, &str)],
+    actors: &[(&str, &str)],
+) -> Result<String, Fail> {
+    let tree = match tree_from(alloc, top_of(nets), nets) {
+        Ok(tree) => tree,
+        Err(front) => return Ok(refusal(alloc, front)?),
+    };
+    match flat(alloc, &tree, actors)? {
+        Ok(flat) => Ok(network(alloc, &tree.leaves, &flat)?),
+        Err(front) => Ok(refusal(alloc, front)?),
+    }
+}
+
+/// The same in outline.
+pub(crate) fn outline(
+    alloc: Global,
+    nets: &[(&str, &str)],
+    actors: &[(&str, &str)],
+) -> Result<String, Fail> {
+    let tree = match tree_from(alloc, top_of(nets), nets) {
+        Ok(tree) => tree,
+        Err(front) => return Ok(refusal(alloc, front)?),
+    };
+    match flat(alloc, &tree, actors)? {
+        Ok(flat) => Ok(in_outline(alloc, &tree.leaves, &flat)?),
+        Err(front) => Ok(refusal(alloc, front)?),
+    }
+}
+
+/// Stops unless all networks come to what is told.
+pub(crate) fn hold(rt: &impl Abort, alloc: Global, rows: &[Row]) -> Result<(), Fail> {
+    for &(nets, actors, expected) in rows {
+        let found = answer(alloc, nets, actors)?;
+        assert_eq!(rt; found.as_str(), expected);
+    }
+    Ok(())
+}
