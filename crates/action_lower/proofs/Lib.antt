@@ -11,3 +11,6 @@ pub mod AddingLocals
 pub mod LocalRuns
 pub mod StateSeats
 pub mod FiringRuns
+pub mod AddingFirings
+pub mod OutputRates
+pub mod FiringAt

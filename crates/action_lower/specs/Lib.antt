@@ -6,3 +6,4 @@ pub mod SendWords
 pub mod Laws
 pub mod LocalCode
 pub mod FiringCode
+pub mod FiringWords

@@ -7,6 +7,7 @@
 //! as there are names.
 #![tactic(auto)]
 
+mod firing;
 mod first;
 mod guards;
 pub mod laws;
@@ -15,6 +16,7 @@ mod outputs;
 mod seats;
 mod shapes;
 
+pub use firing::{Firing, lower_firing};
 pub use first::first_cells;
 pub use guards::lower_guards;
 pub use locals::lower_locals;
