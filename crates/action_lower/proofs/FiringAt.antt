@@ -58,11 +58,14 @@ module _ (b : Bound) (a n : ℕ) (act : BoundAction) (same : n ≡ a) (there : a
 
   pub adds_firing : (rs : Routines) (names : List Name) (ports : List Port) (entry : ℕ) (firsts : List ℕ) (old new : Draft) → names ≡ seen_seats actor (action_view act) → ports ≡ actor.outs → entry ≡ length old.instrs.items
       → Adds (IsFiringCode rs names ports (action_view act) firsts) old new → AddsFiring rs actor a entry firsts old new
-  adds_firing rs names ports entry firsts old new seen outs at added = (at, λ other e.
-      let one : action_view act ≡ other = let f = is_act in cc in
-      subst (λ x. Adds (IsFiringCode rs (seen_seats actor x) actor.outs x firsts) old new) one
-      (subst (λ ps. Adds (IsFiringCode rs (seen_seats actor (action_view act)) ps (action_view act) firsts) old new) outs
-      (subst (λ ns. Adds (IsFiringCode rs ns ports (action_view act) firsts) old new) seen added)))
+  adds_firing rs names ports entry firsts old new seen outs at added = (
+    at,
+    λ other e.
+        let one : action_view act ≡ other = let f = is_act in cc in
+        subst (λ x. Adds (IsFiringCode rs (seen_seats actor x) actor.outs x firsts) old new) one
+        (subst (λ ps. Adds (IsFiringCode rs (seen_seats actor (action_view act)) ps (action_view act) firsts) old new) outs
+        (subst (λ ns. Adds (IsFiringCode rs ns ports (action_view act) firsts) old new) seen added)),
+  )
 
   pub left_is : (rs : Routines) (names : List Name) → names ≡ seen_seats actor (action_view act) → left_out_of rs b a ≡ left_out_firing rs names act
   left_is rs names seen =
