@@ -1,2 +1,9 @@
+mod Cuts
+mod Texts
+mod Broken
 mod Lists
+mod Known
+mod Progress
+mod Taken
 mod Refused
+mod Steps
