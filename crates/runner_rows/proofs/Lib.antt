@@ -4,3 +4,4 @@ mod Picked
 mod Opened
 mod Celled
 mod Whole
+mod Started
