@@ -24,6 +24,12 @@ pub use running::{Ran, Ready, run_network};
 #[cfg(test)]
 mod actors;
 #[cfg(test)]
+mod faults;
+#[cfg(test)]
 mod networks;
+#[cfg(test)]
+mod policies;
+#[cfg(test)]
+mod rows;
 #[cfg(test)]
 mod runs;
