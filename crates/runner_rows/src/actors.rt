@@ -301,6 +301,15 @@ fn saved(alloc: Global, named: Named) -> Result<Vec<StateCell>, Memory> {
     Ok(saved)
 }
 
+/// How many state variables there are.
+fn kept(named: Named) -> u32 {
+    match named {
+        Named::Race => 1,
+        Named::Runs => 2,
+        _ => 0,
+    }
+}
+
 /// The actor of this name.
 pub(crate) fn lowered(alloc: Global, named: Named) -> Result<Lowered, Memory> {
     let code = admitted(alloc, named)?;
@@ -309,16 +318,15 @@ pub(crate) fn lowered(alloc: Global, named: Named) -> Result<Lowered, Memory> {
         let zero: Num = 0;
         first.push(zero)?;
     }
-    let saved = saved(alloc, named)?;
     let parts = Parts {
         code,
         fsm: automaton(alloc, named)?,
         order: order(alloc, named)?,
         actions: actions(alloc, named)?,
         first,
-        kept: saved.len() as u32,
+        kept: kept(named),
         start: 0,
-        saved,
+        saved: saved(alloc, named)?,
         ins: if named == Named::Join { 2 } else { 1 },
         outs: 1,
     };

@@ -7,9 +7,9 @@ ghost use Rattle.runner_rows.specs.Outside.{AreChannelsOpen, AreFeedsOpen};
 
 use actor_cell::Cell;
 use net_model::{Counts, Wiring};
+use network_runner::Runner;
 use round_plan::Policy;
 use round_runner::{Plan, RunEnd};
-use network_runner::Runner;
 use rvc_base::{MAX_BUDGET, Memory};
 use rvc_io::{Drains, Feeds, OpenGate};
 use std::alloc::Global;

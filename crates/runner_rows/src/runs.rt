@@ -182,7 +182,14 @@ fn run_ready(
 {
     let mut feeds = feeds(alloc, &ready.wiring, case)?;
     let mut drains = drains(alloc, &ready.wiring, case)?;
-    let ran = run_by(alloc, ready, case.rounds, case.budget, &mut feeds, &mut drains)?;
+    let ran = run_by(
+        alloc,
+        ready,
+        case.rounds,
+        case.budget,
+        &mut feeds,
+        &mut drains,
+    )?;
     Ok((ran, is_end(ran, want) && are_written(&drains, want)))
 }
 
