@@ -1,6 +1,6 @@
 -- Feeds that are open for each input link.
 use Rattle.std.proofs.Common.{◌≡◌, ℕ, zero, suc, ◌≤◌, Bool, true, false, List, [], ◌∷◌, take, refl, sym, ap, subst, arith}
-use Rattle.std.specs.Prelude.{IfSome, None, Option, Some, slice_get, slice_index_or, if◌then◌else◌}
+use Rattle.std.specs.Prelude.{IfSome, None, Option, Some, slice_get, if◌then◌else◌}
 use Rattle.rvc_io.specs.Feeds.{Inputs}
 use Rattle.rvc_io.specs.MemFeeds.{FeedsState, inputs_of}
 use Rattle.net_model.specs.declared.wiring.End.{End}
@@ -9,7 +9,7 @@ use Rattle.net_model.specs.declared.wiring.Link.{Link}
 use Rattle.net_model.specs.declared.wiring.Wiring.{Wiring}
 use Rattle.net_model.specs.Network.{is_input, is_outside}
 use Rattle.net_state.proofs.Gaining.{some_is}
-use Rattle.round_runner.specs.Running.{count_inputs, feed_of, has_feed}
+use Rattle.round_runner.specs.Running.{count_inputs, has_feed}
 use Rattle.runner_rows.specs.Outside.{AreFeedsOpen, AreTwoOpen}
 
 is_fed : (reads : List Bool) (end : End) → has_feed reads end ≡ true → is_outside end ≡ true

@@ -1,13 +1,13 @@
 -- What holds of the first items of a list, and of each.
-use Rattle.std.proofs.Common.{◌≡◌, ⊎_elim, ℕ, zero, suc, ◌+◌, ◌<◌, ◌≤◌, Bool, true, false, List, [], ◌∷◌, length, refl, sym, subst, ◌∙◌, arith}
-use Rattle.std.specs.Prelude.{Option, None, Some, nat_le, slice_get, slice_index_or, if◌then◌else◌}
+use Rattle.std.proofs.Common.{◌≡◌, ⊎_elim, ℕ, zero, suc, ◌+◌, ◌<◌, ◌≤◌, true, false, List, [], ◌∷◌, length, refl, sym, subst, ◌∙◌, arith}
+use Rattle.std.specs.Prelude.{Option, None, Some, nat_le, slice_get}
 use Rattle.std.proofs.lemmas.Bool.{cases_lt, leb-true}
 use Rattle.std.proofs.lemmas.Option.{slice_get_within}
 use Rattle.lowered_actor.specs.Actor.{Action, Actor, number_on}
 use Rattle.lowered_actor.specs.Meaning.{give, need}
 use Rattle.net_model.specs.Limits.{max_rate}
 use Rattle.net_state.proofs.Gaining.{some_is}
-use Rattle.runner_rows.specs.Fits.{HasFewOf, HasFewRates, IsWithin, OfEach, OfFirst, OnActor, are_few}
+use Rattle.runner_rows.specs.Fits.{HasFewRates, IsWithin, OfEach, OfFirst, OnActor, are_few}
 use Rattle.runner_rows.proofs.Ordered.{then_true}
 
 pub first_more : {A : Type 0} (xs : List A) (P : A → Type 0) (n : ℕ) (x : A) → slice_get xs n ≡ Some x → OfFirst n xs P → P x → OfFirst (n + 1) xs P

@@ -1,5 +1,5 @@
 -- A runner that was just made, over feeds and channels that are open.
-use Rattle.std.proofs.Common.{◌≡◌, ℕ, true, false, List, refl, sym, subst, ◌∙◌}
+use Rattle.std.proofs.Common.{◌≡◌, true, false, List, sym, subst, ◌∙◌}
 use Rattle.std.specs.Prelude.{Some, slice_get, slice_index_or}
 use Rattle.rvc_base.specs.declared.round_kind.RoundKind.{RoundKind}
 use Rattle.rvc_io.specs.Channels.{Channels}

@@ -1,11 +1,11 @@
 -- What a network asks of its feeds and channels before its run.
 -- Not trusted: no promise is read with it.
-use Rattle.std.specs.Prelude.{◌≡◌, ℕ, ◌+◌, ◌≤◌, Bool, true, false, List, length, slice_get, slice_index_or, Some}
+use Rattle.std.specs.Prelude.{◌≡◌, ℕ, ◌+◌, true, false, slice_get, slice_index_or, Some}
 use Rattle.rvc_io.specs.Channels.{Channels}
 use Rattle.rvc_io.specs.Feeds.{Inputs}
 use Rattle.net_model.specs.declared.wiring.Link.{Link}
 use Rattle.net_model.specs.declared.wiring.Wiring.{Wiring}
-use Rattle.round_runner.specs.Running.{count_inputs, feed_of, has_feed}
+use Rattle.round_runner.specs.Running.{feed_of, has_feed}
 
 -- the feed of each input link that has one is open
 abbrev pub AreFeedsOpen : Wiring → Inputs → Type 0
