@@ -1,5 +1,5 @@
 -- What is evaluated is what the expression gives over the constants.
-use Rattle.std.proofs.Common.{◌≡◌, ℕ, List, [], ◌++◌, map, sym, ap, ◌∙◌}
+use Rattle.std.proofs.Common.{◌≡◌, ℕ, List, [], ◌++◌, map, sym, ap, subst, ◌∙◌}
 use Rattle.rvc_base.specs.Turns.{max_turns}
 use Rattle.cal_ast.specs.Tree.{Tree}
 use Rattle.cal_model.specs.Call.{calls_of}
@@ -11,6 +11,8 @@ use Rattle.const_eval.specs.Constants.{Constants, var_of}
 use Rattle.const_eval.specs.Counting.{Variable, known_variable, hide, names_inside}
 use Rattle.const_eval.specs.Held.{Kept, globals_of, held, names_in}
 use Rattle.const_eval.specs.Evaluable.{env_of, value_of}
+use Rattle.const_eval.specs.Outcome.{Stops}
+use Rattle.const_eval.specs.declared.stop.Stop.{Stop}
 use Rattle.const_eval.proofs.Named.{constants_are, hidden_constants}
 
 pub as_asked : (e : Tree) (env : Constants) (calls : Calls) (seen : Env) (n : ℕ) → calls ≡ calls_of env.funs → seen ≡ env_of env → n ≡ max_turns → value_of e env ≡ eval e calls seen n
@@ -34,3 +36,7 @@ constant_among e env vs calls seen n f g h =
     ∙ ap (λ k. eval e (λ globals. calls_of (held env).funs (map var_of (held env).values)) (record { globals = hide vs (map var_of (held env).values); locals = [] }) k) (sym h)
     ∙ ap (λ s. eval e (λ globals. calls_of (held env).funs (map var_of (held env).values)) s n) (sym g)
     ∙ ap (λ c. eval e c seen n) (sym f)
+
+-- .. and so what ends it
+pub stops_as_asked : (s : Stop) (e : Tree) (env : Constants) (calls : Calls) (seen : Env) (n : ℕ) → calls ≡ calls_of env.funs → seen ≡ env_of env → n ≡ max_turns → Stops s (eval e calls seen n) → Stops s (value_of e env)
+stops_as_asked s e env calls seen n f g h is = subst (λ out. Stops s out) (sym (as_asked e env calls seen n f g h)) is

@@ -1,5 +1,5 @@
 -- What a call that evaluates answers, beside what evaluation comes to.
--- Not trusted: no promise is read with it.
+-- Trusted for `Stops` alone: part of what a promise means.
 use Rattle.std.specs.Prelude.{◌≡◌, ℕ}
 use Rattle.std.specs.declared.result.Result.{Result}
 use Rattle.std.specs.declared.result.Result.TheVariants.{Ok, Err}

@@ -12,13 +12,11 @@ ghost use Rattle.const_eval.specs.Constants.{Constants};
 ghost use Rattle.const_eval.specs.Evaluable.{HasNoValue, IsEvaluable, value_of};
 ghost use Rattle.const_eval.specs.Held.{held, names_in};
 
-use crate::entry::all_turns;
+use crate::ending::eval_to_end;
 use crate::env::Env;
-use crate::evaluate::eval;
 use crate::fault::KindFault;
 use crate::judging::kind;
 use crate::names::Names;
-use crate::scope::Scope;
 use crate::stop::Stop;
 use cal_ast::Expr;
 use cal_model::{Kind, Value, kinds_are_kept};
@@ -76,9 +74,7 @@ pub fn eval_const(alloc: Global, env: &Env, e: &Expr) -> Result<Value, ConstFaul
         → value_of (expr_tree e.now) (held env.now) ≡ Lacks }
 {
     never_clashes();
-    let scope = Scope::outermost(alloc, env);
-    let mut turns = all_turns();
-    match eval(&scope, e, &mut turns) {
+    match eval_to_end(alloc, env, e) {
         Ok(value) => Ok(value),
         Err(Stop::Trap(trap)) => Err(ConstFault::Trap(trap)),
         Err(Stop::Lacks) => Err(ConstFault::NotConstant),

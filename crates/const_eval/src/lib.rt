@@ -5,6 +5,7 @@
 #![tactic(auto)]
 
 mod constant;
+mod ending;
 mod entry;
 mod env;
 mod evaluate;
@@ -26,6 +27,7 @@ mod types;
 mod value;
 
 pub use constant::{ConstFault, eval_const, kind_const};
+pub use ending::eval_to_end;
 pub use env::Env;
 pub use fault::KindFault;
 pub use inside::{Inside, Variable};
@@ -35,3 +37,4 @@ pub use lengths::is_counted;
 pub use meant::Meant;
 pub use names::Names;
 pub use shapes::counts;
+pub use stop::Stop;
