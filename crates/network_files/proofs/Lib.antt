@@ -1,2 +1,7 @@
+mod Broken
 mod Lists
+mod Known
+mod Progress
+mod Taken
 mod Refused
+mod Steps
