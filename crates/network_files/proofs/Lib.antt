@@ -1,6 +1,7 @@
 mod Broken
 mod Lists
 mod Known
+mod Served
 mod Progress
 mod Taken
 mod Refused

@@ -142,7 +142,7 @@ same_has w rs = go w.network refl
         let same : record { class = w.class; network = false } ≡ w = λ i. record { class = w.class; network = sym e i } in
         subst (λ v. has v (networks_from 1 rs) (sources_from 1 rs) ≡ is_read v rs) same (sym (source_is_read w.class 1 rs))
 
-read_stays : (w : Wanted) (done later : List Read) → is_read w done ≡ true → is_read w (done ++ later) ≡ true
+pub read_stays : (w : Wanted) (done later : List Read) → is_read w done ≡ true → is_read w (done ++ later) ≡ true
 read_stays w [] later h = cc
 read_stays w (r ∷ done) later h = go (bytes_eq w.class r.class && is_same_kind w.network (is_network r.content)) h (read_stays w done later)
   where
@@ -150,7 +150,7 @@ read_stays w (r ∷ done) later h = go (bytes_eq w.class r.class && is_same_kind
     go true k rest = refl
     go false k rest = rest k
 
-read_there : (w : Wanted) (done : List Read) (r : Read) → r.class ≡ w.class → is_network r.content ≡ w.network → is_read w (done ++ r ∷ []) ≡ true
+pub read_there : (w : Wanted) (done : List Read) (r : Read) → r.class ≡ w.class → is_network r.content ≡ w.network → is_read w (done ++ r ∷ []) ≡ true
 read_there w [] r c k = both (bytes_eq w.class r.class) (is_same_kind w.network (is_network r.content)) (subst (λ x. bytes_eq w.class x ≡ true) (sym c) (is_itself w.class))
     (subst (λ x. is_same_kind w.network x ≡ true) (sym k) (kind_itself w.network))
   where
@@ -196,7 +196,7 @@ same_asked_by : (n : ℕ) (content : Content) → map (λ q. q.asked) (requests_
 same_asked_by n (network net) = same_instances n net.instances
 same_asked_by n (source tree) = same_imports n (import_edges (imports_of tree))
 
-same_asked : (n : ℕ) (rs : List Read) → map (λ q. q.asked) (requests_from n rs) ≡ asked_by_all rs
+pub same_asked : (n : ℕ) (rs : List Read) → map (λ q. q.asked) (requests_from n rs) ≡ asked_by_all rs
 same_asked n [] = refl
 same_asked n (r ∷ rs) =
     map-append (λ q. q.asked) (requests_by n r.content) (requests_from (suc n) rs)

@@ -9,14 +9,15 @@ use Rattle.actor_files.specs.Loading.{Counts, Library, TellsAll, max_bytes, max_
 use Rattle.actor_files.specs.declared.fault.LoadFault.{LoadFault}
 use Rattle.actor_files.specs.declared.fault.LoadFault.TheVariants.{Refused, ReadFault, Memory}
 use Rattle.fnl_bind.specs.Library.{network_of}
-use Rattle.source_network.specs.Files.{AreLoaded, AreReadBehind, Asked, a_class, IsNextRead, Read, Says, Wanted, bytes_of, class_asked, files_of, first_unread, is_held, is_network, is_read, name_of, network_file, networks_from, networks_in, next_wanted, sources_from, sources_in, wanted}
+use Rattle.source_network.specs.Files.{AreLoaded, AreReadBehind, Asked, a_class, IsNextRead, Read, Says, Wanted, asked_by_all, bytes_of, class_asked, files_of, first_unread, is_held, is_network, is_read, name_of, network_file, networks_from, networks_in, next_wanted, sources_from, sources_in, wanted}
 use Rattle.source_network.specs.Source.{Files}
 use Rattle.network_files.specs.Loading.{ComesTo, IsFaulted, IsRefused, LooksUp, Refuses, is_missing, is_there, looks_up_file, looks_up_network}
-use Rattle.network_files.specs.Requests.{AreAllRead, Request, names_of, read_name, requests, requests_by, top_request}
+use Rattle.network_files.specs.Requests.{AreAllRead, AreServed, Request, names_of, read_name, requests, requests_by, top_request}
 use Rattle.network_files.specs.SoFar.{AddsRead, Denies, Fails, GoesOn, GoesWrong, Halts, HasRead, IsBegun, IsDenied, IsLoading, IsLookedAt, IsSoFar, Means, Seen, State, Takes, denied_file, denied_missing, has, seen, trial_of}
 use Rattle.network_files.specs.Views.{HoldsLoaded, IsFault}
 use Rattle.network_files.proofs.Known.{means_wanted, network_held, says_kind}
-use Rattle.network_files.proofs.Lists.{all_read_join, all_read_more, bytes_more, count_names, first_none, first_past, length_more, names_more, networks_more, next_is, requests_more, same_has, sources_more}
+use Rattle.network_files.proofs.Lists.{all_read_join, all_read_more, bytes_more, count_names, first_none, first_past, length_more, names_more, networks_more, next_is, read_there, requests_more, same_has, sources_more}
+use Rattle.network_files.proofs.Served.{all_served, all_served_join, all_served_stay, means_served}
 
 -- what is wanted for a request, where these files were read
 want_is : (library : Library) (top : Asked) (done : List Read) (s : State) (asked : Asked) (w : Wanted) → TellsAll library
@@ -66,6 +67,8 @@ so_far_passed library top done names s t q rest w is waits same means there =
         all_read = λ tells. all_read_join library done is.looked_at.passed q (is.looked_at.all_read tells)
             (subst (λ v. is_read v done ≡ true) (want_is library top done s q.asked w tells (is.are_read tells) is.networks_are means)
             (has_is done s w true is.networks_are is.sources_are there));
+        served = all_served_join done is.looked_at.passed q is.looked_at.served
+            (means_served library s.networks q.asked w done means (has_is done s w true is.networks_are is.sources_are there));
       };
     })
 
@@ -108,6 +111,8 @@ so_far_more library top done names found s t new q rest w is waits same means un
           ∙ ap (λ ws. (is.looked_at.passed ++ q ∷ []) ++ ws) (sym waiting);
       all_read = λ tells. all_read_more library done is.looked_at.passed q r (is.looked_at.all_read tells)
           (ap (λ v. v.class) (is_wanted tells)) (kind ∙ ap (λ v. v.network) (is_wanted tells));
+      served = all_served_join (done ++ r ∷ []) is.looked_at.passed q (all_served_stay done (r ∷ []) is.looked_at.passed is.looked_at.served)
+          (means_served library s.networks q.asked w (done ++ r ∷ []) means (read_there w done r refl kind));
     };
   };
 }
@@ -166,7 +171,7 @@ begun library top s h = record {
     bytes_are = h.bytes_are;
     few = omega arith;
     small = subst (λ n. n ≤ max_bytes) (sym h.bytes_are) (omega arith);
-    looked_at = record { passed = []; splits = sym h.waiting_are; all_read = λ tells. tt };
+    looked_at = record { passed = []; splits = sym h.waiting_are; all_read = λ tells. tt; served = tt };
   };
 }
 
@@ -178,6 +183,11 @@ ends library top done names s is waits tells = record {
   whole = next_is library top done is.looked_at.passed (is.looked_at.splits ∙ ap (λ ws. is.looked_at.passed ++ ws) waits ∙ append-nil is.looked_at.passed)
       ∙ first_none library done is.looked_at.passed (is.looked_at.all_read tells);
 }
+
+pub ends_served : (library : Library) (top : Asked) (done : List Read) (names : List (List ℕ)) (s : State) → IsSoFar library top done names s → s.waiting ≡ []
+    → AreServed done (top ∷ asked_by_all done)
+ends_served library top done names s is waits =
+    all_served top done is.looked_at.passed (is.looked_at.splits ∙ ap (λ ws. is.looked_at.passed ++ ws) waits ∙ append-nil is.looked_at.passed) is.looked_at.served
 
 -- ---- what is refused
 

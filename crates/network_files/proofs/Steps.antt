@@ -16,7 +16,7 @@ use Rattle.network_files.specs.Requests.{Request, names_of}
 use Rattle.network_files.specs.SoFar.{Denies, Fails, GoesOn, GoesWrong, Halts, HasRead, IsBegun, IsLoading, IsMore, IsSoFar, Means, Seen, State, Takes, seen}
 use Rattle.network_files.specs.Views.{HoldsFiles, HoldsLoaded, IsFault}
 use Rattle.network_files.proofs.Lists.{count_names}
-use Rattle.network_files.proofs.Progress.{begun, ends, faulted, refused, so_far_more, so_far_passed}
+use Rattle.network_files.proofs.Progress.{begun, ends, ends_served, faulted, refused, so_far_more, so_far_passed}
 use Rattle.network_files.proofs.Taken.{denied_since, failed_since}
 
 since : (a b c : ℕ) → a ≤ b → b ≤ c → a ≤ c
@@ -128,6 +128,7 @@ pub loads : (library : Library) (faults misses : ℕ) (top : Asked) (b : Seen) �
 loads library faults misses top b h none = record {
   reads = h.has_read.done;
   are_loaded = λ tells. ends library top h.has_read.done b.names b.state h.has_read.is_so_far none tells;
+  are_served = ends_served library top h.has_read.done b.names b.state h.has_read.is_so_far none;
   holds = record {
     files_are = files_with b.state h.has_read.done library top b.names h.has_read.is_so_far;
     names_are = h.has_read.is_so_far.names_are;

@@ -20,7 +20,7 @@ use Rattle.net_set.specs.View.{networks}
 use Rattle.source_network.specs.Files.{AreReadBehind, Asked, Content, Read, Says, Wanted, a_class, a_network, an_actor, bytes_of, name_of, network_file, networks_from, networks_in, sources_from, sources_in}
 use Rattle.network_files.specs.Loading.{RefusesFile, RefusesText}
 use Rattle.network_files.specs.Requests as plain
-use Rattle.network_files.specs.Requests.{AreAllRead, names_of, requests, requests_by}
+use Rattle.network_files.specs.Requests.{AreAllRead, AreServed, names_of, requests, requests_by}
 use Rattle.network_files.specs.Views.{IsFault, asked_of}
 use Rattle.network_files.specs.declared.loading.Loading.{Loading}
 use Rattle.network_files.specs.declared.requests.Request.{Request}
@@ -218,6 +218,7 @@ pub record IsLookedAt (library : Library) (top : Asked) (done : List Read) (wait
   pub passed : List plain.Request
   pub splits : requests top done ≡ passed ++ waiting
   pub all_read : TellsAll library → AreAllRead library done passed
+  pub served : AreServed done (map (λ q. q.asked) passed)
 
 -- these files were read
 pub record IsSoFar (library : Library) (top : Asked) (done : List Read) (names : List (List ℕ)) (s : State)

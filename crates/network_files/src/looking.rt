@@ -7,7 +7,7 @@ ghost use Rattle.actor_files.specs.Views.{IsOutside, file_names};
 ghost use Rattle.source_network.specs.Files.{AreLoaded, Read};
 ghost use Rattle.network_files.specs.Loading.{IsRefused};
 ghost use Rattle.network_files.specs.SoFar.{GoesOn, GoesWrong, IsBegun, IsMore, seen, state_of};
-ghost use Rattle.network_files.specs.Views.{HoldsFiles, HoldsLoaded, IsFault, asked_of, files_in};
+ghost use Rattle.network_files.specs.Views.{HasFile, HoldsFiles, HoldsLoaded, IsFault, asked_of, files_in};
 
 use crate::files::NetworkFiles;
 use crate::kind::FileKind;
@@ -44,6 +44,7 @@ pub fn load_network<L: Library>(
     requires { file_names names.old ≡ [] }
     ensures loaded { IfOk result (λ files. HoldsLoaded (L.file library.old) (asked_of top.now kind)
         (files_in files) (file_names names.new)) }
+    ensures has_top { IfOk result (λ files. HasFile (asked_of top.now kind) (files_in files)) }
     ensures fault { IfErr result (IsFault (L.file library.old) (asked_of top.now kind)
         (record { old = L.misses library.old; new = L.misses library.new })
         (record { old = L.faults library.old; new = L.faults library.new })
