@@ -13,7 +13,7 @@ use Rattle.source_network.specs.Source.{Files}
 use Rattle.network_files.specs.Laws.{LoadedIsNotRefused}
 use Rattle.network_files.specs.Loading.{IsRefused}
 use Rattle.network_files.specs.Requests.{Request, names_of}
-use Rattle.network_files.specs.SoFar.{Denies, Fails, GoesOn, GoesWrong, Halts, HasRead, IsBegun, IsLoading, IsMore, IsSoFar, Means, Seen, State, Takes, seen}
+use Rattle.network_files.specs.SoFar.{Denies, Fails, GoesOn, GoesWrong, Halts, HasRead, IsBegun, IsLoading, IsSoFar, Means, Seen, State, Takes, seen}
 use Rattle.network_files.specs.Views.{HoldsFiles, HoldsLoaded, IsFault}
 use Rattle.network_files.proofs.Lists.{count_names}
 use Rattle.network_files.proofs.Progress.{begun, ends, ends_served, faulted, refused, so_far_more, so_far_passed}
@@ -68,8 +68,9 @@ reads a b c q rest on waits takes same fs ms = λ library faults misses top h.
       misses_stay = since misses b.misses c.misses k.misses_stay ms;
     }
 
+-- .. which is one more
 pub reads_one : (a b c : Seen) (q : Request) (rest : List Request) → b.names ≡ a.names → Takes b.files q b.names c.names (behind b.state rest) c.state true
-    → IsMore a c true
+    → length c.names ≡ suc (length a.names)
 reads_one a b c q rest same takes = ap length takes.taken.adds.names_are ∙ one_more b.names _ ∙ ap (λ ns. suc (length ns)) same
   where
     one_more : {A : Type 0} (xs : List A) (x : A) → length (xs ++ x ∷ []) ≡ suc (length xs)

@@ -3,6 +3,8 @@
 use Rattle.std.specs.Prelude.{◌≡◌, ◌≤◌, ◌+◌, ◌⊎◌, ℕ, suc, Bool, true, false, List, [], ◌∷◌, ◌++◌, length, map, string_bytes, Option, None, Some, is_some, if◌then◌else◌}
 use Rattle.std.specs.declared.alloc.Global.{Global as Heap}
 use Rattle.std.specs.declared.collections.VecDeque.{VecDeque}
+use Rattle.std.specs.declared.result.Result.{Result}
+use Rattle.std.specs.declared.result.Result.TheVariants.{Ok, Err}
 use Rattle.rvc_base.specs.declared.refusal.Refusal.{Refusal}
 use Rattle.rvc_base.specs.Rules.{file_too_long}
 use Rattle.rvc_io.specs.Count.{HasRisen}
@@ -280,7 +282,9 @@ GoesWrong before after fault = (library : Library) (faults misses : ℕ) (top : 
     → IsFault library top (record { old = misses; new = after.misses })
     (record { old = faults; new = after.faults }) after.names fault
 
--- a file more was read, or nothing more is asked for
-abbrev pub IsMore : (before after : Seen) → (more : Bool) → Type 0
-IsMore before after true = length after.names ≡ suc (length before.names)
-IsMore before after false = after.state.waiting ≡ []
+-- a file more was read, or nothing more is asked for, or the loading ends with a fault
+abbrev pub IsNext : (before after : Seen) → Result Bool LoadFault → Type 0
+IsNext before after (Ok true) =
+    GoesOn before after × (length after.names ≡ suc (length before.names))
+IsNext before after (Ok false) = GoesOn before after × (after.state.waiting ≡ [])
+IsNext before after (Err fault) = GoesWrong before after fault

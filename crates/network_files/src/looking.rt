@@ -6,7 +6,7 @@ ghost use Rattle.actor_files.specs.Loading.{Counts, TellsAll, max_bytes, max_fil
 ghost use Rattle.actor_files.specs.Views.{IsOutside, file_names};
 ghost use Rattle.source_network.specs.Files.{AreLoaded, Read};
 ghost use Rattle.network_files.specs.Loading.{IsRefused};
-ghost use Rattle.network_files.specs.SoFar.{GoesOn, GoesWrong, IsBegun, IsMore, seen, state_of};
+ghost use Rattle.network_files.specs.SoFar.{IsBegun, IsNext, seen, state_of};
 ghost use Rattle.network_files.specs.Views.{HasFile, HoldsFiles, HoldsLoaded, IsFault, asked_of, files_in};
 
 use crate::files::NetworkFiles;
@@ -122,15 +122,11 @@ fn read_next<L: Library>(
 ) -> Result<bool, LoadFault>
     requires few { length names.old.files.items ≤ max_files }
     requires small { loading.old.bytes ≤ max_bytes }
-    ensures goes_on { IfOk result (λ _. GoesOn (seen (L.file library.old)
-        (L.faults library.old) (L.misses library.old) (file_names names.old) (state_of loading.old)) (seen (L.file library.new)
-        (L.faults library.new) (L.misses library.new) (file_names names.new) (state_of loading.new))) }
-    ensures more { IfOk result (IsMore (seen (L.file library.old)
-        (L.faults library.old) (L.misses library.old) (file_names names.old) (state_of loading.old)) (seen (L.file library.new)
-        (L.faults library.new) (L.misses library.new) (file_names names.new) (state_of loading.new))) }
-    ensures wrong { IfErr result (GoesWrong (seen (L.file library.old)
-        (L.faults library.old) (L.misses library.old) (file_names names.old) (state_of loading.old)) (seen (L.file library.new)
-        (L.faults library.new) (L.misses library.new) (file_names names.new) (state_of loading.new))) }
+    ensures next { IsNext
+        (seen (L.file library.old) (L.faults library.old) (L.misses library.old)
+        (file_names names.old) (state_of loading.old))
+        (seen (L.file library.new) (L.faults library.new) (L.misses library.new)
+        (file_names names.new) (state_of loading.new)) result }
     ensures same_files { (other : List ℕ) → L.file library.new other ≡ L.file library.old other }
     ensures faults_stay { L.faults library.old ≤ L.faults library.new }
     ensures misses_stay { L.misses library.old ≤ L.misses library.new }
