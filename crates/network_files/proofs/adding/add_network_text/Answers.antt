@@ -17,3 +17,12 @@ returns-in-Err-check_limits-clause-broken c =
     let passes : (max_files < c.args.number) ⊎ (max_bytes < c.args.loading.now.bytes + length c.args.text.now) = search rules in
     broken_limit c.args.text.now true (network (net_of c.in-Ok.net)) c.args.number c.args.loading.now.bytes c.in-Err-check_limits.fault
     (says_network c.in-Ok.ensures.spelled) c.in-Err-check_limits.ensures.refused passes
+
+pub returns-in-Ok-add_network-clause-added : goal.returns-in-Ok-add_network-clause-added
+returns-in-Ok-add_network-clause-added c = record {
+  content = network (net_of c.in-Ok.net);
+  says = says_network c.in-Ok.ensures.spelled;
+  few = search rules;
+  small = search rules;
+  adds = ?;
+}

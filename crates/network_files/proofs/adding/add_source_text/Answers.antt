@@ -17,3 +17,12 @@ returns-in-Err-check_limits-clause-broken c =
     let passes : (max_files < c.args.number) ⊎ (max_bytes < c.args.loading.now.bytes + length c.args.text.now) = search rules in
     broken_limit c.args.text.now false (source (file_tree c.in-Ok.tree)) c.args.number c.args.loading.now.bytes c.in-Err-check_limits.fault
     (says_source c.in-Ok.ensures.spelled) c.in-Err-check_limits.ensures.refused passes
+
+pub returns-in-Ok-add_source-clause-added : goal.returns-in-Ok-add_source-clause-added
+returns-in-Ok-add_source-clause-added c = record {
+  content = source (file_tree c.in-Ok.tree);
+  says = says_source c.in-Ok.ensures.spelled;
+  few = search rules;
+  small = search rules;
+  adds = ?;
+}

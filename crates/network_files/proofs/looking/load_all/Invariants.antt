@@ -6,7 +6,7 @@ use Rattle.network_files.specs.Views.{asked_of}
 use Rattle.network_files.proofs.looking.load_all.Given as goal
 
 abbrev pub invariant-files : goal.invariant-files
-invariant-files g l = IsLoading (g.L.Library.file l.initial.library) (g.L.Library.faults l.initial.library) (g.L.Library.misses l.initial.library) (asked_of l.top l.kind)
+invariant-files g l = IsLoading (g.L.Library.file l.initial.library) (g.L.Library.faults l.initial.library) (g.L.Library.misses l.initial.library) (asked_of l.top l.fn.kind)
     (seen (g.L.Library.file l.library) (g.L.Library.faults l.library) (g.L.Library.misses l.library) (file_names l.names) (state_of l.loading))
 
 abbrev pub decreases-files : goal.decreases-files
