@@ -40,7 +40,7 @@ means_served library nets _ _ done (means_other class k) h = inr h
 pub all_served : (top : Asked) (done : List Read) (passed : List Request) → requests top done ≡ passed → AreServed done (map (λ q. q.asked) passed)
     → AreServed done (top ∷ asked_by_all done)
 all_served top done passed e h =
-    subst (λ as. AreServed done (top ∷ as)) (same_asked 1 done) (subst (λ qs. AreServed done (map (λ q. q.asked) qs)) (sym e) h)
+    subst (λ asked. AreServed done (top ∷ asked)) (same_asked 1 done) (subst (λ qs. AreServed done (map (λ q. q.asked) qs)) (sym e) h)
 
 -- what is read is there
 there : (reads : List Read) (asked : Asked) → IsServed reads asked → HasFile asked (files_of reads)

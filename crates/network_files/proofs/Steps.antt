@@ -22,6 +22,9 @@ use Rattle.network_files.proofs.Taken.{denied_since, failed_since}
 since : (a b c : ℕ) → a ≤ b → b ≤ c → a ≤ c
 since a b c h k = omega arith
 
+pub at_least : {a b c : ℕ} → a ≤ b → b ≤ c → a ≤ c
+at_least {a = a} {b = b} {c = c} h k = since a b c h k
+
 itself : (n : ℕ) → n ≤ n
 itself n = omega arith
 

@@ -24,5 +24,5 @@ returns-in-Ok-add_network-clause-added c = record {
   says = says_network c.in-Ok.ensures.spelled;
   few = search rules;
   small = search rules;
-  adds = ?;
+  adds = c.in-Ok-add_network.ensures;
 }

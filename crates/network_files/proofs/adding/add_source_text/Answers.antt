@@ -24,5 +24,5 @@ returns-in-Ok-add_source-clause-added c = record {
   says = says_source c.in-Ok.ensures.spelled;
   few = search rules;
   small = search rules;
-  adds = ?;
+  adds = c.in-Ok-add_source.ensures;
 }
