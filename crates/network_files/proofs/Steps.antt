@@ -1,5 +1,5 @@
 -- How a loading goes on and ends, from what its steps say.
-use Rattle.std.proofs.Common.{◌≡◌, ℕ, suc, ◌+◌, ◌≤◌, Bool, true, false, inl, inr, List, [], ◌∷◌, ◌++◌, length, refl, sym, ap, subst, ◌∙◌, arith}
+use Rattle.std.proofs.Common.{◌≡◌, ℕ, suc, ◌+◌, ◌-◌, ◌≤◌, ◌<◌, Bool, true, false, inl, inr, List, [], ◌∷◌, ◌++◌, length, refl, sym, ap, subst, ◌∙◌, arith}
 use Rattle.std.specs.Prelude.{◌⊎◌, Result, Ok, Err, IfOk, IfErr, IsErr, MatchResult}
 use Rattle.rvc_base.specs.declared.refusal.Refusal.{Refusal}
 use Rattle.rvc_io.specs.Count.{HasRisen}
@@ -121,6 +121,10 @@ few_names library faults misses top b h =
 
 pub few_bytes : (library : Library) (faults misses : ℕ) (top : Asked) (b : Seen) → IsLoading library faults misses top b → b.state.bytes ≤ max_bytes
 few_bytes library faults misses top b h = h.has_read.is_so_far.small
+
+-- .. so fewer can still be read
+pub shrinks : (old new : ℕ) → new ≡ suc old → new ≤ max_files → max_files - new < max_files - old
+shrinks old new e h = omega arith
 
 files_with : (networks_of : State) (reads : List Read) (library : Library) (top : Asked) (names : List (List ℕ)) → IsSoFar library top reads names networks_of
     → record { networks = networks_of.networks; sources = networks_of.sources } ≡ files_of reads

@@ -3,7 +3,7 @@ use Rattle.std.proofs.lemmas.List.{length-map}
 use Rattle.std.specs.Prelude.{string_bytes}
 use Rattle.actor_files.specs.Loading.{max_bytes, max_files}
 use Rattle.actor_files.specs.Views.{file_names}
-use Rattle.network_files.specs.SoFar.{Seen, Takes, request_of, seen, state_of, waiting_of}
+use Rattle.network_files.specs.SoFar.{GoesOn, Seen, Takes, request_of, seen, state_of, waiting_of}
 use Rattle.network_files.proofs.Steps.{at_least, behind, goes_none, halts, passes, reads, reads_one}
 use Rattle.network_files.proofs.looking.read_next.Goals as goal
 
@@ -41,4 +41,10 @@ requests-preserved g c =
     )
 
 pub returns-clause-next : goal.returns-clause-next
-returns-clause-next g c = ?
+returns-clause-next g c =
+    let none : c.requests.loading.waiting.items ≡ [] = search rules in
+    let same : waiting_of c.requests.loading.waiting ≡ waiting_of c.pop_front.new.self = ap (map request_of) c.in_default.ensures.items in (
+      subst (λ waiting. GoesOn (seen (g.L.Library.file c.args.library.now) (g.L.Library.faults c.args.library.now) (g.L.Library.misses c.args.library.now) (file_names c.args.names.now) (state_of c.args.loading.now)) (seen (g.L.Library.file c.requests.library) (g.L.Library.faults c.requests.library) (g.L.Library.misses c.requests.library)
+          (file_names c.requests.names) (behind (state_of c.requests.loading) waiting))) same c.requests.invariant.3,
+      sym same ∙ ap (map request_of) none,
+    )
