@@ -1,12 +1,12 @@
 -- Which file of a class is wanted, from what is told of its names.
-use Rattle.std.proofs.Common.{◌≡◌, ℕ, Bool, true, false, ◌&&◌, ◌||◌, inl, inr, List, [], ◌∷◌, ◌++◌, refl, sym, ap, subst, ◌∙◌}
-use Rattle.std.specs.Prelude.{Option, None, Some, is_some, if◌then◌else◌}
+use Rattle.std.proofs.Common.{◌≡◌, ℕ, Bool, true, false, ◌&&◌, ◌||◌, List, [], ◌∷◌, ◌++◌, refl, sym, ap, subst, ◌∙◌}
+use Rattle.std.specs.Prelude.{is_some}
 use Rattle.std.specs.Str.{bytes_eq}
 use Rattle.rvc_io.specs.Told.{Told, Untold, Lacking, Holding, IsTold, IsLacking}
 use Rattle.rvc_io.specs.Library.{IsTooLong}
 use Rattle.actor_files.specs.Loading.{Library, TellsAll}
 use Rattle.fnl_bind.specs.Library.{Entry, network_of}
-use Rattle.source_network.specs.Files.{AreReadBehind, Asked, a_class, a_network, an_actor, Content, network, source, IsNextRead, Read, Says, says_network, says_source, Wanted, is_held, is_network, is_read, is_same_kind, name_of, network_file, networks_from, wanted}
+use Rattle.source_network.specs.Files.{AreReadBehind, Asked, Content, IsNextRead, Read, Says, says_network, says_source, Wanted, is_held, is_network, is_read, is_same_kind, name_of, network_file, wanted}
 use Rattle.network_files.specs.SoFar.{IsThere, Means, means_actor, means_known, means_network, means_other, means_there}
 use Rattle.network_files.proofs.Lists.{same_class}
 

@@ -2,14 +2,14 @@
 use Rattle.std.proofs.Common.{◌≡◌, ℕ, suc, ◌+◌, Bool, true, false, ◌&&◌, ◌||◌, List, [], ◌∷◌, ◌++◌, length, map, refl, sym, ap, subst, ◌∙◌, arith}
 use Rattle.std.proofs.lemmas.List.{append_assoc, append-nil, length-map, map-append}
 use Rattle.std.proofs.lemmas.Slice.Eq.{bytes_eq-Decides}
-use Rattle.std.specs.Prelude.{Option, None, Some, is_some, not, if◌then◌else◌}
+use Rattle.std.specs.Prelude.{Option, None, Some, is_some, if◌then◌else◌}
 use Rattle.std.specs.Str.{bytes_eq}
 use Rattle.cal_imports.specs.Sources.{Source, imports_of, source_named}
 use Rattle.cal_imports.specs.View.{new_source}
 use Rattle.cal_imports.specs.Walk.{Edge}
 use Rattle.cal_imports.specs.Whole.{import_edges}
 use Rattle.actor_files.specs.Loading.{Library}
-use Rattle.fnl_read.specs.Net.{Net, Instance}
+use Rattle.fnl_read.specs.Net.{Instance}
 use Rattle.fnl_bind.specs.Library.{Entry, network_of}
 use Rattle.source_network.specs.Files.{Asked, Content, network, source, Read, Wanted, asked_by, asked_by_all, asked_by_import, asked_by_instance, bytes_of, first_unread, is_network, is_read, is_same_kind, networks_from, networks_in, next_wanted, sources_from, sources_in, wanted}
 use Rattle.network_files.specs.Requests.{AreAllRead, Request, import_request, instance_request, names_of, read_name, requests, requests_by, requests_from, top_request}

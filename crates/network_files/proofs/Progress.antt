@@ -1,20 +1,14 @@
 -- A loading goes on, and how it ends.
-use Rattle.std.proofs.Common.{◌≡◌, ℕ, suc, ◌+◌, ◌≤◌, Bool, true, false, inl, inr, List, [], ◌∷◌, ◌++◌, length, map, refl, sym, ap, subst, ◌∙◌, arith}
+use Rattle.std.proofs.Common.{◌≡◌, ℕ, suc, ◌+◌, ◌≤◌, Bool, true, false, inl, inr, List, [], ◌∷◌, ◌++◌, length, refl, sym, ap, subst, ◌∙◌, arith}
 use Rattle.std.proofs.lemmas.List.{append_assoc, append-nil}
-use Rattle.std.specs.Prelude.{◌⊎◌, None, Some, is_some}
+use Rattle.std.specs.Prelude.{◌⊎◌, Some, is_some}
 use Rattle.rvc_base.specs.declared.refusal.Refusal.{Refusal}
-use Rattle.rvc_io.specs.Count.{HasRisen}
-use Rattle.actor_files.specs.FileText.{IsText}
 use Rattle.actor_files.specs.Loading.{Counts, Library, TellsAll, max_bytes, max_files}
-use Rattle.actor_files.specs.declared.fault.LoadFault.{LoadFault}
-use Rattle.actor_files.specs.declared.fault.LoadFault.TheVariants.{Refused, ReadFault, Memory}
 use Rattle.fnl_bind.specs.Library.{network_of}
-use Rattle.source_network.specs.Files.{AreLoaded, AreReadBehind, Asked, a_class, IsNextRead, Read, Says, Wanted, asked_by_all, bytes_of, class_asked, files_of, first_unread, is_held, is_network, is_read, name_of, network_file, networks_from, networks_in, next_wanted, sources_from, sources_in, wanted}
-use Rattle.source_network.specs.Source.{Files}
+use Rattle.source_network.specs.Files.{AreLoaded, AreReadBehind, Asked, a_class, IsNextRead, Read, Wanted, asked_by_all, bytes_of, is_network, is_read, name_of, network_file, networks_from, networks_in, sources_from, sources_in, wanted}
 use Rattle.network_files.specs.Loading.{ComesTo, IsFaulted, IsRefused, LooksUp, Refuses, is_missing, is_there, looks_up_file, looks_up_network}
-use Rattle.network_files.specs.Requests.{AreAllRead, AreServed, Request, names_of, read_name, requests, requests_by, top_request}
-use Rattle.network_files.specs.SoFar.{AddsRead, Denies, Fails, GoesOn, GoesWrong, Halts, HasRead, IsBegun, IsDenied, IsLoading, IsLookedAt, IsSoFar, Means, Seen, State, Takes, denied_file, denied_missing, has, seen, trial_of}
-use Rattle.network_files.specs.Views.{HoldsLoaded, IsFault}
+use Rattle.network_files.specs.Requests.{AreServed, Request, names_of, read_name, requests, requests_by}
+use Rattle.network_files.specs.SoFar.{AddsRead, Denies, Fails, HasRead, IsBegun, IsDenied, IsSoFar, Means, State, denied_file, denied_missing, has, trial_of}
 use Rattle.network_files.proofs.Known.{means_wanted, network_held, says_kind}
 use Rattle.network_files.proofs.Lists.{all_read_join, all_read_more, bytes_more, count_names, first_none, first_past, length_more, names_more, networks_more, next_is, read_there, requests_more, same_has, sources_more}
 use Rattle.network_files.proofs.Served.{all_served, all_served_join, all_served_stay, means_served}

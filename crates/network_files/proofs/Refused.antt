@@ -1,7 +1,7 @@
 -- If a library tells of each name, files that can all be read aren't refused.
-use Rattle.std.proofs.Common.{◌≡◌, ℕ, suc, ◌+◌, ◌≤◌, ◌<◌, Bool, true, false, inl, inr, List, [], ◌∷◌, ◌++◌, length, refl, sym, ap, subst, ◌∙◌, arith}
+use Rattle.std.proofs.Common.{◌≡◌, ℕ, suc, ◌+◌, ◌≤◌, Bool, inl, inr, List, [], ◌∷◌, ◌++◌, length, refl, sym, ap, subst, ◌∙◌, arith}
 use Rattle.std.proofs.lemmas.List.{append_assoc, append-nil}
-use Rattle.std.specs.Prelude.{◌⊎◌, Option, None, Some}
+use Rattle.std.specs.Prelude.{Option, None, Some}
 use Rattle.rvc_base.specs.declared.refusal.Refusal.{Refusal}
 use Rattle.rvc_base.specs.declared.refusal.Rule.{Rule}
 use Rattle.rvc_io.specs.Library.{IsTooLong, max_file_bytes}
@@ -17,9 +17,9 @@ use Rattle.actor_files.specs.Loading.{Counts, Library, TellsAll, max_bytes, max_
 use Rattle.fnl_read.specs.Net.{Net}
 use Rattle.fnl_read.specs.Network as net
 use Rattle.fnl_grammar.specs.Laws.{IsOneNetworkFile, NetworkFileIsRead}
-use Rattle.source_network.specs.Files.{AreLoaded, AreReadBehind, Asked, Content, network, source, IsNextRead, Read, Says, says_network, says_source, Wanted, bytes_of, name_of, next_wanted, wanted}
+use Rattle.source_network.specs.Files.{AreReadBehind, Asked, Content, network, source, IsNextRead, Read, Says, says_network, says_source, Wanted, bytes_of, name_of, next_wanted, wanted}
 use Rattle.network_files.specs.Laws.{LoadedIsNotRefused}
-use Rattle.network_files.specs.Loading.{BreaksRule, ComesTo, IsRefused, Refuses, RefusesFile, RefusesText, breaks_rule, in_network, in_source, is_missing, is_refused, is_there, is_too_long, is_too_much}
+use Rattle.network_files.specs.Loading.{BreaksRule, Refuses, RefusesFile, RefusesText, breaks_rule, in_network, in_source, is_missing, is_refused, is_there, is_too_long, is_too_much}
 use Rattle.network_files.specs.Requests.{Request}
 use Rattle.network_files.proofs.Lists.{first_past, next_is}
 

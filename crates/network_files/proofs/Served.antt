@@ -1,13 +1,13 @@
 -- What is asked for has a file, whatever a library tells.
-use Rattle.std.proofs.Common.{◌≡◌, ℕ, Bool, true, false, inl, inr, List, [], ◌∷◌, ◌++◌, map, refl, sym, ap, subst, ◌∙◌}
-use Rattle.std.specs.Prelude.{◌⊎◌, Result, Ok, Err, IfOk, is_some}
+use Rattle.std.proofs.Common.{◌≡◌, ℕ, true, false, inl, inr, List, [], ◌∷◌, ◌++◌, map, sym, subst, ◌∙◌}
+use Rattle.std.specs.Prelude.{Result, Ok, Err, IfOk}
 use Rattle.actor_files.specs.Loading.{Library}
 use Rattle.actor_files.specs.declared.fault.LoadFault.{LoadFault}
 use Rattle.fnl_bind.specs.Library.{Entry}
-use Rattle.source_network.specs.Files.{Asked, a_class, a_network, an_actor, Read, Wanted, asked_by_all, files_of, is_read, networks_from, sources_from}
+use Rattle.source_network.specs.Files.{Asked, a_class, a_network, an_actor, Read, Wanted, asked_by_all, files_of, is_read}
 use Rattle.source_network.specs.Source.{Files}
 use Rattle.network_files.specs.Requests.{AreServed, IsServed, Request, requests}
-use Rattle.network_files.specs.SoFar.{Means, has, means_actor, means_known, means_network, means_other, means_there}
+use Rattle.network_files.specs.SoFar.{Means, means_actor, means_known, means_network, means_other, means_there}
 use Rattle.network_files.specs.Views.{HasFile, HoldsLoaded}
 use Rattle.network_files.proofs.Known.{of_kind}
 use Rattle.network_files.proofs.Lists.{read_stays, same_asked, same_has}

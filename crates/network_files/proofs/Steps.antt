@@ -1,18 +1,17 @@
 -- How a loading goes on and ends, from what its steps say.
-use Rattle.std.proofs.Common.{◌≡◌, ℕ, suc, ◌+◌, ◌-◌, ◌≤◌, ◌<◌, Bool, true, false, inl, inr, List, [], ◌∷◌, ◌++◌, length, refl, sym, ap, subst, ◌∙◌, arith}
-use Rattle.std.specs.Prelude.{◌⊎◌, Result, Ok, Err, IfOk, IfErr, IsErr, MatchResult}
+use Rattle.std.proofs.Common.{◌≡◌, ℕ, suc, ◌-◌, ◌≤◌, ◌<◌, true, false, List, [], ◌∷◌, ◌++◌, length, refl, sym, ap, subst, ◌∙◌, arith}
+use Rattle.std.specs.Prelude.{Result, Ok, Err, IfOk, IfErr, IsErr, MatchResult}
 use Rattle.rvc_base.specs.declared.refusal.Refusal.{Refusal}
-use Rattle.rvc_io.specs.Count.{HasRisen}
 use Rattle.actor_files.specs.Loading.{Counts, Library, TellsAll, max_bytes, max_files}
 use Rattle.actor_files.specs.Views.{IsOutside}
 use Rattle.actor_files.specs.declared.fault.LoadFault.{LoadFault}
 use Rattle.actor_files.specs.declared.fault.LoadFault.TheVariants.{Refused, ReadFault, Memory}
-use Rattle.source_network.specs.Files.{AreLoaded, Asked, Read, a_class, files_of, networks_from, sources_from}
+use Rattle.source_network.specs.Files.{AreLoaded, Asked, Read, files_of}
 use Rattle.source_network.specs.Library.{FilesAreOne}
 use Rattle.source_network.specs.Source.{Files}
 use Rattle.network_files.specs.Laws.{LoadedIsNotRefused}
 use Rattle.network_files.specs.Loading.{IsRefused}
-use Rattle.network_files.specs.Requests.{Request, names_of}
+use Rattle.network_files.specs.Requests.{Request}
 use Rattle.network_files.specs.SoFar.{Denies, Fails, GoesOn, GoesWrong, Halts, HasRead, IsBegun, IsLoading, IsSoFar, Means, Seen, State, Takes, seen}
 use Rattle.network_files.specs.Views.{HoldsFiles, HoldsLoaded, IsFault}
 use Rattle.network_files.proofs.Lists.{count_names}

@@ -1,18 +1,17 @@
 -- One request, from what the steps of its reading say.
-use Rattle.std.proofs.Common.{◌≡◌, ℕ, suc, ◌+◌, ◌≤◌, Bool, true, false, inl, inr, List, [], ◌∷◌, ◌++◌, length, refl, sym, ap, subst, ◌∙◌, arith}
-use Rattle.std.specs.Prelude.{◌⊎◌, Result, Ok, Err, IfOk, IfErr, is_some}
+use Rattle.std.proofs.Common.{◌≡◌, ℕ, suc, ◌≤◌, Bool, true, false, inl, inr, List, length, refl, sym, subst, arith}
+use Rattle.std.specs.Prelude.{Result, Ok, Err, IfOk, IfErr}
 use Rattle.rvc_base.specs.declared.refusal.Refusal.{Refusal}
 use Rattle.rvc_io.specs.Count.{HasRisen}
-use Rattle.rvc_io.specs.Told.{Told, IsLacking}
+use Rattle.rvc_io.specs.Told.{Told}
 use Rattle.actor_files.specs.FileText.{IsText}
 use Rattle.actor_files.specs.Loading.{Counts, Library}
 use Rattle.actor_files.specs.declared.fault.LoadFault.{LoadFault}
 use Rattle.actor_files.specs.declared.fault.LoadFault.TheVariants.{Refused, ReadFault, Memory}
-use Rattle.fnl_bind.specs.Library.{network_of}
-use Rattle.source_network.specs.Files.{Asked, a_class, a_network, an_actor, Wanted, name_of, network_file}
+use Rattle.source_network.specs.Files.{a_class, Wanted, name_of, network_file}
 use Rattle.network_files.specs.Loading.{RefusesFile, is_refused, is_too_long}
 use Rattle.network_files.specs.Requests.{Request}
-use Rattle.network_files.specs.SoFar.{AddsRead, Denies, Fails, Halts, IsBroken, IsDenied, IsFailed, IsHeld, IsMissed, IsStopped, IsTaken, IsThere, IsTried, Means, State, Takes, Trial, denied_file, denied_missing, has, means_actor, means_known, means_network, means_other, means_there, number_of, trial_of, with_name}
+use Rattle.network_files.specs.SoFar.{AddsRead, Halts, IsBroken, IsDenied, IsFailed, IsHeld, IsMissed, IsStopped, IsTaken, IsThere, Means, State, Takes, Trial, denied_file, denied_missing, has, means_known, means_other, means_there, number_of, trial_of, with_name}
 use Rattle.network_files.proofs.Known.{long_there, of_kind, told_there}
 
 pub rose_since : (first old new : ℕ) → first ≤ old → HasRisen old new → HasRisen first new

@@ -6,15 +6,12 @@ use Rattle.std.specs.declared.collections.VecDeque.{VecDeque}
 use Rattle.std.specs.declared.result.Result.{Result}
 use Rattle.std.specs.declared.result.Result.TheVariants.{Ok, Err}
 use Rattle.rvc_base.specs.declared.refusal.Refusal.{Refusal}
-use Rattle.rvc_base.specs.Rules.{file_too_long}
 use Rattle.rvc_io.specs.Count.{HasRisen}
-use Rattle.rvc_io.specs.Library.{IsTooLong, max_file_bytes}
 use Rattle.rvc_io.specs.Told.{Told, Untold, Lacking, Holding, IsLacking}
 use Rattle.cal_imports.specs.Sources.{Source, source_named}
 use Rattle.cal_imports.specs.View.{sources}
 use Rattle.actor_files.specs.FileText.{IsText}
 use Rattle.actor_files.specs.Loading.{Counts, Library, TellsAll, max_bytes, max_files}
-use Rattle.actor_files.specs.Reads.{refusal_at}
 use Rattle.actor_files.specs.declared.fault.LoadFault.{LoadFault}
 use Rattle.actor_files.specs.declared.fault.LoadFault.TheVariants.{Refused, ReadFault, Memory}
 use Rattle.fnl_bind.specs.Library.{Entry, network_of}

@@ -158,7 +158,15 @@ pub(crate) fn take<L: Library>(
             take_file(alloc, library, class, true, request.missing, names, loading)
         }
         FileKind::Actor => {
-            take_file(alloc, library, class, false, request.missing, names, loading)
+            take_file(
+                alloc,
+                library,
+                class,
+                false,
+                request.missing,
+                names,
+                loading,
+            )
         }
         FileKind::Either => take_either(alloc, library, class, request.missing, names, loading),
     }

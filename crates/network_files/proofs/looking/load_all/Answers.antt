@@ -1,7 +1,7 @@
 use Rattle.std.proofs.Common.{length, subst}
 use Rattle.std.specs.Prelude.{Ok}
 use Rattle.actor_files.specs.Views.{file_names}
-use Rattle.network_files.specs.SoFar.{IsNext, Seen, seen, state_of}
+use Rattle.network_files.specs.SoFar.{IsNext, seen, state_of}
 use Rattle.network_files.specs.Views.{asked_of}
 use Rattle.network_files.proofs.Steps.{few_names, loads, shrinks, starts}
 use Rattle.network_files.proofs.looking.load_all.Goals as goal

@@ -1,10 +1,10 @@
-use Rattle.std.proofs.Common.{◌≡◌, ◌≤◌, [], length, map, refl, sym, ap, subst, ◌∙◌, rules}
+use Rattle.std.proofs.Common.{◌≡◌, ◌≤◌, [], length, map, sym, ap, subst, ◌∙◌, rules}
 use Rattle.std.proofs.lemmas.List.{length-map}
 use Rattle.std.specs.Prelude.{string_bytes}
 use Rattle.actor_files.specs.Loading.{max_bytes, max_files}
 use Rattle.actor_files.specs.Views.{file_names}
 use Rattle.network_files.specs.SoFar.{GoesOn, Seen, Takes, request_of, seen, state_of, waiting_of}
-use Rattle.network_files.proofs.Steps.{at_least, behind, goes_none, halts, passes, reads, reads_one}
+use Rattle.network_files.proofs.Steps.{at_least, behind, halts, passes, reads, reads_one}
 use Rattle.network_files.proofs.looking.read_next.Goals as goal
 
 pub returns-in-Ok-true-clause-next : goal.returns-in-Ok-true-clause-next
