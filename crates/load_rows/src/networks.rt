@@ -10,11 +10,13 @@ use std::test::Fail;
 /// The class of the top, which of its files is meant, the files, and what is answered, as for an actor.
 type Row = (&'static str, FileKind, Files, &'static str);
 
-const TWICE: &str = "<XDF name='Top'><Instance id='a'><Class name='A'/></Instance><Instance id='b'><Class name='A'/></Instance></XDF>";
+const TWICE: &str =
+    "<XDF name='Top'><Instance id='a'><Class name='A'/></Instance><Instance id='b'><Class name='A'/></Instance></XDF>";
 
 const ONE: &str = "<XDF name='Top'><Instance id='a'><Class name='A'/></Instance></XDF>";
 
-const MIXED: &str = "<XDF name='Top'><Instance id='m'><Class name='p.M'/></Instance><Instance id='b'><Class name='B'/></Instance></XDF>";
+const MIXED: &str =
+    "<XDF name='Top'><Instance id='m'><Class name='p.M'/></Instance><Instance id='b'><Class name='B'/></Instance></XDF>";
 
 const INNER: &str = "<XDF name='M'><Instance id='a'><Class name='A'/></Instance></XDF>";
 

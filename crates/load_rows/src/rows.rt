@@ -111,7 +111,12 @@ const FAILING: &[(u64, Row)] = &[
 ];
 
 /// A library of the files, of whose reads the one of a number fails.
-pub(crate) fn library(rt: &impl Abort, a: Global, files: Files, failing: u64) -> Result<Logged, Fail> {
+pub(crate) fn library(
+    rt: &impl Abort,
+    a: Global,
+    files: Files,
+    failing: u64,
+) -> Result<Logged, Fail> {
     let mut held = Vec::new(a);
     for &(name, text) in files {
         let bytes = Vec::from_slice(a, text.as_bytes())?;
