@@ -2,6 +2,7 @@ mod Broken
 mod Lists
 mod Known
 mod Served
+mod Leaves
 mod Progress
 mod Taken
 mod Refused

@@ -26,5 +26,5 @@ mod taking;
 
 pub use files::NetworkFiles;
 pub use kind::FileKind;
-pub use laws::one_outcome;
+pub use laws::{leaves_have_files, one_outcome};
 pub use looking::load_network;
