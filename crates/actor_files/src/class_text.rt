@@ -22,8 +22,12 @@ fn push_behind_dots(text: &mut String, names: &[Ident]) -> Result<(), Memory>
     Ok(())
 }
 
-/// The text of names, with dots between.
-pub(crate) fn dotted(alloc: Global, names: &[Ident]) -> Result<String, Memory>
+/// The text of names, with dots between: that of a class.
+///
+/// # Errors
+///
+/// [`Memory`] if an allocation is refused.
+pub fn dotted(alloc: Global, names: &[Ident]) -> Result<String, Memory>
     ensures { IfOk result (λ text. string_bytes text ≡ dotted (names_tree names.now)) }
 {
     let Some((first, others)) = names.split_first() else {

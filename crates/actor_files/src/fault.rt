@@ -56,7 +56,7 @@ impl From<Memory> for LoadFault {
 }
 
 /// The fault of a reader of one file.
-pub(crate) fn of_front(front: Front) -> LoadFault
+pub fn of_front(front: Front) -> LoadFault
     ensures { result ≡ of_front front }
 {
     match front {
@@ -66,7 +66,7 @@ pub(crate) fn of_front(front: Front) -> LoadFault
 }
 
 /// A rule is broken, in a file at a place.
-pub(crate) fn refused(rule: Rule, file: u32, offset: u32) -> LoadFault
+pub fn refused(rule: Rule, file: u32, offset: u32) -> LoadFault
     ensures { result ≡ LoadFault.Refused (refusal_at rule file offset) }
 {
     LoadFault::Refused(Refusal {

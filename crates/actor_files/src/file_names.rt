@@ -6,8 +6,12 @@ ghost use Rattle.actor_files.specs.FileNames.{IsActorFile, class_of, file_of, pa
 use rvc_base::Memory;
 use std::alloc::Global;
 
-/// Adds a text with one mark in place of another.
-fn push_replaced(text: &mut String, part: &str, mark: char, other: char) -> Result<(), Memory>
+/// Adds a text with one mark in place of another. Both are of one byte.
+///
+/// # Errors
+///
+/// [`Memory`] if an allocation is refused.
+pub fn push_replaced(text: &mut String, part: &str, mark: char, other: char) -> Result<(), Memory>
     requires mark { mark < 128 }
     requires other { other < 128 }
     ensures { OnOk result (string_bytes text.new

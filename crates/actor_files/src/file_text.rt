@@ -25,7 +25,12 @@ fn file_in(alloc: Global, number: u32, text: &[u8], tokens: &[Token]) -> Result<
 }
 
 /// The file that the text of the file of a number spells.
-pub(crate) fn tree_of(alloc: Global, number: u32, text: &[u8]) -> Result<File, Front>
+///
+/// # Errors
+///
+/// `Refused`: the rule of the lexis, or else of the grammar, that the text breaks (`refused`). `Memory`: an allocation was
+/// refused.
+pub fn tree_of(alloc: Global, number: u32, text: &[u8]) -> Result<File, Front>
     requires { length text.now ≤ MAX_FILE_BYTES }
     ensures spelled { IfOk result (λ file. IsFile text.now (file_tree file)) }
     ensures refused { IfErr result (IsRightly number text.now) }

@@ -7,7 +7,8 @@
 //! holds the names by these numbers, for whoever prints a place.
 //!
 //! A file is refused by the first of these: its length, its lexis, its grammar, the limits of all files together. A
-//! class without a file is refused where it is asked for.
+//! class without a file is refused where it is asked for. [`tree_of`], [`short_text`] and [`check_limits`] are these tests,
+//! for whoever reads files of other kinds beside them.
 //!
 //! `specs/` says which class is asked for next (`Reads`), which files are read and what refuses one (`Loading`), all by
 //! what the library tells of each name.
@@ -25,10 +26,13 @@ mod next_file;
 mod requests;
 mod top_actor;
 
-pub use fault::LoadFault;
-pub use file_names::class_of;
+pub use class_text::dotted;
+pub use fault::{LoadFault, of_front, refused};
+pub use file_names::{class_of, push_replaced};
+pub use file_text::tree_of;
 pub use laws::{loaded_are_reached, one_loading, one_outcome};
-pub use limits::{MAX_BYTES, MAX_FILES};
+pub use limits::{MAX_BYTES, MAX_FILES, check_limits};
 pub use loading::load;
 pub use names::Names;
+pub use next_file::{next_number, short_text, too_long};
 pub use top_actor::read_actor;

@@ -16,7 +16,11 @@ pub const MAX_FILES: usize = 1_024;
 pub const MAX_BYTES: usize = 16_777_216;
 
 /// Refuses a file that would have this number and this many bytes, behind so many bytes, if a limit is passed.
-pub(crate) fn check_limits(number: u32, bytes: usize, size: usize) -> Result<(), LoadFault>
+///
+/// # Errors
+///
+/// `Refused`: its number, or the bytes of all files, pass a limit (`passes`).
+pub fn check_limits(number: u32, bytes: usize, size: usize) -> Result<(), LoadFault>
     requires before { bytes ≤ MAX_BYTES }
     requires short { size ≤ MAX_FILE_BYTES }
     ensures few { OnOk result (number ≤ max_files) }

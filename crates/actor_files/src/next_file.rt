@@ -86,14 +86,18 @@ fn add_text(
 }
 
 /// The file of this number is too long.
-fn too_long(number: u32) -> LoadFault
+pub fn too_long(number: u32) -> LoadFault
     ensures { result ≡ LoadFault.Refused (refusal_at file_too_long number max_file_bytes) }
 {
     refused(Rule::FILE_TOO_LONG, number, MAX_FILE_BYTES as u32)
 }
 
 /// A text that was read, if it isn't too long.
-fn short_text(number: u32, text: Vec<u8>) -> Result<Vec<u8>, LoadFault>
+///
+/// # Errors
+///
+/// `Refused`: it has more bytes than a file may have (`long`).
+pub fn short_text(number: u32, text: Vec<u8>) -> Result<Vec<u8>, LoadFault>
     ensures same { IfOk result (λ short. short.items ≡ text.items) }
     ensures short { IfOk result (λ short. length short.items ≤ max_file_bytes) }
     ensures long { IfErr result (λ _. max_file_bytes < length text.items) }
@@ -107,7 +111,7 @@ fn short_text(number: u32, text: Vec<u8>) -> Result<Vec<u8>, LoadFault>
 }
 
 /// The number of the next file.
-fn next_number(names: &Names) -> u32
+pub fn next_number(names: &Names) -> u32
     requires { length names.now.files.items ≤ max_files }
     ensures { result ≡ suc (length names.now.files.items) }
 {

@@ -8,7 +8,7 @@ use std::process::Abort;
 use std::test::Fail;
 
 /// Files: each a name and its text.
-type Files = &'static [(&'static str, &'static str)];
+pub(crate) type Files = &'static [(&'static str, &'static str)];
 
 /// A top, the files, and what is answered: the names that were asked for, and how the loading ended, with the names of
 /// the files that have a number.
@@ -111,7 +111,12 @@ const FAILING: &[(u64, Row)] = &[
 ];
 
 /// A library of the files, of whose reads the one of a number fails.
-fn library(rt: &impl Abort, a: Global, files: Files, failing: u64) -> Result<Logged, Fail> {
+pub(crate) fn library(
+    rt: &impl Abort,
+    a: Global,
+    files: Files,
+    failing: u64,
+) -> Result<Logged, Fail> {
     let mut held = Vec::new(a);
     for &(name, text) in files {
         let bytes = Vec::from_slice(a, text.as_bytes())?;
@@ -150,9 +155,14 @@ fn answer(
     let mut names = Names::new(a);
     let fault = load(a, &mut library, class.as_str(), &mut names).err();
     let ended = outcome(a, fault)?;
-    let mut text = String::from_str(a, library.asked.as_str())?;
+    told(a, library.asked.as_str(), ended.as_str(), &names)
+}
+
+/// The names that were asked for, how the loading ended, and the names of the files that have a number.
+pub(crate) fn told(a: Global, asked: &str, ended: &str, names: &Names) -> Result<String, Fail> {
+    let mut text = String::from_str(a, asked)?;
     text.push_str("| ")?;
-    text.push_str(ended.as_str())?;
+    text.push_str(ended)?;
     text.push_str(" |")?;
     for name in &names.files {
         text.push_str(" ")?;

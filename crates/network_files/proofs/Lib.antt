@@ -1,2 +1,9 @@
+mod Broken
 mod Lists
+mod Known
+mod Served
+mod Leaves
+mod Progress
+mod Taken
 mod Refused
+mod Steps

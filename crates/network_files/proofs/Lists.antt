@@ -2,15 +2,18 @@
 use Rattle.std.proofs.Common.{◌≡◌, ℕ, suc, ◌+◌, Bool, true, false, ◌&&◌, ◌||◌, List, [], ◌∷◌, ◌++◌, length, map, refl, sym, ap, subst, ◌∙◌, arith}
 use Rattle.std.proofs.lemmas.List.{append_assoc, append-nil, length-map, map-append}
 use Rattle.std.proofs.lemmas.Slice.Eq.{bytes_eq-Decides}
-use Rattle.std.specs.Prelude.{None, Some, if◌then◌else◌}
+use Rattle.std.specs.Prelude.{Option, None, Some, is_some, if◌then◌else◌}
 use Rattle.std.specs.Str.{bytes_eq}
-use Rattle.cal_imports.specs.Sources.{imports_of}
+use Rattle.cal_imports.specs.Sources.{Source, imports_of, source_named}
+use Rattle.cal_imports.specs.View.{new_source}
 use Rattle.cal_imports.specs.Walk.{Edge}
 use Rattle.cal_imports.specs.Whole.{import_edges}
 use Rattle.actor_files.specs.Loading.{Library}
 use Rattle.fnl_read.specs.Net.{Instance}
+use Rattle.fnl_bind.specs.Library.{Entry, network_of}
 use Rattle.source_network.specs.Files.{Asked, Content, network, source, Read, Wanted, asked_by, asked_by_all, asked_by_import, asked_by_instance, bytes_of, first_unread, is_network, is_read, is_same_kind, networks_from, networks_in, next_wanted, sources_from, sources_in, wanted}
 use Rattle.network_files.specs.Requests.{AreAllRead, Request, import_request, instance_request, names_of, read_name, requests, requests_by, requests_from, top_request}
+use Rattle.network_files.specs.SoFar.{has}
 
 -- ---- lists of files
 
@@ -81,7 +84,65 @@ same_class a b h = (bytes_eq-Decides a b).0 h
 is_itself : (a : List ℕ) → bytes_eq a a ≡ true
 is_itself a = (bytes_eq-Decides a a).1 refl
 
-read_stays : (w : Wanted) (done later : List Read) → is_read w done ≡ true → is_read w (done ++ later) ≡ true
+either_way : (a b : List ℕ) → bytes_eq a b ≡ bytes_eq b a
+either_way a b = go (bytes_eq a b) (bytes_eq b a) (λ h. subst (λ x. bytes_eq b x ≡ true) (sym (same_class a b h)) (is_itself b))
+    (λ h. subst (λ x. bytes_eq a x ≡ true) (sym (same_class b a h)) (is_itself a))
+  where
+    go : (x y : Bool) → (x ≡ true → y ≡ true) → (y ≡ true → x ≡ true) → x ≡ y
+    go true y f g = sym (f refl)
+    go false true f g = g refl
+    go false false f g = refl
+
+network_or_not : (t x : Bool) (o : Option Entry) (e : Entry) → x ≡ is_some o → ((t && true) || x) ≡ is_some (if t then Some e else o)
+network_or_not true x o s e = refl
+network_or_not false x o s e = e
+
+source_or_not : (t x : Bool) (o : Option Source) (s : Source) → x ≡ is_some o → ((t && true) || x) ≡ is_some (if t then Some s else o)
+source_or_not true x o s e = refl
+source_or_not false x o s e = e
+
+passed : (t x y : Bool) → x ≡ y → ((t && false) || x) ≡ y
+passed true x y e = e
+passed false x y e = e
+
+network_is_read : (class : List ℕ) (n : ℕ) (rs : List Read) → is_read (record { class = class; network = true }) rs ≡ is_some (network_of class (networks_from n rs))
+network_is_read class n [] = refl
+network_is_read class n (r ∷ rs) = go r.content (network_is_read class (suc n) rs)
+  where
+    go : (content : Content) → is_read (record { class = class; network = true }) rs ≡ is_some (network_of class (networks_from (suc n) rs))
+        → ((bytes_eq class r.class && is_same_kind true (is_network content)) || is_read (record { class = class; network = true }) rs)
+        ≡ is_some (network_of class (networks_in r.class n content ++ networks_from (suc n) rs))
+    go (network net) h =
+        ap (λ t. (t && true) || is_read (record { class = class; network = true }) rs) (either_way class r.class)
+        ∙ network_or_not (bytes_eq r.class class) (is_read (record { class = class; network = true }) rs) (network_of class (networks_from (suc n) rs))
+        (record { class = r.class; file = n; net = net }) h
+    go (source tree) h = passed (bytes_eq class r.class) (is_read (record { class = class; network = true }) rs) (is_some (network_of class (networks_from (suc n) rs))) h
+
+source_is_read : (class : List ℕ) (n : ℕ) (rs : List Read) → is_read (record { class = class; network = false }) rs ≡ is_some (source_named class (sources_from n rs))
+source_is_read class n [] = refl
+source_is_read class n (r ∷ rs) = go r.content (source_is_read class (suc n) rs)
+  where
+    go : (content : Content) → is_read (record { class = class; network = false }) rs ≡ is_some (source_named class (sources_from (suc n) rs))
+        → ((bytes_eq class r.class && is_same_kind false (is_network content)) || is_read (record { class = class; network = false }) rs)
+        ≡ is_some (source_named class (sources_in r.class n content ++ sources_from (suc n) rs))
+    go (network net) h = passed (bytes_eq class r.class) (is_read (record { class = class; network = false }) rs) (is_some (source_named class (sources_from (suc n) rs))) h
+    go (source tree) h =
+        source_or_not (bytes_eq class r.class) (is_read (record { class = class; network = false }) rs) (source_named class (sources_from (suc n) rs))
+        (new_source r.class n tree) h
+
+-- what the sets hold is read
+pub same_has : (w : Wanted) (rs : List Read) → has w (networks_from 1 rs) (sources_from 1 rs) ≡ is_read w rs
+same_has w rs = go w.network refl
+  where
+    go : (b : Bool) → w.network ≡ b → has w (networks_from 1 rs) (sources_from 1 rs) ≡ is_read w rs
+    go true e =
+        let same : record { class = w.class; network = true } ≡ w = λ i. record { class = w.class; network = sym e i } in
+        subst (λ v. has v (networks_from 1 rs) (sources_from 1 rs) ≡ is_read v rs) same (sym (network_is_read w.class 1 rs))
+    go false e =
+        let same : record { class = w.class; network = false } ≡ w = λ i. record { class = w.class; network = sym e i } in
+        subst (λ v. has v (networks_from 1 rs) (sources_from 1 rs) ≡ is_read v rs) same (sym (source_is_read w.class 1 rs))
+
+pub read_stays : (w : Wanted) (done later : List Read) → is_read w done ≡ true → is_read w (done ++ later) ≡ true
 read_stays w [] later h = cc
 read_stays w (r ∷ done) later h = go (bytes_eq w.class r.class && is_same_kind w.network (is_network r.content)) h (read_stays w done later)
   where
@@ -89,7 +150,7 @@ read_stays w (r ∷ done) later h = go (bytes_eq w.class r.class && is_same_kind
     go true k rest = refl
     go false k rest = rest k
 
-read_there : (w : Wanted) (done : List Read) (r : Read) → r.class ≡ w.class → is_network r.content ≡ w.network → is_read w (done ++ r ∷ []) ≡ true
+pub read_there : (w : Wanted) (done : List Read) (r : Read) → r.class ≡ w.class → is_network r.content ≡ w.network → is_read w (done ++ r ∷ []) ≡ true
 read_there w [] r c k = both (bytes_eq w.class r.class) (is_same_kind w.network (is_network r.content)) (subst (λ x. bytes_eq w.class x ≡ true) (sym c) (is_itself w.class))
     (subst (λ x. is_same_kind w.network x ≡ true) (sym k) (kind_itself w.network))
   where
@@ -135,7 +196,7 @@ same_asked_by : (n : ℕ) (content : Content) → map (λ q. q.asked) (requests_
 same_asked_by n (network net) = same_instances n net.instances
 same_asked_by n (source tree) = same_imports n (import_edges (imports_of tree))
 
-same_asked : (n : ℕ) (rs : List Read) → map (λ q. q.asked) (requests_from n rs) ≡ asked_by_all rs
+pub same_asked : (n : ℕ) (rs : List Read) → map (λ q. q.asked) (requests_from n rs) ≡ asked_by_all rs
 same_asked n [] = refl
 same_asked n (r ∷ rs) =
     map-append (λ q. q.asked) (requests_by n r.content) (requests_from (suc n) rs)

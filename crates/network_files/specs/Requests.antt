@@ -1,6 +1,6 @@
 -- What a top and its files ask for, and what is refused if it isn't there.
 -- Trusted: part of what a promise means.
-use Rattle.std.specs.Prelude.{◌≡◌, ℕ, suc, true, List, [], ◌∷◌, ◌++◌, map}
+use Rattle.std.specs.Prelude.{◌≡◌, ◌⊎◌, ℕ, suc, true, false, List, [], ◌∷◌, ◌++◌, map}
 use Rattle.rvc_base.specs.Rules.{no_file, import_not_found}
 use Rattle.rvc_base.specs.declared.refusal.Refusal.{Refusal}
 use Rattle.cal_imports.specs.Sources.{imports_of}
@@ -10,7 +10,7 @@ use Rattle.actor_files.specs.Loading.{Library}
 use Rattle.actor_files.specs.Reads.{refusal_at}
 use Rattle.fnl_read.specs.Net.{Instance}
 use Rattle.fnl_bind.specs.Library.{instance_class_at}
-use Rattle.source_network.specs.Files.{Asked, Content, Read, network, source, asked_by_import, asked_by_instance, is_network, is_read, name_of, wanted}
+use Rattle.source_network.specs.Files.{Asked, a_class, a_network, an_actor, Content, Read, network, source, asked_by_import, asked_by_instance, is_network, is_read, name_of, wanted}
 
 -- what is asked for, and what is refused if it has no file
 pub record Request : Type 0 where
@@ -49,6 +49,20 @@ abbrev pub AreAllRead : Library → List Read → List Request → Type 0
 AreAllRead library reads [] = Unit {0}
 AreAllRead library reads (q ∷ qs) =
     (is_read (wanted library q.asked) reads ≡ true) × AreAllRead library reads qs
+
+-- a file of what is asked for is read: of a class that may be either, one of its files
+abbrev pub IsServed : List Read → Asked → Type 0
+IsServed reads (a_network class) =
+    is_read (record { class = class; network = true }) reads ≡ true
+IsServed reads (an_actor class) =
+    is_read (record { class = class; network = false }) reads ≡ true
+IsServed reads (a_class class) =
+    (is_read (record { class = class; network = true }) reads ≡ true)
+    ⊎ (is_read (record { class = class; network = false }) reads ≡ true)
+
+abbrev pub AreServed : List Read → List Asked → Type 0
+AreServed reads [] = Unit {0}
+AreServed reads (asked ∷ others) = IsServed reads asked × AreServed reads others
 
 -- the names of files: that of file k stands at place k - 1
 abbrev pub read_name : Read → List ℕ
