@@ -15,9 +15,11 @@ const ADD_NAME: &str = "gen/Add.cal";
 
 const FLIP_NAME: &str = "gen/Flip.cal";
 
-const ADD: &[u8] = b"package gen; actor Add(int K) uint(size=8) In ==> uint(size=8) Out : action In:[x] ==> Out:[x + K] end end";
+const ADD: &[u8] =
+    b"package gen; actor Add(int K) uint(size=8) In ==> uint(size=8) Out : action In:[x] ==> Out:[x + K] end end";
 
-const FLIP: &[u8] = b"package gen; actor Flip(int K) uint(size=8) In ==> uint(size=8) Out : f: action In:[x] ==> Out:[x ^ K] end g: action In:[x] ==> Out:[x] end schedule fsm s : s (f) --> t; t (g) --> s; end end";
+const FLIP: &[u8] =
+    b"package gen; actor Flip(int K) uint(size=8) In ==> uint(size=8) Out : f: action In:[x] ==> Out:[x ^ K] end g: action In:[x] ==> Out:[x] end schedule fsm s : s (f) --> t; t (g) --> s; end end";
 
 /// The files of a network of so many instances, each a name and its bytes.
 ///
@@ -80,11 +82,7 @@ fn flip_file(alloc: Global) -> Result<(String, Vec<u8>), Memory>
 }
 
 /// A file of this name.
-pub(crate) fn named(
-    alloc: Global,
-    name: &str,
-    bytes: Vec<u8>,
-) -> Result<(String, Vec<u8>), Memory>
+pub(crate) fn named(alloc: Global, name: &str, bytes: Vec<u8>) -> Result<(String, Vec<u8>), Memory>
     ensures { IfOk result (λ file. named file
         ≡ record { name = name.now; bytes = bytes.items }) }
 {

@@ -8,7 +8,8 @@ use rvc_base::Memory;
 use std::alloc::Global;
 
 /// The beginning of the network and its ports.
-const PORTS: &[u8] = b"<XDF name='Top'><Port kind='Input' name='In'><Type name='uint'><Entry kind='Expr' name='size'><Expr kind='Literal' literal-kind='Integer' value='8'/></Entry></Type></Port><Port kind='Output' name='Out'><Type name='uint'><Entry kind='Expr' name='size'><Expr kind='Literal' literal-kind='Integer' value='8'/></Entry></Type></Port>";
+const PORTS: &[u8] =
+    b"<XDF name='Top'><Port kind='Input' name='In'><Type name='uint'><Entry kind='Expr' name='size'><Expr kind='Literal' literal-kind='Integer' value='8'/></Entry></Type></Port><Port kind='Output' name='Out'><Type name='uint'><Entry kind='Expr' name='size'><Expr kind='Literal' literal-kind='Integer' value='8'/></Entry></Type></Port>";
 
 /// The text of a network of so many instances in a row, from its input to its output.
 ///
