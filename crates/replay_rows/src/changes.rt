@@ -42,12 +42,7 @@ fn in_place(change: Change, number: usize, at: usize) -> [usize; 2] {
 }
 
 /// A trace of eight lines, of which one is changed.
-fn changed(
-    alloc: Global,
-    text: &[u8],
-    change: Change,
-    number: usize,
-) -> Result<Vec<u8>, Memory> {
+fn changed(alloc: Global, text: &[u8], change: Change, number: usize) -> Result<Vec<u8>, Memory> {
     let mut out = Vec::new(alloc);
     for at in 1..9_usize {
         let [first, second] = in_place(change, number, at);
