@@ -1,7 +1,7 @@
 //! Traces of which one line is left out, doubled or exchanged with the next one.
 
 use crate::networks::Net;
-use crate::replays::{Answer, Case, answer};
+use crate::replays::{Answer, Case, replay_case};
 use crate::rows::{INC, RING};
 use rvc_base::Memory;
 use std::alloc::Global;
@@ -113,7 +113,7 @@ fn answer_to(alloc: Global, net: Net, input: &[u8], text: &str, row: Row) -> Ans
     let Ok(trace) = changed(alloc, text.as_bytes(), change, number) else {
         return Answer::Nothing;
     };
-    answer(
+    replay_case(
         alloc,
         Case {
             net,

@@ -103,7 +103,7 @@ fn replay_ready(alloc: Global, ready: Ready, case: Case<'_>) -> Result<Answer, M
 }
 
 /// What a case comes to.
-pub(crate) fn answer(alloc: Global, case: Case<'_>) -> Answer {
+pub(crate) fn replay_case(alloc: Global, case: Case<'_>) -> Answer {
     let Ok(ready) = ready(alloc, case.net, case.grow) else {
         return Answer::Nothing;
     };

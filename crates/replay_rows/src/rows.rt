@@ -1,7 +1,7 @@
 //! Whole traces, each cause, and feeds that fail.
 
 use crate::networks::Net;
-use crate::replays::{Answer, Case, answer};
+use crate::replays::{Answer, Case, replay_case};
 use rvc_base::Trap;
 use std::alloc::Global;
 use trace_replay::Why;
@@ -207,7 +207,7 @@ const ROWS: &[Row] = &[
 
 fn answer_to(alloc: Global, row: Row<'_>) -> Answer {
     let (net, input, grow, trace, _) = row;
-    answer(
+    replay_case(
         alloc,
         Case {
             net,
@@ -243,7 +243,7 @@ fn a_feed_that_fails_is_named(rt: HostRuntime) {
             trace: INC.as_bytes(),
             failing: &[call],
         };
-        let found = answer(rt.alloc(), case);
+        let found = replay_case(rt.alloc(), case);
         assert!(rt; found == Answer::Unread(feed), "{call} {found:?}");
     }
 }
