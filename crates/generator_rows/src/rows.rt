@@ -86,9 +86,14 @@ fn outline_of(alloc: Global, instances: u32) -> Result<String, AllocError>
 #[test]
 fn networks_are_rows_of_instances(rt: HostRuntime) -> Result<(), AllocError> {
     let one = outline_of(rt.alloc(), 1)?;
-    assert!(rt; one.as_str() == "Top: in In uint; out Out uint; a0 gen.Add K=0; .In>a0.In; a0.Out>.Out; ");
+    assert!(rt;
+        one.as_str() == "Top: in In uint; out Out uint; a0 gen.Add K=0; .In>a0.In; a0.Out>.Out; "
+    );
     let three = outline_of(rt.alloc(), 3)?;
-    assert!(rt; three.as_str() == "Top: in In uint; out Out uint; a0 gen.Add K=0; a1 gen.Flip K=1; a2 gen.Add K=2; .In>a0.In; a0.Out>a1.In; a1.Out>a2.In; a2.Out>.Out; ");
+    assert!(rt;
+        three.as_str()
+            == "Top: in In uint; out Out uint; a0 gen.Add K=0; a1 gen.Flip K=1; a2 gen.Add K=2; .In>a0.In; a0.Out>a1.In; a1.Out>a2.In; a2.Out>.Out; "
+    );
     Ok(())
 }
 
@@ -152,7 +157,10 @@ const FEEDS: &[(u32, [u8; 4])] = &[
 fn feeds_begin_so(rt: HostRuntime) -> Result<(), Memory> {
     for &(instances, first) in FEEDS {
         let bytes = feed_bytes(rt.alloc(), instances)?;
-        assert!(rt; bytes.len() == 1024 && bytes.starts_with(&first), "{instances}");
+        assert!(rt;
+            bytes.len() == 1024 && bytes.starts_with(&first),
+            "{instances}"
+        );
     }
     Ok(())
 }
