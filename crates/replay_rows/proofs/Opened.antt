@@ -10,7 +10,7 @@ use Rattle.net_model.specs.declared.wiring.Wiring.{Wiring}
 use Rattle.net_model.specs.Network.{is_input, is_outside}
 use Rattle.round_runner.specs.Running.{count_inputs}
 use Rattle.runner_rows.proofs.Opened.{few_feeds}
-use Rattle.trace_replay.specs.Feeding.{feed_of, count_inputs as count_links}
+use Rattle.trace_replay.specs.Feeding.{count_inputs as count_links}
 use Rattle.trace_replay.specs.Replaying.{has_feed}
 use Rattle.replay_rows.specs.Open.{AreFirstOpen, AreOpenFor}
 
