@@ -1,7 +1,7 @@
 mod Ordered
 mod Roomy
 mod Picked
-mod Opened
+pub mod Opened
 mod Celled
 mod Whole
 mod Started

@@ -28,7 +28,7 @@ fn left_behind(link: &Link, left: u32) -> Option<u32>
 }
 
 /// Whether there is a feed for each link at an input.
-fn has_few_inputs(links: &[Link]) -> bool
+pub fn has_few_inputs(links: &[Link]) -> bool
     ensures { result ≡ true → count_inputs links.now ≤ 2 }
 {
     let mut left = MAX_INPUTS;

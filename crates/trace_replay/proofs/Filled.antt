@@ -15,9 +15,10 @@ use Rattle.net_model.proofs.Commuting.{get_other}
 use Rattle.net_state.specs.Filling.{AreArrivals, Arrives, Fills, IsFed, inflow}
 use Rattle.net_state.specs.Held.{Held}
 use Rattle.net_state.specs.Standing.{IsOpened, StandsIn, StandsSince, after_inside, inside_delivered, unarrived}
-use Rattle.trace_replay.specs.Feeding.{AreFedBy, ComesBy, FillsAll, FillsLink, HaveSources, IsReadable, IsSourceOf, PullsFor, PullsInputs, StandsFed, count_inputs, feed_of}
+use Rattle.trace_replay.specs.Feeding.{IsFeedOf, Reads, AreFedBy, ComesBy, FillsAll, FillsLink, HaveSources, IsReadable, IsSourceOf, PullsFor, PullsInputs, StandsFed, count_inputs, feed_of}
 use Rattle.trace_replay.specs.declared.bytes.TheConstants.{TRACE_FEED}
 use Rattle.trace_replay.specs.declared.source.Source.{Source}
+use Rattle.trace_replay.proofs.Chained.{There, is_low, low_there}
 use Rattle.trace_replay.proofs.Delivered.{ends_delivered, input_so, nothing_arrives, others_so, partly, partly_delivered, passes_input, same_so, starts_inside}
 
 -- Feeds of different links.
@@ -308,3 +309,13 @@ delivered_all old mid new sources sources_new feeds feeds_new inside fills net o
 pub on_ok_after : {T E : Type 0} (result : Rattle.std.specs.Prelude.Result T E) (P Q : Type 0) → (P → Q) → Rattle.std.specs.Prelude.OnOk result P → Rattle.std.specs.Prelude.OnOk result Q
 on_ok_after (Rattle.std.specs.Prelude.Ok value) P Q f h = f h
 on_ok_after (Rattle.std.specs.Prelude.Err fault) P Q f h = tt
+
+-- the feed that a source reads is that of its link
+pub feed_there : (l : ℕ) (links : List Link) (sources : List (Option Source)) (feeds : Inputs) (source : Option Source) (feed : ℕ) → HaveSources links sources feeds
+    → slice_get sources l ≡ Some source → Reads feed source → IsFeedOf links feed
+feed_there l links sources feeds None feed have here reads = absurd reads
+feed_there l links sources feeds (Some source) feed have here reads =
+    let less : l < length sources = is_low sources l (Some source) here in
+    let at : There links l = low_there links l (omega (arith, less, have.count)) in
+    let is : IsSourceOf links l at.item source feeds = have.each l at.item source at.at here in
+    (l, at.item, at.at, is.input, reads ∙ is.feed)

@@ -22,7 +22,7 @@ use Rattle.trace_replay.specs.Events.{BeginsAt, EndInNoRest, IsJudgedOrNot, IsTe
 use Rattle.trace_replay.specs.Feeding.{ComesBy, HaveSources, IsSourceOf, PullsInputs, count_inputs}
 use Rattle.trace_replay.specs.Head.{StandsAt}
 use Rattle.trace_replay.specs.Judging.{AtEnd, AtEvents, AtFirst, AtInstance, IsNotRun, Lead, LeadsOn, MayCome, Reached, Trial, after_line, due, first_line, instance_text, is_end, is_of_table}
-use Rattle.trace_replay.specs.Reading.{HasReached, IsJudged, IsRead, OnReadFault}
+use Rattle.trace_replay.specs.Reading.{NamesFeed, NamesTrace, HasReached, IsJudged, IsRead, OnReadFault}
 use Rattle.trace_text.specs.Text.{line_feed, line_text}
 use Rattle.trace_replay.specs.Scanning.{Scans}
 use Rattle.trace_replay.specs.declared.bytes.TheConstants.{TRACE_FEED}
@@ -416,3 +416,9 @@ delivers_one (Stall i a l) = omega arith
 delivers_one Budget = omega arith
 delivers_one (FirstLine n l g) = omega arith
 delivers_one (Inst k) = omega arith
+
+-- who names the trace names a feed of the run
+pub names_too : (links : List Link) (fault : ReplayFault) → NamesTrace fault → NamesFeed links fault
+names_too links (NotRun line why) named = tt
+names_too links (ReadFault feed) named = inl named
+names_too links Memory named = tt

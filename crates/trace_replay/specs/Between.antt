@@ -157,6 +157,12 @@ IfFails Ends P = Unit {0}
 IfFails (Fails why) P = P why
 IfFails (FeedFails feed) P = Unit {0}
 
+abbrev pub IfFeedFails : Came → (ℕ → Type 0) → Type 0
+IfFeedFails Goes P = Unit {0}
+IfFeedFails Ends P = Unit {0}
+IfFeedFails (Fails why) P = Unit {0}
+IfFeedFails (FeedFails feed) P = P feed
+
 abbrev pub OnFeedFails : Came → Type 0 → Type 0
 OnFeedFails Goes P = Unit {0}
 OnFeedFails Ends P = Unit {0}

@@ -31,6 +31,16 @@ pub record IsSourceOf (links : List Link) (l : ℕ) (link : Link) (source : Sour
   pub is_open : feeds.is_open source.feed ≡ true
   pub same_feed : EndIsTrue source.tokens (feeds.left source.feed)
 
+-- the feed of one of these links, which begins at an input of the network
+abbrev pub IsFeedOf : List Link → ℕ → Type 0
+IsFeedOf links feed = (l : ℕ) × (link : Link) × (slice_get links l ≡ Some link)
+    × (is_input link ≡ true) × (feed ≡ feed_of links l)
+
+-- the feed that a source reads
+abbrev pub Reads : ℕ → Option Source → Type 0
+Reads feed None = ⊥
+Reads feed (Some source) = feed ≡ source.feed
+
 -- each link has a place for its source
 pub record HaveSources (links : List Link) (sources : List (Option Source)) (feeds : Inputs) :
     Type 0 where

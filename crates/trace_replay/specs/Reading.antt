@@ -1,12 +1,14 @@
 -- How far a trace was read, and why it wasn't read on.
--- Not trusted: no promise is read with it.
-use Rattle.std.specs.Prelude.{◌≡◌, ◌≢◌, ℕ, ◌+◌, ◌≤◌, Bool, true, false, List, [], ◌++◌, length, Option, None, Some, Result, Ok, Err}
+-- Not trusted but for `OnReadFault`, `NamesTrace` and `NamesFeed`: part of what a promise means.
+use Rattle.std.specs.Prelude.{◌≡◌, ◌≢◌, ◌⊎◌, ℕ, ◌+◌, ◌≤◌, Bool, true, false, List, [], ◌++◌, length, Option, None, Some, Result, Ok, Err}
 use Rattle.std.specs.List.{concat}
 use Rattle.rvc_io.specs.Feeds.{Inputs}
 use Rattle.port_files.specs.Coming.{coming_on}
 use Rattle.trace_text.specs.Text.{line_feed}
 use Rattle.trace_text.specs.declared.line.Line.{Line}
 use Rattle.net_model.specs.State.{State}
+use Rattle.net_model.specs.declared.wiring.Link.{Link}
+use Rattle.trace_replay.specs.Feeding.{IsFeedOf}
 use Rattle.trace_replay.specs.Judging.{Trial, Reached, AtEnd, AtFirst, Lead, IsNotRun, is_of_table, max_trace_bytes}
 use Rattle.trace_replay.specs.Scanning.{IsWithin, Scans}
 use Rattle.trace_replay.specs.declared.bytes.TheConstants.{TRACE_FEED}
@@ -66,6 +68,18 @@ OnReadFault (Ok value) P = Unit {0}
 OnReadFault (Err (NotRun line why)) P = Unit {0}
 OnReadFault (Err (ReadFault feed)) P = P
 OnReadFault (Err Memory) P = Unit {0}
+
+-- a feed that couldn't be read is the trace's
+abbrev pub NamesTrace : ReplayFault → Type 0
+NamesTrace (NotRun line why) = Unit {0}
+NamesTrace (ReadFault feed) = feed ≡ TRACE_FEED
+NamesTrace Memory = Unit {0}
+
+-- .. or that of a link that begins at an input
+abbrev pub NamesFeed : List Link → ReplayFault → Type 0
+NamesFeed links (NotRun line why) = Unit {0}
+NamesFeed links (ReadFault feed) = (feed ≡ TRACE_FEED) ⊎ IsFeedOf links feed
+NamesFeed links Memory = Unit {0}
 
 -- an answer that the text is no trace of a run is true
 abbrev pub IsJudged : {X : Type 0} → Trial X → List ℕ → ReplayFault → Type 0

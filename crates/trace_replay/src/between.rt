@@ -4,10 +4,10 @@ ghost use Rattle.std.specs.Prelude.{◌≡◌, ◌≤◌, true, false, IfOk, len
 ghost use Rattle.rvc_io.specs.Feeds.{ReadFails};
 ghost use Rattle.net_model.specs.Limits.{max_links};
 ghost use Rattle.trace_text.specs.declared.line.Line.TheVariants as line;
-ghost use Rattle.trace_replay.specs.Between.{FailsBy, IfFails, IsReadyToGo, LineEnds, LineFails, LineGoes, OnEnds, OnFeedFails, OnGoes, is_rest, is_still_end, stand};
+ghost use Rattle.trace_replay.specs.Between.{FailsBy, IfFails, IsReadyToGo, LineEnds, LineFails, LineGoes, OnEnds, OnFeedFails, OnGoes, is_rest, is_still_end, stand, IfFeedFails};
 ghost use Rattle.trace_replay.specs.declared.came.Came.TheVariants as came;
 ghost use Rattle.trace_replay.specs.declared.why.Why.TheVariants as why;
-ghost use Rattle.trace_replay.specs.Feeding.{PullsInputs};
+ghost use Rattle.trace_replay.specs.Feeding.{PullsInputs, IsFeedOf};
 ghost use Rattle.net_state.specs.Held.{CanWork};
 ghost use Rattle.trace_replay.specs.Opening.{IsOpenedOn};
 ghost use Rattle.trace_replay.specs.Replaying.{HasInputs};
@@ -95,6 +95,7 @@ impl<A: Firing> Replay<A> {
         ensures fails { LineFails A.cell F.feeds result (line.Fire inst action) self.old feeds.now }
         ensures no_end { OnEnds result ⊥ }
         ensures no_fault { OnFeedFails result ⊥ }
+        ensures feed { IfFeedFails result (IsFeedOf self.old.links.items) }
         ensures rested { OnGoes result (self.new.rested ≡ false) }
         ensures still_count { OnGoes result (self.new.count ≡ length self.new.state.cells) }
         ensures grow { self.new.grow ≡ self.old.grow }
@@ -117,6 +118,7 @@ impl<A: Firing> Replay<A> {
         ensures fails { LineFails A.cell F.feeds result (line.Trap inst action cause) self.old feeds.now }
         ensures no_step { OnGoes result ⊥ }
         ensures no_fault { OnFeedFails result ⊥ }
+        ensures feed { IfFeedFails result (IsFeedOf self.old.links.items) }
     {
         if traps(&mut self.state, self.count, inst, action, cause) {
             return Came::Ends;
@@ -134,6 +136,7 @@ impl<A: Firing> Replay<A> {
         ensures no_end { OnEnds result ⊥ }
         ensures no_failure { IfFails result (λ _. ⊥) }
         ensures failed { OnFeedFails result (ReadFails F.feeds feeds.old feeds.new) }
+        ensures feed { IfFeedFails result (IsFeedOf self.old.links.items) }
         ensures rested { OnGoes result (self.new.rested ≡ true) }
         ensures still_count { OnGoes result (self.new.count ≡ length self.new.state.cells) }
         ensures grow { self.new.grow ≡ self.old.grow }
@@ -162,6 +165,7 @@ impl<A: Firing> Replay<A> {
         ensures fails { LineFails A.cell F.feeds result (line.Grow link capacity) self.old feeds.now }
         ensures no_end { OnEnds result ⊥ }
         ensures no_fault { OnFeedFails result ⊥ }
+        ensures feed { IfFeedFails result (IsFeedOf self.old.links.items) }
         ensures rested { OnGoes result (self.new.rested ≡ true) }
         ensures still_count { OnGoes result (self.new.count ≡ length self.new.state.cells) }
         ensures grow { self.new.grow ≡ self.old.grow }
@@ -198,6 +202,7 @@ impl<A: Firing> Replay<A> {
         ensures fails { LineFails A.cell F.feeds result line.now self.old feeds.old }
         ensures no_step { OnGoes result ⊥ }
         ensures failed { OnFeedFails result (ReadFails F.feeds feeds.old feeds.new) }
+        ensures feed { IfFeedFails result (IsFeedOf self.old.links.items) }
         ensures elsewhere { PullsInputs (F.feeds feeds.old) (F.feeds feeds.new) }
     {
         match ends_so(
@@ -226,6 +231,7 @@ impl<A: Firing> Replay<A> {
         ensures is_end { OnEnds result (is_end line.now ≡ true) }
         ensures rested { OnGoes result (self.new.rested ≡ is_rest line.now) }
         ensures failed { OnFeedFails result (ReadFails F.feeds feeds.old feeds.new) }
+        ensures feed { IfFeedFails result (IsFeedOf self.old.links.items) }
         ensures still_count { OnGoes result (self.new.count ≡ length self.new.state.cells) }
         ensures grow { OnGoes result (self.new.grow ≡ self.old.grow) }
         ensures links { OnGoes result (self.new.links ≡ self.old.links) }

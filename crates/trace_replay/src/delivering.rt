@@ -7,7 +7,7 @@ ghost use Rattle.net_state.specs.Held.{seen};
 ghost use Rattle.net_state.specs.Filling.{IsInputLink};
 ghost use Rattle.net_state.specs.Moving.{SameActors, SameMarks};
 ghost use Rattle.net_state.specs.Working.{IsAtRest};
-ghost use Rattle.trace_replay.specs.Feeding.{DeliversOn, FillsOn, FeedsLink, HaveSources, IsReadable, PullsFor, PullsInputs};
+ghost use Rattle.trace_replay.specs.Feeding.{DeliversOn, FillsOn, FeedsLink, HaveSources, IsReadable, PullsFor, PullsInputs, IsFeedOf, Reads};
 
 use crate::source::Source;
 use net_model::Firing;
@@ -38,6 +38,7 @@ fn fill_link<A: Firing, F: Feeds>(
     ensures capacities { state.new.capacities ≡ state.old.capacities }
     ensures waited { state.new.waited ≡ state.old.waited }
     ensures failed { OnErr result (ReadFails F.feeds feeds.old feeds.new) }
+    ensures feed { IfErr result (λ feed. Reads feed source.old) }
     ensures elsewhere { PullsFor source.old (F.feeds feeds.old) (F.feeds feeds.new) }
 {
     let Some(source) = source else {
@@ -72,6 +73,7 @@ fn fill_all<A: Firing, F: Feeds>(
     ensures capacities { state.new.capacities ≡ state.old.capacities }
     ensures waited { state.new.waited ≡ state.old.waited }
     ensures failed { OnErr result (ReadFails F.feeds feeds.old feeds.new) }
+    ensures feed { IfErr result (IsFeedOf state.old.links) }
     ensures elsewhere { PullsInputs (F.feeds feeds.old) (F.feeds feeds.new) }
 {
     let mut l = 0u32;
@@ -107,6 +109,7 @@ pub(crate) fn deliver_all<A: Firing, F: Feeds>(
     ensures links { state.new.links ≡ state.old.links }
     ensures capacities { state.new.capacities ≡ state.old.capacities }
     ensures failed { OnErr result (ReadFails F.feeds feeds.old feeds.new) }
+    ensures feed { IfErr result (IsFeedOf state.old.links) }
     ensures elsewhere { PullsInputs (F.feeds feeds.old) (F.feeds feeds.new) }
 {
     state.deliver();

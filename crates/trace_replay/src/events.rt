@@ -7,7 +7,7 @@ ghost use Rattle.trace_replay.specs.Between.{IsReadyToGo};
 ghost use Rattle.trace_replay.specs.Events.{EndsEvents, EndsTrace, JudgesEvents, JudgesTrace};
 ghost use Rattle.trace_replay.specs.Head.{JudgesEnd};
 ghost use Rattle.trace_replay.specs.Tallying.{EndsWhole};
-ghost use Rattle.trace_replay.specs.Reading.{IsCounted, OnReadFault};
+ghost use Rattle.trace_replay.specs.Reading.{IsCounted, OnReadFault, NamesFeed, NamesTrace};
 ghost use Rattle.trace_replay.specs.declared.bytes.TheConstants.{TRACE_FEED};
 
 use crate::between::Replay;
@@ -40,6 +40,7 @@ pub(crate) fn read_events<A: Firing, F: Feeds>(
     ensures ended { IfOk result (EndsEvents A.cell F.feeds trace.old replay.old feeds.old) }
     ensures judged { IfErr result (JudgesEvents A.cell F.feeds trace.old replay.old feeds.old) }
     ensures failed { OnReadFault result (ReadFails F.feeds feeds.old feeds.new) }
+    ensures feed { IfErr result (NamesFeed replay.old.links.items) }
 {
     let mut tally = Tally {
         firings: 0,
@@ -72,6 +73,7 @@ fn end_at<A: Firing, F: Feeds>(
     ensures whole { IfOk result (EndsWhole A.State F.feeds end tally trace.old feeds.old) }
     ensures judged { IfErr result (JudgesEnd A.State trace.old (F.feeds feeds.old)) }
     ensures failed { OnReadFault result (ReadFails F.feeds feeds.old feeds.new) }
+    ensures feed { IfErr result NamesTrace }
 {
     match finish::<A, F>(trace, feeds) {
         Ok(()) => Ok(Replayed {
@@ -108,6 +110,7 @@ pub(crate) fn read_trace<A: Firing, F: Feeds>(
     ensures judged { IfErr result (JudgesTrace A.cell F.feeds first.now names.now trace.old replay.old
         feeds.old) }
     ensures failed { OnReadFault result (ReadFails F.feeds feeds.old feeds.new) }
+    ensures feed { IfErr result (NamesFeed replay.old.links.items) }
 {
     match read_head::<A, F>(trace, first, names, feeds) {
         Ok(()) => {}

@@ -5,7 +5,7 @@ ghost use Rattle.rvc_io.specs.Feeds.{PullsOnly, ReadFails};
 ghost use Rattle.trace_text.specs.declared.line.Line.TheVariants.{Inst};
 ghost use Rattle.net_model.specs.Limits.{max_instances};
 ghost use Rattle.trace_replay.specs.Head.{JudgesFirst, JudgesInstance, JudgesNames, PassesFirst, ReadsHead, ReadsInstance, ReadsNames, RefusesHead};
-ghost use Rattle.trace_replay.specs.Reading.{IsCounted, OnReadFault};
+ghost use Rattle.trace_replay.specs.Reading.{IsCounted, OnReadFault, NamesTrace};
 ghost use Rattle.trace_replay.specs.declared.bytes.TheConstants.{TRACE_FEED};
 
 use crate::reading::{Trace, not_run};
@@ -36,6 +36,7 @@ pub(crate) fn read_first<A: Firing, F: Feeds>(
     ensures number { OnOk result (trace.new.count ≡ trace.old.count + 1) }
     ensures counted { OnOk result (IsCounted trace.new.count trace.new.lines.passed) }
     ensures failed { OnReadFault result (ReadFails F.feeds feeds.old feeds.new) }
+    ensures feed { IfErr result NamesTrace }
     ensures grow { trace.new.grow ≡ trace.old.grow }
     ensures elsewhere { PullsOnly F.feeds feeds.old feeds.new TRACE_FEED }
 {
@@ -64,6 +65,7 @@ pub(crate) fn read_instance<A: Firing, F: Feeds>(
     ensures number { OnOk result (trace.new.count ≡ trace.old.count + 1) }
     ensures counted { OnOk result (IsCounted trace.new.count trace.new.lines.passed) }
     ensures failed { OnReadFault result (ReadFails F.feeds feeds.old feeds.new) }
+    ensures feed { IfErr result NamesTrace }
     ensures grow { trace.new.grow ≡ trace.old.grow }
     ensures elsewhere { PullsOnly F.feeds feeds.old feeds.new TRACE_FEED }
 {
@@ -102,6 +104,7 @@ pub(crate) fn read_instances<A: Firing, F: Feeds>(
     ensures number { OnOk result (trace.new.count ≡ trace.old.count + length names.now) }
     ensures counted { OnOk result (IsCounted trace.new.count trace.new.lines.passed) }
     ensures failed { OnReadFault result (ReadFails F.feeds feeds.old feeds.new) }
+    ensures feed { IfErr result NamesTrace }
     ensures grow { trace.new.grow ≡ trace.old.grow }
     ensures elsewhere { PullsOnly F.feeds feeds.old feeds.new TRACE_FEED }
 {
@@ -138,6 +141,7 @@ pub(crate) fn read_head<A: Firing, F: Feeds>(
     ensures number { OnOk result (trace.new.count ≡ trace.old.count + 1 + length names.now) }
     ensures counted { OnOk result (IsCounted trace.new.count trace.new.lines.passed) }
     ensures failed { OnReadFault result (ReadFails F.feeds feeds.old feeds.new) }
+    ensures feed { IfErr result NamesTrace }
     ensures grow { trace.new.grow ≡ trace.old.grow }
     ensures elsewhere { PullsOnly F.feeds feeds.old feeds.new TRACE_FEED }
 {

@@ -8,7 +8,7 @@ ghost use Rattle.trace_replay.specs.Head.{JudgesEnd, PassesEnd};
 ghost use Rattle.trace_replay.specs.Judging.{is_of_table as of_table};
 ghost use Rattle.trace_replay.specs.declared.scan.Scanned.TheVariants as scanned;
 ghost use Rattle.trace_replay.specs.declared.why.ReplayFault.TheVariants as fault;
-ghost use Rattle.trace_replay.specs.Reading.{IsCounted, IsStop, OnReadFault, ReadsLine, StopsAtLine};
+ghost use Rattle.trace_replay.specs.Reading.{IsCounted, IsStop, OnReadFault, ReadsLine, StopsAtLine, NamesTrace};
 ghost use Rattle.trace_replay.specs.declared.bytes.TheConstants.{TRACE_FEED};
 
 use crate::bytes::TRACE_FEED;
@@ -84,6 +84,7 @@ impl Trace {
         ensures stops { IfErr result (StopsAtLine F.feeds front.now name.now self.old feeds.old
             self.new feeds.new) }
         ensures failed { OnReadFault result (ReadFails F.feeds feeds.old feeds.new) }
+        ensures feed { IfErr result NamesTrace }
         ensures grow { self.new.grow ≡ self.old.grow }
         ensures elsewhere { PullsOnly F.feeds feeds.old feeds.new TRACE_FEED }
     {
@@ -112,6 +113,7 @@ pub(crate) fn finish<A: Firing, F: Feeds>(
     ensures whole { OnOk result (PassesEnd A.State trace.old (F.feeds feeds.old)) }
     ensures judged { IfErr result (JudgesEnd A.State trace.old (F.feeds feeds.old)) }
     ensures failed { OnReadFault result (ReadFails F.feeds feeds.old feeds.new) }
+    ensures feed { IfErr result NamesTrace }
     ensures elsewhere { PullsOnly F.feeds feeds.old feeds.new TRACE_FEED }
 {
     let full = trace.lines.is_full();
@@ -146,6 +148,7 @@ fn judge(scanned: Scanned, grow: u32, number: u64) -> Result<Read, ReplayFault>
     ensures line { IfOk result (λ read. (scanned ≡ Scanned.Line read.line read.same)
         × (of_table grow read.line ≡ true)) }
     ensures stops { IfErr result (λ fault. IsStop grow number scanned fault) }
+    ensures feed { IfErr result NamesTrace }
 {
     match scanned {
         Scanned::Line(line, same) => {

@@ -2,7 +2,7 @@
 
 ghost use Rattle.std.specs.Prelude.{◌≡◌, IfOk, IfErr, map, string_bytes};
 ghost use Rattle.rvc_io.specs.Feeds.{ReadFails};
-ghost use Rattle.trace_replay.specs.Reading.{OnReadFault};
+ghost use Rattle.trace_replay.specs.Reading.{OnReadFault, NamesFeed};
 ghost use Rattle.trace_replay.specs.Replaying.{CanReplay, RefusesOn, ReplaysOn};
 
 use crate::between::Replay;
@@ -30,7 +30,7 @@ use trace_text::text_tells_lines;
 ///
 /// `NotRun` if no run has a line with the lines before it, with its number and why (`refused`); or if it says that a
 /// link grows and stands right behind neither a delivery nor another growth, with `End`. `ReadFault` if bytes couldn't
-/// be pulled (`failed`). `Memory` if memory runs out.
+/// be pulled from the trace or from the feed of an input link (`failed`, `feed`). `Memory` if memory runs out.
 pub fn replay<A: Firing, F: Feeds>(
     alloc: Global,
     cells: Vec<A>,
@@ -46,6 +46,7 @@ pub fn replay<A: Firing, F: Feeds>(
     ensures refused { IfErr result (RefusesOn A.cell F.feeds cells.items wiring grow names.now
         feeds.old) }
     ensures failed { OnReadFault result (ReadFails F.feeds feeds.old feeds.new) }
+    ensures feed { IfErr result (NamesFeed wiring.links.items) }
 {
     ready_networks_can_work::<StatesOf<A>>();
     traces_are_runs::<StatesOf<A>>();

@@ -1,4 +1,6 @@
-use Rattle.std.proofs.Common.{map}
+use Rattle.std.proofs.Common.{map, subst}
+use Rattle.std.specs.Prelude.{IfErr}
+use Rattle.trace_replay.specs.Feeding.{IsFeedOf}
 use Rattle.net_state.specs.Held.{seen}
 use Rattle.trace_replay.proofs.Chained.{marks_then, same_then}
 use Rattle.trace_replay.proofs.Filled.{delivered_all, on_ok_after}
@@ -20,3 +22,6 @@ pub returns-clause-same_marks : goal.returns-clause-same_marks
 returns-clause-same_marks g c =
     marks_then (map g.A.Firing.cell c.args.state.now.cells) (map g.A.Firing.cell c.deliver.new.self.cells) (map g.A.Firing.cell c.fill_all.new.state.cells)
     c.deliver.ensures.same_actors c.deliver.ensures.same_marks c.fill_all.ensures.same_marks
+
+pub returns-clause-feed : goal.returns-clause-feed
+returns-clause-feed g c = subst (λ links. IfErr c.fill_all.result (IsFeedOf links)) c.deliver.ensures.links c.fill_all.ensures.feed

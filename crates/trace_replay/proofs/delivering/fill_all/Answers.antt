@@ -2,7 +2,7 @@ use Rattle.std.proofs.Common.{◌≡◌, ◌<◌, length, map, refl, ◌∙◌, 
 use Rattle.std.specs.Prelude.{Some, slice_get, slice_index_or}
 use Rattle.net_state.specs.Held.{seen}
 use Rattle.trace_replay.proofs.Chained.{as_long, at_or, inputs_of, inputs_start, inputs_then, low_there, marks_start, marks_then, same_start, same_then}
-use Rattle.trace_replay.proofs.Filled.{filled_all, filled_more, filled_none, input_there, is_readable, no_trace_of, sources_more}
+use Rattle.trace_replay.proofs.Filled.{feed_there, filled_all, filled_more, filled_none, input_there, is_readable, no_trace_of, sources_more}
 use Rattle.trace_replay.proofs.delivering.fill_all.Goals as goal
 
 pub links-init : goal.links-init
@@ -85,3 +85,8 @@ links-preserved g c =
           (no_trace_of c.links.l c.args.state.now.links c.links.sources (g.F.Feeds.feeds c.links.feeds) source c.links.invariant.sources here)
           c.fill_link.ensures.elsewhere);
     }
+
+pub returns-in-Err-clause-feed : goal.returns-in-Err-clause-feed
+returns-in-Err-clause-feed g c =
+    feed_there c.links.l c.args.state.now.links c.links.sources (g.F.Feeds.feeds c.links.feeds) (slice_index_or c.links.sources c.links.l c.index-sources-l.result) c.in-Err.feed
+    c.links.invariant.sources (at_or c.links.sources c.links.l c.index-sources-l.result c.links-test.true) c.in-Err.ensures.feed

@@ -1,15 +1,16 @@
-use Rattle.std.proofs.Common.{◌≤◌, ◌∙◌, ◌⊎◌, refl, sym, subst, arith}
+use Rattle.std.proofs.Common.{◌≤◌, ◌∙◌, ◌⊎◌, inr, refl, sym, subst, arith}
 use Rattle.rvc_io.specs.Feeds.{ReadFails}
 use Rattle.port_files.specs.Coming.{coming_on}
 use Rattle.trace_text.specs.Text.{line_feed}
 use Rattle.trace_text.specs.declared.line.Line.{Line}
 use Rattle.trace_replay.specs.Between.{stand}
 use Rattle.trace_replay.specs.Events.{IsEnded, IsJudgedOrNot, IsTextOf, IsUnjudged, delivers, fires}
+use Rattle.trace_replay.specs.Feeding.{IsFeedOf}
 use Rattle.trace_replay.specs.Judging.{AtEvents, IsNotRun}
 use Rattle.trace_replay.specs.declared.bytes.TheConstants.{TRACE_FEED}
 use Rattle.trace_replay.specs.declared.reading.Read.{Read}
 use Rattle.trace_replay.proofs.Heads.{err_after, fault_after, stops_judged}
-use Rattle.trace_replay.proofs.Led.{LedTo, fault_over, delivers_one, fires_one, is_next, judged_or_not, led_end, led_fails, led_more, led_none}
+use Rattle.trace_replay.proofs.Led.{LedTo, names_too, fault_over, delivers_one, fires_one, is_next, judged_or_not, led_end, led_fails, led_more, led_none}
 use Rattle.trace_replay.proofs.Looped.{ready_pulled}
 use Rattle.trace_replay.proofs.Pulling.{risen_after}
 use Rattle.trace_replay.proofs.Told.{okay_after}
@@ -25,6 +26,7 @@ lines-init g c = record {
   count = c.requires.count;
   ready = c.requires.ready;
   grow = refl;
+  links = refl;
   trace_grow = c.requires.grow;
   faults = omega arith;
 }
@@ -51,6 +53,7 @@ lines-preserved g c = record {
   count = c.in-Goes.ensures.still_count;
   ready = c.in-Goes.ensures.still_ready;
   grow = c.in-Goes.ensures.grow ∙ c.lines.invariant.grow;
+  links = c.in-Goes.ensures.links ∙ c.lines.invariant.links;
   trace_grow = c.next_line.ensures.grow ∙ c.lines.invariant.trace_grow ∙ sym c.in-Goes.ensures.grow;
   faults = omega (arith, c.lines.invariant.faults, c.next_line.ensures.elsewhere.faults_stay, c.come.ensures.elsewhere.faults_stay);
 }
@@ -130,3 +133,12 @@ counted-tally-requires-clause-firings g c = omega (arith, c.lines.invariant.firi
 
 pub counted-tally-requires-clause-rounds : goal.counted-tally-requires-clause-rounds
 counted-tally-requires-clause-rounds g c = omega (arith, c.lines.invariant.rounds, c.lines.invariant.counted.lines, c.lines.invariant.counted.within)
+
+pub returns-in-Err-clause-feed : goal.returns-in-Err-clause-feed
+returns-in-Err-clause-feed g c = names_too c.args.replay.now.links.items c.in-Err.fault c.in-Err.ensures.feed
+
+pub returns-in-Ends-clause-feed : goal.returns-in-Ends-clause-feed
+returns-in-Ends-clause-feed g c = err_after c.end_at.result _ _ (λ fault named. names_too c.args.replay.now.links.items fault named) c.end_at.ensures.feed
+
+pub returns-in-FeedFails-clause-feed : goal.returns-in-FeedFails-clause-feed
+returns-in-FeedFails-clause-feed g c = inr (subst (λ links. IsFeedOf links.items c.in-FeedFails.feed) c.lines.invariant.links c.in-FeedFails.ensures.feed)

@@ -18,6 +18,7 @@ invariant-lines g l =
       count : l.replay.count ≡ length l.replay.state.cells;
       ready : IsReadyToGo g.A.Firing.cell g.F.Feeds.feeds l.replay l.feeds;
       grow : l.replay.grow ≡ l.initial.replay.grow;
+      links : l.replay.links ≡ l.initial.replay.links;
       trace_grow : l.trace.grow ≡ l.replay.grow;
       faults : (g.F.Feeds.feeds l.initial.feeds).faults ≤ (g.F.Feeds.feeds l.feeds).faults;
     }

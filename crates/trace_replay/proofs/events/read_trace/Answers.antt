@@ -4,7 +4,7 @@ use Rattle.std.specs.Prelude.{string_bytes}
 use Rattle.rvc_io.specs.Feeds.{ReadFails}
 use Rattle.trace_replay.specs.Between.{stand}
 use Rattle.trace_replay.proofs.Heads.{err_after, fault_after}
-use Rattle.trace_replay.proofs.Led.{judged_or_not, sources_ready}
+use Rattle.trace_replay.proofs.Led.{names_too, judged_or_not, sources_ready}
 use Rattle.trace_replay.proofs.Looped.{ready_pulled}
 use Rattle.trace_replay.proofs.Pulling.{risen_after}
 use Rattle.trace_replay.proofs.Told.{begins_at, okay_after}
@@ -43,3 +43,6 @@ returns-clause-failed g c =
     fault_after c.read_events.result (ReadFails g.F.Feeds.feeds c.read_head.new.feeds c.read_events.new.feeds) (ReadFails g.F.Feeds.feeds c.args.feeds.now c.read_events.new.feeds)
     (λ risen. risen_after (g.F.Feeds.feeds c.args.feeds.now).faults (g.F.Feeds.feeds c.read_head.new.feeds).faults (g.F.Feeds.feeds c.read_events.new.feeds).faults c.read_head.ensures.elsewhere.faults_stay risen)
     c.read_events.ensures.failed
+
+pub returns-in-Err-clause-feed : goal.returns-in-Err-clause-feed
+returns-in-Err-clause-feed g c = names_too c.args.replay.now.links.items c.in-Err.fault c.in-Err.ensures.feed

@@ -1,5 +1,6 @@
-use Rattle.std.proofs.Common.{map}
+use Rattle.std.proofs.Common.{map, subst}
 use Rattle.std.specs.Prelude.{string_bytes}
+use Rattle.trace_replay.specs.Reading.{NamesFeed}
 use Rattle.trace_replay.proofs.Opened.{begins, can_work, has_inputs, ready_to_go}
 use Rattle.trace_replay.proofs.Told.{refused_is, replayed_is}
 use Rattle.trace_replay.proofs.replaying.replay.Goals as goal
@@ -31,3 +32,6 @@ returns-clause-replayed g c = λ t text inputs is.
     (can_work (map g.A.Firing.cell c.args.cells.items) c.args.wiring c.args.grow (map string_bytes c.args.names.now) (g.F.Feeds.feeds c.args.feeds.now) c.ready_networks_can_work.ensures c.requires.can)
     c.in-Ok-new.ensures t text inputs is c.in-Ok.trace c.first_line-first.result c.in-Ok.ensures.bytes c.in-Ok.ensures.passed c.in-Ok.ensures.count c.in-Ok.ensures.grow c.first_line-first.ensures in
     replayed_is t text c.in-Ok-read_trace.replayed c.traces_are_runs.ensures.lines c.text_tells_lines.ensures start.fits (c.in-Ok-read_trace.ensures.ended t text start)
+
+pub returns-in-Err-clause-feed : goal.returns-in-Err-clause-feed
+returns-in-Err-clause-feed g c = subst (λ links. NamesFeed links c.in-Err.fault) c.in-Ok-new.ensures.links_are c.in-Err.ensures.feed

@@ -1,7 +1,7 @@
 use Rattle.std.proofs.Common.{◌≡◌, true, length, sym, subst, arith}
 use Rattle.net_state.specs.Held.{seen}
 use Rattle.trace_replay.specs.Between.{CanGoOn, GoesBy, between}
-use Rattle.trace_replay.specs.Feeding.{DeliversAll}
+use Rattle.trace_replay.specs.Feeding.{DeliversAll, IsFeedOf}
 use Rattle.trace_text.specs.declared.line.Line.TheVariants.{Deliver}
 use Rattle.trace_replay.proofs.Chained.{written_back}
 use Rattle.trace_replay.proofs.Stepped.{delivered_goes, delivered_ready}
@@ -27,3 +27,6 @@ returns-in-Ok-clause-still_ready g c =
     c.args.self.now.rested (g.F.Feeds.feeds c.args.feeds.now) (g.F.Feeds.feeds c.deliver_all.new.feeds)
     (subst (λ ls. Rattle.trace_replay.specs.Feeding.HaveSources ls c.deliver_all.new.sources (g.F.Feeds.feeds c.deliver_all.new.feeds)) c.requires.ready.links_are c.in-Ok.ensures.still_sources)
     c.in-Ok.ensures.rests c.in-Ok.ensures.same_actors c.in-Ok.ensures.same_marks c.in-Ok.ensures.links c.in-Ok.ensures.capacities c.requires.ready)
+
+pub returns-in-Err-clause-feed : goal.returns-in-Err-clause-feed
+returns-in-Err-clause-feed g c = subst (λ links. IsFeedOf links c.in-Err.feed) c.requires.ready.links_are c.in-Err.ensures.feed

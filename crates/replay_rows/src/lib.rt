@@ -1,0 +1,23 @@
+//! Rows of traces that are replayed: what small networks answer to whole, cut and changed traces, over the public call
+//! of `trace_replay`.
+//!
+//! The cells and their wiring are ready to be run (`ready_cells` of `runner_rows`), and so they can replay a trace
+//! ([`replay_network`]) over feeds such as those of [`replay_feeds`].
+#![tactic(auto)]
+
+mod feeds;
+mod replaying;
+
+pub use feeds::replay_feeds;
+pub use replaying::replay_network;
+
+#[cfg(test)]
+mod actors;
+#[cfg(test)]
+mod changes;
+#[cfg(test)]
+mod networks;
+#[cfg(test)]
+mod replays;
+#[cfg(test)]
+mod rows;
