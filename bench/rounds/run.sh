@@ -1,8 +1,8 @@
 #!/usr/bin/env bash
-# Runs a row of 1,000 actors that add one, a ring of 100 with 64 tokens, and 64 that are each behind itself with 64 tokens,
-# and prints nanoseconds a firing and a token moved, with a trace that is swallowed and with one that is kept in memory;
-# beside them one such cell that fires as often without a network, and the ratio to it. It writes nothing into the
-# checkout.
+# Runs a row of 1,000 actors that add one, rings of 100 and of 1,000 with 64 tokens, 64 that are each behind itself with 64
+# tokens, and 64 with an input and an output each, and prints nanoseconds a firing and a token moved, with a trace that is
+# swallowed and with one that is kept in memory; beside them one such cell that fires as often without a network, and the
+# ratio to it. It writes nothing into the checkout.
 set -eu
 here=$(cd -- "$(dirname -- "${BASH_SOURCE[0]}")" && pwd)
 top=$(cd -- "$here/../.." && pwd)

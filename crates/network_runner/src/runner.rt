@@ -35,6 +35,7 @@ use rvc_base::{MAX_BUDGET, Memory};
 use rvc_io::{Drains, Failed, Feeds, Gate};
 use std::alloc::Global;
 use std::marker::Model;
+use std::thread::Threads;
 
 /// A network that is ready to run, with all the memory that its run takes.
 ///
@@ -79,7 +80,7 @@ impl<A: Firing, P: Policy> Model for Runner<A, P> {
         (length r.marks.items) (P.rounds r.policy) (P.instances r.policy)) };
 }
 
-impl<A: Firing, P: Policy> Runner<A, P> {
+impl<A: Firing + Send, P: Policy> Runner<A, P> {
     /// A runner of these cells, joined so, whose rounds are made by this plan and this policy. The run starts from the
     /// cells as they are given. All its memory is taken here.
     ///
@@ -140,15 +141,17 @@ impl<A: Firing, P: Policy> Runner<A, P> {
     /// Makes one round, which an end may cut short, with at most `left` firings, and says what came of it. After an end
     /// each further call answers that end and touches nothing.
     ///
-    /// The feeds and channels that the wiring needs are open, and are the same ones in each call. `gate` is told when a
-    /// worker starts.
+    /// The feeds and channels that the wiring needs are open, and are the same ones in each call. `rt` is for the threads
+    /// of more workers than one: one is used now, and what a round leaves doesn't depend on how many there are. `gate` is
+    /// told when a worker starts.
     ///
     /// # Errors
     ///
     /// The run ends in `ReadFault` if a feed couldn't be read, and in `WriteFault` if a channel couldn't be written: the
     /// failure was counted (`faults`).
-    pub fn round<F: Feeds, D: Drains, G: Gate>(
+    pub fn round<R: Threads + Sync, F: Feeds, D: Drains, G: Gate>(
         &mut self,
+        _rt: &R,
         left: u64,
         feeds: &mut F,
         drains: &mut D,
@@ -190,15 +193,16 @@ impl<A: Firing, P: Policy> Runner<A, P> {
     /// Makes rounds until one ends the run, with at most `budget` firings, and says how it ended. After an end each
     /// further call answers that end and touches nothing.
     ///
-    /// The feeds and channels that the wiring needs are open, and are the same ones in each call. `gate` is told in each
-    /// round when a worker starts.
+    /// The feeds and channels that the wiring needs are open, and are the same ones in each call. `rt` is for the threads
+    /// of more workers than one, as in a round. `gate` is told in each round when a worker starts.
     ///
     /// # Errors
     ///
     /// The run ends in `ReadFault` if a feed couldn't be read, and in `WriteFault` if a channel couldn't be written: the
     /// failure was counted (`faults`).
-    pub fn run<F: Feeds, D: Drains, G: Gate>(
+    pub fn run<R: Threads + Sync, F: Feeds, D: Drains, G: Gate>(
         &mut self,
+        rt: &R,
         budget: u64,
         feeds: &mut F,
         drains: &mut D,
@@ -229,7 +233,7 @@ impl<A: Firing, P: Policy> Runner<A, P> {
     {
         let mut left = budget;
         'rounds: loop {
-            match self.round(left, feeds, drains, gate) {
+            match self.round(rt, left, feeds, drains, gate) {
                 RoundEnd::Fired(count) => left -= count,
                 RoundEnd::Idle
                 | RoundEnd::Grew {

@@ -5,10 +5,13 @@ ghost use Rattle.rvc_io.specs.MemFeeds.{inputs_of};
 ghost use Rattle.replay_rows.specs.Open.{AreFirstOpen, AreOpenFor};
 
 use net_model::Wiring;
-use runner_rows::has_few_inputs;
+use runner_rows::count_inputs;
 use rvc_base::Memory;
 use rvc_io::{Feeds, MemFeeds, names_are_distinct};
 use std::alloc::Global;
+
+/// The most links at inputs.
+const MAX_INPUTS: u32 = 2;
 
 /// Feed 0, which is open on a trace, and feeds 1 and 2, which are open on an input.
 fn first_feeds(
@@ -61,7 +64,10 @@ pub fn replay_feeds(
     ensures { IfOk result (λ found. IfSome found (λ feeds. AreOpenFor wiring.now
         (inputs_of feeds))) }
 {
-    if !has_few_inputs(&wiring.links) {
+    let Some(count) = count_inputs(&wiring.links) else {
+        return Ok(None);
+    };
+    if count > MAX_INPUTS {
         return Ok(None);
     }
     first_feeds(alloc, trace, input, failing)

@@ -1,6 +1,6 @@
 //! The rounds of a network: deliver, pick, fire, until an end.
 //!
-//! This crate has the parts of a round so far; nothing runs them yet.
+//! This crate has the parts of a round; `network_runner` joins them.
 #![tactic(auto)]
 
 mod bursting;

@@ -3,3 +3,4 @@ pub mod Rooms
 pub mod Fits
 pub mod Cells
 pub mod Outside
+pub mod Runs

@@ -1,6 +1,6 @@
 -- What a network asks of its feeds and channels before its run.
 -- Not trusted: no promise is read with it.
-use Rattle.std.specs.Prelude.{◌≡◌, ℕ, ◌+◌, true, false, slice_get, slice_index_or, Some}
+use Rattle.std.specs.Prelude.{◌≡◌, ℕ, suc, ◌+◌, ◌<◌, ◌≤◌, Bool, true, false, slice_get, slice_index_or, Some}
 use Rattle.rvc_io.specs.Channels.{Channels}
 use Rattle.rvc_io.specs.Feeds.{Inputs}
 use Rattle.net_model.specs.declared.wiring.Link.{Link}
@@ -19,11 +19,7 @@ AreChannelsOpen wiring channels = (channels.is_open 1 ≡ true)
     × ((p : ℕ) → slice_index_or wiring.open_outs.items p false ≡ true
     → channels.is_open (2 + p) ≡ true)
 
--- the feeds 1 and 2 are open
-abbrev pub AreTwoOpen : Inputs → Type 0
-AreTwoOpen feeds = (feeds.is_open 1 ≡ true) × (feeds.is_open 2 ≡ true)
-
--- the channels 1, 2 and 3 are open
-abbrev pub AreThreeOpen : Channels → Type 0
-AreThreeOpen channels = (channels.is_open 1 ≡ true) × (channels.is_open 2 ≡ true)
-    × (channels.is_open 3 ≡ true)
+-- of the feeds or channels from 1 on so many are open, and the others aren't
+pub record AreOpenTo (count : ℕ) (is_open : ℕ → Bool) : Type 0 where
+  pub opened : (k : ℕ) → k < count → is_open (suc k) ≡ true
+  pub closed : (k : ℕ) → count ≤ k → is_open (suc k) ≡ false

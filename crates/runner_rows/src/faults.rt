@@ -1,10 +1,11 @@
 //! Runs in which a call fails.
 
 use crate::networks::Net;
-use crate::runs::{Case, Want, plain, run};
+use crate::runs::{Case, Trace, Want, plain, run};
 use round_runner::RunEnd;
 use rvc_base::Memory;
 use std::alloc::Global;
+use std::thread::Threads;
 
 /// Three tokens that one actor adds one to: their trace and output.
 const TRACE: &[u8] = b"r\nf 0 0\nf 0 0\nf 0 0\nr\nq\n";
@@ -29,7 +30,7 @@ fn first_of(bytes: &[u8], count: u64) -> &[u8] {
 }
 
 /// Whether a run of that actor is cut off so.
-fn is_cut(alloc: Global, fault: Fault) -> Result<bool, Memory> {
+fn is_cut<R: Threads + Sync>(rt: &R, alloc: Global, fault: Fault) -> Result<bool, Memory> {
     let case = Case {
         pull: fault.pull,
         put: fault.put,
@@ -38,12 +39,12 @@ fn is_cut(alloc: Global, fault: Fault) -> Result<bool, Memory> {
     };
     let want = Want {
         end: fault.end,
-        trace: Some(first_of(TRACE, fault.trace)),
+        trace: Trace::Is(first_of(TRACE, fault.trace)),
         firings: None,
         out: first_of(OUT, fault.out),
         second: &[],
     };
-    let (_ran, as_wanted) = run(alloc, case, want)?;
+    let (_ran, as_wanted) = run(rt, alloc, case, want)?;
     Ok(as_wanted)
 }
 
@@ -71,7 +72,7 @@ fn pull_fault(step: u32, pulls: u64, pull: u64) -> Fault {
 fn each_pull_fails_once(rt: HostRuntime) -> Result<(), Memory> {
     for &(step, pulls, _outs, _lines) in STEPS {
         for pull in 1..=5_u64 {
-            let cut = is_cut(rt.alloc(), pull_fault(step, pulls, pull))?;
+            let cut = is_cut(&rt, rt.alloc(), pull_fault(step, pulls, pull))?;
             assert!(rt; cut, "{step} {pull}");
         }
     }
@@ -111,7 +112,7 @@ fn put_fault(step: u32, outs: u64, lines: u64, put: u64) -> Fault {
 fn each_put_fails_once(rt: HostRuntime) -> Result<(), Memory> {
     for &(step, _pulls, outs, lines) in STEPS {
         for put in 1..=30_u64 {
-            let cut = is_cut(rt.alloc(), put_fault(step, outs, lines, put))?;
+            let cut = is_cut(&rt, rt.alloc(), put_fault(step, outs, lines, put))?;
             assert!(rt; cut, "{step} {put}");
         }
     }
@@ -128,7 +129,11 @@ const LATE: &[(u64, u32, &[u8], u64, &[u8])] = &[
 ];
 
 /// How a run with a link of two tokens ended, and whether it is cut off so.
-fn run_late(alloc: Global, late: (u64, u32, &[u8], u64, &[u8])) -> Result<bool, Memory> {
+fn run_late<R: Threads + Sync>(
+    rt: &R,
+    alloc: Global,
+    late: (u64, u32, &[u8], u64, &[u8]),
+) -> Result<bool, Memory> {
     let (pull, step, trace, firings, out) = late;
     let case = Case {
         pull: Some(pull),
@@ -137,12 +142,12 @@ fn run_late(alloc: Global, late: (u64, u32, &[u8], u64, &[u8])) -> Result<bool, 
     };
     let want = Want {
         end: RunEnd::ReadFault { feed: 1 },
-        trace: Some(trace),
+        trace: Trace::Is(trace),
         firings: Some(firings),
         out,
         second: &[],
     };
-    let (_ran, as_wanted) = run(alloc, case, want)?;
+    let (_ran, as_wanted) = run(rt, alloc, case, want)?;
     Ok(as_wanted)
 }
 
@@ -150,8 +155,64 @@ fn run_late(alloc: Global, late: (u64, u32, &[u8], u64, &[u8])) -> Result<bool, 
 fn a_pull_fails_in_a_later_round(rt: HostRuntime) -> Result<(), Memory> {
     for &late in LATE {
         let pull = late.0;
-        let as_wanted = run_late(rt.alloc(), late)?;
+        let as_wanted = run_late(&rt, rt.alloc(), late)?;
         assert!(rt; as_wanted, "{pull}");
+    }
+    Ok(())
+}
+
+/// An input of three tokens feeds two actors, with an output each: the pull and the put that fail, the end, and what the
+/// two outputs get. The feed or the channel of the second actor is named.
+const FORKED: &[(Option<u64>, Option<u64>, RunEnd, &[u8], &[u8])] = &[
+    (Some(2), None, RunEnd::ReadFault { feed: 1 }, &[], &[]),
+    (Some(3), None, RunEnd::ReadFault { feed: 2 }, &[], &[]),
+    (Some(4), None, RunEnd::ReadFault { feed: 2 }, &[], &[]),
+    (None, Some(1), RunEnd::WriteFault { channel: 2 }, &[], &[]),
+    (
+        None,
+        Some(2),
+        RunEnd::WriteFault { channel: 3 },
+        &[8, 9, 10],
+        &[],
+    ),
+    (
+        None,
+        Some(3),
+        RunEnd::WriteFault { channel: 1 },
+        &[8, 9, 10],
+        &[7, 8, 9],
+    ),
+];
+
+/// How the run of two actors ended, and whether it is cut off so, with an empty trace.
+fn run_forked<'a, R: Threads + Sync>(
+    rt: &R,
+    alloc: Global,
+    forked: (Option<u64>, Option<u64>, RunEnd, &'a [u8], &'a [u8]),
+) -> Result<bool, Memory> {
+    let (pull, put, end, out, second) = forked;
+    let case = Case {
+        pull,
+        put,
+        ..plain(Net::Fork, &[7, 8, 9])
+    };
+    let want = Want {
+        end,
+        trace: Trace::Is(&[]),
+        firings: None,
+        out,
+        second,
+    };
+    let (_ran, as_wanted) = run(rt, alloc, case, want)?;
+    Ok(as_wanted)
+}
+
+#[test]
+fn the_feed_or_channel_that_failed_is_named(rt: HostRuntime) -> Result<(), Memory> {
+    for &forked in FORKED {
+        let end = forked.2;
+        let as_wanted = run_forked(&rt, rt.alloc(), forked)?;
+        assert!(rt; as_wanted, "{end:?}");
     }
     Ok(())
 }

@@ -17,7 +17,7 @@ mod rooms;
 mod running;
 mod sizes;
 
-pub use outside::{drains_of, feeds_of, has_few_inputs};
+pub use outside::{count_inputs, drains_of, feeds_of};
 pub use ready::ready_cells;
 pub use running::{Ran, Ready, run_network};
 

@@ -1,56 +1,77 @@
-//! Feeds and channels in memory, for networks with few ports.
+//! Feeds and channels in memory, for networks.
 
-ghost use Rattle.std.specs.Prelude.{◌≡◌, ◌+◌, ◌≤◌, ◌∷◌, [], IfOk, IfSome, true};
+ghost use Rattle.std.specs.Prelude.{◌≡◌, ◌+◌, ◌≤◌, ◌∷◌, [], IfOk, IfSome, OnOk};
 ghost use Rattle.rvc_io.specs.MemFeeds.{inputs_of};
 ghost use Rattle.rvc_io.specs.MemDrains.{channels_of};
 ghost use Rattle.round_runner.specs.Running.{count_inputs};
-ghost use Rattle.runner_rows.specs.Outside.{AreChannelsOpen, AreFeedsOpen, AreThreeOpen, AreTwoOpen};
+ghost use Rattle.runner_rows.specs.Outside.{AreChannelsOpen, AreFeedsOpen, AreOpenTo};
 
 use net_model::{End, Link, Wiring};
 use rvc_base::Memory;
-use rvc_io::{Drains, Feeds, MemDrains, MemFeeds, names_are_distinct};
+use rvc_io::{Drains, Failed, Feeds, MemDrains, MemFeeds, names_are_distinct};
 use std::alloc::Global;
 
-/// The most links at inputs: there is a feed for each.
-const MAX_INPUTS: u32 = 2;
+/// The most links at inputs, and the most outputs.
+const MAX_PORTS: u32 = 1024;
 
-/// The most outputs: there is a channel for each.
-const MAX_OUTPUTS: usize = 2;
-
-/// How many of so many feeds are left behind those of a link, unless it has none left for itself.
-fn left_behind(link: &Link, left: u32) -> Option<u32>
-    ensures { IfSome result (λ n. n + count_inputs (link.now ∷ []) ≡ left) }
+/// How many links begin at an input with this one, unless there are too many.
+fn with_link(count: u32, link: &Link) -> Option<u32>
+    requires few { count ≤ 1024 }
+    ensures count { IfSome result (λ n. count + count_inputs (link.now ∷ []) ≡ n) }
+    ensures still_few { IfSome result (λ n. n ≤ 1024) }
 {
     match link.from {
-        End::Leaf { inst: _, port: _ } => Some(left),
-        End::Net { port: _ } => { if left == 0 { None } else { Some(left - 1) } }
+        End::Leaf { inst: _, port: _ } => Some(count),
+        End::Net { port: _ } => {
+            if count >= MAX_PORTS {
+                None
+            } else {
+                Some(count + 1)
+            }
+        }
     }
 }
 
-/// Whether there is a feed for each link at an input.
-pub fn has_few_inputs(links: &[Link]) -> bool
-    ensures { result ≡ true → count_inputs links.now ≤ 2 }
+/// How many of these links begin at an input, unless there are too many.
+pub fn count_inputs(links: &[Link]) -> Option<u32>
+    ensures count { IfSome result (λ n. n ≡ count_inputs links.now) }
+    ensures few { IfSome result (λ n. n ≤ 1024) }
 {
-    let mut left = MAX_INPUTS;
+    let mut count = 0;
     let mut rest = links;
     'links: while let Some((first, others)) = rest.split_first() {
-        let Some(behind) = left_behind(first, left) else {
-            return false;
+        let Some(more) = with_link(count, first) else {
+            return None;
         };
-        left = behind;
+        count = more;
         rest = others;
     }
-    true
+    Some(count)
 }
 
-/// Feeds 1 and 2, which are open on these bytes.
-fn two_feeds(
+/// Opens so many feeds from 1 on, each on the same bytes.
+fn open_feeds<F: Feeds>(feeds: &mut F, count: u32) -> Result<(), Failed>
+    requires closed { AreOpenTo 0 (F.feeds feeds.old).is_open }
+    requires few { count ≤ 1024 }
+    ensures { OnOk result (AreOpenTo count (F.feeds feeds.new).is_open) }
+{
+    for k in 0..count {
+        feeds.open(k + 1, "in")?;
+    }
+    Ok(())
+}
+
+/// So many feeds from 1 on, which are open on these bytes, or none if an opening fails.
+fn feeds_from_one(
     alloc: Global,
+    count: u32,
     input: &[u8],
     failing: &[u64],
     step: u32,
 ) -> Result<Option<MemFeeds>, Memory>
-    ensures { IfOk result (λ found. IfSome found (λ feeds. AreTwoOpen (inputs_of feeds))) }
+    requires few { count ≤ 1024 }
+    ensures { IfOk result (λ found. IfSome found (λ feeds. AreOpenTo count
+        (inputs_of feeds).is_open)) }
 {
     let mut files = Vec::new(alloc);
     files.push((
@@ -61,18 +82,16 @@ fn two_feeds(
         return Ok(None);
     }
     let failing = Vec::from_slice(alloc, failing)?;
-    let mut feeds = MemFeeds::new(alloc, files, failing, step, 3)?;
-    let Ok(()) = feeds.open(1, "in") else {
-        return Ok(None);
-    };
-    let Ok(()) = feeds.open(2, "in") else {
+    let mut feeds = MemFeeds::new(alloc, files, failing, step, count + 1)?;
+    let Ok(()) = open_feeds(&mut feeds, count) else {
         return Ok(None);
     };
     Ok(Some(feeds))
 }
 
-/// The feeds of a network, which give these bytes, or none if it has more than two input links or an opening fails. A
-/// call moves at most `step` bytes, and `failing` lists the calls that are to fail; the first two are the openings.
+/// The feeds of a network, each of which gives these bytes, or none if it has more than 1,024 links at inputs or an
+/// opening fails. A call moves at most `step` bytes, and `failing` lists the calls that are to fail; the first ones are
+/// the openings, as many as there are links at inputs.
 ///
 /// # Errors
 ///
@@ -87,41 +106,50 @@ pub fn feeds_of(
     ensures { IfOk result (λ found. IfSome found (λ feeds. AreFeedsOpen wiring.now
         (inputs_of feeds))) }
 {
-    if !has_few_inputs(&wiring.links) {
+    let Some(count) = count_inputs(&wiring.links) else {
         return Ok(None);
-    }
-    two_feeds(alloc, input, failing, step)
+    };
+    feeds_from_one(alloc, count, input, failing, step)
 }
 
-/// Channels 1, 2 and 3, which are open.
-fn three_channels(
+/// Opens so many channels from 1 on.
+fn open_channels<D: Drains>(drains: &mut D, count: u32) -> Result<(), Failed>
+    requires closed { AreOpenTo 0 (D.channels drains.old).is_open }
+    requires few { count ≤ 1025 }
+    ensures { OnOk result (AreOpenTo count (D.channels drains.new).is_open) }
+{
+    for k in 0..count {
+        drains.open(k + 1, "out")?;
+    }
+    Ok(())
+}
+
+/// So many channels from 1 on, which are open, or none if an opening fails.
+fn channels_from_one(
     alloc: Global,
+    count: u32,
     failing: &[u64],
     step: u32,
     room: u32,
 ) -> Result<Option<MemDrains>, Memory>
-    ensures { IfOk result (λ found. IfSome found (λ drains. AreThreeOpen (channels_of drains))) }
+    requires few { count ≤ 1025 }
+    ensures { IfOk result (λ found. IfSome found (λ drains. AreOpenTo count
+        (channels_of drains).is_open)) }
 {
     if step == 0 {
         return Ok(None);
     }
     let failing = Vec::from_slice(alloc, failing)?;
-    let mut drains = MemDrains::new(alloc, failing, step, 4, room)?;
-    let Ok(()) = drains.open(1, "trace") else {
-        return Ok(None);
-    };
-    let Ok(()) = drains.open(2, "first") else {
-        return Ok(None);
-    };
-    let Ok(()) = drains.open(3, "second") else {
+    let mut drains = MemDrains::new(alloc, failing, step, count + 1, room)?;
+    let Ok(()) = open_channels(&mut drains, count) else {
         return Ok(None);
     };
     Ok(Some(drains))
 }
 
-/// The channels of a network, of which each holds at most `room` bytes, or none if it has more than two outputs or an
-/// opening fails. A call moves at most `step` bytes, and `failing` lists the calls that are to fail; the first three are
-/// the openings.
+/// The channels of a network, of which each holds at most `room` bytes, or none if it has more than 1,024 outputs or an
+/// opening fails. A call moves at most `step` bytes, and `failing` lists the calls that are to fail; the first ones are
+/// the openings, one for the trace and one for each output.
 ///
 /// # Errors
 ///
@@ -136,8 +164,9 @@ pub fn drains_of(
     ensures { IfOk result (λ found. IfSome found (λ drains. AreChannelsOpen wiring.now
         (channels_of drains))) }
 {
-    if wiring.open_outs.len() > MAX_OUTPUTS {
+    let outs = wiring.open_outs.len();
+    if outs > MAX_PORTS as usize {
         return Ok(None);
     }
-    three_channels(alloc, failing, step, room)
+    channels_from_one(alloc, outs as u32 + 1, failing, step, room)
 }

@@ -2,10 +2,11 @@
 
 use crate::Ran;
 use crate::networks::Net;
-use crate::runs::{Case, MUCH, Want, plain, run};
+use crate::runs::{Case, MUCH, Trace, Want, plain, run};
 use round_runner::RunEnd;
 use rvc_base::{ActId, InstId, LinkId, Memory, Trap};
 use std::alloc::Global;
+use std::thread::Threads;
 
 const STALLED: RunEnd = RunEnd::Stalled {
     inst: InstId(0),
@@ -167,11 +168,15 @@ fn count(lines: &str, letter: u8) -> u64 {
 }
 
 /// How a run of this row ended, and whether all is as the row says.
-fn row_holds(alloc: Global, row: Row<'_>) -> Result<(Ran, bool), Memory> {
+fn row_holds<R: Threads + Sync>(
+    rt: &R,
+    alloc: Global,
+    row: Row<'_>,
+) -> Result<(Ran, bool), Memory> {
     let (net, input, budget, grow, trace, out, rest, end) = row;
     let want = Want {
         end,
-        trace: Some(trace.as_bytes()),
+        trace: Trace::Is(trace.as_bytes()),
         firings: Some(count(trace, b'f')),
         out,
         second: &[],
@@ -181,7 +186,7 @@ fn row_holds(alloc: Global, row: Row<'_>) -> Result<(Ran, bool), Memory> {
         grow,
         ..plain(net, input)
     };
-    let (ran, as_wanted) = run(alloc, case, want)?;
+    let (ran, as_wanted) = run(rt, alloc, case, want)?;
     let is_counted = ran.rounds == count(trace, b'r') && ran.rest == rest;
     Ok((ran, as_wanted && is_counted))
 }
@@ -190,7 +195,7 @@ fn row_holds(alloc: Global, row: Row<'_>) -> Result<(Ran, bool), Memory> {
 fn runs(rt: HostRuntime) -> Result<(), Memory> {
     for &row in ROWS {
         let net = row.0;
-        let (ran, holds) = row_holds(rt.alloc(), row)?;
+        let (ran, holds) = row_holds(&rt, rt.alloc(), row)?;
         assert!(rt; holds, "{net:?} {ran:?}");
     }
     Ok(())
@@ -201,7 +206,7 @@ fn runs(rt: HostRuntime) -> Result<(), Memory> {
 fn an_output_without_a_channel_gets_nothing(rt: HostRuntime) -> Result<(), Memory> {
     let want = Want {
         end: RunEnd::Quiet,
-        trace: Some(b"r\nf 0 0\nf 0 0\nr\nq\n"),
+        trace: Trace::Is(b"r\nf 0 0\nf 0 0\nr\nq\n"),
         firings: Some(2),
         out: &[],
         second: &[],
@@ -210,7 +215,7 @@ fn an_output_without_a_channel_gets_nothing(rt: HostRuntime) -> Result<(), Memor
         open: false,
         ..plain(Net::Inc, &[1, 2])
     };
-    let (ran, as_wanted) = run(rt.alloc(), closed, want)?;
+    let (ran, as_wanted) = run(&rt, rt.alloc(), closed, want)?;
     let is_counted = ran.rounds == 2 && ran.arrived == 2 && ran.rest == 0 && ran.sent == 2;
     assert!(rt; as_wanted && is_counted, "{ran:?}");
     Ok(())

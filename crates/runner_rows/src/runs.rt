@@ -8,14 +8,15 @@ ghost use Rattle.rvc_io.specs.MemFeeds.{inputs_of};
 ghost use Rattle.runner_rows.specs.Outside.{AreChannelsOpen, AreFeedsOpen};
 
 use crate::networks::{Net, actors, wiring};
-use crate::{Ran, Ready, drains_of, feeds_of, ready_cells, run_network};
+use crate::{Ran, Ready, count_inputs, drains_of, feeds_of, ready_cells, run_network};
 use actor_cell::Cell;
 use net_model::Wiring;
 use round_plan::{AllPolicy, SeedPolicy, TurnPolicy};
 use round_runner::{Plan, RunEnd};
 use rvc_base::{MAX_BUDGET, Memory};
-use rvc_io::{MemDrains, MemFeeds};
+use rvc_io::{Gate, MemDrains, MemFeeds, OpenGate};
 use std::alloc::Global;
+use std::thread::Threads;
 
 /// Which policy makes the rounds.
 #[derive(Clone, Copy, Debug, PartialEq, Eq)]
@@ -26,7 +27,7 @@ pub(crate) enum Rounds {
 }
 
 /// A network and how it is run: its input, which pull and which put fails, counted from 1, how many bytes a call moves,
-/// its rounds, its budget, and whether its outputs have channels.
+/// its workers, its rounds, its budget, and whether its outputs have channels.
 #[derive(Clone, Copy)]
 pub(crate) struct Case<'a> {
     pub(crate) net: Net,
@@ -34,6 +35,7 @@ pub(crate) struct Case<'a> {
     pub(crate) pull: Option<u64>,
     pub(crate) put: Option<u64>,
     pub(crate) step: u32,
+    pub(crate) workers: u32,
     pub(crate) rounds: Rounds,
     pub(crate) burst: u32,
     pub(crate) grow: u32,
@@ -41,11 +43,19 @@ pub(crate) struct Case<'a> {
     pub(crate) open: bool,
 }
 
+/// What a trace is to be: these bytes, bytes that have this FNV-1a number of 64 bits, or any.
+#[derive(Clone, Copy)]
+pub(crate) enum Trace<'a> {
+    Is(&'a [u8]),
+    Has(u64),
+    Any,
+}
+
 /// What a run is to leave: its end, its trace, how many firings it makes, and what its two outputs get.
 #[derive(Clone, Copy)]
 pub(crate) struct Want<'a> {
     pub(crate) end: RunEnd,
-    pub(crate) trace: Option<&'a [u8]>,
+    pub(crate) trace: Trace<'a>,
     pub(crate) firings: Option<u64>,
     pub(crate) out: &'a [u8],
     pub(crate) second: &'a [u8],
@@ -62,6 +72,7 @@ pub(crate) fn plain(net: Net, input: &[u8]) -> Case<'_> {
         pull: None,
         put: None,
         step: 65_536,
+        workers: 1,
         rounds: Rounds::All,
         burst: 64,
         grow: 0,
@@ -83,7 +94,11 @@ fn failing(alloc: Global, call: Option<u64>, openings: u64) -> Result<Vec<u64>, 
 fn feeds(alloc: Global, wiring: &Wiring, case: Case<'_>) -> Result<MemFeeds, Memory>
     ensures { IfOk result (λ feeds. AreFeedsOpen wiring.now (inputs_of feeds)) }
 {
-    let failing = failing(alloc, case.pull, 2)?;
+    let openings = match count_inputs(&wiring.links) {
+        Some(count) => u64::from(count),
+        None => 0,
+    };
+    let failing = failing(alloc, case.pull, openings)?;
     match feeds_of(alloc, wiring, case.input, &failing, case.step)? {
         Some(feeds) => Ok(feeds),
         None => Err(Memory),
@@ -94,7 +109,8 @@ fn feeds(alloc: Global, wiring: &Wiring, case: Case<'_>) -> Result<MemFeeds, Mem
 fn drains(alloc: Global, wiring: &Wiring, case: Case<'_>) -> Result<MemDrains, Memory>
     ensures { IfOk result (λ drains. AreChannelsOpen wiring.now (channels_of drains)) }
 {
-    let failing = failing(alloc, case.put, 3)?;
+    let openings = (wiring.open_outs.len() as u64).saturating_add(1);
+    let failing = failing(alloc, case.put, openings)?;
     match drains_of(alloc, wiring, &failing, case.step, 4096)? {
         Some(drains) => Ok(drains),
         None => Err(Memory),
@@ -117,7 +133,7 @@ fn ready(alloc: Global, case: Case<'_>) -> Result<Ready, Memory>
     ensures { IfOk result (λ ready. CanRun (map seen ready.cells.items) ready.wiring ready.plan) }
 {
     let plan = Plan {
-        workers: 1,
+        workers: case.workers,
         burst: case.burst,
         grow: case.grow,
     };
@@ -130,24 +146,33 @@ fn ready(alloc: Global, case: Case<'_>) -> Result<Ready, Memory>
     })
 }
 
-fn run_by(
+fn run_by<R: Threads + Sync, G: Gate>(
+    rt: &R,
     alloc: Global,
     ready: Ready,
-    rounds: Rounds,
-    budget: u64,
+    case: Case<'_>,
     feeds: &mut MemFeeds,
     drains: &mut MemDrains,
+    gate: &G,
 ) -> Result<Ran, Memory>
     requires can_run { CanRun (map seen ready.cells.items) ready.wiring ready.plan }
-    requires budget { budget ≤ MAX_BUDGET }
+    requires budget { case.budget ≤ MAX_BUDGET }
     requires feeds { AreFeedsOpen ready.wiring (inputs_of feeds.old) }
     requires channels { AreChannelsOpen ready.wiring (channels_of drains.old) }
 {
-    match rounds {
-        Rounds::All => run_network(alloc, ready, AllPolicy::new(), budget, feeds, drains),
-        Rounds::Turn => run_network(alloc, ready, TurnPolicy::new(), budget, feeds, drains),
+    let budget = case.budget;
+    match case.rounds {
+        Rounds::All => {
+            let policy = AllPolicy::new();
+            run_network(rt, alloc, ready, policy, budget, feeds, drains, gate)
+        }
+        Rounds::Turn => {
+            let policy = TurnPolicy::new();
+            run_network(rt, alloc, ready, policy, budget, feeds, drains, gate)
+        }
         Rounds::Seed(seed) => {
-            run_network(alloc, ready, SeedPolicy::new(seed), budget, feeds, drains)
+            let policy = SeedPolicy::new(seed);
+            run_network(rt, alloc, ready, policy, budget, feeds, drains, gate)
         }
     }
 }
@@ -161,43 +186,65 @@ fn is_end(ran: Ran, want: Want<'_>) -> bool {
     are_counted && ran.end == want.end
 }
 
+/// The FNV-1a number of these bytes.
+fn number_of(bytes: &[u8]) -> u64 {
+    let mut number: u64 = 0xCBF2_9CE4_8422_2325;
+    for &byte in bytes {
+        number = (number ^ u64::from(byte)).wrapping_mul(0x100_0000_01B3);
+    }
+    number
+}
+
 /// Whether the trace and the outputs are those that are wanted.
 fn are_written(drains: &MemDrains, want: Want<'_>) -> bool {
     let is_trace = match want.trace {
-        Some(trace) => drains.held(1) == trace,
-        None => true,
+        Trace::Is(trace) => drains.held(1) == trace,
+        Trace::Has(number) => number_of(drains.held(1)) == number,
+        Trace::Any => true,
     };
     is_trace && drains.held(2) == want.out && drains.held(3) == want.second
 }
 
 /// Runs a network, and says how it ended and whether it left what is wanted.
-fn run_ready(
+fn run_ready<R: Threads + Sync, G: Gate>(
+    rt: &R,
     alloc: Global,
     ready: Ready,
     case: Case<'_>,
     want: Want<'_>,
+    gate: &G,
 ) -> Result<(Ran, bool), Memory>
     requires can_run { CanRun (map seen ready.cells.items) ready.wiring ready.plan }
     requires budget { case.budget ≤ MAX_BUDGET }
 {
     let mut feeds = feeds(alloc, &ready.wiring, case)?;
     let mut drains = drains(alloc, &ready.wiring, case)?;
-    let ran = run_by(
-        alloc,
-        ready,
-        case.rounds,
-        case.budget,
-        &mut feeds,
-        &mut drains,
-    )?;
+    let ran = run_by(rt, alloc, ready, case, &mut feeds, &mut drains, gate)?;
     Ok((ran, is_end(ran, want) && are_written(&drains, want)))
 }
 
-/// How a case ended, and whether it left what is wanted. `Memory` stands for a network that can't be run, too.
-pub(crate) fn run(alloc: Global, case: Case<'_>, want: Want<'_>) -> Result<(Ran, bool), Memory> {
+/// How a case ended, and whether it left what is wanted. `Memory` stands for a network that can't be run, too. `gate` is
+/// told when a worker starts.
+pub(crate) fn run_past<R: Threads + Sync, G: Gate>(
+    rt: &R,
+    alloc: Global,
+    case: Case<'_>,
+    want: Want<'_>,
+    gate: &G,
+) -> Result<(Ran, bool), Memory> {
     if case.budget > MAX_BUDGET {
         return Err(Memory);
     }
     let ready = ready(alloc, case)?;
-    run_ready(alloc, ready, case, want)
+    run_ready(rt, alloc, ready, case, want, gate)
+}
+
+/// The same with a gate that holds nobody.
+pub(crate) fn run<R: Threads + Sync>(
+    rt: &R,
+    alloc: Global,
+    case: Case<'_>,
+    want: Want<'_>,
+) -> Result<(Ran, bool), Memory> {
+    run_past(rt, alloc, case, want, &OpenGate)
 }

@@ -3,8 +3,8 @@ use Rattle.std.specs.Prelude.{slice_index_or}
 use Rattle.std.proofs.lemmas.Option.{slice_get-get_or}
 use Rattle.round_runner.proofs.Stepping.{IsStepUpTo, step_all, step_none, step_other, step_worked, unmarked_here}
 use Rattle.round_runner.proofs.UpTo.{at_mark}
-use Rattle.round_runner.proofs.piece.work_each.Goals as goal
-use Rattle.round_runner.proofs.piece.work_each.Goals.{then-picked-k, else-picked-k}
+use Rattle.round_runner.proofs.piece.work_in_turn.Goals as goal
+use Rattle.round_runner.proofs.piece.work_in_turn.Goals.{then-picked-k, else-picked-k}
 
 pub loop-k-init : goal.loop-k-init
 loop-k-init g c = step_none g.P.Piece.state g.P.Piece.marked g.P.Piece.gives c.args.picked.now c.args.pieces.now
