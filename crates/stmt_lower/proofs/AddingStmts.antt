@@ -6,14 +6,16 @@ use Rattle.std.proofs.lemmas.List.{append-nil, length-map, map-append, take_more
 use Rattle.rvc_base.specs.declared.scalar.Scalar.{Scalar}
 use Rattle.cal_ast.specs.Tree as tree
 use Rattle.cal_ast.specs.Tree.{Tree, listed}
-use Rattle.cal_model.specs.Value.{Shape, Single, Many}
+use Rattle.cal_model.specs.Value.{Shape, Single, Many, scalars_of_type}
 use Rattle.code_ir.specs.declared.instr.Instr.{Instr}
 use Rattle.code_ir.specs.declared.instr.Instr.TheVariants as op
 use Rattle.stmt_lower.specs.declared.counter.Counter.{Counter}
 use Rattle.stmt_lower.specs.declared.counter.Kept.{Kept}
-use Rattle.expr_lower.specs.Parted.{Part, number_of, part_named}
-use Rattle.stmt_lower.specs.Targets.{deep_cells_at, deep_cells_in, leaf_in, cell_of, cell_named, cells_of, cells_named}
-use Rattle.expr_lower.proofs.PartValues.{IsWhole, whole_found}
+use Rattle.expr_lower.specs.Parted.{Part, number_of, part_named, sized}
+use Rattle.list_lower.specs.FillWords.{HasCells}
+use Rattle.list_lower.specs.Filling.{IsFill}
+use Rattle.stmt_lower.specs.Targets.{deep_cells_at, deep_cells_in, leaf_in, leaf_of, whole_cells_in, cell_of, cell_named, cells_of, cells_named}
+use Rattle.expr_lower.proofs.PartValues.{IsWhole, sized_is, whole_found}
 use Rattle.expr_lower.specs.declared.draft.Draft.{Draft}
 use Rattle.expr_lower.specs.declared.fault.LowerFault.{LowerFault}
 use Rattle.expr_lower.specs.declared.fault.LowerFault.TheVariants.{Memory, TooLong, TooManyCells, NotLowered}
@@ -32,8 +34,8 @@ use Rattle.expr_lower.specs.Listed.{list_named}
 use Rattle.expr_lower.specs.Linking.{Closes, Links}
 use Rattle.stmt_lower.specs.Jumping.{SetsExit, SetsJump}
 use Rattle.expr_lower.specs.Lowered.{Adds, IsPut}
-use Rattle.stmt_lower.specs.Meant.{single_meant}
-use Rattle.stmt_lower.specs.Stating.{IsKept, IsStmt, copy_code, deep_tail, no_place, place_more, set_deep, set_items, set_list, step_code, AreStmts, set, set_item, if_alone, if_else, while_code, each_code, none, one_more, IsBlock, variable_more, counter_at, each_bounds, each_head, each_less, each_next, each_tail, each_turn, call, run_code}
+use Rattle.list_lower.specs.Meant.{single_meant}
+use Rattle.stmt_lower.specs.Stating.{IsKept, IsStmt, copy_code, deep_tail, no_place, place_more, set_deep, set_filled, set_items, set_list, step_code, AreStmts, set, set_item, if_alone, if_else, while_code, each_code, none, one_more, IsBlock, variable_more, counter_at, each_bounds, each_head, each_less, each_next, each_tail, each_turn, call, run_code}
 use Rattle.expr_lower.specs.Starting.{IsStart, left_out_start}
 use Rattle.stmt_lower.specs.Reserving.{HasKept, HasMore, HasTaken}
 use Rattle.expr_lower.specs.Taking.{HasOneMore}
@@ -292,6 +294,51 @@ items_differ fs names c items at count number size =
     go : (b : Bool) → nat_eq (number_of items) c.size ≡ b → number_of items ≢ c.size → (if b then left_out_each fs names items else Some at) ≡ Some at
     go true e h = absurd (h (grind (arith, nat_tests, e)))
     go false e h = refl
+
+whole_cells : (p : Part) (c : ListCells) (seat : Seat) → p.seat ≡ seat → deep_cells_at p.seat p.size (Some (leaf_of p.shape)) ≡ Some c → (p.seat ≡ Cell c.cell) × (c.size ≡ p.size) × (c.kind ≡ leaf_of p.shape)
+whole_cells p c (Cell d) at h =
+    let made : ListCells = record { cell = d; size = p.size; kind = leaf_of p.shape } in
+    let is : ◌≡◌ {A = Option ListCells} (Some made) (Some c) = sym (ap (λ s. deep_cells_at s p.size (Some (leaf_of p.shape))) at) ∙ h in
+    let one : made ≡ c = cc in
+    (at ∙ ap (λ (x : ListCells). Cell x.cell) one, ap (λ (x : ListCells). x.size) (sym one), ap (λ (x : ListCells). x.kind) (sym one))
+whole_cells p c (Tokens port first step) at h =
+    let is : ◌≡◌ {A = Option ListCells} None (Some c) = sym (ap (λ s. deep_cells_at s p.size (Some (leaf_of p.shape))) at) ∙ h in
+    cc
+
+pub filled_adds : {rs : Routines} (names : List Name) (text : List ℕ) (value : Tree) (place at first : ℕ) (p : Part) (c : ListCells) (old d0 d1 new : Draft) → part_named names (tree.variable text 0) ≡ Some p → whole_cells_in p ≡ Some c → HasMore c.size old d0 first
+    → Adds (IsFill rs.functions names value p.shape first) d0 d1 → IsPut (op.Copy c.cell first c.size (Some c.kind) ∷ []) d1 new → Adds (IsStmt rs names (tree.assign (tree.ident text place) tree.nil value at)) old new
+filled_adds {rs = rs} names text value place at first p c old d0 d1 new e g k a q =
+    let f : IsWhole names text p = whole_found names text 0 p e in
+    let cells = whole_cells p c p.seat refl g in
+    let wide : scalars_of_type f.x.shape ≡ c.size = sized_is f.x.shape p.size f.size ∙ sym cells.1 in
+    let leaf : leaf_of f.x.shape ≡ c.kind = ap leaf_of f.shape ∙ sym cells.2 in
+    let here : List Instr = op.Copy c.cell old.cells (scalars_of_type f.x.shape) (Some (leaf_of f.x.shape)) ∷ [] in
+    let last : List Instr = op.Copy c.cell first c.size (Some c.kind) ∷ [] in
+    let same : last ≡ here = ap (λ n. op.Copy c.cell n c.size (Some c.kind) ∷ []) k.is ∙ ap (λ n. op.Copy c.cell old.cells n (Some c.kind) ∷ []) (sym wide) ∙ ap (λ t. op.Copy c.cell old.cells (scalars_of_type f.x.shape) (Some t) ∷ []) (sym leaf) in
+    let start : length d0.instrs.items ≡ length old.instrs.items = ap length k.instrs in
+    let taken : d0.cells ≡ old.cells + scalars_of_type f.x.shape = let y = k.cells in omega (arith, y, wide) in
+    let all : new.instrs.items ≡ (old.instrs.items ++ a.code) ++ last = cc (q.is, a.is, k.instrs) in
+    record {
+      code = a.code ++ here;
+      is = all ∙ append_assoc old.instrs.items a.code last ∙ ap (λ is. old.instrs.items ++ (a.code ++ is)) same;
+      routines = q.routines ∙ a.routines ∙ k.routines;
+      has = subst (λ m. IsStmt rs names (tree.assign (tree.ident text place) tree.nil value at) (length old.instrs.items) old.cells (a.code ++ here) m) (sym q.cells)
+          (set_filled names text value place at (length old.instrs.items) old.cells d1.cells c.cell a.code f.x f.is (f.seat ∙ cells.0)
+          (subst (λ t. IsFill rs.functions names value t old.cells (length old.instrs.items) (old.cells + scalars_of_type f.x.shape) a.code d1.cells) (sym f.shape)
+          (subst (λ y. IsFill rs.functions names value p.shape y (length old.instrs.items) (old.cells + scalars_of_type f.x.shape) a.code d1.cells) k.is
+          (subst (λ y. IsFill rs.functions names value p.shape first y (old.cells + scalars_of_type f.x.shape) a.code d1.cells) start
+          (subst (λ y. IsFill rs.functions names value p.shape first (length d0.instrs.items) y a.code d1.cells) taken a.has)))));
+    }
+
+-- .. whose cells are there for its type
+pub filled_room : (names : List Name) (text : List ℕ) (first : ℕ) (p : Part) (c : ListCells) (old d0 : Draft) → part_named names (tree.variable text 0) ≡ Some p → whole_cells_in p ≡ Some c → HasMore c.size old d0 first → HasCells p.shape first d0
+filled_room names text first p c old d0 e g k =
+    let f : IsWhole names text p = whole_found names text 0 p e in
+    let cells = whole_cells p c p.seat refl g in
+    let size = cells.1 in
+    let more = k.cells in
+    let is = k.is in
+    (p.size, ap sized (sym f.shape) ∙ f.size, omega (arith, size, more, is))
 
 pub items_adds : {rs : Routines} (names : List Name) (text : List ℕ) (items : Tree) (list place at count first : ℕ) (c : ListCells) (old d0 d1 new : Draft) → cells_named names text ≡ Some c → count ≡ number_of items → count ≡ c.size → HasMore count old d0 first
     → Adds (IsKept rs.functions names first items) d0 d1 → IsPut (copy_code c.cell c.size c.kind (Cell first)) d1 new → Adds (IsStmt rs names (tree.assign (tree.ident text place) tree.nil (tree.list items list) at)) old new

@@ -19,7 +19,7 @@ use Rattle.code_ir.specs.declared.instr.Instr.TheVariants as op
 use Rattle.code_ir.specs.Running.{State, Reaches, here, after}
 use Rattle.expr_lower.specs.Flat.{flat}
 use Rattle.expr_lower.specs.Names.{Name, local}
-use Rattle.stmt_lower.specs.Meant.{single_meant}
+use Rattle.list_lower.specs.Meant.{single_meant}
 use Rattle.expr_lower.specs.Held.{AreApart, Keeps}
 use Rattle.expr_lower.specs.Placed.{StandsAt, World, state}
 use Rattle.expr_lower.specs.Starting.{IsStart, at_zero, at_value}
@@ -27,7 +27,7 @@ use Rattle.expr_lower.specs.Following.{Follows, Pushes, CutsOff}
 use Rattle.stmt_lower.proofs.Counting.{store_on, there}
 use Rattle.expr_lower.proofs.Keeping.{keeps_join, keeps_wider, apart_last}
 use Rattle.stmt_lower.proofs.Locals.{inside_moves, local_held}
-use Rattle.stmt_lower.proofs.MeantIs.{meant_is, meant_sized}
+use Rattle.list_lower.proofs.MeantIs.{meant_is, meant_sized}
 use Rattle.expr_lower.proofs.Runs.{reaches_join, obeys, follows_both, follows_then, stands_left, stands_right}
 use Rattle.expr_lower.proofs.Singles.{IsSingleValue}
 use Rattle.expr_lower.proofs.Storing.{set_there, set_written, single_stored}

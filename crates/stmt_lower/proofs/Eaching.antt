@@ -18,7 +18,7 @@ use Rattle.code_ir.specs.Running.{State, Reaches, here, after}
 use Rattle.code_ir.proofs.Marks.{get-other}
 use Rattle.expr_lower.specs.Flat.{flat}
 use Rattle.expr_lower.specs.Names.{Name, local}
-use Rattle.stmt_lower.specs.Meant.{single_meant}
+use Rattle.list_lower.specs.Meant.{single_meant}
 use Rattle.expr_lower.specs.Held.{AreApart, Keeps}
 use Rattle.expr_lower.specs.Coding.{IsCode}
 use Rattle.expr_lower.specs.Placed.{StandsAt, World, state}
@@ -28,7 +28,7 @@ use Rattle.expr_lower.proofs.Coded.{grows}
 use Rattle.stmt_lower.proofs.Counting.{each_turns, load_on, store_on, test_on, there}
 use Rattle.expr_lower.proofs.Effects.{same_number}
 use Rattle.expr_lower.proofs.Keeping.{keeps_join, keeps_wider}
-use Rattle.stmt_lower.proofs.MeantIs.{meant_is, meant_sized}
+use Rattle.list_lower.proofs.MeantIs.{meant_is, meant_sized}
 use Rattle.expr_lower.proofs.Runs.{reaches_join, obeys, follows_both, follows_then, stands_left, stands_right}
 use Rattle.expr_lower.proofs.Singles.{IsSingleValue}
 use Rattle.expr_lower.proofs.Storing.{set_there, set_written}

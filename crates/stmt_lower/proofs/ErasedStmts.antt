@@ -13,10 +13,12 @@ use Rattle.expr_lower.specs.declared.names.Seat.TheVariants.{Cell, Tokens}
 use Rattle.expr_lower.specs.Growing.{left_out_in, ◌or_else◌}
 use Rattle.expr_lower.specs.Listed.{list_named}
 use Rattle.expr_lower.specs.Names.{local, Name, named}
-use Rattle.stmt_lower.specs.Meant.{single_meant}
+use Rattle.list_lower.specs.LeftOut.{left_out_fill}
+use Rattle.list_lower.proofs.Erased.{fill_erased}
+use Rattle.list_lower.specs.Meant.{single_meant}
 use Rattle.expr_lower.specs.Parted.{Part, number_of, part_named}
-use Rattle.stmt_lower.specs.Targets.{deep_cells_at, deep_cells_in, deep_cells_named, leaf_in, cell_of, cell_named, cells_of, cells_named}
-use Rattle.stmt_lower.specs.StmtGrowing.{left_out_all, left_out_copy, left_out_deep, left_out_each, left_out_items, left_out_list, left_out_whole, left_out_set, left_out_stmt, left_out_vars}
+use Rattle.stmt_lower.specs.Targets.{deep_cells_at, deep_cells_in, deep_cells_named, leaf_in, leaf_of, cell_of, cell_named, cells_of, cells_named}
+use Rattle.stmt_lower.specs.StmtGrowing.{left_out_all, left_out_copy, left_out_deep, left_out_each, left_out_filled, left_out_items, left_out_list, left_out_part, left_out_whole, left_out_set, left_out_stmt, left_out_vars}
 use Rattle.expr_lower.specs.Starting.{left_out_start}
 use Rattle.expr_lower.specs.Callees.{Function}
 use Rattle.expr_lower.proofs.Erased.{erase, erase_seat, erased, erased_list, erased_part, list_erased, named_erased, part_erased, args_erased, both_same, out_erased, start_erased}
@@ -83,31 +85,48 @@ copy_same : (c : ListCells) (list : Option ItemList) (at : ℕ) → left_out_cop
 copy_same c None at = refl
 copy_same c (Some l) at = refl
 
-whole_same : (fs : List Function) (names : List Name) (c : ListCells) (value : Tree) (at : ℕ) → left_out_whole fs (map erase names) c value at ≡ left_out_whole fs names c value at
-whole_same fs names c (tree.list items list) at = items_same fs names c items at
-whole_same fs names c value at = ap (λ o. left_out_copy c o at) (list_erased names value) ∙ copy_same c (list_named names value) at
+part_same : (fs : List Function) (names : List Name) (o : Option Part) (value : Tree) (at : ℕ) → left_out_part fs (map erase names) (erased_part o) value at ≡ left_out_part fs names o value at
+part_same fs names None value at = refl
+part_same fs names (Some p) value at = at_seat p.seat
+  where
+    at_seat : (seat : Seat) → for_cells (deep_cells_at (erase_seat seat) p.size (Some (leaf_of p.shape))) (λ c. left_out_fill fs (map erase names) p.shape value) at ≡ for_cells (deep_cells_at seat p.size (Some (leaf_of p.shape))) (λ c. left_out_fill fs names p.shape value) at
+    at_seat (Cell c) = fill_erased fs names p.shape value
+    at_seat (Tokens port first step) = refl
+
+filled_same : (fs : List Function) (names : List Name) (text : List ℕ) (value : Tree) (at : ℕ) → left_out_filled fs (map erase names) text value at ≡ left_out_filled fs names text value at
+filled_same fs names text value at =
+    ap (λ o. left_out_part fs (map erase names) o value at) (part_erased names (tree.variable text 0)) ∙ part_same fs names (part_named names (tree.variable text 0)) value at
+
+whole_same : (fs : List Function) (names : List Name) (c : ListCells) (text : List ℕ) (value : Tree) (at : ℕ) → left_out_whole fs (map erase names) c text value at ≡ left_out_whole fs names c text value at
+whole_same fs names c text (tree.list items list) at = items_same fs names c items at
+whole_same fs names c text (tree.variable from place) at = ap (λ o. left_out_copy c o at) (list_erased names (tree.variable from place)) ∙ copy_same c (list_named names (tree.variable from place)) at
+whole_same fs names c text value at = filled_same fs names text value at
 
 -- which cell it is doesn't matter
-whole_moved : (fs : List Function) (names : List Name) (d e size : ℕ) (kind : Scalar) (value : Tree) (at : ℕ) → left_out_whole fs names (record { cell = d; size = size; kind = kind }) value at ≡ left_out_whole fs names (record { cell = e; size = size; kind = kind }) value at
-whole_moved fs names d e size kind (tree.list items list) at = refl
-whole_moved fs names d e size kind value at = copy_moved (list_named names value)
+whole_moved : (fs : List Function) (names : List Name) (d e size : ℕ) (kind : Scalar) (text : List ℕ) (value : Tree) (at : ℕ) → left_out_whole fs names (record { cell = d; size = size; kind = kind }) text value at ≡ left_out_whole fs names (record { cell = e; size = size; kind = kind }) text value at
+whole_moved fs names d e size kind text (tree.list items list) at = refl
+whole_moved fs names d e size kind text (tree.variable from place) at = copy_moved (list_named names (tree.variable from place))
   where
     copy_moved : (o : Option ItemList) → left_out_copy (record { cell = d; size = size; kind = kind }) o at ≡ left_out_copy (record { cell = e; size = size; kind = kind }) o at
     copy_moved None = refl
     copy_moved (Some l) = refl
+whole_moved fs names d e size kind text value at = refl
+
+abbrev for_whole : Option ListCells → (ListCells → Option ℕ) → Option ℕ → Option ℕ
+for_whole cells f other = elim cells [ None ↦ other | Some c ↦ f c ]
 
 whole_list : (fs : List Function) (names : List Name) (text : List ℕ) (value : Tree) (at : ℕ) → left_out_list fs (map erase names) text value at ≡ left_out_list fs names text value at
 whole_list fs names text value at =
-    ap (λ (o : Option ItemList). for_cells (cells_in_list o) (λ c. left_out_whole fs (map erase names) c value at) at) (list_erased names (tree.variable text 0))
+    ap (λ (o : Option ItemList). for_whole (cells_in_list o) (λ c. left_out_whole fs (map erase names) c text value at) (left_out_filled fs (map erase names) text value at)) (list_erased names (tree.variable text 0))
     ∙ go (list_named names (tree.variable text 0))
   where
-    at_seat : (l : ItemList) (seat : Seat) → for_cells (cells_of (record { seat = erase_seat seat; size = l.size; kind = l.kind })) (λ c. left_out_whole fs (map erase names) c value at) at
-        ≡ for_cells (cells_of (record { seat = seat; size = l.size; kind = l.kind })) (λ c. left_out_whole fs names c value at) at
-    at_seat l (Cell c) = whole_same fs names (record { cell = 0; size = l.size; kind = l.kind }) value at ∙ whole_moved fs names 0 c l.size l.kind value at
-    at_seat l (Tokens port first step) = refl
+    at_seat : (l : ItemList) (seat : Seat) → for_whole (cells_of (record { seat = erase_seat seat; size = l.size; kind = l.kind })) (λ c. left_out_whole fs (map erase names) c text value at) (left_out_filled fs (map erase names) text value at)
+        ≡ for_whole (cells_of (record { seat = seat; size = l.size; kind = l.kind })) (λ c. left_out_whole fs names c text value at) (left_out_filled fs names text value at)
+    at_seat l (Cell c) = whole_same fs names (record { cell = 0; size = l.size; kind = l.kind }) text value at ∙ whole_moved fs names 0 c l.size l.kind text value at
+    at_seat l (Tokens port first step) = filled_same fs names text value at
 
-    go : (o : Option ItemList) → for_cells (cells_in_list (erased_list o)) (λ c. left_out_whole fs (map erase names) c value at) at ≡ for_cells (cells_in_list o) (λ c. left_out_whole fs names c value at) at
-    go None = refl
+    go : (o : Option ItemList) → for_whole (cells_in_list (erased_list o)) (λ c. left_out_whole fs (map erase names) c text value at) (left_out_filled fs (map erase names) text value at) ≡ for_whole (cells_in_list o) (λ c. left_out_whole fs names c text value at) (left_out_filled fs names text value at)
+    go None = filled_same fs names text value at
     go (Some l) = at_seat l l.seat
 
 -- items of lists in lists

@@ -3,6 +3,7 @@ use Rattle.std.proofs.Common.{◌≡◌, ℕ, zero, suc, ◌+◌, ◌<◌, ◌�
 use Rattle.std.specs.Prelude.{slice_get}
 use Rattle.rvc_base.specs.declared.scalar.Scalar.{Scalar}
 use Rattle.cal_ast.specs.Tree.{Tree}
+use Rattle.cal_model.specs.Value.{scalars_of_type}
 use Rattle.cal_model.specs.Outcome.{Out, Gives, Traps, Lacks, Clashes, and_then, turn}
 use Rattle.cal_model.specs.Env.{Env}
 use Rattle.cal_model.specs.Expression.{eval, chosen}
@@ -16,7 +17,7 @@ use Rattle.expr_lower.specs.Names.{Name, named, local}
 use Rattle.expr_lower.specs.Held.{AreBelow, AllApart, AreApart}
 use Rattle.stmt_lower.specs.Changing.{AreTyped, HoldsVars, KeepsBut, NamesApart}
 use Rattle.expr_lower.specs.Coding.{AreArgs, IsCode, IsTest}
-use Rattle.stmt_lower.specs.Stating.{IsStmt, AreStmts, IsKept, call, set, set_deep, set_item, set_items, set_list, if_alone, if_else, while_code, each_code, block_code, none, one_more, IsBlock, no_more, variable_more}
+use Rattle.stmt_lower.specs.Stating.{IsStmt, AreStmts, IsKept, call, set, set_deep, set_item, set_filled, set_items, set_list, if_alone, if_else, while_code, each_code, block_code, none, one_more, IsBlock, no_more, variable_more}
 use Rattle.expr_lower.specs.Starting.{IsStart, at_zero, at_value}
 use Rattle.expr_lower.specs.Placed.{StandsAt, World, state}
 use Rattle.expr_lower.specs.Following.{Follows}
@@ -31,6 +32,9 @@ use Rattle.expr_lower.specs.Listed.{list_named}
 use Rattle.expr_lower.specs.Parted.{number_of}
 use Rattle.stmt_lower.proofs.Copying.{set_list_performs}
 use Rattle.stmt_lower.proofs.DeepItems.{grows_kept, set_deep_performs}
+use Rattle.list_lower.specs.Filling.{IsFill}
+use Rattle.list_lower.proofs.Filled.{grows_fill}
+use Rattle.stmt_lower.proofs.FillingRuns.{set_filled_performs}
 use Rattle.stmt_lower.proofs.ItemsKept.{set_items_performs}
 use Rattle.stmt_lower.proofs.Setting.{set_performs, set_item_performs}
 use Rattle.stmt_lower.proofs.Blocking.{block_more, block_none, blocked}
@@ -173,6 +177,7 @@ mutual
   grows_stmt (set names text value place at base n m c code x t e seat shape g) = grows g
   grows_stmt (set_list names text value place at base n c size x t l e seat shape g many) = omega arith
   grows_stmt (set_items names text items list place at base n m c size a x t e seat shape number g) = let x = grows_kept g in omega (arith, x)
+  grows_stmt (set_filled names text value place at base n m c a x e seat g) = let y = grows_fill g in omega (arith, y)
   grows_stmt (set_item names text spot value place at base n k m c size a b x t e seat shape g d) = let x = grows g in let y = grows d in omega (arith, x, y)
   grows_stmt (set_deep names text places value place at base n k m c size a b x t e seat shape leaf g d) = let x = grows_kept g in let y = grows d in omega (arith, x, y)
   grows_stmt (call names text args place at base n m code p e g) = grows_args g
@@ -202,6 +207,8 @@ module _ (rs : Routines) (outer : List Name) (w : World) (serves : Serves w oute
         set_list_performs rs outer w serves frames runs inner text value place at base n c size x t l (subst (λ ns. named text ns ≡ Some x) is e) seat shape (subst (λ ns. list_named ns value ≡ Some l) is g) many
     performs inner is (set_items names text items list place at base n m c size a x t e seat shape number g) =
         set_items_performs rs outer w serves frames runs inner text items list place at base n m c size a x t (subst (λ ns. named text ns ≡ Some x) is e) seat shape number (subst (λ ns. IsKept rs.functions ns n items base (n + size) a m) is g)
+    performs inner is (set_filled names text value place at base n m c a x e seat g) =
+        set_filled_performs rs outer w serves frames runs inner text value place at base n m c a x (subst (λ ns. named text ns ≡ Some x) is e) seat (subst (λ ns. IsFill rs.functions ns value x.shape n base (n + scalars_of_type x.shape) a m) is g)
     performs inner is (set_item names text spot value place at base n k m c size a b x t e seat shape g d) =
         set_item_performs rs outer w serves frames runs inner text spot value place at base n k m c size a b x t (subst (λ ns. named text ns ≡ Some x) is e) seat shape (subst (λ ns. IsCode rs.functions ns spot base n a k) is g) (subst (λ ns. IsCode rs.functions ns value (base + length a) k b m) is d)
     performs inner is (set_deep names text places value place at base n k m c size a b x t e seat shape leaf g d) =

@@ -1,7 +1,6 @@
 -- Code of a `foreach` fits where it stands.
-use Rattle.std.proofs.Common.{◌≡◌, ℕ, ◌+◌, ◌<◌, ◌≤◌, inl, inr, ⊎_elim, List, [], ◌∷◌, ◌++◌, length, refl, sym, ap, ◌∙◌, subst, None, Some, arith, append_assoc, length-append}
+use Rattle.std.proofs.Common.{◌≡◌, ℕ, ◌+◌, ◌≤◌, List, [], ◌∷◌, ◌++◌, length, refl, sym, ap, ◌∙◌, subst, None, Some, arith, append_assoc, length-append}
 use Rattle.std.specs.Prelude.{slice_get, pos}
-use Rattle.std.proofs.lemmas.Option.{slice_get_within}
 use Rattle.rvc_base.specs.declared.scalar.Scalar.{Scalar}
 use Rattle.rvc_base.specs.Storing.{IsSize}
 use Rattle.code_ir.specs.declared.instr.Instr.{Instr}
@@ -9,8 +8,9 @@ use Rattle.code_ir.specs.declared.instr.Instr.TheVariants as op
 use Rattle.code_ir.specs.Code.{Code}
 use Rattle.expr_lower.specs.Fitting.{Fits}
 use Rattle.stmt_lower.specs.Stating.{each_head, each_tail}
-use Rattle.expr_lower.proofs.Fitted.{Plain, fits_branch, fits_const, fits_like, fits_one, fits_then, glued, glued_before, glued_from, plain_then}
-use Rattle.stmt_lower.proofs.FittedJumps.{fits_back}
+use Rattle.expr_lower.proofs.Fitted.{Plain, fits_branch, fits_const, fits_one, plain_then}
+use Rattle.list_lower.proofs.FittedJumps.{fits_back}
+use Rattle.list_lower.proofs.FittedParts.{compared, fits_wide, load, store, store_in, then_exit, then_plain}
 
 module _ (code : Code) (callable limit : ℕ) where
   abbrev Fit : ℕ → ℕ → List Instr → ℕ → ℕ → ℕ → Type 0
@@ -18,47 +18,6 @@ module _ (code : Code) (callable limit : ℕ) where
 
   abbrev Whole : ℕ → ℕ → List Instr → ℕ → Type 0
   Whole base h instrs k = Plain code callable limit base h instrs k
-
-  -- a part, and another that may jump out
-  then_plain : (base h k m out e : ℕ) (a b : List Instr) → Whole base h a k → (y : Fit (base + length a) k b m out e) → base + length a ≤ out
-      → (z : Fit base h (a ++ b) m out e) × ((p : ℕ) → base + length a ≤ p → z.height p ≡ y.height p)
-  then_plain base h k m out e a b x y far = fits_then code callable limit base h k m (base + length a) k out e a b x y (omega arith) y.first (inl (omega arith)) far
-
-  -- two parts that may both jump out
-  then_exit : (base h k m out e : ℕ) (a b : List Instr) → Fit base h a k out e → (y : Fit (base + length a) k b m out e) → base + length a ≤ out
-      → (z : Fit base h (a ++ b) m out e) × ((p : ℕ) → base + length a ≤ p → z.height p ≡ y.height p)
-  then_exit base h k m out e a b x y far = fits_then code callable limit base h k m out e out e a b x y far y.exit (inr refl) far
-
-  load : (base h c : ℕ) → c + 1 ≤ limit → Whole base h (op.Load c ∷ []) (h + 1)
-  load base h c le = fits_one code callable limit base h (h + 1) (op.Load c) (omega arith) (omega arith) refl le tt tt tt
-
-  store : (base h c : ℕ) → c + 1 ≤ limit → Whole base (h + 1) (op.Store c None ∷ []) h
-  store base h c le = fits_one code callable limit base (h + 1) h (op.Store c None) (omega arith) (omega arith) refl le tt tt tt
-
-  store_in : (base h c : ℕ) (t : Scalar) → c + 1 ≤ limit → IsSize t → Whole base (h + 1) (op.Store c (Some t) ∷ []) h
-  store_in base h c t le sized = fits_one code callable limit base (h + 1) h (op.Store c (Some t)) (omega arith) (omega arith) refl le tt tt sized
-
-  -- two cells compared
-  compared : (base h n : ℕ) (i : Instr) → n + 1 + 1 ≤ limit → ((place : ℕ) → Whole place (h + 1 + 1) (i ∷ []) (h + 1)) → Whole base h (op.Load n ∷ op.Load (n + 1) ∷ i ∷ []) (h + 1)
-  compared base h n i le comparing =
-      plain_then code callable limit base h (h + 1) (h + 1) (op.Load n ∷ []) (op.Load (n + 1) ∷ i ∷ []) (load base h n (omega (arith, le)))
-      (plain_then code callable limit (base + 1) (h + 1) (h + 1 + 1) (h + 1) (op.Load (n + 1) ∷ []) (i ∷ []) (load (base + 1) (h + 1) (n + 1) le) (comparing (base + 1 + 1)))
-
-  -- a part that doesn't jump out, where others do
-  fits_wide : (base h k out e : ℕ) (a : List Instr) (x : Whole base h a k) → base + length a < out → Fit base h a k out e
-  fits_wide base h k out e a x less = record {
-    height = glued x.height (λ p. e) (base + length a + 1);
-    first = glued_before x.height (λ p. e) (base + length a + 1) base (omega arith) ∙ x.first;
-    last = glued_before x.height (λ p. e) (base + length a + 1) (base + length a) (omega arith) ∙ x.last;
-    exit = glued_from x.height (λ p. e) (base + length a + 1) out (omega (arith, less));
-    at = λ j i g.
-        let within = slice_get_within a j i g in
-        fits_like code callable limit base (base + length a) (base + length a) base (base + length a) out x.height (glued x.height (λ p. e) (base + length a + 1)) (base + j) i (x.at j i g)
-        (glued_before x.height (λ p. e) (base + length a + 1) (base + j) (omega (arith, within)))
-        (λ on. glued_before x.height (λ p. e) (base + length a + 1) (base + j + 1) (omega (arith, within)))
-        (λ t low into. ⊎_elim (λ (w : t ≤ base + length a). (glued_before x.height (λ p. e) (base + length a + 1) t (omega (arith, w)), low, inl w))
-        (λ (w : t ≡ base + length a). (glued_before x.height (λ p. e) (base + length a + 1) t (omega (arith, w)), low, inl (omega (arith, w)))) into);
-  }
 
   pub fits_each : (base h n place turn start out : ℕ) (a b c : List Instr) (t : Scalar) → n + 3 ≤ limit → IsSize t
       → Whole base h a (h + 1) → Whole (base + length a) (h + 1) b (h + 1 + 1) → Whole start h c h
@@ -78,30 +37,30 @@ module _ (code : Code) (callable limit : ℕ) where
       let q2 : ℕ = q1 + length e1 in
       let q3 : ℕ = q2 + length h2 in
       let stored : Whole p1 (h + 1 + 1) h1 (h + 1) =
-      plain_then code callable limit p1 (h + 1 + 1) (h + 1) (h + 1) (op.Store (n + 1) None ∷ []) (op.Store n None ∷ op.Load n ∷ op.Load (n + 1) ∷ op.Le ∷ []) (store p1 (h + 1) (n + 1) (omega (arith, le)))
-      (plain_then code callable limit (p1 + 1) (h + 1) h (h + 1) (op.Store n None ∷ []) (op.Load n ∷ op.Load (n + 1) ∷ op.Le ∷ []) (store (p1 + 1) h n (omega (arith, le)))
-      (compared (p1 + 1 + 1) h n op.Le (omega (arith, le)) (λ p. fits_one code callable limit p (h + 1 + 1) (h + 1) op.Le (omega arith) (omega arith) refl tt tt tt tt))) in
+      plain_then code callable limit p1 (h + 1 + 1) (h + 1) (h + 1) (op.Store (n + 1) None ∷ []) (op.Store n None ∷ op.Load n ∷ op.Load (n + 1) ∷ op.Le ∷ []) (store code callable limit p1 (h + 1) (n + 1) (omega (arith, le)))
+      (plain_then code callable limit (p1 + 1) (h + 1) h (h + 1) (op.Store n None ∷ []) (op.Load n ∷ op.Load (n + 1) ∷ op.Le ∷ []) (store code callable limit (p1 + 1) h n (omega (arith, le)))
+      (compared code callable limit (p1 + 1 + 1) h n op.Le (omega (arith, le)) (λ p. fits_one code callable limit p (h + 1 + 1) (h + 1) op.Le (omega arith) (omega arith) refl tt tt tt tt))) in
       let entered : Whole p3 h h3 h =
       plain_then code callable limit p3 h h h (op.Turn ∷ []) (op.Load n ∷ op.Store (n + 2) (Some t) ∷ []) (fits_one code callable limit p3 h h op.Turn (omega arith) (omega arith) refl tt tt tt tt)
-      (plain_then code callable limit (p3 + 1) h (h + 1) h (op.Load n ∷ []) (op.Store (n + 2) (Some t) ∷ []) (load (p3 + 1) h n (omega (arith, le))) (store_in (p3 + 1 + 1) h (n + 2) t (omega (arith, le)) sized)) in
+      (plain_then code callable limit (p3 + 1) h (h + 1) h (op.Load n ∷ []) (op.Store (n + 2) (Some t) ∷ []) (load code callable limit (p3 + 1) h n (omega (arith, le))) (store_in code callable limit (p3 + 1 + 1) h (n + 2) t (omega (arith, le)) sized)) in
       let inner : Whole pc h c h = subst (λ p. Whole p h c h) (let e : start ≡ pc = omega (arith, place_is, turn_is, start_is) in e) body in
-      let less : Whole q1 h e1 (h + 1) = compared q1 h n op.Lt (omega (arith, le)) (λ p. fits_one code callable limit p (h + 1 + 1) (h + 1) op.Lt (omega arith) (omega arith) refl tt tt tt tt) in
+      let less : Whole q1 h e1 (h + 1) = compared code callable limit q1 h n op.Lt (omega (arith, le)) (λ p. fits_one code callable limit p (h + 1 + 1) (h + 1) op.Lt (omega arith) (omega arith) refl tt tt tt tt) in
       let next : Whole q3 h e3 h =
-      plain_then code callable limit q3 h (h + 1) h (op.Load n ∷ []) (op.Const (pos 1) ∷ op.Add ∷ op.Store n None ∷ []) (load q3 h n (omega (arith, le)))
+      plain_then code callable limit q3 h (h + 1) h (op.Load n ∷ []) (op.Const (pos 1) ∷ op.Add ∷ op.Store n None ∷ []) (load code callable limit q3 h n (omega (arith, le)))
       (plain_then code callable limit (q3 + 1) (h + 1) (h + 1 + 1) h (op.Const (pos 1) ∷ []) (op.Add ∷ op.Store n None ∷ []) (fits_const code callable limit (q3 + 1) (h + 1) (pos 1))
       (plain_then code callable limit (q3 + 1 + 1) (h + 1 + 1) (h + 1) h (op.Add ∷ []) (op.Store n None ∷ []) (fits_one code callable limit (q3 + 1 + 1) (h + 1 + 1) (h + 1) op.Add (omega arith) (omega arith) refl tt tt tt tt)
-      (store (q3 + 1 + 1 + 1) h n (omega (arith, le))))) in
+      (store code callable limit (q3 + 1 + 1 + 1) h n (omega (arith, le))))) in
       let far : out ≡ q3 + 5 = omega (arith, place_is, turn_is, start_is, out_is) in
-      let r3 : Fit q3 h e3 h out h = fits_wide q3 h h out h e3 next (omega (arith, far)) in
-      let r2 = then_exit q2 (h + 1) h h out h h2 e3 (fits_branch code callable limit q2 h out (omega (arith, far))) r3 (omega (arith, far)) in
-      let r1 = then_plain q1 h (h + 1) h out h e1 (h2 ++ e3) less r2.0 (omega (arith, far)) in
-      let rc = then_plain pc h h h out h c (e1 ++ (h2 ++ e3)) inner r1.0 (omega (arith, far)) in
-      let s3 = then_plain p3 h h h out h h3 (c ++ (e1 ++ (h2 ++ e3))) entered rc.0 (omega (arith, far)) in
-      let s2 = then_exit p2 (h + 1) h h out h h2 (h3 ++ (c ++ (e1 ++ (h2 ++ e3)))) (fits_branch code callable limit p2 h out (omega (arith, far))) s3.0 (omega (arith, far)) in
-      let s1 = then_plain p1 (h + 1 + 1) (h + 1) h out h h1 (h2 ++ (h3 ++ (c ++ (e1 ++ (h2 ++ e3))))) stored s2.0 (omega (arith, far)) in
+      let r3 : Fit q3 h e3 h out h = fits_wide code callable limit q3 h h out h e3 next (omega (arith, far)) in
+      let r2 = then_exit code callable limit q2 (h + 1) h h out h h2 e3 (fits_branch code callable limit q2 h out (omega (arith, far))) r3 (omega (arith, far)) in
+      let r1 = then_plain code callable limit q1 h (h + 1) h out h e1 (h2 ++ e3) less r2.0 (omega (arith, far)) in
+      let rc = then_plain code callable limit pc h h h out h c (e1 ++ (h2 ++ e3)) inner r1.0 (omega (arith, far)) in
+      let s3 = then_plain code callable limit p3 h h h out h h3 (c ++ (e1 ++ (h2 ++ e3))) entered rc.0 (omega (arith, far)) in
+      let s2 = then_exit code callable limit p2 (h + 1) h h out h h2 (h3 ++ (c ++ (e1 ++ (h2 ++ e3)))) (fits_branch code callable limit p2 h out (omega (arith, far))) s3.0 (omega (arith, far)) in
+      let s1 = then_plain code callable limit p1 (h + 1 + 1) (h + 1) h out h h1 (h2 ++ (h3 ++ (c ++ (e1 ++ (h2 ++ e3))))) stored s2.0 (omega (arith, far)) in
       let tail : List Instr = h1 ++ (h2 ++ (h3 ++ (c ++ (e1 ++ (h2 ++ e3))))) in
-      let sb = then_plain (base + length a) (h + 1) (h + 1 + 1) h out h b tail to s1.0 (omega (arith, far)) in
-      let sa = then_plain base h (h + 1) h out h a (b ++ tail) from sb.0 (omega (arith, far)) in
+      let sb = then_plain code callable limit (base + length a) (h + 1) (h + 1 + 1) h out h b tail to s1.0 (omega (arith, far)) in
+      let sa = then_plain code callable limit base h (h + 1) h out h a (b ++ tail) from sb.0 (omega (arith, far)) in
       let turn_at : turn ≡ p3 = omega (arith, place_is, turn_is) in
       let at_turn : sa.0.height turn ≡ h = sa.1 turn (omega (arith, turn_at)) ∙ sb.1 turn (omega (arith, turn_at)) ∙ s1.1 turn (omega (arith, turn_at)) ∙ s2.1 turn (omega (arith, turn_at)) ∙ subst (λ p. s3.0.height p ≡ h) (sym turn_at) s3.0.first in
       let size : length (a ++ (b ++ tail)) ≡ length a + (length b + length tail) = length-append a (b ++ tail) ∙ ap (λ z. length a + z) (length-append b tail) in

@@ -18,7 +18,7 @@ use Rattle.stmt_lower.specs.Changing.{AreTyped}
 use Rattle.expr_lower.specs.Fitting.{Fits}
 use Rattle.expr_lower.specs.Parted.{number_of, sized}
 use Rattle.expr_lower.specs.Placed.{StandsAt}
-use Rattle.stmt_lower.specs.Stating.{IsKept, IsStmt, AreStmts, copy_code, deep_tail, no_place, place_more, set, set_deep, set_item, set_items, set_list, step_code, step_in, if_alone, if_else, while_code, each_code, each_head, each_tail, block_code, none, one_more, IsBlock, no_more, variable_more, call, run_code}
+use Rattle.stmt_lower.specs.Stating.{IsKept, IsStmt, AreStmts, copy_code, deep_tail, no_place, place_more, set, set_deep, set_item, set_filled, set_items, set_list, step_code, step_in, if_alone, if_else, while_code, each_code, each_head, each_tail, block_code, none, one_more, IsBlock, no_more, variable_more, call, run_code}
 use Rattle.expr_lower.specs.Starting.{IsStart, at_zero, at_value}
 use Rattle.expr_lower.proofs.Coded.{grows, grows_test}
 use Rattle.stmt_lower.proofs.DeepItems.{grows_kept, leaf_sized}
@@ -26,9 +26,13 @@ use Rattle.expr_lower.proofs.PartValues.{sized_is}
 use Rattle.stmt_lower.proofs.Executed.{grows_stmt, grows_all, grows_block, grows_start}
 use Rattle.expr_lower.proofs.Fitted.{Plain, branch, fits_args, fits_const, fits_formals, fits_in, fits_jump, fits_one, fits_test_in, fits_then, list_below, plain_then}
 use Rattle.stmt_lower.proofs.FittedEach.{fits_each}
-use Rattle.stmt_lower.proofs.FittedJumps.{fits_back, fits_goto, fits_none}
+use Rattle.list_lower.proofs.Filled.{grows_fill}
+use Rattle.list_lower.proofs.Fitted.{fits_fill}
+use Rattle.stmt_lower.specs.Targets.{leaf_of}
+use Rattle.stmt_lower.proofs.Leaves.{leaf_size}
+use Rattle.list_lower.proofs.FittedJumps.{fits_back, fits_goto, fits_none}
 use Rattle.expr_lower.proofs.Keeping.{below_more}
-use Rattle.stmt_lower.proofs.MeantIs.{meant_sized}
+use Rattle.list_lower.proofs.MeantIs.{meant_sized}
 use Rattle.stmt_lower.proofs.Scoping.{choose_name}
 use Rattle.expr_lower.proofs.Runs.{stands_left, stands_right}
 use Rattle.code_ir.specs.Code.{results_of}
@@ -147,6 +151,12 @@ module _ (code : Code) (callable limit : ℕ) where
           let listed : IsType (Many size (Single t)) = subst IsType shape (typed text x e) in
           plain_then code callable limit base h h h a (copy_code c size t (Cell n)) (fits_kept names h (omega (arith, number)) below le g)
           (fits_copy (base + length a) h c size t (Cell n) (omega (arith, to)) (omega (arith, wide, le)) listed.2)
+      fits_stmt h below typed le stands (set_filled names text value place at base n m c a x e seat g) =
+          let size : ℕ = scalars_of_type x.shape in
+          let wide = grows_fill g in
+          let to = cells_there n c names text x x.shape below (omega (arith, wide, le)) e seat refl in
+          plain_then code callable limit base h h h a (op.Copy c n size (Some (leaf_of x.shape)) ∷ []) (fits_fill code callable limit rs.functions has.functions h below (omega arith) le (stands_left code.instrs base a (op.Copy c n size (Some (leaf_of x.shape)) ∷ []) stands) g)
+          (fits_one code callable limit (base + length a) h h (op.Copy c n size (Some (leaf_of x.shape))) (omega arith) (omega arith) refl (to, omega (arith, wide, le)) tt tt (leaf_size x.shape (typed text x e)))
       fits_stmt h below typed le stands (set_item names text spot value place at base n k m c size a b x t e seat shape g d) =
           let grown = grows g in
           let more = grows d in

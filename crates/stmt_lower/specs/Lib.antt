@@ -1,4 +1,3 @@
-pub mod Meant
 pub mod Changing
 pub mod Procedures
 pub mod StmtSeen

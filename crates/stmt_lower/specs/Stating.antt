@@ -4,7 +4,7 @@ use Rattle.std.specs.Prelude.{◌≡◌, ℕ, ◌+◌, pos, Bool, List, [], ◌�
 use Rattle.rvc_base.specs.declared.scalar.Scalar.{Scalar}
 use Rattle.cal_ast.specs.Tree as tree
 use Rattle.cal_ast.specs.Tree.{Tree}
-use Rattle.cal_model.specs.Value.{Shape, Single, Many}
+use Rattle.cal_model.specs.Value.{Shape, Single, Many, scalars_of_type}
 use Rattle.code_ir.specs.declared.instr.Instr.{Instr}
 use Rattle.code_ir.specs.declared.instr.Instr.TheVariants as op
 use Rattle.stmt_lower.specs.declared.counter.Counter.{Counter}
@@ -16,9 +16,10 @@ use Rattle.expr_lower.specs.Names.{Name, named, local}
 use Rattle.expr_lower.specs.Starting.{IsStart}
 use Rattle.expr_lower.specs.Coding.{AreArgs, IsCode, IsTest, formal_stores}
 use Rattle.expr_lower.specs.Listed.{list_named}
-use Rattle.stmt_lower.specs.Meant.{single_meant}
+use Rattle.list_lower.specs.Filling.{IsFill}
+use Rattle.list_lower.specs.Meant.{single_meant}
 use Rattle.stmt_lower.specs.Procedures.{Procedure, Routines, procedure_for}
-use Rattle.stmt_lower.specs.Targets.{leaf_in}
+use Rattle.stmt_lower.specs.Targets.{leaf_in, leaf_of}
 use Rattle.expr_lower.specs.Parted.{number_of, sized}
 
 -- ---- parts of the code of a `foreach`
@@ -118,6 +119,13 @@ mutual
         → number_of items ≡ size → IsKept rs.functions names n items base (n + size) a m
         → IsStmt rs names (tree.assign (tree.ident text place) tree.nil (tree.list items list) at)
         base n (a ++ copy_code c size t (Cell n)) m
+    -- any other list, which is filled apart before its items are stored
+    set_filled : (names : List Name) (text : List ℕ) (value : Tree) (place at base n m c : ℕ)
+        (a : List Instr) (x : Name)
+        → named text names ≡ Some x → x.seat ≡ Cell c
+        → IsFill rs.functions names value x.shape n base (n + scalars_of_type x.shape) a m
+        → IsStmt rs names (tree.assign (tree.ident text place) tree.nil value at) base n
+        (a ++ op.Copy c n (scalars_of_type x.shape) (Some (leaf_of x.shape)) ∷ []) m
     -- the place in the list, then the value, and then the instruction that tests the place
     set_item : (names : List Name) (text : List ℕ) (index value : Tree)
         (place at base n k m c size : ℕ) (a b : List Instr) (x : Name) (t : Scalar)

@@ -12,11 +12,12 @@ use Rattle.stmt_lower.specs.Targets.{cell_named, cells_named}
 use Rattle.expr_lower.specs.Growing.{left_out_args, left_out_in, ◌or_else◌}
 use Rattle.expr_lower.specs.Listed.{list_named}
 use Rattle.expr_lower.specs.Names.{local, Name}
-use Rattle.stmt_lower.specs.Meant.{single_meant}
-use Rattle.stmt_lower.specs.Targets.{deep_cells_named}
-use Rattle.expr_lower.specs.Parted.{number_of}
+use Rattle.list_lower.specs.Meant.{single_meant}
+use Rattle.list_lower.specs.LeftOut.{left_out_fill}
+use Rattle.stmt_lower.specs.Targets.{deep_cells_named, whole_cells_in}
+use Rattle.expr_lower.specs.Parted.{Part, number_of, part_named}
 
--- a list is stored whole only from the name of a list of as many single values ..
+-- a list of single values is stored whole from the name of another one of as many ..
 abbrev pub left_out_copy : ListCells → Option ItemList → ℕ → Option ℕ
 left_out_copy c None at = Some at
 left_out_copy c (Some l) at = if nat_eq l.size c.size then None else Some at
@@ -31,14 +32,28 @@ abbrev pub left_out_items : List Function → List Name → ListCells → Tree �
 left_out_items fs names c items at =
     if nat_eq (number_of items) c.size then left_out_each fs names items else Some at
 
+-- any other list, which is filled apart
+abbrev pub left_out_part : List Function → List Name → Option Part → Tree → ℕ → Option ℕ
+left_out_part fs names None value at = Some at
+left_out_part fs names (Some p) value at = elim (whole_cells_in p)
+    [ None ↦ Some at | Some c ↦ left_out_fill fs names p.shape value ]
+
+abbrev pub left_out_filled : List Function → List Name → List ℕ → Tree → ℕ → Option ℕ
+left_out_filled fs names text value at =
+    left_out_part fs names (part_named names (tree.variable text 0)) value at
+
 -- .. or from as many items that are written
-abbrev pub left_out_whole : List Function → List Name → ListCells → Tree → ℕ → Option ℕ
-left_out_whole fs names c (tree.list items list) at = left_out_items fs names c items at
-left_out_whole fs names c other at = left_out_copy c (list_named names other) at
+abbrev pub left_out_whole : List Function → List Name → ListCells → List ℕ → Tree → ℕ → Option ℕ
+left_out_whole fs names c text (tree.list items list) at = left_out_items fs names c items at
+left_out_whole fs names c text (tree.variable from place) at =
+    left_out_copy c (list_named names (tree.variable from place)) at
+left_out_whole fs names c text other at = left_out_filled fs names text other at
 
 abbrev pub left_out_list : List Function → List Name → List ℕ → Tree → ℕ → Option ℕ
-left_out_list fs names text value at = elim (cells_named names text)
-    [ None ↦ Some at | Some c ↦ left_out_whole fs names c value at ]
+left_out_list fs names text value at = elim (cells_named names text) [
+  | None ↦ left_out_filled fs names text value at
+  | Some c ↦ left_out_whole fs names c text value at
+]
 
 -- an assignment to an item of a list in lists
 abbrev pub left_out_deep : List Function → List Name → List ℕ → Tree → Tree → ℕ → Option ℕ
@@ -74,7 +89,7 @@ left_out_vars rs names other body = Some 0
 
 abbrev mutual
   -- The place of the first part of a statement for which no code is made: an assignment to what isn't a variable of
-  -- single values in a cell or an item of lists of them in cells, unless it stores as many of them whole that are named or written as a list, a call of what is none of these procedures or that has not as many arguments, or a `foreach` or a variable of a block
+  -- single values, an item of lists of them or such a list whole, each in cells, a call of what is none of these procedures or that has not as many arguments, or a `foreach` or a variable of a block
   -- whose type isn't seen to be one of single values; or such a part of an expression. Of a `while` the body comes first, as in its
   -- code. Which cell a local has doesn't matter here.
   pub left_out_stmt : Routines → List Name → Tree → Option ℕ

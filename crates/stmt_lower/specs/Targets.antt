@@ -52,6 +52,15 @@ deep_cells_at (Cell c) size None = None
 deep_cells_at (Cell c) size (Some t) = Some (record { cell = c; size = size; kind = t })
 deep_cells_at (Tokens port first step) size leaf = None
 
+-- the type of the single values of a list at any depth
+abbrev pub leaf_of : Shape → Scalar
+leaf_of (Single t) = t
+leaf_of (Many n items) = leaf_of items
+
+-- the cells of a whole list at any depth, if it stands in cells
+abbrev pub whole_cells_in : Part → Option ListCells
+whole_cells_in p = deep_cells_at p.seat p.size (Some (leaf_of p.shape))
+
 abbrev pub deep_cells_in : Part → Tree → Option ListCells
 deep_cells_in p places = deep_cells_at p.seat p.size (leaf_in p.shape places)
 

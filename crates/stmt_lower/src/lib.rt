@@ -14,7 +14,6 @@ mod procedures;
 mod scope;
 mod stmts;
 mod targets;
-mod types;
 
 pub use callees::ProcCallee;
 pub use procedures::lower_procedure;

@@ -1,4 +1,4 @@
-//! Lists of single values that are stored whole.
+//! Lists that are stored whole.
 
 ghost use Rattle.std.specs.Prelude.{◌≡◌, IfErr, None, OnOk, Some, string_bytes};
 ghost use Rattle.cal_ast.specs.Tree as tree;
@@ -12,16 +12,17 @@ ghost use Rattle.stmt_lower.specs.StmtSeen.{called, seen};
 ghost use Rattle.stmt_lower.specs.SeenStmts.{AddsItems, AddsStmt};
 ghost use Rattle.stmt_lower.specs.Stating.{copy_code};
 ghost use Rattle.stmt_lower.specs.Targets.{cells_named};
-ghost use Rattle.stmt_lower.specs.StmtGrowing.{left_out_copy, left_out_items};
+ghost use Rattle.stmt_lower.specs.StmtGrowing.{left_out_copy, left_out_filled, left_out_items};
 ghost use Rattle.stmt_lower.specs.StmtWords.{set_one_of};
 
 use crate::counter::take_row;
 use crate::deep::keep;
 use crate::scope::StmtScope;
-use crate::targets::ListCells;
+use crate::targets::{ListCells, whole_cells};
 use cal_ast::{Expr, Ident};
 use code_ir::Instr;
-use expr_lower::{Draft, LowerFault, Seat, list_named, put, put_all};
+use expr_lower::{Draft, LowerFault, Seat, list_named, put, put_all, whole_called};
+use list_lower::fill;
 
 /// Appends an assignment of the list that an expression names to another one of the same size.
 pub(crate) fn set_copy(
@@ -72,6 +73,33 @@ pub(crate) fn set_items(
     let first = take_row(items.len(), draft)?;
     keep(scope, items, first, draft)?;
     copy(to, Seat::Cell(first), draft)
+}
+
+/// Appends an assignment of any other list, at any depth: it is filled apart, since it may read what the variable
+/// held, and then stored.
+pub(crate) fn set_filled(
+    scope: &StmtScope,
+    name: &Ident,
+    value: &Expr,
+    at: u32,
+    draft: &mut Draft,
+) -> Result<(), LowerFault>
+    ensures ok { OnOk result
+        (AddsStmt scope.now (set_one_of name.now value.now at) draft.old draft.new) }
+    ensures whole { OnOk result (left_out_filled (called scope.now).functions (seen scope.now)
+        (string_bytes name.now.text) (expr_tree value.now) at ≡ None) }
+    ensures fault { IfErr result (IsFault (left_out_filled (called scope.now).functions (seen scope.now)
+        (string_bytes name.now.text) (expr_tree value.now) at) draft.new) }
+{
+    let Some(whole) = whole_called(&scope.values, name.text.as_str()) else {
+        return Err(LowerFault::NotLowered { at });
+    };
+    let Some(to) = whole_cells(whole) else {
+        return Err(LowerFault::NotLowered { at });
+    };
+    let first = take_row(to.size as usize, draft)?;
+    fill(&scope.values, value, whole.shape, first, draft)?;
+    put(draft, Instr::Copy(to.cell, first, to.size, Some(to.kind)))
 }
 
 /// Appends the instructions that store the items of a list in those of another one.

@@ -20,16 +20,16 @@ use crate::callees::{ProcCallee, procedure_for, put_run};
 use crate::counter::{Counter, put_bounds, put_less, put_next, put_turn, take_cells};
 use crate::deep::set_deep;
 use crate::jumps::{exit_at, jump_at};
-use crate::lists::{set_copy, set_items};
+use crate::lists::{set_copy, set_filled, set_items};
 use crate::scope::StmtScope;
 use crate::targets::{cell_named, cells_named};
-use crate::types::single_meant;
 use cal_ast::{Expr, ExprForm, Ident, Stmt, StmtForm, TypeExpr, VarDecl};
 use code_ir::Instr;
 use expr_lower::{
     Callee, Draft, Frame, LowerFault, Named, close, link, lower, lower_args, lower_test,
     next_place, put, put_all, start, take_cell,
 };
+use list_lower::single_meant;
 use rvc_base::Scalar;
 
 /// Appends code that executes a statement.
@@ -135,11 +135,12 @@ fn set_list(
         (IsWhyNot scope.now (set_one_of name.now value.now at) draft.new) }
 {
     let Some(to) = cells_named(&scope.values, name.text.as_str()) else {
-        return Err(LowerFault::NotLowered { at });
+        return set_filled(scope, name, value, at, draft);
     };
     match &value.form {
         ExprForm::List(items) => set_items(scope, name, to, items, at, draft),
-        _ => set_copy(scope, name, to, value, at, draft),
+        ExprForm::Name(_) => set_copy(scope, name, to, value, at, draft),
+        _ => set_filled(scope, name, value, at, draft),
     }
 }
 
@@ -428,12 +429,12 @@ fn behind(
 /// changes the cells of these names as the statements change the variables, each stored in its type. What stood in
 /// the draft stays.
 ///
-/// Code is made for assignments to variables of single values and to items of lists of them at any depth, and to
-/// lists of them from another one of the same size that is named or written out, `if`, `while`, and `foreach` and
-/// blocks whose types are written without names, over the expressions for which
-/// [`lower_expr`](expr_lower::lower_expr) makes code. A `foreach` uses three cells more, a variable of a block one,
-/// an item of lists in lists one for each of its places and one for its value, and items that are written out one
-/// each; they are added to the draft.
+/// Code is made for assignments to variables of single values, to items of lists of them at any depth, and to whole
+/// lists, `if`, `while`, and `foreach` and blocks whose types are written without names, over the expressions for which
+/// [`lower_expr`](expr_lower::lower_expr) or, of lists, [`lower_list`](list_lower::lower_list) makes code. A `foreach`
+/// uses three cells more, a variable of a block one, an item of lists in lists one for each of its places and one for
+/// its value, and a list that isn't copied from a name one for each of its numbers, beside those of its generators;
+/// they are added to the draft.
 ///
 /// # Errors
 ///

@@ -5,6 +5,7 @@ ghost use Rattle.cal_model.specs.View.{shape_view};
 ghost use Rattle.expr_lower.specs.PartView.{part_view, places_of};
 ghost use Rattle.expr_lower.specs.Seen.{seen};
 ghost use Rattle.stmt_lower.specs.Targets.{cell_named, cells_named, deep_cells_in, leaf_in};
+ghost use Rattle.stmt_lower.specs.Targets.{leaf_of, whole_cells_in};
 
 use cal_ast::Expr;
 use cal_model::Shape;
@@ -53,6 +54,30 @@ pub(crate) fn cells_named(scope: &Scope, text: &str) -> Option<ListCells>
             first: _,
             step: _,
         } => None,
+    }
+}
+
+/// The cells of a whole list at any depth, if it stands in cells.
+pub(crate) fn whole_cells(whole: Part) -> Option<ListCells>
+    ensures { result ≡ whole_cells_in (part_view whole.entry) }
+{
+    let Seat::Cell(cell) = whole.seat else {
+        return None;
+    };
+    Some(ListCells {
+        cell,
+        size: whole.size,
+        kind: leaf_of(whole.shape),
+    })
+}
+
+/// The type of the single values of a list at any depth.
+fn leaf_of(shape: &Shape) -> Scalar
+    ensures { result ≡ leaf_of (shape_view shape.now) }
+{
+    match shape {
+        Shape::Scalar(kind) => *kind,
+        Shape::List(_, items) => leaf_of(items),
     }
 }
 

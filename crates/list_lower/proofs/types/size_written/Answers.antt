@@ -1,8 +1,8 @@
 use Rattle.std.proofs.Common.{map, sym, arith}
 use Rattle.std.proofs.lemmas.List.{length-map}
 use Rattle.cal_ast.specs.View.{type_arg_tree}
-use Rattle.stmt_lower.proofs.MeantIs.{many_args}
-use Rattle.stmt_lower.proofs.types.size_written.Goals as goal
+use Rattle.list_lower.proofs.MeantIs.{many_args}
+use Rattle.list_lower.proofs.types.size_written.Goals as goal
 
 pub returns-in_default : goal.returns-in_default
 returns-in_default c =

@@ -7,15 +7,15 @@ ghost use Rattle.cal_ast.specs.Tree.{listed};
 ghost use Rattle.cal_ast.specs.View.{expr_tree, type_arg_tree, type_tree};
 ghost use Rattle.cal_model.specs.Expression.{bits, type_named};
 ghost use Rattle.cal_model.specs.Value.{Single};
-ghost use Rattle.stmt_lower.specs.Meant.{literal_size, only_size, single_in, single_meant};
-ghost use Rattle.stmt_lower.specs.Meant.{size_of_arg, size_written};
+ghost use Rattle.list_lower.specs.Meant.{literal_size, only_size, single_in, single_meant};
+ghost use Rattle.list_lower.specs.Meant.{size_of_arg, size_written};
 ghost use Rattle.rvc_base.specs.declared.scalar.Scalar.TheVariants as scalar;
 
 use cal_ast::{Expr, ExprForm, TypeArg, TypeExpr};
 use rvc_base::{DEFAULT_SIZE, MAX_SIZE, Num, Scalar};
 
 /// The type of single values that a type means whatever names mean, if it is seen to mean one.
-pub(crate) fn single_meant(shape: &TypeExpr) -> Option<Scalar>
+pub fn single_meant(shape: &TypeExpr) -> Option<Scalar>
     ensures { result ≡ single_meant (type_tree shape.now) }
 {
     let size = size_written(&shape.args)?;

@@ -1,0 +1,10 @@
+pub mod Meant
+pub mod Generators
+pub mod Filling
+pub mod Shaped
+pub mod Filled
+pub mod CounterView
+pub mod Reserving
+pub mod GoingOn
+pub mod LeftOut
+pub mod FillWords
