@@ -1,0 +1,4 @@
+mod Extending
+mod Sent
+mod Likeness
+mod Placed
