@@ -8,7 +8,7 @@ use Rattle.expr_lower.specs.declared.draft.Draft.{Draft}
 use Rattle.expr_lower.specs.Placed.{StandsAt}
 use Rattle.lowered_actor.specs.declared.parts.ActionCode.{ActionCode}
 use Rattle.stmt_lower.specs.Procedures.{Routines, no_routines}
-use Rattle.action_lower.specs.FiringCode.{IsFiringCode}
+use Rattle.action_lower.specs.FiringCode.{Fires, IsFiringCode}
 use Rattle.action_lower.specs.FiringWords.{AddsFired, AddsFiring}
 use Rattle.action_lower.specs.Guarding.{AreGuards, guard_more, no_guard}
 use Rattle.action_lower.specs.GuardWords.{AddsGuards, AnswerAsGuards}
@@ -74,7 +74,7 @@ fires-from actor a firsts entry old new le at added act whole more x u cells is 
     let placed : whole.instrs ≡ old.instrs.items ++ (one.code ++ more) = all ∙ ap (λ is. is ++ more) one.is ∙ append_assoc old.instrs.items one.code more in
     let stands : StandsAt whole.instrs (length old.instrs.items) one.code =
     subst (λ all. StandsAt all (length old.instrs.items) one.code) (sym placed) (stands-in old.instrs.items one.code more) in
-    subst (λ e. _) (sym at)
+    subst (λ e. Fires actor a act firsts whole e x u cells) (sym at)
     (one.has whole (state_cells actor) (state_cells actor) x u cells stands
     (record { functions = λ text f none. absurd (cc); procedures = λ text p none. absurd (cc) })
     (omega arith) (omega arith) le room in_state of_ports may has hold)

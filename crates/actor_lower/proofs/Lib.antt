@@ -1,4 +1,5 @@
-mod Extending
-mod Sent
-mod Likeness
-mod Placed
+pub mod Extending
+pub mod Sent
+pub mod Likeness
+pub mod Placed
+pub mod Tabled

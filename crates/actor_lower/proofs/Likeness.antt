@@ -149,14 +149,14 @@ module _ (actor : Actor) (sound : IsSound actor) (l : coded.Actor) (is : IsLower
 
   guards-alike : GuardsRunAlike actor numbers_of_vars l
   guards-alike x y u a act action stands ready =
-      let k = mapped coded.action_of actions a action (ap (λ as. slice_get as a) (sym same) ∙ ready.coded_there) in
+      let k = mapped coded.action_of actions a action (ap (λ acts. slice_get acts a) (sym same) ∙ ready.coded_there) in
       let one = are.each a k.0 k.1 in
       subst (λ c. GuardsRun l x (lowered.taken l (tokens_on u) a) (calls_of actor.funs) (seen_by actor y u act) act.guards c.guards) k.2
       (guards-run x y stands u a act action ready act.guards k.0.guards.items (one.guards act l.code [] ready.there whole))
 
   bodies-alike : BodiesRunAlike actor numbers_of_vars l
   bodies-alike x y u a act action stands ready enabled =
-      let k = mapped coded.action_of actions a action (ap (λ as. slice_get as a) (sym same) ∙ ready.coded_there) in
+      let k = mapped coded.action_of actions a action (ap (λ acts. slice_get acts a) (sym same) ∙ ready.coded_there) in
       subst (λ c. BodyRuns numbers_of_vars l x (lowered.taken l (tokens_on u) a) c (body actor y u a)) k.2
       (body-runs x y stands u a act action ready k.0 (are.each a k.0 k.1))
 

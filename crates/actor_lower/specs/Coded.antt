@@ -10,6 +10,9 @@ use Rattle.code_ir.specs.declared.instr.Instr.{Instr}
 use Rattle.code_ir.specs.Code.{Code}
 use Rattle.expr_lower.specs.declared.draft.Draft.{Draft}
 use Rattle.lowered_actor.specs.declared.parts.ActionCode.{ActionCode}
+use Rattle.lowered_actor.specs.declared.parts.Parts.{Parts}
+use Rattle.lowered_actor.specs.Actor as coded
+use Rattle.lowered_actor.specs.Facts.{IsLowered}
 use Rattle.action_lower.specs.FiringCode.{Fires, first_on}
 use Rattle.action_lower.specs.GuardWords.{AnswerAsGuards}
 use Rattle.action_lower.specs.Seats.{HoldVars}
@@ -55,3 +58,8 @@ pub record AreCodedActions (actor : Actor) (n : ℕ) (actions : List ActionCode)
 pub record IsCodeOf (draft : Draft) (code : Code) : Type 0 where
   pub instrs : code.instrs ≡ draft.instrs.items
   pub cells : code.cells ≡ draft.cells
+
+-- a lowered actor is that of these parts, and keeps the facts
+pub record IsMadeOf (parts : Parts) (l : coded.Actor) : Type 0 where
+  pub same : l ≡ coded.actor_of parts
+  pub facts : IsLowered l

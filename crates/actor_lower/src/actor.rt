@@ -1,10 +1,9 @@
 //! From an actor to a lowered one.
 
-ghost use Rattle.std.specs.Prelude.{◌≡◌, IfErr, IfOk, OnOk, length};
+ghost use Rattle.std.specs.Prelude.{IfErr, IfOk, OnOk, length};
 ghost use Rattle.cal_model.specs.Sound.{IsSound};
 ghost use Rattle.cal_model.specs.View.{actor_of};
-ghost use Rattle.lowered_actor.specs.Actor as coded;
-ghost use Rattle.lowered_actor.specs.Facts.{IsLowered};
+ghost use Rattle.actor_lower.specs.Coded.{IsMadeOf};
 ghost use Rattle.actor_lower.specs.Faults.{AreWhole, IsActorFault, IsCodeFault};
 ghost use Rattle.actor_lower.specs.Standing.{StandsForActor};
 
@@ -64,8 +63,7 @@ pub fn lower(alloc: Global, b: &Bound) -> Result<Lowered, ActorFault>
 
 /// The lowered actor of parts, if their bodies are straight lines.
 fn of_parts(alloc: Global, parts: Parts) -> Result<Lowered, ActorFault>
-    ensures same { IfOk result (λ lowered. lowered ≡ coded.actor_of parts) }
-    ensures facts { IfOk result IsLowered }
+    ensures made { IfOk result (IsMadeOf parts) }
     ensures fault { IfErr result IsCodeFault }
 {
     let lowered = match Lowered::of_straight_lines(alloc, parts) {

@@ -330,7 +330,7 @@ module _ (actor : Actor) (action : Action) (firing : Bool) (tokens : ℕ → Lis
         where
           by : (o : Option Instr) → slice_get code.instrs p ≡ o → Steps p cs ds (elim o [ None ↦ Stuck | Some i ↦ obey code tokens (at p stack left cs) i ]) (elim o [ None ↦ Stuck | Some i ↦ obey code tokens (at p stack left ds) i ])
           by None e = both_stuck
-          by (Some instr) e = obeyed instr (fits.each p instr inside.from inside.to e)
+          by (Some instr) e = obeyed instr (fits.each p inside.from inside.to instr e)
 
     -- ---- whole runs
 

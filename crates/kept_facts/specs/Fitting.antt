@@ -1,6 +1,6 @@
 -- Bodies that keep the facts of guards and firings, as can be seen from each instruction and those that may come next.
 -- Not trusted: no promise is read with it.
-use Rattle.std.specs.Prelude.{◌≡◌, ℕ, ◌+◌, ◌*◌, ◌<◌, ◌≤◌, Bool, true, false, List, Some, slice_get}
+use Rattle.std.specs.Prelude.{◌≡◌, ℕ, ◌+◌, ◌*◌, ◌<◌, ◌≤◌, Bool, true, false, List, Some, All, slice_get}
 use Rattle.code_ir.specs.declared.instr.Instr.{Instr}
 use Rattle.code_ir.specs.declared.instr.Instr.TheVariants as op
 use Rattle.code_ir.specs.Typing.{goes_on, target}
@@ -70,10 +70,34 @@ pub record FitsHere (actor : Actor) (action : Action) (firing : Bool) (body : Bo
       × Flows actor.kept body.spans instr p t
   pub done : instr ≡ op.Done → AreSet actor action body.spans p
 
--- .. so it is with each of them, and at first only state cells are set
+-- .. whatever stands there
+abbrev pub FitsAt : Actor → Action → Bool → Body → ℕ → Type 0
+FitsAt actor action firing body p = (instr : Instr) → slice_get actor.code.instrs p ≡ Some instr
+    → FitsHere actor action firing body p instr
+
+-- .. so it is from the begin up to a place
+abbrev pub FitsAll : Actor → Action → Bool → Body → ℕ → Type 0
+FitsAll actor action firing body end = (p : ℕ) → body.begin ≤ p → p < end
+    → FitsAt actor action firing body p
+
+-- .. in the whole body, and at first only state cells are set
 pub record FitsBody (actor : Actor) (action : Action) (firing : Bool) (body : Body) : Type 0 where
   pub some : body.begin < body.end
   pub first : (c : ℕ) → is_set actor.kept body.spans body.begin c ≡ true → c < actor.kept
-  pub each : (p : ℕ) (instr : Instr) → body.begin ≤ p → p < body.end
-      → slice_get actor.code.instrs p ≡ Some instr
-      → FitsHere actor action firing body p instr
+  pub each : FitsAll actor action firing body body.end
+
+abbrev pub body_of : ℕ → ℕ → List Span → Body
+body_of begin end spans = record { begin = begin; end = end; spans = spans }
+
+-- ---- actions
+
+-- a body that fits begins at an entry
+pub record HasBody (actor : Actor) (action : Action) (firing : Bool) (entry : ℕ) : Type 0 where
+  pub body : Body
+  pub begins : body.begin ≡ entry
+  pub fits : FitsBody actor action firing body
+
+-- .. at each guard of an action, and at its firing
+pub record HasBodies (actor : Actor) (action : Action) : Type 0 where
+  pub guards : All (HasBody actor action false) action.guards
+  pub firing : HasBody actor action true action.fire

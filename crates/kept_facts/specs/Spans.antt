@@ -25,7 +25,11 @@ reads (op.Load c) d = c == d
 reads (op.LoadAt c n) d = nat_le c d && nat_le (suc d) (c + n)
 reads instr d = false
 
--- what is set at a place q, behind an instruction at p, was set at p or is written there
-abbrev pub Flows : ℕ → List Span → Instr → ℕ → ℕ → Type 0
-Flows kept spans instr p q = (c : ℕ) → is_set kept spans q c ≡ true
+-- if a cell is set at a place q, behind an instruction at p, it was set at p or is written there
+abbrev pub FlowsAt : ℕ → List Span → Instr → ℕ → ℕ → ℕ → Type 0
+FlowsAt kept spans instr p q c = is_set kept spans q c ≡ true
     → (is_set kept spans p c ≡ true) ⊎ (writes instr c ≡ true)
+
+-- .. so it is with each cell
+abbrev pub Flows : ℕ → List Span → Instr → ℕ → ℕ → Type 0
+Flows kept spans instr p q = (c : ℕ) → FlowsAt kept spans instr p q c

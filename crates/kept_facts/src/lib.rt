@@ -7,6 +7,12 @@
 //! ends as it must.
 #![tactic(auto)]
 
+mod bodies;
+mod edges;
+mod finding;
+mod instrs;
+mod keeping;
 mod spans;
+mod stores;
 
-pub use spans::Span;
+pub use keeping::keep_facts;

@@ -1,0 +1,11 @@
+use Rattle.std.proofs.Common.{◌≡◌, ◌≤◌, length}
+use Rattle.cal_model.specs.View.{actor_of}
+use Rattle.action_lower.specs.Seats.{state_cells}
+use Rattle.actor_lower.specs.Coded.{AreCodedActions}
+use Rattle.actor_lower.specs.Faults.{AreWhole}
+use Rattle.actor_lower.proofs.actions.lower_actions.Given as goal
+
+abbrev pub invariant-loop-action : goal.invariant-loop-action
+invariant-loop-action l = AreCodedActions (actor_of l.b) l.action l.actions.items l.draft
+    × (state_cells (actor_of l.b) ≤ l.draft.cells)
+    × AreWhole l.b l.action
