@@ -1,11 +1,13 @@
 -- What loops over spans show once they are through.
-use Rattle.std.proofs.Common.{◌≡◌, ℕ, suc, ◌+◌, ◌*◌, ◌<◌, ◌≤◌, ◌⊎◌, inl, inr, Bool, true, false, ◌||◌, List, length, refl, sym, ap, ◌∙◌, arith, Option, None, Some, ⊎_elim}
-use Rattle.std.specs.Prelude.{nat_le, slice_get}
+use Rattle.std.proofs.Common.{◌≡◌, ℕ, suc, ◌+◌, ◌*◌, ◌<◌, ◌-◌, ◌≤◌, ◌⊎◌, inl, inr, Bool, true, false, ◌||◌, List, length, refl, sym, ap, ◌∙◌, arith, Option, None, Some, ⊎_elim, subst}
+use Rattle.std.specs.Prelude.{nat_le, ◌&&◌, slice_get}
 use Rattle.std.proofs.lemmas.Bool.{leb-true, cases_lt}
 use Rattle.std.proofs.lemmas.Option.{slice_get_past}
 use Rattle.code_ir.specs.declared.instr.Instr.{Instr}
 use Rattle.kept_facts.specs.declared.spans.Span.{Span}
 use Rattle.kept_facts.specs.Spans.{Flows, FlowsAt, is_set, is_within}
+use Rattle.lowered_actor.specs.Actor.{Action, Actor}
+use Rattle.kept_facts.specs.Fitting.{Body, FitsAll, FitsAt}
 use Rattle.kept_facts.proofs.Alike.{either-true}
 
 -- a cell without a span is set where it is a state cell
@@ -33,3 +35,26 @@ none-all kept spans p n high each c set =
     by : (nat_le (suc c) kept ≡ true) ⊎ (false ≡ true) → c < kept
     by (inl h) = let low = leb-true (suc c) kept h in omega (arith, low)
     by (inr h) = absurd (cc)
+
+-- cells from one on are those behind it
+pub each-behind : (P : ℕ → Type 0) (c n : ℕ) → ((k : ℕ) → k < n → P (c + k)) → (d : ℕ) → (nat_le c d && nat_le (suc d) (c + n)) ≡ true → P d
+each-behind P c n each d h =
+    let two = two-true (nat_le c d) (nat_le (suc d) (c + n)) h in
+    let low = leb-true c d two.0 in
+    let high = leb-true (suc d) (c + n) two.1 in
+    let same : c + (d - c) ≡ d = omega (arith, low) in
+    subst P same (each (d - c) (omega (arith, low, high)))
+  where
+    two-true : (a b : Bool) → (a && b) ≡ true → (a ≡ true) × (b ≡ true)
+    two-true true b h = (refl, h)
+    two-true false b h = absurd (cc)
+
+pub fits-more : (actor : Actor) (action : Action) (firing : Bool) (body : Body) (q : ℕ) → FitsAll actor action firing body q → FitsAt actor action firing body q → FitsAll actor action firing body (q + 1)
+fits-more actor action firing body q all fit p from low =
+    ⊎_elim
+    (λ (less : p < q). all p from less)
+    (λ (past : q ≤ p). let same : q ≡ p = omega (arith, low, past) in subst (FitsAt actor action firing body) same fit)
+    (cases_lt p q)
+
+pub fits-whole : (actor : Actor) (action : Action) (firing : Bool) (body : Body) (q end : ℕ) → end ≤ q → FitsAll actor action firing body q → FitsAll actor action firing body end
+fits-whole actor action firing body q end far all p from low = all p from (omega (arith, far, low))

@@ -25,10 +25,13 @@ pub(crate) fn fits_body(
     ensures { IsTrue result → FitsBody (actor_of parts.now) (action_of action.now) firing
         (body_of begin end spans.now) }
 {
-    begin < end
-        && end <= parts.code.instrs().len()
-        && none_is_set(parts.kept, spans, begin)
-        && all_fit(parts, action, firing, begin, end, spans)
+    if begin >= end || end > parts.code.instrs().len() {
+        return false;
+    }
+    if !none_is_set(parts.kept, spans, begin) {
+        return false;
+    }
+    all_fit(parts, action, firing, begin, end, spans)
 }
 
 /// Whether each instruction of the body fits.
