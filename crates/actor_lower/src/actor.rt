@@ -14,7 +14,8 @@ use actor_tables::laws::{lowered_actors_behave_as_meant, runs_suffice, tables_ar
 use actor_tables::lower_tables;
 use cal_model::Bound;
 use expr_lower::Draft;
-use lowered_actor::{Lowered, Parts, Unfit};
+use kept_facts::keep_facts;
+use lowered_actor::{Lowered, Parts};
 use std::alloc::Global;
 
 /// The lowered actor that stands for a sound actor: it has the actor's schedule, priorities and rates, its state cells
@@ -26,7 +27,7 @@ use std::alloc::Global;
 /// of the first part of a guard or a firing for which no code is made, in the first action that has one, as
 /// [`lower_guards`](action_lower::lower_guards) and [`lower_firing`](action_lower::lower_firing) say of actions that
 /// call nothing; `TooLarge` if the code has 2 to the power of 32 instructions or its cells can't be counted; `NotSeen`
-/// if code was made of all parts, but isn't made of straight lines.
+/// if code was made of all parts, but it isn't seen that it is admitted and keeps the facts of a lowered actor.
 pub fn lower(alloc: Global, b: &Bound) -> Result<Lowered, ActorFault>
     requires sound { IsSound (actor_of b.now) }
     ensures stands_for { IfOk result (StandsForActor (actor_of b.now)) }
@@ -61,17 +62,19 @@ pub fn lower(alloc: Global, b: &Bound) -> Result<Lowered, ActorFault>
     of_parts(alloc, parts)
 }
 
-/// The lowered actor of parts, if their bodies are straight lines.
+/// The lowered actor of parts, if they are seen to fit together and to keep the facts.
 fn of_parts(alloc: Global, parts: Parts) -> Result<Lowered, ActorFault>
     ensures made { IfOk result (IsMadeOf parts) }
     ensures fault { IfErr result IsCodeFault }
 {
-    let lowered = match Lowered::of_straight_lines(alloc, parts) {
-        Ok(lowered) => lowered,
-        Err(Unfit::Memory) => return Err(ActorFault::Memory),
-        Err(Unfit::DoNotFit) => return Err(ActorFault::NotSeen),
-        Err(Unfit::NotStraight) => return Err(ActorFault::NotSeen),
-    };
+    if !parts.fit() {
+        return Err(ActorFault::NotSeen);
+    }
+    let keep = keep_facts(alloc, &parts)?;
+    if !keep {
+        return Err(ActorFault::NotSeen);
+    }
+    let lowered = Lowered::new(alloc, parts)?;
     // it tells that the facts are kept
     let _code = lowered.code();
     Ok(lowered)

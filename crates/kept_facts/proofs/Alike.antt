@@ -1,9 +1,9 @@
 -- Two runs of a body that differ in cells which it doesn't read before it wrote them.
-use Rattle.std.proofs.Common.{◌≡◌, ◌≢◌, ℕ, zero, suc, ◌+◌, ◌*◌, ◌-◌, ◌<◌, ◌≤◌, ◌⊎◌, inl, inr, ℤ, pos, negsuc, ◌+ℤ◌, Bool, true, false, not, ◌&&◌, ◌||◌, List, [], ◌∷◌, length, take, drop, refl, sym, ap, subst, ◌∙◌, arith, Option, None, Some}
-use Rattle.std.specs.Prelude.{if◌then◌else◌, nat_le, ◌==◌, slice_get, slice_set, slice_index_or}
-use Rattle.std.proofs.lemmas.Bool.{leb-true, le-leb, eqb-true, eq-eqb, cases_lt}
+use Rattle.std.proofs.Common.{◌≡◌, ◌≢◌, ℕ, zero, suc, ◌+◌, ◌*◌, ◌<◌, ◌≤◌, ◌⊎◌, inl, inr, ℤ, pos, negsuc, ◌+ℤ◌, Bool, true, false, not, ◌&&◌, ◌||◌, List, [], ◌∷◌, length, refl, sym, ap, subst, ◌∙◌, arith, Option, None, Some}
+use Rattle.std.specs.Prelude.{if◌then◌else◌, nat_le, ◌==◌, slice_get, slice_set}
+use Rattle.std.proofs.lemmas.Bool.{leb-true, le-leb, eqb-true, eq-eqb}
 use Rattle.std.proofs.lemmas.List.{length-set, get_or-set_same, get_or-set_other}
-use Rattle.std.proofs.lemmas.Option.{slice_get-get_or, slice_get_past}
+use Rattle.std.proofs.lemmas.Option.{slice_get-get_or}
 use Rattle.rvc_base.specs.declared.trap.Trap.{Trap}
 use Rattle.rvc_base.specs.declared.trap.Trap.TheVariants.{IndexRange, TurnLimit}
 use Rattle.rvc_base.specs.declared.scalar.Scalar.{Scalar}
@@ -13,15 +13,14 @@ use Rattle.code_ir.specs.declared.instr.Instr.TheVariants as op
 use Rattle.code_ir.specs.declared.outcome.Outcome.{Outcome}
 use Rattle.code_ir.specs.declared.outcome.Outcome.TheVariants as outcome
 use Rattle.code_ir.specs.Code.{Code}
-use Rattle.code_ir.specs.Effect.{Effect, Leaves, Fails, LacksToken, Breaks, effect, cell, stored, push_computed, with_cells, with_offset, on_top, on_two, pop_two, push_token}
+use Rattle.code_ir.specs.Effect.{Effect, Leaves, Fails, Breaks, effect, cell, stored, push_computed, with_cells, with_offset, on_top, on_two, push_token}
 use Rattle.code_ir.specs.Running.{State, Next, Goes, Over, Lacks, Stuck, go_on, jump_if_not, turn, obey, answer, step, Ends, stop, go, Reaches, here, after}
-use Rattle.code_ir.specs.Typing.{goes_on, target}
+use Rattle.code_ir.specs.Typing.{goes_on}
 use Rattle.lowered_actor.specs.Actor.{Action, Actor, number_on}
 use Rattle.lowered_actor.specs.Facts.{IsEffect, IsAnswer}
 use Rattle.lowered_actor.specs.Straight.{may_store}
-use Rattle.kept_facts.specs.declared.spans.Span.{Span}
 use Rattle.kept_facts.specs.Spans.{Flows, is_set, is_within, reads, writes}
-use Rattle.kept_facts.specs.Fitting.{AreSet, Body, FitsBody, FitsHere, MayStand}
+use Rattle.kept_facts.specs.Fitting.{AreSet, Body, FitsBody, FitsHere}
 
 pub either-true : (a b : Bool) → (a || b) ≡ true → (a ≡ true) ⊎ (b ≡ true)
 either-true true b h = inl refl

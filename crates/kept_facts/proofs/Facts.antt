@@ -1,22 +1,20 @@
 -- A body that fits keeps the facts of guards and firings.
-use Rattle.std.proofs.Common.{◌≡◌, ◌≢◌, ℕ, zero, suc, ◌+◌, ◌<◌, ◌≤◌, ◌⊎◌, inl, inr, min, ℤ, pos, Bool, true, false, ◌&&◌, ◌||◌, List, [], ◌∷◌, length, take, refl, sym, ap, subst, ◌∙◌, arith, Option, None, Some}
-use Rattle.std.specs.Prelude.{nat_le, ◌==◌, slice_get, Contains, All}
+use Rattle.std.proofs.Common.{◌≡◌, ℕ, zero, suc, ◌+◌, ◌<◌, ◌≤◌, ◌⊎◌, inl, inr, min, ℤ, pos, Bool, true, false, ◌&&◌, ◌||◌, List, [], ◌∷◌, length, take, refl, sym, ap, subst, ◌∙◌, arith, Some}
+use Rattle.std.specs.Prelude.{nat_le, ◌==◌, slice_get}
 use Rattle.std.proofs.lemmas.Bool.{leb-true, eqb-true, cases_lt}
 use Rattle.std.proofs.lemmas.List.{length-take, get_or-take, ext_get_or}
 use Rattle.std.proofs.lemmas.Option.{slice_get-get_or, slice_get_past}
 use Rattle.rvc_base.specs.Turns.{max_turns}
 use Rattle.code_ir.specs.declared.outcome.Outcome.{Outcome}
-use Rattle.code_ir.specs.declared.outcome.Outcome.TheVariants as outcome
 use Rattle.code_ir.specs.Code.{Code}
 use Rattle.code_ir.specs.Effect.{cell}
 use Rattle.code_ir.specs.Running.{runs}
 use Rattle.lowered_actor.specs.declared.parts.StateCell.{StateCell}
 use Rattle.lowered_actor.specs.Actor.{Action, Actor, number_on}
-use Rattle.lowered_actor.specs.Facts.{IsAsked, IsSaved, IsAnswer, IsEffect, IsGuard, IsFiring, SameState, cells_from}
+use Rattle.lowered_actor.specs.Facts.{IsAsked, IsSaved, IsGuard, IsFiring, SameState, cells_from}
 use Rattle.lowered_actor.specs.Straight.{is_saved, may_store}
-use Rattle.kept_facts.specs.Spans.{is_set}
 use Rattle.kept_facts.specs.Fitting.{Body, FitsBody}
-use Rattle.kept_facts.proofs.Alike.{Ended, Inside, Runs, never-lacks, runs-alike}
+use Rattle.kept_facts.proofs.Alike.{Inside, Runs, never-lacks, runs-alike}
 
 -- what is known of runs
 abbrev pub OneEnd : Type 0

@@ -1,8 +1,6 @@
 -- Actions whose bodies fit keep the facts.
-use Rattle.std.proofs.Common.{◌≡◌, ℕ, false, true, List, length, map, subst, All, Some}
-use Rattle.std.specs.Prelude.{Contains, slice_get}
-use Rattle.lowered_actor.specs.declared.parts.ActionCode.{ActionCode}
-use Rattle.lowered_actor.specs.Actor.{Action, Actor, action_of}
+use Rattle.std.proofs.Common.{false, true, subst, All}
+use Rattle.lowered_actor.specs.Actor.{Actor}
 use Rattle.lowered_actor.specs.Facts.{IsFiring, IsGuard, RunRight}
 use Rattle.lowered_actor.proofs.Running.{all-among, all-at}
 use Rattle.kept_facts.specs.Fitting.{HasBodies, HasBody}

@@ -105,7 +105,13 @@ fn sends_are_set(parts: &Parts, action: &ActionCode, spans: &[Span], place: usiz
     ensures { IsTrue result → AreSet (actor_of parts.now) (action_of action.now) spans.now place }
 {
     for port in 0..parts.outs as usize {
-        if !are_set(parts.kept, spans, place, action.sends[port], action.gives[port]) {
+        if !are_set(
+            parts.kept,
+            spans,
+            place,
+            action.sends[port],
+            action.gives[port],
+        ) {
             return false;
         }
     }

@@ -21,27 +21,14 @@ fn flows(kept: u32, spans: &[Span], instr: &Instr, from: usize, to: usize) -> bo
 }
 
 /// The same of one cell.
-fn flows_at(
-    kept: u32,
-    spans: &[Span],
-    instr: &Instr,
-    from: usize,
-    to: usize,
-    cell: usize,
-) -> bool
+fn flows_at(kept: u32, spans: &[Span], instr: &Instr, from: usize, to: usize, cell: usize) -> bool
     ensures { IsTrue result → FlowsAt kept spans.now instr.now from to cell }
 {
     !is_set(kept, spans, to, cell) || is_set(kept, spans, from, cell) || writes(instr, cell)
 }
 
 /// Whether what comes behind an instruction at the next place, if it may go on there, stays in the body.
-pub(crate) fn next_fits(
-    kept: u32,
-    spans: &[Span],
-    end: usize,
-    place: usize,
-    instr: &Instr,
-) -> bool
+pub(crate) fn next_fits(kept: u32, spans: &[Span], end: usize, place: usize, instr: &Instr) -> bool
     requires { place < end }
     ensures { IsTrue result → goes_on instr.now ≡ true
         → (place + 1 < end) × Flows kept spans.now instr.now place (place + 1) }

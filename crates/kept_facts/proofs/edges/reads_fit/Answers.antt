@@ -1,4 +1,4 @@
-use Rattle.std.proofs.Common.{◌≡◌, true, subst, sym}
+use Rattle.std.proofs.Common.{◌≡◌, true, subst}
 use Rattle.kept_facts.specs.Spans.{is_set, reads}
 use Rattle.kept_facts.proofs.Looping.{each-behind}
 use Rattle.kept_facts.proofs.edges.reads_fit.Goals as goal

@@ -1,4 +1,4 @@
-use Rattle.std.proofs.Common.{◌≡◌, ◌≤◌, ◌<◌, List, map, length, subst, Some}
+use Rattle.std.proofs.Common.{◌≡◌, ◌≤◌, ◌<◌, List, map, length, subst}
 use Rattle.std.specs.Prelude.{slice_index_or}
 use Rattle.std.proofs.lemmas.List.Elements.{All-map}
 use Rattle.lowered_actor.specs.declared.parts.ActionCode.{ActionCode}

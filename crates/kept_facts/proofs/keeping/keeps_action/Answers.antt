@@ -1,4 +1,4 @@
-use Rattle.std.proofs.Common.{◌≤◌, ◌<◌, ◌+◌, ℕ, false, List, length, subst, sym, take, All}
+use Rattle.std.proofs.Common.{◌≤◌, ◌+◌, ℕ, false, List, length, subst, sym, take, All}
 use Rattle.std.proofs.lemmas.List.Elements.{All-more}
 use Rattle.std.proofs.lemmas.Result.{IfOk-weaker}
 use Rattle.lowered_actor.specs.Actor.{action_of, actor_of}
