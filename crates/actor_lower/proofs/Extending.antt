@@ -1,18 +1,17 @@
 -- Code that stands in a draft stands there still once more is written behind it.
-use Rattle.std.proofs.Common.{◌≡◌, ℕ, ◌≤◌, List, ◌++◌, length, refl, sym, ap, subst, ◌∙◌, Some, arith, append_assoc}
+use Rattle.std.proofs.Common.{◌≡◌, ℕ, ◌≤◌, List, ◌++◌, length, sym, ap, subst, ◌∙◌, Some, arith, append_assoc}
 use Rattle.std.specs.Prelude.{slice_get}
 use Rattle.cal_model.specs.Actor.{Action, Actor}
-use Rattle.cal_model.specs.Sound.{IsSound}
 use Rattle.code_ir.specs.declared.instr.Instr.{Instr}
 use Rattle.expr_lower.specs.declared.draft.Draft.{Draft}
 use Rattle.expr_lower.specs.Placed.{StandsAt}
 use Rattle.lowered_actor.specs.declared.parts.ActionCode.{ActionCode}
 use Rattle.stmt_lower.specs.Procedures.{Routines, no_routines}
-use Rattle.action_lower.specs.FiringCode.{Fires, IsFiringCode}
+use Rattle.action_lower.specs.FiringCode.{Fires}
 use Rattle.action_lower.specs.FiringWords.{AddsFired, AddsFiring}
 use Rattle.action_lower.specs.Guarding.{AreGuards, guard_more, no_guard}
 use Rattle.action_lower.specs.GuardWords.{AddsGuards, AnswerAsGuards}
-use Rattle.action_lower.specs.Seats.{seen_seats, state_cells}
+use Rattle.action_lower.specs.Seats.{state_cells}
 use Rattle.action_lower.proofs.Answering.{stands-in}
 use Rattle.action_lower.proofs.LocalRuns.{started_grows}
 use Rattle.action_lower.proofs.Storing.{outputs-grow}

@@ -1,10 +1,10 @@
 -- A lowered actor whose actions have their tables and their code stands for the actor.
-use Rattle.std.proofs.Common.{◌≡◌, ℕ, zero, suc, ◌+◌, ◌<◌, ◌≤◌, Bool, true, false, ℤ, List, [], ◌∷◌, ◌++◌, map, length, take, drop, refl, sym, ap, subst, ◌∙◌, Option, None, Some, arith, length-append, length-drop}
+use Rattle.std.proofs.Common.{◌≡◌, ℕ, zero, suc, ◌<◌, ◌≤◌, Bool, true, false, ℤ, List, [], ◌∷◌, ◌++◌, map, length, take, drop, refl, sym, ap, subst, ◌∙◌, Some, arith, length-append, length-drop}
 use Rattle.std.specs.Prelude.{◌&&◌, ◌==◌, nat_le, slice_get}
 use Rattle.std.proofs.Math.Path.{fun_ext}
 use Rattle.std.proofs.Math.Seq.{take-append_seam}
 use Rattle.std.proofs.lemmas.Bool.{eq-eqb, le-leb}
-use Rattle.std.proofs.lemmas.List.{append-nil, length-map}
+use Rattle.std.proofs.lemmas.List.{append-nil}
 use Rattle.rvc_base.specs.Lawful.{tokens_on}
 use Rattle.rvc_base.specs.Turns.{max_turns}
 use Rattle.cal_ast.specs.Tree.{Tree}
@@ -15,7 +15,6 @@ use Rattle.cal_model.specs.Value.{Value, Num, Truth, Items}
 use Rattle.cal_model.specs.Actor.{Action, Actor}
 use Rattle.cal_model.specs.Call.{calls_of}
 use Rattle.cal_model.specs.Eligible.{IsStateOf}
-use Rattle.cal_model.specs.Env.{Env}
 use Rattle.cal_model.specs.Expression.{eval}
 use Rattle.cal_model.specs.Firing.{Fired, body}
 use Rattle.cal_model.specs.Keeping.{GivesOrTraps}
@@ -141,7 +140,7 @@ module _ (actor : Actor) (sound : IsSound actor) (l : coded.Actor) (is : IsLower
             ends.0,
             ap (λ n. take n last) tables.kept ∙ ends.1,
             ap (lowered.sent_from (coded.action_of k) last 0) tables.outs
-            ∙ sent-from actor a act (coded.action_of k) one.firsts fired.sent last (one.sends act ready.there) one.rates.gives_are all made.given ends.2,
+                ∙ sent-from actor a act (coded.action_of k) one.firsts fired.sent last (one.sends act ready.there) one.rates.gives_are all made.given ends.2,
           )
           agree (Traps cause) o last ends made all = ends
           agree Lacks o last ends made all = absurd ends

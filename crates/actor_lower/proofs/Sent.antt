@@ -1,8 +1,8 @@
 -- What a firing sends, port by port, in its cells.
-use Rattle.std.proofs.Common.{◌≡◌, ℕ, zero, suc, ◌+◌, ◌<◌, ◌≤◌, ℤ, pos, List, [], ◌∷◌, map, length, refl, sym, ap, subst, ◌∙◌, Option, None, Some, arith}
+use Rattle.std.proofs.Common.{◌≡◌, ℕ, zero, suc, ◌+◌, ◌<◌, ℤ, pos, List, [], ◌∷◌, ◌++◌, map, length, refl, sym, ap, subst, ◌∙◌, Option, None, Some, arith}
 use Rattle.std.specs.Prelude.{slice_get, slice_index_or}
 use Rattle.std.specs.List.{range_with_len}
-use Rattle.std.proofs.lemmas.List.FromFn.{get_or-map-range_with_len, length-map-range_with_len}
+use Rattle.std.proofs.lemmas.List.FromFn.{get_or-map-range_with_len, length-map-range_with_len, map-range_with_len_more}
 use Rattle.rvc_base.specs.Turns.{max_turns}
 use Rattle.cal_model.specs.Actor.{Action, Actor}
 use Rattle.cal_model.specs.Call.{calls_of, declared}
@@ -105,3 +105,8 @@ sent-from actor a act action firsts sent cells sends gives all many hold =
     subst (λ n. cells_from cells (coded.number_on action.sends n) (coded.number_on action.gives n) ≡ us) (sym same)
     (ap (λ c. cells_from cells c (coded.number_on action.gives q)) first ∙ ap (cells_from cells (first_on act.outputs firsts q)) count
     ∙ from-stands us cells (first_on act.outputs firsts q) (hold q us e))))
+
+-- the cells of one port more
+pub sends-more : (f : ℕ → ℕ) (old new : List ℕ) (n k : ℕ) → new ≡ old ++ k ∷ [] → old ≡ map f (range_with_len 0 n) → k ≡ f n → new ≡ map f (range_with_len 0 (n + 1))
+sends-more f old new n k put are is =
+    put ∙ ap (λ xs. xs ++ k ∷ []) are ∙ ap (λ m. map f (range_with_len 0 n) ++ m ∷ []) is ∙ sym (map-range_with_len_more f 0 n n (omega arith))

@@ -1,6 +1,5 @@
 -- Parts with the tables of an actor and the code of its actions.
-use Rattle.std.proofs.Common.{◌≡◌, ℕ, List, length, map, take, refl, sym, ap, subst, ◌∙◌, Some}
-use Rattle.std.specs.Prelude.{slice_get}
+use Rattle.std.proofs.Common.{◌≡◌, length, take, refl, sym, subst, ◌∙◌}
 use Rattle.std.proofs.lemmas.List.{length-map}
 use Rattle.cal_model.specs.declared.bound.Bound.{Bound}
 use Rattle.cal_model.specs.Actor.{Actor}

@@ -1,6 +1,6 @@
 use Rattle.std.proofs.Common.{◌≡◌, ◌∙◌, length, arith}
 use Rattle.cal_model.specs.View.{actor_of}
-use Rattle.actor_lower.specs.Coded.{AreSends, IsCodedAction}
+use Rattle.actor_lower.specs.Coded.{AreSends}
 use Rattle.actor_lower.proofs.Placed.{sends-are}
 use Rattle.actor_lower.proofs.actions.lower_action.Goals as goal
 

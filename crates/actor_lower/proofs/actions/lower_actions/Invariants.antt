@@ -1,4 +1,4 @@
-use Rattle.std.proofs.Common.{◌≡◌, ◌≤◌, length}
+use Rattle.std.proofs.Common.{◌≤◌}
 use Rattle.cal_model.specs.View.{actor_of}
 use Rattle.action_lower.specs.Seats.{state_cells}
 use Rattle.actor_lower.specs.Coded.{AreCodedActions}
