@@ -3,3 +3,4 @@ pub mod Sent
 pub mod Likeness
 pub mod Placed
 pub mod Tabled
+pub mod FiringFits

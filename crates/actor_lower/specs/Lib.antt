@@ -1,3 +1,4 @@
 pub mod Coded
 pub mod Faults
 pub mod Standing
+pub mod Fitting

@@ -9,6 +9,7 @@ mod actions;
 mod actor;
 mod code;
 mod fault;
+pub mod laws;
 mod sends;
 
 pub use actor::lower;

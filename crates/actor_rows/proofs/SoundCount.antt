@@ -1,5 +1,6 @@
 -- The actor that counts is sound.
 use Rattle.std.proofs.Common.{◌≡◌, ℕ, zero, suc, ◌<◌, ◌≤◌, Bool, true, false, List, [], ◌∷◌, codes, length, refl, sym, ap, subst, ◌∙◌, arith, None, Some}
+use Rattle.std.proofs.lemmas.Int.{ints}
 use Rattle.std.specs.Prelude.{Contains, slice_get, if◌then◌else◌, ◌==◌}
 use Rattle.rvc_base.specs.Chain.{ChainLeads}
 use Rattle.cal_model.specs.Actor.{Action}
@@ -61,7 +62,7 @@ count-is-sound = record {
   ports = (apart, nothing-in (codes "Out"), tt);
   port_sizes = ((omega arith, omega arith), (omega arith, omega arith), tt);
   distinct = (nothing-in (codes "n"), tt);
-  vars = (((omega arith, omega arith), ?), tt);
+  vars = (((omega arith, omega arith), omega (arith, ints)), tt);
   funs = tt;
   procs = tt;
   funs_end = record { rank = λ n. 0; in_range = tt; calls = tt };
