@@ -1,37 +1,33 @@
 -- The code of a firing fits where it stands.
-use Rattle.std.proofs.Common.{◌≡◌, ℕ, ◌+◌, ◌≤◌, List, [], ◌∷◌, ◌++◌, length, refl, sym, ap, subst, ◌∙◌, Some, arith, append_assoc, length-append}
+use Rattle.std.proofs.Common.{ℕ, ◌+◌, ◌≤◌, List, [], ◌∷◌, ◌++◌, length, refl, sym, ap, subst, ◌∙◌, Some, arith, append_assoc}
 use Rattle.rvc_base.specs.Storing.{IsSize}
 use Rattle.rvc_base.specs.declared.scalar.Scalar.{Scalar}
 use Rattle.cal_ast.specs.Tree.{Tree}
-use Rattle.cal_model.specs.Actor.{Action, Local, Output, Port}
+use Rattle.cal_model.specs.Actor.{Local, Output, Port}
 use Rattle.cal_model.specs.Selection.{kind_of_port}
 use Rattle.code_ir.specs.declared.instr.Instr.{Instr}
 use Rattle.code_ir.specs.declared.instr.Instr.TheVariants as op
 use Rattle.code_ir.specs.Code.{Code}
 use Rattle.code_ir.specs.Typing.{NamesCells}
-use Rattle.expr_lower.specs.Callees.{Function, function_named}
-use Rattle.expr_lower.specs.Calling.{HasFormals, HasRoutines}
-use Rattle.expr_lower.specs.Fitting.{Fits, FitsAt}
+use Rattle.expr_lower.specs.Fitting.{Fits}
 use Rattle.expr_lower.specs.Held.{AreBelow}
-use Rattle.expr_lower.specs.Names.{Name, local}
+use Rattle.expr_lower.specs.Names.{Name}
 use Rattle.expr_lower.specs.Placed.{StandsAt}
 use Rattle.expr_lower.specs.Routining.{LocalsSized}
 use Rattle.expr_lower.proofs.Coded.{grows}
 use Rattle.expr_lower.proofs.Fitted.{Plain, fits_in, fits_one, plain_then}
 use Rattle.expr_lower.proofs.Keeping.{below_more}
 use Rattle.expr_lower.proofs.Runs.{stands_left, stands_right}
-use Rattle.stmt_lower.specs.Acting.{HasCells}
 use Rattle.stmt_lower.specs.Calls.{HasRunRoutines}
-use Rattle.stmt_lower.specs.Procedures.{Procedure, Routines, procedure_named}
+use Rattle.stmt_lower.specs.Procedures.{Routines}
 use Rattle.stmt_lower.proofs.Executed.{grows_start}
 use Rattle.stmt_lower.proofs.FittedJumps.{fits_none}
 use Rattle.stmt_lower.proofs.FittedStmts.{cell_below, fits_start}
-use Rattle.action_lower.specs.FiringCode.{IsFiringCode}
 use Rattle.action_lower.specs.LocalCode.{AreStarted, none_started, start_more}
 use Rattle.action_lower.specs.Sending.{AreOutputs, AreStored, no_output, no_value, output_more, value_more}
 use Rattle.action_lower.proofs.LocalRuns.{started_grows}
 use Rattle.action_lower.proofs.Storing.{outputs-grow, stored-grows}
-use Rattle.actor_lower.specs.Fitting.{FiringsFit, FitsAsFiring}
+use Rattle.actor_lower.specs.Fitting.{FiringsFit}
 
 -- ---- more cells
 
