@@ -4,3 +4,4 @@ pub mod Likeness
 pub mod Placed
 pub mod Tabled
 pub mod FiringFits
+pub mod BodyRows

@@ -54,13 +54,20 @@ fn sent_are(cell: &Cell, tokens: &[Num]) -> bool {
 
 #[test]
 fn counts_up_to_each_token(rt: HostRuntime) -> Result<(), Fail> {
-    let rows: [(&[Num], &[Num]); 3] = [(&[3, 5], &[7, 11]), (&[199, 3], &[143, 203]), (&[200], &[])];
+    let rows: [(&[Num], &[Num]); 3] = [
+        (&[3, 5], &[7, 11]),
+        (&[199, 3], &[143, 203]),
+        (&[200], &[]),
+    ];
     for (tokens, sent) in rows {
         let Some(mut cell) = cell(rt.alloc())? else {
             return Err(Fail::from(Memory));
         };
         let end = burst(&mut cell, tokens);
-        assert!(rt; end == Some(BurstEnd::Waits) && sent_are(&cell, sent), "{end:?}");
+        assert!(rt;
+            end == Some(BurstEnd::Waits) && sent_are(&cell, sent),
+            "{end:?}"
+        );
     }
     Ok(())
 }

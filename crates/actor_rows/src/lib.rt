@@ -4,10 +4,10 @@
 //! actor with a guard, a local, a loop and an output.
 #![tactic(auto)]
 
-mod count;
+mod actors;
 mod trees;
 
-pub use count::count;
+pub use actors::count;
 
 #[cfg(test)]
 mod firing;

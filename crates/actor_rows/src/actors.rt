@@ -98,7 +98,12 @@ fn pattern(alloc: Global) -> Result<BoundPattern, AllocError>
 fn output(alloc: Global) -> Result<BoundOutput, AllocError>
     ensures { IfOk result (λ o. output_view o ∷ [] ≡ row.counting.outputs) }
 {
-    let value = binary(alloc, BinOp::Add, variable(alloc, "n")?, variable(alloc, "k")?)?;
+    let value = binary(
+        alloc,
+        BinOp::Add,
+        variable(alloc, "n")?,
+        variable(alloc, "k")?,
+    )?;
     Ok(BoundOutput {
         port: 0,
         values: vec![in alloc; value]?,
@@ -127,7 +132,12 @@ fn local(alloc: Global) -> Result<BoundLocal, AllocError>
 fn body(alloc: Global) -> Result<Stmt, AllocError>
     ensures { IfOk result (λ s. stmt_tree s ≡ row.loop) }
 {
-    let test = binary(alloc, BinOp::Lt, variable(alloc, "n")?, variable(alloc, "x")?)?;
+    let test = binary(
+        alloc,
+        BinOp::Lt,
+        variable(alloc, "n")?,
+        variable(alloc, "x")?,
+    )?;
     let more = binary(alloc, BinOp::Add, variable(alloc, "n")?, number(1))?;
     repeat(alloc, test, assign(alloc, "n", more)?)
 }
