@@ -3,6 +3,7 @@
 ghost use Rattle.std.specs.Prelude.{◌≡◌, [], ◌∷◌, IfOk, map};
 ghost use Rattle.cal_ast.specs.Tree as tree;
 ghost use Rattle.cal_ast.specs.Tree.{listed};
+ghost use Rattle.cal_ast.specs.declared.expr.BinOp.TheVariants.{Add, Lt};
 ghost use Rattle.cal_ast.specs.View.{expr_tree, stmt_tree};
 
 use cal_ast::{BinOp, Expr, ExprForm, Ident, Stmt, StmtForm};
@@ -26,7 +27,22 @@ pub(crate) fn number(value: u128) -> Expr
     }
 }
 
-pub(crate) fn binary(alloc: Global, op: BinOp, left: Expr, right: Expr) -> Result<Expr, AllocError>
+pub(crate) fn sum(alloc: Global, left: Expr, right: Expr) -> Result<Expr, AllocError>
+    ensures { IfOk result (λ e. expr_tree e
+        ≡ tree.binary Add (expr_tree left) (expr_tree right) 0) }
+{
+    binary(alloc, BinOp::Add, left, right)
+}
+
+/// `left < right`
+pub(crate) fn below(alloc: Global, left: Expr, right: Expr) -> Result<Expr, AllocError>
+    ensures { IfOk result (λ e. expr_tree e
+        ≡ tree.binary Lt (expr_tree left) (expr_tree right) 0) }
+{
+    binary(alloc, BinOp::Lt, left, right)
+}
+
+fn binary(alloc: Global, op: BinOp, left: Expr, right: Expr) -> Result<Expr, AllocError>
     ensures { IfOk result (λ e. expr_tree e
         ≡ tree.binary op (expr_tree left) (expr_tree right) 0) }
 {
