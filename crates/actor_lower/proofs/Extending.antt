@@ -25,17 +25,18 @@ pub more-again : (one two three : Draft) → IsMore one two → IsMore two three
 more-again one two three f g = record {
   code = f.code ++ g.code;
   is = g.is ∙ ap (λ is. is ++ g.code) f.is ∙ append_assoc one.instrs.items f.code g.code;
+  routines = g.routines ∙ f.routines;
   cells = let le = f.cells in let ge = g.cells in omega (arith, le, ge);
 }
 
-guards-grow : {names : List Name} {gs : List Tree} {es : List ℕ} {base n m : ℕ} {code : List Instr} → AreGuards names gs es base n code m → n ≤ m
+pub guards-grow : {names : List Name} {gs : List Tree} {es : List ℕ} {base n m : ℕ} {code : List Instr} → AreGuards names gs es base n code m → n ≤ m
 guards-grow (no_guard base n) = omega arith
 guards-grow (guard_more g gs es base n k m a b first rest) = let le = first.lowered.cells in let ge = guards-grow rest in omega (arith, le, ge)
 
 pub guards-added : (actor : Actor) (a : ℕ) (act : Action) (es : List ℕ) (old new : Draft) → slice_get actor.actions a ≡ Some act → AddsGuards actor a es old new → IsMore old new
 guards-added actor a act es old new is added =
     let one = added act is in
-    record { code = one.code; is = one.is; cells = guards-grow one.has }
+    record { code = one.code; is = one.is; routines = one.routines; cells = guards-grow one.has }
 
 pub firing-added : (rs : Routines) (actor : Actor) (a : ℕ) (act : Action) (entry : ℕ) (firsts : List ℕ) (old new : Draft) → slice_get actor.actions a ≡ Some act → AddsFiring rs actor a entry firsts old new → IsMore old new
 firing-added rs actor a act entry firsts old new is added =
@@ -43,7 +44,7 @@ firing-added rs actor a act entry firsts old new is added =
     let locals = started_grows rs one.has.locals in
     let body = one.has.body.cells in
     let outputs = outputs-grow one.has.outputs in
-    record { code = one.code; is = one.is; cells = omega (arith, locals, body, outputs) }
+    record { code = one.code; is = one.is; routines = one.routines; cells = omega (arith, locals, body, outputs) }
 
 -- ---- actions
 

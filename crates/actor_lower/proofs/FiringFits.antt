@@ -73,7 +73,7 @@ names-more k m op.Drop le h = tt
 names-more k m op.Answer le h = tt
 names-more k m op.Done le h = tt
 
-fits-more : (whole : Code) (callable k m base h : ℕ) (code : List Instr) (j out e : ℕ) → k ≤ m → Fits whole callable k base h code j out e → Fits whole callable m base h code j out e
+pub fits-more : (whole : Code) (callable k m base h : ℕ) (code : List Instr) (j out e : ℕ) → k ≤ m → Fits whole callable k base h code j out e → Fits whole callable m base h code j out e
 fits-more whole callable k m base h code j out e le f = record {
   height = f.height;
   first = f.first;

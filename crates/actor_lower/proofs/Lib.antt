@@ -5,3 +5,4 @@ pub mod Placed
 pub mod Tabled
 pub mod FiringFits
 pub mod BodyRows
+pub mod Rowed

@@ -3,7 +3,7 @@ use Rattle.std.proofs.Common.{◌≡◌, ℕ, zero, suc, ◌+◌, ◌<◌, ◌�
 use Rattle.std.specs.Prelude.{slice_get, slice_index_or}
 use Rattle.std.specs.List.{range_with_len}
 use Rattle.std.proofs.lemmas.Bool.{cases_lt}
-use Rattle.std.proofs.lemmas.List.{length-append, length-map}
+use Rattle.std.proofs.lemmas.List.{append-nil, length-append, length-map}
 use Rattle.cal_model.specs.declared.bound.Bound.{Bound}
 use Rattle.cal_model.specs.declared.bound.BoundAction.{BoundAction}
 use Rattle.cal_model.specs.declared.bound.BoundOutput.{BoundOutput}
@@ -16,9 +16,12 @@ use Rattle.action_lower.specs.FiringWords.{AddsFiring}
 use Rattle.action_lower.specs.GuardWords.{AddsGuards}
 use Rattle.action_lower.specs.FiringCode.{first_on}
 use Rattle.action_lower.proofs.ActionAt.{at-place}
-use Rattle.actor_lower.specs.Coded.{AreCodedActions, AreSends, IsCodedAction, IsMore}
+use Rattle.actor_lower.specs.Coded.{AddsBodies, AreCodedActions, AreSends, IsCodedAction, IsMore}
 use Rattle.actor_lower.specs.Faults.{AreWhole, left_out_at}
 use Rattle.actor_lower.proofs.Extending.{coded-more, firing-added, guards-added}
+use Rattle.actor_lower.proofs.Rowed.{action-bodies}
+use Rattle.action_lower.specs.Seats.{state_cells}
+use Rattle.cal_model.specs.Sound.{IsSound}
 
 pub there : {A : Type 0} (xs : List A) (k : ℕ) → k < length xs → (x : A) × (slice_get xs k ≡ Some x)
 there [] k h = absurd (omega arith)
@@ -34,6 +37,11 @@ module _ (b : Bound) (a : ℕ) (low : a < length b.actions.items) where
 
   pub firing-grown : (entry : ℕ) (firsts : List ℕ) (old new : Draft) → AddsFiring no_routines (actor_of b) a entry firsts old new → IsMore old new
   firing-grown entry firsts old new added = firing-added no_routines (actor_of b) a action-there.0 entry firsts old new action-there.1 added
+
+  pub bodies-grown : (es : List ℕ) (entry : ℕ) (firsts : List ℕ) (old mid new : Draft) → IsSound (actor_of b) → state_cells (actor_of b) ≤ mid.cells → AddsGuards (actor_of b) a es old mid
+      → AddsFiring no_routines (actor_of b) a entry firsts mid new → AddsBodies (es ++ entry ∷ []) old new
+  bodies-grown es entry firsts old mid new sound le guards firing =
+      action-bodies (actor_of b) a action-there.0 es entry firsts old mid new sound le action-there.1 (firing-grown entry firsts mid new firing) guards firing
 
 -- where the outputs of an action are sent from
 pub sends-are : (b : Bound) (a n : ℕ) (act : BoundAction) (same : n ≡ a) (there : a < length b.actions.items) (is : act ≡ slice_index_or b.actions.items n act)
@@ -75,3 +83,9 @@ whole-more b n whole here a low =
     (λ (less : a < n). whole a less)
     (λ (past : n ≤ a). let same : n ≡ a = omega (arith, low, past) in subst (λ k. left_out_at b k ≡ None) same here)
     (cases_lt a n)
+
+pub no-actions : (actor : Actor) (draft : Draft) → AreCodedActions actor 0 [] draft
+no-actions actor draft = record { count = refl; each = λ a x e. absurd (cc) }
+
+pub no-more : (draft : Draft) → IsMore draft draft
+no-more draft = record { code = []; is = sym (append-nil draft.instrs.items); routines = refl; cells = omega arith }

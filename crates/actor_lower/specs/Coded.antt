@@ -1,6 +1,6 @@
 -- Actions whose code stands in a draft.
 -- Not trusted: no promise is read with it.
-use Rattle.std.specs.Prelude.{◌≡◌, ℕ, ◌≤◌, ℤ, true, List, ◌++◌, length, map, Some, slice_get}
+use Rattle.std.specs.Prelude.{◌≡◌, ℕ, ◌≤◌, ℤ, true, List, [], ◌∷◌, ◌++◌, length, map, Some, slice_get}
 use Rattle.std.specs.List.{range_with_len}
 use Rattle.cal_model.specs.Actor.{Action, Actor}
 use Rattle.cal_model.specs.ActorState.{IsActorState, AreTokensOf}
@@ -17,11 +17,13 @@ use Rattle.action_lower.specs.FiringCode.{Fires, first_on}
 use Rattle.action_lower.specs.GuardWords.{AnswerAsGuards}
 use Rattle.action_lower.specs.Seats.{HoldVars}
 use Rattle.actor_tables.specs.Tables.{AreRatesOf}
+use Rattle.actor_lower.specs.Fitting.{AreBodies}
 
--- a draft begins with all that there was before, and has as many cells or more
+-- a draft begins with all that there was before, has the same routines, and has as many cells or more
 pub record IsMore (old new : Draft) : Type 0 where
   pub code : List Instr
   pub is : new.instrs.items ≡ old.instrs.items ++ code
+  pub routines : new.routines.items ≡ old.routines.items
   pub cells : old.cells ≤ new.cells
 
 -- Whatever is written behind the draft, a run from this entry does what the firing of an action does: in each state of
@@ -63,3 +65,26 @@ pub record IsCodeOf (draft : Draft) (code : Code) : Type 0 where
 pub record IsMadeOf (parts : Parts) (l : coded.Actor) : Type 0 where
   pub same : l ≡ coded.actor_of parts
   pub facts : IsLowered l
+
+-- ---- bodies
+
+-- the entries of an action, in the order in which its bodies stand
+abbrev pub entries_of : ActionCode → List ℕ
+entries_of coded = coded.guards.items ++ coded.fire ∷ []
+
+abbrev pub all_entries : List ActionCode → List ℕ
+all_entries [] = []
+all_entries (coded ∷ actions) = entries_of coded ++ all_entries actions
+
+-- Bodies with these entries were added to a draft: whatever is written behind, if bodies stand there, these stand before
+-- them.
+abbrev pub AddsBodies : List ℕ → Draft → Draft → Type 0
+AddsBodies entries old new = (whole : Code) (more : List Instr) (rest : List ℕ)
+    → whole.instrs ≡ new.instrs.items ++ more → new.cells ≤ whole.cells
+    → AreBodies whole (length new.instrs.items) rest
+    → AreBodies whole (length old.instrs.items) (entries ++ rest)
+
+-- the code of a draft is that of the bodies of these actions
+abbrev pub AreBodiesOf : List ActionCode → Draft → Type 0
+AreBodiesOf actions draft = (whole : Code) → whole.instrs ≡ draft.instrs.items
+    → whole.cells ≡ draft.cells → AreBodies whole 0 (all_entries actions)

@@ -1,12 +1,12 @@
 //! The actions of an actor as code.
 
-ghost use Rattle.std.specs.Prelude.{◌≡◌, ◌<◌, ◌≤◌, IfErr, IfOk, None, OnOk, length};
+ghost use Rattle.std.specs.Prelude.{◌≡◌, ◌<◌, ◌≤◌, ◌++◌, ◌∷◌, [], IfErr, IfOk, None, OnOk, length};
 ghost use Rattle.cal_model.specs.Sound.{IsSound};
 ghost use Rattle.cal_model.specs.View.{actor_of};
 ghost use Rattle.action_lower.specs.GuardWords.{AnswerAsGuards};
 ghost use Rattle.action_lower.specs.Seats.{state_cells};
 ghost use Rattle.actor_tables.specs.Tables.{AreRates, AreRatesOf};
-ghost use Rattle.actor_lower.specs.Coded.{AreCodedActions, FiresFrom, IsCodedAction, IsMore};
+ghost use Rattle.actor_lower.specs.Coded.{AddsBodies, AreCodedActions, FiresFrom, IsCodedAction, IsMore, all_entries, entries_of};
 ghost use Rattle.actor_lower.specs.Faults.{AreWhole, IsActorFault, IsWhyAction, left_out_at};
 
 use crate::fault::ActorFault;
@@ -39,6 +39,9 @@ pub(crate) fn lower_actions(
     requires rates { AreRates (actor_of b.now) (length b.now.actions.items) rates.now }
     ensures coded { IfOk result (λ actions. AreCodedActions (actor_of b.now)
         (length b.now.actions.items) actions.items draft.new) }
+    ensures bodies { IfOk result
+        (λ actions. AddsBodies (all_entries actions.items) draft.old draft.new) }
+    ensures more { OnOk result (IsMore draft.old draft.new) }
     ensures whole { OnOk result (AreWhole b.now (length b.now.actions.items)) }
     ensures fault { IfErr result (IsActorFault b.now) }
 {
@@ -63,6 +66,7 @@ fn lower_action(
     requires cells { state_cells (actor_of b.now) ≤ draft.old.cells }
     requires rates { AreRatesOf (actor_of b.now) action rates.now.needs.items rates.now.gives.items }
     ensures coded { IfOk result (λ coded. IsCodedAction (actor_of b.now) action coded draft.new) }
+    ensures bodies { IfOk result (λ coded. AddsBodies (entries_of coded) draft.old draft.new) }
     ensures more { OnOk result (IsMore draft.old draft.new) }
     ensures whole { OnOk result (left_out_at b.now action ≡ None) }
     ensures fault { IfErr result (IsWhyAction b.now action) }
@@ -91,6 +95,8 @@ fn lower_entries(
     requires cells { state_cells (actor_of b.now) ≤ draft.old.cells }
     ensures guards { IfOk result
         (λ entries. AnswerAsGuards (actor_of b.now) action entries.guards.items draft.new) }
+    ensures bodies { IfOk result (λ entries.
+        AddsBodies (entries.guards.items ++ entries.fire ∷ []) draft.old draft.new) }
     ensures fires { IfOk result (λ entries. FiresFrom (actor_of b.now) action entries.fire
         entries.firsts.items draft.new) }
     ensures more { OnOk result (IsMore draft.old draft.new) }
