@@ -1,7 +1,7 @@
 -- The actor that counts is sound.
-use Rattle.std.proofs.Common.{◌≡◌, ℕ, zero, suc, ◌<◌, ◌≤◌, Bool, true, false, List, [], ◌∷◌, codes, length, refl, sym, ap, subst, ◌∙◌, arith, None, Some}
+use Rattle.std.proofs.Common.{◌≡◌, ℕ, zero, suc, ◌<◌, ◌≤◌, Bool, true, false, List, [], ◌∷◌, codes, length, refl, ap, ◌∙◌, arith, None, Some}
 use Rattle.std.proofs.lemmas.Int.{ints}
-use Rattle.std.specs.Prelude.{Contains, slice_get, if◌then◌else◌, ◌==◌}
+use Rattle.std.specs.Prelude.{Contains, slice_get, slice_index_or, if◌then◌else◌, ◌==◌}
 use Rattle.rvc_base.specs.Chain.{ChainLeads}
 use Rattle.cal_model.specs.Actor.{Action}
 use Rattle.cal_model.specs.Rates.{need, give}
@@ -20,7 +20,7 @@ apart : ¬ Contains (codes "Out" ∷ []) (codes "In")
 apart c = let same : codes "Out" ≡ codes "In" = in-one (codes "In") (codes "Out") c in let sizes = ap length same in omega arith
 
 differ : ¬ Contains (codes "k" ∷ []) (codes "x")
-differ c = let same : codes "k" ≡ codes "x" = in-one (codes "x") (codes "k") c in absurd (cc)
+differ c = let same : codes "k" ≡ codes "x" = in-one (codes "x") (codes "k") c in let heads : 107 ≡ 120 = ap (λ s. slice_index_or s 0 0) same in omega (arith, heads)
 
 no-chain : (a b : ℕ) (through : List ℕ) → ChainLeads [] a through b → ⊥
 no-chain a b [] h = nothing-in (a, b) h
@@ -47,9 +47,9 @@ is-action = record {
   patterns = (record { port = omega arith; repeat = tt }, tt);
   ports_in = (nothing-in 0, tt);
   ports_out = (nothing-in 0, tt);
-  distinct = (differ, nothing-in (codes "k"), tt);
-  guards = ((refl, tt, tt), tt);
-  locals = ((omega arith, omega arith), (refl, tt, tt), tt);
+  distinct = (differ, (nothing-in (codes "k"), tt));
+  guards = ((refl, (tt, tt)), tt);
+  locals = ((omega arith, omega arith), (refl, (tt, tt)), tt);
   body = ((refl, (([], NumKind, refl, refl, record { meant = _; is_meant = refl; changes = refl; inside = refl }), tt)), tt);
   plain = (((tt, tt), ((tt, (tt, tt)), tt)), tt);
   outputs = (record { port = omega arith; repeat = tt; found = NumKind ∷ []; kinds = refl; each = (refl, tt); plain = ((tt, tt), tt) }, tt);
@@ -59,8 +59,8 @@ is-action = record {
 
 pub count-is-sound : IsSound count
 count-is-sound = record {
-  ports = (apart, nothing-in (codes "Out"), tt);
-  port_sizes = ((omega arith, omega arith), (omega arith, omega arith), tt);
+  ports = (apart, (nothing-in (codes "Out"), tt));
+  port_sizes = ((omega arith, omega arith), ((omega arith, omega arith), tt));
   distinct = (nothing-in (codes "n"), tt);
   vars = (((omega arith, omega arith), omega (arith, ints)), tt);
   funs = tt;

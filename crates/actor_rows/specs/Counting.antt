@@ -6,7 +6,7 @@ use Rattle.cal_ast.specs.declared.expr.BinOp.TheVariants.{Add, Lt}
 use Rattle.cal_ast.specs.Tree as tree
 use Rattle.cal_ast.specs.Tree.{Tree, listed}
 use Rattle.cal_model.specs.Value.{Single, Num}
-use Rattle.cal_model.specs.Actor.{Port, Held, Local, Pattern, Output, Action, Actor}
+use Rattle.cal_model.specs.Actor.{Port, Held, Local, Action, Actor}
 
 abbrev pub named : List ℕ → Tree
 named text = tree.variable text 0
