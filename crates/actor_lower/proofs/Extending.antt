@@ -1,0 +1,80 @@
+-- Code that stands in a draft stands there still once more is written behind it.
+use Rattle.std.proofs.Common.{◌≡◌, ℕ, ◌≤◌, List, ◌++◌, length, sym, ap, subst, ◌∙◌, Some, arith, append_assoc}
+use Rattle.std.specs.Prelude.{slice_get}
+use Rattle.cal_model.specs.Actor.{Action, Actor}
+use Rattle.code_ir.specs.declared.instr.Instr.{Instr}
+use Rattle.expr_lower.specs.declared.draft.Draft.{Draft}
+use Rattle.expr_lower.specs.Placed.{StandsAt}
+use Rattle.lowered_actor.specs.declared.parts.ActionCode.{ActionCode}
+use Rattle.stmt_lower.specs.Procedures.{Routines, no_routines}
+use Rattle.action_lower.specs.FiringCode.{Fires}
+use Rattle.action_lower.specs.FiringWords.{AddsFired, AddsFiring}
+use Rattle.action_lower.specs.Guarding.{AreGuards, guard_more, no_guard}
+use Rattle.action_lower.specs.GuardWords.{AddsGuards, AnswerAsGuards}
+use Rattle.action_lower.specs.Seats.{state_cells}
+use Rattle.action_lower.proofs.Answering.{stands-in}
+use Rattle.action_lower.proofs.LocalRuns.{started_grows}
+use Rattle.action_lower.proofs.Storing.{outputs-grow}
+use Rattle.cal_ast.specs.Tree.{Tree}
+use Rattle.expr_lower.specs.Names.{Name}
+use Rattle.actor_lower.specs.Coded.{FiresFrom, IsCodedAction, IsMore}
+
+-- ---- drafts
+
+pub more-again : (one two three : Draft) → IsMore one two → IsMore two three → IsMore one three
+more-again one two three f g = record {
+  code = f.code ++ g.code;
+  is = g.is ∙ ap (λ is. is ++ g.code) f.is ∙ append_assoc one.instrs.items f.code g.code;
+  routines = g.routines ∙ f.routines;
+  cells = let le = f.cells in let ge = g.cells in omega (arith, le, ge);
+}
+
+pub guards-grow : {names : List Name} {gs : List Tree} {es : List ℕ} {base n m : ℕ} {code : List Instr} → AreGuards names gs es base n code m → n ≤ m
+guards-grow (no_guard base n) = omega arith
+guards-grow (guard_more g gs es base n k m a b first rest) = let le = first.lowered.cells in let ge = guards-grow rest in omega (arith, le, ge)
+
+pub guards-added : (actor : Actor) (a : ℕ) (act : Action) (es : List ℕ) (old new : Draft) → slice_get actor.actions a ≡ Some act → AddsGuards actor a es old new → IsMore old new
+guards-added actor a act es old new is added =
+    let one = added act is in
+    record { code = one.code; is = one.is; routines = one.routines; cells = guards-grow one.has }
+
+pub firing-added : (rs : Routines) (actor : Actor) (a : ℕ) (act : Action) (entry : ℕ) (firsts : List ℕ) (old new : Draft) → slice_get actor.actions a ≡ Some act → AddsFiring rs actor a entry firsts old new → IsMore old new
+firing-added rs actor a act entry firsts old new is added =
+    let one = added.1 act is in
+    let locals = started_grows rs one.has.locals in
+    let body = one.has.body.cells in
+    let outputs = outputs-grow one.has.outputs in
+    record { code = one.code; is = one.is; routines = one.routines; cells = omega (arith, locals, body, outputs) }
+
+-- ---- actions
+
+pub guards-more : (actor : Actor) (a : ℕ) (es : List ℕ) (old new : Draft) → IsMore old new → AnswerAsGuards actor a es old → AnswerAsGuards actor a es new
+guards-more actor a es old new grown h act code more is whole =
+    h act code (grown.code ++ more) is (whole ∙ ap (λ is. is ++ more) grown.is ∙ append_assoc old.instrs.items grown.code more)
+
+pub fires-more : (actor : Actor) (a entry : ℕ) (firsts : List ℕ) (old new : Draft) → IsMore old new → FiresFrom actor a entry firsts old → FiresFrom actor a entry firsts new
+fires-more actor a entry firsts old new grown h act whole more x u cells is all room in_state of_ports may has hold =
+    h act whole (grown.code ++ more) x u cells is (all ∙ ap (λ is. is ++ more) grown.is ∙ append_assoc old.instrs.items grown.code more)
+    (let le = grown.cells in omega (arith, le, room)) in_state of_ports may has hold
+
+pub coded-more : (actor : Actor) (a : ℕ) (coded : ActionCode) (old new : Draft) → IsMore old new → IsCodedAction actor a coded old → IsCodedAction actor a coded new
+coded-more actor a coded old new grown h = record {
+  rates = h.rates;
+  guards = guards-more actor a coded.guards.items old new grown h.guards;
+  firsts = h.firsts;
+  fires = fires-more actor a coded.fire h.firsts old new grown h.fires;
+  sends = h.sends;
+}
+
+-- code of a firing that calls nothing fires from its entry
+pub fires-from : (actor : Actor) (a : ℕ) (firsts : List ℕ) (entry : ℕ) (old new : Draft) → state_cells actor ≤ old.cells → entry ≡ length old.instrs.items → AddsFired no_routines actor a firsts old new
+    → FiresFrom actor a entry firsts new
+fires-from actor a firsts entry old new le at added act whole more x u cells is all room in_state of_ports may has hold =
+    let one = added act is in
+    let placed : whole.instrs ≡ old.instrs.items ++ (one.code ++ more) = all ∙ ap (λ is. is ++ more) one.is ∙ append_assoc old.instrs.items one.code more in
+    let stands : StandsAt whole.instrs (length old.instrs.items) one.code =
+    subst (λ all. StandsAt all (length old.instrs.items) one.code) (sym placed) (stands-in old.instrs.items one.code more) in
+    subst (λ e. Fires actor a act firsts whole e x u cells) (sym at)
+    (one.has whole (state_cells actor) (state_cells actor) x u cells stands
+    (record { functions = λ text f none. absurd (cc); procedures = λ text p none. absurd (cc) })
+    (omega arith) (omega arith) le room in_state of_ports may has hold)

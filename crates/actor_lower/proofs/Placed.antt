@@ -1,0 +1,91 @@
+-- Actions of a `Bound` at a place, and what is added to a draft for them.
+use Rattle.std.proofs.Common.{◌≡◌, ℕ, zero, suc, ◌+◌, ◌<◌, ◌≤◌, ◌⊎◌, inl, inr, List, [], ◌∷◌, ◌++◌, map, length, refl, sym, ap, subst, ◌∙◌, None, Some, arith, ⊎_elim}
+use Rattle.std.specs.Prelude.{slice_get, slice_index_or}
+use Rattle.std.specs.List.{range_with_len}
+use Rattle.std.proofs.lemmas.Bool.{cases_lt}
+use Rattle.std.proofs.lemmas.List.{append-nil, length-append, length-map}
+use Rattle.cal_model.specs.declared.bound.Bound.{Bound}
+use Rattle.cal_model.specs.declared.bound.BoundAction.{BoundAction}
+use Rattle.cal_model.specs.declared.bound.BoundOutput.{BoundOutput}
+use Rattle.cal_model.specs.Actor.{Action, Actor}
+use Rattle.cal_model.specs.View.{action_view, actor_of, output_view, port_view}
+use Rattle.lowered_actor.specs.declared.parts.ActionCode.{ActionCode}
+use Rattle.expr_lower.specs.declared.draft.Draft.{Draft}
+use Rattle.stmt_lower.specs.Procedures.{no_routines}
+use Rattle.action_lower.specs.FiringWords.{AddsFiring}
+use Rattle.action_lower.specs.GuardWords.{AddsGuards}
+use Rattle.action_lower.specs.FiringCode.{first_on}
+use Rattle.action_lower.proofs.ActionAt.{at-place}
+use Rattle.actor_lower.specs.Coded.{AddsBodies, AreCodedActions, AreSends, IsCodedAction, IsMore}
+use Rattle.actor_lower.specs.Faults.{AreWhole, left_out_at}
+use Rattle.actor_lower.proofs.Extending.{coded-more, firing-added, guards-added}
+use Rattle.actor_lower.proofs.Rowed.{action-bodies}
+use Rattle.action_lower.specs.Seats.{state_cells}
+use Rattle.cal_model.specs.Sound.{IsSound}
+
+pub there : {A : Type 0} (xs : List A) (k : ℕ) → k < length xs → (x : A) × (slice_get xs k ≡ Some x)
+there [] k h = absurd (omega arith)
+there (x ∷ xs) zero h = (x, refl)
+there (x ∷ xs) (suc k) h = there xs k (omega arith)
+
+module _ (b : Bound) (a : ℕ) (low : a < length b.actions.items) where
+  action-there : (act : Action) × (slice_get (actor_of b).actions a ≡ Some act)
+  action-there = there (actor_of b).actions a (let e = length-map b.actions.items action_view in omega (arith, low, e))
+
+  pub guards-grown : (es : List ℕ) (old new : Draft) → AddsGuards (actor_of b) a es old new → IsMore old new
+  guards-grown es old new added = guards-added (actor_of b) a action-there.0 es old new action-there.1 added
+
+  pub firing-grown : (entry : ℕ) (firsts : List ℕ) (old new : Draft) → AddsFiring no_routines (actor_of b) a entry firsts old new → IsMore old new
+  firing-grown entry firsts old new added = firing-added no_routines (actor_of b) a action-there.0 entry firsts old new action-there.1 added
+
+  pub bodies-grown : (es : List ℕ) (entry : ℕ) (firsts : List ℕ) (old mid new : Draft) → IsSound (actor_of b) → state_cells (actor_of b) ≤ mid.cells → AddsGuards (actor_of b) a es old mid
+      → AddsFiring no_routines (actor_of b) a entry firsts mid new → AddsBodies (es ++ entry ∷ []) old new
+  bodies-grown es entry firsts old mid new sound le guards firing =
+      action-bodies (actor_of b) a action-there.0 es entry firsts old mid new sound le action-there.1 (firing-grown entry firsts mid new firing) guards firing
+
+-- where the outputs of an action are sent from
+pub sends-are : (b : Bound) (a n : ℕ) (act : BoundAction) (same : n ≡ a) (there : a < length b.actions.items) (is : act ≡ slice_index_or b.actions.items n act)
+    (outs : List BoundOutput) (firsts cells sends : List ℕ) (ports : ℕ) → outs ≡ act.outputs.items → cells ≡ firsts → ports ≡ length b.outs.items
+    → sends ≡ map (first_on (map output_view outs) cells) (range_with_len 0 ports) → AreSends (actor_of b) a firsts sends
+sends-are b a n act same low is outs firsts cells sends ports o f p e other at =
+    let found = at-place b a n act same low is in
+    let one : action_view act ≡ other = cc in
+    let count : ports ≡ length (map port_view b.outs.items) = p ∙ sym (length-map b.outs.items port_view) in
+    e ∙ ap (λ os. map (first_on (map output_view os) cells) (range_with_len 0 ports)) o
+    ∙ ap (λ cs. map (first_on (map output_view act.outputs.items) cs) (range_with_len 0 ports)) f
+    ∙ ap (λ k. map (first_on (map output_view act.outputs.items) firsts) (range_with_len 0 k)) count
+    ∙ ap (λ x. map (first_on x.outputs firsts) (range_with_len 0 (length (map port_view b.outs.items)))) one
+
+-- ---- one action more
+
+last-or-before : {A : Type 0} (xs : List A) (y : A) (k : ℕ) (x : A) → slice_get (xs ++ y ∷ []) k ≡ Some x → (slice_get xs k ≡ Some x) ⊎ ((k ≡ length xs) × (y ≡ x))
+last-or-before [] y zero x e = inr (refl, cc)
+last-or-before [] y (suc k) x e = absurd (cc)
+last-or-before (z ∷ xs) y zero x e = inl e
+last-or-before (z ∷ xs) y (suc k) x e =
+    ⊎_elim (λ h. inl h) (λ (h : (k ≡ length xs) × (y ≡ x)). inr ((let s = h.0 in omega (arith, s)), h.1)) (last-or-before xs y k x e)
+
+pub more-coded : (actor : Actor) (n : ℕ) (actions now : List ActionCode) (coded : ActionCode) (old new : Draft) → AreCodedActions actor n actions old → IsMore old new → IsCodedAction actor n coded new
+    → now ≡ actions ++ coded ∷ [] → AreCodedActions actor (n + 1) now new
+more-coded actor n actions now coded old new are grown one is = record {
+  count = let e = ap length is in let f = length-append actions (coded ∷ []) in let g = are.count in omega (arith, e, f, g);
+  each = λ a x e.
+      ⊎_elim
+      (λ (h : slice_get actions a ≡ Some x). coded-more actor a x old new grown (are.each a x h))
+      (λ (h : (a ≡ length actions) × (coded ≡ x)).
+      subst (λ k. IsCodedAction actor k x new) (sym are.count ∙ sym h.0) (subst (λ y. IsCodedAction actor n y new) h.1 one))
+      (last-or-before actions coded a x (ap (λ xs. slice_get xs a) (sym is) ∙ e));
+}
+
+pub whole-more : (b : Bound) (n : ℕ) → AreWhole b n → left_out_at b n ≡ None → AreWhole b (n + 1)
+whole-more b n whole here a low =
+    ⊎_elim
+    (λ (less : a < n). whole a less)
+    (λ (past : n ≤ a). let same : n ≡ a = omega (arith, low, past) in subst (λ k. left_out_at b k ≡ None) same here)
+    (cases_lt a n)
+
+pub no-actions : (actor : Actor) (draft : Draft) → AreCodedActions actor 0 [] draft
+no-actions actor draft = record { count = refl; each = λ a x e. absurd (cc) }
+
+pub no-more : (draft : Draft) → IsMore draft draft
+no-more draft = record { code = []; is = sym (append-nil draft.instrs.items); routines = refl; cells = omega arith }

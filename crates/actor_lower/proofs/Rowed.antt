@@ -1,0 +1,177 @@
+-- The code of actions is a row of bodies.
+use Rattle.std.proofs.Common.{◌≡◌, ℕ, zero, suc, ◌+◌, ◌<◌, ◌≤◌, ⊎_elim, Bool, true, false, List, [], ◌∷◌, ◌++◌, length, take, refl, sym, ap, subst, ◌∙◌, Some, arith, append_assoc, length-append}
+use Rattle.std.specs.Prelude.{slice_get, ◌==◌, ◌||◌}
+use Rattle.std.proofs.lemmas.Bool.{eq-eqb, eqb-true}
+use Rattle.std.proofs.lemmas.List.{append-nil}
+use Rattle.rvc_base.specs.Storing.{IsSize}
+use Rattle.cal_ast.specs.Tree.{Tree}
+use Rattle.cal_model.specs.Actor.{Action, Actor, Port}
+use Rattle.cal_model.specs.Selection.{kind_of_port}
+use Rattle.cal_model.specs.Sound.{Each, IsAction, IsSound, names_of, with_patterns}
+use Rattle.cal_model.proofs.KeptByFirings.{action-at}
+use Rattle.code_ir.specs.declared.instr.Instr.{Instr}
+use Rattle.code_ir.specs.declared.instr.Instr.TheVariants as op
+use Rattle.code_ir.specs.declared.admitted.CodeFault.TheVariants.{Bad}
+use Rattle.code_ir.specs.Code.{Code, begins, is_among}
+use Rattle.code_ir.specs.Typing.{AreDistinct, IsAdmitted, IsCause, IsFirstWrong}
+use Rattle.expr_lower.specs.declared.draft.Draft.{Draft}
+use Rattle.expr_lower.specs.Held.{AreBelow}
+use Rattle.expr_lower.specs.Names.{Name}
+use Rattle.expr_lower.specs.Placed.{StandsAt}
+use Rattle.expr_lower.specs.Routining.{LocalsSized}
+use Rattle.expr_lower.proofs.Runs.{stands_left, stands_right}
+use Rattle.stmt_lower.specs.Calls.{HasRunRoutines}
+use Rattle.stmt_lower.specs.Procedures.{no_routines}
+use Rattle.lowered_actor.specs.declared.parts.ActionCode.{ActionCode}
+use Rattle.action_lower.specs.FiringCode.{IsFiringCode}
+use Rattle.action_lower.specs.FiringWords.{AddsFiring}
+use Rattle.action_lower.specs.Guarding.{AreGuards, guard_more, no_guard}
+use Rattle.action_lower.specs.GuardWords.{AddsGuards}
+use Rattle.action_lower.specs.Seats.{state_cells}
+use Rattle.action_lower.proofs.Answering.{stands-in}
+use Rattle.action_lower.proofs.BelowState.{seen-below}
+use Rattle.action_lower.proofs.FiringRuns.{locals-sized}
+use Rattle.action_lower.proofs.Holding.{size-at}
+use Rattle.actor_lower.specs.Coded.{AddsBodies, AreBodiesOf, IsMore, all_entries, entries_of}
+use Rattle.actor_lower.specs.Fitting.{AreBodies, FitsAsFiring, body_more, no_body}
+use Rattle.actor_lower.proofs.Extending.{guards-grow}
+use Rattle.actor_lower.proofs.FiringFits.{firing-fits, fits-more}
+
+-- ---- guards and firings
+
+guards-rows : {names : List Name} {gs : List Tree} {es : List ℕ} {base n m : ℕ} {part : List Instr} → AreGuards names gs es base n part m → (whole : Code) → StandsAt whole.instrs base part → m ≤ whole.cells
+    → (rest : List ℕ) → AreBodies whole (base + length part) rest → AreBodies whole base (es ++ rest)
+guards-rows (no_guard base n) whole stands le rest rows = let none : base + 0 ≡ base = omega arith in subst (λ p. AreBodies whole p rest) none rows
+guards-rows (guard_more g gs es base n k m a b first others) whole stands le rest rows =
+    let more = guards-grow others in
+    let here : StandsAt whole.instrs base (first.body ++ op.Answer ∷ []) = subst (StandsAt whole.instrs base) first.is (stands_left whole.instrs base a b stands) in
+    let size : length a ≡ length first.body + 1 = ap length first.is ∙ length-append first.body (op.Answer ∷ []) in
+    let split : base + length (a ++ b) ≡ base + length a + length b = let s = length-append a b in omega (arith, s) in
+    let later : AreBodies whole (base + length a) (es ++ rest) =
+    guards-rows others whole (stands_right whole.instrs base a b stands) le rest (subst (λ p. AreBodies whole p rest) split rows) in
+    let next : base + length a ≡ base + length first.body + 1 = omega (arith, size) in
+    body_more base (base + length first.body) (es ++ rest) (record {
+      instrs = first.body;
+      left = 1;
+      last = op.Answer;
+      at_end = refl;
+      stands = stands_left whole.instrs base first.body (op.Answer ∷ []) here;
+      fits = fits-more whole 0 k whole.cells base 0 first.body 1 (base + length first.body) 1 (omega (arith, more, le)) (first.lowered.fits whole 0 0);
+      ends = (stands_right whole.instrs base first.body (op.Answer ∷ []) here).0;
+      is_end = refl;
+    }) (subst (λ p. AreBodies whole p (es ++ rest)) next later)
+
+none-there : (whole : Code) (n : ℕ) → HasRunRoutines whole 0 n no_routines
+none-there whole n = record { functions = λ text f e. absurd (cc); procedures = λ text p e. absurd (cc) }
+
+firing-rows : {names : List Name} {ports : List Port} {act : Action} {firsts : List ℕ} {base n m : ℕ} {code : List Instr} → IsFiringCode no_routines names ports act firsts base n code m → AreBelow n names → LocalsSized act.locals
+    → ((port : ℕ) → IsSize (kind_of_port ports port)) → (whole : Code) → StandsAt whole.instrs base code → m ≤ whole.cells → (rest : List ℕ) → AreBodies whole (base + length code) rest → AreBodies whole base (base ∷ rest)
+firing-rows {names} {ports} {act} {firsts} {base} {n} {m} {code} is below sized kinds whole stands le rest rows =
+    let fit : FitsAsFiring whole 0 whole.cells base code = firing-fits whole 0 whole.cells no_routines names ports act firsts base n m code (none-there whole n) below sized kinds le stands is in
+    let here : StandsAt whole.instrs base (fit.body ++ op.Done ∷ []) = subst (StandsAt whole.instrs base) fit.is stands in
+    let size : length code ≡ length fit.body + 1 = ap length fit.is ∙ length-append fit.body (op.Done ∷ []) in
+    let next : base + length code ≡ base + length fit.body + 1 = omega (arith, size) in
+    body_more base (base + length fit.body) rest (record {
+      instrs = fit.body;
+      left = 0;
+      last = op.Done;
+      at_end = refl;
+      stands = stands_left whole.instrs base fit.body (op.Done ∷ []) here;
+      fits = fit.fits;
+      ends = (stands_right whole.instrs base fit.body (op.Done ∷ []) here).0;
+      is_end = refl;
+    }) (subst (λ p. AreBodies whole p rest) next rows)
+
+-- ---- in a draft
+
+stood-in : (whole : Code) (old new code more : List Instr) → new ≡ old ++ code → whole.instrs ≡ new ++ more → StandsAt whole.instrs (length old) code
+stood-in whole old new code more is all =
+    let placed : whole.instrs ≡ old ++ (code ++ more) = all ∙ ap (λ xs. xs ++ more) is ∙ append_assoc old code more in
+    subst (λ xs. StandsAt xs (length old) code) (sym placed) (stands-in old code more)
+
+guards-bodies : (actor : Actor) (a : ℕ) (act : Action) (es : List ℕ) (old new : Draft) → slice_get actor.actions a ≡ Some act → AddsGuards actor a es old new → AddsBodies es old new
+guards-bodies actor a act es old new e added whole more rest is room rows =
+    let one = added act e in
+    let size : length new.instrs.items ≡ length old.instrs.items + length one.code = ap length one.is ∙ length-append old.instrs.items one.code in
+    guards-rows one.has whole (stood-in whole old.instrs.items new.instrs.items one.code more one.is is) room rest (subst (λ k. AreBodies whole k rest) size rows)
+
+second-sized : (ps qs : List Port) → Each (λ p. IsSize p.kind) (ps ++ qs) → Each (λ p. IsSize p.kind) qs
+second-sized [] qs h = h
+second-sized (p ∷ ps) qs h = second-sized ps qs h.1
+
+firing-bodies : (actor : Actor) (a : ℕ) (act : Action) (entry : ℕ) (firsts : List ℕ) (old new : Draft) → IsSound actor → state_cells actor ≤ old.cells → slice_get actor.actions a ≡ Some act
+    → AddsFiring no_routines actor a entry firsts old new → AddsBodies (entry ∷ []) old new
+firing-bodies actor a act entry firsts old new sound le e added whole more rest is room rows =
+    let one = added.1 act e in
+    let size : length new.instrs.items ≡ length old.instrs.items + length one.code = ap length one.is ∙ length-append old.instrs.items one.code in
+    let is_action : IsAction actor act = action-at actor actor.actions a act sound.actions e in
+    let sized : LocalsSized act.locals = locals-sized act.locals (with_patterns actor act.patterns (names_of actor)) is_action.locals in
+    let made : AreBodies whole (length old.instrs.items) (length old.instrs.items ∷ rest) =
+    firing-rows one.has (seen-below old.cells actor act le) sized (λ port. size-at actor.outs port (second-sized actor.ins actor.outs sound.port_sizes)) whole
+    (stood-in whole old.instrs.items new.instrs.items one.code more one.is is) room rest (subst (λ k. AreBodies whole k rest) size rows) in
+    subst (λ k. AreBodies whole (length old.instrs.items) (k ∷ rest)) (sym added.0) made
+
+pub bodies-join : (es fs : List ℕ) (one two three : Draft) → IsMore two three → AddsBodies es one two → AddsBodies fs two three → AddsBodies (es ++ fs) one three
+bodies-join es fs one two three grown f g whole more rest is room rows =
+    subst (AreBodies whole (length one.instrs.items)) (sym (append_assoc es fs rest))
+    (f whole (grown.code ++ more) (fs ++ rest) (is ∙ ap (λ xs. xs ++ more) grown.is ∙ append_assoc two.instrs.items grown.code more) (let le = grown.cells in omega (arith, le, room)) (g whole more rest is room rows))
+
+-- those of one action
+pub action-bodies : (actor : Actor) (a : ℕ) (act : Action) (es : List ℕ) (entry : ℕ) (firsts : List ℕ) (old mid new : Draft) → IsSound actor → state_cells actor ≤ mid.cells → slice_get actor.actions a ≡ Some act → IsMore mid new
+    → AddsGuards actor a es old mid → AddsFiring no_routines actor a entry firsts mid new → AddsBodies (es ++ entry ∷ []) old new
+action-bodies actor a act es entry firsts old mid new sound le e grown guards firing =
+    bodies-join es (entry ∷ []) old mid new grown (guards-bodies actor a act es old mid e guards) (firing-bodies actor a act entry firsts mid new sound le e firing)
+
+-- ---- all actions
+
+pub all-more : (xs : List ActionCode) (x : ActionCode) → all_entries (xs ++ x ∷ []) ≡ all_entries xs ++ entries_of x
+all-more [] x = append-nil (entries_of x)
+all-more (y ∷ xs) x = ap (λ es. entries_of y ++ es) (all-more xs x) ∙ sym (append_assoc (entries_of y) (all_entries xs) (entries_of x))
+
+pub actions-bodies : (xs now : List ActionCode) (x : ActionCode) (one two three : Draft) → now ≡ xs ++ x ∷ [] → IsMore two three → AddsBodies (all_entries xs) one two → AddsBodies (entries_of x) two three → AddsBodies (all_entries now) one three
+actions-bodies xs now x one two three is grown f g =
+    subst (λ es. AddsBodies es one three) (sym (ap all_entries is ∙ all-more xs x)) (bodies-join (all_entries xs) (entries_of x) one two three grown f g)
+
+pub bodies-of : (xs : List ActionCode) (old new : Draft) → old.instrs.items ≡ [] → AddsBodies (all_entries xs) old new → AreBodiesOf xs new
+bodies-of xs old new empty added whole is cells =
+    let all : whole.instrs ≡ new.instrs.items ++ [] = is ∙ sym (append-nil new.instrs.items) in
+    let rows : AreBodies whole (length old.instrs.items) (all_entries xs ++ []) = added whole [] [] all (omega (arith, cells)) (no_body (length new.instrs.items) (sym (ap length is))) in
+    subst (λ es. AreBodies whole 0 es) (append-nil (all_entries xs)) (subst (λ zs. AreBodies whole (length zs) (all_entries xs ++ [])) empty rows)
+
+-- ---- admitted code isn't bad
+
+distinct-at : (size : ℕ) (places : List ℕ) (k at : ℕ) → AreDistinct size places → slice_get places k ≡ Some at → (at < size) × (is_among at (take k places) ≡ false)
+distinct-at size [] k at h e = absurd (cc)
+distinct-at size (place ∷ places) zero at h e = let same : place ≡ at = cc in (subst (λ p. p < size) same h.0, refl)
+distinct-at size (place ∷ places) (suc k) at h e =
+    let one = distinct-at size places k at h.2 e in
+    (one.0, by (place == at) refl one.1)
+  where
+    among : (ps : List ℕ) (j p : ℕ) → slice_get ps j ≡ Some p → is_among p ps ≡ false → ⊥
+    among [] j p f g = absurd (cc)
+    among (q ∷ ps) zero p f g =
+        let same : q ≡ p = cc in
+        let yes : is_among p (q ∷ ps) ≡ true = ap (λ b. b || is_among p ps) (eq-eqb q p same) in
+        let no : true ≡ false = sym yes ∙ g in
+        absurd (cc)
+    among (q ∷ ps) (suc j) p f g = among ps j p f (later (q == p) (is_among p ps) g)
+      where
+        later : (a b : Bool) → (a || b) ≡ false → b ≡ false
+        later true b h = absurd (cc)
+        later false b h = h
+
+    by : (b : Bool) → (place == at) ≡ b → is_among at (take k places) ≡ false → (b || is_among at (take k places)) ≡ false
+    by true f more = absurd (among places k at e (subst (λ p. is_among p places ≡ false) (eqb-true place at f) h.1))
+    by false f more = more
+
+pub never-bad : (code : Code) (at : ℕ) → IsAdmitted code → IsCause code (Bad at) → ⊥
+never-bad code at admitted cause =
+    ⊎_elim
+    (λ place. ⊎_elim
+    (λ (wrong : IsFirstWrong (length code.instrs) (begins code) at).
+    let one = distinct-at (length code.instrs) (begins code) wrong.index at admitted.places.distinct wrong.is in
+    ⊎_elim (λ (far : length code.instrs ≤ at). let low = one.0 in omega (arith, far, low)) (λ (twice : is_among at (take wrong.index (begins code)) ≡ true). let no : true ≡ false = sym twice ∙ one.1 in absurd (cc)) wrong.wrong)
+    (λ (none : AreDistinct (length code.instrs) (begins code) × (0 < length code.instrs) × (is_among 0 (begins code) ≡ false) × (at ≡ 0)).
+    let no : true ≡ false = sym (admitted.places.first none.1) ∙ none.2 in absurd (cc)) place)
+    (λ instr. instr.1.2 (admitted.typed at instr.1.0 instr.1.1))
+    cause

@@ -1,0 +1,90 @@
+-- Actions whose code stands in a draft.
+-- Not trusted: no promise is read with it.
+use Rattle.std.specs.Prelude.{◌≡◌, ℕ, ◌≤◌, ℤ, true, List, [], ◌∷◌, ◌++◌, length, map, Some, slice_get}
+use Rattle.std.specs.List.{range_with_len}
+use Rattle.cal_model.specs.Actor.{Action, Actor}
+use Rattle.cal_model.specs.ActorState.{IsActorState, AreTokensOf}
+use Rattle.cal_model.specs.Eligible.{eligible}
+use Rattle.cal_model.specs.Selection.{State, has_its_tokens}
+use Rattle.code_ir.specs.declared.instr.Instr.{Instr}
+use Rattle.code_ir.specs.Code.{Code}
+use Rattle.expr_lower.specs.declared.draft.Draft.{Draft}
+use Rattle.lowered_actor.specs.declared.parts.ActionCode.{ActionCode}
+use Rattle.lowered_actor.specs.declared.parts.Parts.{Parts}
+use Rattle.lowered_actor.specs.Actor as coded
+use Rattle.lowered_actor.specs.Facts.{IsLowered}
+use Rattle.action_lower.specs.FiringCode.{Fires, first_on}
+use Rattle.action_lower.specs.GuardWords.{AnswerAsGuards}
+use Rattle.action_lower.specs.Seats.{HoldVars}
+use Rattle.actor_tables.specs.Tables.{AreRatesOf}
+use Rattle.actor_lower.specs.Fitting.{AreBodies}
+
+-- a draft begins with all that there was before, has the same routines, and has as many cells or more
+pub record IsMore (old new : Draft) : Type 0 where
+  pub code : List Instr
+  pub is : new.instrs.items ≡ old.instrs.items ++ code
+  pub routines : new.routines.items ≡ old.routines.items
+  pub cells : old.cells ≤ new.cells
+
+-- Whatever is written behind the draft, a run from this entry does what the firing of an action does: in each state of
+-- the actor in which it is eligible, whose variables the state cells hold, over tokens of its ports.
+abbrev pub FiresFrom : Actor → ℕ → ℕ → List ℕ → Draft → Type 0
+FiresFrom actor a entry firsts draft =
+    (act : Action) (whole : Code) (more : List Instr) (x : State) (u : List (List ℤ)) (cells : List ℤ)
+    → slice_get actor.actions a ≡ Some act → whole.instrs ≡ draft.instrs.items ++ more
+    → draft.cells ≤ length cells
+    → IsActorState actor x → AreTokensOf actor u → eligible actor x.at a ≡ true
+    → has_its_tokens actor u a ≡ true → HoldVars actor x cells
+    → Fires actor a act firsts whole entry x u cells
+
+-- for each output port the first cell of what an action sends there
+abbrev pub AreSends : Actor → ℕ → List ℕ → List ℕ → Type 0
+AreSends actor a firsts sends = (act : Action) → slice_get actor.actions a ≡ Some act
+    → sends ≡ map (first_on act.outputs firsts) (range_with_len 0 (length actor.outs))
+
+-- an action as code has the rates of the action, and its code stands in the draft
+pub record IsCodedAction (actor : Actor) (a : ℕ) (coded : ActionCode) (draft : Draft) : Type 0 where
+  pub rates : AreRatesOf actor a coded.needs.items coded.gives.items
+  pub guards : AnswerAsGuards actor a coded.guards.items draft
+  pub firsts : List ℕ
+  pub fires : FiresFrom actor a coded.fire firsts draft
+  pub sends : AreSends actor a firsts coded.sends.items
+
+-- .. so it is with the first n actions
+pub record AreCodedActions (actor : Actor) (n : ℕ) (actions : List ActionCode) (draft : Draft) : Type 0 where
+  pub count : length actions ≡ n
+  pub each : (a : ℕ) (coded : ActionCode) → slice_get actions a ≡ Some coded
+      → IsCodedAction actor a coded draft
+
+-- code has the instructions and the cells of a draft
+pub record IsCodeOf (draft : Draft) (code : Code) : Type 0 where
+  pub instrs : code.instrs ≡ draft.instrs.items
+  pub cells : code.cells ≡ draft.cells
+
+-- a lowered actor is that of these parts, and keeps the facts
+pub record IsMadeOf (parts : Parts) (l : coded.Actor) : Type 0 where
+  pub same : l ≡ coded.actor_of parts
+  pub facts : IsLowered l
+
+-- ---- bodies
+
+-- the entries of an action, in the order in which its bodies stand
+abbrev pub entries_of : ActionCode → List ℕ
+entries_of coded = coded.guards.items ++ coded.fire ∷ []
+
+abbrev pub all_entries : List ActionCode → List ℕ
+all_entries [] = []
+all_entries (coded ∷ actions) = entries_of coded ++ all_entries actions
+
+-- Bodies with these entries were added to a draft: whatever is written behind, if bodies stand there, these stand before
+-- them.
+abbrev pub AddsBodies : List ℕ → Draft → Draft → Type 0
+AddsBodies entries old new = (whole : Code) (more : List Instr) (rest : List ℕ)
+    → whole.instrs ≡ new.instrs.items ++ more → new.cells ≤ whole.cells
+    → AreBodies whole (length new.instrs.items) rest
+    → AreBodies whole (length old.instrs.items) (entries ++ rest)
+
+-- the code of a draft is that of the bodies of these actions
+abbrev pub AreBodiesOf : List ActionCode → Draft → Type 0
+AreBodiesOf actions draft = (whole : Code) → whole.instrs ≡ draft.instrs.items
+    → whole.cells ≡ draft.cells → AreBodies whole 0 (all_entries actions)

@@ -1,0 +1,4 @@
+pub mod Coded
+pub mod Faults
+pub mod Standing
+pub mod Fitting

@@ -1,0 +1,22 @@
+-- What it means that a lowered actor stands for an actor of the source.
+-- Trusted: part of what a promise means.
+use Rattle.net_model.specs.Alike.{BehaveAlike}
+use Rattle.cal_model.specs.Actor.{Actor}
+use Rattle.cal_model.specs.Firing.{behaviour}
+use Rattle.cal_model.specs.Selection.{Priorities}
+use Rattle.lowered_actor.specs.Actor as coded
+use Rattle.lowered_actor.specs.Meaning as lowered
+use Rattle.action_lower.specs.Seats.{numbers_of_vars}
+use Rattle.actor_tables.specs.Carrying.{BodiesAreAlike, GuardsAreAlike, HasTables, HoldsNumbers, MayCome, StandsFor}
+
+-- A lowered actor stands for an actor: it has its schedule, its priorities, its rates and its state cells, which hold the
+-- numbers of its variables, at first those of the start; its guards say what the actor's say, and its firings leave and
+-- send what the actor's do, or trap as they do, each after as many turns. So it behaves as the actor does.
+pub record StandsForActor (actor : Actor) (l : coded.Actor) : Type 0 where
+  pub tables : HasTables actor l
+  pub numbers : HoldsNumbers actor numbers_of_vars l
+  pub guards : GuardsAreAlike actor numbers_of_vars l
+  pub firings : BodiesAreAlike actor numbers_of_vars l
+  pub alike : (p : Priorities actor)
+      → BehaveAlike (StandsFor actor numbers_of_vars) (MayCome actor) (lowered.behaviour l)
+      (behaviour actor p)

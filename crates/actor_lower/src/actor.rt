@@ -1,0 +1,82 @@
+//! From an actor to a lowered one.
+
+ghost use Rattle.std.specs.Prelude.{IfErr, IfOk, OnOk, length};
+ghost use Rattle.cal_model.specs.Sound.{IsSound};
+ghost use Rattle.cal_model.specs.View.{actor_of};
+ghost use Rattle.actor_lower.specs.Coded.{IsMadeOf};
+ghost use Rattle.actor_lower.specs.Faults.{AreWhole, IsActorFault, IsCodeFault};
+ghost use Rattle.actor_lower.specs.Standing.{StandsForActor};
+
+use crate::actions::lower_actions;
+use crate::code::{admitted, first_numbers};
+use crate::fault::ActorFault;
+use actor_tables::laws::{lowered_actors_behave_as_meant, runs_suffice, tables_are_meant};
+use actor_tables::lower_tables;
+use cal_model::Bound;
+use expr_lower::Draft;
+use kept_facts::keep_facts;
+use lowered_actor::{Lowered, Parts};
+use std::alloc::Global;
+
+/// The lowered actor that stands for a sound actor: it has the actor's schedule, priorities and rates, its state cells
+/// hold the actor's variables from cell 0 on, scalar by scalar, and it behaves as the actor does (`stands_for`).
+///
+/// # Errors
+///
+/// `Memory` if memory runs out. All other answers say what can't be lowered yet (`fault`): `NotLowered` with the offset
+/// of the first part of a guard or a firing for which no code is made, in the first action that has one, as
+/// [`lower_guards`](action_lower::lower_guards) and [`lower_firing`](action_lower::lower_firing) say of actions that
+/// call nothing; `TooLarge` if the code has 2 to the power of 32 instructions or its cells can't be counted; `NotSeen`
+/// if code was made of all parts, but it isn't seen that it keeps the facts of a lowered actor. The code is always
+/// admitted.
+pub fn lower(alloc: Global, b: &Bound) -> Result<Lowered, ActorFault>
+    requires sound { IsSound (actor_of b.now) }
+    ensures stands_for { IfOk result (StandsForActor (actor_of b.now)) }
+    ensures whole { OnOk result (AreWhole b.now (length b.now.actions.items)) }
+    ensures fault { IfErr result (IsActorFault b.now) }
+{
+    // they tell that the tables, the guards and the firings make the behaviour, and what the firings send
+    tables_are_meant();
+    lowered_actors_behave_as_meant();
+    runs_suffice();
+    let tables = lower_tables(alloc, b)?;
+    let mut draft = Draft {
+        instrs: Vec::new(alloc),
+        routines: Vec::new(alloc),
+        cells: tables.kept,
+    };
+    let actions = lower_actions(alloc, b, &tables.rates, &mut draft)?;
+    let code = admitted(alloc, draft, &actions)?;
+    let first = first_numbers(alloc, b, code.cells())?;
+    let parts = Parts {
+        code,
+        fsm: tables.fsm,
+        order: tables.order,
+        actions,
+        first,
+        kept: tables.kept,
+        start: tables.start,
+        saved: tables.saved,
+        ins: tables.ins,
+        outs: tables.outs,
+    };
+    of_parts(alloc, parts)
+}
+
+/// The lowered actor of parts, if they are seen to fit together and to keep the facts.
+fn of_parts(alloc: Global, parts: Parts) -> Result<Lowered, ActorFault>
+    ensures made { IfOk result (IsMadeOf parts) }
+    ensures fault { IfErr result IsCodeFault }
+{
+    if !parts.fit() {
+        return Err(ActorFault::NotSeen);
+    }
+    let keep = keep_facts(alloc, &parts)?;
+    if !keep {
+        return Err(ActorFault::NotSeen);
+    }
+    let lowered = Lowered::new(alloc, parts)?;
+    // it tells that the facts are kept
+    let _code = lowered.code();
+    Ok(lowered)
+}

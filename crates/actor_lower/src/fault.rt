@@ -1,0 +1,68 @@
+//! Why an actor isn't lowered.
+
+use expr_lower::LowerFault;
+use rvc_base::Memory;
+use std::alloc::{AllocError, AllocFailed};
+
+/// Why an actor isn't lowered. All but `Memory` say what the lowering can't do yet.
+#[derive(Clone, Copy, Debug, PartialEq, Eq)]
+pub enum ActorFault {
+    /// An allocation was refused.
+    Memory,
+    /// No code is made for the form of the part at this offset.
+    NotLowered { at: u32 },
+    /// The code has so many instructions or cells that 32 bits don't count them.
+    TooLarge,
+    /// Code was made of all parts, but it isn't seen that they fit together ([`Parts::fit`](lowered_actor::Parts::fit))
+    /// and that the code keeps the facts of a lowered actor ([`keep_facts`](kept_facts::keep_facts)).
+    NotSeen,
+}
+
+impl From<LowerFault> for ActorFault {
+    ghost use Rattle.std.specs.Prelude.{◌≡◌};
+    ghost use Rattle.actor_lower.specs.Faults.{actor_fault};
+
+    ghost from_gives = { λ fault mine. mine ≡ actor_fault fault };
+
+    fn from(fault: LowerFault) -> ActorFault {
+        match fault {
+            LowerFault::Memory => ActorFault::Memory,
+            LowerFault::TooLong => ActorFault::TooLarge,
+            LowerFault::TooManyCells => ActorFault::TooLarge,
+            LowerFault::NotLowered { at } => ActorFault::NotLowered { at },
+        }
+    }
+}
+
+impl From<Memory> for ActorFault {
+    ghost use Rattle.std.specs.Prelude.{◌≡◌};
+    ghost use Rattle.actor_lower.specs.declared.fault.ActorFault.TheVariants as mine;
+
+    ghost from_gives = { λ _ fault. fault ≡ mine.Memory };
+
+    fn from(_refused: Memory) -> ActorFault {
+        ActorFault::Memory
+    }
+}
+
+impl From<AllocError> for ActorFault {
+    ghost use Rattle.std.specs.Prelude.{◌≡◌};
+    ghost use Rattle.actor_lower.specs.declared.fault.ActorFault.TheVariants as mine;
+
+    ghost from_gives = { λ _ fault. fault ≡ mine.Memory };
+
+    fn from(_refused: AllocError) -> ActorFault {
+        ActorFault::Memory
+    }
+}
+
+impl<T: Drop> From<AllocFailed<T>> for ActorFault {
+    ghost use Rattle.std.specs.Prelude.{◌≡◌};
+    ghost use Rattle.actor_lower.specs.declared.fault.ActorFault.TheVariants as mine;
+
+    ghost from_gives = { λ _ fault. fault ≡ mine.Memory };
+
+    fn from(_refused: AllocFailed<T>) -> ActorFault {
+        ActorFault::Memory
+    }
+}

@@ -1,0 +1,16 @@
+//! What holds of the code of actors. Each law is a function that does nothing: its contract is what is proved.
+
+ghost use Rattle.actor_lower.specs.Fitting.{BodiesAreAdmitted, FiringsFit};
+
+/// The code of a firing that [`lower_firing`](action_lower::lower_firing) appends fits where it stands: each
+/// instruction has its operands, jumps inside it, and names cells, routines and types that there are. It leaves no
+/// operand at its end.
+pub fn firings_fit()
+    ensures { FiringsFit }
+{}
+
+/// Code without routines is admitted, and its types have sizes that are allowed, if it is a row of bodies, each from an
+/// entry on, whose instructions fit and which end as guards or firings do.
+pub fn bodies_are_admitted()
+    ensures { BodiesAreAdmitted }
+{}

@@ -1,0 +1,73 @@
+//! The actor that counts, lowered and at work.
+
+use crate::count;
+use actor_cell::Cell;
+use actor_lower::{ActorFault, lower};
+use net_model::{BurstEnd, Firing};
+use rvc_base::{Memory, Num};
+use std::alloc::Global;
+use std::sync::Arc;
+use std::test::Fail;
+
+/// A cell of the actor, with room for 8 tokens and 8 firings; none if the actor isn't lowered.
+fn cell(alloc: Global) -> Result<Option<Cell>, Memory> {
+    let b = count(alloc)?;
+    match lower(alloc, &b) {
+        Ok(lowered) => {
+            let code = Arc::new(alloc, lowered)?;
+            if code.ins() != 1 || code.outs() != 1 {
+                return Ok(None);
+            }
+            Ok(Some(Cell::new(alloc, code, &[8], &[8], 8)?))
+        }
+        Err(ActorFault::Memory) => Err(Memory),
+        Err(_) => Ok(None),
+    }
+}
+
+/// Puts tokens before the cell, lets it fire, and tells how that ends.
+fn burst(cell: &mut Cell, tokens: &[Num]) -> Option<BurstEnd> {
+    for &token in tokens {
+        if cell.actor().ins() == 0 || cell.room_before(0) == 0 {
+            return None;
+        }
+        cell.accept(0, token);
+    }
+    if cell.is_trapped() || !cell.are_rooms(&[8]) || cell.room_in_journal() < 8 {
+        return None;
+    }
+    Some(cell.burst(8, &[8]))
+}
+
+/// Whether these are the tokens that it sent.
+fn sent_are(cell: &Cell, tokens: &[Num]) -> bool {
+    if cell.actor().outs() != 1 || cell.sent(0) as usize != tokens.len() {
+        return false;
+    }
+    for k in 0..cell.sent(0) {
+        if cell.sent_at(0, k) != tokens[k as usize] {
+            return false;
+        }
+    }
+    true
+}
+
+#[test]
+fn counts_up_to_each_token(rt: HostRuntime) -> Result<(), Fail> {
+    let rows: [(&[Num], &[Num]); 3] = [
+        (&[3, 5], &[7, 11]),
+        (&[199, 3], &[143, 203]),
+        (&[200], &[]),
+    ];
+    for (tokens, sent) in rows {
+        let Some(mut cell) = cell(rt.alloc())? else {
+            return Err(Fail::from(Memory));
+        };
+        let end = burst(&mut cell, tokens);
+        assert!(rt;
+            end == Some(BurstEnd::Waits) && sent_are(&cell, sent),
+            "{end:?}"
+        );
+    }
+    Ok(())
+}

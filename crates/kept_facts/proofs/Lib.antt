@@ -1,0 +1,4 @@
+pub mod Alike
+pub mod Facts
+pub mod Looping
+pub mod Whole
