@@ -81,6 +81,14 @@ const REFUSED_NAMES: &[Row] = &[
     (
         &[(
             "T",
+            "<XDF version=\"1\" name=\"T\"><Port kind=\"Input\" name=\"In\"><Type name=\"uint\"><Entry kind=\"Expr\" name=\"size\"> <Expr kind=\"Literal\" literal-kind=\"Integer\" value=\"8\"/></Entry></Type></Port><Decl kind=\"Variable\" name=\"v\"><Type name=\"Foo\"/><Expr kind=\"Literal\" literal-kind=\"Integer\" value=\"1\"/></Decl><!-- c --><Port kind=\"Output\" name=\"Out\"><Type name=\"uint\"><Entry kind=\"Expr\" name=\"size\"><Expr kind=\"Literal\" literal-kind=\"Integer\" value=\"8\"/></Entry></Type></Port>\n</XDF>",
+        )],
+        &[],
+        "S1 1 213",
+    ),
+    (
+        &[(
+            "T",
             "<XDF version=\"1\" name=\"T\"><Port kind=\"Input\" name=\"In\"><Type name=\"uint\"><Entry kind=\"Expr\" name=\"size\"> <Expr kind=\"Literal\" literal-kind=\"Integer\" value=\"8\"/></Entry></Type></Port><Decl kind=\"Variable\" name=\"v\"><Type name=\"int\"/><Expr kind=\"Var\" name=\"nope\"/></Decl><Port kind=\"Output\" name=\"Out\"><Type name=\"uint\"><Entry kind=\"Expr\" name=\"size\"><Expr kind=\"Literal\" literal-kind=\"Integer\" value=\"8\"/></Entry>\t</Type></Port></XDF>",
         )],
         &[],

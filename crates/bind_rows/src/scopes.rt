@@ -127,6 +127,16 @@ const SCOPES: &[Row] = &[
         "T",
         "S1 at 103",
     ),
+    (
+        "<XDF name='T'><Port kind='Input' name='In'><Type name='Int'/></Port></XDF>",
+        "T",
+        "S1 at 43",
+    ),
+    (
+        "<XDF name='T'><Decl kind='Variable' name='v'><Type name='List'><Entry kind='Type' name='type'><Type name='nat'/></Entry><Entry kind='Expr' name='size'><Expr kind='Literal' literal-kind='Integer' value='2'/></Entry></Type><Expr kind='Literal' literal-kind='Integer' value='1'/></Decl></XDF>",
+        "T",
+        "S1 at 94",
+    ),
     // declared later, and types that there are in the language
     (
         "<XDF name='T'><Decl kind='Variable' name='v'><Type name='float'/><Expr kind='Var' name='w'/></Decl><Decl kind='Variable' name='w'><Type name='half'/><Expr kind='Literal' literal-kind='Integer' value='1'/></Decl></XDF>",

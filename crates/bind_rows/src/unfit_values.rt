@@ -34,6 +34,22 @@ const UNKNOWN: &[Row] = &[
         &[],
         "S1 1 92",
     ),
+    (
+        &[(
+            "T",
+            "<XDF name='T'><Decl kind='Variable' name='v'><Type name='nat'/><Expr kind='Literal' literal-kind='Integer' value='1'/></Decl></XDF>",
+        )],
+        &[],
+        "S1 1 45",
+    ),
+    (
+        &[(
+            "T",
+            "<XDF name='T'><Port kind='Input' name='In'><Type name='Bool'/></Port></XDF>",
+        )],
+        &[],
+        "S1 1 43",
+    ),
     // of the network outside
     (
         &[
