@@ -1,11 +1,12 @@
 //! Networks with their actors and links.
 
 use crate::asked::{Row, hold};
+use crate::told::Told;
 use std::test::Fail;
 
 #[test]
 fn levels(rt: HostRuntime) -> Result<(), Fail> {
-    hold(&rt, rt.alloc(), LEVELS)
+    hold(&rt, rt.alloc(), Told::Whole, LEVELS)
 }
 
 /// Networks in networks.
@@ -79,7 +80,7 @@ const LEVELS: &[Row] = &[
 
 #[test]
 fn connections(rt: HostRuntime) -> Result<(), Fail> {
-    hold(&rt, rt.alloc(), CONNECTIONS)
+    hold(&rt, rt.alloc(), Told::Whole, CONNECTIONS)
 }
 
 /// Links and their capacities.
@@ -154,7 +155,7 @@ const CONNECTIONS: &[Row] = &[
 
 #[test]
 fn values(rt: HostRuntime) -> Result<(), Fail> {
-    hold(&rt, rt.alloc(), VALUES)
+    hold(&rt, rt.alloc(), Told::Whole, VALUES)
 }
 
 /// What networks and actors are given.
@@ -236,7 +237,7 @@ const VALUES: &[Row] = &[
 
 #[test]
 fn expressions(rt: HostRuntime) -> Result<(), Fail> {
-    hold(&rt, rt.alloc(), EXPRESSIONS)
+    hold(&rt, rt.alloc(), Told::Whole, EXPRESSIONS)
 }
 
 /// Expressions of parameters and of types.

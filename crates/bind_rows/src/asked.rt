@@ -4,15 +4,15 @@ ghost use Rattle.std.specs.Prelude.{IfOk};
 ghost use Rattle.fnl_tree.specs.Sound.{IsSound};
 ghost use Rattle.fnl_tree.specs.View.{tree_of};
 
-use crate::told::{in_outline, network, refusal};
+use crate::told::{Told, flattened, refusal};
 use flatten_rows::heads_fit;
-use fnl_flatten::{Flat, Head, HeadPort, flatten};
+use fnl_flatten::{Head, HeadPort, flatten};
 use fnl_read::{NetFile, read_network};
 use fnl_tree::{Leaf, Tree};
 use fnl_walk::bind;
 use net_set::NetSet;
 use rvc_base::{Front, Scalar};
-use std::alloc::Global;
+use std::alloc::{AllocError, Global};
 use std::process::Abort;
 use std::test::Fail;
 
@@ -41,33 +41,42 @@ fn scalar(text: &str) -> Scalar {
     }
 }
 
+fn port(alloc: Global, name: &str, kind: &str, largest: &str) -> Result<HeadPort, AllocError> {
+    let name = String::from_str(alloc, name)?;
+    Ok(HeadPort {
+        name,
+        kind: scalar(kind),
+        largest: largest.parse().unwrap_or(1),
+    })
+}
+
 fn ports(alloc: Global, text: &str) -> Result<Vec<HeadPort>, Fail> {
     let mut ports = Vec::new(alloc);
     for word in text.split_whitespace() {
         let (name, rest) = cut(word, ":");
         let (kind, largest) = cut(rest, ":");
-        ports.push(HeadPort {
-            name: String::from_str(alloc, name)?,
-            kind: scalar(kind),
-            largest: largest.parse().unwrap_or(1),
-        })?;
+        ports.push(port(alloc, name, kind, largest)?)?;
     }
     Ok(ports)
 }
 
-/// The ports of the actor of a class; none if it isn't told.
-fn head(alloc: Global, class: &str, actors: &[(&str, &str)]) -> Result<Head, Fail> {
-    let mut line = "";
-    for &(name, told) in actors {
+/// The line of the actor of a class.
+fn line_of<'a>(class: &str, actors: &[(&'a str, &'a str)]) -> &'a str {
+    for &(name, line) in actors {
         if name == class {
-            line = told;
+            return line;
         }
     }
+    ""
+}
+
+/// The ports of the actor of a class; none if it isn't told.
+fn head(alloc: Global, class: &str, actors: &[(&str, &str)]) -> Result<Head, Fail> {
+    let line = line_of(class, actors);
     let (ins, outs) = cut(line, ";");
-    Ok(Head {
-        ins: ports(alloc, ins)?,
-        outs: ports(alloc, outs)?,
-    })
+    let ins = ports(alloc, ins)?;
+    let outs = ports(alloc, outs)?;
+    Ok(Head { ins, outs })
 }
 
 fn heads(alloc: Global, leaves: &[Leaf], actors: &[(&str, &str)]) -> Result<Vec<Head>, Fail> {
@@ -131,54 +140,51 @@ fn top_of<'a>(nets: &'a [(&'a str, &'a str)]) -> &'a str {
     }
 }
 
-/// The actors and the flat network that a tree is.
-fn flat(alloc: Global, tree: &Tree, actors: &[(&str, &str)]) -> Result<Result<Flat, Front>, Fail>
+/// What a sound tree comes to.
+fn answer_of_tree(
+    alloc: Global,
+    told: Told,
+    tree: &Tree,
+    actors: &[(&str, &str)],
+) -> Result<String, Fail>
     requires { IsSound (tree_of tree.now) }
 {
     let heads = heads(alloc, &tree.leaves, actors)?;
     if !heads_fit(tree, &heads) {
-        return Ok(Err(NOTHING));
+        return Ok(refusal(alloc, NOTHING)?);
     }
-    Ok(flatten(alloc, tree, &heads))
+    let found = flatten(alloc, tree, &heads);
+    Ok(flattened(alloc, told, &tree.leaves, found)?)
 }
 
 /// What networks come to.
 pub(crate) fn answer(
     alloc: Global,
+    told: Told,
     nets: &[(&str, &str)],
     actors: &[(&str, &str)],
 ) -> Result<String, Fail> {
-    let tree = match tree_from(alloc, top_of(nets), nets) {
-        Ok(tree) => tree,
-        Err(front) => return Ok(refusal(alloc, front)?),
-    };
-    match flat(alloc, &tree, actors)? {
-        Ok(flat) => Ok(network(alloc, &tree.leaves, &flat)?),
+    match tree_from(alloc, top_of(nets), nets) {
+        Ok(tree) => answer_of_tree(alloc, told, &tree, actors),
         Err(front) => Ok(refusal(alloc, front)?),
     }
 }
 
-/// The same in outline.
-pub(crate) fn outline(
-    alloc: Global,
-    nets: &[(&str, &str)],
-    actors: &[(&str, &str)],
-) -> Result<String, Fail> {
-    let tree = match tree_from(alloc, top_of(nets), nets) {
-        Ok(tree) => tree,
-        Err(front) => return Ok(refusal(alloc, front)?),
-    };
-    match flat(alloc, &tree, actors)? {
-        Ok(flat) => Ok(in_outline(alloc, &tree.leaves, &flat)?),
-        Err(front) => Ok(refusal(alloc, front)?),
+/// Stops unless it is one of those that are allowed, between which ` or ` stands.
+pub(crate) fn same(rt: &impl Abort, found: &str, allowed: &str) {
+    for told in allowed.split(" or ") {
+        if found == told {
+            return;
+        }
     }
+    assert!(rt; found == allowed, "{found}");
 }
 
 /// Stops unless all networks come to what is told.
-pub(crate) fn hold(rt: &impl Abort, alloc: Global, rows: &[Row]) -> Result<(), Fail> {
-    for &(nets, actors, expected) in rows {
-        let found = answer(alloc, nets, actors)?;
-        assert_eq!(rt; found.as_str(), expected);
+pub(crate) fn hold(rt: &impl Abort, alloc: Global, told: Told, rows: &[Row]) -> Result<(), Fail> {
+    for &(nets, actors, allowed) in rows {
+        let found = answer(alloc, told, nets, actors)?;
+        same(rt, found.as_str(), allowed);
     }
     Ok(())
 }

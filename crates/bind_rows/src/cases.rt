@@ -1,35 +1,13 @@
 //! Networks that were made at random, with what another implementation says of them: the rule and its place, of which it
 //! may allow several, or the actors and how many links there are.
 
-use crate::asked::{Row, answer, outline};
-use std::alloc::Global;
-use std::process::Abort;
+use crate::asked::{Row, hold};
+use crate::told::Told;
 use std::test::Fail;
-
-/// Whether it is one of those that are allowed, between which ` or ` stands.
-fn is_allowed(found: &str, allowed: &str) -> bool {
-    for told in allowed.split(" or ") {
-        if found == told {
-            return true;
-        }
-    }
-    false
-}
-
-/// Stops unless all networks come to something that is allowed.
-fn hold(rt: &impl Abort, alloc: Global, rows: &[Row]) -> Result<(), Fail> {
-    for &(nets, actors, allowed) in rows {
-        let found = answer(alloc, nets, actors)?;
-        if !is_allowed(found.as_str(), allowed) {
-            assert_eq!(rt; found.as_str(), allowed);
-        }
-    }
-    Ok(())
-}
 
 #[test]
 fn refused_names(rt: HostRuntime) -> Result<(), Fail> {
-    hold(&rt, rt.alloc(), REFUSED_NAMES)
+    hold(&rt, rt.alloc(), Told::Whole, REFUSED_NAMES)
 }
 
 /// Names that are unknown, stand twice or lead in a circle.
@@ -98,7 +76,7 @@ const REFUSED_NAMES: &[Row] = &[
 
 #[test]
 fn refused_connections(rt: HostRuntime) -> Result<(), Fail> {
-    hold(&rt, rt.alloc(), REFUSED_CONNECTIONS)
+    hold(&rt, rt.alloc(), Told::Whole, REFUSED_CONNECTIONS)
 }
 
 /// Connections that there can't be.
@@ -179,7 +157,7 @@ const REFUSED_CONNECTIONS: &[Row] = &[
 
 #[test]
 fn refused_values(rt: HostRuntime) -> Result<(), Fail> {
-    hold(&rt, rt.alloc(), REFUSED_VALUES)
+    hold(&rt, rt.alloc(), Told::Whole, REFUSED_VALUES)
 }
 
 /// Types and values that there can't be.
@@ -252,12 +230,7 @@ const REFUSED_VALUES: &[Row] = &[
 
 #[test]
 fn whole(rt: HostRuntime) -> Result<(), Fail> {
-    let alloc = rt.alloc();
-    for &(nets, actors, expected) in WHOLE {
-        let found = outline(alloc, nets, actors)?;
-        assert_eq!(rt; found.as_str(), expected);
-    }
-    Ok(())
+    hold(&rt, rt.alloc(), Told::Outline, WHOLE)
 }
 
 const WHOLE: &[Row] = &[

@@ -1,6 +1,7 @@
 //! Networks at their limits, and one past them. Offsets are found in the text that was made.
 
-use crate::asked::{Nets, answer};
+use crate::asked::{Nets, answer, same};
+use crate::told::Told;
 use std::alloc::{AllocError, Global};
 use std::process::Abort;
 use std::test::Fail;
@@ -84,30 +85,40 @@ fn last_instance(text: &str) -> usize {
     text.rfind("<Instance").unwrap_or(0)
 }
 
-/// What is looked at: the answer as it is, or the kind of the answer with the place at which it is to be.
-fn found(alloc: Global, top: &[Part], nets: Nets, actors: Nets) -> Result<String, Fail> {
-    let text = text_of(alloc, top)?;
+/// What a network of this text comes to, with these inside.
+fn answer_of(alloc: Global, text: &str, nets: Nets, actors: Nets) -> Result<String, Fail> {
     let mut all = Vec::new(alloc);
-    all.push(("T", text.as_str()))?;
+    all.push(("T", text))?;
     for &net in nets {
         all.push(net)?;
     }
-    let found = answer(alloc, &all, actors)?;
-    let last = last_instance(text.as_str());
+    answer(alloc, Told::Whole, &all, actors)
+}
+
+/// The answer as it is, or its kind with the place at which it is to be.
+fn in_words(alloc: Global, text: &str, found: &str) -> Result<String, AllocError> {
+    let last = last_instance(text);
     let passing = format!(in alloc; "Z7 1 {last}")?;
-    if found == passing {
-        return Ok(String::from_str(alloc, "Z7 at the last instance")?);
+    if found == passing.as_str() {
+        return String::from_str(alloc, "Z7 at the last instance");
     }
     if found.len() > 20 {
-        return Ok(String::from_str(alloc, "whole")?);
+        return String::from_str(alloc, "whole");
     }
-    Ok(found)
+    String::from_str(alloc, found)
+}
+
+/// What is looked at.
+fn found(alloc: Global, top: &[Part], nets: Nets, actors: Nets) -> Result<String, Fail> {
+    let text = text_of(alloc, top)?;
+    let found = answer_of(alloc, text.as_str(), nets, actors)?;
+    Ok(in_words(alloc, text.as_str(), found.as_str())?)
 }
 
 fn hold(rt: &impl Abort, alloc: Global, rows: &[Row]) -> Result<(), Fail> {
     for &(top, nets, actors, expected) in rows {
         let found = found(alloc, top, nets, actors)?;
-        assert_eq!(rt; found.as_str(), expected);
+        same(rt, found.as_str(), expected);
     }
     Ok(())
 }

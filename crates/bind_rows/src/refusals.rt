@@ -1,11 +1,12 @@
 //! Networks that break a rule, with its place: the number of the file and the offset.
 
 use crate::asked::{Row, hold};
+use crate::told::Told;
 use std::test::Fail;
 
 #[test]
 fn texts(rt: HostRuntime) -> Result<(), Fail> {
-    hold(&rt, rt.alloc(), TEXTS)
+    hold(&rt, rt.alloc(), Told::Whole, TEXTS)
 }
 
 /// Texts that are no networks.
@@ -36,7 +37,7 @@ const TEXTS: &[Row] = &[
 
 #[test]
 fn parameters(rt: HostRuntime) -> Result<(), Fail> {
-    hold(&rt, rt.alloc(), PARAMETERS)
+    hold(&rt, rt.alloc(), Told::Whole, PARAMETERS)
 }
 
 /// Parameters of networks: unknown, given twice, or missed.
@@ -133,7 +134,7 @@ const PARAMETERS: &[Row] = &[
 
 #[test]
 fn circles(rt: HostRuntime) -> Result<(), Fail> {
-    hold(&rt, rt.alloc(), CIRCLES)
+    hold(&rt, rt.alloc(), Told::Whole, CIRCLES)
 }
 
 /// Networks inside themselves.
@@ -207,7 +208,7 @@ const CIRCLES: &[Row] = &[
 
 #[test]
 fn writers(rt: HostRuntime) -> Result<(), Fail> {
-    hold(&rt, rt.alloc(), WRITERS)
+    hold(&rt, rt.alloc(), Told::Whole, WRITERS)
 }
 
 /// Second writers.
@@ -264,7 +265,7 @@ const WRITERS: &[Row] = &[
 
 #[test]
 fn ends(rt: HostRuntime) -> Result<(), Fail> {
-    hold(&rt, rt.alloc(), ENDS)
+    hold(&rt, rt.alloc(), Told::Whole, ENDS)
 }
 
 /// Ends that there aren't.
@@ -399,7 +400,7 @@ const ENDS: &[Row] = &[
 
 #[test]
 fn kinds(rt: HostRuntime) -> Result<(), Fail> {
-    hold(&rt, rt.alloc(), KINDS)
+    hold(&rt, rt.alloc(), Told::Whole, KINDS)
 }
 
 /// Truth values and numbers.
@@ -460,7 +461,7 @@ const KINDS: &[Row] = &[
 
 #[test]
 fn straight(rt: HostRuntime) -> Result<(), Fail> {
-    hold(&rt, rt.alloc(), STRAIGHT)
+    hold(&rt, rt.alloc(), Told::Whole, STRAIGHT)
 }
 
 /// Inputs passed straight to outputs.
@@ -492,7 +493,7 @@ const STRAIGHT: &[Row] = &[
 
 #[test]
 fn twice(rt: HostRuntime) -> Result<(), Fail> {
-    hold(&rt, rt.alloc(), TWICE)
+    hold(&rt, rt.alloc(), Told::Whole, TWICE)
 }
 
 /// Names that stand twice.
@@ -565,7 +566,7 @@ const TWICE: &[Row] = &[
 
 #[test]
 fn sizes(rt: HostRuntime) -> Result<(), Fail> {
-    hold(&rt, rt.alloc(), SIZES)
+    hold(&rt, rt.alloc(), Told::Whole, SIZES)
 }
 
 /// Sizes of connections.

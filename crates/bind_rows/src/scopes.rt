@@ -1,27 +1,39 @@
 //! One network where it stands, and networks in a set.
 
-use crate::asked::{add, read};
+use crate::asked::{add, read, same};
+use fnl_read::NetFile;
 use fnl_scopes::{ScopeFault, check_scopes};
 use net_set::NetSet;
-use rvc_base::Front;
-use std::alloc::Global;
+use std::alloc::{AllocError, Global};
 use std::process::Abort;
 use std::test::Fail;
 
-/// The rule of scope that a network breaks that stands in networks of these classes, its own among them.
-fn broken(alloc: Global, text: &str, above: &str) -> Result<String, Fail> {
-    let net = match read(alloc, 1, text) {
-        Ok(net) => net,
-        Err(_) => return Ok(String::from_str(alloc, "no network")?),
-    };
-    let mut classes = Vec::new(alloc);
-    for class in above.split_whitespace() {
-        classes.push(String::from_str(alloc, class)?)?;
+fn classes_of(alloc: Global, classes: &str) -> Result<Vec<String>, AllocError> {
+    let mut found = Vec::new(alloc);
+    for class in classes.split_whitespace() {
+        found.push(String::from_str(alloc, class)?)?;
     }
-    match check_scopes(alloc, &net, &classes) {
-        Ok(()) => Ok(String::from_str(alloc, "fine")?),
-        Err(ScopeFault::Broken { rule, at }) => Ok(format!(in alloc; "{rule} at {at}")?),
-        Err(ScopeFault::Memory) => Ok(String::from_str(alloc, "memory")?),
+    Ok(found)
+}
+
+fn told(alloc: Global, found: Result<(), ScopeFault>) -> Result<String, AllocError> {
+    match found {
+        Ok(()) => String::from_str(alloc, "fine"),
+        Err(ScopeFault::Broken { rule, at }) => format!(in alloc; "{rule} at {at}"),
+        Err(ScopeFault::Memory) => String::from_str(alloc, "memory"),
+    }
+}
+
+fn broken_in(alloc: Global, net: &NetFile, above: &str) -> Result<String, AllocError> {
+    let classes = classes_of(alloc, above)?;
+    told(alloc, check_scopes(alloc, net, &classes))
+}
+
+/// The rule of scope that a network breaks that stands in networks of these classes, its own among them.
+fn broken(alloc: Global, text: &str, above: &str) -> Result<String, AllocError> {
+    match read(alloc, 1, text) {
+        Ok(net) => broken_in(alloc, &net, above),
+        Err(_) => String::from_str(alloc, "no network"),
     }
 }
 
@@ -31,7 +43,7 @@ type Row = (&'static str, &'static str, &'static str);
 fn hold(rt: &impl Abort, alloc: Global, rows: &[Row]) -> Result<(), Fail> {
     for &(text, above, expected) in rows {
         let found = broken(alloc, text, above)?;
-        assert_eq!(rt; found.as_str(), expected);
+        same(rt, found.as_str(), expected);
     }
     Ok(())
 }
@@ -175,20 +187,26 @@ fn looked_up(alloc: Global, set: &NetSet, classes: &str) -> Result<String, Fail>
     Ok(out)
 }
 
+/// What is found in a set of networks.
+fn found(alloc: Global, classes: &str, asked: &str) -> Result<String, Fail> {
+    let set = set(alloc, classes)?;
+    looked_up(alloc, &set, asked)
+}
+
 #[test]
 fn a_set_of_networks_is_asked_by_class(rt: HostRuntime) -> Result<(), Fail> {
-    let alloc = rt.alloc();
-    let rows = [
-        ("", "A", "none of 0"),
-        ("A", "A B", "5 none of 1"),
-        ("A p.A A.p B C D", "D p.A A A.p p", "10 6 5 7 none of 6"),
-        // a second network of a class isn't added
-        ("A B A", "A B", "5 6 of 2"),
-    ];
-    for (classes, asked, expected) in rows {
-        let set = set(alloc, classes)?;
-        let found = looked_up(alloc, &set, asked)?;
-        assert_eq!(rt; found.as_str(), expected);
+    for &(classes, asked, expected) in SETS {
+        let found = found(rt.alloc(), classes, asked)?;
+        same(&rt, found.as_str(), expected);
     }
     Ok(())
 }
+
+/// Classes of networks, those that are asked for, and their files.
+const SETS: &[(&str, &str, &str)] = &[
+    ("", "A", "none of 0"),
+    ("A", "A B", "5 none of 1"),
+    ("A p.A A.p B C D", "D p.A A A.p p", "10 6 5 7 none of 6"),
+    // a second network of a class isn't added
+    ("A B A", "A B", "5 6 of 2"),
+];

@@ -1,11 +1,12 @@
 //! Names, types and values in networks that break a rule, with its place: the number of the file and the offset.
 
 use crate::asked::{Row, hold};
+use crate::told::Told;
 use std::test::Fail;
 
 #[test]
 fn unknown(rt: HostRuntime) -> Result<(), Fail> {
-    hold(&rt, rt.alloc(), UNKNOWN)
+    hold(&rt, rt.alloc(), Told::Whole, UNKNOWN)
 }
 
 /// Names that are unknown.
@@ -84,7 +85,7 @@ const UNKNOWN: &[Row] = &[
 
 #[test]
 fn constants(rt: HostRuntime) -> Result<(), Fail> {
-    hold(&rt, rt.alloc(), CONSTANTS)
+    hold(&rt, rt.alloc(), Told::Whole, CONSTANTS)
 }
 
 /// Kinds, types and values.
