@@ -16,19 +16,10 @@ use std::alloc::{AllocError, Global};
 use std::process::Abort;
 use std::test::Fail;
 
-/// Networks: the class and the text of each. They are numbered from 1, and the first is the top.
-pub(crate) type Nets = &'static [(&'static str, &'static str)];
-
-/// Actors: the class of each, and its ports as `INPUTS ; OUTPUTS`, of which each is `name:type` or `name:type:rate`.
-pub(crate) type Actors = &'static [(&'static str, &'static str)];
-
-/// Networks, the ports of their actors, and what they come to.
-pub(crate) type Row = (Nets, Actors, &'static str);
-
 /// Why nothing is asked.
 const NOTHING: Front = Front::Memory;
 
-fn cut<'a>(text: &'a str, at: &str) -> (&'a str, &'a str) {
+pub(crate) fn cut<'a>(text: &'a str, at: &str) -> (&'a str, &'a str) {
     text.split_once(at).unwrap_or((text, ""))
 }
 
@@ -60,9 +51,10 @@ fn ports(alloc: Global, text: &str) -> Result<Vec<HeadPort>, Fail> {
     Ok(ports)
 }
 
-/// The line of the actor of a class.
-fn line_of<'a>(class: &str, actors: &[(&'a str, &'a str)]) -> &'a str {
-    for &(name, line) in actors {
+/// The ports of the actor of a class, as they are told.
+fn line_of<'a>(class: &str, actors: &'a str) -> &'a str {
+    for actor in actors.split("\nactor ") {
+        let (name, line) = cut(actor, " ");
         if name == class {
             return line;
         }
@@ -71,7 +63,7 @@ fn line_of<'a>(class: &str, actors: &[(&'a str, &'a str)]) -> &'a str {
 }
 
 /// The ports of the actor of a class; none if it isn't told.
-fn head(alloc: Global, class: &str, actors: &[(&str, &str)]) -> Result<Head, Fail> {
+fn head(alloc: Global, class: &str, actors: &str) -> Result<Head, Fail> {
     let line = line_of(class, actors);
     let (ins, outs) = cut(line, ";");
     let ins = ports(alloc, ins)?;
@@ -79,7 +71,7 @@ fn head(alloc: Global, class: &str, actors: &[(&str, &str)]) -> Result<Head, Fai
     Ok(Head { ins, outs })
 }
 
-fn heads(alloc: Global, leaves: &[Leaf], actors: &[(&str, &str)]) -> Result<Vec<Head>, Fail> {
+fn heads(alloc: Global, leaves: &[Leaf], actors: &str) -> Result<Vec<Head>, Fail> {
     let mut heads = Vec::new(alloc);
     for leaf in leaves {
         heads.push(head(alloc, leaf.class.as_str(), actors)?)?;
@@ -108,12 +100,13 @@ pub(crate) fn add(set: &mut NetSet, class: &str, file: u32, net: NetFile) -> Res
 }
 
 /// The set of these networks.
-fn set_of(alloc: Global, nets: &[(&str, &str)]) -> Result<NetSet, Front> {
+fn set_of(alloc: Global, nets: &str) -> Result<NetSet, Front> {
     let Ok(mut set) = NetSet::new(alloc) else {
         return Err(NOTHING);
     };
     let mut file = 0u32;
-    for &(class, text) in nets {
+    for net in nets.split("\nnet ") {
+        let (class, text) = cut(net, " ");
         file = file.saturating_add(1);
         let net = read(alloc, file, text)?;
         add(&mut set, class, file, net)?;
@@ -122,31 +115,19 @@ fn set_of(alloc: Global, nets: &[(&str, &str)]) -> Result<NetSet, Front> {
 }
 
 /// The tree that networks make from the class of the top down.
-fn tree_from(alloc: Global, top: &str, nets: &[(&str, &str)]) -> Result<Tree, Front>
+fn tree_from(alloc: Global, nets: &str) -> Result<Tree, Front>
     ensures { IfOk result (λ tree. IsSound (tree_of tree)) }
 {
     let set = set_of(alloc, nets)?;
+    let (top, _) = cut(nets, " ");
     if !set.has(top) {
         return Err(NOTHING);
     }
     bind(alloc, &set, top)
 }
 
-/// The class of the top.
-fn top_of<'a>(nets: &'a [(&'a str, &'a str)]) -> &'a str {
-    match nets.first() {
-        Some(&(class, _)) => class,
-        None => "",
-    }
-}
-
 /// What a sound tree comes to.
-fn answer_of_tree(
-    alloc: Global,
-    told: Told,
-    tree: &Tree,
-    actors: &[(&str, &str)],
-) -> Result<String, Fail>
+fn answer_of_tree(alloc: Global, told: Told, tree: &Tree, actors: &str) -> Result<String, Fail>
     requires { IsSound (tree_of tree.now) }
 {
     let heads = heads(alloc, &tree.leaves, actors)?;
@@ -157,14 +138,11 @@ fn answer_of_tree(
     Ok(flattened(alloc, told, &tree.leaves, found)?)
 }
 
-/// What networks come to.
-pub(crate) fn answer(
-    alloc: Global,
-    told: Told,
-    nets: &[(&str, &str)],
-    actors: &[(&str, &str)],
-) -> Result<String, Fail> {
-    match tree_from(alloc, top_of(nets), nets) {
+/// What networks come to, of which the first is the top. They stand with `\nnet ` between as `CLASS TEXT`, and are
+/// numbered from 1. The actors stand with `\nactor ` between as `CLASS INPUTS ; OUTPUTS`, with ports as `name:type` or
+/// `name:type:rate`.
+pub(crate) fn answer(alloc: Global, told: Told, nets: &str, actors: &str) -> Result<String, Fail> {
+    match tree_from(alloc, nets) {
         Ok(tree) => answer_of_tree(alloc, told, &tree, actors),
         Err(front) => Ok(refusal(alloc, front)?),
     }
@@ -180,11 +158,24 @@ pub(crate) fn same(rt: &impl Abort, found: &str, allowed: &str) {
     assert!(rt; found == allowed, "{found}");
 }
 
-/// Stops unless all networks come to what is told.
-pub(crate) fn hold(rt: &impl Abort, alloc: Global, told: Told, rows: &[Row]) -> Result<(), Fail> {
-    for &(nets, actors, allowed) in rows {
-        let found = answer(alloc, told, nets, actors)?;
-        same(rt, found.as_str(), allowed);
+/// Stops unless the networks of a row come to what is told.
+fn hold_row(rt: &impl Abort, alloc: Global, told: Told, row: &str) -> Result<(), Fail> {
+    let (_, row) = cut(row, "\n= ");
+    let (allowed, parts) = cut(row, "\nnet ");
+    let (nets, actors) = cut(parts, "\nactor ");
+    let found = answer(alloc, told, nets, actors)?;
+    same(rt, found.as_str(), allowed);
+    Ok(())
+}
+
+/// Stops unless all networks come to what is told. A table is one text, since the parts of tables made of slices and pairs
+/// are each proved apart. Each row begins with `# ` and what it shows; then come a line `= ` with what the networks come
+/// to, a line `net ` for each of them, and a line `actor ` for each actor.
+pub(crate) fn hold(rt: &impl Abort, alloc: Global, told: Told, table: &str) -> Result<(), Fail> {
+    for row in table.split("\n# ") {
+        if !row.is_empty() {
+            hold_row(rt, alloc, told, row)?;
+        }
     }
     Ok(())
 }
