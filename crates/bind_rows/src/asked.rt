@@ -4,31 +4,22 @@ ghost use Rattle.std.specs.Prelude.{IfOk};
 ghost use Rattle.fnl_tree.specs.Sound.{IsSound};
 ghost use Rattle.fnl_tree.specs.View.{tree_of};
 
-use crate::told::{in_outline, network, refusal};
+use crate::told::{Told, flattened, refusal};
 use flatten_rows::heads_fit;
-use fnl_flatten::{Flat, Head, HeadPort, flatten};
+use fnl_flatten::{Head, HeadPort, flatten};
 use fnl_read::{NetFile, read_network};
 use fnl_tree::{Leaf, Tree};
 use fnl_walk::bind;
 use net_set::NetSet;
 use rvc_base::{Front, Scalar};
-use std::alloc::Global;
+use std::alloc::{AllocError, Global};
 use std::process::Abort;
 use std::test::Fail;
-
-/// Networks: the class and the text of each. They are numbered from 1, and the first is the top.
-pub(crate) type Nets = &'static [(&'static str, &'static str)];
-
-/// Actors: the class of each, and its ports as `INPUTS ; OUTPUTS`, of which each is `name:type` or `name:type:rate`.
-pub(crate) type Actors = &'static [(&'static str, &'static str)];
-
-/// Networks, the ports of their actors, and what they come to.
-pub(crate) type Row = (Nets, Actors, &'static str);
 
 /// Why nothing is asked.
 const NOTHING: Front = Front::Memory;
 
-fn cut<'a>(text: &'a str, at: &str) -> (&'a str, &'a str) {
+pub(crate) fn cut<'a>(text: &'a str, at: &str) -> (&'a str, &'a str) {
     text.split_once(at).unwrap_or((text, ""))
 }
 
@@ -41,36 +32,46 @@ fn scalar(text: &str) -> Scalar {
     }
 }
 
+fn port(alloc: Global, name: &str, kind: &str, largest: &str) -> Result<HeadPort, AllocError> {
+    let name = String::from_str(alloc, name)?;
+    Ok(HeadPort {
+        name,
+        kind: scalar(kind),
+        largest: largest.parse().unwrap_or(1),
+    })
+}
+
 fn ports(alloc: Global, text: &str) -> Result<Vec<HeadPort>, Fail> {
     let mut ports = Vec::new(alloc);
     for word in text.split_whitespace() {
         let (name, rest) = cut(word, ":");
         let (kind, largest) = cut(rest, ":");
-        ports.push(HeadPort {
-            name: String::from_str(alloc, name)?,
-            kind: scalar(kind),
-            largest: largest.parse().unwrap_or(1),
-        })?;
+        ports.push(port(alloc, name, kind, largest)?)?;
     }
     Ok(ports)
 }
 
-/// The ports of the actor of a class; none if it isn't told.
-fn head(alloc: Global, class: &str, actors: &[(&str, &str)]) -> Result<Head, Fail> {
-    let mut line = "";
-    for &(name, told) in actors {
+/// The ports of the actor of a class, as they are told.
+fn line_of<'a>(class: &str, actors: &'a str) -> &'a str {
+    for actor in actors.split("\nactor ") {
+        let (name, line) = cut(actor, " ");
         if name == class {
-            line = told;
+            return line;
         }
     }
-    let (ins, outs) = cut(line, ";");
-    Ok(Head {
-        ins: ports(alloc, ins)?,
-        outs: ports(alloc, outs)?,
-    })
+    ""
 }
 
-fn heads(alloc: Global, leaves: &[Leaf], actors: &[(&str, &str)]) -> Result<Vec<Head>, Fail> {
+/// The ports of the actor of a class; none if it isn't told.
+fn head(alloc: Global, class: &str, actors: &str) -> Result<Head, Fail> {
+    let line = line_of(class, actors);
+    let (ins, outs) = cut(line, ";");
+    let ins = ports(alloc, ins)?;
+    let outs = ports(alloc, outs)?;
+    Ok(Head { ins, outs })
+}
+
+fn heads(alloc: Global, leaves: &[Leaf], actors: &str) -> Result<Vec<Head>, Fail> {
     let mut heads = Vec::new(alloc);
     for leaf in leaves {
         heads.push(head(alloc, leaf.class.as_str(), actors)?)?;
@@ -99,12 +100,13 @@ pub(crate) fn add(set: &mut NetSet, class: &str, file: u32, net: NetFile) -> Res
 }
 
 /// The set of these networks.
-fn set_of(alloc: Global, nets: &[(&str, &str)]) -> Result<NetSet, Front> {
+fn set_of(alloc: Global, nets: &str) -> Result<NetSet, Front> {
     let Ok(mut set) = NetSet::new(alloc) else {
         return Err(NOTHING);
     };
     let mut file = 0u32;
-    for &(class, text) in nets {
+    for net in nets.split("\nnet ") {
+        let (class, text) = cut(net, " ");
         file = file.saturating_add(1);
         let net = read(alloc, file, text)?;
         add(&mut set, class, file, net)?;
@@ -113,72 +115,67 @@ fn set_of(alloc: Global, nets: &[(&str, &str)]) -> Result<NetSet, Front> {
 }
 
 /// The tree that networks make from the class of the top down.
-fn tree_from(alloc: Global, top: &str, nets: &[(&str, &str)]) -> Result<Tree, Front>
+fn tree_from(alloc: Global, nets: &str) -> Result<Tree, Front>
     ensures { IfOk result (λ tree. IsSound (tree_of tree)) }
 {
     let set = set_of(alloc, nets)?;
+    let (top, _) = cut(nets, " ");
     if !set.has(top) {
         return Err(NOTHING);
     }
     bind(alloc, &set, top)
 }
 
-/// The class of the top.
-fn top_of<'a>(nets: &'a [(&'a str, &'a str)]) -> &'a str {
-    match nets.first() {
-        Some(&(class, _)) => class,
-        None => "",
-    }
-}
-
-/// The actors and the flat network that a tree is.
-fn flat(alloc: Global, tree: &Tree, actors: &[(&str, &str)]) -> Result<Result<Flat, Front>, Fail>
+/// What a sound tree comes to.
+fn answer_of_tree(alloc: Global, told: Told, tree: &Tree, actors: &str) -> Result<String, Fail>
     requires { IsSound (tree_of tree.now) }
 {
     let heads = heads(alloc, &tree.leaves, actors)?;
     if !heads_fit(tree, &heads) {
-        return Ok(Err(NOTHING));
+        return Ok(refusal(alloc, NOTHING)?);
     }
-    Ok(flatten(alloc, tree, &heads))
+    let found = flatten(alloc, tree, &heads);
+    Ok(flattened(alloc, told, &tree.leaves, found)?)
 }
 
-/// What networks come to.
-pub(crate) fn answer(
-    alloc: Global,
-    nets: &[(&str, &str)],
-    actors: &[(&str, &str)],
-) -> Result<String, Fail> {
-    let tree = match tree_from(alloc, top_of(nets), nets) {
-        Ok(tree) => tree,
-        Err(front) => return Ok(refusal(alloc, front)?),
-    };
-    match flat(alloc, &tree, actors)? {
-        Ok(flat) => Ok(network(alloc, &tree.leaves, &flat)?),
+/// What networks come to, of which the first is the top. They stand with `\nnet ` between as `CLASS TEXT`, and are
+/// numbered from 1. The actors stand with `\nactor ` between as `CLASS INPUTS ; OUTPUTS`, with ports as `name:type` or
+/// `name:type:rate`.
+pub(crate) fn answer(alloc: Global, told: Told, nets: &str, actors: &str) -> Result<String, Fail> {
+    match tree_from(alloc, nets) {
+        Ok(tree) => answer_of_tree(alloc, told, &tree, actors),
         Err(front) => Ok(refusal(alloc, front)?),
     }
 }
 
-/// The same in outline.
-pub(crate) fn outline(
-    alloc: Global,
-    nets: &[(&str, &str)],
-    actors: &[(&str, &str)],
-) -> Result<String, Fail> {
-    let tree = match tree_from(alloc, top_of(nets), nets) {
-        Ok(tree) => tree,
-        Err(front) => return Ok(refusal(alloc, front)?),
-    };
-    match flat(alloc, &tree, actors)? {
-        Ok(flat) => Ok(in_outline(alloc, &tree.leaves, &flat)?),
-        Err(front) => Ok(refusal(alloc, front)?),
+/// Stops unless it is one of those that are allowed, between which ` or ` stands.
+pub(crate) fn same(rt: &impl Abort, found: &str, allowed: &str) {
+    for told in allowed.split(" or ") {
+        if found == told {
+            return;
+        }
     }
+    assert!(rt; found == allowed, "{found}");
 }
 
-/// Stops unless all networks come to what is told.
-pub(crate) fn hold(rt: &impl Abort, alloc: Global, rows: &[Row]) -> Result<(), Fail> {
-    for &(nets, actors, expected) in rows {
-        let found = answer(alloc, nets, actors)?;
-        assert_eq!(rt; found.as_str(), expected);
+/// Stops unless the networks of a row come to what is told.
+fn hold_row(rt: &impl Abort, alloc: Global, told: Told, row: &str) -> Result<(), Fail> {
+    let (_, row) = cut(row, "\n= ");
+    let (allowed, parts) = cut(row, "\nnet ");
+    let (nets, actors) = cut(parts, "\nactor ");
+    let found = answer(alloc, told, nets, actors)?;
+    same(rt, found.as_str(), allowed);
+    Ok(())
+}
+
+/// Stops unless all networks come to what is told. A table is one text, since the parts of tables made of slices and pairs
+/// are each proved apart. Each row begins with `# ` and what it shows; then come a line `= ` with what the networks come
+/// to, a line `net ` for each of them, and a line `actor ` for each actor.
+pub(crate) fn hold(rt: &impl Abort, alloc: Global, told: Told, table: &str) -> Result<(), Fail> {
+    for row in table.split("\n# ") {
+        if !row.is_empty() {
+            hold_row(rt, alloc, told, row)?;
+        }
     }
     Ok(())
 }

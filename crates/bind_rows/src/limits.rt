@@ -1,23 +1,13 @@
 //! Networks at their limits, and one past them. Offsets are found in the text that was made.
 
-use crate::asked::{Nets, answer};
+use crate::asked::{answer, cut, same};
+use crate::told::Told;
 use std::alloc::{AllocError, Global};
 use std::process::Abort;
 use std::test::Fail;
 
-/// What a network is made of.
-#[derive(Clone, Copy)]
-enum Part {
-    /// So many inputs.
-    Inputs(u32),
-    /// So many outputs.
-    Outputs(u32),
-    /// So many instances of a class.
-    Instances(u32, &'static str),
-    /// A connection from the network's input to each of so many inputs of so many instances, with an attribute.
-    Connections(u32, u32, &'static str),
-    /// A text as it is.
-    Text(&'static str),
+fn number(text: &str) -> u32 {
+    text.parse().unwrap_or(0)
 }
 
 fn add_ports(text: &mut String, kind: &str, count: u32) -> Result<(), AllocError> {
@@ -40,14 +30,10 @@ fn add_instances(text: &mut String, class: &str, count: u32) -> Result<(), Alloc
     Ok(())
 }
 
-fn add_connections(
-    text: &mut String,
-    instances: u32,
-    inputs: u32,
-    size: &str,
-) -> Result<(), AllocError> {
+/// A connection from the network's input to each of the four inputs of so many instances, with an attribute.
+fn add_connections(text: &mut String, instances: u32, size: &str) -> Result<(), AllocError> {
     for k in 0..instances {
-        for i in 0..inputs {
+        for i in 0..4u32 {
             write!(
                 text,
                 "<Connection src='' src-port='In' dst='A{k}' dst-port='I{i}'>{size}</Connection>"
@@ -57,22 +43,25 @@ fn add_connections(
     Ok(())
 }
 
-fn add_part(text: &mut String, part: Part) -> Result<(), AllocError> {
-    match part {
-        Part::Inputs(count) => add_ports(text, "Input", count),
-        Part::Outputs(count) => add_ports(text, "Output", count),
-        Part::Instances(count, class) => add_instances(text, class, count),
-        Part::Connections(instances, inputs, size) => {
-            add_connections(text, instances, inputs, size)
-        }
-        Part::Text(part) => text.push_str(part),
+/// A part of a network: `inputs:N`, `outputs:N`, `N:CLASS` for so many instances, `connections:N` and `sized:N` for those to
+/// so many instances, without a size and with the largest, and `in` and `out` for a port with a connection.
+fn add_part(text: &mut String, part: &str) -> Result<(), AllocError> {
+    let (kind, more) = cut(part, ":");
+    match kind {
+        "inputs" => add_ports(text, "Input", number(more)),
+        "outputs" => add_ports(text, "Output", number(more)),
+        "connections" => add_connections(text, number(more), ""),
+        "sized" => add_connections(text, number(more), MOST),
+        "in" => text.push_str(INPUT),
+        "out" => text.push_str(OUTPUT),
+        count => add_instances(text, more, number(count)),
     }
 }
 
 /// The text of a network of these parts.
-fn text_of(alloc: Global, parts: &[Part]) -> Result<String, AllocError> {
+fn text_of(alloc: Global, parts: &str) -> Result<String, AllocError> {
     let mut text = String::from_str(alloc, "<XDF name='T'>")?;
-    for &part in parts {
+    for part in parts.split_whitespace() {
         add_part(&mut text, part)?;
     }
     text.push_str("</XDF>")?;
@@ -84,159 +73,72 @@ fn last_instance(text: &str) -> usize {
     text.rfind("<Instance").unwrap_or(0)
 }
 
-/// What is looked at: the answer as it is, or the kind of the answer with the place at which it is to be.
-fn found(alloc: Global, top: &[Part], nets: Nets, actors: Nets) -> Result<String, Fail> {
-    let text = text_of(alloc, top)?;
-    let mut all = Vec::new(alloc);
-    all.push(("T", text.as_str()))?;
-    for &net in nets {
-        all.push(net)?;
-    }
-    let found = answer(alloc, &all, actors)?;
-    let last = last_instance(text.as_str());
-    let passing = format!(in alloc; "Z7 1 {last}")?;
-    if found == passing {
-        return Ok(String::from_str(alloc, "Z7 at the last instance")?);
-    }
-    if found.len() > 20 {
-        return Ok(String::from_str(alloc, "whole")?);
-    }
-    Ok(found)
+/// What a network of this text comes to.
+fn answer_of(alloc: Global, text: &str) -> Result<String, Fail> {
+    let nets = format!(in alloc; "T {text}\nnet {TWO}")?;
+    answer(alloc, Told::Whole, nets.as_str(), FOUR)
 }
 
-fn hold(rt: &impl Abort, alloc: Global, rows: &[Row]) -> Result<(), Fail> {
-    for &(top, nets, actors, expected) in rows {
-        let found = found(alloc, top, nets, actors)?;
-        assert_eq!(rt; found.as_str(), expected);
+/// The answer as it is, or its kind with the place at which it is to be.
+fn in_words(alloc: Global, text: &str, found: &str) -> Result<String, AllocError> {
+    let last = last_instance(text);
+    let passing = format!(in alloc; "Z7 1 {last}")?;
+    if found == passing.as_str() {
+        return String::from_str(alloc, "Z7 at the last instance");
     }
+    if found.len() > 20 {
+        return String::from_str(alloc, "whole");
+    }
+    String::from_str(alloc, found)
+}
+
+/// What is looked at.
+fn found(alloc: Global, parts: &str) -> Result<String, Fail> {
+    let text = text_of(alloc, parts)?;
+    let found = answer_of(alloc, text.as_str())?;
+    Ok(in_words(alloc, text.as_str(), found.as_str())?)
+}
+
+fn hold_row(rt: &impl Abort, alloc: Global, row: &str) -> Result<(), Fail> {
+    let (parts, expected) = cut(row, " = ");
+    let found = found(alloc, parts)?;
+    same(rt, found.as_str(), expected);
     Ok(())
 }
 
-/// The parts of the top, networks inside, actors, and what they come to.
-type Row = (&'static [Part], Nets, Nets, &'static str);
+const INPUT: &str = "<Port kind='Input' name='In'><Type name='bool'/></Port>";
 
-const INPUT: Part = Part::Text("<Port kind='Input' name='In'><Type name='bool'/></Port>");
-
-const OUTPUT: Part = Part::Text(
-    "<Port kind='Output' name='Out'><Type name='bool'/></Port><Connection src='A0' src-port='O' dst='' dst-port='Out'/>",
-);
+const OUTPUT: &str =
+    "<Port kind='Output' name='Out'><Type name='bool'/></Port><Connection src='A0' src-port='O' dst='' dst-port='Out'/>";
 
 const MOST: &str =
     "<Attribute name='bufferSize'><Expr kind='Literal' literal-kind='Integer' value='1048576'/></Attribute>";
 
 /// A network of two actors.
-const TWO: (&str, &str) = (
-    "M",
-    "<XDF name='M'><Instance id='a'><Class name='A'/></Instance><Instance id='b'><Class name='A'/></Instance></XDF>",
-);
+const TWO: &str =
+    "M <XDF name='M'><Instance id='a'><Class name='A'/></Instance><Instance id='b'><Class name='A'/></Instance></XDF>";
 
-const FOUR: (&str, &str) = ("A", "I0:bool I1:bool I2:bool I3:bool ; O:bool");
+const FOUR: &str = "A I0:bool I1:bool I2:bool I3:bool ; O:bool";
 
 #[test]
-fn ports(rt: HostRuntime) -> Result<(), Fail> {
-    hold(&rt, rt.alloc(), PORTS)
+fn limits(rt: HostRuntime) -> Result<(), Fail> {
+    for row in LIMITS.lines() {
+        hold_row(&rt, rt.alloc(), row)?;
+    }
+    Ok(())
 }
 
-const PORTS: &[Row] = &[
-    (&[Part::Inputs(32), Part::Outputs(32)], &[], &[], "whole"),
-    (&[Part::Inputs(33)], &[], &[], "Z3 1 0"),
-    (&[Part::Outputs(33)], &[], &[], "Z3 1 0"),
-];
-
-#[test]
-fn instances(rt: HostRuntime) -> Result<(), Fail> {
-    hold(&rt, rt.alloc(), INSTANCES)
-}
-
-/// An instance counts before those inside it.
-const INSTANCES: &[Row] = &[
-    (&[Part::Instances(1024, "A")], &[], &[], "whole"),
-    (
-        &[Part::Instances(1025, "A")],
-        &[],
-        &[],
-        "Z7 at the last instance",
-    ),
-    (
-        &[Part::Instances(341, "M"), Part::Instances(1, "A")],
-        &[TWO],
-        &[],
-        "whole",
-    ),
-    (
-        &[Part::Instances(341, "M"), Part::Instances(2, "A")],
-        &[TWO],
-        &[],
-        "Z7 at the last instance",
-    ),
-    (
-        &[Part::Instances(1, "A"), Part::Instances(341, "M")],
-        &[TWO],
-        &[],
-        "whole",
-    ),
-    (
-        &[Part::Instances(2, "A"), Part::Instances(341, "M")],
-        &[TWO],
-        &[],
-        "Z7 2 59",
-    ),
-];
-
-#[test]
-fn links(rt: HostRuntime) -> Result<(), Fail> {
-    hold(&rt, rt.alloc(), LINKS)
-}
-
-const LINKS: &[Row] = &[
-    (
-        &[
-            INPUT,
-            Part::Instances(1024, "A"),
-            Part::Connections(1024, 4, ""),
-        ],
-        &[],
-        &[FOUR],
-        "whole",
-    ),
-    (
-        &[
-            INPUT,
-            Part::Instances(1024, "A"),
-            Part::Connections(1024, 4, ""),
-            OUTPUT,
-        ],
-        &[],
-        &[FOUR],
-        "Z8 1 0",
-    ),
-];
-
-#[test]
-fn capacities(rt: HostRuntime) -> Result<(), Fail> {
-    hold(&rt, rt.alloc(), CAPACITIES)
-}
-
-const CAPACITIES: &[Row] = &[
-    (
-        &[
-            INPUT,
-            Part::Instances(4, "A"),
-            Part::Connections(4, 4, MOST),
-        ],
-        &[],
-        &[FOUR],
-        "whole",
-    ),
-    (
-        &[
-            INPUT,
-            Part::Instances(4, "A"),
-            Part::Connections(4, 4, MOST),
-            OUTPUT,
-        ],
-        &[],
-        &[FOUR],
-        "Z9 1 0",
-    ),
-];
+/// Ports of a direction; instances, each of which counts before those inside it; links; and capacities.
+const LIMITS: &str = "inputs:32 outputs:32 = whole
+inputs:33 = Z3 1 0
+outputs:33 = Z3 1 0
+1024:A = whole
+1025:A = Z7 at the last instance
+341:M 1:A = whole
+341:M 2:A = Z7 at the last instance
+1:A 341:M = whole
+2:A 341:M = Z7 2 59
+in 1024:A connections:1024 = whole
+in 1024:A connections:1024 out = Z8 1 0
+in 4:A sized:4 = whole
+in 4:A sized:4 out = Z9 1 0";

@@ -1,139 +1,144 @@
 //! One network where it stands, and networks in a set.
 
-use crate::asked::{add, read};
+use crate::asked::{add, cut, read, same};
+use fnl_read::NetFile;
 use fnl_scopes::{ScopeFault, check_scopes};
 use net_set::NetSet;
-use rvc_base::Front;
-use std::alloc::Global;
+use std::alloc::{AllocError, Global};
 use std::process::Abort;
 use std::test::Fail;
 
-/// The rule of scope that a network breaks that stands in networks of these classes, its own among them.
-fn broken(alloc: Global, text: &str, above: &str) -> Result<String, Fail> {
-    let net = match read(alloc, 1, text) {
-        Ok(net) => net,
-        Err(_) => return Ok(String::from_str(alloc, "no network")?),
-    };
-    let mut classes = Vec::new(alloc);
-    for class in above.split_whitespace() {
-        classes.push(String::from_str(alloc, class)?)?;
+fn classes_of(alloc: Global, classes: &str) -> Result<Vec<String>, AllocError> {
+    let mut found = Vec::new(alloc);
+    for class in classes.split_whitespace() {
+        found.push(String::from_str(alloc, class)?)?;
     }
-    match check_scopes(alloc, &net, &classes) {
-        Ok(()) => Ok(String::from_str(alloc, "fine")?),
-        Err(ScopeFault::Broken { rule, at }) => Ok(format!(in alloc; "{rule} at {at}")?),
-        Err(ScopeFault::Memory) => Ok(String::from_str(alloc, "memory")?),
+    Ok(found)
+}
+
+fn told(alloc: Global, found: Result<(), ScopeFault>) -> Result<String, AllocError> {
+    match found {
+        Ok(()) => String::from_str(alloc, "fine"),
+        Err(ScopeFault::Broken { rule, at }) => format!(in alloc; "{rule} at {at}"),
+        Err(ScopeFault::Memory) => String::from_str(alloc, "memory"),
     }
 }
 
-/// A text, the classes of the networks round it, and the rule that is broken.
-type Row = (&'static str, &'static str, &'static str);
+fn broken_in(alloc: Global, net: &NetFile, above: &str) -> Result<String, AllocError> {
+    let classes = classes_of(alloc, above)?;
+    told(alloc, check_scopes(alloc, net, &classes))
+}
 
-fn hold(rt: &impl Abort, alloc: Global, rows: &[Row]) -> Result<(), Fail> {
-    for &(text, above, expected) in rows {
-        let found = broken(alloc, text, above)?;
-        assert_eq!(rt; found.as_str(), expected);
+/// The rule of scope that a network breaks that stands in networks of these classes, its own among them.
+fn broken(alloc: Global, text: &str, above: &str) -> Result<String, AllocError> {
+    match read(alloc, 1, text) {
+        Ok(net) => broken_in(alloc, &net, above),
+        Err(_) => String::from_str(alloc, "no network"),
     }
+}
+
+/// Stops unless the network of a row breaks the rule that is told, which stands in a line `= `. The classes of the networks
+/// round it stand in a line `in `, and its text in a line `net `.
+fn hold_row(rt: &impl Abort, alloc: Global, row: &str) -> Result<(), Fail> {
+    let (_, row) = cut(row, "\n= ");
+    let (expected, parts) = cut(row, "\nin ");
+    let (above, text) = cut(parts, "\nnet ");
+    let found = broken(alloc, text, above)?;
+    same(rt, found.as_str(), expected);
     Ok(())
 }
 
 #[test]
 fn scopes(rt: HostRuntime) -> Result<(), Fail> {
-    hold(&rt, rt.alloc(), SCOPES)
+    for row in SCOPES.split("\n# ") {
+        if !row.is_empty() {
+            hold_row(&rt, rt.alloc(), row)?;
+        }
+    }
+    Ok(())
 }
 
-const SCOPES: &[Row] = &[
-    ("<XDF name='T'></XDF>", "T", "fine"),
-    (
-        "<XDF name='T'><Instance id='a'><Class name='A'/></Instance><Instance id='b'><Class name='A'/></Instance></XDF>",
-        "T M",
-        "fine",
-    ),
-    (
-        "<XDF name='T'><Decl kind='Param' name='p'><Type name='int'/></Decl><Decl kind='Variable' name='v'><Type name='int'/><Expr kind='Var' name='p'/></Decl><Instance id='a'><Class name='A'/><Parameter name='k'><Expr kind='Var' name='v'/></Parameter></Instance></XDF>",
-        "T",
-        "fine",
-    ),
-    (
-        "<XDF name='T'><Instance id='a'><Class name='A'/></Instance></XDF>",
-        "A",
-        "N3 at 31",
-    ),
-    // one of those outside
-    (
-        "<XDF name='T'><Instance id='x'><Class name='X'/></Instance><Instance id='m'><Class name='M'/></Instance></XDF>",
-        "T M",
-        "N3 at 76",
-    ),
-    (
-        "<XDF name='T'><Instance id='x'><Class name='X'/></Instance><Instance id='t'><Class name='T'/></Instance></XDF>",
-        "M T",
-        "N3 at 76",
-    ),
-    // its own class is one of those that are told
-    (
-        "<XDF name='T'><Instance id='t'><Class name='T'/></Instance></XDF>",
-        "M",
-        "fine",
-    ),
-    // classes are whole
-    (
-        "<XDF name='T'><Instance id='a'><Class name='x.A'/></Instance></XDF>",
-        "A",
-        "fine",
-    ),
-    (
-        "<XDF name='T'><Port kind='Input' name='a'><Type name='bool'/></Port><Port kind='Output' name='a'><Type name='bool'/></Port></XDF>",
-        "T",
-        "N8 at 68",
-    ),
-    (
-        "<XDF name='T'><Decl kind='Variable' name='a'><Type name='int'/><Expr kind='Literal' literal-kind='Integer' value='1'/></Decl><Decl kind='Param' name='a'><Type name='int'/></Decl></XDF>",
-        "T",
-        "N8 at 125",
-    ),
-    (
-        "<XDF name='T'><Instance id='a'><Class name='A'/></Instance><Instance id='a'><Class name='B'/></Instance></XDF>",
-        "T",
-        "N8 at 59",
-    ),
-    // a port, a declaration and an instance of one name
-    (
-        "<XDF name='T'><Port kind='Input' name='a'><Type name='bool'/></Port><Decl kind='Variable' name='a'><Type name='int'/><Expr kind='Literal' literal-kind='Integer' value='1'/></Decl><Instance id='a'><Class name='A'/></Instance></XDF>",
-        "T",
-        "fine",
-    ),
-    (
-        "<XDF name='T'><Decl kind='Variable' name='v'><Type name='int'/><Expr kind='BinOpSeq'><Expr kind='Literal' literal-kind='Integer' value='1'/><Op name='+'/><Expr kind='Var' name='w'/></Expr></Decl></XDF>",
-        "T",
-        "S1 at 154",
-    ),
-    (
-        "<XDF name='T'><Decl kind='Variable' name='v'><Type name='int'/><Expr kind='List'><Expr kind='Var' name='w'/></Expr></Decl></XDF>",
-        "T",
-        "S1 at 81",
-    ),
-    (
-        "<XDF name='T'><Port kind='Input' name='In'><Type name='int'><Entry kind='Expr' name='size'><Expr kind='Var' name='w'/></Entry></Type></Port></XDF>",
-        "T",
-        "S1 at 91",
-    ),
-    (
-        "<XDF name='T'><Port kind='Input' name='In'><Type name='bool'/></Port><Instance id='a'><Class name='A'/></Instance><Connection src='' src-port='In' dst='a' dst-port='In'><Attribute name='bufferSize'><Expr kind='Var' name='w'/></Attribute></Connection></XDF>",
-        "T",
-        "S1 at 198",
-    ),
-    (
-        "<XDF name='T'><Instance id='a'><Class name='A'/><Parameter name='k'><Expr kind='UnaryOp'><Op name='-'/><Expr kind='Var' name='w'/></Expr></Parameter></Instance></XDF>",
-        "T",
-        "S1 at 103",
-    ),
-    // declared later, and types that there are in the language
-    (
-        "<XDF name='T'><Decl kind='Variable' name='v'><Type name='float'/><Expr kind='Var' name='w'/></Decl><Decl kind='Variable' name='w'><Type name='half'/><Expr kind='Literal' literal-kind='Integer' value='1'/></Decl></XDF>",
-        "T",
-        "fine",
-    ),
-];
+const SCOPES: &str = "
+# ..
+= fine
+in T
+net <XDF name='T'></XDF>
+# ..
+= fine
+in T M
+net <XDF name='T'><Instance id='a'><Class name='A'/></Instance><Instance id='b'><Class name='A'/></Instance></XDF>
+# ..
+= fine
+in T
+net <XDF name='T'><Decl kind='Param' name='p'><Type name='int'/></Decl><Decl kind='Variable' name='v'><Type name='int'/><Expr kind='Var' name='p'/></Decl><Instance id='a'><Class name='A'/><Parameter name='k'><Expr kind='Var' name='v'/></Parameter></Instance></XDF>
+# ..
+= N3 at 31
+in A
+net <XDF name='T'><Instance id='a'><Class name='A'/></Instance></XDF>
+# one of those outside
+= N3 at 76
+in T M
+net <XDF name='T'><Instance id='x'><Class name='X'/></Instance><Instance id='m'><Class name='M'/></Instance></XDF>
+# ..
+= N3 at 76
+in M T
+net <XDF name='T'><Instance id='x'><Class name='X'/></Instance><Instance id='t'><Class name='T'/></Instance></XDF>
+# its own class is one of those that are told
+= fine
+in M
+net <XDF name='T'><Instance id='t'><Class name='T'/></Instance></XDF>
+# classes are whole
+= fine
+in A
+net <XDF name='T'><Instance id='a'><Class name='x.A'/></Instance></XDF>
+# ..
+= N8 at 68
+in T
+net <XDF name='T'><Port kind='Input' name='a'><Type name='bool'/></Port><Port kind='Output' name='a'><Type name='bool'/></Port></XDF>
+# ..
+= N8 at 125
+in T
+net <XDF name='T'><Decl kind='Variable' name='a'><Type name='int'/><Expr kind='Literal' literal-kind='Integer' value='1'/></Decl><Decl kind='Param' name='a'><Type name='int'/></Decl></XDF>
+# ..
+= N8 at 59
+in T
+net <XDF name='T'><Instance id='a'><Class name='A'/></Instance><Instance id='a'><Class name='B'/></Instance></XDF>
+# a port, a declaration and an instance of one name
+= fine
+in T
+net <XDF name='T'><Port kind='Input' name='a'><Type name='bool'/></Port><Decl kind='Variable' name='a'><Type name='int'/><Expr kind='Literal' literal-kind='Integer' value='1'/></Decl><Instance id='a'><Class name='A'/></Instance></XDF>
+# ..
+= S1 at 154
+in T
+net <XDF name='T'><Decl kind='Variable' name='v'><Type name='int'/><Expr kind='BinOpSeq'><Expr kind='Literal' literal-kind='Integer' value='1'/><Op name='+'/><Expr kind='Var' name='w'/></Expr></Decl></XDF>
+# ..
+= S1 at 81
+in T
+net <XDF name='T'><Decl kind='Variable' name='v'><Type name='int'/><Expr kind='List'><Expr kind='Var' name='w'/></Expr></Decl></XDF>
+# ..
+= S1 at 91
+in T
+net <XDF name='T'><Port kind='Input' name='In'><Type name='int'><Entry kind='Expr' name='size'><Expr kind='Var' name='w'/></Entry></Type></Port></XDF>
+# ..
+= S1 at 198
+in T
+net <XDF name='T'><Port kind='Input' name='In'><Type name='bool'/></Port><Instance id='a'><Class name='A'/></Instance><Connection src='' src-port='In' dst='a' dst-port='In'><Attribute name='bufferSize'><Expr kind='Var' name='w'/></Attribute></Connection></XDF>
+# ..
+= S1 at 103
+in T
+net <XDF name='T'><Instance id='a'><Class name='A'/><Parameter name='k'><Expr kind='UnaryOp'><Op name='-'/><Expr kind='Var' name='w'/></Expr></Parameter></Instance></XDF>
+# ..
+= S1 at 43
+in T
+net <XDF name='T'><Port kind='Input' name='In'><Type name='Int'/></Port></XDF>
+# ..
+= S1 at 94
+in T
+net <XDF name='T'><Decl kind='Variable' name='v'><Type name='List'><Entry kind='Type' name='type'><Type name='nat'/></Entry><Entry kind='Expr' name='size'><Expr kind='Literal' literal-kind='Integer' value='2'/></Entry></Type><Expr kind='Literal' literal-kind='Integer' value='1'/></Decl></XDF>
+# declared later, and types that there are in the language
+= fine
+in T
+net <XDF name='T'><Decl kind='Variable' name='v'><Type name='float'/><Expr kind='Var' name='w'/></Decl><Decl kind='Variable' name='w'><Type name='half'/><Expr kind='Literal' literal-kind='Integer' value='1'/></Decl></XDF>";
 
 /// A set of networks of these classes, whose files are numbered from 5.
 fn set(alloc: Global, classes: &str) -> Result<NetSet, Fail> {
@@ -165,20 +170,26 @@ fn looked_up(alloc: Global, set: &NetSet, classes: &str) -> Result<String, Fail>
     Ok(out)
 }
 
+/// What is found in a set of networks.
+fn found(alloc: Global, classes: &str, asked: &str) -> Result<String, Fail> {
+    let set = set(alloc, classes)?;
+    looked_up(alloc, &set, asked)
+}
+
 #[test]
 fn a_set_of_networks_is_asked_by_class(rt: HostRuntime) -> Result<(), Fail> {
-    let alloc = rt.alloc();
-    let rows = [
-        ("", "A", "none of 0"),
-        ("A", "A B", "5 none of 1"),
-        ("A p.A A.p B C D", "D p.A A A.p p", "10 6 5 7 none of 6"),
-        // a second network of a class isn't added
-        ("A B A", "A B", "5 6 of 2"),
-    ];
-    for (classes, asked, expected) in rows {
-        let set = set(alloc, classes)?;
-        let found = looked_up(alloc, &set, asked)?;
-        assert_eq!(rt; found.as_str(), expected);
+    for &(classes, asked, expected) in SETS {
+        let found = found(rt.alloc(), classes, asked)?;
+        same(&rt, found.as_str(), expected);
     }
     Ok(())
 }
+
+/// Classes of networks, those that are asked for, and their files.
+const SETS: &[(&str, &str, &str)] = &[
+    ("", "A", "none of 0"),
+    ("A", "A B", "5 none of 1"),
+    ("A p.A A.p B C D", "D p.A A A.p p", "10 6 5 7 none of 6"),
+    // a second network of a class isn't added
+    ("A B A", "A B", "5 6 of 2"),
+];

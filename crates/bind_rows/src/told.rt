@@ -79,7 +79,7 @@ fn add_link(out: &mut String, link: &Link) -> Result<(), AllocError> {
 }
 
 /// A network: its actors, its inputs, its outputs and its links, with `; ` between.
-pub(crate) fn network(alloc: Global, leaves: &[Leaf], flat: &Flat) -> Result<String, AllocError> {
+fn network(alloc: Global, leaves: &[Leaf], flat: &Flat) -> Result<String, AllocError> {
     let mut out = String::new(alloc);
     for leaf in leaves {
         add_leaf(&mut out, leaf)?;
@@ -95,12 +95,15 @@ pub(crate) fn network(alloc: Global, leaves: &[Leaf], flat: &Flat) -> Result<Str
     Ok(out)
 }
 
+/// How a network is told.
+#[derive(Clone, Copy)]
+pub(crate) enum Told {
+    Whole,
+    Outline,
+}
+
 /// A network in outline: the paths and classes of its actors, and how many links there are.
-pub(crate) fn in_outline(
-    alloc: Global,
-    leaves: &[Leaf],
-    flat: &Flat,
-) -> Result<String, AllocError> {
+fn in_outline(alloc: Global, leaves: &[Leaf], flat: &Flat) -> Result<String, AllocError> {
     let mut out = String::new(alloc);
     for leaf in leaves {
         let path = &leaf.path;
@@ -122,5 +125,21 @@ pub(crate) fn refusal(alloc: Global, front: Front) -> Result<String, AllocError>
             format!(in alloc; "{rule} {file} {at}")
         }
         Front::Memory => String::from_str(alloc, "memory"),
+    }
+}
+
+/// What flattening came to.
+pub(crate) fn flattened(
+    alloc: Global,
+    told: Told,
+    leaves: &[Leaf],
+    found: Result<Flat, Front>,
+) -> Result<String, AllocError> {
+    match found {
+        Ok(flat) => match told {
+            Told::Whole => network(alloc, leaves, &flat),
+            Told::Outline => in_outline(alloc, leaves, &flat),
+        },
+        Err(front) => refusal(alloc, front),
     }
 }

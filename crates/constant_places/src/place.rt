@@ -1,10 +1,11 @@
 //! Where the innermost constant expression begins that uses a name.
 #![tactic(auto, using(crate::proofs::Last::last_of_both, crate::proofs::Last::both_in_turn))]
 
-ghost use Rattle.std.specs.Prelude.{◌≡◌, ◌∷◌, ◌++◌, map};
+ghost use Rattle.std.specs.Prelude.{◌≡◌, ◌++◌, map};
 ghost use Rattle.cal_ast.specs.Tree.{listed};
 ghost use Rattle.cal_ast.specs.View.{expr_tree, gen_tree, type_arg_tree, type_tree};
 ghost use Rattle.cal_check.specs.Constants.{constant_place, constants_in, last_using};
+ghost use Rattle.constant_places.specs.Inside.{from_outside, inside, inside_gens};
 
 use crate::uses::uses_at;
 use cal_ast::{Expr, ExprForm, Gen, TypeArg, TypeExpr};
@@ -27,7 +28,7 @@ pub fn constant_place_in_type(p: u32, t: &TypeExpr) -> u32
 /// Where the innermost one inside an expression begins, or else the one outside.
 #[cycle(place)]
 fn in_expr(p: u32, e: &Expr, outside: u32) -> u32
-    ensures { result ≡ last_using p (constants_in (expr_tree e.now)) outside }
+    ensures { result ≡ last_using p (inside e.now) outside }
 {
     match &e.form {
         ExprForm::Call { args, .. } => in_exprs(p, args, outside),
@@ -47,8 +48,7 @@ fn in_expr(p: u32, e: &Expr, outside: u32) -> u32
 /// The same in two expressions.
 #[cycle(place)]
 fn in_both(p: u32, left: &Expr, right: &Expr, outside: u32) -> u32
-    ensures { result ≡ last_using p (constants_in (expr_tree left.now)
-        ++ constants_in (expr_tree right.now)) outside }
+    ensures { result ≡ last_using p (inside left.now ++ inside right.now) outside }
 {
     let within = in_expr(p, left, outside);
     in_expr(p, right, within)
@@ -57,8 +57,8 @@ fn in_both(p: u32, left: &Expr, right: &Expr, outside: u32) -> u32
 /// The same in three expressions.
 #[cycle(place)]
 fn in_three(p: u32, first: &Expr, second: &Expr, third: &Expr, outside: u32) -> u32
-    ensures { result ≡ last_using p (constants_in (expr_tree first.now)
-        ++ (constants_in (expr_tree second.now) ++ constants_in (expr_tree third.now))) outside }
+    ensures { result
+        ≡ last_using p (inside first.now ++ (inside second.now ++ inside third.now)) outside }
 {
     let within = in_expr(p, first, outside);
     in_both(p, second, third, within)
@@ -67,8 +67,7 @@ fn in_three(p: u32, first: &Expr, second: &Expr, third: &Expr, outside: u32) -> 
 /// The same in an item and its generators.
 #[cycle(place)]
 fn in_comp(p: u32, item: &Expr, gens: &[Gen], outside: u32) -> u32
-    ensures { result ≡ last_using p (constants_in (expr_tree item.now)
-        ++ constants_in (listed (map gen_tree gens.now))) outside }
+    ensures { result ≡ last_using p (inside item.now ++ inside_gens gens.now) outside }
 {
     let within = in_expr(p, item, outside);
     in_gens(p, gens, within)
@@ -91,7 +90,7 @@ fn in_exprs(p: u32, exprs: &[Expr], outside: u32) -> u32
 /// An expression that must be constant, and those inside it.
 #[cycle(place)]
 fn in_constant(p: u32, e: &Expr, outside: u32) -> u32
-    ensures { result ≡ last_using p (expr_tree e.now ∷ constants_in (expr_tree e.now)) outside }
+    ensures { result ≡ last_using p (from_outside e.now) outside }
 {
     if uses_at(p, e) {
         return in_expr(p, e, e.at);
@@ -102,7 +101,7 @@ fn in_constant(p: u32, e: &Expr, outside: u32) -> u32
 /// The same in generators.
 #[cycle(place)]
 fn in_gens(p: u32, gens: &[Gen], outside: u32) -> u32
-    ensures { result ≡ last_using p (constants_in (listed (map gen_tree gens.now))) outside }
+    ensures { result ≡ last_using p (inside_gens gens.now) outside }
 {
     let mut within = outside;
     let mut rest = gens;
@@ -125,8 +124,7 @@ fn in_gen(p: u32, generator: &Gen, outside: u32) -> u32
 /// The same in the bounds of a generator.
 #[cycle(place)]
 fn in_bounds(p: u32, from: &Expr, to: &Expr, outside: u32) -> u32
-    ensures { result ≡ last_using p ((expr_tree from.now ∷ constants_in (expr_tree from.now))
-        ++ (expr_tree to.now ∷ constants_in (expr_tree to.now))) outside }
+    ensures { result ≡ last_using p (from_outside from.now ++ from_outside to.now) outside }
 {
     let within = in_constant(p, from, outside);
     in_constant(p, to, within)

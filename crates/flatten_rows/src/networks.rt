@@ -11,7 +11,7 @@ use fnl_flatten::{Flat, Head, HeadPort, flatten};
 use fnl_tree::{Inner, Leaf, Net, NetEnd, Part, Tree, Wire};
 use net_model::{End, Link};
 use rvc_base::{Front, InstId, Place, Scalar};
-use std::alloc::Global;
+use std::alloc::{AllocError, Global};
 use std::process::Abort;
 use std::test::Fail;
 
@@ -154,30 +154,50 @@ fn add_link(out: &mut String, link: &Link) -> Result<(), Fail> {
     Ok(())
 }
 
-fn answer(alloc: Global, found: Result<Flat, Front>) -> Result<String, Fail> {
+/// The links of a network.
+fn links_told(alloc: Global, flat: &Flat) -> Result<String, Fail> {
     let mut out = String::new(alloc);
-    match found {
-        Ok(flat) => {
-            for link in &flat.links {
-                add_link(&mut out, link)?;
-            }
-        }
-        Err(Front::Refused(refusal)) => {
+    for link in &flat.links {
+        add_link(&mut out, link)?;
+    }
+    Ok(out)
+}
+
+/// A refusal: the rule, the number of the file and the offset.
+fn refusal(alloc: Global, front: Front) -> Result<String, AllocError> {
+    match front {
+        Front::Refused(refusal) => {
             let rule = refusal.rule;
             let file = refusal.place.file;
             let at = refusal.place.offset;
-            write!(out, "{rule} {file} {at}")?;
+            format!(in alloc; "{rule} {file} {at}")
         }
-        Err(Front::Memory) => out.push_str("memory")?,
+        Front::Memory => String::from_str(alloc, "memory"),
     }
-    Ok(out)
 }
 
 fn flat(alloc: Global, tree: &Tree, heads: &[Head]) -> Result<String, Fail> {
     if !is_whole(tree, heads) {
         return Ok(String::from_str(alloc, "not whole")?);
     }
-    answer(alloc, flatten(alloc, tree, heads))
+    match flatten(alloc, tree, heads) {
+        Ok(flat) => links_told(alloc, &flat),
+        Err(front) => Ok(refusal(alloc, front)?),
+    }
+}
+
+/// The same, but of the links only how many there are.
+fn count(alloc: Global, tree: &Tree, heads: &[Head]) -> Result<String, Fail> {
+    if !is_whole(tree, heads) {
+        return Ok(String::from_str(alloc, "not whole")?);
+    }
+    match flatten(alloc, tree, heads) {
+        Ok(flat) => {
+            let links = flat.links.len();
+            Ok(format!(in alloc; "{links} links")?)
+        }
+        Err(front) => Ok(refusal(alloc, front)?),
+    }
 }
 
 fn tree(alloc: Global, nets: &[&str], leaves: usize) -> Result<Tree, Fail> {
@@ -197,14 +217,18 @@ fn tree(alloc: Global, nets: &[&str], leaves: usize) -> Result<Tree, Fail> {
     })
 }
 
+/// The ports of an actor.
+fn head(alloc: Global, line: &str) -> Result<Head, Fail> {
+    let (ins, outs) = cut(line, ";");
+    let ins = head_ports(alloc, ins)?;
+    let outs = head_ports(alloc, outs)?;
+    Ok(Head { ins, outs })
+}
+
 fn heads(alloc: Global, lines: &[&str]) -> Result<Vec<Head>, Fail> {
     let mut found = Vec::new(alloc);
     for line in lines {
-        let (ins, outs) = cut(line, ";");
-        found.push(Head {
-            ins: head_ports(alloc, ins)?,
-            outs: head_ports(alloc, outs)?,
-        })?;
+        found.push(head(alloc, line)?)?;
     }
     Ok(found)
 }
@@ -216,11 +240,16 @@ type Row = (
     &'static str,
 );
 
+/// What networks come to.
+fn answer(alloc: Global, nets: &[&str], actors: &[&str]) -> Result<String, Fail> {
+    let tree = tree(alloc, nets, actors.len())?;
+    let heads = heads(alloc, actors)?;
+    flat(alloc, &tree, &heads)
+}
+
 fn hold(rt: &impl Abort, alloc: Global, rows: &[Row]) -> Result<(), Fail> {
     for (nets, actors, expected) in rows {
-        let tree = tree(alloc, nets, actors.len())?;
-        let heads = heads(alloc, actors)?;
-        let found = flat(alloc, &tree, &heads)?;
+        let found = answer(alloc, nets, actors)?;
         assert_eq!(rt; found.as_str(), *expected);
     }
     Ok(())
@@ -340,93 +369,71 @@ const REFUSALS: &[Row] = &[
     ),
 ];
 
-fn chain(alloc: Global, count: u32, size: u32) -> Result<(Tree, Vec<Head>), Fail> {
-    let mut top = net(alloc, 1, "I0 I1 I2 I3 ; O0 O1 O2 O3 ; ;")?;
-    let mut actors = Vec::new(alloc);
-    let mut found = Vec::new(alloc);
-    for k in 0..count {
-        top.parts.push(Part {
-            id: format!(in alloc; "a{k}")?,
-            inner: Inner::Leaf(InstId(k)),
-        })?;
-        actors.push(leaf(alloc)?)?;
-        found.push(Head {
-            ins: head_ports(alloc, "I0:u8:1 I1:u8:1 I2:u8:1 I3:u8:1")?,
-            outs: head_ports(alloc, "O0:u8:1 O1:u8:1 O2:u8:1 O3:u8:1")?,
-        })?;
-        for p in 0..4u32 {
-            let last = k.saturating_sub(1);
-            top.wires.push(Wire {
-                src: if k == 0 {
-                    String::new(alloc)
-                } else {
-                    format!(in alloc; "a{last}")?
-                },
-                src_port: if k == 0 {
-                    format!(in alloc; "I{p}")?
-                } else {
-                    format!(in alloc; "O{p}")?
-                },
-                dst: format!(in alloc; "a{k}")?,
-                dst_port: format!(in alloc; "I{p}")?,
-                size,
-                at: k,
-            })?;
+/// The connections to actor k of a row: from the one before it, or from the network's inputs.
+fn add_wires(line: &mut String, k: u32, size: u32) -> Result<(), AllocError> {
+    let last = k.saturating_sub(1);
+    for p in 0..4u32 {
+        if k == 0 {
+            write!(line, "I{p}>a0.I{p}:{size} ")?;
+        } else {
+            write!(line, "a{last}.O{p}>a{k}.I{p}:{size} ")?;
         }
     }
-    let mut nets = Vec::new(alloc);
-    nets.push(top)?;
-    let tree = Tree {
-        nets,
-        leaves: actors,
-    };
-    Ok((tree, found))
+    Ok(())
 }
 
-/// How many links a tree has, if it breaks no rule.
-fn link_count(alloc: Global, tree: &Tree, heads: &[Head]) -> Option<usize> {
-    if !is_whole(tree, heads) {
-        return None;
+/// The line of a network in which so many actors stand in a row, with four connections between each two, and more.
+fn row_line(alloc: Global, actors: u32, size: u32, more: &str) -> Result<String, AllocError> {
+    let mut line = String::from_str(alloc, "I0 I1 I2 I3 ; O0 O1 O2 O3 ; ")?;
+    for k in 0..actors {
+        write!(line, "a{k}=l{k} ")?;
     }
-    match flatten(alloc, tree, heads) {
-        Ok(flat) => Some(flat.links.len()),
-        Err(_) => None,
+    line.push_str("; ")?;
+    for k in 0..actors {
+        add_wires(&mut line, k, size)?;
     }
+    line.push_str(more)?;
+    Ok(line)
+}
+
+/// The ports of so many of them.
+fn row_heads(alloc: Global, actors: u32) -> Result<Vec<Head>, Fail> {
+    let mut found = Vec::new(alloc);
+    for _ in 0..actors {
+        found.push(head(
+            alloc,
+            "I0:u8:1 I1:u8:1 I2:u8:1 I3:u8:1 ; O0:u8:1 O1:u8:1 O2:u8:1 O3:u8:1",
+        )?)?;
+    }
+    Ok(found)
+}
+
+/// What a row of actors comes to.
+fn row(alloc: Global, actors: u32, size: u32, more: &str) -> Result<String, Fail> {
+    let line = row_line(alloc, actors, size, more)?;
+    let tree = tree(alloc, &[line.as_str()], actors as usize)?;
+    let heads = row_heads(alloc, actors)?;
+    count(alloc, &tree, &heads)
 }
 
 #[test]
 fn limits(rt: HostRuntime) -> Result<(), Fail> {
-    let a = rt.alloc();
-    let (tree, heads) = chain(a, 1000, 0)?;
-    assert_eq!(rt; link_count(a, &tree, &heads), Some(4000));
-    let (tree, heads) = chain(a, 1024, 0)?;
-    assert_eq!(rt; link_count(a, &tree, &heads), Some(4096));
-    let (tree, heads) = chain(a, 4, 1_048_576)?;
-    assert_eq!(rt; link_count(a, &tree, &heads), Some(16));
-    let (tree, heads) = chain(a, 5, 1_048_576)?;
-    assert_eq!(rt; flat(a, &tree, &heads)?.as_str(), "Z9 1 0");
-    let (tree, heads) = chain(a, 1025, 0)?;
-    assert_eq!(rt; flat(a, &tree, &heads)?.as_str(), "not whole");
+    for &(actors, size, more, expected) in LIMITS {
+        let found = row(rt.alloc(), actors, size, more)?;
+        assert_eq!(rt; found.as_str(), expected);
+    }
     Ok(())
 }
 
-#[test]
-fn more_links_than_the_limit(rt: HostRuntime) -> Result<(), Fail> {
-    let a = rt.alloc();
-    let (mut tree, heads) = chain(a, 1024, 0)?;
-    if let Some(top) = tree.nets.first_mut() {
-        top.wires.push(Wire {
-            src: String::from_str(a, "a1023")?,
-            src_port: String::from_str(a, "O0")?,
-            dst: String::new(a),
-            dst_port: String::from_str(a, "O0")?,
-            size: 0,
-            at: 0,
-        })?;
-    }
-    assert_eq!(rt; flat(a, &tree, &heads)?.as_str(), "Z8 1 0");
-    Ok(())
-}
+/// How many actors stand in a row, the size that each connection asks for, and one connection more.
+const LIMITS: &[(u32, u32, &str, &str)] = &[
+    (1000, 0, "", "4000 links"),
+    (1024, 0, "", "4096 links"),
+    (1024, 0, "a1023.O0>O0", "Z8 1 0"),
+    (1025, 0, "", "not whole"),
+    (4, 1_048_576, "", "16 links"),
+    (5, 1_048_576, "", "Z9 1 0"),
+];
 
 #[test]
 fn trees_that_are_not_whole(rt: HostRuntime) -> Result<(), Fail> {

@@ -144,7 +144,7 @@ an_unknown_name : breaks (decls (variable (int 10) (codes "a") (plus (number 1 1
 an_unknown_name = refl
 
 an_unknown_type : breaks (net (a_port true (plain_type (codes "byte") 10) (codes "P") 9 ∷ []) [] [] [])
-    ≡ found rules.unknown_name 11 ∷ []
+    ≡ found rules.unknown_name 10 ∷ []
 an_unknown_type = refl
 
 -- ---- types

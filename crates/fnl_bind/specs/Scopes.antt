@@ -34,7 +34,7 @@ named_twice names = twice bytes_eq network_name_twice [] names
 
 -- ---- names that are unknown
 
--- Names in an expression or a type that aren't declared, and names of types that there aren't.
+-- Names in an expression or a type that aren't declared, and types that there aren't. The place is that of the element.
 abbrev pub unknown_in : Tree → List (List ℕ) → List Violation
 unknown_in (tree.variable name at) names = unless (is_among name names) unknown_name at
 unknown_in (tree.cons t ts) names = unknown_in t names ++ unknown_in ts names
@@ -43,7 +43,7 @@ unknown_in (tree.list items at) names = unknown_in items names
 unknown_in (tree.prefix op e at) names = unknown_in e names
 unknown_in (tree.binary op l r at) names = unknown_in l names ++ unknown_in r names
 unknown_in (tree.type_of (tree.ident name place) args at) names =
-    unless (is_word name) unknown_name place ++ unknown_in args names
+    unless (is_word name) unknown_name at ++ unknown_in args names
 unknown_in (tree.shape_arg x shape) names = unknown_in shape names
 unknown_in (tree.value_arg x value) names = unknown_in value names
 unknown_in other names = []

@@ -77,7 +77,7 @@ pub(crate) fn known_type(t: &TypeExpr, names: &NameSet) -> Result<(), ScopeFault
     ensures { Tests result (unknown_in (type_tree t.now) names.now) }
 {
     if !is_word(t.name.text.as_str()) {
-        return Err(unknown(t.name.at));
+        return Err(unknown(t.at));
     }
     known_args(&t.args, names)
 }

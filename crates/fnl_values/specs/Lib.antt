@@ -4,3 +4,4 @@ pub mod Steady
 pub mod Judging
 pub mod Visiting
 pub mod Evaluated
+pub mod InMemory

@@ -3,12 +3,11 @@
 ghost use Rattle.std.specs.Prelude.{◌≡◌, Some};
 ghost use Rattle.cal_ast.specs.Places.{begins};
 ghost use Rattle.cal_ast.specs.View.{expr_tree};
-ghost use Rattle.cal_model.specs.Kinding.{constant};
 ghost use Rattle.cal_model.specs.View.{value_view};
 ghost use Rattle.const_eval.specs.Held.{names_in};
 ghost use Rattle.const_eval.specs.Judging.{Judges};
 ghost use Rattle.fnl_bind.specs.Values.{value_judged};
-ghost use Rattle.fnl_values.specs.Judging.{outcome_judged};
+ghost use Rattle.fnl_values.specs.InMemory.{outcome_in};
 ghost use Rattle.fnl_values.specs.Steady.{IsSteady};
 
 use cal_ast::Expr;
@@ -26,8 +25,7 @@ pub(crate) fn place_of(e: &Expr) -> u32
 
 /// What an expression gives that has a kind.
 pub(crate) fn outcome(alloc: Global, env: &Env, e: &Expr) -> Result<Value, KindFault>
-    ensures { Judges value_view result (outcome_judged (constant (expr_tree e.now) (names_in env.now))
-        (begins (expr_tree e.now))) }
+    ensures { Judges value_view result (outcome_in env.now e.now) }
 {
     constants_are_values();
     let at = place_of(e);

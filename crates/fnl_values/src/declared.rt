@@ -1,13 +1,9 @@
 //! The declarations of a network, in the order of the text.
 
-ghost use Rattle.std.specs.Prelude.{◌≡◌, IfOk, OnOk, map};
+ghost use Rattle.std.specs.Prelude.{◌≡◌, IfOk, OnOk};
 ghost use Rattle.cal_model.specs.Value.{HasKind, IsType, kind_of_type};
 ghost use Rattle.cal_model.specs.View.{kind_view, shape_view, value_view};
-ghost use Rattle.const_eval.specs.Held.{globals_of, names_in};
-ghost use Rattle.fnl_bind.specs.Library.{var_decl, var_decls};
-ghost use Rattle.fnl_frames.specs.Views.{decl_of};
-ghost use Rattle.fnl_values.specs.Given.{all_given_of, spot_of};
-ghost use Rattle.fnl_values.specs.Judging.{Comes, Declares, DeclaresAll};
+ghost use Rattle.fnl_values.specs.InMemory.{AreDeclared, IsDeclared, IsValued};
 ghost use Rattle.fnl_values.specs.Steady.{IsSteady};
 
 use crate::early::early_type;
@@ -36,8 +32,7 @@ fn value(told: Told<'_>, env: &Env, decl: &NetDecl, t: &Shape, k: &Kind) -> Resu
     requires steady { IsSteady env.now }
     requires allowed { IsType (shape_view t.now) }
     requires kind { kind_view k.now ≡ kind_of_type (shape_view t.now) }
-    ensures comes { Comes result (var_decl told.entry.file (decl_of decl.now)) (all_given_of told.entry.given.now)
-        (spot_of told.entry.owner) (shape_view t.now) (names_in env.now) }
+    ensures comes { IsValued result told.entry decl.now t.now env.now }
     ensures kind { IfOk result (λ v. HasKind (kind_of_type (shape_view t.now)) (value_view v)) }
 {
     let start = match start(told.alloc, env, t, k, &decl.value) {
@@ -50,8 +45,7 @@ fn value(told: Told<'_>, env: &Env, decl: &NetDecl, t: &Shape, k: &Kind) -> Resu
 /// One declaration more, which sees those before it.
 fn declare(told: Told<'_>, env: &mut Env, decl: &NetDecl) -> Result<(), Front>
     requires { IsSteady env.old }
-    ensures declares { Declares result (var_decl told.entry.file (decl_of decl.now)) (all_given_of told.entry.given.now)
-        (spot_of told.entry.owner) (globals_of env.old) (globals_of env.new) }
+    ensures declares { IsDeclared result told.entry decl.now env.old env.new }
     ensures steady { OnOk result (IsSteady env.new) }
 {
     let t = match early_type(told.alloc, env, &decl.shape) {
@@ -70,8 +64,7 @@ fn declare(told: Told<'_>, env: &mut Env, decl: &NetDecl) -> Result<(), Front>
 
 /// All declarations in order, as constants.
 pub(crate) fn declared(told: Told<'_>, decls: &[NetDecl]) -> Result<Env, Front>
-    ensures declares { DeclaresAll result (var_decls told.entry.file (map decl_of decls.now))
-        (all_given_of told.entry.given.now) (spot_of told.entry.owner) }
+    ensures declares { AreDeclared result told.entry decls.now }
     ensures steady { IfOk result (λ env. IsSteady env) }
 {
     let mut env = Env::new(told.alloc);

@@ -1,17 +1,16 @@
 //! The ports of a network.
 #![tactic(auto, using(crate::proofs::Faults::breaks_first, crate::proofs::Faults::fine_first, crate::proofs::Faults::behind_all, crate::proofs::Parts::port_first, crate::proofs::Parts::port_passed))]
 
-ghost use Rattle.std.specs.Prelude.{◌≡◌, [], Some, IfErr, IfOk, OnOk, ◌++◌, ◌∷◌, false, if◌then◌else◌, map, true};
+ghost use Rattle.std.specs.Prelude.{◌≡◌, [], Some, IfErr, IfOk, OnOk, false, true};
 ghost use Rattle.cal_ast.specs.View.{type_tree};
 ghost use Rattle.cal_check.specs.Routines.{single_type};
-ghost use Rattle.cal_check.specs.Violations.{all_broken, all_fine};
 ghost use Rattle.const_eval.specs.Held.{names_in};
 ghost use Rattle.const_eval.specs.Judging.{Judges};
-ghost use Rattle.fnl_bind.specs.Library.{ports_of};
-ghost use Rattle.fnl_bind.specs.Values.{end_judged, ends_judged};
+ghost use Rattle.fnl_bind.specs.Values.{end_judged};
 ghost use Rattle.fnl_frames.specs.Views.{port_of};
 ghost use Rattle.fnl_tree.specs.View.{own_of};
 ghost use Rattle.fnl_values.specs.Causes.{Refuses};
+ghost use Rattle.fnl_values.specs.InMemory.{owns, ports_broken, typed_ends, with_end_if, with_end_unless};
 
 use cal_ast::TypeExpr;
 use cal_model::Shape;
@@ -52,10 +51,9 @@ fn end(alloc: Global, env: &Env, port: &NetPort) -> Result<NetEnd, KindFault>
 
 /// Adds a port of a direction.
 fn add_end(ends: &mut Ends, input: bool, end: NetEnd) -> Result<(), Memory>
-    ensures ins { OnOk result (map own_of ends.new.ins.items
-        ≡ (if input then map own_of ends.old.ins.items ++ own_of end ∷ [] else map own_of ends.old.ins.items)) }
-    ensures outs { OnOk result (map own_of ends.new.outs.items
-        ≡ (if input then map own_of ends.old.outs.items else map own_of ends.old.outs.items ++ own_of end ∷ [])) }
+    ensures ins { OnOk result (owns ends.new.ins ≡ with_end_if input end (owns ends.old.ins)) }
+    ensures outs { OnOk result
+        (owns ends.new.outs ≡ with_end_unless input end (owns ends.old.outs)) }
 {
     if input {
         ends.ins.push(end)?;
@@ -67,13 +65,10 @@ fn add_end(ends: &mut Ends, input: bool, end: NetEnd) -> Result<(), Memory>
 
 /// All ports with their types.
 pub(crate) fn typed_ports(alloc: Global, env: &Env, ports: &[NetPort]) -> Result<Ends, KindFault>
-    ensures conform { IfOk result (λ ends. all_broken (ends_judged (map port_of ports.now) (names_in env.now)) ≡ []) }
-    ensures ins { IfOk result (λ ends. all_fine (ends_judged (ports_of true (map port_of ports.now)) (names_in env.now))
-        ≡ Some (map own_of ends.ins.items)) }
-    ensures outs { IfOk result (λ ends. all_fine (ends_judged (ports_of false (map port_of ports.now)) (names_in env.now))
-        ≡ Some (map own_of ends.outs.items)) }
-    ensures refused { IfErr result (λ fault. Refuses fault
-        (all_broken (ends_judged (map port_of ports.now) (names_in env.now)))) }
+    ensures conform { IfOk result (λ ends. ports_broken env.now ports.now ≡ []) }
+    ensures ins { IfOk result (λ ends. typed_ends true env.now ports.now ≡ Some (owns ends.ins)) }
+    ensures outs { IfOk result (λ ends. typed_ends false env.now ports.now ≡ Some (owns ends.outs)) }
+    ensures refused { IfErr result (λ fault. Refuses fault (ports_broken env.now ports.now)) }
 {
     let mut ends = Ends {
         ins: Vec::new(alloc),

@@ -10,7 +10,8 @@ use rvc_base::{Front, Place, Refusal};
 
 /// A fault in a file.
 pub(crate) fn in_file(file: u32, fault: KindFault) -> Front
-    ensures { (broken : List Violation) → Refuses fault broken → IsCause result (found_in file broken) }
+    ensures { (broken : List Violation) → Refuses fault broken
+        → IsCause result (found_in file broken) }
 {
     match fault {
         KindFault::Broken { rule, at } => {

@@ -1,15 +1,16 @@
 //! Values that parameters are given.
 #![tactic(auto, using(crate::proofs::Wrongly::wrongly_behind, crate::proofs::Wrongly::given_is))]
 
-ghost use Rattle.std.specs.Prelude.{◌≡◌, ℕ, [], IfOk, None, Some, map, option_map};
+ghost use Rattle.std.specs.Prelude.{◌≡◌, ℕ, [], IfOk, Some, option_map};
 ghost use Rattle.cal_ast.specs.View.{optional_expr};
 ghost use Rattle.cal_check.specs.Actors.{given_wrongly, is_declared};
-ghost use Rattle.cal_check.specs.Variables.{given_broken, given_to, given_value, param_broken, value_of};
+ghost use Rattle.cal_check.specs.Variables.{given_to};
 ghost use Rattle.cal_model.specs.Value.{HasKind, IsType, kind_of_type};
 ghost use Rattle.cal_model.specs.View.{kind_view, shape_view, value_view};
-ghost use Rattle.fnl_bind.specs.Library.{params_of, var_decl, var_decls};
+ghost use Rattle.fnl_bind.specs.Library.{var_decl};
 ghost use Rattle.fnl_frames.specs.Views.{decl_of};
 ghost use Rattle.fnl_values.specs.Given.{all_given_of, given_of, spot_of};
+ghost use Rattle.fnl_values.specs.InMemory.{SettlesDecl, SettlesGiven, params_in};
 ghost use Rattle.fnl_values.specs.Judging.{Finds, Settles, bare_broken, is_wrong};
 
 use cal_model::{Kind, Shape, Value};
@@ -30,7 +31,7 @@ fn refused(rule: Rule, place: Place) -> Front
 
 /// Whether a declaration of the name is a parameter.
 fn is_declared(name: &str, decls: &[NetDecl]) -> bool
-    ensures { (file : ℕ) → result ≡ is_declared name.now (params_of (var_decls file (map decl_of decls.now))) }
+    ensures { (file : ℕ) → result ≡ is_declared name.now (params_in file decls.now) }
 {
     let mut rest = decls;
     'decls: while let Some((first, others)) = rest.split_first() {
@@ -44,7 +45,8 @@ fn is_declared(name: &str, decls: &[NetDecl]) -> bool
 
 /// The value that is given under the name.
 fn given_to<'a>(name: &str, given: &'a [LeafValue]) -> Option<&'a LeafValue>
-    ensures { option_map (λ g. given_of g.now) result ≡ given_to name.now (all_given_of given.entry.now) }
+    ensures { option_map (λ g. given_of g.now) result
+        ≡ given_to name.now (all_given_of given.entry.now) }
 {
     let mut rest = given;
     'given: while let Some((first, others)) = rest.split_first() {
@@ -58,8 +60,8 @@ fn given_to<'a>(name: &str, given: &'a [LeafValue]) -> Option<&'a LeafValue>
 
 /// Whether a value is given to no parameter, or to one that is given another before.
 fn is_wrong(given: &LeafValue, before: &[LeafValue], decls: &[NetDecl]) -> bool
-    ensures { (file : ℕ) → result ≡ is_wrong (given_of given.now) (all_given_of before.now)
-        (params_of (var_decls file (map decl_of decls.now))) }
+    ensures { (file : ℕ) → result
+        ≡ is_wrong (given_of given.now) (all_given_of before.now) (params_in file decls.now) }
 {
     let name = given.name.as_str();
     !is_declared(name, decls) || given_to(name, before).is_some()
@@ -67,8 +69,8 @@ fn is_wrong(given: &LeafValue, before: &[LeafValue], decls: &[NetDecl]) -> bool
 
 /// That each value is given to a parameter, and none of these is given two.
 pub(crate) fn given_rightly(given: &[LeafValue], decls: &[NetDecl]) -> Result<(), Front>
-    ensures { (file : ℕ) → Finds result (given_wrongly (all_given_of given.now) []
-        (params_of (var_decls file (map decl_of decls.now)))) }
+    ensures { (file : ℕ) → Finds result
+        (given_wrongly (all_given_of given.now) [] (params_in file decls.now)) }
 {
     let mut rest = given;
     'backwards: while let Some((last, before)) = rest.split_last() {
@@ -86,9 +88,7 @@ pub(crate) fn given_rightly(given: &[LeafValue], decls: &[NetDecl]) -> Result<()
 fn given_stored(alloc: Global, t: &Shape, k: &Kind, given: &LeafValue) -> Result<Value, Front>
     requires allowed { IsType (shape_view t.now) }
     requires kind { kind_view k.now ≡ kind_of_type (shape_view t.now) }
-    ensures settles { Settles result
-        (given_value (Some (given_of given.now)) (shape_view t.now) None)
-        (given_broken (Some (given_of given.now)) (shape_view t.now)) }
+    ensures settles { SettlesGiven result t.now given.now }
     ensures kind { IfOk result (λ v. HasKind (kind_of_type (shape_view t.now)) (value_view v)) }
 {
     if has_kind(k, &given.value) {
@@ -127,9 +127,8 @@ pub(crate) fn value_of(
     requires allowed { IsType (shape_view t.now) }
     requires kind { kind_view k.now ≡ kind_of_type (shape_view t.now) }
     requires starts { HasKind (kind_of_type (shape_view t.now)) (value_view start) }
-    ensures settles { (file : ℕ) → Settles result
-        (value_of (var_decl file (decl_of decl.now)) (all_given_of given.now) (shape_view t.now) (Some (value_view start)))
-        (param_broken (var_decl file (decl_of decl.now)) (all_given_of given.now) (spot_of owner) (shape_view t.now)) }
+    ensures settles { (file : ℕ) → SettlesDecl result
+        (var_decl file (decl_of decl.now)) given.now owner t.now start }
     ensures kind { IfOk result (λ v. HasKind (kind_of_type (shape_view t.now)) (value_view v)) }
 {
     if !decl.param {

@@ -3,11 +3,11 @@
 
 ghost use Rattle.std.specs.Prelude.{◌≡◌, [], IfErr, IfOk};
 ghost use Rattle.const_eval.specs.Held.{names_in};
-ghost use Rattle.fnl_bind.specs.Values.{values_broken};
 ghost use Rattle.fnl_frames.specs.Views.{net_of};
 ghost use Rattle.fnl_values.specs.Evaluated.{Evaluates, HasParts, alone};
 ghost use Rattle.fnl_values.specs.Given.{all_given_of, spot_of};
 ghost use Rattle.fnl_values.specs.Causes.{Refuses};
+ghost use Rattle.fnl_values.specs.InMemory.{parts_broken};
 ghost use Rattle.fnl_values.specs.Steady.{IsSteady};
 
 use crate::declared::{Told, declared};
@@ -41,11 +41,9 @@ fn parts<'a>(
     net: &'a NetFile,
 ) -> Result<NetValues<'a>, KindFault>
     requires { IsSteady env.now }
-    ensures conform { IfOk result (λ v. values_broken (net_of net.entry.now).ports
-        (net_of net.entry.now).instances (net_of net.entry.now).connections (names_in env.now) ≡ []) }
+    ensures conform { IfOk result (λ v. parts_broken env.now net.entry.now ≡ []) }
     ensures parts { IfOk result (λ v. HasParts v file (net_of net.entry.now) (names_in env.now)) }
-    ensures refused { IfErr result (λ fault. Refuses fault (values_broken (net_of net.entry.now).ports
-        (net_of net.entry.now).instances (net_of net.entry.now).connections (names_in env.now))) }
+    ensures refused { IfErr result (λ fault. Refuses fault (parts_broken env.now net.entry.now)) }
 {
     let ends = typed_ports(alloc, env, &net.ports)?;
     let visits = visits(alloc, env, file, &net.instances)?;
@@ -75,7 +73,8 @@ pub fn evaluate<'a>(
     given: &[LeafValue],
     owner: Place,
 ) -> Result<NetValues<'a>, Front>
-    ensures { Evaluates result (alone file (net_of net.entry.now) (all_given_of given.now) (spot_of owner)) }
+    ensures { Evaluates result
+        (alone file (net_of net.entry.now) (all_given_of given.now) (spot_of owner)) }
 {
     given_rightly(given, &net.decls)?;
     let told = Told {

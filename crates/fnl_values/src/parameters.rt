@@ -2,12 +2,12 @@
 #![tactic(auto, using(crate::proofs::Faults::breaks_first, crate::proofs::Faults::fine_first, crate::proofs::Faults::behind_all, crate::proofs::Faults::behind_more, crate::proofs::Parts::given_first))]
 
 ghost use Rattle.std.specs.Prelude.{◌≡◌, IfOk, Some, map};
-ghost use Rattle.cal_model.specs.View.{value_view};
 ghost use Rattle.const_eval.specs.Held.{names_in};
 ghost use Rattle.const_eval.specs.Judging.{Judges};
 ghost use Rattle.fnl_bind.specs.Values.{given_as, parameter_judged};
 ghost use Rattle.fnl_frames.specs.Views.{parameter_of};
 ghost use Rattle.fnl_values.specs.Given.{given_of};
+ghost use Rattle.fnl_values.specs.InMemory.{value_given};
 ghost use Rattle.fnl_values.specs.Judging.{GivesAll};
 ghost use Rattle.fnl_values.specs.Steady.{IsSteady};
 
@@ -21,10 +21,10 @@ use std::alloc::Global;
 /// The value of a parameter of an instance, over the names of the network in which it stands.
 fn parameter(alloc: Global, env: &Env, file: u32, p: &NetParameter) -> Result<LeafValue, KindFault>
     requires { IsSteady env.now }
-    ensures judged { Judges (λ g. Some (value_view g.value)) result
+    ensures judged { Judges value_given result
         (parameter_judged (parameter_of p.now) (names_in env.now)) }
-    ensures given { IfOk result (λ g. given_as file (parameter_of p.now) (Some (value_view g.value))
-        ≡ Some (given_of g)) }
+    ensures given { IfOk result
+        (λ g. given_as file (parameter_of p.now) (value_given g) ≡ Some (given_of g)) }
 {
     let value = value(alloc, env, &p.value)?;
     let name = p.name.clone()?;

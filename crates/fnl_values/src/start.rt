@@ -30,7 +30,8 @@ pub(crate) fn start(
     requires steady { IsSteady env.now }
     requires allowed { IsType (shape_view t.now) }
     requires kind { kind_view k.now ≡ kind_of_type (shape_view t.now) }
-    ensures starts { Starts result (come (shape_view t.now) (optional_expr value.now) (names_in env.now)) }
+    ensures starts { Starts result
+        (come (shape_view t.now) (optional_expr value.now) (names_in env.now)) }
     ensures kind { IfOk result (λ v. HasKind (kind_of_type (shape_view t.now)) (value_view v)) }
 {
     match value {
@@ -44,7 +45,8 @@ fn start_at(alloc: Global, env: &Env, t: &Shape, k: &Kind, e: &Expr) -> Result<V
     requires steady { IsSteady env.now }
     requires allowed { IsType (shape_view t.now) }
     requires kind { kind_view k.now ≡ kind_of_type (shape_view t.now) }
-    ensures starts { Starts result (come (shape_view t.now) (present (expr_tree e.now)) (names_in env.now)) }
+    ensures starts { Starts result
+        (come (shape_view t.now) (present (expr_tree e.now)) (names_in env.now)) }
     ensures kind { IfOk result (λ v. HasKind (kind_of_type (shape_view t.now)) (value_view v)) }
 {
     constants_are_values();

@@ -1,13 +1,10 @@
 //! Instances with what they are given.
 #![tactic(auto, using(crate::proofs::Faults::refuses_in_first, crate::proofs::Faults::refuses_in_others, crate::proofs::Parts::visit_more, crate::proofs::Parts::visits_all))]
 
-ghost use Rattle.std.specs.Prelude.{◌≡◌, [], IfErr, IfOk, map};
-ghost use Rattle.const_eval.specs.Held.{names_in};
-ghost use Rattle.fnl_bind.specs.Values.{instances_broken};
-ghost use Rattle.fnl_frames.specs.Views.{instance_of};
+ghost use Rattle.std.specs.Prelude.{◌≡◌, [], IfErr, IfOk};
 ghost use Rattle.fnl_values.specs.Causes.{Refuses};
+ghost use Rattle.fnl_values.specs.InMemory.{GivesTo, visits_broken};
 ghost use Rattle.fnl_values.specs.Steady.{IsSteady};
-ghost use Rattle.fnl_values.specs.Visiting.{AreVisits, visit_of};
 
 use crate::parameters::parameters;
 use const_eval::{Env, KindFault};
@@ -32,12 +29,11 @@ pub(crate) fn visits<'a>(
     instances: &'a [NetInstance],
 ) -> Result<VecDeque<Visit<'a>>, KindFault>
     requires { IsSteady env.now }
-    ensures conform { IfOk result (λ visits.
-        instances_broken (map instance_of instances.entry.now) (names_in env.now) ≡ []) }
-    ensures given { IfOk result (λ visits. AreVisits file (names_in env.now)
-        (map instance_of instances.entry.now) (map visit_of visits.items)) }
+    ensures conform { IfOk result (λ visits. visits_broken env.now instances.entry.now ≡ []) }
+    ensures given { IfOk result
+        (λ visits. GivesTo file env.now instances.entry.now visits.items) }
     ensures refused { IfErr result (λ fault. Refuses fault
-        (instances_broken (map instance_of instances.entry.now) (names_in env.now))) }
+        (visits_broken env.now instances.entry.now)) }
 {
     let mut visits = VecDeque::new(alloc);
     let mut rest = instances;

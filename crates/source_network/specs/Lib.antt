@@ -4,3 +4,4 @@ pub mod Source
 pub mod Files
 pub mod Laws
 pub mod Library
+pub mod Answers

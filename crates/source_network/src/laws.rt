@@ -1,5 +1,6 @@
 //! What holds of source networks.
 
+ghost use Rattle.source_network.specs.Answers.{ActorsHaveHeads, ActorsMakeWhole, AnswersAreSource, BoundAreTrees, LoneTreesAreSound};
 ghost use Rattle.source_network.specs.Laws.{ActorsAreOne, NetworksAreOne};
 ghost use Rattle.source_network.specs.Library.{ActorFilesAreLoaded, ActorFilesAreSources, FilesAreOne, LibraryNetworksAreOne};
 
@@ -32,4 +33,16 @@ pub fn one_library_network()
 pub fn actor_files_are_loaded()
     ensures loaded { ActorFilesAreLoaded }
     ensures sources { ActorFilesAreSources }
+{}
+
+/// What binding and flattening answer is the source network of a class. If its top is a network, `bind` answers its tree
+/// (`bound`); if it is an actor alone, its tree is sound too (`lone`). With the ports of sound actors, one for each leaf,
+/// either can be flattened (`whole`), and these actors, joined by the links that are answered, are the source network
+/// (`network`).
+pub fn answers_are_the_source_network()
+    ensures heads { ActorsHaveHeads }
+    ensures lone { LoneTreesAreSound }
+    ensures whole { ActorsMakeWhole }
+    ensures bound { BoundAreTrees }
+    ensures network { AnswersAreSource }
 {}

@@ -1,10 +1,11 @@
 //! Values that are stored in a type.
 
-ghost use Rattle.std.specs.Prelude.{◌≡◌, IfOk, map};
+ghost use Rattle.std.specs.Prelude.{◌≡◌, IfOk};
 ghost use Rattle.rvc_base.specs.Arithmetic.{truth};
 ghost use Rattle.rvc_base.specs.Storing.{IsSize};
 ghost use Rattle.cal_model.specs.Value.{IsType, Single, of_number, stored, stored_each};
-ghost use Rattle.cal_model.specs.View.{in_order, shape_view, value_view, values_view};
+ghost use Rattle.cal_model.specs.View.{shape_view, value_view, values_view};
+ghost use Rattle.typed_values.specs.Stored.{AreStored};
 
 use crate::copied::copy;
 use cal_model::{Shape, Value, Values};
@@ -76,8 +77,7 @@ fn stored_list(alloc: Global, t: &Shape, values: &Values) -> Result<Values, Memo
 #[cycle(stored)]
 fn stored_each(alloc: Global, t: &Shape, values: &[Value]) -> Result<Vec<Value>, Memory>
     requires { IsType (shape_view t.now) }
-    ensures { IfOk result (λ kept. in_order (map value_view kept.items)
-        ≡ stored_each (shape_view t.now) (in_order (map value_view values.now))) }
+    ensures { IfOk result (λ kept. AreStored t.now values.now kept.items) }
 {
     let mut items = Vec::new(alloc);
     for value in values {
