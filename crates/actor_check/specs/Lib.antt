@@ -1,2 +1,4 @@
 pub mod Sources
 pub mod Checking
+pub mod Phases
+pub mod Parts

@@ -5,6 +5,11 @@ mod bodies;
 mod built;
 mod collect;
 mod fault;
+mod heading;
+mod heads;
+mod inside;
+mod keeping;
+mod scalars;
 mod values;
 
 pub use bodies::check_bodies;
