@@ -62,3 +62,10 @@ capped_three n s rest =
     ap (λ k. capped (k + rest)) (sum n s (split s (nat_le s 65536) refl))
     ∙ sum_first (n + s) rest (split (n + s) (nat_le (n + s) 65536) refl)
     ∙ ap capped (sym same)
+
+pub capped_once : (n : ℕ) → capped (capped n) ≡ capped n
+capped_once n = go (split n (nat_le n 65536) refl)
+  where
+    go : (n ≤ 65536) ⊎ (65536 < n) → capped (capped n) ≡ capped n
+    go (inl h) = ap capped (capped_low n h)
+    go (inr h) = ap capped (capped_high n h) ∙ capped_high 65537 (omega arith) ∙ sym (capped_high n h)

@@ -4,5 +4,6 @@ mod Behind
 mod Chain
 mod Counts
 mod SamePairs
-mod Inside
+mod InsideParts
 mod Putting
+mod Ported

@@ -27,11 +27,12 @@ use Rattle.actor_build.specs.Building.{ArePartsOf, BreaksMembers, HasActions, Is
 use Rattle.actor_build.specs.declared.whole.BareActor.{BareActor}
 use Rattle.variable_check.specs.Causes.{IsCause}
 use Rattle.variable_check.specs.declared.header.Header.{Header}
-use Rattle.actor_check.specs.Parts.{AreKept, ArePartsIn, BreaksParts, IsCycleIn, header_names, placed}
-use Rattle.actor_check.specs.Phases.{AreRoutinesOf, IsHeaderOf}
+use Rattle.actor_check.specs.Parts.{AreKept, ArePartsIn, BreaksParts, BuildsActor, FindsInside, IsBuilt, IsCycleIn, IsInside, placed}
+use Rattle.actor_check.specs.Phases.{routines_found, scalars_found}
 use Rattle.actor_check.specs.Sources.{source_in}
-use Rattle.actor_check.specs.declared.heads.Routines.{Routines}
+use Rattle.actor_check.specs.declared.routines.Routines.{Routines}
 use Rattle.actor_check.proofs.Causes.{found_of}
+use Rattle.actor_check.proofs.InsideParts.{inside_fine, members_cause, routines_cause, scalars_cause}
 use Rattle.actor_check.proofs.SamePairs.{pairs_same}
 
 -- ---- what is around
@@ -48,10 +49,10 @@ pub around_is : (header : Header) (routines : Routines) (names : Names) (s : Sou
 unfolding around_with
 around_is header routines names s gs owner p =
     let procs : (around_of s gs owner).procs ≡ map proc_view routines.procs.items =
-    ap (λ n. or_none (all_fine (procs_of (procs_in (members_of s.actor)) n))) p.names ∙ ap or_none p.routines.procs in
+    ap (λ n. or_none (all_fine (procs_of (procs_in (members_of s.actor)) n))) p.inside ∙ ap or_none p.heads.procs in
     around_same (around_of s gs owner).ins (map port_view header.ins.items) (around_of s gs owner).outs (map port_view header.outs.items)
     (around_of s gs owner).procs (map proc_view routines.procs.items) (around_of s gs owner).names names
-    (ap or_none p.header.ins) (ap or_none p.header.outs) procs p.names
+    (ap or_none p.ports.ins) (ap or_none p.ports.outs) procs p.inside
 
 around_kept : (bare : BareActor) (header : Header) (routines : Routines) (names : Names) → bare.ins.items ≡ header.ins.items → bare.outs.items ≡ header.outs.items
     → bare.procs.items ≡ routines.procs.items
@@ -70,7 +71,7 @@ parts_are bare held header routines scope names gs owner k p h = record {
   class = sym k.class;
   around = around_is header routines names (source_in scope) gs owner p ∙ around_kept bare header routines names k.ins k.outs k.procs;
   vars = ap (λ xs. kept_vars xs (source_in scope)) h ∙ sym k.vars;
-  funs = ap (λ fs. kept_funs (or_none fs) (source_in scope)) p.routines.funs ∙ sym k.funs;
+  funs = ap (λ fs. kept_funs (or_none fs) (source_in scope)) p.heads.funs ∙ sym k.funs;
 }
 
 -- ---- what actions and their order break
@@ -103,3 +104,71 @@ parts_break f bare scope names broken gs owner parts =
     subst (λ a. BreaksMembers f members a actor scope.actor.at) (sym parts.around) (broken actor has) in
     ⊎_elim (λ l. inl (placed_cause scope.file f (members_broken members around actor scope.actor.at) l))
     (λ r. inr (placed_cycle scope.file f members actor pairs r)) breaks
+
+-- ---- the actor, if nothing else is broken
+
+pub kept_scalars : (f : Front) (bare : BareActor) (held : Vec BoundVar Global) (header : Header) (routines : Routines) (scope : Resolved) (names : Names) (gs : List Given) (owner : Spot)
+    → AreKept bare held header routines (source_in scope) → (all_valued (source_in scope) gs owner).held ≡ map var_view held.items
+    → IsCause f (scalars_found (source_in scope) (map var_view bare.vars.items))
+    → IsCause f (inside_found (source_in scope) (around_of (source_in scope) gs owner) (actor_given (source_in scope) gs owner))
+kept_scalars f bare held header routines scope names gs owner k h broken =
+    let s = source_in scope in
+    let same : map var_view bare.vars.items ≡ kept_vars (all_valued s gs owner).held s = k.vars ∙ sym (ap (λ xs. kept_vars xs s) h) in
+    scalars_cause f s (around_of s gs owner) (actor_given s gs owner) (subst (λ xs. IsCause f (scalars_found s xs)) same broken)
+
+pub kept_inside : (found : Bound) (bare : BareActor) (held : Vec BoundVar Global) (header : Header) (routines : Routines) (scope : Resolved) (names : Names) (gs : List Given) (owner : Spot)
+    → AreKept bare held header routines (source_in scope) → ArePartsIn header routines names (source_in scope) gs owner
+    → (all_valued (source_in scope) gs owner).held ≡ map var_view held.items
+    → routines_found (source_in scope) (map proc_view routines.procs.items) names ≡ []
+    → scalars_found (source_in scope) (map var_view bare.vars.items) ≡ []
+    → IsBuilt found bare scope names → IsInside found (source_in scope) gs owner
+kept_inside found bare held header routines scope names gs owner k p h routines_fine scalars_fine b =
+    let s = source_in scope in
+    let around = around_of s gs owner in
+    let actor = actor_given s gs owner in
+    let parts = parts_are bare held header routines scope names gs owner k p h in
+    let is : actor_of found ≡ actor = b.is gs owner parts in
+    let same : map var_view bare.vars.items ≡ kept_vars (all_valued s gs owner).held s = k.vars ∙ sym (ap (λ xs. kept_vars xs s) h) in
+    let shape = around_is header routines names s gs owner p in
+    let procs : around.procs ≡ map proc_view routines.procs.items = ap (λ a. a.procs) shape in
+    let members : members_broken (members_of s.actor) around actor (place_of s.actor) ≡ [] =
+    subst (λ a. members_broken (members_of s.actor) around a (place_of s.actor) ≡ []) is
+    (subst (λ a. members_broken (members_of s.actor) a (actor_of found) (place_of s.actor) ≡ []) (sym parts.around) b.fine) in
+    let scalars : scalars_found s actor.vars ≡ [] = subst (λ xs. scalars_found s xs ≡ []) same scalars_fine in
+    record {
+      is = is;
+      fine = inside_fine s around actor
+          (subst (λ ps. routines_found s ps around.names ≡ []) (sym procs) (subst (λ n. routines_found s (map proc_view routines.procs.items) n ≡ []) (sym p.inside) routines_fine))
+          members scalars;
+      ordered = λ above. b.ordered (subst IsAboveItself (sym is) above);
+    }
+
+-- ---- what is broken, if something is
+
+pub kept_breaks : (f : Front) (bare : BareActor) (held : Vec BoundVar Global) (header : Header) (routines : Routines) (scope : Resolved) (names : Names) (gs : List Given) (owner : Spot)
+    → AreKept bare held header routines (source_in scope) → ArePartsIn header routines names (source_in scope) gs owner
+    → (all_valued (source_in scope) gs owner).held ≡ map var_view held.items
+    → BreaksParts f bare scope names → FindsInside (Err f) (source_in scope) gs owner
+kept_breaks f bare held header routines scope names gs owner k p h breaks =
+    let s = source_in scope in
+    ⊎_elim (λ l. inl (members_cause f s (around_of s gs owner) (actor_given s gs owner) l)) (λ r. inr r)
+    (breaks gs owner (parts_are bare held header routines scope names gs owner k p h))
+
+pub routines_break : (f : Front) (header : Header) (routines : Routines) (scope : Resolved) (names : Names) (gs : List Given) (owner : Spot)
+    → ArePartsIn header routines names (source_in scope) gs owner
+    → IsCause f (routines_found (source_in scope) (map proc_view routines.procs.items) names) → FindsInside (Err f) (source_in scope) gs owner
+routines_break f header routines scope names gs owner p h =
+    let s = source_in scope in
+    let procs : (around_of s gs owner).procs ≡ map proc_view routines.procs.items = ap (λ a. a.procs) (around_is header routines names s gs owner p) in
+    inl (routines_cause f s (around_of s gs owner) (actor_given s gs owner)
+    (subst (λ ps. IsCause f (routines_found s ps (around_of s gs owner).names)) (sym procs)
+    (subst (λ n. IsCause f (routines_found s (map proc_view routines.procs.items) n)) (sym p.inside) h)))
+
+pub kept_finds : (r : Result Bound Front) (bare : BareActor) (held : Vec BoundVar Global) (header : Header) (routines : Routines) (scope : Resolved) (names : Names) (gs : List Given) (owner : Spot)
+    → AreKept bare held header routines (source_in scope) → ArePartsIn header routines names (source_in scope) gs owner
+    → (all_valued (source_in scope) gs owner).held ≡ map var_view held.items
+    → routines_found (source_in scope) (map proc_view routines.procs.items) names ≡ []
+    → scalars_found (source_in scope) (map var_view bare.vars.items) ≡ []
+    → BuildsActor r bare scope names → FindsInside r (source_in scope) gs owner
+kept_finds (Ok found) bare held header routines scope names gs owner k p h r s b = kept_inside found bare held header routines scope names gs owner k p h r s b
+kept_finds (Err f) bare held header routines scope names gs owner k p h r s b = kept_breaks f bare held header routines scope names gs owner k p h b

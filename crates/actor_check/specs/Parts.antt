@@ -29,7 +29,7 @@ use Rattle.variable_check.specs.Causes.{IsCause}
 use Rattle.variable_check.specs.declared.header.Header.{Header}
 use Rattle.actor_check.specs.Phases.{AreRoutinesOf, IsHeaderOf}
 use Rattle.actor_check.specs.Sources.{source_in}
-use Rattle.actor_check.specs.declared.heads.Routines.{Routines}
+use Rattle.actor_check.specs.declared.routines.Routines.{Routines}
 
 abbrev pub placed : ℕ → KindFault → Front
 placed file (fault.Broken rule at) =
@@ -83,9 +83,9 @@ header_names s gs owner = seen (all_funs s) (before_members s gs owner).known
 
 -- the header, and the functions and procedures over the names that are seen inside
 pub record ArePartsIn (header : Header) (routines : Routines) (names : Names) (s : Source) (gs : List Given) (owner : Spot) : Type 0 where
-  pub names : (around_of s gs owner).names ≡ names
-  pub header : IsHeaderOf header s (header_names s gs owner)
-  pub routines : AreRoutinesOf routines s names
+  pub inside : (around_of s gs owner).names ≡ names
+  pub ports : IsHeaderOf header s (header_names s gs owner)
+  pub heads : AreRoutinesOf routines s names
 
 -- ---- what is inside
 

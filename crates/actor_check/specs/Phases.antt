@@ -1,6 +1,6 @@
 -- What the parts of the check of a whole actor answer, beside the lists of what is broken.
 -- Not trusted: no promise is read with it.
-use Rattle.std.specs.Prelude.{◌≡◌, ◌⊎◌, ◌*◌, ◌+◌, ℕ, suc, List, [], ◌∷◌, ◌++◌, map, nat_le, Some, Vec, if◌then◌else◌}
+use Rattle.std.specs.Prelude.{◌≡◌, ◌≤◌, ◌⊎◌, ◌*◌, ◌+◌, ℕ, suc, List, [], ◌∷◌, ◌++◌, length, map, nat_le, Some, Vec, if◌then◌else◌}
 use Rattle.std.specs.declared.alloc.Global.{Global}
 use Rattle.std.specs.declared.result.Result.{Result}
 use Rattle.std.specs.declared.result.Result.TheVariants.{Ok, Err}
@@ -9,7 +9,7 @@ use Rattle.rvc_base.specs.declared.refusal.Front.{Front}
 use Rattle.rvc_base.specs.declared.refusal.Front.TheVariants as front
 use Rattle.cal_model.specs.Actor.{Actor, Held, Proc}
 use Rattle.cal_model.specs.Kinding.{Names}
-use Rattle.cal_model.specs.Sound.{max_variable_scalars}
+use Rattle.cal_model.specs.Sound.{max_ports, max_variable_scalars}
 use Rattle.cal_model.specs.View.{actor_of, fun_view, port_view, proc_view}
 use Rattle.cal_model.specs.declared.bound.Bound.{Bound}
 use Rattle.cal_model.specs.declared.bound.BoundProc.{BoundProc}
@@ -22,7 +22,7 @@ use Rattle.cal_check.specs.Variables.{Found, Given, Spot, found_in, seen}
 use Rattle.cal_check.specs.Violations.{all_fine, unless}
 use Rattle.variable_check.specs.Causes.{IsCause}
 use Rattle.variable_check.specs.declared.header.Header.{Header}
-use Rattle.actor_check.specs.declared.heads.Routines.{Routines}
+use Rattle.actor_check.specs.declared.routines.Routines.{Routines}
 
 -- ---- the header
 
@@ -36,6 +36,8 @@ pub record IsHeaderOf (h : Header) (s : Source) (names : Names) : Type 0 where
   pub fine : header_over s names ≡ []
   pub ins : all_fine (each_port (ins_of s.actor) names) ≡ Some (map port_view h.ins.items)
   pub outs : all_fine (each_port (outs_of s.actor) names) ≡ Some (map port_view h.outs.items)
+  pub few_ins : length h.ins.items ≤ max_ports
+  pub few_outs : length h.outs.items ≤ max_ports
 
 abbrev pub FindsHeader : Result Header Front → Source → Names → Type 0
 FindsHeader (Ok h) s names = IsHeaderOf h s names

@@ -11,7 +11,7 @@ ghost use Rattle.actor_check.specs.Parts.{AreKept, ArePartsIn, BuildsActor, Find
 ghost use Rattle.actor_check.specs.Phases.{routines_found};
 ghost use Rattle.actor_check.specs.Sources.{source_in};
 
-use crate::heads::{Routines, check_routines};
+use crate::routines::{Routines, check_routines};
 use crate::keeping::keep_used;
 use crate::scalars::check_scalars;
 use actor_build::{BareActor, actor};
@@ -80,13 +80,13 @@ fn kept_actor(
     header: Header,
     routines: Routines,
 ) -> Result<Bound, Front>
+    requires few_ins { length header.ins.items ≤ max_ports }
+    requires few_outs { length header.outs.items ≤ max_ports }
     ensures { (gs : List Given) (owner : Spot)
         → ArePartsIn header routines (names_view names.now) (source_in scope.now) gs owner
         → (all_valued (source_in scope.now) gs owner).held ≡ map var_view held.items
         → routines_found (source_in scope.now) (map proc_view routines.procs.items) (names_view names.now) ≡ []
         → FindsInside result (source_in scope.now) gs owner }
-    requires few_ins { length header.ins.items ≤ max_ports }
-    requires few_outs { length header.outs.items ≤ max_ports }
 {
     let Ok(bare) = bare_of(names.alloc, scope, held, header, routines) else {
         return Err(Front::Memory);

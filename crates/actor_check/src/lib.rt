@@ -6,7 +6,7 @@ mod built;
 mod collect;
 mod fault;
 mod heading;
-mod heads;
+mod routines;
 mod inside;
 mod keeping;
 mod scalars;

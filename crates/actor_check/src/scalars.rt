@@ -1,5 +1,5 @@
 //! How many scalars an actor's variables have.
-#![tactic(auto, using(crate::proofs::Counts::capped_product, crate::proofs::Counts::capped_sum))]
+#![tactic(auto, using(crate::proofs::Counts::capped_product, crate::proofs::Counts::capped_three, crate::proofs::Counts::capped_once))]
 
 ghost use Rattle.std.specs.Prelude.{◌≡◌, ◌*◌, ◌+◌, map};
 ghost use Rattle.cal_check.specs.Actors.{scalars_of};

@@ -5,7 +5,10 @@ use Rattle.actor_check.specs.Phases.{capped}
 use Rattle.actor_check.proofs.scalars.scalars_of.Given as goal
 
 abbrev pub invariant-vars : goal.invariant-vars
-invariant-vars l = capped (l.found + scalars_of (map var_view l.rest)) ≡ capped (scalars_of (map var_view l.initial.rest))
+invariant-vars l = record {
+  few : capped l.found ≡ l.found;
+  all : capped (l.found + scalars_of (map var_view l.rest)) ≡ capped (scalars_of (map var_view l.initial.rest));
+}
 
 abbrev pub decreases-vars : goal.decreases-vars
 decreases-vars l = length l.rest
