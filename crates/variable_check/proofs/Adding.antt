@@ -23,8 +23,8 @@ use Rattle.cal_check.specs.Routines.{FunDecl}
 use Rattle.cal_check.specs.Variables.{Come, Found, Given, Spot, VarDecl, Valued, come, found_in, held_if, is_none, param_broken, seen, value_of, value_or, valued, with_come, with_type, with_value, with_var}
 use Rattle.cal_check.proofs.Lists.{at-head}
 use Rattle.seen_names.specs.Known.{all_known}
-use Rattle.variable_check.specs.Causes.{AreDoubts, IsCause, IsSaid, SaysRule, doubt}
-use Rattle.variable_check.specs.Valuing.{Declares, IsNoted, IsUntyped, IsValued, Lacks, Notes, Values, doubts_in, first_of, is_defaulted, lacking_at, start_place, sure_in}
+use Rattle.variable_check.specs.Causes.{AreDoubts, IsCause, SaysRule, doubt}
+use Rattle.variable_check.specs.Valuing.{Declares, IsUntyped, IsValued, Lacks, Notes, Untypes, Values, doubts_in, first_of, is_defaulted, lacking_at, start_place, sure_in}
 use Rattle.variable_check.specs.declared.given.Constancy.{Constancy}
 use Rattle.variable_check.specs.declared.given.Constancy.TheVariants as constancy
 use Rattle.variable_check.specs.declared.valued.Valued.{Valued as Kept}
@@ -149,11 +149,12 @@ valued_added old new xs x t v k vs breaks known held doubts sure lacking default
 -- of a start behind a value that is of no use nothing is said to be not constant
 no_constants : (file : ℕ) (ws : List Violation) (p : Place) (gs : List Found) → found_in file (without_constants ws) ≡ doubt p ∷ gs → ⊥
 no_constants file [] p gs h = cc
-no_constants file (v ∷ vs) p gs h = go (v.rule.0 == not_constant.0) refl h
+no_constants file (v ∷ vs) p gs h = go (v.rule.0 == not_constant.0) refl h (λ i. no_constants file vs p gs i)
   where
-    go : (b : Bool) → (v.rule.0 == not_constant.0) ≡ b → found_in file (if b then without_constants vs else v ∷ without_constants vs) ≡ doubt p ∷ gs → ⊥
-    go true e i = no_constants file vs p gs i
-    go false e i =
+    go : (b : Bool) → (v.rule.0 == not_constant.0) ≡ b → found_in file (if b then without_constants vs else v ∷ without_constants vs) ≡ doubt p ∷ gs
+        → (found_in file (without_constants vs) ≡ doubt p ∷ gs → ⊥) → ⊥
+    go true e i rest = rest i
+    go false e i rest =
         let same : v.rule ≡ not_constant = ap (λ fs. elim fs [ [] ↦ not_constant | f ∷ more ↦ f.violation.rule ]) i in
         let own : (v.rule.0 == not_constant.0) ≡ true = ap (λ r. r.0 == not_constant.0) same in
         absurd (let e2 : true ≡ false = sym own ∙ e in cc)
@@ -234,13 +235,25 @@ untyped_noted old new xs x gs owner names at vs u h = go old.useless vs.useless 
     go true false eb ec same doubts sure = absurd (not_false same)
     go false true eb ec same doubts sure = absurd (not_false (sym same))
 
-pub untyped_refused : (f : Front) (x : VarDecl) (gs : List Given) (owner : Spot) (names : Names) (rule : Rule) (at : ℕ) (vs : Valued)
-    → IsSaid rule → IsCause f (found_in x.file (violation rule at)) → IsCause f (with_type (Broken rule at) x gs owner names vs).breaks
-untyped_refused f x gs owner names rule at vs is_said h = go vs.useless
+pub untyped_declares : (r : Result (Unit {0}) Front) (j : Judged Shape) (rule : Rule) (at file : ℕ) (x : VarDecl) (gs : List Given) (owner : Spot) (names : Names) (old new : Kept)
+    → x.file ≡ file → j ≡ Broken rule at → (rule.0 == not_constant.0) ≡ true → Untypes r (record { file = file; offset = at }) old new → Declares r (x ∷ []) (with_type j x gs owner names) old new
+untyped_declares (Ok u) j rule at file x gs owner names old new same e n d xs vs h =
+    subst (λ i. IsValued (xs ++ x ∷ []) new (with_type i x gs owner names vs)) (sym (e ∙ ap (λ q. Broken q at) (same_rule rule n)))
+    (untyped_noted old new xs x gs owner names at vs (subst (λ k. IsUntyped (record { file = k; offset = at }) old new) (sym same) d) h)
+untyped_declares (Err f) j rule at file x gs owner names old new same e n d xs vs h =
+    subst (λ g. IsCause g (with_type j x gs owner names vs).breaks × SaysRule g) (sym d) (tt, tt)
+
+pub untyped_refused : (f : Front) (j : Judged Shape) (rule : Rule) (at file : ℕ) (x : VarDecl) (gs : List Given) (owner : Spot) (names : Names) (old new : Kept)
+    → x.file ≡ file → j ≡ Broken rule at → (rule.0 == not_constant.0) ≡ false → IsCause f (found_in file (violation rule at)) → SaysRule f
+    → Declares (Err f) (x ∷ []) (with_type j x gs owner names) old new
+untyped_refused f j rule at file x gs owner names old new same e is_said h says xs vs v = (
+  subst (λ i. IsCause f (with_type i x gs owner names vs).breaks) (sym e) (go vs.useless (subst (λ k. IsCause f (found_in k (violation rule at))) (sym same) h)),
+  says,
+)
   where
-    go : (b : Bool) → IsCause f (vs.breaks ++ found_in x.file (said b (violation rule at)))
-    go true = cause_in_others f vs.breaks (found_in x.file (said true (violation rule at))) (subst (λ c. IsCause f (found_in x.file (if c then [] else violation rule at))) (sym is_said) h)
-    go false = cause_in_others f vs.breaks (found_in x.file (violation rule at)) h
+    go : (b : Bool) → IsCause f (found_in x.file (violation rule at)) → IsCause f (vs.breaks ++ found_in x.file (said b (violation rule at)))
+    go true i = cause_in_others f vs.breaks (found_in x.file (said true (violation rule at))) (subst (λ c. IsCause f (found_in x.file (if c then [] else violation rule at))) (sym is_said) i)
+    go false i = cause_in_others f vs.breaks (found_in x.file (violation rule at)) i
 
 -- ---- a variable
 

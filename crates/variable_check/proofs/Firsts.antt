@@ -20,7 +20,7 @@ names_of xs = map (λ x. x.name) xs
 
 -- ---- names that are held
 
-named_in : List ℕ → List (List ℕ) → Bool
+abbrev named_in : List ℕ → List (List ℕ) → Bool
 named_in name [] = false
 named_in name (n ∷ ns) = bytes_eq n name || named_in name ns
 
@@ -40,11 +40,11 @@ is_in name (n ∷ ns) c =
 
 not_in : (name : List ℕ) (ns : List (List ℕ)) → (Contains ns name → ⊥) → named_in name ns ≡ false
 not_in name [] h = refl
-not_in name (n ∷ ns) h = go (bytes_eq n name) refl
+not_in name (n ∷ ns) h = go (bytes_eq n name) refl (not_in name ns (λ r. h (in-rest name n ns r)))
   where
-    go : (b : Bool) → bytes_eq n name ≡ b → named_in name (n ∷ ns) ≡ false
-    go true e = absurd (h (at-head name n ns (same-text n name e)))
-    go false e = ap (λ b. b || named_in name ns) e ∙ not_in name ns (λ r. h (in-rest name n ns r))
+    go : (b : Bool) → bytes_eq n name ≡ b → named_in name ns ≡ false → named_in name (n ∷ ns) ≡ false
+    go true e rest = absurd (h (at-head name n ns (same-text n name e)))
+    go false e rest = ap (λ b. b || named_in name ns) e ∙ rest
 
 -- ---- the first that isn't held
 
