@@ -28,6 +28,7 @@ use Rattle.cal_check.specs.Constants.{early_kind, has_kind, start_value, value_g
 use Rattle.cal_check.specs.Violations.{Violation, said, violation, without_constants}
 use Rattle.cal_check.specs.Variables.{Come, come, come_if, come_of}
 use Rattle.cal_check.proofs.Lists.{at-head}
+use Rattle.variable_check.specs.Causes.{IsSaid, SaysFault}
 use Rattle.variable_check.specs.Valuing.{ComesTo, came, said_of}
 use Rattle.variable_check.specs.declared.starting.Started.{Started}
 
@@ -78,15 +79,11 @@ doubtful (Traps c) t at h = absurd h
 doubtful Lacks t at h = inr refl
 doubtful Clashes t at h = inl refl
 
--- a start that is of another kind
-pub kind_breaks : (f : KindFault) (j : Judged Kind) (t : Shape) (e : Tree) (names : Names) (at : ℕ) → Breaks f j → ComesTo (Err f) (come_if j t e names) at
-kind_breaks (fault.Broken rule p) j t e names at h = ap (λ i. come_if i t e names) h
-kind_breaks fault.Memory j t e names at h = tt
+-- a start whose kind breaks a rule
+pub kind_breaks : (rule : Rule) (p : ℕ) (j : Judged Kind) (t : Shape) (e : Tree) (names : Names) → j ≡ Broken rule p → come_if j t e names ≡ came None (violation rule p)
+kind_breaks rule p j t e names h = ap (λ i. come_if i t e names) h
 
 -- ---- what is said of it
-
-pub said_all : (r : Result Started KindFault) (c : Come) (at : ℕ) → ComesTo r c at → ComesTo r (said_of false c) at
-said_all r c at h = h
 
 pub said_so : (c : Come) (v : Option Value) → c ≡ came v [] → said_of true c ≡ came v []
 said_so c v h = ap (said_of true) h
@@ -95,31 +92,21 @@ pub doubt_said : (c : Come) (at : ℕ) → (c ≡ came None []) ⊎ (c ≡ came 
 doubt_said c at (inl h) = ap (said_of true) h
 doubt_said c at (inr h) = ap (said_of true) h
 
-pub fault_hidden : (c : Come) (rule : Rule) (at : ℕ) → c ≡ came None (violation rule at) → (rule.0 == not_constant.0) ≡ true → said_of true c ≡ came None []
-fault_hidden c rule at h e = ap (said_of true) h ∙ ap (λ b. came None (if b then [] else violation rule at)) e
-
-pub fault_said : (c : Come) (rule : Rule) (at : ℕ) → c ≡ came None (violation rule at) → (rule.0 == not_constant.0) ≡ false → said_of true c ≡ came None (violation rule at)
-fault_said c rule at h e = ap (said_of true) h ∙ ap (λ b. came None (if b then [] else violation rule at)) e
-
--- a rule that is said of a type, though a value may be of no use
-pub still_said : (useless : Bool) (rule : Rule) (at : ℕ) → (useless && (rule.0 == not_constant.0)) ≡ false → said useless (violation rule at) ≡ violation rule at
-still_said true rule at h = ap (λ b. if b then [] else violation rule at) h
-still_said false rule at h = refl
-
-pub not_said : (useless : Bool) (rule : Rule) (at : ℕ) → useless ≡ true → (rule.0 == not_constant.0) ≡ true → said useless (violation rule at) ≡ []
-not_said true rule at u h = ap (λ b. if b then [] else violation rule at) h
-not_said false rule at u h = cc
+-- a rule that is said whatever else is broken
+pub fault_said : (f : KindFault) (c : Come) (at : ℕ) → ComesTo (Err f) c at → ComesTo (Err f) (said_of true c) at
+fault_said (fault.Broken rule p) c at h = (ap (said_of true) h.0 ∙ ap (λ b. came None (if b then [] else violation rule p)) h.1, h.1)
+fault_said fault.Memory c at h = tt
 
 -- ---- faults
 
 pub start_refuses : (f : KindFault) (c : Come) (at : ℕ) → ComesTo (Err f) c at → Refuses f c.breaks
-start_refuses (fault.Broken rule p) c at h = subst (λ d. Contains d.breaks (record { rule = rule; at = p })) (sym h) (at-head (record { rule = rule; at = p }) (record { rule = rule; at = p }) [] refl)
+start_refuses (fault.Broken rule p) c at h = subst (λ d. Contains d.breaks (record { rule = rule; at = p })) (sym h.0) (at-head (record { rule = rule; at = p }) (record { rule = rule; at = p }) [] refl)
 start_refuses fault.Memory c at h = tt
+
+pub start_says : (f : KindFault) (c : Come) (at : ℕ) → ComesTo (Err f) c at → SaysFault f
+start_says (fault.Broken rule p) c at h = h.1
+start_says fault.Memory c at h = tt
 
 -- a start that may be stored is what evaluation gives
 pub come_at : (t : Shape) (e : Tree) (names : Names) (k j : Kind) → k ≡ kind_of_type t → early_kind k e names ≡ Fine j → come t (tree.present e) names ≡ come_of (start_value t e names)
 come_at t e names k j same h = ap (λ i. come_if i t e names) (subst (λ l. early_kind l e names ≡ Fine j) same h)
-
--- .. or breaks a rule
-pub come_breaks : (f : KindFault) (t : Shape) (e : Tree) (names : Names) (k : Kind) (at : ℕ) → k ≡ kind_of_type t → Breaks f (early_kind k e names) → ComesTo (Err f) (come t (tree.present e) names) at
-come_breaks f t e names k at same h = kind_breaks f (early_kind (kind_of_type t) e names) t e names at (subst (λ l. Breaks f (early_kind l e names)) same h)
