@@ -7,3 +7,5 @@ mod SamePairs
 mod InsideParts
 mod Putting
 mod Ported
+mod Telling
+mod Naming

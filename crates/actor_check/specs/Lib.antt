@@ -2,3 +2,6 @@ pub mod Sources
 pub mod Checking
 pub mod Phases
 pub mod Parts
+pub mod Early
+pub mod Members
+pub mod Checked
