@@ -39,14 +39,17 @@ ordered ps acts is ss rs us ws xs v h =
   where
     to_states : Contains (us ++ (ws ++ xs)) v → Contains (acts ++ (is ++ (ss ++ (rs ++ (us ++ (ws ++ xs)))))) v
     to_states k = second acts _ v (second is _ v (second ss _ v (second rs _ v k)))
+
     acted : Contains acts v ⊎ Contains (is ++ us) v → Contains (acts ++ (is ++ (ss ++ (rs ++ (us ++ (ws ++ xs)))))) v
     acted (inl k) = first acts _ v k
     acted (inr k) = ⊎_elim (λ l. second acts _ v (first is _ v l)) (λ r. to_states (first us _ v r)) (Contains-append_cases is us v k)
+
     order : Contains ss v ⊎ Contains (rs ++ ws) v → Contains (acts ++ (is ++ (ss ++ (rs ++ (us ++ (ws ++ xs)))))) v
     order (inl k) = second acts _ v (second is _ v (first ss _ v k))
     order (inr k) =
         ⊎_elim (λ l. second acts _ v (second is _ v (second ss _ v (first rs _ v l)))) (λ r. to_states (second us _ v (first ws _ v r)))
         (Contains-append_cases rs ws v k)
+
     go : Contains (acts ++ (is ++ us)) v ⊎ Contains (ss ++ (rs ++ ws)) v → Contains (acts ++ (is ++ (ss ++ (rs ++ (us ++ (ws ++ xs)))))) v
     go (inl k) = acted (Contains-append_cases acts (is ++ us) v k)
     go (inr k) = order (Contains-append_cases ss (rs ++ ws) v k)

@@ -1,25 +1,23 @@
 -- An actor that is put together of its parts.
-use Rattle.std.proofs.Common.{◌≡◌, ◌≤◌, ◌⊎◌, inl, inr, ⊎_elim, ℕ, List, [], ◌∷◌, ◌++◌, length, map, refl, sym, ap, subst, ◌∙◌, Ok, Err, Result}
-use Rattle.std.specs.Prelude.{Contains, Vec, Option, Some, string_bytes}
+use Rattle.std.proofs.Common.{◌≡◌, inl, inr, ⊎_elim, ℕ, List, [], map, refl, sym, ap, subst, ◌∙◌, Ok, Err, Result}
+use Rattle.std.specs.Prelude.{Vec}
 use Rattle.std.specs.declared.alloc.Global.{Global}
 use Rattle.rvc_base.specs.Chain.{IsAbove}
 use Rattle.rvc_base.specs.declared.refusal.Front.{Front}
-use Rattle.rvc_base.specs.declared.refusal.Front.TheVariants as front
 use Rattle.cal_ast.specs.Tree.{Tree}
 use Rattle.cal_ast.specs.View.{actor_tree}
 use Rattle.cal_imports.specs.declared.scope.Scope.{Scope as Resolved}
-use Rattle.cal_model.specs.Actor.{Actor, Fun, Port, Proc}
+use Rattle.cal_model.specs.Actor.{Actor, Port, Proc}
 use Rattle.cal_model.specs.Kinding.{Names}
-use Rattle.cal_model.specs.View.{actor_of, fun_view, port_view, proc_view, var_view}
+use Rattle.cal_model.specs.View.{actor_of, port_view, proc_view, var_view}
 use Rattle.cal_model.specs.declared.bound.Bound.{Bound}
 use Rattle.cal_model.specs.declared.bound.BoundVar.{BoundVar}
 use Rattle.const_eval.specs.declared.fault.KindFault.{KindFault}
 use Rattle.const_eval.specs.declared.fault.KindFault.TheVariants as fault
 use Rattle.cal_check.specs.Actions.{Around, or_none}
-use Rattle.cal_check.specs.Actors.{IsAboveItself, Source, actions_in, actions_of, actor_given, all_funs, all_valued, around_of, bare_actor, funs_of, inside_found, ins_of, kept_funs, kept_vars, members_of, outs_of, place_of, procs_in, procs_of}
-use Rattle.cal_check.specs.Ports.{each_port}
-use Rattle.cal_check.specs.Schedules.{first_priority, moves_in, pairs_in, schedule_in, states_of}
-use Rattle.cal_check.specs.Variables.{Found, Given, Spot, found_in}
+use Rattle.cal_check.specs.Actors.{IsAboveItself, Source, actions_in, actions_of, actor_given, all_valued, around_of, bare_actor, inside_found, kept_funs, kept_vars, members_of, place_of, procs_in, procs_of}
+use Rattle.cal_check.specs.Schedules.{moves_in, pairs_in, schedule_in}
+use Rattle.cal_check.specs.Variables.{Given, Spot, found_in}
 use Rattle.cal_check.specs.Violations.{Violation, all_fine}
 use Rattle.member_check.specs.Parts.{members_tree}
 use Rattle.stmt_check.specs.Judging.{Refuses}

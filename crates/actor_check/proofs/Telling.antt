@@ -1,8 +1,7 @@
 -- What the check of an actor says, of what its parts break.
-use Rattle.std.proofs.Common.{◌≡◌, ◌⊎◌, inl, inr, Bool, true, false, ℕ, List, [], ◌∷◌, ◌++◌, length, map, refl, sym, ap, subst, ◌∙◌, append-nil, arith}
+use Rattle.std.proofs.Common.{◌≡◌, ◌⊎◌, inl, inr, Bool, true, false, List, [], ◌∷◌, ◌++◌, map, refl, sym, ap, subst, ◌∙◌, append-nil, arith}
 use Rattle.std.specs.Prelude.{Contains, IfSome, Option, None, Some, if◌then◌else◌, not, ◌&&◌, ◌||◌, ◌==◌}
 use Rattle.std.specs.declared.result.Result.{Result}
-use Rattle.std.specs.declared.result.Result.TheVariants.{Ok, Err}
 use Rattle.std.proofs.lemmas.Bool.Decides.{nat_tests}
 use Rattle.std.proofs.lemmas.List.Elements.{Contains-append_left, Contains-append_right}
 use Rattle.rvc_base.specs.Rules.{not_constant}
@@ -15,24 +14,23 @@ use Rattle.cal_model.specs.Actor.{Held}
 use Rattle.cal_model.specs.Kinding.{Judged, Fine, Broken, Names}
 use Rattle.cal_model.specs.Sound.{Each}
 use Rattle.cal_model.specs.Value.{Shape}
-use Rattle.cal_model.specs.View.{actor_of}
 use Rattle.cal_model.specs.declared.bound.Bound.{Bound}
 use Rattle.cal_check.proofs.Lists.{each-map, head-or-rest, in-none}
 use Rattle.cal_check.specs.Constants.{early_type}
 use Rattle.cal_check.specs.Routines.{FunDecl}
-use Rattle.cal_check.specs.Actors.{IsSource, IsViolated, Source, actor_given, all_found, all_said, all_valued, around_of, behind_variables, declared_vars, first_valueless, has_heads, is_held, members_found, members_of, said_or_all, violations}
+use Rattle.cal_check.specs.Actors.{IsViolated, Source, actor_given, all_said, all_valued, around_of, behind_variables, declared_vars, first_valueless, has_heads, is_held, members_found, members_of, said_or_all, violations}
 use Rattle.cal_check.specs.Variables.{Found, Given, Spot, VarDecl, Valued, none_yet, seen, valued, with_type, with_var}
 use Rattle.variable_check.specs.Causes.{AreDoubts, IsCause, SaysRule, doubt}
 use Rattle.variable_check.specs.Valuing.{left_over, valueless}
 use Rattle.actor_check.specs.Checked.{IsChecked, IsDefaulted, IsRefused, IsUnsaid, found_of}
 use Rattle.actor_check.specs.Early.{Leaves, wrongly_given}
-use Rattle.actor_check.specs.Members.{AreMembers, FindsMembers, Settles, not_constant_at, place_left}
+use Rattle.actor_check.specs.Members.{AreMembers, Settles, not_constant_at, place_left}
 use Rattle.actor_check.specs.Parts.{IsCycleIn, header_names}
 use Rattle.actor_check.specs.Phases.{header_over}
 use Rattle.actor_check.specs.declared.rest.Rest.{Rest}
 use Rattle.actor_check.specs.declared.rest.Rest.TheVariants as rest
 use Rattle.actor_check.proofs.Behind.{behind_none, given_breaks, header_breaks, members_break, members_none}
-use Rattle.actor_check.proofs.Chain.{IsSaid, behind_break, first_said, variables_break}
+use Rattle.actor_check.proofs.Chain.{behind_break, first_said, variables_break}
 
 -- ---- more variables break no less
 
@@ -87,6 +85,7 @@ behind_told s gs owner f h =
       rule = rule_of f.violation.rule e;
       unsaid = i;
     }))
+
     go : (b heads useless : Bool) → (f.violation.rule.0 == not_constant.0) ≡ b → has_heads s (around_of s gs owner) ≡ heads → (all_valued s gs owner).useless ≡ useless
         → Told s gs owner f
     go false heads useless e i j = inl (inl (behind_break s gs owner (around_of s gs owner) f (other _ _ e) (other _ _ e) h))
@@ -186,8 +185,10 @@ members_settle found ds left r s gs owner doubts leaves given header members set
     none : behind_variables s gs owner (around_of s gs owner) ≡ []
     none = behind_none s gs owner (around_of s gs owner) given header
         (members_none s (around_of s gs owner) (actor_given s gs owner) (all_valued s gs owner).whole members.heads members.inside.fine)
+
     only : Each (λ f. f.violation.rule ≡ not_constant) (all_valued s gs owner).breaks
     only = only_constants ds (all_valued s gs owner).breaks doubts
+
     go : (left : Rest) → Leaves left (left_over (declared_vars s) owner (all_valued s gs owner)) → Settles left found r → IsChecked r s gs owner
     go rest.Nothing leaves settles = subst (λ x. IsChecked x s gs owner) (sym settles) (record {
       conforms = record { nothing = alone s gs owner none only ∙ leaves; ordered = members.inside.ordered };
@@ -225,8 +226,10 @@ untyped_refuses ds left place s gs owner doubts leaves given header whole = go l
     none : behind_variables s gs owner (around_of s gs owner) ≡ []
     none = behind_none s gs owner (around_of s gs owner) given header
         (ap (members_found s (around_of s gs owner) (actor_given s gs owner)) whole)
+
     only : Each (λ f. f.violation.rule ≡ not_constant) (all_valued s gs owner).breaks
     only = only_constants ds (all_valued s gs owner).breaks doubts
+
     go : (left : Rest) → Leaves left (left_over (declared_vars s) owner (all_valued s gs owner)) → IsRefused (not_constant_at (place_left left place)) s gs owner
     go rest.Nothing leaves = absurd (never_left (all_valued s gs owner).useless (all_valued s gs owner).whole (all_valued s gs owner).breaks
         (first_valueless (declared_vars s) (all_valued s gs owner).held owner) whole (never_none (declared_vars s) (all_valued s gs owner).held owner) leaves)

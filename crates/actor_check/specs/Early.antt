@@ -1,12 +1,12 @@
 -- What the variables of an actor come to, and what is left to say of them.
 -- Not trusted: no promise is read with it.
-use Rattle.std.specs.Prelude.{◌≡◌, List, [], ◌++◌, Contains, true}
+use Rattle.std.specs.Prelude.{◌≡◌, List, [], ◌++◌, Contains}
 use Rattle.std.specs.declared.result.Result.{Result}
 use Rattle.std.specs.declared.result.Result.TheVariants.{Ok, Err}
 use Rattle.rvc_base.specs.declared.refusal.Front.{Front}
 use Rattle.const_eval.specs.Held.{names_in}
 use Rattle.cal_check.specs.Actors.{Source, all_valued, declared_vars, given_wrongly, params_in, params_of}
-use Rattle.cal_check.specs.Variables.{Found, Given, Spot, VarDecl, Valued}
+use Rattle.cal_check.specs.Variables.{Found, Given, Spot, VarDecl}
 use Rattle.variable_check.specs.Causes.{IsCause, SaysRule, doubt}
 use Rattle.variable_check.specs.Valuing.{IsValued}
 use Rattle.actor_check.specs.Parts.{header_names}

@@ -1,6 +1,6 @@
 -- An actor of its parts, and what is inside it.
 -- Not trusted: no promise is read with it.
-use Rattle.std.specs.Prelude.{◌≡◌, ◌≤◌, ◌⊎◌, ℕ, List, [], map, length, Some, string_bytes}
+use Rattle.std.specs.Prelude.{◌≡◌, ◌⊎◌, ℕ, List, [], map, Some, string_bytes}
 use Rattle.std.specs.declared.result.Result.{Result}
 use Rattle.std.specs.declared.result.Result.TheVariants.{Ok, Err}
 use Rattle.rvc_base.specs.Rules.{priority_cycle}
@@ -18,12 +18,11 @@ use Rattle.std.specs.Prelude.{Vec}
 use Rattle.std.specs.declared.alloc.Global.{Global}
 use Rattle.const_eval.specs.declared.fault.KindFault.{KindFault}
 use Rattle.const_eval.specs.declared.fault.KindFault.TheVariants as fault
-use Rattle.cal_check.specs.Actions.{Around}
-use Rattle.cal_check.specs.Actors.{IsAboveItself, Source, actions_in, actions_of, actor_given, all_funs, around_of, before_members, inside_found, kept_funs, kept_vars, members_of}
+use Rattle.cal_check.specs.Actors.{IsAboveItself, Source, actor_given, all_funs, around_of, before_members, inside_found, kept_funs, kept_vars, members_of}
 use Rattle.cal_check.specs.Schedules.{first_priority}
 use Rattle.cal_check.specs.Variables.{Given, Spot, found_in, seen}
 use Rattle.member_check.specs.Parts.{members_tree}
-use Rattle.actor_build.specs.Building.{ArePartsOf, HasActions, IsCycle, around_bare, members_broken}
+use Rattle.actor_build.specs.Building.{ArePartsOf, around_bare, members_broken}
 use Rattle.actor_build.specs.declared.whole.BareActor.{BareActor}
 use Rattle.variable_check.specs.Causes.{IsCause}
 use Rattle.variable_check.specs.declared.header.Header.{Header}

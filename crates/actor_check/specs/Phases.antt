@@ -1,24 +1,19 @@
 -- What the parts of the check of a whole actor answer, beside the lists of what is broken.
 -- Not trusted: no promise is read with it.
-use Rattle.std.specs.Prelude.{◌≡◌, ◌≤◌, ◌⊎◌, ◌*◌, ◌+◌, ℕ, suc, List, [], ◌∷◌, ◌++◌, length, map, nat_le, Some, Vec, if◌then◌else◌}
+use Rattle.std.specs.Prelude.{◌≡◌, ◌≤◌, ℕ, suc, List, [], ◌++◌, length, map, nat_le, Some, Vec, if◌then◌else◌}
 use Rattle.std.specs.declared.alloc.Global.{Global}
 use Rattle.std.specs.declared.result.Result.{Result}
 use Rattle.std.specs.declared.result.Result.TheVariants.{Ok, Err}
-use Rattle.rvc_base.specs.Rules.{priority_cycle, too_many_variables}
+use Rattle.rvc_base.specs.Rules.{too_many_variables}
 use Rattle.rvc_base.specs.declared.refusal.Front.{Front}
-use Rattle.rvc_base.specs.declared.refusal.Front.TheVariants as front
-use Rattle.cal_model.specs.Actor.{Actor, Held, Proc}
+use Rattle.cal_model.specs.Actor.{Held, Proc}
 use Rattle.cal_model.specs.Kinding.{Names}
 use Rattle.cal_model.specs.Sound.{max_ports, max_variable_scalars}
-use Rattle.cal_model.specs.View.{actor_of, fun_view, port_view, proc_view}
-use Rattle.cal_model.specs.declared.bound.Bound.{Bound}
+use Rattle.cal_model.specs.View.{fun_view, port_view, proc_view}
 use Rattle.cal_model.specs.declared.bound.BoundProc.{BoundProc}
-use Rattle.const_eval.specs.Held.{names_in}
-use Rattle.cal_check.specs.Actions.{Around}
-use Rattle.cal_check.specs.Actors.{IsAboveItself, Source, actor_given, all_funs, all_valued, around_of, before_members, formals_broken, funs_broken, funs_of, heads_broken, ins_of, inside_found, members_of, outs_of, place_of, procs_broken, procs_in, procs_of, scalars_of}
+use Rattle.cal_check.specs.Actors.{Source, all_funs, formals_broken, funs_broken, funs_of, heads_broken, ins_of, members_of, outs_of, place_of, procs_broken, procs_in, procs_of, scalars_of}
 use Rattle.cal_check.specs.Ports.{each_port, header_broken}
-use Rattle.cal_check.specs.Schedules.{first_priority}
-use Rattle.cal_check.specs.Variables.{Found, Given, Spot, found_in, seen}
+use Rattle.cal_check.specs.Variables.{Found, found_in}
 use Rattle.cal_check.specs.Violations.{all_fine, unless}
 use Rattle.variable_check.specs.Causes.{IsCause}
 use Rattle.variable_check.specs.declared.header.Header.{Header}

@@ -11,8 +11,8 @@ ghost use Rattle.actor_check.specs.Parts.{AreKept, ArePartsIn, BuildsActor, Find
 ghost use Rattle.actor_check.specs.Phases.{routines_found};
 ghost use Rattle.actor_check.specs.Sources.{source_in};
 
-use crate::routines::{Routines, check_routines};
 use crate::keeping::keep_used;
+use crate::routines::{Routines, check_routines};
 use crate::scalars::check_scalars;
 use actor_build::{BareActor, actor};
 use cal_imports::Scope;

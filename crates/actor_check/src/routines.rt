@@ -37,7 +37,11 @@ fn procedures_of(names: &Names, scope: &Scope) -> Result<Vec<BoundProc>, Front>
 }
 
 /// The functions and procedures of an actor, whose heads break no rule.
-pub(crate) fn routines_of(names: &Names, funs: &[DeclaredFun], scope: &Scope) -> Result<Routines, Front>
+pub(crate) fn routines_of(
+    names: &Names,
+    funs: &[DeclaredFun],
+    scope: &Scope,
+) -> Result<Routines, Front>
     requires { fun_decls funs.now ≡ all_funs (source_in scope.now) }
     ensures { FindsHeads result (source_in scope.now) (names_view names.now) }
 {

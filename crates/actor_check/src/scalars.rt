@@ -67,7 +67,10 @@ pub(crate) fn check_scalars(vars: &[BoundVar], scope: &Scope) -> Result<(), Fron
 {
     if scalars_of(vars) > MAX_SCALARS {
         let rule = Rule::TOO_MANY_VARIABLES;
-        let place = Place { file: scope.file, offset: scope.actor.at };
+        let place = Place {
+            file: scope.file,
+            offset: scope.actor.at,
+        };
         return Err(Front::Refused(Refusal { rule, place }));
     }
     Ok(())

@@ -17,9 +17,9 @@ ghost use Rattle.actor_check.specs.Sources.{source_in};
 use crate::collect::declared_funs;
 use crate::early::{check_given, early_values};
 use crate::heading::header_of;
-use crate::routines::routines_of;
 use crate::inside::actor_inside;
 use crate::rest::{Rest, rest_of};
+use crate::routines::routines_of;
 use cal_imports::Scope;
 use cal_model::Bound;
 use const_eval::Names;
@@ -38,12 +38,7 @@ fn not_constant(place: Place) -> Front
 }
 
 /// The actor of a header that breaks no rule, if all its variables have types.
-fn members_of(
-    told: Told<'_>,
-    scope: &Scope,
-    values: Valued,
-    header: Header,
-) -> Result<Bound, Front>
+fn members_of(told: Told<'_>, scope: &Scope, values: Valued, header: Header) -> Result<Bound, Front>
     requires funs { fun_decls told.funs.now ≡ all_funs (source_in scope.now) }
     requires differ { names_differ (fun_decls told.funs.now) ≡ true }
     requires header { IsHeaderOf header (source_in scope.now)
@@ -138,5 +133,13 @@ pub fn check(
     let Ok(funs) = declared_funs(alloc, scope) else {
         return Err(Front::Memory);
     };
-    check_told(Told { alloc, given, owner, funs: &funs }, scope)
+    check_told(
+        Told {
+            alloc,
+            given,
+            owner,
+            funs: &funs,
+        },
+        scope,
+    )
 }

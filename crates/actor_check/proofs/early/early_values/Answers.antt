@@ -16,6 +16,8 @@ returns-in_err-before c =
     let same : c.from_residual.result ≡ Err f = search rules in
     let vars : var_decls c.deref.result.now ≡ vars_before s = ap var_decls c.deref.ensures.value ∙ c.in-Ok.ensures in
     let broken = c.in_err-before.ensures in
-    subst (λ r. FindsEarly r s gs owner) (sym same)
-    (before_keeps f (var_decls c.deref.result.now) (vars_before s) (vars_in s.file (members_of s.actor)) gs owner
-    (fun_decls c.args.told.funs.now) (all_funs s) vars c.requires.funs broken.0, broken.1)
+    subst (λ r. FindsEarly r s gs owner) (sym same) (
+      before_keeps f (var_decls c.deref.result.now) (vars_before s) (vars_in s.file (members_of s.actor)) gs owner
+          (fun_decls c.args.told.funs.now) (all_funs s) vars c.requires.funs broken.0,
+      broken.1,
+    )

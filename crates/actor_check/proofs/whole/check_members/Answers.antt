@@ -1,9 +1,7 @@
 use Rattle.std.proofs.Common.{◌≡◌, Err, false, true, sym, subst, ◌∙◌, rules}
 use Rattle.cal_check.specs.Actors.{all_valued, declared_vars}
-use Rattle.variable_check.specs.Valuing.{left_over}
 use Rattle.variable_check.specs.Views.{all_given, spot_of}
 use Rattle.actor_check.specs.Checked.{IsChecked, IsRefused}
-use Rattle.actor_check.specs.Early.{Leaves}
 use Rattle.actor_check.specs.Sources.{source_in}
 use Rattle.actor_check.proofs.Telling.{members_refuse, members_settle, untyped_refuses}
 use Rattle.actor_check.proofs.whole.check_members.Goals as goal

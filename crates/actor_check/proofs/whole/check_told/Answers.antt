@@ -1,6 +1,5 @@
-use Rattle.std.proofs.Common.{◌≡◌, Err, true, sym, ap, subst, ◌∙◌, rules}
-use Rattle.const_eval.specs.Held.{names_in}
-use Rattle.seen_names.specs.Known.{fun_decls, names_differ}
+use Rattle.std.proofs.Common.{◌≡◌, Err, sym, ap, subst, ◌∙◌, rules}
+use Rattle.seen_names.specs.Known.{names_differ}
 use Rattle.variable_check.specs.Causes.{IsCause}
 use Rattle.variable_check.specs.Views.{all_given, spot_of}
 use Rattle.actor_check.specs.Checked.{IsChecked}
