@@ -4,19 +4,16 @@ use Rattle.std.proofs.Math.Seq.{drop-cons}
 use Rattle.std.proofs.lemmas.List.{map-append}
 use Rattle.std.proofs.lemmas.List.Elements.{Contains-append_left, Contains-append_right}
 use Rattle.std.proofs.lemmas.Bool.Decides.{Decides-eqb}
-use Rattle.std.specs.Prelude.{Contains, IfSome, Option, None, Some, ◌||◌, not, ◌==◌, if◌then◌else◌}
+use Rattle.std.specs.Prelude.{Contains, IfSome, Option, None, Some, ◌||◌, ◌==◌, if◌then◌else◌}
 use Rattle.std.specs.declared.result.Result.{Result}
 use Rattle.rvc_base.specs.Rules.{not_constant}
 use Rattle.rvc_base.specs.declared.refusal.Rule.{Rule}
 use Rattle.rvc_base.specs.declared.refusal.Front.{Front}
-use Rattle.rvc_base.specs.declared.refusal.Front.TheVariants as front
 use Rattle.rvc_base.specs.declared.refusal.Place.{Place}
-use Rattle.cal_model.specs.Actor.{Held}
 use Rattle.cal_model.specs.Value.{Shape, Value, kind_of_type}
-use Rattle.cal_model.specs.Kinding.{Judged, Fine, Broken, Known, Names}
+use Rattle.cal_model.specs.Kinding.{Judged, Fine, Broken, Names}
 use Rattle.cal_model.specs.View.{var_view}
 use Rattle.const_eval.specs.Held.{last_first}
-use Rattle.const_eval.specs.Judging.{Breaks}
 use Rattle.cal_check.specs.Constants.{early_type}
 use Rattle.cal_check.specs.Violations.{Violation, said, violation, without_constants}
 use Rattle.cal_check.specs.Routines.{FunDecl}
@@ -24,7 +21,7 @@ use Rattle.cal_check.specs.Variables.{Come, Found, Given, Spot, VarDecl, Valued,
 use Rattle.cal_check.proofs.Lists.{at-head}
 use Rattle.seen_names.specs.Known.{all_known}
 use Rattle.variable_check.specs.Causes.{AreDoubts, IsCause, SaysRule, doubt}
-use Rattle.variable_check.specs.Valuing.{Declares, IsUntyped, IsValued, Lacks, Notes, Untypes, Values, doubts_in, first_of, is_defaulted, lacking_at, start_place, sure_in}
+use Rattle.variable_check.specs.Valuing.{Declares, IsUntyped, IsValued, Lacks, Notes, Untypes, doubts_in, first_of, is_defaulted, lacking_at, start_place, sure_in}
 use Rattle.variable_check.specs.declared.given.Constancy.{Constancy}
 use Rattle.variable_check.specs.declared.given.Constancy.TheVariants as constancy
 use Rattle.variable_check.specs.declared.valued.Valued.{Valued as Kept}
@@ -275,15 +272,6 @@ not_whole old xs x gs owner fs vs w h =
       lacks = λ s d. stays_lacking old.lacking x xs vs none (h.lacks s d);
     })
 
-pub over_names : (r : Result (Unit {0}) Front) (old new : Kept) (x : VarDecl) (gs : List Given) (owner : Spot) (fs : List FunDecl) (names : Names) → old.whole ≡ true
-    → names ≡ seen fs (all_known old.known.items)
-    → Declares r (x ∷ []) (with_type (early_type x.shape names) x gs owner names) old new → Declares r (x ∷ []) (with_var x gs owner fs) old new
-over_names r old new x gs owner fs names w e d xs vs h =
-    subst (λ us. Values r (xs ++ x ∷ []) new us)
-    (ap (λ n. with_type (early_type x.shape n) x gs owner n vs) (e ∙ ap (seen fs) h.known)
-    ∙ sym (ap (λ b. if b then with_type (early_type x.shape (seen fs vs.known)) x gs owner (seen fs vs.known) vs else vs) (sym h.whole ∙ w)))
-    (d xs vs h)
-
 -- ---- all variables
 
 -- what is broken stays so
@@ -309,9 +297,6 @@ pub record AreAdded (left all : List VarDecl) (gs : List Given) (owner : Spot) (
   pub is_valued : IsValued so_far now after
   pub parts : so_far ++ left ≡ xs ++ all
   pub same : valued left gs owner fs after ≡ valued all gs owner fs vs
-
-pub added_none : (all : List VarDecl) (gs : List Given) (owner : Spot) (fs : List FunDecl) (now : Kept) (xs : List VarDecl) (vs : Valued) → IsValued xs now vs → AreAdded all all gs owner fs now xs vs
-added_none all gs owner fs now xs vs h = record { so_far = xs; after = vs; is_valued = h; parts = refl; same = refl }
 
 pub added_more : (x : VarDecl) (left all : List VarDecl) (gs : List Given) (owner : Spot) (fs : List FunDecl) (old new : Kept) (xs : List VarDecl) (vs : Valued)
     → AreAdded (x ∷ left) all gs owner fs old xs vs → Declares (Ok tt) (x ∷ []) (with_var x gs owner fs) old new → AreAdded left all gs owner fs new xs vs

@@ -1,5 +1,5 @@
 -- The first variable without a value, by the names of those that have one.
-use Rattle.std.proofs.Common.{◌≡◌, ◌⊎◌, inl, inr, ⊎_elim, ℕ, Bool, true, false, List, [], ◌∷◌, ◌++◌, map, refl, sym, ap, subst, ◌∙◌, Option, None, Some, append-nil, append_assoc}
+use Rattle.std.proofs.Common.{◌≡◌, ⊎_elim, ℕ, Bool, true, false, List, [], ◌∷◌, ◌++◌, map, refl, sym, ap, subst, ◌∙◌, Option, None, Some, append_assoc}
 use Rattle.std.specs.Prelude.{Contains, ◌||◌, not, if◌then◌else◌}
 use Rattle.std.specs.Str.{bytes_eq}
 use Rattle.std.proofs.lemmas.List.{map-append}
@@ -12,8 +12,7 @@ use Rattle.cal_check.specs.Actors.{first_valueless, is_held, said_or_all}
 use Rattle.cal_check.specs.Variables.{Found, Spot, VarDecl, Valued}
 use Rattle.cal_check.proofs.Lists.{at-head, each-append, each-map, each-of, head-or-rest, in-none, in-rest}
 use Rattle.variable_check.specs.Causes.{doubt}
-use Rattle.variable_check.specs.Valuing.{AreAt, IsFirst, IsValued, Lacks, left_over, start_place, valueless}
-use Rattle.variable_check.specs.declared.valued.Valued.{Valued as Kept}
+use Rattle.variable_check.specs.Valuing.{AreAt, IsFirst, Lacks, left_over, start_place, valueless}
 
 abbrev names_of : List VarDecl → List (List ℕ)
 names_of xs = map (λ x. x.name) xs

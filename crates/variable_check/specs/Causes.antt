@@ -1,6 +1,6 @@
 -- Rules that faults name, and places at which something may not be constant.
 -- Trusted: part of what a promise means.
-use Rattle.std.specs.Prelude.{◌≡◌, List, [], Bool, false, ◌==◌, Contains, map}
+use Rattle.std.specs.Prelude.{◌≡◌, List, false, ◌==◌, Contains, map}
 use Rattle.rvc_base.specs.Rules.{not_constant}
 use Rattle.rvc_base.specs.declared.refusal.Front.{Front}
 use Rattle.rvc_base.specs.declared.refusal.Front.TheVariants as front

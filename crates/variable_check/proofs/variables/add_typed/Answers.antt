@@ -14,9 +14,10 @@ returns-in_err-settled c = λ xs vs h.
     let x = var_decl c.args.x in
     let start = come (shape_view c.args.t) (optional_expr c.args.x.start.now) (names_in c.args.env.now) in
     let same : c.from_residual.result ≡ Err c.in_err-settled.field-0.0 = search rules in
-    subst (λ r. Values r (xs ++ x ∷ []) c.args.so_far.now (with_come x (all_given c.args.told.given.now) (spot_of c.args.told.owner) (shape_view c.args.t) start vs)) (sym same)
-    (come_refused c.in_err-settled.field-0.0 x (all_given c.args.told.given.now) (spot_of c.args.told.owner) (shape_view c.args.t) start vs c.args.so_far.now.useless h.useless c.in_err-settled.ensures.0,
-    c.in_err-settled.ensures.1)
+    subst (λ r. Values r (xs ++ x ∷ []) c.args.so_far.now (with_come x (all_given c.args.told.given.now) (spot_of c.args.told.owner) (shape_view c.args.t) start vs)) (sym same) (
+      come_refused c.in_err-settled.field-0.0 x (all_given c.args.told.given.now) (spot_of c.args.told.owner) (shape_view c.args.t) start vs c.args.so_far.now.useless h.useless c.in_err-settled.ensures.0,
+      c.in_err-settled.ensures.1,
+    )
 
 pub returns-in-Ok-add : goal.returns-in-Ok-add
 returns-in-Ok-add c = λ xs vs h.

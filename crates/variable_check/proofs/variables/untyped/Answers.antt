@@ -1,4 +1,4 @@
-use Rattle.std.proofs.Common.{◌≡◌, Err, false, true, sym, subst, ◌∙◌}
+use Rattle.std.proofs.Common.{sym, subst, ◌∙◌}
 use Rattle.cal_check.specs.Violations.{violation}
 use Rattle.const_eval.specs.Judging.{Breaks}
 use Rattle.variable_check.proofs.Adding.{untyped_declares, untyped_refused}

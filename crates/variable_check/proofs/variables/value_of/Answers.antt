@@ -16,7 +16,7 @@ returns-in-Err c =
     let at = begins (optional_expr c.args.x.start.now) in
     let fault = c.in-Err.ensures start at c.start.ensures in (
       cause_in_first c.in_file.result (found_in c.args.x.file (said c.args.useless start.breaks))
-      (param_broken (var_decl c.args.x) (all_given c.args.told.given.now) (spot_of c.args.told.owner) (shape_view c.args.t.now))
-      (c.in_file.ensures.cause (said c.args.useless start.breaks) (start_refuses c.in-Err.fault (said_of c.args.useless start) at fault)),
+          (param_broken (var_decl c.args.x) (all_given c.args.told.given.now) (spot_of c.args.told.owner) (shape_view c.args.t.now))
+          (c.in_file.ensures.cause (said c.args.useless start.breaks) (start_refuses c.in-Err.fault (said_of c.args.useless start) at fault)),
       c.in_file.ensures.said (start_says c.in-Err.fault (said_of c.args.useless start) at fault),
     )

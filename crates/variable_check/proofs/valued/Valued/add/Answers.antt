@@ -1,7 +1,6 @@
-use Rattle.std.proofs.Common.{◌≡◌, [], ◌∷◌, ◌++◌, true, map, refl, sym, ap, ◌∙◌, rules}
+use Rattle.std.proofs.Common.{◌≡◌, [], ◌∷◌, ◌++◌, true, map, refl, ap, ◌∙◌, rules}
 use Rattle.std.specs.Prelude.{◌||◌, Some, option_map, string_bytes}
 use Rattle.cal_check.specs.Variables.{held_if, is_none, value_or}
-use Rattle.cal_model.specs.Value.{kind_of_type}
 use Rattle.cal_model.specs.View.{kind_view, shape_view, value_view, var_view}
 use Rattle.seen_names.specs.Known.{all_known, known_view}
 use Rattle.seen_names.specs.declared.known.KnownName.{KnownName}
