@@ -97,20 +97,24 @@ first_refused f xs ys h = (cause_in_first f xs ys h.0, h.1)
 
 -- ---- heads
 
-pub head_sifted : (file : ℕ) (full : List ℕ) (d : Function) (names : Names) (b : Fun) → fun_judged full (function_tree d) names ≡ Fine b
-    → Each IsLack (found_in file (broken (head_judged (function_tree d) names)))
-head_sifted file full d names b judged =
-    none_lack _ (ap (found_in file) (first_is_fine (head_judged (function_tree d) names) _ b judged))
+pub head_fine : (full : List ℕ) (d : Function) (names : Names) (b : Fun) → fun_judged full (function_tree d) names ≡ Fine b
+    → broken (head_judged (function_tree d) names) ≡ []
+head_fine full d names b judged = first_is_fine (head_judged (function_tree d) names) _ b judged
+
+pub port_fine : {A : Type 0} (a : A) (j : Judged A) → j ≡ Fine a → broken j ≡ []
+port_fine a j h = ap broken h
+
+pub lacks_none : (file : ℕ) (vs : List Violation) → vs ≡ [] → Each IsLack (found_in file vs)
+lacks_none file vs e = none_lack _ (ap (found_in file) e)
 
 pub formals_few : (p : Procedure) (names : Names) → length (formals_broken (procedure_tree p ∷ []) names) ≤ 1
 formals_few p names =
     subst (λ vs. length vs ≤ 1) (sym (append-nil (broken (formals_judged (listed (map port_tree p.formals.items)) names))))
     (few_broken (formals_judged (listed (map port_tree p.formals.items)) names))
 
-pub formals_sifted : (file : ℕ) (p : Procedure) (names : Names) (b : Proc) → proc_judged (procedure_tree p) names ≡ Fine b
-    → Each IsLack (found_in file (formals_broken (procedure_tree p ∷ []) names))
-formals_sifted file p names b judged =
-    none_lack _ (ap (λ vs. found_in file (vs ++ [])) (first_is_fine (formals_judged (listed (map port_tree p.formals.items)) names) _ b judged))
+pub formals_fine : (p : Procedure) (names : Names) (b : Proc) → proc_judged (procedure_tree p) names ≡ Fine b → formals_broken (procedure_tree p ∷ []) names ≡ []
+formals_fine p names b judged =
+    ap (λ vs. vs ++ []) (first_is_fine (formals_judged (listed (map port_tree p.formals.items)) names) _ b judged)
 
 pub member_sifted : (r : Result (Unit {0}) Front) (file : ℕ) (p : Procedure) (more : Tree) (names : Names) → Sifts r (found_in file (formals_broken (procedure_tree p ∷ []) names))
     → SiftsOn r (found_in file (formals_broken (procs_in more) names)) (found_in file (formals_broken (procs_in (tree.cons (procedure_tree p) more)) names))
@@ -125,7 +129,7 @@ pub port_sifted : (r : Result (Unit {0}) Front) (file : ℕ) (p more : Tree) (na
 port_sifted r file p more names h = sifts_in r file (broken (port_judged p names)) (all_broken (each_port more names)) h
 
 -- rules that are said whatever else is broken
-IsSaidRule : Violation → Type 0
+abbrev IsSaidRule : Violation → Type 0
 IsSaidRule v = (v.rule.0 == not_constant.0) ≡ false
 
 twice_said : (met : List (List ℕ)) (xs : List (Keyed (List ℕ))) → Each IsSaidRule (twice bytes_eq port_named_twice met xs)

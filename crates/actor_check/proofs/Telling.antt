@@ -1,5 +1,5 @@
 -- What the check of an actor says, of what its parts break.
-use Rattle.std.proofs.Common.{◌≡◌, ◌⊎◌, inl, inr, Bool, true, false, List, [], ◌∷◌, ◌++◌, map, refl, sym, ap, subst, ◌∙◌, append-nil}
+use Rattle.std.proofs.Common.{◌≡◌, Err, ◌⊎◌, inl, inr, Bool, true, false, List, [], ◌∷◌, ◌++◌, map, refl, sym, ap, subst, ◌∙◌, append-nil}
 use Rattle.std.specs.Prelude.{Contains, IfSome, Option, None, Some, if◌then◌else◌, not, ◌&&◌, ◌||◌, ◌==◌}
 use Rattle.std.specs.declared.result.Result.{Result}
 use Rattle.std.proofs.lemmas.List.Elements.{Contains-append_left, Contains-append_right}
@@ -69,7 +69,7 @@ shown hides b e = ap (λ h. h && b) e
 
 -- ---- what the parts break
 
-IsSaidFound : Found → Type 0
+abbrev IsSaidFound : Found → Type 0
 IsSaidFound f = (f.violation.rule.0 == not_constant.0) ≡ false
 
 pub early_refuses : (f : Front) (s : Source) (gs : List Given) (owner : Spot) → IsCause f (all_valued s gs owner).breaks × SaysRule f → IsRefused f s gs owner

@@ -5,14 +5,14 @@ ghost use Rattle.cal_ast.specs.Tree as tree;
 ghost use Rattle.cal_ast.specs.Tree.{Tree};
 ghost use Rattle.cal_ast.specs.View.{function_tree, member_tree, port_tree, procedure_tree};
 ghost use Rattle.cal_check.specs.Actors.{all_funs, formals_broken, heads_broken, procs_in};
-ghost use Rattle.cal_check.specs.Ports.{each_port};
+ghost use Rattle.cal_check.specs.Ports.{each_port, port_judged};
 ghost use Rattle.cal_check.specs.Routines.{head_judged};
 ghost use Rattle.cal_check.specs.Variables.{found_in};
 ghost use Rattle.cal_check.specs.Violations.{Violation, all_broken, broken};
 ghost use Rattle.const_eval.specs.Counting.{names_view};
 ghost use Rattle.member_check.specs.Parts.{members_tree};
 ghost use Rattle.seen_names.specs.Known.{fun_decls};
-ghost use Rattle.stmt_check.specs.Judging.{Refuses};
+ghost use Rattle.stmt_check.specs.Judging.{Checks, Refuses};
 ghost use Rattle.variable_check.specs.Causes.{IsCause};
 ghost use Rattle.variable_check.specs.Views.{ports_tree};
 ghost use Rattle.actor_check.specs.Phases.{header_over, heads_over};
@@ -45,13 +45,22 @@ fn passed(file: u32, fault: KindFault) -> Result<(), Front>
     }
 }
 
-/// A head of a function.
+/// The head of a function.
+#[tactic(auto, using(crate::proofs::Sifted::head_fine, crate::proofs::Heads::head_breaks))]
+fn check_head(names: &Names, f: DeclaredFun) -> Result<(), KindFault>
+    ensures { Checks result (broken (head_judged (function_tree f.entry.decl.now) (names_view names.now))) }
+{
+    let _fun = fun_of(names, f.name, f.decl)?;
+    Ok(())
+}
+
+/// The head of a function, unless something isn't constant there.
 fn sift_head(names: &Names, f: DeclaredFun) -> Result<(), Front>
     ensures { Sifts result (found_in f.entry.file
         (broken (head_judged (function_tree f.entry.decl.now) (names_view names.now)))) }
 {
-    match fun_of(names, f.name, f.decl) {
-        Ok(_) => Ok(()),
+    match check_head(names, f) {
+        Ok(()) => Ok(()),
         Err(fault) => passed(f.file, fault),
     }
 }
@@ -67,11 +76,20 @@ fn sift_heads(names: &Names, funs: &[DeclaredFun]) -> Result<(), Front>
 }
 
 /// The formals of a procedure.
+#[tactic(auto, using(crate::proofs::Sifted::formals_fine, crate::proofs::Heads::formals_break))]
+fn check_formals(names: &Names, p: &Procedure) -> Result<(), KindFault>
+    ensures { Checks result (formals_broken (procedure_tree p.now ∷ []) (names_view names.now)) }
+{
+    let _proc = proc_of(names, p)?;
+    Ok(())
+}
+
+/// The formals of a procedure, unless something isn't constant there.
 fn sift_formals(names: &Names, file: u32, p: &Procedure) -> Result<(), Front>
     ensures { Sifts result (found_in file (formals_broken (procedure_tree p.now ∷ []) (names_view names.now))) }
 {
-    match proc_of(names, p) {
-        Ok(_) => Ok(()),
+    match check_formals(names, p) {
+        Ok(()) => Ok(()),
         Err(fault) => passed(file, fault),
     }
 }
@@ -113,12 +131,21 @@ pub(crate) fn sift_routines(names: &Names, funs: &[DeclaredFun], scope: &Scope) 
 }
 
 /// A port of a header.
+#[tactic(auto, using(crate::proofs::Sifted::port_fine, stmt_check::proofs::Checked::refuses_broken))]
+fn check_port(names: &Names, p: &PortDecl) -> Result<(), KindFault>
+    ensures { Checks result (broken (port_judged (port_tree p.now) (names_view names.now))) }
+{
+    let _port = port(names, p)?;
+    Ok(())
+}
+
+/// A port of a header, unless something isn't constant there.
 fn sift_port(names: &Names, file: u32, p: &PortDecl) -> Result<(), Front>
     ensures { (more : Tree) → SiftsOn result (found_in file (all_broken (each_port more (names_view names.now))))
         (found_in file (all_broken (each_port (tree.cons (port_tree p.now) more) (names_view names.now)))) }
 {
-    match port(names, p) {
-        Ok(_) => Ok(()),
+    match check_port(names, p) {
+        Ok(()) => Ok(()),
         Err(fault) => passed(file, fault),
     }
 }

@@ -13,8 +13,8 @@ use Rattle.actor_check.proofs.Heads.{opened}
 use Rattle.actor_check.proofs.Sifted.{left_all, left_more, refused_left}
 use Rattle.actor_check.proofs.sifting.sift_heads.Goals as goal
 
-pub loop-f-initial : goal.loop-f-initial
-loop-f-initial c = left_all (heads_broken (fun_decls c.args.funs.now) (names_view c.args.names.now))
+pub loop-f-init : goal.loop-f-init
+loop-f-init c = left_all (heads_broken (fun_decls c.args.funs.now) (names_view c.args.names.now))
 
 pub loop-f-preserved : goal.loop-f-preserved
 loop-f-preserved c =
