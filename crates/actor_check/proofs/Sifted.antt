@@ -1,5 +1,5 @@
 -- What isn't constant, passed over.
-use Rattle.std.proofs.Common.{◌≡◌, ◌≤◌, ◌⊎◌, inl, inr, Bool, true, false, ℕ, zero, suc, List, [], ◌∷◌, ◌++◌, length, map, refl, sym, append-nil, ap, subst, ◌∙◌, Ok, Err, Result, arith}
+use Rattle.std.proofs.Common.{◌≡◌, ◌≤◌, ◌⊎◌, inl, inr, Bool, true, false, ℕ, List, [], ◌∷◌, ◌++◌, length, map, refl, sym, append-nil, ap, subst, ◌∙◌, Ok, Err, Result, arith}
 use Rattle.std.specs.Prelude.{Contains, if◌then◌else◌, nat_le, ◌==◌}
 use Rattle.std.specs.Str.{bytes_eq}
 use Rattle.std.proofs.lemmas.Bool.Decides.{nat_tests}
@@ -161,9 +161,10 @@ each_there (x ∷ vs) v h c = go (head-or-rest v x vs c) (λ i. each_there vs v 
 
 pub bare_refused : (file : ℕ) (ins outs : Tree) (at place : ℕ) (rule : Rule) → Contains (bare_header_broken ins outs at) (record { rule = rule; at = place })
     → Sifts (Err (front.Refused (record { rule = rule; place = record { file = file; offset = place } }))) (found_in file (bare_header_broken ins outs at))
-bare_refused file ins outs at place rule h =
-    (found_of file (bare_header_broken ins outs at) (record { rule = rule; at = place }) h,
-    each_there (bare_header_broken ins outs at) (record { rule = rule; at = place }) (bare_said ins outs at) h)
+bare_refused file ins outs at place rule h = (
+  found_of file (bare_header_broken ins outs at) (record { rule = rule; at = place }) h,
+  each_there (bare_header_broken ins outs at) (record { rule = rule; at = place }) (bare_said ins outs at) h,
+)
 
 header_parts : (file : ℕ) (xs ys zs : List Violation) → found_in file (xs ++ (ys ++ zs)) ≡ found_in file xs ++ (found_in file ys ++ found_in file zs)
 header_parts file xs ys zs = found_append file xs (ys ++ zs) ∙ ap (λ fs. found_in file xs ++ fs) (found_append file ys zs)

@@ -208,6 +208,7 @@ header_refuses (front.Refused r) sure ds s gs owner doubts known given (cause, i
   where
     there : Contains (behind_variables s gs owner (around_of s gs owner)) (found_of r)
     there = header_breaks s gs owner (around_of s gs owner) (found_of r) cause
+
     go : (heads : Bool) → has_heads s (around_of s gs owner) ≡ heads → IsRefused (sure_first sure (front.Refused r)) s gs owner
     go true e = unhidden r sure s gs owner e known there
     go false e =
@@ -239,6 +240,7 @@ heads_refuse (front.Refused r) sure ds s gs owner doubts known given header whol
     there : Contains (behind_variables s gs owner (around_of s gs owner)) (found_of r)
     there = members_break s gs owner (around_of s gs owner) (found_of r) header
         (heads_break s (around_of s gs owner) (actor_given s gs owner) (all_valued s gs owner).whole (found_of r) whole fault.0)
+
     go : SaysRule (front.Refused r) ⊎ Each IsLack (heads_found s (around_of s gs owner).names) → IsRefused (sure_first sure (front.Refused r)) s gs owner
     go (inl says) =
         subst (λ f. IsRefused f s gs owner) (sym (sure_says sure (front.Refused r) says)) (inl (behind_said s gs owner (found_of r) says there))

@@ -1,6 +1,6 @@
 -- What the check of a whole actor answers.
 -- Trusted: part of what a promise means.
-use Rattle.std.specs.Prelude.{◌≡◌, ◌⊎◌, false, true, List, [], Contains}
+use Rattle.std.specs.Prelude.{◌≡◌, ◌⊎◌, true, List, [], Contains}
 use Rattle.std.specs.declared.result.Result.{Result}
 use Rattle.std.specs.declared.result.Result.TheVariants.{Ok, Err}
 use Rattle.rvc_base.specs.Rules.{not_constant}
@@ -10,7 +10,7 @@ use Rattle.rvc_base.specs.declared.refusal.Refusal.{Refusal}
 use Rattle.cal_model.specs.Sound.{Each}
 use Rattle.cal_model.specs.View.{actor_of}
 use Rattle.cal_model.specs.declared.bound.Bound.{Bound}
-use Rattle.cal_check.specs.Actors.{IsSource, IsViolated, Source, all_found, all_valued, around_of, behind_variables, has_heads}
+use Rattle.cal_check.specs.Actors.{IsSource, IsViolated, Source, all_valued, around_of, behind_variables, has_heads}
 use Rattle.cal_check.specs.Variables.{Found, Given, Spot}
 
 abbrev pub found_of : Refusal → Found

@@ -1,6 +1,6 @@
 -- What the members of an actor come to, and what is left to say.
 -- Not trusted: no promise is read with it.
-use Rattle.std.specs.Prelude.{Option, None, Some, if◌then◌else◌, ◌≡◌, ◌⊎◌, true, List, []}
+use Rattle.std.specs.Prelude.{Option, None, Some, if◌then◌else◌, ◌≡◌, ◌⊎◌, List, []}
 use Rattle.std.specs.declared.result.Result.{Result}
 use Rattle.std.specs.declared.result.Result.TheVariants.{Ok, Err}
 use Rattle.rvc_base.specs.Rules.{not_constant}

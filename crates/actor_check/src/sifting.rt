@@ -170,7 +170,10 @@ fn sift_bare(names: &Names, scope: &Scope) -> Result<(), Front>
     match check_ports(names.alloc, &actor.ins, &actor.outs, actor.at) {
         Ok(()) => Ok(()),
         Err(MemberFault::Broken { rule, at }) => {
-            let place = Place { file: scope.file, offset: at };
+            let place = Place {
+                file: scope.file,
+                offset: at,
+            };
             Err(Front::Refused(Refusal { rule, place }))
         }
         Err(MemberFault::Memory) => Err(Front::Memory),

@@ -19,8 +19,8 @@ use crate::early::{check_given, early_values};
 use crate::heading::header_of;
 use crate::inside::actor_inside;
 use crate::rest::{Rest, rest_of};
-use crate::sifting::lacks;
 use crate::routines::routines_of;
+use crate::sifting::lacks;
 use cal_imports::Scope;
 use cal_model::Bound;
 use const_eval::Names;
@@ -139,7 +139,10 @@ fn check_told(told: Told<'_>, scope: &Scope) -> Result<Bound, Front>
 ///
 /// # Errors
 ///
-/// `Refused` with a rule that the actor breaks, and its place. `Memory` if memory runs out.
+/// `Refused` with a rule that the actor breaks, and its place (`IsViolated`). Two cases can't be told from that
+/// (`IsRefused`): behind the variables something isn't constant there, while a start that is in doubt may be said in its
+/// place; or nothing is broken, but perhaps a default in doubt of a parameter that is given a value. `Memory` if memory
+/// runs out.
 pub fn check(
     alloc: Global,
     scope: &Scope,

@@ -1,4 +1,4 @@
-use Rattle.std.proofs.Common.{◌≡◌, rules}
+use Rattle.std.proofs.Common.{rules}
 use Rattle.std.specs.Prelude.{Contains}
 use Rattle.cal_check.specs.Actors.{ins_of, outs_of, place_of}
 use Rattle.member_check.specs.Parts.{bare_header_broken}

@@ -1,4 +1,4 @@
-use Rattle.std.proofs.Common.{◌≡◌, ap, subst, rules}
+use Rattle.std.proofs.Common.{subst, rules}
 use Rattle.cal_check.specs.Actors.{all_funs, heads_broken}
 use Rattle.cal_model.specs.Sound.{Each}
 use Rattle.const_eval.specs.Counting.{names_view}
