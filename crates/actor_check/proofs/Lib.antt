@@ -1,5 +1,6 @@
 mod Causes
 mod Heads
+mod Sifted
 mod Behind
 mod Chain
 mod Counts

@@ -1,6 +1,6 @@
 -- What the check of a whole actor answers.
 -- Trusted: part of what a promise means.
-use Rattle.std.specs.Prelude.{◌≡◌, ◌⊎◌, false, true, List, [], Contains}
+use Rattle.std.specs.Prelude.{◌≡◌, ◌⊎◌, true, List, [], Contains}
 use Rattle.std.specs.declared.result.Result.{Result}
 use Rattle.std.specs.declared.result.Result.TheVariants.{Ok, Err}
 use Rattle.rvc_base.specs.Rules.{not_constant}
@@ -10,7 +10,7 @@ use Rattle.rvc_base.specs.declared.refusal.Refusal.{Refusal}
 use Rattle.cal_model.specs.Sound.{Each}
 use Rattle.cal_model.specs.View.{actor_of}
 use Rattle.cal_model.specs.declared.bound.Bound.{Bound}
-use Rattle.cal_check.specs.Actors.{IsSource, IsViolated, Source, all_found, all_valued, around_of, behind_variables, has_heads}
+use Rattle.cal_check.specs.Actors.{IsSource, IsViolated, Source, all_valued, around_of, behind_variables, has_heads}
 use Rattle.cal_check.specs.Variables.{Found, Given, Spot}
 
 abbrev pub found_of : Refusal → Found
@@ -19,12 +19,13 @@ found_of r = record {
   file = r.place.file;
 }
 
--- What isn't constant there is broken, so the actor doesn't conform; but another rule may be said in its place, since
--- some head breaks one, or a variable has no value of use.
+-- What isn't constant there is broken behind the variables, so the actor doesn't conform. But a variable has no value of
+-- use, and it isn't known whether its start breaks the same rule, which is said in place of this one then.
 pub record IsUnsaid (s : Source) (gs : List Given) (owner : Spot) (f : Found) : Type 0 where
-  pub broken : Contains (all_found s gs owner (around_of s gs owner)) f
+  pub broken : Contains (behind_variables s gs owner (around_of s gs owner)) f
   pub rule : f.violation.rule ≡ not_constant
-  pub unsaid : (has_heads s (around_of s gs owner) ≡ false) ⊎ ((all_valued s gs owner).useless ≡ true)
+  pub heads : has_heads s (around_of s gs owner) ≡ true
+  pub useless : (all_valued s gs owner).useless ≡ true
 
 -- Nothing is broken but perhaps that starts aren't constant, one of which is the default of a parameter that is given a
 -- value, and it isn't known whether that default is constant.

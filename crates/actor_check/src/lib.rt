@@ -12,6 +12,7 @@ mod keeping;
 mod rest;
 mod routines;
 mod scalars;
+mod sifting;
 mod values;
 mod whole;
 

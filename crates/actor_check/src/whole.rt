@@ -9,7 +9,7 @@ ghost use Rattle.variable_check.specs.Valuing.{IsValued};
 ghost use Rattle.variable_check.specs.Views.{all_given, spot_of};
 ghost use Rattle.actor_check.specs.Checked.{IsChecked};
 ghost use Rattle.actor_check.specs.Early.{wrongly_given};
-ghost use Rattle.actor_check.specs.Members.{FindsMembers, Settles, not_constant_at, place_left};
+ghost use Rattle.actor_check.specs.Members.{FindsMembers, Settles, not_constant_at, place_left, sure_first};
 ghost use Rattle.actor_check.specs.Parts.{header_names};
 ghost use Rattle.actor_check.specs.Phases.{IsHeaderOf};
 ghost use Rattle.actor_check.specs.Sources.{source_in};
@@ -20,6 +20,7 @@ use crate::heading::header_of;
 use crate::inside::actor_inside;
 use crate::rest::{Rest, rest_of};
 use crate::routines::routines_of;
+use crate::sifting::lacks;
 use cal_imports::Scope;
 use cal_model::Bound;
 use const_eval::Names;
@@ -35,6 +36,19 @@ fn not_constant(place: Place) -> Front
 {
     let rule = Rule::NOT_CONSTANT;
     Front::Refused(Refusal { rule, place })
+}
+
+/// A fault; or what surely isn't constant of the variables, if the fault is that something else isn't.
+fn sure_first(sure: Option<Place>, fault: Front) -> Front
+    ensures { result ≡ sure_first sure fault }
+{
+    let Some(place) = sure else {
+        return fault;
+    };
+    if lacks(fault) {
+        return not_constant(place);
+    }
+    fault
 }
 
 /// The actor of a header that breaks no rule, if all its variables have types.
@@ -98,8 +112,11 @@ fn check_members(
     if !values.whole {
         return Err(untyped(rest, told.owner));
     }
-    let found = members_of(told, scope, values, header)?;
-    settled(rest, found)
+    let sure = values.sure;
+    match members_of(told, scope, values, header) {
+        Ok(found) => settled(rest, found),
+        Err(fault) => Err(sure_first(sure, fault)),
+    }
 }
 
 /// The same, over the functions that are declared.
@@ -110,8 +127,10 @@ fn check_told(told: Told<'_>, scope: &Scope) -> Result<Bound, Front>
 {
     let early = early_values(told, scope)?;
     check_given(told, scope)?;
-    let header = header_of(told.alloc, &early.header, scope)?;
-    check_members(told, scope, early.values, header)
+    match header_of(told.alloc, &early.header, scope) {
+        Ok(header) => check_members(told, scope, early.values, header),
+        Err(fault) => Err(sure_first(early.values.sure, fault)),
+    }
 }
 
 /// The actor that a scope is over the values given to its parameters (ISO/IEC 23001-4, RVC-CAL: actors); `owner` is the
@@ -120,7 +139,10 @@ fn check_told(told: Told<'_>, scope: &Scope) -> Result<Bound, Front>
 ///
 /// # Errors
 ///
-/// `Refused` with a rule that the actor breaks, and its place. `Memory` if memory runs out.
+/// `Refused` with a rule that the actor breaks, and its place (`IsViolated`). Two cases can't be told from that
+/// (`IsRefused`): behind the variables something isn't constant there, while a start that is in doubt may be said in its
+/// place; or nothing is broken, but perhaps a default in doubt of a parameter that is given a value. `Memory` if memory
+/// runs out.
 pub fn check(
     alloc: Global,
     scope: &Scope,
