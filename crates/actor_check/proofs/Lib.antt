@@ -1,4 +1,12 @@
 mod Causes
 mod Heads
+mod Sifted
 mod Behind
 mod Chain
+mod Counts
+mod SamePairs
+mod InsideParts
+mod Putting
+mod Ported
+mod Telling
+mod Naming

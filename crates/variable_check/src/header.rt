@@ -36,8 +36,12 @@ fn kind_fault(fault: MemberFault) -> KindFault
     }
 }
 
-/// A port of a single type.
-fn port(names: &Names, declared: &PortDecl) -> Result<Port, KindFault>
+/// A port of a header, over the names that this sees.
+///
+/// # Errors
+///
+/// `Broken` with the rule that its type breaks, and its place; T8 if it is that of lists. `Memory` if memory runs out.
+pub fn port(names: &Names, declared: &PortDecl) -> Result<Port, KindFault>
     ensures { Judges port_view result (port_judged (port_tree declared.now) (names_view names.now)) }
 {
     let t = early_type(names, &declared.shape)?;

@@ -16,7 +16,7 @@ mod variables;
 
 pub use declared::{DeclaredVar, add_functions, add_parameters, add_variables};
 pub use given::{given_rightly, given_to};
-pub use header::{Header, header_ports};
+pub use header::{Header, header_ports, port};
 pub use starting::{Started, start};
 pub use valued::{Told, Valued};
 pub use variables::value_all;
