@@ -3,7 +3,6 @@ use Rattle.std.proofs.Common.{◌≡◌, Bool, true, false, List, [], ◌∷◌,
 use Rattle.std.specs.Prelude.{◌||◌, if◌then◌else◌}
 use Rattle.std.specs.declared.result.Result.{Result}
 use Rattle.rvc_base.specs.declared.refusal.Front.{Front}
-use Rattle.rvc_base.specs.declared.refusal.Place.{Place}
 use Rattle.cal_model.specs.Value.{Shape}
 use Rattle.cal_model.specs.Kinding.{Judged, Fine, Broken, Known, Names}
 use Rattle.cal_model.specs.View.{fun_view}
@@ -14,12 +13,9 @@ use Rattle.cal_check.specs.Variables.{Given, Spot, VarDecl, Valued, come, seen, 
 use Rattle.seen_names.specs.Calls.{StartsAreSame, TypesAreSame, calls_any}
 use Rattle.seen_names.specs.Known.{all_known, known_view, names_alone}
 use Rattle.seen_names.specs.declared.known.KnownName.{KnownName}
-use Rattle.variable_check.specs.Valuing.{AreAlone, Declares, Grows, IsUntyped, Values, grows_if}
+use Rattle.variable_check.specs.Valuing.{AreAlone, Declares, Values}
 use Rattle.variable_check.specs.declared.valued.Valued.{Valued as Kept}
 use Rattle.variable_check.proofs.Adding.{last_behind}
-
-pub untyped_grows : (p : Place) (old new : Kept) → IsUntyped p old new → Grows old new
-untyped_grows p old new u = subst (λ b. grows_if b old new) (sym u.whole) u.known
 
 -- ---- the same over the names alone
 
@@ -63,14 +59,3 @@ last_added old new known front before last x split globals funs parts are =
     let all : globals_of new ≡ all_known known = globals ∙ ap (λ k. k ∷ globals_of old) same ∙ ap (λ n. known_view x ∷ n.globals) are ∙ sym own in
     let none : map fun_view new.funs ≡ [] = funs ∙ ap (λ n. n.funs) are in
     ap (λ ks. record { globals = ks; locals = []; funs = map fun_view new.funs }) all ∙ ap (λ fs. record { globals = all_known known; locals = []; funs = fs }) none
-
-pub stays_alone : (old new : Kept) (names : Names) → new.whole ≡ false → Grows old new → AreAlone names old → AreAlone names new
-stays_alone old new names w g are =
-    let same : new.known.items ≡ old.known.items = subst (λ b. grows_if b old new) w g in
-    are ∙ ap (λ ks. names_alone (all_known ks)) (sym same)
-
-pub grown_alone : (old new : Kept) (before after : Names) → new.whole ≡ true → Grows old new → AreAlone before old
-    → ((ks : List KnownName) (x : KnownName) → new.known.items ≡ ks ++ x ∷ [] → before ≡ names_alone (all_known ks) → after ≡ names_alone (all_known new.known.items)) → AreAlone after new
-grown_alone old new before after w g are more =
-    let one : (x : KnownName) × (new.known.items ≡ old.known.items ++ x ∷ []) = subst (λ b. grows_if b old new) w g in
-    more old.known.items one.0 one.1 are

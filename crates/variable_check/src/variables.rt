@@ -24,7 +24,9 @@ use cal_model::{Kind, Shape, kind_of_type, types_are_kept};
 use const_eval::{Env, KindFault, Names};
 use early_check::early_type;
 use rvc_base::{Front, Memory, Place};
-use seen_names::{KnownName, add_name, calls_alone_need_functions, names_alone, names_seen, type_calls_any};
+use seen_names::{
+    KnownName, add_name, calls_alone_need_functions, names_alone, names_seen, type_calls_any,
+};
 use std::alloc::Global;
 
 /// What a variable of a type and its kind comes to.

@@ -1,10 +1,7 @@
-use Rattle.std.proofs.Common.{◌≡◌, false, true, rules}
-use Rattle.const_eval.specs.Held.{names_in}
+use Rattle.std.proofs.Common.{◌≡◌, false, rules}
 use Rattle.seen_names.specs.Known.{fun_decls}
-use Rattle.variable_check.specs.Valuing.{Grows}
 use Rattle.variable_check.specs.Views.{all_given, spot_of, var_decl}
 use Rattle.variable_check.proofs.Adding.{not_whole}
-use Rattle.variable_check.proofs.Alone.{grown_alone, stays_alone}
 use Rattle.variable_check.proofs.variables.add_variable.Goals as goal
 
 pub returns-then-not-so_far-clause-declares : goal.returns-then-not-so_far-clause-declares

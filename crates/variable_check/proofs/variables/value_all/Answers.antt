@@ -7,15 +7,19 @@ use Rattle.variable_check.specs.Views.{all_given, spot_of, var_decl, var_decls}
 use Rattle.variable_check.proofs.Adding.{AreAdded, added_all, added_more, added_refused, opened}
 use Rattle.variable_check.proofs.variables.value_all.Goals as goal
 
-pub loop-x-preserved-clause-added : goal.loop-x-preserved-clause-added
-loop-x-preserved-clause-added c = λ xs vs h.
+pub loop-x-preserved : goal.loop-x-preserved
+loop-x-preserved c =
     let gs = all_given c.args.told.given.now in
     let owner = spot_of c.args.told.owner in
     let fs = fun_decls c.args.told.funs.now in
     let left = drop (c.loop-x.x-index + 1) c.args.vars.now in
     let parts : drop c.loop-x.x-index c.args.vars.now ≡ c.x-item.result ∷ left = opened c.args.vars.now c.x-item.result c.loop-x.x-index c.loop-x-test.true c.x-item.is in
-    added_more (var_decl c.x-item.result) (var_decls left) (var_decls c.args.vars.now) gs owner fs c.loop-x.so_far c.add_variable.new.so_far xs vs
-    (subst (λ ys. AreAdded (var_decls ys) (var_decls c.args.vars.now) gs owner fs c.loop-x.so_far xs vs) parts (c.loop-x.invariant.added xs vs h)) c.in_ok-add_variable.ensures.declares
+    record {
+      added = λ xs vs h.
+          added_more (var_decl c.x-item.result) (var_decls left) (var_decls c.args.vars.now) gs owner fs c.loop-x.so_far c.add_variable.new.so_far xs vs
+          (subst (λ ys. AreAdded (var_decls ys) (var_decls c.args.vars.now) gs owner fs c.loop-x.so_far xs vs) parts (c.loop-x.invariant.added xs vs h)) c.in_ok-add_variable.ensures.declares;
+      alone = c.in_ok-add_variable.ensures.alone;
+    }
 
 pub returns-in_err-add_variable : goal.returns-in_err-add_variable
 returns-in_err-add_variable c = λ xs vs h.
