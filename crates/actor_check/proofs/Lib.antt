@@ -2,3 +2,10 @@ mod Causes
 mod Heads
 mod Behind
 mod Chain
+mod Counts
+mod SamePairs
+mod InsideParts
+mod Putting
+mod Ported
+mod Telling
+mod Naming

@@ -15,19 +15,19 @@ use Rattle.cal_model.specs.declared.bound.BoundProc.{BoundProc}
 use Rattle.const_eval.specs.declared.fault.KindFault.{KindFault}
 use Rattle.cal_check.specs.Actors.{formals_broken, funs_of, heads_broken, procs_of}
 use Rattle.cal_check.specs.Routines.{FunDecl, fun_judged, head_judged, proc_judged}
-use Rattle.cal_check.specs.Variables.{Valued, found_in}
+use Rattle.cal_check.specs.Variables.{VarDecl, Valued, found_in}
 use Rattle.cal_check.specs.Violations.{all_fine, broken}
 use Rattle.stmt_check.specs.Judging.{Refuses}
-use Rattle.variable_check.specs.Causes.{IsCause}
+use Rattle.variable_check.specs.Causes.{IsCause, SaysRule}
 use Rattle.variable_check.specs.Valuing.{IsValued}
 use Rattle.variable_check.specs.declared.valued.Valued.{Valued as Kept}
 
 -- ---- values
 
--- what variables come to, or a rule that they break
-abbrev pub Comes : Result Kept Front → Valued → Type 0
-Comes (Ok v) vs = IsValued v vs
-Comes (Err f) vs = IsCause f vs.breaks
+-- what these variables come to, or a rule that they break and that is said whatever else is broken
+abbrev pub Comes : Result Kept Front → List VarDecl → Valued → Type 0
+Comes (Ok v) xs vs = IsValued xs v vs
+Comes (Err f) xs vs = IsCause f vs.breaks × SaysRule f
 
 -- ---- functions and procedures
 

@@ -1,2 +1,7 @@
 pub mod Sources
 pub mod Checking
+pub mod Phases
+pub mod Parts
+pub mod Early
+pub mod Members
+pub mod Checked

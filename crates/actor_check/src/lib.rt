@@ -4,10 +4,19 @@
 mod bodies;
 mod built;
 mod collect;
+mod early;
 mod fault;
+mod heading;
+mod inside;
+mod keeping;
+mod rest;
+mod routines;
+mod scalars;
 mod values;
+mod whole;
 
 pub use bodies::check_bodies;
 pub use built::{functions, procedures};
 pub use collect::{declared_before, declared_funs, declared_own, declared_params};
 pub use values::value_declared;
+pub use whole::check;

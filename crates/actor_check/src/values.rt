@@ -17,7 +17,7 @@ use variable_check::{DeclaredVar, Told, Valued, value_all};
 /// As those of [`value_all`].
 pub fn value_declared(told: Told<'_>, vars: &[DeclaredVar]) -> Result<Valued, Front>
     requires { names_differ (fun_decls told.funs.now) ≡ true }
-    ensures { Comes result (valued (var_decls vars.now) (all_given told.entry.given.now)
+    ensures { Comes result (var_decls vars.now) (valued (var_decls vars.now) (all_given told.entry.given.now)
         (spot_of told.entry.owner) (fun_decls told.entry.funs.now) none_yet) }
 {
     let mut so_far = Valued::none_yet(told.alloc);

@@ -1,15 +1,15 @@
 -- Faults, and what they are the cause of.
-use Rattle.std.proofs.Common.{◌≡◌, ℕ, zero, suc, ◌<◌, List, [], ◌∷◌, ◌++◌, length, map, refl, sym, ap, subst, ◌∙◌, arith}
+use Rattle.std.proofs.Common.{◌≡◌, ℕ, zero, suc, ◌<◌, List, [], ◌∷◌, ◌++◌, length, map, refl, sym, ap, subst, arith}
 use Rattle.std.specs.Prelude.{Contains, slice_index_or}
 use Rattle.std.proofs.lemmas.List.{map-append}
 use Rattle.std.proofs.lemmas.List.Elements.{Contains-append_left, Contains-append_right}
 use Rattle.rvc_base.specs.declared.refusal.Front.{Front}
 use Rattle.rvc_base.specs.declared.refusal.Front.TheVariants as front
 use Rattle.rvc_base.specs.declared.refusal.Place.{Place}
-use Rattle.cal_model.specs.Sound.{Each}
-use Rattle.cal_check.specs.Violations.{Violation}
+use Rattle.rvc_base.specs.declared.refusal.Rule.{Rule}
+use Rattle.cal_check.specs.Violations.{Violation, violation}
 use Rattle.cal_check.specs.Variables.{Found, found_in}
-use Rattle.cal_check.proofs.Lists.{each-append, each-map}
+use Rattle.cal_check.proofs.Lists.{at-head, each-append, each-map}
 use Rattle.variable_check.specs.Causes.{AreDoubts, IsCause, doubt}
 
 -- ---- in a file
@@ -25,6 +25,9 @@ pub found_of : (file : ℕ) (vs : List Violation) (v : Violation) → Contains v
 found_of file vs v h = in_file_of file vs v h.0 h.1 h.2
 
 -- ---- causes
+
+pub cause_alone : (rule : Rule) (at : ℕ) → Contains (violation rule at) (record { rule = rule; at = at })
+cause_alone rule at = at-head (record { rule = rule; at = at }) (record { rule = rule; at = at }) [] refl
 
 pub cause_in_first : (f : Front) (xs ys : List Found) → IsCause f xs → IsCause f (xs ++ ys)
 cause_in_first (front.Refused r) xs ys h = Contains-append_left xs ys _ h

@@ -1,23 +1,14 @@
 -- Ports that are judged one by one.
-use Rattle.std.proofs.Common.{◌≡◌, List, [], ◌∷◌, ◌++◌, refl, sym, ap, subst, ◌∙◌, append-nil, append_assoc}
+use Rattle.std.proofs.Common.{◌≡◌, List, [], ◌∷◌, ◌++◌, refl, sym, ap, subst, append-nil, append_assoc}
 use Rattle.std.specs.Prelude.{Contains, Option, None, Some}
-use Rattle.std.proofs.lemmas.List.Elements.{Contains-append_left, Contains-append_right}
-use Rattle.cal_model.specs.Kinding.{Judged, Fine, Broken}
+use Rattle.cal_model.specs.Kinding.{Judged, Fine}
 use Rattle.const_eval.specs.Judging.{Breaks}
 use Rattle.const_eval.specs.declared.fault.KindFault.{KindFault}
 use Rattle.const_eval.specs.declared.fault.KindFault.TheVariants as fault
 use Rattle.stmt_check.specs.Judging.{Refuses}
-use Rattle.cal_check.specs.Violations.{Violation, all_broken, all_fine, and_all, broken, fine}
+use Rattle.cal_check.specs.Violations.{all_broken, and_all, broken}
 use Rattle.cal_check.proofs.Lists.{at-head}
 use Rattle.variable_check.specs.Faults.{behind}
-
-pub refuses_in_first : (f : KindFault) (vs ws : List Violation) → Refuses f vs → Refuses f (vs ++ ws)
-refuses_in_first (fault.Broken rule at) vs ws h = Contains-append_left vs ws _ h
-refuses_in_first fault.Memory vs ws h = tt
-
-pub refuses_in_others : (f : KindFault) (vs ws : List Violation) → Refuses f ws → Refuses f (vs ++ ws)
-refuses_in_others (fault.Broken rule at) vs ws h = Contains-append_right vs ws _ h
-refuses_in_others fault.Memory vs ws h = tt
 
 pub breaks_first : {A : Type 0} (f : KindFault) (j : Judged A) (js : List (Judged A)) → Breaks f j → Refuses f (all_broken (j ∷ js))
 breaks_first (fault.Broken rule at) j js h =
@@ -26,9 +17,6 @@ breaks_first fault.Memory j js h = tt
 
 pub fine_first : {A : Type 0} (a : A) (j : Judged A) (js : List (Judged A)) → j ≡ Fine a → all_broken (j ∷ js) ≡ all_broken js
 fine_first a j js h = ap (λ i. broken i ++ all_broken js) h
-
-pub found_first : {A : Type 0} (a : A) (j : Judged A) (js : List (Judged A)) → j ≡ Fine a → all_fine (j ∷ js) ≡ and_all (Some a) (all_fine js)
-found_first a j js h = ap (λ i. and_all (fine i) (all_fine js)) h
 
 pub behind_more : {A : Type 0} (xs : List A) (x : A) (o : Option (List A)) → behind (xs ++ x ∷ []) o ≡ behind xs (and_all (Some x) o)
 behind_more xs x None = refl

@@ -2,5 +2,6 @@ mod Wrongly
 mod Faults
 mod Starts
 mod Settling
+mod Firsts
 mod Adding
 mod Headers

@@ -1,16 +1,12 @@
 -- What starts come to.
-use Rattle.std.proofs.Common.{◌≡◌, ◌⊎◌, inl, inr, ℕ, Bool, true, false, List, [], ◌∷◌, map, refl, sym, ap, subst, ◌∙◌, Err, Ok}
-use Rattle.std.specs.Prelude.{Option, None, Some, Contains, ◌==◌, ◌&&◌, if◌then◌else◌}
+use Rattle.std.proofs.Common.{◌≡◌, ◌⊎◌, inl, inr, ℕ, Bool, true, false, List, [], ◌∷◌, map, refl, sym, ap, subst, ◌∙◌, Err}
+use Rattle.std.specs.Prelude.{Option, None, Some, Contains, if◌then◌else◌}
 use Rattle.std.specs.Str.{bytes_eq}
-use Rattle.std.specs.declared.result.Result.{Result}
 use Rattle.rvc_base.specs.Turns.{max_turns}
-use Rattle.rvc_base.specs.Rules.{constant_traps, not_constant}
-use Rattle.rvc_base.specs.declared.refusal.Rule.{Rule}
-use Rattle.rvc_base.specs.declared.trap.Trap.{Trap}
+use Rattle.rvc_base.specs.Rules.{not_constant}
 use Rattle.cal_ast.specs.Places.{begins}
-use Rattle.cal_ast.specs.Tree as tree
 use Rattle.cal_ast.specs.Tree.{Tree}
-use Rattle.cal_model.specs.Value.{Kind, Shape, Value, kind_of_type, stored}
+use Rattle.cal_model.specs.Value.{Shape, Value}
 use Rattle.cal_model.specs.Outcome.{Out, Gives, Traps, Lacks, Clashes}
 use Rattle.cal_model.specs.Expression.{eval}
 use Rattle.cal_model.specs.Call.{calls_of}
@@ -20,16 +16,15 @@ use Rattle.cal_model.specs.Laws.{ConstantIsValue}
 use Rattle.const_eval.specs.Constants.{Constant, constants_among, other_constants, var_of}
 use Rattle.const_eval.specs.Evaluable.{HasNoValue, value_of}
 use Rattle.const_eval.specs.Held.{Kept, globals_of, held, names_in}
-use Rattle.const_eval.specs.Judging.{Breaks}
 use Rattle.const_eval.specs.declared.fault.KindFault.{KindFault}
 use Rattle.const_eval.specs.declared.fault.KindFault.TheVariants as fault
 use Rattle.stmt_check.specs.Judging.{Refuses}
-use Rattle.cal_check.specs.Constants.{early_kind, has_kind, start_value, value_given}
-use Rattle.cal_check.specs.Violations.{Violation, said, violation, without_constants}
-use Rattle.cal_check.specs.Variables.{Come, come, come_if, come_of}
+use Rattle.cal_check.specs.Constants.{start_value, value_given}
+use Rattle.cal_check.specs.Violations.{violation}
+use Rattle.cal_check.specs.Variables.{Come, come_of}
 use Rattle.cal_check.proofs.Lists.{at-head}
-use Rattle.variable_check.specs.Valuing.{ComesTo, came, said_of}
-use Rattle.variable_check.specs.declared.starting.Started.{Started}
+use Rattle.variable_check.specs.Causes.{SaysFault}
+use Rattle.variable_check.specs.Valuing.{ComesTo, came}
 
 -- ---- constants among names
 
@@ -65,12 +60,6 @@ start_is law env t e o h = ap (λ p. come_of (value_given p t (begins e))) (cons
 
 -- ---- how evaluation ends
 
-pub kept_gives : (t : Shape) (v : Value) (left at : ℕ) → has_kind (kind_of_type t) v ≡ true → come_of (value_given (Gives v left) t at) ≡ came (Some (stored t v)) []
-kept_gives t v left at h = ap (λ b. come_of (Fine (if b then Some (stored t v) else None))) h
-
-pub kept_none : (t : Shape) (v : Value) (left at : ℕ) → has_kind (kind_of_type t) v ≡ false → come_of (value_given (Gives v left) t at) ≡ came None []
-kept_none t v left at h = ap (λ b. come_of (Fine (if b then Some (stored t v) else None))) h
-
 pub doubtful : (o : Out Value) (t : Shape) (at : ℕ) → HasNoValue o
     → (come_of (value_given o t at) ≡ came None []) ⊎ (come_of (value_given o t at) ≡ came None (violation not_constant at))
 doubtful (Gives v left) t at h = absurd h
@@ -78,48 +67,12 @@ doubtful (Traps c) t at h = absurd h
 doubtful Lacks t at h = inr refl
 doubtful Clashes t at h = inl refl
 
--- a start that is of another kind
-pub kind_breaks : (f : KindFault) (j : Judged Kind) (t : Shape) (e : Tree) (names : Names) (at : ℕ) → Breaks f j → ComesTo (Err f) (come_if j t e names) at
-kind_breaks (fault.Broken rule p) j t e names at h = ap (λ i. come_if i t e names) h
-kind_breaks fault.Memory j t e names at h = tt
-
--- ---- what is said of it
-
-pub said_all : (r : Result Started KindFault) (c : Come) (at : ℕ) → ComesTo r c at → ComesTo r (said_of false c) at
-said_all r c at h = h
-
-pub said_so : (c : Come) (v : Option Value) → c ≡ came v [] → said_of true c ≡ came v []
-said_so c v h = ap (said_of true) h
-
-pub doubt_said : (c : Come) (at : ℕ) → (c ≡ came None []) ⊎ (c ≡ came None (violation not_constant at)) → said_of true c ≡ came None []
-doubt_said c at (inl h) = ap (said_of true) h
-doubt_said c at (inr h) = ap (said_of true) h
-
-pub fault_hidden : (c : Come) (rule : Rule) (at : ℕ) → c ≡ came None (violation rule at) → (rule.0 == not_constant.0) ≡ true → said_of true c ≡ came None []
-fault_hidden c rule at h e = ap (said_of true) h ∙ ap (λ b. came None (if b then [] else violation rule at)) e
-
-pub fault_said : (c : Come) (rule : Rule) (at : ℕ) → c ≡ came None (violation rule at) → (rule.0 == not_constant.0) ≡ false → said_of true c ≡ came None (violation rule at)
-fault_said c rule at h e = ap (said_of true) h ∙ ap (λ b. came None (if b then [] else violation rule at)) e
-
--- a rule that is said of a type, though a value may be of no use
-pub still_said : (useless : Bool) (rule : Rule) (at : ℕ) → (useless && (rule.0 == not_constant.0)) ≡ false → said useless (violation rule at) ≡ violation rule at
-still_said true rule at h = ap (λ b. if b then [] else violation rule at) h
-still_said false rule at h = refl
-
-pub not_said : (useless : Bool) (rule : Rule) (at : ℕ) → useless ≡ true → (rule.0 == not_constant.0) ≡ true → said useless (violation rule at) ≡ []
-not_said true rule at u h = ap (λ b. if b then [] else violation rule at) h
-not_said false rule at u h = cc
-
 -- ---- faults
 
 pub start_refuses : (f : KindFault) (c : Come) (at : ℕ) → ComesTo (Err f) c at → Refuses f c.breaks
-start_refuses (fault.Broken rule p) c at h = subst (λ d. Contains d.breaks (record { rule = rule; at = p })) (sym h) (at-head (record { rule = rule; at = p }) (record { rule = rule; at = p }) [] refl)
+start_refuses (fault.Broken rule p) c at h = subst (λ d. Contains d.breaks (record { rule = rule; at = p })) (sym h.0) (at-head (record { rule = rule; at = p }) (record { rule = rule; at = p }) [] refl)
 start_refuses fault.Memory c at h = tt
 
--- a start that may be stored is what evaluation gives
-pub come_at : (t : Shape) (e : Tree) (names : Names) (k j : Kind) → k ≡ kind_of_type t → early_kind k e names ≡ Fine j → come t (tree.present e) names ≡ come_of (start_value t e names)
-come_at t e names k j same h = ap (λ i. come_if i t e names) (subst (λ l. early_kind l e names ≡ Fine j) same h)
-
--- .. or breaks a rule
-pub come_breaks : (f : KindFault) (t : Shape) (e : Tree) (names : Names) (k : Kind) (at : ℕ) → k ≡ kind_of_type t → Breaks f (early_kind k e names) → ComesTo (Err f) (come t (tree.present e) names) at
-come_breaks f t e names k at same h = kind_breaks f (early_kind (kind_of_type t) e names) t e names at (subst (λ l. Breaks f (early_kind l e names)) same h)
+pub start_says : (f : KindFault) (c : Come) (at : ℕ) → ComesTo (Err f) c at → SaysFault f
+start_says (fault.Broken rule p) c at h = h.1
+start_says fault.Memory c at h = tt

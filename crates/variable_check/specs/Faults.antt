@@ -1,6 +1,6 @@
 -- Faults of members, as those of kinds.
 -- Not trusted: no promise is read with it.
-use Rattle.std.specs.Prelude.{List, [], ◌++◌, Option, None, Some}
+use Rattle.std.specs.Prelude.{List, ◌++◌, Option, None, Some}
 use Rattle.const_eval.specs.declared.fault.KindFault.{KindFault}
 use Rattle.const_eval.specs.declared.fault.KindFault.TheVariants as fault
 use Rattle.member_check.specs.declared.fault.MemberFault.{MemberFault}

@@ -1,23 +1,30 @@
 -- What calls answer that seek the values of variables.
--- Trusted but for `came`, `said_of`, `Settles`, `GivenStored`, `doubts_in`, `is_wrong` and `Declares`: part of what a promise means.
-use Rattle.std.specs.Prelude.{◌≡◌, ◌⊎◌, ℕ, Bool, true, false, not, ◌||◌, List, [], ◌∷◌, ◌++◌, map, option_map, Option, None, Some}
+-- Trusted but for `came`, `said_of`, `Notes`, `Settles`, `GivenStored`, `is_wrong` and what stands under steps: part of
+-- what a promise means.
+use Rattle.std.specs.Prelude.{◌≡◌, ◌⊎◌, ℕ, Bool, true, false, not, ◌||◌, List, [], ◌∷◌, ◌++◌, Contains, IfSome, map, option_map, Option, None, Some, if◌then◌else◌}
 use Rattle.std.specs.declared.result.Result.{Result}
 use Rattle.std.specs.declared.result.Result.TheVariants.{Ok, Err}
 use Rattle.rvc_base.specs.Rules.{not_constant}
 use Rattle.rvc_base.specs.declared.refusal.Front.{Front}
+use Rattle.rvc_base.specs.declared.refusal.Front.TheVariants as front
 use Rattle.rvc_base.specs.declared.refusal.Place.{Place}
+use Rattle.cal_ast.specs.Places.{begins}
+use Rattle.cal_model.specs.Actor.{Held}
+use Rattle.cal_model.specs.Sound.{Each}
 use Rattle.cal_model.specs.Value.{Shape, Value}
 use Rattle.cal_model.specs.View.{value_view, var_view}
 use Rattle.cal_model.specs.declared.value.Value.{Value as DeclaredValue}
 use Rattle.const_eval.specs.declared.fault.KindFault.{KindFault}
 use Rattle.const_eval.specs.declared.fault.KindFault.TheVariants as fault
-use Rattle.cal_check.specs.Actors.{is_declared, is_given}
+use Rattle.cal_check.specs.Actors.{first_valueless, is_declared, is_given, said_or_all}
 use Rattle.cal_check.specs.Violations.{Violation, said, violation}
-use Rattle.cal_check.specs.Variables.{Come, Found, Given, Spot, VarDecl, Valued, found_in, param_broken, value_of}
+use Rattle.cal_check.specs.Variables.{Come, Found, Given, Spot, VarDecl, Valued, found_in, is_none, param_broken, value_of}
 use Rattle.seen_names.specs.Known.{all_known}
-use Rattle.variable_check.specs.Causes.{AreDoubts, IsCause}
+use Rattle.variable_check.specs.Causes.{AreDoubts, IsCause, IsSaid, SaysRule, doubt}
 use Rattle.variable_check.specs.declared.starting.Started.{Started}
 use Rattle.variable_check.specs.declared.starting.Started.TheVariants as started
+use Rattle.variable_check.specs.declared.given.Constancy.{Constancy}
+use Rattle.variable_check.specs.declared.given.Constancy.TheVariants as constancy
 use Rattle.variable_check.specs.declared.given.Settled.{Settled}
 use Rattle.variable_check.specs.declared.valued.Valued.{Valued as Kept}
 
@@ -26,13 +33,15 @@ use Rattle.variable_check.specs.declared.valued.Valued.{Valued as Kept}
 abbrev pub came : Option Value → List Violation → Come
 came v vs = record { value = v; breaks = vs }
 
--- A start that begins at an offset comes to its value, to none that is of use, or to the rule that it breaks. Of one that
--- is in doubt it isn't known whether it isn't constant or needs a value that is of no use.
+-- A start that begins at an offset comes to its value, to none that is of use, to none since it isn't constant, or to
+-- another rule that it breaks. Of one that is in doubt it isn't known whether it isn't constant or needs a value that is
+-- of no use.
 abbrev pub ComesTo : Result Started KindFault → Come → ℕ → Type 0
 ComesTo (Ok (started.Value v)) c at = c ≡ came (Some (value_view v)) []
 ComesTo (Ok started.Useless) c at = c ≡ came None []
 ComesTo (Ok started.Doubtful) c at = (c ≡ came None []) ⊎ (c ≡ came None (violation not_constant at))
-ComesTo (Err (fault.Broken rule p)) c at = c ≡ came None (violation rule p)
+ComesTo (Ok (started.NotConstant p)) c at = c ≡ came None (violation not_constant p)
+ComesTo (Err (fault.Broken rule p)) c at = (c ≡ came None (violation rule p)) × IsSaid rule
 ComesTo (Err fault.Memory) c at = Unit {0}
 
 -- what is said of a start once a value is of no use
@@ -53,33 +62,132 @@ Finds (Err f) fs = IsCause f fs
 -- a value that a parameter is given, as it is stored, or the rule that it breaks
 abbrev pub GivenStored : Result DeclaredValue Front → Option Value → List Found → Type 0
 GivenStored (Ok v) value breaks = (value ≡ Some (value_view v)) × (breaks ≡ [])
-GivenStored (Err f) value breaks = IsCause f breaks
+GivenStored (Err f) value breaks = IsCause f breaks × SaysRule f
 
-abbrev pub doubts_in : Option Place → List Place
-doubts_in None = []
-doubts_in (Some p) = p ∷ []
+-- where the start of a variable begins
+abbrev pub start_place : VarDecl → Place
+start_place x = record { file = x.file; offset = begins x.start }
+
+-- what a start breaks of which this is known
+abbrev pub Notes : Constancy → VarDecl → List Found → Type 0
+Notes constancy.Constant x fs = fs ≡ []
+Notes (constancy.Lacking p) x fs = fs ≡ doubt p ∷ []
+Notes (constancy.InDoubt p) x fs = (p ≡ start_place x) × ((fs ≡ []) ⊎ (fs ≡ doubt p ∷ []))
 
 -- what a variable holds at first whose start comes to this, and what breaks a rule in it
 abbrev pub Settles : Result Settled Front → VarDecl → List Given → Spot → Shape → Come → Type 0
 Settles (Ok s) x gs owner t c = (value_of x gs t c.value ≡ option_map value_view s.value)
-    × AreDoubts (doubts_in s.doubt) (found_in x.file c.breaks ++ param_broken x gs owner t)
-Settles (Err f) x gs owner t c = IsCause f (found_in x.file c.breaks ++ param_broken x gs owner t)
+    × Notes s.constancy x (found_in x.file c.breaks) × (param_broken x gs owner t ≡ [])
+Settles (Err f) x gs owner t c =
+    IsCause f (found_in x.file c.breaks ++ param_broken x gs owner t) × SaysRule f
 
 -- ---- variables
 
--- what variables come to that break no rule, but perhaps that some starts in doubt aren't constant
-pub record IsValued (v : Kept) (vs : Valued) : Type 0 where
+-- The first of these variables without a value has a start that begins there: those before it have values, and what
+-- else has one stands behind it.
+pub record IsFirst (p : Place) (xs : List VarDecl) (held : List Held) : Type 0 where
+  pub before : List VarDecl
+  pub lacking : VarDecl
+  pub behind : List VarDecl
+  pub parts : xs ≡ before ++ lacking ∷ behind
+  pub place : p ≡ start_place lacking
+  pub later : List (List ℕ)
+  pub named : map (λ x. x.name) held ≡ map (λ x. x.name) before ++ later
+  pub are_behind : Each (λ n. Contains (map (λ x. x.name) behind) n) later
+
+-- Either all of these variables have values and break nothing, or the first without one begins there, and if they break
+-- anything, it isn't constant.
+abbrev pub Lacks : Option Place → List VarDecl → Valued → Type 0
+Lacks None xs vs = (vs.breaks ≡ []) × (vs.useless ≡ false) × (vs.whole ≡ true)
+    × (map (λ x. x.name) vs.held ≡ map (λ x. x.name) xs)
+Lacks (Some p) xs vs = (vs.useless ≡ true) × ((vs.breaks ≡ []) ⊎ Contains vs.breaks (doubt p))
+    × IsFirst p xs vs.held
+
+-- what these variables come to that break no rule, but perhaps that some types and starts aren't constant
+pub record IsValued (xs : List VarDecl) (v : Kept) (vs : Valued) : Type 0 where
   pub known : all_known v.known.items ≡ vs.known
   pub held : map var_view v.held.items ≡ vs.held
+  -- whatever is broken is at one of these places
   pub breaks : AreDoubts v.doubts.items vs.breaks
   pub useless : v.useless ≡ vs.useless
   pub whole : v.whole ≡ vs.whole
+  -- this one is broken in any case
+  pub sure : IfSome v.sure (λ p. Contains vs.breaks (doubt p))
+  -- if none is, and no parameter that is given a value has a default that is in doubt
+  pub lacks : v.sure ≡ None → v.defaulted ≡ false → Lacks v.lacking xs vs
 
--- what they come to, or a rule that they break
-abbrev pub Values : Result (Unit {0}) Front → Kept → Valued → Type 0
-Values (Ok u) v vs = IsValued v vs
-Values (Err f) v vs = IsCause f vs.breaks
+-- what they come to, or a rule that they break and that is said whatever else is broken
+abbrev pub Values : Result (Unit {0}) Front → List VarDecl → Kept → Valued → Type 0
+Values (Ok u) xs v vs = IsValued xs v vs
+Values (Err f) xs v vs = IsCause f vs.breaks × SaysRule f
 
--- what comes behind others, whatever these came to
-abbrev pub Declares : Result (Unit {0}) Front → (Valued → Valued) → (old new : Kept) → Type 0
-Declares result step old new = (vs : Valued) → IsValued old vs → Values result new (step vs)
+-- what these come to behind others, whatever the others came to
+abbrev pub Declares :
+    Result (Unit {0}) Front → List VarDecl → (Valued → Valued) → (old new : Kept) → Type 0
+Declares result more step old new =
+    (xs : List VarDecl) (vs : Valued) → IsValued xs old vs → Values result (xs ++ more) new (step vs)
+
+-- ---- what isn't constant, if nothing behind the variables is broken
+
+abbrev pub valueless : List VarDecl → Spot → Valued → List Found
+valueless xs owner vs =
+    if vs.useless || not vs.whole then first_valueless xs vs.held owner else []
+
+-- what is broken, or that the first variable without a value isn't constant
+abbrev pub left_over : List VarDecl → Spot → Valued → List Found
+left_over xs owner vs = said_or_all vs.breaks (valueless xs owner vs)
+
+-- something at this place, or nothing
+abbrev pub AreAt : Option Place → List Found → Type 0
+AreAt None fs = fs ≡ []
+AreAt (Some p) fs = Contains fs (doubt p)
+
+-- ---- steps
+
+abbrev pub doubts_in : Constancy → List Place
+doubts_in constancy.Constant = []
+doubts_in (constancy.Lacking p) = p ∷ []
+doubts_in (constancy.InDoubt p) = p ∷ []
+
+abbrev pub sure_in : Constancy → Option Place
+sure_in constancy.Constant = None
+sure_in (constancy.Lacking p) = Some p
+sure_in (constancy.InDoubt p) = None
+
+-- a start that is in doubt though there is a value, which a parameter is given then
+abbrev pub is_defaulted : Constancy → Bool → Bool
+is_defaulted (constancy.InDoubt p) absent = not absent
+is_defaulted other absent = false
+
+abbrev pub lacking_at : VarDecl → Bool → Option Place
+lacking_at x true = Some (start_place x)
+lacking_at x false = None
+
+abbrev pub first_of : Option Place → Option Place → Option Place
+first_of None other = other
+first_of (Some p) other = Some p
+
+-- what is known of a start is noted, and whether its variable has this value
+pub record IsNoted (k : Constancy) (v : Option Value) (x : VarDecl) (old new : Kept) : Type 0 where
+  pub known : new.known.items ≡ old.known.items
+  pub held : new.held.items ≡ old.held.items
+  pub doubts : new.doubts.items ≡ old.doubts.items ++ doubts_in k
+  pub sure : new.sure ≡ first_of old.sure (sure_in k)
+  pub lacking : new.lacking ≡ first_of old.lacking (lacking_at x (is_none v))
+  pub defaulted : new.defaulted ≡ (old.defaulted || is_defaulted k (is_none v))
+  pub useless : new.useless ≡ old.useless
+
+-- a type that isn't constant is noted, unless an earlier value is of no use
+pub record IsUntyped (p : Place) (old new : Kept) : Type 0 where
+  pub known : new.known.items ≡ old.known.items
+  pub held : new.held.items ≡ old.held.items
+  pub doubts : new.doubts.items ≡ (if old.useless then old.doubts.items else old.doubts.items ++ p ∷ [])
+  pub sure : new.sure ≡ (if old.useless then old.sure else first_of old.sure (Some p))
+  pub lacking : new.lacking ≡ old.lacking
+  pub defaulted : new.defaulted ≡ old.defaulted
+  pub useless : new.useless ≡ old.useless
+  pub whole : new.whole ≡ false
+
+abbrev pub Untypes : Result (Unit {0}) Front → Place → (old new : Kept) → Type 0
+Untypes (Ok u) p old new = IsUntyped p old new
+Untypes (Err f) p old new = f ≡ front.Memory

@@ -1,17 +1,20 @@
 //! Faults with their file.
 
-ghost use Rattle.std.specs.Prelude.{◌≡◌, List};
+ghost use Rattle.std.specs.Prelude.{◌≡◌, ◌==◌, List};
+ghost use Rattle.rvc_base.specs.Rules.{not_constant};
 ghost use Rattle.cal_check.specs.Variables.{found_in};
 ghost use Rattle.cal_check.specs.Violations.{Violation};
 ghost use Rattle.stmt_check.specs.Judging.{Refuses};
-ghost use Rattle.variable_check.specs.Causes.{IsCause};
+ghost use Rattle.variable_check.specs.Causes.{IsCause, SaysFault, SaysRule};
 
 use const_eval::KindFault;
 use rvc_base::{Front, Place, Refusal, Rule};
 
 /// A fault in a file.
 pub(crate) fn in_file(file: u32, fault: KindFault) -> Front
-    ensures { (broken : List Violation) → Refuses fault broken → IsCause result (found_in file broken) }
+    ensures cause { (broken : List Violation) → Refuses fault broken
+        → IsCause result (found_in file broken) }
+    ensures said { SaysFault fault → SaysRule result }
 {
     match fault {
         KindFault::Broken { rule, at } => {
@@ -20,6 +23,13 @@ pub(crate) fn in_file(file: u32, fault: KindFault) -> Front
         }
         KindFault::Memory => Front::Memory,
     }
+}
+
+/// Whether a rule is that of what isn't constant.
+pub(crate) fn is_not_constant(rule: Rule) -> bool
+    ensures { result ≡ (rule.0 == not_constant.0) }
+{
+    rule.0 == Rule::NOT_CONSTANT.0
 }
 
 /// A rule that is broken at a place.

@@ -1,7 +1,7 @@
 //! Values that parameters are given.
 #![tactic(auto, using(crate::proofs::Wrongly::wrongly_behind, crate::proofs::Wrongly::given_is))]
 
-ghost use Rattle.std.specs.Prelude.{◌≡◌, ℕ, List, [], None, Some, option_map, true};
+ghost use Rattle.std.specs.Prelude.{◌≡◌, ℕ, IfErr, List, [], None, Some, option_map, true};
 ghost use Rattle.std.specs.declared.result.Result.TheVariants.{Ok};
 ghost use Rattle.cal_ast.specs.Places.{begins};
 ghost use Rattle.cal_ast.specs.View.{optional_expr};
@@ -9,9 +9,9 @@ ghost use Rattle.cal_check.specs.Actors.{given_wrongly, is_declared};
 ghost use Rattle.cal_check.specs.Variables.{Come, Given, found_in, given_broken, given_to, given_value};
 ghost use Rattle.cal_model.specs.Value.{IsType, Shape as ShapeOf, kind_of_type};
 ghost use Rattle.cal_model.specs.View.{kind_view, shape_view, value_view};
-ghost use Rattle.variable_check.specs.Causes.{AreDoubts};
+ghost use Rattle.variable_check.specs.Causes.{SaysRule};
 ghost use Rattle.variable_check.specs.Views.{all_given, given_of, spot_of, var_decl, var_decls};
-ghost use Rattle.variable_check.specs.Valuing.{ComesTo, Finds, GivenStored, Settles, doubts_in, is_wrong};
+ghost use Rattle.variable_check.specs.Valuing.{ComesTo, Finds, GivenStored, Notes, Settles, is_wrong, start_place};
 
 use crate::declared::DeclaredVar;
 use crate::fault::refused;
@@ -66,7 +66,8 @@ fn is_wrong(given: &LeafValue, before: &[LeafValue], params: &[DeclaredVar]) -> 
 ///
 /// `Refused`: N2 at a value that is given to no parameter, or to one that is given another before it.
 pub fn given_rightly(given: &[LeafValue], params: &[DeclaredVar]) -> Result<(), Front>
-    ensures { Finds result (given_wrongly (all_given given.now) [] (var_decls params.now)) }
+    ensures found { Finds result (given_wrongly (all_given given.now) [] (var_decls params.now)) }
+    ensures said { IfErr result (λ fault. SaysRule fault) }
 {
     let mut rest = given;
     'backwards: while let Some((last, before)) = rest.split_last() {
@@ -80,11 +81,22 @@ pub fn given_rightly(given: &[LeafValue], params: &[DeclaredVar]) -> Result<(), 
 
 // ---- values
 
-/// What a variable holds at first, if it has a value that is of use, and where its start begins if that is in doubt.
+/// What is known of whether a start is constant.
+#[derive(Clone, Copy, Debug)]
+pub(crate) enum Constancy {
+    /// Nothing is said of it: it is constant, or an earlier value is of no use.
+    Constant,
+    /// It isn't, at this place.
+    Lacking(Place),
+    /// It isn't, or it needs a value that is of no use. It begins at this place.
+    InDoubt(Place),
+}
+
+/// What a variable holds at first, if it has a value that is of use, and what is known of its start.
 #[derive(Debug, Drop)]
 pub(crate) struct Settled {
     pub value: Option<Value>,
-    pub doubt: Option<Place>,
+    pub constancy: Constancy,
 }
 
 /// What a parameter of a type and its kind holds once the value is stored in it.
@@ -124,17 +136,33 @@ fn value_started(started: Started) -> Option<Value>
         Started::Value(value) => Some(value),
         Started::Useless => None,
         Started::Doubtful => None,
+        Started::NotConstant(_) => None,
     }
 }
 
-/// The place of a start that is in doubt.
-fn doubt_started(file: u32, at: u32, started: &Started) -> Option<Place>
-    ensures { (c : Come) → ComesTo (Ok started.now) c at → AreDoubts (doubts_in result) (found_in file c.breaks) }
+/// What is known of whether a start of a variable is constant.
+fn constancy_of(x: DeclaredVar, started: &Started) -> Constancy
+    ensures { (c : Come) → ComesTo (Ok started.now) c (begins (optional_expr x.entry.start.now))
+        → Notes result (var_decl x.entry) (found_in x.entry.file c.breaks) }
 {
     match started {
-        Started::Value(_) => None,
-        Started::Useless => None,
-        Started::Doubtful => Some(Place { file, offset: at }),
+        Started::Value(_) => Constancy::Constant,
+        Started::Useless => Constancy::Constant,
+        Started::Doubtful => Constancy::InDoubt(start_place(x)),
+        Started::NotConstant(offset) => Constancy::Lacking(Place {
+            file: x.file,
+            offset: *offset,
+        }),
+    }
+}
+
+/// Where the start of a variable begins.
+pub(crate) fn start_place(x: DeclaredVar) -> Place
+    ensures { result ≡ start_place (var_decl x.entry) }
+{
+    Place {
+        file: x.file,
+        offset: place_of(x.start),
     }
 }
 
@@ -143,18 +171,18 @@ fn defaulted(
     x: DeclaredVar,
     owner: Place,
     started: Started,
-    doubt: Option<Place>,
+    constancy: Constancy,
 ) -> Result<Settled, Front>
     ensures { (c : Come) (at : ℕ) (gs : List Given) (t : ShapeOf) → x.entry.is_param ≡ true
         → given_to x.entry.name.now gs ≡ None → ComesTo (Ok started) c at
-        → AreDoubts (doubts_in doubt) (found_in x.entry.file c.breaks)
+        → Notes constancy (var_decl x.entry) (found_in x.entry.file c.breaks)
         → Settles result (var_decl x.entry) gs (spot_of owner) t c }
 {
     if x.start.is_none() {
         return Err(refused(Rule::WRONG_PARAMETER, owner));
     }
     let value = value_started(started);
-    Ok(Settled { value, doubt })
+    Ok(Settled { value, constancy })
 }
 
 /// What a variable holds at first that starts so: of a parameter the value that it is given, if it is given one.
@@ -171,17 +199,17 @@ pub(crate) fn settle(
         → Settles result (var_decl x.entry) (all_given told.entry.given.now) (spot_of told.entry.owner)
         (shape_view t.now) c }
 {
-    let doubt = doubt_started(x.file, place_of(x.start), &started);
+    let constancy = constancy_of(x, &started);
     if !x.is_param {
         let value = value_started(started);
-        return Ok(Settled { value, doubt });
+        return Ok(Settled { value, constancy });
     }
     let Some(g) = given_to(x.name, told.given) else {
-        return defaulted(x, told.owner, started, doubt);
+        return defaulted(x, told.owner, started, constancy);
     };
     let value = given_stored(told.alloc, t, k, g)?;
     Ok(Settled {
         value: Some(value),
-        doubt,
+        constancy,
     })
 }

@@ -3,16 +3,19 @@
 ghost use Rattle.std.specs.Prelude.{◌≡◌, ℕ, IfOk, true};
 ghost use Rattle.std.specs.declared.result.Result.TheVariants.{Err, Ok};
 ghost use Rattle.cal_ast.specs.Places.{begins};
-ghost use Rattle.cal_ast.specs.Tree.{present};
+ghost use Rattle.cal_ast.specs.Tree.{Tree, present};
 ghost use Rattle.cal_ast.specs.View.{expr_tree, optional_expr};
 ghost use Rattle.cal_check.specs.Constants.{start_value, value_given};
-ghost use Rattle.cal_check.specs.Variables.{Come, come, come_of};
+ghost use Rattle.cal_check.specs.Variables.{Come, come, come_if, come_of};
+ghost use Rattle.cal_model.specs.Kinding.{Judged, Names as NamesOf};
 ghost use Rattle.cal_model.specs.Outcome.{Gives};
-ghost use Rattle.cal_model.specs.Value.{IsType, kind_of_type};
+ghost use Rattle.cal_model.specs.Value.{IsType, Kind as KindOf, Shape as ShapeOf, kind_of_type};
 ghost use Rattle.cal_model.specs.View.{kind_view, shape_view, value_view};
 ghost use Rattle.const_eval.specs.Held.{names_in};
+ghost use Rattle.const_eval.specs.Judging.{Breaks};
 ghost use Rattle.variable_check.specs.Valuing.{ComesTo, said_of};
 
+use crate::fault::is_not_constant;
 use cal_ast::Expr;
 use cal_model::{Kind, Shape, Value, constants_are_values};
 use const_eval::{ConstFault, Env, KindFault, Names, eval_const};
@@ -30,6 +33,8 @@ pub enum Started {
     Useless,
     /// No value: either it isn't constant, or it needs a value that is of no use.
     Doubtful,
+    /// No value: it isn't constant. The offset is that of the part that uses a name that isn't known yet.
+    NotConstant(u32),
 }
 
 /// What a start comes to that is to be stored in a type, over what is declared before it (ISO/IEC 23001-4, RVC-CAL:
@@ -38,7 +43,7 @@ pub enum Started {
 /// # Errors
 ///
 /// `Broken`: the first rule that the start breaks, and its place; T1 or T5 at it if its kind is another one, T7 if its
-/// evaluation traps, T9 if it needs a name that isn't known yet. `Memory` if memory runs out.
+/// evaluation traps; never T9. `Memory` if memory runs out.
 pub fn start(
     alloc: Global,
     env: &Env,
@@ -64,8 +69,26 @@ fn start_at(alloc: Global, env: &Env, t: &Shape, k: &Kind, e: &Expr) -> Result<S
     ensures { ComesTo result (come (shape_view t.now) (present (expr_tree e.now)) (names_in env.now))
         (begins (expr_tree e.now)) }
 {
-    early_kind(&Names::outermost(alloc, env), k, e)?;
-    value_at(alloc, env, t, k, e)
+    match early_kind(&Names::outermost(alloc, env), k, e) {
+        Ok(_) => value_at(alloc, env, t, k, e),
+        Err(fault) => unkinded(fault),
+    }
+}
+
+/// What a start comes to whose kind breaks a rule.
+fn unkinded(fault: KindFault) -> Result<Started, KindFault>
+    ensures { (j : Judged KindOf) (t : ShapeOf) (e : Tree) (names : NamesOf) (at : ℕ) → Breaks fault j
+        → ComesTo result (come_if j t e names) at }
+{
+    match fault {
+        KindFault::Broken { rule, at } => {
+            if is_not_constant(rule) {
+                return Ok(Started::NotConstant(at));
+            }
+            Err(KindFault::Broken { rule, at })
+        }
+        KindFault::Memory => Err(KindFault::Memory),
+    }
 }
 
 /// What evaluation gives of an expression of a kind, stored in a type of this kind.
@@ -117,7 +140,7 @@ pub(crate) fn said(useless: bool, found: Result<Started, KindFault>) -> Result<S
     }
     match found {
         Ok(started) => Ok(said_of_start(started)),
-        Err(fault) => said_of_fault(fault),
+        Err(fault) => Err(fault),
     }
 }
 
@@ -129,20 +152,6 @@ fn said_of_start(started: Started) -> Started
         Started::Value(value) => Started::Value(value),
         Started::Useless => Started::Useless,
         Started::Doubtful => Started::Useless,
-    }
-}
-
-/// A fault of which nothing is said if it is that of what isn't constant.
-fn said_of_fault(fault: KindFault) -> Result<Started, KindFault>
-    ensures { (c : Come) (at : ℕ) → ComesTo (Err fault) c at → ComesTo result (said_of true c) at }
-{
-    match fault {
-        KindFault::Broken { rule, at } => {
-            if rule.0 == Rule::NOT_CONSTANT.0 {
-                return Ok(Started::Useless);
-            }
-            Err(KindFault::Broken { rule, at })
-        }
-        KindFault::Memory => Err(KindFault::Memory),
+        Started::NotConstant(_) => Started::Useless,
     }
 }

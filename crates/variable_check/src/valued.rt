@@ -1,16 +1,16 @@
 //! What variables come to.
 
-ghost use Rattle.std.specs.Prelude.{◌≡◌, ◌++◌, ◌||◌, IfOk, List, OnOk, map, option_map};
+ghost use Rattle.std.specs.Prelude.{◌≡◌, ◌∷◌, ◌++◌, ◌||◌, [], IfOk, List, OnOk, false, map, option_map, true};
 ghost use Rattle.cal_check.specs.Constants.{useless};
-ghost use Rattle.cal_check.specs.Variables.{Found, Valued as ValuedOf, held_if, is_none, none_yet, value_or, with_value};
+ghost use Rattle.cal_check.specs.Variables.{Found, Spot, VarDecl, Valued as ValuedOf, held_if, is_none, none_yet, value_or, with_value};
+ghost use Rattle.cal_model.specs.Sound.{AreDistinct};
 ghost use Rattle.cal_model.specs.Value.{Items, Nil, kind_of_type};
 ghost use Rattle.cal_model.specs.View.{in_order, kind_view, shape_view, value_view, var_view};
-ghost use Rattle.variable_check.specs.Causes.{AreDoubts};
 ghost use Rattle.variable_check.specs.Views.{var_decl};
-ghost use Rattle.variable_check.specs.Valuing.{IsValued, doubts_in};
+ghost use Rattle.variable_check.specs.Valuing.{AreAt, IsNoted, IsUntyped, IsValued, Notes, doubts_in, first_of, is_defaulted, lacking_at, left_over, sure_in};
 
 use crate::declared::DeclaredVar;
-use crate::given::Settled;
+use crate::given::{Constancy, Settled, start_place};
 use cal_model::{BoundVar, Kind, Shape, Value, Values};
 use fnl_tree::LeafValue;
 use rvc_base::{Memory, Place};
@@ -29,15 +29,21 @@ pub struct Told<'a> {
     pub funs: &'a [DeclaredFun<'a>],
 }
 
-/// What variables come to that break no rule, but perhaps that some starts aren't constant.
+/// What variables come to that break no rule, but perhaps that some types and starts aren't constant.
 #[derive(Debug, Drop)]
 pub struct Valued {
     /// As names while values are sought, in the order of the text.
     pub known: Vec<KnownName>,
     /// Those that have a value, in the order of the text.
     pub held: Vec<BoundVar>,
-    /// Where those starts begin of which it isn't known whether they are constant.
+    /// Where those types and starts break the rule that aren't constant, or of which it isn't known: no others break it.
     pub doubts: Vec<Place>,
+    /// The first of these places at which the rule is broken in any case.
+    pub sure: Option<Place>,
+    /// Where the start of the first variable begins that has no value that is of use, though it has a type.
+    pub lacking: Option<Place>,
+    /// Whether some parameter that is given a value has a default of which it isn't known whether it is constant.
+    pub defaulted: bool,
     /// Whether some variable has no value that is of use. Nothing is said then of what isn't constant behind it.
     pub useless: bool,
     /// Whether all types were found. Else the last name that is known is the one before the first without a type.
@@ -47,14 +53,30 @@ pub struct Valued {
 impl Valued {
     /// No variables.
     pub fn none_yet(alloc: Global) -> Valued
-        ensures { IsValued result none_yet }
+        ensures { IsValued [] result none_yet }
     {
         Valued {
             known: Vec::new(alloc),
             held: Vec::new(alloc),
             doubts: Vec::new(alloc),
+            sure: None,
+            lacking: None,
+            defaulted: false,
             useless: false,
             whole: true,
+        }
+    }
+
+    /// Where something isn't constant, if the variables break a rule or one of them has no value, and nothing else is
+    /// broken. It isn't known if a parameter that is given a value has a default that is in doubt.
+    pub fn not_constant(&self) -> Option<Place>
+        ensures { (xs : List VarDecl) (owner : Spot) (vs : ValuedOf) → IsValued xs self.now vs
+            → AreDistinct (map (λ x. x.name) xs) → self.now.defaulted ≡ false
+            → AreAt result (left_over xs owner vs) }
+    {
+        match self.sure {
+            Some(place) => Some(place),
+            None => self.lacking,
         }
     }
 
@@ -68,9 +90,10 @@ impl Valued {
         settled: Settled,
     ) -> Result<(), Memory>
         requires { kind_view k ≡ kind_of_type (shape_view t) }
-        ensures { OnOk result ((vs : ValuedOf) (breaks : List Found) → IsValued self.old vs
-            → AreDoubts (doubts_in settled.doubt) breaks
-            → IsValued self.new (with_value (var_decl x.entry) (shape_view t)
+        ensures { OnOk result ((xs : List VarDecl) (vs : ValuedOf) (breaks : List Found)
+            → IsValued xs self.old vs → Notes settled.constancy (var_decl x.entry) breaks
+            → (vs.useless ≡ true → breaks ≡ [])
+            → IsValued (xs ++ var_decl x.entry ∷ []) self.new (with_value (var_decl x.entry) (shape_view t)
             (option_map value_view settled.value) breaks vs)) }
     {
         let value = value_or_useless(alloc, &settled.value, &k)?;
@@ -82,12 +105,80 @@ impl Valued {
             value,
             changes,
         })?;
+        self.note(x, &settled)?;
         self.useless = either(self.useless, is_absent(&settled.value));
         self.whole = true;
-        add_doubt(&mut self.doubts, settled.doubt)?;
         add_held(alloc, &mut self.held, x, t, settled.value)?;
         Ok(())
     }
+
+    /// Notes what is known of whether a start is constant, and whether the variable has a value.
+    fn note(&mut self, x: DeclaredVar, settled: &Settled) -> Result<(), Memory>
+        ensures { OnOk result (IsNoted settled.now.constancy (option_map value_view settled.now.value)
+            (var_decl x.entry) self.old self.new) }
+    {
+        let value = is_absent(&settled.value);
+        self.defaulted = either(self.defaulted, is_defaulted(settled.constancy, value));
+        self.sure = first_of(self.sure, sure_in(settled.constancy));
+        self.lacking = first_of(self.lacking, lacking_at(x, value));
+        add_doubts(&mut self.doubts, settled.constancy)
+    }
+
+    /// Notes that the type of a variable isn't constant: nothing behind it is judged. Nothing is said of it if an earlier
+    /// value is of no use.
+    pub(crate) fn untyped(&mut self, place: Place) -> Result<(), Memory>
+        ensures { OnOk result (IsUntyped place self.old self.new) }
+    {
+        self.whole = false;
+        if self.useless {
+            return Ok(());
+        }
+        self.sure = first_of(self.sure, Some(place));
+        self.doubts.push(place)?;
+        Ok(())
+    }
+}
+
+/// The first of two places, of which one may lack.
+fn first_of(a: Option<Place>, b: Option<Place>) -> Option<Place>
+    ensures { result ≡ first_of a b }
+{
+    match a {
+        Some(place) => Some(place),
+        None => b,
+    }
+}
+
+/// The place of a start that isn't constant.
+fn sure_in(constancy: Constancy) -> Option<Place>
+    ensures { result ≡ sure_in constancy }
+{
+    match constancy {
+        Constancy::Constant => None,
+        Constancy::Lacking(place) => Some(place),
+        Constancy::InDoubt(_) => None,
+    }
+}
+
+/// Whether a start is in doubt though there is a value, which a parameter is given then.
+fn is_defaulted(constancy: Constancy, absent: bool) -> bool
+    ensures { result ≡ is_defaulted constancy absent }
+{
+    match constancy {
+        Constancy::Constant => false,
+        Constancy::Lacking(_) => false,
+        Constancy::InDoubt(_) => !absent,
+    }
+}
+
+/// Where the start of a variable begins, if it has no value.
+fn lacking_at(x: DeclaredVar, absent: bool) -> Option<Place>
+    ensures { result ≡ lacking_at (var_decl x.entry) absent }
+{
+    if absent {
+        return Some(start_place(x));
+    }
+    None
 }
 
 /// Whether one of both holds.
@@ -143,13 +234,22 @@ fn list_of(items: Vec<Value>) -> Value
     Value::List(Values { items })
 }
 
-/// Adds the place of a start that is in doubt.
-fn add_doubt(doubts: &mut Vec<Place>, doubt: Option<Place>) -> Result<(), Memory>
-    ensures { OnOk result (doubts.new.items ≡ doubts.old.items ++ doubts_in doubt) }
+/// Adds the place of a start that isn't constant or is in doubt.
+fn add_doubts(doubts: &mut Vec<Place>, constancy: Constancy) -> Result<(), Memory>
+    ensures { OnOk result (doubts.new.items ≡ doubts.old.items ++ doubts_in constancy) }
 {
-    if let Some(place) = doubt {
-        doubts.push(place)?;
+    match constancy {
+        Constancy::Constant => Ok(()),
+        Constancy::Lacking(place) => add_place(doubts, place),
+        Constancy::InDoubt(place) => add_place(doubts, place),
     }
+}
+
+/// Adds a place.
+fn add_place(places: &mut Vec<Place>, place: Place) -> Result<(), Memory>
+    ensures { OnOk result (places.new.items ≡ places.old.items ++ place ∷ []) }
+{
+    places.push(place)?;
     Ok(())
 }
 

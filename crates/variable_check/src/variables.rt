@@ -1,6 +1,6 @@
 //! Variables in the order of the text.
 
-ghost use Rattle.std.specs.Prelude.{◌≡◌, List, true};
+ghost use Rattle.std.specs.Prelude.{◌≡◌, ◌∷◌, [], List, true};
 ghost use Rattle.cal_ast.specs.View.{optional_expr, type_tree};
 ghost use Rattle.cal_check.specs.Constants.{early_type};
 ghost use Rattle.cal_check.specs.Variables.{Given, Spot, VarDecl as VarOf, come, valued, with_come, with_type, with_var};
@@ -11,17 +11,17 @@ ghost use Rattle.const_eval.specs.Held.{names_in};
 ghost use Rattle.const_eval.specs.Judging.{Breaks};
 ghost use Rattle.seen_names.specs.Known.{fun_decls, names_differ};
 ghost use Rattle.variable_check.specs.Views.{all_given, spot_of, var_decl, var_decls};
-ghost use Rattle.variable_check.specs.Valuing.{Declares, Settles, said_of};
+ghost use Rattle.variable_check.specs.Valuing.{Declares, Settles, Untypes, said_of};
 
 use crate::declared::DeclaredVar;
-use crate::fault::in_file;
+use crate::fault::{in_file, is_not_constant};
 use crate::given::{Settled, settle};
 use crate::starting::{said, start};
 use crate::valued::{Told, Valued};
 use cal_model::{Kind, Shape, kind_of_type, types_are_kept};
 use const_eval::{Env, KindFault, Names};
 use early_check::early_type;
-use rvc_base::{Front, Memory, Rule};
+use rvc_base::{Front, Memory, Place};
 use seen_names::names_seen;
 
 /// What a variable of a type and its kind comes to.
@@ -54,8 +54,8 @@ fn add_typed(
     t: Shape,
 ) -> Result<(), Front>
     requires { IsType (shape_view t) }
-    ensures { Declares result (λ vs. with_come (var_decl x.entry) (all_given told.entry.given.now)
-        (spot_of told.entry.owner) (shape_view t)
+    ensures { Declares result (var_decl x.entry ∷ []) (λ vs. with_come (var_decl x.entry)
+        (all_given told.entry.given.now) (spot_of told.entry.owner) (shape_view t)
         (come (shape_view t) (optional_expr x.entry.start.now) (names_in env.now)) vs)
         so_far.old so_far.new }
 {
@@ -69,17 +69,16 @@ fn add_typed(
     }
 }
 
-/// A variable whose type breaks a rule: nothing behind it is judged. Nothing is said of the rule if it is that of what
-/// isn't constant and an earlier value is of no use.
+/// A variable whose type breaks a rule: if that isn't that of what isn't constant, it is said.
 fn untyped(so_far: &mut Valued, file: u32, fault: KindFault) -> Result<(), Front>
     ensures { (j : Judged ShapeOf) (x : VarOf) (gs : List Given) (owner : Spot) (names : NamesOf) → x.file ≡ file
-        → Breaks fault j → Declares result (with_type j x gs owner names) so_far.old so_far.new }
+        → Breaks fault j
+        → Declares result (x ∷ []) (with_type j x gs owner names) so_far.old so_far.new }
 {
     match fault {
         KindFault::Broken { rule, at } => {
-            if so_far.useless && rule.0 == Rule::NOT_CONSTANT.0 {
-                so_far.whole = false;
-                return Ok(());
+            if is_not_constant(rule) {
+                return untyped_at(so_far, Place { file, offset: at });
             }
             Err(in_file(file, KindFault::Broken { rule, at }))
         }
@@ -87,9 +86,20 @@ fn untyped(so_far: &mut Valued, file: u32, fault: KindFault) -> Result<(), Front
     }
 }
 
+/// A variable whose type isn't constant.
+fn untyped_at(so_far: &mut Valued, place: Place) -> Result<(), Front>
+    ensures { Untypes result place so_far.old so_far.new }
+{
+    match so_far.untyped(place) {
+        Ok(()) => Ok(()),
+        Err(Memory) => Err(Front::Memory),
+    }
+}
+
 /// Adds a variable over the names that it sees.
 fn add_over(told: Told<'_>, so_far: &mut Valued, env: &Env, x: DeclaredVar) -> Result<(), Front>
-    ensures { Declares result (λ vs. with_type (early_type (type_tree x.entry.shape.now) (names_in env.now))
+    ensures { Declares result (var_decl x.entry ∷ [])
+        (λ vs. with_type (early_type (type_tree x.entry.shape.now) (names_in env.now))
         (var_decl x.entry) (all_given told.entry.given.now) (spot_of told.entry.owner) (names_in env.now) vs)
         so_far.old so_far.new }
 {
@@ -103,8 +113,9 @@ fn add_over(told: Told<'_>, so_far: &mut Valued, env: &Env, x: DeclaredVar) -> R
 /// Adds a variable, unless one before it has no type.
 fn add_variable(told: Told<'_>, so_far: &mut Valued, x: DeclaredVar) -> Result<(), Front>
     requires { names_differ (fun_decls told.funs.now) ≡ true }
-    ensures { Declares result (with_var (var_decl x.entry) (all_given told.entry.given.now)
-        (spot_of told.entry.owner) (fun_decls told.entry.funs.now)) so_far.old so_far.new }
+    ensures { Declares result (var_decl x.entry ∷ []) (with_var (var_decl x.entry)
+        (all_given told.entry.given.now) (spot_of told.entry.owner) (fun_decls told.entry.funs.now))
+        so_far.old so_far.new }
 {
     if !so_far.whole {
         return Ok(());
@@ -120,16 +131,20 @@ fn add_variable(told: Told<'_>, so_far: &mut Valued, x: DeclaredVar) -> Result<(
 ///
 /// If a parameter is given a value, it has this value, stored in its type, and else its default.
 ///
+/// A type or a start that isn't constant is noted, and no error: whether it is said depends on what else is broken.
+/// Nothing behind a variable without a type is judged.
+///
 /// # Errors
 ///
 /// `Refused` with a rule that is broken, and its place: N2 at the owner if a parameter has neither a value nor a
 /// default; T1 and T5 if a value is of another kind or length than its type; T2, T3, T6, T8 and Z4 as their rules say of
-/// types and starts; T7 and T9 if what must be constant traps or isn't constant. `Memory` if memory runs out. What the
-/// variables so far come to isn't said then.
+/// types and starts; T7 if what must be constant traps; never T9. `Memory` if memory runs out. What the variables so far
+/// come to isn't said then.
 pub fn value_all(told: Told<'_>, so_far: &mut Valued, vars: &[DeclaredVar]) -> Result<(), Front>
     requires { names_differ (fun_decls told.funs.now) ≡ true }
-    ensures { Declares result (valued (var_decls vars.now) (all_given told.entry.given.now)
-        (spot_of told.entry.owner) (fun_decls told.entry.funs.now)) so_far.old so_far.new }
+    ensures { Declares result (var_decls vars.now) (valued (var_decls vars.now)
+        (all_given told.entry.given.now) (spot_of told.entry.owner) (fun_decls told.entry.funs.now))
+        so_far.old so_far.new }
 {
     for x in vars {
         add_variable(told, so_far, *x)?;

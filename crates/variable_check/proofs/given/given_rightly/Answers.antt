@@ -1,4 +1,4 @@
-use Rattle.std.proofs.Common.{◌≡◌, [], ◌∷◌, ◌++◌, true, false, map, sym, ap, subst, ◌∙◌, rules}
+use Rattle.std.proofs.Common.{◌≡◌, [], ◌∷◌, ◌++◌, map, sym, ap, subst, ◌∙◌, rules}
 use Rattle.std.proofs.lemmas.List.{map-append}
 use Rattle.cal_check.specs.Actors.{given_wrongly}
 use Rattle.variable_check.proofs.Wrongly.{wrongly_here, wrongly_passed}
@@ -6,8 +6,8 @@ use Rattle.variable_check.specs.Causes.{IsCause}
 use Rattle.variable_check.specs.Views.{all_given, given_of, var_decls}
 use Rattle.variable_check.proofs.given.given_rightly.Goals as goal
 
-pub returns-then-is_wrong : goal.returns-then-is_wrong
-returns-then-is_wrong c =
+pub returns-then-is_wrong-clause-found : goal.returns-then-is_wrong-clause-found
+returns-then-is_wrong-clause-found c =
     let split : c.backwards.rest.now ≡ c.in-Some.before.now ++ c.in-Some.last.now ∷ [] = search rules in
     let parts : all_given c.backwards.rest.now ≡ all_given c.in-Some.before.now ++ given_of c.in-Some.last.now ∷ [] = ap (map given_of) split ∙ map-append given_of c.in-Some.before.now (c.in-Some.last.now ∷ []) in
     let wrong = sym c.is_wrong.ensures ∙ c.if-is_wrong.true in

@@ -1,4 +1,4 @@
-use Rattle.std.proofs.Common.{◌≡◌, true, map, sym, ap, ◌∙◌, rules}
+use Rattle.std.proofs.Common.{◌≡◌, true, sym, ap, ◌∙◌, rules}
 use Rattle.std.specs.Prelude.{is_some, string_bytes}
 use Rattle.cal_check.specs.Actors.{is_declared}
 use Rattle.cal_check.specs.Variables.{given_to}

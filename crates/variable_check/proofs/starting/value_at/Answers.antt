@@ -20,9 +20,11 @@ returns-in_ok-kept-in-Ok c =
 
 pub returns-in-Err-Trap : goal.returns-in-Err-Trap
 returns-in-Err-Trap c =
-    let traps : value_of (expr_tree c.args.e.now) (held c.args.env.now) ≡ Traps c.in-Err-Trap.field-0-0 = search rules in
-    start_is c.constants_are_values.ensures c.args.env.now (shape_view c.args.t.now) (expr_tree c.args.e.now) (Traps c.in-Err-Trap.field-0-0) traps
-    ∙ ap (λ p. came None (violation constant_traps p)) (sym c.place_of-at.ensures)
+    let traps : value_of (expr_tree c.args.e.now) (held c.args.env.now) ≡ Traps c.in-Err-Trap.field-0-0 = search rules in (
+      start_is c.constants_are_values.ensures c.args.env.now (shape_view c.args.t.now) (expr_tree c.args.e.now) (Traps c.in-Err-Trap.field-0-0) traps
+          ∙ ap (λ p. came None (violation constant_traps p)) (sym c.place_of-at.ensures),
+      refl,
+    )
 
 pub returns-in-Err-NotConstant : goal.returns-in-Err-NotConstant
 returns-in-Err-NotConstant c =

@@ -1,25 +1,28 @@
-use Rattle.std.proofs.Common.{◌≡◌, Err, sym, subst, rules}
+use Rattle.std.proofs.Common.{◌≡◌, [], ◌∷◌, ◌++◌, Err, sym, subst, rules}
 use Rattle.std.specs.Prelude.{option_map}
 use Rattle.cal_ast.specs.View.{optional_expr}
 use Rattle.cal_check.specs.Variables.{come, with_come}
 use Rattle.cal_model.specs.View.{shape_view, value_view}
 use Rattle.const_eval.specs.Held.{names_in}
-use Rattle.variable_check.specs.Valuing.{Values, doubts_in}
+use Rattle.variable_check.specs.Valuing.{Values}
 use Rattle.variable_check.specs.Views.{all_given, spot_of, var_decl}
 use Rattle.variable_check.proofs.Adding.{come_added, come_refused}
 use Rattle.variable_check.proofs.variables.add_typed.Goals as goal
 
 pub returns-in_err-settled : goal.returns-in_err-settled
-returns-in_err-settled c = λ vs h.
+returns-in_err-settled c = λ xs vs h.
+    let x = var_decl c.args.x in
     let start = come (shape_view c.args.t) (optional_expr c.args.x.start.now) (names_in c.args.env.now) in
     let same : c.from_residual.result ≡ Err c.in_err-settled.field-0.0 = search rules in
-    subst (λ r. Values r c.args.so_far.now (with_come (var_decl c.args.x) (all_given c.args.told.given.now) (spot_of c.args.told.owner) (shape_view c.args.t) start vs)) (sym same)
-    (come_refused c.in_err-settled.field-0.0 (var_decl c.args.x) (all_given c.args.told.given.now) (spot_of c.args.told.owner) (shape_view c.args.t) start vs c.args.so_far.now.useless h.useless c.in_err-settled.ensures)
+    subst (λ r. Values r (xs ++ x ∷ []) c.args.so_far.now (with_come x (all_given c.args.told.given.now) (spot_of c.args.told.owner) (shape_view c.args.t) start vs)) (sym same) (
+      come_refused c.in_err-settled.field-0.0 x (all_given c.args.told.given.now) (spot_of c.args.told.owner) (shape_view c.args.t) start vs c.args.so_far.now.useless h.useless c.in_err-settled.ensures.0,
+      c.in_err-settled.ensures.1,
+    )
 
 pub returns-in-Ok-add : goal.returns-in-Ok-add
-returns-in-Ok-add c = λ vs h.
+returns-in-Ok-add c = λ xs vs h.
     let start = come (shape_view c.args.t) (optional_expr c.args.x.start.now) (names_in c.args.env.now) in
     let s = c.in_ok-settled.settled in
-    come_added c.add.new.self (var_decl c.args.x) (all_given c.args.told.given.now) (spot_of c.args.told.owner) (shape_view c.args.t) start vs c.args.so_far.now.useless
-    (option_map value_view s.value) (doubts_in s.doubt) h.useless c.in_ok-settled.ensures.0 c.in_ok-settled.ensures.1
-    (λ breaks d. c.in-Ok-add.ensures vs breaks h d)
+    come_added c.add.new.self xs (var_decl c.args.x) (all_given c.args.told.given.now) (spot_of c.args.told.owner) (shape_view c.args.t) start vs c.args.so_far.now.useless
+    (option_map value_view s.value) s.constancy h.useless c.in_ok-settled.ensures.0 c.in_ok-settled.ensures.1 c.in_ok-settled.ensures.2
+    (λ breaks n quiet. c.in-Ok-add.ensures xs vs breaks h n quiet)

@@ -1,5 +1,5 @@
-use Rattle.std.proofs.Common.{drop}
-use Rattle.cal_check.specs.Variables.{Valued}
+use Rattle.std.proofs.Common.{List, drop}
+use Rattle.cal_check.specs.Variables.{VarDecl, Valued}
 use Rattle.seen_names.specs.Known.{fun_decls}
 use Rattle.variable_check.specs.Views.{all_given, spot_of, var_decls}
 use Rattle.variable_check.specs.Valuing.{IsValued}
@@ -7,5 +7,5 @@ use Rattle.variable_check.proofs.Adding.{AreAdded}
 use Rattle.variable_check.proofs.variables.value_all.Given as goal
 
 abbrev pub invariant-loop-x : goal.invariant-loop-x
-invariant-loop-x l = (vs : Valued) → IsValued l.initial.so_far vs
-    → AreAdded (var_decls (drop l.x-index l.vars)) (var_decls l.vars) (all_given l.told.given.now) (spot_of l.told.owner) (fun_decls l.told.funs.now) l.so_far vs
+invariant-loop-x l = (xs : List VarDecl) (vs : Valued) → IsValued xs l.initial.so_far vs
+    → AreAdded (var_decls (drop l.x-index l.vars)) (var_decls l.vars) (all_given l.told.given.now) (spot_of l.told.owner) (fun_decls l.told.funs.now) l.so_far xs vs

@@ -7,13 +7,16 @@ use Rattle.const_eval.specs.Held.{names_in}
 use Rattle.variable_check.specs.Valuing.{said_of}
 use Rattle.variable_check.specs.Views.{all_given, spot_of, var_decl}
 use Rattle.variable_check.proofs.Faults.{cause_in_first}
-use Rattle.variable_check.proofs.Starts.{start_refuses}
+use Rattle.variable_check.proofs.Starts.{start_refuses, start_says}
 use Rattle.variable_check.proofs.variables.value_of.Goals as goal
 
 pub returns-in-Err : goal.returns-in-Err
 returns-in-Err c =
     let start = come (shape_view c.args.t.now) (optional_expr c.args.x.start.now) (names_in c.args.env.now) in
     let at = begins (optional_expr c.args.x.start.now) in
-    cause_in_first c.in_file.result (found_in c.args.x.file (said c.args.useless start.breaks))
-    (param_broken (var_decl c.args.x) (all_given c.args.told.given.now) (spot_of c.args.told.owner) (shape_view c.args.t.now))
-    (c.in_file.ensures (said c.args.useless start.breaks) (start_refuses c.in-Err.fault (said_of c.args.useless start) at (c.in-Err.ensures start at c.start.ensures)))
+    let fault = c.in-Err.ensures start at c.start.ensures in (
+      cause_in_first c.in_file.result (found_in c.args.x.file (said c.args.useless start.breaks))
+          (param_broken (var_decl c.args.x) (all_given c.args.told.given.now) (spot_of c.args.told.owner) (shape_view c.args.t.now))
+          (c.in_file.ensures.cause (said c.args.useless start.breaks) (start_refuses c.in-Err.fault (said_of c.args.useless start) at fault)),
+      c.in_file.ensures.said (start_says c.in-Err.fault (said_of c.args.useless start) at fault),
+    )

@@ -1,0 +1,172 @@
+-- An actor that is put together of its parts.
+use Rattle.std.proofs.Common.{◌≡◌, inl, inr, ⊎_elim, ℕ, List, [], map, refl, sym, ap, subst, ◌∙◌, Ok, Err, Result}
+use Rattle.std.specs.Prelude.{Vec}
+use Rattle.std.specs.declared.alloc.Global.{Global}
+use Rattle.rvc_base.specs.Chain.{IsAbove}
+use Rattle.rvc_base.specs.declared.refusal.Front.{Front}
+use Rattle.cal_ast.specs.Tree.{Tree}
+use Rattle.cal_ast.specs.View.{actor_tree}
+use Rattle.cal_imports.specs.declared.scope.Scope.{Scope as Resolved}
+use Rattle.cal_model.specs.Actor.{Actor, Port, Proc}
+use Rattle.cal_model.specs.Kinding.{Names}
+use Rattle.cal_model.specs.View.{actor_of, port_view, proc_view, var_view}
+use Rattle.cal_model.specs.declared.bound.Bound.{Bound}
+use Rattle.cal_model.specs.declared.bound.BoundVar.{BoundVar}
+use Rattle.const_eval.specs.declared.fault.KindFault.{KindFault}
+use Rattle.const_eval.specs.declared.fault.KindFault.TheVariants as fault
+use Rattle.cal_check.specs.Actions.{Around, or_none}
+use Rattle.cal_check.specs.Actors.{IsAboveItself, Source, actions_in, actions_of, actor_given, all_valued, around_of, bare_actor, inside_found, kept_funs, kept_vars, members_of, place_of, procs_in, procs_of}
+use Rattle.cal_check.specs.Schedules.{moves_in, pairs_in, schedule_in}
+use Rattle.cal_check.specs.Variables.{Given, Spot, found_in}
+use Rattle.cal_check.specs.Violations.{Violation, all_fine}
+use Rattle.member_check.specs.Parts.{members_tree}
+use Rattle.stmt_check.specs.Judging.{Refuses}
+use Rattle.actor_build.specs.Building.{ArePartsOf, BreaksMembers, HasActions, IsCycle, around_bare, members_broken}
+use Rattle.actor_build.specs.declared.whole.BareActor.{BareActor}
+use Rattle.variable_check.specs.Causes.{IsCause}
+use Rattle.variable_check.specs.declared.header.Header.{Header}
+use Rattle.actor_check.specs.Parts.{AreKept, ArePartsIn, BreaksParts, BuildsActor, FindsInside, IsBuilt, IsCycleIn, IsInside, placed}
+use Rattle.actor_check.specs.Phases.{routines_found, scalars_found}
+use Rattle.actor_check.specs.Sources.{source_in}
+use Rattle.actor_check.specs.declared.routines.Routines.{Routines}
+use Rattle.actor_check.proofs.Causes.{found_of}
+use Rattle.actor_check.proofs.InsideParts.{inside_fine, members_cause, routines_cause, scalars_cause}
+use Rattle.actor_check.proofs.SamePairs.{pairs_same}
+
+-- ---- what is around
+
+around_with : List Port → List Port → List Proc → Names → Around
+around_with ins outs procs names = record { ins = ins; outs = outs; procs = procs; names = names }
+
+around_same : (i j o p : List Port) (q r : List Proc) (n m : Names) → i ≡ j → o ≡ p → q ≡ r → n ≡ m → around_with i o q n ≡ around_with j p r m
+around_same i j o p q r n m e1 e2 e3 e4 = cc
+
+pub around_is : (header : Header) (routines : Routines) (names : Names) (s : Source) (gs : List Given) (owner : Spot)
+    → ArePartsIn header routines names s gs owner
+    → around_of s gs owner ≡ record { ins = map port_view header.ins.items; outs = map port_view header.outs.items; procs = map proc_view routines.procs.items; names = names }
+unfolding around_with
+around_is header routines names s gs owner p =
+    let procs : (around_of s gs owner).procs ≡ map proc_view routines.procs.items =
+    ap (λ n. or_none (all_fine (procs_of (procs_in (members_of s.actor)) n))) p.inside ∙ ap or_none p.heads.procs in
+    around_same (around_of s gs owner).ins (map port_view header.ins.items) (around_of s gs owner).outs (map port_view header.outs.items)
+    (around_of s gs owner).procs (map proc_view routines.procs.items) (around_of s gs owner).names names
+    (ap or_none p.ports.ins) (ap or_none p.ports.outs) procs p.inside
+
+around_kept : (bare : BareActor) (header : Header) (routines : Routines) (names : Names) → bare.ins.items ≡ header.ins.items → bare.outs.items ≡ header.outs.items
+    → bare.procs.items ≡ routines.procs.items
+    → around_with (map port_view header.ins.items) (map port_view header.outs.items) (map proc_view routines.procs.items) names
+    ≡ around_with (map port_view bare.ins.items) (map port_view bare.outs.items) (map proc_view bare.procs.items) names
+around_kept bare header routines names i o p =
+    around_same _ _ _ _ _ _ names names (ap (map port_view) (sym i)) (ap (map port_view) (sym o)) (ap (map proc_view) (sym p)) refl
+
+pub parts_are : (bare : BareActor) (held : Vec BoundVar Global) (header : Header) (routines : Routines) (scope : Resolved) (names : Names) (gs : List Given) (owner : Spot)
+    → AreKept bare held header routines (source_in scope) → ArePartsIn header routines names (source_in scope) gs owner
+    → (all_valued (source_in scope) gs owner).held ≡ map var_view held.items
+    → ArePartsOf bare (actor_tree scope.actor) names (source_in scope) gs owner
+unfolding around_with
+parts_are bare held header routines scope names gs owner k p h = record {
+  actor = refl;
+  class = sym k.class;
+  around = around_is header routines names (source_in scope) gs owner p ∙ around_kept bare header routines names k.ins k.outs k.procs;
+  vars = ap (λ xs. kept_vars xs (source_in scope)) h ∙ sym k.vars;
+  funs = ap (λ fs. kept_funs (or_none fs) (source_in scope)) p.heads.funs ∙ sym k.funs;
+}
+
+-- ---- what actions and their order break
+
+placed_cause : (file : ℕ) (f : KindFault) (vs : List Violation) → Refuses f vs → IsCause (placed file f) (found_in file vs)
+placed_cause file (fault.Broken rule at) vs h = found_of file vs (record { rule = rule; at = at }) h
+placed_cause file fault.Memory vs h = tt
+
+placed_cycle : (file : ℕ) (f : KindFault) (members : Tree) (actor : Actor) → actor.pairs ≡ pairs_in members actor → IsCycle f members actor
+    → IsCycleIn (placed file f) file members actor
+placed_cycle file (fault.Broken rule at) members actor pairs (is, first, (a, above)) =
+    (record { action = a; above = subst (λ ps. IsAbove ps a a) (sym pairs) above }, first, is, refl)
+placed_cycle file fault.Memory members actor pairs h = tt
+
+pub parts_break : (f : KindFault) (bare : BareActor) (scope : Resolved) (names : Names)
+    → ((actor : Actor) → HasActions actor (actions_of (actions_in (members_tree scope.actor.members.items)) (around_bare bare names)) (members_tree scope.actor.members.items)
+    → BreaksMembers f (members_tree scope.actor.members.items) (around_bare bare names) actor scope.actor.at)
+    → BreaksParts (placed scope.file f) bare scope names
+parts_break f bare scope names broken gs owner parts =
+    let s = source_in scope in
+    let members = members_tree scope.actor.members.items in
+    let around = around_of s gs owner in
+    let plain = bare_actor s gs owner around in
+    let actor = actor_given s gs owner in
+    let has : HasActions actor (actions_of (actions_in members) (around_bare bare names)) members =
+    record { actions = ap (actions_of (actions_in members)) parts.around; states = refl } in
+    let pairs : actor.pairs ≡ pairs_in members actor =
+    sym (pairs_same plain (moves_in (schedule_in members) plain) (pairs_in members plain) members) in
+    let breaks : BreaksMembers f members around actor scope.actor.at =
+    subst (λ a. BreaksMembers f members a actor scope.actor.at) (sym parts.around) (broken actor has) in
+    ⊎_elim (λ l. inl (placed_cause scope.file f (members_broken members around actor scope.actor.at) l))
+    (λ r. inr (placed_cycle scope.file f members actor pairs r)) breaks
+
+-- ---- the actor, if nothing else is broken
+
+pub kept_scalars : (f : Front) (bare : BareActor) (held : Vec BoundVar Global) (header : Header) (routines : Routines) (scope : Resolved) (names : Names) (gs : List Given) (owner : Spot)
+    → AreKept bare held header routines (source_in scope) → (all_valued (source_in scope) gs owner).held ≡ map var_view held.items
+    → IsCause f (scalars_found (source_in scope) (map var_view bare.vars.items))
+    → IsCause f (inside_found (source_in scope) (around_of (source_in scope) gs owner) (actor_given (source_in scope) gs owner))
+kept_scalars f bare held header routines scope names gs owner k h broken =
+    let s = source_in scope in
+    let same : map var_view bare.vars.items ≡ kept_vars (all_valued s gs owner).held s = k.vars ∙ sym (ap (λ xs. kept_vars xs s) h) in
+    scalars_cause f s (around_of s gs owner) (actor_given s gs owner) (subst (λ xs. IsCause f (scalars_found s xs)) same broken)
+
+pub kept_inside : (found : Bound) (bare : BareActor) (held : Vec BoundVar Global) (header : Header) (routines : Routines) (scope : Resolved) (names : Names) (gs : List Given) (owner : Spot)
+    → AreKept bare held header routines (source_in scope) → ArePartsIn header routines names (source_in scope) gs owner
+    → (all_valued (source_in scope) gs owner).held ≡ map var_view held.items
+    → routines_found (source_in scope) (map proc_view routines.procs.items) names ≡ []
+    → scalars_found (source_in scope) (map var_view bare.vars.items) ≡ []
+    → IsBuilt found bare scope names → IsInside found (source_in scope) gs owner
+kept_inside found bare held header routines scope names gs owner k p h routines_fine scalars_fine b =
+    let s = source_in scope in
+    let around = around_of s gs owner in
+    let actor = actor_given s gs owner in
+    let parts = parts_are bare held header routines scope names gs owner k p h in
+    let is : actor_of found ≡ actor = b.is gs owner parts in
+    let same : map var_view bare.vars.items ≡ kept_vars (all_valued s gs owner).held s = k.vars ∙ sym (ap (λ xs. kept_vars xs s) h) in
+    let shape = around_is header routines names s gs owner p in
+    let procs : around.procs ≡ map proc_view routines.procs.items = ap (λ a. a.procs) shape in
+    let members : members_broken (members_of s.actor) around actor (place_of s.actor) ≡ [] =
+    subst (λ a. members_broken (members_of s.actor) around a (place_of s.actor) ≡ []) is
+    (subst (λ a. members_broken (members_of s.actor) a (actor_of found) (place_of s.actor) ≡ []) (sym parts.around) b.fine) in
+    let scalars : scalars_found s actor.vars ≡ [] = subst (λ xs. scalars_found s xs ≡ []) same scalars_fine in
+    record {
+      is = is;
+      fine = inside_fine s around actor
+          (subst (λ ps. routines_found s ps around.names ≡ []) (sym procs) (subst (λ n. routines_found s (map proc_view routines.procs.items) n ≡ []) (sym p.inside) routines_fine))
+          members scalars;
+      ordered = λ above. b.ordered (subst IsAboveItself (sym is) above);
+    }
+
+-- ---- what is broken, if something is
+
+pub kept_breaks : (f : Front) (bare : BareActor) (held : Vec BoundVar Global) (header : Header) (routines : Routines) (scope : Resolved) (names : Names) (gs : List Given) (owner : Spot)
+    → AreKept bare held header routines (source_in scope) → ArePartsIn header routines names (source_in scope) gs owner
+    → (all_valued (source_in scope) gs owner).held ≡ map var_view held.items
+    → BreaksParts f bare scope names → FindsInside (Err f) (source_in scope) gs owner
+kept_breaks f bare held header routines scope names gs owner k p h breaks =
+    let s = source_in scope in
+    ⊎_elim (λ l. inl (members_cause f s (around_of s gs owner) (actor_given s gs owner) l)) (λ r. inr r)
+    (breaks gs owner (parts_are bare held header routines scope names gs owner k p h))
+
+pub routines_break : (f : Front) (header : Header) (routines : Routines) (scope : Resolved) (names : Names) (gs : List Given) (owner : Spot)
+    → ArePartsIn header routines names (source_in scope) gs owner
+    → IsCause f (routines_found (source_in scope) (map proc_view routines.procs.items) names) → FindsInside (Err f) (source_in scope) gs owner
+routines_break f header routines scope names gs owner p h =
+    let s = source_in scope in
+    let procs : (around_of s gs owner).procs ≡ map proc_view routines.procs.items = ap (λ a. a.procs) (around_is header routines names s gs owner p) in
+    inl (routines_cause f s (around_of s gs owner) (actor_given s gs owner)
+    (subst (λ ps. IsCause f (routines_found s ps (around_of s gs owner).names)) (sym procs)
+    (subst (λ n. IsCause f (routines_found s (map proc_view routines.procs.items) n)) (sym p.inside) h)))
+
+pub kept_finds : (r : Result Bound Front) (bare : BareActor) (held : Vec BoundVar Global) (header : Header) (routines : Routines) (scope : Resolved) (names : Names) (gs : List Given) (owner : Spot)
+    → AreKept bare held header routines (source_in scope) → ArePartsIn header routines names (source_in scope) gs owner
+    → (all_valued (source_in scope) gs owner).held ≡ map var_view held.items
+    → routines_found (source_in scope) (map proc_view routines.procs.items) names ≡ []
+    → scalars_found (source_in scope) (map var_view bare.vars.items) ≡ []
+    → BuildsActor r bare scope names → FindsInside r (source_in scope) gs owner
+kept_finds (Ok found) bare held header routines scope names gs owner k p h r s b = kept_inside found bare held header routines scope names gs owner k p h r s b
+kept_finds (Err f) bare held header routines scope names gs owner k p h r s b = kept_breaks f bare held header routines scope names gs owner k p h b

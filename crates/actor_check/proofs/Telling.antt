@@ -1,0 +1,254 @@
+-- What the check of an actor says, of what its parts break.
+use Rattle.std.proofs.Common.{◌≡◌, ◌⊎◌, inl, inr, Bool, true, false, List, [], ◌∷◌, ◌++◌, map, refl, sym, ap, subst, ◌∙◌, append-nil, arith}
+use Rattle.std.specs.Prelude.{Contains, IfSome, Option, None, Some, if◌then◌else◌, not, ◌&&◌, ◌||◌, ◌==◌}
+use Rattle.std.specs.declared.result.Result.{Result}
+use Rattle.std.proofs.lemmas.Bool.Decides.{nat_tests}
+use Rattle.std.proofs.lemmas.List.Elements.{Contains-append_left, Contains-append_right}
+use Rattle.rvc_base.specs.Rules.{not_constant}
+use Rattle.rvc_base.specs.declared.refusal.Front.{Front}
+use Rattle.rvc_base.specs.declared.refusal.Front.TheVariants as front
+use Rattle.rvc_base.specs.declared.refusal.Place.{Place}
+use Rattle.rvc_base.specs.declared.refusal.Rule.{Rule}
+use Rattle.cal_ast.specs.Places.{begins}
+use Rattle.cal_model.specs.Actor.{Held}
+use Rattle.cal_model.specs.Kinding.{Judged, Fine, Broken, Names}
+use Rattle.cal_model.specs.Sound.{Each}
+use Rattle.cal_model.specs.Value.{Shape}
+use Rattle.cal_model.specs.declared.bound.Bound.{Bound}
+use Rattle.cal_check.proofs.Lists.{each-map, head-or-rest, in-none}
+use Rattle.cal_check.specs.Constants.{early_type}
+use Rattle.cal_check.specs.Routines.{FunDecl}
+use Rattle.cal_check.specs.Actors.{IsViolated, Source, actor_given, all_said, all_valued, around_of, behind_variables, declared_vars, first_valueless, has_heads, is_held, members_found, members_of, said_or_all, violations}
+use Rattle.cal_check.specs.Variables.{Found, Given, Spot, VarDecl, Valued, none_yet, seen, valued, with_type, with_var}
+use Rattle.variable_check.specs.Causes.{AreDoubts, IsCause, SaysRule, doubt}
+use Rattle.variable_check.specs.Valuing.{left_over, valueless}
+use Rattle.actor_check.specs.Checked.{IsChecked, IsDefaulted, IsRefused, IsUnsaid, found_of}
+use Rattle.actor_check.specs.Early.{Leaves, wrongly_given}
+use Rattle.actor_check.specs.Members.{AreMembers, Settles, not_constant_at, place_left}
+use Rattle.actor_check.specs.Parts.{IsCycleIn, header_names}
+use Rattle.actor_check.specs.Phases.{header_over}
+use Rattle.actor_check.specs.declared.rest.Rest.{Rest}
+use Rattle.actor_check.specs.declared.rest.Rest.TheVariants as rest
+use Rattle.actor_check.proofs.Behind.{behind_none, given_breaks, header_breaks, members_break, members_none}
+use Rattle.actor_check.proofs.Chain.{behind_break, first_said, variables_break}
+
+-- ---- more variables break no less
+
+typed_keeps : (j : Judged Shape) (x : VarDecl) (gs : List Given) (owner : Spot) (names : Names) (vs : Valued) (f : Found)
+    → Contains vs.breaks f → Contains (with_type j x gs owner names vs).breaks f
+typed_keeps (Fine t) x gs owner names vs f h = Contains-append_left vs.breaks _ f h
+typed_keeps (Broken rule at) x gs owner names vs f h = Contains-append_left vs.breaks _ f h
+
+one_keeps : (whole : Bool) (j : Judged Shape) (x : VarDecl) (gs : List Given) (owner : Spot) (names : Names) (vs : Valued) (f : Found)
+    → Contains vs.breaks f → Contains (if whole then with_type j x gs owner names vs else vs).breaks f
+one_keeps true j x gs owner names vs f h = typed_keeps j x gs owner names vs f h
+one_keeps false j x gs owner names vs f h = h
+
+valued_keeps : (xs : List VarDecl) (gs : List Given) (owner : Spot) (fs : List FunDecl) (vs : Valued) (f : Found)
+    → Contains vs.breaks f → Contains (valued xs gs owner fs vs).breaks f
+valued_keeps [] gs owner fs vs f h = h
+valued_keeps (x ∷ xs) gs owner fs vs f h =
+    valued_keeps xs gs owner fs (with_var x gs owner fs vs) f
+    (one_keeps vs.whole (early_type x.shape (seen fs vs.known)) x gs owner (seen fs vs.known) vs f h)
+
+pub cause_kept : (f : Front) (xs : List VarDecl) (gs : List Given) (owner : Spot) (fs : List FunDecl) (vs : Valued)
+    → IsCause f vs.breaks → IsCause f (valued xs gs owner fs vs).breaks
+cause_kept (front.Refused r) xs gs owner fs vs h = valued_keeps xs gs owner fs vs _ h
+cause_kept front.Memory xs gs owner fs vs h = tt
+
+-- ---- a rule that is broken, and perhaps another one is said in its place
+
+rule_of : (r : Rule) → (r.0 == not_constant.0) ≡ true → r ≡ not_constant
+rule_of r e =
+    let same : r.0 ≡ not_constant.0 = grind (arith, nat_tests) in
+    ap (λ n. record { 0 = n }) same
+
+other : (hides b : Bool) → b ≡ false → (hides && b) ≡ false
+other true b e = e
+other false b e = refl
+
+shown : (hides b : Bool) → hides ≡ false → (hides && b) ≡ false
+shown hides b e = ap (λ h. h && b) e
+
+abbrev Told : Source → List Given → Spot → Found → Type 0
+Told s gs owner f = IsViolated s gs owner f ⊎ (IsUnsaid s gs owner f ⊎ IsDefaulted s gs owner f)
+
+behind_told : (s : Source) (gs : List Given) (owner : Spot) (f : Found) → Contains (behind_variables s gs owner (around_of s gs owner)) f
+    → Told s gs owner f
+behind_told s gs owner f h =
+    go (f.violation.rule.0 == not_constant.0) (has_heads s (around_of s gs owner)) (all_valued s gs owner).useless refl refl refl
+  where
+    unsaid : (f.violation.rule.0 == not_constant.0) ≡ true → (has_heads s (around_of s gs owner) ≡ false) ⊎ ((all_valued s gs owner).useless ≡ true)
+        → Told s gs owner f
+    unsaid e i = inr (inl (record {
+      broken = Contains-append_right (all_valued s gs owner).breaks (behind_variables s gs owner (around_of s gs owner)) f h;
+      rule = rule_of f.violation.rule e;
+      unsaid = i;
+    }))
+
+    go : (b heads useless : Bool) → (f.violation.rule.0 == not_constant.0) ≡ b → has_heads s (around_of s gs owner) ≡ heads → (all_valued s gs owner).useless ≡ useless
+        → Told s gs owner f
+    go false heads useless e i j = inl (inl (behind_break s gs owner (around_of s gs owner) f (other _ _ e) (other _ _ e) h))
+    go true true false e i j = inl (inl (behind_break s gs owner (around_of s gs owner) f (shown _ _ (ap not i)) (shown _ _ j) h))
+    go true true true e i j = unsaid e (inr j)
+    go true false useless e i j = unsaid e (inl i)
+
+-- ---- what the parts break
+
+pub early_refuses : (f : Front) (s : Source) (gs : List Given) (owner : Spot) → IsCause f (all_valued s gs owner).breaks × SaysRule f → IsRefused f s gs owner
+early_refuses (front.Refused r) s gs owner h =
+    inl (inl (variables_break s gs owner (around_of s gs owner) (found_of r) (other _ _ h.1) h.0))
+early_refuses front.Memory s gs owner h = tt
+
+pub behind_refuses : (f : Front) (s : Source) (gs : List Given) (owner : Spot) → IsCause f (behind_variables s gs owner (around_of s gs owner))
+    → IsRefused f s gs owner
+behind_refuses (front.Refused r) s gs owner h = behind_told s gs owner (found_of r) h
+behind_refuses front.Memory s gs owner h = tt
+
+pub given_refuses : (f : Front) (s : Source) (gs : List Given) (owner : Spot) → IsCause f (wrongly_given s gs) → IsRefused f s gs owner
+given_refuses (front.Refused r) s gs owner h = behind_told s gs owner (found_of r) (given_breaks s gs owner (around_of s gs owner) (found_of r) h)
+given_refuses front.Memory s gs owner h = tt
+
+pub header_refuses : (f : Front) (s : Source) (gs : List Given) (owner : Spot) → IsCause f (header_over s (header_names s gs owner)) → IsRefused f s gs owner
+header_refuses (front.Refused r) s gs owner h = behind_told s gs owner (found_of r) (header_breaks s gs owner (around_of s gs owner) (found_of r) h)
+header_refuses front.Memory s gs owner h = tt
+
+pub members_refuse : (f : Front) (s : Source) (gs : List Given) (owner : Spot) → header_over s (header_names s gs owner) ≡ [] → (all_valued s gs owner).whole ≡ true
+    → IsCause f (members_found s (around_of s gs owner) (actor_given s gs owner) true) ⊎ IsCycleIn f s.file (members_of s.actor) (actor_given s gs owner)
+    → IsRefused f s gs owner
+members_refuse (front.Refused r) s gs owner header whole (inl h) =
+    behind_told s gs owner (found_of r) (members_break s gs owner (around_of s gs owner) (found_of r) header
+    (subst (λ w. Contains (members_found s (around_of s gs owner) (actor_given s gs owner) w) (found_of r)) (sym whole) h))
+members_refuse (front.Refused r) s gs owner header whole (inr h) = inl (inr h)
+members_refuse front.Memory s gs owner header whole h = tt
+
+-- ---- nothing behind the variables is broken
+
+none_said : (fs : List Found) → Each (λ f. f.violation.rule ≡ not_constant) fs → all_said true fs ≡ []
+none_said [] h = refl
+none_said (f ∷ fs) h =
+    ap (λ r. if r.0 == not_constant.0 then all_said true fs else f ∷ all_said true fs) h.0 ∙ none_said fs h.1
+
+all_are_said : (fs : List Found) → all_said false fs ≡ fs
+all_are_said [] = refl
+all_are_said (f ∷ fs) = ap (λ gs. f ∷ gs) (all_are_said fs)
+
+twice_said : (fs others : List Found) → said_or_all fs (said_or_all fs others) ≡ said_or_all fs others
+twice_said [] others = refl
+twice_said (f ∷ fs) others = refl
+
+over_alone : (hides useless : Bool) (breaks behind valueless : List Found) → behind ≡ [] → Each (λ f. f.violation.rule ≡ not_constant) breaks
+    → said_or_all (all_said hides (breaks ++ all_said useless behind)) (said_or_all (breaks ++ behind) valueless) ≡ said_or_all breaks valueless
+over_alone hides useless breaks behind valueless none only =
+    ap (λ hs. said_or_all (all_said hides (breaks ++ all_said useless hs)) (said_or_all (breaks ++ hs) valueless)) none
+    ∙ ap (λ fs. said_or_all (all_said hides fs) (said_or_all fs valueless)) (append-nil breaks)
+    ∙ go hides
+  where
+    go : (hides : Bool) → said_or_all (all_said hides breaks) (said_or_all breaks valueless) ≡ said_or_all breaks valueless
+    go false = ap (λ fs. said_or_all fs (said_or_all breaks valueless)) (all_are_said breaks) ∙ twice_said breaks valueless
+    go true = ap (λ fs. said_or_all fs (said_or_all breaks valueless)) (none_said breaks only)
+
+alone : (s : Source) (gs : List Given) (owner : Spot) → behind_variables s gs owner (around_of s gs owner) ≡ []
+    → Each (λ f. f.violation.rule ≡ not_constant) (all_valued s gs owner).breaks
+    → violations s gs owner ≡ left_over (declared_vars s) owner (all_valued s gs owner)
+alone s gs owner none only =
+    over_alone (not (has_heads s (around_of s gs owner))) (all_valued s gs owner).useless (all_valued s gs owner).breaks
+    (behind_variables s gs owner (around_of s gs owner)) (valueless (declared_vars s) owner (all_valued s gs owner)) none only
+
+doubted : (ds : List Place) (f : Found) → Contains (map doubt ds) f → f.violation.rule ≡ not_constant
+doubted [] f h = absurd (in-none f h)
+doubted (d ∷ ds) f h = go (head-or-rest f (doubt d) (map doubt ds) h) (λ i. doubted ds f i)
+  where
+    go : (doubt d ≡ f) ⊎ Contains (map doubt ds) f → (Contains (map doubt ds) f → f.violation.rule ≡ not_constant) → f.violation.rule ≡ not_constant
+    go (inl e) k = ap (λ g. g.violation.rule) (sym e)
+    go (inr i) k = k i
+
+only_constants : (ds : List Place) (fs : List Found) → AreDoubts ds fs → Each (λ f. f.violation.rule ≡ not_constant) fs
+only_constants ds fs h = each-map (λ f. Contains (map doubt ds) f) (λ f. f.violation.rule ≡ not_constant) fs (λ f i. doubted ds f i) h
+
+-- what is left of the variables is refused
+left_refuses : (p : Place) (s : Source) (gs : List Given) (owner : Spot) → behind_variables s gs owner (around_of s gs owner) ≡ []
+    → Each (λ f. f.violation.rule ≡ not_constant) (all_valued s gs owner).breaks
+    → Contains (left_over (declared_vars s) owner (all_valued s gs owner)) (doubt p) → IsRefused (not_constant_at p) s gs owner
+left_refuses p s gs owner none only h = inl (inl (subst (λ fs. Contains fs (doubt p)) (sym (alone s gs owner none only)) h))
+
+doubt_refuses : (p : Place) (s : Source) (gs : List Given) (owner : Spot) → behind_variables s gs owner (around_of s gs owner) ≡ []
+    → Each (λ f. f.violation.rule ≡ not_constant) (all_valued s gs owner).breaks → IsRefused (not_constant_at p) s gs owner
+doubt_refuses p s gs owner none only = inr (inr (record { rule = refl; behind = none; only = only }))
+
+pub members_settle : (found : Bound) (ds : List Place) (left : Rest) (r : Result Bound Front) (s : Source) (gs : List Given) (owner : Spot)
+    → AreDoubts ds (all_valued s gs owner).breaks → Leaves left (left_over (declared_vars s) owner (all_valued s gs owner))
+    → wrongly_given s gs ≡ [] → header_over s (header_names s gs owner) ≡ [] → AreMembers found s gs owner → Settles left found r
+    → IsChecked r s gs owner
+members_settle found ds left r s gs owner doubts leaves given header members settles = go left leaves settles
+  where
+    none : behind_variables s gs owner (around_of s gs owner) ≡ []
+    none = behind_none s gs owner (around_of s gs owner) given header
+        (members_none s (around_of s gs owner) (actor_given s gs owner) (all_valued s gs owner).whole members.heads members.inside.fine)
+
+    only : Each (λ f. f.violation.rule ≡ not_constant) (all_valued s gs owner).breaks
+    only = only_constants ds (all_valued s gs owner).breaks doubts
+
+    go : (left : Rest) → Leaves left (left_over (declared_vars s) owner (all_valued s gs owner)) → Settles left found r → IsChecked r s gs owner
+    go rest.Nothing leaves settles = subst (λ x. IsChecked x s gs owner) (sym settles) (record {
+      conforms = record { nothing = alone s gs owner none only ∙ leaves; ordered = members.inside.ordered };
+      is = members.inside.is;
+    })
+    go (rest.Lacking p) leaves settles = subst (λ x. IsChecked x s gs owner) (sym settles) (left_refuses p s gs owner none only leaves)
+    go (rest.InDoubt p) leaves settles = subst (λ x. IsChecked x s gs owner) (sym settles) (doubt_refuses p s gs owner none only)
+
+-- ---- variables without types
+
+one_more : (b : Bool) (f : Found) (others : List Found) → (others ≡ [] → ⊥) → (if b then others else f ∷ []) ≡ [] → ⊥
+one_more true f others k h = k h
+one_more false f others k h = cc
+
+never_none : (xs : List VarDecl) (held : List Held) (owner : Spot) → first_valueless xs held owner ≡ [] → ⊥
+never_none [] held owner h = cc
+never_none (x ∷ xs) held owner h =
+    one_more (is_held x.name held) (record { violation = record { rule = not_constant; at = begins x.start }; file = x.file })
+    (first_valueless xs held owner) (λ e. never_none xs held owner e) h
+
+never_left : (useless whole : Bool) (breaks others : List Found) → whole ≡ false → (others ≡ [] → ⊥)
+    → said_or_all breaks (if useless || not whole then others else []) ≡ [] → ⊥
+never_left useless true breaks others w k h = cc
+never_left true false [] others w k h = k h
+never_left false false [] others w k h = k h
+never_left useless false (f ∷ breaks) others w k h = cc
+
+-- a variable has no type, so nothing behind the header is judged
+pub untyped_refuses : (ds : List Place) (left : Rest) (place : Place) (s : Source) (gs : List Given) (owner : Spot)
+    → AreDoubts ds (all_valued s gs owner).breaks → Leaves left (left_over (declared_vars s) owner (all_valued s gs owner))
+    → wrongly_given s gs ≡ [] → header_over s (header_names s gs owner) ≡ [] → (all_valued s gs owner).whole ≡ false
+    → IsRefused (not_constant_at (place_left left place)) s gs owner
+untyped_refuses ds left place s gs owner doubts leaves given header whole = go left leaves
+  where
+    none : behind_variables s gs owner (around_of s gs owner) ≡ []
+    none = behind_none s gs owner (around_of s gs owner) given header
+        (ap (members_found s (around_of s gs owner) (actor_given s gs owner)) whole)
+
+    only : Each (λ f. f.violation.rule ≡ not_constant) (all_valued s gs owner).breaks
+    only = only_constants ds (all_valued s gs owner).breaks doubts
+
+    go : (left : Rest) → Leaves left (left_over (declared_vars s) owner (all_valued s gs owner)) → IsRefused (not_constant_at (place_left left place)) s gs owner
+    go rest.Nothing leaves = absurd (never_left (all_valued s gs owner).useless (all_valued s gs owner).whole (all_valued s gs owner).breaks
+        (first_valueless (declared_vars s) (all_valued s gs owner).held owner) whole (never_none (declared_vars s) (all_valued s gs owner).held owner) leaves)
+    go (rest.Lacking p) leaves = left_refuses p s gs owner none only leaves
+    go (rest.InDoubt p) leaves = doubt_refuses p s gs owner none only
+
+-- ---- of the variables
+
+pub sure_left : (place : Place) (sure : Option Place) (xs : List VarDecl) (owner : Spot) (vs : Valued) → sure ≡ Some place → IfSome sure (λ p. Contains vs.breaks (doubt p))
+    → Contains (left_over xs owner vs) (doubt place)
+sure_left place (Some p) xs owner vs e h =
+    first_said vs.breaks (valueless xs owner vs) (doubt place) (subst (λ q. Contains vs.breaks (doubt q)) (some_same p place e) h)
+  where
+    some_same : (a b : Place) → Some a ≡ Some b → a ≡ b
+    some_same a b e = cc
+sure_left place None xs owner vs e h = absurd (cc)
+
+pub before_keeps : (f : Front) (xs ys more : List VarDecl) (gs : List Given) (owner : Spot) (fs hs : List FunDecl) → xs ≡ ys → fs ≡ hs
+    → IsCause f (valued xs gs owner fs none_yet).breaks → IsCause f (valued more gs owner hs (valued ys gs owner hs none_yet)).breaks
+before_keeps f xs ys more gs owner fs hs e i h =
+    cause_kept f more gs owner hs (valued ys gs owner hs none_yet)
+    (subst (λ zs. IsCause f (valued zs gs owner hs none_yet).breaks) e (subst (λ zs. IsCause f (valued xs gs owner zs none_yet).breaks) i h))

@@ -1,0 +1,38 @@
+use Rattle.std.proofs.Common.{◌≡◌, Err, false, true, sym, subst, ◌∙◌, rules}
+use Rattle.cal_check.specs.Actors.{all_valued, declared_vars}
+use Rattle.variable_check.specs.Views.{all_given, spot_of}
+use Rattle.actor_check.specs.Checked.{IsChecked, IsRefused}
+use Rattle.actor_check.specs.Sources.{source_in}
+use Rattle.actor_check.proofs.Telling.{members_refuse, members_settle, untyped_refuses}
+use Rattle.actor_check.proofs.whole.check_members.Goals as goal
+
+pub returns-then-not-values : goal.returns-then-not-values
+returns-then-not-values c =
+    let s = source_in c.args.scope.now in
+    let gs = all_given c.args.told.given.now in
+    let owner = spot_of c.args.told.owner in
+    let lacks : c.args.values.whole ≡ false = search rules in
+    subst (λ f. IsRefused f s gs owner) (sym c.untyped.ensures)
+    (untyped_refuses c.args.values.doubts.items c.rest_of-rest.result c.args.told.owner s gs owner c.requires.values.breaks
+    (c.rest_of-rest.ensures (declared_vars s) owner (all_valued s gs owner) c.requires.values c.requires.distinct)
+    c.requires.given c.requires.header.fine (sym c.requires.values.whole ∙ lacks))
+
+pub returns-in_err-found : goal.returns-in_err-found
+returns-in_err-found c =
+    let f = c.in_err-found.field-0.0 in
+    let s = source_in c.args.scope.now in
+    let gs = all_given c.args.told.given.now in
+    let owner = spot_of c.args.told.owner in
+    let same : c.from_residual.result ≡ Err f = search rules in
+    let whole : c.args.values.whole ≡ true = search rules in
+    subst (λ r. IsChecked r s gs owner) (sym same)
+    (members_refuse f s gs owner c.requires.header.fine (sym c.requires.values.whole ∙ whole) c.in_err-found.ensures)
+
+pub returns : goal.returns
+returns c =
+    let s = source_in c.args.scope.now in
+    let gs = all_given c.args.told.given.now in
+    let owner = spot_of c.args.told.owner in
+    members_settle c.in_ok-found.found c.args.values.doubts.items c.rest_of-rest.result c.settled.result s gs owner c.requires.values.breaks
+    (c.rest_of-rest.ensures (declared_vars s) owner (all_valued s gs owner) c.requires.values c.requires.distinct)
+    c.requires.given c.requires.header.fine c.in_ok-found.ensures c.settled.ensures

@@ -1,0 +1,46 @@
+-- What the check of a whole actor answers.
+-- Trusted: part of what a promise means.
+use Rattle.std.specs.Prelude.{◌≡◌, ◌⊎◌, false, true, List, [], Contains}
+use Rattle.std.specs.declared.result.Result.{Result}
+use Rattle.std.specs.declared.result.Result.TheVariants.{Ok, Err}
+use Rattle.rvc_base.specs.Rules.{not_constant}
+use Rattle.rvc_base.specs.declared.refusal.Front.{Front}
+use Rattle.rvc_base.specs.declared.refusal.Front.TheVariants as front
+use Rattle.rvc_base.specs.declared.refusal.Refusal.{Refusal}
+use Rattle.cal_model.specs.Sound.{Each}
+use Rattle.cal_model.specs.View.{actor_of}
+use Rattle.cal_model.specs.declared.bound.Bound.{Bound}
+use Rattle.cal_check.specs.Actors.{IsSource, IsViolated, Source, all_found, all_valued, around_of, behind_variables, has_heads}
+use Rattle.cal_check.specs.Variables.{Found, Given, Spot}
+
+abbrev pub found_of : Refusal → Found
+found_of r = record {
+  violation = record { rule = r.rule; at = r.place.offset };
+  file = r.place.file;
+}
+
+-- What isn't constant there is broken, so the actor doesn't conform; but another rule may be said in its place, since
+-- some head breaks one, or a variable has no value of use.
+pub record IsUnsaid (s : Source) (gs : List Given) (owner : Spot) (f : Found) : Type 0 where
+  pub broken : Contains (all_found s gs owner (around_of s gs owner)) f
+  pub rule : f.violation.rule ≡ not_constant
+  pub unsaid : (has_heads s (around_of s gs owner) ≡ false) ⊎ ((all_valued s gs owner).useless ≡ true)
+
+-- Nothing is broken but perhaps that starts aren't constant, one of which is the default of a parameter that is given a
+-- value, and it isn't known whether that default is constant.
+pub record IsDefaulted (s : Source) (gs : List Given) (owner : Spot) (f : Found) : Type 0 where
+  pub rule : f.violation.rule ≡ not_constant
+  pub behind : behind_variables s gs owner (around_of s gs owner) ≡ []
+  pub only : Each (λ g. g.violation.rule ≡ not_constant) (all_valued s gs owner).breaks
+
+-- a rule that the actor breaks, where it does, or one of the two cases that can't be told from it
+abbrev pub IsRefused : Front → Source → List Given → Spot → Type 0
+IsRefused (front.Refused r) s gs owner =
+    IsViolated s gs owner (found_of r)
+    ⊎ (IsUnsaid s gs owner (found_of r) ⊎ IsDefaulted s gs owner (found_of r))
+IsRefused front.Memory s gs owner = Unit {0}
+
+-- exactly the source actor, or why there is none; running out of memory says nothing
+abbrev pub IsChecked : Result Bound Front → Source → List Given → Spot → Type 0
+IsChecked (Ok b) s gs owner = IsSource s gs owner (actor_of b)
+IsChecked (Err f) s gs owner = IsRefused f s gs owner

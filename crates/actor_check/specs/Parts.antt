@@ -1,0 +1,101 @@
+-- An actor of its parts, and what is inside it.
+-- Not trusted: no promise is read with it.
+use Rattle.std.specs.Prelude.{◌≡◌, ◌⊎◌, ℕ, List, [], map, Some, string_bytes}
+use Rattle.std.specs.declared.result.Result.{Result}
+use Rattle.std.specs.declared.result.Result.TheVariants.{Ok, Err}
+use Rattle.rvc_base.specs.Rules.{priority_cycle}
+use Rattle.rvc_base.specs.declared.refusal.Front.{Front}
+use Rattle.rvc_base.specs.declared.refusal.Front.TheVariants as front
+use Rattle.cal_ast.specs.Tree.{Tree}
+use Rattle.cal_ast.specs.View.{actor_tree}
+use Rattle.cal_imports.specs.declared.scope.Scope.{Scope as Resolved}
+use Rattle.cal_model.specs.Actor.{Actor}
+use Rattle.cal_model.specs.Kinding.{Names}
+use Rattle.cal_model.specs.View.{actor_of, fun_view, var_view}
+use Rattle.cal_model.specs.declared.bound.Bound.{Bound}
+use Rattle.cal_model.specs.declared.bound.BoundVar.{BoundVar}
+use Rattle.std.specs.Prelude.{Vec}
+use Rattle.std.specs.declared.alloc.Global.{Global}
+use Rattle.const_eval.specs.declared.fault.KindFault.{KindFault}
+use Rattle.const_eval.specs.declared.fault.KindFault.TheVariants as fault
+use Rattle.cal_check.specs.Actors.{IsAboveItself, Source, actor_given, all_funs, around_of, before_members, inside_found, kept_funs, kept_vars, members_of}
+use Rattle.cal_check.specs.Schedules.{first_priority}
+use Rattle.cal_check.specs.Variables.{Given, Spot, found_in, seen}
+use Rattle.member_check.specs.Parts.{members_tree}
+use Rattle.actor_build.specs.Building.{ArePartsOf, around_bare, members_broken}
+use Rattle.actor_build.specs.declared.whole.BareActor.{BareActor}
+use Rattle.variable_check.specs.Causes.{IsCause}
+use Rattle.variable_check.specs.declared.header.Header.{Header}
+use Rattle.actor_check.specs.Phases.{AreRoutinesOf, IsHeaderOf}
+use Rattle.actor_check.specs.Sources.{source_in}
+use Rattle.actor_check.specs.declared.routines.Routines.{Routines}
+
+abbrev pub placed : ℕ → KindFault → Front
+placed file (fault.Broken rule at) =
+    front.Refused (record { rule = rule; place = record { file = file; offset = at } })
+placed file fault.Memory = front.Memory
+
+-- ---- an actor that is built
+
+-- an action is above itself, and the rule is that of cycles, at the first word `priority` of a file
+abbrev pub IsCycleIn : Front → ℕ → Tree → Actor → Type 0
+IsCycleIn (front.Refused r) file members actor = IsAboveItself actor
+    × (first_priority members ≡ Some r.place.offset)
+    × (r.rule ≡ priority_cycle) × (r.place.file ≡ file)
+IsCycleIn front.Memory file members actor = Unit {0}
+
+-- an actor of these parts that breaks no rule
+pub record IsBuilt (found : Bound) (bare : BareActor) (scope : Resolved) (names : Names) : Type 0 where
+  pub is : (gs : List Given) (owner : Spot)
+      → ArePartsOf bare (actor_tree scope.actor) names (source_in scope) gs owner
+      → actor_of found ≡ actor_given (source_in scope) gs owner
+  pub fine : members_broken (members_tree scope.actor.members.items) (around_bare bare names)
+      (actor_of found) scope.actor.at ≡ []
+  pub ordered : IsAboveItself (actor_of found) → ⊥
+
+-- what refuses parts
+abbrev pub BreaksParts : Front → BareActor → Resolved → Names → Type 0
+BreaksParts f bare scope names = (gs : List Given) (owner : Spot)
+    → ArePartsOf bare (actor_tree scope.actor) names (source_in scope) gs owner
+    → IsCause f (found_in scope.file (members_broken (members_of (source_in scope).actor)
+    (around_of (source_in scope) gs owner) (actor_given (source_in scope) gs owner) scope.actor.at))
+    ⊎ IsCycleIn f scope.file (members_of (source_in scope).actor) (actor_given (source_in scope) gs owner)
+
+abbrev pub BuildsActor : Result Bound Front → BareActor → Resolved → Names → Type 0
+BuildsActor (Ok found) bare scope names = IsBuilt found bare scope names
+BuildsActor (Err f) bare scope names = BreaksParts f bare scope names
+
+-- ---- parts
+
+-- the parts of an actor, without what it doesn't use
+pub record AreKept (bare : BareActor) (held : Vec BoundVar Global) (header : Header) (routines : Routines) (s : Source) : Type 0 where
+  pub class : string_bytes bare.class ≡ s.class
+  pub ins : bare.ins.items ≡ header.ins.items
+  pub outs : bare.outs.items ≡ header.outs.items
+  pub procs : bare.procs.items ≡ routines.procs.items
+  pub vars : map var_view bare.vars.items ≡ kept_vars (map var_view held.items) s
+  pub funs : map fun_view bare.funs.items ≡ kept_funs (map fun_view routines.funs.items) s
+
+-- what a header sees
+abbrev pub header_names : Source → List Given → Spot → Names
+header_names s gs owner = seen (all_funs s) (before_members s gs owner).known
+
+-- the header, and the functions and procedures over the names that are seen inside
+pub record ArePartsIn (header : Header) (routines : Routines) (names : Names) (s : Source) (gs : List Given) (owner : Spot) : Type 0 where
+  pub inside : (around_of s gs owner).names ≡ names
+  pub ports : IsHeaderOf header s (header_names s gs owner)
+  pub heads : AreRoutinesOf routines s names
+
+-- ---- what is inside
+
+-- the actor that a source is, if nothing else is broken
+pub record IsInside (found : Bound) (s : Source) (gs : List Given) (owner : Spot) : Type 0 where
+  pub is : actor_of found ≡ actor_given s gs owner
+  pub fine : inside_found s (around_of s gs owner) (actor_given s gs owner) ≡ []
+  pub ordered : IsAboveItself (actor_given s gs owner) → ⊥
+
+abbrev pub FindsInside : Result Bound Front → Source → List Given → Spot → Type 0
+FindsInside (Ok found) s gs owner = IsInside found s gs owner
+FindsInside (Err f) s gs owner =
+    IsCause f (inside_found s (around_of s gs owner) (actor_given s gs owner))
+    ⊎ IsCycleIn f s.file (members_of s.actor) (actor_given s gs owner)

@@ -1,0 +1,70 @@
+//! What the variables of an actor come to, and what its header sees.
+
+ghost use Rattle.std.specs.Prelude.{◌≡◌, true};
+ghost use Rattle.cal_check.specs.Actors.{all_funs, before_members};
+ghost use Rattle.const_eval.specs.Held.{names_in};
+ghost use Rattle.seen_names.specs.Known.{fun_decls, names_differ};
+ghost use Rattle.variable_check.specs.Valuing.{Finds, IsValued};
+ghost use Rattle.variable_check.specs.Views.{all_given, spot_of};
+ghost use Rattle.actor_check.specs.Early.{FindsEarly, vars_before, wrongly_given};
+ghost use Rattle.actor_check.specs.Parts.{header_names};
+ghost use Rattle.actor_check.specs.Sources.{source_in};
+
+use crate::collect::{declared_before, declared_own, declared_params};
+use crate::values::value_declared;
+use cal_imports::Scope;
+use const_eval::Env;
+use rvc_base::Front;
+use seen_names::names_seen;
+use variable_check::{Told, Valued, given_rightly, value_all};
+
+/// The names that an actor's header sees, and what all its variables come to.
+#[derive(Drop)]
+pub(crate) struct Early {
+    pub header: Env,
+    pub values: Valued,
+}
+
+/// The same, with the actor's own variables behind those of other files and the parameters.
+fn with_own(told: Told<'_>, scope: &Scope, header: Env, before: Valued) -> Result<Early, Front>
+    requires funs { fun_decls told.funs.now ≡ all_funs (source_in scope.now) }
+    requires differ { names_differ (fun_decls told.funs.now) ≡ true }
+    requires header { names_in header
+        ≡ header_names (source_in scope.now) (all_given told.given.now) (spot_of told.owner) }
+    requires before { IsValued (vars_before (source_in scope.now)) before
+        (before_members (source_in scope.now) (all_given told.given.now) (spot_of told.owner)) }
+    ensures { FindsEarly result (source_in scope.now) (all_given told.entry.given.now) (spot_of told.entry.owner) }
+{
+    let Ok(own) = declared_own(told.alloc, scope) else {
+        return Err(Front::Memory);
+    };
+    let mut values = before;
+    value_all(told, &mut values, &own)?;
+    Ok(Early { header, values })
+}
+
+/// What the variables of an actor come to, and what its header sees: what other files declare, and the parameters.
+pub(crate) fn early_values(told: Told<'_>, scope: &Scope) -> Result<Early, Front>
+    requires funs { fun_decls told.funs.now ≡ all_funs (source_in scope.now) }
+    requires differ { names_differ (fun_decls told.funs.now) ≡ true }
+    ensures { FindsEarly result (source_in scope.now) (all_given told.entry.given.now) (spot_of told.entry.owner) }
+{
+    let Ok(vars) = declared_before(told.alloc, scope) else {
+        return Err(Front::Memory);
+    };
+    let before = value_declared(told, &vars)?;
+    let Ok(header) = names_seen(told.alloc, &before.known, told.funs) else {
+        return Err(Front::Memory);
+    };
+    with_own(told, scope, header, before)
+}
+
+/// That each value is given to a parameter, and none of these is given two.
+pub(crate) fn check_given(told: Told<'_>, scope: &Scope) -> Result<(), Front>
+    ensures { Finds result (wrongly_given (source_in scope.now) (all_given told.entry.given.now)) }
+{
+    let Ok(params) = declared_params(told.alloc, scope) else {
+        return Err(Front::Memory);
+    };
+    given_rightly(told.given, &params)
+}

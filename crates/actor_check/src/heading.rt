@@ -1,0 +1,26 @@
+//! The header of an actor.
+
+ghost use Rattle.std.specs.Prelude.{◌≡◌};
+ghost use Rattle.const_eval.specs.Held.{names_in};
+ghost use Rattle.actor_check.specs.Phases.{FindsHeader};
+ghost use Rattle.actor_check.specs.Sources.{source_in};
+
+use crate::fault::in_file;
+use cal_check::what_breaks_no_rule_is_sound;
+use cal_imports::Scope;
+use const_eval::{Env, Names};
+use rvc_base::Front;
+use std::alloc::Global;
+use variable_check::{Header, header_ports};
+
+/// The ports of an actor, over the names that its header sees.
+pub(crate) fn header_of(alloc: Global, seen: &Env, scope: &Scope) -> Result<Header, Front>
+    ensures { FindsHeader result (source_in scope.now) (names_in seen.now) }
+{
+    what_breaks_no_rule_is_sound();
+    let names = Names::outermost(alloc, seen);
+    match header_ports(&names, &scope.actor.ins, &scope.actor.outs, scope.actor.at) {
+        Ok(header) => Ok(header),
+        Err(fault) => Err(in_file(scope.file, fault)),
+    }
+}

@@ -1,0 +1,75 @@
+//! The heads of an actor's functions and procedures.
+
+ghost use Rattle.std.specs.Prelude.{◌≡◌, map};
+ghost use Rattle.cal_check.specs.Actors.{all_funs};
+ghost use Rattle.cal_model.specs.View.{proc_view};
+ghost use Rattle.const_eval.specs.Counting.{names_view};
+ghost use Rattle.seen_names.specs.Known.{fun_decls};
+ghost use Rattle.variable_check.specs.Valuing.{Finds};
+ghost use Rattle.actor_check.specs.Phases.{FindsHeads, FindsProcs, procs_found, routines_found};
+ghost use Rattle.actor_check.specs.Sources.{source_in};
+
+use crate::bodies::check_bodies;
+use crate::built::{functions, procedures};
+use crate::fault::in_file;
+use cal_imports::Scope;
+use cal_model::{BoundFun, BoundProc};
+use const_eval::Names;
+use routine_check::check_procedures;
+use rvc_base::Front;
+use seen_names::DeclaredFun;
+
+/// Functions of all files, and the procedures of an actor.
+#[derive(Drop)]
+pub(crate) struct Routines {
+    pub funs: Vec<BoundFun>,
+    pub procs: Vec<BoundProc>,
+}
+
+/// The procedures of an actor.
+fn procedures_of(names: &Names, scope: &Scope) -> Result<Vec<BoundProc>, Front>
+    ensures { FindsProcs result (source_in scope.now) (names_view names.now) }
+{
+    match procedures(names, &scope.actor.members) {
+        Ok(procs) => Ok(procs),
+        Err(fault) => Err(in_file(scope.file, fault)),
+    }
+}
+
+/// The functions and procedures of an actor, whose heads break no rule.
+pub(crate) fn routines_of(
+    names: &Names,
+    funs: &[DeclaredFun],
+    scope: &Scope,
+) -> Result<Routines, Front>
+    requires { fun_decls funs.now ≡ all_funs (source_in scope.now) }
+    ensures { FindsHeads result (source_in scope.now) (names_view names.now) }
+{
+    let found = functions(names, funs)?;
+    let procs = procedures_of(names, scope)?;
+    Ok(Routines { funs: found, procs })
+}
+
+/// What is inside procedures.
+fn check_inside_procedures(names: &Names, procs: &[BoundProc], scope: &Scope) -> Result<(), Front>
+    ensures { Finds result (procs_found (source_in scope.now) (map proc_view procs.now) (names_view names.now)) }
+{
+    match check_procedures(names, procs, &scope.actor.members) {
+        Ok(()) => Ok(()),
+        Err(fault) => Err(in_file(scope.file, fault)),
+    }
+}
+
+/// What is inside functions and procedures.
+pub(crate) fn check_routines(
+    names: &Names,
+    funs: &[DeclaredFun],
+    procs: &[BoundProc],
+    scope: &Scope,
+) -> Result<(), Front>
+    requires { fun_decls funs.now ≡ all_funs (source_in scope.now) }
+    ensures { Finds result (routines_found (source_in scope.now) (map proc_view procs.now) (names_view names.now)) }
+{
+    check_bodies(names, funs)?;
+    check_inside_procedures(names, procs, scope)
+}

@@ -1,0 +1,145 @@
+//! The whole check.
+
+ghost use Rattle.std.specs.Prelude.{◌≡◌, [], map, true};
+ghost use Rattle.cal_check.specs.Actors.{all_funs, all_valued, declared_vars};
+ghost use Rattle.cal_check.specs.Sources.{names_of_source};
+ghost use Rattle.cal_model.specs.Sound.{AreDistinct};
+ghost use Rattle.seen_names.specs.Known.{fun_decls, names_differ};
+ghost use Rattle.variable_check.specs.Valuing.{IsValued};
+ghost use Rattle.variable_check.specs.Views.{all_given, spot_of};
+ghost use Rattle.actor_check.specs.Checked.{IsChecked};
+ghost use Rattle.actor_check.specs.Early.{wrongly_given};
+ghost use Rattle.actor_check.specs.Members.{FindsMembers, Settles, not_constant_at, place_left};
+ghost use Rattle.actor_check.specs.Parts.{header_names};
+ghost use Rattle.actor_check.specs.Phases.{IsHeaderOf};
+ghost use Rattle.actor_check.specs.Sources.{source_in};
+
+use crate::collect::declared_funs;
+use crate::early::{check_given, early_values};
+use crate::heading::header_of;
+use crate::inside::actor_inside;
+use crate::rest::{Rest, rest_of};
+use crate::routines::routines_of;
+use cal_imports::Scope;
+use cal_model::Bound;
+use const_eval::Names;
+use fnl_tree::LeafValue;
+use rvc_base::{Front, Place, Refusal, Rule};
+use seen_names::names_at_rest;
+use std::alloc::Global;
+use variable_check::{Header, Told, Valued};
+
+/// Something at a place isn't constant.
+fn not_constant(place: Place) -> Front
+    ensures { result ≡ not_constant_at place }
+{
+    let rule = Rule::NOT_CONSTANT;
+    Front::Refused(Refusal { rule, place })
+}
+
+/// The actor of a header that breaks no rule, if all its variables have types.
+fn members_of(told: Told<'_>, scope: &Scope, values: Valued, header: Header) -> Result<Bound, Front>
+    requires funs { fun_decls told.funs.now ≡ all_funs (source_in scope.now) }
+    requires differ { names_differ (fun_decls told.funs.now) ≡ true }
+    requires header { IsHeaderOf header (source_in scope.now)
+        (header_names (source_in scope.now) (all_given told.given.now) (spot_of told.owner)) }
+    requires values { IsValued (declared_vars (source_in scope.now)) values
+        (all_valued (source_in scope.now) (all_given told.given.now) (spot_of told.owner)) }
+    ensures { FindsMembers result (source_in scope.now) (all_given told.entry.given.now) (spot_of told.entry.owner) }
+{
+    let Ok(env) = names_at_rest(told.alloc, &values.known, told.funs) else {
+        return Err(Front::Memory);
+    };
+    let names = Names::outermost(told.alloc, &env);
+    let routines = routines_of(&names, told.funs, scope)?;
+    actor_inside(&names, told.funs, scope, values.held, header, routines)
+}
+
+/// What is left to say of an actor whose variables have types and whose members break no rule.
+fn settled(rest: Rest, found: Bound) -> Result<Bound, Front>
+    ensures { Settles rest found result }
+{
+    match rest {
+        Rest::Nothing => Ok(found),
+        Rest::Lacking(place) => Err(not_constant(place)),
+        Rest::InDoubt(place) => Err(not_constant(place)),
+    }
+}
+
+/// What is said of an actor some of whose variables have no type.
+fn untyped(rest: Rest, owner: Place) -> Front
+    ensures { result ≡ not_constant_at (place_left rest owner) }
+{
+    match rest {
+        Rest::Nothing => not_constant(owner),
+        Rest::Lacking(place) => not_constant(place),
+        Rest::InDoubt(place) => not_constant(place),
+    }
+}
+
+/// The actor of a header that breaks no rule.
+fn check_members(
+    told: Told<'_>,
+    scope: &Scope,
+    values: Valued,
+    header: Header,
+) -> Result<Bound, Front>
+    requires funs { fun_decls told.funs.now ≡ all_funs (source_in scope.now) }
+    requires differ { names_differ (fun_decls told.funs.now) ≡ true }
+    requires distinct { AreDistinct (map (λ x. x.name) (declared_vars (source_in scope.now))) }
+    requires given { wrongly_given (source_in scope.now) (all_given told.given.now) ≡ [] }
+    requires header { IsHeaderOf header (source_in scope.now)
+        (header_names (source_in scope.now) (all_given told.given.now) (spot_of told.owner)) }
+    requires values { IsValued (declared_vars (source_in scope.now)) values
+        (all_valued (source_in scope.now) (all_given told.given.now) (spot_of told.owner)) }
+    ensures { IsChecked result (source_in scope.now) (all_given told.entry.given.now) (spot_of told.entry.owner) }
+{
+    let rest = rest_of(&values, told.owner);
+    if !values.whole {
+        return Err(untyped(rest, told.owner));
+    }
+    let found = members_of(told, scope, values, header)?;
+    settled(rest, found)
+}
+
+/// The same, over the functions that are declared.
+fn check_told(told: Told<'_>, scope: &Scope) -> Result<Bound, Front>
+    requires funs { fun_decls told.funs.now ≡ all_funs (source_in scope.now) }
+    requires distinct { AreDistinct (names_of_source (source_in scope.now)) }
+    ensures { IsChecked result (source_in scope.now) (all_given told.entry.given.now) (spot_of told.entry.owner) }
+{
+    let early = early_values(told, scope)?;
+    check_given(told, scope)?;
+    let header = header_of(told.alloc, &early.header, scope)?;
+    check_members(told, scope, early.values, header)
+}
+
+/// The actor that a scope is over the values given to its parameters (ISO/IEC 23001-4, RVC-CAL: actors); `owner` is the
+/// place of a parameter that has neither a value nor a default. The texts that stand for its variables, functions and
+/// procedures differ, as those that [`resolve`](cal_imports::resolve) answers.
+///
+/// # Errors
+///
+/// `Refused` with a rule that the actor breaks, and its place. `Memory` if memory runs out.
+pub fn check(
+    alloc: Global,
+    scope: &Scope,
+    given: &[LeafValue],
+    owner: Place,
+) -> Result<Bound, Front>
+    requires { AreDistinct (names_of_source (source_in scope.now)) }
+    ensures { IsChecked result (source_in scope.now) (all_given given.now) (spot_of owner) }
+{
+    let Ok(funs) = declared_funs(alloc, scope) else {
+        return Err(Front::Memory);
+    };
+    check_told(
+        Told {
+            alloc,
+            given,
+            owner,
+            funs: &funs,
+        },
+        scope,
+    )
+}
