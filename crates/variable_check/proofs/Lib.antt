@@ -4,4 +4,5 @@ mod Starts
 mod Settling
 mod Firsts
 mod Adding
+mod Alone
 mod Headers

@@ -1,6 +1,6 @@
 -- What variables hold at first.
 use Rattle.std.proofs.Common.{◌≡◌, true, List, [], ◌++◌, sym, ap, subst, ◌∙◌}
-use Rattle.std.specs.Prelude.{Option, None, Some, if◌then◌else◌}
+use Rattle.std.specs.Prelude.{Option, Some, if◌then◌else◌}
 use Rattle.rvc_base.specs.Rules.{wrong_parameter}
 use Rattle.rvc_base.specs.declared.refusal.Front.{Front}
 use Rattle.cal_model.specs.Value.{Shape}

@@ -19,7 +19,9 @@ use Rattle.const_eval.specs.declared.fault.KindFault.TheVariants as fault
 use Rattle.cal_check.specs.Actors.{first_valueless, is_declared, is_given, said_or_all}
 use Rattle.cal_check.specs.Violations.{Violation, said, violation}
 use Rattle.cal_check.specs.Variables.{Come, Found, Given, Spot, VarDecl, Valued, found_in, is_none, param_broken, value_of}
-use Rattle.seen_names.specs.Known.{all_known}
+use Rattle.cal_model.specs.Kinding.{Names}
+use Rattle.seen_names.specs.Known.{all_known, names_alone}
+use Rattle.seen_names.specs.declared.known.KnownName.{KnownName}
 use Rattle.variable_check.specs.Causes.{AreDoubts, IsCause, IsSaid, SaysRule, doubt}
 use Rattle.variable_check.specs.declared.starting.Started.{Started}
 use Rattle.variable_check.specs.declared.starting.Started.TheVariants as started
@@ -191,3 +193,15 @@ pub record IsUntyped (p : Place) (old new : Kept) : Type 0 where
 abbrev pub Untypes : Result (Unit {0}) Front → Place → (old new : Kept) → Type 0
 Untypes (Ok u) p old new = IsUntyped p old new
 Untypes (Err f) p old new = f ≡ front.Memory
+
+-- a name became known if the variable has a type
+abbrev pub grows_if : Bool → (old new : Kept) → Type 0
+grows_if true old new = (x : KnownName) × (new.known.items ≡ old.known.items ++ x ∷ [])
+grows_if false old new = new.known.items ≡ old.known.items
+
+abbrev pub Grows : (old new : Kept) → Type 0
+Grows old new = grows_if new.whole old new
+
+-- these names are those that are known, without functions
+abbrev pub AreAlone : Names → Kept → Type 0
+AreAlone names v = names ≡ names_alone (all_known v.known.items)

@@ -7,7 +7,7 @@ ghost use Rattle.cal_model.specs.Sound.{AreDistinct};
 ghost use Rattle.cal_model.specs.Value.{Items, Nil, kind_of_type};
 ghost use Rattle.cal_model.specs.View.{in_order, kind_view, shape_view, value_view, var_view};
 ghost use Rattle.variable_check.specs.Views.{var_decl};
-ghost use Rattle.variable_check.specs.Valuing.{AreAt, IsNoted, IsUntyped, IsValued, Notes, doubts_in, first_of, is_defaulted, lacking_at, left_over, sure_in};
+ghost use Rattle.variable_check.specs.Valuing.{AreAt, Grows, IsNoted, IsUntyped, IsValued, Notes, doubts_in, first_of, is_defaulted, lacking_at, left_over, sure_in};
 
 use crate::declared::DeclaredVar;
 use crate::given::{Constancy, Settled, start_place};
@@ -90,7 +90,8 @@ impl Valued {
         settled: Settled,
     ) -> Result<(), Memory>
         requires { kind_view k ≡ kind_of_type (shape_view t) }
-        ensures { OnOk result ((xs : List VarDecl) (vs : ValuedOf) (breaks : List Found)
+        ensures grows { OnOk result (Grows self.old self.new) }
+        ensures valued { OnOk result ((xs : List VarDecl) (vs : ValuedOf) (breaks : List Found)
             → IsValued xs self.old vs → Notes settled.constancy (var_decl x.entry) breaks
             → (vs.useless ≡ true → breaks ≡ [])
             → IsValued (xs ++ var_decl x.entry ∷ []) self.new (with_value (var_decl x.entry) (shape_view t)

@@ -1,6 +1,6 @@
 //! Variables in the order of the text.
 
-ghost use Rattle.std.specs.Prelude.{◌≡◌, ◌∷◌, [], List, true};
+ghost use Rattle.std.specs.Prelude.{◌≡◌, ◌∷◌, ◌++◌, ◌||◌, [], List, OnOk, true};
 ghost use Rattle.cal_ast.specs.View.{optional_expr, type_tree};
 ghost use Rattle.cal_check.specs.Constants.{early_type};
 ghost use Rattle.cal_check.specs.Variables.{Given, Spot, VarDecl as VarOf, come, valued, with_come, with_type, with_var};
@@ -9,20 +9,25 @@ ghost use Rattle.cal_model.specs.Value.{IsType, Shape as ShapeOf, kind_of_type};
 ghost use Rattle.cal_model.specs.View.{kind_view, shape_view};
 ghost use Rattle.const_eval.specs.Held.{names_in};
 ghost use Rattle.const_eval.specs.Judging.{Breaks};
-ghost use Rattle.seen_names.specs.Known.{fun_decls, names_differ};
+ghost use Rattle.seen_names.specs.Calls.{calls_any};
+ghost use Rattle.seen_names.specs.Known.{all_known, fun_decls, names_alone, names_differ};
 ghost use Rattle.variable_check.specs.Views.{all_given, spot_of, var_decl, var_decls};
-ghost use Rattle.variable_check.specs.Valuing.{Declares, Settles, Untypes, said_of};
+ghost use Rattle.variable_check.specs.Valuing.{AreAlone, Declares, Grows, Settles, Untypes, said_of};
 
 use crate::declared::DeclaredVar;
 use crate::fault::{in_file, is_not_constant};
 use crate::given::{Settled, settle};
 use crate::starting::{said, start};
 use crate::valued::{Told, Valued};
+use cal_ast::Expr;
 use cal_model::{Kind, Shape, kind_of_type, types_are_kept};
 use const_eval::{Env, KindFault, Names};
 use early_check::early_type;
 use rvc_base::{Front, Memory, Place};
-use seen_names::names_seen;
+use seen_names::{
+    KnownName, add_name, calls_alone_need_functions, names_alone, names_seen, type_calls_any,
+};
+use std::alloc::Global;
 
 /// What a variable of a type and its kind comes to.
 fn value_of(
@@ -54,10 +59,11 @@ fn add_typed(
     t: Shape,
 ) -> Result<(), Front>
     requires { IsType (shape_view t) }
-    ensures { Declares result (var_decl x.entry ∷ []) (λ vs. with_come (var_decl x.entry)
+    ensures declares { Declares result (var_decl x.entry ∷ []) (λ vs. with_come (var_decl x.entry)
         (all_given told.entry.given.now) (spot_of told.entry.owner) (shape_view t)
         (come (shape_view t) (optional_expr x.entry.start.now) (names_in env.now)) vs)
         so_far.old so_far.new }
+    ensures grows { OnOk result (Grows so_far.old so_far.new) }
 {
     let Ok(k) = kind_of_type(told.alloc, &t) else {
         return Err(Front::Memory);
@@ -71,9 +77,10 @@ fn add_typed(
 
 /// A variable whose type breaks a rule: if that isn't that of what isn't constant, it is said.
 fn untyped(so_far: &mut Valued, file: u32, fault: KindFault) -> Result<(), Front>
-    ensures { (j : Judged ShapeOf) (x : VarOf) (gs : List Given) (owner : Spot) (names : NamesOf) → x.file ≡ file
-        → Breaks fault j
+    ensures declares { (j : Judged ShapeOf) (x : VarOf) (gs : List Given) (owner : Spot) (names : NamesOf)
+        → x.file ≡ file → Breaks fault j
         → Declares result (x ∷ []) (with_type j x gs owner names) so_far.old so_far.new }
+    ensures grows { OnOk result (Grows so_far.old so_far.new) }
 {
     match fault {
         KindFault::Broken { rule, at } => {
@@ -98,10 +105,11 @@ fn untyped_at(so_far: &mut Valued, place: Place) -> Result<(), Front>
 
 /// Adds a variable over the names that it sees.
 fn add_over(told: Told<'_>, so_far: &mut Valued, env: &Env, x: DeclaredVar) -> Result<(), Front>
-    ensures { Declares result (var_decl x.entry ∷ [])
+    ensures declares { Declares result (var_decl x.entry ∷ [])
         (λ vs. with_type (early_type (type_tree x.entry.shape.now) (names_in env.now))
         (var_decl x.entry) (all_given told.entry.given.now) (spot_of told.entry.owner) (names_in env.now) vs)
         so_far.old so_far.new }
+    ensures grows { OnOk result (Grows so_far.old so_far.new) }
 {
     types_are_kept();
     match early_type(&Names::outermost(told.alloc, env), x.shape) {
@@ -110,20 +118,93 @@ fn add_over(told: Told<'_>, so_far: &mut Valued, env: &Env, x: DeclaredVar) -> R
     }
 }
 
-/// Adds a variable, unless one before it has no type.
-fn add_variable(told: Told<'_>, so_far: &mut Valued, x: DeclaredVar) -> Result<(), Front>
-    requires { names_differ (fun_decls told.funs.now) ≡ true }
-    ensures { Declares result (var_decl x.entry ∷ []) (with_var (var_decl x.entry)
+/// Whether the type or the start of a variable calls a function.
+fn needs_functions(x: DeclaredVar) -> bool
+    ensures { result ≡ (calls_any (type_tree x.entry.shape.now) || calls_any (optional_expr x.entry.start.now)) }
+{
+    type_calls_any(x.shape) || start_calls_any(x.start)
+}
+
+/// Whether a start calls a function.
+fn start_calls_any(start: &Option<Expr>) -> bool
+    ensures { result ≡ calls_any (optional_expr start.now) }
+{
+    match start {
+        Some(e) => seen_names::calls_any(e),
+        None => false,
+    }
+}
+
+/// Adds a variable over what it sees, which is all names and functions.
+fn add_calling(told: Told<'_>, so_far: &mut Valued, x: DeclaredVar) -> Result<(), Front>
+    requires differ { names_differ (fun_decls told.funs.now) ≡ true }
+    requires whole { so_far.old.whole ≡ true }
+    ensures declares { Declares result (var_decl x.entry ∷ []) (with_var (var_decl x.entry)
         (all_given told.entry.given.now) (spot_of told.entry.owner) (fun_decls told.entry.funs.now))
         so_far.old so_far.new }
+    ensures grows { OnOk result (Grows so_far.old so_far.new) }
 {
-    if !so_far.whole {
-        return Ok(());
-    }
     let Ok(env) = names_seen(told.alloc, &so_far.known, told.funs) else {
         return Err(Front::Memory);
     };
     add_over(told, so_far, &env, x)
+}
+
+/// Adds a variable over the names alone, if it calls no function.
+fn add_alone(told: Told<'_>, so_far: &mut Valued, alone: &Env, x: DeclaredVar) -> Result<(), Front>
+    requires differ { names_differ (fun_decls told.funs.now) ≡ true }
+    requires whole { so_far.old.whole ≡ true }
+    requires alone { AreAlone (names_in alone.now) so_far.old }
+    ensures declares { Declares result (var_decl x.entry ∷ []) (with_var (var_decl x.entry)
+        (all_given told.entry.given.now) (spot_of told.entry.owner) (fun_decls told.entry.funs.now))
+        so_far.old so_far.new }
+    ensures grows { OnOk result (Grows so_far.old so_far.new) }
+{
+    calls_alone_need_functions();
+    if needs_functions(x) {
+        return add_calling(told, so_far, x);
+    }
+    add_over(told, so_far, alone, x)
+}
+
+/// Adds the last of the names that are known to those before it.
+fn add_last(alone: &mut Env, alloc: Global, known: &[KnownName]) -> Result<(), Memory>
+    ensures { OnOk result ((before : List KnownName) (x : KnownName) → known.now ≡ before ++ x ∷ []
+        → names_in alone.old ≡ names_alone (all_known before)
+        → names_in alone.new ≡ names_alone (all_known known.now)) }
+{
+    let Some((last, _)) = known.split_last() else {
+        return Ok(());
+    };
+    add_name(alone, alloc, last)?;
+    Ok(())
+}
+
+/// Adds a variable, unless one before it has no type. What is known is in an environment without functions too.
+fn add_variable(
+    told: Told<'_>,
+    so_far: &mut Valued,
+    alone: &mut Env,
+    x: DeclaredVar,
+) -> Result<(), Front>
+    requires differ { names_differ (fun_decls told.funs.now) ≡ true }
+    requires alone { AreAlone (names_in alone.old) so_far.old }
+    ensures declares { Declares result (var_decl x.entry ∷ []) (with_var (var_decl x.entry)
+        (all_given told.entry.given.now) (spot_of told.entry.owner) (fun_decls told.entry.funs.now))
+        so_far.old so_far.new }
+    ensures alone { OnOk result (AreAlone (names_in alone.new) so_far.new) }
+{
+    if !so_far.whole {
+        return Ok(());
+    }
+    add_alone(told, so_far, alone, x)?;
+    if !so_far.whole {
+        return Ok(());
+    }
+    match add_last(alone, told.alloc, &so_far.known) {
+        Ok(()) => Ok(()),
+        Err(Memory) => Err(Front::Memory),
+    }
 }
 
 /// What variables come to behind others: each sees those before it and all functions (ISO/IEC 23001-4, RVC-CAL: state
@@ -146,8 +227,11 @@ pub fn value_all(told: Told<'_>, so_far: &mut Valued, vars: &[DeclaredVar]) -> R
         (all_given told.entry.given.now) (spot_of told.entry.owner) (fun_decls told.entry.funs.now))
         so_far.old so_far.new }
 {
+    let Ok(mut alone) = names_alone(told.alloc, &so_far.known) else {
+        return Err(Front::Memory);
+    };
     for x in vars {
-        add_variable(told, so_far, *x)?;
+        add_variable(told, so_far, &mut alone, *x)?;
     }
     Ok(())
 }

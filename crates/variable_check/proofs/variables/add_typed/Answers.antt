@@ -9,8 +9,8 @@ use Rattle.variable_check.specs.Views.{all_given, spot_of, var_decl}
 use Rattle.variable_check.proofs.Adding.{come_added, come_refused}
 use Rattle.variable_check.proofs.variables.add_typed.Goals as goal
 
-pub returns-in_err-settled : goal.returns-in_err-settled
-returns-in_err-settled c = λ xs vs h.
+pub returns-in_err-settled-clause-declares : goal.returns-in_err-settled-clause-declares
+returns-in_err-settled-clause-declares c = λ xs vs h.
     let x = var_decl c.args.x in
     let start = come (shape_view c.args.t) (optional_expr c.args.x.start.now) (names_in c.args.env.now) in
     let same : c.from_residual.result ≡ Err c.in_err-settled.field-0.0 = search rules in
@@ -19,10 +19,10 @@ returns-in_err-settled c = λ xs vs h.
       c.in_err-settled.ensures.1,
     )
 
-pub returns-in-Ok-add : goal.returns-in-Ok-add
-returns-in-Ok-add c = λ xs vs h.
+pub returns-in-Ok-add-clause-declares : goal.returns-in-Ok-add-clause-declares
+returns-in-Ok-add-clause-declares c = λ xs vs h.
     let start = come (shape_view c.args.t) (optional_expr c.args.x.start.now) (names_in c.args.env.now) in
     let s = c.in_ok-settled.settled in
     come_added c.add.new.self xs (var_decl c.args.x) (all_given c.args.told.given.now) (spot_of c.args.told.owner) (shape_view c.args.t) start vs c.args.so_far.now.useless
     (option_map value_view s.value) s.constancy h.useless c.in_ok-settled.ensures.0 c.in_ok-settled.ensures.1 c.in_ok-settled.ensures.2
-    (λ breaks n quiet. c.in-Ok-add.ensures xs vs breaks h n quiet)
+    (λ breaks n quiet. c.in-Ok-add.ensures.valued xs vs breaks h n quiet)

@@ -4,7 +4,7 @@ use Rattle.variable_check.specs.Views.{all_given, spot_of, var_decl}
 use Rattle.variable_check.proofs.Adding.{not_whole}
 use Rattle.variable_check.proofs.variables.add_variable.Goals as goal
 
-pub returns-then-not-so_far : goal.returns-then-not-so_far
-returns-then-not-so_far c = λ xs vs h.
+pub returns-then-not-so_far-clause-declares : goal.returns-then-not-so_far-clause-declares
+returns-then-not-so_far-clause-declares c = λ xs vs h.
     let none : c.args.so_far.now.whole ≡ false = search rules in
     not_whole c.args.so_far.now xs (var_decl c.args.x) (all_given c.args.told.given.now) (spot_of c.args.told.owner) (fun_decls c.args.told.funs.now) vs none h

@@ -10,8 +10,8 @@ use Rattle.variable_check.specs.declared.valued.Valued.{Valued as Kept}
 use Rattle.variable_check.proofs.Adding.{last_behind, valued_added}
 use Rattle.variable_check.proofs.valued.Valued.add.Goals as goal
 
-pub returns : goal.returns
-returns c = λ xs vs breaks h n quiet.
+pub returns-clause-valued : goal.returns-clause-valued
+returns-clause-valued c = λ xs vs breaks h n quiet.
     let t = shape_view c.args.t in
     let v = option_map value_view c.args.settled.value in
     let k : KnownName = record { name = c.in_ok-name.name; kind = c.args.k; value = c.in_ok-value.value; changes = c.args.x.changes } in
@@ -30,3 +30,11 @@ returns c = λ xs vs breaks h n quiet.
     ∙ ap (λ j. record { name = c.args.x.name.now; kind = j; value = Some (value_or v j); changes = c.args.x.changes } ∷ all_known c.args.self.now.known.items) c.requires)
     (held ∙ ap (λ hs. held_if v (var_decl c.args.x) t (map var_view hs)) noted.held)
     noted.doubts noted.sure noted.lacking noted.defaulted (useless ∙ ap (λ u. u || is_none v) noted.useless) refl h n quiet
+
+pub returns-clause-grows : goal.returns-clause-grows
+returns-clause-grows c =
+    let k : KnownName = record { name = c.in_ok-name.name; kind = c.args.k; value = c.in_ok-value.value; changes = c.args.x.changes } in
+    let pushed : c.push.new.self.items ≡ c.args.self.now.known.items ++ k ∷ [] = search rules in
+    let before : Kept = record c.args.self.now { known = c.push.new.self } in
+    let noted : IsNoted c.args.settled.constancy (option_map value_view c.args.settled.value) (var_decl c.args.x) before c.note.new.self = search rules in
+    (k, noted.known ∙ pushed)
