@@ -1,6 +1,6 @@
 -- What the check of an actor says, of what its parts break.
 use Rattle.std.proofs.Common.{◌≡◌, ◌⊎◌, inl, inr, Bool, true, false, List, [], ◌∷◌, ◌++◌, map, refl, sym, ap, subst, ◌∙◌, append-nil, arith}
-use Rattle.std.specs.Prelude.{Contains, IfSome, Option, None, Some, if◌then◌else◌, not, ◌&&◌, ◌||◌, ◌==◌}
+use Rattle.std.specs.Prelude.{Contains, Option, None, Some, if◌then◌else◌, not, ◌&&◌, ◌||◌, ◌==◌}
 use Rattle.std.specs.declared.result.Result.{Result}
 use Rattle.std.proofs.lemmas.Bool.Decides.{nat_tests}
 use Rattle.std.proofs.lemmas.List.Elements.{Contains-append_left, Contains-append_right}
@@ -8,6 +8,7 @@ use Rattle.rvc_base.specs.Rules.{not_constant}
 use Rattle.rvc_base.specs.declared.refusal.Front.{Front}
 use Rattle.rvc_base.specs.declared.refusal.Front.TheVariants as front
 use Rattle.rvc_base.specs.declared.refusal.Place.{Place}
+use Rattle.rvc_base.specs.declared.refusal.Refusal.{Refusal}
 use Rattle.rvc_base.specs.declared.refusal.Rule.{Rule}
 use Rattle.cal_ast.specs.Places.{begins}
 use Rattle.cal_model.specs.Actor.{Held}
@@ -15,20 +16,18 @@ use Rattle.cal_model.specs.Kinding.{Judged, Fine, Broken, Names}
 use Rattle.cal_model.specs.Sound.{Each}
 use Rattle.cal_model.specs.Value.{Shape}
 use Rattle.cal_model.specs.declared.bound.Bound.{Bound}
-use Rattle.cal_check.proofs.Lists.{each-map, head-or-rest, in-none}
+use Rattle.cal_check.proofs.Lists.{in-none}
 use Rattle.cal_check.specs.Constants.{early_type}
 use Rattle.cal_check.specs.Routines.{FunDecl}
-use Rattle.cal_check.specs.Actors.{IsViolated, Source, actor_given, all_said, all_valued, around_of, behind_variables, declared_vars, first_valueless, has_heads, is_held, members_found, members_of, said_or_all, violations}
+use Rattle.cal_check.specs.Actors.{Conforms, IsViolated, Source, actor_given, all_found, all_said, all_valued, around_of, behind_variables, declared_vars, first_valueless, has_heads, is_held, members_found, members_of, said_or_all, violations}
 use Rattle.cal_check.specs.Variables.{Found, Given, Spot, VarDecl, Valued, none_yet, seen, valued, with_type, with_var}
-use Rattle.variable_check.specs.Causes.{AreDoubts, IsCause, SaysRule, doubt}
-use Rattle.variable_check.specs.Valuing.{left_over, valueless}
-use Rattle.actor_check.specs.Checked.{IsChecked, IsDefaulted, IsRefused, IsUnsaid, found_of}
-use Rattle.actor_check.specs.Early.{Leaves, wrongly_given}
+use Rattle.variable_check.specs.Causes.{IsCause, SaysRule, inconstant}
+use Rattle.variable_check.specs.Valuing.{AreAt, left_over, valueless}
+use Rattle.actor_check.specs.Checked.{IsChecked, IsComplete, IsRefused, IsUnsaid, found_of}
+use Rattle.actor_check.specs.Early.{wrongly_given}
 use Rattle.actor_check.specs.Members.{AreMembers, Settles, not_constant_at, place_left}
 use Rattle.actor_check.specs.Parts.{IsCycleIn, header_names}
 use Rattle.actor_check.specs.Phases.{header_over}
-use Rattle.actor_check.specs.declared.rest.Rest.{Rest}
-use Rattle.actor_check.specs.declared.rest.Rest.TheVariants as rest
 use Rattle.actor_check.proofs.Behind.{behind_none, given_breaks, header_breaks, members_break, members_none}
 use Rattle.actor_check.proofs.Chain.{behind_break, first_said, variables_break}
 
@@ -71,7 +70,7 @@ shown : (hides b : Bool) → hides ≡ false → (hides && b) ≡ false
 shown hides b e = ap (λ h. h && b) e
 
 abbrev Told : Source → List Given → Spot → Found → Type 0
-Told s gs owner f = IsViolated s gs owner f ⊎ (IsUnsaid s gs owner f ⊎ IsDefaulted s gs owner f)
+Told s gs owner f = IsViolated s gs owner f ⊎ IsUnsaid s gs owner f
 
 behind_told : (s : Source) (gs : List Given) (owner : Spot) (f : Found) → Contains (behind_variables s gs owner (around_of s gs owner)) f
     → Told s gs owner f
@@ -80,11 +79,11 @@ behind_told s gs owner f h =
   where
     unsaid : (f.violation.rule.0 == not_constant.0) ≡ true → (has_heads s (around_of s gs owner) ≡ false) ⊎ ((all_valued s gs owner).useless ≡ true)
         → Told s gs owner f
-    unsaid e i = inr (inl (record {
+    unsaid e i = inr (record {
       broken = Contains-append_right (all_valued s gs owner).breaks (behind_variables s gs owner (around_of s gs owner)) f h;
       rule = rule_of f.violation.rule e;
       unsaid = i;
-    }))
+    })
 
     go : (b heads useless : Bool) → (f.violation.rule.0 == not_constant.0) ≡ b → has_heads s (around_of s gs owner) ≡ heads → (all_valued s gs owner).useless ≡ useless
         → Told s gs owner f
@@ -155,47 +154,38 @@ alone s gs owner none only =
     over_alone (not (has_heads s (around_of s gs owner))) (all_valued s gs owner).useless (all_valued s gs owner).breaks
     (behind_variables s gs owner (around_of s gs owner)) (valueless (declared_vars s) owner (all_valued s gs owner)) none only
 
-doubted : (ds : List Place) (f : Found) → Contains (map doubt ds) f → f.violation.rule ≡ not_constant
-doubted [] f h = absurd (in-none f h)
-doubted (d ∷ ds) f h = go (head-or-rest f (doubt d) (map doubt ds) h) (λ i. doubted ds f i)
+only_constants : (ps : List Place) (fs : List Found) → fs ≡ map inconstant ps → Each (λ f. f.violation.rule ≡ not_constant) fs
+only_constants ps fs e = subst (Each (λ f. f.violation.rule ≡ not_constant)) (sym e) (go ps)
   where
-    go : (doubt d ≡ f) ⊎ Contains (map doubt ds) f → (Contains (map doubt ds) f → f.violation.rule ≡ not_constant) → f.violation.rule ≡ not_constant
-    go (inl e) k = ap (λ g. g.violation.rule) (sym e)
-    go (inr i) k = k i
-
-only_constants : (ds : List Place) (fs : List Found) → AreDoubts ds fs → Each (λ f. f.violation.rule ≡ not_constant) fs
-only_constants ds fs h = each-map (λ f. Contains (map doubt ds) f) (λ f. f.violation.rule ≡ not_constant) fs (λ f i. doubted ds f i) h
+    go : (ps : List Place) → Each (λ f. f.violation.rule ≡ not_constant) (map inconstant ps)
+    go [] = tt
+    go (p ∷ ps) = (refl, go ps)
 
 -- what is left of the variables is refused
 left_refuses : (p : Place) (s : Source) (gs : List Given) (owner : Spot) → behind_variables s gs owner (around_of s gs owner) ≡ []
     → Each (λ f. f.violation.rule ≡ not_constant) (all_valued s gs owner).breaks
-    → Contains (left_over (declared_vars s) owner (all_valued s gs owner)) (doubt p) → IsRefused (not_constant_at p) s gs owner
-left_refuses p s gs owner none only h = inl (inl (subst (λ fs. Contains fs (doubt p)) (sym (alone s gs owner none only)) h))
+    → Contains (left_over (declared_vars s) owner (all_valued s gs owner)) (inconstant p) → IsRefused (not_constant_at p) s gs owner
+left_refuses p s gs owner none only h = inl (inl (subst (λ fs. Contains fs (inconstant p)) (sym (alone s gs owner none only)) h))
 
-doubt_refuses : (p : Place) (s : Source) (gs : List Given) (owner : Spot) → behind_variables s gs owner (around_of s gs owner) ≡ []
-    → Each (λ f. f.violation.rule ≡ not_constant) (all_valued s gs owner).breaks → IsRefused (not_constant_at p) s gs owner
-doubt_refuses p s gs owner none only = inr (inr (record { rule = refl; behind = none; only = only }))
-
-pub members_settle : (found : Bound) (ds : List Place) (left : Rest) (r : Result Bound Front) (s : Source) (gs : List Given) (owner : Spot)
-    → AreDoubts ds (all_valued s gs owner).breaks → Leaves left (left_over (declared_vars s) owner (all_valued s gs owner))
+pub members_settle : (found : Bound) (ps : List Place) (left : Option Place) (r : Result Bound Front) (s : Source) (gs : List Given) (owner : Spot)
+    → (all_valued s gs owner).breaks ≡ map inconstant ps → AreAt left (left_over (declared_vars s) owner (all_valued s gs owner))
     → wrongly_given s gs ≡ [] → header_over s (header_names s gs owner) ≡ [] → AreMembers found s gs owner → Settles left found r
     → IsChecked r s gs owner
-members_settle found ds left r s gs owner doubts leaves given header members settles = go left leaves settles
+members_settle found ps left r s gs owner broken leaves given header members settles = go left leaves settles
   where
     none : behind_variables s gs owner (around_of s gs owner) ≡ []
     none = behind_none s gs owner (around_of s gs owner) given header
         (members_none s (around_of s gs owner) (actor_given s gs owner) (all_valued s gs owner).whole members.heads members.inside.fine)
 
     only : Each (λ f. f.violation.rule ≡ not_constant) (all_valued s gs owner).breaks
-    only = only_constants ds (all_valued s gs owner).breaks doubts
+    only = only_constants ps (all_valued s gs owner).breaks broken
 
-    go : (left : Rest) → Leaves left (left_over (declared_vars s) owner (all_valued s gs owner)) → Settles left found r → IsChecked r s gs owner
-    go rest.Nothing leaves settles = subst (λ x. IsChecked x s gs owner) (sym settles) (record {
+    go : (left : Option Place) → AreAt left (left_over (declared_vars s) owner (all_valued s gs owner)) → Settles left found r → IsChecked r s gs owner
+    go None leaves settles = subst (λ x. IsChecked x s gs owner) (sym settles) (record {
       conforms = record { nothing = alone s gs owner none only ∙ leaves; ordered = members.inside.ordered };
       is = members.inside.is;
     })
-    go (rest.Lacking p) leaves settles = subst (λ x. IsChecked x s gs owner) (sym settles) (left_refuses p s gs owner none only leaves)
-    go (rest.InDoubt p) leaves settles = subst (λ x. IsChecked x s gs owner) (sym settles) (doubt_refuses p s gs owner none only)
+    go (Some p) leaves settles = subst (λ x. IsChecked x s gs owner) (sym settles) (left_refuses p s gs owner none only leaves)
 
 -- ---- variables without types
 
@@ -217,38 +207,47 @@ never_left false false [] others w k h = k h
 never_left useless false (f ∷ breaks) others w k h = cc
 
 -- a variable has no type, so nothing behind the header is judged
-pub untyped_refuses : (ds : List Place) (left : Rest) (place : Place) (s : Source) (gs : List Given) (owner : Spot)
-    → AreDoubts ds (all_valued s gs owner).breaks → Leaves left (left_over (declared_vars s) owner (all_valued s gs owner))
+pub untyped_refuses : (ps : List Place) (left : Option Place) (place : Place) (s : Source) (gs : List Given) (owner : Spot)
+    → (all_valued s gs owner).breaks ≡ map inconstant ps → AreAt left (left_over (declared_vars s) owner (all_valued s gs owner))
     → wrongly_given s gs ≡ [] → header_over s (header_names s gs owner) ≡ [] → (all_valued s gs owner).whole ≡ false
     → IsRefused (not_constant_at (place_left left place)) s gs owner
-untyped_refuses ds left place s gs owner doubts leaves given header whole = go left leaves
+untyped_refuses ps left place s gs owner broken leaves given header whole = go left leaves
   where
     none : behind_variables s gs owner (around_of s gs owner) ≡ []
     none = behind_none s gs owner (around_of s gs owner) given header
         (ap (members_found s (around_of s gs owner) (actor_given s gs owner)) whole)
 
     only : Each (λ f. f.violation.rule ≡ not_constant) (all_valued s gs owner).breaks
-    only = only_constants ds (all_valued s gs owner).breaks doubts
+    only = only_constants ps (all_valued s gs owner).breaks broken
 
-    go : (left : Rest) → Leaves left (left_over (declared_vars s) owner (all_valued s gs owner)) → IsRefused (not_constant_at (place_left left place)) s gs owner
-    go rest.Nothing leaves = absurd (never_left (all_valued s gs owner).useless (all_valued s gs owner).whole (all_valued s gs owner).breaks
+    go : (left : Option Place) → AreAt left (left_over (declared_vars s) owner (all_valued s gs owner)) → IsRefused (not_constant_at (place_left left place)) s gs owner
+    go None leaves = absurd (never_left (all_valued s gs owner).useless (all_valued s gs owner).whole (all_valued s gs owner).breaks
         (first_valueless (declared_vars s) (all_valued s gs owner).held owner) whole (never_none (declared_vars s) (all_valued s gs owner).held owner) leaves)
-    go (rest.Lacking p) leaves = left_refuses p s gs owner none only leaves
-    go (rest.InDoubt p) leaves = doubt_refuses p s gs owner none only
+    go (Some p) leaves = left_refuses p s gs owner none only leaves
 
 -- ---- of the variables
-
-pub sure_left : (place : Place) (sure : Option Place) (xs : List VarDecl) (owner : Spot) (vs : Valued) → sure ≡ Some place → IfSome sure (λ p. Contains vs.breaks (doubt p))
-    → Contains (left_over xs owner vs) (doubt place)
-sure_left place (Some p) xs owner vs e h =
-    first_said vs.breaks (valueless xs owner vs) (doubt place) (subst (λ q. Contains vs.breaks (doubt q)) (some_same p place e) h)
-  where
-    some_same : (a b : Place) → Some a ≡ Some b → a ≡ b
-    some_same a b e = cc
-sure_left place None xs owner vs e h = absurd (cc)
 
 pub before_keeps : (f : Front) (xs ys more : List VarDecl) (gs : List Given) (owner : Spot) (fs hs : List FunDecl) → xs ≡ ys → fs ≡ hs
     → IsCause f (valued xs gs owner fs none_yet).breaks → IsCause f (valued more gs owner hs (valued ys gs owner hs none_yet)).breaks
 before_keeps f xs ys more gs owner fs hs e i h =
     cause_kept f more gs owner hs (valued ys gs owner hs none_yet)
     (subst (λ zs. IsCause f (valued zs gs owner hs none_yet).breaks) e (subst (λ zs. IsCause f (valued xs gs owner zs none_yet).breaks) i h))
+
+-- ---- an actor that conforms
+
+-- what is broken is said, or something else
+said_none : (first others all : List Found) → said_or_all first (said_or_all others all) ≡ [] → others ≡ []
+said_none [] [] all h = refl
+said_none [] (f ∷ others) all h = cc
+said_none (f ∷ first) others all h = cc
+
+nothing_found : (s : Source) (gs : List Given) (owner : Spot) → Conforms s gs owner → all_found s gs owner (around_of s gs owner) ≡ []
+nothing_found s gs owner h = said_none _ (all_found s gs owner (around_of s gs owner)) _ h.nothing
+
+never_refused : (r : Refusal) (s : Source) (gs : List Given) (owner : Spot) → IsRefused (front.Refused r) s gs owner → Conforms s gs owner → ⊥
+never_refused r s gs owner (inl (inl h)) k = in-none (found_of r) (subst (λ fs. Contains fs (found_of r)) k.nothing h)
+never_refused r s gs owner (inl (inr h)) k = k.ordered h.0
+never_refused r s gs owner (inr h) k = in-none (found_of r) (subst (λ fs. Contains fs (found_of r)) (nothing_found s gs owner k) h.broken)
+
+pub conforming_is_given : (result : Result Bound Front) (s : Source) (gs : List Given) (owner : Spot) → IsChecked result s gs owner → IsComplete result s gs owner
+conforming_is_given result s gs owner h r e k = never_refused r s gs owner (subst (λ x. IsChecked x s gs owner) e h) k

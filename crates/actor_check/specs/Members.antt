@@ -1,6 +1,6 @@
 -- What the members of an actor come to, and what is left to say.
 -- Not trusted: no promise is read with it.
-use Rattle.std.specs.Prelude.{◌≡◌, ◌⊎◌, true, List, []}
+use Rattle.std.specs.Prelude.{◌≡◌, ◌⊎◌, true, List, [], Option, None, Some}
 use Rattle.std.specs.declared.result.Result.{Result}
 use Rattle.std.specs.declared.result.Result.TheVariants.{Ok, Err}
 use Rattle.rvc_base.specs.Rules.{not_constant}
@@ -12,8 +12,6 @@ use Rattle.cal_check.specs.Actors.{Source, actor_given, around_of, heads_found, 
 use Rattle.cal_check.specs.Variables.{Given, Spot}
 use Rattle.variable_check.specs.Causes.{IsCause}
 use Rattle.actor_check.specs.Parts.{IsCycleIn, IsInside}
-use Rattle.actor_check.specs.declared.rest.Rest.{Rest}
-use Rattle.actor_check.specs.declared.rest.Rest.TheVariants as rest
 
 abbrev pub not_constant_at : Place → Front
 not_constant_at p = front.Refused (record { rule = not_constant; place = p })
@@ -29,12 +27,11 @@ FindsMembers (Err f) s gs owner =
     IsCause f (members_found s (around_of s gs owner) (actor_given s gs owner) true)
     ⊎ IsCycleIn f s.file (members_of s.actor) (actor_given s gs owner)
 
-abbrev pub Settles : Rest → Bound → Result Bound Front → Type 0
-Settles rest.Nothing found result = result ≡ Ok found
-Settles (rest.Lacking p) found result = result ≡ Err (not_constant_at p)
-Settles (rest.InDoubt p) found result = result ≡ Err (not_constant_at p)
+-- where something isn't constant in the variables, or they break nothing
+abbrev pub Settles : Option Place → Bound → Result Bound Front → Type 0
+Settles None found result = result ≡ Ok found
+Settles (Some p) found result = result ≡ Err (not_constant_at p)
 
-abbrev pub place_left : Rest → Place → Place
-place_left rest.Nothing owner = owner
-place_left (rest.Lacking p) owner = p
-place_left (rest.InDoubt p) owner = p
+abbrev pub place_left : Option Place → Place → Place
+place_left None owner = owner
+place_left (Some p) owner = p

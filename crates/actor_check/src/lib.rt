@@ -9,7 +9,6 @@ mod fault;
 mod heading;
 mod inside;
 mod keeping;
-mod rest;
 mod routines;
 mod scalars;
 mod values;

@@ -7,7 +7,7 @@ ghost use Rattle.cal_model.specs.Sound.{AreDistinct};
 ghost use Rattle.seen_names.specs.Known.{fun_decls, names_differ};
 ghost use Rattle.variable_check.specs.Valuing.{IsValued};
 ghost use Rattle.variable_check.specs.Views.{all_given, spot_of};
-ghost use Rattle.actor_check.specs.Checked.{IsChecked};
+ghost use Rattle.actor_check.specs.Checked.{IsChecked, IsComplete};
 ghost use Rattle.actor_check.specs.Early.{wrongly_given};
 ghost use Rattle.actor_check.specs.Members.{FindsMembers, Settles, not_constant_at, place_left};
 ghost use Rattle.actor_check.specs.Parts.{header_names};
@@ -18,7 +18,6 @@ use crate::collect::declared_funs;
 use crate::early::{check_given, early_values};
 use crate::heading::header_of;
 use crate::inside::actor_inside;
-use crate::rest::{Rest, rest_of};
 use crate::routines::routines_of;
 use cal_imports::Scope;
 use cal_model::Bound;
@@ -56,24 +55,22 @@ fn members_of(told: Told<'_>, scope: &Scope, values: Valued, header: Header) -> 
 }
 
 /// What is left to say of an actor whose variables have types and whose members break no rule.
-fn settled(rest: Rest, found: Bound) -> Result<Bound, Front>
+fn settled(rest: Option<Place>, found: Bound) -> Result<Bound, Front>
     ensures { Settles rest found result }
 {
     match rest {
-        Rest::Nothing => Ok(found),
-        Rest::Lacking(place) => Err(not_constant(place)),
-        Rest::InDoubt(place) => Err(not_constant(place)),
+        Some(place) => Err(not_constant(place)),
+        None => Ok(found),
     }
 }
 
 /// What is said of an actor some of whose variables have no type.
-fn untyped(rest: Rest, owner: Place) -> Front
+fn untyped(rest: Option<Place>, owner: Place) -> Front
     ensures { result ≡ not_constant_at (place_left rest owner) }
 {
     match rest {
-        Rest::Nothing => not_constant(owner),
-        Rest::Lacking(place) => not_constant(place),
-        Rest::InDoubt(place) => not_constant(place),
+        Some(place) => not_constant(place),
+        None => not_constant(owner),
     }
 }
 
@@ -94,7 +91,7 @@ fn check_members(
         (all_valued (source_in scope.now) (all_given told.given.now) (spot_of told.owner)) }
     ensures { IsChecked result (source_in scope.now) (all_given told.entry.given.now) (spot_of told.entry.owner) }
 {
-    let rest = rest_of(&values, told.owner);
+    let rest = values.not_constant();
     if !values.whole {
         return Err(untyped(rest, told.owner));
     }
@@ -120,7 +117,8 @@ fn check_told(told: Told<'_>, scope: &Scope) -> Result<Bound, Front>
 ///
 /// # Errors
 ///
-/// `Refused` with a rule that the actor breaks, and its place. `Memory` if memory runs out.
+/// `Refused` with a rule that the actor breaks, and its place: an actor that conforms is never refused. `Memory` if memory
+/// runs out.
 pub fn check(
     alloc: Global,
     scope: &Scope,
@@ -128,7 +126,8 @@ pub fn check(
     owner: Place,
 ) -> Result<Bound, Front>
     requires { AreDistinct (names_of_source (source_in scope.now)) }
-    ensures { IsChecked result (source_in scope.now) (all_given given.now) (spot_of owner) }
+    ensures checked { IsChecked result (source_in scope.now) (all_given given.now) (spot_of owner) }
+    ensures complete { IsComplete result (source_in scope.now) (all_given given.now) (spot_of owner) }
 {
     let Ok(funs) = declared_funs(alloc, scope) else {
         return Err(Front::Memory);

@@ -131,6 +131,11 @@ valueless xs owner vs =
 abbrev pub left_over : List VarDecl → Spot → Valued → List Found
 left_over xs owner vs = said_or_all vs.breaks (valueless xs owner vs)
 
+-- the first of these places
+abbrev pub first_in : List Place → Option Place
+first_in [] = None
+first_in (p ∷ ps) = Some p
+
 -- something at this place, or nothing
 abbrev pub AreAt : Option Place → List Found → Type 0
 AreAt None fs = fs ≡ []
@@ -145,10 +150,6 @@ broken_in (constancy.Lacking p) = p ∷ []
 abbrev pub lacking_at : VarDecl → Bool → Option Place
 lacking_at x true = Some (start_place x)
 lacking_at x false = None
-
-abbrev pub first_in : List Place → Option Place
-first_in [] = None
-first_in (p ∷ ps) = Some p
 
 abbrev pub first_of : Option Place → Option Place → Option Place
 first_of None other = other

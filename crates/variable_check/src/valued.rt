@@ -67,7 +67,17 @@ impl Valued {
         ensures { (xs : List VarDecl) (owner : Spot) (vs : ValuedOf) → IsValued xs self.now vs
             → AreDistinct (map (λ x. x.name) xs) → AreAt result (left_over xs owner vs) }
     {
-        first_of(first_in(&self.broken), self.lacking)
+        first_of(self.first_broken(), self.lacking)
+    }
+
+    /// The first of the places at which something isn't constant.
+    pub fn first_broken(&self) -> Option<Place>
+        ensures { result ≡ first_in self.now.broken.items }
+    {
+        match self.broken.first() {
+            Some(place) => Some(*place),
+            None => None,
+        }
     }
 
     /// Adds a variable of a type and its kind, which comes to this.
@@ -122,16 +132,6 @@ impl Valued {
             return Ok(());
         }
         add_place(&mut self.broken, place)
-    }
-}
-
-/// The first of places, if there are any.
-fn first_in(places: &[Place]) -> Option<Place>
-    ensures { result ≡ first_in places.now }
-{
-    match places.first() {
-        Some(place) => Some(*place),
-        None => None,
     }
 }
 

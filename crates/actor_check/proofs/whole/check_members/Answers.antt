@@ -13,8 +13,8 @@ returns-then-not-values c =
     let owner = spot_of c.args.told.owner in
     let lacks : c.args.values.whole ≡ false = search rules in
     subst (λ f. IsRefused f s gs owner) (sym c.untyped.ensures)
-    (untyped_refuses c.args.values.doubts.items c.rest_of-rest.result c.args.told.owner s gs owner c.requires.values.breaks
-    (c.rest_of-rest.ensures (declared_vars s) owner (all_valued s gs owner) c.requires.values c.requires.distinct)
+    (untyped_refuses c.args.values.broken.items c.not_constant-rest.result c.args.told.owner s gs owner c.requires.values.breaks
+    (c.not_constant-rest.ensures (declared_vars s) owner (all_valued s gs owner) c.requires.values c.requires.distinct)
     c.requires.given c.requires.header.fine (sym c.requires.values.whole ∙ lacks))
 
 pub returns-in_err-found : goal.returns-in_err-found
@@ -33,6 +33,6 @@ returns c =
     let s = source_in c.args.scope.now in
     let gs = all_given c.args.told.given.now in
     let owner = spot_of c.args.told.owner in
-    members_settle c.in_ok-found.found c.args.values.doubts.items c.rest_of-rest.result c.settled.result s gs owner c.requires.values.breaks
-    (c.rest_of-rest.ensures (declared_vars s) owner (all_valued s gs owner) c.requires.values c.requires.distinct)
+    members_settle c.in_ok-found.found c.args.values.broken.items c.not_constant-rest.result c.settled.result s gs owner c.requires.values.breaks
+    (c.not_constant-rest.ensures (declared_vars s) owner (all_valued s gs owner) c.requires.values c.requires.distinct)
     c.requires.given c.requires.header.fine c.in_ok-found.ensures c.settled.ensures
