@@ -16,16 +16,16 @@ use Rattle.cal_model.specs.Kinding.{Judged, Fine, Broken, Names}
 use Rattle.cal_model.specs.Sound.{Each}
 use Rattle.cal_model.specs.Value.{Shape}
 use Rattle.cal_model.specs.declared.bound.Bound.{Bound}
-use Rattle.cal_check.proofs.Lists.{in-none}
+use Rattle.cal_check.proofs.Lists.{at-head, in-none}
 use Rattle.cal_check.specs.Constants.{early_type}
 use Rattle.cal_check.specs.Routines.{FunDecl}
 use Rattle.cal_check.specs.Actors.{Conforms, IsViolated, Source, actor_given, all_found, all_said, all_valued, around_of, behind_variables, declared_vars, first_valueless, has_heads, is_held, members_found, members_of, said_or_all, violations}
 use Rattle.cal_check.specs.Variables.{Found, Given, Spot, VarDecl, Valued, none_yet, seen, valued, with_type, with_var}
 use Rattle.variable_check.specs.Causes.{IsCause, SaysRule, inconstant}
-use Rattle.variable_check.specs.Valuing.{AreAt, left_over, valueless}
+use Rattle.variable_check.specs.Valuing.{AreAt, first_in, left_over, valueless}
 use Rattle.actor_check.specs.Checked.{IsChecked, IsComplete, IsRefused, IsUnsaid, found_of}
 use Rattle.actor_check.specs.Early.{wrongly_given}
-use Rattle.actor_check.specs.Members.{AreMembers, Settles, not_constant_at, place_left}
+use Rattle.actor_check.specs.Members.{AreMembers, Settles, not_constant_at, place_left, said_first}
 use Rattle.actor_check.specs.Parts.{IsCycleIn, header_names}
 use Rattle.actor_check.specs.Phases.{header_over}
 use Rattle.actor_check.proofs.Behind.{behind_none, given_breaks, header_breaks, members_break, members_none}
@@ -72,12 +72,13 @@ shown hides b e = ap (λ h. h && b) e
 abbrev Told : Source → List Given → Spot → Found → Type 0
 Told s gs owner f = IsViolated s gs owner f ⊎ IsUnsaid s gs owner f
 
-behind_told : (s : Source) (gs : List Given) (owner : Spot) (f : Found) → Contains (behind_variables s gs owner (around_of s gs owner)) f
-    → Told s gs owner f
-behind_told s gs owner f h =
+behind_told : (s : Source) (gs : List Given) (owner : Spot) (f : Found) → (all_valued s gs owner).breaks ≡ []
+    → Contains (behind_variables s gs owner (around_of s gs owner)) f → Told s gs owner f
+behind_told s gs owner f none h =
     go (f.violation.rule.0 == not_constant.0) (has_heads s (around_of s gs owner)) (all_valued s gs owner).useless refl refl refl
   where
-    unsaid : (f.violation.rule.0 == not_constant.0) ≡ true → (has_heads s (around_of s gs owner) ≡ false) ⊎ ((all_valued s gs owner).useless ≡ true)
+    unsaid : (f.violation.rule.0 == not_constant.0) ≡ true
+        → (has_heads s (around_of s gs owner) ≡ false) ⊎ (((all_valued s gs owner).useless ≡ true) × ((all_valued s gs owner).breaks ≡ []))
         → Told s gs owner f
     unsaid e i = inr (record {
       broken = Contains-append_right (all_valued s gs owner).breaks (behind_variables s gs owner (around_of s gs owner)) f h;
@@ -89,8 +90,20 @@ behind_told s gs owner f h =
         → Told s gs owner f
     go false heads useless e i j = inl (inl (behind_break s gs owner (around_of s gs owner) f (other _ _ e) (other _ _ e) h))
     go true true false e i j = inl (inl (behind_break s gs owner (around_of s gs owner) f (shown _ _ (ap not i)) (shown _ _ j) h))
-    go true true true e i j = unsaid e (inr j)
+    go true true true e i j = unsaid e (inr (j, none))
     go true false useless e i j = unsaid e (inl i)
+
+-- a variable isn't constant there
+variable_told : (p : Place) (s : Source) (gs : List Given) (owner : Spot) → Contains (all_valued s gs owner).breaks (inconstant p) → Told s gs owner (inconstant p)
+variable_told p s gs owner h = go (has_heads s (around_of s gs owner)) refl
+  where
+    go : (heads : Bool) → has_heads s (around_of s gs owner) ≡ heads → Told s gs owner (inconstant p)
+    go true i = inl (inl (variables_break s gs owner (around_of s gs owner) (inconstant p) (shown _ _ (ap not i)) h))
+    go false i = inr (record {
+      broken = Contains-append_left (all_valued s gs owner).breaks (behind_variables s gs owner (around_of s gs owner)) (inconstant p) h;
+      rule = refl;
+      unsaid = inl i;
+    })
 
 -- ---- what the parts break
 
@@ -99,27 +112,61 @@ early_refuses (front.Refused r) s gs owner h =
     inl (inl (variables_break s gs owner (around_of s gs owner) (found_of r) (other _ _ h.1) h.0))
 early_refuses front.Memory s gs owner h = tt
 
-pub behind_refuses : (f : Front) (s : Source) (gs : List Given) (owner : Spot) → IsCause f (behind_variables s gs owner (around_of s gs owner))
-    → IsRefused f s gs owner
-behind_refuses (front.Refused r) s gs owner h = behind_told s gs owner (found_of r) h
-behind_refuses front.Memory s gs owner h = tt
+behind_refuses : (f : Front) (ps : List Place) (s : Source) (gs : List Given) (owner : Spot) → (all_valued s gs owner).breaks ≡ map inconstant ps
+    → IsCause f (behind_variables s gs owner (around_of s gs owner)) → IsRefused (said_first (first_in ps) f) s gs owner
+behind_refuses (front.Refused r) [] s gs owner e h = behind_told s gs owner (found_of r) e h
+behind_refuses (front.Refused r) (p ∷ ps) s gs owner e h = go (r.rule.0 == not_constant.0) refl
+  where
+    go : (b : Bool) → (r.rule.0 == not_constant.0) ≡ b → IsRefused (if b then not_constant_at p else front.Refused r) s gs owner
+    go true i = variable_told p s gs owner (subst (λ fs. Contains fs (inconstant p)) (sym e) (at-head (inconstant p) (inconstant p) (map inconstant ps) refl))
+    go false i = inl (inl (behind_break s gs owner (around_of s gs owner) (found_of r) (other _ _ i) (other _ _ i) h))
+behind_refuses front.Memory [] s gs owner e h = tt
+behind_refuses front.Memory (p ∷ ps) s gs owner e h = tt
 
-pub given_refuses : (f : Front) (s : Source) (gs : List Given) (owner : Spot) → IsCause f (wrongly_given s gs) → IsRefused f s gs owner
-given_refuses (front.Refused r) s gs owner h = behind_told s gs owner (found_of r) (given_breaks s gs owner (around_of s gs owner) (found_of r) h)
-given_refuses front.Memory s gs owner h = tt
+pub given_refuses : (f : Front) (s : Source) (gs : List Given) (owner : Spot) → IsCause f (wrongly_given s gs) → SaysRule f → IsRefused f s gs owner
+given_refuses (front.Refused r) s gs owner h said =
+    inl (inl (behind_break s gs owner (around_of s gs owner) (found_of r) (other _ _ said) (other _ _ said) (given_breaks s gs owner (around_of s gs owner) (found_of r) h)))
+given_refuses front.Memory s gs owner h said = tt
 
-pub header_refuses : (f : Front) (s : Source) (gs : List Given) (owner : Spot) → IsCause f (header_over s (header_names s gs owner)) → IsRefused f s gs owner
-header_refuses (front.Refused r) s gs owner h = behind_told s gs owner (found_of r) (header_breaks s gs owner (around_of s gs owner) (found_of r) h)
-header_refuses front.Memory s gs owner h = tt
+header_behind : (f : Front) (s : Source) (gs : List Given) (owner : Spot) → IsCause f (header_over s (header_names s gs owner))
+    → IsCause f (behind_variables s gs owner (around_of s gs owner))
+header_behind (front.Refused r) s gs owner h = header_breaks s gs owner (around_of s gs owner) (found_of r) h
+header_behind front.Memory s gs owner h = tt
 
-pub members_refuse : (f : Front) (s : Source) (gs : List Given) (owner : Spot) → header_over s (header_names s gs owner) ≡ [] → (all_valued s gs owner).whole ≡ true
+pub header_refuses : (f g : Front) (noted : Option Place) (ps : List Place) (s : Source) (gs : List Given) (owner : Spot) → noted ≡ first_in ps
+    → (all_valued s gs owner).breaks ≡ map inconstant ps → f ≡ said_first noted g → IsCause g (header_over s (header_names s gs owner)) → IsRefused f s gs owner
+header_refuses f g noted ps s gs owner first e says h =
+    subst (λ x. IsRefused x s gs owner) (sym (says ∙ ap (λ o. said_first o g) first)) (behind_refuses g ps s gs owner e (header_behind g s gs owner h))
+
+members_behind : (f : Front) (s : Source) (gs : List Given) (owner : Spot) → header_over s (header_names s gs owner) ≡ [] → (all_valued s gs owner).whole ≡ true
+    → IsCause f (members_found s (around_of s gs owner) (actor_given s gs owner) true) → IsCause f (behind_variables s gs owner (around_of s gs owner))
+members_behind (front.Refused r) s gs owner header whole h =
+    members_break s gs owner (around_of s gs owner) (found_of r) header
+    (subst (λ w. Contains (members_found s (around_of s gs owner) (actor_given s gs owner) w) (found_of r)) (sym whole) h)
+members_behind front.Memory s gs owner header whole h = tt
+
+clash : true ≡ false → ⊥
+clash h = cc
+
+-- an action above itself is said in any case
+cycle_refuses : (f : Front) (o : Option Place) (s : Source) (gs : List Given) (owner : Spot) → IsCycleIn f s.file (members_of s.actor) (actor_given s gs owner)
+    → IsRefused (said_first o f) s gs owner
+cycle_refuses (front.Refused r) None s gs owner h = inl (inr h)
+cycle_refuses (front.Refused r) (Some p) s gs owner h = go (r.rule.0 == not_constant.0) refl
+  where
+    go : (b : Bool) → (r.rule.0 == not_constant.0) ≡ b → IsRefused (if b then not_constant_at p else front.Refused r) s gs owner
+    go true i = absurd (clash (sym i ∙ ap (λ x. x.0 == not_constant.0) h.2))
+    go false i = inl (inr h)
+cycle_refuses front.Memory None s gs owner h = tt
+cycle_refuses front.Memory (Some p) s gs owner h = tt
+
+pub members_refuse : (f : Front) (noted : Option Place) (ps : List Place) (s : Source) (gs : List Given) (owner : Spot) → noted ≡ first_in ps
+    → (all_valued s gs owner).breaks ≡ map inconstant ps → header_over s (header_names s gs owner) ≡ [] → (all_valued s gs owner).whole ≡ true
     → IsCause f (members_found s (around_of s gs owner) (actor_given s gs owner) true) ⊎ IsCycleIn f s.file (members_of s.actor) (actor_given s gs owner)
-    → IsRefused f s gs owner
-members_refuse (front.Refused r) s gs owner header whole (inl h) =
-    behind_told s gs owner (found_of r) (members_break s gs owner (around_of s gs owner) (found_of r) header
-    (subst (λ w. Contains (members_found s (around_of s gs owner) (actor_given s gs owner) w) (found_of r)) (sym whole) h))
-members_refuse (front.Refused r) s gs owner header whole (inr h) = inl (inr h)
-members_refuse front.Memory s gs owner header whole h = tt
+    → IsRefused (said_first noted f) s gs owner
+members_refuse f noted ps s gs owner first e header whole (inl h) =
+    subst (λ o. IsRefused (said_first o f) s gs owner) (sym first) (behind_refuses f ps s gs owner e (members_behind f s gs owner header whole h))
+members_refuse f noted ps s gs owner first e header whole (inr h) = cycle_refuses f noted s gs owner h
 
 -- ---- nothing behind the variables is broken
 

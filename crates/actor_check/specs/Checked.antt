@@ -19,11 +19,12 @@ found_of r = record {
 }
 
 -- What isn't constant there is broken, so the actor doesn't conform; but another rule may be said in its place, since
--- some head breaks one, or a variable has no value of use.
+-- some head breaks one, or a variable has no value of use and none isn't constant.
 pub record IsUnsaid (s : Source) (gs : List Given) (owner : Spot) (f : Found) : Type 0 where
   pub broken : Contains (all_found s gs owner (around_of s gs owner)) f
   pub rule : f.violation.rule ≡ not_constant
-  pub unsaid : (has_heads s (around_of s gs owner) ≡ false) ⊎ ((all_valued s gs owner).useless ≡ true)
+  pub unsaid : (has_heads s (around_of s gs owner) ≡ false)
+      ⊎ (((all_valued s gs owner).useless ≡ true) × ((all_valued s gs owner).breaks ≡ []))
 
 -- a rule that the actor breaks, where it does, or the case that can't be told from it
 abbrev pub IsRefused : Front → Source → List Given → Spot → Type 0

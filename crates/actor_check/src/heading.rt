@@ -2,19 +2,21 @@
 
 ghost use Rattle.std.specs.Prelude.{◌≡◌};
 ghost use Rattle.const_eval.specs.Held.{names_in};
+ghost use Rattle.actor_check.specs.Members.{TellsHeader};
 ghost use Rattle.actor_check.specs.Phases.{FindsHeader};
 ghost use Rattle.actor_check.specs.Sources.{source_in};
 
 use crate::fault::in_file;
+use crate::said::said_first;
 use cal_check::what_breaks_no_rule_is_sound;
 use cal_imports::Scope;
 use const_eval::{Env, Names};
-use rvc_base::Front;
+use rvc_base::{Front, Place};
 use std::alloc::Global;
 use variable_check::{Header, header_ports};
 
 /// The ports of an actor, over the names that its header sees.
-pub(crate) fn header_of(alloc: Global, seen: &Env, scope: &Scope) -> Result<Header, Front>
+fn header_of(alloc: Global, seen: &Env, scope: &Scope) -> Result<Header, Front>
     ensures { FindsHeader result (source_in scope.now) (names_in seen.now) }
 {
     what_breaks_no_rule_is_sound();
@@ -22,5 +24,21 @@ pub(crate) fn header_of(alloc: Global, seen: &Env, scope: &Scope) -> Result<Head
     match header_ports(&names, &scope.actor.ins, &scope.actor.outs, scope.actor.at) {
         Ok(header) => Ok(header),
         Err(fault) => Err(in_file(scope.file, fault)),
+    }
+}
+
+/// The same; where something isn't constant, that is said of the variables before, of which the first that isn't constant
+/// stands there.
+pub(crate) fn header_told(
+    alloc: Global,
+    seen: &Env,
+    scope: &Scope,
+    noted: Option<Place>,
+) -> Result<Header, Front>
+    ensures { TellsHeader result noted (source_in scope.now) (names_in seen.now) }
+{
+    match header_of(alloc, seen, scope) {
+        Ok(header) => Ok(header),
+        Err(fault) => Err(said_first(noted, fault)),
     }
 }

@@ -10,6 +10,7 @@ mod heading;
 mod inside;
 mod keeping;
 mod routines;
+mod said;
 mod scalars;
 mod values;
 mod whole;

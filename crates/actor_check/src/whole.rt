@@ -9,32 +9,25 @@ ghost use Rattle.variable_check.specs.Valuing.{IsValued};
 ghost use Rattle.variable_check.specs.Views.{all_given, spot_of};
 ghost use Rattle.actor_check.specs.Checked.{IsChecked, IsComplete};
 ghost use Rattle.actor_check.specs.Early.{wrongly_given};
-ghost use Rattle.actor_check.specs.Members.{FindsMembers, Settles, not_constant_at, place_left};
+ghost use Rattle.actor_check.specs.Members.{FindsMembers};
 ghost use Rattle.actor_check.specs.Parts.{header_names};
 ghost use Rattle.actor_check.specs.Phases.{IsHeaderOf};
 ghost use Rattle.actor_check.specs.Sources.{source_in};
 
 use crate::collect::declared_funs;
 use crate::early::{check_given, early_values};
-use crate::heading::header_of;
+use crate::heading::header_told;
 use crate::inside::actor_inside;
 use crate::routines::routines_of;
+use crate::said::{said_first, settled, untyped};
 use cal_imports::Scope;
 use cal_model::Bound;
 use const_eval::Names;
 use fnl_tree::LeafValue;
-use rvc_base::{Front, Place, Refusal, Rule};
+use rvc_base::{Front, Place};
 use seen_names::names_at_rest;
 use std::alloc::Global;
 use variable_check::{Header, Told, Valued};
-
-/// Something at a place isn't constant.
-fn not_constant(place: Place) -> Front
-    ensures { result ≡ not_constant_at place }
-{
-    let rule = Rule::NOT_CONSTANT;
-    Front::Refused(Refusal { rule, place })
-}
 
 /// The actor of a header that breaks no rule, if all its variables have types.
 fn members_of(told: Told<'_>, scope: &Scope, values: Valued, header: Header) -> Result<Bound, Front>
@@ -54,26 +47,6 @@ fn members_of(told: Told<'_>, scope: &Scope, values: Valued, header: Header) -> 
     actor_inside(&names, told.funs, scope, values.held, header, routines)
 }
 
-/// What is left to say of an actor whose variables have types and whose members break no rule.
-fn settled(rest: Option<Place>, found: Bound) -> Result<Bound, Front>
-    ensures { Settles rest found result }
-{
-    match rest {
-        Some(place) => Err(not_constant(place)),
-        None => Ok(found),
-    }
-}
-
-/// What is said of an actor some of whose variables have no type.
-fn untyped(rest: Option<Place>, owner: Place) -> Front
-    ensures { result ≡ not_constant_at (place_left rest owner) }
-{
-    match rest {
-        Some(place) => not_constant(place),
-        None => not_constant(owner),
-    }
-}
-
 /// The actor of a header that breaks no rule.
 fn check_members(
     told: Told<'_>,
@@ -91,12 +64,15 @@ fn check_members(
         (all_valued (source_in scope.now) (all_given told.given.now) (spot_of told.owner)) }
     ensures { IsChecked result (source_in scope.now) (all_given told.entry.given.now) (spot_of told.entry.owner) }
 {
+    let noted = values.first_broken();
     let rest = values.not_constant();
     if !values.whole {
         return Err(untyped(rest, told.owner));
     }
-    let found = members_of(told, scope, values, header)?;
-    settled(rest, found)
+    match members_of(told, scope, values, header) {
+        Ok(found) => settled(rest, found),
+        Err(fault) => Err(said_first(noted, fault)),
+    }
 }
 
 /// The same, over the functions that are declared.
@@ -107,7 +83,8 @@ fn check_told(told: Told<'_>, scope: &Scope) -> Result<Bound, Front>
 {
     let early = early_values(told, scope)?;
     check_given(told, scope)?;
-    let header = header_of(told.alloc, &early.header, scope)?;
+    let noted = early.values.first_broken();
+    let header = header_told(told.alloc, &early.header, scope, noted)?;
     check_members(told, scope, early.values, header)
 }
 

@@ -1,7 +1,7 @@
-use Rattle.std.proofs.Common.{◌≡◌, Err, false, true, sym, subst, ◌∙◌, rules}
+use Rattle.std.proofs.Common.{◌≡◌, false, true, sym, subst, ◌∙◌, rules}
 use Rattle.cal_check.specs.Actors.{all_valued, declared_vars}
 use Rattle.variable_check.specs.Views.{all_given, spot_of}
-use Rattle.actor_check.specs.Checked.{IsChecked, IsRefused}
+use Rattle.actor_check.specs.Checked.{IsRefused}
 use Rattle.actor_check.specs.Sources.{source_in}
 use Rattle.actor_check.proofs.Telling.{members_refuse, members_settle, untyped_refuses}
 use Rattle.actor_check.proofs.whole.check_members.Goals as goal
@@ -17,22 +17,21 @@ returns-then-not-values c =
     (c.not_constant-rest.ensures (declared_vars s) owner (all_valued s gs owner) c.requires.values c.requires.distinct)
     c.requires.given c.requires.header.fine (sym c.requires.values.whole ∙ lacks))
 
-pub returns-in_err-found : goal.returns-in_err-found
-returns-in_err-found c =
-    let f = c.in_err-found.field-0.0 in
+pub returns-in-Err : goal.returns-in-Err
+returns-in-Err c =
     let s = source_in c.args.scope.now in
     let gs = all_given c.args.told.given.now in
     let owner = spot_of c.args.told.owner in
-    let same : c.from_residual.result ≡ Err f = search rules in
     let whole : c.args.values.whole ≡ true = search rules in
-    subst (λ r. IsChecked r s gs owner) (sym same)
-    (members_refuse f s gs owner c.requires.header.fine (sym c.requires.values.whole ∙ whole) c.in_err-found.ensures)
+    subst (λ f. IsRefused f s gs owner) (sym c.said_first.ensures)
+    (members_refuse c.in-Err.fault c.first_broken-noted.result c.args.values.broken.items s gs owner c.first_broken-noted.ensures c.requires.values.breaks
+    c.requires.header.fine (sym c.requires.values.whole ∙ whole) c.in-Err.ensures)
 
-pub returns : goal.returns
-returns c =
+pub returns-in-Ok : goal.returns-in-Ok
+returns-in-Ok c =
     let s = source_in c.args.scope.now in
     let gs = all_given c.args.told.given.now in
     let owner = spot_of c.args.told.owner in
-    members_settle c.in_ok-found.found c.args.values.broken.items c.not_constant-rest.result c.settled.result s gs owner c.requires.values.breaks
+    members_settle c.in-Ok.found c.args.values.broken.items c.not_constant-rest.result c.settled.result s gs owner c.requires.values.breaks
     (c.not_constant-rest.ensures (declared_vars s) owner (all_valued s gs owner) c.requires.values c.requires.distinct)
-    c.requires.given c.requires.header.fine c.in_ok-found.ensures c.settled.ensures
+    c.requires.given c.requires.header.fine c.in-Ok.ensures c.settled.ensures

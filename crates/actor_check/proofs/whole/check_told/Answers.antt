@@ -36,7 +36,8 @@ returns-in_err-check_given c =
     let gs = all_given c.args.told.given.now in
     let owner = spot_of c.args.told.owner in
     let same : c.from_residual-in_err-check_given.result ≡ Err f = search rules in
-    subst (λ r. IsChecked r s gs owner) (sym same) (given_refuses f s gs owner c.in_err-check_given.ensures)
+    subst (λ r. IsChecked r s gs owner) (sym same)
+    (given_refuses f s gs owner c.in_err-check_given.ensures.found c.in_err-check_given.ensures.said)
 
 pub returns-in_err-header : goal.returns-in_err-header
 returns-in_err-header c =
@@ -45,5 +46,7 @@ returns-in_err-header c =
     let gs = all_given c.args.told.given.now in
     let owner = spot_of c.args.told.owner in
     let same : c.from_residual-in_err-header.result ≡ Err f = search rules in
+    let told = c.in_err-header.ensures in
     subst (λ r. IsChecked r s gs owner) (sym same)
-    (header_refuses f s gs owner (subst (λ n. IsCause f (header_over s n)) c.in_ok-early.ensures.header c.in_err-header.ensures))
+    (header_refuses f told.0 c.first_broken-noted.result c.in_ok-early.early.values.broken.items s gs owner c.first_broken-noted.ensures c.in_ok-early.ensures.values.breaks
+    told.1 (subst (λ n. IsCause told.0 (header_over s n)) c.in_ok-early.ensures.header told.2))
