@@ -72,6 +72,72 @@ shown hides b e = ap (λ h. h && b) e
 abbrev Told : Source → List Given → Spot → Found → Type 0
 Told s gs owner f = IsViolated s gs owner f ⊎ IsUnsaid s gs owner f
 
+all_are_said : (fs : List Found) → all_said false fs ≡ fs
+all_are_said [] = refl
+all_are_said (f ∷ fs) = ap (λ gs. f ∷ gs) (all_are_said fs)
+
+clash : true ≡ false → ⊥
+clash h = cc
+
+same_head : (f g : Found) (fs gs : List Found) → f ∷ fs ≡ g ∷ gs → f ≡ g
+same_head f g fs gs h = cc
+
+-- the first that is said while another hides what isn't constant
+first_other : (fs : List Found) (g : Found) (gs : List Found) → all_said true fs ≡ g ∷ gs → (g.violation.rule.0 == not_constant.0) ≡ false
+first_other [] g gs h = cc
+first_other (f ∷ fs) g gs h = go (f.violation.rule.0 == not_constant.0) refl h (λ i. first_other fs g gs i)
+  where
+    go : (b : Bool) → (f.violation.rule.0 == not_constant.0) ≡ b → (if b then all_said true fs else f ∷ all_said true fs) ≡ g ∷ gs
+        → (all_said true fs ≡ g ∷ gs → (g.violation.rule.0 == not_constant.0) ≡ false) → (g.violation.rule.0 == not_constant.0) ≡ false
+    go true e i k = k i
+    go false e i k = subst (λ x. (x.violation.rule.0 == not_constant.0) ≡ false) (same_head f g (all_said true fs) gs i) e
+
+other_said : (hides useless : Bool) (breaks behind : List Found) (g : Found) (gs : List Found) → all_said hides (breaks ++ all_said useless behind) ≡ g ∷ gs
+    → (hides ≡ true) ⊎ ((useless ≡ true) × (breaks ≡ [])) → (g.violation.rule.0 == not_constant.0) ≡ false
+other_said true useless breaks behind g gs e i = first_other (breaks ++ all_said useless behind) g gs e
+other_said false useless breaks behind g gs e (inl i) = absurd (clash (sym i))
+other_said false useless breaks behind g gs e (inr (u, none)) =
+    let all : all_said false (breaks ++ all_said useless behind) ≡ all_said true behind =
+    all_are_said (breaks ++ all_said useless behind) ∙ ap (λ bs. bs ++ all_said useless behind) none ∙ ap (λ b. all_said b behind) u in
+    first_other behind g gs (sym all ∙ e)
+
+-- what isn't constant is said, or another rule in its place
+said_or_another : (s : Source) (gs : List Given) (owner : Spot) (f : Found) → Contains (all_found s gs owner (around_of s gs owner)) f → f.violation.rule ≡ not_constant
+    → (has_heads s (around_of s gs owner) ≡ false) ⊎ (((all_valued s gs owner).useless ≡ true) × ((all_valued s gs owner).breaks ≡ []))
+    → Told s gs owner f
+said_or_another s gs owner f h rule unsaid = go (all_said hides (breaks ++ all_said useless behind)) refl
+  where
+    hides : Bool
+    hides = not (has_heads s (around_of s gs owner))
+
+    useless : Bool
+    useless = (all_valued s gs owner).useless
+
+    breaks : List Found
+    breaks = (all_valued s gs owner).breaks
+
+    behind : List Found
+    behind = behind_variables s gs owner (around_of s gs owner)
+
+    others : List Found
+    others = said_or_all (all_found s gs owner (around_of s gs owner)) (valueless (declared_vars s) owner (all_valued s gs owner))
+
+    hidden : (has_heads s (around_of s gs owner) ≡ false) ⊎ ((useless ≡ true) × (breaks ≡ [])) → (hides ≡ true) ⊎ ((useless ≡ true) × (breaks ≡ []))
+    hidden (inl i) = inl (ap not i)
+    hidden (inr i) = inr i
+
+    go : (first : List Found) → all_said hides (breaks ++ all_said useless behind) ≡ first → Told s gs owner f
+    go [] e = inl (inl (subst (λ fs. Contains (said_or_all fs others) f) (sym e)
+        (first_said (all_found s gs owner (around_of s gs owner)) (valueless (declared_vars s) owner (all_valued s gs owner)) f h)))
+    go (g ∷ first) e = inr (record {
+      broken = h;
+      rule = rule;
+      unsaid = unsaid;
+      instead = g;
+      violated = inl (subst (λ fs. Contains (said_or_all fs others) g) (sym e) (at-head g g first refl));
+      another = other_said hides useless breaks behind g first e (hidden unsaid);
+    })
+
 behind_told : (s : Source) (gs : List Given) (owner : Spot) (f : Found) → (all_valued s gs owner).breaks ≡ []
     → Contains (behind_variables s gs owner (around_of s gs owner)) f → Told s gs owner f
 behind_told s gs owner f none h =
@@ -80,11 +146,8 @@ behind_told s gs owner f none h =
     unsaid : (f.violation.rule.0 == not_constant.0) ≡ true
         → (has_heads s (around_of s gs owner) ≡ false) ⊎ (((all_valued s gs owner).useless ≡ true) × ((all_valued s gs owner).breaks ≡ []))
         → Told s gs owner f
-    unsaid e i = inr (record {
-      broken = Contains-append_right (all_valued s gs owner).breaks (behind_variables s gs owner (around_of s gs owner)) f h;
-      rule = rule_of f.violation.rule e;
-      unsaid = i;
-    })
+    unsaid e i =
+        said_or_another s gs owner f (Contains-append_right (all_valued s gs owner).breaks (behind_variables s gs owner (around_of s gs owner)) f h) (rule_of f.violation.rule e) i
 
     go : (b heads useless : Bool) → (f.violation.rule.0 == not_constant.0) ≡ b → has_heads s (around_of s gs owner) ≡ heads → (all_valued s gs owner).useless ≡ useless
         → Told s gs owner f
@@ -99,11 +162,8 @@ variable_told p s gs owner h = go (has_heads s (around_of s gs owner)) refl
   where
     go : (heads : Bool) → has_heads s (around_of s gs owner) ≡ heads → Told s gs owner (inconstant p)
     go true i = inl (inl (variables_break s gs owner (around_of s gs owner) (inconstant p) (shown _ _ (ap not i)) h))
-    go false i = inr (record {
-      broken = Contains-append_left (all_valued s gs owner).breaks (behind_variables s gs owner (around_of s gs owner)) (inconstant p) h;
-      rule = refl;
-      unsaid = inl i;
-    })
+    go false i =
+        said_or_another s gs owner (inconstant p) (Contains-append_left (all_valued s gs owner).breaks (behind_variables s gs owner (around_of s gs owner)) (inconstant p) h) refl (inl i)
 
 -- ---- what the parts break
 
@@ -145,9 +205,6 @@ members_behind (front.Refused r) s gs owner header whole h =
     (subst (λ w. Contains (members_found s (around_of s gs owner) (actor_given s gs owner) w) (found_of r)) (sym whole) h)
 members_behind front.Memory s gs owner header whole h = tt
 
-clash : true ≡ false → ⊥
-clash h = cc
-
 -- an action above itself is said in any case
 cycle_refuses : (f : Front) (o : Option Place) (s : Source) (gs : List Given) (owner : Spot) → IsCycleIn f s.file (members_of s.actor) (actor_given s gs owner)
     → IsRefused (said_first o f) s gs owner
@@ -174,10 +231,6 @@ none_said : (fs : List Found) → Each (λ f. f.violation.rule ≡ not_constant)
 none_said [] h = refl
 none_said (f ∷ fs) h =
     ap (λ r. if r.0 == not_constant.0 then all_said true fs else f ∷ all_said true fs) h.0 ∙ none_said fs h.1
-
-all_are_said : (fs : List Found) → all_said false fs ≡ fs
-all_are_said [] = refl
-all_are_said (f ∷ fs) = ap (λ gs. f ∷ gs) (all_are_said fs)
 
 twice_said : (fs others : List Found) → said_or_all fs (said_or_all fs others) ≡ said_or_all fs others
 twice_said [] others = refl

@@ -1,6 +1,6 @@
 -- What the check of a whole actor answers.
 -- Trusted: part of what a promise means.
-use Rattle.std.specs.Prelude.{◌≡◌, ◌⊎◌, false, true, List, [], Contains}
+use Rattle.std.specs.Prelude.{◌≡◌, ◌⊎◌, false, true, List, [], Contains, ◌==◌}
 use Rattle.std.specs.declared.result.Result.{Result}
 use Rattle.std.specs.declared.result.Result.TheVariants.{Ok, Err}
 use Rattle.rvc_base.specs.Rules.{not_constant}
@@ -18,15 +18,18 @@ found_of r = record {
   file = r.place.file;
 }
 
--- What isn't constant there is broken, so the actor doesn't conform; but another rule may be said in its place, since
--- some head breaks one, or a variable has no value of use and none isn't constant.
+-- What isn't constant there is broken, so the actor doesn't conform; but another rule is said in its place: some head
+-- breaks one, or a variable has no value of use and none isn't constant.
 pub record IsUnsaid (s : Source) (gs : List Given) (owner : Spot) (f : Found) : Type 0 where
   pub broken : Contains (all_found s gs owner (around_of s gs owner)) f
   pub rule : f.violation.rule ≡ not_constant
   pub unsaid : (has_heads s (around_of s gs owner) ≡ false)
       ⊎ (((all_valued s gs owner).useless ≡ true) × ((all_valued s gs owner).breaks ≡ []))
+  pub instead : Found
+  pub violated : IsViolated s gs owner instead
+  pub another : (instead.violation.rule.0 == not_constant.0) ≡ false
 
--- a rule that the actor breaks, where it does, or the case that can't be told from it
+-- a rule that the actor breaks, where it does, or what isn't constant while another rule is said in its place
 abbrev pub IsRefused : Front → Source → List Given → Spot → Type 0
 IsRefused (front.Refused r) s gs owner =
     IsViolated s gs owner (found_of r) ⊎ IsUnsaid s gs owner (found_of r)
