@@ -1,6 +1,5 @@
 mod Causes
 mod Heads
-mod Sifted
 mod Behind
 mod Chain
 mod Counts

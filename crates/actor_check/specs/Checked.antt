@@ -1,16 +1,15 @@
 -- What the check of a whole actor answers.
 -- Trusted: part of what a promise means.
-use Rattle.std.specs.Prelude.{◌≡◌, ◌⊎◌, true, List, [], Contains}
+use Rattle.std.specs.Prelude.{◌≡◌, ◌⊎◌, false, true, List, [], Contains, ◌==◌}
 use Rattle.std.specs.declared.result.Result.{Result}
 use Rattle.std.specs.declared.result.Result.TheVariants.{Ok, Err}
 use Rattle.rvc_base.specs.Rules.{not_constant}
 use Rattle.rvc_base.specs.declared.refusal.Front.{Front}
 use Rattle.rvc_base.specs.declared.refusal.Front.TheVariants as front
 use Rattle.rvc_base.specs.declared.refusal.Refusal.{Refusal}
-use Rattle.cal_model.specs.Sound.{Each}
 use Rattle.cal_model.specs.View.{actor_of}
 use Rattle.cal_model.specs.declared.bound.Bound.{Bound}
-use Rattle.cal_check.specs.Actors.{IsSource, IsViolated, Source, all_valued, around_of, behind_variables, has_heads}
+use Rattle.cal_check.specs.Actors.{Conforms, IsSource, IsViolated, Source, all_found, all_valued, around_of, has_heads}
 use Rattle.cal_check.specs.Variables.{Found, Given, Spot}
 
 abbrev pub found_of : Refusal → Found
@@ -19,29 +18,29 @@ found_of r = record {
   file = r.place.file;
 }
 
--- What isn't constant there is broken behind the variables, so the actor doesn't conform. But a variable has no value of
--- use, and it isn't known whether its start breaks the same rule, which is said in place of this one then.
+-- What isn't constant there is broken, so the actor doesn't conform; but another rule is said in its place: some head
+-- breaks one, or a variable has no value of use and none isn't constant.
 pub record IsUnsaid (s : Source) (gs : List Given) (owner : Spot) (f : Found) : Type 0 where
-  pub broken : Contains (behind_variables s gs owner (around_of s gs owner)) f
+  pub broken : Contains (all_found s gs owner (around_of s gs owner)) f
   pub rule : f.violation.rule ≡ not_constant
-  pub heads : has_heads s (around_of s gs owner) ≡ true
-  pub useless : (all_valued s gs owner).useless ≡ true
+  pub unsaid : (has_heads s (around_of s gs owner) ≡ false)
+      ⊎ (((all_valued s gs owner).useless ≡ true) × ((all_valued s gs owner).breaks ≡ []))
+  pub instead : Found
+  pub violated : IsViolated s gs owner instead
+  pub another : (instead.violation.rule.0 == not_constant.0) ≡ false
 
--- Nothing is broken but perhaps that starts aren't constant, one of which is the default of a parameter that is given a
--- value, and it isn't known whether that default is constant.
-pub record IsDefaulted (s : Source) (gs : List Given) (owner : Spot) (f : Found) : Type 0 where
-  pub rule : f.violation.rule ≡ not_constant
-  pub behind : behind_variables s gs owner (around_of s gs owner) ≡ []
-  pub only : Each (λ g. g.violation.rule ≡ not_constant) (all_valued s gs owner).breaks
-
--- a rule that the actor breaks, where it does, or one of the two cases that can't be told from it
+-- a rule that the actor breaks, where it does, or what isn't constant while another rule is said in its place
 abbrev pub IsRefused : Front → Source → List Given → Spot → Type 0
 IsRefused (front.Refused r) s gs owner =
-    IsViolated s gs owner (found_of r)
-    ⊎ (IsUnsaid s gs owner (found_of r) ⊎ IsDefaulted s gs owner (found_of r))
+    IsViolated s gs owner (found_of r) ⊎ IsUnsaid s gs owner (found_of r)
 IsRefused front.Memory s gs owner = Unit {0}
 
 -- exactly the source actor, or why there is none; running out of memory says nothing
 abbrev pub IsChecked : Result Bound Front → Source → List Given → Spot → Type 0
 IsChecked (Ok b) s gs owner = IsSource s gs owner (actor_of b)
 IsChecked (Err f) s gs owner = IsRefused f s gs owner
+
+-- an actor that conforms is given: it is never refused
+abbrev pub IsComplete : Result Bound Front → Source → List Given → Spot → Type 0
+IsComplete result s gs owner =
+    (r : Refusal) → result ≡ Err (front.Refused r) → Conforms s gs owner → ⊥

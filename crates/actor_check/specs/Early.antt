@@ -1,18 +1,16 @@
 -- What the variables of an actor come to, and what is left to say of them.
 -- Not trusted: no promise is read with it.
-use Rattle.std.specs.Prelude.{◌≡◌, List, [], ◌++◌, Contains}
+use Rattle.std.specs.Prelude.{◌≡◌, List, [], ◌++◌}
 use Rattle.std.specs.declared.result.Result.{Result}
 use Rattle.std.specs.declared.result.Result.TheVariants.{Ok, Err}
 use Rattle.rvc_base.specs.declared.refusal.Front.{Front}
 use Rattle.const_eval.specs.Held.{names_in}
 use Rattle.cal_check.specs.Actors.{Source, all_valued, declared_vars, given_wrongly, params_in, params_of}
 use Rattle.cal_check.specs.Variables.{Found, Given, Spot, VarDecl}
-use Rattle.variable_check.specs.Causes.{IsCause, SaysRule, doubt}
+use Rattle.variable_check.specs.Causes.{IsCause, SaysRule}
 use Rattle.variable_check.specs.Valuing.{IsValued}
 use Rattle.actor_check.specs.Parts.{header_names}
 use Rattle.actor_check.specs.declared.early.Early.{Early}
-use Rattle.actor_check.specs.declared.rest.Rest.{Rest}
-use Rattle.actor_check.specs.declared.rest.Rest.TheVariants as rest
 
 -- what other files declare, and the parameters
 abbrev pub vars_before : Source → List VarDecl
@@ -30,9 +28,3 @@ pub record IsEarly (e : Early) (s : Source) (gs : List Given) (owner : Spot) : T
 abbrev pub FindsEarly : Result Early Front → Source → List Given → Spot → Type 0
 FindsEarly (Ok e) s gs owner = IsEarly e s gs owner
 FindsEarly (Err f) s gs owner = IsCause f (all_valued s gs owner).breaks × SaysRule f
-
--- what is said of variables if nothing else is broken; of what is in doubt it isn't known
-abbrev pub Leaves : Rest → List Found → Type 0
-Leaves rest.Nothing fs = fs ≡ []
-Leaves (rest.Lacking p) fs = Contains fs (doubt p)
-Leaves (rest.InDoubt p) fs = Unit {0}

@@ -1,7 +1,6 @@
 pub mod Sources
 pub mod Checking
 pub mod Phases
-pub mod Sifting
 pub mod Parts
 pub mod Early
 pub mod Members

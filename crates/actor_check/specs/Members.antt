@@ -1,22 +1,37 @@
 -- What the members of an actor come to, and what is left to say.
 -- Not trusted: no promise is read with it.
-use Rattle.std.specs.Prelude.{Option, None, Some, if◌then◌else◌, ◌≡◌, ◌⊎◌, List, []}
+use Rattle.std.specs.Prelude.{◌≡◌, ◌⊎◌, true, List, [], Option, None, Some, ◌==◌, if◌then◌else◌}
 use Rattle.std.specs.declared.result.Result.{Result}
 use Rattle.std.specs.declared.result.Result.TheVariants.{Ok, Err}
 use Rattle.rvc_base.specs.Rules.{not_constant}
 use Rattle.rvc_base.specs.declared.refusal.Front.{Front}
 use Rattle.rvc_base.specs.declared.refusal.Front.TheVariants as front
 use Rattle.rvc_base.specs.declared.refusal.Place.{Place}
+use Rattle.cal_model.specs.Kinding.{Names}
 use Rattle.cal_model.specs.declared.bound.Bound.{Bound}
-use Rattle.cal_check.specs.Actors.{Source, around_of, heads_found}
+use Rattle.cal_check.specs.Actors.{Source, actor_given, around_of, heads_found, members_found, members_of}
 use Rattle.cal_check.specs.Variables.{Given, Spot}
-use Rattle.actor_check.specs.Parts.{FindsInside, IsInside}
-use Rattle.actor_check.specs.Sifting.{IsFault, lacks}
-use Rattle.actor_check.specs.declared.rest.Rest.{Rest}
-use Rattle.actor_check.specs.declared.rest.Rest.TheVariants as rest
+use Rattle.variable_check.specs.Causes.{IsCause}
+use Rattle.variable_check.specs.declared.header.Header.{Header}
+use Rattle.actor_check.specs.Parts.{IsCycleIn, IsInside}
+use Rattle.actor_check.specs.Phases.{IsHeaderOf, header_over}
 
 abbrev pub not_constant_at : Place → Front
 not_constant_at p = front.Refused (record { rule = not_constant; place = p })
+
+-- What is said of a fault behind variables, of which the first that isn't constant stands there: where something isn't
+-- constant, that is said of the variables.
+abbrev pub said_first : Option Place → Front → Front
+said_first None f = f
+said_first (Some p) front.Memory = front.Memory
+said_first (Some p) (front.Refused r) =
+    if r.rule.0 == not_constant.0 then not_constant_at p else front.Refused r
+
+-- the ports of a header; where something isn't constant, that is said of the variables before
+abbrev pub TellsHeader : Result Header Front → Option Place → Source → Names → Type 0
+TellsHeader (Ok h) noted s names = IsHeaderOf h s names
+TellsHeader (Err f) noted s names =
+    (g : Front) × (f ≡ said_first noted g) × IsCause g (header_over s names)
 
 -- members that break no rule
 pub record AreMembers (found : Bound) (s : Source) (gs : List Given) (owner : Spot) : Type 0 where
@@ -25,20 +40,15 @@ pub record AreMembers (found : Bound) (s : Source) (gs : List Given) (owner : Sp
 
 abbrev pub FindsMembers : Result Bound Front → Source → List Given → Spot → Type 0
 FindsMembers (Ok found) s gs owner = AreMembers found s gs owner
-FindsMembers (Err f) s gs owner = IsFault f (heads_found s (around_of s gs owner).names)
-    ⊎ ((heads_found s (around_of s gs owner).names ≡ []) × FindsInside (Err f) s gs owner)
+FindsMembers (Err f) s gs owner =
+    IsCause f (members_found s (around_of s gs owner) (actor_given s gs owner) true)
+    ⊎ IsCycleIn f s.file (members_of s.actor) (actor_given s gs owner)
 
--- a fault, or what surely isn't constant if the fault is that something else isn't
-abbrev pub sure_first : Option Place → Front → Front
-sure_first None f = f
-sure_first (Some p) f = if lacks f then not_constant_at p else f
+-- where something isn't constant in the variables, or they break nothing
+abbrev pub Settles : Option Place → Bound → Result Bound Front → Type 0
+Settles None found result = result ≡ Ok found
+Settles (Some p) found result = result ≡ Err (not_constant_at p)
 
-abbrev pub Settles : Rest → Bound → Result Bound Front → Type 0
-Settles rest.Nothing found result = result ≡ Ok found
-Settles (rest.Lacking p) found result = result ≡ Err (not_constant_at p)
-Settles (rest.InDoubt p) found result = result ≡ Err (not_constant_at p)
-
-abbrev pub place_left : Rest → Place → Place
-place_left rest.Nothing owner = owner
-place_left (rest.Lacking p) owner = p
-place_left (rest.InDoubt p) owner = p
+abbrev pub place_left : Option Place → Place → Place
+place_left None owner = owner
+place_left (Some p) owner = p

@@ -1,9 +1,10 @@
 //! What the variables of an actor come to, and what its header sees.
 
-ghost use Rattle.std.specs.Prelude.{◌≡◌, true};
+ghost use Rattle.std.specs.Prelude.{◌≡◌, IfErr, true};
 ghost use Rattle.cal_check.specs.Actors.{all_funs, before_members};
 ghost use Rattle.const_eval.specs.Held.{names_in};
 ghost use Rattle.seen_names.specs.Known.{fun_decls, names_differ};
+ghost use Rattle.variable_check.specs.Causes.{SaysRule};
 ghost use Rattle.variable_check.specs.Valuing.{Finds, IsValued};
 ghost use Rattle.variable_check.specs.Views.{all_given, spot_of};
 ghost use Rattle.actor_check.specs.Early.{FindsEarly, vars_before, wrongly_given};
@@ -61,7 +62,8 @@ pub(crate) fn early_values(told: Told<'_>, scope: &Scope) -> Result<Early, Front
 
 /// That each value is given to a parameter, and none of these is given two.
 pub(crate) fn check_given(told: Told<'_>, scope: &Scope) -> Result<(), Front>
-    ensures { Finds result (wrongly_given (source_in scope.now) (all_given told.entry.given.now)) }
+    ensures found { Finds result (wrongly_given (source_in scope.now) (all_given told.entry.given.now)) }
+    ensures said { IfErr result (λ fault. SaysRule fault) }
 {
     let Ok(params) = declared_params(told.alloc, scope) else {
         return Err(Front::Memory);

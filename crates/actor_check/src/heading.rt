@@ -1,39 +1,44 @@
 //! The header of an actor.
 
 ghost use Rattle.std.specs.Prelude.{◌≡◌};
-ghost use Rattle.const_eval.specs.Counting.{names_view};
 ghost use Rattle.const_eval.specs.Held.{names_in};
+ghost use Rattle.actor_check.specs.Members.{TellsHeader};
 ghost use Rattle.actor_check.specs.Phases.{FindsHeader};
-ghost use Rattle.actor_check.specs.Sifting.{SiftsHeader};
 ghost use Rattle.actor_check.specs.Sources.{source_in};
 
 use crate::fault::in_file;
-use crate::sifting::header_fault;
+use crate::said::said_first;
 use cal_check::what_breaks_no_rule_is_sound;
 use cal_imports::Scope;
 use const_eval::{Env, Names};
-use rvc_base::Front;
+use rvc_base::{Front, Place};
 use std::alloc::Global;
 use variable_check::{Header, header_ports};
 
 /// The ports of an actor, over the names that its header sees.
-fn first_header(names: &Names, scope: &Scope) -> Result<Header, Front>
-    ensures { FindsHeader result (source_in scope.now) (names_view names.now) }
+fn header_of(alloc: Global, seen: &Env, scope: &Scope) -> Result<Header, Front>
+    ensures { FindsHeader result (source_in scope.now) (names_in seen.now) }
 {
     what_breaks_no_rule_is_sound();
-    match header_ports(names, &scope.actor.ins, &scope.actor.outs, scope.actor.at) {
+    let names = Names::outermost(alloc, seen);
+    match header_ports(&names, &scope.actor.ins, &scope.actor.outs, scope.actor.at) {
         Ok(header) => Ok(header),
         Err(fault) => Err(in_file(scope.file, fault)),
     }
 }
 
-/// The same. What isn't constant there is a fault only if the header breaks nothing else.
-pub(crate) fn header_of(alloc: Global, seen: &Env, scope: &Scope) -> Result<Header, Front>
-    ensures { SiftsHeader result (source_in scope.now) (names_in seen.now) }
+/// The same; where something isn't constant, that is said of the variables before, of which the first that isn't constant
+/// stands there.
+pub(crate) fn header_told(
+    alloc: Global,
+    seen: &Env,
+    scope: &Scope,
+    noted: Option<Place>,
+) -> Result<Header, Front>
+    ensures { TellsHeader result noted (source_in scope.now) (names_in seen.now) }
 {
-    let names = Names::outermost(alloc, seen);
-    match first_header(&names, scope) {
+    match header_of(alloc, seen, scope) {
         Ok(header) => Ok(header),
-        Err(fault) => Err(header_fault(&names, scope, fault)),
+        Err(fault) => Err(said_first(noted, fault)),
     }
 }

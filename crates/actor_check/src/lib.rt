@@ -9,10 +9,9 @@ mod fault;
 mod heading;
 mod inside;
 mod keeping;
-mod rest;
 mod routines;
+mod said;
 mod scalars;
-mod sifting;
 mod values;
 mod whole;
 

@@ -7,49 +7,27 @@ ghost use Rattle.cal_model.specs.Sound.{AreDistinct};
 ghost use Rattle.seen_names.specs.Known.{fun_decls, names_differ};
 ghost use Rattle.variable_check.specs.Valuing.{IsValued};
 ghost use Rattle.variable_check.specs.Views.{all_given, spot_of};
-ghost use Rattle.actor_check.specs.Checked.{IsChecked};
+ghost use Rattle.actor_check.specs.Checked.{IsChecked, IsComplete};
 ghost use Rattle.actor_check.specs.Early.{wrongly_given};
-ghost use Rattle.actor_check.specs.Members.{FindsMembers, Settles, not_constant_at, place_left, sure_first};
+ghost use Rattle.actor_check.specs.Members.{FindsMembers};
 ghost use Rattle.actor_check.specs.Parts.{header_names};
 ghost use Rattle.actor_check.specs.Phases.{IsHeaderOf};
 ghost use Rattle.actor_check.specs.Sources.{source_in};
 
 use crate::collect::declared_funs;
 use crate::early::{check_given, early_values};
-use crate::heading::header_of;
+use crate::heading::header_told;
 use crate::inside::actor_inside;
-use crate::rest::{Rest, rest_of};
 use crate::routines::routines_of;
-use crate::sifting::lacks;
+use crate::said::{said_first, settled, untyped};
 use cal_imports::Scope;
 use cal_model::Bound;
 use const_eval::Names;
 use fnl_tree::LeafValue;
-use rvc_base::{Front, Place, Refusal, Rule};
+use rvc_base::{Front, Place};
 use seen_names::names_at_rest;
 use std::alloc::Global;
 use variable_check::{Header, Told, Valued};
-
-/// Something at a place isn't constant.
-fn not_constant(place: Place) -> Front
-    ensures { result ≡ not_constant_at place }
-{
-    let rule = Rule::NOT_CONSTANT;
-    Front::Refused(Refusal { rule, place })
-}
-
-/// A fault; or what surely isn't constant of the variables, if the fault is that something else isn't.
-fn sure_first(sure: Option<Place>, fault: Front) -> Front
-    ensures { result ≡ sure_first sure fault }
-{
-    let Some(place) = sure else {
-        return fault;
-    };
-    if lacks(fault) {
-        return not_constant(place);
-    }
-    fault
-}
 
 /// The actor of a header that breaks no rule, if all its variables have types.
 fn members_of(told: Told<'_>, scope: &Scope, values: Valued, header: Header) -> Result<Bound, Front>
@@ -69,28 +47,6 @@ fn members_of(told: Told<'_>, scope: &Scope, values: Valued, header: Header) -> 
     actor_inside(&names, told.funs, scope, values.held, header, routines)
 }
 
-/// What is left to say of an actor whose variables have types and whose members break no rule.
-fn settled(rest: Rest, found: Bound) -> Result<Bound, Front>
-    ensures { Settles rest found result }
-{
-    match rest {
-        Rest::Nothing => Ok(found),
-        Rest::Lacking(place) => Err(not_constant(place)),
-        Rest::InDoubt(place) => Err(not_constant(place)),
-    }
-}
-
-/// What is said of an actor some of whose variables have no type.
-fn untyped(rest: Rest, owner: Place) -> Front
-    ensures { result ≡ not_constant_at (place_left rest owner) }
-{
-    match rest {
-        Rest::Nothing => not_constant(owner),
-        Rest::Lacking(place) => not_constant(place),
-        Rest::InDoubt(place) => not_constant(place),
-    }
-}
-
 /// The actor of a header that breaks no rule.
 fn check_members(
     told: Told<'_>,
@@ -108,14 +64,14 @@ fn check_members(
         (all_valued (source_in scope.now) (all_given told.given.now) (spot_of told.owner)) }
     ensures { IsChecked result (source_in scope.now) (all_given told.entry.given.now) (spot_of told.entry.owner) }
 {
-    let rest = rest_of(&values, told.owner);
+    let noted = values.first_broken();
+    let rest = values.not_constant();
     if !values.whole {
         return Err(untyped(rest, told.owner));
     }
-    let sure = values.sure;
     match members_of(told, scope, values, header) {
         Ok(found) => settled(rest, found),
-        Err(fault) => Err(sure_first(sure, fault)),
+        Err(fault) => Err(said_first(noted, fault)),
     }
 }
 
@@ -127,10 +83,9 @@ fn check_told(told: Told<'_>, scope: &Scope) -> Result<Bound, Front>
 {
     let early = early_values(told, scope)?;
     check_given(told, scope)?;
-    match header_of(told.alloc, &early.header, scope) {
-        Ok(header) => check_members(told, scope, early.values, header),
-        Err(fault) => Err(sure_first(early.values.sure, fault)),
-    }
+    let noted = early.values.first_broken();
+    let header = header_told(told.alloc, &early.header, scope, noted)?;
+    check_members(told, scope, early.values, header)
 }
 
 /// The actor that a scope is over the values given to its parameters (ISO/IEC 23001-4, RVC-CAL: actors); `owner` is the
@@ -139,9 +94,7 @@ fn check_told(told: Told<'_>, scope: &Scope) -> Result<Bound, Front>
 ///
 /// # Errors
 ///
-/// `Refused` with a rule that the actor breaks, and its place (`IsViolated`). Two cases can't be told from that
-/// (`IsRefused`): behind the variables something isn't constant there, while a start that is in doubt may be said in its
-/// place; or nothing is broken, but perhaps a default in doubt of a parameter that is given a value. `Memory` if memory
+/// `Refused` with a rule that the actor breaks, and its place: an actor that conforms is never refused. `Memory` if memory
 /// runs out.
 pub fn check(
     alloc: Global,
@@ -150,7 +103,8 @@ pub fn check(
     owner: Place,
 ) -> Result<Bound, Front>
     requires { AreDistinct (names_of_source (source_in scope.now)) }
-    ensures { IsChecked result (source_in scope.now) (all_given given.now) (spot_of owner) }
+    ensures checked { IsChecked result (source_in scope.now) (all_given given.now) (spot_of owner) }
+    ensures complete { IsComplete result (source_in scope.now) (all_given given.now) (spot_of owner) }
 {
     let Ok(funs) = declared_funs(alloc, scope) else {
         return Err(Front::Memory);

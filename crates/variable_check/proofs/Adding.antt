@@ -1,10 +1,9 @@
 -- Variables, one after another.
-use Rattle.std.proofs.Common.{◌≡◌, ◌⊎◌, inl, inr, ⊎_elim, ℕ, suc, ◌+◌, ◌<◌, Bool, true, false, List, [], ◌∷◌, ◌++◌, length, drop, get_or, map, refl, sym, ap, subst, ◌∙◌, arith, Ok, Err, append-nil, append_assoc}
+use Rattle.std.proofs.Common.{◌≡◌, ℕ, suc, ◌+◌, ◌<◌, Bool, true, false, List, [], ◌∷◌, ◌++◌, length, drop, get_or, map, refl, sym, ap, subst, ◌∙◌, arith, Ok, Err, append-nil, append_assoc}
 use Rattle.std.proofs.Math.Seq.{drop-cons}
 use Rattle.std.proofs.lemmas.List.{map-append}
-use Rattle.std.proofs.lemmas.List.Elements.{Contains-append_left, Contains-append_right}
 use Rattle.std.proofs.lemmas.Bool.Decides.{Decides-eqb}
-use Rattle.std.specs.Prelude.{Contains, IfSome, Option, None, Some, ◌||◌, ◌==◌, if◌then◌else◌}
+use Rattle.std.specs.Prelude.{Option, None, Some, ◌||◌, ◌==◌, if◌then◌else◌}
 use Rattle.std.specs.declared.result.Result.{Result}
 use Rattle.rvc_base.specs.Rules.{not_constant}
 use Rattle.rvc_base.specs.declared.refusal.Rule.{Rule}
@@ -15,17 +14,16 @@ use Rattle.cal_model.specs.Kinding.{Judged, Fine, Broken, Names}
 use Rattle.cal_model.specs.View.{var_view}
 use Rattle.const_eval.specs.Held.{last_first}
 use Rattle.cal_check.specs.Constants.{early_type}
-use Rattle.cal_check.specs.Violations.{Violation, said, violation, without_constants}
+use Rattle.cal_check.specs.Violations.{said, violation}
 use Rattle.cal_check.specs.Routines.{FunDecl}
 use Rattle.cal_check.specs.Variables.{Come, Found, Given, Spot, VarDecl, Valued, come, found_in, held_if, is_none, param_broken, seen, value_of, value_or, valued, with_come, with_type, with_value, with_var}
-use Rattle.cal_check.proofs.Lists.{at-head}
 use Rattle.seen_names.specs.Known.{all_known}
-use Rattle.variable_check.specs.Causes.{AreDoubts, IsCause, SaysRule, doubt}
-use Rattle.variable_check.specs.Valuing.{Declares, IsUntyped, IsValued, Lacks, Notes, Untypes, doubts_in, first_of, is_defaulted, lacking_at, start_place, sure_in}
+use Rattle.variable_check.specs.Causes.{IsCause, SaysRule, inconstant}
+use Rattle.variable_check.specs.Valuing.{Declares, IsUntyped, IsValued, Lacks, Notes, Untypes, broken_in, first_of, lacking_at}
 use Rattle.variable_check.specs.declared.given.Constancy.{Constancy}
 use Rattle.variable_check.specs.declared.given.Constancy.TheVariants as constancy
 use Rattle.variable_check.specs.declared.valued.Valued.{Valued as Kept}
-use Rattle.variable_check.proofs.Faults.{cause_in_first, cause_in_others, doubts_both, doubts_first, doubts_others}
+use Rattle.variable_check.proofs.Faults.{cause_in_first, cause_in_others}
 use Rattle.variable_check.proofs.Firsts.{first_behind, first_stays}
 
 -- the last part is seen first
@@ -41,59 +39,27 @@ names_of xs = map (λ x. x.name) xs
 none_some : {A : Type 0} (a : A) → None ≡ Some a → ⊥
 none_some a h = cc
 
-noted_doubts : (k : Constancy) (x : VarDecl) (fs : List Found) → Notes k x fs → AreDoubts (doubts_in k) fs
-noted_doubts constancy.Constant x fs h = subst (AreDoubts []) (sym h) tt
-noted_doubts (constancy.Lacking p) x fs h = subst (AreDoubts (p ∷ [])) (sym h) (at-head (doubt p) (doubt p) [] refl, tt)
-noted_doubts (constancy.InDoubt p) x fs (place, inl h) = subst (AreDoubts (p ∷ [])) (sym h) tt
-noted_doubts (constancy.InDoubt p) x fs (place, inr h) = subst (AreDoubts (p ∷ [])) (sym h) (at-head (doubt p) (doubt p) [] refl, tt)
+noted_broken : (k : Constancy) (x : VarDecl) (fs : List Found) → Notes k x fs → fs ≡ map inconstant (broken_in k)
+noted_broken constancy.Constant x fs h = h
+noted_broken (constancy.Lacking p) x fs h = h
 
-noted_sure : (k : Constancy) (x : VarDecl) (fs : List Found) → Notes k x fs → IfSome (sure_in k) (λ p. Contains fs (doubt p))
-noted_sure constancy.Constant x fs h = tt
-noted_sure (constancy.Lacking p) x fs h = subst (λ gs. Contains gs (doubt p)) (sym h) (at-head (doubt p) (doubt p) [] refl)
-noted_sure (constancy.InDoubt p) x fs h = tt
+both_broken : (ps qs : List Place) (fs gs : List Found) → fs ≡ map inconstant ps → gs ≡ map inconstant qs → fs ++ gs ≡ map inconstant (ps ++ qs)
+both_broken ps qs fs gs h i = ap (λ xs. xs ++ gs) h ∙ ap (λ xs. map inconstant ps ++ xs) i ∙ sym (map-append inconstant ps qs)
 
--- the first of two places that are both broken
-both_sure : (o q : Option Place) (fs gs : List Found) → IfSome o (λ p. Contains fs (doubt p)) → IfSome q (λ p. Contains gs (doubt p)) → IfSome (first_of o q) (λ p. Contains (fs ++ gs) (doubt p))
-both_sure None None fs gs h i = tt
-both_sure None (Some p) fs gs h i = Contains-append_right fs gs (doubt p) i
-both_sure (Some p) q fs gs h i = Contains-append_left fs gs (doubt p) h
-
-neither : (o q : Option Place) → first_of o q ≡ None → (o ≡ None) × (q ≡ None)
-neither None q h = (refl, h)
-neither (Some p) q h = absurd (none_some p (sym h))
-
-or_false : (a b : Bool) → (a || b) ≡ false → (a ≡ false) × (b ≡ false)
-or_false true b h = absurd (cc)
-or_false false b h = (refl, h)
+neither : (ps qs : List Place) → ps ++ qs ≡ [] → ps ≡ []
+neither [] qs h = refl
+neither (p ∷ ps) qs h = cc
 
 or_true : (a : Bool) → (a || true) ≡ true
 or_true true = refl
 or_true false = refl
 
--- one that surely breaks nothing or is in doubt breaks nothing, or isn't constant where it begins
-at_start : (k : Constancy) (x : VarDecl) (fs : List Found) → Notes k x fs → sure_in k ≡ None → (fs ≡ []) ⊎ Contains fs (doubt (start_place x))
-at_start constancy.Constant x fs h s = inl h
-at_start (constancy.Lacking p) x fs h s = absurd (none_some p (sym s))
-at_start (constancy.InDoubt p) x fs (place, inl h) s = inl h
-at_start (constancy.InDoubt p) x fs (place, inr h) s =
-    inr (subst (λ q. Contains fs (doubt q)) place (subst (λ gs. Contains gs (doubt p)) (sym h) (at-head (doubt p) (doubt p) [] refl)))
-
--- .. and nothing if there is a value, but for a default that isn't used
-breaks_nothing : (k : Constancy) (x : VarDecl) (fs : List Found) → Notes k x fs → sure_in k ≡ None → is_defaulted k false ≡ false → fs ≡ []
-breaks_nothing constancy.Constant x fs h s d = h
-breaks_nothing (constancy.Lacking p) x fs h s d = absurd (none_some p (sym s))
-breaks_nothing (constancy.InDoubt p) x fs h s d = absurd (cc)
-
 -- ---- one variable more
 
-none_left : (fs gs : List Found) → fs ≡ [] → gs ≡ [] → fs ++ gs ≡ []
-none_left fs gs h i = ap (λ xs. xs ++ gs) h ∙ i
-
-pub lacks_more : (o : Option Place) (k : Constancy) (x : VarDecl) (xs : List VarDecl) (t : Shape) (v : Option Value) (vs : Valued) (fs : List Found) → Lacks o xs vs → Notes k x fs
-    → (vs.useless ≡ true → fs ≡ []) → sure_in k ≡ None → is_defaulted k (is_none v) ≡ false → Lacks (first_of o (lacking_at x (is_none v))) (xs ++ x ∷ []) (with_value x t v fs vs)
-lacks_more None k x xs t None vs fs h n quiet s d = (
+pub lacks_more : (o : Option Place) (x : VarDecl) (xs : List VarDecl) (t : Shape) (v : Option Value) (vs : Valued) (fs : List Found) → Lacks o xs vs
+    → Lacks (first_of o (lacking_at x (is_none v))) (xs ++ x ∷ []) (with_value x t v fs vs)
+lacks_more None x xs t None vs fs h = (
   or_true vs.useless,
-  ⊎_elim (λ (e : fs ≡ []). inl (none_left vs.breaks fs h.0 e)) (λ (c : Contains fs (doubt (start_place x))). inr (Contains-append_right vs.breaks fs (doubt (start_place x)) c)) (at_start k x fs n s),
   record {
     before = xs;
     lacking = x;
@@ -101,80 +67,47 @@ lacks_more None k x xs t None vs fs h n quiet s d = (
     parts = refl;
     place = refl;
     later = [];
-    named = h.3 ∙ sym (append-nil (names_of xs));
+    named = h.2 ∙ sym (append-nil (names_of xs));
     are_behind = tt;
   },
 )
-lacks_more None k x xs t (Some w) vs fs h n quiet s d = (
-  none_left vs.breaks fs h.0 (breaks_nothing k x fs n s d),
-  ap (λ b. b || false) h.1,
-  refl,
-  map-append (λ y. y.name) vs.held (record { name = x.name; shape = t; value = w; changes = x.changes } ∷ []) ∙ ap (λ ns. ns ++ x.name ∷ []) h.3 ∙ sym (map-append (λ y. y.name) xs (x ∷ [])),
-)
-lacks_more (Some p) k x xs t None vs fs h n quiet s d = (
-  or_true vs.useless,
-  ⊎_elim (λ (e : vs.breaks ≡ []). inl (none_left vs.breaks fs e (quiet h.0))) (λ (c : Contains vs.breaks (doubt p)). inr (Contains-append_left vs.breaks fs (doubt p) c)) h.1,
-  first_stays p x xs vs.held h.2,
-)
-lacks_more (Some p) k x xs t (Some w) vs fs h n quiet s d = (
+lacks_more None x xs t (Some w) vs fs h = (
   ap (λ b. b || false) h.0,
-  ⊎_elim (λ (e : vs.breaks ≡ []). inl (none_left vs.breaks fs e (quiet h.0))) (λ (c : Contains vs.breaks (doubt p)). inr (Contains-append_left vs.breaks fs (doubt p) c)) h.1,
-  first_behind p x xs vs.held (record { name = x.name; shape = t; value = w; changes = x.changes }) refl h.2,
+  refl,
+  map-append (λ y. y.name) vs.held (record { name = x.name; shape = t; value = w; changes = x.changes } ∷ []) ∙ ap (λ ns. ns ++ x.name ∷ []) h.2 ∙ sym (map-append (λ y. y.name) xs (x ∷ [])),
+)
+lacks_more (Some p) x xs t None vs fs h = (or_true vs.useless, first_stays p x xs vs.held h.1)
+lacks_more (Some p) x xs t (Some w) vs fs h = (
+  ap (λ b. b || false) h.0,
+  first_behind p x xs vs.held (record { name = x.name; shape = t; value = w; changes = x.changes }) refl h.1,
 )
 
 pub valued_added : (old new : Kept) (xs : List VarDecl) (x : VarDecl) (t : Shape) (v : Option Value) (k : Constancy) (vs : Valued) (breaks : List Found)
     → all_known new.known.items ≡ record { name = x.name; kind = kind_of_type t; value = Some (value_or v (kind_of_type t)); changes = x.changes } ∷ all_known old.known.items
     → map var_view new.held.items ≡ held_if v x t (map var_view old.held.items)
-    → new.doubts.items ≡ old.doubts.items ++ doubts_in k → new.sure ≡ first_of old.sure (sure_in k) → new.lacking ≡ first_of old.lacking (lacking_at x (is_none v))
-    → new.defaulted ≡ (old.defaulted || is_defaulted k (is_none v)) → new.useless ≡ (old.useless || is_none v) → new.whole ≡ true
-    → IsValued xs old vs → Notes k x breaks → (vs.useless ≡ true → breaks ≡ []) → IsValued (xs ++ x ∷ []) new (with_value x t v breaks vs)
-valued_added old new xs x t v k vs breaks known held doubts sure lacking defaulted useless whole h n quiet = record {
+    → new.broken.items ≡ old.broken.items ++ broken_in k → new.lacking ≡ first_of old.lacking (lacking_at x (is_none v))
+    → new.useless ≡ (old.useless || is_none v) → new.whole ≡ true
+    → IsValued xs old vs → Notes k x breaks → IsValued (xs ++ x ∷ []) new (with_value x t v breaks vs)
+valued_added old new xs x t v k vs breaks known held broken lacking useless whole h n = record {
   known = known ∙ ap (λ ks. record { name = x.name; kind = kind_of_type t; value = Some (value_or v (kind_of_type t)); changes = x.changes } ∷ ks) h.known;
   held = held ∙ ap (held_if v x t) h.held;
-  breaks = subst (λ es. AreDoubts es (vs.breaks ++ breaks)) (sym doubts)
-      (doubts_both (old.doubts.items ++ doubts_in k) vs.breaks breaks (doubts_first old.doubts.items (doubts_in k) vs.breaks h.breaks) (doubts_others old.doubts.items (doubts_in k) breaks (noted_doubts k x breaks n)));
+  breaks = both_broken old.broken.items (broken_in k) vs.breaks breaks h.breaks (noted_broken k x breaks n) ∙ ap (map inconstant) (sym broken);
   useless = useless ∙ ap (λ u. u || is_none v) h.useless;
   whole = whole;
-  sure = subst (λ o. IfSome o (λ p. Contains (vs.breaks ++ breaks) (doubt p))) (sym sure) (both_sure old.sure (sure_in k) vs.breaks breaks h.sure (noted_sure k x breaks n));
-  lacks = λ s d.
-      let none = neither old.sure (sure_in k) (sym sure ∙ s) in
-      let not_defaulted = or_false old.defaulted (is_defaulted k (is_none v)) (sym defaulted ∙ d) in
+  lacks = λ e.
       subst (λ o. Lacks o (xs ++ x ∷ []) (with_value x t v breaks vs)) (sym lacking)
-      (lacks_more old.lacking k x xs t v vs breaks (h.lacks none.0 not_defaulted.0) n quiet none.1 not_defaulted.1);
+      (lacks_more old.lacking x xs t v vs breaks (h.lacks (neither old.broken.items (broken_in k) (sym broken ∙ e))));
 }
-
--- of a start behind a value that is of no use nothing is said to be not constant
-no_constants : (file : ℕ) (ws : List Violation) (p : Place) (gs : List Found) → found_in file (without_constants ws) ≡ doubt p ∷ gs → ⊥
-no_constants file [] p gs h = cc
-no_constants file (v ∷ vs) p gs h = go (v.rule.0 == not_constant.0) refl h (λ i. no_constants file vs p gs i)
-  where
-    go : (b : Bool) → (v.rule.0 == not_constant.0) ≡ b → found_in file (if b then without_constants vs else v ∷ without_constants vs) ≡ doubt p ∷ gs
-        → (found_in file (without_constants vs) ≡ doubt p ∷ gs → ⊥) → ⊥
-    go true e i rest = rest i
-    go false e i rest =
-        let same : v.rule ≡ not_constant = ap (λ fs. elim fs [ [] ↦ not_constant | f ∷ more ↦ f.violation.rule ]) i in
-        let own : (v.rule.0 == not_constant.0) ≡ true = ap (λ r. r.0 == not_constant.0) same in
-        absurd (let e2 : true ≡ false = sym own ∙ e in cc)
-
-pub nothing_said : (file : ℕ) (ws : List Violation) (k : Constancy) (x : VarDecl) → Notes k x (found_in file (said true ws)) → found_in file (said true ws) ≡ []
-nothing_said file ws constancy.Constant x h = h
-nothing_said file ws (constancy.Lacking p) x h = absurd (no_constants file ws p [] h)
-nothing_said file ws (constancy.InDoubt p) x (place, inl h) = h
-nothing_said file ws (constancy.InDoubt p) x (place, inr h) = absurd (no_constants file ws p [] h)
-
-still_nothing : (useless : Bool) (file : ℕ) (ws : List Violation) (k : Constancy) (x : VarDecl) → Notes k x (found_in file (said useless ws)) → useless ≡ true → found_in file (said useless ws) ≡ []
-still_nothing true file ws k x h u = nothing_said file ws k x h
-still_nothing false file ws k x h u = absurd (cc)
 
 pub come_added : (new : Kept) (xs : List VarDecl) (x : VarDecl) (gs : List Given) (owner : Spot) (t : Shape) (c : Come) (vs : Valued) (useless : Bool) (v : Option Value) (k : Constancy)
     → useless ≡ vs.useless → value_of x gs t c.value ≡ v → Notes k x (found_in x.file (said useless c.breaks)) → param_broken x gs owner t ≡ []
-    → ((breaks : List Found) → Notes k x breaks → (vs.useless ≡ true → breaks ≡ []) → IsValued (xs ++ x ∷ []) new (with_value x t v breaks vs)) → IsValued (xs ++ x ∷ []) new (with_come x gs owner t c vs)
+    → ((breaks : List Found) → Notes k x breaks → IsValued (xs ++ x ∷ []) new (with_value x t v breaks vs)) → IsValued (xs ++ x ∷ []) new (with_come x gs owner t c vs)
 come_added new xs x gs owner t c vs useless v k u e n none more =
     let own : List Found = found_in x.file (said vs.useless c.breaks) in
     let noted : Notes k x own = subst (λ w. Notes k x (found_in x.file (said w c.breaks))) u n in
     let all : own ++ param_broken x gs owner t ≡ own = ap (λ fs. own ++ fs) none ∙ append-nil own in
     subst (λ w. IsValued (xs ++ x ∷ []) new (with_value x t w (own ++ param_broken x gs owner t) vs)) (sym e)
-    (subst (λ fs. IsValued (xs ++ x ∷ []) new (with_value x t v fs vs)) (sym all) (more own noted (still_nothing vs.useless x.file c.breaks k x noted)))
+    (subst (λ fs. IsValued (xs ++ x ∷ []) new (with_value x t v fs vs)) (sym all) (more own noted))
 
 pub come_refused : (f : Front) (x : VarDecl) (gs : List Given) (owner : Spot) (t : Shape) (c : Come) (vs : Valued) (useless : Bool) → useless ≡ vs.useless
     → IsCause f (found_in x.file (said useless c.breaks) ++ param_broken x gs owner t) → IsCause f (with_come x gs owner t c vs).breaks
@@ -191,46 +124,41 @@ not_false : true ≡ false → ⊥
 not_false h = cc
 
 untyped_lacks : (o : Option Place) (x : VarDecl) (xs : List VarDecl) (vs : Valued) → vs.useless ≡ true → Lacks o xs vs → Lacks o (xs ++ x ∷ []) (record vs { breaks = vs.breaks ++ []; whole = false })
-untyped_lacks None x xs vs u h = absurd (not_false (sym u ∙ h.1))
-untyped_lacks (Some p) x xs vs u h = (
-  u,
-  subst (λ fs. (fs ≡ []) ⊎ Contains fs (doubt p)) (sym (append-nil vs.breaks)) h.1,
-  first_stays p x xs vs.held h.2,
-)
+untyped_lacks None x xs vs u h = absurd (not_false (sym u ∙ h.0))
+untyped_lacks (Some p) x xs vs u h = (u, first_stays p x xs vs.held h.1)
+
+not_last : (ps : List Place) (p : Place) → ps ++ p ∷ [] ≡ [] → ⊥
+not_last [] p h = cc
+not_last (q ∷ ps) p h = cc
 
 pub untyped_noted : (old new : Kept) (xs : List VarDecl) (x : VarDecl) (gs : List Given) (owner : Spot) (names : Names) (at : ℕ) (vs : Valued)
     → IsUntyped (record { file = x.file; offset = at }) old new → IsValued xs old vs → IsValued (xs ++ x ∷ []) new (with_type (Broken not_constant at) x gs owner names vs)
-untyped_noted old new xs x gs owner names at vs u h = go old.useless vs.useless refl refl h.useless u.doubts u.sure
+untyped_noted old new xs x gs owner names at vs u h = go old.useless vs.useless refl refl h.useless u.broken
   where
     p : Place
     p = record { file = x.file; offset = at }
 
-    go : (b c : Bool) → old.useless ≡ b → vs.useless ≡ c → b ≡ c → new.doubts.items ≡ (if b then old.doubts.items else old.doubts.items ++ p ∷ []) → new.sure ≡ (if b then old.sure else first_of old.sure (Some p))
+    go : (b c : Bool) → old.useless ≡ b → vs.useless ≡ c → b ≡ c → new.broken.items ≡ (if b then old.broken.items else old.broken.items ++ p ∷ [])
         → IsValued (xs ++ x ∷ []) new (record vs { breaks = vs.breaks ++ found_in x.file (said c (violation not_constant at)); whole = false })
-    go true true eb ec same doubts sure = record {
+    go true true eb ec same broken = record {
       known = ap all_known u.known ∙ h.known;
       held = ap (map var_view) u.held ∙ h.held;
-      breaks = subst (λ es. AreDoubts es (vs.breaks ++ [])) (sym doubts) (subst (AreDoubts old.doubts.items) (sym (append-nil vs.breaks)) h.breaks);
+      breaks = append-nil vs.breaks ∙ h.breaks ∙ ap (map inconstant) (sym broken);
       useless = u.useless ∙ h.useless;
       whole = u.whole;
-      sure = subst (λ o. IfSome o (λ q. Contains (vs.breaks ++ []) (doubt q))) (sym sure) (subst (λ fs. IfSome old.sure (λ q. Contains fs (doubt q))) (sym (append-nil vs.breaks)) h.sure);
-      lacks = λ s d. subst (λ o. Lacks o (xs ++ x ∷ []) (record vs { breaks = vs.breaks ++ []; whole = false })) (sym u.lacking)
-          (untyped_lacks old.lacking x xs vs ec (h.lacks (sym sure ∙ s) (sym u.defaulted ∙ d)));
+      lacks = λ e. subst (λ o. Lacks o (xs ++ x ∷ []) (record vs { breaks = vs.breaks ++ []; whole = false })) (sym u.lacking)
+          (untyped_lacks old.lacking x xs vs ec (h.lacks (sym broken ∙ e)));
     }
-    go false false eb ec same doubts sure = record {
+    go false false eb ec same broken = record {
       known = ap all_known u.known ∙ h.known;
       held = ap (map var_view) u.held ∙ h.held;
-      breaks = subst (λ es. AreDoubts es (vs.breaks ++ doubt p ∷ [])) (sym doubts)
-          (doubts_both (old.doubts.items ++ p ∷ []) vs.breaks (doubt p ∷ []) (doubts_first old.doubts.items (p ∷ []) vs.breaks h.breaks)
-          (doubts_others old.doubts.items (p ∷ []) (doubt p ∷ []) (at-head (doubt p) (doubt p) [] refl, tt)));
+      breaks = both_broken old.broken.items (p ∷ []) vs.breaks (inconstant p ∷ []) h.breaks refl ∙ ap (map inconstant) (sym broken);
       useless = u.useless ∙ h.useless;
       whole = u.whole;
-      sure = subst (λ o. IfSome o (λ q. Contains (vs.breaks ++ doubt p ∷ []) (doubt q))) (sym sure)
-          (both_sure old.sure (Some p) vs.breaks (doubt p ∷ []) h.sure (at-head (doubt p) (doubt p) [] refl));
-      lacks = λ s d. absurd (none_some p (sym (neither old.sure (Some p) (sym sure ∙ s)).1));
+      lacks = λ e. absurd (not_last old.broken.items p (sym broken ∙ e));
     }
-    go true false eb ec same doubts sure = absurd (not_false same)
-    go false true eb ec same doubts sure = absurd (not_false (sym same))
+    go true false eb ec same broken = absurd (not_false same)
+    go false true eb ec same broken = absurd (not_false (sym same))
 
 pub untyped_declares : (r : Result (Unit {0}) Front) (j : Judged Shape) (rule : Rule) (at file : ℕ) (x : VarDecl) (gs : List Given) (owner : Spot) (names : Names) (old new : Kept)
     → x.file ≡ file → j ≡ Broken rule at → (rule.0 == not_constant.0) ≡ true → Untypes r (record { file = file; offset = at }) old new → Declares r (x ∷ []) (with_type j x gs owner names) old new
@@ -255,8 +183,8 @@ untyped_refused f j rule at file x gs owner names old new same e is_said h says 
 -- ---- a variable
 
 stays_lacking : (o : Option Place) (x : VarDecl) (xs : List VarDecl) (vs : Valued) → vs.whole ≡ false → Lacks o xs vs → Lacks o (xs ++ x ∷ []) vs
-stays_lacking None x xs vs w h = absurd (not_false (sym h.2 ∙ w))
-stays_lacking (Some p) x xs vs w h = (h.0, h.1, first_stays p x xs vs.held h.2)
+stays_lacking None x xs vs w h = absurd (not_false (sym h.1 ∙ w))
+stays_lacking (Some p) x xs vs w h = (h.0, first_stays p x xs vs.held h.1)
 
 pub not_whole : (old : Kept) (xs : List VarDecl) (x : VarDecl) (gs : List Given) (owner : Spot) (fs : List FunDecl) (vs : Valued) → old.whole ≡ false → IsValued xs old vs
     → IsValued (xs ++ x ∷ []) old (with_var x gs owner fs vs)
@@ -268,8 +196,7 @@ not_whole old xs x gs owner fs vs w h =
       breaks = h.breaks;
       useless = h.useless;
       whole = h.whole;
-      sure = h.sure;
-      lacks = λ s d. stays_lacking old.lacking x xs vs none (h.lacks s d);
+      lacks = λ e. stays_lacking old.lacking x xs vs none (h.lacks e);
     })
 
 -- ---- all variables

@@ -11,8 +11,8 @@ use Rattle.cal_model.proofs.KindNames.{same-text, text-same}
 use Rattle.cal_check.specs.Actors.{first_valueless, is_held, said_or_all}
 use Rattle.cal_check.specs.Variables.{Found, Spot, VarDecl, Valued}
 use Rattle.cal_check.proofs.Lists.{at-head, each-append, each-map, each-of, head-or-rest, in-none, in-rest}
-use Rattle.variable_check.specs.Causes.{doubt}
-use Rattle.variable_check.specs.Valuing.{AreAt, IsFirst, Lacks, left_over, start_place, valueless}
+use Rattle.variable_check.specs.Causes.{inconstant}
+use Rattle.variable_check.specs.Valuing.{AreAt, IsFirst, Lacks, first_in, first_of, left_over, start_place, valueless}
 
 abbrev names_of : List VarDecl → List (List ℕ)
 names_of xs = map (λ x. x.name) xs
@@ -48,10 +48,10 @@ not_in name (n ∷ ns) h = go (bytes_eq n name) refl (not_in name ns (λ r. h (i
 -- ---- the first that isn't held
 
 first_found : (before : List VarDecl) (x : VarDecl) (behind : List VarDecl) (held : List Held) (owner : Spot) → Each (λ y. is_held y.name held ≡ true) before → is_held x.name held ≡ false
-    → first_valueless (before ++ x ∷ behind) held owner ≡ doubt (start_place x) ∷ []
-first_found [] x behind held owner h e = ap (λ b. if b then first_valueless behind held owner else doubt (start_place x) ∷ []) e
+    → first_valueless (before ++ x ∷ behind) held owner ≡ inconstant (start_place x) ∷ []
+first_found [] x behind held owner h e = ap (λ b. if b then first_valueless behind held owner else inconstant (start_place x) ∷ []) e
 first_found (y ∷ ys) x behind held owner h e =
-    ap (λ b. if b then first_valueless (ys ++ x ∷ behind) held owner else doubt (start_place y) ∷ []) h.0 ∙ first_found ys x behind held owner h.1 e
+    ap (λ b. if b then first_valueless (ys ++ x ∷ behind) held owner else inconstant (start_place y) ∷ []) h.0 ∙ first_found ys x behind held owner h.1 e
 
 has_name : (xs : List VarDecl) (x : VarDecl) → Contains xs x → Contains (names_of xs) x.name
 has_name [] x c = absurd (in-none x c)
@@ -77,7 +77,7 @@ each_in : {A : Type 0} (P : A → Type 0) (xs : List A) (x : A) → Each P xs �
 each_in P [] x h c = absurd (in-none x c)
 each_in P (y ∷ ys) x h c = ⊎_elim (λ (e : y ≡ x). subst P e h.0) (λ (r : Contains ys x). each_in P ys x h.1 r) (head-or-rest x y ys c)
 
-pub first_is : (p : Place) (xs : List VarDecl) (held : List Held) (owner : Spot) → IsFirst p xs held → AreDistinct (names_of xs) → first_valueless xs held owner ≡ doubt p ∷ []
+pub first_is : (p : Place) (xs : List VarDecl) (held : List Held) (owner : Spot) → IsFirst p xs held → AreDistinct (names_of xs) → first_valueless xs held owner ≡ inconstant p ∷ []
 first_is p xs held owner f d =
     let distinct : AreDistinct (names_of (f.before ++ f.lacking ∷ f.behind)) = subst (λ ys. AreDistinct (names_of ys)) f.parts d in
     let are_held : (y : VarDecl) → Contains f.before y → is_held y.name held ≡ true =
@@ -89,7 +89,7 @@ first_is p xs held owner f d =
     ap (λ ys. first_valueless ys held owner) f.parts
     ∙ first_found f.before f.lacking f.behind held owner (each-of (λ y. is_held y.name held ≡ true) f.before are_held)
     (held_named f.lacking.name held ∙ ap (named_in f.lacking.name) f.named ∙ not_in f.lacking.name (names_of f.before ++ f.later) is_lacking)
-    ∙ ap (λ q. doubt q ∷ []) (sym f.place)
+    ∙ ap (λ q. inconstant q ∷ []) (sym f.place)
 
 -- ---- one variable more
 
@@ -132,18 +132,22 @@ still_there : (fs all : List Found) (f : Found) → Contains fs f → Contains (
 still_there [] all f c = absurd (in-none f c)
 still_there (g ∷ gs) all f c = c
 
-pub sure_left : (p : Place) (xs : List VarDecl) (owner : Spot) (vs : Valued) → Contains vs.breaks (doubt p) → AreAt (Some p) (left_over xs owner vs)
-sure_left p xs owner vs h = still_there vs.breaks (valueless xs owner vs) (doubt p) h
+sure_left : (p : Place) (xs : List VarDecl) (owner : Spot) (vs : Valued) → Contains vs.breaks (inconstant p) → AreAt (Some p) (left_over xs owner vs)
+sure_left p xs owner vs h = still_there vs.breaks (valueless xs owner vs) (inconstant p) h
 
 none_valueless : (xs : List VarDecl) (owner : Spot) (vs : Valued) → vs.useless ≡ false → vs.whole ≡ true → valueless xs owner vs ≡ []
 none_valueless xs owner vs u w =
     ap (λ b. if b || not vs.whole then first_valueless xs vs.held owner else []) u ∙ ap (λ b. if not b then first_valueless xs vs.held owner else []) w
 
-pub lacking_left : (o : Option Place) (xs : List VarDecl) (owner : Spot) (vs : Valued) → AreDistinct (names_of xs) → Lacks o xs vs → AreAt o (left_over xs owner vs)
-lacking_left None xs owner vs d h = ap (λ fs. said_or_all fs (valueless xs owner vs)) h.0 ∙ none_valueless xs owner vs h.1 h.2
-lacking_left (Some p) xs owner vs d h =
-    ⊎_elim (λ (e : vs.breaks ≡ []).
-    let only : left_over xs owner vs ≡ doubt p ∷ [] =
-    ap (λ fs. said_or_all fs (valueless xs owner vs)) e ∙ ap (λ b. if b || not vs.whole then first_valueless xs vs.held owner else []) h.0 ∙ first_is p xs vs.held owner h.2 d in
-    subst (λ fs. Contains fs (doubt p)) (sym only) (at-head (doubt p) (doubt p) [] refl))
-    (λ (c : Contains vs.breaks (doubt p)). still_there vs.breaks (valueless xs owner vs) (doubt p) c) h.1
+lacking_left : (o : Option Place) (xs : List VarDecl) (owner : Spot) (vs : Valued) → vs.breaks ≡ [] → AreDistinct (names_of xs) → Lacks o xs vs → AreAt o (left_over xs owner vs)
+lacking_left None xs owner vs e d h = ap (λ fs. said_or_all fs (valueless xs owner vs)) e ∙ none_valueless xs owner vs h.0 h.1
+lacking_left (Some p) xs owner vs e d h =
+    let only : left_over xs owner vs ≡ inconstant p ∷ [] =
+    ap (λ fs. said_or_all fs (valueless xs owner vs)) e ∙ ap (λ b. if b || not vs.whole then first_valueless xs vs.held owner else []) h.0 ∙ first_is p xs vs.held owner h.1 d in
+    subst (λ fs. Contains fs (inconstant p)) (sym only) (at-head (inconstant p) (inconstant p) [] refl)
+
+pub none_constant : (ps : List Place) (o : Option Place) (xs : List VarDecl) (owner : Spot) (vs : Valued) → vs.breaks ≡ map inconstant ps → AreDistinct (names_of xs)
+    → (ps ≡ [] → Lacks o xs vs) → AreAt (first_of (first_in ps) o) (left_over xs owner vs)
+none_constant [] o xs owner vs e d h = lacking_left o xs owner vs e d (h refl)
+none_constant (p ∷ ps) o xs owner vs e d h =
+    sure_left p xs owner vs (subst (λ fs. Contains fs (inconstant p)) (sym e) (at-head (inconstant p) (inconstant p) (map inconstant ps) refl))

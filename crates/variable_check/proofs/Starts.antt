@@ -1,30 +1,28 @@
 -- What starts come to.
-use Rattle.std.proofs.Common.{◌≡◌, ◌⊎◌, inl, inr, ℕ, Bool, true, false, List, [], ◌∷◌, map, refl, sym, ap, subst, ◌∙◌, Err}
+use Rattle.std.proofs.Common.{◌≡◌, ℕ, Bool, true, false, List, [], ◌∷◌, map, refl, sym, ap, subst, ◌∙◌, Err}
 use Rattle.std.specs.Prelude.{Option, None, Some, Contains, if◌then◌else◌}
 use Rattle.std.specs.Str.{bytes_eq}
 use Rattle.rvc_base.specs.Turns.{max_turns}
-use Rattle.rvc_base.specs.Rules.{not_constant}
 use Rattle.cal_ast.specs.Places.{begins}
 use Rattle.cal_ast.specs.Tree.{Tree}
 use Rattle.cal_model.specs.Value.{Shape, Value}
-use Rattle.cal_model.specs.Outcome.{Out, Gives, Traps, Lacks, Clashes}
+use Rattle.cal_model.specs.Outcome.{Out}
 use Rattle.cal_model.specs.Expression.{eval}
 use Rattle.cal_model.specs.Call.{calls_of}
 use Rattle.cal_model.specs.Kinding.{Judged, Fine, Broken, Known, Names, constant, constants}
 use Rattle.cal_model.specs.Kinding as kinding
 use Rattle.cal_model.specs.Laws.{ConstantIsValue}
 use Rattle.const_eval.specs.Constants.{Constant, constants_among, other_constants, var_of}
-use Rattle.const_eval.specs.Evaluable.{HasNoValue, value_of}
+use Rattle.const_eval.specs.Evaluable.{value_of}
 use Rattle.const_eval.specs.Held.{Kept, globals_of, held, names_in}
 use Rattle.const_eval.specs.declared.fault.KindFault.{KindFault}
 use Rattle.const_eval.specs.declared.fault.KindFault.TheVariants as fault
 use Rattle.stmt_check.specs.Judging.{Refuses}
 use Rattle.cal_check.specs.Constants.{start_value, value_given}
-use Rattle.cal_check.specs.Violations.{violation}
 use Rattle.cal_check.specs.Variables.{Come, come_of}
 use Rattle.cal_check.proofs.Lists.{at-head}
 use Rattle.variable_check.specs.Causes.{SaysFault}
-use Rattle.variable_check.specs.Valuing.{ComesTo, came}
+use Rattle.variable_check.specs.Valuing.{ComesTo}
 
 -- ---- constants among names
 
@@ -57,15 +55,6 @@ constant_is law e env =
 pub start_is : ConstantIsValue → (env : Kept) (t : Shape) (e : Tree) (o : Out Value) → value_of e (held env) ≡ o
     → come_of (start_value t e (names_in env)) ≡ come_of (value_given o t (begins e))
 start_is law env t e o h = ap (λ p. come_of (value_given p t (begins e))) (constant_is law e env ∙ h)
-
--- ---- how evaluation ends
-
-pub doubtful : (o : Out Value) (t : Shape) (at : ℕ) → HasNoValue o
-    → (come_of (value_given o t at) ≡ came None []) ⊎ (come_of (value_given o t at) ≡ came None (violation not_constant at))
-doubtful (Gives v left) t at h = absurd h
-doubtful (Traps c) t at h = absurd h
-doubtful Lacks t at h = inr refl
-doubtful Clashes t at h = inl refl
 
 -- ---- faults
 

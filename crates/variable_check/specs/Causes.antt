@@ -1,12 +1,11 @@
--- Rules that faults name, and places at which something may not be constant.
+-- Rules that faults name, and places at which something isn't constant.
 -- Trusted: part of what a promise means.
-use Rattle.std.specs.Prelude.{◌≡◌, List, false, ◌==◌, Contains, map}
+use Rattle.std.specs.Prelude.{◌≡◌, List, false, ◌==◌, Contains}
 use Rattle.rvc_base.specs.Rules.{not_constant}
 use Rattle.rvc_base.specs.declared.refusal.Front.{Front}
 use Rattle.rvc_base.specs.declared.refusal.Front.TheVariants as front
 use Rattle.rvc_base.specs.declared.refusal.Place.{Place}
 use Rattle.rvc_base.specs.declared.refusal.Rule.{Rule}
-use Rattle.cal_model.specs.Sound.{Each}
 use Rattle.const_eval.specs.declared.fault.KindFault.{KindFault}
 use Rattle.const_eval.specs.declared.fault.KindFault.TheVariants as fault
 use Rattle.cal_check.specs.Variables.{Found}
@@ -33,9 +32,5 @@ SaysFault (fault.Broken rule at) = IsSaid rule
 SaysFault fault.Memory = Unit {0}
 
 -- something at a place that isn't constant
-abbrev pub doubt : Place → Found
-doubt p = record { violation = record { rule = not_constant; at = p.offset }; file = p.file }
-
--- whatever is broken is that something at one of these places isn't constant
-abbrev pub AreDoubts : List Place → List Found → Type 0
-AreDoubts ds fs = Each (λ f. Contains (map doubt ds) f) fs
+abbrev pub inconstant : Place → Found
+inconstant p = record { violation = record { rule = not_constant; at = p.offset }; file = p.file }

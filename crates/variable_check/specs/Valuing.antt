@@ -1,7 +1,7 @@
 -- What calls answer that seek the values of variables.
 -- Trusted but for `came`, `said_of`, `Notes`, `Settles`, `GivenStored`, `is_wrong` and what stands under steps: part of
 -- what a promise means.
-use Rattle.std.specs.Prelude.{◌≡◌, ◌⊎◌, ℕ, Bool, true, false, not, ◌||◌, List, [], ◌∷◌, ◌++◌, Contains, IfSome, map, option_map, Option, None, Some, if◌then◌else◌}
+use Rattle.std.specs.Prelude.{◌≡◌, ℕ, Bool, true, false, not, ◌||◌, List, [], ◌∷◌, ◌++◌, Contains, map, option_map, Option, None, Some, if◌then◌else◌}
 use Rattle.std.specs.declared.result.Result.{Result}
 use Rattle.std.specs.declared.result.Result.TheVariants.{Ok, Err}
 use Rattle.rvc_base.specs.Rules.{not_constant}
@@ -22,7 +22,7 @@ use Rattle.cal_check.specs.Variables.{Come, Found, Given, Spot, VarDecl, Valued,
 use Rattle.cal_model.specs.Kinding.{Names}
 use Rattle.seen_names.specs.Known.{all_known, names_alone}
 use Rattle.seen_names.specs.declared.known.KnownName.{KnownName}
-use Rattle.variable_check.specs.Causes.{AreDoubts, IsCause, IsSaid, SaysRule, doubt}
+use Rattle.variable_check.specs.Causes.{IsCause, IsSaid, SaysRule, inconstant}
 use Rattle.variable_check.specs.declared.starting.Started.{Started}
 use Rattle.variable_check.specs.declared.starting.Started.TheVariants as started
 use Rattle.variable_check.specs.declared.given.Constancy.{Constancy}
@@ -36,12 +36,10 @@ abbrev pub came : Option Value → List Violation → Come
 came v vs = record { value = v; breaks = vs }
 
 -- A start that begins at an offset comes to its value, to none that is of use, to none since it isn't constant, or to
--- another rule that it breaks. Of one that is in doubt it isn't known whether it isn't constant or needs a value that is
--- of no use.
+-- another rule that it breaks.
 abbrev pub ComesTo : Result Started KindFault → Come → ℕ → Type 0
 ComesTo (Ok (started.Value v)) c at = c ≡ came (Some (value_view v)) []
 ComesTo (Ok started.Useless) c at = c ≡ came None []
-ComesTo (Ok started.Doubtful) c at = (c ≡ came None []) ⊎ (c ≡ came None (violation not_constant at))
 ComesTo (Ok (started.NotConstant p)) c at = c ≡ came None (violation not_constant p)
 ComesTo (Err (fault.Broken rule p)) c at = (c ≡ came None (violation rule p)) × IsSaid rule
 ComesTo (Err fault.Memory) c at = Unit {0}
@@ -73,8 +71,7 @@ start_place x = record { file = x.file; offset = begins x.start }
 -- what a start breaks of which this is known
 abbrev pub Notes : Constancy → VarDecl → List Found → Type 0
 Notes constancy.Constant x fs = fs ≡ []
-Notes (constancy.Lacking p) x fs = fs ≡ doubt p ∷ []
-Notes (constancy.InDoubt p) x fs = (p ≡ start_place x) × ((fs ≡ []) ⊎ (fs ≡ doubt p ∷ []))
+Notes (constancy.Lacking p) x fs = fs ≡ inconstant p ∷ []
 
 -- what a variable holds at first whose start comes to this, and what breaks a rule in it
 abbrev pub Settles : Result Settled Front → VarDecl → List Given → Spot → Shape → Come → Type 0
@@ -97,26 +94,21 @@ pub record IsFirst (p : Place) (xs : List VarDecl) (held : List Held) : Type 0 w
   pub named : map (λ x. x.name) held ≡ map (λ x. x.name) before ++ later
   pub are_behind : Each (λ n. Contains (map (λ x. x.name) behind) n) later
 
--- Either all of these variables have values and break nothing, or the first without one begins there, and if they break
--- anything, it isn't constant.
+-- Of variables that break nothing, either all have values, or the first without one begins there.
 abbrev pub Lacks : Option Place → List VarDecl → Valued → Type 0
-Lacks None xs vs = (vs.breaks ≡ []) × (vs.useless ≡ false) × (vs.whole ≡ true)
+Lacks None xs vs = (vs.useless ≡ false) × (vs.whole ≡ true)
     × (map (λ x. x.name) vs.held ≡ map (λ x. x.name) xs)
-Lacks (Some p) xs vs = (vs.useless ≡ true) × ((vs.breaks ≡ []) ⊎ Contains vs.breaks (doubt p))
-    × IsFirst p xs vs.held
+Lacks (Some p) xs vs = (vs.useless ≡ true) × IsFirst p xs vs.held
 
 -- what these variables come to that break no rule, but perhaps that some types and starts aren't constant
 pub record IsValued (xs : List VarDecl) (v : Kept) (vs : Valued) : Type 0 where
   pub known : all_known v.known.items ≡ vs.known
   pub held : map var_view v.held.items ≡ vs.held
-  -- whatever is broken is at one of these places
-  pub breaks : AreDoubts v.doubts.items vs.breaks
+  -- exactly this is broken: that what stands at these places isn't constant
+  pub breaks : vs.breaks ≡ map inconstant v.broken.items
   pub useless : v.useless ≡ vs.useless
   pub whole : v.whole ≡ vs.whole
-  -- this one is broken in any case
-  pub sure : IfSome v.sure (λ p. Contains vs.breaks (doubt p))
-  -- if none is, and no parameter that is given a value has a default that is in doubt
-  pub lacks : v.sure ≡ None → v.defaulted ≡ false → Lacks v.lacking xs vs
+  pub lacks : v.broken.items ≡ [] → Lacks v.lacking xs vs
 
 -- what they come to, or a rule that they break and that is said whatever else is broken
 abbrev pub Values : Result (Unit {0}) Front → List VarDecl → Kept → Valued → Type 0
@@ -139,27 +131,21 @@ valueless xs owner vs =
 abbrev pub left_over : List VarDecl → Spot → Valued → List Found
 left_over xs owner vs = said_or_all vs.breaks (valueless xs owner vs)
 
+-- the first of these places
+abbrev pub first_in : List Place → Option Place
+first_in [] = None
+first_in (p ∷ ps) = Some p
+
 -- something at this place, or nothing
 abbrev pub AreAt : Option Place → List Found → Type 0
 AreAt None fs = fs ≡ []
-AreAt (Some p) fs = Contains fs (doubt p)
+AreAt (Some p) fs = Contains fs (inconstant p)
 
 -- ---- steps
 
-abbrev pub doubts_in : Constancy → List Place
-doubts_in constancy.Constant = []
-doubts_in (constancy.Lacking p) = p ∷ []
-doubts_in (constancy.InDoubt p) = p ∷ []
-
-abbrev pub sure_in : Constancy → Option Place
-sure_in constancy.Constant = None
-sure_in (constancy.Lacking p) = Some p
-sure_in (constancy.InDoubt p) = None
-
--- a start that is in doubt though there is a value, which a parameter is given then
-abbrev pub is_defaulted : Constancy → Bool → Bool
-is_defaulted (constancy.InDoubt p) absent = not absent
-is_defaulted other absent = false
+abbrev pub broken_in : Constancy → List Place
+broken_in constancy.Constant = []
+broken_in (constancy.Lacking p) = p ∷ []
 
 abbrev pub lacking_at : VarDecl → Bool → Option Place
 lacking_at x true = Some (start_place x)
@@ -169,24 +155,20 @@ abbrev pub first_of : Option Place → Option Place → Option Place
 first_of None other = other
 first_of (Some p) other = Some p
 
--- what is known of a start is noted, and whether its variable has this value
+-- it is noted whether a start is constant, and whether its variable has this value
 pub record IsNoted (k : Constancy) (v : Option Value) (x : VarDecl) (old new : Kept) : Type 0 where
   pub known : new.known.items ≡ old.known.items
   pub held : new.held.items ≡ old.held.items
-  pub doubts : new.doubts.items ≡ old.doubts.items ++ doubts_in k
-  pub sure : new.sure ≡ first_of old.sure (sure_in k)
+  pub broken : new.broken.items ≡ old.broken.items ++ broken_in k
   pub lacking : new.lacking ≡ first_of old.lacking (lacking_at x (is_none v))
-  pub defaulted : new.defaulted ≡ (old.defaulted || is_defaulted k (is_none v))
   pub useless : new.useless ≡ old.useless
 
 -- a type that isn't constant is noted, unless an earlier value is of no use
 pub record IsUntyped (p : Place) (old new : Kept) : Type 0 where
   pub known : new.known.items ≡ old.known.items
   pub held : new.held.items ≡ old.held.items
-  pub doubts : new.doubts.items ≡ (if old.useless then old.doubts.items else old.doubts.items ++ p ∷ [])
-  pub sure : new.sure ≡ (if old.useless then old.sure else first_of old.sure (Some p))
+  pub broken : new.broken.items ≡ (if old.useless then old.broken.items else old.broken.items ++ p ∷ [])
   pub lacking : new.lacking ≡ old.lacking
-  pub defaulted : new.defaulted ≡ old.defaulted
   pub useless : new.useless ≡ old.useless
   pub whole : new.whole ≡ false
 

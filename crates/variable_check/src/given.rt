@@ -84,12 +84,10 @@ pub fn given_rightly(given: &[LeafValue], params: &[DeclaredVar]) -> Result<(), 
 /// What is known of whether a start is constant.
 #[derive(Clone, Copy, Debug)]
 pub(crate) enum Constancy {
-    /// Nothing is said of it: it is constant, or an earlier value is of no use.
+    /// Nothing is said of it: it is constant, or needs a value that is of no use.
     Constant,
     /// It isn't, at this place.
     Lacking(Place),
-    /// It isn't, or it needs a value that is of no use. It begins at this place.
-    InDoubt(Place),
 }
 
 /// What a variable holds at first, if it has a value that is of use, and what is known of its start.
@@ -135,7 +133,6 @@ fn value_started(started: Started) -> Option<Value>
     match started {
         Started::Value(value) => Some(value),
         Started::Useless => None,
-        Started::Doubtful => None,
         Started::NotConstant(_) => None,
     }
 }
@@ -148,7 +145,6 @@ fn constancy_of(x: DeclaredVar, started: &Started) -> Constancy
     match started {
         Started::Value(_) => Constancy::Constant,
         Started::Useless => Constancy::Constant,
-        Started::Doubtful => Constancy::InDoubt(start_place(x)),
         Started::NotConstant(offset) => Constancy::Lacking(Place {
             file: x.file,
             offset: *offset,

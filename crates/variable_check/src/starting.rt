@@ -18,7 +18,7 @@ ghost use Rattle.variable_check.specs.Valuing.{ComesTo, said_of};
 use crate::fault::is_not_constant;
 use cal_ast::Expr;
 use cal_model::{Kind, Shape, Value, constants_are_values};
-use const_eval::{ConstFault, Env, KindFault, Names, eval_const};
+use const_eval::{Env, KindFault, Names, Stop, eval_to_end};
 use early_check::early_kind;
 use rvc_base::{Memory, Rule};
 use std::alloc::Global;
@@ -31,9 +31,8 @@ pub enum Started {
     Value(Value),
     /// No value: it needs one that is of no use, since what it belongs to broke a rule.
     Useless,
-    /// No value: either it isn't constant, or it needs a value that is of no use.
-    Doubtful,
-    /// No value: it isn't constant. The offset is that of the part that uses a name that isn't known yet.
+    /// No value: it isn't constant. The offset is that of the part that uses a name that isn't known yet, or that of the
+    /// start if only its evaluation reaches one.
     NotConstant(u32),
 }
 
@@ -100,14 +99,15 @@ fn value_at(alloc: Global, env: &Env, t: &Shape, k: &Kind, e: &Expr) -> Result<S
 {
     constants_are_values();
     let at = place_of(e);
-    match eval_const(alloc, env, e) {
+    match eval_to_end(alloc, env, e) {
         Ok(value) => Ok(kept(alloc, t, k, &value)?),
-        Err(ConstFault::Trap(_)) => Err(KindFault::Broken {
+        Err(Stop::Trap(_)) => Err(KindFault::Broken {
             rule: Rule::CONSTANT_TRAPS,
             at,
         }),
-        Err(ConstFault::NotConstant) => Ok(Started::Doubtful),
-        Err(ConstFault::Memory) => Err(KindFault::Memory),
+        Err(Stop::Lacks) => Ok(Started::NotConstant(at)),
+        Err(Stop::Clashes) => Ok(Started::Useless),
+        Err(Stop::Memory) => Err(KindFault::Memory),
     }
 }
 
@@ -151,7 +151,6 @@ fn said_of_start(started: Started) -> Started
     match started {
         Started::Value(value) => Started::Value(value),
         Started::Useless => Started::Useless,
-        Started::Doubtful => Started::Useless,
         Started::NotConstant(_) => Started::Useless,
     }
 }

@@ -1,13 +1,13 @@
 //! What variables come to.
 
-ghost use Rattle.std.specs.Prelude.{◌≡◌, ◌∷◌, ◌++◌, ◌||◌, [], IfOk, List, OnOk, false, map, option_map, true};
+ghost use Rattle.std.specs.Prelude.{◌≡◌, ◌∷◌, ◌++◌, ◌||◌, [], IfOk, List, OnOk, map, option_map, true};
 ghost use Rattle.cal_check.specs.Constants.{useless};
 ghost use Rattle.cal_check.specs.Variables.{Found, Spot, VarDecl, Valued as ValuedOf, held_if, is_none, none_yet, value_or, with_value};
 ghost use Rattle.cal_model.specs.Sound.{AreDistinct};
 ghost use Rattle.cal_model.specs.Value.{Items, Nil, kind_of_type};
 ghost use Rattle.cal_model.specs.View.{in_order, kind_view, shape_view, value_view, var_view};
 ghost use Rattle.variable_check.specs.Views.{var_decl};
-ghost use Rattle.variable_check.specs.Valuing.{AreAt, Grows, IsNoted, IsUntyped, IsValued, Notes, doubts_in, first_of, is_defaulted, lacking_at, left_over, sure_in};
+ghost use Rattle.variable_check.specs.Valuing.{AreAt, Grows, IsNoted, IsUntyped, IsValued, Notes, broken_in, first_in, first_of, lacking_at, left_over};
 
 use crate::declared::DeclaredVar;
 use crate::given::{Constancy, Settled, start_place};
@@ -36,14 +36,10 @@ pub struct Valued {
     pub known: Vec<KnownName>,
     /// Those that have a value, in the order of the text.
     pub held: Vec<BoundVar>,
-    /// Where those types and starts break the rule that aren't constant, or of which it isn't known: no others break it.
-    pub doubts: Vec<Place>,
-    /// The first of these places at which the rule is broken in any case.
-    pub sure: Option<Place>,
+    /// Where those types and starts break the rule that aren't constant, in the order of the text.
+    pub broken: Vec<Place>,
     /// Where the start of the first variable begins that has no value that is of use, though it has a type.
     pub lacking: Option<Place>,
-    /// Whether some parameter that is given a value has a default of which it isn't known whether it is constant.
-    pub defaulted: bool,
     /// Whether some variable has no value that is of use. Nothing is said then of what isn't constant behind it.
     pub useless: bool,
     /// Whether all types were found. Else the last name that is known is the one before the first without a type.
@@ -58,25 +54,29 @@ impl Valued {
         Valued {
             known: Vec::new(alloc),
             held: Vec::new(alloc),
-            doubts: Vec::new(alloc),
-            sure: None,
+            broken: Vec::new(alloc),
             lacking: None,
-            defaulted: false,
             useless: false,
             whole: true,
         }
     }
 
     /// Where something isn't constant, if the variables break a rule or one of them has no value, and nothing else is
-    /// broken. It isn't known if a parameter that is given a value has a default that is in doubt.
+    /// broken.
     pub fn not_constant(&self) -> Option<Place>
         ensures { (xs : List VarDecl) (owner : Spot) (vs : ValuedOf) → IsValued xs self.now vs
-            → AreDistinct (map (λ x. x.name) xs) → self.now.defaulted ≡ false
-            → AreAt result (left_over xs owner vs) }
+            → AreDistinct (map (λ x. x.name) xs) → AreAt result (left_over xs owner vs) }
     {
-        match self.sure {
-            Some(place) => Some(place),
-            None => self.lacking,
+        first_of(self.first_broken(), self.lacking)
+    }
+
+    /// The first of the places at which something isn't constant.
+    pub fn first_broken(&self) -> Option<Place>
+        ensures { result ≡ first_in self.now.broken.items }
+    {
+        match self.broken.first() {
+            Some(place) => Some(*place),
+            None => None,
         }
     }
 
@@ -93,7 +93,6 @@ impl Valued {
         ensures grows { OnOk result (Grows self.old self.new) }
         ensures valued { OnOk result ((xs : List VarDecl) (vs : ValuedOf) (breaks : List Found)
             → IsValued xs self.old vs → Notes settled.constancy (var_decl x.entry) breaks
-            → (vs.useless ≡ true → breaks ≡ [])
             → IsValued (xs ++ var_decl x.entry ∷ []) self.new (with_value (var_decl x.entry) (shape_view t)
             (option_map value_view settled.value) breaks vs)) }
     {
@@ -113,16 +112,14 @@ impl Valued {
         Ok(())
     }
 
-    /// Notes what is known of whether a start is constant, and whether the variable has a value.
+    /// Notes whether a start is constant, and whether the variable has a value.
     fn note(&mut self, x: DeclaredVar, settled: &Settled) -> Result<(), Memory>
         ensures { OnOk result (IsNoted settled.now.constancy (option_map value_view settled.now.value)
             (var_decl x.entry) self.old self.new) }
     {
-        let value = is_absent(&settled.value);
-        self.defaulted = either(self.defaulted, is_defaulted(settled.constancy, value));
-        self.sure = first_of(self.sure, sure_in(settled.constancy));
-        self.lacking = first_of(self.lacking, lacking_at(x, value));
-        add_doubts(&mut self.doubts, settled.constancy)
+        let absent = is_absent(&settled.value);
+        self.lacking = first_of(self.lacking, lacking_at(x, absent));
+        add_broken(&mut self.broken, settled.constancy)
     }
 
     /// Notes that the type of a variable isn't constant: nothing behind it is judged. Nothing is said of it if an earlier
@@ -134,9 +131,7 @@ impl Valued {
         if self.useless {
             return Ok(());
         }
-        self.sure = first_of(self.sure, Some(place));
-        self.doubts.push(place)?;
-        Ok(())
+        add_place(&mut self.broken, place)
     }
 }
 
@@ -147,28 +142,6 @@ fn first_of(a: Option<Place>, b: Option<Place>) -> Option<Place>
     match a {
         Some(place) => Some(place),
         None => b,
-    }
-}
-
-/// The place of a start that isn't constant.
-fn sure_in(constancy: Constancy) -> Option<Place>
-    ensures { result ≡ sure_in constancy }
-{
-    match constancy {
-        Constancy::Constant => None,
-        Constancy::Lacking(place) => Some(place),
-        Constancy::InDoubt(_) => None,
-    }
-}
-
-/// Whether a start is in doubt though there is a value, which a parameter is given then.
-fn is_defaulted(constancy: Constancy, absent: bool) -> bool
-    ensures { result ≡ is_defaulted constancy absent }
-{
-    match constancy {
-        Constancy::Constant => false,
-        Constancy::Lacking(_) => false,
-        Constancy::InDoubt(_) => !absent,
     }
 }
 
@@ -235,14 +208,13 @@ fn list_of(items: Vec<Value>) -> Value
     Value::List(Values { items })
 }
 
-/// Adds the place of a start that isn't constant or is in doubt.
-fn add_doubts(doubts: &mut Vec<Place>, constancy: Constancy) -> Result<(), Memory>
-    ensures { OnOk result (doubts.new.items ≡ doubts.old.items ++ doubts_in constancy) }
+/// Adds the place of a start that isn't constant.
+fn add_broken(broken: &mut Vec<Place>, constancy: Constancy) -> Result<(), Memory>
+    ensures { OnOk result (broken.new.items ≡ broken.old.items ++ broken_in constancy) }
 {
     match constancy {
         Constancy::Constant => Ok(()),
-        Constancy::Lacking(place) => add_place(doubts, place),
-        Constancy::InDoubt(place) => add_place(doubts, place),
+        Constancy::Lacking(place) => add_place(broken, place),
     }
 }
 

@@ -13,26 +13,25 @@ returns-then-not-values c =
     let owner = spot_of c.args.told.owner in
     let lacks : c.args.values.whole ≡ false = search rules in
     subst (λ f. IsRefused f s gs owner) (sym c.untyped.ensures)
-    (untyped_refuses c.args.values.doubts.items c.rest_of-rest.result c.args.told.owner s gs owner c.requires.values.breaks
-    (c.rest_of-rest.ensures (declared_vars s) owner (all_valued s gs owner) c.requires.values c.requires.distinct)
+    (untyped_refuses c.args.values.broken.items c.not_constant-rest.result c.args.told.owner s gs owner c.requires.values.breaks
+    (c.not_constant-rest.ensures (declared_vars s) owner (all_valued s gs owner) c.requires.values c.requires.distinct)
     c.requires.given c.requires.header.fine (sym c.requires.values.whole ∙ lacks))
 
 pub returns-in-Err : goal.returns-in-Err
 returns-in-Err c =
-    let f = c.in-Err.fault in
     let s = source_in c.args.scope.now in
     let gs = all_given c.args.told.given.now in
     let owner = spot_of c.args.told.owner in
     let whole : c.args.values.whole ≡ true = search rules in
-    subst (λ e. IsRefused e s gs owner) (sym c.sure_first.ensures)
-    (members_refuse f c.args.values.sure c.args.values.doubts.items s gs owner c.requires.values.breaks c.requires.values.sure
-    c.requires.given c.requires.header.fine (sym c.requires.values.whole ∙ whole) c.in-Err.ensures)
+    subst (λ f. IsRefused f s gs owner) (sym c.said_first.ensures)
+    (members_refuse c.in-Err.fault c.first_broken-noted.result c.args.values.broken.items s gs owner c.first_broken-noted.ensures c.requires.values.breaks
+    c.requires.header.fine (sym c.requires.values.whole ∙ whole) c.in-Err.ensures)
 
 pub returns-in-Ok : goal.returns-in-Ok
 returns-in-Ok c =
     let s = source_in c.args.scope.now in
     let gs = all_given c.args.told.given.now in
     let owner = spot_of c.args.told.owner in
-    members_settle c.in-Ok.found c.args.values.doubts.items c.rest_of-rest.result c.settled.result s gs owner c.requires.values.breaks
-    (c.rest_of-rest.ensures (declared_vars s) owner (all_valued s gs owner) c.requires.values c.requires.distinct)
+    members_settle c.in-Ok.found c.args.values.broken.items c.not_constant-rest.result c.settled.result s gs owner c.requires.values.breaks
+    (c.not_constant-rest.ensures (declared_vars s) owner (all_valued s gs owner) c.requires.values c.requires.distinct)
     c.requires.given c.requires.header.fine c.in-Ok.ensures c.settled.ensures

@@ -1,9 +1,9 @@
 use Rattle.std.proofs.Common.{◌≡◌, Err, sym, ap, subst, ◌∙◌, rules}
 use Rattle.seen_names.specs.Known.{names_differ}
+use Rattle.variable_check.specs.Causes.{IsCause}
 use Rattle.variable_check.specs.Views.{all_given, spot_of}
-use Rattle.actor_check.specs.Checked.{IsChecked, IsRefused}
+use Rattle.actor_check.specs.Checked.{IsChecked}
 use Rattle.actor_check.specs.Phases.{header_over}
-use Rattle.actor_check.specs.Sifting.{IsFault}
 use Rattle.actor_check.specs.Sources.{source_in}
 use Rattle.actor_check.proofs.Naming.{names_of_funs_differ, names_of_vars_differ}
 use Rattle.actor_check.proofs.Telling.{early_refuses, given_refuses, header_refuses}
@@ -36,16 +36,17 @@ returns-in_err-check_given c =
     let gs = all_given c.args.told.given.now in
     let owner = spot_of c.args.told.owner in
     let same : c.from_residual-in_err-check_given.result ≡ Err f = search rules in
-    subst (λ r. IsChecked r s gs owner) (sym same) (given_refuses f s gs owner c.in_err-check_given.ensures)
+    subst (λ r. IsChecked r s gs owner) (sym same)
+    (given_refuses f s gs owner c.in_err-check_given.ensures.found c.in_err-check_given.ensures.said)
 
-pub returns-in-Err : goal.returns-in-Err
-returns-in-Err c =
-    let f = c.in-Err.fault in
+pub returns-in_err-header : goal.returns-in_err-header
+returns-in_err-header c =
+    let f = c.in_err-header.field-0.0 in
     let s = source_in c.args.scope.now in
     let gs = all_given c.args.told.given.now in
     let owner = spot_of c.args.told.owner in
-    let values = c.in_ok-early.early.values in
-    let known = c.in_ok-early.ensures.values in
-    subst (λ e. IsRefused e s gs owner) (sym c.sure_first.ensures)
-    (header_refuses f values.sure values.doubts.items s gs owner known.breaks known.sure c.in_ok-check_given.ensures
-    (subst (λ n. IsFault f (header_over s n)) c.in_ok-early.ensures.header c.in-Err.ensures))
+    let same : c.from_residual-in_err-header.result ≡ Err f = search rules in
+    let told = c.in_err-header.ensures in
+    subst (λ r. IsChecked r s gs owner) (sym same)
+    (header_refuses f told.0 c.first_broken-noted.result c.in_ok-early.early.values.broken.items s gs owner c.first_broken-noted.ensures c.in_ok-early.ensures.values.breaks
+    told.1 (subst (λ n. IsCause told.0 (header_over s n)) c.in_ok-early.ensures.header told.2))

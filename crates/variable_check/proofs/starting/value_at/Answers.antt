@@ -1,14 +1,14 @@
-use Rattle.std.proofs.Common.{◌≡◌, ◌⊎◌, [], Ok, None, refl, sym, ap, subst, ◌∙◌, rules}
+use Rattle.std.proofs.Common.{◌≡◌, Ok, None, refl, sym, ap, subst, ◌∙◌, rules}
 use Rattle.rvc_base.specs.Rules.{constant_traps, not_constant}
 use Rattle.cal_ast.specs.Places.{begins}
 use Rattle.cal_ast.specs.View.{expr_tree}
 use Rattle.cal_check.specs.Violations.{violation}
-use Rattle.cal_model.specs.Outcome.{Gives, Traps}
+use Rattle.cal_model.specs.Outcome.{Clashes, Gives, Lacks, Traps}
 use Rattle.cal_model.specs.View.{shape_view, value_view}
-use Rattle.const_eval.specs.Evaluable.{HasNoValue, value_of}
+use Rattle.const_eval.specs.Evaluable.{value_of}
 use Rattle.const_eval.specs.Held.{held}
 use Rattle.variable_check.specs.Valuing.{ComesTo, came}
-use Rattle.variable_check.proofs.Starts.{doubtful, start_is}
+use Rattle.variable_check.proofs.Starts.{start_is}
 use Rattle.variable_check.proofs.starting.value_at.Goals as goal
 
 pub returns-in_ok-kept-in-Ok : goal.returns-in_ok-kept-in-Ok
@@ -26,10 +26,13 @@ returns-in-Err-Trap c =
       refl,
     )
 
-pub returns-in-Err-NotConstant : goal.returns-in-Err-NotConstant
-returns-in-Err-NotConstant c =
-    let o = value_of (expr_tree c.args.e.now) (held c.args.env.now) in
-    let none : HasNoValue (value_of (expr_tree c.args.e.now) (held c.args.env.now)) = search rules in
-    subst (λ d. (d ≡ came None []) ⊎ (d ≡ came None (violation not_constant (begins (expr_tree c.args.e.now)))))
-    (sym (start_is c.constants_are_values.ensures c.args.env.now (shape_view c.args.t.now) (expr_tree c.args.e.now) o refl))
-    (doubtful o (shape_view c.args.t.now) (begins (expr_tree c.args.e.now)) none)
+pub returns-in-Err-Lacks : goal.returns-in-Err-Lacks
+returns-in-Err-Lacks c =
+    let lacks : value_of (expr_tree c.args.e.now) (held c.args.env.now) ≡ Lacks = search rules in
+    start_is c.constants_are_values.ensures c.args.env.now (shape_view c.args.t.now) (expr_tree c.args.e.now) Lacks lacks
+    ∙ ap (λ p. came None (violation not_constant p)) (sym c.place_of-at.ensures)
+
+pub returns-in-Err-Clashes : goal.returns-in-Err-Clashes
+returns-in-Err-Clashes c =
+    let clashes : value_of (expr_tree c.args.e.now) (held c.args.env.now) ≡ Clashes = search rules in
+    start_is c.constants_are_values.ensures c.args.env.now (shape_view c.args.t.now) (expr_tree c.args.e.now) Clashes clashes

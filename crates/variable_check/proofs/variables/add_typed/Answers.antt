@@ -25,4 +25,4 @@ returns-in-Ok-add-clause-declares c = λ xs vs h.
     let s = c.in_ok-settled.settled in
     come_added c.add.new.self xs (var_decl c.args.x) (all_given c.args.told.given.now) (spot_of c.args.told.owner) (shape_view c.args.t) start vs c.args.so_far.now.useless
     (option_map value_view s.value) s.constancy h.useless c.in_ok-settled.ensures.0 c.in_ok-settled.ensures.1 c.in_ok-settled.ensures.2
-    (λ breaks n quiet. c.in-Ok-add.ensures.valued xs vs breaks h n quiet)
+    (λ breaks n. c.in-Ok-add.ensures.valued xs vs breaks h n)

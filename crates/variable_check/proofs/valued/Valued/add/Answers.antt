@@ -11,7 +11,7 @@ use Rattle.variable_check.proofs.Adding.{last_behind, valued_added}
 use Rattle.variable_check.proofs.valued.Valued.add.Goals as goal
 
 pub returns-clause-valued : goal.returns-clause-valued
-returns-clause-valued c = λ xs vs breaks h n quiet.
+returns-clause-valued c = λ xs vs breaks h n.
     let t = shape_view c.args.t in
     let v = option_map value_view c.args.settled.value in
     let k : KnownName = record { name = c.in_ok-name.name; kind = c.args.k; value = c.in_ok-value.value; changes = c.args.x.changes } in
@@ -29,7 +29,7 @@ returns-clause-valued c = λ xs vs breaks h n quiet.
     ∙ ap (λ w. record { name = c.args.x.name.now; kind = kind_view c.args.k; value = Some w; changes = c.args.x.changes } ∷ all_known c.args.self.now.known.items) value
     ∙ ap (λ j. record { name = c.args.x.name.now; kind = j; value = Some (value_or v j); changes = c.args.x.changes } ∷ all_known c.args.self.now.known.items) c.requires)
     (held ∙ ap (λ hs. held_if v (var_decl c.args.x) t (map var_view hs)) noted.held)
-    noted.doubts noted.sure noted.lacking noted.defaulted (useless ∙ ap (λ u. u || is_none v) noted.useless) refl h n quiet
+    noted.broken noted.lacking (useless ∙ ap (λ u. u || is_none v) noted.useless) refl h n
 
 pub returns-clause-grows : goal.returns-clause-grows
 returns-clause-grows c =

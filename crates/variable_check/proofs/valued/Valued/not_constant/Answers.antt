@@ -1,12 +1,10 @@
-use Rattle.std.proofs.Common.{subst}
-use Rattle.std.specs.Prelude.{Contains, IfSome}
-use Rattle.variable_check.specs.Causes.{doubt}
-use Rattle.variable_check.proofs.Firsts.{lacking_left, sure_left}
+use Rattle.std.proofs.Common.{◌≡◌, sym, subst, rules}
+use Rattle.variable_check.specs.Valuing.{AreAt, first_in, first_of, left_over}
+use Rattle.variable_check.proofs.Firsts.{none_constant}
 use Rattle.variable_check.proofs.valued.Valued.not_constant.Goals as goal
 
-pub returns-in-Some : goal.returns-in-Some
-returns-in-Some c = λ xs owner vs h d f.
-    sure_left c.in-Some.place xs owner vs (subst (λ o. IfSome o (λ p. Contains vs.breaks (doubt p))) c.in-Some.is h.sure)
-
-pub returns-in-None : goal.returns-in-None
-returns-in-None c = λ xs owner vs h d f. lacking_left c.args.self.now.lacking xs owner vs d (h.lacks c.in-None.is f)
+pub returns : goal.returns
+returns c = λ xs owner vs h d.
+    let is : c.first_of.result ≡ first_of (first_in c.args.self.now.broken.items) c.args.self.now.lacking = search rules in
+    subst (λ o. AreAt o (left_over xs owner vs)) (sym is)
+    (none_constant c.args.self.now.broken.items c.args.self.now.lacking xs owner vs h.breaks d h.lacks)
