@@ -21,7 +21,7 @@ use Rattle.expr_lower.proofs.Runs.{stands_left, stands_right}
 use Rattle.stmt_lower.specs.Calls.{HasRunRoutines}
 use Rattle.stmt_lower.specs.Procedures.{Routines}
 use Rattle.stmt_lower.proofs.Executed.{grows_start}
-use Rattle.stmt_lower.proofs.FittedJumps.{fits_none}
+use Rattle.list_lower.proofs.FittedJumps.{fits_none}
 use Rattle.stmt_lower.proofs.FittedStmts.{cell_below, fits_start}
 use Rattle.action_lower.specs.LocalCode.{AreStarted, none_started, start_more}
 use Rattle.action_lower.specs.Sending.{AreOutputs, AreStored, no_output, no_value, output_more, value_more}
