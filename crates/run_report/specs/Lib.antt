@@ -1,0 +1,4 @@
+pub mod Status
+pub mod Report
+pub mod Puts
+pub mod Steps

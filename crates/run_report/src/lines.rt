@@ -1,0 +1,172 @@
+//! The lines of a report before its last one.
+
+ghost use Rattle.std.specs.Prelude.{◌≡◌, ◌++◌, ℕ, true, [], slice_index_or, string_bytes};
+ghost use Rattle.port_words.specs.Matching.{names_of};
+ghost use Rattle.run_report.specs.Puts.{Puts};
+ghost use Rattle.run_report.specs.Report.{count_lines, in_line, in_lines, in_lines_at, out_line, out_lines, run_lines, size_lines};
+
+use crate::puts::{REPORT_CHANNEL, put_between, put_line, put_number, put_numbered};
+use net_model::{Counts, End, Link, Port, Wiring};
+use rvc_io::{Drains, Failed};
+
+/// How many instances and links a network has, and how many of its instances are certified.
+#[derive(Clone, Copy, Debug, PartialEq, Eq)]
+pub struct RunNumbers {
+    pub instances: u64,
+    pub links: u64,
+    pub certified: u64,
+}
+
+/// Puts the lines of the verb `check`, but for the last one: how many instances and links there are.
+///
+/// # Errors
+///
+/// `Failed` if they couldn't be put whole.
+pub fn put_check_lines<D: Drains>(
+    instances: u64,
+    links: u64,
+    drains: &mut D,
+) -> Result<(), Failed>
+    requires { (D.channels drains.old).is_open REPORT_CHANNEL ≡ true }
+    ensures { Puts result (size_lines instances links) (D.channels drains.old)
+        (D.channels drains.new) }
+{
+    put_line(b"instances ", instances, drains)?;
+    put_line(b"links ", links, drains)
+}
+
+/// Puts the lines of a run, but for the last one: the numbers of the network and of the run, a line for each input link,
+/// and one for each output.
+///
+/// # Errors
+///
+/// `Failed` if they couldn't be put whole.
+pub fn put_run_lines<D: Drains>(
+    numbers: RunNumbers,
+    wiring: &Wiring,
+    counts: &Counts,
+    drains: &mut D,
+) -> Result<(), Failed>
+    requires { (D.channels drains.old).is_open REPORT_CHANNEL ≡ true }
+    ensures { Puts result (run_lines numbers wiring.now.links.items
+        (names_of wiring.now.ins.items) (names_of wiring.now.outs.items) counts.now)
+        (D.channels drains.old) (D.channels drains.new) }
+{
+    put_check_lines(numbers.instances, numbers.links, drains)?;
+    put_counts(numbers.certified, counts, drains)?;
+    put_inputs(wiring.links.as_slice(), wiring.ins.as_slice(), counts, drains)?;
+    put_outputs(wiring.outs.as_slice(), counts, drains)
+}
+
+/// Puts the numbers of a run.
+fn put_counts<D: Drains>(certified: u64, counts: &Counts, drains: &mut D) -> Result<(), Failed>
+    requires { (D.channels drains.old).is_open REPORT_CHANNEL ≡ true }
+    ensures { Puts result (count_lines certified counts.now) (D.channels drains.old)
+        (D.channels drains.new) }
+{
+    put_line(b"certified ", certified, drains)?;
+    put_line(b"firings ", counts.firings, drains)?;
+    put_line(b"rounds ", counts.rounds, drains)
+}
+
+/// Puts the lines of input links.
+fn put_inputs<D: Drains>(
+    links: &[Link],
+    ins: &[Port],
+    counts: &Counts,
+    drains: &mut D,
+) -> Result<(), Failed>
+    requires { (D.channels drains.old).is_open REPORT_CHANNEL ≡ true }
+    ensures { Puts result (in_lines 0 links.now (names_of ins.now) counts.now)
+        (D.channels drains.old) (D.channels drains.new) }
+{
+    let mut number = 0;
+    let mut rest = links;
+    'links: while let Some((link, others)) = rest.split_first() {
+        put_link(link, number, ins, counts, drains)?;
+        number += 1;
+        rest = others;
+    }
+    Ok(())
+}
+
+/// Puts the line of a link, if it begins at an input.
+fn put_link<D: Drains>(
+    link: &Link,
+    number: usize,
+    ins: &[Port],
+    counts: &Counts,
+    drains: &mut D,
+) -> Result<(), Failed>
+    requires { (D.channels drains.old).is_open REPORT_CHANNEL ≡ true }
+    ensures { Puts result (in_lines_at link.now.from number (names_of ins.now) counts.now)
+        (D.channels drains.old) (D.channels drains.new) }
+{
+    match link.from {
+        End::Leaf { inst: _, port: _ } => Ok(()),
+        End::Net { port } => {
+            let arrived = number_at(counts.arrived.as_slice(), number);
+            let rest = u64::from(rest_at(counts.rests.as_slice(), number));
+            put_between(b"in ", name_at(ins, port as usize), b" ", drains)?;
+            put_number(number as u64, drains)?;
+            put_numbered(b" tokens ", arrived, drains)?;
+            put_line(b" rest ", rest, drains)
+        }
+    }
+}
+
+/// Puts the lines of outputs.
+fn put_outputs<D: Drains>(outs: &[Port], counts: &Counts, drains: &mut D) -> Result<(), Failed>
+    requires { (D.channels drains.old).is_open REPORT_CHANNEL ≡ true }
+    ensures { Puts result (out_lines 0 (names_of outs.now) counts.now) (D.channels drains.old)
+        (D.channels drains.new) }
+{
+    let mut number = 0;
+    let mut rest = outs;
+    'outs: while let Some((port, others)) = rest.split_first() {
+        put_output(port, number_at(counts.sent.as_slice(), number), drains)?;
+        number += 1;
+        rest = others;
+    }
+    Ok(())
+}
+
+/// Puts the line of an output, to which so many tokens were sent.
+fn put_output<D: Drains>(port: &Port, sent: u64, drains: &mut D) -> Result<(), Failed>
+    requires { (D.channels drains.old).is_open REPORT_CHANNEL ≡ true }
+    ensures { Puts result (out_line (string_bytes port.now.name) sent) (D.channels drains.old)
+        (D.channels drains.new) }
+{
+    put_between(b"out ", port.name.as_bytes(), b" tokens ", drains)?;
+    put_line(b"", sent, drains)
+}
+
+/// The name of the port at a place, or nothing.
+fn name_at(ports: &[Port], place: usize) -> &[u8]
+    ensures { result.now ≡ slice_index_or (names_of ports.now) place [] }
+{
+    match ports.get(place) {
+        Some(port) => port.name.as_bytes(),
+        None => b"",
+    }
+}
+
+/// The number at a place, or 0.
+fn number_at(numbers: &[u64], place: usize) -> u64
+    ensures { result ≡ slice_index_or numbers.now place 0 }
+{
+    match numbers.get(place) {
+        Some(number) => *number,
+        None => 0,
+    }
+}
+
+/// The number at a place, or 0.
+fn rest_at(numbers: &[u8], place: usize) -> u8
+    ensures { result ≡ slice_index_or numbers.now place 0 }
+{
+    match numbers.get(place) {
+        Some(number) => *number,
+        None => 0,
+    }
+}

@@ -1,0 +1,4 @@
+pub mod Actors
+pub mod Names
+pub mod Sizes
+pub mod Views
