@@ -99,31 +99,46 @@ pub(crate) fn add(set: &mut NetSet, class: &str, file: u32, net: NetFile) -> Res
     }
 }
 
-/// The set of these networks.
-fn set_of(alloc: Global, nets: &str) -> Result<NetSet, Front> {
-    let Ok(mut set) = NetSet::new(alloc) else {
-        return Err(NOTHING);
-    };
+/// Adds these networks to a set.
+fn add_all(alloc: Global, set: &mut NetSet, nets: &str) -> Result<(), Front> {
     let mut file = 0u32;
     for net in nets.split("\nnet ") {
         let (class, text) = cut(net, " ");
         file = file.saturating_add(1);
         let net = read(alloc, file, text)?;
-        add(&mut set, class, file, net)?;
+        add(set, class, file, net)?;
     }
-    Ok(set)
+    Ok(())
 }
 
-/// The tree that networks make from the class of the top down.
-fn tree_from(alloc: Global, nets: &str) -> Result<Tree, Front>
+/// The set of these networks.
+fn set_of(alloc: Global, nets: &str) -> Result<NetSet, Front> {
+    let Ok(mut set) = NetSet::new(alloc) else {
+        return Err(NOTHING);
+    };
+    match add_all(alloc, &mut set, nets) {
+        Ok(()) => Ok(set),
+        Err(front) => Err(front),
+    }
+}
+
+/// The tree that networks of a set make from a class down.
+fn tree_in(alloc: Global, set: &NetSet, top: &str) -> Result<Tree, Front>
     ensures { IfOk result (λ tree. IsSound (tree_of tree)) }
 {
-    let set = set_of(alloc, nets)?;
-    let (top, _) = cut(nets, " ");
     if !set.has(top) {
         return Err(NOTHING);
     }
-    bind(alloc, &set, top)
+    bind(alloc, set, top)
+}
+
+/// The tree that networks make from the first of them down.
+fn tree_from(alloc: Global, nets: &str) -> Result<Tree, Front>
+    ensures { IfOk result (λ tree. IsSound (tree_of tree)) }
+{
+    let (top, _) = cut(nets, " ");
+    let set = set_of(alloc, nets)?;
+    tree_in(alloc, &set, top)
 }
 
 /// What a sound tree comes to.
