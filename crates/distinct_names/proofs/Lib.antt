@@ -1,0 +1,5 @@
+mod Counts
+pub mod WordTokens
+mod WordsLeft
+pub mod NamedMembers
+mod Walked
