@@ -2,19 +2,18 @@
 use Rattle.std.proofs.Common.{◌≡◌, ℕ, ◌+◌, ◌≤◌, Bool, true, false, List, [], ◌∷◌, ◌++◌, map, refl, sym, ap, subst, ◌∙◌, arith}
 use Rattle.std.proofs.lemmas.List.{map-append}
 use Rattle.std.proofs.lemmas.Slice.Eq.{bytes_eq-Decides}
-use Rattle.std.specs.Prelude.{Option, None, Some, is_some, if◌then◌else◌}
+use Rattle.std.specs.Prelude.{Some, is_some, if◌then◌else◌}
 use Rattle.std.specs.Str.{bytes_eq}
 use Rattle.rvc_base.specs.Rules.{declared_twice}
 use Rattle.cal_ast.specs.Tree as tree
 use Rattle.cal_ast.specs.Tree.{Tree}
 use Rattle.cal_model.specs.Kinding.{Judged, Fine, Broken, and_so}
-use Rattle.cal_scope.specs.Globals.{global, with_all_declared, with_declared, with_global, names_of_actor}
+use Rattle.cal_scope.specs.Globals.{with_all_declared, with_declared, with_global}
 use Rattle.cal_scope.specs.Names.{Global, global_named}
-use Rattle.cal_scope.specs.declared.role.Role.{Role}
 use Rattle.cal_check.specs.Actors.{params_of}
 use Rattle.cal_imports.specs.Brought.{names_declared}
 use Rattle.cal_imports.specs.Whole.{members_of}
-use Rattle.distinct_names.proofs.Counts.{AreSingle, count, count-append, itself, one}
+use Rattle.distinct_names.proofs.Counts.{AreSingle, count, count-append, one}
 use Rattle.distinct_names.proofs.NamedMembers.{AreNamed, IsNamed}
 use Rattle.distinct_names.proofs.WordTokens.{IsWord}
 

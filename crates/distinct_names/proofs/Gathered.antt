@@ -8,16 +8,15 @@ use Rattle.cal_ast.specs.Tree as tree
 use Rattle.cal_ast.specs.Tree.{Tree}
 use Rattle.cal_model.specs.Kinding.{Judged, Fine, Broken}
 use Rattle.cal_model.specs.Sound.{Each}
-use Rattle.cal_scope.specs.Names.{Global}
 use Rattle.cal_check.specs.Actors.{params_of}
 use Rattle.cal_imports.specs.Answer.{Answer, Gives, Refuses, and_then, in_file}
 use Rattle.cal_imports.specs.Brought.{imports_brought, names_declared, names_seen, with_seen}
 use Rattle.cal_imports.specs.OneFile.{body_resolved, source_resolved}
 use Rattle.cal_imports.specs.Sources.{Source, as_asked, body_of, dot, imports_of, source_named}
 use Rattle.cal_imports.specs.Whole.{Gathered, Outer, members_of, outer, source_gathered, unit_gathered, units_gathered, with_declaration, with_declarations}
-use Rattle.distinct_names.proofs.Counts.{AreSingle, count, count-append, counted_same, itself, one}
+use Rattle.distinct_names.proofs.Counts.{AreSingle, count, count-append, itself, one}
 use Rattle.distinct_names.proofs.Declarations.{Declared, a_param, a_procedure, a_routine, a_variable, nothing, declared, declared_once, times, total}
-use Rattle.distinct_names.proofs.Kept.{AreLike, IsLikeBody, body_kept}
+use Rattle.distinct_names.proofs.Kept.{body_kept}
 use Rattle.distinct_names.proofs.NamedMembers.{AreNamed, IsNamed, IsNamedBody}
 use Rattle.distinct_names.proofs.WordTokens.{IsWord, split}
 

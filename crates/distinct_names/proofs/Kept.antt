@@ -1,5 +1,5 @@
 -- A file with each name written out in full declares what it declared before.
-use Rattle.std.proofs.Common.{◌≡◌, ℕ, ◌+◌, Bool, true, false, List, [], ◌∷◌, refl, sym, ap, subst, ◌∙◌, arith}
+use Rattle.std.proofs.Common.{◌≡◌, ℕ, Bool, true, false, List, [], ◌∷◌, refl, ap, subst, arith}
 use Rattle.std.specs.Prelude.{if◌then◌else◌}
 use Rattle.rvc_base.specs.Rules.{declared_twice}
 use Rattle.cal_ast.specs.Tree as tree
@@ -13,8 +13,8 @@ use Rattle.cal_scope.specs.Statements.{else_resolved, stmts_resolved, var_resolv
 use Rattle.cal_check.specs.Actors.{params_of}
 use Rattle.cal_imports.specs.OneFile.{body_resolved, header_resolved, param_resolved, params_resolved}
 use Rattle.cal_imports.specs.Whole.{members_of}
-use Rattle.distinct_names.proofs.Declarations.{Declared, declared, fine_same, so_gave, total, times}
-use Rattle.distinct_names.proofs.NamedMembers.{AreNamed, IsNamed, IsNamedBody}
+use Rattle.distinct_names.proofs.Declarations.{declared, fine_same, so_gave, total, times}
+use Rattle.distinct_names.proofs.NamedMembers.{AreNamed, IsNamed}
 
 -- another tree declares the same, and has a name if this one has
 pub record IsLike (m r : Tree) : Type 0 where

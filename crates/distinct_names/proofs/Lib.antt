@@ -1,9 +1,11 @@
 mod Counts
-pub mod WordTokens
+mod WordTokens
 mod WordsLeft
-pub mod NamedMembers
+mod NamedMembers
 mod Walked
 mod Declarations
 mod Kept
 mod Gathered
 mod OwnNames
+pub mod Scopes
+pub mod Loaded

@@ -7,7 +7,7 @@ use Rattle.cal_imports.specs.Sources.{body_of}
 use Rattle.cal_imports.specs.Whole.{members_of}
 use Rattle.cal_lexer.specs.Lexeme.{Placed}
 use Rattle.cal_grammar.specs.Operators.{with_package}
-use Rattle.cal_grammar.specs.Spells.{Mark, Part, Spells, any, repeated, rest, separated, a_file, a_function, a_labelled, a_member, a_param, a_procedure, a_schedule, a_unit_member, a_var, an_actor, a_unit, comma, members, some_imports, the_separated, the_last, the_more, the_none, the_some, the_end, the_again, the_var, the_var_changing, the_var_constant, the_param, the_param_default, the_function, the_procedure, the_action, the_initialize, the_unlabelled, the_labelled, the_schedule, the_priority, the_var_member, the_function_member, the_procedure_member, the_action_member, the_priority_member, the_no_members, the_member, the_schedule_member, the_unit_var, the_unit_function, the_actor, the_unit, the_actor_file, the_unit_file, the_file, the_package_file}
+use Rattle.cal_grammar.specs.Spells.{Spells, any, repeated, rest, separated, a_file, a_function, a_labelled, a_member, a_param, a_procedure, a_schedule, a_unit_member, a_var, an_actor, a_unit, comma, members, some_imports, the_separated, the_last, the_more, the_none, the_some, the_end, the_again, the_var, the_var_changing, the_var_constant, the_param, the_param_default, the_function, the_procedure, the_action, the_initialize, the_unlabelled, the_labelled, the_schedule, the_priority, the_var_member, the_function_member, the_procedure_member, the_action_member, the_priority_member, the_no_members, the_member, the_schedule_member, the_unit_var, the_unit_function, the_actor, the_unit, the_actor_file, the_unit_file, the_file, the_package_file}
 use Rattle.distinct_names.proofs.WordTokens.{AreWords, IsWord}
 use Rattle.distinct_names.proofs.WordsLeft.{words_left}
 

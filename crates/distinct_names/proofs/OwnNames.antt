@@ -1,13 +1,12 @@
 -- The texts that stand for an actor's declarations, by those of other files and its own.
-use Rattle.std.proofs.Common.{◌≡◌, ℕ, ◌+◌, ◌≤◌, List, [], ◌∷◌, ◌++◌, map, refl, sym, ap, subst, ◌∙◌, arith}
+use Rattle.std.proofs.Common.{◌≡◌, ℕ, ◌+◌, ◌≤◌, List, ◌++◌, map, ap, ◌∙◌, arith}
 use Rattle.std.proofs.lemmas.List.{map-append}
-use Rattle.std.specs.Str.{bytes_eq}
 use Rattle.cal_ast.specs.Tree as tree
 use Rattle.cal_ast.specs.Tree.{Tree}
 use Rattle.cal_check.specs.Actors.{Source, all_funs, declared_vars, funs_in, members_of, params_in, params_of, procs_in, vars_in}
 use Rattle.cal_check.specs.Sources.{names_of_source, proc_name, procs_of_source}
 use Rattle.cal_imports.specs.Whole as whole
-use Rattle.distinct_names.proofs.Counts.{AreSingle, count, count-append, one}
+use Rattle.distinct_names.proofs.Counts.{count, count-append}
 use Rattle.distinct_names.proofs.Declarations.{IsWordOr, never, is_word, either_word, total, total_word}
 use Rattle.distinct_names.proofs.Gathered.{IsFineBody}
 use Rattle.distinct_names.proofs.NamedMembers.{AreNamed}

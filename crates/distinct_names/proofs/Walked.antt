@@ -1,12 +1,12 @@
 -- A walk leaves each node once.
-use Rattle.std.proofs.Common.{◌≡◌, ℕ, zero, suc, ◌+◌, ◌≤◌, Bool, true, false, ◌||◌, List, [], ◌∷◌, ◌++◌, refl, sym, ap, subst, ◌∙◌, arith}
+use Rattle.std.proofs.Common.{◌≡◌, ℕ, zero, suc, ◌+◌, ◌≤◌, Bool, true, false, ◌||◌, List, [], ◌∷◌, ◌++◌, refl, ap, subst, ◌∙◌, arith}
 use Rattle.std.proofs.lemmas.Slice.Eq.{bytes_eq-Decides}
 use Rattle.std.specs.Prelude.{Option, None, Some, if◌then◌else◌}
 use Rattle.std.specs.Str.{bytes_eq}
 use Rattle.cal_scope.specs.Names.{is_among, with_name}
 use Rattle.cal_imports.specs.Answer.{Answer, Gives, Refuses}
 use Rattle.cal_imports.specs.Walk.{Edge, Graph, Node, Open, Step, Goes, Ends, Stops, Walk, begun, entered_from, followed, left_inside, node_named, order_from, past, step, step_at, step_in, steps_left, walk, walk_on, with_open}
-use Rattle.distinct_names.proofs.Counts.{AreSingle, at_most_one, count, count-append, counted_same, itself, one}
+use Rattle.distinct_names.proofs.Counts.{AreSingle, count, count-append, one}
 
 -- ---- names with one more
 

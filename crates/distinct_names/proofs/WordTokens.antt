@@ -5,7 +5,7 @@ use Rattle.std.specs.Char.{is_ascii_digit, is_ascii_hexdigit}
 use Rattle.std.specs.List.{list_all}
 use Rattle.cal_imports.specs.Sources.{dot}
 use Rattle.cal_lexer.specs.Lexeme.{Lexeme, Placed, placed}
-use Rattle.cal_lexer.specs.Lexes.{LexesFrom, ends, after_gap, after_token, lexes}
+use Rattle.cal_lexer.specs.Lexes.{LexesFrom, ends, after_gap, after_token}
 use Rattle.cal_lexer.specs.Lexis.{begins_name, decimal_number, find, first_of_both, goes_on_name, hexadecimal, long_ends, number, reserved, symbol, symbols_of_one, symbols_of_three, symbols_of_two, token_of, value_of, word, words}
 use Rattle.cal_grammar.specs.Token.{names}
 
