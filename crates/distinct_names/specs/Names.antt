@@ -15,7 +15,7 @@ use Rattle.actor_files.specs.FileText.{IsFile}
 use Rattle.actor_files.specs.Loading.{IsLoaded, Library}
 use Rattle.actor_files.specs.Reads.{Read, sources_of}
 use Rattle.source_network.specs.Files as network
-use Rattle.source_network.specs.Files.{AreLoaded, Asked, files_of}
+use Rattle.source_network.specs.Files.{AreLoaded, Asked, Says, files_of, is_network}
 
 -- ---- files that texts spell
 
@@ -28,12 +28,21 @@ pub record IsSpelled (source : Source) : Type 0 where
 abbrev pub AreSpelled : List Source → Type 0
 AreSpelled sources = Each IsSpelled sources
 
+-- each of these files says what its text spells, whatever was told of the text
+abbrev pub AreSaid : List network.Read → Type 0
+AreSaid reads = Each (λ r. Says r.text (is_network r.content) r.content) reads
+
 -- the files that are loaded for an actor are spelled
 abbrev pub ActorFilesAreSpelled : Type 0
 ActorFilesAreSpelled = (library : Library) (top : List ℕ) (reads : List Read)
     → IsLoaded library top reads → AreSpelled (sources_of reads)
 
--- .. and so are the actors and units among the files of a network
+-- .. and so are the actors and units among files that say what their texts spell
+abbrev pub SaidFilesAreSpelled : Type 0
+SaidFilesAreSpelled = (reads : List network.Read)
+    → AreSaid reads → AreSpelled (files_of reads).sources
+
+-- .. as among the files that are loaded for a network
 abbrev pub NetworkFilesAreSpelled : Type 0
 NetworkFilesAreSpelled = (library : Library) (top : Asked) (reads : List network.Read)
     → AreLoaded library top reads → AreSpelled (files_of reads).sources
@@ -54,7 +63,12 @@ abbrev pub ActorNamesDiffer : Type 0
 ActorNamesDiffer = (library : Library) (top : List ℕ) (names : List (List ℕ)) (scope : Scope)
     → HasActor library top names scope → NamesDifferIn scope
 
--- .. of an actor among the files of a network
+-- .. of an actor among files that say what their texts spell
+abbrev pub SaidNamesDiffer : Type 0
+SaidNamesDiffer = (reads : List network.Read) (class : List ℕ) (scope : Scope)
+    → AreSaid reads → resolved (files_of reads).sources class ≡ Gives scope → NamesDifferIn scope
+
+-- .. as of one among the files that are loaded for a network
 abbrev pub NetworkNamesDiffer : Type 0
 NetworkNamesDiffer = (library : Library) (top : Asked) (reads : List network.Read)
     (class : List ℕ) (scope : Scope) → AreLoaded library top reads

@@ -6,10 +6,13 @@
 //! one stands for a declaration of the actor's own file. Within one file the rules of scope refuse a name that is declared
 //! twice, and each unit is gathered once.
 //!
-//! [`names_differ`] says so of any files that texts spell, [`actor_files_are_spelled`] and [`network_files_are_spelled`]
-//! of the files that are loaded for an actor and for a network.
+//! [`names_differ`] says so of any files that texts spell. [`actor_files_are_spelled`], [`said_files_are_spelled`] and
+//! [`network_files_are_spelled`] say which files are: those that are loaded for an actor, any that say what their texts
+//! spell, and those that are loaded for a network.
 #![tactic(auto)]
 
 mod laws;
 
-pub use laws::{actor_files_are_spelled, names_differ, network_files_are_spelled};
+pub use laws::{
+    actor_files_are_spelled, names_differ, network_files_are_spelled, said_files_are_spelled,
+};
