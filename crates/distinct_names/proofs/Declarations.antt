@@ -12,6 +12,7 @@ use Rattle.cal_scope.specs.Globals.{with_all_declared, with_declared, with_globa
 use Rattle.cal_scope.specs.Names.{Global, global_named}
 use Rattle.cal_check.specs.Actors.{params_of}
 use Rattle.cal_imports.specs.Brought.{names_declared}
+use Rattle.cal_imports.specs.Sources.{dot}
 use Rattle.cal_imports.specs.Whole.{members_of}
 use Rattle.distinct_names.proofs.Counts.{AreSingle, count, count-append, one}
 use Rattle.distinct_names.proofs.NamedMembers.{AreNamed, IsNamed}
@@ -134,7 +135,7 @@ all_add before _ here out h = adds_none here out h
 -- The parameters and members of a body declare each name once.
 pub declared_once : (class : List ℕ) (body : Tree) (own : List Global) → names_declared class body ≡ Fine own → (x : List ℕ) → total x (params_of body) + total x (members_of body) ≤ 1
 declared_once class (tree.unit name members at) own h x =
-    let a = all_add (class ++ 46 ∷ []) members [] own h in
+    let a = all_add (class ++ dot ∷ []) members [] own h in
     let e = a.counts x in
     let f = a.single (λ y. omega arith) x in
     omega arith

@@ -44,7 +44,7 @@ pub fine_body : (files : List Source) (s : Source) (body : Tree) → IsNamedBody
 fine_body files s body named h =
     let (seen, a, i) = then_gave (names_seen files s) (λ seen. in_file s.file (body_resolved (body_of s.tree) seen)) body h in
     let (own, b, j) = then_gave (in_file s.file (names_declared s.name (body_of s.tree)))
-        (λ own. and_then (imports_brought files s.file (imports_of s.tree) []) (λ brought. Gives (with_seen brought own))) seen a in
+    (λ own. and_then (imports_brought files s.file (imports_of s.tree) []) (λ brought. Gives (with_seen brought own))) seen a in
     let like = body_kept (body_of s.tree) body seen (in_file_gave s.file (body_resolved (body_of s.tree) seen) body i) in
     let declares = in_file_gave s.file (names_declared s.name (body_of s.tree)) own b in
     record {

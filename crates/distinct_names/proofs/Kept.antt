@@ -186,13 +186,13 @@ actor_kept : (nm params ins outs members : Tree) (at : ℕ) (r : Tree) (seen : L
 actor_kept nm params ins outs members at r seen h =
     let names = outermost seen in
     let (ps, a, i) = so_gave (params_resolved params names)
-        (λ ps. and_so (header_resolved ins names) (λ is. and_so (header_resolved outs names) (λ os. and_so (members_resolved members (ports_of ins outs) names)
-        (λ ms. Fine (tree.actor nm (listed ps) (listed is) (listed os) (listed ms) at))))) r h in
+    (λ ps. and_so (header_resolved ins names) (λ is. and_so (header_resolved outs names) (λ os. and_so (members_resolved members (ports_of ins outs) names)
+    (λ ms. Fine (tree.actor nm (listed ps) (listed is) (listed os) (listed ms) at))))) r h in
     let (is, b, j) = so_gave (header_resolved ins names)
-        (λ is. and_so (header_resolved outs names) (λ os. and_so (members_resolved members (ports_of ins outs) names)
-        (λ ms. Fine (tree.actor nm (listed ps) (listed is) (listed os) (listed ms) at)))) r i in
+    (λ is. and_so (header_resolved outs names) (λ os. and_so (members_resolved members (ports_of ins outs) names)
+    (λ ms. Fine (tree.actor nm (listed ps) (listed is) (listed os) (listed ms) at)))) r i in
     let (os, c, k) = so_gave (header_resolved outs names)
-        (λ os. and_so (members_resolved members (ports_of ins outs) names) (λ ms. Fine (tree.actor nm (listed ps) (listed is) (listed os) (listed ms) at))) r j in
+    (λ os. and_so (members_resolved members (ports_of ins outs) names) (λ ms. Fine (tree.actor nm (listed ps) (listed is) (listed os) (listed ms) at))) r j in
     let (ms, d, l) = so_gave (members_resolved members (ports_of ins outs) names) (λ ms. Fine (tree.actor nm (listed ps) (listed is) (listed os) (listed ms) at)) r k in
     body_like (tree.actor nm (listed ps) (listed is) (listed os) (listed ms) at) l (record {
       params = params_kept params ps names a;

@@ -9,3 +9,4 @@ mod Gathered
 mod OwnNames
 pub mod Scopes
 pub mod Loaded
+mod Rows

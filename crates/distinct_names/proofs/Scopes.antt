@@ -69,10 +69,10 @@ gathered_fine : (files : List Source) (s : Source) (scope : Scope) → AllNamed 
 gathered_fine files s scope all named h =
     let empty : Gathered = record { vars = []; funs = [] } in
     let (u, a, i) = then_gave (as_asked false s)
-        (λ _. and_then (import_order files s) (λ names. and_then (units_gathered files names empty)
-        (λ g. and_then (source_resolved files s) (λ body. scope_of s.name s.file g body)))) scope h in
+    (λ _. and_then (import_order files s) (λ names. and_then (units_gathered files names empty)
+    (λ g. and_then (source_resolved files s) (λ body. scope_of s.name s.file g body)))) scope h in
     let (names, b, j) = then_gave (import_order files s)
-        (λ names. and_then (units_gathered files names empty) (λ g. and_then (source_resolved files s) (λ body. scope_of s.name s.file g body))) scope i in
+    (λ names. and_then (units_gathered files names empty) (λ g. and_then (source_resolved files s) (λ body. scope_of s.name s.file g body))) scope i in
     let (g, c, k) = then_gave (units_gathered files names empty) (λ g. and_then (source_resolved files s) (λ body. scope_of s.name s.file g body)) scope j in
     let (body, d, l) = then_gave (source_resolved files s) (λ body. scope_of s.name s.file g body) scope k in
     scope_fine s.name s.file g body scope
