@@ -1,6 +1,6 @@
 -- The first leaves of actors, by their classes.
 -- Not trusted: no promise is read with it.
-use Rattle.std.specs.Prelude.{◌≡◌, ℕ, ◌<◌, List, [], ◌∷◌, map, length, Option, None, Some, slice_get, String, string_bytes, if◌then◌else◌}
+use Rattle.std.specs.Prelude.{◌≡◌, ℕ, suc, ◌<◌, ◌≤◌, List, [], ◌∷◌, map, length, Option, None, Some, slice_get, String, string_bytes, if◌then◌else◌}
 use Rattle.std.specs.Str.{bytes_eq}
 use Rattle.std.specs.declared.alloc.Global.{Global as Heap}
 use Rattle.fnl_tree.specs.Tree.{Leaf}
@@ -44,7 +44,7 @@ leaves_of links = map (λ f. f.leaf) links
 
 -- none from a number on, and before another, has this class
 abbrev pub NoneBetween : List Leaf → (class : List ℕ) → (from below : ℕ) → Type 0
-NoneBetween leaves class from below = (p : ℕ) (leaf : Leaf) → from < suc p → p < below
+NoneBetween leaves class from below = (p : ℕ) (leaf : Leaf) → from ≤ p → p < below
     → slice_get leaves p ≡ Some leaf → leaf.class ≡ class → ⊥
 
 -- the last one of a class before a number

@@ -12,7 +12,7 @@ use Rattle.cal_imports.specs.Sources.{Source}
 use Rattle.fnl_tree.specs.Tree.{Leaf}
 use Rattle.source_network.specs.Actors.{IsActorOf}
 use Rattle.leaf_actors.specs.Alike.{AreAlike}
-use Rattle.leaf_actors.specs.Finding.{IsIndex, all_linked, leaves_of}
+use Rattle.leaf_actors.specs.Finding.{IsIndex, all_linked, leaves_of, number_of, with_number}
 use Rattle.leaf_actors.specs.Leaves.{AreActorsOf, Breaks, HasActor}
 use Rattle.leaf_actors.specs.declared.known.Known.{Known}
 
@@ -66,3 +66,28 @@ IsIndexed known = IsIndex known.newest (all_linked known.firsts.items)
 pub record IsAdded (files : List Source) (leaf : Leaf) (old new : Known) : Type 0 where
   pub indexed : IsIndexed new
   pub known : (done : List Leaf) → IsKnown files done old → IsKnown files (done ++ leaf ∷ []) new
+
+abbrev pub AddsLeaf : Result (Unit {0}) Front → List Source → Leaf → (old new : Known) → Type 0
+AddsLeaf (Ok u) files leaf old new = IsAdded files leaf old new
+AddsLeaf (Err f) files leaf old new = IsRefusedAt f files leaf
+
+-- ---- what the code holds once it has a leaf more
+
+-- all stays but for the place of one leaf more
+pub record IsRepeated (place : ℕ) (old new : Known) : Type 0 where
+  pub firsts : new.firsts.items ≡ old.firsts.items
+  pub newest : new.newest ≡ old.newest
+  pub actors : new.actors.items ≡ old.actors.items
+  pub places : new.of_leaf.items ≡ old.of_leaf.items ++ place ∷ []
+
+abbrev pub Repeats : Result (Unit {0}) Front → (place : ℕ) → (old new : Known) → Type 0
+Repeats (Ok u) place old new = IsRepeated place old new
+Repeats (Err f) place old new = f ≡ front.Memory
+
+-- a leaf and its actor behind those that are there
+pub record Keeps (leaf : Leaf) (actor : Actor) (old new : Known) : Type 0 where
+  pub firsts : all_linked new.firsts.items ≡ all_linked old.firsts.items
+      ++ record { leaf = leaf; earlier = number_of leaf.class old.newest } ∷ []
+  pub newest : new.newest ≡ with_number leaf.class (length old.firsts.items) old.newest
+  pub actors : map actor_of new.actors.items ≡ map actor_of old.actors.items ++ actor ∷ []
+  pub places : new.of_leaf.items ≡ old.of_leaf.items ++ length old.firsts.items ∷ []

@@ -1,14 +1,13 @@
 //! The actors that were found so far.
 
-ghost use Rattle.std.specs.Prelude.{◌≡◌, ◌<◌, [], ◌∷◌, ◌++◌, IfErr, OnOk, Some, List, length};
+ghost use Rattle.std.specs.Prelude.{◌≡◌, ◌<◌, [], IfErr, OnOk, length};
 ghost use Rattle.cal_imports.specs.View.{sources};
 ghost use Rattle.cal_model.specs.View.{actor_of};
 ghost use Rattle.fnl_tree.specs.View.{leaf_of};
 ghost use Rattle.net_model.specs.Limits.{max_instances};
-ghost use Rattle.source_network.specs.Actors.{IsActorOf};
 ghost use Rattle.leaf_actors.specs.Finding.{IsFound};
 ghost use Rattle.leaf_actors.specs.Leaves.{NamesDiffer};
-ghost use Rattle.leaf_actors.specs.Steps.{IsAdded, IsIndexed, IsRefusedAt, firsts_of};
+ghost use Rattle.leaf_actors.specs.Steps.{AddsLeaf, IsIndexed, Keeps, Repeats, firsts_of};
 
 use crate::find::find;
 use crate::first::First;
@@ -32,8 +31,8 @@ pub(crate) struct Known<'a> {
 impl<'a> Known<'a> {
     /// No actors.
     pub(crate) fn new(alloc: Global) -> Known<'a>
-        ensures indexed { IsIndexed result }
         ensures firsts { result.firsts.items ≡ [] }
+        ensures newest { result.newest ≡ [] }
         ensures actors { result.actors.items ≡ [] }
         ensures places { result.of_leaf.items ≡ [] }
     {
@@ -50,12 +49,50 @@ impl<'a> Known<'a> {
         requires differ { NamesDiffer (sources files.now) }
         requires indexed { IsIndexed self.old }
         requires few { length self.old.firsts.items < max_instances }
-        ensures added { OnOk result (IsAdded (sources files.now) (leaf_of leaf.entry.now) self.old self.new) }
-        ensures refused { IfErr result (λ f. IsRefusedAt f (sources files.now) (leaf_of leaf.entry.now)) }
+        ensures { AddsLeaf result (sources files.now) (leaf_of leaf.entry.now) self.old self.new }
     {
         match find(leaf, &self.firsts, &self.newest) {
-            Some(place) => self.again(leaf, place),
+            Some(place) => self.repeat(place),
             None => self.add_new(alloc, files, leaf),
         }
+    }
+
+    /// Adds a leaf that is like the first one of an actor.
+    fn repeat(&mut self, place: u32) -> Result<(), Front>
+        ensures { Repeats result place self.old self.new }
+    {
+        match self.of_leaf.push(place) {
+            Ok(()) => Ok(()),
+            Err(_) => Err(Front::Memory),
+        }
+    }
+
+    /// Adds a leaf that is like none before it.
+    fn add_new(&mut self, alloc: Global, files: &FileSet, leaf: &'a Leaf) -> Result<(), Front>
+        requires differ { NamesDiffer (sources files.now) }
+        requires indexed { IsIndexed self.old }
+        requires few { length self.old.firsts.items < max_instances }
+        requires unlike { IsFound None (firsts_of self.old) (leaf_of leaf.now) }
+        ensures { AddsLeaf result (sources files.now) (leaf_of leaf.entry.now) self.old self.new }
+    {
+        let actor = actor_at(alloc, files, leaf)?;
+        match self.keep(leaf, actor) {
+            Ok(()) => Ok(()),
+            Err(Memory) => Err(Front::Memory),
+        }
+    }
+
+    /// Adds a leaf with its actor.
+    fn keep(&mut self, leaf: &'a Leaf, actor: Bound) -> Result<(), Memory>
+        requires { length self.old.firsts.items < max_instances }
+        ensures { OnOk result (Keeps (leaf_of leaf.entry.now) (actor_of actor) self.old self.new) }
+    {
+        let place = self.firsts.len() as u32;
+        let earlier = self.newest.get(leaf.class.as_str());
+        self.actors.push(actor)?;
+        self.firsts.push(First { leaf, earlier })?;
+        self.newest.put(leaf.class.as_str(), place)?;
+        self.of_leaf.push(place)?;
+        Ok(())
     }
 }

@@ -13,16 +13,16 @@ mod alike;
 mod find;
 mod first;
 mod found;
-mod heads;
 mod known;
 mod laws;
 mod newest;
 mod one;
+mod ports;
 mod rates;
 mod values;
 mod whole;
 
 pub use found::LeafActors;
-pub use heads::heads;
 pub use laws::{actors_are_leaves_of_a_network, alike_leaves_are_one_actor};
+pub use ports::heads;
 pub use whole::check_leaves;

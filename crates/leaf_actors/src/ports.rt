@@ -3,17 +3,30 @@
 ghost use Rattle.std.specs.Prelude.{◌≡◌, ◌<◌, IfOk, length, map};
 ghost use Rattle.cal_model.specs.Rates.{give, need};
 ghost use Rattle.cal_model.specs.Sound.{Each, IsSound};
-ghost use Rattle.cal_model.specs.View.{actor_of};
+ghost use Rattle.cal_model.specs.View.{actor_of, port_view};
 ghost use Rattle.fnl_flatten.specs.View.{head_of as told_head, head_port_of, heads_of};
 ghost use Rattle.source_network.specs.Actors.{head_of};
 ghost use Rattle.leaf_actors.specs.Leaves.{IsWithin, actors_at_leaves, distinct_actors};
 
 use crate::found::LeafActors;
 use crate::rates::{most_given, most_taken};
-use cal_model::Bound;
+use cal_model::{Bound, Port};
 use fnl_flatten::{Head, HeadPort};
 use rvc_base::Memory;
 use std::alloc::Global;
+
+/// A port with its largest rate.
+fn port_of(alloc: Global, port: &Port, largest: u32) -> Result<HeadPort, Memory>
+    ensures { IfOk result (λ told. head_port_of told
+        ≡ record { name = (port_view port.now).name; kind = port.now.kind; largest = largest }) }
+{
+    let name = String::from_str(alloc, port.name.as_str())?;
+    Ok(HeadPort {
+        name,
+        kind: port.kind,
+        largest,
+    })
+}
 
 /// The input ports of an actor.
 fn ins_of(alloc: Global, b: &Bound) -> Result<Vec<HeadPort>, Memory>
@@ -21,15 +34,13 @@ fn ins_of(alloc: Global, b: &Bound) -> Result<Vec<HeadPort>, Memory>
     ensures { IfOk result (λ ports. map head_port_of ports.items ≡ (head_of (actor_of b.now)).ins) }
 {
     let mut ports = Vec::new(alloc);
-    for port in 0..b.ins.len() as u32 {
-        let named = &b.ins[port as usize];
-        let name = String::from_str(alloc, named.name.as_str())?;
-        let largest = most_taken(b, port);
-        ports.push(HeadPort {
-            name,
-            kind: named.kind,
-            largest,
-        })?;
+    let mut rest = b.ins.as_slice();
+    let mut number = 0u32;
+    'ports: while let Some((first, others)) = rest.split_first() {
+        let port = port_of(alloc, first, most_taken(b, number))?;
+        ports.push(port)?;
+        number += 1;
+        rest = others;
     }
     Ok(ports)
 }
@@ -40,15 +51,13 @@ fn outs_of(alloc: Global, b: &Bound) -> Result<Vec<HeadPort>, Memory>
     ensures { IfOk result (λ ports. map head_port_of ports.items ≡ (head_of (actor_of b.now)).outs) }
 {
     let mut ports = Vec::new(alloc);
-    for port in 0..b.outs.len() as u32 {
-        let named = &b.outs[port as usize];
-        let name = String::from_str(alloc, named.name.as_str())?;
-        let largest = most_given(b, port);
-        ports.push(HeadPort {
-            name,
-            kind: named.kind,
-            largest,
-        })?;
+    let mut rest = b.outs.as_slice();
+    let mut number = 0u32;
+    'ports: while let Some((first, others)) = rest.split_first() {
+        let port = port_of(alloc, first, most_given(b, number))?;
+        ports.push(port)?;
+        number += 1;
+        rest = others;
     }
     Ok(ports)
 }
