@@ -135,11 +135,11 @@ each_has files firsts actors (l ∷ done) (p ∷ places) are h =
 each_has files firsts actors [] (p ∷ places) are h = absurd h
 each_has files firsts actors (l ∷ done) [] are h = absurd h
 
-as_many : (files : List Source) (firsts : List Leaf) (actors : List Actor) → AreActorsOf files firsts actors → length firsts ≡ length actors
-as_many files [] [] h = refl
-as_many files (l ∷ firsts) (a ∷ actors) h = ap suc (as_many files firsts actors h.1)
-as_many files [] (a ∷ actors) h = absurd h
-as_many files (l ∷ firsts) [] h = absurd h
+pub one_each : (files : List Source) (firsts : List Leaf) (actors : List Actor) → AreActorsOf files firsts actors → length firsts ≡ length actors
+one_each files [] [] h = refl
+one_each files (l ∷ firsts) (a ∷ actors) h = ap suc (one_each files firsts actors h.1)
+one_each files [] (a ∷ actors) h = absurd h
+one_each files (l ∷ firsts) [] h = absurd h
 
 pub all_within : (firsts : List Leaf) (n : ℕ) (done : List Leaf) (places : List ℕ) → length firsts ≡ n → AllStand firsts done places → All (λ p. p < n) places
 all_within firsts n [] [] e h = All-nil (λ p. p < n)

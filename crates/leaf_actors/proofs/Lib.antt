@@ -10,3 +10,4 @@ mod Growing
 mod Scopes
 mod Held
 mod NetLeaves
+mod HeadsTold

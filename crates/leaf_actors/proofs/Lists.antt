@@ -2,6 +2,7 @@
 use Rattle.std.proofs.Common.{◌≡◌, ℕ, zero, suc, ◌<◌, ◌≤◌, Bool, true, false, List, [], ◌∷◌, ◌++◌, length, map, get_or, Some, refl, sym, ap, subst, ◌∙◌, arith}
 use Rattle.std.specs.Prelude.{◌==◌, Contains, slice_get}
 use Rattle.std.proofs.lemmas.Bool.Decides.{nat_tests}
+use Rattle.cal_model.specs.Sound.{Each}
 use Rattle.cal_check.proofs.Lists.{at-head, in-rest}
 
 by_test : {A : Type 0} (k n : ℕ) (b : Bool) → (k == n) ≡ b → k < suc n → (k < n → A) → (k ≡ n → A) → A
@@ -65,3 +66,8 @@ pub mapped_at : {A B : Type 0} (f : A → B) (xs : List A) (x : A) (k : ℕ) →
 mapped_at f [] x k h = absurd (cc)
 mapped_at f (y ∷ ys) x zero h = ap (λ z. Some (f z)) (some_same y x h)
 mapped_at f (y ∷ ys) x (suc k) h = mapped_at f ys x k h
+
+pub each_at : {A : Type 0} (P : A → Type 0) (xs : List A) (k : ℕ) (x : A) → Each P xs → slice_get xs k ≡ Some x → P x
+each_at P [] k x h e = absurd (cc)
+each_at P (y ∷ ys) zero x h e = subst P (some_same y x e) h.0
+each_at P (y ∷ ys) (suc k) x h e = each_at P ys k x h.1 e
