@@ -115,10 +115,10 @@ before_more newest links leaf index k f h =
     subst (λ xs. IsLast xs f.leaf.class k f.earlier) (sym (leaves_more links (linked leaf newest)))
     (earlier_or_last links (linked leaf newest) f k h
     (λ found. let low = within links k f found in let many = as_many links in
-        last_grown (leaves_of links) (leaf ∷ []) f.leaf.class k f.earlier (index.before k f found) (omega (arith, low, many)))
+    last_grown (leaves_of links) (leaf ∷ []) f.leaf.class k f.earlier (index.before k f found) (omega (arith, low, many)))
     (λ end is. subst (λ g. IsLast (leaves_of links ++ leaf ∷ []) g.leaf.class k g.earlier) is
-        (subst (λ n. IsLast (leaves_of links ++ leaf ∷ []) leaf.class n (number_of leaf.class newest)) (as_many links ∙ sym end)
-        (last_grown (leaves_of links) (leaf ∷ []) leaf.class (length (leaves_of links)) (number_of leaf.class newest) (at_end newest links index leaf.class) (omega arith)))))
+    (subst (λ n. IsLast (leaves_of links ++ leaf ∷ []) leaf.class n (number_of leaf.class newest)) (as_many links ∙ sym end)
+    (last_grown (leaves_of links) (leaf ∷ []) leaf.class (length (leaves_of links)) (number_of leaf.class newest) (at_end newest links index leaf.class) (omega arith)))))
 
 pub indexed_more : (newest : List Numbered) (links : List Linked) (leaf : Leaf) → IsIndex newest links
     → IsIndex (with_number leaf.class (length links) newest) (links ++ record { leaf = leaf; earlier = number_of leaf.class newest } ∷ [])
@@ -193,12 +193,12 @@ unlike_from : (links : List Linked) (leaf : Leaf) (q : ℕ) (f : Linked) → at 
 unlike_from links leaf q f h s e p that high found alike =
     or_later q p (nat_lt q p) refl high
     (λ same.
-        let is : f.leaf ≡ that = some_same f.leaf that (sym (leaf_at links q f h) ∙ ap (slice_get (leaves_of links)) same ∙ found) in
-        let all : give_same leaf.bindings f.leaf.bindings ≡ true = give_same_if leaf.bindings f.leaf.bindings (subst (λ x. AreAlike leaf x) (sym is) alike).values in
-        let t : false ≡ true = sym e ∙ all in absurd cc)
+    let is : f.leaf ≡ that = some_same f.leaf that (sym (leaf_at links q f h) ∙ ap (slice_get (leaves_of links)) same ∙ found) in
+    let all : give_same leaf.bindings f.leaf.bindings ≡ true = give_same_if leaf.bindings f.leaf.bindings (subst (λ x. AreAlike leaf x) (sym is) alike).values in
+    let t : false ≡ true = sym e ∙ all in absurd cc)
     (λ later. before_or_after p s.below (nat_lt p s.below) refl
-        (λ low. s.last.4 p that (omega (arith, later)) low found (sym alike.class))
-        (λ beyond. s.none p that beyond found alike))
+    (λ low. s.last.4 p that (omega (arith, later)) low found (sym alike.class))
+    (λ beyond. s.none p that beyond found alike))
 
 pub search_goes_on : (newest : List Numbered) (links : List Linked) (leaf : Leaf) (q : ℕ) (f : Linked) → IsIndex newest links → at links q f
     → IsSearched (leaves_of links) leaf (Some q) → give_same leaf.bindings f.leaf.bindings ≡ false

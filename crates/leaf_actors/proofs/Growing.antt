@@ -64,11 +64,11 @@ apart_more : (firsts : List Leaf) (x : Leaf) → AreApart firsts → IsFound Non
 apart_more firsts x apart none j k leaf other h i alike =
     earlier_or_last firsts x leaf j h
     (λ first. earlier_or_last firsts x other k i
-        (λ second. apart j k leaf other first second alike)
-        (λ end is. absurd (none j leaf first (subst (λ l. AreAlike l leaf) (sym is) (alike_back leaf other alike)))))
+    (λ second. apart j k leaf other first second alike)
+    (λ end is. absurd (none j leaf first (subst (λ l. AreAlike l leaf) (sym is) (alike_back leaf other alike)))))
     (λ end is. earlier_or_last firsts x other k i
-        (λ second. absurd (none k other second (subst (λ l. AreAlike l other) (sym is) alike)))
-        (λ last same. end ∙ sym last))
+    (λ second. absurd (none k other second (subst (λ l. AreAlike l other) (sym is) alike)))
+    (λ last same. end ∙ sym last))
 
 pub more : (files : List Source) (done firsts : List Leaf) (actors : List Actor) (places : List ℕ) (leaf : Leaf) (actor : Actor)
     → IsSoFar files done firsts actors places → IsActorOf files leaf actor → IsFound None firsts leaf
@@ -171,16 +171,17 @@ shared firsts done places j k leaf other apart h one two alike =
     let a = stands firsts done places j leaf h one in
     let b = stands firsts done places k other h two in
     let firsts_alike : AreAlike a.at.0 b.at.0 =
-        alike_on a.at.0 leaf b.at.0 (alike_back leaf a.at.0 a.at.2) (alike_on leaf other b.at.0 alike b.at.2) in
+    alike_on a.at.0 leaf b.at.0 (alike_back leaf a.at.0 a.at.2) (alike_on leaf other b.at.0 alike b.at.2) in
     let same : a.place ≡ b.place = apart a.place b.place a.at.0 b.at.0 a.at.1 b.at.1 firsts_alike in
     a.there ∙ ap Some same ∙ sym b.there
 
 -- actors of scopes that are formed are sound
 pub all_sound : SourcesAreSound → (files : List Source) (firsts : List Leaf) (actors : List Actor) → AreFormed files → AreActorsOf files firsts actors → Each IsSound actors
 all_sound law files [] [] formed h = tt
-all_sound law files (l ∷ firsts) (a ∷ actors) formed h =
-    (law (source_of h.0.scope) (map given_of l.bindings) (owner_of l) a (formed l.class h.0.scope h.0.is_scope) h.0.is_source,
-    all_sound law files firsts actors formed h.1)
+all_sound law files (l ∷ firsts) (a ∷ actors) formed h = (
+  law (source_of h.0.scope) (map given_of l.bindings) (owner_of l) a (formed l.class h.0.scope h.0.is_scope) h.0.is_source,
+  all_sound law files firsts actors formed h.1,
+)
 all_sound law files [] (a ∷ actors) formed h = absurd h
 all_sound law files (l ∷ firsts) [] formed h = absurd h
 

@@ -160,7 +160,7 @@ pub found_once : (files : List Source) (leaves : List Leaf) (known : Known) (fou
 found_once files leaves known found actors places going =
     let so_far = all_done files leaves known going in
     let count : length (firsts_of known) ≡ length known.actors.items =
-        one_each files (firsts_of known) (map actor_of known.actors.items) so_far.are ∙ length-map known.actors.items actor_of in
+    one_each files (firsts_of known) (map actor_of known.actors.items) so_far.are ∙ length-map known.actors.items actor_of in
     record {
       shared = λ j k leaf other one two alike.
           subst (λ ps. slice_get ps.items j ≡ slice_get ps.items k) (sym places)

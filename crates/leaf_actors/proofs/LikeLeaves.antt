@@ -26,9 +26,11 @@ rest_of x y xs ys h = cc
 same_given : (bs cs : List Binding) → map named_value bs ≡ map named_value cs → SameGiven (map given_of bs) (map given_of cs)
 same_given [] [] h = tt
 same_given (b ∷ bs) (c ∷ cs) h =
-    let first = first_of (named_value b) (named_value c) (map named_value bs) (map named_value cs) h in
-    (ap (λ p. p.0) first, ap (λ p. p.1) first,
-    same_given bs cs (rest_of (named_value b) (named_value c) (map named_value bs) (map named_value cs) h))
+    let first = first_of (named_value b) (named_value c) (map named_value bs) (map named_value cs) h in (
+      ap (λ p. p.0) first,
+      ap (λ p. p.1) first,
+      same_given bs cs (rest_of (named_value b) (named_value c) (map named_value bs) (map named_value cs) h),
+    )
 same_given [] (c ∷ cs) h = absurd (cc)
 same_given (b ∷ bs) [] h = absurd (cc)
 

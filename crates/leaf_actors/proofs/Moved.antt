@@ -159,7 +159,7 @@ over_type (Fine t) x gs hs owner other names vs bs s f =
     (found_in x.file (said vs.useless c.breaks) ++ param_broken x gs owner t)
     (found_in x.file (said vs.useless c.breaks) ++ param_broken x hs other t) vs bs f
     (λ h. let parts = none_of (found_in x.file (said vs.useless c.breaks)) (param_broken x gs owner t) h in
-        none_both (found_in x.file (said vs.useless c.breaks)) (param_broken x hs other t) parts.0 (param_fits x gs hs owner other t s parts.1))
+    none_both (found_in x.file (said vs.useless c.breaks)) (param_broken x hs other t) parts.0 (param_fits x gs hs owner other t s parts.1))
 over_type (Broken rule at) x gs hs owner other names vs bs s f =
     record { known = refl; held = refl; useless = refl; whole = refl; fine = λ h. more_fine vs bs _ _ f (λ i. i) h }
 
@@ -241,7 +241,7 @@ rightly [] [] before others params s b e = refl
 rightly (g ∷ gs) (h ∷ hs) before others params s b e =
     let parts = none_of (if not (is_declared g.name params) || is_given g.name before then found_in g.place.file (violation wrong_parameter g.place.at) else []) (given_wrongly gs (g ∷ before) params) e in
     let test : (not (is_declared g.name params) || is_given g.name before) ≡ (not (is_declared h.name params) || is_given h.name others) =
-        ap (λ n. not (is_declared n params) || is_given n before) s.0 ∙ ap (λ c. not (is_declared h.name params) || c) (same_before h.name before others b) in
+    ap (λ n. not (is_declared n params) || is_given n before) s.0 ∙ ap (λ c. not (is_declared h.name params) || c) (same_before h.name before others b) in
     none_both (if not (is_declared h.name params) || is_given h.name others then found_in h.place.file (violation wrong_parameter h.place.at) else []) (given_wrongly hs (h ∷ others) params)
     (then_none (not (is_declared g.name params) || is_given g.name before) (not (is_declared h.name params) || is_given h.name others) test
     (found_in g.place.file (violation wrong_parameter g.place.at)) (found_in h.place.file (violation wrong_parameter h.place.at))

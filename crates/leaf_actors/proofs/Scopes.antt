@@ -32,7 +32,7 @@ use Rattle.actor_check.specs.Sources as check
 use Rattle.actor_check.specs.Sources.{source_in}
 use Rattle.source_network.specs.Actors as net
 use Rattle.source_network.specs.Actors.{IsActorOf, given_of, owner_of}
-use Rattle.leaf_actors.specs.Leaves.{Breaks, HasActor, NamesDiffer, in_actor, in_scope}
+use Rattle.leaf_actors.specs.Leaves.{Breaks, HasActor, in_actor, in_scope}
 use Rattle.leaf_actors.specs.Steps.{IsAnswered, IsRefusedAt}
 
 -- ---- the actor with the declarations of other files, told twice
@@ -53,11 +53,6 @@ same_source s =
 same_given : (bs : List LeafValue) → all_given bs ≡ map given_of (map binding_of bs)
 same_given [] = refl
 same_given (b ∷ bs) = ap (λ gs. given_of (binding_of b) ∷ gs) (same_given bs)
-
-pub differ_in : (files : List Source) (class : List ℕ) (s : Resolved) → NamesDiffer files → resolved files class ≡ Gives (scope_view s)
-    → AreDistinct (names_of_source (source_in s))
-differ_in files class s differ h =
-    subst (λ t. AreDistinct (names_of_source t)) (same_source (scope_view s)) (differ class (scope_view s) h)
 
 -- ---- what is answered of a leaf
 

@@ -7,9 +7,9 @@ use Rattle.rvc_base.specs.declared.refusal.Front.{Front}
 use Rattle.rvc_base.specs.declared.refusal.Front.TheVariants as front
 use Rattle.rvc_base.specs.declared.refusal.Refusal.{Refusal}
 use Rattle.cal_model.specs.Actor.{Actor}
-use Rattle.cal_model.specs.Sound.{AreDistinct, Each, IsSound}
+use Rattle.cal_model.specs.Sound.{Each, IsSound}
 use Rattle.cal_model.specs.View.{actor_of}
-use Rattle.cal_check.specs.Sources.{IsSourceFormed, names_of_source}
+use Rattle.cal_check.specs.Sources.{IsSourceFormed}
 use Rattle.cal_imports.specs.Answer.{Gives, Refuses}
 use Rattle.cal_imports.specs.Resolved.{resolved}
 use Rattle.cal_imports.specs.Sources.{Source}
@@ -57,11 +57,6 @@ pub record StandsOnce (leaves : List Leaf) (found : LeafActors) : Type 0 where
   pub used : (p : ℕ) → p < length found.actors.items → Contains found.of_leaf.items p
 
 -- ---- what is known of the files
-
--- the texts that stand for variables, functions and procedures differ in each scope that these files give
-abbrev pub NamesDiffer : List Source → Type 0
-NamesDiffer files = (class : List ℕ) (scope : Scope) → resolved files class ≡ Gives scope
-    → AreDistinct (names_of_source (source_of scope))
 
 -- each scope that these files give is as the grammar and the scopes leave it
 abbrev pub AreFormed : List Source → Type 0

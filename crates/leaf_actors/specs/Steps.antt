@@ -8,13 +8,26 @@ use Rattle.rvc_base.specs.declared.refusal.Front.TheVariants as front
 use Rattle.cal_model.specs.Actor.{Actor}
 use Rattle.cal_model.specs.View.{actor_of}
 use Rattle.cal_model.specs.declared.bound.Bound.{Bound}
+use Rattle.cal_model.specs.Sound.{AreDistinct}
+use Rattle.cal_check.specs.Sources.{names_of_source}
+use Rattle.cal_imports.specs.Answer.{Gives}
+use Rattle.cal_imports.specs.Resolved.{resolved}
 use Rattle.cal_imports.specs.Sources.{Source}
+use Rattle.cal_imports.specs.Whole.{Scope}
 use Rattle.fnl_tree.specs.Tree.{Leaf}
+use Rattle.actor_check.specs.Sources.{source_of}
 use Rattle.source_network.specs.Actors.{IsActorOf}
 use Rattle.leaf_actors.specs.Alike.{AreAlike}
 use Rattle.leaf_actors.specs.Finding.{IsIndex, all_linked, leaves_of, number_of, with_number}
 use Rattle.leaf_actors.specs.Leaves.{AreActorsOf, Breaks, HasActor}
 use Rattle.leaf_actors.specs.declared.known.Known.{Known}
+
+-- ---- names
+
+-- the texts that stand for variables, functions and procedures differ in each scope that these files give
+abbrev pub NamesStandApart : List Source → Type 0
+NamesStandApart files = (class : List ℕ) (scope : Scope) → resolved files class ≡ Gives scope
+    → AreDistinct (names_of_source (source_of scope))
 
 -- ---- one leaf
 

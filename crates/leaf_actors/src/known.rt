@@ -6,8 +6,7 @@ ghost use Rattle.cal_model.specs.View.{actor_of};
 ghost use Rattle.fnl_tree.specs.View.{leaf_of};
 ghost use Rattle.net_model.specs.Limits.{max_instances};
 ghost use Rattle.leaf_actors.specs.Finding.{IsFound};
-ghost use Rattle.leaf_actors.specs.Leaves.{NamesDiffer};
-ghost use Rattle.leaf_actors.specs.Steps.{AddsLeaf, IsIndexed, Keeps, Repeats, firsts_of};
+ghost use Rattle.leaf_actors.specs.Steps.{AddsLeaf, IsIndexed, Keeps, NamesStandApart, Repeats, firsts_of};
 
 use crate::find::find;
 use crate::first::First;
@@ -45,8 +44,13 @@ impl<'a> Known<'a> {
     }
 
     /// Adds a leaf, with its actor if none was found that it is.
-    pub(crate) fn add(&mut self, alloc: Global, files: &FileSet, leaf: &'a Leaf) -> Result<(), Front>
-        requires differ { NamesDiffer (sources files.now) }
+    pub(crate) fn add(
+        &mut self,
+        alloc: Global,
+        files: &FileSet,
+        leaf: &'a Leaf,
+    ) -> Result<(), Front>
+        requires differ { NamesStandApart (sources files.now) }
         requires indexed { IsIndexed self.old }
         requires few { length self.old.firsts.items < max_instances }
         ensures { AddsLeaf result (sources files.now) (leaf_of leaf.entry.now) self.old self.new }
@@ -69,7 +73,7 @@ impl<'a> Known<'a> {
 
     /// Adds a leaf that is like none before it.
     fn add_new(&mut self, alloc: Global, files: &FileSet, leaf: &'a Leaf) -> Result<(), Front>
-        requires differ { NamesDiffer (sources files.now) }
+        requires differ { NamesStandApart (sources files.now) }
         requires indexed { IsIndexed self.old }
         requires few { length self.old.firsts.items < max_instances }
         requires unlike { IsFound None (firsts_of self.old) (leaf_of leaf.now) }

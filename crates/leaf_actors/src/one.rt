@@ -11,8 +11,7 @@ ghost use Rattle.cal_imports.specs.View.{sources};
 ghost use Rattle.cal_model.specs.Sound.{AreDistinct};
 ghost use Rattle.fnl_tree.specs.View.{leaf_of};
 ghost use Rattle.actor_check.specs.Sources.{source_in};
-ghost use Rattle.leaf_actors.specs.Leaves.{NamesDiffer};
-ghost use Rattle.leaf_actors.specs.Steps.{IsAnswered};
+ghost use Rattle.leaf_actors.specs.Steps.{IsAnswered, NamesStandApart};
 
 use actor_check::check;
 use cal_imports::{FileSet, Scope, resolve};
@@ -41,7 +40,7 @@ fn checked(alloc: Global, scope: &Scope, leaf: &Leaf) -> Result<Bound, Front>
 
 /// The actor at a leaf.
 pub(crate) fn actor_at(alloc: Global, files: &FileSet, leaf: &Leaf) -> Result<Bound, Front>
-    requires { NamesDiffer (sources files.now) }
+    requires { NamesStandApart (sources files.now) }
     ensures { IsAnswered result (sources files.now) (leaf_of leaf.now) }
 {
     let class = leaf.class.as_str();

@@ -1,4 +1,4 @@
-use Rattle.std.proofs.Common.{◌≡◌, ◌<◌, true, false, map, length, Some, sym, ap, subst, ◌∙◌, rules}
+use Rattle.std.proofs.Common.{◌≡◌, ◌<◌, true, false, length, Some, sym, ap, subst, ◌∙◌, rules}
 use Rattle.std.specs.Prelude.{slice_get}
 use Rattle.std.proofs.lemmas.List.{length-map}
 use Rattle.fnl_tree.specs.View.{leaf_of}
@@ -18,7 +18,7 @@ class-init c =
 pub bounds-firsts-place : goal.bounds-firsts-place
 bounds-firsts-place c =
     let searched : IsSearched (leaves_of (all_linked c.args.firsts.now)) (leaf_of c.args.leaf.now) (Some c.in-Some.place) =
-        subst (IsSearched (leaves_of (all_linked c.args.firsts.now)) (leaf_of c.args.leaf.now)) c.in-Some.is c.class.invariant in
+    subst (IsSearched (leaves_of (all_linked c.args.firsts.now)) (leaf_of c.args.leaf.now)) c.in-Some.is c.class.invariant in
     subst (λ n. c.in-Some.place < n) (length-map c.args.firsts.now linked_of)
     (next_within (all_linked c.args.firsts.now) (leaf_of c.args.leaf.now) c.in-Some.place searched)
 

@@ -1,4 +1,3 @@
-use Rattle.std.proofs.Common.{ℕ}
 use Rattle.fnl_tree.specs.View.{leaf_of}
 use Rattle.leaf_actors.specs.Finding.{all_linked, leaves_of}
 use Rattle.leaf_actors.proofs.Chain.{IsSearched, rank}

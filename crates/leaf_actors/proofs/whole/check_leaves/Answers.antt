@@ -20,7 +20,7 @@ returns-in_err-add-clause-refused c =
     let leaves = map leaf_of c.args.leaves.now in
     let same : c.from_residual.result ≡ Err c.in_err-add.field-0.0 = search rules in
     let going : IsGoing files (leaf_of c.in-Some.leaf.now ∷ map leaf_of c.in-Some.others.now) leaves c.leaves.known =
-        subst (λ ls. IsGoing files (map leaf_of ls) leaves c.leaves.known) c.in-Some.ensures.cases.0 c.leaves.invariant in
+    subst (λ ls. IsGoing files (map leaf_of ls) leaves c.leaves.known) c.in-Some.ensures.cases.0 c.leaves.invariant in
     subst (λ r. IfErr r (IsFault files leaves)) (sym same)
     (refused files (leaf_of c.in-Some.leaf.now) (map leaf_of c.in-Some.others.now) leaves c.leaves.known c.in_err-add.field-0.0 going c.in_err-add.ensures)
 
@@ -31,7 +31,7 @@ returns-in_err-add-clause-complete c = λ r is all.
     let same : c.from_residual.result ≡ Err c.in_err-add.field-0.0 = search rules in
     let one : c.in_err-add.field-0.0 ≡ front.Refused r = err_one c.in_err-add.field-0.0 (front.Refused r) c.from_residual.result same is in
     let going : IsGoing files (leaf_of c.in-Some.leaf.now ∷ map leaf_of c.in-Some.others.now) leaves c.leaves.known =
-        subst (λ ls. IsGoing files (map leaf_of ls) leaves c.leaves.known) c.in-Some.ensures.cases.0 c.leaves.invariant in
+    subst (λ ls. IsGoing files (map leaf_of ls) leaves c.leaves.known) c.in-Some.ensures.cases.0 c.leaves.invariant in
     never_refused files (leaf_of c.in-Some.leaf.now) (map leaf_of c.in-Some.others.now) leaves c.leaves.known r going
     (subst (λ f. IsRefusedAt f files (leaf_of c.in-Some.leaf.now)) one c.in_err-add.ensures) all
 
@@ -40,7 +40,7 @@ leaves-preserved c =
     let files = sources c.args.files.now in
     let leaves = map leaf_of c.args.leaves.now in
     let going : IsGoing files (leaf_of c.in-Some.leaf.now ∷ map leaf_of c.in-Some.others.now) leaves c.leaves.known =
-        subst (λ ls. IsGoing files (map leaf_of ls) leaves c.leaves.known) c.in-Some.ensures.cases.0 c.leaves.invariant in
+    subst (λ ls. IsGoing files (map leaf_of ls) leaves c.leaves.known) c.in-Some.ensures.cases.0 c.leaves.invariant in
     going_more files (leaf_of c.in-Some.leaf.now) (map leaf_of c.in-Some.others.now) leaves c.leaves.known c.add.new.self going c.in_ok-add.ensures
 
 pub returns-clause-checked : goal.returns-clause-checked
@@ -72,3 +72,6 @@ returns-clause-sound c = λ formed.
     let none : c.leaves.rest.now ≡ [] = no_items c.leaves.rest.now c.in_default.ensures.cases in
     found_sound c.sources_without_violations_are_sound.ensures files leaves c.leaves.known
     (subst (λ ls. IsGoing files (map leaf_of ls) leaves c.leaves.known) none c.leaves.invariant) formed
+
+pub add-requires-clause-differ : goal.add-requires-clause-differ
+add-requires-clause-differ c = λ class scope h. c.names_differ.ensures (sources c.args.files.now) class scope c.requires.spelled h

@@ -1,9 +1,6 @@
 use Rattle.cal_imports.specs.View.{sources}
 use Rattle.cal_model.specs.View.{actor_of}
 use Rattle.fnl_tree.specs.View.{leaf_of}
-use Rattle.std.proofs.Common.{Ok, subst}
-use Rattle.std.specs.Prelude.{OnOk}
-use Rattle.leaf_actors.specs.Steps.{Keeps}
 use Rattle.leaf_actors.proofs.Held.{kept}
 use Rattle.leaf_actors.proofs.known.Known.add_new.Goals as goal
 
