@@ -1,5 +1,5 @@
 -- The first leaves of a class, each of which leads to the one before it.
-use Rattle.std.proofs.Common.{◌≡◌, ℕ, zero, suc, ◌<◌, ◌≤◌, Bool, true, false, List, [], ◌∷◌, ◌++◌, map, length, Option, None, Some, refl, sym, ap, subst, ◌∙◌, arith}
+use Rattle.std.proofs.Common.{◌≡◌, ℕ, zero, suc, ◌<◌, ◌≤◌, Bool, true, false, List, [], ◌∷◌, ◌++◌, length, Option, None, Some, refl, sym, ap, subst, ◌∙◌, arith}
 use Rattle.std.specs.Prelude.{if◌then◌else◌, nat_lt, slice_get}
 use Rattle.std.specs.Str.{bytes_eq}
 use Rattle.std.proofs.lemmas.Bool.Decides.{nat_tests}
@@ -10,7 +10,7 @@ use Rattle.leaf_actors.specs.Alike.{AreAlike}
 use Rattle.leaf_actors.specs.Equal.{give_same}
 use Rattle.leaf_actors.specs.Finding.{IsFound, IsIndex, IsLast, Linked, NoneBetween, Numbered, leaves_of, number_of, with_number}
 use Rattle.leaf_actors.proofs.Equal.{give_same_if, give_same_is}
-use Rattle.leaf_actors.proofs.Lists.{earlier_or_last, get_front, get_last, longer, some_same, split, still, within}
+use Rattle.leaf_actors.proofs.Lists.{earlier_or_last, get_front, get_last, longer, some_same, still, within}
 
 -- ---- the number of a class, once one has another
 

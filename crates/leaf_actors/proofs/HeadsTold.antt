@@ -1,8 +1,7 @@
 -- The ports of the actors at the leaves that are left.
-use Rattle.std.proofs.Common.{◌≡◌, ℕ, suc, ◌<◌, ◌++◌, List, [], ◌∷◌, length, map, get_or, Some, refl, sym, ap, subst, ◌∙◌, append_assoc, arith}
+use Rattle.std.proofs.Common.{◌≡◌, ℕ, suc, ◌<◌, ◌++◌, List, [], ◌∷◌, length, map, get_or, Some, sym, ap, subst, ◌∙◌, append_assoc, arith}
 use Rattle.std.specs.Prelude.{All, slice_get}
 use Rattle.std.proofs.lemmas.List.{map-append}
-use Rattle.cal_model.specs.Actor.{Actor}
 use Rattle.cal_model.specs.Sound.{Each, IsSound}
 use Rattle.cal_model.specs.View.{actor_of}
 use Rattle.cal_model.specs.declared.bound.Bound.{Bound}

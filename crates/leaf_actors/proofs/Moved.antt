@@ -1,6 +1,6 @@
 -- Values that are given to the same parameters elsewhere make the same actor.
 use Rattle.std.proofs.Common.{◌≡◌, ℕ, Bool, true, false, ◌||◌, not, List, [], ◌∷◌, ◌++◌, map, Option, None, Some, refl, sym, ap, subst, ◌∙◌}
-use Rattle.std.specs.Prelude.{◌==◌, if◌then◌else◌}
+use Rattle.std.specs.Prelude.{if◌then◌else◌}
 use Rattle.std.specs.Str.{bytes_eq}
 use Rattle.rvc_base.specs.Rules.{not_constant, wrong_parameter}
 use Rattle.rvc_base.specs.declared.refusal.Rule.{Rule}
@@ -11,12 +11,12 @@ use Rattle.cal_model.specs.Actor.{Actor, Held}
 use Rattle.cal_model.specs.Kinding.{Broken, Fine, Judged, Known, Names}
 use Rattle.cal_model.specs.Value.{Shape, Value, kind_of_type, stored}
 use Rattle.cal_check.specs.Actions.{Around, or_none}
-use Rattle.cal_check.specs.Actors.{Conforms, IsAboveItself, IsSource, Source, actions_in, actions_of, actor_given, all_funs, all_said, all_valued, around_of, at_rest, before_members, behind_variables, declared_vars, first_valueless, funs_of, given_wrongly, has_heads, header_found, ins_of, is_declared, is_empty, is_given, is_held, kept_funs, kept_vars, members_found, members_of, outs_of, params_in, params_of, place_of, procs_in, procs_of, said_or_all, valueless_found, vars_in, violations, with_order}
+use Rattle.cal_check.specs.Actors.{IsAboveItself, IsSource, Source, actions_in, actions_of, actor_given, all_funs, all_said, all_valued, around_of, at_rest, before_members, behind_variables, declared_vars, first_valueless, funs_of, given_wrongly, has_heads, header_found, ins_of, is_declared, is_empty, is_given, is_held, kept_funs, kept_vars, members_found, members_of, outs_of, params_in, params_of, place_of, procs_in, procs_of, said_or_all, valueless_found, vars_in, violations, with_order}
 use Rattle.cal_check.specs.Constants.{early_type, has_kind}
 use Rattle.cal_check.specs.Ports.{each_port, header_broken}
 use Rattle.cal_check.specs.Routines.{FunDecl}
 use Rattle.cal_check.specs.Schedules.{schedule_in, states_of}
-use Rattle.cal_check.specs.Variables.{Come, Found, Given, Spot, VarDecl, Valued, come, found_in, given_broken, given_to, given_value, is_bare, misfit, none_yet, param_broken, seen, value_of, valued, with_come, with_type, with_value, with_var}
+use Rattle.cal_check.specs.Variables.{Come, Found, Given, Spot, VarDecl, Valued, come, found_in, given_broken, given_to, given_value, is_bare, misfit, none_yet, param_broken, seen, value_of, valued, with_type, with_value, with_var}
 use Rattle.cal_check.specs.Violations.{all_fine, said, violation}
 
 -- ---- the same values, given to the same parameters

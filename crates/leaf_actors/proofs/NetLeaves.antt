@@ -1,14 +1,9 @@
 -- The sound actors of some leaves are leaves of a network.
-use Rattle.std.proofs.Common.{List, [], ◌∷◌, refl}
-use Rattle.cal_model.specs.Actor.{Actor}
+use Rattle.std.proofs.Common.{[], ◌∷◌, refl}
 use Rattle.cal_model.specs.Firing.{behaviour}
 use Rattle.cal_model.specs.Laws.{SoundHavePriorities}
 use Rattle.cal_model.specs.Selection.{Priorities}
-use Rattle.cal_model.specs.Sound.{Each, IsSound}
-use Rattle.fnl_tree.specs.Tree.{Leaf}
-use Rattle.source_network.specs.Source.{Files}
 use Rattle.leaf_actors.specs.Laws.{ActorsAreLeaves, HasLeaves}
-use Rattle.leaf_actors.specs.Leaves.{AreActorsOf}
 
 pub actors_are_leaves : SoundHavePriorities → ActorsAreLeaves
 actors_are_leaves law files [] [] sound are = record { xs = []; are = tt }

@@ -10,16 +10,13 @@ use Rattle.rvc_base.specs.declared.refusal.Refusal.{Refusal}
 use Rattle.cal_ast.specs.Tree as tree
 use Rattle.cal_ast.specs.Tree.{Tree}
 use Rattle.cal_check.specs.Actors.{Conforms, IsSource, Source as Actors}
-use Rattle.cal_check.specs.Sources.{names_of_source}
-use Rattle.cal_check.specs.Variables.{Given, Spot, VarDecl}
-use Rattle.cal_imports.specs.Answer.{Answer, Gives, Refuses}
+use Rattle.cal_check.specs.Variables.{Given, Spot}
+use Rattle.cal_imports.specs.Answer.{Gives, Refuses}
 use Rattle.cal_imports.specs.Resolved.{resolved, resolved_source}
 use Rattle.cal_imports.specs.ScopeView.{IsRefused as IsRefusedScope, scope_view}
 use Rattle.cal_imports.specs.Sources.{Source, source_named}
 use Rattle.cal_imports.specs.Whole.{Outer, Scope}
 use Rattle.cal_imports.specs.declared.scope.Scope.{Scope as Resolved}
-use Rattle.cal_model.specs.Actor.{Actor}
-use Rattle.cal_model.specs.Sound.{AreDistinct}
 use Rattle.cal_model.specs.View.{actor_of}
 use Rattle.cal_model.specs.declared.bound.Bound.{Bound}
 use Rattle.fnl_tree.specs.Tree.{Leaf}
@@ -32,7 +29,7 @@ use Rattle.actor_check.specs.Sources as check
 use Rattle.actor_check.specs.Sources.{source_in}
 use Rattle.source_network.specs.Actors as net
 use Rattle.source_network.specs.Actors.{IsActorOf, given_of, owner_of}
-use Rattle.leaf_actors.specs.Leaves.{Breaks, HasActor, in_actor, in_scope}
+use Rattle.leaf_actors.specs.Leaves.{HasActor, in_actor, in_scope}
 use Rattle.leaf_actors.specs.Steps.{IsAnswered, IsRefusedAt}
 
 -- ---- the actor with the declarations of other files, told twice

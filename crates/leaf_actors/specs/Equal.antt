@@ -1,10 +1,10 @@
 -- Tests for equal values, and for leaves that give equal ones.
 -- Not trusted: no promise is read with it.
-use Rattle.std.specs.Prelude.{ℕ, ℤ, Bool, true, false, ◌&&◌, List, [], ◌∷◌}
+use Rattle.std.specs.Prelude.{ℤ, Bool, true, false, ◌&&◌, List, [], ◌∷◌}
 use Rattle.std.specs.Ordering.{int_eq}
 use Rattle.std.specs.Str.{bytes_eq}
 use Rattle.cal_model.specs.Value.{Value, Num, Truth, Items, Values, Nil, Cons}
-use Rattle.fnl_tree.specs.Tree.{Binding, Leaf}
+use Rattle.fnl_tree.specs.Tree.{Binding}
 
 abbrev pub same_truth : Bool → Bool → Bool
 same_truth true b = b

@@ -7,7 +7,7 @@ use Rattle.rvc_base.specs.declared.refusal.Front.{Front}
 use Rattle.rvc_base.specs.declared.refusal.Front.TheVariants as front
 use Rattle.rvc_base.specs.declared.refusal.Refusal.{Refusal}
 use Rattle.cal_model.specs.Actor.{Actor}
-use Rattle.cal_model.specs.Sound.{Each, IsSound}
+use Rattle.cal_model.specs.Sound.{Each}
 use Rattle.cal_model.specs.View.{actor_of}
 use Rattle.cal_check.specs.Sources.{IsSourceFormed}
 use Rattle.cal_imports.specs.Answer.{Gives, Refuses}
