@@ -1,5 +1,5 @@
 -- The actors at some leaves, one leaf more.
-use Rattle.std.proofs.Common.{◌≡◌, ℕ, zero, suc, ◌<◌, List, [], ◌∷◌, ◌++◌, length, map, None, Some, refl, sym, ap, subst, ◌∙◌, arith}
+use Rattle.std.proofs.Common.{Option, ◌≡◌, ℕ, zero, suc, ◌<◌, List, [], ◌∷◌, ◌++◌, length, map, None, Some, refl, sym, ap, subst, ◌∙◌, arith}
 use Rattle.std.specs.Prelude.{All, Contains, slice_get}
 use Rattle.std.proofs.lemmas.List.Elements.{All-nil, All-cons, Contains-append_left}
 use Rattle.cal_imports.specs.Sources.{Source}
@@ -13,7 +13,7 @@ use Rattle.leaf_actors.specs.Finding.{IsFound}
 use Rattle.leaf_actors.specs.Leaves.{AreActorsOf, AreFormed, HasActor, at_places, with_first}
 use Rattle.leaf_actors.specs.Steps.{AllStand, AreApart, IsSoFar, StandsAt}
 use Rattle.leaf_actors.proofs.LikeLeaves.{alike_are_one, alike_back, alike_itself, alike_on}
-use Rattle.leaf_actors.proofs.Lists.{contains_last, earlier_or_last, get_last, longer, some_same, split, still, within}
+use Rattle.leaf_actors.proofs.Lists.{contains_last, each_at, earlier_or_last, get_last, longer, some_same, split, still, within}
 
 no_item : {A : Type 0} (k : ℕ) (x : A) → slice_get [] k ≡ Some x → ⊥
 no_item k x h = cc
@@ -189,3 +189,13 @@ all_sound law files (l ∷ firsts) [] formed h = absurd h
 pub one_has : (files : List Source) (before : List Leaf) (leaf : Leaf) (behind : List Leaf) → Each (HasActor files) (before ++ leaf ∷ behind) → HasActor files leaf
 one_has files [] leaf behind h = h.0
 one_has files (l ∷ before) leaf behind h = one_has files before leaf behind h.1
+
+-- .. and so are those that stand at some places
+first_sound : (o : Option Actor) (actors : List Actor) → ((a : Actor) → o ≡ Some a → IsSound a) → Each IsSound actors → Each IsSound (with_first o actors)
+first_sound None actors h rest = rest
+first_sound (Some a) actors h rest = (h a refl, rest)
+
+pub places_sound : (actors : List Actor) (places : List ℕ) → Each IsSound actors → Each IsSound (at_places actors places)
+places_sound actors [] h = tt
+places_sound actors (p ∷ places) h =
+    first_sound (slice_get actors p) (at_places actors places) (λ a e. each_at IsSound actors p a h e) (places_sound actors places h)

@@ -1,6 +1,6 @@
 -- What holds of the actors at leaves.
 -- Trusted: part of what a promise means.
-use Rattle.std.specs.Prelude.{List}
+use Rattle.std.specs.Prelude.{◌≡◌, List, length}
 use Rattle.cal_model.specs.Actor.{Actor}
 use Rattle.cal_model.specs.Selection.{State}
 use Rattle.cal_model.specs.Sound.{Each, IsSound}
@@ -21,6 +21,7 @@ AlikeAreOne = (files : List Source) (leaf other : Leaf) (actor : Actor) → AreA
 pub record HasLeaves (files : Files) (leaves : List Leaf) (actors : List Actor) : Type 0 where
   pub xs : List (NetLeaf State)
   pub are : AreActors files leaves actors xs
+  pub many : length actors ≡ length leaves
 
 -- the sound actors of some leaves are the leaves of a network
 abbrev pub ActorsAreLeaves : Type 0

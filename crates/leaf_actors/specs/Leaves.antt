@@ -7,7 +7,7 @@ use Rattle.rvc_base.specs.declared.refusal.Front.{Front}
 use Rattle.rvc_base.specs.declared.refusal.Front.TheVariants as front
 use Rattle.rvc_base.specs.declared.refusal.Refusal.{Refusal}
 use Rattle.cal_model.specs.Actor.{Actor}
-use Rattle.cal_model.specs.Sound.{Each}
+use Rattle.cal_model.specs.Sound.{Each, IsSound}
 use Rattle.cal_model.specs.View.{actor_of}
 use Rattle.cal_check.specs.Sources.{IsSourceFormed}
 use Rattle.cal_imports.specs.Answer.{Gives, Refuses}
@@ -55,6 +55,11 @@ pub record StandsOnce (leaves : List Leaf) (found : LeafActors) : Type 0 where
       → slice_get leaves k ≡ Some other → AreAlike leaf other
       → slice_get found.of_leaf.items j ≡ slice_get found.of_leaf.items k
   pub used : (p : ℕ) → p < length found.actors.items → Contains found.of_leaf.items p
+
+-- each actor is sound, and so is the one at each leaf
+pub record HasSoundActors (found : LeafActors) : Type 0 where
+  pub each : Each IsSound (distinct_actors found)
+  pub at_leaves : Each IsSound (actors_at_leaves found)
 
 -- ---- what is known of the files
 

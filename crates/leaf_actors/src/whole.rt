@@ -2,11 +2,10 @@
 
 ghost use Rattle.std.specs.Prelude.{◌≤◌, IfErr, IfOk, length, map};
 ghost use Rattle.cal_imports.specs.View.{sources};
-ghost use Rattle.cal_model.specs.Sound.{Each, IsSound};
 ghost use Rattle.fnl_tree.specs.View.{leaf_of};
 ghost use Rattle.net_model.specs.Limits.{max_instances};
 ghost use Rattle.distinct_names.specs.Names.{AreSpelled};
-ghost use Rattle.leaf_actors.specs.Leaves.{AreActorsOf, AreFormed, IsComplete, IsFault, IsWithin, StandsOnce, actors_at_leaves, distinct_actors};
+ghost use Rattle.leaf_actors.specs.Leaves.{AreActorsOf, AreFormed, HasSoundActors, IsComplete, IsFault, IsWithin, StandsOnce, actors_at_leaves};
 
 use crate::found::LeafActors;
 use crate::known::Known;
@@ -37,7 +36,7 @@ pub fn check_leaves(alloc: Global, files: &FileSet, leaves: &[Leaf]) -> Result<L
     ensures within { IfOk result IsWithin }
     ensures once { IfOk result (StandsOnce (map leaf_of leaves.now)) }
     ensures sound { IfOk result
-        (λ found. AreFormed (sources files.now) → Each IsSound (distinct_actors found)) }
+        (λ found. AreFormed (sources files.now) → HasSoundActors found) }
 
     // Why there are none.
     ensures refused { IfErr result (IsFault (sources files.now) (map leaf_of leaves.now)) }

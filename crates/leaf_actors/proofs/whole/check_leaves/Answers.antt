@@ -70,7 +70,7 @@ returns-clause-sound c = λ formed.
     let files = sources c.args.files.now in
     let leaves = map leaf_of c.args.leaves.now in
     let none : c.leaves.rest.now ≡ [] = no_items c.leaves.rest.now c.in_default.ensures.cases in
-    found_sound c.sources_without_violations_are_sound.ensures files leaves c.leaves.known
+    found_sound c.sources_without_violations_are_sound.ensures files leaves c.leaves.known (record { actors = c.leaves.known.actors; of_leaf = c.leaves.known.of_leaf }) refl
     (subst (λ ls. IsGoing files (map leaf_of ls) leaves c.leaves.known) none c.leaves.invariant) formed
 
 pub add-requires-clause-differ : goal.add-requires-clause-differ
