@@ -75,7 +75,8 @@ pub record HasActor (files : List Source) (leaf : Leaf) : Type 0 where
   pub actor : Actor
   pub is : IsActorOf files leaf actor
 
--- a rule that is broken at a leaf: by the scope of its class, or by the actor over the values that the leaf gives
+-- a rule that is broken at a leaf: by the scope of its class, or by the actor over the values that the
+-- leaf gives
 pub data Breaks (files : List Source) (leaf : Leaf) (r : Refusal) : Type 0 where
   in_scope : resolved files leaf.class ≡ Refuses r.rule r.place.file r.place.offset
       → Breaks files leaf r

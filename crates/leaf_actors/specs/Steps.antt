@@ -3,6 +3,7 @@
 use Rattle.std.specs.Prelude.{◌≡◌, ℕ, ◌<◌, ◌≤◌, List, [], ◌∷◌, ◌++◌, map, length, Contains, Some, slice_get}
 use Rattle.std.specs.declared.result.Result.{Result}
 use Rattle.std.specs.declared.result.Result.TheVariants.{Ok, Err}
+use Rattle.rvc_base.specs.Rules.{import_not_found}
 use Rattle.rvc_base.specs.declared.refusal.Front.{Front}
 use Rattle.rvc_base.specs.declared.refusal.Front.TheVariants as front
 use Rattle.cal_model.specs.Actor.{Actor}
@@ -31,6 +32,13 @@ NamesStandApart files = (class : List ℕ) (scope : Scope) → resolved files cl
 
 -- ---- one leaf
 
+-- no file has the class that is asked for
+abbrev pub unfound : Front
+unfound = front.Refused (record {
+  rule = import_not_found;
+  place = record { file = 0; offset = 0 };
+})
+
 -- the rule that is broken at a leaf, at which there is no actor
 abbrev pub IsRefusedAt : Front → List Source → Leaf → Type 0
 IsRefusedAt (front.Refused r) files leaf = (HasActor files leaf → ⊥) × Breaks files leaf r
@@ -57,7 +65,8 @@ AreApart leaves = (j k : ℕ) (leaf other : Leaf) → slice_get leaves j ≡ Som
     → slice_get leaves k ≡ Some other → AreAlike leaf other → j ≡ k
 
 -- the actors of these leaves, each with its first leaf
-pub record IsSoFar (files : List Source) (done firsts : List Leaf) (actors : List Actor) (places : List ℕ) : Type 0 where
+pub record IsSoFar (files : List Source) (done firsts : List Leaf) (actors : List Actor)
+    (places : List ℕ) : Type 0 where
   pub are : AreActorsOf files firsts actors
   pub stand : AllStand firsts done places
   pub apart : AreApart firsts

@@ -5,7 +5,7 @@ use cal_model::Bound;
 /// The actors at the leaves of a network, each class with its values once.
 #[derive(Debug, Drop)]
 pub struct LeafActors {
-    /// Each actor once, in the order of the first leaves at which they stand.
+    /// Each actor once.
     pub actors: Vec<Bound>,
     /// For each leaf the place of its actor.
     pub of_leaf: Vec<u32>,

@@ -1,7 +1,6 @@
 //! The actor at one leaf.
 
 ghost use Rattle.std.specs.Prelude.{◌≡◌, List};
-ghost use Rattle.rvc_base.specs.Rules.{import_not_found};
 ghost use Rattle.cal_check.specs.Sources.{names_of_source};
 ghost use Rattle.cal_imports.specs.Answer.{Gives};
 ghost use Rattle.cal_imports.specs.Resolved.{resolved};
@@ -11,7 +10,7 @@ ghost use Rattle.cal_imports.specs.View.{sources};
 ghost use Rattle.cal_model.specs.Sound.{AreDistinct};
 ghost use Rattle.fnl_tree.specs.View.{leaf_of};
 ghost use Rattle.actor_check.specs.Sources.{source_in};
-ghost use Rattle.leaf_actors.specs.Steps.{IsAnswered, NamesStandApart};
+ghost use Rattle.leaf_actors.specs.Steps.{IsAnswered, NamesStandApart, unfound};
 
 use actor_check::check;
 use cal_imports::{FileSet, Scope, resolve};
@@ -22,7 +21,7 @@ use std::alloc::Global;
 
 /// That no file has the class that is asked for.
 fn not_found() -> Front
-    ensures { result ≡ Front.Refused (record { rule = import_not_found; place = record { file = 0; offset = 0 } }) }
+    ensures { result ≡ unfound }
 {
     let rule = Rule::IMPORT_NOT_FOUND;
     let place = Place { file: 0, offset: 0 };
@@ -32,7 +31,8 @@ fn not_found() -> Front
 /// The actor that a class's scope is over the values that a leaf gives.
 fn checked(alloc: Global, scope: &Scope, leaf: &Leaf) -> Result<Bound, Front>
     requires { AreDistinct (names_of_source (source_in scope.now)) }
-    ensures { (files : List Source) → resolved files (leaf_of leaf.now).class ≡ Gives (scope_view scope.now)
+    ensures { (files : List Source)
+        → resolved files (leaf_of leaf.now).class ≡ Gives (scope_view scope.now)
         → IsAnswered result files (leaf_of leaf.now) }
 {
     check(alloc, scope, &leaf.bindings, leaf.instance_at)

@@ -45,7 +45,8 @@ pub(crate) fn is_equal(value: &Value, other: &Value) -> bool
 /// Whether two lists have equal values in the same order.
 #[cycle(equal)]
 fn are_equal(values: &[Value], others: &[Value]) -> bool
-    ensures { result ≡ are_equal (in_order (map value_view values.now)) (in_order (map value_view others.now)) }
+    ensures { result ≡ are_equal (in_order (map value_view values.now))
+        (in_order (map value_view others.now)) }
 {
     let mut rest = values;
     let mut left = others;
