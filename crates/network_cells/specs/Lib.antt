@@ -1,0 +1,7 @@
+pub mod Rooms
+pub mod Tables
+pub mod Cells
+pub mod Runnable
+pub mod RunAlike
+pub mod Sources
+pub mod SourceRuns

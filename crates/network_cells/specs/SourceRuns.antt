@@ -1,0 +1,107 @@
+-- A run of the cells of lowered actors is a run of the network of the sources for which they stand.
+-- Trusted: part of what a promise means.
+use Rattle.std.specs.Prelude.{◌≡◌, ℕ, ◌≤◌, ◌↔◌, List, map}
+use Rattle.rvc_io.specs.Channels.{Channels}
+use Rattle.trace_text.specs.declared.line.Line.{Line}
+use Rattle.cal_model.specs.Actor.{Actor}
+use Rattle.cal_model.specs.Selection.{State}
+use Rattle.cal_model.specs.Sound.{Each, IsSound}
+use Rattle.lowered_actor.specs.Actor as coded
+use Rattle.lowered_actor.specs.Meaning as lowered
+use Rattle.net_model.specs.declared.wiring.Wiring.{Wiring}
+use Rattle.net_model.specs.Network.{Network}
+use Rattle.net_model.specs.State as model
+use Rattle.net_model.specs.State.{Flow, start_of}
+use Rattle.net_model.specs.Cell.{Cell}
+use Rattle.net_model.specs.Alike.{AreAlike, StatesAlike}
+use Rattle.net_model.specs.Limits.{max_grow}
+use Rattle.net_model.specs.Paced.{IsPaced, Pace}
+use Rattle.net_model.specs.Ready.{IsNetworkOf, IsReady, given_state}
+use Rattle.fnl_tree.specs.Sound.{IsSound as IsSoundTree}
+use Rattle.fnl_tree.specs.Tree.{Tree}
+use Rattle.fnl_flatten.specs.Flattened.{IsFlattened}
+use Rattle.fnl_flatten.specs.declared.flat.Flat.{Flat}
+use Rattle.round_runner.specs.declared.outcome.RunEnd.{RunEnd}
+use Rattle.round_runner.specs.Running.{Running}
+use Rattle.network_runner.specs.FromStart.{RunsFromStart}
+use Rattle.source_network.specs.Actors.{head_of}
+use Rattle.source_network.specs.Answers.{HasWiring}
+use Rattle.source_network.specs.Source.{AreActors, Files, IsTree}
+use Rattle.network_cells.specs.Cells.{AreCellsOf}
+use Rattle.network_cells.specs.Runnable.{CanBeWired, IsWiringOf}
+use Rattle.network_cells.specs.RunAlike.{without_cells}
+use Rattle.network_cells.specs.Sources.{IsActorNetwork, StandForActors, lowered_network, may_come_at, stands_at}
+
+-- The actors at the leaves of the tree of a class, joined as its flattening answers, are the network of these actors.
+abbrev pub AnswersAreActorNetworks : Type 0
+AnswersAreActorNetworks = (files : Files) (class : List ℕ) (tree : Tree) (actors : List Actor)
+    (flat : Flat) (net : Network State) → IsTree files class tree → IsSoundTree tree
+    → Each IsSound actors → AreActors files tree.leaves actors net.leaves
+    → IsFlattened tree (map head_of actors) flat → HasWiring flat net
+    → IsActorNetwork actors net
+
+-- Lowered actors that stand for the actors of a network can be wired as it is, whichever of its ports are open.
+abbrev pub LoweredCanBeWired : Type 0
+LoweredCanBeWired = (actors : List Actor) (codes : List coded.Actor) (net : Network State)
+    (wiring : Wiring) → IsActorNetwork actors net → StandForActors actors codes
+    → IsWiringOf net wiring → CanBeWired codes wiring
+
+-- .. and then the network of the lowered actors and that of the actors are alike
+abbrev pub LoweredAreAlike : Type 0
+LoweredAreAlike = (actors : List Actor) (codes : List coded.Actor) (net : Network State)
+    → IsActorNetwork actors net → StandForActors actors codes
+    → AreAlike (stands_at actors) (may_come_at actors) (lowered_network codes net) net
+
+-- cells of lowered actors that stand for the actors of a network with this wiring
+pub record AreCellsFor (actors : List Actor) (codes : List coded.Actor) (net : Network State) (wiring : Wiring) (burst grow : ℕ) (cells : List (Cell lowered.ActorState)) : Type 0 where
+  pub actor_network : IsActorNetwork actors net
+  pub stand : StandForActors actors codes
+  pub wiring_of : IsWiringOf net wiring
+  pub cells_of : AreCellsOf codes net.links burst grow cells
+  pub few_grown : grow ≤ max_grow
+
+-- Their network is that of the lowered actors, which is ready to be run, and a run from them begins at its start: the
+-- state that is alike to the start of the sources.
+pub record BeginAlike (actors : List Actor) (codes : List coded.Actor) (net : Network State) (wiring : Wiring) (burst grow : ℕ) (cells : List (Cell lowered.ActorState)) : Type 0 where
+  pub is_of : IsNetworkOf (lowered_network codes net) cells wiring
+  pub ready : IsReady (lowered_network codes net) grow burst cells
+  pub at_start : (inputs : List (List ℕ))
+      → given_state (lowered_network codes net) cells inputs
+      ≡ start_of (lowered_network codes net) inputs
+  pub starts_alike : (inputs : List (List ℕ))
+      → StatesAlike (stands_at actors) (may_come_at actors) (lowered_network codes net)
+      (given_state (lowered_network codes net) cells inputs) (start_of net inputs)
+
+abbrev pub CellsBeginAlike : Type 0
+CellsBeginAlike = (actors : List Actor) (codes : List coded.Actor) (net : Network State)
+    (wiring : Wiring) (burst grow : ℕ) (cells : List (Cell lowered.ActorState))
+    → AreCellsFor actors codes net wiring burst grow cells
+    → BeginAlike actors codes net wiring burst grow cells
+
+-- so these lines are paced from a state, with these tokens on the links at the end
+pub record PacesTo {X : Type 0} (net : Network X) (pace : Pace) (s : model.State X) (lines : List Line) (flows : List Flow) : Type 0 where
+  pub last : model.State X
+  pub paced : IsPaced net pace s lines last
+  pub flows_are : last.flows ≡ flows
+
+-- The lines that are paced from the cells are exactly those that are paced from the start of the sources, and leave the
+-- same tokens on the links.
+abbrev pub SamePacedLines : Type 0
+SamePacedLines = (actors : List Actor) (codes : List coded.Actor) (net : Network State)
+    (wiring : Wiring) (burst grow : ℕ) (cells : List (Cell lowered.ActorState))
+    (inputs : List (List ℕ)) (pace : Pace) (lines : List Line) (flows : List Flow)
+    → AreCellsFor actors codes net wiring burst grow cells
+    → PacesTo (lowered_network codes net) pace (given_state (lowered_network codes net) cells inputs) lines flows
+    ↔ PacesTo net pace (start_of net inputs) lines flows
+
+-- What a run of the cells leaves, from their start to its end, is what a run of the sources leaves from their start.
+abbrev pub CellsRunAsSources : Type 0
+CellsRunAsSources = (actors : List Actor) (codes : List coded.Actor) (net : Network State)
+    (wiring : Wiring) (burst grow : ℕ) (cells : List (Cell lowered.ActorState))
+    (inputs : List (List ℕ)) (budget : ℕ) (how : RunEnd)
+    (run new : Running (Cell lowered.ActorState)) (old now : Channels)
+    → AreCellsFor actors codes net wiring burst grow cells
+    → RunsFromStart (lowered_network codes net) inputs budget
+    (given_state (lowered_network codes net) cells inputs) how run new old now
+    → RunsFromStart net inputs budget (start_of net inputs) how (without_cells run)
+    (without_cells new) old now
