@@ -1,0 +1,3 @@
+mod LikeRounds
+mod Turned
+pub mod Lawlike

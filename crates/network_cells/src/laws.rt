@@ -2,7 +2,8 @@
 //!
 //! Each law is the contract of a function that does nothing: it is proved with the crate, and can be cited.
 
-ghost use Rattle.network_cells.specs.RunAlike.{BegunAlike, CountedAlike, PacedBack, RunsAlike};
+ghost use Rattle.network_cells.specs.LinesAlike.{BegunAlike, CountedAlike, PacedBack};
+ghost use Rattle.network_cells.specs.RunAlike.{RunsAlike};
 ghost use Rattle.network_cells.specs.SourceRuns.{AnswersAreActorNetworks, CellsBeginAlike, CellsRunAsSources, LoweredAreAlike, LoweredCanBeWired, SamePacedLines};
 
 use net_model::Likeness;
