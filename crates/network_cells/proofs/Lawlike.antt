@@ -8,10 +8,10 @@ use Rattle.net_model.specs.Network.{Leaf, Network, is_input}
 use Rattle.net_model.specs.State.{Flow, State, sent_to}
 use Rattle.net_model.specs.Counted.{IsCounted, arrived_of, is_delivery, is_short, on_next, rest_at, was_short}
 use Rattle.net_model.specs.Paced.{AreRounds, IsBegun, IsPaced, Moment, Pace, first_moment}
-use Rattle.net_model.specs.Trace.{OnNext, PlaysFrom, goes}
+use Rattle.net_model.specs.Trace.{KeepsFrom, OnNext, PlaysFrom, goes}
 use Rattle.net_model.specs.Alike.{Allowed, AreAlike, StatesAlike}
 use Rattle.net_model.proofs.Twins.{Twins, TwinNets, twin, twin_net}
-use Rattle.net_model.proofs.LikeLines.{goes_too}
+use Rattle.net_model.proofs.LikeLines.{goes_too, keeps_too}
 use Rattle.net_model.proofs.LikePacing.{paced_too}
 use Rattle.network_cells.proofs.LikeRounds.{rounds_too, twin_moment}
 use Rattle.network_cells.proofs.Turned.{nets_back, states_back, states_forth, turned}
@@ -50,14 +50,14 @@ module _ {X Y : Type 0} (related : ℕ → X → Y → Type 0) (allowed : Allowe
       ap (λ fs. record { actors = that.actors; flows = fs; trapped = s.trapped }) states.flows
       ∙ ap (λ b. record { actors = that.actors; flows = that.flows; trapped = b }) states.trapped
 
-  twins_of : (s : State X) (that : State Y) → StatesAlike related allowed net s that → Twins related allowed net s that.actors
+  pub twins_of : (s : State X) (that : State Y) → StatesAlike related allowed net s that → Twins related allowed net s that.actors
   twins_of s that states = record { actors = states.actors; holds = states.holds }
 
   states_of : (t : State X) (those : List Y) → Twins related allowed net t those → StatesAlike related allowed net t (twin t those)
   states_of t those twins = record { actors = twins.actors; flows = refl; trapped = refl; holds = twins.holds }
 
   -- a fact of the twin is one of the other network and its state
-  carried : (P : Network Y → State Y → Type 0) (s : State X) (that : State Y) → StatesAlike related allowed net s that
+  pub carried : (P : Network Y → State Y → Type 0) (s : State X) (that : State Y) → StatesAlike related allowed net s that
       → P (twin_net net other.leaves) (twin s that.actors) → P other that
   carried P s that states h = subst (λ n. P n that) net_is (subst (λ w. P (twin_net net other.leaves) w) (state_is s that states) h)
 
@@ -80,6 +80,11 @@ module _ {X Y : Type 0} (related : ℕ → X → Y → Type 0) (allowed : Allowe
   paced_alike pace s t that lines states paced =
       let too = paced_too related allowed net other.leaves nets pace s that.actors lines t (twins_of s that states) paced in
       (twin t too.0, carried (λ n w. IsPaced n pace w lines (twin t too.0)) s that states too.1, states_of t too.0 too.2)
+
+  pub keep_alike : (s : State X) (that : State Y) (lines : List Line) → StatesAlike related allowed net s that → KeepsFrom net s lines → KeepsFrom other that lines
+  keep_alike s that lines states keeps =
+      carried (λ n w. KeepsFrom n w lines) s that states
+      (keeps_too related allowed net other.leaves nets lines s s that.actors that.actors (twins_of s that states) keeps)
 
   -- they find the same links short
   short_alike : (grow : ℕ) (lines : List Line) (s last : State X) (that : State Y) (l : ℕ) → StatesAlike related allowed net s that → PlaysFrom net grow s lines last

@@ -1,10 +1,13 @@
 -- Tables of rooms: a row for each leaf, and in it a number for each of its ports of one direction.
 -- Not trusted: no promise is read with it.
-use Rattle.std.specs.Prelude.{◌≡◌, ℕ, ◌<◌, max, Bool, true, false, List, [], ◌∷◌, length, map, replicate, slice_get, slice_set, slice_index_or, Some}
+use Rattle.std.specs.Prelude.{◌≡◌, ℕ, ◌<◌, ◌≤◌, max, All, Bool, true, false, List, [], ◌∷◌, length, replicate, slice_get, slice_set, slice_index_or, Some}
 use Rattle.lowered_actor.specs.Actor.{Actor}
+use Rattle.lowered_actor.specs.Meaning.{ActorState}
 use Rattle.net_model.specs.declared.wiring.End.{End}
 use Rattle.net_model.specs.declared.wiring.End.TheVariants.{Leaf as AtLeaf, Net as AtNet}
 use Rattle.net_model.specs.declared.wiring.Link.{Link}
+use Rattle.net_model.specs.Cell.{Cell}
+use Rattle.actor_cell.specs.Core.{IsAtStart}
 use Rattle.network_cells.specs.Rooms.{asked_at, end_at, queue_of}
 
 -- how many ports a lowered actor has: inputs, or outputs
@@ -37,10 +40,29 @@ filled inward grow [] table = table
 filled inward grow (link ∷ links) table =
     filled inward grow links (widened (end_at inward link) (queue_of grow link) table)
 
--- The room of each port is the most that is asked for there, and `least` at least.
-pub record AreRoomsOf (inward : Bool) (grow least : ℕ) (codes : List Actor) (links : List Link) (table : List (List ℕ)) : Type 0 where
+-- a row for each lowered actor, and in it a place for each of its ports
+pub record HasRowsOf (inward : Bool) (codes : List Actor) (table : List (List ℕ)) : Type 0 where
   pub rows : length table ≡ length codes
   pub ports : (i : ℕ) (code : Actor) → slice_get codes i ≡ Some code
       → length (row_at table i) ≡ ports_of inward code
+
+-- The room of each port is the most that is asked for there, and `least` at least.
+pub record AreRoomsOf (inward : Bool) (grow least : ℕ) (codes : List Actor) (links : List Link) (table : List (List ℕ)) : Type 0 where
+  pub shape : HasRowsOf inward codes table
   pub rooms : (i p : ℕ) (code : Actor) → slice_get codes i ≡ Some code → p < ports_of inward code
       → room_at table i p ≡ max least (asked_at inward grow i p links)
+
+-- a cell of the lowered actor at a place, whose queues have the rooms of its rows
+abbrev pub IsCellBy : List Actor → List (List ℕ) → List (List ℕ) → ℕ → ℕ → Cell ActorState → Type 0
+IsCellBy codes ins outs burst i cell = (code : Actor) → slice_get codes i ≡ Some code
+    → IsAtStart code (row_at ins i) (row_at outs i) burst cell
+
+-- one for each of the first n
+pub record AreCellsBy (n : ℕ) (codes : List Actor) (ins outs : List (List ℕ)) (burst : ℕ) (cells : List (Cell ActorState)) : Type 0 where
+  pub count : length cells ≡ n
+  pub each : (i : ℕ) (cell : Cell ActorState) → slice_get cells i ≡ Some cell
+      → IsCellBy codes ins outs burst i cell
+
+-- each row has room for one at each port
+abbrev pub AreRoomy : List (List ℕ) → Type 0
+AreRoomy table = (i : ℕ) → All (λ room. 1 ≤ room) (row_at table i)

@@ -1,11 +1,11 @@
 //! A cell for each leaf.
 
-ghost use Rattle.std.specs.Prelude.{◌≡◌, ◌≤◌, ◌<◌, IfOk, Some, length, map, slice_get, vec_items};
+ghost use Rattle.std.specs.Prelude.{◌≡◌, ◌≤◌, ◌<◌, IfOk, Some, false, length, map, slice_get, true, vec_items};
 ghost use Rattle.std.specs.Arc.{arc_value};
 ghost use Rattle.actor_cell.specs.Core.{seen};
 ghost use Rattle.network_cells.specs.Cells.{AreCellsOf};
 ghost use Rattle.network_cells.specs.Runnable.{CanRunWith};
-ghost use Rattle.network_cells.specs.Tables.{AreRoomsOf};
+ghost use Rattle.network_cells.specs.Tables.{AreCellsBy, AreRoomy, HasRowsOf, IsCellBy, row_at};
 
 use crate::table::rooms_of;
 use actor_cell::Cell;
@@ -23,26 +23,53 @@ fn code_at(codes: &[Arc<Lowered>], i: usize) -> &Arc<Lowered>
     &codes[i]
 }
 
-/// A cell of each lowered actor, whose queues have the rooms that its rows of these tables say.
-fn cells_of(
+/// A row of a table.
+fn row_at(table: &[Vec<u32>], i: usize) -> &[u32]
+    requires { i < length table.now }
+    ensures { result.now ≡ row_at (map vec_items table.now) i }
+{
+    &table[i]
+}
+
+/// The cell of one of these lowered actors, whose queues have the rooms of its rows.
+fn cell_at(
     alloc: Global,
     codes: &[Arc<Lowered>],
-    links: &[Link],
     ins: &[Vec<u32>],
     outs: &[Vec<u32>],
     burst: u32,
-    grow: u32,
+    i: usize,
+) -> Result<Cell, Memory>
+    requires burst { 1 ≤ burst }
+    requires there { i < length codes.now }
+    requires ins { HasRowsOf true (map arc_value codes.now) (map vec_items ins.now) }
+    requires outs { HasRowsOf false (map arc_value codes.now) (map vec_items outs.now) }
+    requires roomy { AreRoomy (map vec_items ins.now) }
+    ensures { IfOk result (λ cell. IsCellBy (map arc_value codes.now) (map vec_items ins.now)
+        (map vec_items outs.now) burst i (seen cell)) }
+{
+    let code = Arc::clone(code_at(codes, i))?;
+    Cell::new(alloc, code, row_at(ins, i), row_at(outs, i), burst)
+}
+
+/// A cell of each of these lowered actors, whose queues have the rooms of its rows.
+fn cells_by(
+    alloc: Global,
+    codes: &[Arc<Lowered>],
+    ins: &[Vec<u32>],
+    outs: &[Vec<u32>],
+    burst: u32,
 ) -> Result<Vec<Cell>, Memory>
     requires burst { 1 ≤ burst }
-    requires ins { AreRoomsOf true grow 1 (map arc_value codes.now) links.now (map vec_items ins.now) }
-    requires outs { AreRoomsOf false grow 0 (map arc_value codes.now) links.now (map vec_items outs.now) }
-    ensures { IfOk result (λ cells. AreCellsOf (map arc_value codes.now) links.now burst grow
-        (map seen cells.items)) }
+    requires ins { HasRowsOf true (map arc_value codes.now) (map vec_items ins.now) }
+    requires outs { HasRowsOf false (map arc_value codes.now) (map vec_items outs.now) }
+    requires roomy { AreRoomy (map vec_items ins.now) }
+    ensures { IfOk result (λ cells. AreCellsBy (length codes.now) (map arc_value codes.now)
+        (map vec_items ins.now) (map vec_items outs.now) burst (map seen cells.items)) }
 {
     let mut cells = Vec::with_capacity(alloc, codes.len())?;
     for i in 0..codes.len() {
-        let code = Arc::clone(code_at(codes, i))?;
-        let cell = Cell::new(alloc, code, &ins[i], &outs[i], burst)?;
+        let cell = cell_at(alloc, codes, ins, outs, burst, i)?;
         cells.push(cell)?;
     }
     Ok(cells)
@@ -71,5 +98,5 @@ pub fn make_cells(
 {
     let ins = rooms_of(alloc, codes, links, true, grow, 1)?;
     let outs = rooms_of(alloc, codes, links, false, grow, 0)?;
-    cells_of(alloc, codes, links, &ins, &outs, burst, grow)
+    cells_by(alloc, codes, &ins, &outs, burst)
 }
