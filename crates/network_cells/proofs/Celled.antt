@@ -1,6 +1,6 @@
 -- Cells that are made by tables of rooms.
 use Rattle.std.proofs.Common.{◌≡◌, ⊎_elim, ℕ, zero, suc, ◌+◌, ◌<◌, ◌≤◌, Bool, true, false, List, [], ◌∷◌, ◌++◌, length, map, max, refl, sym, ap, subst, ◌∙◌, arith, length-append}
-use Rattle.std.specs.Prelude.{All, Some, slice_get, slice_index_or}
+use Rattle.std.specs.Prelude.{All, Err, IfOk, Ok, Result, Some, slice_get, slice_index_or}
 use Rattle.std.specs.List.{range_with_len}
 use Rattle.std.proofs.Math.ListN.{get_or-eq_default}
 use Rattle.std.proofs.lemmas.Bool.{cases_lt}
@@ -91,3 +91,8 @@ cells_are grow codes links burst n ins outs cells all in_rows out_rows are = rec
   one_each = are.count ∙ all;
   starts = λ i code cell at there. starts_with grow codes links burst i ins outs code cell in_rows out_rows at (are.each i cell there code at);
 }
+
+-- what is answered with success has what follows from what it has
+pub on_success : {A E : Type 0} (result : Result A E) (P Q : A → Type 0) → ((x : A) → P x → Q x) → IfOk result P → IfOk result Q
+on_success (Ok x) P Q follows is = follows x is
+on_success (Err e) P Q follows is = tt

@@ -1,20 +1,58 @@
 -- What networks that are alike have in common: begun and paced lines, and the numbers that count them.
-use Rattle.std.proofs.Common.{◌≡◌, ℕ, ◌-◌, ◌<◌, Bool, true, false, List, [], ◌∷◌, length, refl, sym, ap, ◌∙◌, subst}
+use Rattle.std.proofs.Common.{◌≡◌, ℕ, zero, suc, ◌-◌, ◌<◌, Bool, true, false, List, [], ◌∷◌, ℤ, length, map, refl, sym, ap, ◌∙◌, subst}
+use Rattle.rvc_base.specs.Storing.{conv}
+use Rattle.net_model.specs.declared.wiring.End.{End}
+use Rattle.net_model.specs.declared.wiring.End.TheVariants.{Leaf as AtLeaf, Net as AtNet}
 use Rattle.std.specs.Prelude.{Option, None, Some, slice_get, slice_index_or, ◌||◌, ◌&&◌, if◌then◌else◌}
 use Rattle.trace_text.specs.declared.line.Line.{Line}
 use Rattle.net_model.specs.declared.wiring.Counts.{Counts}
 use Rattle.net_model.specs.declared.wiring.Link.{Link}
-use Rattle.net_model.specs.Network.{Leaf, Network, is_input}
-use Rattle.net_model.specs.State.{Flow, State, sent_to}
+use Rattle.net_model.specs.Network.{Leaf, NetPort, Network, is_input}
+use Rattle.net_model.specs.State.{Flow, State, fed_by, first_flow, sent_to, start_of}
 use Rattle.net_model.specs.Counted.{IsCounted, arrived_of, is_delivery, is_short, on_next, rest_at, was_short}
 use Rattle.net_model.specs.Paced.{AreRounds, IsBegun, IsPaced, Moment, Pace, first_moment}
 use Rattle.net_model.specs.Trace.{KeepsFrom, OnNext, PlaysFrom, goes}
-use Rattle.net_model.specs.Alike.{Allowed, AreAlike, StatesAlike}
-use Rattle.net_model.proofs.Twins.{Twins, TwinNets, twin, twin_net}
+use Rattle.net_model.specs.Alike.{ActorsAlike, Allowed, AreAlike, EachIs, HoldsAllowed, LeavesAlike, StatesAlike, StoresAllowed}
+use Rattle.net_model.proofs.Twins.{Twins, TwinNets, each_map, twin, twin_net}
 use Rattle.net_model.proofs.LikeLines.{goes_too, keeps_too}
 use Rattle.net_model.proofs.LikePacing.{paced_too}
 use Rattle.network_cells.proofs.LikeRounds.{rounds_too, twin_moment}
 use Rattle.network_cells.proofs.Turned.{nets_back, states_back, states_forth, turned}
+
+-- ---- starts
+
+starts_related : {X Y : Type 0} (related : ℕ → X → Y → Type 0) (allowed : Allowed) (i : ℕ) (leaves : List (Leaf X)) (others : List (Leaf Y))
+    → LeavesAlike related allowed i leaves others
+    → ActorsAlike related i (map (λ leaf. leaf.behaviour.start) leaves) (map (λ leaf. leaf.behaviour.start) others)
+starts_related related allowed i [] [] alike = tt
+starts_related related allowed i (leaf ∷ leaves) (other ∷ others) alike =
+    (alike.0.2.starts, starts_related related allowed (suc i) leaves others alike.1)
+starts_related related allowed i [] (other ∷ others) alike = absurd alike
+starts_related related allowed i (leaf ∷ leaves) [] alike = absurd alike
+
+fed_each : (allowed : Allowed) (ports : List NetPort) (inputs : List (List ℕ)) (link : Link) (from : End) (inst port : ℕ) → ((v : ℤ) → allowed inst port (conv link.kind v))
+    → EachIs (allowed inst port) (fed_by ports inputs link from)
+fed_each allowed ports inputs link (AtLeaf leaf q) inst port stores = tt
+fed_each allowed ports inputs link (AtNet q) inst port stores = each_map (allowed inst port) (conv link.kind) _ stores
+
+fed_holds : (allowed : Allowed) (ports : List NetPort) (inputs : List (List ℕ)) (link : Link) (end : End) → StoresAllowed allowed link end → HoldsAllowed allowed (first_flow ports inputs link) end
+fed_holds allowed ports inputs link (AtLeaf inst port) stores = fed_each allowed ports inputs link link.from inst.0 port stores
+fed_holds allowed ports inputs link (AtNet port) stores = tt
+
+first_holds : (allowed : Allowed) (ports : List NetPort) (inputs : List (List ℕ)) (links : List Link)
+    → ((l : ℕ) (link : Link) → slice_get links l ≡ Some link → StoresAllowed allowed link link.to)
+    → (l : ℕ) (link : Link) (flow : Flow) → slice_get links l ≡ Some link → slice_get (map (first_flow ports inputs) links) l ≡ Some flow
+    → HoldsAllowed allowed flow link.to
+first_holds allowed ports inputs [] stores l link flow at now = cc
+first_holds allowed ports inputs (head ∷ links) stores zero link flow at now =
+    let same : head ≡ link = cc in
+    let flow_is : first_flow ports inputs link ≡ flow = ap (first_flow ports inputs) (sym same) ∙ (let is : first_flow ports inputs head ≡ flow = cc in is) in
+    subst (λ f. HoldsAllowed allowed f link.to) flow_is
+    (fed_holds allowed ports inputs link link.to (subst (λ k. StoresAllowed allowed k k.to) same (stores 0 head refl)))
+first_holds allowed ports inputs (head ∷ links) stores (suc l) link flow at now =
+    first_holds allowed ports inputs links (λ m. stores (suc m)) l link flow at now
+
+-- ---- steps
 
 next_step : {X : Type 0} {R : Type 0} (o : Option (State X)) (P : State X → Type 0) → ((u : State X) → o ≡ Some u → P u → R) → OnNext o P → R
 next_step None P f h = absurd h
@@ -60,6 +98,14 @@ module _ {X Y : Type 0} (related : ℕ → X → Y → Type 0) (allowed : Allowe
   pub carried : (P : Network Y → State Y → Type 0) (s : State X) (that : State Y) → StatesAlike related allowed net s that
       → P (twin_net net other.leaves) (twin s that.actors) → P other that
   carried P s that states h = subst (λ n. P n that) net_is (subst (λ w. P (twin_net net other.leaves) w) (state_is s that states) h)
+
+  pub starts_alike : (inputs : List (List ℕ)) → StatesAlike related allowed net (start_of net inputs) (start_of other inputs)
+  starts_alike inputs = subst (λ n. StatesAlike related allowed net (start_of net inputs) (start_of n inputs)) net_is (record {
+    actors = starts_related related allowed 0 net.leaves other.leaves alike.leaves;
+    flows = refl;
+    trapped = refl;
+    holds = first_holds allowed net.ins inputs net.links alike.stores;
+  })
 
   pub begun_alike : (pace : Pace) (s : State X) (that : State Y) (lines : List Line) (reached : Moment X) → StatesAlike related allowed net s that → IsBegun net pace s lines reached
       → (last : State Y) × IsBegun other pace that lines (record { state = last; round = reached.round; idle = reached.idle; left = reached.left })

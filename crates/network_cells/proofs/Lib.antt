@@ -5,3 +5,9 @@ pub mod RunsToo
 mod Filling
 mod Celled
 mod Asked
+pub mod Readied
+mod Runnably
+pub mod LikeSources
+pub mod SourceLaws
+mod PortTypes
+mod Answered

@@ -6,7 +6,9 @@ ghost use Rattle.network_cells.specs.LinesAlike.{BegunAlike, CountedAlike, Paced
 ghost use Rattle.network_cells.specs.RunAlike.{RunsAlike};
 ghost use Rattle.network_cells.specs.SourceRuns.{AnswersAreActorNetworks, CellsBeginAlike, CellsRunAsSources, LoweredAreAlike, LoweredCanBeWired, SamePacedLines};
 
+use cal_model::types_are_kept;
 use net_model::Likeness;
+use source_network::{answers_are_the_source_network, one_network};
 
 /// Networks that are alike are run alike: what is begun or paced in the one is in the other, with the same tokens on the
 /// links, the same numbers count it, and what a run leaves from its start to its end is the same.
@@ -32,4 +34,8 @@ pub fn cells_run_as_sources()
     ensures begin { CellsBeginAlike }
     ensures paced { SamePacedLines }
     ensures runs { CellsRunAsSources }
-{}
+{
+    types_are_kept();
+    one_network();
+    answers_are_the_source_network();
+}

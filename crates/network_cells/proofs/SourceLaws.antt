@@ -1,0 +1,150 @@
+-- The cells of lowered actors are run as the network of the actors for which they stand.
+use Rattle.std.proofs.Common.{◌≡◌, ℕ, ◌≤◌, List, length, map, refl, sym, ap, subst, ◌∙◌, arith}
+use Rattle.std.specs.Prelude.{Some, slice_get, All, ◌↔◌}
+use Rattle.std.proofs.lemmas.List.{length-map}
+use Rattle.std.proofs.lemmas.Option.{get_or_from_slice_get, slice_get_within}
+use Rattle.rvc_io.specs.Channels.{Channels}
+use Rattle.rvc_base.specs.Storing.{IsSize}
+use Rattle.trace_text.specs.declared.line.Line.{Line}
+use Rattle.cal_model.specs.Actor.{Actor}
+use Rattle.cal_model.specs.Selection.{State}
+use Rattle.lowered_actor.specs.Actor as coded
+use Rattle.lowered_actor.specs.Meaning as lowered
+use Rattle.net_model.specs.declared.wiring.Port.{Port}
+use Rattle.net_model.specs.declared.wiring.Wiring.{Wiring}
+use Rattle.net_model.specs.Network.{NetPort, Network}
+use Rattle.net_model.specs.State.{Flow, start_of}
+use Rattle.net_model.specs.State as model
+use Rattle.net_model.specs.Cell.{Cell}
+use Rattle.net_model.specs.Alike.{AreAlike, StatesAlike}
+use Rattle.net_model.specs.Paced.{Pace}
+use Rattle.net_model.specs.Ready.{given_state, port_of}
+use Rattle.fnl_tree.specs.Sound as sound
+use Rattle.fnl_tree.specs.Sound.{IsNetSound}
+use Rattle.fnl_tree.specs.Tree.{Net}
+use Rattle.fnl_flatten.proofs.Wired.{flat_wired}
+use Rattle.round_runner.specs.declared.outcome.RunEnd.{RunEnd}
+use Rattle.round_runner.specs.Running.{Running}
+use Rattle.network_runner.specs.Asking.{HavePortSizes}
+use Rattle.network_runner.specs.FromStart.{RunsFromStart}
+use Rattle.network_runner.specs.Sending.{max_outlets}
+use Rattle.source_network.specs.Actors.{head_of}
+use Rattle.network_cells.specs.Cells.{AreCellsOf}
+use Rattle.network_cells.specs.RunAlike.{without_cells}
+use Rattle.network_cells.specs.Runnable.{CanBeWired, IsCodedNetwork, IsWiringOf}
+use Rattle.network_cells.specs.Sources.{HaveTypes, IsActorNetwork, StandForActors, lowered_network, may_come_at, stands_at}
+use Rattle.network_cells.specs.SourceRuns.{AreCellsFor, BeginAlike, CellsBeginAlike, CellsRunAsSources, LoweredAreAlike, LoweredCanBeWired, PacesTo, SamePacedLines}
+use Rattle.network_cells.proofs.Lawlike.{paced_alike, paced_back, starts_alike}
+use Rattle.network_cells.proofs.LikeSources.{link_sizes, lowered_alike, lowered_flat, matched, same_behaviours}
+use Rattle.network_cells.proofs.Readied.{at_map, at_start, is_of, is_ready}
+use Rattle.network_cells.proofs.RunsToo.{from_start_too}
+
+-- ---- wired
+
+coded_network : (actors : List Actor) (codes : List coded.Actor) (net : Network State) → IsActorNetwork actors net → StandForActors actors codes → IsCodedNetwork codes (lowered_network codes net)
+coded_network actors codes net is stand =
+    let all = matched actors codes net.leaves stand is.leaves in
+    record {
+      behaviours = same_behaviours all;
+      wired = flat_wired is.tree (map head_of actors) (lowered_network codes net) (lowered_flat actors codes net is.tree (map head_of actors) all is.flat);
+    }
+
+port_sizes : (ports : List Port) (own : List NetPort) → own ≡ map port_of ports → HaveTypes own → HavePortSizes ports
+port_sizes ports own is types p port at = types p (port_of port) (subst (λ ps. slice_get ps p ≡ Some (port_of port)) (sym is) (at_map port_of ports p port at))
+
+-- a sound network has few outputs
+few_at : (nets : List Net) (top : Net) → All IsNetSound nets → slice_get nets 0 ≡ Some top → length top.outs ≤ max_outlets
+few_at nets top all at =
+    let low = slice_get_within nets 0 top at in
+    let there : IsNetSound top = subst IsNetSound (get_or_from_slice_get nets 0 top top at) (all 0 top low) in
+    let few = there.few_outs in
+    omega (arith, few)
+
+pub can_be_wired : LoweredCanBeWired
+can_be_wired actors codes net wiring is stand wired =
+    let few : length (is.flat).top.outs ≤ max_outlets = few_at (is.tree).nets (is.flat).top (is.sound_tree).nets (is.flat).is_top in
+    let many : length wiring.outs.items ≡ length (is.flat).top.outs =
+    sym (length-map wiring.outs.items port_of) ∙ (ap length (sym wired.outs ∙ (is.flat).outs) ∙ length-map (is.flat).top.outs Rattle.fnl_flatten.specs.Flat.port_of) in
+    record {
+      net = lowered_network codes net;
+      is_of = record {
+        links = wired.links;
+        ins = wired.ins;
+        outs = wired.outs;
+        ins_told = wired.ins_told;
+        outs_told = wired.outs_told;
+      };
+      coded = coded_network actors codes net is stand;
+      sizes = λ l link at. link_sizes actors net is l link (subst (λ ls. slice_get ls l ≡ Some link) (sym wired.links) at);
+      in_sizes = port_sizes wiring.ins.items net.ins wired.ins is.in_types;
+      out_sizes = port_sizes wiring.outs.items net.outs wired.outs is.out_types;
+      few_outs = subst (λ n. n ≤ max_outlets) (sym many) few;
+    }
+
+pub are_alike : LoweredAreAlike
+are_alike actors codes net is stand = lowered_alike actors codes net is stand
+
+-- ---- begun
+
+module _ (actors : List Actor) (codes : List coded.Actor) (net : Network State) (wiring : Wiring) (burst grow : ℕ) (cells : List (Cell lowered.ActorState)) (are : AreCellsFor actors codes net wiring burst grow cells) where
+  there : IsCodedNetwork codes (lowered_network codes net)
+  there = coded_network actors codes net are.actor_network are.stand
+
+  alike : AreAlike (stands_at actors) (may_come_at actors) (lowered_network codes net) net
+  alike = lowered_alike actors codes net are.actor_network are.stand
+
+  begins : (inputs : List (List ℕ)) → given_state (lowered_network codes net) cells inputs ≡ start_of (lowered_network codes net) inputs
+  begins inputs = at_start codes (lowered_network codes net) burst grow cells there are.cells_of inputs
+
+  pub begins_alike : (inputs : List (List ℕ)) → StatesAlike (stands_at actors) (may_come_at actors) (lowered_network codes net) (given_state (lowered_network codes net) cells inputs) (start_of net inputs)
+  begins_alike inputs =
+      subst (λ s. StatesAlike (stands_at actors) (may_come_at actors) (lowered_network codes net) s (start_of net inputs)) (sym (begins inputs))
+      (starts_alike (stands_at actors) (may_come_at actors) (lowered_network codes net) net alike inputs)
+
+  pub begin_alike : BeginAlike actors codes net wiring burst grow cells
+  begin_alike = record {
+    is_of = is_of codes (lowered_network codes net) burst grow cells there are.cells_of wiring (record {
+      links = (are.wiring_of).links;
+      ins = (are.wiring_of).ins;
+      outs = (are.wiring_of).outs;
+      ins_told = (are.wiring_of).ins_told;
+      outs_told = (are.wiring_of).outs_told;
+    });
+    ready = is_ready codes (lowered_network codes net) burst grow cells there are.cells_of are.few_grown;
+    at_start = begins;
+    starts_alike = begins_alike;
+  }
+
+  pub paced_forth : (inputs : List (List ℕ)) (pace : Pace) (lines : List Line) (flows : List Flow)
+      → PacesTo (lowered_network codes net) pace (given_state (lowered_network codes net) cells inputs) lines flows → PacesTo net pace (start_of net inputs) lines flows
+  paced_forth inputs pace lines flows paces =
+      let too = paced_alike (stands_at actors) (may_come_at actors) (lowered_network codes net) net alike pace (given_state (lowered_network codes net) cells inputs) paces.last (start_of net inputs) lines
+      (begins_alike inputs) paces.paced in
+      record { last = too.0; paced = too.1; flows_are = sym (too.2).flows ∙ paces.flows_are }
+
+  pub paced_back_there : (inputs : List (List ℕ)) (pace : Pace) (lines : List Line) (flows : List Flow)
+      → PacesTo net pace (start_of net inputs) lines flows → PacesTo (lowered_network codes net) pace (given_state (lowered_network codes net) cells inputs) lines flows
+  paced_back_there inputs pace lines flows paces =
+      let back = paced_back (stands_at actors) (may_come_at actors) (lowered_network codes net) net alike pace (given_state (lowered_network codes net) cells inputs) (start_of net inputs) paces.last lines
+      (begins_alike inputs) paces.paced in
+      record { last = back.0; paced = back.1; flows_are = (back.2).flows ∙ paces.flows_are }
+
+  pub runs_there : (inputs : List (List ℕ)) (budget : ℕ) (how : RunEnd) (run new : Running (Cell lowered.ActorState)) (old now : Channels)
+      → RunsFromStart (lowered_network codes net) inputs budget (given_state (lowered_network codes net) cells inputs) how run new old now
+      → RunsFromStart net inputs budget (start_of net inputs) how (without_cells run) (without_cells new) old now
+  runs_there inputs budget how run new old now leaves =
+      from_start_too (stands_at actors) (may_come_at actors) (lowered_network codes net) net alike inputs budget (given_state (lowered_network codes net) cells inputs) (start_of net inputs)
+      (begins_alike inputs) run new old now how leaves
+
+pub cells_begin_alike : CellsBeginAlike
+cells_begin_alike actors codes net wiring burst grow cells are = begin_alike actors codes net wiring burst grow cells are
+
+pub same_paced_lines : SamePacedLines
+same_paced_lines actors codes net wiring burst grow cells inputs pace lines flows are = (
+  paced_forth actors codes net wiring burst grow cells are inputs pace lines flows,
+  paced_back_there actors codes net wiring burst grow cells are inputs pace lines flows,
+)
+
+pub cells_run_as_sources : CellsRunAsSources
+cells_run_as_sources actors codes net wiring burst grow cells inputs budget how run new old now are leaves =
+    runs_there actors codes net wiring burst grow cells are inputs budget how run new old now leaves

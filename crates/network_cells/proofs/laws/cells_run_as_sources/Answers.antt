@@ -1,0 +1,22 @@
+use Rattle.network_cells.proofs.Answered.{answers_are_networks}
+use Rattle.network_cells.proofs.SourceLaws.{are_alike, can_be_wired, cells_begin_alike, cells_run_as_sources, same_paced_lines}
+use Rattle.network_cells.proofs.laws.cells_run_as_sources.Goals as goal
+
+pub returns-clause-networks : goal.returns-clause-networks
+returns-clause-networks c =
+    answers_are_networks c.types_are_kept.ensures.allowed c.one_network.ensures.actor c.answers_are_the_source_network.ensures.heads c.answers_are_the_source_network.ensures.whole
+
+pub returns-clause-wired : goal.returns-clause-wired
+returns-clause-wired c = can_be_wired
+
+pub returns-clause-alike : goal.returns-clause-alike
+returns-clause-alike c = are_alike
+
+pub returns-clause-begin : goal.returns-clause-begin
+returns-clause-begin c = cells_begin_alike
+
+pub returns-clause-paced : goal.returns-clause-paced
+returns-clause-paced c = same_paced_lines
+
+pub returns-clause-runs : goal.returns-clause-runs
+returns-clause-runs c = cells_run_as_sources
