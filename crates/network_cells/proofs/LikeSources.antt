@@ -22,7 +22,9 @@ use Rattle.net_state.proofs.Gaining.{some_is}
 use Rattle.fnl_tree.specs.Tree.{Net, Own, Tree}
 use Rattle.fnl_flatten.specs.Flat.{HasHead, IsFlat, port_of}
 use Rattle.fnl_flatten.specs.Head.{Head, HeadPort}
-use Rattle.fnl_flatten.specs.Joints.{Joint, LeafPort, OwnPort, head_kind, kind_of, leaf_kind, leaf_rate, net_kind, own_kind}
+use Rattle.fnl_flatten.specs.declared.joint.Joint.{Joint}
+use Rattle.fnl_flatten.specs.declared.joint.Joint.TheVariants.{Leaf as LeafPort, Own as OwnPort}
+use Rattle.fnl_flatten.specs.Joints.{head_kind, kind_of, leaf_kind, leaf_rate, net_kind, own_kind}
 use Rattle.fnl_flatten.specs.Links.{reading_end}
 use Rattle.action_lower.specs.Seats.{numbers_of_vars}
 use Rattle.actor_tables.specs.Carrying.{MayCome, StandsFor}
@@ -60,7 +62,7 @@ same_count : {actors : List Actor} {codes : List coded.Actor} {leaves : List (Le
 same_count matched_none = refl
 same_count (matched_more stand is rest) = ap suc (same_count rest)
 
-same_behaviours : {actors : List Actor} {codes : List coded.Actor} {leaves : List (Leaf State)} → Matched actors codes leaves
+pub same_behaviours : {actors : List Actor} {codes : List coded.Actor} {leaves : List (Leaf State)} → Matched actors codes leaves
     → map (λ leaf. leaf.behaviour) (lowered_leaves codes leaves) ≡ map lowered.behaviour codes
 same_behaviours matched_none = refl
 same_behaviours (matched_more {code = code} stand is rest) = ap (λ bs. lowered.behaviour code ∷ bs) (same_behaviours rest)

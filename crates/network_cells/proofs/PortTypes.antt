@@ -1,5 +1,5 @@
 -- The ports of the network of a class have types of tokens.
-use Rattle.std.proofs.Common.{◌≡◌, ℕ, zero, suc, List, [], ◌∷◌, ◌++◌, map, length, refl, sym, ap, subst, ◌∙◌}
+use Rattle.std.proofs.Common.{◌≡◌, ℕ, zero, suc, true, false, List, [], ◌∷◌, ◌++◌, map, length, refl, sym, ap, subst, ◌∙◌}
 use Rattle.std.specs.Prelude.{Option, None, Some, slice_get}
 use Rattle.rvc_base.specs.Storing.{IsSize}
 use Rattle.cal_ast.specs.Tree.{Tree}
@@ -50,18 +50,19 @@ fine_each : {A : Type 0} (P : A → Type 0) (js : List (Judged A)) → ((k : ℕ
 fine_each P [] each [] all k x at = cc
 fine_each P [] each (y ∷ ys) all k x at = cc
 fine_each P (Broken rule p ∷ js) each xs all k x at = cc
-fine_each {A} P (Fine a ∷ js) each xs all k x at = by_rest (all_fine js) refl xs all k x at
+fine_each {A} P (Fine a ∷ js) each xs all k x at = by_rest (fine_each P js (λ m. each (suc m))) (all_fine js) refl xs all k x at
   where
-    by_rest : (o : Option (List A)) → all_fine js ≡ o → (ys : List A) → and_all (Some a) o ≡ Some ys → (n : ℕ) (y : A) → slice_get ys n ≡ Some y → P y
-    by_rest None e ys same n y there = cc
-    by_rest (Some rest) e [] same n y there = cc
-    by_rest (Some rest) e (z ∷ ys) same zero y there =
+    by_rest : ((ys : List A) → all_fine js ≡ Some ys → (n : ℕ) (y : A) → slice_get ys n ≡ Some y → P y)
+        → (o : Option (List A)) → all_fine js ≡ o → (ys : List A) → and_all (Some a) o ≡ Some ys → (n : ℕ) (y : A) → slice_get ys n ≡ Some y → P y
+    by_rest later None e ys same n y there = cc
+    by_rest later (Some rest) e [] same n y there = cc
+    by_rest later (Some rest) e (z ∷ ys) same zero y there =
         let first : a ≡ z = cc in
         let is : z ≡ y = some_is z y there in
         subst P (first ∙ is) (each 0 (Fine a) a refl refl)
-    by_rest (Some rest) e (z ∷ ys) same (suc n) y there =
+    by_rest later (Some rest) e (z ∷ ys) same (suc n) y there =
         let others : rest ≡ ys = cc in
-        fine_each P js (λ m. each (suc m)) ys (e ∙ ap (λ r. Some r) others) n y there
+        later ys (e ∙ ap (λ r. Some r) others) n y there
 
 judged_at : (ports : List read.Port) (names : Names) (k : ℕ) (j : Judged Own) → slice_get (ends_judged ports names) k ≡ Some j → (port : read.Port) × (end_judged port names ≡ j)
 judged_at [] names k j at = cc
