@@ -1,24 +1,29 @@
 -- What binding and flattening answer is the network of the actors at the leaves.
 use Rattle.std.proofs.Common.{◌≡◌, ℕ, zero, suc, List, [], ◌∷◌, map, length, refl, sym, ap, subst, ◌∙◌}
-use Rattle.std.specs.Prelude.{Some, slice_get}
+use Rattle.std.specs.Prelude.{None, Some, slice_get}
 use Rattle.cal_model.specs.Actor.{Actor}
 use Rattle.cal_model.specs.Laws.{JudgedIsType}
 use Rattle.cal_model.specs.Selection.{State}
 use Rattle.cal_model.specs.Sound.{Each, IsSound}
 use Rattle.net_model.specs.Network.{Leaf as NetLeaf, Network}
 use Rattle.net_state.proofs.Gaining.{some_is}
+use Rattle.cal_imports.specs.Answer.{Gives}
+use Rattle.cal_imports.specs.Sources.{name_of}
+use Rattle.fnl_tree.specs.Sound.{IsSound as IsSoundTree}
 use Rattle.fnl_tree.specs.Tree.{Leaf, Net, Tree}
+use Rattle.fnl_bind.specs.Sound.{BoundAreSound}
 use Rattle.fnl_flatten.specs.Flat.{HasHead, IsFlat}
 use Rattle.fnl_flatten.specs.Flattened.{IsFlattened, StandsFor}
 use Rattle.fnl_flatten.specs.Head.{Head}
 use Rattle.fnl_flatten.specs.declared.flat.Flat.{Flat}
 use Rattle.fnl_flatten.proofs.FlatAnswers.{answer_is_flat}
 use Rattle.source_network.specs.Actors.{IsActorOf, head_of}
-use Rattle.source_network.specs.Answers.{ActorsHaveHeads, ActorsMakeWhole, HasWiring}
+use Rattle.source_network.specs.Answers.{ActorsHaveHeads, ActorsMakeWhole, HasWiring, LoneTreesAreSound}
 use Rattle.source_network.specs.Laws.{ActorsAreOne}
+use Rattle.source_network.specs.Lone.{lone_leaf, lone_tree}
 use Rattle.source_network.specs.Source.{AreActors, Files, IsLeaf, IsTree}
 use Rattle.network_cells.specs.Sources.{AreLeavesOf, HaveTypes, IsActorNetwork}
-use Rattle.network_cells.specs.SourceRuns.{AnswersAreActorNetworks}
+use Rattle.network_cells.specs.SourceRuns.{AnswersAreActorNetworks, SourcesAreActorNetworks}
 use Rattle.network_cells.proofs.PortTypes.{IsTyped, bound_typed, lone_typed, types_of}
 
 -- leaves of a tree, their actors and the leaves of the network, one by one
@@ -89,6 +94,54 @@ answers_are_networks judged one heads whole files class tree actors flat net is_
       leaves = are_leaves all;
       tree = tree;
       sound_tree = sound_tree;
+      flat = is_flat;
+      in_types = subst HaveTypes (sym is_flat.ins) (types_of is_flat.top.ins typed.ins);
+      out_types = subst HaveTypes (sym is_flat.outs) (types_of is_flat.top.outs typed.outs);
+    }
+
+-- ---- source networks
+
+-- the tree of a class is one
+trees_one : (files : Files) (class : List ℕ) (tree other : Tree) → ActorsAreOne → IsTree files class tree → IsTree files class other → tree ≡ other
+trees_one files class tree other one (IsTree.of_network {top = top} is_top conforms) (IsTree.of_network {top = that} is_that conforms') = refl
+trees_one files class tree other one (IsTree.of_network {top = top} is_top conforms) (IsTree.of_actor {name = name} {actor = actor} no_net named is) =
+    let clash : Some top ≡ None = sym is_top ∙ no_net in absurd (cc)
+trees_one files class tree other one (IsTree.of_actor {name = name} {actor = actor} no_net named is) (IsTree.of_network {top = top} is_top conforms) =
+    let clash : Some top ≡ None = sym is_top ∙ no_net in absurd (cc)
+trees_one files class tree other one (IsTree.of_actor {name = name} {actor = actor} no_net named is) (IsTree.of_actor {name = name'} {actor = actor'} no_net' named' is') =
+    let scopes : Gives named.scope ≡ Gives named'.scope = sym named.is_scope ∙ named'.is_scope in
+    let scope : named.scope ≡ named'.scope = cc in
+    let same_name : name ≡ name' = named.is_name ∙ (ap (λ s. name_of s.actor) scope ∙ sym named'.is_name) in
+    let there : IsActorOf files.sources (lone_leaf name' class) actor = subst (λ n. IsActorOf files.sources (lone_leaf n class) actor) same_name is in
+    let same_actor : actor ≡ actor' = one files.sources (lone_leaf name' class) actor actor' there is' in
+    ap (λ n. lone_tree n class actor) same_name ∙ ap (lone_tree name' class) same_actor
+
+tree_sound : LoneTreesAreSound → BoundAreSound → (files : Files) (class : List ℕ) (tree : Tree) (actors : List Actor) (xs : List (NetLeaf State)) → ActorsAreOne → IsTree files class tree
+    → Each IsSound actors → Acted files tree.leaves actors xs → IsSoundTree tree
+tree_sound lone bound files class tree actors xs one (IsTree.of_network {top = top} is_top conforms) sound all = bound files.networks class top is_top conforms
+tree_sound lone bound files class tree actors xs one (IsTree.of_actor {name = name} {actor = actor} no_net named is) sound all =
+    lone name class actor (lone_sound files _ actor actors xs one is sound all)
+
+-- leaves are one list of actors
+actors_one : {files : Files} {leaves : List Leaf} {actors others : List Actor} {xs : List (NetLeaf State)} → ActorsAreOne → Acted files leaves actors xs → Acted files leaves others xs → actors ≡ others
+actors_one one acted_none acted_none = refl
+actors_one {files} one (acted_more {leaf = leaf} {actor = actor} {actors = actors} is_actor is rest) (acted_more {actor = other} is_other is' rest') =
+    ap (λ a. a ∷ actors) (one files.sources leaf actor other is_actor is_other) ∙ ap (λ those. other ∷ those) (actors_one one rest rest')
+
+pub sources_are_networks : JudgedIsType → ActorsAreOne → LoneTreesAreSound → BoundAreSound → SourcesAreActorNetworks
+sources_are_networks judged one lone bound files class net tree actors source is_tree are sound =
+    let all = acted files tree.leaves actors net.leaves are in
+    let same_tree : source.tree ≡ tree = trees_one files class source.tree tree one source.is_tree is_tree in
+    let theirs = acted files tree.leaves source.actors net.leaves (subst (λ t. AreActors files t.leaves source.actors net.leaves) same_tree source.are_actors) in
+    let same_actors : source.actors ≡ actors = actors_one one theirs all in
+    let is_flat : IsFlat tree (map head_of actors) net =
+    subst (λ those. IsFlat tree (map head_of those) net) same_actors (subst (λ t. IsFlat t (map head_of source.actors) net) same_tree source.flat) in
+    let typed = top_typed judged one files class tree actors net.leaves is_flat.top is_tree sound all is_flat.is_top in
+    record {
+      sound = sound;
+      leaves = are_leaves all;
+      tree = tree;
+      sound_tree = tree_sound lone bound files class tree actors net.leaves one is_tree sound all;
       flat = is_flat;
       in_types = subst HaveTypes (sym is_flat.ins) (types_of is_flat.top.ins typed.ins);
       out_types = subst HaveTypes (sym is_flat.outs) (types_of is_flat.top.outs typed.outs);

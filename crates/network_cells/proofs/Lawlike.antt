@@ -11,10 +11,10 @@ use Rattle.net_model.specs.Network.{Leaf, NetPort, Network, is_input}
 use Rattle.net_model.specs.State.{Flow, State, fed_by, first_flow, sent_to, start_of}
 use Rattle.net_model.specs.Counted.{IsCounted, arrived_of, is_delivery, is_short, on_next, rest_at, was_short}
 use Rattle.net_model.specs.Paced.{AreRounds, IsBegun, IsPaced, Moment, Pace, first_moment}
-use Rattle.net_model.specs.Trace.{KeepsFrom, OnNext, PlaysFrom, goes}
+use Rattle.net_model.specs.Trace.{KeepsFrom, OnNext, PlaysFrom, bytes_out, goes, text}
 use Rattle.net_model.specs.Alike.{ActorsAlike, Allowed, AreAlike, EachIs, HoldsAllowed, LeavesAlike, StatesAlike, StoresAllowed}
 use Rattle.net_model.proofs.Twins.{Twins, TwinNets, each_map, twin, twin_net}
-use Rattle.net_model.proofs.LikeLines.{goes_too, keeps_too}
+use Rattle.net_model.proofs.LikeLines.{goes_too, keeps_too, text_too}
 use Rattle.net_model.proofs.LikePacing.{paced_too}
 use Rattle.network_cells.proofs.LikeRounds.{rounds_too, twin_moment}
 use Rattle.network_cells.proofs.Turned.{nets_back, states_back, states_forth, turned}
@@ -163,6 +163,12 @@ module _ {X Y : Type 0} (related : ℕ → X → Y → Type 0) (allowed : Allowe
         ∙ (ap (λ fs. length (sent_to p net.links there.flows) - length (sent_to p net.links fs)) states.flows
         ∙ ap (λ ls. length (sent_to p ls there.flows) - length (sent_to p ls that.flows)) alike.links));
   }
+
+  pub texts_alike : (grow : ℕ) (lines : List Line) → text net grow lines ≡ text other grow lines
+  texts_alike grow lines = text_too related allowed net other.leaves grow lines nets ∙ ap (λ n. text n grow lines) net_is
+
+  pub bytes_alike : (s : State X) (that : State Y) (p : ℕ) → StatesAlike related allowed net s that → bytes_out net s p ≡ bytes_out other that p
+  bytes_alike s that p states = carried (λ n w. bytes_out net s p ≡ bytes_out n w p) s that states refl
 
 module _ {X Y : Type 0} (related : ℕ → X → Y → Type 0) (allowed : Allowed) (net : Network X) (other : Network Y) (alike : AreAlike related allowed net other) where
   pub paced_back : (pace : Pace) (s : State X) (that last : State Y) (lines : List Line) → StatesAlike related allowed net s that → IsPaced other pace that lines last

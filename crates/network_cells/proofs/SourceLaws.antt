@@ -33,10 +33,11 @@ use Rattle.network_cells.specs.Cells.{AreCellsOf}
 use Rattle.network_cells.specs.RunAlike.{without_cells}
 use Rattle.network_cells.specs.Runnable.{CanBeWired, IsCodedNetwork, IsWiringOf}
 use Rattle.network_cells.specs.Sources.{HaveTypes, IsActorNetwork, StandForActors, lowered_network, may_come_at, stands_at}
-use Rattle.network_cells.specs.SourceRuns.{AreCellsFor, BeginAlike, CellsBeginAlike, CellsRunAsSources, LoweredAreAlike, LoweredCanBeWired, PacesTo, SamePacedLines}
-use Rattle.network_cells.proofs.Lawlike.{paced_alike, paced_back, starts_alike}
+use Rattle.network_cells.specs.SourceRuns.{AreCellsFor, BeginAlike, CellsBeginAlike, CellsCanRun, CellsRunAsSources, LoweredAreAlike, LoweredCanBeWired, LoweredLinesAlike, LoweredTextsAlike, PacesTo, SamePacedLines}
+use Rattle.network_cells.proofs.Lawlike.{begun_alike, bytes_alike, counted_alike, keep_alike, paced_alike, paced_back, starts_alike, texts_alike}
 use Rattle.network_cells.proofs.LikeSources.{link_sizes, lowered_alike, lowered_flat, matched, same_behaviours}
 use Rattle.network_cells.proofs.Readied.{at_map, at_start, is_of, is_ready}
+use Rattle.network_cells.proofs.Runnably.{can_run}
 use Rattle.network_cells.proofs.RunsToo.{from_start_too}
 
 -- ---- wired
@@ -148,3 +149,22 @@ same_paced_lines actors codes net wiring burst grow cells inputs pace lines flow
 pub cells_run_as_sources : CellsRunAsSources
 cells_run_as_sources actors codes net wiring burst grow cells inputs budget how run new old now are leaves =
     runs_there actors codes net wiring burst grow cells are inputs budget how run new old now leaves
+
+pub lines_alike : LoweredLinesAlike
+lines_alike actors = (
+  (λ net other pace s that lines reached alike states begun. begun_alike (stands_at actors) (may_come_at actors) net other alike pace s that lines reached states begun),
+  (λ net other pace s t that lines alike states paced. paced_alike (stands_at actors) (may_come_at actors) net other alike pace s t that lines states paced),
+  (λ net other s that lines alike states keeps. keep_alike (stands_at actors) (may_come_at actors) net other alike s that lines states keeps),
+  (λ net other inputs grow s last that there lines counts alike states ends plays counted.
+      counted_alike (stands_at actors) (may_come_at actors) net other alike inputs grow s last that there lines counts states ends plays counted),
+)
+
+pub texts_are_alike : LoweredTextsAlike
+texts_are_alike actors = (
+  (λ net other grow lines alike. texts_alike (stands_at actors) (may_come_at actors) net other alike grow lines),
+  (λ net other s that p alike states. bytes_alike (stands_at actors) (may_come_at actors) net other alike s that p states),
+)
+
+pub cells_can_run : CellsCanRun
+cells_can_run actors codes net wiring burst grow cells plan are by =
+    can_run codes net.links burst grow cells are.cells_of wiring plan (sym (are.wiring_of).links) (can_be_wired actors codes net wiring are.actor_network are.stand are.wiring_of) by

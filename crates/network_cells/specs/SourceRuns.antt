@@ -13,7 +13,7 @@ use Rattle.net_model.specs.Network.{Network}
 use Rattle.net_model.specs.State as model
 use Rattle.net_model.specs.State.{Flow, start_of}
 use Rattle.net_model.specs.Cell.{Cell}
-use Rattle.net_model.specs.Alike.{AreAlike, StatesAlike}
+use Rattle.net_model.specs.Alike.{AreAlike, BytesAreAlike, LinesKeepAlike, PacedAlike, StatesAlike, TextsAreAlike}
 use Rattle.net_model.specs.Limits.{max_grow}
 use Rattle.net_model.specs.Paced.{IsPaced, Pace}
 use Rattle.net_model.specs.Ready.{IsNetworkOf, IsReady, given_state}
@@ -21,14 +21,17 @@ use Rattle.fnl_tree.specs.Sound.{IsSound as IsSoundTree}
 use Rattle.fnl_tree.specs.Tree.{Tree}
 use Rattle.fnl_flatten.specs.Flattened.{IsFlattened}
 use Rattle.fnl_flatten.specs.declared.flat.Flat.{Flat}
+use Rattle.round_runner.specs.declared.outcome.Plan.{Plan}
 use Rattle.round_runner.specs.declared.outcome.RunEnd.{RunEnd}
 use Rattle.round_runner.specs.Running.{Running}
+use Rattle.network_runner.specs.Asking.{CanRun}
 use Rattle.network_runner.specs.FromStart.{RunsFromStart}
 use Rattle.source_network.specs.Actors.{head_of}
 use Rattle.source_network.specs.Answers.{HasWiring}
-use Rattle.source_network.specs.Source.{AreActors, Files, IsTree}
+use Rattle.source_network.specs.Source.{AreActors, Files, IsSourceNetwork, IsTree}
 use Rattle.network_cells.specs.Cells.{AreCellsOf}
-use Rattle.network_cells.specs.Runnable.{CanBeWired, IsWiringOf}
+use Rattle.network_cells.specs.Runnable.{CanBeWired, IsPlanFor, IsWiringOf}
+use Rattle.network_cells.specs.LinesAlike.{BegunAlike, CountedAlike}
 use Rattle.network_cells.specs.RunAlike.{without_cells}
 use Rattle.network_cells.specs.Sources.{IsActorNetwork, StandForActors, lowered_network, may_come_at, stands_at}
 
@@ -38,6 +41,13 @@ AnswersAreActorNetworks = (files : Files) (class : List ℕ) (tree : Tree) (acto
     (flat : Flat) (net : Network State) → IsTree files class tree → IsSoundTree tree
     → Each IsSound actors → AreActors files tree.leaves actors net.leaves
     → IsFlattened tree (map head_of actors) flat → HasWiring flat net
+    → IsActorNetwork actors net
+
+-- .. and so are those that are the source network of a class, if its leaves are these actors
+abbrev pub SourcesAreActorNetworks : Type 0
+SourcesAreActorNetworks = (files : Files) (class : List ℕ) (net : Network State) (tree : Tree)
+    (actors : List Actor) → IsSourceNetwork files class net → IsTree files class tree
+    → AreActors files tree.leaves actors net.leaves → Each IsSound actors
     → IsActorNetwork actors net
 
 -- Lowered actors that stand for the actors of a network can be wired as it is, whichever of its ports are open.
@@ -52,6 +62,19 @@ LoweredAreAlike = (actors : List Actor) (codes : List coded.Actor) (net : Networ
     → IsActorNetwork actors net → StandForActors actors codes
     → AreAlike (stands_at actors) (may_come_at actors) (lowered_network codes net) net
 
+-- .. so that lines which are begun or paced from a state of the one are so from a state of the other that is alike, the
+-- same numbers count them, ..
+abbrev pub LoweredLinesAlike : Type 0
+LoweredLinesAlike = (actors : List Actor) → BegunAlike (stands_at actors) (may_come_at actors)
+    × PacedAlike (stands_at actors) (may_come_at actors)
+    × LinesKeepAlike (stands_at actors) (may_come_at actors)
+    × CountedAlike (stands_at actors) (may_come_at actors)
+
+-- .. and the text of a trace and the bytes of each output are the same
+abbrev pub LoweredTextsAlike : Type 0
+LoweredTextsAlike = (actors : List Actor) → TextsAreAlike (stands_at actors) (may_come_at actors)
+    × BytesAreAlike (stands_at actors) (may_come_at actors)
+
 -- cells of lowered actors that stand for the actors of a network with this wiring
 pub record AreCellsFor (actors : List Actor) (codes : List coded.Actor) (net : Network State) (wiring : Wiring) (burst grow : ℕ) (cells : List (Cell lowered.ActorState)) : Type 0 where
   pub actor_network : IsActorNetwork actors net
@@ -59,6 +82,13 @@ pub record AreCellsFor (actors : List Actor) (codes : List coded.Actor) (net : N
   pub wiring_of : IsWiringOf net wiring
   pub cells_of : AreCellsOf codes net.links burst grow cells
   pub few_grown : grow ≤ max_grow
+
+-- they can be run, whichever ports are open
+abbrev pub CellsCanRun : Type 0
+CellsCanRun = (actors : List Actor) (codes : List coded.Actor) (net : Network State)
+    (wiring : Wiring) (burst grow : ℕ) (cells : List (Cell lowered.ActorState)) (plan : Plan)
+    → AreCellsFor actors codes net wiring burst grow cells → IsPlanFor burst grow plan
+    → CanRun cells wiring plan
 
 -- Their network is that of the lowered actors, which is ready to be run, and a run from them begins at its start: the
 -- state that is alike to the start of the sources.
