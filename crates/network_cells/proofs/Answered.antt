@@ -5,7 +5,7 @@ use Rattle.cal_model.specs.Actor.{Actor}
 use Rattle.cal_model.specs.Laws.{JudgedIsType}
 use Rattle.cal_model.specs.Selection.{State}
 use Rattle.cal_model.specs.Sound.{Each, IsSound}
-use Rattle.net_model.specs.Network.{Leaf as NetLeaf, Network}
+use Rattle.net_model.specs.Network.{Leaf as NetLeaf}
 use Rattle.net_state.proofs.Gaining.{some_is}
 use Rattle.cal_imports.specs.Answer.{Gives}
 use Rattle.cal_imports.specs.Sources.{name_of}
@@ -13,16 +13,14 @@ use Rattle.fnl_tree.specs.Sound.{IsSound as IsSoundTree}
 use Rattle.fnl_tree.specs.Tree.{Leaf, Net, Tree}
 use Rattle.fnl_bind.specs.Sound.{BoundAreSound}
 use Rattle.fnl_flatten.specs.Flat.{HasHead, IsFlat}
-use Rattle.fnl_flatten.specs.Flattened.{IsFlattened, StandsFor}
 use Rattle.fnl_flatten.specs.Head.{Head}
-use Rattle.fnl_flatten.specs.declared.flat.Flat.{Flat}
 use Rattle.fnl_flatten.proofs.FlatAnswers.{answer_is_flat}
 use Rattle.source_network.specs.Actors.{IsActorOf, head_of}
-use Rattle.source_network.specs.Answers.{ActorsHaveHeads, ActorsMakeWhole, HasWiring, LoneTreesAreSound}
+use Rattle.source_network.specs.Answers.{ActorsHaveHeads, ActorsMakeWhole, LoneTreesAreSound}
 use Rattle.source_network.specs.Laws.{ActorsAreOne}
 use Rattle.source_network.specs.Lone.{lone_leaf, lone_tree}
 use Rattle.source_network.specs.Source.{AreActors, Files, IsLeaf, IsTree}
-use Rattle.network_cells.specs.Sources.{AreLeavesOf, HaveTypes, IsActorNetwork}
+use Rattle.network_cells.specs.Sources.{AreLeavesOf, HaveTypes}
 use Rattle.network_cells.specs.SourceRuns.{AnswersAreActorNetworks, SourcesAreActorNetworks}
 use Rattle.network_cells.proofs.PortTypes.{IsTyped, bound_typed, lone_typed, types_of}
 

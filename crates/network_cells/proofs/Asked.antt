@@ -1,5 +1,5 @@
 -- What links ask for at a port.
-use Rattle.std.proofs.Common.{◌≡◌, ℕ, zero, suc, ◌≤◌, ◌<◌, Bool, true, false, List, [], ◌∷◌, max, refl, sym, ap, subst, ◌∙◌, arith}
+use Rattle.std.proofs.Common.{◌≡◌, ℕ, zero, suc, ◌≤◌, ◌<◌, Bool, true, false, List, [], ◌∷◌, max, refl, sym, subst, arith}
 use Rattle.std.specs.Prelude.{Some, slice_get, if◌then◌else◌, not, ◌&&◌}
 use Rattle.net_model.specs.declared.wiring.Link.{Link}
 use Rattle.net_model.specs.Network.{is_input, is_leaf_port, is_output}

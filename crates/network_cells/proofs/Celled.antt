@@ -1,22 +1,21 @@
 -- Cells that are made by tables of rooms.
-use Rattle.std.proofs.Common.{◌≡◌, ⊎_elim, ℕ, zero, suc, ◌+◌, ◌<◌, ◌≤◌, Bool, true, false, List, [], ◌∷◌, ◌++◌, length, map, max, refl, sym, ap, subst, ◌∙◌, arith, length-append}
+use Rattle.std.proofs.Common.{◌≡◌, ⊎_elim, ℕ, zero, suc, ◌+◌, ◌<◌, ◌≤◌, true, false, List, [], ◌∷◌, ◌++◌, length, map, max, refl, sym, ap, subst, ◌∙◌, arith, length-append}
 use Rattle.std.specs.Prelude.{All, Err, IfOk, Ok, Result, Some, slice_get, slice_index_or}
 use Rattle.std.specs.List.{range_with_len}
 use Rattle.std.proofs.Math.ListN.{get_or-eq_default}
 use Rattle.std.proofs.lemmas.Bool.{cases_lt}
 use Rattle.std.proofs.lemmas.List.Elements.{All-nil, All-cons}
 use Rattle.std.proofs.lemmas.List.FromFn.{get_or-map-range_with_len}
-use Rattle.std.proofs.lemmas.Option.{slice_get-get_or, slice_get_within}
+use Rattle.std.proofs.lemmas.Option.{slice_get_within}
 use Rattle.lowered_actor.specs.Actor.{Actor}
 use Rattle.lowered_actor.specs.Meaning.{ActorState}
 use Rattle.net_model.specs.declared.wiring.Link.{Link}
 use Rattle.net_model.specs.Cell.{Cell, number_on}
-use Rattle.net_state.proofs.Gaining.{some_is}
 use Rattle.net_state.proofs.Starting.{get_pushed}
 use Rattle.actor_cell.specs.Core.{IsAtStart}
 use Rattle.network_cells.specs.Cells.{AreCellsOf}
 use Rattle.network_cells.specs.Rooms.{asked_at, in_rooms, out_rooms}
-use Rattle.network_cells.specs.Tables.{AreCellsBy, AreRoomsOf, AreRoomy, IsCellBy, ports_of, room_at, row_at}
+use Rattle.network_cells.specs.Tables.{AreCellsBy, AreRoomsOf, AreRoomy, IsCellBy, room_at, row_at}
 
 pub cells_none : (codes : List Actor) (ins outs : List (List ℕ)) (burst : ℕ) → AreCellsBy 0 codes ins outs burst []
 cells_none codes ins outs burst = record { count = refl; each = λ i cell at. cc }

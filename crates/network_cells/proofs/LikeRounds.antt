@@ -13,7 +13,7 @@ use Rattle.net_model.specs.Network.{Leaf, Network}
 use Rattle.net_model.specs.State.{Flow, State, effect_at}
 use Rattle.net_model.specs.Event.{Fire, happens, and_then}
 use Rattle.net_model.specs.Trace.{goes, played, after_delivery, OnNext}
-use Rattle.net_model.specs.Paced.{Pace, Moment, first_moment, Close, GoesOn, Widens, Ends, Block, close_lines, count_of, none_of, picked, count_picked, PassesRoom, PassesOn, PassesLink, HasRoomIn, Halt, Unpicked, Spent, Waiting, NoRoom, Trapping, TrapsIn, HaltsAt, IsBurst, Share, share_of, AreBursts, first_trap, ClosesSpent, ClosesIdle, ClosesBy, IsRound, next_moment, AreRounds}
+use Rattle.net_model.specs.Paced.{Pace, Moment, Close, GoesOn, Widens, Ends, Block, close_lines, count_of, none_of, picked, count_picked, PassesRoom, PassesOn, PassesLink, HasRoomIn, Halt, Unpicked, Spent, Waiting, NoRoom, Trapping, TrapsIn, HaltsAt, IsBurst, Share, share_of, AreBursts, first_trap, ClosesSpent, ClosesIdle, ClosesBy, IsRound, next_moment, AreRounds}
 use Rattle.net_model.specs.Alike.{Allowed, EffectsAlike, LeavesAlike}
 use Rattle.net_model.proofs.Twins.{Twins, TwinNets, twin, twin_net, twin_choice, twin_effect, twin_give}
 use Rattle.net_model.proofs.LikeLines.{goes_too, fire_too, deliver_too, quiet_too, stuck_too, grows_too, between_too}

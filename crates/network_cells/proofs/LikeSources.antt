@@ -1,9 +1,7 @@
 -- The network of lowered actors and that of the actors for which they stand are alike.
-use Rattle.std.proofs.Common.{◌≡◌, ℕ, zero, suc, ◌+◌, ◌<◌, ◌≤◌, true, false, List, [], ◌∷◌, ◌++◌, ℤ, length, map, refl, sym, ap, subst, ◌∙◌, arith}
-use Rattle.std.specs.Prelude.{Option, None, Some, slice_get}
+use Rattle.std.proofs.Common.{◌≡◌, ℕ, zero, suc, ◌+◌, ◌≤◌, true, false, List, [], ◌∷◌, ◌++◌, length, map, refl, sym, ap, subst, ◌∙◌, arith}
+use Rattle.std.specs.Prelude.{Option, Some, slice_get}
 use Rattle.rvc_base.specs.declared.scalar.Scalar.{Scalar}
-use Rattle.rvc_base.specs.declared.scalar.Scalar.TheVariants as scalar
-use Rattle.rvc_base.specs.Behaviour.{Behaviour}
 use Rattle.rvc_base.specs.Storing.{IsSize, conv}
 use Rattle.cal_model.specs.Actor.{Actor, Port}
 use Rattle.cal_model.specs.Firing.{behaviour}
@@ -16,12 +14,12 @@ use Rattle.lowered_actor.specs.Meaning as lowered
 use Rattle.net_model.specs.declared.wiring.End.{End}
 use Rattle.net_model.specs.declared.wiring.End.TheVariants.{Leaf as AtLeaf, Net as AtNet}
 use Rattle.net_model.specs.declared.wiring.Link.{Link}
-use Rattle.net_model.specs.Network.{Leaf, Network, NetPort}
+use Rattle.net_model.specs.Network.{Leaf, Network}
 use Rattle.net_model.specs.Alike.{AreAlike, BehaveAlike, LeavesAlike, StoresAllowed}
 use Rattle.net_state.proofs.Gaining.{some_is}
 use Rattle.fnl_tree.specs.Tree.{Net, Own, Tree}
 use Rattle.fnl_flatten.specs.Flat.{HasHead, IsFlat, port_of}
-use Rattle.fnl_flatten.specs.Head.{Head, HeadPort}
+use Rattle.fnl_flatten.specs.Head.{Head}
 use Rattle.fnl_flatten.specs.declared.joint.Joint.{Joint}
 use Rattle.fnl_flatten.specs.declared.joint.Joint.TheVariants.{Leaf as LeafPort, Own as OwnPort}
 use Rattle.fnl_flatten.specs.Joints.{head_kind, kind_of, leaf_kind, leaf_rate, net_kind, own_kind}
@@ -29,9 +27,8 @@ use Rattle.fnl_flatten.specs.Links.{reading_end}
 use Rattle.action_lower.specs.Seats.{numbers_of_vars}
 use Rattle.actor_tables.specs.Carrying.{MayCome, StandsFor}
 use Rattle.actor_lower.specs.Standing.{StandsForActor}
-use Rattle.source_network.specs.Actors.{head_of, most, ports_from}
+use Rattle.source_network.specs.Actors.{head_of, ports_from}
 use Rattle.network_cells.specs.Sources.{AreLeavesOf, HaveTypes, IsActorNetwork, IsLeafOf, OfActor, StandForActors, lowered_leaves, lowered_network, may_come_at, stands_at}
-use Rattle.network_cells.proofs.Readied.{at_map}
 
 -- ---- actors, their lowered actors and their leaves, one by one
 
@@ -127,8 +124,8 @@ leaves_alike all from (matched_more {actor = actor} {code = code} {leaf = leaf} 
     let at : slice_get all from ≡ Some actor = subst (λ n. slice_get all n ≡ Some actor) first (places 0) in (
       (refl, refl, behave_at (slice_get all from) actor code leaf at stand is),
       leaves_alike all (suc from) rest (λ k.
-      let next : from + suc k ≡ suc from + k = omega arith in
-      subst (λ n. slice_get all n ≡ slice_get actors k) next (places (suc k))),
+          let next : from + suc k ≡ suc from + k = omega arith in
+          subst (λ n. slice_get all n ≡ slice_get actors k) next (places (suc k))),
     )
 
 -- ---- the types of tokens

@@ -1,24 +1,23 @@
 -- The ports of the network of a class have types of tokens.
-use Rattle.std.proofs.Common.{◌≡◌, ℕ, zero, suc, true, false, List, [], ◌∷◌, ◌++◌, map, length, refl, sym, ap, subst, ◌∙◌}
+use Rattle.std.proofs.Common.{◌≡◌, ℕ, zero, suc, true, false, List, [], ◌∷◌, ◌++◌, map, length, refl, ap, subst, ◌∙◌}
 use Rattle.std.specs.Prelude.{Option, None, Some, slice_get}
 use Rattle.rvc_base.specs.Storing.{IsSize}
-use Rattle.cal_ast.specs.Tree.{Tree}
 use Rattle.cal_ast.specs.Places.{begins}
 use Rattle.cal_model.specs.Actor.{Actor, Port}
 use Rattle.cal_model.specs.Kinding.{Broken, Fine, Judged, Names, and_so, type_judged}
 use Rattle.cal_model.specs.Laws.{JudgedIsType}
 use Rattle.cal_model.specs.Sound.{Each, IsSound}
 use Rattle.cal_model.specs.Value.{Many, Shape, Single}
-use Rattle.cal_check.specs.Routines.{single, single_type}
-use Rattle.cal_check.specs.Violations.{all_fine, and_all, fine}
+use Rattle.cal_check.specs.Routines.{single}
+use Rattle.cal_check.specs.Violations.{all_fine, and_all}
 use Rattle.net_state.proofs.Gaining.{some_is}
 use Rattle.fnl_read.specs.Net as read
 use Rattle.fnl_read.specs.Net.{a_port}
-use Rattle.fnl_tree.specs.Tree.{Net, Own, Part, Tree as NetTree}
+use Rattle.fnl_tree.specs.Tree.{Net, Own}
 use Rattle.fnl_flatten.specs.Flat.{port_of}
 use Rattle.fnl_bind.specs.Library.{Entry, network_of, ports_of}
-use Rattle.fnl_bind.specs.Networks.{Place, names_at, net_with}
-use Rattle.fnl_bind.specs.Trees.{Grown, bound, grown_at, top_place, tree_of, tree_with}
+use Rattle.fnl_bind.specs.Networks.{Place, names_at}
+use Rattle.fnl_bind.specs.Trees.{bound, grown_at, top_place, tree_of}
 use Rattle.fnl_bind.specs.Values.{end_judged, ends_judged, ends_of, or_no}
 use Rattle.source_network.specs.Lone.{lone_tree, own_of}
 use Rattle.network_cells.specs.Sources.{HaveTypes}

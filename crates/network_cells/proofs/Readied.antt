@@ -1,21 +1,19 @@
 -- Cells that were made for the links of a network of lowered actors are ready to be run in it.
-use Rattle.std.proofs.Common.{◌≡◌, ℕ, zero, suc, ◌+◌, ◌<◌, ◌≤◌, true, false, List, [], ◌∷◌, ◌++◌, length, map, max, refl, sym, ap, subst, ◌∙◌, arith}
+use Rattle.std.proofs.Common.{◌≡◌, ℕ, zero, suc, ◌<◌, ◌≤◌, true, false, List, [], ◌∷◌, ◌++◌, length, map, max, refl, sym, ap, subst, ◌∙◌, arith}
 use Rattle.std.specs.Prelude.{◌↔◌, ◌==◌, ◌&&◌, Option, None, Some, option_map, slice_get}
 use Rattle.std.proofs.lemmas.Bool.{and_from, eq-eqb}
 use Rattle.std.proofs.lemmas.List.FromFn.{get_or-map-range_with_len}
 use Rattle.std.proofs.lemmas.Option.{slice_get-map, slice_get_within}
 use Rattle.std.proofs.lemmas.Simd.{map-map}
 use Rattle.std.specs.List.{range_with_len}
-use Rattle.rvc_base.specs.Behaviour.{Behaviour}
-use Rattle.rvc_base.specs.Lawful.{tokens_on}
 use Rattle.lowered_actor.specs.Actor.{Actor}
 use Rattle.lowered_actor.specs.Meaning.{ActorState, behaviour}
 use Rattle.net_model.specs.declared.wiring.End.{End}
 use Rattle.net_model.specs.declared.wiring.End.TheVariants.{Leaf as AtLeaf, Net as AtNet}
 use Rattle.net_model.specs.declared.wiring.Link.{Link}
 use Rattle.net_model.specs.declared.wiring.Wiring.{Wiring}
-use Rattle.net_model.specs.Network.{Leaf, Network, is_input, is_leaf_port, is_output}
-use Rattle.net_model.specs.State.{Flow, State, fed_by, first_flow, start_of}
+use Rattle.net_model.specs.Network.{Leaf, Network, is_leaf_port}
+use Rattle.net_model.specs.State.{fed_by, first_flow, start_of}
 use Rattle.net_model.specs.Cell.{Cell, number_on}
 use Rattle.net_model.specs.Limits.{max_grow}
 use Rattle.net_model.specs.Wired.{ComesFromPort, HasInput, HasOutput, LeadsToPort}

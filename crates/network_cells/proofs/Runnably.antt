@@ -1,17 +1,13 @@
 -- Cells that were made for the links of a network can be run in it, whichever of its ports are open.
-use Rattle.std.proofs.Common.{◌≡◌, ℕ, ◌≤◌, List, refl, sym, subst, ◌∙◌}
+use Rattle.std.proofs.Common.{◌≡◌, ℕ, ◌≤◌, List, sym, subst, ◌∙◌}
 use Rattle.lowered_actor.specs.Actor.{Actor}
 use Rattle.lowered_actor.specs.Meaning.{ActorState}
 use Rattle.net_model.specs.declared.wiring.Link.{Link}
-use Rattle.net_model.specs.declared.wiring.Wiring.{Wiring}
 use Rattle.net_model.specs.Cell.{Cell}
-use Rattle.net_model.specs.Limits.{max_grow}
 use Rattle.net_model.specs.Ready.{IsReady}
 use Rattle.net_state.specs.Beginning.{NoneUnlinked}
-use Rattle.round_runner.specs.declared.outcome.Plan.{Plan}
-use Rattle.network_runner.specs.Asking.{CanRun}
 use Rattle.network_cells.specs.Cells.{AreCellsOf}
-use Rattle.network_cells.specs.Runnable.{CanBeWired, CanRunWith, IsPlanFor}
+use Rattle.network_cells.specs.Runnable.{CanRunWith}
 use Rattle.network_cells.proofs.Readied.{is_of, is_ready, unlinked}
 
 pub can_run : (codes : List Actor) (links : List Link) (burst grow : ℕ) (cells : List (Cell ActorState)) → AreCellsOf codes links burst grow cells → CanRunWith codes links burst grow cells

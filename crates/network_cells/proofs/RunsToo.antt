@@ -1,15 +1,12 @@
 -- What a run leaves, it leaves in a network that is alike.
-use Rattle.std.proofs.Common.{◌≡◌, ℕ, ◌⊎◌, inl, inr, ⊎_elim, List, length, drop, refl, sym, ap, subst, ◌∙◌}
-use Rattle.std.specs.Prelude.{slice_index_or, true}
+use Rattle.std.proofs.Common.{◌≡◌, ℕ, inl, inr, ⊎_elim, List, length, drop, refl, ap, subst, ◌∙◌}
 use Rattle.rvc_io.specs.Channels.{Channels}
 use Rattle.trace_text.specs.declared.line.Line.{Line}
-use Rattle.net_model.specs.declared.wiring.Counts.{Counts}
 use Rattle.net_model.specs.Network.{Network, kind_at}
 use Rattle.net_model.specs.State.{State, sent_to}
 use Rattle.net_model.specs.Cell.{Cell}
-use Rattle.net_model.specs.Counted.{IsCounted}
 use Rattle.net_model.specs.Alike.{Allowed, AreAlike, StatesAlike}
-use Rattle.net_model.specs.Paced.{IsBegun, IsPaced, Moment}
+use Rattle.net_model.specs.Paced.{Moment}
 use Rattle.net_model.specs.PortFile.{all_encoded}
 use Rattle.net_model.specs.Trace.{KeepsFrom, PlaysFrom}
 use Rattle.net_model.proofs.Rounds.{begun_play, paced_play}
@@ -17,7 +14,7 @@ use Rattle.round_runner.specs.declared.outcome.RunEnd.{RunEnd}
 use Rattle.round_runner.specs.declared.outcome.RunEnd.TheVariants as end
 use Rattle.round_runner.specs.Rounds.{Breaks, EachOut, OutGetsAll, OutGetsFront, out_bytes}
 use Rattle.round_runner.specs.Running.{Running, pace_of}
-use Rattle.network_runner.specs.FromStart.{PlaysAndKeeps, RunsBroken, RunsFromStart, RunsShort, RunsWhole, WritesWhole}
+use Rattle.network_runner.specs.FromStart.{RunsBroken, RunsFromStart, RunsShort, RunsWhole, WritesWhole}
 use Rattle.network_cells.specs.RunAlike.{RunsAlike, without_cells}
 use Rattle.network_cells.proofs.Lawlike.{begun_alike, counted_alike, keep_alike, paced_alike}
 

@@ -1,10 +1,9 @@
 -- The cells of lowered actors are run as the network of the actors for which they stand.
-use Rattle.std.proofs.Common.{◌≡◌, ℕ, ◌≤◌, List, length, map, refl, sym, ap, subst, ◌∙◌, arith}
-use Rattle.std.specs.Prelude.{Some, slice_get, All, ◌↔◌}
+use Rattle.std.proofs.Common.{◌≡◌, ℕ, ◌≤◌, List, length, map, sym, ap, subst, ◌∙◌, arith}
+use Rattle.std.specs.Prelude.{Some, slice_get, All}
 use Rattle.std.proofs.lemmas.List.{length-map}
 use Rattle.std.proofs.lemmas.Option.{get_or_from_slice_get, slice_get_within}
 use Rattle.rvc_io.specs.Channels.{Channels}
-use Rattle.rvc_base.specs.Storing.{IsSize}
 use Rattle.trace_text.specs.declared.line.Line.{Line}
 use Rattle.cal_model.specs.Actor.{Actor}
 use Rattle.cal_model.specs.Selection.{State}
@@ -14,12 +13,10 @@ use Rattle.net_model.specs.declared.wiring.Port.{Port}
 use Rattle.net_model.specs.declared.wiring.Wiring.{Wiring}
 use Rattle.net_model.specs.Network.{NetPort, Network}
 use Rattle.net_model.specs.State.{Flow, start_of}
-use Rattle.net_model.specs.State as model
 use Rattle.net_model.specs.Cell.{Cell}
 use Rattle.net_model.specs.Alike.{AreAlike, StatesAlike}
 use Rattle.net_model.specs.Paced.{Pace}
 use Rattle.net_model.specs.Ready.{given_state, port_of}
-use Rattle.fnl_tree.specs.Sound as sound
 use Rattle.fnl_tree.specs.Sound.{IsNetSound}
 use Rattle.fnl_tree.specs.Tree.{Net}
 use Rattle.fnl_flatten.proofs.Wired.{flat_wired}
@@ -29,9 +26,8 @@ use Rattle.network_runner.specs.Asking.{HavePortSizes}
 use Rattle.network_runner.specs.FromStart.{RunsFromStart}
 use Rattle.network_runner.specs.Sending.{max_outlets}
 use Rattle.source_network.specs.Actors.{head_of}
-use Rattle.network_cells.specs.Cells.{AreCellsOf}
 use Rattle.network_cells.specs.RunAlike.{without_cells}
-use Rattle.network_cells.specs.Runnable.{CanBeWired, IsCodedNetwork, IsWiringOf}
+use Rattle.network_cells.specs.Runnable.{IsCodedNetwork}
 use Rattle.network_cells.specs.Sources.{HaveTypes, IsActorNetwork, StandForActors, lowered_network, may_come_at, stands_at}
 use Rattle.network_cells.specs.SourceRuns.{AreCellsFor, BeginAlike, CellsBeginAlike, CellsCanRun, CellsRunAsSources, LoweredAreAlike, LoweredCanBeWired, LoweredLinesAlike, LoweredTextsAlike, PacesTo, SamePacedLines}
 use Rattle.network_cells.proofs.Lawlike.{begun_alike, bytes_alike, counted_alike, keep_alike, paced_alike, paced_back, starts_alike, texts_alike}

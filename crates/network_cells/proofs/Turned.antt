@@ -1,12 +1,10 @@
 -- Likeness the other way round.
-use Rattle.std.proofs.Common.{◌≡◌, ℕ, suc, ◌<◌, List, [], ◌∷◌, ℤ, refl, sym, ap, ◌∙◌, subst}
+use Rattle.std.proofs.Common.{◌≡◌, ℕ, suc, ◌<◌, List, [], ◌∷◌, ℤ, sym, subst}
 use Rattle.std.specs.Prelude.{Option, None, Some, slice_get}
 use Rattle.rvc_base.specs.Behaviour.{Behaviour, Effect, Fires, TrapsInGuard, TrapsInBody}
-use Rattle.rvc_base.specs.Lawful.{tokens_on}
-use Rattle.net_model.specs.declared.wiring.Link.{Link}
 use Rattle.net_model.specs.Network.{Leaf, Network}
-use Rattle.net_model.specs.State.{Flow, State}
-use Rattle.net_model.specs.Alike.{Allowed, EachIs, EffectsAlike, BehaveAlike, LeavesAlike, StoresAllowed, AreAlike, ActorsAlike, HoldsAllowed, StatesAlike}
+use Rattle.net_model.specs.State.{State}
+use Rattle.net_model.specs.Alike.{Allowed, EffectsAlike, BehaveAlike, LeavesAlike, AreAlike, ActorsAlike, StatesAlike}
 
 abbrev pub turned : {X Y : Type 0} → (ℕ → X → Y → Type 0) → ℕ → Y → X → Type 0
 turned related i y x = related i x y

@@ -1,6 +1,6 @@
 -- A network of actors, and the lowered actors that stand for them at its leaves.
 -- Trusted: part of what a promise means.
-use Rattle.std.specs.Prelude.{◌≡◌, ℕ, ℤ, List, [], ◌∷◌, map, slice_get, Option, None, Some}
+use Rattle.std.specs.Prelude.{◌≡◌, ℕ, List, [], ◌∷◌, map, slice_get, Option, None, Some}
 use Rattle.rvc_base.specs.Storing.{IsSize}
 use Rattle.cal_model.specs.Actor.{Actor}
 use Rattle.cal_model.specs.Firing.{behaviour}

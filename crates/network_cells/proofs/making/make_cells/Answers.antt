@@ -1,11 +1,9 @@
-use Rattle.std.proofs.Common.{◌≡◌, length, map, false, true, sym, subst}
+use Rattle.std.proofs.Common.{length, map, false, true, sym, subst}
 use Rattle.std.specs.Prelude.{vec_items}
 use Rattle.std.specs.Arc.{arc_value}
 use Rattle.std.proofs.lemmas.List.{length-map}
 use Rattle.actor_cell.specs.Core.{seen}
-use Rattle.network_cells.specs.Cells.{AreCellsOf}
-use Rattle.network_cells.specs.Runnable.{CanRunWith}
-use Rattle.network_cells.specs.Tables.{AreCellsBy, AreRoomsOf}
+use Rattle.network_cells.specs.Tables.{AreRoomsOf}
 use Rattle.network_cells.proofs.Celled.{cells_are, on_success, roomy}
 use Rattle.network_cells.proofs.Runnably.{can_run}
 use Rattle.network_cells.proofs.making.make_cells.Goals as goal
