@@ -1,22 +1,26 @@
 -- The cells of lowered actors are run as the network of the actors for which they stand.
-use Rattle.std.proofs.Common.{◌≡◌, ℕ, ◌≤◌, List, length, map, sym, ap, subst, ◌∙◌, arith}
+use Rattle.std.proofs.Common.{◌≡◌, ℕ, zero, suc, ◌≤◌, List, [], ◌∷◌, length, map, sym, ap, subst, ◌∙◌, arith}
 use Rattle.std.specs.Prelude.{Some, slice_get, All}
 use Rattle.std.proofs.lemmas.List.{length-map}
 use Rattle.std.proofs.lemmas.Option.{get_or_from_slice_get, slice_get_within}
 use Rattle.rvc_io.specs.Channels.{Channels}
+use Rattle.rvc_base.specs.Lawful.{IsLawful}
 use Rattle.trace_text.specs.declared.line.Line.{Line}
 use Rattle.cal_model.specs.Actor.{Actor}
+use Rattle.cal_model.specs.Laws.{BehaviourIsLawful}
 use Rattle.cal_model.specs.Selection.{State}
+use Rattle.cal_model.specs.Sound.{Each, IsSound}
 use Rattle.lowered_actor.specs.Actor as coded
 use Rattle.lowered_actor.specs.Meaning as lowered
 use Rattle.net_model.specs.declared.wiring.Port.{Port}
 use Rattle.net_model.specs.declared.wiring.Wiring.{Wiring}
-use Rattle.net_model.specs.Network.{NetPort, Network}
+use Rattle.net_model.specs.Network.{Leaf, NetPort, Network}
 use Rattle.net_model.specs.State.{Flow, start_of}
 use Rattle.net_model.specs.Cell.{Cell}
 use Rattle.net_model.specs.Alike.{AreAlike, StatesAlike}
 use Rattle.net_model.specs.Paced.{Pace}
 use Rattle.net_model.specs.Ready.{given_state, port_of}
+use Rattle.net_state.proofs.Gaining.{some_is}
 use Rattle.fnl_tree.specs.Sound.{IsNetSound}
 use Rattle.fnl_tree.specs.Tree.{Net}
 use Rattle.fnl_flatten.proofs.Wired.{flat_wired}
@@ -28,8 +32,8 @@ use Rattle.network_runner.specs.Sending.{max_outlets}
 use Rattle.source_network.specs.Actors.{head_of}
 use Rattle.network_cells.specs.RunAlike.{without_cells}
 use Rattle.network_cells.specs.Runnable.{IsCodedNetwork}
-use Rattle.network_cells.specs.Sources.{HaveTypes, IsActorNetwork, StandForActors, lowered_network, may_come_at, stands_at}
-use Rattle.network_cells.specs.SourceRuns.{AreCellsFor, BeginAlike, CellsBeginAlike, CellsCanRun, CellsRunAsSources, LoweredAreAlike, LoweredCanBeWired, LoweredLinesAlike, LoweredTextsAlike, PacesTo, SamePacedLines}
+use Rattle.network_cells.specs.Sources.{AreLeavesOf, HaveTypes, IsActorNetwork, StandForActors, lowered_network, may_come_at, stands_at}
+use Rattle.network_cells.specs.SourceRuns.{ActorNetworksAreLawful, AreCellsFor, BeginAlike, CellsBeginAlike, CellsCanRun, CellsRunAsSources, LoweredAreAlike, LoweredCanBeWired, LoweredLinesAlike, LoweredTextsAlike, PacesTo, SamePacedLines}
 use Rattle.network_cells.proofs.Lawlike.{begun_alike, bytes_alike, counted_alike, keep_alike, paced_alike, paced_back, starts_alike, texts_alike}
 use Rattle.network_cells.proofs.LikeSources.{link_sizes, lowered_alike, lowered_flat, matched, same_behaviours}
 use Rattle.network_cells.proofs.Readied.{at_map, at_start, is_of, is_ready}
@@ -80,6 +84,20 @@ can_be_wired actors codes net wiring is stand wired =
 
 pub are_alike : LoweredAreAlike
 are_alike actors codes net is stand = lowered_alike actors codes net is stand
+
+-- ---- lawful
+
+lawful_leaves : BehaviourIsLawful → (actors : List Actor) (leaves : List (Leaf State)) → Each IsSound actors → AreLeavesOf actors leaves
+    → (i : ℕ) (leaf : Leaf State) → slice_get leaves i ≡ Some leaf → IsLawful leaf.behaviour
+lawful_leaves law [] [] sound are i leaf at = cc
+lawful_leaves law [] (first ∷ leaves) sound are i leaf at = absurd are
+lawful_leaves law (actor ∷ actors) [] sound are i leaf at = cc
+lawful_leaves law (actor ∷ actors) (first ∷ leaves) sound are zero leaf at =
+    subst (λ x. IsLawful x.behaviour) (some_is first leaf at) (subst IsLawful (sym (are.0).behaviour) (law actor (are.0).priorities sound.0))
+lawful_leaves law (actor ∷ actors) (first ∷ leaves) sound are (suc i) leaf at = lawful_leaves law actors leaves sound.1 are.1 i leaf at
+
+pub are_lawful : BehaviourIsLawful → ActorNetworksAreLawful
+are_lawful law actors net is = (flat_wired is.tree (map head_of actors) net is.flat, lawful_leaves law actors net.leaves is.sound is.leaves)
 
 -- ---- begun
 

@@ -14,9 +14,11 @@ use Rattle.net_model.specs.State as model
 use Rattle.net_model.specs.State.{Flow, start_of}
 use Rattle.net_model.specs.Cell.{Cell}
 use Rattle.net_model.specs.Alike.{AreAlike, BytesAreAlike, LinesKeepAlike, PacedAlike, StatesAlike, TextsAreAlike}
+use Rattle.net_model.specs.Laws.{AreLawful}
 use Rattle.net_model.specs.Limits.{max_grow}
 use Rattle.net_model.specs.Paced.{IsPaced, Pace}
 use Rattle.net_model.specs.Ready.{IsNetworkOf, IsReady, given_state}
+use Rattle.net_model.specs.Wired.{IsWired}
 use Rattle.fnl_tree.specs.Sound.{IsSound as IsSoundTree}
 use Rattle.fnl_tree.specs.Tree.{Tree}
 use Rattle.fnl_flatten.specs.Flattened.{IsFlattened}
@@ -49,6 +51,11 @@ SourcesAreActorNetworks = (files : Files) (class : List ℕ) (net : Network Stat
     (actors : List Actor) → IsSourceNetwork files class net → IsTree files class tree
     → AreActors files tree.leaves actors net.leaves → Each IsSound actors
     → IsActorNetwork actors net
+
+-- Such a network is wired and its actors are lawful, so that at most one list of lines is paced from a state of it.
+abbrev pub ActorNetworksAreLawful : Type 0
+ActorNetworksAreLawful = (actors : List Actor) (net : Network State) → IsActorNetwork actors net
+    → IsWired net × AreLawful net
 
 -- Lowered actors that stand for the actors of a network can be wired as it is, whichever of its ports are open.
 abbrev pub LoweredCanBeWired : Type 0

@@ -4,9 +4,9 @@
 
 ghost use Rattle.network_cells.specs.LinesAlike.{BegunAlike, CountedAlike, PacedBack};
 ghost use Rattle.network_cells.specs.RunAlike.{RunsAlike};
-ghost use Rattle.network_cells.specs.SourceRuns.{AnswersAreActorNetworks, CellsBeginAlike, CellsCanRun, CellsRunAsSources, LoweredAreAlike, LoweredCanBeWired, LoweredLinesAlike, LoweredTextsAlike, SamePacedLines, SourcesAreActorNetworks};
+ghost use Rattle.network_cells.specs.SourceRuns.{ActorNetworksAreLawful, AnswersAreActorNetworks, CellsBeginAlike, CellsCanRun, CellsRunAsSources, LoweredAreAlike, LoweredCanBeWired, LoweredLinesAlike, LoweredTextsAlike, SamePacedLines, SourcesAreActorNetworks};
 
-use cal_model::types_are_kept;
+use cal_model::{sound_actors_are_lawful, types_are_kept};
 use fnl_bind::bound_trees_are_sound;
 use net_model::Likeness;
 use source_network::{answers_are_the_source_network, one_network};
@@ -23,7 +23,7 @@ pub fn networks_run_alike<K: Likeness>()
 /// A run of the cells of lowered actors is a run of the network of the sources for which they stand.
 ///
 /// What a compiler has in hand is the network of the actors at its leaves (`networks`), and so is the source network of a
-/// class whose leaves these actors are (`sources`). Lowered actors that stand for them can be wired as they are (`wired`).
+/// class whose leaves these actors are (`sources`). It is wired, and its actors are lawful (`lawful`). Lowered actors that stand for them can be wired as they are (`wired`).
 /// The two networks are alike (`alike`): the same lines are begun and paced from states that are alike, and the same
 /// numbers count them (`lines`), and traces and outputs are the same, byte by byte (`texts`). The cells that
 /// [`make_cells`] makes of them can be run (`can_run`), a run from them begins at a state alike to the start of the
@@ -34,6 +34,7 @@ pub fn networks_run_alike<K: Likeness>()
 pub fn cells_run_as_sources()
     ensures networks { AnswersAreActorNetworks }
     ensures sources { SourcesAreActorNetworks }
+    ensures lawful { ActorNetworksAreLawful }
     ensures wired { LoweredCanBeWired }
     ensures alike { LoweredAreAlike }
     ensures lines { LoweredLinesAlike }
@@ -43,6 +44,7 @@ pub fn cells_run_as_sources()
     ensures paced { SamePacedLines }
     ensures runs { CellsRunAsSources }
 {
+    sound_actors_are_lawful();
     types_are_kept();
     bound_trees_are_sound();
     one_network();

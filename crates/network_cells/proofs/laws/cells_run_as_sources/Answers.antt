@@ -1,5 +1,5 @@
 use Rattle.network_cells.proofs.Answered.{answers_are_networks, sources_are_networks}
-use Rattle.network_cells.proofs.SourceLaws.{are_alike, can_be_wired, cells_begin_alike, cells_can_run, cells_run_as_sources, lines_alike, same_paced_lines, texts_are_alike}
+use Rattle.network_cells.proofs.SourceLaws.{are_alike, are_lawful, can_be_wired, cells_begin_alike, cells_can_run, cells_run_as_sources, lines_alike, same_paced_lines, texts_are_alike}
 use Rattle.network_cells.proofs.laws.cells_run_as_sources.Goals as goal
 
 pub returns-clause-networks : goal.returns-clause-networks
@@ -9,6 +9,9 @@ returns-clause-networks c =
 pub returns-clause-sources : goal.returns-clause-sources
 returns-clause-sources c =
     sources_are_networks c.types_are_kept.ensures.allowed c.one_network.ensures.actor c.answers_are_the_source_network.ensures.lone c.bound_trees_are_sound.ensures.sound
+
+pub returns-clause-lawful : goal.returns-clause-lawful
+returns-clause-lawful c = are_lawful c.sound_actors_are_lawful.ensures
 
 pub returns-clause-wired : goal.returns-clause-wired
 returns-clause-wired c = can_be_wired
