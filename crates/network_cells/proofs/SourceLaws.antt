@@ -3,7 +3,6 @@ use Rattle.std.proofs.Common.{◌≡◌, ℕ, zero, suc, ◌≤◌, List, [], �
 use Rattle.std.specs.Prelude.{Some, slice_get, All}
 use Rattle.std.proofs.lemmas.List.{length-map}
 use Rattle.std.proofs.lemmas.Option.{get_or_from_slice_get, slice_get_within}
-use Rattle.rvc_io.specs.Channels.{Channels}
 use Rattle.rvc_base.specs.Lawful.{IsLawful}
 use Rattle.trace_text.specs.declared.line.Line.{Line}
 use Rattle.cal_model.specs.Actor.{Actor}
@@ -11,29 +10,22 @@ use Rattle.cal_model.specs.Laws.{BehaviourIsLawful}
 use Rattle.cal_model.specs.Selection.{State}
 use Rattle.cal_model.specs.Sound.{Each, IsSound}
 use Rattle.lowered_actor.specs.Actor as coded
-use Rattle.lowered_actor.specs.Meaning as lowered
 use Rattle.net_model.specs.declared.wiring.Port.{Port}
-use Rattle.net_model.specs.declared.wiring.Wiring.{Wiring}
 use Rattle.net_model.specs.Network.{Leaf, NetPort, Network}
 use Rattle.net_model.specs.State.{Flow, start_of}
-use Rattle.net_model.specs.Cell.{Cell}
-use Rattle.net_model.specs.Alike.{AreAlike, StatesAlike}
+use Rattle.net_model.specs.Alike.{AreAlike}
 use Rattle.net_model.specs.Paced.{Pace}
-use Rattle.net_model.specs.Ready.{given_state, port_of}
+use Rattle.net_model.specs.Ready.{port_of}
 use Rattle.net_state.proofs.Gaining.{some_is}
 use Rattle.fnl_tree.specs.Sound.{IsNetSound}
 use Rattle.fnl_tree.specs.Tree.{Net}
 use Rattle.fnl_flatten.proofs.Wired.{flat_wired}
-use Rattle.round_runner.specs.declared.outcome.RunEnd.{RunEnd}
-use Rattle.round_runner.specs.Running.{Running}
 use Rattle.network_runner.specs.Asking.{HavePortSizes}
-use Rattle.network_runner.specs.FromStart.{RunsFromStart}
 use Rattle.network_runner.specs.Sending.{max_outlets}
 use Rattle.source_network.specs.Actors.{head_of}
-use Rattle.network_cells.specs.RunAlike.{without_cells}
 use Rattle.network_cells.specs.Runnable.{IsCodedNetwork}
 use Rattle.network_cells.specs.Sources.{AreLeavesOf, HaveTypes, IsActorNetwork, StandForActors, lowered_network, may_come_at, stands_at}
-use Rattle.network_cells.specs.SourceRuns.{ActorNetworksAreLawful, AreCellsFor, BeginAlike, CellsBeginAlike, CellsCanRun, CellsRunAsSources, LoweredAreAlike, LoweredCanBeWired, LoweredLinesAlike, LoweredTextsAlike, PacesTo, SamePacedLines}
+use Rattle.network_cells.specs.SourceRuns.{ActorNetworksAreLawful, BeginAlike, CellsBeginAlike, CellsCanRun, CellsRunAsSources, Compiled, IsCompiled, LoweredAreAlike, LoweredCanBeWired, LoweredLinesAlike, LoweredTextsAlike, PacesTo, SamePacedLines, SourcesAlike, cells_start, lowered_of}
 use Rattle.network_cells.proofs.Lawlike.{begun_alike, bytes_alike, counted_alike, keep_alike, paced_alike, paced_back, starts_alike, texts_alike}
 use Rattle.network_cells.proofs.LikeSources.{link_sizes, lowered_alike, lowered_flat, matched, same_behaviours}
 use Rattle.network_cells.proofs.Readied.{at_map, at_start, is_of, is_ready}
@@ -101,68 +93,56 @@ are_lawful law actors net is = (flat_wired is.tree (map head_of actors) net is.f
 
 -- ---- begun
 
-module _ (actors : List Actor) (codes : List coded.Actor) (net : Network State) (wiring : Wiring) (burst grow : ℕ) (cells : List (Cell lowered.ActorState)) (are : AreCellsFor actors codes net wiring burst grow cells) where
-  there : IsCodedNetwork codes (lowered_network codes net)
-  there = coded_network actors codes net are.actor_network are.stand
+module _ (c : Compiled) (is : IsCompiled c) where
+  there : IsCodedNetwork c.codes (lowered_of c)
+  there = coded_network c.actors c.codes c.net is.actor_network is.stand
 
-  alike : AreAlike (stands_at actors) (may_come_at actors) (lowered_network codes net) net
-  alike = lowered_alike actors codes net are.actor_network are.stand
+  alike : AreAlike (stands_at c.actors) (may_come_at c.actors) (lowered_of c) c.net
+  alike = lowered_alike c.actors c.codes c.net is.actor_network is.stand
 
-  begins : (inputs : List (List ℕ)) → given_state (lowered_network codes net) cells inputs ≡ start_of (lowered_network codes net) inputs
-  begins inputs = at_start codes (lowered_network codes net) burst grow cells there are.cells_of inputs
+  begins : (inputs : List (List ℕ)) → cells_start c inputs ≡ start_of (lowered_of c) inputs
+  begins inputs = at_start c.codes (lowered_of c) c.burst c.grow c.cells there is.cells_of inputs
 
-  pub begins_alike : (inputs : List (List ℕ)) → StatesAlike (stands_at actors) (may_come_at actors) (lowered_network codes net) (given_state (lowered_network codes net) cells inputs) (start_of net inputs)
+  begins_alike : (inputs : List (List ℕ)) → SourcesAlike c (cells_start c inputs) (start_of c.net inputs)
   begins_alike inputs =
-      subst (λ s. StatesAlike (stands_at actors) (may_come_at actors) (lowered_network codes net) s (start_of net inputs)) (sym (begins inputs))
-      (starts_alike (stands_at actors) (may_come_at actors) (lowered_network codes net) net alike inputs)
+      subst (λ s. SourcesAlike c s (start_of c.net inputs)) (sym (begins inputs)) (starts_alike (stands_at c.actors) (may_come_at c.actors) (lowered_of c) c.net alike inputs)
 
-  pub begin_alike : BeginAlike actors codes net wiring burst grow cells
+  begin_alike : BeginAlike c
   begin_alike = record {
-    is_of = is_of codes (lowered_network codes net) burst grow cells there are.cells_of wiring (record {
-      links = (are.wiring_of).links;
-      ins = (are.wiring_of).ins;
-      outs = (are.wiring_of).outs;
-      ins_told = (are.wiring_of).ins_told;
-      outs_told = (are.wiring_of).outs_told;
+    is_of = is_of c.codes (lowered_of c) c.burst c.grow c.cells there is.cells_of c.wiring (record {
+      links = (is.wiring_of).links;
+      ins = (is.wiring_of).ins;
+      outs = (is.wiring_of).outs;
+      ins_told = (is.wiring_of).ins_told;
+      outs_told = (is.wiring_of).outs_told;
     });
-    ready = is_ready codes (lowered_network codes net) burst grow cells there are.cells_of are.few_grown;
+    ready = is_ready c.codes (lowered_of c) c.burst c.grow c.cells there is.cells_of is.few_grown;
     at_start = begins;
     starts_alike = begins_alike;
   }
 
-  pub paced_forth : (inputs : List (List ℕ)) (pace : Pace) (lines : List Line) (flows : List Flow)
-      → PacesTo (lowered_network codes net) pace (given_state (lowered_network codes net) cells inputs) lines flows → PacesTo net pace (start_of net inputs) lines flows
+  paced_forth : (inputs : List (List ℕ)) (pace : Pace) (lines : List Line) (flows : List Flow)
+      → PacesTo (lowered_of c) pace (cells_start c inputs) lines flows → PacesTo c.net pace (start_of c.net inputs) lines flows
   paced_forth inputs pace lines flows paces =
-      let too = paced_alike (stands_at actors) (may_come_at actors) (lowered_network codes net) net alike pace (given_state (lowered_network codes net) cells inputs) paces.last (start_of net inputs) lines
-      (begins_alike inputs) paces.paced in
+      let too = paced_alike (stands_at c.actors) (may_come_at c.actors) (lowered_of c) c.net alike pace (cells_start c inputs) paces.last (start_of c.net inputs) lines (begins_alike inputs) paces.paced in
       record { last = too.0; paced = too.1; flows_are = sym (too.2).flows ∙ paces.flows_are }
 
-  pub paced_back_there : (inputs : List (List ℕ)) (pace : Pace) (lines : List Line) (flows : List Flow)
-      → PacesTo net pace (start_of net inputs) lines flows → PacesTo (lowered_network codes net) pace (given_state (lowered_network codes net) cells inputs) lines flows
+  paced_back_there : (inputs : List (List ℕ)) (pace : Pace) (lines : List Line) (flows : List Flow)
+      → PacesTo c.net pace (start_of c.net inputs) lines flows → PacesTo (lowered_of c) pace (cells_start c inputs) lines flows
   paced_back_there inputs pace lines flows paces =
-      let back = paced_back (stands_at actors) (may_come_at actors) (lowered_network codes net) net alike pace (given_state (lowered_network codes net) cells inputs) (start_of net inputs) paces.last lines
-      (begins_alike inputs) paces.paced in
+      let back = paced_back (stands_at c.actors) (may_come_at c.actors) (lowered_of c) c.net alike pace (cells_start c inputs) (start_of c.net inputs) paces.last lines (begins_alike inputs) paces.paced in
       record { last = back.0; paced = back.1; flows_are = (back.2).flows ∙ paces.flows_are }
 
-  pub runs_there : (inputs : List (List ℕ)) (budget : ℕ) (how : RunEnd) (run new : Running (Cell lowered.ActorState)) (old now : Channels)
-      → RunsFromStart (lowered_network codes net) inputs budget (given_state (lowered_network codes net) cells inputs) how run new old now
-      → RunsFromStart net inputs budget (start_of net inputs) how (without_cells run) (without_cells new) old now
-  runs_there inputs budget how run new old now leaves =
-      from_start_too (stands_at actors) (may_come_at actors) (lowered_network codes net) net alike inputs budget (given_state (lowered_network codes net) cells inputs) (start_of net inputs)
-      (begins_alike inputs) run new old now how leaves
-
 pub cells_begin_alike : CellsBeginAlike
-cells_begin_alike actors codes net wiring burst grow cells are = begin_alike actors codes net wiring burst grow cells are
+cells_begin_alike c is = begin_alike c is
 
 pub same_paced_lines : SamePacedLines
-same_paced_lines actors codes net wiring burst grow cells inputs pace lines flows are = (
-  paced_forth actors codes net wiring burst grow cells are inputs pace lines flows,
-  paced_back_there actors codes net wiring burst grow cells are inputs pace lines flows,
-)
+same_paced_lines c inputs pace lines flows is = (paced_forth c is inputs pace lines flows, paced_back_there c is inputs pace lines flows)
 
 pub cells_run_as_sources : CellsRunAsSources
-cells_run_as_sources actors codes net wiring burst grow cells inputs budget how run new old now are leaves =
-    runs_there actors codes net wiring burst grow cells are inputs budget how run new old now leaves
+cells_run_as_sources c inputs budget how run new old now is leaves =
+    from_start_too (stands_at c.actors) (may_come_at c.actors) (lowered_of c) c.net (alike c is) inputs budget (cells_start c inputs) (start_of c.net inputs) (begins_alike c is inputs)
+    run new old now how leaves
 
 pub lines_alike : LoweredLinesAlike
 lines_alike actors = (
@@ -180,5 +160,5 @@ texts_are_alike actors = (
 )
 
 pub cells_can_run : CellsCanRun
-cells_can_run actors codes net wiring burst grow cells plan are by =
-    can_run codes net.links burst grow cells are.cells_of wiring plan (sym (are.wiring_of).links) (can_be_wired actors codes net wiring are.actor_network are.stand are.wiring_of) by
+cells_can_run c plan is by =
+    can_run c.codes c.net.links c.burst c.grow c.cells is.cells_of c.wiring plan (sym (is.wiring_of).links) (can_be_wired c.actors c.codes c.net c.wiring is.actor_network is.stand is.wiring_of) by

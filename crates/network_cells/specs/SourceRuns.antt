@@ -82,38 +82,52 @@ abbrev pub LoweredTextsAlike : Type 0
 LoweredTextsAlike = (actors : List Actor) → TextsAreAlike (stands_at actors) (may_come_at actors)
     × BytesAreAlike (stands_at actors) (may_come_at actors)
 
--- cells of lowered actors that stand for the actors of a network with this wiring
-pub record AreCellsFor (actors : List Actor) (codes : List coded.Actor) (net : Network State) (wiring : Wiring) (burst grow : ℕ) (cells : List (Cell lowered.ActorState)) : Type 0 where
-  pub actor_network : IsActorNetwork actors net
-  pub stand : StandForActors actors codes
-  pub wiring_of : IsWiringOf net wiring
-  pub cells_of : AreCellsOf codes net.links burst grow cells
-  pub few_grown : grow ≤ max_grow
+-- A network of sources that was compiled: its actors, the lowered actors and the cells that are made for them, and by which
+-- wiring and which numbers these are to be run.
+pub record Compiled : Type 0 where
+  pub net : Network State
+  pub actors : List Actor
+  pub codes : List coded.Actor
+  pub cells : List (Cell lowered.ActorState)
+  pub wiring : Wiring
+  pub burst : ℕ
+  pub grow : ℕ
 
--- they can be run, whichever ports are open
+-- the network of its lowered actors
+abbrev pub lowered_of : Compiled → Network lowered.ActorState
+lowered_of c = lowered_network c.codes c.net
+
+-- The lowered actors stand for the actors, and the cells are theirs, made for the links of the network.
+pub record IsCompiled (c : Compiled) : Type 0 where
+  pub actor_network : IsActorNetwork c.actors c.net
+  pub stand : StandForActors c.actors c.codes
+  pub wiring_of : IsWiringOf c.net c.wiring
+  pub cells_of : AreCellsOf c.codes c.net.links c.burst c.grow c.cells
+  pub few_grown : c.grow ≤ max_grow
+
+-- its cells can be run, whichever ports are open
 abbrev pub CellsCanRun : Type 0
-CellsCanRun = (actors : List Actor) (codes : List coded.Actor) (net : Network State)
-    (wiring : Wiring) (burst grow : ℕ) (cells : List (Cell lowered.ActorState)) (plan : Plan)
-    → AreCellsFor actors codes net wiring burst grow cells → IsPlanFor burst grow plan
-    → CanRun cells wiring plan
+CellsCanRun = (c : Compiled) (plan : Plan) → IsCompiled c → IsPlanFor c.burst c.grow plan
+    → CanRun c.cells c.wiring plan
 
--- Their network is that of the lowered actors, which is ready to be run, and a run from them begins at its start: the
--- state that is alike to the start of the sources.
-pub record BeginAlike (actors : List Actor) (codes : List coded.Actor) (net : Network State) (wiring : Wiring) (burst grow : ℕ) (cells : List (Cell lowered.ActorState)) : Type 0 where
-  pub is_of : IsNetworkOf (lowered_network codes net) cells wiring
-  pub ready : IsReady (lowered_network codes net) grow burst cells
-  pub at_start : (inputs : List (List ℕ))
-      → given_state (lowered_network codes net) cells inputs
-      ≡ start_of (lowered_network codes net) inputs
+-- the state in which a run from the cells begins, and a state of the sources that is alike to one of the lowered actors
+abbrev pub cells_start : Compiled → List (List ℕ) → model.State lowered.ActorState
+cells_start c inputs = given_state (lowered_of c) c.cells inputs
+
+abbrev pub SourcesAlike : Compiled → model.State lowered.ActorState → model.State State → Type 0
+SourcesAlike c s that = StatesAlike (stands_at c.actors) (may_come_at c.actors) (lowered_of c) s that
+
+-- The network of the cells is that of the lowered actors, which is ready to be run. A run from the cells begins at its
+-- start, which is alike to the start of the sources over the same files.
+pub record BeginAlike (c : Compiled) : Type 0 where
+  pub is_of : IsNetworkOf (lowered_of c) c.cells c.wiring
+  pub ready : IsReady (lowered_of c) c.grow c.burst c.cells
+  pub at_start : (inputs : List (List ℕ)) → cells_start c inputs ≡ start_of (lowered_of c) inputs
   pub starts_alike : (inputs : List (List ℕ))
-      → StatesAlike (stands_at actors) (may_come_at actors) (lowered_network codes net)
-      (given_state (lowered_network codes net) cells inputs) (start_of net inputs)
+      → SourcesAlike c (cells_start c inputs) (start_of c.net inputs)
 
 abbrev pub CellsBeginAlike : Type 0
-CellsBeginAlike = (actors : List Actor) (codes : List coded.Actor) (net : Network State)
-    (wiring : Wiring) (burst grow : ℕ) (cells : List (Cell lowered.ActorState))
-    → AreCellsFor actors codes net wiring burst grow cells
-    → BeginAlike actors codes net wiring burst grow cells
+CellsBeginAlike = (c : Compiled) → IsCompiled c → BeginAlike c
 
 -- so these lines are paced from a state, with these tokens on the links at the end
 pub record PacesTo {X : Type 0} (net : Network X) (pace : Pace) (s : model.State X) (lines : List Line) (flows : List Flow) : Type 0 where
@@ -124,21 +138,15 @@ pub record PacesTo {X : Type 0} (net : Network X) (pace : Pace) (s : model.State
 -- The lines that are paced from the cells are exactly those that are paced from the start of the sources, and leave the
 -- same tokens on the links.
 abbrev pub SamePacedLines : Type 0
-SamePacedLines = (actors : List Actor) (codes : List coded.Actor) (net : Network State)
-    (wiring : Wiring) (burst grow : ℕ) (cells : List (Cell lowered.ActorState))
-    (inputs : List (List ℕ)) (pace : Pace) (lines : List Line) (flows : List Flow)
-    → AreCellsFor actors codes net wiring burst grow cells
-    → PacesTo (lowered_network codes net) pace (given_state (lowered_network codes net) cells inputs) lines flows
-    ↔ PacesTo net pace (start_of net inputs) lines flows
+SamePacedLines = (c : Compiled) (inputs : List (List ℕ)) (pace : Pace) (lines : List Line)
+    (flows : List Flow) → IsCompiled c
+    → PacesTo (lowered_of c) pace (cells_start c inputs) lines flows
+    ↔ PacesTo c.net pace (start_of c.net inputs) lines flows
 
 -- What a run of the cells leaves, from their start to its end, is what a run of the sources leaves from their start.
 abbrev pub CellsRunAsSources : Type 0
-CellsRunAsSources = (actors : List Actor) (codes : List coded.Actor) (net : Network State)
-    (wiring : Wiring) (burst grow : ℕ) (cells : List (Cell lowered.ActorState))
-    (inputs : List (List ℕ)) (budget : ℕ) (how : RunEnd)
-    (run new : Running (Cell lowered.ActorState)) (old now : Channels)
-    → AreCellsFor actors codes net wiring burst grow cells
-    → RunsFromStart (lowered_network codes net) inputs budget
-    (given_state (lowered_network codes net) cells inputs) how run new old now
-    → RunsFromStart net inputs budget (start_of net inputs) how (without_cells run)
+CellsRunAsSources = (c : Compiled) (inputs : List (List ℕ)) (budget : ℕ) (how : RunEnd)
+    (run new : Running (Cell lowered.ActorState)) (old now : Channels) → IsCompiled c
+    → RunsFromStart (lowered_of c) inputs budget (cells_start c inputs) how run new old now
+    → RunsFromStart c.net inputs budget (start_of c.net inputs) how (without_cells run)
     (without_cells new) old now
