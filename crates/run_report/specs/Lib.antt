@@ -1,0 +1,5 @@
+pub mod Status
+pub mod About
+pub mod Report
+pub mod Puts
+pub mod Steps
