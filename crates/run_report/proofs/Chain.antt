@@ -1,12 +1,13 @@
 -- Texts that are put one after another.
 use Rattle.std.proofs.Common.{◌≡◌, ◌≤◌, ◌<◌, ◌⊎◌, inl, inr, ℕ, true, List, ◌++◌, [], sym, ap, subst, refl, ◌∙◌, arith}
 use Rattle.std.proofs.lemmas.List.{append_assoc, append-nil}
+use Rattle.std.specs.Result.{IsErr}
 use Rattle.std.specs.declared.result.Result.{Result}
 use Rattle.std.specs.declared.result.Result.TheVariants.{Ok, Err}
 use Rattle.channel_writer.specs.Held.{HoldsFront}
 use Rattle.rvc_io.specs.Channels.{Channels, WritesOnlyAt}
 use Rattle.rvc_io.specs.Count.{HasRisen}
-use Rattle.rvc_io.specs.declared.files.Failed.{Failed}
+use Rattle.rvc_io.specs.declared.Failed.{Failed}
 use Rattle.run_report.specs.Puts.{GetsLess, GetsText, Puts}
 use Rattle.run_report.specs.Steps.{PutsSoFar}
 
@@ -79,16 +80,20 @@ nothing old = record {
 pub begins : (whole : List ℕ) (old : Channels) → PutsSoFar whole whole old old
 begins whole old = record { text = []; is_front = refl; put = nothing old }
 
-pub goes_on : (whole line left : List ℕ) (old mid new : Channels) → PutsSoFar whole (line ++ left) old mid → GetsText line mid new → PutsSoFar whole left old new
-goes_on whole line left old mid new so this = record {
+pub goes_on : (whole text line left : List ℕ) (old mid new : Channels) → text ≡ line ++ left → PutsSoFar whole text old mid → GetsText line mid new → PutsSoFar whole left old new
+goes_on whole text line left old mid new is so this = record {
   text = so.text ++ line;
-  is_front = so.is_front ∙ sym (append_assoc so.text line left);
+  is_front = so.is_front ∙ ap (λ t. so.text ++ t) is ∙ sym (append_assoc so.text line left);
   put = then_text so.text line old mid new so.put this;
 }
 
 pub ends : (whole : List ℕ) (old new : Channels) → PutsSoFar whole [] old new → GetsText whole old new
 ends whole old new so = subst (λ t. GetsText t old new) (sym (so.is_front ∙ append-nil so.text)) so.put
 
-pub breaks_off : (whole line left : List ℕ) (old mid new : Channels) → PutsSoFar whole (line ++ left) old mid → GetsLess line mid new → GetsLess whole old new
-breaks_off whole line left old mid new so less = subst (λ t. GetsLess t old new) (sym so.is_front)
-    (then_less so.text (line ++ left) old mid new so.put (less_longer line left mid new less))
+pub failed : (t : List ℕ) (old new : Channels) (r : Result (Unit {0}) Failed) → IsErr r → GetsLess t old new → Puts r t old new
+failed t old new (Ok done) err less = cc
+failed t old new (Err fault) err less = less
+
+pub breaks_off : (whole text line left : List ℕ) (old mid new : Channels) (r : Result (Unit {0}) Failed) → IsErr r → text ≡ line ++ left → PutsSoFar whole text old mid → GetsLess line mid new → Puts r whole old new
+breaks_off whole text line left old mid new r err is so less = failed whole old new r err (subst (λ t. GetsLess t old new) (sym (so.is_front ∙ ap (λ t. so.text ++ t) is))
+    (then_less so.text (line ++ left) old mid new so.put (less_longer line left mid new less)))

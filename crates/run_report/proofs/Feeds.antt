@@ -57,8 +57,3 @@ pub passed : (k n port : ℕ) (from : End) (links : List Link) (ins : List (List
     → file_opened k (behind from n links ins words) ≡ file_opened k (feeds_from (n + 1) links ins words)
 passed k n port from links ins words is apart = subst (λ f. file_opened k (behind f n links ins words) ≡ file_opened k (feeds_from (n + 1) links ins words)) (sym is)
     (skipped k n (file_at (slice_get ins port) words) (feeds_from (n + 1) links ins words) apart)
-
--- a link that is no input link
-pub inside : (k n inst port : ℕ) (from : End) (links : List Link) (ins : List (List ℕ)) (words : List PortText) → from ≡ AtLeaf (record { «0» = inst }) port
-    → file_opened k (behind from n links ins words) ≡ file_opened k (feeds_from n links ins words)
-inside k n inst port from links ins words is = subst (λ f. file_opened k (behind f n links ins words) ≡ file_opened k (feeds_from n links ins words)) (sym is) refl

@@ -1,5 +1,6 @@
 pub mod Status
 pub mod About
+pub mod Line
 pub mod Report
 pub mod Puts
 pub mod Steps

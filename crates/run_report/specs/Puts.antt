@@ -6,7 +6,7 @@ use Rattle.std.specs.declared.result.Result.TheVariants.{Ok, Err}
 use Rattle.channel_writer.specs.Held.{AppendsFront}
 use Rattle.rvc_io.specs.Channels.{Appends, Channels, WritesOnlyAt}
 use Rattle.rvc_io.specs.Count.{HasRisen}
-use Rattle.rvc_io.specs.declared.files.Failed.{Failed}
+use Rattle.rvc_io.specs.declared.Failed.{Failed}
 
 -- the channel got this text behind what it held, and no other was written or opened
 pub record GetsText (text : List ℕ) (old new : Channels) : Type 0 where

@@ -1,10 +1,12 @@
 -- The report: the lines of a verb, and the last line.
 -- Trusted: part of what a promise means.
-use Rattle.std.specs.Prelude.{ℕ, suc, List, [], ◌∷◌, ◌++◌, Option, None, Some, codes, decimal, if◌then◌else◌, length, slice_index_or}
+use Rattle.std.specs.Prelude.{ℕ, ◌+◌, List, [], ◌∷◌, ◌++◌, Option, None, Some, codes, decimal, if◌then◌else◌, length, slice_index_or}
 use Rattle.rvc_base.specs.Refusal.{rule_text}
 use Rattle.rvc_base.specs.declared.refusal.Refusal.{Refusal}
 use Rattle.rvc_base.specs.Trap.{trap_name}
+use Rattle.rvc_base.specs.declared.trap.Trap.{Trap}
 use Rattle.rvc_words.specs.Causes.{cause_name}
+use Rattle.rvc_words.specs.declared.fault.UsageCause.{UsageCause}
 use Rattle.net_model.specs.declared.wiring.Counts.{Counts}
 use Rattle.net_model.specs.declared.wiring.End.{End}
 use Rattle.net_model.specs.declared.wiring.End.TheVariants.{Leaf as AtLeaf, Net as AtNet}
@@ -14,26 +16,22 @@ use Rattle.trace_replay.specs.declared.why.Why.TheVariants as why
 use Rattle.determinacy_cert.specs.declared.fault.Reason.{Reason}
 use Rattle.determinacy_cert.specs.declared.fault.Reason.TheVariants as reason
 use Rattle.run_report.specs.About.{About, file_name, unread_name}
+use Rattle.run_report.specs.Line.{line}
 use Rattle.run_report.specs.Status.{came_to_its_end}
 use Rattle.run_report.specs.declared.status.Status.{Status}
 use Rattle.run_report.specs.declared.status.Status.TheVariants as status
-
-abbrev pub line_feed : List ℕ
-line_feed = codes "\n"
-
--- a line of a text and a number
-abbrev pub numbered : String → ℕ → List ℕ
-numbered text n = codes text ++ decimal n ++ line_feed
 
 -- ---- the lines of verbs
 
 -- how many instances and links there are
 abbrev pub size_lines : About → List ℕ
-size_lines a = numbered "instances " a.instances ++ numbered "links " (length a.links)
+size_lines a =
+    line (codes "instances") (decimal a.instances ∷ [])
+    ++ line (codes "links") (decimal (length a.links) ∷ [])
 
 -- how many instances are certified
 abbrev pub certified_line : ℕ → List ℕ
-certified_line certified = numbered "certified " certified
+certified_line certified = line (codes "certified") (decimal certified ∷ [])
 
 -- the same, if it is known
 abbrev pub certified_lines : Option ℕ → List ℕ
@@ -42,13 +40,13 @@ certified_lines (Some certified) = certified_line certified
 
 -- how many firings were made, and how many deliveries
 abbrev pub count_lines : Counts → List ℕ
-count_lines c = numbered "firings " c.firings ++ numbered "rounds " c.rounds
+count_lines c =
+    line (codes "firings") (decimal c.firings ∷ []) ++ line (codes "rounds") (decimal c.rounds ∷ [])
 
 -- the line of an input link: its port, its number, the tokens that arrived, and the bytes that were no token
 abbrev pub in_line : (name : List ℕ) → (link arrived rest : ℕ) → List ℕ
-in_line name link arrived rest =
-    (codes "in " ++ name ++ codes " ") ++ decimal link ++ (codes " tokens " ++ decimal arrived)
-    ++ numbered " rest " rest
+in_line name link arrived rest = line (codes "in")
+    (name ∷ decimal link ∷ codes "tokens" ∷ decimal arrived ∷ codes "rest" ∷ decimal rest ∷ [])
 
 -- the line of a link of this number that begins here, if that is an input of the network
 abbrev pub in_lines_at : (from : End) → (link : ℕ) → (ins : List (List ℕ)) → Counts → List ℕ
@@ -60,23 +58,23 @@ in_lines_at (AtNet port) link ins c = in_line (slice_index_or ins port [])
 abbrev pub in_lines : (number : ℕ) → List Link → (ins : List (List ℕ)) → Counts → List ℕ
 in_lines number [] ins c = []
 in_lines number (link ∷ links) ins c =
-    in_lines_at link.from number ins c ++ in_lines (suc number) links ins c
+    in_lines_at link.from number ins c ++ in_lines (number + 1) links ins c
 
 -- the line of an output: its name, and the tokens that were sent
 abbrev pub out_line : (name : List ℕ) → (sent : ℕ) → List ℕ
-out_line name sent = (codes "out " ++ name ++ codes " tokens ") ++ (decimal sent ++ line_feed)
+out_line name sent = line (codes "out") (name ∷ codes "tokens" ∷ decimal sent ∷ [])
 
 -- those of outputs in their order, the first of which has this number
 abbrev pub out_lines : (number : ℕ) → (outs : List (List ℕ)) → Counts → List ℕ
 out_lines number [] c = []
 out_lines number (name ∷ outs) c =
-    out_line name (slice_index_or c.sent.items number 0) ++ out_lines (suc number) outs c
+    out_line name (slice_index_or c.sent.items number 0) ++ out_lines (number + 1) outs c
 
--- the lines of a verb that makes or replays a run
+-- the lines of a verb that makes or replays a run: the numbers of the network and of the run, and then its ports
 abbrev pub run_lines : About → (certified : Option ℕ) → Counts → List ℕ
 run_lines a certified c =
-    size_lines a ++ certified_lines certified ++ count_lines c
-    ++ in_lines 0 a.links a.ins c ++ out_lines 0 a.outs c
+    (size_lines a ++ certified_lines certified ++ count_lines c)
+    ++ (in_lines 0 a.links a.ins c ++ out_lines 0 a.outs c)
 
 -- ---- the last line
 
@@ -99,39 +97,53 @@ reason_name reason.C2 = codes "C2"
 reason_name reason.C3 = codes "C3"
 reason_name reason.C4 = codes "C4"
 
--- two numbers with a blank between them
-abbrev pub two : (a b : ℕ) → List ℕ
-two a b = decimal a ++ (codes " " ++ decimal b)
+-- how the program is used
+unfoldable pub usage : List ℕ
+usage = codes "rvc VERB TOP [PORT=FILE ..] [--trace FILE] [--workers N] [--round P] [--burst N] [--budget N] [--grow N]"
 
--- how the program is used, behind the cause why words aren't a job
-abbrev pub usage_line : List ℕ
-usage_line = codes "\nrvc VERB TOP [PORT=FILE ..] [--trace FILE] [--workers N] [--round P] [--burst N] [--budget N] [--grow N]\n"
+-- the cause why words aren't a job, and how the program is used
+abbrev pub usage_lines : UsageCause → List ℕ
+usage_lines cause = line (codes "usage") (cause_name cause ∷ []) ++ line usage []
 
 -- the rule that is broken, the file, and the place in it
 abbrev pub refusal_line : About → Refusal → List ℕ
-refusal_line a r =
-    (codes "refused " ++ rule_text r.rule) ++ (codes " " ++ file_name a r.place.file ++ codes " ")
-    ++ (decimal r.place.offset ++ line_feed)
+refusal_line a r = line (codes "refused")
+    (rule_text r.rule ∷ file_name a r.place.file ∷ decimal r.place.offset ∷ [])
 
--- The last line. After words that aren't a job another line shows how the program is used.
+-- the instance and its action, and what the firing trapped by
+abbrev pub trap_line : (inst action : ℕ) → Trap → List ℕ
+trap_line inst action trap =
+    line (codes "trapped") (decimal inst ∷ decimal action ∷ trap_name trap ∷ [])
+
+-- the instance and its action, and the link that lacks room
+abbrev pub stall_line : (inst action link : ℕ) → List ℕ
+stall_line inst action link =
+    line (codes "stalled") (decimal inst ∷ decimal action ∷ decimal link ∷ [])
+
+-- the line of the trace that no run has, and why
+abbrev pub no_run_line : ℕ → Why → List ℕ
+no_run_line number why = line (codes "not a run") (decimal number ∷ why_name why ∷ [])
+
+-- the instance, the state of its schedule, and two actions, for which the rule of certification fails
+abbrev pub uncertified_line : (inst state a b : ℕ) → Reason → List ℕ
+uncertified_line inst state a b reason = line (codes "uncertified")
+    (decimal inst ∷ decimal state ∷ decimal a ∷ decimal b ∷ reason_name reason ∷ [])
+
+-- The last line. Behind a cause why words aren't a job comes another line, how the program is used.
 abbrev pub last_line : About → Status → List ℕ
-last_line a status.Quiet = codes "quiet\n"
-last_line a status.Done = codes "done\n"
-last_line a (status.Usage cause) = codes "usage " ++ cause_name cause ++ usage_line
-last_line a (status.ReadFault place) = codes "read fault " ++ unread_name a place ++ line_feed
-last_line a (status.WriteFault channel) = numbered "write fault " channel
+last_line a status.Quiet = line (codes "quiet") []
+last_line a status.Done = line (codes "done") []
+last_line a (status.Usage cause) = usage_lines cause
+last_line a (status.ReadFault at) = line (codes "read fault") (unread_name a at ∷ [])
+last_line a (status.WriteFault channel) = line (codes "write fault") (decimal channel ∷ [])
 last_line a (status.Refused refusal) = refusal_line a refusal
-last_line a (status.Trapped inst action trap) =
-    (codes "trapped " ++ two inst.0 action.0) ++ (codes " " ++ trap_name trap ++ line_feed)
-last_line a (status.Stalled inst action link) =
-    (codes "stalled " ++ two inst.0 action.0) ++ numbered " " link.0
-last_line a (status.Budget firings) = numbered "budget " firings
-last_line a status.OutOfMemory = codes "out of memory\n"
-last_line a (status.NotRun line why) =
-    (codes "not a run " ++ decimal line) ++ (codes " " ++ why_name why ++ line_feed)
+last_line a (status.Trapped inst action trap) = trap_line inst.0 action.0 trap
+last_line a (status.Stalled inst action link) = stall_line inst.0 action.0 link.0
+last_line a (status.Budget firings) = line (codes "budget") (decimal firings ∷ [])
+last_line a status.OutOfMemory = line (codes "out of memory") []
+last_line a (status.NotRun number why) = no_run_line number why
 last_line a (status.Uncertified inst state first second reason) =
-    (codes "uncertified " ++ two inst.0 state) ++ (codes " " ++ two first.0 second.0)
-    ++ (codes " " ++ reason_name reason ++ line_feed)
+    uncertified_line inst.0 state first.0 second.0 reason
 
 -- ---- the whole
 

@@ -1,25 +1,20 @@
 //! The last line of a report.
 
-ghost use Rattle.std.specs.Prelude.{◌≡◌, ◌++◌, true, codes};
-ghost use Rattle.rvc_base.specs.Refusal.{rule_text};
-ghost use Rattle.rvc_words.specs.Causes.{cause_name};
+ghost use Rattle.std.specs.Prelude.{◌≡◌, true};
 ghost use Rattle.run_report.specs.About.{about};
 ghost use Rattle.run_report.specs.Puts.{Puts};
-ghost use Rattle.run_report.specs.Report.{last_line, reason_name, refusal_line, two, usage_line, why_name};
+ghost use Rattle.run_report.specs.Report.{last_line, no_run_line, reason_name, refusal_line, stall_line, trap_line, uncertified_line, usage, usage_lines, why_name};
 
-use crate::puts::{REPORT_CHANNEL, put, put_between, put_line, put_number, put_numbered};
 use crate::names::{file_name, unread_name};
+use crate::puts::{REPORT_CHANNEL, put_line};
 use crate::status::Status;
 use crate::subject::Subject;
+use crate::words::Word;
 use determinacy_cert::Reason;
-use rvc_base::{Refusal, Rule};
+use rvc_base::{ActId, InstId, LinkId, Refusal, Trap};
 use rvc_io::{Drains, Failed};
 use rvc_words::UsageCause;
 use trace_replay::Why;
-
-/// How the program is used, behind the cause.
-const USAGE: &[u8] =
-    b"\nrvc VERB TOP [PORT=FILE ..] [--trace FILE] [--workers N] [--round P] [--burst N] [--budget N] [--grow N]\n";
 
 /// Puts the last line of a report, by how the command ended.
 pub(crate) fn put_last_line<D: Drains>(
@@ -32,95 +27,105 @@ pub(crate) fn put_last_line<D: Drains>(
         (D.channels drains.new) }
 {
     match status {
-        Status::Quiet => put(b"quiet\n", drains),
-        Status::Done => put(b"done\n", drains),
+        Status::Quiet => put_line(b"quiet", &[], drains),
+        Status::Done => put_line(b"done", &[], drains),
         Status::Usage(cause) => put_usage(*cause, drains),
         Status::ReadFault(at) => {
-            put_between(b"read fault ", unread_name(subject, *at), b"\n", drains)
+            put_line(b"read fault", &[Word::Text(unread_name(subject, *at))], drains)
         }
-        Status::WriteFault { channel } => put_line(b"write fault ", u64::from(*channel), drains),
+        Status::WriteFault { channel } => {
+            put_line(b"write fault", &[Word::Number(u64::from(*channel))], drains)
+        }
         Status::Refused(refusal) => put_refusal(refusal, subject, drains),
-        Status::Trapped { inst, action, trap } => {
-            put_two(b"trapped ", u64::from(inst.0), u64::from(action.0), drains)?;
-            put_between(b" ", trap.name().as_bytes(), b"\n", drains)
-        }
-        Status::Stalled { inst, action, link } => {
-            put_two(b"stalled ", u64::from(inst.0), u64::from(action.0), drains)?;
-            put_line(b" ", u64::from(link.0), drains)
-        }
-        Status::Budget { firings } => put_line(b"budget ", *firings, drains),
-        Status::OutOfMemory => put(b"out of memory\n", drains),
-        Status::NotRun { line, why } => {
-            put_numbered(b"not a run ", *line, drains)?;
-            put_between(b" ", why_name(*why).as_bytes(), b"\n", drains)
-        }
+        Status::Trapped { inst, action, trap } => put_trap(*inst, *action, *trap, drains),
+        Status::Stalled { inst, action, link } => put_stall(*inst, *action, *link, drains),
+        Status::Budget { firings } => put_line(b"budget", &[Word::Number(*firings)], drains),
+        Status::OutOfMemory => put_line(b"out of memory", &[], drains),
+        Status::NotRun { line, why } => put_no_run(*line, *why, drains),
         Status::Uncertified { inst, state, a, b, reason } => {
-            put_two(b"uncertified ", u64::from(inst.0), u64::from(*state), drains)?;
-            put_two(b" ", u64::from(a.0), u64::from(b.0), drains)?;
-            put_between(b" ", reason_name(*reason).as_bytes(), b"\n", drains)
+            put_uncertified(*inst, *state, *a, *b, *reason, drains)
         }
     }
 }
 
-/// Puts a text, and two numbers with a blank between them.
-fn put_two<D: Drains>(before: &[u8], a: u64, b: u64, drains: &mut D) -> Result<(), Failed>
-    requires { (D.channels drains.old).is_open REPORT_CHANNEL ≡ true }
-    ensures { Puts result (before.now ++ two a b) (D.channels drains.old) (D.channels drains.new) }
-{
-    put(before, drains)?;
-    put_pair(a, b, drains)
-}
-
-/// Puts two numbers with a blank between them.
-fn put_pair<D: Drains>(a: u64, b: u64, drains: &mut D) -> Result<(), Failed>
-    requires { (D.channels drains.old).is_open REPORT_CHANNEL ≡ true }
-    ensures { Puts result (two a b) (D.channels drains.old) (D.channels drains.new) }
-{
-    put_number(a, drains)?;
-    put_numbered(b" ", b, drains)
-}
-
-/// Puts the cause why words are no job, and how the program is used.
+/// Puts the cause why words aren't a job, and how the program is used.
 fn put_usage<D: Drains>(cause: UsageCause, drains: &mut D) -> Result<(), Failed>
     requires { (D.channels drains.old).is_open REPORT_CHANNEL ≡ true }
-    ensures { Puts result (codes "usage " ++ cause_name cause ++ usage_line) (D.channels drains.old)
-        (D.channels drains.new) }
+    ensures { Puts result (usage_lines cause) (D.channels drains.old) (D.channels drains.new) }
 {
-    put_between(b"usage ", cause.name().as_bytes(), USAGE, drains)
+    put_line(b"usage", &[Word::Text(cause.name().as_bytes())], drains)?;
+    put_line(usage(), &[], drains)
 }
 
 /// Puts which rule is broken, in which file, and where.
-fn put_refusal<D: Drains>(
-    refusal: &Refusal,
-    subject: &Subject<'_>,
-    drains: &mut D,
-) -> Result<(), Failed>
+fn put_refusal<D: Drains>(refusal: &Refusal, subject: &Subject<'_>, drains: &mut D) -> Result<(), Failed>
     requires { (D.channels drains.old).is_open REPORT_CHANNEL ≡ true }
-    ensures { Puts result (refusal_line (about subject.now) refusal.now) (D.channels drains.old)
-        (D.channels drains.new) }
+    ensures { Puts result (refusal_line (about subject.now) refusal.now) (D.channels drains.old) (D.channels drains.new) }
 {
-    put_rule(refusal.rule, drains)?;
-    put_between(b" ", file_name(subject, refusal.place.file), b" ", drains)?;
-    put_line(b"", u64::from(refusal.place.offset), drains)
+    let words = [
+        Word::OfRule(refusal.rule),
+        Word::Text(file_name(subject, refusal.place.file)),
+        Word::Number(u64::from(refusal.place.offset)),
+    ];
+    put_line(b"refused", &words, drains)
 }
 
-/// Puts that a rule is broken.
-fn put_rule<D: Drains>(rule: Rule, drains: &mut D) -> Result<(), Failed>
+/// Puts which firing trapped.
+fn put_trap<D: Drains>(inst: InstId, action: ActId, trap: Trap, drains: &mut D) -> Result<(), Failed>
     requires { (D.channels drains.old).is_open REPORT_CHANNEL ≡ true }
-    ensures { Puts result (codes "refused " ++ rule_text rule) (D.channels drains.old)
-        (D.channels drains.new) }
+    ensures { Puts result (trap_line inst.0 action.0 trap) (D.channels drains.old) (D.channels drains.new) }
 {
-    put(b"refused ", drains)?;
-    put_rule_text(rule, drains)
+    let words = [
+        Word::Number(u64::from(inst.0)),
+        Word::Number(u64::from(action.0)),
+        Word::Text(trap.name().as_bytes()),
+    ];
+    put_line(b"trapped", &words, drains)
 }
 
-/// Puts the name of a rule.
-fn put_rule_text<D: Drains>(rule: Rule, drains: &mut D) -> Result<(), Failed>
+/// Puts which action lacks room, and on which link.
+fn put_stall<D: Drains>(inst: InstId, action: ActId, link: LinkId, drains: &mut D) -> Result<(), Failed>
     requires { (D.channels drains.old).is_open REPORT_CHANNEL ≡ true }
-    ensures { Puts result (rule_text rule) (D.channels drains.old) (D.channels drains.new) }
+    ensures { Puts result (stall_line inst.0 action.0 link.0) (D.channels drains.old) (D.channels drains.new) }
 {
-    put(rule.letter().as_bytes(), drains)?;
-    put_number(u64::from(rule.number()), drains)
+    let words = [
+        Word::Number(u64::from(inst.0)),
+        Word::Number(u64::from(action.0)),
+        Word::Number(u64::from(link.0)),
+    ];
+    put_line(b"stalled", &words, drains)
+}
+
+/// Puts which line is in no run, and why.
+fn put_no_run<D: Drains>(number: u64, why: Why, drains: &mut D) -> Result<(), Failed>
+    requires { (D.channels drains.old).is_open REPORT_CHANNEL ≡ true }
+    ensures { Puts result (no_run_line number why) (D.channels drains.old) (D.channels drains.new) }
+{
+    let words = [Word::Number(number), Word::Text(why_name(why).as_bytes())];
+    put_line(b"not a run", &words, drains)
+}
+
+/// Puts for which two actions in which state of an instance the rule of certification fails.
+fn put_uncertified<D: Drains>(inst: InstId, state: u16, a: ActId, b: ActId, reason: Reason, drains: &mut D) -> Result<(), Failed>
+    requires { (D.channels drains.old).is_open REPORT_CHANNEL ≡ true }
+    ensures { Puts result (uncertified_line inst.0 state a.0 b.0 reason) (D.channels drains.old) (D.channels drains.new) }
+{
+    let words = [
+        Word::Number(u64::from(inst.0)),
+        Word::Number(u64::from(state)),
+        Word::Number(u64::from(a.0)),
+        Word::Number(u64::from(b.0)),
+        Word::Text(reason_name(reason).as_bytes()),
+    ];
+    put_line(b"uncertified", &words, drains)
+}
+
+/// How the program is used.
+#[tactic(auto, unfolding(crate::specs::Report::usage))]
+fn usage() -> &'static [u8]
+    ensures { result.now ≡ usage }
+{
+    b"rvc VERB TOP [PORT=FILE ..] [--trace FILE] [--workers N] [--round P] [--burst N] [--budget N] [--grow N]"
 }
 
 /// The name of why a line is in no run.
@@ -140,7 +145,7 @@ fn why_name(why: Why) -> &'static str
     }
 }
 
-/// The name of what isn't certified.
+/// The name of what an actor lacks that isn't certified.
 fn reason_name(reason: Reason) -> &'static str
     ensures { result.now ≡ reason_name reason }
 {

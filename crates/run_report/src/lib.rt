@@ -16,6 +16,7 @@ mod puts;
 mod reports;
 mod status;
 mod subject;
+mod words;
 
 pub use puts::REPORT_CHANNEL;
 pub use reports::{report_certify, report_check, report_end, report_run};

@@ -1,13 +1,14 @@
 //! The lines of verbs.
 
-ghost use Rattle.std.specs.Prelude.{◌≡◌, ◌++◌, ℕ, true, [], slice_index_or, string_bytes};
+ghost use Rattle.std.specs.Prelude.{◌≡◌, ◌++◌, true, [], slice_index_or, string_bytes};
 ghost use Rattle.port_words.specs.Matching.{names_of};
 ghost use Rattle.run_report.specs.Puts.{Puts};
 ghost use Rattle.run_report.specs.About.{about};
 ghost use Rattle.run_report.specs.Report.{certified_line, certified_lines, count_lines, in_line, in_lines, in_lines_at, out_line, out_lines, run_lines, size_lines};
 
-use crate::puts::{REPORT_CHANNEL, put_between, put_line, put_number, put_numbered};
+use crate::puts::{REPORT_CHANNEL, put_line};
 use crate::subject::Subject;
+use crate::words::Word;
 use net_model::{Counts, End, Link, Port};
 use rvc_io::{Drains, Failed};
 
@@ -23,9 +24,37 @@ pub(crate) fn put_run_lines<D: Drains>(
     ensures { Puts result (run_lines (about subject.now) certified counts.now)
         (D.channels drains.old) (D.channels drains.new) }
 {
+    put_numbers(subject, certified, counts, drains)?;
+    put_ports(subject, counts, drains)
+}
+
+/// Puts the numbers of the network and of the run.
+fn put_numbers<D: Drains>(
+    subject: &Subject<'_>,
+    certified: Option<u64>,
+    counts: &Counts,
+    drains: &mut D,
+) -> Result<(), Failed>
+    requires { (D.channels drains.old).is_open REPORT_CHANNEL ≡ true }
+    ensures { Puts result (size_lines (about subject.now) ++ certified_lines certified
+        ++ count_lines counts.now) (D.channels drains.old) (D.channels drains.new) }
+{
     put_size(subject, drains)?;
     put_certified_if(certified, drains)?;
-    put_counts(counts, drains)?;
+    put_counts(counts, drains)
+}
+
+/// Puts the lines of input links and of outputs.
+fn put_ports<D: Drains>(
+    subject: &Subject<'_>,
+    counts: &Counts,
+    drains: &mut D,
+) -> Result<(), Failed>
+    requires { (D.channels drains.old).is_open REPORT_CHANNEL ≡ true }
+    ensures { Puts result (in_lines 0 subject.now.links.now (names_of subject.now.ins.now) counts.now
+        ++ out_lines 0 (names_of subject.now.outs.now) counts.now)
+        (D.channels drains.old) (D.channels drains.new) }
+{
     put_inputs(subject.links, subject.ins, counts, drains)?;
     put_outputs(subject.outs, counts, drains)
 }
@@ -36,8 +65,8 @@ pub(crate) fn put_size<D: Drains>(subject: &Subject<'_>, drains: &mut D) -> Resu
     ensures { Puts result (size_lines (about subject.now)) (D.channels drains.old)
         (D.channels drains.new) }
 {
-    put_line(b"instances ", subject.instances, drains)?;
-    put_line(b"links ", subject.links.len() as u64, drains)
+    put_line(b"instances", &[Word::Number(subject.instances)], drains)?;
+    put_line(b"links", &[Word::Number(subject.links.len() as u64)], drains)
 }
 
 /// Puts how many instances are certified.
@@ -46,7 +75,7 @@ pub(crate) fn put_certified<D: Drains>(certified: u64, drains: &mut D) -> Result
     ensures { Puts result (certified_line certified) (D.channels drains.old)
         (D.channels drains.new) }
 {
-    put_line(b"certified ", certified, drains)
+    put_line(b"certified", &[Word::Number(certified)], drains)
 }
 
 /// Puts how many instances are certified, if that is known.
@@ -67,8 +96,8 @@ fn put_counts<D: Drains>(counts: &Counts, drains: &mut D) -> Result<(), Failed>
     ensures { Puts result (count_lines counts.now) (D.channels drains.old)
         (D.channels drains.new) }
 {
-    put_line(b"firings ", counts.firings, drains)?;
-    put_line(b"rounds ", counts.rounds, drains)
+    put_line(b"firings", &[Word::Number(counts.firings)], drains)?;
+    put_line(b"rounds", &[Word::Number(counts.rounds)], drains)
 }
 
 /// Puts the lines of input links.
@@ -108,13 +137,33 @@ fn put_link<D: Drains>(
         End::Leaf { inst: _, port: _ } => Ok(()),
         End::Net { port } => {
             let arrived = number_at(counts.arrived.as_slice(), number);
-            let rest = u64::from(rest_at(counts.rests.as_slice(), number));
-            put_between(b"in ", name_at(ins, port as usize), b" ", drains)?;
-            put_number(number as u64, drains)?;
-            put_numbered(b" tokens ", arrived, drains)?;
-            put_line(b" rest ", rest, drains)
+            let rest = rest_at(counts.rests.as_slice(), number);
+            put_input(name_at(ins, port as usize), number, arrived, rest, drains)
         }
     }
+}
+
+/// Puts the line of an input link.
+fn put_input<D: Drains>(
+    name: &[u8],
+    number: usize,
+    arrived: u64,
+    rest: u8,
+    drains: &mut D,
+) -> Result<(), Failed>
+    requires { (D.channels drains.old).is_open REPORT_CHANNEL ≡ true }
+    ensures { Puts result (in_line name.now number arrived rest) (D.channels drains.old)
+        (D.channels drains.new) }
+{
+    let words = [
+        Word::Text(name),
+        Word::Number(number as u64),
+        Word::Text(b"tokens"),
+        Word::Number(arrived),
+        Word::Text(b"rest"),
+        Word::Number(rest as u64),
+    ];
+    put_line(b"in", &words, drains)
 }
 
 /// Puts the lines of outputs.
@@ -139,8 +188,12 @@ fn put_output<D: Drains>(port: &Port, sent: u64, drains: &mut D) -> Result<(), F
     ensures { Puts result (out_line (string_bytes port.now.name) sent) (D.channels drains.old)
         (D.channels drains.new) }
 {
-    put_between(b"out ", port.name.as_bytes(), b" tokens ", drains)?;
-    put_line(b"", sent, drains)
+    let words = [
+        Word::Text(port.name.as_bytes()),
+        Word::Text(b"tokens"),
+        Word::Number(sent),
+    ];
+    put_line(b"out", &words, drains)
 }
 
 /// The name of the port at a place, or nothing.

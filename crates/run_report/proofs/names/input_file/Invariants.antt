@@ -6,9 +6,9 @@ use Rattle.run_report.specs.About.{file_opened}
 use Rattle.run_report.proofs.names.input_file.Given as goal
 
 abbrev pub invariant-links : goal.invariant-links
-invariant-links g l = (l.number ≤ l.feed)
+invariant-links l = (l.number ≤ l.feed)
     × (file_opened l.feed (feeds_of l.initial.rest (names_of l.ins) (map port_text l.words))
     ≡ file_opened l.feed (feeds_from l.number l.rest (names_of l.ins) (map port_text l.words)))
 
 abbrev pub decreases-links : goal.decreases-links
-decreases-links g l = length l.rest
+decreases-links l = length l.rest
