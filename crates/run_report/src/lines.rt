@@ -175,23 +175,29 @@ fn put_outputs<D: Drains>(outs: &[Port], counts: &Counts, drains: &mut D) -> Res
     let mut number = 0;
     let mut rest = outs;
     'outs: while let Some((port, others)) = rest.split_first() {
-        put_output(port, number_at(counts.sent.as_slice(), number), drains)?;
+        put_output(port, number, counts, drains)?;
         number += 1;
         rest = others;
     }
     Ok(())
 }
 
-/// Puts the line of an output, to which so many tokens were sent.
-fn put_output<D: Drains>(port: &Port, sent: u64, drains: &mut D) -> Result<(), Failed>
+/// Puts the line of an output, which has this number.
+fn put_output<D: Drains>(
+    port: &Port,
+    number: usize,
+    counts: &Counts,
+    drains: &mut D,
+) -> Result<(), Failed>
     requires { (D.channels drains.old).is_open REPORT_CHANNEL ≡ true }
-    ensures { Puts result (out_line (string_bytes port.now.name) sent) (D.channels drains.old)
+    ensures { Puts result (out_line (string_bytes port.now.name)
+        (slice_index_or counts.now.sent.items number 0)) (D.channels drains.old)
         (D.channels drains.new) }
 {
     let words = [
         Word::Text(port.name.as_bytes()),
         Word::Text(b"tokens"),
-        Word::Number(sent),
+        Word::Number(number_at(counts.sent.as_slice(), number)),
     ];
     put_line(b"out", &words, drains)
 }
