@@ -1,6 +1,6 @@
 -- What is put on the channel of the report, which is channel 0.
 -- Trusted: part of what a promise means.
-use Rattle.std.specs.Prelude.{◌≡◌, Bool, true, List, ℕ, ◌++◌}
+use Rattle.std.specs.Prelude.{List, ℕ}
 use Rattle.std.specs.declared.result.Result.{Result}
 use Rattle.std.specs.declared.result.Result.TheVariants.{Ok, Err}
 use Rattle.channel_writer.specs.Held.{AppendsFront}

@@ -31,7 +31,11 @@ pub(crate) fn put_last_line<D: Drains>(
         Status::Done => put_line(b"done", &[], drains),
         Status::Usage(cause) => put_usage(*cause, drains),
         Status::ReadFault(at) => {
-            put_line(b"read fault", &[Word::Text(unread_name(subject, *at))], drains)
+            put_line(
+                b"read fault",
+                &[Word::Text(unread_name(subject, *at))],
+                drains,
+            )
         }
         Status::WriteFault { channel } => {
             put_line(b"write fault", &[Word::Number(u64::from(*channel))], drains)
@@ -42,9 +46,13 @@ pub(crate) fn put_last_line<D: Drains>(
         Status::Budget { firings } => put_line(b"budget", &[Word::Number(*firings)], drains),
         Status::OutOfMemory => put_line(b"out of memory", &[], drains),
         Status::NotRun { line, why } => put_no_run(*line, *why, drains),
-        Status::Uncertified { inst, state, a, b, reason } => {
-            put_uncertified(*inst, *state, *a, *b, *reason, drains)
-        }
+        Status::Uncertified {
+            inst,
+            state,
+            a,
+            b,
+            reason,
+        } => { put_uncertified(*inst, *state, *a, *b, *reason, drains) }
     }
 }
 
@@ -58,7 +66,11 @@ fn put_usage<D: Drains>(cause: UsageCause, drains: &mut D) -> Result<(), Failed>
 }
 
 /// Puts which rule is broken, in which file, and where.
-fn put_refusal<D: Drains>(refusal: &Refusal, subject: &Subject<'_>, drains: &mut D) -> Result<(), Failed>
+fn put_refusal<D: Drains>(
+    refusal: &Refusal,
+    subject: &Subject<'_>,
+    drains: &mut D,
+) -> Result<(), Failed>
     requires { (D.channels drains.old).is_open REPORT_CHANNEL ≡ true }
     ensures { Puts result (refusal_line (about subject.now) refusal.now) (D.channels drains.old) (D.channels drains.new) }
 {
@@ -71,7 +83,12 @@ fn put_refusal<D: Drains>(refusal: &Refusal, subject: &Subject<'_>, drains: &mut
 }
 
 /// Puts which firing trapped.
-fn put_trap<D: Drains>(inst: InstId, action: ActId, trap: Trap, drains: &mut D) -> Result<(), Failed>
+fn put_trap<D: Drains>(
+    inst: InstId,
+    action: ActId,
+    trap: Trap,
+    drains: &mut D,
+) -> Result<(), Failed>
     requires { (D.channels drains.old).is_open REPORT_CHANNEL ≡ true }
     ensures { Puts result (trap_line inst.0 action.0 trap) (D.channels drains.old) (D.channels drains.new) }
 {
@@ -84,7 +101,12 @@ fn put_trap<D: Drains>(inst: InstId, action: ActId, trap: Trap, drains: &mut D) 
 }
 
 /// Puts which action lacks room, and on which link.
-fn put_stall<D: Drains>(inst: InstId, action: ActId, link: LinkId, drains: &mut D) -> Result<(), Failed>
+fn put_stall<D: Drains>(
+    inst: InstId,
+    action: ActId,
+    link: LinkId,
+    drains: &mut D,
+) -> Result<(), Failed>
     requires { (D.channels drains.old).is_open REPORT_CHANNEL ≡ true }
     ensures { Puts result (stall_line inst.0 action.0 link.0) (D.channels drains.old) (D.channels drains.new) }
 {
@@ -106,7 +128,14 @@ fn put_no_run<D: Drains>(number: u64, why: Why, drains: &mut D) -> Result<(), Fa
 }
 
 /// Puts for which two actions in which state of an instance the rule of certification fails.
-fn put_uncertified<D: Drains>(inst: InstId, state: u16, a: ActId, b: ActId, reason: Reason, drains: &mut D) -> Result<(), Failed>
+fn put_uncertified<D: Drains>(
+    inst: InstId,
+    state: u16,
+    a: ActId,
+    b: ActId,
+    reason: Reason,
+    drains: &mut D,
+) -> Result<(), Failed>
     requires { (D.channels drains.old).is_open REPORT_CHANNEL ≡ true }
     ensures { Puts result (uncertified_line inst.0 state a.0 b.0 reason) (D.channels drains.old) (D.channels drains.new) }
 {

@@ -66,7 +66,11 @@ pub(crate) fn put_size<D: Drains>(subject: &Subject<'_>, drains: &mut D) -> Resu
         (D.channels drains.new) }
 {
     put_line(b"instances", &[Word::Number(subject.instances)], drains)?;
-    put_line(b"links", &[Word::Number(subject.links.len() as u64)], drains)
+    put_line(
+        b"links",
+        &[Word::Number(subject.links.len() as u64)],
+        drains,
+    )
 }
 
 /// Puts how many instances are certified.

@@ -27,21 +27,42 @@ pub enum Status {
     /// A file or a feed couldn't be read.
     ReadFault(ReadAt),
     /// A channel couldn't be written.
-    WriteFault { channel: u32 },
+    WriteFault {
+        channel: u32,
+    },
     /// A rule is broken at a place.
     Refused(Refusal),
     /// A firing trapped.
-    Trapped { inst: InstId, action: ActId, trap: Trap },
+    Trapped {
+        inst: InstId,
+        action: ActId,
+        trap: Trap,
+    },
     /// Each instance waits or lacks room, and this is the lowest that lacks it, on this link.
-    Stalled { inst: InstId, action: ActId, link: LinkId },
+    Stalled {
+        inst: InstId,
+        action: ActId,
+        link: LinkId,
+    },
     /// The run made all the firings of its budget, and there is more to do.
-    Budget { firings: u64 },
+    Budget {
+        firings: u64,
+    },
     /// Out of memory, before the run began.
     OutOfMemory,
     /// A trace isn't one of a run: this is the first line that no run has.
-    NotRun { line: u64, why: Why },
+    NotRun {
+        line: u64,
+        why: Why,
+    },
     /// An instance isn't certified: in this state, these two actions are the first that fail the rule.
-    Uncertified { inst: InstId, state: u16, a: ActId, b: ActId, reason: Reason },
+    Uncertified {
+        inst: InstId,
+        state: u16,
+        a: ActId,
+        b: ActId,
+        reason: Reason,
+    },
 }
 
 impl Status {
@@ -55,12 +76,26 @@ impl Status {
             Status::ReadFault(_) => 2,
             Status::WriteFault { channel: _ } => 3,
             Status::Refused(_) => 4,
-            Status::Trapped { inst: _, action: _, trap: _ } => 5,
-            Status::Stalled { inst: _, action: _, link: _ } => 6,
+            Status::Trapped {
+                inst: _,
+                action: _,
+                trap: _,
+            } => 5,
+            Status::Stalled {
+                inst: _,
+                action: _,
+                link: _,
+            } => 6,
             Status::Budget { firings: _ } => 7,
             Status::OutOfMemory => 8,
             Status::NotRun { line: _, why: _ } => 9,
-            Status::Uncertified { inst: _, state: _, a: _, b: _, reason: _ } => 10,
+            Status::Uncertified {
+                inst: _,
+                state: _,
+                a: _,
+                b: _,
+                reason: _,
+            } => 10,
         }
     }
 
@@ -71,10 +106,24 @@ impl Status {
         match self {
             Status::Quiet
             | Status::Done
-            | Status::Trapped { inst: _, action: _, trap: _ }
-            | Status::Stalled { inst: _, action: _, link: _ }
+            | Status::Trapped {
+                inst: _,
+                action: _,
+                trap: _,
+            }
+            | Status::Stalled {
+                inst: _,
+                action: _,
+                link: _,
+            }
             | Status::Budget { firings: _ }
-            | Status::Uncertified { inst: _, state: _, a: _, b: _, reason: _ } => true,
+            | Status::Uncertified {
+                inst: _,
+                state: _,
+                a: _,
+                b: _,
+                reason: _,
+            } => true,
             Status::Usage(_)
             | Status::ReadFault(_)
             | Status::WriteFault { channel: _ }

@@ -15,6 +15,6 @@ returns-then-number-feed c =
     let others = c.in-Some.others.now in
     let same : c.links.number ≡ c.args.feed = search rules in
     let here : file_opened c.args.feed (behind from c.links.number others ins words) ≡ unwrap_or (file_at (slice_get ins c.in-Net.port) words) [] =
-        subst (λ k. file_opened k (behind from c.links.number others ins words) ≡ unwrap_or (file_at (slice_get ins c.in-Net.port) words) []) same
-        (found c.links.number c.in-Net.port from others ins words c.in-Net.is) in
+    subst (λ k. file_opened k (behind from c.links.number others ins words) ≡ unwrap_or (file_at (slice_get ins c.in-Net.port) words) []) same
+    (found c.links.number c.in-Net.port from others ins words c.in-Net.is) in
     c.file_at.ensures ∙ sym (c.links.invariant.1 ∙ ap (λ ls. file_opened c.args.feed (feeds_from c.links.number ls ins words)) c.in-Some.ensures.cases.0 ∙ here)

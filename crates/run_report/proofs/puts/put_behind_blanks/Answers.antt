@@ -1,5 +1,4 @@
-use Rattle.std.proofs.Common.{◌+◌, ◌++◌, drop, map}
-use Rattle.std.specs.Prelude.{codes}
+use Rattle.std.proofs.Common.{◌+◌, drop, map}
 use Rattle.run_report.specs.Line.{behind_blanks, word_text}
 use Rattle.run_report.proofs.Chain.{breaks_off, goes_on}
 use Rattle.run_report.proofs.NextWord.{next_word}
