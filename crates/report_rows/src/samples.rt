@@ -232,10 +232,13 @@ fn counts(alloc: Global, sample: &Sample) -> Result<Counts, Memory> {
 }
 
 /// The parts of a sample, whose inputs have the files `a` and `b`, or `in` for the one input, and two files by number.
-pub(crate) fn parts(alloc: Global, sample: &Sample) -> Result<Parts, Memory> {
+pub(crate) fn parts_of(alloc: Global, sample: &Sample) -> Result<Parts, Memory> {
     Ok(Parts {
         files: texts(alloc, &["Amb.cal", "p/Lib.cal"])?,
-        words: words(alloc, &[("Out", "out"), ("B", "b"), ("In", "in"), ("A", "a")])?,
+        words: words(
+            alloc,
+            &[("Out", "out"), ("B", "b"), ("In", "in"), ("A", "a")],
+        )?,
         links: links(alloc, sample.links)?,
         ins: ports(alloc, sample.ins)?,
         outs: ports(alloc, sample.outs)?,
