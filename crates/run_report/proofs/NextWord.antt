@@ -3,7 +3,8 @@ use Rattle.std.proofs.Common.{◌≡◌, ℕ, suc, ◌+◌, ◌<◌, List, ◌�
 use Rattle.std.specs.Prelude.{codes}
 use Rattle.std.proofs.Math.ListN.{get_or}
 use Rattle.std.proofs.Math.Seq.{drop-cons}
-use Rattle.run_report.specs.Line.{behind_blanks, word_text}
+use Rattle.run_report.specs.Line.{behind_blanks}
+use Rattle.run_report.specs.WordText.{word_text}
 use Rattle.run_report.specs.declared.words.Word.{Word}
 
 -- the words from a place on are the one at the place and those behind it

@@ -4,3 +4,4 @@ pub mod Line
 pub mod Report
 pub mod Puts
 pub mod Steps
+pub mod WordText

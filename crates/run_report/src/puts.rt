@@ -2,7 +2,8 @@
 
 ghost use Rattle.std.specs.Prelude.{◌≡◌, ◌++◌, true, decimal, map};
 ghost use Rattle.rvc_base.specs.Refusal.{rule_text};
-ghost use Rattle.run_report.specs.Line.{behind_blanks, line, word_text};
+ghost use Rattle.run_report.specs.Line.{behind_blanks, line};
+ghost use Rattle.run_report.specs.WordText.{word_text};
 ghost use Rattle.run_report.specs.Puts.{Puts};
 
 use crate::words::Word;

@@ -1,5 +1,6 @@
 use Rattle.std.proofs.Common.{drop, map}
-use Rattle.run_report.specs.Line.{behind_blanks, word_text}
+use Rattle.run_report.specs.Line.{behind_blanks}
+use Rattle.run_report.specs.WordText.{word_text}
 use Rattle.run_report.specs.Steps.{PutsSoFar}
 use Rattle.run_report.proofs.puts.put_behind_blanks.Given as goal
 
