@@ -1,0 +1,58 @@
+-- Why files mean no network, from what a step of their check answers.
+use Rattle.std.proofs.Common.{◌≡◌, ℕ, true, false, inl, inr, List, map, Option, None, Some, refl, sym, subst}
+use Rattle.std.specs.Prelude.{is_some}
+use Rattle.rvc_base.specs.declared.refusal.Front.{Front}
+use Rattle.rvc_base.specs.declared.refusal.Front.TheVariants as front
+use Rattle.cal_imports.specs.Resolved.{resolved}
+use Rattle.cal_imports.specs.ScopeView as scopes
+use Rattle.cal_imports.specs.Sources.{source_named}
+use Rattle.fnl_bind.specs.Answers as binding
+use Rattle.fnl_bind.specs.Library.{Entry, network_of}
+use Rattle.fnl_flatten.specs.Flattened.{IsRefusal}
+use Rattle.fnl_tree.specs.Tree.{Leaf, Tree}
+use Rattle.leaf_actors.specs.Leaves as leaves
+use Rattle.leaf_actors.specs.Leaves.{actors_at_leaves}
+use Rattle.leaf_actors.specs.declared.found.LeafActors.{LeafActors}
+use Rattle.source_network.specs.Actors.{head_of}
+use Rattle.source_network.specs.Source.{Files}
+use Rattle.rvc_engine.specs.Refused.{AreLeavesIn, Breaks, in_leaves, in_links, in_networks, in_scope}
+use Rattle.rvc_engine.specs.Steps.{IsPeopled, IsWhy}
+
+-- ---- what is there
+
+pub record IsThere {A : Type 0} (o : Option A) : Type 0 where
+  pub value : A
+  pub is : o ≡ Some value
+
+pub there : {A : Type 0} (o : Option A) → is_some o ≡ true → IsThere o
+there None h = absurd cc
+there (Some x) h = record { value = x; is = refl }
+
+pub not_there : {A : Type 0} (o : Option A) → is_some o ≡ false → o ≡ None
+not_there None h = refl
+not_there (Some x) h = absurd cc
+
+-- ---- causes
+
+pub why_networks : (files : Files) (class : List ℕ) (f : Front) → is_some (network_of class files.networks) ≡ true
+    → binding.IsRefused files.networks class f → IsWhy files class f
+why_networks files class (front.Refused r) is h =
+    let top : IsThere (network_of class files.networks) = there (network_of class files.networks) is in
+    in_networks {top = top.value} top.is h
+why_networks files class front.Memory is h = tt
+
+pub why_scope : (files : Files) (class : List ℕ) (f : Front) → network_of class files.networks ≡ None
+    → scopes.IsRefused f (resolved files.sources class) → IsWhy files class f
+why_scope files class (front.Refused r) none h = in_scope none h
+why_scope files class front.Memory none h = tt
+
+pub why_leaves : (files : Files) (class : List ℕ) (all : List Leaf) (f : Front) → AreLeavesIn files class all
+    → leaves.IsFault files.sources all f → IsWhy files class f
+why_leaves files class all (front.Refused r) are h = in_leaves {all = all} are h
+why_leaves files class all front.Memory are h = tt
+
+pub why_links : (files : Files) (class : List ℕ) (tree : Tree) (found : LeafActors) (f : Front) → IsPeopled files class tree found
+    → IsRefusal tree (map head_of (actors_at_leaves found)) f → IsWhy files class f
+why_links files class tree found (front.Refused r) is h =
+    in_links {tree = tree} {actors = actors_at_leaves found} is.is_tree is.are_actors h
+why_links files class tree found front.Memory is h = tt

@@ -1,0 +1,9 @@
+mod Tops
+mod Places
+mod Joining
+mod OneNet
+mod Causes
+mod OneOrder
+mod Kept
+mod Ready
+mod Ended
