@@ -7,16 +7,21 @@ use Rattle.cal_imports.specs.Resolved.{resolved}
 use Rattle.cal_imports.specs.ScopeView as scopes
 use Rattle.cal_imports.specs.Sources.{source_named}
 use Rattle.fnl_bind.specs.Answers as binding
+use Rattle.fnl_bind.specs.Answers.{IsBound}
 use Rattle.fnl_bind.specs.Library.{Entry, network_of}
 use Rattle.fnl_flatten.specs.Flattened.{IsRefusal}
+use Rattle.fnl_tree.specs.Sound.{IsSound}
 use Rattle.fnl_tree.specs.Tree.{Leaf, Tree}
+use Rattle.fnl_tree.specs.View.{tree_of}
+use Rattle.fnl_tree.specs.declared.tree.Tree.{Tree as DeclaredTree}
 use Rattle.leaf_actors.specs.Leaves as leaves
 use Rattle.leaf_actors.specs.Leaves.{actors_at_leaves}
 use Rattle.leaf_actors.specs.declared.found.LeafActors.{LeafActors}
 use Rattle.source_network.specs.Actors.{head_of}
+use Rattle.source_network.specs.Answers.{BoundAreTrees}
 use Rattle.source_network.specs.Source.{Files}
 use Rattle.rvc_engine.specs.Refused.{AreLeavesIn, Breaks, in_leaves, in_links, in_networks, in_scope}
-use Rattle.rvc_engine.specs.Steps.{IsPeopled, IsWhy}
+use Rattle.rvc_engine.specs.Steps.{AreReady, HaveFiles, IsBare, IsPeopled, IsWhy}
 
 -- ---- what is there
 
@@ -54,5 +59,21 @@ why_leaves files class all front.Memory are h = tt
 pub why_links : (files : Files) (class : List ℕ) (tree : Tree) (found : LeafActors) (f : Front) → IsPeopled files class tree found
     → IsRefusal tree (map head_of (actors_at_leaves found)) f → IsWhy files class f
 why_links files class tree found (front.Refused r) is h =
-    in_links {tree = tree} {actors = actors_at_leaves found} is.is_tree is.are_actors h
+    in_links {tree = tree} (actors_at_leaves found) is.is_tree is.are_actors h
 why_links files class tree found front.Memory is h = tt
+
+-- ---- the tree of a network
+
+pub bare_net : (files : Files) (class : List ℕ) (tree : DeclaredTree) → BoundAreTrees → AreReady files class
+    → is_some (network_of class files.networks) ≡ true → IsBound files.networks class tree → IsSound (tree_of tree)
+    → IsBare files class (tree_of tree)
+bare_net files class tree trees ready is bound_is sound =
+    let top : IsThere (network_of class files.networks) = there (network_of class files.networks) is in
+    record {
+      is_tree = trees files class top.value tree top.is bound_is;
+      sound_tree = sound;
+      leaves = subst (λ t. AreLeavesIn files class t.leaves) (sym bound_is.is) (AreLeavesIn.of_network {top = top.value} top.is bound_is.conforms);
+      have_files = subst (λ t. HaveFiles files.sources t.leaves) (sym bound_is.is) ready.have_files;
+      differ = ready.differ;
+      formed = ready.formed;
+    }

@@ -45,17 +45,6 @@ broken_fault library top class misses faults files names (front.Refused r) said 
 broken_fault library top class misses faults files names front.Memory said same is h why =
     subst (IsFault library top misses faults names) (sym is) tt
 
--- ---- of files that weren't
-
-pub load_fault : (library : Library) (top : Asked) (misses faults : Counts) (names : List (List ℕ)) (f : LoadFault) (said : BuildFault)
-    → said ≡ of_load f → loading.IsFault library top misses faults names f → IsFault library top misses faults names said
-load_fault library top misses faults names (load.Refused r) said is h =
-    subst (IsFault library top misses faults names) (sym is) (λ tells. in_files (h tells))
-load_fault library top misses faults names (load.ReadFault file) said is h =
-    subst (IsFault library top misses faults names) (sym is) h
-load_fault library top misses faults names load.Memory said is h =
-    subst (IsFault library top misses faults names) (sym is) tt
-
 -- ---- what a library that tells of each name decides
 
 -- what was checked is the library's network

@@ -128,11 +128,11 @@ networks_break_nothing one files class net r s (in_scope h k) = scope_is_given f
 networks_break_nothing one files class net r s (in_leaves {all = all} are k) =
     let same : s.tree.leaves ≡ k.before ++ k.leaf ∷ k.behind = sym (leaves_are_one files class all s.tree are s.is_tree) ∙ k.parts in
     k.no_actor (has_actor files k.before k.leaf k.behind s.actors net.leaves (subst (λ ls. AreActors files ls s.actors net.leaves) same s.are_actors))
-networks_break_nothing one files class net r s (in_links {tree = tree} {actors = actors} is are k) =
+networks_break_nothing one files class net r s (in_links {tree = tree} actors is are k) =
     let same : tree ≡ s.tree = tree_is_one one files class tree s.tree is s.is_tree in
     let list : actors ≡ s.actors = actors_are_one one files s.tree.leaves actors s.actors net.leaves (subst (λ t. AreActorsOf files.sources t.leaves actors) same are) s.are_actors in
     not_refused s.tree (map head_of s.actors) net r s.flat
-    (subst (λ as. IsRefusal s.tree (map head_of as) (front.Refused r)) list (subst (λ t. IsRefusal t (map head_of actors) (front.Refused r)) same k))
+    (subst (λ those. IsRefusal s.tree (map head_of those) (front.Refused r)) list (subst (λ t. IsRefusal t (map head_of actors) (front.Refused r)) same k))
 
 pub networks_are_not_refused : ActorsAreOne → FilesAreOne → LoadedIsNotRefused → NetworksAreNotRefused
 networks_are_not_refused one files loaded library top net misses names r tells is (in_files h) =

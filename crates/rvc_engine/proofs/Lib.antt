@@ -1,9 +1,10 @@
 mod Tops
 mod Places
-mod Joining
+mod Sourced
 mod OneNet
 mod Causes
 mod OneOrder
 mod Kept
 mod Ready
 mod Ended
+mod LoneTrees

@@ -45,7 +45,7 @@ ending_is top rest x h =
     n = position_or_len (λ b. b == dot) top
 
 -- the class and the file of a top, by whether it ends as a network
-asked_name : Library → List ℕ → Bool → List ℕ
+abbrev asked_name : Library → List ℕ → Bool → List ℕ
 asked_name library top b = name_of (wanted library (if b then a_network (class_of top) else an_actor (class_of top)))
 
 pub tops_are_read : TopsAreRead

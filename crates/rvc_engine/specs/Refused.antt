@@ -45,7 +45,7 @@ pub data Breaks (files : Files) (class : List ℕ) (r : Refusal) : Type 0 where
       → Breaks files class r
   in_leaves : {all : List Leaf} → AreLeavesIn files class all
       → leaves.IsRefusal files.sources all r → Breaks files class r
-  in_links : {tree : Tree} {actors : List Actor} → IsTree files class tree
+  in_links : {tree : Tree} (actors : List Actor) → IsTree files class tree
       → AreActorsOf files.sources tree.leaves actors
       → IsRefusal tree (map head_of actors) (front.Refused r) → Breaks files class r
 

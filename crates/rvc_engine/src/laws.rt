@@ -5,7 +5,6 @@ ghost use Rattle.rvc_engine.specs.Laws.{NetworksAreNotRefused, NetworksBreakNoth
 ghost use Rattle.rvc_engine.specs.Top.{TopsAreRead};
 
 use cal_model::one_line;
-use fnl_flatten::links_are_one;
 use network_files::one_outcome;
 use source_network::{one_library_network, one_network};
 
@@ -28,7 +27,6 @@ pub fn networks_are_not_refused()
     ensures library { NetworksAreNotRefused }
 {
     one_network();
-    links_are_one();
     one_library_network();
     one_outcome();
 }
