@@ -1,6 +1,6 @@
 -- Why files mean no network, from what a step of their check answers.
-use Rattle.std.proofs.Common.{◌≡◌, ℕ, true, false, inl, inr, List, map, Option, None, Some, refl, sym, subst}
-use Rattle.std.specs.Prelude.{is_some}
+use Rattle.std.proofs.Common.{◌≡◌, ℕ, suc, ◌+◌, ◌≤◌, true, false, List, [], ◌∷◌, length, map, Option, None, Some, refl, sym, subst, arith}
+use Rattle.std.specs.Prelude.{is_some, slice_get}
 use Rattle.rvc_base.specs.declared.refusal.Front.{Front}
 use Rattle.rvc_base.specs.declared.refusal.Front.TheVariants as front
 use Rattle.cal_imports.specs.Resolved.{resolved}
@@ -11,7 +11,8 @@ use Rattle.fnl_bind.specs.Answers.{IsBound}
 use Rattle.fnl_bind.specs.Library.{Entry, network_of}
 use Rattle.fnl_flatten.specs.Flattened.{IsRefusal}
 use Rattle.fnl_tree.specs.Sound.{IsSound}
-use Rattle.fnl_tree.specs.Tree.{Leaf, Tree}
+use Rattle.fnl_tree.specs.Tree.{Leaf, Net, Tree}
+use Rattle.net_model.specs.Limits.{max_instances}
 use Rattle.fnl_tree.specs.View.{tree_of}
 use Rattle.fnl_tree.specs.declared.tree.Tree.{Tree as DeclaredTree}
 use Rattle.leaf_actors.specs.Leaves as leaves
@@ -21,7 +22,7 @@ use Rattle.source_network.specs.Actors.{head_of}
 use Rattle.source_network.specs.Answers.{BoundAreTrees}
 use Rattle.source_network.specs.Source.{Files}
 use Rattle.rvc_engine.specs.Refused.{AreLeavesIn, Breaks, in_leaves, in_links, in_networks, in_scope}
-use Rattle.rvc_engine.specs.Steps.{AreReady, HaveFiles, IsBare, IsPeopled, IsWhy}
+use Rattle.rvc_engine.specs.Steps.{AreReady, IsBare, IsPeopled, IsWhy}
 
 -- ---- what is there
 
@@ -73,7 +74,14 @@ bare_net files class tree trees ready is bound_is sound =
       is_tree = trees files class top.value tree top.is bound_is;
       sound_tree = sound;
       leaves = subst (λ t. AreLeavesIn files class t.leaves) (sym bound_is.is) (AreLeavesIn.of_network {top = top.value} top.is bound_is.conforms);
-      have_files = subst (λ t. HaveFiles files.sources t.leaves) (sym bound_is.is) ready.have_files;
       differ = ready.differ;
       formed = ready.formed;
     }
+
+-- it has few leaves
+pub few_leaves : (tree : Tree) → IsSound tree → length tree.leaves ≤ max_instances
+few_leaves tree h = go tree.nets h.is_top h.few
+  where
+    go : (nets : List Net) → slice_get nets 0 ≡ Some h.top → length nets + length tree.leaves ≤ suc max_instances → length tree.leaves ≤ max_instances
+    go [] none few = absurd cc
+    go (n ∷ nets) is few = omega (arith, few)

@@ -5,32 +5,37 @@ use Rattle.rvc_base.specs.declared.refusal.Front.{Front}
 use Rattle.rvc_base.specs.declared.refusal.Front.TheVariants as front
 use Rattle.rvc_base.specs.declared.refusal.Refusal.{Refusal}
 use Rattle.actor_files.specs.Loading.{Counts, Library, TellsAll}
-use Rattle.actor_files.specs.declared.fault.LoadFault.{LoadFault}
-use Rattle.actor_files.specs.declared.fault.LoadFault.TheVariants as load
 use Rattle.cal_model.specs.Selection.{State}
 use Rattle.net_model.specs.Network.{Network}
-use Rattle.network_files.specs.Views as loading
-use Rattle.network_files.specs.Views.{HoldsLoaded}
+use Rattle.network_files.specs.Views.{HoldsLoaded, files_in}
 use Rattle.source_network.specs.Files.{Asked, class_asked, files_of}
 use Rattle.source_network.specs.Library.{IsLibraryNetwork, LibraryNetworksAreOne}
 use Rattle.source_network.specs.Source.{Files}
 use Rattle.rvc_engine.specs.Checked.{HasNetwork, HasSource, IsChecked}
 use Rattle.rvc_engine.specs.Laws.{NetworksAreNotRefused}
 use Rattle.rvc_engine.specs.Refused.{Breaks, IsFault, IsOutside, RefusesTop, in_files, in_network}
-use Rattle.rvc_engine.specs.Steps.{IsWhy, of_front, of_load}
+use Rattle.rvc_engine.specs.Steps.{IsHeld, IsWhy, of_front}
 use Rattle.rvc_engine.specs.declared.checked.Checked.{Checked}
+use Rattle.rvc_engine.specs.declared.held.Held.{Held}
 use Rattle.rvc_engine.specs.declared.fault.BuildFault.{BuildFault}
 use Rattle.rvc_engine.specs.declared.fault.BuildFault.TheVariants.{Refused, ReadFault, Memory}
 
 -- ---- of files that were loaded
 
-pub checked_of : (library : Library) (top : Asked) (class : List ℕ) (files : Files) (names : List (List ℕ)) (c : Checked) → class_asked top ≡ class
-    → HoldsLoaded library top files names → HasSource files class c → IsChecked library top names c
-checked_of library top class files names c same h source = record {
+pub held_of : (library : Library) (top : Asked) (class : List ℕ) (names : List (List ℕ)) (held : Held) → class_asked top ≡ class
+    → HoldsLoaded library top (files_in held.files) names → HasSource (files_in held.files) class held.checked → IsHeld library top names held
+held_of library top class names held same h source = record {
   reads = h.reads;
-  are_loaded = h.are_loaded;
-  names_are = h.holds.names_are;
-  source = subst (λ cl. HasSource (files_of h.reads) cl c) (sym same) (subst (λ fs. HasSource fs class c) h.holds.files_are source);
+  are_read = record { are_loaded = h.are_loaded; names_are = h.holds.names_are };
+  files_are = h.holds.files_are;
+  source = subst (λ cl. HasSource (files_in held.files) cl held.checked) (sym same) source;
+}
+
+pub held_checked : (library : Library) (top : Asked) (names : List (List ℕ)) (held : Held) → IsHeld library top names held → IsChecked library top names held.checked
+held_checked library top names held h = record {
+  reads = h.reads;
+  are_read = h.are_read;
+  source = subst (λ fs. HasSource fs (class_asked top) held.checked) h.files_are h.source;
 }
 
 pub broken_fault : (library : Library) (top : Asked) (class : List ℕ) (misses faults : Counts) (files : Files) (names : List (List ℕ)) (f : Front) (said : BuildFault)
@@ -51,7 +56,7 @@ broken_fault library top class misses faults files names front.Memory said same 
 library_net : (library : Library) (top : Asked) (names : List (List ℕ)) (c : Checked) (h : IsChecked library top names c) → TellsAll library
     → IsLibraryNetwork library top h.source.net
 library_net library top names c h tells =
-    record { reads = h.reads; are_loaded = h.are_loaded tells; means = h.source.means }
+    record { reads = h.reads; are_loaded = h.are_read.are_loaded tells; means = h.source.means }
 
 pub completes : (r : Result Checked BuildFault) (library : Library) (top : Asked) (misses faults : Counts) (names : List (List ℕ)) (net : Network State)
     → LibraryNetworksAreOne → NetworksAreNotRefused → TellsAll library → IsLibraryNetwork library top net

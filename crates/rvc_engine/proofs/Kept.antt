@@ -109,6 +109,13 @@ actors_are_one one files (leaf ∷ leaves) (a ∷ actors) (b ∷ others) [] h i 
 actors_are_one one files (leaf ∷ leaves) (a ∷ actors) (b ∷ others) (x ∷ xs) h i =
     ap (λ c. c ∷ actors) (one files.sources leaf a b h.0 i.0) ∙ ap (λ cs. b ∷ cs) (actors_are_one one files leaves actors others xs h.1 i.1.1)
 
+-- the actors of a tree are those of the source network
+pub source_actors : ActorsAreOne → (files : Files) (class : List ℕ) (tree : Tree) (actors : List Actor) (net : Network State) → IsTree files class tree
+    → AreActorsOf files.sources tree.leaves actors → (s : IsSourceNetwork files class net) → actors ≡ s.actors
+source_actors one files class tree actors net is are s =
+    actors_are_one one files s.tree.leaves actors s.actors net.leaves
+    (subst (λ t. AreActorsOf files.sources t.leaves actors) (tree_is_one one files class tree s.tree is s.is_tree) are) s.are_actors
+
 passes_none : (tree : Tree) (heads : List Head) (links : List Link) (file : ℕ) (r : Refusal) → AreLinks tree heads links → PassesLimit links file r → ⊥
 passes_none tree heads links file r are (inl many) = omega (arith, many.1, are.few)
 passes_none tree heads links file r are (inr much) = omega (arith, much.1, are.little)
@@ -130,7 +137,7 @@ networks_break_nothing one files class net r s (in_leaves {all = all} are k) =
     k.no_actor (has_actor files k.before k.leaf k.behind s.actors net.leaves (subst (λ ls. AreActors files ls s.actors net.leaves) same s.are_actors))
 networks_break_nothing one files class net r s (in_links {tree = tree} actors is are k) =
     let same : tree ≡ s.tree = tree_is_one one files class tree s.tree is s.is_tree in
-    let list : actors ≡ s.actors = actors_are_one one files s.tree.leaves actors s.actors net.leaves (subst (λ t. AreActorsOf files.sources t.leaves actors) same are) s.are_actors in
+    let list : actors ≡ s.actors = source_actors one files class tree actors net is are s in
     not_refused s.tree (map head_of s.actors) net r s.flat
     (subst (λ those. IsRefusal s.tree (map head_of those) (front.Refused r)) list (subst (λ t. IsRefusal t (map head_of actors) (front.Refused r)) same k))
 

@@ -10,6 +10,7 @@ use Rattle.leaf_actors.specs.declared.found.LeafActors.{LeafActors}
 use Rattle.source_network.specs.Answers.{LoneTreesAreSound}
 use Rattle.source_network.specs.Lone.{lone_leaf, lone_tree}
 use Rattle.source_network.specs.Source.{Files, IsNamed, IsTree}
+use Rattle.rvc_engine.specs.Checked.{StandAtLeaves}
 use Rattle.rvc_engine.specs.Steps.{HasOne, IsPeopled}
 use Rattle.rvc_engine.proofs.Places.{leaves_sound}
 
@@ -32,9 +33,9 @@ has_one files leaf found are within =
 -- .. which makes its tree
 peopled : (files : Files) (class name : List ℕ) (found : LeafActors) (actor : Actor) → LoneTreesAreSound
     → network_of class files.networks ≡ None → IsNamed files class name → actors_at_leaves found ≡ actor ∷ []
-    → AreActorsOf files.sources (lone_leaf name class ∷ []) (actors_at_leaves found) → Each IsSound (distinct_actors found) → IsWithin found
+    → AreActorsOf files.sources (lone_leaf name class ∷ []) (actors_at_leaves found) → Each IsSound (distinct_actors found) → StandAtLeaves found
     → IsPeopled files class (lone_tree name class actor) found
-peopled files class name found actor sound none named one are fine within =
+peopled files class name found actor sound none named one are fine stand =
     let is = subst (AreActorsOf files.sources (lone_leaf name class ∷ [])) one are in
     let actor_fine = subst (Each IsSound) one (leaves_sound found fine) in
     record {
@@ -42,12 +43,12 @@ peopled files class name found actor sound none named one are fine within =
       sound_tree = sound name class actor actor_fine.0;
       are_actors = are;
       sound = fine;
-      within = within;
+      stand = stand;
     }
 
 pub peopled_lone : (files : Files) (class name : List ℕ) (found : LeafActors) (actor : Actor) (tree : Tree) → LoneTreesAreSound
     → network_of class files.networks ≡ None → IsNamed files class name → tree ≡ lone_tree name class actor → actors_at_leaves found ≡ actor ∷ []
-    → AreActorsOf files.sources (lone_leaf name class ∷ []) (actors_at_leaves found) → Each IsSound (distinct_actors found) → IsWithin found
+    → AreActorsOf files.sources (lone_leaf name class ∷ []) (actors_at_leaves found) → Each IsSound (distinct_actors found) → StandAtLeaves found
     → IsPeopled files class tree found
-peopled_lone files class name found actor tree sound none named same one are fine within =
-    subst (λ t. IsPeopled files class t found) (sym same) (peopled files class name found actor sound none named one are fine within)
+peopled_lone files class name found actor tree sound none named same one are fine stand =
+    subst (λ t. IsPeopled files class t found) (sym same) (peopled files class name found actor sound none named one are fine stand)

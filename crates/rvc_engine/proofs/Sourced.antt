@@ -15,10 +15,12 @@ use Rattle.leaf_actors.specs.Leaves.{actors_at_leaves}
 use Rattle.leaf_actors.specs.declared.found.LeafActors.{LeafActors}
 use Rattle.source_network.specs.Actors.{head_of}
 use Rattle.source_network.specs.Answers.{ActorsMakeWhole, AnswersAreSource, HasWiring}
-use Rattle.source_network.specs.Source.{AreActors, Files}
+use Rattle.source_network.specs.Laws.{ActorsAreOne}
+use Rattle.source_network.specs.Source.{AreActors, Files, IsSourceNetwork}
 use Rattle.rvc_engine.specs.Checked.{AreLeavesOf, HasSource, IsNetworkOf}
 use Rattle.rvc_engine.specs.Steps.{IsJoined, IsPeopled}
 use Rattle.rvc_engine.specs.declared.checked.Checked.{Checked}
+use Rattle.rvc_engine.proofs.Kept.{source_actors}
 use Rattle.rvc_engine.proofs.Places.{as_many, leaves_sound}
 
 -- the leaves of a network stand at the paths of a tree
@@ -60,22 +62,26 @@ is_network files tree actors flat xs are is = record {
 }
 
 -- the actors of a tree, joined by a flat network
-joined : (files : Files) (class : List ℕ) (tree : Tree) (flat : Flat) (found : LeafActors) → ActorsAreLeaves → AnswersAreSource
+joined : (files : Files) (class : List ℕ) (tree : Tree) (flat : Flat) (found : LeafActors) → ActorsAreOne → ActorsAreLeaves → AnswersAreSource
     → IsPeopled files class tree found → IsFlattened tree (map head_of (actors_at_leaves found)) flat
     → HasSource files class (record { flat = flat; actors = found })
-joined files class tree flat found leaves answers is flattened =
+joined files class tree flat found one leaves answers is flattened =
     let fine : Each IsSound (actors_at_leaves found) = leaves_sound found is.sound in
     let has : HasLeaves files tree.leaves (actors_at_leaves found) = leaves files tree.leaves (actors_at_leaves found) fine is.are_actors in
+    let means : IsSourceNetwork files class (net_of flat has.xs) =
+    answers files class tree (actors_at_leaves found) flat (net_of flat has.xs) is.is_tree is.sound_tree fine has.are flattened (wired flat has.xs) in
     record {
       net = net_of flat has.xs;
       has_net = record { sound = fine; is_net = is_network files tree (actors_at_leaves found) flat has.xs has.are flattened };
-      means = answers files class tree (actors_at_leaves found) flat (net_of flat has.xs) is.is_tree is.sound_tree fine has.are flattened (wired flat has.xs);
+      means = means;
+      same_actors = sym (source_actors one files class tree (actors_at_leaves found) (net_of flat has.xs) is.is_tree is.are_actors means);
+      stand = is.stand;
     }
 
-pub joined_source : (files : Files) (class : List ℕ) (tree : Tree) (found : LeafActors) (c : Checked) → ActorsAreLeaves → AnswersAreSource
+pub joined_source : (files : Files) (class : List ℕ) (tree : Tree) (found : LeafActors) (c : Checked) → ActorsAreOne → ActorsAreLeaves → AnswersAreSource
     → IsPeopled files class tree found → IsJoined tree found c → HasSource files class c
-joined_source files class tree found c leaves answers is j =
-    subst (λ fs. HasSource files class (record { flat = c.flat; actors = fs })) (sym j.same) (joined files class tree c.flat found leaves answers is j.flat)
+joined_source files class tree found c one leaves answers is j =
+    subst (λ fs. HasSource files class (record { flat = c.flat; actors = fs })) (sym j.same) (joined files class tree c.flat found one leaves answers is j.flat)
 
 -- it can be joined
 pub peopled_whole : (files : Files) (class : List ℕ) (tree : Tree) (found : LeafActors) → ActorsMakeWhole → IsPeopled files class tree found

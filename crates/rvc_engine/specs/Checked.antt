@@ -1,6 +1,6 @@
 -- What a network that was checked is: the source network of the files that were read.
 -- Trusted: part of what a promise means.
-use Rattle.std.specs.Prelude.{◌≡◌, ℕ, List, [], ◌∷◌, map, string_bytes}
+use Rattle.std.specs.Prelude.{◌≡◌, ℕ, ◌<◌, List, [], ◌∷◌, Contains, length, map, string_bytes}
 use Rattle.cal_model.specs.Actor.{Actor}
 use Rattle.cal_model.specs.Firing.{behaviour}
 use Rattle.cal_model.specs.Selection.{Priorities, State}
@@ -8,7 +8,8 @@ use Rattle.cal_model.specs.Sound.{Each, IsSound}
 use Rattle.net_model.specs.Network.{Leaf as NetLeaf, Network}
 use Rattle.actor_files.specs.Loading.{Library, TellsAll}
 use Rattle.fnl_flatten.specs.declared.flat.Flat.{Flat}
-use Rattle.leaf_actors.specs.Leaves.{actors_at_leaves}
+use Rattle.leaf_actors.specs.Leaves.{IsWithin, actors_at_leaves}
+use Rattle.leaf_actors.specs.declared.found.LeafActors.{LeafActors}
 use Rattle.network_files.specs.Requests.{names_of}
 use Rattle.source_network.specs.Answers.{HasWiring}
 use Rattle.source_network.specs.Files.{AreLoaded, Asked, Read, class_asked, files_of}
@@ -44,18 +45,28 @@ pub record HasNetwork (c : Checked) (net : Network State) : Type 0 where
 
 -- ---- what it is
 
--- it is the network that files mean from a class down
+-- each leaf has its actor, and each actor a leaf
+pub record StandAtLeaves (found : LeafActors) : Type 0 where
+  pub within : IsWithin found
+  pub used : (p : ℕ) → p < length found.actors.items → Contains found.of_leaf.items p
+
+-- it is the network that files mean from a class down, with the actors of these
 pub record HasSource (files : Files) (class : List ℕ) (c : Checked) : Type 0 where
   pub net : Network State
   pub has_net : HasNetwork c net
   pub means : IsSourceNetwork files class net
+  pub same_actors : means.actors ≡ actors_at_leaves c.actors
+  pub stand : StandAtLeaves c.actors
 
--- Files were read, and these are their names. They are all that the top needs, if the library tells of each name. What was
--- checked is the network that they mean.
-pub record IsChecked (library : Library) (top : Asked) (names : List (List ℕ)) (c : Checked) : Type 0 where
-  pub reads : List Read
+-- These files were read, and these are their names. They are all that the top needs, if the library tells of each name.
+pub record AreRead (library : Library) (top : Asked) (names : List (List ℕ)) (reads : List Read) : Type 0 where
   pub are_loaded : TellsAll library → AreLoaded library top reads
   pub names_are : names ≡ names_of reads
+
+-- .. and what was checked is the network that they mean
+pub record IsChecked (library : Library) (top : Asked) (names : List (List ℕ)) (c : Checked) : Type 0 where
+  pub reads : List Read
+  pub are_read : AreRead library top names reads
   pub source : HasSource (files_of reads) (class_asked top) c
 
 -- what was checked is at most one network

@@ -1,24 +1,28 @@
 -- The steps from files to a network that is checked.
 -- Not trusted: no promise is read with it.
-use Rattle.std.specs.Prelude.{◌≡◌, ◌⊎◌, ℕ, true, List, [], ◌∷◌, All, is_some, map}
+use Rattle.std.specs.Prelude.{◌≡◌, ◌⊎◌, ℕ, true, List, [], ◌∷◌, is_some, map}
 use Rattle.rvc_base.specs.declared.refusal.Front.{Front}
 use Rattle.rvc_base.specs.declared.refusal.Front.TheVariants as front
+use Rattle.actor_files.specs.Loading.{Library}
 use Rattle.actor_files.specs.declared.fault.LoadFault.{LoadFault}
 use Rattle.actor_files.specs.declared.fault.LoadFault.TheVariants as load
-use Rattle.cal_imports.specs.Sources.{Source, source_named}
+use Rattle.cal_imports.specs.Sources.{source_named}
 use Rattle.cal_model.specs.Actor.{Actor}
 use Rattle.cal_model.specs.Sound.{Each, IsSound}
 use Rattle.fnl_bind.specs.Library.{network_of}
-use Rattle.fnl_bind.specs.Trees.{bound}
 use Rattle.fnl_flatten.specs.Flattened.{IsFlattened, IsRefusal}
 use Rattle.fnl_tree.specs.Sound.{IsSound as IsSoundTree}
-use Rattle.fnl_tree.specs.Tree.{Leaf, Tree}
+use Rattle.fnl_tree.specs.Tree.{Tree}
+use Rattle.network_files.specs.Views.{files_in}
 use Rattle.leaf_actors.specs.Leaves.{AreActorsOf, AreFormed, IsWithin, NamesDiffer, actors_at_leaves, distinct_actors}
 use Rattle.leaf_actors.specs.declared.found.LeafActors.{LeafActors}
 use Rattle.source_network.specs.Actors.{head_of}
+use Rattle.source_network.specs.Files.{Asked, Read, class_asked, files_of}
 use Rattle.source_network.specs.Source.{Files, IsTree}
+use Rattle.rvc_engine.specs.Checked.{AreRead, HasSource, StandAtLeaves}
 use Rattle.rvc_engine.specs.Refused.{AreLeavesIn, Breaks}
 use Rattle.rvc_engine.specs.declared.checked.Checked.{Checked}
+use Rattle.rvc_engine.specs.declared.held.Held.{Held}
 use Rattle.rvc_engine.specs.declared.fault.BuildFault.{BuildFault}
 use Rattle.rvc_engine.specs.declared.fault.BuildFault.TheVariants.{Refused, ReadFault, Memory}
 
@@ -35,15 +39,10 @@ of_front front.Memory = Memory
 
 -- ---- files
 
--- each of these leaves has a file
-abbrev pub HaveFiles : List Source → List Leaf → Type 0
-HaveFiles sources leaves = All (λ leaf. is_some (source_named leaf.class sources) ≡ true) leaves
-
--- files that can be checked from a class down: there is one of the class, and of each actor of its network
+-- files that can be checked from a class down: there is one of the class
 pub record AreReady (files : Files) (class : List ℕ) : Type 0 where
   pub has_top : (is_some (network_of class files.networks) ≡ true)
       ⊎ (is_some (source_named class files.sources) ≡ true)
-  pub have_files : HaveFiles files.sources (bound files.networks class).leaves
   pub differ : NamesDiffer files.sources
   pub formed : AreFormed files.sources
 
@@ -54,7 +53,6 @@ pub record IsBare (files : Files) (class : List ℕ) (tree : Tree) : Type 0 wher
   pub is_tree : IsTree files class tree
   pub sound_tree : IsSoundTree tree
   pub leaves : AreLeavesIn files class tree.leaves
-  pub have_files : HaveFiles files.sources tree.leaves
   pub differ : NamesDiffer files.sources
   pub formed : AreFormed files.sources
 
@@ -70,7 +68,7 @@ pub record IsPeopled (files : Files) (class : List ℕ) (tree : Tree) (found : L
   pub sound_tree : IsSoundTree tree
   pub are_actors : AreActorsOf files.sources tree.leaves (actors_at_leaves found)
   pub sound : Each IsSound (distinct_actors found)
-  pub within : IsWithin found
+  pub stand : StandAtLeaves found
 
 -- its actors are joined
 pub record IsJoined (tree : Tree) (found : LeafActors) (c : Checked) : Type 0 where
@@ -87,3 +85,10 @@ IsNotJoined tree found fault = IsRefusal tree (map head_of (actors_at_leaves fou
 abbrev pub IsWhy : Files → (class : List ℕ) → Front → Type 0
 IsWhy files class (front.Refused r) = Breaks files class r
 IsWhy files class front.Memory = Unit {0}
+
+-- files were read, with what was checked of them
+pub record IsHeld (library : Library) (top : Asked) (names : List (List ℕ)) (held : Held) : Type 0 where
+  pub reads : List Read
+  pub are_read : AreRead library top names reads
+  pub files_are : files_in held.files ≡ files_of reads
+  pub source : HasSource (files_in held.files) (class_asked top) held.checked

@@ -18,7 +18,7 @@ use fnl_walk::bind;
 use leaf_actors::{LeafActors, actors_are_leaves_of_a_network, check_leaves};
 use network_files::NetworkFiles;
 use rvc_base::{Front, Memory};
-use source_network::answers_are_the_source_network;
+use source_network::{answers_are_the_source_network, one_network};
 use std::alloc::Global;
 
 /// The network that files mean from a class down, or a rule that they break.
@@ -130,6 +130,7 @@ fn join_tree(
     ensures checked { IfOk result (HasSource (files_in files.now) class.now) }
     ensures refused { IfErr result (IsWhy (files_in files.now) class.now) }
 {
+    one_network();
     actors_are_leaves_of_a_network();
     answers_are_the_source_network();
     join(alloc, tree, found)

@@ -9,8 +9,10 @@
 mod checked;
 mod checking;
 mod fault;
+mod held;
 mod joining;
 mod laws;
+mod loading;
 mod lone;
 mod network;
 mod top;

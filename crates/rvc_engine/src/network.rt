@@ -2,12 +2,10 @@
 
 ghost use Rattle.std.specs.Prelude.{◌≡◌, ◌≤◌, ℕ, List, [], IfErr, IfOk, IsErr, MatchResult};
 ghost use Rattle.rvc_base.specs.declared.refusal.Refusal.{Refusal as Denial};
-ghost use Rattle.actor_files.specs.FileNames.{class_of};
 ghost use Rattle.actor_files.specs.Loading.{Counts, TellsAll};
 ghost use Rattle.actor_files.specs.Views.{file_names};
 ghost use Rattle.cal_model.specs.Selection.{State};
 ghost use Rattle.net_model.specs.Network.{Network};
-ghost use Rattle.network_files.specs.Views.{asked_of};
 ghost use Rattle.source_network.specs.Library.{IsLibraryNetwork};
 ghost use Rattle.rvc_engine.specs.Checked.{HasNetwork, IsChecked};
 ghost use Rattle.rvc_engine.specs.Formed.{SpelledAreFormed};
@@ -15,13 +13,11 @@ ghost use Rattle.rvc_engine.specs.Refused.{IsFault, IsOutside, RefusesTop};
 ghost use Rattle.rvc_engine.specs.Top.{top_asked};
 
 use crate::checked::Checked;
-use crate::checking::check_files;
-use crate::fault::{BuildFault, of_front, of_load};
+use crate::fault::BuildFault;
+use crate::held::Held;
 use crate::laws::networks_are_not_refused;
-use crate::top::kind_of;
-use actor_files::{Names, class_of};
-use network_files::{FileKind, leaves_have_files, load_network};
-use rvc_base::Memory;
+use crate::loading::held_of_top;
+use actor_files::Names;
 use rvc_io::Library;
 use source_network::one_library_network;
 use std::alloc::Global;
@@ -91,38 +87,8 @@ fn check_top<L: Library>(
     ensures faults_stay { L.faults library.old ≤ L.faults library.new }
     ensures misses_stay { L.misses library.old ≤ L.misses library.new }
 {
-    match class_of(alloc, top) {
-        Ok(class) => check_class(alloc, library, class.as_str(), kind_of(top), names),
-        Err(Memory) => Err(BuildFault::Memory),
-    }
-}
-
-/// The same of a class, and of which file of it is meant.
-fn check_class<L: Library>(
-    alloc: Global,
-    library: &mut L,
-    class: &str,
-    kind: FileKind,
-    names: &mut Names,
-) -> Result<Checked, BuildFault>
-    requires fresh { file_names names.old ≡ [] }
-    requires formed { SpelledAreFormed }
-    ensures checked { IfOk result (IsChecked (L.file library.old) (asked_of class.now kind)
-        (file_names names.new)) }
-    ensures fault { IfErr result (IsFault (L.file library.old) (asked_of class.now kind)
-        (record { old = L.misses library.old; new = L.misses library.new })
-        (record { old = L.faults library.old; new = L.faults library.new })
-        (file_names names.new)) }
-    ensures same_files { (other : List ℕ) → L.file library.new other ≡ L.file library.old other }
-    ensures faults_stay { L.faults library.old ≤ L.faults library.new }
-    ensures misses_stay { L.misses library.old ≤ L.misses library.new }
-{
-    leaves_have_files();
-    match load_network(alloc, library, class, kind, names) {
-        Ok(files) => match check_files(alloc, &files, class) {
-            Ok(checked) => Ok(checked),
-            Err(front) => Err(of_front(front)),
-        },
-        Err(fault) => Err(of_load(fault)),
+    match held_of_top(alloc, library, top, names) {
+        Ok(Held { files: _files, checked }) => Ok(checked),
+        Err(fault) => Err(fault),
     }
 }

@@ -15,7 +15,7 @@ pub returns-clause-checked : goal.returns-clause-checked
 returns-clause-checked c =
     IfOk-weaker c.join.result (IsJoined (tree_of c.args.tree.now) c.args.found) (HasSource (files_in c.args.files.now) c.args.class.now)
     (λ x j. joined_source (files_in c.args.files.now) c.args.class.now (tree_of c.args.tree.now) c.args.found x
-    c.actors_are_leaves_of_a_network.ensures c.answers_are_the_source_network.ensures.network c.requires j)
+    c.one_network.ensures.actor c.actors_are_leaves_of_a_network.ensures c.answers_are_the_source_network.ensures.network c.requires j)
     c.join.ensures.joined
 
 pub returns-clause-refused : goal.returns-clause-refused
@@ -23,3 +23,6 @@ returns-clause-refused c =
     IfErr-weaker c.join.result (IsNotJoined (tree_of c.args.tree.now) c.args.found) (IsWhy (files_in c.args.files.now) c.args.class.now)
     (λ f h. why_links (files_in c.args.files.now) c.args.class.now (tree_of c.args.tree.now) c.args.found f c.requires h)
     c.join.ensures.refused
+
+pub join-requires-clause-within : goal.join-requires-clause-within
+join-requires-clause-within c = c.requires.stand.within
