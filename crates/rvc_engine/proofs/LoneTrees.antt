@@ -5,7 +5,7 @@ use Rattle.cal_model.specs.Actor.{Actor}
 use Rattle.cal_model.specs.Sound.{Each, IsSound}
 use Rattle.fnl_bind.specs.Library.{network_of}
 use Rattle.fnl_tree.specs.Tree.{Leaf, Tree}
-use Rattle.leaf_actors.specs.Leaves.{AreActorsOf, IsWithin, actors_at_leaves, distinct_actors}
+use Rattle.leaf_actors.specs.Leaves.{AreActorsOf, IsWithin, actors_at_leaves}
 use Rattle.leaf_actors.specs.declared.found.LeafActors.{LeafActors}
 use Rattle.source_network.specs.Answers.{LoneTreesAreSound}
 use Rattle.source_network.specs.Lone.{lone_leaf, lone_tree}
@@ -33,22 +33,21 @@ has_one files leaf found are within =
 -- .. which makes its tree
 peopled : (files : Files) (class name : List ℕ) (found : LeafActors) (actor : Actor) → LoneTreesAreSound
     → network_of class files.networks ≡ None → IsNamed files class name → actors_at_leaves found ≡ actor ∷ []
-    → AreActorsOf files.sources (lone_leaf name class ∷ []) (actors_at_leaves found) → Each IsSound (distinct_actors found) → StandAtLeaves found
+    → AreActorsOf files.sources (lone_leaf name class ∷ []) (actors_at_leaves found) → StandAtLeaves found
     → IsPeopled files class (lone_tree name class actor) found
-peopled files class name found actor sound none named one are fine stand =
+peopled files class name found actor sound none named one are stand =
     let is = subst (AreActorsOf files.sources (lone_leaf name class ∷ [])) one are in
-    let actor_fine = subst (Each IsSound) one (leaves_sound found fine) in
+    let actor_fine = subst (Each IsSound) one (leaves_sound found stand.sound) in
     record {
       is_tree = IsTree.of_actor {name = name} {actor = actor} none named is.0;
       sound_tree = sound name class actor actor_fine.0;
       are_actors = are;
-      sound = fine;
       stand = stand;
     }
 
 pub peopled_lone : (files : Files) (class name : List ℕ) (found : LeafActors) (actor : Actor) (tree : Tree) → LoneTreesAreSound
     → network_of class files.networks ≡ None → IsNamed files class name → tree ≡ lone_tree name class actor → actors_at_leaves found ≡ actor ∷ []
-    → AreActorsOf files.sources (lone_leaf name class ∷ []) (actors_at_leaves found) → Each IsSound (distinct_actors found) → StandAtLeaves found
+    → AreActorsOf files.sources (lone_leaf name class ∷ []) (actors_at_leaves found) → StandAtLeaves found
     → IsPeopled files class tree found
-peopled_lone files class name found actor tree sound none named same one are fine stand =
-    subst (λ t. IsPeopled files class t found) (sym same) (peopled files class name found actor sound none named one are fine stand)
+peopled_lone files class name found actor tree sound none named same one are stand =
+    subst (λ t. IsPeopled files class t found) (sym same) (peopled files class name found actor sound none named one are stand)

@@ -66,7 +66,7 @@ joined : (files : Files) (class : List ℕ) (tree : Tree) (flat : Flat) (found :
     → IsPeopled files class tree found → IsFlattened tree (map head_of (actors_at_leaves found)) flat
     → HasSource files class (record { flat = flat; actors = found })
 joined files class tree flat found one leaves answers is flattened =
-    let fine : Each IsSound (actors_at_leaves found) = leaves_sound found is.sound in
+    let fine : Each IsSound (actors_at_leaves found) = leaves_sound found is.stand.sound in
     let has : HasLeaves files tree.leaves (actors_at_leaves found) = leaves files tree.leaves (actors_at_leaves found) fine is.are_actors in
     let means : IsSourceNetwork files class (net_of flat has.xs) =
     answers files class tree (actors_at_leaves found) flat (net_of flat has.xs) is.is_tree is.sound_tree fine has.are flattened (wired flat has.xs) in
@@ -87,4 +87,4 @@ joined_source files class tree found c one leaves answers is j =
 pub peopled_whole : (files : Files) (class : List ℕ) (tree : Tree) (found : LeafActors) → ActorsMakeWhole → IsPeopled files class tree found
     → IsWhole tree (map head_of (actors_at_leaves found))
 peopled_whole files class tree found whole is =
-    whole tree (actors_at_leaves found) is.sound_tree (as_many files.sources tree.leaves (actors_at_leaves found) is.are_actors) (leaves_sound found is.sound)
+    whole tree (actors_at_leaves found) is.sound_tree (as_many files.sources tree.leaves (actors_at_leaves found) is.are_actors) (leaves_sound found is.stand.sound)

@@ -5,3 +5,8 @@ pub mod Refused
 pub mod Laws
 pub mod Steps
 pub mod LoneNet
+pub mod Built
+pub mod NotBuilt
+pub mod Answering
+pub mod Compiling
+pub mod Images

@@ -8,13 +8,12 @@ use Rattle.actor_files.specs.declared.fault.LoadFault.{LoadFault}
 use Rattle.actor_files.specs.declared.fault.LoadFault.TheVariants as load
 use Rattle.cal_imports.specs.Sources.{source_named}
 use Rattle.cal_model.specs.Actor.{Actor}
-use Rattle.cal_model.specs.Sound.{Each, IsSound}
 use Rattle.fnl_bind.specs.Library.{network_of}
 use Rattle.fnl_flatten.specs.Flattened.{IsFlattened, IsRefusal}
 use Rattle.fnl_tree.specs.Sound.{IsSound as IsSoundTree}
 use Rattle.fnl_tree.specs.Tree.{Tree}
 use Rattle.network_files.specs.Views.{files_in}
-use Rattle.leaf_actors.specs.Leaves.{AreActorsOf, AreFormed, IsWithin, NamesDiffer, actors_at_leaves, distinct_actors}
+use Rattle.leaf_actors.specs.Leaves.{AreActorsOf, AreFormed, IsWithin, NamesDiffer, actors_at_leaves}
 use Rattle.leaf_actors.specs.declared.found.LeafActors.{LeafActors}
 use Rattle.source_network.specs.Actors.{head_of}
 use Rattle.source_network.specs.Files.{Asked, Read, class_asked, files_of}
@@ -67,7 +66,6 @@ pub record IsPeopled (files : Files) (class : List ℕ) (tree : Tree) (found : L
   pub is_tree : IsTree files class tree
   pub sound_tree : IsSoundTree tree
   pub are_actors : AreActorsOf files.sources tree.leaves (actors_at_leaves found)
-  pub sound : Each IsSound (distinct_actors found)
   pub stand : StandAtLeaves found
 
 -- its actors are joined

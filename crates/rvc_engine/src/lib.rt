@@ -6,10 +6,13 @@
 //! `specs/` says which top the words name (`Top`), what was checked (`Checked`) and what refuses a top (`Refused`).
 #![tactic(auto)]
 
+mod building;
 mod checked;
 mod checking;
+mod compiling;
 mod fault;
 mod held;
+mod image;
 mod joining;
 mod laws;
 mod loading;
@@ -17,7 +20,9 @@ mod lone;
 mod network;
 mod top;
 
+pub use building::build;
 pub use checked::Checked;
 pub use fault::BuildFault;
+pub use image::Image;
 pub use laws::{checked_are_one_network, networks_are_not_refused, tops_are_read_by_name};
 pub use network::check_network;

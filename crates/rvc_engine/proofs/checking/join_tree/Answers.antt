@@ -26,3 +26,6 @@ returns-clause-refused c =
 
 pub join-requires-clause-within : goal.join-requires-clause-within
 join-requires-clause-within c = c.requires.stand.within
+
+pub join-requires-clause-sound : goal.join-requires-clause-sound
+join-requires-clause-sound c = c.requires.stand.sound
