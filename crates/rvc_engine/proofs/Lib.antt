@@ -8,3 +8,6 @@ mod Kept
 mod Ready
 mod Ended
 mod LoneTrees
+mod Compiled
+mod Left
+mod Imaged

@@ -132,6 +132,13 @@ pub(crate) fn codes_at(
     Ok(codes)
 }
 
+/// Why an actor isn't certified.
+fn uncertified_of(compiled: &Compiled) -> Option<CertFault>
+    ensures { result ≡ compiled.now.uncertified }
+{
+    compiled.uncertified
+}
+
 /// What is said of the actor at each of these places.
 pub(crate) fn uncertified_at(
     alloc: Global,
@@ -145,7 +152,7 @@ pub(crate) fn uncertified_at(
     let mut said = Vec::new(alloc);
     let mut rest = places;
     'places: while let Some((place, others)) = rest.split_first() {
-        said.push(all[*place as usize].uncertified)?;
+        said.push(uncertified_of(&all[*place as usize]))?;
         rest = others;
     }
     Ok(said)
