@@ -1,0 +1,13 @@
+mod Moved
+mod Equal
+mod Sizes
+mod Ended
+mod Lists
+mod Numbers
+mod Chain
+mod LikeLeaves
+mod Growing
+mod Scopes
+mod Held
+mod NetLeaves
+mod HeadsTold
