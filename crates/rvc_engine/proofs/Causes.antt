@@ -74,7 +74,7 @@ bare_net files class tree trees ready is bound_is sound =
       is_tree = trees files class top.value tree top.is bound_is;
       sound_tree = sound;
       leaves = subst (λ t. AreLeavesIn files class t.leaves) (sym bound_is.is) (AreLeavesIn.of_network {top = top.value} top.is bound_is.conforms);
-      differ = ready.differ;
+      spelled = ready.spelled;
       formed = ready.formed;
     }
 

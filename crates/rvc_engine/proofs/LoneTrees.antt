@@ -12,7 +12,6 @@ use Rattle.source_network.specs.Lone.{lone_leaf, lone_tree}
 use Rattle.source_network.specs.Source.{Files, IsNamed, IsTree}
 use Rattle.rvc_engine.specs.Checked.{StandAtLeaves}
 use Rattle.rvc_engine.specs.Steps.{HasOne, IsPeopled}
-use Rattle.rvc_engine.proofs.Places.{leaves_sound}
 
 -- one leaf has one actor
 record IsOne (actors : List Actor) : Type 0 where
@@ -37,7 +36,7 @@ peopled : (files : Files) (class name : List ℕ) (found : LeafActors) (actor : 
     → IsPeopled files class (lone_tree name class actor) found
 peopled files class name found actor sound none named one are stand =
     let is = subst (AreActorsOf files.sources (lone_leaf name class ∷ [])) one are in
-    let actor_fine = subst (Each IsSound) one (leaves_sound found stand.sound) in
+    let actor_fine = subst (Each IsSound) one stand.sound.at_leaves in
     record {
       is_tree = IsTree.of_actor {name = name} {actor = actor} none named is.0;
       sound_tree = sound name class actor actor_fine.0;

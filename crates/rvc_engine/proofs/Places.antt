@@ -12,34 +12,6 @@ use Rattle.fnl_tree.specs.Tree.{Leaf}
 use Rattle.leaf_actors.specs.Leaves.{AreActorsOf, IsWithin, actors_at_leaves, at_places, distinct_actors, with_first}
 use Rattle.leaf_actors.specs.declared.found.LeafActors.{LeafActors}
 
--- ---- each of them is sound
-
-sound_at : (actors : List Actor) (p : ℕ) (a : Actor) → Each IsSound actors → slice_get actors p ≡ Some a → IsSound a
-sound_at [] p a fine h = absurd cc
-sound_at (x ∷ actors) zero a fine h = let same : x ≡ a = cc in subst IsSound same fine.0
-sound_at (x ∷ actors) (suc p) a fine h = sound_at actors p a fine.1 h
-
-with_sound : (found : Option Actor) (rest : List Actor) → ((a : Actor) → found ≡ Some a → IsSound a) → Each IsSound rest
-    → Each IsSound (with_first found rest)
-with_sound None rest fine all = all
-with_sound (Some a) rest fine all = (fine a refl, all)
-
-at_places_sound : (actors : List Actor) (ps : List ℕ) → Each IsSound actors → Each IsSound (at_places actors ps)
-at_places_sound actors [] fine = tt
-at_places_sound actors (p ∷ ps) fine =
-    with_sound (slice_get actors p) (at_places actors ps) (λ a h. sound_at actors p a fine h) (at_places_sound actors ps fine)
-
-pub leaves_sound : (found : LeafActors) → Each IsSound (distinct_actors found) → Each IsSound (actors_at_leaves found)
-leaves_sound found fine = at_places_sound (distinct_actors found) found.of_leaf.items fine
-
--- ---- there are as many as leaves
-
-pub as_many : (files : List Source) (leaves : List Leaf) (actors : List Actor) → AreActorsOf files leaves actors → length actors ≡ length leaves
-as_many files [] [] h = refl
-as_many files [] (a ∷ actors) h = absurd h
-as_many files (leaf ∷ leaves) [] h = absurd h
-as_many files (leaf ∷ leaves) (a ∷ actors) h = ap suc (as_many files leaves actors h.1)
-
 -- ---- the one actor
 
 bound_at : (bounds : List Bound) (p : ℕ) (b : Bound) → p < length bounds → b ≡ slice_index_or bounds p b → slice_get (map actor_of bounds) p ≡ Some (actor_of b)

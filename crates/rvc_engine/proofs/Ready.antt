@@ -40,12 +40,9 @@ pub ready : (library : Library) (class : List ℕ) (kind : FileKind) (files : Fi
     → HasFile (asked_of class kind) files → HoldsLoaded library (asked_of class kind) files names → AreReady files class
 ready library class kind files told spelled formed has h = record {
   has_top = has_class class kind files has;
-  differ = λ c scope is. (all_formed c scope is).distinct;
-  formed = all_formed;
+  spelled = sources_spelled;
+  formed = λ c scope is. formed files.sources c scope sources_spelled is;
 }
   where
     sources_spelled : AreSpelled files.sources
     sources_spelled = subst (λ fs. AreSpelled fs.sources) (sym h.holds.files_are) (spelled h.reads (said h.reads h.are_said))
-
-    all_formed : AreFormed files.sources
-    all_formed = λ c scope is. formed files.sources c scope sources_spelled is

@@ -21,7 +21,6 @@ use Rattle.rvc_engine.specs.Checked.{AreLeavesOf, HasSource, IsNetworkOf}
 use Rattle.rvc_engine.specs.Steps.{IsJoined, IsPeopled}
 use Rattle.rvc_engine.specs.declared.checked.Checked.{Checked}
 use Rattle.rvc_engine.proofs.Kept.{source_actors}
-use Rattle.rvc_engine.proofs.Places.{as_many, leaves_sound}
 
 -- the leaves of a network stand at the paths of a tree
 are_leaves : (files : Files) (leaves : List Leaf) (actors : List Actor) (xs : List (NetLeaf State)) → AreActors files leaves actors xs
@@ -66,7 +65,7 @@ joined : (files : Files) (class : List ℕ) (tree : Tree) (flat : Flat) (found :
     → IsPeopled files class tree found → IsFlattened tree (map head_of (actors_at_leaves found)) flat
     → HasSource files class (record { flat = flat; actors = found })
 joined files class tree flat found one leaves answers is flattened =
-    let fine : Each IsSound (actors_at_leaves found) = leaves_sound found is.stand.sound in
+    let fine : Each IsSound (actors_at_leaves found) = is.stand.sound.at_leaves in
     let has : HasLeaves files tree.leaves (actors_at_leaves found) = leaves files tree.leaves (actors_at_leaves found) fine is.are_actors in
     let means : IsSourceNetwork files class (net_of flat has.xs) =
     answers files class tree (actors_at_leaves found) flat (net_of flat has.xs) is.is_tree is.sound_tree fine has.are flattened (wired flat has.xs) in
@@ -84,7 +83,7 @@ joined_source files class tree found c one leaves answers is j =
     subst (λ fs. HasSource files class (record { flat = c.flat; actors = fs })) (sym j.same) (joined files class tree c.flat found one leaves answers is j.flat)
 
 -- it can be joined
-pub peopled_whole : (files : Files) (class : List ℕ) (tree : Tree) (found : LeafActors) → ActorsMakeWhole → IsPeopled files class tree found
+pub peopled_whole : (files : Files) (class : List ℕ) (tree : Tree) (found : LeafActors) → ActorsAreLeaves → ActorsMakeWhole → IsPeopled files class tree found
     → IsWhole tree (map head_of (actors_at_leaves found))
-peopled_whole files class tree found whole is =
-    whole tree (actors_at_leaves found) is.sound_tree (as_many files.sources tree.leaves (actors_at_leaves found) is.are_actors) (leaves_sound found is.stand.sound)
+peopled_whole files class tree found leaves whole is =
+    whole tree (actors_at_leaves found) is.sound_tree (leaves files tree.leaves (actors_at_leaves found) is.stand.sound.at_leaves is.are_actors).many is.stand.sound.at_leaves

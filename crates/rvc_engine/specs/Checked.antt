@@ -8,7 +8,7 @@ use Rattle.cal_model.specs.Sound.{Each, IsSound}
 use Rattle.net_model.specs.Network.{Leaf as NetLeaf, Network}
 use Rattle.actor_files.specs.Loading.{Library, TellsAll}
 use Rattle.fnl_flatten.specs.declared.flat.Flat.{Flat}
-use Rattle.leaf_actors.specs.Leaves.{IsWithin, actors_at_leaves, distinct_actors}
+use Rattle.leaf_actors.specs.Leaves.{HasSoundActors, IsWithin, actors_at_leaves}
 use Rattle.leaf_actors.specs.declared.found.LeafActors.{LeafActors}
 use Rattle.network_files.specs.Requests.{names_of}
 use Rattle.source_network.specs.Answers.{HasWiring}
@@ -45,9 +45,9 @@ pub record HasNetwork (c : Checked) (net : Network State) : Type 0 where
 
 -- ---- what it is
 
--- each actor is sound, each leaf has its actor, and each actor a leaf
+-- the actors are sound, each leaf has its actor, and each actor a leaf
 pub record StandAtLeaves (found : LeafActors) : Type 0 where
-  pub sound : Each IsSound (distinct_actors found)
+  pub sound : HasSoundActors found
   pub within : IsWithin found
   pub used : (p : ℕ) → p < length found.actors.items → Contains found.of_leaf.items p
 

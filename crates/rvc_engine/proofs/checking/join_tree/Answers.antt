@@ -9,7 +9,7 @@ use Rattle.rvc_engine.proofs.checking.join_tree.Goals as goal
 
 pub join-requires-clause-whole : goal.join-requires-clause-whole
 join-requires-clause-whole c =
-    peopled_whole (files_in c.args.files.now) c.args.class.now (tree_of c.args.tree.now) c.args.found c.answers_are_the_source_network.ensures.whole c.requires
+    peopled_whole (files_in c.args.files.now) c.args.class.now (tree_of c.args.tree.now) c.args.found c.actors_are_leaves_of_a_network.ensures c.answers_are_the_source_network.ensures.whole c.requires
 
 pub returns-clause-checked : goal.returns-clause-checked
 returns-clause-checked c =
@@ -28,4 +28,4 @@ pub join-requires-clause-within : goal.join-requires-clause-within
 join-requires-clause-within c = c.requires.stand.within
 
 pub join-requires-clause-sound : goal.join-requires-clause-sound
-join-requires-clause-sound c = c.requires.stand.sound
+join-requires-clause-sound c = c.requires.stand.sound.each
