@@ -5,10 +5,9 @@ use Rattle.rvc_base.specs.declared.refusal.Front.{Front}
 use Rattle.rvc_base.specs.declared.refusal.Front.TheVariants as front
 use Rattle.cal_imports.specs.Resolved.{resolved}
 use Rattle.cal_imports.specs.ScopeView as scopes
-use Rattle.cal_imports.specs.Sources.{source_named}
 use Rattle.fnl_bind.specs.Answers as binding
 use Rattle.fnl_bind.specs.Answers.{IsBound}
-use Rattle.fnl_bind.specs.Library.{Entry, network_of}
+use Rattle.fnl_bind.specs.Library.{network_of}
 use Rattle.fnl_flatten.specs.Flattened.{IsRefusal}
 use Rattle.fnl_tree.specs.Sound.{IsSound}
 use Rattle.fnl_tree.specs.Tree.{Leaf, Net, Tree}
@@ -21,7 +20,7 @@ use Rattle.leaf_actors.specs.declared.found.LeafActors.{LeafActors}
 use Rattle.source_network.specs.Actors.{head_of}
 use Rattle.source_network.specs.Answers.{BoundAreTrees}
 use Rattle.source_network.specs.Source.{Files}
-use Rattle.rvc_engine.specs.Refused.{AreLeavesIn, Breaks, in_leaves, in_links, in_networks, in_scope}
+use Rattle.rvc_engine.specs.Refused.{AreLeavesIn, in_leaves, in_links, in_networks, in_scope}
 use Rattle.rvc_engine.specs.Steps.{AreReady, IsBare, IsPeopled, IsWhy}
 
 -- ---- what is there

@@ -1,5 +1,5 @@
 -- What is answered of a top.
-use Rattle.std.proofs.Common.{◌≡◌, ℕ, List, refl, sym, ap, subst, ◌∙◌}
+use Rattle.std.proofs.Common.{◌≡◌, ℕ, List, refl, sym, subst}
 use Rattle.std.specs.Prelude.{Result, Ok, Err, IfErr, IfOk, IsErr, MatchResult}
 use Rattle.rvc_base.specs.declared.refusal.Front.{Front}
 use Rattle.rvc_base.specs.declared.refusal.Front.TheVariants as front
@@ -13,7 +13,7 @@ use Rattle.source_network.specs.Library.{IsLibraryNetwork, LibraryNetworksAreOne
 use Rattle.source_network.specs.Source.{Files}
 use Rattle.rvc_engine.specs.Checked.{HasNetwork, HasSource, IsChecked}
 use Rattle.rvc_engine.specs.Laws.{NetworksAreNotRefused}
-use Rattle.rvc_engine.specs.Refused.{Breaks, IsFault, IsOutside, RefusesTop, in_files, in_network}
+use Rattle.rvc_engine.specs.Refused.{Breaks, IsFault, IsOutside, RefusesTop, in_network}
 use Rattle.rvc_engine.specs.Steps.{IsHeld, IsWhy, of_front}
 use Rattle.rvc_engine.specs.declared.checked.Checked.{Checked}
 use Rattle.rvc_engine.specs.declared.held.Held.{Held}

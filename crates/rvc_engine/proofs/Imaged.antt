@@ -1,5 +1,5 @@
 -- What is answered of an image.
-use Rattle.std.proofs.Common.{◌≡◌, ◌⊎◌, inl, inr, ℕ, List, refl, sym, subst}
+use Rattle.std.proofs.Common.{◌⊎◌, inl, inr, ℕ, List, refl, subst}
 use Rattle.std.specs.Prelude.{Result, Ok, Err, IfErr, IfOk, IsErr, MatchResult}
 use Rattle.rvc_base.specs.declared.refusal.Refusal.{Refusal}
 use Rattle.actor_files.specs.Loading.{Counts, Library, TellsAll}

@@ -1,5 +1,5 @@
 -- Files that mean a network break no rule, and a library that has one isn't refused.
-use Rattle.std.proofs.Common.{◌≡◌, inl, inr, ℕ, ◌<◌, ◌≤◌, List, [], ◌∷◌, ◌++◌, map, length, Option, None, Some, refl, sym, ap, subst, ◌∙◌, arith}
+use Rattle.std.proofs.Common.{◌≡◌, inl, inr, ℕ, List, [], ◌∷◌, ◌++◌, map, Option, None, Some, refl, sym, ap, subst, ◌∙◌, arith}
 use Rattle.std.specs.Prelude.{Contains}
 use Rattle.rvc_base.specs.declared.refusal.Front.TheVariants as front
 use Rattle.rvc_base.specs.declared.refusal.Refusal.{Refusal}
@@ -8,16 +8,15 @@ use Rattle.cal_imports.specs.Resolved.{resolved}
 use Rattle.cal_imports.specs.Sources.{name_of}
 use Rattle.cal_model.specs.Actor.{Actor}
 use Rattle.cal_model.specs.Selection.{State}
-use Rattle.net_model.specs.Limits.{max_links}
 use Rattle.net_model.specs.Network.{Leaf as NetLeaf, Network}
 use Rattle.net_model.specs.declared.wiring.Link.{Link}
 use Rattle.fnl_bind.specs.Library.{Entry, network_of}
 use Rattle.fnl_bind.specs.Trees.{bound}
 use Rattle.fnl_bind.specs.Trees as binding
 use Rattle.fnl_flatten.specs.Flat.{IsFlat}
-use Rattle.fnl_flatten.specs.Flattened.{IsRefusal, LinksPass, PassesLimit}
+use Rattle.fnl_flatten.specs.Flattened.{IsRefusal, PassesLimit}
 use Rattle.fnl_flatten.specs.Head.{Head}
-use Rattle.fnl_flatten.specs.Links.{AreLinks, capacities, max_capacity}
+use Rattle.fnl_flatten.specs.Links.{AreLinks}
 use Rattle.fnl_tree.specs.Tree.{Leaf, Tree}
 use Rattle.leaf_actors.specs.Leaves.{AreActorsOf, HasActor}
 use Rattle.network_files.specs.Laws.{LoadedIsNotRefused}

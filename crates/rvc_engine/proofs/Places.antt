@@ -1,16 +1,11 @@
 -- The actors at leaves.
-use Rattle.std.proofs.Common.{◌≡◌, ℕ, zero, suc, ◌<◌, List, [], ◌∷◌, map, length, Option, None, Some, refl, sym, ap, subst, ◌∙◌, arith}
+use Rattle.std.proofs.Common.{◌≡◌, ℕ, zero, suc, ◌<◌, List, [], ◌∷◌, map, length, Some, sym, ap, subst, ◌∙◌, arith}
 use Rattle.std.specs.Prelude.{All, slice_get, slice_index_or}
-use Rattle.std.proofs.lemmas.List.{length-map}
-use Rattle.std.proofs.lemmas.List.Elements.{All-head, All-tail}
+use Rattle.std.proofs.lemmas.List.Elements.{All-head}
 use Rattle.cal_model.specs.Actor.{Actor}
-use Rattle.cal_model.specs.Sound.{Each, IsSound}
 use Rattle.cal_model.specs.View.{actor_of}
 use Rattle.cal_model.specs.declared.bound.Bound.{Bound}
-use Rattle.cal_imports.specs.Sources.{Source}
-use Rattle.fnl_tree.specs.Tree.{Leaf}
-use Rattle.leaf_actors.specs.Leaves.{AreActorsOf, IsWithin, actors_at_leaves, at_places, distinct_actors, with_first}
-use Rattle.leaf_actors.specs.declared.found.LeafActors.{LeafActors}
+use Rattle.leaf_actors.specs.Leaves.{at_places, with_first}
 
 -- ---- the one actor
 

@@ -1,16 +1,15 @@
 -- Files that were loaded can be checked.
-use Rattle.std.proofs.Common.{◌≡◌, ◌⊎◌, inl, inr, ℕ, suc, true, List, [], ◌∷◌, ◌++◌, refl, sym, ap, subst, ◌∙◌}
+use Rattle.std.proofs.Common.{◌≡◌, ◌⊎◌, inl, inr, ℕ, true, List, [], ◌∷◌, refl, sym, subst}
 use Rattle.std.specs.Prelude.{is_some}
 use Rattle.cal_imports.specs.Sources.{source_named}
 use Rattle.actor_files.specs.Loading.{Library}
 use Rattle.distinct_names.specs.Names as names
 use Rattle.distinct_names.specs.Names.{AreSpelled, SaidFilesAreSpelled}
-use Rattle.leaf_actors.specs.Leaves.{AreFormed}
 use Rattle.fnl_bind.specs.Library.{network_of}
 use Rattle.network_files.specs.Views.{AreSaid, HasFile, HoldsLoaded, asked_of}
 use Rattle.network_files.specs.declared.kind.FileKind.{FileKind}
 use Rattle.network_files.specs.declared.kind.FileKind.TheVariants as kinds
-use Rattle.source_network.specs.Files.{Read, class_asked, files_of}
+use Rattle.source_network.specs.Files.{Read, class_asked}
 use Rattle.source_network.specs.Source.{Files}
 use Rattle.rvc_engine.specs.Formed.{SpelledAreFormed}
 use Rattle.rvc_engine.specs.Steps.{AreReady}

@@ -1,5 +1,5 @@
 -- The network that was checked is the source network of the files.
-use Rattle.std.proofs.Common.{◌≡◌, ℕ, List, [], ◌∷◌, map, refl, sym, ap, subst, ◌∙◌}
+use Rattle.std.proofs.Common.{ℕ, List, [], ◌∷◌, map, refl, sym, subst}
 use Rattle.std.specs.Prelude.{string_bytes}
 use Rattle.cal_model.specs.Actor.{Actor}
 use Rattle.cal_model.specs.Selection.{State}
@@ -9,7 +9,7 @@ use Rattle.net_model.specs.Ready.{port_of as own_port}
 use Rattle.fnl_flatten.specs.Flattened.{IsFlattened}
 use Rattle.fnl_flatten.specs.Whole.{IsWhole}
 use Rattle.fnl_flatten.specs.declared.flat.Flat.{Flat}
-use Rattle.fnl_tree.specs.Tree.{Leaf, Tree, paths, classes}
+use Rattle.fnl_tree.specs.Tree.{Leaf, Tree, classes}
 use Rattle.leaf_actors.specs.Laws.{ActorsAreLeaves, HasLeaves}
 use Rattle.leaf_actors.specs.Leaves.{actors_at_leaves}
 use Rattle.leaf_actors.specs.declared.found.LeafActors.{LeafActors}

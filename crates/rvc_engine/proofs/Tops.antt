@@ -1,5 +1,5 @@
 -- The file that is read for a top.
-use Rattle.std.proofs.Common.{◌≡◌, inl, inr, ℕ, suc, ◌+◌, Bool, true, false, cond, List, [], ◌∷◌, ◌++◌, take, drop, refl, sym, ap, subst, ◌∙◌, arith, eqb-true}
+use Rattle.std.proofs.Common.{◌≡◌, inl, inr, ℕ, suc, ◌+◌, Bool, true, false, cond, List, [], ◌∷◌, ◌++◌, take, drop, refl, sym, ap, ◌∙◌, arith, eqb-true}
 use Rattle.std.specs.Prelude.{◌==◌, codes, not, if◌then◌else◌}
 use Rattle.std.specs.List.{position_or_len}
 use Rattle.std.specs.Str.{bytes_eq}
@@ -8,7 +8,7 @@ use Rattle.cal_imports.specs.Sources.{dot}
 use Rattle.actor_files.specs.FileNames.{class_of, path_of, replaced, slash}
 use Rattle.actor_files.specs.Loading.{Library}
 use Rattle.source_network.specs.Files.{a_network, an_actor, name_of, wanted}
-use Rattle.rvc_engine.specs.Top.{TopsAreRead, ending_of, top_asked}
+use Rattle.rvc_engine.specs.Top.{TopsAreRead, ending_of}
 
 one_more : (n : ℕ) → 1 + n ≡ suc n
 one_more n = omega arith

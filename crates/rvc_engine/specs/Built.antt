@@ -1,6 +1,6 @@
 -- What a compiled network is: the source network of the files that were read, with code for each of its actors.
 -- Trusted: part of what a promise means.
-use Rattle.std.specs.Prelude.{◌≡◌, ℕ, List, [], ◌∷◌, map, Option, None, Some, string_bytes}
+use Rattle.std.specs.Prelude.{◌≡◌, ℕ, List, [], ◌∷◌, map, Option, None, Some}
 use Rattle.std.specs.Arc.{arc_value}
 use Rattle.cal_model.specs.Actor.{Actor}
 use Rattle.cal_model.specs.Certified.{IsCertified}

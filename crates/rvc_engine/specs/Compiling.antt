@@ -1,6 +1,6 @@
 -- Actors that are compiled one after the other.
 -- Not trusted: no promise is read with it.
-use Rattle.std.specs.Prelude.{◌≡◌, ℕ, List, [], ◌∷◌, ◌++◌, Some, slice_get}
+use Rattle.std.specs.Prelude.{◌≡◌, List, [], ◌∷◌, ◌++◌, Some, slice_get}
 use Rattle.std.specs.Arc.{arc_value}
 use Rattle.actor_lower.specs.Faults.{IsActorFault}
 use Rattle.actor_lower.specs.Standing.{StandsForActor}

@@ -1,6 +1,6 @@
 -- What refuses a top, by what a library tells of the files that it needs.
 -- Trusted: part of what a promise means.
-use Rattle.std.specs.Prelude.{◌≡◌, ℕ, List, [], ◌∷◌, map, Contains, None, Some}
+use Rattle.std.specs.Prelude.{◌≡◌, ℕ, List, [], ◌∷◌, map, None, Some}
 use Rattle.rvc_base.specs.declared.refusal.Front.TheVariants as front
 use Rattle.rvc_base.specs.declared.refusal.Refusal.{Refusal}
 use Rattle.rvc_io.specs.Count.{HasRisen}

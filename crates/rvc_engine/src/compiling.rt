@@ -41,12 +41,14 @@ fn judge(alloc: Global, actor: &Bound) -> Result<Option<CertFault>, Memory>
     match certify(alloc, actor) {
         Ok(()) => Ok(None),
         Err(CertFault::Memory) => Err(Memory),
-        Err(CertFault::Uncertified {
-            state,
-            a,
-            b,
-            reason,
-        }) => Ok(Some(CertFault::Uncertified {
+        Err(
+            CertFault::Uncertified {
+                state,
+                a,
+                b,
+                reason,
+            },
+        ) => Ok(Some(CertFault::Uncertified {
             state,
             a,
             b,
@@ -75,11 +77,7 @@ fn compile(alloc: Global, actor: &Bound) -> Result<Compiled, ActorFault>
 }
 
 /// One of several actors, compiled behind those before it.
-fn compile_next(
-    alloc: Global,
-    all: &mut Vec<Compiled>,
-    actor: &Bound,
-) -> Result<(), ActorFault>
+fn compile_next(alloc: Global, all: &mut Vec<Compiled>, actor: &Bound) -> Result<(), ActorFault>
     requires { IsSound (actor_of actor.now) }
     ensures compiled { OnOk result (AddsCompiled (actor_of actor.now) all.old.items all.new.items) }
     ensures fault { IfErr result (IsActorFault actor.now) }

@@ -149,7 +149,13 @@ fn lone_net(alloc: Global, name: &str, actor: &Bound) -> Result<Net, Memory>
 }
 
 /// The tree of an actor alone, whose one leaf is this.
-pub(crate) fn lone_tree(alloc: Global, leaves: Vec<Leaf>, name: &str, class: &str, actor: &Bound) -> Result<Tree, Memory>
+pub(crate) fn lone_tree(
+    alloc: Global,
+    leaves: Vec<Leaf>,
+    name: &str,
+    class: &str,
+    actor: &Bound,
+) -> Result<Tree, Memory>
     requires { map leaf_of leaves.items ≡ lone_leaf name.now class.now ∷ [] }
     ensures { IfOk result (λ tree. tree_of tree ≡ lone_tree name.now class.now (actor_of actor.now)) }
 {

@@ -88,7 +88,12 @@ fn check_top<L: Library>(
     ensures misses_stay { L.misses library.old ≤ L.misses library.new }
 {
     match held_of_top(alloc, library, top, names) {
-        Ok(Held { files: _files, checked }) => Ok(checked),
+        Ok(
+            Held {
+                files: _files,
+                checked,
+            },
+        ) => Ok(checked),
         Err(fault) => Err(fault),
     }
 }

@@ -1,13 +1,11 @@
-use Rattle.std.proofs.Common.{◌≡◌, ◌<◌, length, map, refl, subst, sym, List, ℕ}
+use Rattle.std.proofs.Common.{◌<◌, length, map, refl, subst, sym}
 use Rattle.std.specs.Prelude.{All}
 use Rattle.std.specs.Arc.{arc_value}
 use Rattle.cal_model.specs.View.{actor_of}
-use Rattle.cal_model.specs.declared.bound.Bound.{Bound}
-use Rattle.leaf_actors.specs.Leaves.{actors_at_leaves, at_places, distinct_actors}
+use Rattle.leaf_actors.specs.Leaves.{at_places, distinct_actors}
 use Rattle.network_files.specs.Views.{files_in}
 use Rattle.rvc_engine.specs.Built.{AreJudged, HaveCodes}
 use Rattle.rvc_engine.specs.Compiling.{AreCompiled}
-use Rattle.rvc_engine.specs.declared.compiling.Compiled.{Compiled}
 use Rattle.rvc_engine.proofs.Left.{image_is, within_compiled}
 use Rattle.rvc_engine.proofs.building.image_of.Goals as goal
 

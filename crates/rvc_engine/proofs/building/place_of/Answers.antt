@@ -1,7 +1,6 @@
-use Rattle.std.proofs.Common.{◌≡◌, length, map, subst, sym}
-use Rattle.std.specs.Prelude.{Contains, Some, slice_get, string_bytes}
+use Rattle.std.proofs.Common.{◌≡◌, subst, sym}
+use Rattle.std.specs.Prelude.{Contains, Some, slice_get}
 use Rattle.std.proofs.lemmas.Result.{IfOk-weaker}
-use Rattle.cal_imports.specs.View.{sources}
 use Rattle.network_files.specs.Views.{files_in}
 use Rattle.rvc_engine.specs.Images.{IsPlaced, start_of}
 use Rattle.rvc_engine.proofs.Left.{IsHere, IsThereAt, here, here_class, here_low, here_placed, there_at}

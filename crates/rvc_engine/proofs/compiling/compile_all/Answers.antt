@@ -1,4 +1,4 @@
-use Rattle.std.proofs.Common.{◌≡◌, ◌∷◌, Some, length, arith, ap, subst, sym, ◌∙◌, rules}
+use Rattle.std.proofs.Common.{◌≡◌, ◌∷◌, Some, length, arith, subst, sym, rules}
 use Rattle.std.specs.Prelude.{slice_get}
 use Rattle.rvc_engine.proofs.Compiled.{next_place, one_compiled}
 use Rattle.rvc_engine.proofs.compiling.compile_all.Goals as goal

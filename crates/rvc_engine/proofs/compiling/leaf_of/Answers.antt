@@ -1,4 +1,4 @@
-use Rattle.std.proofs.Common.{◌≡◌, ◌∷◌, ◌+◌, suc, arith, rules}
+use Rattle.std.proofs.Common.{◌≡◌, ◌∷◌, ◌+◌, arith, rules}
 use Rattle.rvc_engine.proofs.Compiled.{leaf_next}
 use Rattle.rvc_engine.proofs.compiling.leaf_of.Goals as goal
 
