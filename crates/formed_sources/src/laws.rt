@@ -1,7 +1,6 @@
 //! What holds of the parts of an actor, and of its calls.
 
 ghost use Rattle.formed_sources.specs.Formed.{CallsEnd, PartsAreFormed};
-use distinct_names::names_differ;
 
 /// Functions, procedures, actions and the schedule of an actor in its scope have the forms of the grammar, if its file and
 /// those to which its imports lead are what texts spell.
@@ -13,6 +12,4 @@ pub fn parts_are_formed()
 /// are functions or procedures, and each calls only those of lower ranks.
 pub fn calls_end()
     ensures { CallsEnd }
-{
-    names_differ();
-}
+{}

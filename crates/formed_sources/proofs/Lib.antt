@@ -1,0 +1,6 @@
+pub mod Judgements
+pub mod Shaped
+pub mod Meant
+pub mod Expressions
+pub mod Variables
+pub mod Statements
