@@ -4,3 +4,5 @@ pub mod Meant
 pub mod Expressions
 pub mod Variables
 pub mod Statements
+pub mod Members
+pub mod Walks
