@@ -1,6 +1,7 @@
 -- What holds of all that a judgement gives.
-use Rattle.std.proofs.Common.{◌≡◌, subst}
+use Rattle.std.proofs.Common.{◌≡◌, ℕ, subst}
 use Rattle.cal_model.specs.Kinding.{Judged, Fine, Broken, and_so}
+use Rattle.cal_imports.specs.Answer.{Answer, Gives, Refuses, and_then, in_file}
 
 -- it holds of what is given, if anything is
 abbrev pub OnFine : {A : Type 0} → (A → Type 0) → Judged A → Type 0
@@ -20,6 +21,27 @@ on_given P j x h e = subst (OnFine P) e h
 pub on_all : {A : Type 0} (P R : A → Type 0) → ((x : A) → P x → R x) → (j : Judged A) → OnFine P j → OnFine R j
 on_all P R f (Fine x) h = f x h
 on_all P R f (Broken rule at) h = tt
+
+pub so_then : {A B : Type 0} (P : B → Type 0) (S : A → Type 0) (a : Judged A) (f : A → Judged B) → OnFine S a → ((x : A) → S x → OnFine P (f x)) → OnFine P (and_so a f)
+so_then P S (Fine x) f h k = k x h
+so_then P S (Broken rule at) f h k = tt
+
+-- ---- answers about several files
+
+abbrev pub OnGives : {A : Type 0} → (A → Type 0) → Answer A → Type 0
+OnGives P (Gives x) = P x
+OnGives P (Refuses rule file at) = Unit {0}
+
+pub on_answer : {A : Type 0} (P : A → Type 0) (a : Answer A) (x : A) → OnGives P a → a ≡ Gives x → P x
+on_answer P a x h e = subst (OnGives P) e h
+
+pub then_on : {A B : Type 0} (P : B → Type 0) (S : A → Type 0) (a : Answer A) (f : A → Answer B) → OnGives S a → ((x : A) → S x → OnGives P (f x)) → OnGives P (and_then a f)
+then_on P S (Gives x) f h k = k x h
+then_on P S (Refuses rule file at) f h k = tt
+
+pub in_file_on : {A : Type 0} (P : A → Type 0) (file : ℕ) (j : Judged A) → OnFine P j → OnGives P (in_file file j)
+in_file_on P file (Fine x) h = h
+in_file_on P file (Broken rule at) h = tt
 
 -- ---- parts that are judged in several steps, none of which depends on what the others give
 

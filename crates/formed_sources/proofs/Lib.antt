@@ -6,3 +6,5 @@ pub mod Variables
 pub mod Statements
 pub mod Members
 pub mod Walks
+pub mod Seen
+pub mod Bodies

@@ -3,10 +3,10 @@ use Rattle.std.proofs.Common.{◌≡◌, ℕ, Bool, true, false, List, refl}
 use Rattle.cal_ast.specs.Tree as tree
 use Rattle.cal_ast.specs.Tree.{Tree}
 use Rattle.cal_check.specs.Formed.{AreMoves, IsOptional}
-use Rattle.cal_imports.specs.Sources.{body_of}
+use Rattle.cal_imports.specs.Sources.{body_of, imports_of}
 use Rattle.cal_lexer.specs.Lexeme.{Placed}
-use Rattle.cal_grammar.specs.Operators.{with_package}
-use Rattle.cal_grammar.specs.Spells.{Spells, any, repeated, rest, separated, a_body, a_file, a_function, a_labelled, a_member, a_move, a_procedure, a_schedule, a_stmt, a_unit_member, a_var, an_actor, a_unit, comma, members, otherwise, some_imports, some_vars, the_separated, the_last, the_more, the_end, the_again, the_var, the_var_changing, the_var_constant, the_no_vars, the_vars, the_assign, the_call_stmt, the_if_stmt, the_while, the_foreach, the_block, the_block_with, the_if_end, the_else, the_elsif, the_function, the_procedure, the_no_body, the_body, the_action, the_initialize, the_unlabelled, the_labelled, the_move, the_schedule, the_priority, the_var_member, the_function_member, the_procedure_member, the_action_member, the_priority_member, the_no_members, the_member, the_schedule_member, the_unit_var, the_unit_function, the_actor, the_unit, the_actor_file, the_unit_file, the_file, the_package_file}
+use Rattle.cal_grammar.specs.Operators.{import_at, onto, with_package}
+use Rattle.cal_grammar.specs.Spells.{Spells, any, repeated, rest, separated, a_body, a_file, a_function, a_labelled, a_member, a_move, a_param, a_path, an_import, a_procedure, a_schedule, a_stmt, a_unit_member, a_var, an_actor, a_unit, comma, members, otherwise, some_imports, some_vars, the_separated, the_last, the_more, the_none, the_some, the_end, the_again, the_var, the_var_changing, the_var_constant, the_no_vars, the_vars, the_param, the_param_default, the_assign, the_call_stmt, the_if_stmt, the_while, the_foreach, the_block, the_block_with, the_if_end, the_else, the_elsif, the_function, the_procedure, the_no_body, the_body, the_action, the_initialize, the_unlabelled, the_labelled, the_move, the_schedule, the_priority, the_var_member, the_function_member, the_procedure_member, the_action_member, the_priority_member, the_no_members, the_member, the_schedule_member, the_unit_var, the_unit_function, the_path_name, the_path_all, the_path_on, the_import, the_actor, the_unit, the_actor_file, the_unit_file, the_file, the_package_file}
 
 -- ---- forms
 
@@ -63,8 +63,24 @@ abbrev pub AreOfUnit : Tree → Type 0
 AreOfUnit (tree.cons m ms) = IsOfUnit m × AreOfUnit ms
 AreOfUnit other = Unit {0}
 
+abbrev pub IsParam : Tree → Type 0
+IsParam (tree.param shape name start at) = Unit {0}
+IsParam other = ⊥
+
+abbrev pub AreParams : Tree → Type 0
+AreParams (tree.cons p ps) = IsParam p × AreParams ps
+AreParams other = Unit {0}
+
+abbrev pub IsImport : Tree → Type 0
+IsImport (tree.import_part path last at) = Unit {0}
+IsImport other = ⊥
+
+abbrev pub AreImports : Tree → Type 0
+AreImports (tree.cons i is) = IsImport i × AreImports is
+AreImports other = Unit {0}
+
 abbrev pub IsShapedBody : Tree → Type 0
-IsShapedBody (tree.actor name params ins outs inside at) = AreShapedMembers inside
+IsShapedBody (tree.actor name params ins outs inside at) = AreParams params × AreShapedMembers inside
 IsShapedBody (tree.unit name inside at) = AreShapedMembers inside × AreOfUnit inside
 IsShapedBody other = Unit {0}
 
@@ -175,22 +191,65 @@ unit_members_shaped (the_again h i) =
     let others = unit_members_shaped i in
     ((unit_member_shaped h, others.0), (of_unit h, others.1))
 
+-- ---- parameters and imports
+
+param_shaped : {a b : List Placed} {x : Tree} → Spells a_param a b x → IsParam x
+param_shaped (the_param h) = tt
+param_shaped (the_param_default h i) = tt
+
+mutual
+  params_behind : {a b : List Placed} {xs : Tree} → Spells (rest comma a_param) a b xs → AreParams xs
+  params_behind the_last = tt
+  params_behind (the_more h) = some_params h
+
+  some_params : {a b : List Placed} {xs : Tree} → Spells (separated comma a_param) a b xs → AreParams xs
+  some_params (the_separated h i) = (param_shaped h, params_behind i)
+
+params_shaped : {a b : List Placed} {xs : Tree} → Spells (any comma a_param) a b xs → AreParams xs
+params_shaped the_none = tt
+params_shaped (the_some h) = some_params h
+
+onto_import : (first x : Tree) → IsImport x → IsImport (onto first x)
+onto_import first (tree.import_part path last at) h = tt
+onto_import first _ h = absurd h
+
+placed_import : (q : ℕ) (x : Tree) → IsImport x → IsImport (import_at q x)
+placed_import q (tree.import_part path last at) h = tt
+placed_import q _ h = absurd h
+
+path_shaped : {a b : List Placed} {x : Tree} → Spells a_path a b x → IsImport x
+path_shaped the_path_name = tt
+path_shaped the_path_all = tt
+path_shaped (the_path_on {s = s} {r = r} {x = x} h) = onto_import (tree.ident s r) x (path_shaped h)
+
+import_shaped : {a b : List Placed} {x : Tree} → Spells an_import a b x → IsImport x
+import_shaped (the_import {s = s} {q = q} {r = r} {x = x} h) = placed_import q (onto (tree.ident s r) x) (onto_import (tree.ident s r) x (path_shaped h))
+
+all_imports : {a b : List Placed} {xs : Tree} → Spells (repeated an_import) a b xs → AreImports xs
+all_imports the_end = tt
+all_imports (the_again h i) = (import_shaped h, all_imports i)
+
 -- ---- files
 
 actor_shaped : {a b : List Placed} {x : Tree} → Spells an_actor a b x → IsShapedBody x
-actor_shaped (the_actor h i j k e) = members_shaped k
+actor_shaped (the_actor h i j k e) = (params_shaped h, members_shaped k)
 
 unit_shaped : {a b : List Placed} {x : Tree} → Spells a_unit a b x → IsShapedBody x
 unit_shaped (the_unit h e) = unit_members_shaped h
 
-imports_shaped : {a b : List Placed} {x : Tree} → Spells some_imports a b x → IsShapedBody (body_of x)
-imports_shaped (the_actor_file h i) = actor_shaped i
-imports_shaped (the_unit_file h i) = unit_shaped i
+-- a file's imports and its body
+pub record IsShapedFile (x : Tree) : Type 0 where
+  pub imports : AreImports (imports_of x)
+  pub body : IsShapedBody (body_of x)
 
-packaged_shaped : {a b : List Placed} {x : Tree} (q : ℕ) (t : Tree) → Spells some_imports a b x → IsShapedBody (body_of (with_package q t x))
-packaged_shaped q t (the_actor_file h i) = actor_shaped i
-packaged_shaped q t (the_unit_file h i) = unit_shaped i
+imports_shaped : {a b : List Placed} {x : Tree} → Spells some_imports a b x → IsShapedFile x
+imports_shaped (the_actor_file h i) = record { imports = all_imports h; body = actor_shaped i }
+imports_shaped (the_unit_file h i) = record { imports = all_imports h; body = unit_shaped i }
 
-pub file_shaped : {a b : List Placed} {x : Tree} → Spells a_file a b x → IsShapedBody (body_of x)
+packaged_shaped : {a b : List Placed} {x : Tree} (q : ℕ) (t : Tree) → Spells some_imports a b x → IsShapedFile (with_package q t x)
+packaged_shaped q t (the_actor_file h i) = record { imports = all_imports h; body = actor_shaped i }
+packaged_shaped q t (the_unit_file h i) = record { imports = all_imports h; body = unit_shaped i }
+
+pub file_shaped : {a b : List Placed} {x : Tree} → Spells a_file a b x → IsShapedFile x
 file_shaped (the_file h) = imports_shaped h
 file_shaped (the_package_file {q = q} {t = t} g h) = packaged_shaped q t h
