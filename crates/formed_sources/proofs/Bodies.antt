@@ -13,6 +13,7 @@ use Rattle.cal_scope.specs.Members.{members_resolved, ports_of}
 use Rattle.cal_scope.specs.Names.{Global}
 use Rattle.cal_scope.specs.declared.role.Role.{Role}
 use Rattle.cal_scope.specs.declared.role.Role.TheVariants.{Variable, Function, Procedure}
+use Rattle.cal_imports.specs.Answer.{in_file}
 use Rattle.cal_imports.specs.Behind.{LeadAmong}
 use Rattle.cal_imports.specs.Brought.{names_declared, names_seen}
 use Rattle.cal_imports.specs.OneFile.{body_resolved, header_resolved, params_resolved, source_resolved}

@@ -8,3 +8,7 @@ pub mod Members
 pub mod Walks
 pub mod Seen
 pub mod Bodies
+pub mod Nodes
+pub mod Scopes
+pub mod Calls
+pub mod Parts

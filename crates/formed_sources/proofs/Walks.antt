@@ -31,7 +31,7 @@ among_last x (z ∷ xs) = go (bytes_eq x z) (among_last x xs)
     go true e = refl
     go false e = e
 
-leads_before : (es : List Edge) (xs ys : List (List ℕ)) → LeadAmong es xs → LeadAmong es (xs ++ ys)
+pub leads_before : (es : List Edge) (xs ys : List (List ℕ)) → LeadAmong es xs → LeadAmong es (xs ++ ys)
 leads_before [] xs ys h = tt
 leads_before (e ∷ es) xs ys h = (among_before e.to xs ys h.0, leads_before es xs ys h.1)
 
@@ -68,10 +68,10 @@ record IsFollowed (es rest : List Edge) (names : List (List ℕ)) : Type 0 where
   parts : es ≡ done ++ rest
   led : LeadAmong done names
 
-abbrev AllAmong : (xs ys : List (List ℕ)) → Type 0
+abbrev pub AllAmong : (xs ys : List (List ℕ)) → Type 0
 AllAmong xs ys = (x : List ℕ) → is_among x xs ≡ true → is_among x ys ≡ true
 
-leads_on : (es : List Edge) (xs ys : List (List ℕ)) → AllAmong xs ys → LeadAmong es xs → LeadAmong es ys
+pub leads_on : (es : List Edge) (xs ys : List (List ℕ)) → AllAmong xs ys → LeadAmong es xs → LeadAmong es ys
 leads_on [] xs ys all h = tt
 leads_on (e ∷ es) xs ys all h = (all e.to h.0, leads_on es xs ys all h.1)
 
