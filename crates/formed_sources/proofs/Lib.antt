@@ -12,3 +12,6 @@ pub mod Nodes
 pub mod Scopes
 pub mod Calls
 pub mod Parts
+pub mod Ranks
+pub mod Routines
+pub mod Ends

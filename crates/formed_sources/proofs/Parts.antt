@@ -43,7 +43,7 @@ schedule_formed (tree.cons (tree.schedule start moves at) ms) h = h.0
 schedule_formed (tree.cons _ ms) h = schedule_formed ms h.1
 schedule_formed _ h = tt
 
-parts_of : (scope : Scope) → IsFormedScope scope → HasFormedParts (source_of scope)
+pub parts_of : (scope : Scope) → IsFormedScope scope → HasFormedParts (source_of scope)
 parts_of scope h =
     let ms = members_of scope.actor in
     let formed = h.members.formed in

@@ -17,7 +17,9 @@ use Rattle.cal_imports.specs.Sources.{Source, as_asked, body_of, class_of, impor
 use Rattle.cal_imports.specs.Walk.{Node, entering, node_named}
 use Rattle.cal_imports.specs.Whole.{Gathered, Outer, Scope, actor_gathered, file_graph, file_node, import_edges, import_order, members_of, outer, scope_of, source_gathered, unit_gathered, units_gathered, with_declaration, with_declarations, with_file_nodes}
 use Rattle.distinct_names.specs.Names.{AreSpelled, IsSpelled}
-use Rattle.distinct_names.proofs.Gathered.{gives_same, then_gave}
+use Rattle.distinct_names.proofs.Gathered.{fine_body, gives_same, then_gave}
+use Rattle.distinct_names.proofs.NamedMembers.{AreNamed, IsNamedBody, file_named}
+use Rattle.distinct_names.proofs.WordTokens.{lexed_words}
 use Rattle.formed_sources.proofs.Bodies.{HasDot, IsCalled, IsProcedure, actor_formed, unit_declares, unit_formed}
 use Rattle.formed_sources.proofs.Judgements.{OnGives, on_answer, then_on}
 use Rattle.formed_sources.proofs.Meant.{IsMeant}
@@ -63,8 +65,8 @@ named_node x (f ∷ fs) u e = go (bytes_eq x f.name) e (named_node x fs u)
     go true i rest = ap (λ s. Some (file_node s)) (some_same i)
     go false i rest = rest i
 
-file_named : (x : List ℕ) (files : List Source) (u : Source) → source_named x files ≡ Some u → node_named x (file_graph files).nodes ≡ Some (file_node u)
-file_named x files u e = ap (node_named x) (nodes_added files []) ∙ find_added x (map file_node files) [] ∙ named_node x files u e
+node_of_file : (x : List ℕ) (files : List Source) (u : Source) → source_named x files ≡ Some u → node_named x (file_graph files).nodes ≡ Some (file_node u)
+node_of_file x files u e = ap (node_named x) (nodes_added files []) ∙ find_added x (map file_node files) [] ∙ named_node x files u e
 
 -- ---- imports lead to units
 
@@ -111,7 +113,7 @@ units_among : (files : List Source) (classes : List (List ℕ)) → Each (λ x. 
     → Each (IsUnitFile files) classes → Each (IsUnitAmong files classes) classes
 units_among files classes h k =
     each_both (λ x. LeadAmong (edges_of (node_named x (file_graph files).nodes)) classes) (IsUnitFile files) (IsUnitAmong files classes) classes
-    (λ x led asked u e. (asked u e, subst (λ o. LeadAmong (edges_of o) classes) (file_named x files u e) led)) h k
+    (λ x led asked u e. (asked u e, subst (λ o. LeadAmong (edges_of o) classes) (node_of_file x files u e) led)) h k
 
 files_declare : (files : List Source) (classes : List (List ℕ)) → AreShapedFiles files → Each (IsUnitAmong files classes) classes → FilesDeclare (IsMeant HasDot Never) files classes
 files_declare files classes shaped units x u among e =
@@ -178,17 +180,20 @@ pub record IsFormedScope (scope : Scope) : Type 0 where
   pub written : Tree
   pub outer_funs : Each IsOuterFun scope.funs
   pub is_actor : members_of scope.actor ≡ check.members_of scope.actor
+  pub named : AreNamed (check.members_of scope.actor)
   pub members : AreMembers (IsCalled written) (IsProcedure written) written (check.members_of scope.actor)
 
-formed_scope : (class : List ℕ) (file : ℕ) (g : Gathered) (written body : Tree) (scope : Scope) → HasOuterFuns g
+formed_scope : (class : List ℕ) (file : ℕ) (g : Gathered) (written body : Tree) (scope : Scope) → HasOuterFuns g → AreNamed (members_of body)
     → AreMembers (IsCalled written) (IsProcedure written) written (members_of body) → scope_of class file g body ≡ Gives scope → IsFormedScope scope
-formed_scope class file g written (tree.actor nm params ins outs inside at) scope h m e =
+formed_scope class file g written (tree.actor nm params ins outs inside at) scope h named m e =
     let same = gives_same (record { class = class; file = file; actor = tree.actor nm params ins outs inside at; vars = g.vars; funs = g.funs }) scope e in
-    subst IsFormedScope same (record { written = written; outer_funs = h; is_actor = refl; members = m })
-formed_scope class file g written _ scope h m e = absurd cc
+    subst IsFormedScope same (record { written = written; outer_funs = h; is_actor = refl; named = named; members = m })
+formed_scope class file g written _ scope h named m e = absurd cc
 
-gathered_formed : (files : List Source) (s : Source) (scope : Scope) → AreShapedFiles files → IsShapedFile s.tree → actor_gathered files s ≡ Gives scope → IsFormedScope scope
-gathered_formed files s scope shaped own h =
+gathered_formed : (files : List Source) (s : Source) (scope : Scope) → AreShapedFiles files → IsSpelled s → actor_gathered files s ≡ Gives scope → IsFormedScope scope
+gathered_formed files s scope shaped spelled h =
+    let own : IsShapedFile s.tree = file_shaped spelled.is_file.spelled in
+    let named : IsNamedBody (body_of s.tree) = file_named spelled.is_file.spelled (lexed_words spelled.is_file.lexed) in
     let empty : Gathered = record { vars = []; funs = [] } in
     let (u, a, i) = then_gave (as_asked false s)
     (λ _. and_then (import_order files s) (λ names. and_then (units_gathered files names empty)
@@ -204,7 +209,7 @@ gathered_formed files s scope shaped own h =
     let written = members_of (body_of s.tree) in
     let members = on_answer (λ r. AreMembers (IsCalled written) (IsProcedure written) written (members_of r)) (source_resolved files s) body
     (actor_formed files names s own ends.whole others (is_actor (is_unit (body_of s.tree)) (asked_for false s u a))) d in
-    formed_scope s.name s.file g written body scope funs members l
+    formed_scope s.name s.file g written body scope funs (fine_body files s body named d).named.members members l
 
 -- .. whose calls have an order
 pub record IsLinkedScope (scope : Scope) : Type 0 where
@@ -212,17 +217,17 @@ pub record IsLinkedScope (scope : Scope) : Type 0 where
   pub order : List (List ℕ)
   pub ends : IsEnd (routines scope) (map edge_to (routines scope)) order
 
-linked_scope : (files : List Source) (s : Source) (scope : Scope) → AreShapedFiles files → IsShapedFile s.tree → source_linked files s ≡ Gives scope → IsLinkedScope scope
-linked_scope files s scope shaped own h =
+linked_scope : (files : List Source) (s : Source) (scope : Scope) → AreShapedFiles files → IsSpelled s → source_linked files s ≡ Gives scope → IsLinkedScope scope
+linked_scope files s scope shaped spelled h =
     let (t, a, i) = then_gave (actor_gathered files s) (λ t. without_recursion t) scope h in
     let (order, b, j) = then_gave (call_order t.file (routines t)) (λ _. Gives t) scope i in
     subst IsLinkedScope (gives_same t scope j) (record {
-      formed = gathered_formed files s t shaped own a;
+      formed = gathered_formed files s t shaped spelled a;
       order = order;
       ends = order_ends (call_graph (routines t)) (above_all t.file (routines t)) order b;
     })
 
-named_scope : (files : List Source) (o : Option Source) (scope : Scope) → AreShapedFiles files → ((s : Source) → o ≡ Some s → IsShapedFile s.tree)
+named_scope : (files : List Source) (o : Option Source) (scope : Scope) → AreShapedFiles files → ((s : Source) → o ≡ Some s → IsSpelled s)
     → resolved_source files o ≡ Gives scope → IsLinkedScope scope
 named_scope files None scope shaped is h = absurd cc
 named_scope files (Some s) scope shaped is h = linked_scope files s scope shaped (is s refl) h
@@ -230,4 +235,4 @@ named_scope files (Some s) scope shaped is h = linked_scope files s scope shaped
 pub spelled_scope : (files : List Source) (class : List ℕ) (scope : Scope) → AreSpelled files → resolved_source files (source_named class files) ≡ Gives scope → IsLinkedScope scope
 spelled_scope files class scope spelled h =
     let shaped = spelled_shaped files spelled in
-    named_scope files (source_named class files) scope shaped (λ s e. named_source (λ f. IsShapedFile f.tree) class files s shaped e) h
+    named_scope files (source_named class files) scope shaped (λ s e. named_source IsSpelled class files s spelled e) h
