@@ -1,14 +1,11 @@
 -- The body of a file whose names are written out in full.
-use Rattle.std.proofs.Common.{◌≡◌, ℕ, ◌+◌, ◌≤◌, Bool, true, false, ◌&&◌, List, [], ◌∷◌, ◌++◌, refl, sym, ap, subst, arith}
-use Rattle.std.specs.Prelude.{if◌then◌else◌}
-use Rattle.std.specs.Str.{bytes_eq}
+use Rattle.std.proofs.Common.{◌≡◌, ℕ, ◌≤◌, true, false, List, [], ◌∷◌, ◌++◌, refl, ap, arith}
 use Rattle.cal_ast.specs.Tree as tree
 use Rattle.cal_ast.specs.Tree.{Tree, listed}
-use Rattle.cal_model.specs.Kinding.{Judged, Fine, Broken, and_so}
+use Rattle.cal_model.specs.Kinding.{Judged, Fine, Broken}
 use Rattle.cal_model.specs.Sound.{Each}
-use Rattle.cal_check.specs.Actors.{params_of}
 use Rattle.cal_scope.specs.Asked.{outermost}
-use Rattle.cal_scope.specs.Globals.{names_of_actor, with_all_declared}
+use Rattle.cal_scope.specs.Globals.{with_all_declared}
 use Rattle.cal_scope.specs.Members.{members_resolved, ports_of}
 use Rattle.cal_scope.specs.Names.{Global}
 use Rattle.cal_scope.specs.declared.role.Role.{Role}
@@ -19,7 +16,7 @@ use Rattle.cal_imports.specs.Brought.{names_declared, names_seen}
 use Rattle.cal_imports.specs.OneFile.{body_resolved, header_resolved, params_resolved, source_resolved}
 use Rattle.cal_imports.specs.Sources.{Source, body_of, dot, imports_of, is_unit}
 use Rattle.cal_imports.specs.Whole.{import_edges, members_of}
-use Rattle.distinct_names.proofs.Counts.{itself, one}
+use Rattle.distinct_names.proofs.Counts.{itself}
 use Rattle.formed_sources.proofs.Judgements.{OnFine, OnGives, Any, any_fine, in_file_on, so_one, so_four, so_then, then_on}
 use Rattle.formed_sources.proofs.Meant.{AreMeant, InRole, IsMeant}
 use Rattle.formed_sources.proofs.Members.{AreMembers, Never, functions, members_formed, procedures}
@@ -140,18 +137,18 @@ all_own_declare : (whole ms : Tree) → ArePart ms whole → AllDeclare (IsMeant
 all_own_declare whole (tree.cons m ms) h = (own_declares whole m ms h, all_own_declare whole ms (others_part m ms whole h))
 all_own_declare whole _ h = tt
 
-params_declare : (Q : Global → Type 0) (whole ps : Tree) → AreParams ps → AllDeclare (IsMeant (IsCalled whole) (IsProcedure whole)) [] ps
-params_declare Q whole (tree.cons (tree.param shape (tree.ident name place) start at) ps) s = (tt, params_declare Q whole ps s.1)
-params_declare Q whole (tree.cons (tree.param shape _ start at) ps) s = (tt, params_declare Q whole ps s.1)
-params_declare Q whole (tree.cons _ ps) s = absurd s.0
-params_declare Q whole _ s = tt
+params_declare : (whole ps : Tree) → AreParams ps → AllDeclare (IsMeant (IsCalled whole) (IsProcedure whole)) [] ps
+params_declare whole (tree.cons (tree.param shape (tree.ident name place) start at) ps) s = (tt, params_declare whole ps s.1)
+params_declare whole (tree.cons (tree.param shape _ start at) ps) s = (tt, params_declare whole ps s.1)
+params_declare whole (tree.cons _ ps) s = absurd s.0
+params_declare whole _ s = tt
 
 actor_declares_in : (class : List ℕ) (body : Tree) → IsShapedBody body → is_unit body ≡ false
     → OnFine (AreMeant (IsCalled (members_of body)) (IsProcedure (members_of body))) (names_declared class body)
 actor_declares_in class (tree.actor nm params ins outs inside at) s h =
     let Q : Global → Type 0 = IsMeant (IsCalled inside) (IsProcedure inside) in
     so_then (Each Q) (Each Q) (with_all_declared [] params []) (λ here. with_all_declared [] inside here)
-    (all_declared_on Q [] params [] (params_declare Q inside params s.0) tt)
+    (all_declared_on Q [] params [] (params_declare inside params s.0) tt)
     (λ gs i. all_declared_on Q [] inside gs (all_own_declare inside inside (record { fewer_functions = λ x. omega arith; fewer_procedures = λ x. omega arith })) i)
 actor_declares_in class (tree.unit nm inside at) s h = absurd cc
 actor_declares_in class _ s h = tt

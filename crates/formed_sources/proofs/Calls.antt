@@ -52,69 +52,83 @@ found_among names _ found h = h
 -- Calls of such functions and procedures that lead to these names are of such others.
 pub calls_among : (F Q F' Q' : List ℕ → Type 0) (names : List (List ℕ)) → ((y : List ℕ) → F y → is_among y names ≡ true → F' y)
     → ((y : List ℕ) → Q y → is_among y names ≡ true → Q' y) → (t : Tree) (found : List Edge) → EachCall F Q t → LeadAmong (with_calls t found) names → EachCall F' Q' t
-calls_among F Q F' Q' names f q (tree.cons t ts) found c h =
-    (calls_among F Q F' Q' names f q t found c.0 (found_among names ts (with_calls t found) h),
-    calls_among F Q F' Q' names f q ts (with_calls t found) c.1 h)
+calls_among F Q F' Q' names f q (tree.cons t ts) found c h = (
+  calls_among F Q F' Q' names f q t found c.0 (found_among names ts (with_calls t found) h),
+  calls_among F Q F' Q' names f q ts (with_calls t found) c.1 h,
+)
 calls_among F Q F' Q' names f q (tree.present t) found c h =
     calls_among F Q F' Q' names f q t found c h
-calls_among F Q F' Q' names f q (tree.call name args at) found c h =
-    (f name c.0 (last_among names found (call_edge name at) (found_among names args (with_call name at found) h)),
-    calls_among F Q F' Q' names f q args (with_call name at found) c.1 h)
+calls_among F Q F' Q' names f q (tree.call name args at) found c h = (
+  f name c.0 (last_among names found (call_edge name at) (found_among names args (with_call name at found) h)),
+  calls_among F Q F' Q' names f q args (with_call name at found) c.1 h,
+)
 calls_among F Q F' Q' names f q (tree.paren e at) found c h =
     calls_among F Q F' Q' names f q e found c h
-calls_among F Q F' Q' names f q (tree.if_expr test first other at) found c h =
-    (calls_among F Q F' Q' names f q test found c.0 (found_among names first (with_calls test found) (found_among names other (with_calls first (with_calls test found)) h)),
-    calls_among F Q F' Q' names f q first (with_calls test found) c.1 (found_among names other (with_calls first (with_calls test found)) h),
-    calls_among F Q F' Q' names f q other (with_calls first (with_calls test found)) c.2 h)
+calls_among F Q F' Q' names f q (tree.if_expr test first other at) found c h = (
+  calls_among F Q F' Q' names f q test found c.0 (found_among names first (with_calls test found) (found_among names other (with_calls first (with_calls test found)) h)),
+  calls_among F Q F' Q' names f q first (with_calls test found) c.1 (found_among names other (with_calls first (with_calls test found)) h),
+  calls_among F Q F' Q' names f q other (with_calls first (with_calls test found)) c.2 h,
+)
 calls_among F Q F' Q' names f q (tree.list items at) found c h =
     calls_among F Q F' Q' names f q items found c h
-calls_among F Q F' Q' names f q (tree.comp item gens at) found c h =
-    (calls_among F Q F' Q' names f q item found c.0 (found_among names gens (with_calls item found) h),
-    calls_among F Q F' Q' names f q gens (with_calls item found) c.1 h)
-calls_among F Q F' Q' names f q (tree.gen shape name from to at) found c h =
-    (calls_among F Q F' Q' names f q shape found c.0 (found_among names from (with_calls shape found) (found_among names to (with_calls from (with_calls shape found)) h)),
-    calls_among F Q F' Q' names f q from (with_calls shape found) c.1 (found_among names to (with_calls from (with_calls shape found)) h),
-    calls_among F Q F' Q' names f q to (with_calls from (with_calls shape found)) c.2 h)
-calls_among F Q F' Q' names f q (tree.index base place at) found c h =
-    (calls_among F Q F' Q' names f q base found c.0 (found_among names place (with_calls base found) h),
-    calls_among F Q F' Q' names f q place (with_calls base found) c.1 h)
+calls_among F Q F' Q' names f q (tree.comp item gens at) found c h = (
+  calls_among F Q F' Q' names f q item found c.0 (found_among names gens (with_calls item found) h),
+  calls_among F Q F' Q' names f q gens (with_calls item found) c.1 h,
+)
+calls_among F Q F' Q' names f q (tree.gen shape name from to at) found c h = (
+  calls_among F Q F' Q' names f q shape found c.0 (found_among names from (with_calls shape found) (found_among names to (with_calls from (with_calls shape found)) h)),
+  calls_among F Q F' Q' names f q from (with_calls shape found) c.1 (found_among names to (with_calls from (with_calls shape found)) h),
+  calls_among F Q F' Q' names f q to (with_calls from (with_calls shape found)) c.2 h,
+)
+calls_among F Q F' Q' names f q (tree.index base place at) found c h = (
+  calls_among F Q F' Q' names f q base found c.0 (found_among names place (with_calls base found) h),
+  calls_among F Q F' Q' names f q place (with_calls base found) c.1 h,
+)
 calls_among F Q F' Q' names f q (tree.prefix op e at) found c h =
     calls_among F Q F' Q' names f q e found c h
-calls_among F Q F' Q' names f q (tree.binary op l r at) found c h =
-    (calls_among F Q F' Q' names f q l found c.0 (found_among names r (with_calls l found) h),
-    calls_among F Q F' Q' names f q r (with_calls l found) c.1 h)
+calls_among F Q F' Q' names f q (tree.binary op l r at) found c h = (
+  calls_among F Q F' Q' names f q l found c.0 (found_among names r (with_calls l found) h),
+  calls_among F Q F' Q' names f q r (with_calls l found) c.1 h,
+)
 calls_among F Q F' Q' names f q (tree.type_of name args at) found c h =
     calls_among F Q F' Q' names f q args found c h
 calls_among F Q F' Q' names f q (tree.shape_arg name shape) found c h =
     calls_among F Q F' Q' names f q shape found c h
 calls_among F Q F' Q' names f q (tree.value_arg name value) found c h =
     calls_among F Q F' Q' names f q value found c h
-calls_among F Q F' Q' names f q (tree.assign name places value at) found c h =
-    (calls_among F Q F' Q' names f q places found c.0 (found_among names value (with_calls places found) h),
-    calls_among F Q F' Q' names f q value (with_calls places found) c.1 h)
-calls_among F Q F' Q' names f q (tree.call_stmt (tree.ident name place) args at) found c h =
-    (q name c.0 (last_among names found (call_edge name at) (found_among names args (with_call name at found) h)),
-    calls_among F Q F' Q' names f q args (with_call name at found) c.1 h)
+calls_among F Q F' Q' names f q (tree.assign name places value at) found c h = (
+  calls_among F Q F' Q' names f q places found c.0 (found_among names value (with_calls places found) h),
+  calls_among F Q F' Q' names f q value (with_calls places found) c.1 h,
+)
+calls_among F Q F' Q' names f q (tree.call_stmt (tree.ident name place) args at) found c h = (
+  q name c.0 (last_among names found (call_edge name at) (found_among names args (with_call name at found) h)),
+  calls_among F Q F' Q' names f q args (with_call name at found) c.1 h,
+)
 calls_among F Q F' Q' names f q (tree.call_stmt _ args at) found c h = tt
-calls_among F Q F' Q' names f q (tree.if_stmt test first other at) found c h =
-    (calls_among F Q F' Q' names f q test found c.0 (found_among names first (with_calls test found) (found_among names other (with_calls first (with_calls test found)) h)),
-    calls_among F Q F' Q' names f q first (with_calls test found) c.1 (found_among names other (with_calls first (with_calls test found)) h),
-    calls_among F Q F' Q' names f q other (with_calls first (with_calls test found)) c.2 h)
-calls_among F Q F' Q' names f q (tree.while_stmt test body at) found c h =
-    (calls_among F Q F' Q' names f q test found c.0 (found_among names body (with_calls test found) h),
-    calls_among F Q F' Q' names f q body (with_calls test found) c.1 h)
-calls_among F Q F' Q' names f q (tree.foreach_stmt shape name from to body at) found c h =
-    (calls_among F Q F' Q' names f q shape found c.0 (found_among names from (with_calls shape found) (found_among names to (with_calls from (with_calls shape found)) (found_among names body (with_calls to (with_calls from (with_calls shape found))) h))),
-    calls_among F Q F' Q' names f q from (with_calls shape found) c.1 (found_among names to (with_calls from (with_calls shape found)) (found_among names body (with_calls to (with_calls from (with_calls shape found))) h)),
-    calls_among F Q F' Q' names f q to (with_calls from (with_calls shape found)) c.2 (found_among names body (with_calls to (with_calls from (with_calls shape found))) h),
-    calls_among F Q F' Q' names f q body (with_calls to (with_calls from (with_calls shape found))) c.3 h)
-calls_among F Q F' Q' names f q (tree.block vars body at) found c h =
-    (calls_among F Q F' Q' names f q vars found c.0 (found_among names body (with_calls vars found) h),
-    calls_among F Q F' Q' names f q body (with_calls vars found) c.1 h)
+calls_among F Q F' Q' names f q (tree.if_stmt test first other at) found c h = (
+  calls_among F Q F' Q' names f q test found c.0 (found_among names first (with_calls test found) (found_among names other (with_calls first (with_calls test found)) h)),
+  calls_among F Q F' Q' names f q first (with_calls test found) c.1 (found_among names other (with_calls first (with_calls test found)) h),
+  calls_among F Q F' Q' names f q other (with_calls first (with_calls test found)) c.2 h,
+)
+calls_among F Q F' Q' names f q (tree.while_stmt test body at) found c h = (
+  calls_among F Q F' Q' names f q test found c.0 (found_among names body (with_calls test found) h),
+  calls_among F Q F' Q' names f q body (with_calls test found) c.1 h,
+)
+calls_among F Q F' Q' names f q (tree.foreach_stmt shape name from to body at) found c h = (
+  calls_among F Q F' Q' names f q shape found c.0 (found_among names from (with_calls shape found) (found_among names to (with_calls from (with_calls shape found)) (found_among names body (with_calls to (with_calls from (with_calls shape found))) h))),
+  calls_among F Q F' Q' names f q from (with_calls shape found) c.1 (found_among names to (with_calls from (with_calls shape found)) (found_among names body (with_calls to (with_calls from (with_calls shape found))) h)),
+  calls_among F Q F' Q' names f q to (with_calls from (with_calls shape found)) c.2 (found_among names body (with_calls to (with_calls from (with_calls shape found))) h),
+  calls_among F Q F' Q' names f q body (with_calls to (with_calls from (with_calls shape found))) c.3 h,
+)
+calls_among F Q F' Q' names f q (tree.block vars body at) found c h = (
+  calls_among F Q F' Q' names f q vars found c.0 (found_among names body (with_calls vars found) h),
+  calls_among F Q F' Q' names f q body (with_calls vars found) c.1 h,
+)
 calls_among F Q F' Q' names f q (tree.port shape name at) found c h = tt
-calls_among F Q F' Q' names f q (tree.var shape name start changes at) found c h =
-    (calls_among F Q F' Q' names f q shape found c.0 (found_among names start (with_calls shape found) h),
-    calls_among F Q F' Q' names f q start (with_calls shape found) c.1 h)
+calls_among F Q F' Q' names f q (tree.var shape name start changes at) found c h = (
+  calls_among F Q F' Q' names f q shape found c.0 (found_among names start (with_calls shape found) h),
+  calls_among F Q F' Q' names f q start (with_calls shape found) c.1 h,
+)
 calls_among F Q F' Q' names f q (tree.function name formals result vars body at) found c h = tt
 calls_among F Q F' Q' names f q (tree.procedure name formals vars body at) found c h = tt
 calls_among F Q F' Q' names f q _ found c h = tt

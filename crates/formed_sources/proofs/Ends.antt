@@ -1,35 +1,34 @@
 -- No function and no procedure of an actor in its scope calls itself.
-use Rattle.std.proofs.Common.{◌≡◌, ℕ, zero, suc, ◌+◌, ◌<◌, ◌≤◌, Bool, true, false, List, [], ◌∷◌, ◌++◌, map, length, refl, sym, ap, subst, ◌∙◌, arith}
+use Rattle.std.proofs.Common.{◌≡◌, ℕ, ◌+◌, ◌<◌, ◌≤◌, Bool, true, false, List, [], ◌∷◌, ◌++◌, map, length, refl, sym, ap, subst, ◌∙◌, arith}
 use Rattle.std.proofs.lemmas.List.{map-append}
 use Rattle.std.proofs.lemmas.Slice.Eq.{bytes_eq-Decides}
-use Rattle.std.specs.Prelude.{Option, None, Some, is_some}
+use Rattle.std.specs.Prelude.{Some, is_some}
 use Rattle.std.specs.Str.{bytes_eq}
 use Rattle.cal_ast.specs.Tree as tree
 use Rattle.cal_ast.specs.Tree.{Tree}
-use Rattle.cal_model.specs.Sound.{AreDistinct, Each, EachCall}
+use Rattle.cal_model.specs.Sound.{Each}
 use Rattle.cal_check.specs.Actors as check
 use Rattle.cal_check.specs.Actors.{all_funs, declared_vars, funs_in, procs_in}
 use Rattle.cal_check.specs.Formed.{DeclCallsBelow, IsFunFormed, IsProcFormed}
 use Rattle.cal_check.specs.Routines.{FunDecl}
-use Rattle.cal_check.specs.Sources.{FunDeclsEnd, ProcDeclCallsBelow, ProcDeclsEnd, names_of_source, proc_name, procs_of_source}
+use Rattle.cal_check.specs.Sources.{ProcDeclCallsBelow, names_of_source, proc_name}
 use Rattle.cal_scope.specs.Names.{is_among}
 use Rattle.cal_imports.specs.Behind.{LeadAmong, edges_of}
 use Rattle.cal_imports.specs.Calls.{with_calls}
 use Rattle.cal_imports.specs.Recursion.{routine_node, routines}
-use Rattle.cal_imports.specs.Sources.{dot}
 use Rattle.cal_imports.specs.Walk.{Edge, Node, node_named}
 use Rattle.cal_imports.specs.Whole.{Outer, Scope, members_of}
 use Rattle.actor_check.specs.Sources.{fun_of, source_of}
 use Rattle.distinct_names.specs.Names.{NamesDifferIn}
-use Rattle.distinct_names.proofs.Counts.{AreSingle, count, count-append, one}
+use Rattle.distinct_names.proofs.Counts.{count, count-append, one}
 use Rattle.distinct_names.proofs.NamedMembers.{AreNamed}
 use Rattle.distinct_names.proofs.Scopes.{names_differ}
 use Rattle.distinct_names.proofs.WordTokens.{IsWord, word_has_no_dot}
 use Rattle.formed_sources.specs.Formed.{CallsEnd, HasCallsThatEnd, HasFormedParts}
 use Rattle.formed_sources.proofs.Bodies.{HasDot, IsCalled, IsProcedure, elsewhere, here}
 use Rattle.formed_sources.proofs.Calls.{calls_among, formals_among, found_among}
-use Rattle.formed_sources.proofs.Members.{AllBodyCalls, AllDeclCalls, AreFormedMembers, BodyCalls, DeclCalls, Ever, Never, functions, procedures}
-use Rattle.formed_sources.proofs.Nodes.{each_among, each_both}
+use Rattle.formed_sources.proofs.Members.{AllBodyCalls, AllDeclCalls, BodyCalls, DeclCalls, Ever, Never}
+use Rattle.formed_sources.proofs.Nodes.{each_among}
 use Rattle.formed_sources.proofs.Parts.{each_append, parts_of}
 use Rattle.formed_sources.proofs.Ranks.{among_whole, leads_up_to, rank, rank_in_range, rank_less, up_to}
 use Rattle.formed_sources.proofs.Routines.{all_nodes, each_counted, each_found, each_left, each_on, find_routine, found_among_order, functions_counted, node_names, outer_counted, outer_functions, outer_node, own_counted, own_functions, own_nodes, own_procedures, procedures_counted, single_of, there_counted}
@@ -66,7 +65,7 @@ nodes_counted s same x =
     let b = count-append x (node_names own) (node_names others) in
     let c = outer_counted x s.funs in
     let d : count x (node_names own) ≤ count x (map (λ f. f.name) (funs_in s.file (check.members_of s.actor))) + count x (proc_names s) =
-        subst (λ ms. count x (node_names own) ≤ count x (map (λ f. f.name) (funs_in s.file ms)) + count x (map proc_name (procs_in ms))) same (own_counted x s.file (members_of s.actor)) in
+    subst (λ ms. count x (node_names own) ≤ count x (map (λ f. f.name) (funs_in s.file ms)) + count x (map proc_name (procs_in ms))) same (own_counted x s.file (members_of s.actor)) in
     let e = all_fun_names s x in
     omega arith
 
@@ -107,28 +106,40 @@ AreFunctions s F = (y : List ℕ) → F y → IsRoutine s y → 1 ≤ count y (f
 
 decl_below : (s : Scope) (l : IsLinkedScope s) (F : List ℕ → Type 0) → AreFunctions s F → (x : List ℕ) (decl : Tree) → IsFunFormed decl → DeclCalls F decl → CallsBefore l.order x decl
     → DeclCallsBelow (rank (fun_names s) l.order) x decl
-decl_below s l F are x (tree.function nm formals result vars body at) f c h =
-    (formals_among F Never Lower Never before lower never formals [] c.0 led_formals, calls_among F Never Lower Never before lower never result after_formals c.1 led_result,
-    calls_among F Never Lower Never before lower never vars after_result c.2 led_vars, calls_among F Never Lower Never before lower never body after_vars c.3 h.led)
+decl_below s l F are x (tree.function nm formals result vars body at) f c h = (
+  formals_among F Never Lower Never before lower never formals [] c.0 led_formals,
+  calls_among F Never Lower Never before lower never result after_formals c.1 led_result,
+  calls_among F Never Lower Never before lower never vars after_result c.2 led_vars,
+  calls_among F Never Lower Never before lower never body after_vars c.3 h.led,
+)
   where
     before : List (List ℕ)
     before = up_to x l.order
+
     Lower : List ℕ → Type 0
     Lower y = rank (fun_names s) l.order y < rank (fun_names s) l.order x
+
     after_formals : List Edge
     after_formals = with_calls formals []
+
     after_result : List Edge
     after_result = with_calls result after_formals
+
     after_vars : List Edge
     after_vars = with_calls vars after_result
+
     lower : (y : List ℕ) → F y → is_among y before ≡ true → Lower y
     lower y i among = rank_less (fun_names s) l.order x y (are y i (routine_before s l x y among)) among
+
     never : (y : List ℕ) → Never y → is_among y before ≡ true → Never y
     never y i among = i
+
     led_vars : LeadAmong after_vars before
     led_vars = found_among before body after_vars h.led
+
     led_result : LeadAmong after_result before
     led_result = found_among before vars after_result led_vars
+
     led_formals : LeadAmong after_formals before
     led_formals = found_among before result after_formals led_result
 decl_below s l F are x _ f c h = absurd f
@@ -176,6 +187,7 @@ proc_below s l P are (tree.procedure (tree.ident name place) formals vars body a
   where
     Lower : List ℕ → Type 0
     Lower y = rank (proc_names s) l.order y < rank (proc_names s) l.order name
+
     lower : (y : List ℕ) → P y → is_among y (up_to name l.order) ≡ true → Lower y
     lower y i among = rank_less (proc_names s) l.order name y (are y i) among
 proc_below s l P are _ f c h = absurd f
@@ -223,18 +235,18 @@ calls_of s l differ = record {
   where
     ms : Tree
     ms = check.members_of s.actor
+
     w : Tree
     w = l.formed.written
+
     parts : HasFormedParts (source_of s)
     parts = parts_of s l.formed
+
     formed : Each (λ f. IsFunFormed f.decl) (map fun_of s.funs) × Each (λ f. IsFunFormed f.decl) (funs_in s.file ms)
     formed = each_left (λ f. IsFunFormed f.decl) (map fun_of s.funs) (funs_in s.file ms) parts.funs
 
     counts : (x : List ℕ) → count x (node_names (all_nodes s)) ≤ count x (fun_names s) + count x (proc_names s)
     counts x = nodes_counted s l.formed.is_actor x
-
-    IsFoundNode : Node → Type 0
-    IsFoundNode n = node_named n.name (routines s) ≡ Some n
 
     nodes_found : Each (λ n. node_named n.name (routines s) ≡ Some n) (all_nodes s)
     nodes_found =

@@ -1,5 +1,5 @@
 -- The calls in expressions and types whose names are written out in full.
-use Rattle.std.proofs.Common.{◌≡◌, ℕ, Bool, true, false, List, [], ◌∷◌}
+use Rattle.std.proofs.Common.{ℕ, Bool, true, false, List, [], ◌∷◌}
 use Rattle.std.specs.Prelude.{if◌then◌else◌}
 use Rattle.rvc_base.specs.Rules.{unknown_name}
 use Rattle.cal_ast.specs.Tree as tree
@@ -10,7 +10,7 @@ use Rattle.cal_check.specs.Formed.{IsOptional}
 use Rattle.cal_scope.specs.declared.role.Role.TheVariants.{Variable, Function}
 use Rattle.cal_scope.specs.Expressions.{declared_by, declared_name, expr_resolved, exprs_resolved, gen_resolved, gens_resolved, optional_resolved, type_arg_resolved, type_args_resolved, type_resolved}
 use Rattle.cal_scope.specs.Names.{Names, used_as, with_name, within}
-use Rattle.formed_sources.proofs.Judgements.{OnFine, Any, any_fine, so_one, so_two, so_three, so_four}
+use Rattle.formed_sources.proofs.Judgements.{OnFine, Any, any_fine, so_one, so_two, so_three}
 use Rattle.formed_sources.proofs.Meant.{AreMeant, function_meant}
 
 -- all calls of the parts that are given are such; Q is of the procedures, which no expression calls

@@ -1,17 +1,18 @@
 pub mod Judgements
-pub mod Shaped
-pub mod Meant
-pub mod Expressions
-pub mod Variables
-pub mod Statements
-pub mod Members
-pub mod Walks
-pub mod Seen
-pub mod Bodies
-pub mod Nodes
-pub mod Scopes
-pub mod Calls
+mod Shaped
+mod Meant
+mod Expressions
+mod Variables
+mod Statements
+mod Members
+mod Walks
+mod Nodes
+mod Seen
+mod Bodies
+mod Scopes
+mod Calls
+mod Ranks
+mod Routines
 pub mod Parts
-pub mod Ranks
-pub mod Routines
 pub mod Ends
+mod Rows

@@ -1,9 +1,9 @@
 -- What a name that is called stands for, by the roles of the names that a file sees.
-use Rattle.std.proofs.Common.{◌≡◌, ℕ, Bool, true, false, List, [], ◌∷◌}
+use Rattle.std.proofs.Common.{ℕ, Bool, true, false, List, [], ◌∷◌}
 use Rattle.std.specs.Prelude.{Option, None, Some, if◌then◌else◌}
 use Rattle.std.specs.Str.{bytes_eq}
 use Rattle.rvc_base.specs.Rules.{not_as_asked}
-use Rattle.cal_model.specs.Kinding.{Judged, Fine, Broken}
+use Rattle.cal_model.specs.Kinding.{Fine, Broken}
 use Rattle.cal_model.specs.Sound.{Each}
 use Rattle.cal_scope.specs.declared.role.Role.{Role}
 use Rattle.cal_scope.specs.declared.role.Role.TheVariants.{Variable, Function, Procedure}

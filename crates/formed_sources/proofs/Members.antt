@@ -5,9 +5,9 @@ use Rattle.std.specs.Str.{bytes_eq}
 use Rattle.rvc_base.specs.Rules.{declared_twice}
 use Rattle.cal_ast.specs.Tree as tree
 use Rattle.cal_ast.specs.Tree.{Tree, listed}
-use Rattle.cal_model.specs.Kinding.{Judged, Fine, Broken, and_so}
+use Rattle.cal_model.specs.Kinding.{Fine, Broken, and_so}
 use Rattle.cal_model.specs.Sound.{EachCall}
-use Rattle.cal_check.specs.Formed.{AreDeclared, AreFormed, AreMoves, FormalCalls, FormalsCall, IsOptional}
+use Rattle.cal_check.specs.Formed.{AreDeclared, AreFormed, AreMoves, FormalCalls, FormalsCall}
 use Rattle.cal_scope.specs.Expressions.{declared_by, declared_name, expr_resolved, exprs_resolved, optional_resolved, type_resolved}
 use Rattle.cal_scope.specs.Members.{Ports, action_resolved, declared_by_patterns, formal_resolved, formals_resolved, function_resolved, member_resolved, members_resolved, outputs_resolved, pattern_names, pattern_resolved, patterns_resolved, procedure_resolved}
 use Rattle.cal_scope.specs.declared.role.Role.{Role}

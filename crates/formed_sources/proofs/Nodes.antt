@@ -1,11 +1,11 @@
 -- Nodes by their names, and what an order says of them.
-use Rattle.std.proofs.Common.{◌≡◌, ℕ, Bool, true, false, ◌||◌, List, [], ◌∷◌, ◌++◌, map, refl, sym, ap, subst, ◌∙◌}
+use Rattle.std.proofs.Common.{◌≡◌, ℕ, Bool, true, false, ◌||◌, List, [], ◌∷◌, ◌++◌, refl, sym, ap, subst, ◌∙◌}
 use Rattle.std.proofs.lemmas.Slice.Eq.{bytes_eq-Decides}
 use Rattle.std.specs.Prelude.{Option, None, Some, is_some, if◌then◌else◌}
 use Rattle.std.specs.Str.{bytes_eq}
 use Rattle.cal_model.specs.Sound.{Each}
 use Rattle.cal_scope.specs.Names.{is_among}
-use Rattle.cal_imports.specs.Behind.{IsOrder, IsOrderBehind, LeadAmong, edges_of}
+use Rattle.cal_imports.specs.Behind.{IsOrderBehind, LeadAmong, edges_of}
 use Rattle.cal_imports.specs.Walk.{Node, node_named, with_node}
 use Rattle.formed_sources.proofs.Walks.{leads_before}
 
@@ -68,9 +68,10 @@ find_added x (n ∷ more) ns =
 pub order_leads : (nodes : List Node) (before order : List (List ℕ)) → IsOrderBehind nodes before order
     → Each (λ x. LeadAmong (edges_of (node_named x nodes)) (before ++ order)) order
 order_leads nodes before [] h = tt
-order_leads nodes before (x ∷ order) h =
-    (leads_before (edges_of (node_named x nodes)) before (x ∷ order) h.0,
-    subst (λ whole. Each (λ y. LeadAmong (edges_of (node_named y nodes)) whole) order) (moved before) (order_leads nodes (before ++ x ∷ []) order h.1))
+order_leads nodes before (x ∷ order) h = (
+  leads_before (edges_of (node_named x nodes)) before (x ∷ order) h.0,
+  subst (λ whole. Each (λ y. LeadAmong (edges_of (node_named y nodes)) whole) order) (moved before) (order_leads nodes (before ++ x ∷ []) order h.1),
+)
   where
     moved : (xs : List (List ℕ)) → (xs ++ x ∷ []) ++ order ≡ xs ++ x ∷ order
     moved [] = refl

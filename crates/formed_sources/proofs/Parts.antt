@@ -1,13 +1,11 @@
 -- The parts of an actor in its scope have the forms of the grammar.
 use Rattle.std.proofs.Common.{ℕ, List, [], ◌∷◌, ◌++◌, map}
-use Rattle.std.specs.Prelude.{Option, None, Some}
 use Rattle.cal_ast.specs.Tree as tree
 use Rattle.cal_ast.specs.Tree.{Tree}
 use Rattle.cal_model.specs.Sound.{Each}
 use Rattle.cal_check.specs.Actors.{actions_in, funs_in, members_of, procs_in}
 use Rattle.cal_check.specs.Formed.{IsActionFormed, IsFunFormed, IsProcFormed, IsScheduleFormed}
 use Rattle.cal_check.specs.Schedules.{schedule_in}
-use Rattle.cal_imports.specs.Sources.{source_named}
 use Rattle.cal_imports.specs.Whole.{Outer, Scope}
 use Rattle.actor_check.specs.Sources.{fun_of, source_of}
 use Rattle.formed_sources.specs.Formed.{HasFormedParts, PartsAreFormed}

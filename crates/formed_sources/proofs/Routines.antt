@@ -1,8 +1,8 @@
 -- Functions and procedures of a scope as nodes: each is found by its name.
-use Rattle.std.proofs.Common.{◌≡◌, ℕ, zero, suc, ◌+◌, ◌≤◌, Bool, true, false, ◌||◌, List, [], ◌∷◌, ◌++◌, map, length, refl, sym, ap, subst, ◌∙◌, arith}
+use Rattle.std.proofs.Common.{◌≡◌, ℕ, zero, suc, ◌+◌, ◌≤◌, Bool, true, false, List, [], ◌∷◌, ◌++◌, map, refl, sym, ap, subst, ◌∙◌, arith}
 use Rattle.std.proofs.lemmas.List.{map-append}
 use Rattle.std.proofs.lemmas.Slice.Eq.{bytes_eq-Decides}
-use Rattle.std.specs.Prelude.{Option, None, Some, Contains, is_some, if◌then◌else◌}
+use Rattle.std.specs.Prelude.{None, Some, Contains, is_some, if◌then◌else◌}
 use Rattle.std.specs.Str.{bytes_eq}
 use Rattle.cal_ast.specs.Tree as tree
 use Rattle.cal_ast.specs.Tree.{Tree}
@@ -16,7 +16,6 @@ use Rattle.cal_imports.specs.Walk.{Node, node_named}
 use Rattle.cal_imports.specs.Whole.{Outer, Scope, members_of}
 use Rattle.actor_check.specs.Sources.{fun_of}
 use Rattle.distinct_names.proofs.Counts.{AreSingle, count, count-append, itself, one}
-use Rattle.distinct_names.proofs.Declarations.{declared}
 use Rattle.formed_sources.proofs.Members.{AreFormedMembers, functions, procedures}
 use Rattle.formed_sources.proofs.Nodes.{added, find_added, find_append, first}
 
@@ -50,9 +49,10 @@ each_on P R (x ∷ xs) f h = (f x h.0, each_on P R xs f h.1)
 -- each of some is counted among their names
 pub each_counted : {A : Type 0} (name : A → List ℕ) (xs : List A) → Each (λ a. 1 ≤ count (name a) (map name xs)) xs
 each_counted name [] = tt
-each_counted name (a ∷ xs) =
-    (let e = itself (name a) in omega arith,
-    each_on (λ b. 1 ≤ count (name b) (map name xs)) (λ b. 1 ≤ count (name b) (name a ∷ map name xs)) xs (λ b h. omega arith) (each_counted name xs))
+each_counted name (a ∷ xs) = (
+  let e = itself (name a) in omega arith,
+  each_on (λ b. 1 ≤ count (name b) (map name xs)) (λ b. 1 ≤ count (name b) (name a ∷ map name xs)) xs (λ b h. omega arith) (each_counted name xs),
+)
 
 -- ---- nodes
 
@@ -124,9 +124,11 @@ found_behind before (n ∷ rest) h =
     let d = itself n.name in
     let none : node_named n.name before ≡ None = not_there n.name before (omega arith) in
     let it : node_named n.name (before ++ n ∷ rest) ≡ Some n =
-        find_append n.name before (n ∷ rest) ∙ ap (λ o. first o (node_named n.name (n ∷ rest))) none ∙ found_itself n rest in
-    (it, subst (λ ns. Each (λ m. node_named m.name ns ≡ Some m) rest) (moved before)
-    (found_behind (before ++ n ∷ []) rest (subst (λ ns. AreSingle (node_names ns)) (sym (moved before)) h)))
+    find_append n.name before (n ∷ rest) ∙ ap (λ o. first o (node_named n.name (n ∷ rest))) none ∙ found_itself n rest in (
+      it,
+      subst (λ ns. Each (λ m. node_named m.name ns ≡ Some m) rest) (moved before)
+          (found_behind (before ++ n ∷ []) rest (subst (λ ns. AreSingle (node_names ns)) (sym (moved before)) h)),
+    )
   where
     moved : (xs : List Node) → (xs ++ n ∷ []) ++ rest ≡ xs ++ n ∷ rest
     moved [] = refl

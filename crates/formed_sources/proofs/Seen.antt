@@ -4,14 +4,14 @@ use Rattle.std.specs.Prelude.{Option, None, Some, is_some, if◌then◌else◌}
 use Rattle.rvc_base.specs.Rules.{declared_twice}
 use Rattle.cal_ast.specs.Tree as tree
 use Rattle.cal_ast.specs.Tree.{Tree}
-use Rattle.cal_model.specs.Kinding.{Judged, Fine, Broken, and_so}
+use Rattle.cal_model.specs.Kinding.{Fine, Broken}
 use Rattle.cal_model.specs.Sound.{Each}
 use Rattle.cal_scope.specs.declared.role.Role.TheVariants.{Variable, Function, Procedure}
 use Rattle.cal_scope.specs.Globals.{global, with_all_declared, with_declared, with_global}
 use Rattle.cal_scope.specs.Names.{Global, global_named}
 use Rattle.cal_imports.specs.Answer.{Gives, and_then, in_file}
 use Rattle.cal_imports.specs.Behind.{LeadAmong}
-use Rattle.cal_imports.specs.Brought.{asked_brought, brought_beside, import_brought, imports_brought, names_declared, names_seen, one_brought, same_brought, unit_brought, with_all_brought, with_brought, with_last_brought, with_seen}
+use Rattle.cal_imports.specs.Brought.{asked_brought, brought_beside, imports_brought, names_declared, names_seen, same_brought, unit_brought, with_all_brought, with_brought, with_last_brought, with_seen}
 use Rattle.cal_imports.specs.Sources.{Source, body_of, dotted, imports_of, source_named}
 use Rattle.cal_imports.specs.Whole.{import_edges}
 use Rattle.cal_scope.specs.Names.{is_among}

@@ -1,5 +1,5 @@
 -- The forms that the grammar gives to variables, statements, members and files.
-use Rattle.std.proofs.Common.{◌≡◌, ℕ, Bool, true, false, List, refl}
+use Rattle.std.proofs.Common.{◌≡◌, ℕ, true, false, List, refl}
 use Rattle.cal_ast.specs.Tree as tree
 use Rattle.cal_ast.specs.Tree.{Tree}
 use Rattle.cal_check.specs.Formed.{AreMoves, IsOptional}

@@ -7,7 +7,7 @@ use Rattle.cal_model.specs.Sound.{Each}
 use Rattle.cal_scope.specs.Names.{is_among, with_name}
 use Rattle.cal_imports.specs.Answer.{Answer, Gives, Refuses}
 use Rattle.cal_imports.specs.Behind.{IsOrder, IsOrderBehind, LeadAmong, edges_of}
-use Rattle.cal_imports.specs.Walk.{Edge, Graph, Node, Open, Step, Goes, Ends, Stops, Walk, begun, entered_from, entering, followed, left_inside, node_named, order_from, past, step, step_at, step_in, steps_left, walk, walk_on, with_entered, with_inner, with_open}
+use Rattle.cal_imports.specs.Walk.{Edge, Graph, Node, Open, Step, Goes, Ends, Stops, Walk, begun, entered_from, followed, left_inside, node_named, order_from, past, step, step_at, step_in, steps_left, walk, walk_on, with_inner, with_open}
 
 -- ---- names among others
 
@@ -192,9 +192,11 @@ IsStep nodes start (Stops rule file at) = Unit {0}
 outside_on : (nodes : List Node) (start : List Edge) (xs ys : List (List ℕ)) (inner : List ℕ) (os : List Open) → AllAmong xs ys → AreOutside nodes start xs inner os
     → AreOutside nodes start ys inner os
 outside_on nodes start xs ys inner [] all h = tt
-outside_on nodes start xs ys inner (o ∷ os) all h =
-    (followed_on (its_edges nodes start os o.name) o.rest (inner ∷ xs) (inner ∷ ys) (front_in_both inner xs ys all) h.0,
-    h.1, outside_on nodes start xs ys o.name os all h.2)
+outside_on nodes start xs ys inner (o ∷ os) all h = (
+  followed_on (its_edges nodes start os o.name) o.rest (inner ∷ xs) (inner ∷ ys) (front_in_both inner xs ys all) h.0,
+  h.1,
+  outside_on nodes start xs ys o.name os all h.2,
+)
 
 left_with : (nodes : List Node) (left : List (List ℕ)) (name : List ℕ) → IsLeft nodes left → is_some (node_named name nodes) ≡ true → LeadAmong (edges_of (node_named name nodes)) left
     → IsLeft nodes (with_name name left)
@@ -213,9 +215,11 @@ leaving_is nodes start [] name w same left done inner outside =
     record { is_order = left.is_order; are_nodes = left.are_nodes; whole = all_followed start w.left done }
 leaving_is nodes start (p ∷ ps) name w same left done inner outside = record {
   left = left_with nodes w.left name left inner (all_followed (edges_of (node_named name nodes)) w.left done);
-  opened = subst (AreOpen nodes start (with_name name w.left)) (sym same)
-      (followed_on (its_edges nodes start ps p.name) p.rest (name ∷ w.left) (with_name name w.left) (added_last name w.left) outside.0,
-      outside.1, outside_on nodes start w.left (with_name name w.left) p.name ps (kept_with name w.left) outside.2);
+  opened = subst (AreOpen nodes start (with_name name w.left)) (sym same) (
+    followed_on (its_edges nodes start ps p.name) p.rest (name ∷ w.left) (with_name name w.left) (added_last name w.left) outside.0,
+    outside.1,
+    outside_on nodes start w.left (with_name name w.left) p.name ps (kept_with name w.left) outside.2,
+  );
 }
 
 entered_is : (g : Graph) (start : List Edge) (o : Open) (e : Edge) (es : List Edge) (w : Walk) (found : Option Node) → node_named e.to g.nodes ≡ found → IsLeft g.nodes w.left
@@ -228,12 +232,16 @@ entered_is g start o e es w (Some n) same left done inner outside =
     let to_it : is_among e.to (n.name ∷ w.left) ≡ true = subst (λ z. is_among z (n.name ∷ w.left) ≡ true) named (it_is_first n.name w.left) in
     record {
       left = left;
-      opened =
-          (subst (λ f. IsFollowed (edges_of f) n.edges w.left) (sym here) (none_followed n.edges w.left),
-          subst (λ f. is_some f ≡ true) (sym here) refl,
-          (one_more_followed (its_edges g.nodes start w.open_nodes o.name) es e (n.name ∷ w.left)
-          (followed_on (its_edges g.nodes start w.open_nodes o.name) (e ∷ es) w.left (n.name ∷ w.left) (in_front n.name w.left) done) to_it,
-          inner, outside));
+      opened = (
+        subst (λ f. IsFollowed (edges_of f) n.edges w.left) (sym here) (none_followed n.edges w.left),
+        subst (λ f. is_some f ≡ true) (sym here) refl,
+        (
+          one_more_followed (its_edges g.nodes start w.open_nodes o.name) es e (n.name ∷ w.left)
+              (followed_on (its_edges g.nodes start w.open_nodes o.name) (e ∷ es) w.left (n.name ∷ w.left) (in_front n.name w.left) done) to_it,
+          inner,
+          outside,
+        ),
+      );
     }
 
 followed_is : (g : Graph) (start : List Edge) (o : Open) (e : Edge) (es : List Edge) (w : Walk) → IsLeft g.nodes w.left
