@@ -1,0 +1,5 @@
+pub mod Judgements
+pub mod Inside
+pub mod Hiding
+pub mod Called
+pub mod Expressions
