@@ -27,11 +27,11 @@ pub record IsToldAs (name : List ℕ) (g : Global) : Type 0 where
   pub same : name ≡ g.name
   pub told : IsTold g
 
-abbrev OnSome : {A : Type 0} → (A → Type 0) → Option A → Type 0
+abbrev pub OnSome : {A : Type 0} → (A → Type 0) → Option A → Type 0
 OnSome P None = Unit {0}
 OnSome P (Some x) = P x
 
-named_told : (name : List ℕ) (gs : List Global) → AreTold gs → OnSome (IsToldAs name) (global_named name gs)
+pub named_told : (name : List ℕ) (gs : List Global) → AreTold gs → OnSome (IsToldAs name) (global_named name gs)
 named_told name [] h = tt
 named_told name (g ∷ gs) h = go (bytes_eq name g.name) (bytes_eq-Decides name g.name).0 (named_told name gs h.1)
   where

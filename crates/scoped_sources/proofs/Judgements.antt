@@ -35,6 +35,10 @@ OnGives P (Refuses rule file at) = Unit {0}
 pub on_answer : {A : Type 0} (P : A → Type 0) (a : Answer A) (x : A) → OnGives P a → a ≡ Gives x → P x
 on_answer P a x h e = subst (OnGives P) e h
 
+pub any_gives : {A : Type 0} (a : Answer A) → OnGives (λ x. Any x) a
+any_gives (Gives x) = tt
+any_gives (Refuses rule file at) = tt
+
 pub then_on : {A B : Type 0} (P : B → Type 0) (S : A → Type 0) (a : Answer A) (f : A → Answer B) → OnGives S a → ((x : A) → S x → OnGives P (f x)) → OnGives P (and_then a f)
 then_on P S (Gives x) f h k = k x h
 then_on P S (Refuses rule file at) f h k = tt

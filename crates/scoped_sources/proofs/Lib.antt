@@ -3,3 +3,7 @@ pub mod Inside
 pub mod Hiding
 pub mod Called
 pub mod Expressions
+pub mod Statements
+pub mod Members
+pub mod Seen
+mod Scopes
