@@ -6,4 +6,5 @@ pub mod Expressions
 pub mod Statements
 pub mod Members
 pub mod Seen
-mod Scopes
+pub mod Scopes
+mod Rows

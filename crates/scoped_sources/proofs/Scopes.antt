@@ -23,7 +23,7 @@ use Rattle.cal_imports.specs.Whole.{Gathered, Outer, Scope, actor_gathered, impo
 use Rattle.actor_check.specs.Sources.{fun_of, source_of}
 use Rattle.distinct_names.specs.Names.{AreSpelled, IsSpelled}
 use Rattle.distinct_names.proofs.WordTokens.{lexed_words}
-use Rattle.scoped_sources.specs.Scoped.{ActionsAreScoped, FunsAreScoped, HoldsOfScopes, ProcsAreScoped}
+use Rattle.scoped_sources.specs.Scoped.{ActionsAreScoped, FunsAreScoped, FunsAreScopedIn, ProcsAreScoped}
 use Rattle.scoped_sources.proofs.Called.{AreTold, OnSome}
 use Rattle.scoped_sources.proofs.Inside.{HasWords, file_words}
 use Rattle.scoped_sources.proofs.Judgements.{Any, OnFine, OnGives, any_fine, any_gives, in_file_on, on_answer, so_one, so_four, then_on}
@@ -80,7 +80,7 @@ gathered_scoped files s g w k =
 
 -- ---- files by their classes
 
-abbrev HaveWords : List Source → Type 0
+abbrev pub HaveWords : List Source → Type 0
 HaveWords files = Each (λ s. HasWords (body_of s.tree)) files
 
 named_words : (name : List ℕ) (files : List Source) → HaveWords files → OnSome (λ s. HasWords (body_of s.tree)) (source_named name files)
@@ -133,19 +133,8 @@ resolved_scoped : (files : List Source) (o : Option Source) → HaveWords files 
 resolved_scoped files None all w = tt
 resolved_scoped files (Some s) all w = linked_scoped files s all w
 
--- ---- files that texts spell
-
-spelled_words : (s : Source) → IsSpelled s → HasWords (body_of s.tree)
-spelled_words s h = file_words h.is_file.spelled (lexed_words h.is_file.lexed)
-
-all_words : (files : List Source) → AreSpelled files → HaveWords files
-all_words [] h = tt
-all_words (s ∷ ss) h = (spelled_words s h.0, all_words ss h.1)
-
-scoped : HoldsOfScopes IsScoped
-scoped files class scope spelled e =
-    let all = all_words files spelled in
-    on_answer IsScoped (resolved files class) scope (resolved_scoped files (source_named class files) all (named_words class files all)) e
+scoped : (files : List Source) (class : List ℕ) (scope : Scope) → HaveWords files → resolved files class ≡ Gives scope → IsScoped scope
+scoped files class scope all e = on_answer IsScoped (resolved files class) scope (resolved_scoped files (source_named class files) all (named_words class files all)) e
 
 -- ---- by kinds of parts
 
@@ -168,14 +157,26 @@ outer_scoped : (os : List Outer) → AreFunsScoped os → Each (λ f. IsFunScope
 outer_scoped [] h = tt
 outer_scoped (o ∷ os) h = (h.0, outer_scoped os h.1)
 
-pub funs_are_scoped : FunsAreScoped
-funs_are_scoped files class scope spelled e =
-    let h = scoped files class scope spelled e in
+pub funs_of_words : (files : List Source) (class : List ℕ) (scope : Scope) → HaveWords files → resolved files class ≡ Gives scope → FunsAreScopedIn scope
+funs_of_words files class scope all e =
+    let h = scoped files class scope all e in
     each_append (λ f. IsFunScoped f.decl) (map fun_of scope.funs) (funs_in scope.file (check.members_of scope.actor)) (outer_scoped scope.funs h.funs)
     (funs_scoped scope.file (check.members_of scope.actor) h.members)
 
+-- ---- files that texts spell
+
+spelled_words : (s : Source) → IsSpelled s → HasWords (body_of s.tree)
+spelled_words s h = file_words h.is_file.spelled (lexed_words h.is_file.lexed)
+
+all_words : (files : List Source) → AreSpelled files → HaveWords files
+all_words [] h = tt
+all_words (s ∷ ss) h = (spelled_words s h.0, all_words ss h.1)
+
+pub funs_are_scoped : FunsAreScoped
+funs_are_scoped files class scope spelled e = funs_of_words files class scope (all_words files spelled) e
+
 pub procs_are_scoped : ProcsAreScoped
-procs_are_scoped files class scope spelled e = procs_scoped (check.members_of scope.actor) (scoped files class scope spelled e).members
+procs_are_scoped files class scope spelled e = procs_scoped (check.members_of scope.actor) (scoped files class scope (all_words files spelled) e).members
 
 pub actions_are_scoped : ActionsAreScoped
-actions_are_scoped files class scope spelled e = actions_scoped (check.members_of scope.actor) (scoped files class scope spelled e).members
+actions_are_scoped files class scope spelled e = actions_scoped (check.members_of scope.actor) (scoped files class scope (all_words files spelled) e).members
