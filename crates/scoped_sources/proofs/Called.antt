@@ -1,10 +1,10 @@
 -- A name that is called isn't hidden by one that is declared inside.
-use Rattle.std.proofs.Common.{◌≡◌, ℕ, Bool, true, false, List, [], ◌∷◌, refl, sym, ap, subst, ◌∙◌}
+use Rattle.std.proofs.Common.{◌≡◌, ℕ, Bool, true, false, List, [], ◌∷◌, refl, sym, subst, ◌∙◌}
 use Rattle.std.proofs.lemmas.Slice.Eq.{bytes_eq-Decides}
 use Rattle.std.specs.Prelude.{Option, None, Some, if◌then◌else◌}
 use Rattle.std.specs.Str.{bytes_eq}
 use Rattle.rvc_base.specs.Rules.{not_as_asked}
-use Rattle.cal_model.specs.Kinding.{Judged, Fine, Broken}
+use Rattle.cal_model.specs.Kinding.{Fine, Broken}
 use Rattle.cal_model.specs.Sound.{Each}
 use Rattle.cal_scope.specs.declared.role.Role.{Role}
 use Rattle.cal_scope.specs.declared.role.Role.TheVariants.{Variable, Function, Procedure}
