@@ -40,7 +40,7 @@ new_name x name here e =
     let g = count-append x here (name ∷ []) in
     omega arith
 
--- .. and if it isn't, a text that isn't among them is neither
+-- a text that isn't among names with one more isn't among these, and isn't that one
 pub no_name : (x name : List ℕ) (here : List (List ℕ)) → count x (with_name name here) ≡ 0 → count x here + one (bytes_eq x name) ≡ 0
 no_name x name here h = go (is_among name here) refl h
   where

@@ -1,5 +1,5 @@
 -- The scopes of the parts of an actor in its scope, and of the functions of other files.
-use Rattle.std.proofs.Common.{◌≡◌, ℕ, true, false, List, [], ◌∷◌, map}
+use Rattle.std.proofs.Common.{◌≡◌, ℕ, Bool, true, false, List, [], ◌∷◌, map}
 use Rattle.std.specs.Prelude.{Option, None, Some, if◌then◌else◌}
 use Rattle.std.specs.Str.{bytes_eq}
 use Rattle.cal_ast.specs.Tree as tree
@@ -85,7 +85,7 @@ named_words : (name : List ℕ) (files : List Source) → HaveWords files → On
 named_words name [] w = tt
 named_words name (f ∷ fs) w = go (bytes_eq name f.name) (named_words name fs w.1)
   where
-    go : (b : _) → OnSome (λ s. HasWords (body_of s.tree)) (source_named name fs) → OnSome (λ s. HasWords (body_of s.tree)) (if b then Some f else source_named name fs)
+    go : (b : Bool) → OnSome (λ s. HasWords (body_of s.tree)) (source_named name fs) → OnSome (λ s. HasWords (body_of s.tree)) (if b then Some f else source_named name fs)
     go true more = w.0
     go false more = more
 
