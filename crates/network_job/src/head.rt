@@ -10,12 +10,7 @@ use std::alloc::Global;
 use trace_text::{Line, write_front, write_line};
 
 /// Appends the line of an instance.
-fn push_instance(
-    number: u32,
-    path: &str,
-    class: &str,
-    head: &mut Vec<u8>,
-) -> Result<(), Memory>
+fn push_instance(number: u32, path: &str, class: &str, head: &mut Vec<u8>) -> Result<(), Memory>
     ensures { OnOk result (head.new.items ≡ head.old.items ++ instance_named number path.now class.now) }
 {
     let mut front = ArrayVec::<u8, 64>::new();
@@ -29,11 +24,7 @@ fn push_instance(
 }
 
 /// Appends the lines of instances, each with its path and its class.
-fn push_instances(
-    paths: &[String],
-    classes: &[String],
-    head: &mut Vec<u8>,
-) -> Result<(), Memory>
+fn push_instances(paths: &[String], classes: &[String], head: &mut Vec<u8>) -> Result<(), Memory>
     requires few { length paths.now ≤ 4294967295 }
     ensures { OnOk result (head.new.items ≡ head.old.items
         ++ instances_named 0 (map string_bytes paths.now) (map string_bytes classes.now)) }

@@ -33,11 +33,7 @@ fn copy_ports(alloc: Global, ports: &[Port]) -> Result<Vec<Port>, Memory>
 /// # Errors
 ///
 /// `Memory` if memory runs out.
-pub(crate) fn wiring_of(
-    alloc: Global,
-    flat: &Flat,
-    words: &[PortWord],
-) -> Result<Wiring, Memory>
+pub(crate) fn wiring_of(alloc: Global, flat: &Flat, words: &[PortWord]) -> Result<Wiring, Memory>
     ensures { IfOk result (IsWiringBy flat.now (map port_text words.now)) }
 {
     let links = copy_of(alloc, flat.links.as_slice())?;
