@@ -1,6 +1,4 @@
 pub mod Numbered
-pub mod Opened
 pub mod Named
+pub mod Copied
 pub mod Wired
-pub mod Beginning
-pub mod Left

@@ -7,23 +7,29 @@ use Rattle.net_model.specs.Network.{is_outside}
 use Rattle.net_model.specs.declared.wiring.End.{End}
 use Rattle.net_model.specs.declared.wiring.End.TheVariants.{Leaf as AtLeaf, Net as AtNet}
 use Rattle.net_model.specs.declared.wiring.Link.{Link}
-use Rattle.net_state.proofs.Gaining.{some_is}
 use Rattle.port_words.specs.Matching.{file_of}
-use Rattle.port_words.specs.Opening.{Opening, channels_of, feeds_from, feeds_of, file_at, file_from, has_files, opening_if, outputs_from}
+use Rattle.rvc_io.specs.Channels.{Channels}
+use Rattle.port_words.specs.Opening.{ChannelsAreOpened, Opening, channels_of, feeds_from, feeds_of, file_at, file_from, has_files, opening_if, outputs_from}
 use Rattle.round_runner.specs.Running.{count_inputs, feed_of, has_feed}
 use Rattle.network_job.specs.Files.{IsChannelOf, IsFeedOf, output_file}
+
+pub some_is : {A : Type 0} (x y : A) → Some x ≡ Some y → x ≡ y
+some_is x y e = cc
 
 in_none : {A : Type 0} (x : A) → Contains [] x → ⊥
 in_none x h = let e : h.0 < 0 = h.1 in absurd (omega (arith, e))
 
 -- ---- one
 
+abbrev opening : ℕ → List ℕ → Opening
+opening number file = record { number = number; file = file }
+
 one_in : (number n : ℕ) (found : Option (List ℕ)) (file : List ℕ) → n ≡ number → found ≡ Some file → Contains (opening_if number found) (record { number = n; file = file })
 one_in number n None file is has = cc
 one_in number n (Some other) file is has = (0, omega arith, by)
   where
-    by : record { number = number; file = other } ≡ record { number = n; file = file }
-    by = ap (λ k. record { number = k; file = other }) (sym is) ∙ ap (λ f. record { number = n; file = f }) (some_is other file has)
+    by : ◌≡◌ {A = Opening} (record { number = number; file = other }) (record { number = n; file = file })
+    by = ap (λ (k : ℕ). opening k other) (sym is) ∙ ap (λ (f : List ℕ). opening n f) (some_is other file has)
 
 in_one : (number : ℕ) (found : Option (List ℕ)) (o : Opening) → Contains (opening_if number found) o → (found ≡ Some o.file) × (o.number ≡ number)
 in_one number None o h = absurd (in_none o h)
@@ -155,3 +161,8 @@ file_mark outs words p file has = marked outs words p ∙ ap is_some has
 
 pub port_mark : (ins : List (List ℕ)) (words : List PortText) (p : ℕ) → slice_index_or (has_files ins words) p false ≡ is_some (file_at (slice_get ins p) words)
 port_mark ins words p = marked ins words p
+
+-- ---- opened
+
+pub trace_open : (trace : List ℕ) (outs : List (List ℕ)) (words : List PortText) (old new : Channels) → ChannelsAreOpened (channels_of trace outs words) old new → new.is_open 1 ≡ true
+trace_open trace outs words old new are = are.opened (opening 1 trace) (trace_in trace outs words)
