@@ -21,7 +21,7 @@ in_none x h = let e : h.0 < 0 = h.1 in absurd (omega (arith, e))
 
 -- ---- one
 
-abbrev opening : ℕ → List ℕ → Opening
+abbrev pub opening : ℕ → List ℕ → Opening
 opening number file = record { number = number; file = file }
 
 one_in : (number n : ℕ) (found : Option (List ℕ)) (file : List ℕ) → n ≡ number → found ≡ Some file → Contains (opening_if number found) (record { number = n; file = file })
