@@ -4,3 +4,6 @@ pub mod Copied
 pub mod Wired
 pub mod Kept
 pub mod Begun
+pub mod Left
+pub mod Told
+pub mod Finished
