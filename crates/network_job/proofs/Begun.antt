@@ -136,5 +136,7 @@ module _ {C X : Type 0} (cell : C → Cell X) (cells : List (Cell X)) (flat : Fl
   is_caused feeds channels new feeds_old feeds_mid feeds_new old mid now (end.ReadFault feed) low below is = (rises (feeds feeds_old).faults (feeds feeds_mid).faults (feeds feeds_new).faults low is.0, is_feed_of feed is.1)
   is_caused feeds channels new feeds_old feeds_mid feeds_new old mid now (end.WriteFault channel) low below is = (rises (channels old).faults (channels mid).faults (channels now).faults below is.0, is_channel_of channel is.1)
 
-  pub head_faults : (trace : List ℕ) (old new : Channels) → WritesHead trace outs words head old new → old.faults ≤ new.faults
-  head_faults trace old new wrote = (let a = wrote.are_opened.faults_stay in let b = wrote.only.faults_stay in omega (arith, a, b))
+-- ---- faults
+
+pub wrote_faults : (trace : List ℕ) (outs : List (List ℕ)) (words : List PortText) (head : List ℕ) (old new : Channels) → WritesHead trace outs words head old new → old.faults ≤ new.faults
+wrote_faults trace outs words head old new wrote = (let a = wrote.are_opened.faults_stay in let b = wrote.only.faults_stay in omega (arith, a, b))

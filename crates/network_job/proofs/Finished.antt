@@ -1,6 +1,6 @@
 -- A job that was prepared and started: what its run leaves, or what it leaves if it can't be started.
-use Rattle.std.proofs.Common.{◌≡◌, ◌≢◌, ◌⊎◌, ℕ, ◌≤◌, false, List, length, map, refl, sym, ap, subst, ◌∙◌}
-use Rattle.std.specs.Prelude.{Some, string_bytes}
+use Rattle.std.proofs.Common.{◌≡◌, ◌≢◌, ◌⊎◌, ⊎_elim, ℕ, ◌≤◌, false, List, length, map, refl, sym, ap, subst, ◌∙◌, arith}
+use Rattle.std.specs.Prelude.{Err, Some, string_bytes}
 use Rattle.std.proofs.lemmas.List.{length-map}
 use Rattle.rvc_base.specs.declared.round_kind.RoundKind.{RoundKind}
 use Rattle.rvc_io.specs.Channels.{Channels}
@@ -26,11 +26,15 @@ use Rattle.network_runner.specs.Making.{CountNothing}
 use Rattle.network_runner.proofs.FromStart.{runs_are_paced}
 use Rattle.port_words.specs.Matching.{names_of}
 use Rattle.port_words.specs.Opening.{ChannelFails, FeedsAreOpened, channels_of, feeds_of, has_files}
-use Rattle.network_job.specs.Files.{AreInputs}
+use Rattle.network_job.specs.declared.outcome.JobFault.{JobFault}
+use Rattle.network_job.specs.declared.outcome.JobFault.TheVariants.{Memory, ReadFault, Refused, WriteFault}
+use Rattle.network_job.specs.Answering.{LeavesJob}
+use Rattle.network_job.specs.Files.{AreInputs, OpensOnly, WritesOnly}
 use Rattle.network_job.specs.Leaving.{LeavesRun, Setting, WasBroken, ending_of, pace_of, setting_of}
 use Rattle.network_job.specs.Network.{CanRunAll, IsNetworkOf, plan_of}
-use Rattle.network_job.specs.Preparing.{BreaksHead, IsPrepared, TakesOver, WritesHead}
+use Rattle.network_job.specs.Preparing.{BreaksHead, IsPrepared, Starts, TakesOver, WritesHead}
 use Rattle.network_job.proofs.Begun.{have_inputs, links_are, reads_are, writes_are}
+use Rattle.network_job.proofs.Kept.{opens_all, opens_before, writes_before, writes_opened, writes_then, writes_trace}
 use Rattle.network_job.proofs.Named.{head_is}
 use Rattle.network_job.proofs.Told.{at_head, broken_before, leaves_so}
 use Rattle.network_job.proofs.Wired.{is_wirings, ready_alike}
@@ -119,3 +123,44 @@ module _ {C X : Type 0} (cell : C → Cell X) (cells : List (Cell X)) (flat : Fl
       → ChannelFails (channels_of trace outs words) channel old now ⊎ BreaksHead trace outs words head old now channel → AreInputs inputs flat.links.items ins words feeds_old → WasBroken setting now
   broken_start trace feeds_old feeds_mid old now channel closed opened fails told =
       broken_before net cells inputs is_ready.wired job flat.outs.items is_of.outs old closed trace (at_start feeds_old feeds_mid opened told).may_begin head channel now head_of_net fails
+
+  pub leaves_unstarted : {S T : Type 0} (feeds : S → Inputs) (channels : T → Channels) (trace : List ℕ) (feeds_old feeds_new : S) (old now : T) (fault : JobFault) → ((n : ℕ) → n ≢ 0 → (channels old).is_open n ≡ false)
+      → Starts feeds channels flat words trace feeds_old feeds_new old now head (Err fault) → AreInputs inputs flat.links.items ins words (feeds feeds_old) → LeavesJob setting (Err fault) (channels now)
+  leaves_unstarted feeds channels trace feeds_old feeds_new old now (Refused refusal) closed starts told = tt
+  leaves_unstarted feeds channels trace feeds_old feeds_new old now Memory closed starts told = tt
+  leaves_unstarted feeds channels trace feeds_old feeds_new old now (ReadFault feed) closed starts told = tt
+  leaves_unstarted feeds channels trace feeds_old feeds_new old now (WriteFault channel) closed starts told =
+      broken_start trace (feeds feeds_old) (feeds feeds_new) (channels old) (channels now) channel closed starts.0 starts.1 told
+
+-- ---- what stays if a job isn't started
+
+module _ {S T : Type 0} (feeds : S → Inputs) (channels : T → Channels) (flat : Flat) (words : List PortText) (trace : List ℕ) (head : List ℕ) (feeds_old feeds_new : S) (old now : T) where
+  abbrev all_ins : List (List ℕ)
+  all_ins = names_of flat.ins.items
+
+  abbrev all_outs : List (List ℕ)
+  all_outs = names_of flat.outs.items
+
+  pub unstarted_feeds : (fault : JobFault) → Starts feeds channels flat words trace feeds_old feeds_new old now head (Err fault) → OpensOnly flat.links.items all_ins words (feeds feeds_old) (feeds feeds_new)
+  unstarted_feeds (Refused refusal) starts = absurd starts
+  unstarted_feeds Memory starts = absurd starts
+  unstarted_feeds (ReadFault feed) starts = opens_before flat.links.items all_ins words feed (feeds feeds_old) (feeds feeds_new) starts.0
+  unstarted_feeds (WriteFault channel) starts = opens_all flat.links.items all_ins words (feeds feeds_old) (feeds feeds_new) starts.0
+
+  same_channels : old ≡ now → WritesOnly all_outs words (channels old) (channels now)
+  same_channels same = subst (λ (t : T). WritesOnly all_outs words (channels old) (channels t)) same (record {
+    same_telling = refl;
+    same_open = λ channel not. refl;
+    same_held = λ tells channel not. refl;
+    faults_stay = omega arith;
+  })
+
+  head_channels : (channel : ℕ) → BreaksHead trace all_outs words head (channels old) (channels now) channel → WritesOnly all_outs words (channels old) (channels now)
+  head_channels channel breaks = writes_then all_outs words (channels old) breaks.between (channels now)
+      (writes_opened all_outs words trace (channels old) breaks.between breaks.are_opened) (writes_trace all_outs words breaks.between (channels now) breaks.only)
+
+  pub unstarted_channels : (fault : JobFault) → Starts feeds channels flat words trace feeds_old feeds_new old now head (Err fault) → WritesOnly all_outs words (channels old) (channels now)
+  unstarted_channels (Refused refusal) starts = absurd starts
+  unstarted_channels Memory starts = absurd starts
+  unstarted_channels (ReadFault feed) starts = same_channels (sym starts.1)
+  unstarted_channels (WriteFault channel) starts = ⊎_elim (writes_before all_outs words trace channel (channels old) (channels now)) (head_channels channel) starts.1
