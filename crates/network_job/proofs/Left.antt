@@ -91,8 +91,8 @@ found_in n (first ∷ openings) = by (cases_eq n first.number) (found_in n openi
 
     apart : n ≢ first.number → IsApart n openings → IsApart n (first ∷ openings)
     apart differs rest o h same = elim (Contains-append_cases (first ∷ []) openings o h) [
-        | inl one ↦ differs (same ∙ ap (λ (x : Opening). x.number) (sym (only one)))
-        | inr later ↦ rest o later same
+      | inl one ↦ differs (same ∙ ap (λ (x : Opening). x.number) (sym (only one)))
+      | inr later ↦ rest o later same
     ]
       where
         only : Contains (first ∷ []) o → first ≡ o
@@ -107,6 +107,6 @@ found_in n (first ∷ openings) = by (cases_eq n first.number) (found_in n openi
 -- a channel that is open was opened, and holds nothing
 pub opened_empty : (openings : List Opening) (old new : Channels) (n : ℕ) → ChannelsAreOpened openings old new → old.is_open n ≡ false → new.is_open n ≡ true → new.tells ≡ true → new.held n ≡ []
 opened_empty openings old new n are closed open_now tells = elim (found_in n openings) [
-    | inl found ↦ subst (λ m. new.held m ≡ []) (sym found.2) (are.empty (sym are.same_telling ∙ tells) found.0 found.1)
-    | inr apart ↦ (let clash : true ≡ false = sym open_now ∙ are.same_open n apart ∙ closed in absurd (cc))
+  | inl found ↦ subst (λ m. new.held m ≡ []) (sym found.2) (are.empty (sym are.same_telling ∙ tells) found.0 found.1)
+  | inr apart ↦ (let clash : true ≡ false = sym open_now ∙ are.same_open n apart ∙ closed in absurd (cc))
 ]

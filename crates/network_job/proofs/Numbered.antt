@@ -81,8 +81,8 @@ in_there : (from : End) (number : ℕ) (ins : List (List ℕ)) (words : List Por
     → ((is_outside from ≡ true) × (file_from from ins words ≡ Some o.file) × (o.number ≡ number)) ⊎ (((is_outside from ≡ true) × Contains later o) ⊎ ((is_outside from ≡ false) × Contains same o))
 in_there (AtLeaf inst port) number ins words later same o h = inr (inr (refl, h))
 in_there (AtNet port) number ins words later same o h = elim (Contains-append_cases (opening_if number (file_at (slice_get ins port) words)) later o h) [
-    | inl this ↦ (let one = in_one number (file_at (slice_get ins port) words) o this in inl (refl, one.0, one.1))
-    | inr rest ↦ inr (inl (refl, rest))
+  | inl this ↦ (let one = in_one number (file_at (slice_get ins port) words) o this in inl (refl, one.0, one.1))
+  | inr rest ↦ inr (inl (refl, rest))
 ]
 
 counts_on : (b : Bool) (number n count : ℕ) → ((b ≡ true) × (n ≡ (number + 1) + count)) ⊎ ((b ≡ false) × (n ≡ number + count)) → n ≡ number + (if b then suc count else count)
@@ -94,11 +94,11 @@ counts_on false number n count (inr (e, is)) = is
 pub of_feeds : (links : List Link) (number : ℕ) (ins : List (List ℕ)) (words : List PortText) (o : Opening) → Contains (feeds_from number links ins words) o → OpensLink number links ins words o
 of_feeds [] number ins words o h = absurd (in_none o h)
 of_feeds (first ∷ links) number ins words o h = elim (in_there first.from number ins words (feeds_from (number + 1) links ins words) (feeds_from number links ins words) o h) [
-    | inl this ↦ (0, first, refl, this.1, (let n = this.2 in omega (arith, n)))
-    | inr rest ↦ elim rest [
-        | inl later ↦ (let found = of_feeds links (number + 1) ins words o later.1 in (suc found.0, found.1, found.2, found.3, counts_on (is_outside first.from) number o.number (count_inputs (take found.0 links)) (inl (later.0, found.4))))
-        | inr same ↦ (let found = of_feeds links number ins words o same.1 in (suc found.0, found.1, found.2, found.3, counts_on (is_outside first.from) number o.number (count_inputs (take found.0 links)) (inr (same.0, found.4))))
-    ]
+  | inl this ↦ (0, first, refl, this.1, (let n = this.2 in omega (arith, n)))
+  | inr rest ↦ elim rest [
+    | inl later ↦ (let found = of_feeds links (number + 1) ins words o later.1 in (suc found.0, found.1, found.2, found.3, counts_on (is_outside first.from) number o.number (count_inputs (take found.0 links)) (inl (later.0, found.4))))
+    | inr same ↦ (let found = of_feeds links number ins words o same.1 in (suc found.0, found.1, found.2, found.3, counts_on (is_outside first.from) number o.number (count_inputs (take found.0 links)) (inr (same.0, found.4))))
+  ]
 ]
 
 pub is_feed : (links : List Link) (ins : List (List ℕ)) (words : List PortText) (o : Opening) → Contains (feeds_of links ins words) o → IsFeedOf links ins words o.number
@@ -118,8 +118,8 @@ output_in (name ∷ outs) number n (suc p) words file has is =
 of_outputs : (outs : List (List ℕ)) (number : ℕ) (words : List PortText) (o : Opening) → Contains (outputs_from number outs words) o → (p : ℕ) × (output_file outs words p ≡ Some o.file) × (o.number ≡ number + p)
 of_outputs [] number words o h = absurd (in_none o h)
 of_outputs (name ∷ outs) number words o h = elim (Contains-append_cases (opening_if number (file_of name words)) (outputs_from (number + 1) outs words) o h) [
-    | inl this ↦ (let one = in_one number (file_of name words) o this in let n = one.1 in (0, one.0, omega (arith, n)))
-    | inr rest ↦ (let found = of_outputs outs (number + 1) words o rest in let n = found.2 in (suc found.0, found.1, omega (arith, n)))
+  | inl this ↦ (let one = in_one number (file_of name words) o this in let n = one.1 in (0, one.0, omega (arith, n)))
+  | inr rest ↦ (let found = of_outputs outs (number + 1) words o rest in let n = found.2 in (suc found.0, found.1, omega (arith, n)))
 ]
 
 pub trace_in : (trace : List ℕ) (outs : List (List ℕ)) (words : List PortText) → Contains (channels_of trace outs words) (record { number = 1; file = trace })
@@ -130,8 +130,8 @@ channel_in trace outs words p file has = Contains-append_right (record { number 
 
 pub is_channel : (trace : List ℕ) (outs : List (List ℕ)) (words : List PortText) (o : Opening) → Contains (channels_of trace outs words) o → IsChannelOf outs words o.number
 is_channel trace outs words o h = elim (Contains-append_cases (record { number = 1; file = trace } ∷ []) (outputs_from 2 outs words) o h) [
-    | inl this ↦ inl (in_one 1 (Some trace) o this).1
-    | inr rest ↦ (let found = of_outputs outs 2 words o rest in inr (record { p = found.0; file = o.file; has_file = found.1; channel_is = found.2 }))
+  | inl this ↦ inl (in_one 1 (Some trace) o this).1
+  | inr rest ↦ (let found = of_outputs outs 2 words o rest in inr (record { p = found.0; file = o.file; has_file = found.1; channel_is = found.2 }))
 ]
 
 -- ---- marks

@@ -37,7 +37,7 @@ run-end-requires-clause-feeds g c κs within =
 pub run-end-requires-clause-channels : goal.run-end-requires-clause-channels
 run-end-requires-clause-channels g c κs within =
     let written : WritesHead (string_bytes c.args.job.now.trace) (names_of c.args.flat.now.outs.items) (map port_text c.args.job.now.ports.items) c.in-Ok.prepared.head.items
-        (g.D.Drains.channels c.args.drains.now) (g.D.Drains.channels c.start.new.drains) =
+    (g.D.Drains.channels c.args.drains.now) (g.D.Drains.channels c.start.new.drains) =
     subst (λ head. WritesHead (string_bytes c.args.job.now.trace) (names_of c.args.flat.now.outs.items) (map port_text c.args.job.now.ports.items) head (g.D.Drains.channels c.args.drains.now) (g.D.Drains.channels c.start.new.drains)) c.as_slice.ensures.value c.in_default.ensures.1 in
     channels_fit g.A.Firing.cell (map g.A.Firing.cell c.args.cells.items) c.args.flat.now (map port_text c.args.job.now.ports.items) (plan_of c.args.job.now) (g.P.Policy.kind c.args.policy)
     c.in-Ok.prepared.runner c.in-Ok.prepared.head.items c.in-Ok.prepared.counts c.in-Ok.ensures.prepared
@@ -46,7 +46,7 @@ run-end-requires-clause-channels g c κs within =
 pub returns-clause-leaves : goal.returns-clause-leaves
 returns-clause-leaves g c net inputs is_of told =
     let written : WritesHead (string_bytes c.args.job.now.trace) (names_of c.args.flat.now.outs.items) (map port_text c.args.job.now.ports.items) c.in-Ok.prepared.head.items
-        (g.D.Drains.channels c.args.drains.now) (g.D.Drains.channels c.start.new.drains) =
+    (g.D.Drains.channels c.args.drains.now) (g.D.Drains.channels c.start.new.drains) =
     subst (λ head. WritesHead (string_bytes c.args.job.now.trace) (names_of c.args.flat.now.outs.items) (map port_text c.args.job.now.ports.items) head (g.D.Drains.channels c.args.drains.now) (g.D.Drains.channels c.start.new.drains)) c.as_slice.ensures.value c.in_default.ensures.1 in
     leaves_run g.A.Firing.cell (map g.A.Firing.cell c.args.cells.items) c.args.flat.now c.args.job.now c.requires.can_run (g.P.Policy.kind c.args.policy) c.requires.kind
     c.in-Ok.prepared.runner c.in-Ok.prepared.head.items c.in-Ok.prepared.counts c.in-Ok.ensures.prepared net inputs is_of
@@ -71,7 +71,7 @@ returns-clause-other_feeds g c =
 pub returns-clause-other_channels : goal.returns-clause-other_channels
 returns-clause-other_channels g c =
     let written : WritesHead (string_bytes c.args.job.now.trace) (names_of c.args.flat.now.outs.items) (map port_text c.args.job.now.ports.items) c.in-Ok.prepared.head.items
-        (g.D.Drains.channels c.args.drains.now) (g.D.Drains.channels c.start.new.drains) =
+    (g.D.Drains.channels c.args.drains.now) (g.D.Drains.channels c.start.new.drains) =
     subst (λ head. WritesHead (string_bytes c.args.job.now.trace) (names_of c.args.flat.now.outs.items) (map port_text c.args.job.now.ports.items) head (g.D.Drains.channels c.args.drains.now) (g.D.Drains.channels c.start.new.drains)) c.as_slice.ensures.value c.in_default.ensures.1 in
     writes_all g.A.Firing.cell (map g.A.Firing.cell c.args.cells.items) c.args.flat.now (map port_text c.args.job.now.ports.items) (plan_of c.args.job.now) (g.P.Policy.kind c.args.policy)
     c.in-Ok.prepared.runner c.in-Ok.prepared.head.items c.in-Ok.prepared.counts c.in-Ok.ensures.prepared
