@@ -1,8 +1,8 @@
 -- A run that is about to begin, over feeds and channels that were opened.
-use Rattle.std.proofs.Common.{◌≡◌, ◌≢◌, ◌⊎◌, inl, inr, ⊎_elim, ℕ, zero, suc, ◌+◌, ◌≤◌, Bool, true, false, List, [], ◌∷◌, ◌++◌, map, refl, sym, ap, subst, ◌∙◌, arith, Contains}
-use Rattle.std.specs.Prelude.{Option, None, Some, is_some, slice_get, slice_index_or, string_bytes}
+use Rattle.std.proofs.Common.{◌≡◌, inl, inr, ℕ, ◌+◌, ◌≤◌, true, false, List, [], refl, sym, ap, subst, ◌∙◌, arith}
+use Rattle.std.specs.Prelude.{Option, None, Some, is_some, slice_get, slice_index_or}
 use Rattle.rvc_base.specs.declared.round_kind.RoundKind.{RoundKind}
-use Rattle.rvc_io.specs.Channels.{Channels, WritesOnlyAt}
+use Rattle.rvc_io.specs.Channels.{Channels}
 use Rattle.rvc_io.specs.Count.{HasRisen}
 use Rattle.rvc_io.specs.Feeds.{Inputs}
 use Rattle.rvc_words.specs.Words.{PortText}
@@ -17,13 +17,12 @@ use Rattle.round_runner.specs.declared.outcome.RunEnd.{RunEnd}
 use Rattle.round_runner.specs.declared.outcome.RunEnd.TheVariants as end
 use Rattle.round_runner.specs.Running.{FeedsFit, Running, feed_of, has_feed}
 use Rattle.network_runner.specs.Asking.{ChannelsFit, FaultIsTrue, HasInput, HasInputOn, HaveInputs, IsChannel, IsFeed, WritesWithin, seen_run}
-use Rattle.network_runner.specs.Filling.{SameOpen}
 use Rattle.port_words.specs.Matching.{names_of}
 use Rattle.port_words.specs.Opening.{FeedsAreOpened, feeds_of, file_at, file_from, has_files}
 use Rattle.network_job.specs.Answering.{EndIsCaused}
 use Rattle.network_job.specs.Files.{AreInputs, ComesUnder, IsChannelOf, IsFeedOf, IsUnder, WritesOnly}
 use Rattle.network_job.specs.Preparing.{IsPrepared, WritesHead}
-use Rattle.network_job.proofs.Numbered.{channel_in, fed_file, feed_in, file_mark, is_channel, is_feed, mark_file, opening, port_mark, trace_open}
+use Rattle.network_job.proofs.Numbered.{channel_in, fed_file, feed_in, mark_file, opening, port_mark, trace_open}
 use Rattle.network_job.proofs.Kept.{writes_opened, writes_then, writes_trace}
 
 -- ---- inputs

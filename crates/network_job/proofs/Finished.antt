@@ -1,6 +1,6 @@
 -- A job that was prepared and started: what its run leaves, or what it leaves if it can't be started.
-use Rattle.std.proofs.Common.{◌≡◌, ◌≢◌, ◌⊎◌, ⊎_elim, ℕ, ◌≤◌, false, List, length, map, refl, sym, ap, subst, ◌∙◌, arith}
-use Rattle.std.specs.Prelude.{Err, Some, string_bytes}
+use Rattle.std.proofs.Common.{◌≡◌, ◌≢◌, ◌⊎◌, ⊎_elim, ℕ, false, List, length, map, refl, sym, ap, subst, ◌∙◌, arith}
+use Rattle.std.specs.Prelude.{Err, string_bytes}
 use Rattle.std.proofs.lemmas.List.{length-map}
 use Rattle.rvc_base.specs.declared.round_kind.RoundKind.{RoundKind}
 use Rattle.rvc_io.specs.Channels.{Channels}
@@ -8,10 +8,10 @@ use Rattle.rvc_io.specs.Feeds.{Inputs}
 use Rattle.rvc_words.specs.Words.{PortText, port_text}
 use Rattle.rvc_words.specs.declared.job.Job.{Job}
 use Rattle.net_model.specs.declared.wiring.Counts.{Counts}
-use Rattle.net_model.specs.declared.wiring.Wiring.{Wiring}
 use Rattle.net_model.specs.Cell.{Cell}
 use Rattle.net_model.specs.Network.{Leaf, Network}
 use Rattle.net_model.specs.Paced.{Pace}
+use Rattle.net_model.specs.PacingLaws.{BegunWithinBudget, PacedWithinBudget}
 use Rattle.net_model.specs.Ready.{IsReady, given_state}
 use Rattle.net_model.specs.Ready as ready
 use Rattle.net_model.specs.State.{State}
@@ -21,11 +21,10 @@ use Rattle.round_runner.specs.declared.outcome.RunEnd.{RunEnd}
 use Rattle.round_runner.specs.Running.{Running}
 use Rattle.round_runner.specs.Running as running
 use Rattle.network_runner.specs.Asking.{CanRun, EndLeaves, HaveInputs, IsAtStart, WritesWithin, seen_run}
-use Rattle.network_runner.specs.FromStart.{RunsFromStart}
+use Rattle.network_runner.specs.FromStart.{RunsArePaced, RunsFromStart}
 use Rattle.network_runner.specs.Making.{CountNothing}
-use Rattle.network_runner.proofs.FromStart.{runs_are_paced}
 use Rattle.port_words.specs.Matching.{names_of}
-use Rattle.port_words.specs.Opening.{ChannelFails, FeedsAreOpened, channels_of, feeds_of, has_files}
+use Rattle.port_words.specs.Opening.{ChannelFails, FeedsAreOpened, channels_of, feeds_of}
 use Rattle.network_job.specs.declared.outcome.JobFault.{JobFault}
 use Rattle.network_job.specs.declared.outcome.JobFault.TheVariants.{Memory, ReadFault, Refused, WriteFault}
 use Rattle.network_job.specs.Answering.{LeavesJob}
@@ -98,11 +97,12 @@ module _ {C X : Type 0} (cell : C → Cell X) (cells : List (Cell X)) (flat : Fl
   pub leaves_run : {S T : Type 0} (feeds : S → Inputs) (channels : T → Channels) (trace : List ℕ) (feeds_old feeds_mid feeds_new : S) (old mid now : T) (new : Running C) (how : RunEnd) (counts : Counts)
       → ((n : ℕ) → n ≢ 0 → (channels old).is_open n ≡ false) → FeedsAreOpened (feeds_of flat.links.items ins words) (feeds feeds_old) (feeds feeds_mid) → WritesHead trace outs words head (channels old) (channels mid)
       → WritesWithin run (channels mid) (channels now) → EndLeaves cell feeds channels run new feeds_mid feeds_new mid now job.budget how → TakesOver new.counts places counts
+      → RunsArePaced X → BegunWithinBudget X → PacedWithinBudget X
       → AreInputs inputs flat.links.items ins words (feeds feeds_old) → LeavesRun setting (ending_of how) counts (channels now)
-  leaves_run feeds channels trace feeds_old feeds_mid feeds_new old mid now new how counts closed opened wrote within leaves taken told =
+  leaves_run feeds channels trace feeds_old feeds_mid feeds_new old mid now new how counts closed opened wrote within leaves taken runs_are_paced begun_law paced_law told =
       let begun : IsAtStart net inputs (seen_run cell run) (feeds feeds_mid) start = at_start (feeds feeds_old) (feeds feeds_mid) opened told in
       let runs : RunsFromStart net inputs job.budget start how (seen_run cell run) (seen_run cell new) (channels mid) (channels now) =
-      runs_are_paced X net inputs job.budget start how (seen_run cell run) (seen_run cell new) (channels mid) (channels now)
+      runs_are_paced net inputs job.budget start how (seen_run cell run) (seen_run cell new) (channels mid) (channels now)
       (record {
         wired = begun.stands.is_run_of.wired;
         lawful = begun.stands.is_run_of.lawful;
@@ -115,7 +115,7 @@ module _ {C X : Type 0} (cell : C → Cell X) (cells : List (Cell X)) (flat : Fl
       leaves_so net cells inputs is_ready.wired job flat.outs.items is_of.outs (seen_run cell run) head (channels mid) (channels now)
       (at_head trace outs words head (channels old) closed (channels mid) wrote) head_of_net prepared.begins.no_lines prepared.begins.no_output
       (writes_are cell cells flat words (plan_of job) kind run head places prepared) within.same_telling within.same_open
-      job.budget (seen_run cell new) pace_is counts places places_are taken how runs
+      job.budget (seen_run cell new) pace_is counts places places_are taken begun_law paced_law how runs
 
   -- it couldn't be started
 

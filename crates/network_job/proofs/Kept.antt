@@ -1,12 +1,10 @@
 -- Feeds and channels that aren't of the job stay as they were.
-use Rattle.std.proofs.Common.{◌≡◌, ◌≢◌, ◌⊎◌, inl, inr, ⊎_elim, ℕ, ◌+◌, ◌≤◌, true, List, ◌∷◌, ◌++◌, sym, subst, ◌∙◌, arith, Contains}
-use Rattle.std.specs.Prelude.{Option, Some, slice_get, slice_index_or}
+use Rattle.std.proofs.Common.{inl, ℕ, List, ◌∷◌, sym, subst, ◌∙◌, arith, Contains}
 use Rattle.std.proofs.lemmas.List.Elements.{Contains-append_left}
 use Rattle.rvc_io.specs.Channels.{Channels, WritesOnlyAt}
 use Rattle.rvc_io.specs.Feeds.{Inputs}
 use Rattle.rvc_words.specs.Words.{PortText}
 use Rattle.net_model.specs.declared.wiring.Link.{Link}
-use Rattle.network_runner.specs.Asking.{IsChannel, WritesWithin}
 use Rattle.network_runner.specs.Filling.{SameOpen}
 use Rattle.port_words.specs.Opening.{ChannelFails, ChannelsAreOpened, FeedFails, FeedsAreOpened, IsApart, Opening, channels_of, feeds_of}
 use Rattle.network_job.specs.Files.{IsChannelOf, IsFeedOf, OpensOnly, WritesOnly}

@@ -1,39 +1,20 @@
 -- What a run leaves, as whole contents of channels.
-use Rattle.std.proofs.Common.{◌≡◌, ◌≢◌, ◌⊎◌, inl, inr, ⊎_elim, ℕ, zero, suc, ◌+◌, ◌<◌, ◌≤◌, Bool, true, false, List, [], ◌∷◌, ◌++◌, ℤ, length, map, drop, refl, sym, ap, subst, ◌∙◌, arith, append_assoc, append-nil, Contains}
-use Rattle.std.specs.Prelude.{Option, None, Some, slice_get, slice_index_or, string_bytes, flat_map, if◌then◌else◌}
+use Rattle.std.proofs.Common.{◌≡◌, ◌≢◌, ◌⊎◌, inl, inr, ℕ, zero, suc, ◌<◌, Bool, true, false, List, [], ◌∷◌, ◌++◌, ℤ, length, map, drop, refl, sym, ap, subst, ◌∙◌, arith, Contains}
+use Rattle.std.specs.Prelude.{Some, slice_get, if◌then◌else◌}
 use Rattle.std.proofs.lemmas.Bool.{cases_eq}
-use Rattle.std.proofs.lemmas.List.{length-map}
 use Rattle.std.proofs.lemmas.List.Elements.{Contains-append_cases, Contains-append_right}
-use Rattle.rvc_base.specs.declared.round_kind.RoundKind.{RoundKind}
-use Rattle.rvc_io.specs.Channels.{Channels, WritesOnlyAt}
-use Rattle.rvc_io.specs.Feeds.{Inputs}
-use Rattle.channel_writer.specs.Held.{AppendsFront, HoldsFront}
-use Rattle.rvc_words.specs.Words.{PortText, port_text}
-use Rattle.rvc_words.specs.declared.job.Job.{Job}
-use Rattle.trace_text.specs.declared.line.Line.{Line}
-use Rattle.trace_text.specs.declared.line.Line.TheVariants.{Quiet as QuietLine, Trap as TrapLine, Stall as StallLine, Budget as BudgetLine}
-use Rattle.trace_text.specs.Text.{line_text}
-use Rattle.net_model.specs.declared.wiring.Counts.{Counts}
+use Rattle.rvc_io.specs.Channels.{Channels}
 use Rattle.net_model.specs.declared.wiring.End.{End}
 use Rattle.net_model.specs.declared.wiring.End.TheVariants.{Leaf as AtLeaf, Net as AtNet}
 use Rattle.net_model.specs.declared.wiring.Link.{Link}
-use Rattle.net_model.specs.declared.wiring.Port.{Port}
 use Rattle.net_model.specs.Cell.{Cell}
-use Rattle.net_model.specs.Network.{NetPort, Network, is_net_port, is_outside, is_output, is_input, kind_at}
+use Rattle.net_model.specs.Network.{Network, is_net_port, is_outside, is_output, is_input, kind_at}
 use Rattle.net_model.specs.PortFile.{all_encoded}
-use Rattle.net_model.specs.Ready.{given_flow, given_state, port_of, waiting_at}
-use Rattle.net_model.specs.Stable.{IsPrefix}
-use Rattle.net_model.specs.State.{State, fed_by, sent_to}
-use Rattle.net_model.specs.Trace.{bytes_out, head_text, text}
+use Rattle.net_model.specs.Ready.{given_flow, given_state, waiting_at}
+use Rattle.net_model.specs.State.{fed_by, sent_to}
 use Rattle.net_model.specs.Wired.{IsWired}
-use Rattle.net_model.specs.Paced.{Pace}
-use Rattle.round_runner.specs.Rounds.{EachOut, OutGetsAll, OutGetsFront, TraceGetsAll, TraceGetsFront, out_bytes, text_of}
-use Rattle.round_runner.specs.Running.{Running, buffer}
-use Rattle.port_words.specs.Matching.{names_of}
-use Rattle.port_words.specs.Opening.{ChannelsAreOpened, IsApart, Opening, channels_of}
-use Rattle.network_job.specs.Files.{IsChannelOf, WritesOnly, output_file}
-use Rattle.network_job.specs.Leaving.{Holds, HoldsPrefix, Setting, Wrote, WrotePrefixes, file_out}
-use Rattle.network_job.proofs.Numbered.{channel_in, file_mark, is_channel, opening, some_is, trace_in}
+use Rattle.round_runner.specs.Rounds.{out_bytes}
+use Rattle.port_words.specs.Opening.{ChannelsAreOpened, IsApart, Opening}
 
 -- ---- nothing was sent to outputs at the start
 

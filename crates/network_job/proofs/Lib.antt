@@ -5,5 +5,6 @@ pub mod Wired
 pub mod Kept
 pub mod Begun
 pub mod Left
+pub mod Spent
 pub mod Told
 pub mod Finished

@@ -1,6 +1,6 @@
 -- What stands in a trace before its first event, by the names of instances.
-use Rattle.std.proofs.Common.{◌≡◌, ℕ, ◌+◌, List, [], ◌∷◌, ◌++◌, length, map, refl, sym, ap, subst, ◌∙◌, append_assoc, append-nil}
-use Rattle.std.specs.Prelude.{string_bytes, codes}
+use Rattle.std.proofs.Common.{◌≡◌, ℕ, ◌+◌, List, [], ◌∷◌, ◌++◌, length, map, refl, sym, ap, ◌∙◌}
+use Rattle.std.specs.Prelude.{codes}
 use Rattle.trace_text.specs.declared.line.Line.TheVariants.{Header, Inst}
 use Rattle.trace_text.specs.Text.{line_feed, line_text}
 use Rattle.net_model.specs.Network.{Leaf, Network}

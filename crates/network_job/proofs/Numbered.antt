@@ -1,6 +1,6 @@
 -- The numbers of the feeds and channels that are opened.
-use Rattle.std.proofs.Common.{◌≡◌, ◌⊎◌, inl, inr, ⊎_elim, ℕ, zero, suc, ◌+◌, ◌<◌, Bool, true, false, List, [], ◌∷◌, ◌++◌, take, refl, sym, ap, subst, ◌∙◌, arith, Contains}
-use Rattle.std.specs.Prelude.{Option, None, Some, is_some, map, slice_get, slice_index_or, if◌then◌else◌}
+use Rattle.std.proofs.Common.{◌≡◌, ◌⊎◌, inl, inr, ℕ, zero, suc, ◌+◌, ◌<◌, Bool, true, false, List, [], ◌∷◌, ◌++◌, take, refl, sym, ap, subst, ◌∙◌, arith, Contains}
+use Rattle.std.specs.Prelude.{Option, None, Some, is_some, slice_get, slice_index_or, if◌then◌else◌}
 use Rattle.std.proofs.lemmas.List.Elements.{Contains-append_cases, Contains-append_left, Contains-append_right}
 use Rattle.rvc_words.specs.Words.{PortText}
 use Rattle.net_model.specs.Network.{is_outside}
@@ -10,7 +10,7 @@ use Rattle.net_model.specs.declared.wiring.Link.{Link}
 use Rattle.port_words.specs.Matching.{file_of}
 use Rattle.rvc_io.specs.Channels.{Channels}
 use Rattle.port_words.specs.Opening.{ChannelsAreOpened, Opening, channels_of, feeds_from, feeds_of, file_at, file_from, has_files, opening_if, outputs_from}
-use Rattle.round_runner.specs.Running.{count_inputs, feed_of, has_feed}
+use Rattle.round_runner.specs.Running.{count_inputs, has_feed}
 use Rattle.network_job.specs.Files.{IsChannelOf, IsFeedOf, output_file}
 
 pub some_is : {A : Type 0} (x y : A) → Some x ≡ Some y → x ≡ y

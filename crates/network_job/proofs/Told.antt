@@ -1,20 +1,18 @@
 -- What a run that began so leaves, by its end.
-use Rattle.std.proofs.Common.{◌≡◌, ◌≢◌, ◌⊎◌, inl, inr, ⊎_elim, ℕ, zero, suc, ◌+◌, ◌<◌, ◌≤◌, Bool, true, false, List, [], ◌∷◌, ◌++◌, ℤ, length, map, replicate, refl, sym, ap, subst, ◌∙◌, arith, append_assoc, append-nil, Contains}
-use Rattle.std.specs.Prelude.{Option, None, Some, slice_get, slice_index_or, string_bytes}
-use Rattle.std.proofs.lemmas.List.{length-map, length-replicate}
-use Rattle.rvc_base.specs.declared.round_kind.RoundKind.{RoundKind}
-use Rattle.rvc_io.specs.Channels.{Channels, WritesOnlyAt}
-use Rattle.channel_writer.specs.Held.{AppendsFront, HoldsFront}
+use Rattle.std.proofs.Common.{◌≡◌, ◌≢◌, ◌⊎◌, inl, inr, ℕ, ◌+◌, true, false, List, [], ◌∷◌, ◌++◌, length, map, refl, sym, ap, subst, ◌∙◌, arith, append_assoc}
+use Rattle.std.specs.Prelude.{None, Some, slice_index_or, string_bytes}
+use Rattle.std.proofs.lemmas.List.{length-replicate}
+use Rattle.rvc_io.specs.Channels.{Channels}
+use Rattle.channel_writer.specs.Held.{HoldsFront}
 use Rattle.rvc_words.specs.Words.{PortText, port_text}
 use Rattle.rvc_words.specs.declared.job.Job.{Job}
 use Rattle.trace_text.specs.declared.line.Line.{Line}
-use Rattle.trace_text.specs.Text.{line_text}
 use Rattle.net_model.specs.declared.wiring.Counts.{Counts}
 use Rattle.net_model.specs.declared.wiring.Port.{Port}
 use Rattle.net_model.specs.Cell.{Cell}
 use Rattle.net_model.specs.Counted.{IsCounted}
 use Rattle.net_model.specs.Network.{NetPort, Network}
-use Rattle.net_model.specs.PacingLaws.{CanBegin}
+use Rattle.net_model.specs.PacingLaws.{BegunWithinBudget, CanBegin, PacedWithinBudget}
 use Rattle.net_model.specs.Paced.{IsBegun, IsPaced, Moment, Pace, first_moment}
 use Rattle.net_model.specs.Ready.{given_state, port_of}
 use Rattle.net_model.specs.Stable.{IsPrefix}
@@ -26,16 +24,17 @@ use Rattle.round_runner.specs.declared.outcome.RunEnd.TheVariants as end
 use Rattle.round_runner.specs.Rounds.{EachOut, OutGetsAll, OutGetsFront, TraceGetsAll, TraceGetsFront, end_line, out_bytes, text_of}
 use Rattle.round_runner.specs.Running.{Running, buffer}
 use Rattle.round_runner.specs.Running as running
-use Rattle.network_runner.specs.FromStart.{PlaysAndKeeps, RunsBroken, RunsFromStart, RunsShort, RunsWhole, WritesWhole}
+use Rattle.network_runner.specs.FromStart.{PlaysAndKeeps, RunsBroken, RunsFromStart, RunsShort, RunsWhole}
 use Rattle.network_runner.specs.Making.{CountNothing}
 use Rattle.port_words.specs.Matching.{names_of}
-use Rattle.port_words.specs.Opening.{ChannelFails, ChannelsAreOpened, channels_of, has_files}
-use Rattle.network_job.specs.Files.{IsChannelOf, IsOutputOf, output_file}
-use Rattle.network_job.specs.Leaving.{AreBegunOrPaced, Came, HasEnded, Holds, HoldsPrefix, LeavesRun, Setting, Unread, Unwritten, WasBroken, WasCut, Wrote, WrotePrefixes, ending_of, file_out, pace_of, setting_of}
+use Rattle.port_words.specs.Opening.{ChannelFails, channels_of, has_files}
+use Rattle.network_job.specs.Files.{IsChannelOf, output_file}
+use Rattle.network_job.specs.Leaving.{AreBegunOrPaced, HasEnded, LeavesRun, Setting, WasBroken, WasCut, Wrote, WrotePrefixes, ending_of, file_out, pace_of, setting_of}
 use Rattle.network_job.specs.Preparing.{BreaksHead, TakesOver, WritesHead}
 use Rattle.network_job.proofs.Numbered.{channel_in, file_mark, opening, some_is, trace_in}
 use Rattle.network_job.proofs.Kept.{writes_before, writes_opened, writes_then, writes_trace}
 use Rattle.network_job.proofs.Left.{opened_empty, out_whole}
+use Rattle.network_job.proofs.Spent.{budget_spent}
 
 -- ---- channels behind the openings
 
@@ -158,7 +157,8 @@ module _ {X : Type 0} (net : Network X) (cells : List (Cell X)) (inputs : List (
 
     -- by its end
 
-    module _ (budget : ℕ) (new : Running (Cell X)) (pace_is : running.pace_of run budget ≡ pace_of job) (counts places : Counts) (few : CountNothing (length net.links) (length net.outs) places) (taken : TakesOver new.counts places counts) where
+    module _ (budget : ℕ) (new : Running (Cell X)) (pace_is : running.pace_of run budget ≡ pace_of job) (counts places : Counts) (few : CountNothing (length net.links) (length net.outs) places) (taken : TakesOver new.counts places counts)
+        (begun_law : BegunWithinBudget X) (paced_law : PacedWithinBudget X) where
       counted_so : (lines : List Line) (last : State X) → IsCounted net inputs start lines last new.counts → IsCounted net inputs start lines last counts
       counted_so lines last is =
           let arrived : counts.arrived.items ≡ new.counts.arrived.items = taken.arrived (is.links ∙ sym (ap length few.arrived ∙ length-replicate (length net.links) 0)) in
@@ -191,13 +191,18 @@ module _ {X : Type 0} (net : Network X) (cells : List (Cell X)) (inputs : List (
       ended how line is whole =
           let same : whole.ends_by.line ≡ line = some_is whole.ends_by.line line (sym whole.ends_by.line_is ∙ is) in
           let lines_are : whole.lines ≡ whole.ends_by.before ++ line ∷ [] = whole.ends_by.lines_are ∙ ap (λ l. whole.ends_by.before ++ l ∷ []) same in
+          let paced : IsPaced net (pace_of job) start (whole.ends_by.before ++ line ∷ []) whole.last =
+          subst (λ ls. IsPaced net (pace_of job) start ls whole.last) lines_are (paced_so whole.lines whole.last whole.paced) in
+          let counted : IsCounted net inputs start (whole.ends_by.before ++ line ∷ []) whole.last counts =
+          subst (λ ls. IsCounted net inputs start ls whole.last counts) lines_are (counted_so whole.lines whole.last whole.wrote.counted) in
           record {
             before = whole.ends_by.before;
             last = whole.last;
-            paced = subst (λ ls. IsPaced net (pace_of job) start ls whole.last) lines_are (paced_so whole.lines whole.last whole.paced);
+            paced = paced;
             permitted = subst (λ ls. PlaysAndKeeps net job.grow start whole.last ls) lines_are (permitted_so whole.lines whole.last whole.permitted);
             wrote = subst (λ ls. Wrote setting ls whole.last now) lines_are (wrote_whole whole.lines whole.last whole.wrote.trace whole.wrote.outputs);
-            counted = subst (λ ls. IsCounted net inputs start ls whole.last counts) lines_are (counted_so whole.lines whole.last whole.wrote.counted);
+            counted = counted;
+            spent = λ by_budget. counted.firings ∙ budget_spent net (pace_of job) start begun_law paced_law whole.ends_by.before line whole.last paced by_budget;
           }
 
       cut : RunsShort net inputs budget start run new mid now → WasCut setting counts now

@@ -1,7 +1,6 @@
 -- What the run of a network leaves on its channels, by how it ended.
 -- Trusted: part of what a promise means.
-use Rattle.std.specs.Prelude.{◌≡◌, ◌⊎◌, ℕ, ◌+◌, true, false, List, [], ◌∷◌, ◌++◌, map, Option, None, Some, Result, Ok, Err}
-use Rattle.rvc_base.specs.declared.round_kind.RoundKind.{RoundKind}
+use Rattle.std.specs.Prelude.{◌≡◌, ◌⊎◌, ℕ, ◌+◌, true, false, List, [], ◌∷◌, ◌++◌, map, Option, None, Some}
 use Rattle.rvc_io.specs.Channels.{Channels}
 use Rattle.rvc_words.specs.Words.{PortText, port_text}
 use Rattle.rvc_words.specs.declared.job.Job.{Job}
@@ -79,6 +78,7 @@ abbrev pub ArePermitted : {X : Type 0} → Setting X → List Line → State X �
 ArePermitted run lines last = PlaysAndKeeps run.net run.pace.grow run.start last lines
 
 -- The run came to its end, which is this line: its lines are paced, they were written whole, and the numbers count them.
+-- If it ended by its budget, that is spent.
 pub record HasEnded {X : Type 0} (run : Setting X) (end : Line) (counts : Counts) (channels : Channels) : Type 0 where
   pub before : List Line
   pub last : State X
@@ -86,6 +86,7 @@ pub record HasEnded {X : Type 0} (run : Setting X) (end : Line) (counts : Counts
   pub permitted : ArePermitted run (before ++ end ∷ []) last
   pub wrote : Wrote run (before ++ end ∷ []) last channels
   pub counted : IsCounted run.net run.inputs run.start (before ++ end ∷ []) last counts
+  pub spent : end ≡ BudgetLine → counts.firings ≡ run.pace.budget
 
 -- A feed couldn't be read: the lines are begun. They were written whole, and the numbers count them.
 pub record WasCut {X : Type 0} (run : Setting X) (counts : Counts) (channels : Channels) :

@@ -1,6 +1,6 @@
 -- The network that a job runs: that of cells, joined as a flat network says.
 -- Trusted: part of what a promise means.
-use Rattle.std.specs.Prelude.{◌≡◌, ℕ, List, length, map, string_bytes}
+use Rattle.std.specs.Prelude.{◌≡◌, List, length, map, string_bytes}
 use Rattle.fnl_flatten.specs.declared.flat.Flat.{Flat}
 use Rattle.net_model.specs.declared.wiring.Wiring.{Wiring}
 use Rattle.net_model.specs.Cell.{Cell}

@@ -16,7 +16,7 @@ use crate::outcome::{JobFault, Outcome};
 use crate::preparing::{Prepared, prepare};
 use crate::states::StatesOf;
 use fnl_flatten::Flat;
-use net_model::Firing;
+use net_model::{Firing, paced_lines_keep_the_budget};
 use network_runner::runs_are_paced;
 use round_plan::{AllPolicy, Policy, SeedPolicy, TurnPolicy};
 use rvc_base::{MAX_BUDGET, RoundKind};
@@ -93,6 +93,7 @@ fn run_by<R: Threads + Sync, A: Firing + Send, P: Policy, F: Feeds, D: Drains, G
     let end = runner.run(rt, job.budget, feeds, drains, gate);
     take_over(runner.counts(), &mut counts);
     runs_are_paced::<StatesOf<A>>();
+    paced_lines_keep_the_budget::<StatesOf<A>>();
     Ok(Outcome { end, counts })
 }
 

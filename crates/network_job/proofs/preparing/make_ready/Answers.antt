@@ -1,11 +1,10 @@
-use Rattle.std.proofs.Common.{◌≡◌, ℕ, List, map, length, sym, ap, subst, ◌∙◌, arith, rules}
+use Rattle.std.proofs.Common.{◌≡◌, map, length, sym, ap, subst, ◌∙◌, arith}
 use Rattle.std.specs.Prelude.{string_bytes}
 use Rattle.std.proofs.lemmas.List.{length-map}
 use Rattle.rvc_words.specs.Words.{port_text}
 use Rattle.round_runner.specs.declared.outcome.Plan.{Plan}
 use Rattle.network_runner.specs.Making.{CountNothing}
 use Rattle.network_runner.specs.Asking.{Begins, seen_run}
-use Rattle.network_job.specs.Network.{plan_of}
 use Rattle.network_job.specs.Preparing.{IsWiringBy, head_named}
 use Rattle.network_job.proofs.preparing.make_ready.Goals as goal
 

@@ -52,7 +52,8 @@ returns-clause-leaves g c net inputs is_of told =
     c.in-Ok.prepared.runner c.in-Ok.prepared.head.items c.in-Ok.prepared.counts c.in-Ok.ensures.prepared net inputs is_of
     g.F.Feeds.feeds g.D.Drains.channels (string_bytes c.args.job.now.trace) c.args.feeds.now c.start.new.feeds c.run-end.new.feeds c.args.drains.now c.start.new.drains c.run-end.new.drains
     c.run-end.new.self c.run-end.result c.take_over.new.into c.requires.channels_closed c.in_default.ensures.0 written c.run-end.ensures.others c.run-end.ensures.leaves
-    (subst (λ (counts : Counts). TakesOver counts c.in-Ok.prepared.counts c.take_over.new.into) c.counts.ensures c.take_over.ensures) told
+    (subst (λ (counts : Counts). TakesOver counts c.in-Ok.prepared.counts c.take_over.new.into) c.counts.ensures c.take_over.ensures)
+    c.runs_are_paced.ensures c.paced_lines_keep_the_budget.ensures.begun c.paced_lines_keep_the_budget.ensures.paced told
 
 pub returns-clause-faults : goal.returns-clause-faults
 returns-clause-faults g c =
