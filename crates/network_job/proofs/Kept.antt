@@ -1,5 +1,5 @@
 -- Feeds and channels that aren't of the job stay as they were.
-use Rattle.std.proofs.Common.{inl, ℕ, List, ◌∷◌, sym, subst, ◌∙◌, arith, Contains}
+use Rattle.std.proofs.Common.{inl, inr, ℕ, List, ◌∷◌, sym, subst, ◌∙◌, arith, Contains}
 use Rattle.std.proofs.lemmas.List.Elements.{Contains-append_left}
 use Rattle.rvc_io.specs.Channels.{Channels, WritesOnlyAt}
 use Rattle.rvc_io.specs.Feeds.{Inputs}
@@ -7,7 +7,7 @@ use Rattle.rvc_words.specs.Words.{PortText}
 use Rattle.net_model.specs.declared.wiring.Link.{Link}
 use Rattle.network_runner.specs.Filling.{SameOpen}
 use Rattle.port_words.specs.Opening.{ChannelFails, ChannelsAreOpened, FeedFails, FeedsAreOpened, IsApart, Opening, channels_of, feeds_of}
-use Rattle.network_job.specs.Files.{IsChannelOf, IsFeedOf, OpensOnly, WritesOnly}
+use Rattle.network_job.specs.Files.{IsChannelOf, IsFeedOf, Keeps, OpensOnly, WritesOnly}
 use Rattle.network_job.proofs.Numbered.{is_channel, is_feed}
 
 -- ---- feeds
@@ -76,3 +76,11 @@ module _ (outs : List (List ℕ)) (words : List PortText) where
     same_held = λ tells channel not. only.same_held tells channel (λ is. not (inl is));
     faults_stay = only.faults_stay;
   }
+
+  -- channel 0 is none of these
+  not_report : IsChannelOf outs words 0 → ⊥
+  not_report (inl is) = absurd (omega (arith, is))
+  not_report (inr is) = (let n = is.channel_is in absurd (omega (arith, n)))
+
+  pub report_kept : (old new : Channels) → WritesOnly outs words old new → Keeps 0 old new
+  report_kept old new only = record { same_open = only.same_open 0 not_report; same_held = λ tells. only.same_held tells 0 not_report }

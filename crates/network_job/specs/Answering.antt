@@ -78,11 +78,12 @@ pub record HeadFails (openings : List Opening) (channel : ℕ) (old new : Channe
   pub only : WritesOnlyAt 1 between new
   pub counted : HasRisen between.faults new.faults
 
-module _ (links : List Link) (ins outs : List (List ℕ)) (words : List PortText) where
-  -- a feed couldn't be opened
-  abbrev pub IsUnread : Inputs → Inputs → ℕ → Type 0
-  IsUnread old new feed = FeedFails (feeds_of links ins words) feed old new
+-- a feed couldn't be opened
+abbrev pub IsUnread : List Link → (ins : List (List ℕ)) → List PortText → Inputs → Inputs
+    → (feed : ℕ) → Type 0
+IsUnread links ins words old new feed = FeedFails (feeds_of links ins words) feed old new
 
+module _ (links : List Link) (ins outs : List (List ℕ)) (words : List PortText) where
   -- all feeds were opened, and then a channel couldn't be, or couldn't be written
   pub record IsUnwritten (trace : List ℕ) (feeds_old feeds_new : Inputs) (old new : Channels) (channel : ℕ) : Type 0 where
     pub feeds : FeedsAreOpened (feeds_of links ins words) feeds_old feeds_new

@@ -74,3 +74,8 @@ pub record WritesOnly (outs : List (List ℕ)) (words : List PortText) (old new 
   pub same_held : old.tells ≡ true → (channel : ℕ) → (IsChannelOf outs words channel → ⊥)
       → new.held channel ≡ old.held channel
   pub faults_stay : old.faults ≤ new.faults
+
+-- this channel wasn't opened, closed or written
+pub record Keeps (channel : ℕ) (old new : Channels) : Type 0 where
+  pub same_open : new.is_open channel ≡ old.is_open channel
+  pub same_held : old.tells ≡ true → new.held channel ≡ old.held channel

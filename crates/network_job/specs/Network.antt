@@ -1,6 +1,6 @@
 -- The network that a job runs: that of cells, joined as a flat network says.
 -- Trusted: part of what a promise means.
-use Rattle.std.specs.Prelude.{◌≡◌, List, length, map, string_bytes}
+use Rattle.std.specs.Prelude.{◌≡◌, ℕ, List, length, map, string_bytes}
 use Rattle.fnl_flatten.specs.declared.flat.Flat.{Flat}
 use Rattle.net_model.specs.declared.wiring.Wiring.{Wiring}
 use Rattle.net_model.specs.Cell.{Cell}
@@ -9,6 +9,8 @@ use Rattle.net_model.specs.Ready.{port_of}
 use Rattle.network_runner.specs.Asking.{CanRun}
 use Rattle.round_runner.specs.declared.outcome.Plan.{Plan}
 use Rattle.rvc_words.specs.declared.job.Job.{Job}
+use Rattle.rvc_words.specs.Words.{PortText, port_text}
+use Rattle.port_words.specs.Matching.{names_of}
 
 -- the network whose leaves are these cells' actors, with the paths, classes, links and ports of a flat network
 pub record IsNetworkOf {X : Type 0} (net : Network X) (cells : List (Cell X)) (flat : Flat) :
@@ -27,6 +29,17 @@ pub record IsWiringOf (flat : Flat) (wiring : Wiring) : Type 0 where
   pub outs : map port_of wiring.outs.items ≡ map port_of flat.outs.items
   pub ins_told : length wiring.open_ins.items ≡ length flat.ins.items
   pub outs_told : length wiring.open_outs.items ≡ length flat.outs.items
+
+-- the names of its inputs, and those of its outputs
+abbrev pub in_names : Flat → List (List ℕ)
+in_names flat = names_of flat.ins.items
+
+abbrev pub out_names : Flat → List (List ℕ)
+out_names flat = names_of flat.outs.items
+
+-- the port words of a job
+abbrev pub words_of : Job → List PortText
+words_of job = map port_text job.ports.items
 
 -- by what the rounds of a job are made
 abbrev pub plan_of : Job → Plan

@@ -1,7 +1,7 @@
 //! The feeds and channels of a job are opened, and what stands before the first event of the trace is written.
 
-ghost use Rattle.std.specs.Prelude.{◌≡◌, ◌≢◌, ◌<◌, ℕ, false, length, map, string_bytes};
-ghost use Rattle.rvc_words.specs.Words.{port_text};
+ghost use Rattle.std.specs.Prelude.{◌≡◌, ◌≢◌, ◌<◌, ℕ, false, length, string_bytes};
+ghost use Rattle.network_job.specs.Network.{words_of};
 ghost use Rattle.network_job.specs.Preparing.{Opens, Starts};
 
 use crate::outcome::JobFault;
@@ -23,7 +23,7 @@ fn open_all<F: Feeds, D: Drains>(
     requires channels_closed { (n : ℕ) → n ≢ 0 → (D.channels drains.old).is_open n ≡ false }
     requires few_links { length flat.now.links.items < 4294967295 }
     requires few_outs { length flat.now.outs.items < 4294967294 }
-    ensures { Opens F.feeds D.channels flat.now (map port_text job.now.ports.items)
+    ensures { Opens F.feeds D.channels flat.now (words_of job.now)
         (string_bytes job.now.trace) feeds.old feeds.new drains.old drains.new result }
 {
     let words = job.ports.as_slice();
@@ -48,7 +48,7 @@ pub(crate) fn start<F: Feeds, D: Drains>(
     requires channels_closed { (n : ℕ) → n ≢ 0 → (D.channels drains.old).is_open n ≡ false }
     requires few_links { length flat.now.links.items < 4294967295 }
     requires few_outs { length flat.now.outs.items < 4294967294 }
-    ensures { Starts F.feeds D.channels flat.now (map port_text job.now.ports.items)
+    ensures { Starts F.feeds D.channels flat.now (words_of job.now)
         (string_bytes job.now.trace) feeds.old feeds.new drains.old drains.new head.now result }
 {
     if let Err(fault) = open_all(flat, job, feeds, drains) {

@@ -1,11 +1,10 @@
 //! What is made for a job before anything is opened.
 
 ghost use Rattle.std.specs.Prelude.{◌≡◌, ◌+◌, ◌++◌, ◌<◌, IfOk, OnOk, length, map};
-ghost use Rattle.rvc_words.specs.Words.{port_text};
 ghost use Rattle.network_runner.specs.Asking.{seen_run};
-ghost use Rattle.port_words.specs.Matching.{AreMatched, IsWrongWord, names_of};
+ghost use Rattle.port_words.specs.Matching.{AreMatched, IsWrongWord};
 ghost use Rattle.network_job.specs.Answering.{NeverOpens, OnRefused};
-ghost use Rattle.network_job.specs.Network.{CanRunAll, plan_of};
+ghost use Rattle.network_job.specs.Network.{CanRunAll, in_names, out_names, plan_of, words_of};
 ghost use Rattle.network_job.specs.Preparing.{IsPrepared};
 
 use crate::head::head_of;
@@ -60,8 +59,8 @@ fn make_ready<A: Firing + Send, P: Policy>(
     requires can_run { CanRunAll (map A.cell cells.items) flat.now (plan_of job.now) }
     requires not_asked { P.rounds policy ≡ 0 }
     ensures { IfOk result (λ p. IsPrepared (map A.cell cells.items) flat.now
-        (map port_text job.now.ports.items) (plan_of job.now) (P.kind policy)
-        (seen_run A.cell p.runner) p.head.items p.counts) }
+        (words_of job.now) (plan_of job.now) (P.kind policy) (seen_run A.cell p.runner)
+        p.head.items p.counts) }
 {
     let plan = plan_of(job);
     let wiring = wiring_of(alloc, flat, job.ports.as_slice())?;
@@ -90,12 +89,12 @@ pub(crate) fn prepare<A: Firing + Send, P: Policy>(
     requires can_run { CanRunAll (map A.cell cells.items) flat.now (plan_of job.now) }
     requires not_asked { P.rounds policy ≡ 0 }
     ensures prepared { IfOk result (λ p. IsPrepared (map A.cell cells.items) flat.now
-        (map port_text job.now.ports.items) (plan_of job.now) (P.kind policy)
-        (seen_run A.cell p.runner) p.head.items p.counts) }
-    ensures matched { OnOk result (AreMatched (names_of flat.now.ins.items
-        ++ names_of flat.now.outs.items) (map port_text job.now.ports.items)) }
-    ensures refused { OnRefused result (IsWrongWord (names_of flat.now.ins.items
-        ++ names_of flat.now.outs.items) (map port_text job.now.ports.items)) }
+        (words_of job.now) (plan_of job.now) (P.kind policy) (seen_run A.cell p.runner)
+        p.head.items p.counts) }
+    ensures matched { OnOk result (AreMatched (in_names flat.now
+        ++ out_names flat.now) (words_of job.now)) }
+    ensures refused { OnRefused result (IsWrongWord (in_names flat.now
+        ++ out_names flat.now) (words_of job.now)) }
     ensures only { NeverOpens result }
 {
     let ins = flat.ins.as_slice();

@@ -1,14 +1,13 @@
 //! One run of a network, from port words to its end.
 
 ghost use Rattle.std.specs.Prelude.{◌≡◌, ◌≢◌, ◌≤◌, ◌++◌, ℕ, List, false, IfOk, map, string_bytes};
-ghost use Rattle.rvc_words.specs.Words.{port_text};
 ghost use Rattle.net_model.specs.Network.{Network};
 ghost use Rattle.net_model.specs.Ready.{given_state};
-ghost use Rattle.port_words.specs.Matching.{AreMatched, IsWrongWord, names_of};
+ghost use Rattle.port_words.specs.Matching.{AreMatched, IsWrongWord};
 ghost use Rattle.network_job.specs.Answering.{EndIsCaused, IfStarted, IfUnstarted, IsUnread, IsUnwritten, LeavesJob, OnRefused, OnUnread, OnUnwritten};
-ghost use Rattle.network_job.specs.Files.{AreInputs, OpensOnly, WritesOnly};
+ghost use Rattle.network_job.specs.Files.{AreInputs, Keeps, OpensOnly, WritesOnly};
 ghost use Rattle.network_job.specs.Leaving.{setting_of};
-ghost use Rattle.network_job.specs.Network.{CanRunAll, IsNetworkOf, plan_of};
+ghost use Rattle.network_job.specs.Network.{CanRunAll, IsNetworkOf, in_names, out_names, plan_of, words_of};
 
 use crate::numbers::take_over;
 use crate::opening::start;
@@ -47,36 +46,33 @@ fn run_by<R: Threads + Sync, A: Firing + Send, P: Policy, F: Feeds, D: Drains, G
     // What the job leaves.
     ensures leaves { (net : Network A.State) (inputs : List (List ℕ))
         → IsNetworkOf net (map A.cell cells.items) flat.now
-        → AreInputs inputs flat.now.links.items (names_of flat.now.ins.items)
-        (map port_text job.now.ports.items) (F.feeds feeds.old)
+        → AreInputs inputs flat.now.links.items (in_names flat.now) (words_of job.now)
+        (F.feeds feeds.old)
         → LeavesJob (setting_of net inputs (given_state net (map A.cell cells.items) inputs) job.now)
         result (D.channels drains.new) }
     ensures within { IfOk result (λ outcome. outcome.counts.firings ≤ job.now.budget) }
 
     // When each answer comes, and what it says.
-    ensures matched { IfStarted result (AreMatched (names_of flat.now.ins.items
-        ++ names_of flat.now.outs.items) (map port_text job.now.ports.items)) }
-    ensures refused { OnRefused result (IsWrongWord (names_of flat.now.ins.items
-        ++ names_of flat.now.outs.items) (map port_text job.now.ports.items)) }
+    ensures matched { IfStarted result (AreMatched (in_names flat.now ++ out_names flat.now)
+        (words_of job.now)) }
+    ensures refused { OnRefused result (IsWrongWord (in_names flat.now ++ out_names flat.now)
+        (words_of job.now)) }
     ensures unstarted { IfUnstarted result ((feeds.new ≡ feeds.old) × (drains.new ≡ drains.old)) }
-    ensures unread { OnUnread result (λ feed. IsUnread flat.now.links.items
-        (names_of flat.now.ins.items) (names_of flat.now.outs.items)
-        (map port_text job.now.ports.items) (F.feeds feeds.old) (F.feeds feeds.new) feed
+    ensures unread { OnUnread result (λ feed. IsUnread flat.now.links.items (in_names flat.now)
+        (words_of job.now) (F.feeds feeds.old) (F.feeds feeds.new) feed
         × (drains.new ≡ drains.old)) }
-    ensures unwritten { OnUnwritten result (IsUnwritten flat.now.links.items
-        (names_of flat.now.ins.items) (names_of flat.now.outs.items)
-        (map port_text job.now.ports.items) (string_bytes job.now.trace) (F.feeds feeds.old)
+    ensures unwritten { OnUnwritten result (IsUnwritten flat.now.links.items (in_names flat.now)
+        (out_names flat.now) (words_of job.now) (string_bytes job.now.trace) (F.feeds feeds.old)
         (F.feeds feeds.new) (D.channels drains.old) (D.channels drains.new)) }
-    ensures faults { IfOk result (λ outcome. EndIsCaused flat.now.links.items
-        (names_of flat.now.ins.items) (names_of flat.now.outs.items)
-        (map port_text job.now.ports.items) (F.feeds feeds.old) (F.feeds feeds.new)
+    ensures faults { IfOk result (λ outcome. EndIsCaused flat.now.links.items (in_names flat.now)
+        (out_names flat.now) (words_of job.now) (F.feeds feeds.old) (F.feeds feeds.new)
         (D.channels drains.old) (D.channels drains.new) outcome.end) }
 
     // What stays.
-    ensures other_feeds { OpensOnly flat.now.links.items (names_of flat.now.ins.items)
-        (map port_text job.now.ports.items) (F.feeds feeds.old) (F.feeds feeds.new) }
-    ensures other_channels { WritesOnly (names_of flat.now.outs.items)
-        (map port_text job.now.ports.items) (D.channels drains.old) (D.channels drains.new) }
+    ensures other_feeds { OpensOnly flat.now.links.items (in_names flat.now) (words_of job.now)
+        (F.feeds feeds.old) (F.feeds feeds.new) }
+    ensures other_channels { WritesOnly (out_names flat.now) (words_of job.now)
+        (D.channels drains.old) (D.channels drains.new) }
 {
     let prepared = match prepare(alloc, cells, flat, job, policy) {
         Ok(prepared) => prepared,
@@ -112,8 +108,8 @@ fn run_by<R: Threads + Sync, A: Firing + Send, P: Policy, F: Feeds, D: Drains, G
 /// - `matched`: if anything was opened, each port word names a port of its own.
 /// - `within`: no more firings were made than the job permits.
 /// - `faults`: a run ends by a feed or a channel only if that was counted, and only by one that was opened.
-/// - `other_feeds` and `other_channels`: no other feed was opened, and no other channel was opened or written; so channel 0
-///   is as it was.
+/// - `other_feeds`, `other_channels` and `report`: no other feed was opened, and no other channel was opened or written; so
+///   channel 0 is as it was.
 ///
 /// # Errors
 ///
@@ -124,6 +120,7 @@ fn run_by<R: Threads + Sync, A: Firing + Send, P: Policy, F: Feeds, D: Drains, G
 /// - `WriteFault` with the number of the first channel that couldn't be opened, or that of the trace's, if what stands
 ///   before the first event couldn't be written: the failure was counted, and all feeds and the channels before it are open
 ///   (`unwritten`).
+#[tactic(auto, using(crate::proofs::Kept::report_kept))]
 pub fn run_network<R: Threads + Sync, A: Firing + Send, F: Feeds, D: Drains, G: Gate>(
     rt: &R,
     alloc: Global,
@@ -142,36 +139,34 @@ pub fn run_network<R: Threads + Sync, A: Firing + Send, F: Feeds, D: Drains, G: 
     // What the job leaves.
     ensures leaves { (net : Network A.State) (inputs : List (List ℕ))
         → IsNetworkOf net (map A.cell cells.items) flat.now
-        → AreInputs inputs flat.now.links.items (names_of flat.now.ins.items)
-        (map port_text job.now.ports.items) (F.feeds feeds.old)
+        → AreInputs inputs flat.now.links.items (in_names flat.now) (words_of job.now)
+        (F.feeds feeds.old)
         → LeavesJob (setting_of net inputs (given_state net (map A.cell cells.items) inputs) job.now)
         result (D.channels drains.new) }
     ensures within { IfOk result (λ outcome. outcome.counts.firings ≤ job.now.budget) }
 
     // When each answer comes, and what it says.
-    ensures matched { IfStarted result (AreMatched (names_of flat.now.ins.items
-        ++ names_of flat.now.outs.items) (map port_text job.now.ports.items)) }
-    ensures refused { OnRefused result (IsWrongWord (names_of flat.now.ins.items
-        ++ names_of flat.now.outs.items) (map port_text job.now.ports.items)) }
+    ensures matched { IfStarted result (AreMatched (in_names flat.now ++ out_names flat.now)
+        (words_of job.now)) }
+    ensures refused { OnRefused result (IsWrongWord (in_names flat.now ++ out_names flat.now)
+        (words_of job.now)) }
     ensures unstarted { IfUnstarted result ((feeds.new ≡ feeds.old) × (drains.new ≡ drains.old)) }
-    ensures unread { OnUnread result (λ feed. IsUnread flat.now.links.items
-        (names_of flat.now.ins.items) (names_of flat.now.outs.items)
-        (map port_text job.now.ports.items) (F.feeds feeds.old) (F.feeds feeds.new) feed
+    ensures unread { OnUnread result (λ feed. IsUnread flat.now.links.items (in_names flat.now)
+        (words_of job.now) (F.feeds feeds.old) (F.feeds feeds.new) feed
         × (drains.new ≡ drains.old)) }
-    ensures unwritten { OnUnwritten result (IsUnwritten flat.now.links.items
-        (names_of flat.now.ins.items) (names_of flat.now.outs.items)
-        (map port_text job.now.ports.items) (string_bytes job.now.trace) (F.feeds feeds.old)
+    ensures unwritten { OnUnwritten result (IsUnwritten flat.now.links.items (in_names flat.now)
+        (out_names flat.now) (words_of job.now) (string_bytes job.now.trace) (F.feeds feeds.old)
         (F.feeds feeds.new) (D.channels drains.old) (D.channels drains.new)) }
-    ensures faults { IfOk result (λ outcome. EndIsCaused flat.now.links.items
-        (names_of flat.now.ins.items) (names_of flat.now.outs.items)
-        (map port_text job.now.ports.items) (F.feeds feeds.old) (F.feeds feeds.new)
+    ensures faults { IfOk result (λ outcome. EndIsCaused flat.now.links.items (in_names flat.now)
+        (out_names flat.now) (words_of job.now) (F.feeds feeds.old) (F.feeds feeds.new)
         (D.channels drains.old) (D.channels drains.new) outcome.end) }
 
     // What stays.
-    ensures other_feeds { OpensOnly flat.now.links.items (names_of flat.now.ins.items)
-        (map port_text job.now.ports.items) (F.feeds feeds.old) (F.feeds feeds.new) }
-    ensures other_channels { WritesOnly (names_of flat.now.outs.items)
-        (map port_text job.now.ports.items) (D.channels drains.old) (D.channels drains.new) }
+    ensures other_feeds { OpensOnly flat.now.links.items (in_names flat.now) (words_of job.now)
+        (F.feeds feeds.old) (F.feeds feeds.new) }
+    ensures other_channels { WritesOnly (out_names flat.now) (words_of job.now)
+        (D.channels drains.old) (D.channels drains.new) }
+    ensures report { Keeps 0 (D.channels drains.old) (D.channels drains.new) }
 {
     match job.round {
         RoundKind::All => run_by(

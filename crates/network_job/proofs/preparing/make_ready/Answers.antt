@@ -11,7 +11,8 @@ use Rattle.network_job.proofs.preparing.make_ready.Goals as goal
 pub returns : goal.returns
 returns g c =
     let flat = c.args.flat.now in
-    let many : c.len.result ≡ length (map g.A.Firing.cell c.args.cells.items) = omega arith ∙ sym (length-map c.args.cells.items g.A.Firing.cell) in
+    let count : c.len.result ≡ length c.args.cells.items = omega arith in
+    let many : c.len.result ≡ length (map g.A.Firing.cell c.args.cells.items) = count ∙ sym (length-map c.args.cells.items g.A.Firing.cell) in
     let links : c.len-2.result ≡ length flat.links.items = omega arith in
     let outs : c.len-3.result ≡ length flat.outs.items = omega arith in
     record {
