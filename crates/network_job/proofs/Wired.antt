@@ -15,7 +15,12 @@ use Rattle.net_model.specs.Ready.{IsReady, port_of}
 use Rattle.net_model.specs.Ready as ready
 use Rattle.net_model.specs.Wired.{ComesFromPort, CoversGives, CoversNeeds, HasInput, HasKindOf, HasOutput, HoldsGives, HoldsNeeds, IsJoined, IsWired, LeadsToPort}
 use Rattle.fnl_flatten.specs.declared.flat.Flat.{Flat}
-use Rattle.network_job.specs.Network.{IsNetworkOf, IsWiringOf}
+use Rattle.rvc_base.specs.Storing.{IsSize}
+use Rattle.net_model.specs.declared.wiring.Port.{Port}
+use Rattle.net_state.specs.Beginning.{HaveSizes, NoneUnlinked}
+use Rattle.network_runner.specs.Asking.{HavePortSizes}
+use Rattle.network_runner.specs.Sending.{max_outlets}
+use Rattle.network_job.specs.Network.{AnyMayBeOpen, IsNetworkOf, IsWiringOf}
 use Rattle.network_job.proofs.Numbered.{some_is}
 
 abbrev behaves : {X : Type 0} → Leaf X → Behaviour X
@@ -139,3 +144,41 @@ module _ {X : Type 0} where
       → IsReady net grow burst cells → IsReady other grow burst cells
   ready_alike net other cells wiring grow burst is_of other_of net_ready =
       ready_too net other grow burst cells (is_of.actors ∙ sym other_of.actors) (is_of.links ∙ sym other_of.links) (is_of.ins ∙ sym other_of.ins) (is_of.outs ∙ sym other_of.outs) net_ready
+
+-- ---- which ports are open
+
+same_kind : (one : Option Port) (other : Port) → option_map port_of one ≡ Some (port_of other) → (port : Port) × (one ≡ Some port) × (port.kind ≡ other.kind)
+same_kind None other same = cc
+same_kind (Some port) other same = (port, refl, ap (λ (p : NetPort). p.kind) (some_is (port_of port) (port_of other) same))
+
+sizes_too : (ports others : List Port) → map port_of ports ≡ map port_of others → HavePortSizes ports → HavePortSizes others
+sizes_too ports others same sizes p port at =
+    let alike : option_map port_of (slice_get ports p) ≡ Some (port_of port) =
+    sym (slice_get-map port_of ports p) ∙ ap (λ ps. slice_get ps p) same ∙ slice_get-map port_of others p ∙ ap (option_map port_of) at in
+    let found = same_kind (slice_get ports p) port alike in
+    subst IsSize found.2 (sizes p found.0 found.1)
+
+pub any_may_be_open : (X : Type 0) → AnyMayBeOpen X
+any_may_be_open X cells flat wiring other plan is_wiring is_other can =
+    let links : wiring.links.items ≡ other.links.items = is_wiring.links ∙ sym is_other.links in
+    let ins : map port_of wiring.ins.items ≡ map port_of other.ins.items = is_wiring.ins ∙ sym is_other.ins in
+    let outs : map port_of wiring.outs.items ≡ map port_of other.outs.items = is_wiring.outs ∙ sym is_other.outs in
+    record {
+      net = can.net;
+      is_of = record {
+        actors = can.is_of.actors;
+        links = can.is_of.links ∙ links;
+        ins = can.is_of.ins ∙ ins;
+        outs = can.is_of.outs ∙ outs;
+        ins_told = is_other.ins_told ∙ sym (length-map flat.ins.items port_of) ∙ ap length (sym is_other.ins) ∙ length-map other.ins.items port_of;
+        outs_told = is_other.outs_told ∙ sym (length-map flat.outs.items port_of) ∙ ap length (sym is_other.outs) ∙ length-map other.outs.items port_of;
+      };
+      ready = can.ready;
+      sizes = subst HaveSizes links can.sizes;
+      in_sizes = sizes_too wiring.ins.items other.ins.items ins can.in_sizes;
+      out_sizes = sizes_too wiring.outs.items other.outs.items outs can.out_sizes;
+      unlinked = subst (NoneUnlinked cells) links can.unlinked;
+      few_outs = subst (λ n. n ≤ max_outlets) (sym (length-map wiring.outs.items port_of) ∙ ap length outs ∙ length-map other.outs.items port_of) can.few_outs;
+      workers = can.workers;
+      bursts = can.bursts;
+    }

@@ -11,6 +11,7 @@ use Rattle.round_runner.specs.declared.outcome.Plan.{Plan}
 use Rattle.rvc_words.specs.declared.job.Job.{Job}
 use Rattle.rvc_words.specs.Words.{PortText, port_text}
 use Rattle.port_words.specs.Matching.{names_of}
+use Rattle.port_words.specs.Opening.{has_files}
 
 -- the network whose leaves are these cells' actors, with the paths, classes, links and ports of a flat network
 pub record IsNetworkOf {X : Type 0} (net : Network X) (cells : List (Cell X)) (flat : Flat) :
@@ -21,14 +22,6 @@ pub record IsNetworkOf {X : Type 0} (net : Network X) (cells : List (Cell X)) (f
   pub links : net.links ≡ flat.links.items
   pub ins : net.ins ≡ map port_of flat.ins.items
   pub outs : net.outs ≡ map port_of flat.outs.items
-
--- the links and ports of a flat network, and a mark for each port, whatever the marks are
-pub record IsWiringOf (flat : Flat) (wiring : Wiring) : Type 0 where
-  pub links : wiring.links.items ≡ flat.links.items
-  pub ins : map port_of wiring.ins.items ≡ map port_of flat.ins.items
-  pub outs : map port_of wiring.outs.items ≡ map port_of flat.outs.items
-  pub ins_told : length wiring.open_ins.items ≡ length flat.ins.items
-  pub outs_told : length wiring.open_outs.items ≡ length flat.outs.items
 
 -- the names of its inputs, and those of its outputs
 abbrev pub in_names : Flat → List (List ℕ)
@@ -41,6 +34,20 @@ out_names flat = names_of flat.outs.items
 abbrev pub words_of : Job → List PortText
 words_of job = map port_text job.ports.items
 
+-- the links and ports of a flat network, and a mark for each port, whatever the marks are
+pub record IsWiringOf (flat : Flat) (wiring : Wiring) : Type 0 where
+  pub links : wiring.links.items ≡ flat.links.items
+  pub ins : map port_of wiring.ins.items ≡ map port_of flat.ins.items
+  pub outs : map port_of wiring.outs.items ≡ map port_of flat.outs.items
+  pub ins_told : length wiring.open_ins.items ≡ length flat.ins.items
+  pub outs_told : length wiring.open_outs.items ≡ length flat.outs.items
+
+-- .. marked are those that have a file
+pub record IsWiringBy (flat : Flat) (words : List PortText) (wiring : Wiring) : Type 0 where
+  pub is_of : IsWiringOf flat wiring
+  pub reads : wiring.open_ins.items ≡ has_files (in_names flat) words
+  pub writes : wiring.open_outs.items ≡ has_files (out_names flat) words
+
 -- by what the rounds of a job are made
 abbrev pub plan_of : Job → Plan
 plan_of job = record { workers = job.workers; burst = job.burst; grow = job.grow }
@@ -51,3 +58,9 @@ pub record CanRunAll {X : Type 0} (cells : List (Cell X)) (flat : Flat) (plan : 
   pub can_run : (wiring : Wiring) → IsWiringOf flat wiring → CanRun cells wiring plan
   pub paths : length flat.paths.items ≡ length cells
   pub classes : length flat.classes.items ≡ length cells
+
+-- Whether cells can be run doesn't depend on which ports are open.
+abbrev pub AnyMayBeOpen : (X : Type 0) → Type 0
+AnyMayBeOpen X = (cells : List (Cell X)) (flat : Flat) (wiring other : Wiring) (plan : Plan)
+    → IsWiringOf flat wiring → IsWiringOf flat other
+    → CanRun cells wiring plan → CanRun cells other plan

@@ -18,17 +18,10 @@ use Rattle.round_runner.specs.Running.{Running}
 use Rattle.network_runner.specs.Asking.{Begins}
 use Rattle.network_runner.specs.Making.{CountNothing}
 use Rattle.port_words.specs.Matching.{names_of}
-use Rattle.port_words.specs.Opening.{ChannelFails, ChannelsAreOpened, FeedFails, FeedsAreOpened, channels_of, feeds_of, has_files}
+use Rattle.port_words.specs.Opening.{ChannelFails, ChannelsAreOpened, FeedFails, FeedsAreOpened, channels_of, feeds_of}
 use Rattle.network_job.specs.declared.outcome.JobFault.{JobFault}
 use Rattle.network_job.specs.declared.outcome.JobFault.TheVariants.{Refused, Memory, ReadFault, WriteFault}
-use Rattle.network_job.specs.Network.{IsWiringOf}
-
--- The wiring.
-
-pub record IsWiringBy (flat : Flat) (words : List PortText) (wiring : Wiring) : Type 0 where
-  pub is_of : IsWiringOf flat wiring
-  pub reads : wiring.open_ins.items ≡ has_files (names_of flat.ins.items) words
-  pub writes : wiring.open_outs.items ≡ has_files (names_of flat.outs.items) words
+use Rattle.network_job.specs.Network.{IsWiringBy}
 
 -- What stands in a trace before its first event, by the names of the instances.
 

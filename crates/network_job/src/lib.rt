@@ -10,6 +10,7 @@
 #![tactic(auto)]
 
 mod head;
+mod laws;
 mod numbers;
 mod opening;
 mod outcome;
@@ -18,5 +19,7 @@ mod running;
 mod states;
 mod wiring;
 
+pub use laws::any_ports_may_be_open;
 pub use outcome::{JobFault, Outcome};
 pub use running::run_network;
+pub use wiring::wiring_of;

@@ -3,7 +3,7 @@
 ghost use Rattle.std.specs.Prelude.{◌≡◌, IfOk, map};
 ghost use Rattle.rvc_words.specs.Words.{port_text};
 ghost use Rattle.net_model.specs.Ready.{port_of};
-ghost use Rattle.network_job.specs.Preparing.{IsWiringBy};
+ghost use Rattle.network_job.specs.Network.{IsWiringBy};
 
 use fnl_flatten::Flat;
 use net_model::{Port, Wiring};
@@ -33,7 +33,7 @@ fn copy_ports(alloc: Global, ports: &[Port]) -> Result<Vec<Port>, Memory>
 /// # Errors
 ///
 /// `Memory` if memory runs out.
-pub(crate) fn wiring_of(alloc: Global, flat: &Flat, words: &[PortWord]) -> Result<Wiring, Memory>
+pub fn wiring_of(alloc: Global, flat: &Flat, words: &[PortWord]) -> Result<Wiring, Memory>
     ensures { IfOk result (IsWiringBy flat.now (map port_text words.now)) }
 {
     let links = copy_of(alloc, flat.links.as_slice())?;

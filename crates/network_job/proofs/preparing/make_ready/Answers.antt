@@ -5,7 +5,8 @@ use Rattle.rvc_words.specs.Words.{port_text}
 use Rattle.round_runner.specs.declared.outcome.Plan.{Plan}
 use Rattle.network_runner.specs.Making.{CountNothing}
 use Rattle.network_runner.specs.Asking.{Begins, seen_run}
-use Rattle.network_job.specs.Preparing.{IsWiringBy, head_named}
+use Rattle.network_job.specs.Network.{IsWiringBy}
+use Rattle.network_job.specs.Preparing.{head_named}
 use Rattle.network_job.proofs.preparing.make_ready.Goals as goal
 
 pub returns : goal.returns
