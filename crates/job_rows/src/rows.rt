@@ -1,14 +1,20 @@
 //! Jobs over feeds and channels in memory: how they are answered, and what the channels hold.
 
+ghost use Rattle.std.specs.Prelude.{◌≡◌, ◌≢◌, ◌≤◌, ℕ, false, IfOk, map};
+ghost use Rattle.actor_cell.specs.Core.{seen};
+ghost use Rattle.rvc_io.specs.MemDrains.{channels_of};
+ghost use Rattle.rvc_io.specs.MemFeeds.{inputs_of};
+ghost use Rattle.network_job.specs.Network.{CanRunAll, plan_of};
+
 use crate::networks::{Width, actors, flat};
 use crate::ready_job;
+use actor_cell::Cell;
+use fnl_flatten::Flat;
 use network_job::{JobFault, Outcome, run_network};
-use rvc_base::Memory;
+use rvc_base::{MAX_BUDGET, Memory};
 use rvc_io::{MemDrains, MemFeeds, OpenGate, names_are_distinct};
 use rvc_words::{Job, read_words};
 use std::alloc::{AllocError, Global};
-use std::process::Abort;
-use std::test::Fail;
 use std::thread::Threads;
 
 /// How many actors there are, the port words and options, the most bytes that a call moves, and which call to the feeds
@@ -121,9 +127,65 @@ fn words(alloc: Global, asked: &str) -> Result<Vec<String>, AllocError> {
 }
 
 /// The job of a row, or `Memory` if there is none.
-fn job(alloc: Global, asked: &str) -> Result<Job, Memory> {
+fn job(alloc: Global, asked: &str) -> Result<Job, Memory>
+    ensures { IfOk result (λ job. job.budget ≤ MAX_BUDGET) }
+{
     let words = words(alloc, asked)?;
-    read_words(alloc, words.as_slice()).map_err(|_fault| Memory)
+    match read_words(alloc, words.as_slice()) {
+        Ok(job) => Ok(job),
+        Err(_) => Err(Memory),
+    }
+}
+
+/// A network and its cells.
+#[derive(Drop)]
+struct Ready {
+    flat: Flat,
+    cells: Vec<Cell>,
+}
+
+/// A network that a job can run, or `Memory` if there is none.
+fn network(alloc: Global, width: Width, job: &Job) -> Result<Ready, Memory>
+    ensures { IfOk result (λ ready. CanRunAll (map seen ready.cells.items) ready.flat
+        (plan_of job.now)) }
+{
+    let flat = flat(alloc, width)?;
+    let actors = actors(alloc, width)?;
+    match ready_job(alloc, actors.as_slice(), &flat, job)? {
+        Some(cells) => Ok(Ready { flat, cells }),
+        None => Err(Memory),
+    }
+}
+
+/// The file `in`.
+fn files(alloc: Global) -> Result<Vec<(String, Vec<u8>)>, AllocError> {
+    let mut files = Vec::new(alloc);
+    files.push((
+        String::from_str(alloc, "in")?,
+        Vec::from_slice(alloc, INPUT)?,
+    ))?;
+    Ok(files)
+}
+
+/// Feeds of that file, of whose calls one fails.
+fn feeds(alloc: Global, step: u32, failing: u64) -> Result<MemFeeds, Memory>
+    ensures { IfOk result (λ feeds. (n : ℕ) → (inputs_of feeds).is_open n ≡ false) }
+{
+    let files = files(alloc)?;
+    if step == 0 || !names_are_distinct(&files) {
+        return Err(Memory);
+    }
+    MemFeeds::new(alloc, files, vec![in alloc; failing]?, step, 3)
+}
+
+/// Channels, of whose calls one fails.
+fn drains(alloc: Global, step: u32, failing: u64) -> Result<MemDrains, Memory>
+    ensures { IfOk result (λ drains. (n : ℕ) → n ≢ 0 → (channels_of drains).is_open n ≡ false) }
+{
+    if step == 0 {
+        return Err(Memory);
+    }
+    MemDrains::new(alloc, vec![in alloc; failing]?, step, 4, 4096)
 }
 
 /// How a job was answered.
@@ -166,23 +228,12 @@ struct Ran {
 }
 
 /// Does the job of a row.
-fn run<R: Abort + Threads + Sync>(rt: &R, alloc: Global, asked: Asked) -> Result<Ran, Fail> {
+fn run<R: Threads + Sync>(rt: &R, alloc: Global, asked: Asked) -> Result<Ran, Memory> {
     let (width, words, step, feed, drain) = asked;
-    assert!(rt; step > 0);
-    let mut files = Vec::new(alloc);
-    files.push((
-        String::from_str(alloc, "in")?,
-        Vec::from_slice(alloc, INPUT)?,
-    ))?;
-    assert!(rt; names_are_distinct(&files));
-    let mut feeds = MemFeeds::new(alloc, files, vec![in alloc; feed]?, step, 3)?;
-    let mut drains = MemDrains::new(alloc, vec![in alloc; drain]?, step, 4, 4096)?;
     let job = job(alloc, words)?;
-    let flat = flat(alloc, width)?;
-    let actors = actors(alloc, width)?;
-    let Some(cells) = ready_job(alloc, actors.as_slice(), &flat, &job)? else {
-        return Err(Memory.into());
-    };
+    let mut feeds = feeds(alloc, step, feed)?;
+    let mut drains = drains(alloc, step, drain)?;
+    let Ready { flat, cells } = network(alloc, width, &job)?;
     let answer = run_network(
         rt,
         alloc,
@@ -193,14 +244,12 @@ fn run<R: Abort + Threads + Sync>(rt: &R, alloc: Global, asked: Asked) -> Result
         &mut drains,
         &OpenGate,
     );
-    Ok(Ran {
-        answer: told(alloc, &answer)?,
-        drains,
-    })
+    let answer = told(alloc, &answer)?;
+    Ok(Ran { answer, drains })
 }
 
 #[test]
-fn jobs_leave_what_they_should(rt: HostRuntime) -> Result<(), Fail> {
+fn jobs_leave_what_they_should(rt: HostRuntime) -> Result<(), Memory> {
     for &(asked, (answer, trace, out, other)) in ROWS {
         let ran = run(&rt, rt.alloc(), asked)?;
         assert_eq!(rt; ran.answer.as_str(), answer);

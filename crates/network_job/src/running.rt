@@ -114,7 +114,8 @@ fn run_by<R: Threads + Sync, A: Firing + Send, P: Policy, F: Feeds, D: Drains, G
 /// # Errors
 ///
 /// - `Refused` for the first port word that names no port, or one that a word before it names (`refused`).
-/// - `Memory` if memory runs out. With these two nothing is opened or written (`unstarted`).
+/// - `Memory` if memory runs out; more than 2,147,483,647 inputs or outputs count as that. With these two nothing is opened
+///   or written (`unstarted`).
 /// - `ReadFault` with the number of the first feed that couldn't be opened: the failure was counted, the feeds before it are
 ///   open, and no channel was opened (`unread`).
 /// - `WriteFault` with the number of the first channel that couldn't be opened, or that of the trace's, if what stands
