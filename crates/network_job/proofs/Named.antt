@@ -23,3 +23,8 @@ head_is net instances links grow paths classes many joined called classed =
     ∙ ap (λ ps. line_text (Header (length net.leaves) (length net.links) grow) ++ instances_named 0 ps classes) (sym called)
     ∙ ap (λ cs. line_text (Header (length net.leaves) (length net.links) grow) ++ instances_named 0 (map (λ leaf. leaf.path) net.leaves) cs) (sym classed)
     ∙ ap (λ rest. line_text (Header (length net.leaves) (length net.links) grow) ++ rest) (lines_are 0 net.leaves)
+
+-- what stands there by equal numbers
+pub head_so : (head : List ℕ) (n count links grow limit : ℕ) (paths classes : List (List ℕ)) → head ≡ head_named n links grow paths classes → n ≡ count → grow ≡ limit → head ≡ head_named count links limit paths classes
+head_so head n count links grow limit paths classes is many grown =
+    is ∙ ap (λ k. head_named k links grow paths classes) many ∙ ap (λ g. head_named count links g paths classes) grown
