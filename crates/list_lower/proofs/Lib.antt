@@ -1,8 +1,10 @@
 pub mod MeantIs
+pub mod ShapeIs
 pub mod Moving
 pub mod Shapes
 pub mod Steps
 pub mod Forms
+pub mod PartForms
 pub mod Generated
 pub mod Counters
 pub mod Nexts

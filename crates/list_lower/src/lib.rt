@@ -8,9 +8,11 @@ mod counting;
 mod generators;
 pub mod laws;
 mod lists;
+mod shapes;
 mod sizes;
 mod taking;
 mod types;
 
 pub use lists::{fill, lower_list};
+pub use shapes::shape_meant;
 pub use types::single_meant;

@@ -54,7 +54,7 @@ no_room high cells some = absurd (omega (arith, some))
 
 module _ (rs : Routines) (outer : List Name) (w : World) (serves : Serves w outer rs.functions) (frames : List ℕ) where
   -- code of a list fills cells with it, whatever it calls
-  fills_there : (inner : List Name) {e : Tree} {t : Shape} {base n k m : ℕ} {code : List Instr} → IsFill rs.functions (inner ++ outer) e t n base k code m → n + scalars_of_type t ≤ k → (stack cells : List ℤ) (env : Env) (left : ℕ) → StandsAt w.code.instrs base code
+  pub fills_there : (inner : List Name) {e : Tree} {t : Shape} {base n k m : ℕ} {code : List Instr} → IsFill rs.functions (inner ++ outer) e t n base k code m → n + scalars_of_type t ≤ k → (stack cells : List ℤ) (env : Env) (left : ℕ) → StandsAt w.code.instrs base code
       → AreLaid rs outer w.tokens w.low w.high n inner → AreApart n m w.low w.high → m ≤ length cells → HoldsInside rs outer w.tokens w.low w.high inner cells env
       → Follows (eval e w.calls env left) (Fills w n m n t (state base stack frames cells left) (base + length code)) (CutsOff w n m (state base stack frames cells left))
   fills_there inner {e = e} {t = t} {base = base} {n = n} {k = k} {m = m} {code = code} coded wide stack cells env left stands laid apart room holds =

@@ -12,9 +12,11 @@ pub mod laws;
 mod lists;
 mod procedures;
 mod scope;
+mod starts;
 mod stmts;
 mod targets;
 
 pub use callees::ProcCallee;
 pub use procedures::lower_procedure;
+pub use starts::start_list;
 pub use stmts::{lower_calling_stmts, lower_stmts};

@@ -10,7 +10,7 @@ ghost use Rattle.stmt_lower.specs.StmtSeen.{seen};
 use crate::callees::ProcCallee;
 use crate::scope::StmtScope;
 use crate::stmts::lower_all;
-use cal_model::{BoundLocal, BoundProc};
+use cal_model::{BoundLocal, BoundProc, Shape};
 use code_ir::{Instr, Routine};
 use expr_lower::{
     Callee, Draft, Formal, Frame, LowerFault, Named, next_place, put, single, start, take_cell,
@@ -86,9 +86,10 @@ fn in_formals(
     let Some((formal, others)) = cells.split_first() else {
         return in_locals(scope, &p.locals, p, draft);
     };
+    let shape = Shape::Scalar(formal.kind);
     let frame = Frame {
         name: first.name.as_str(),
-        kind: formal.kind,
+        shape: &shape,
         cell: formal.cell,
         outer: scope.values.frame,
     };
@@ -118,9 +119,10 @@ fn in_locals(
     };
     let cell = take_cell(draft)?;
     start(&scope.values, &first.start, cell, kind, draft)?;
+    let shape = Shape::Scalar(kind);
     let frame = Frame {
         name: first.name.as_str(),
-        kind,
+        shape: &shape,
         cell,
         outer: scope.values.frame,
     };
