@@ -1,3 +1,4 @@
+pub mod Types
 pub mod Seats
 pub mod Guarding
 pub mod GuardWords
@@ -5,5 +6,6 @@ pub mod Sending
 pub mod SendWords
 pub mod Laws
 pub mod LocalCode
+pub mod LocalWords
 pub mod FiringCode
 pub mod FiringWords

@@ -1,6 +1,6 @@
 -- The words of the contracts of calls that lower outputs.
 -- Trusted: part of what a promise means.
-use Rattle.std.specs.Prelude.{◌≡◌, ℕ, ◌+◌, ◌≤◌, ◌^◌, List, [], ◌∷◌, map, length, Option, None, Some}
+use Rattle.std.specs.Prelude.{◌≡◌, ℕ, ◌+◌, ◌≤◌, ◌^◌, ◌⊎◌, List, [], ◌∷◌, map, length, Option, None, Some}
 use Rattle.cal_ast.specs.declared.expr.Expr.{Expr}
 use Rattle.cal_ast.specs.Tree.{Tree}
 use Rattle.cal_ast.specs.View.{expr_tree}
@@ -14,8 +14,9 @@ use Rattle.expr_lower.specs.Callees.{Function}
 use Rattle.expr_lower.specs.Growing.{left_out_in, ◌or_else◌}
 use Rattle.expr_lower.specs.Lowered.{Adds}
 use Rattle.expr_lower.specs.Names.{Name}
+use Rattle.list_lower.specs.LeftOut.{left_out_fill}
 use Rattle.stmt_lower.specs.Procedures.{Procedure}
-use Rattle.action_lower.specs.Sending.{AreOutputs, IsOutputCode, SendsAs}
+use Rattle.action_lower.specs.Sending.{AreOutputs, IsListOutput, IsOutputCode, SendsAs, items_of_any}
 
 -- ---- what is left out
 
@@ -24,16 +25,18 @@ abbrev pub left_out_values : List Function → List Name → List Tree → Optio
 left_out_values fs names [] = None
 left_out_values fs names (e ∷ es) = left_out_in fs names e or_else left_out_values fs names es
 
--- the offset of the first of some expressions, and 0 if there is none
-abbrev pub first_at : List Expr → ℕ
-first_at [] = 0
-first_at (e ∷ es) = e.at
+-- .. of a repeated output: several lists that take turns are left out at the first one
+abbrev pub left_out_repeated : List Function → List Name → ℕ → List Expr → Option ℕ
+left_out_repeated fs names times [] = Some 0
+left_out_repeated fs names times (e ∷ []) =
+    left_out_fill fs names (items_of_any times) (expr_tree e)
+left_out_repeated fs names times (e ∷ f ∷ es) = Some e.at
 
--- .. of an output: a repeated one is left out at its first value
+-- .. of an output
 abbrev pub left_out_output : List Function → List Name → BoundOutput → Option ℕ
 left_out_output fs names o = elim o.repeat [
   | None ↦ left_out_values fs names (map expr_tree o.values.items)
-  | Some times ↦ Some (first_at o.values.items)
+  | Some times ↦ left_out_repeated fs names times o.values.items
 ]
 
 -- .. of outputs
@@ -46,7 +49,7 @@ left_out_outputs fs names (o ∷ others) = left_out_output fs names o or_else le
 -- the code of an output was added to a draft, with this first cell
 abbrev pub AddsOutput : List Function → List Name → List Port → Output → ℕ → Draft → Draft → Type 0
 AddsOutput fs names ports o first old new = (first ≡ old.cells)
-    × Adds (IsOutputCode fs names ports o) old new
+    × (Adds (IsOutputCode fs names ports o) old new ⊎ Adds (IsListOutput fs names ports o) old new)
 
 -- code was added to a draft that sends what outputs send, with the first cell of each
 abbrev pub AddsOutputs : List Function → List Name → List Port → List Output → List ℕ → Draft → Draft → Type 0

@@ -1,7 +1,8 @@
--- Code of what an action sends: single values, stored in cells side by side.
+-- Code of what an action sends: single values, or the items of a list, stored in cells side by side.
 -- Trusted: part of what a promise means.
 use Rattle.std.specs.Prelude.{◌≡◌, ℕ, ◌+◌, ℤ, List, [], ◌∷◌, ◌++◌, length, None, Some, slice_get}
 use Rattle.rvc_base.specs.declared.scalar.Scalar.{Scalar}
+use Rattle.rvc_base.specs.declared.scalar.Scalar.TheVariants as scalar
 use Rattle.cal_ast.specs.Tree.{Tree, listed}
 use Rattle.cal_model.specs.Actor.{Port, Output}
 use Rattle.cal_model.specs.Env.{Env}
@@ -9,6 +10,7 @@ use Rattle.cal_model.specs.Firing.{outputs}
 use Rattle.cal_model.specs.Outcome.{Out, Gives, Traps, Lacks, Clashes}
 use Rattle.cal_model.specs.Selection.{kind_of_port}
 use Rattle.cal_model.specs.Statement.{Runs}
+use Rattle.cal_model.specs.Value.{Shape, Single, Many, scalars_of_type}
 use Rattle.code_ir.specs.declared.instr.Instr.{Instr}
 use Rattle.code_ir.specs.declared.instr.Instr.TheVariants as op
 use Rattle.code_ir.specs.declared.outcome.Outcome.{Outcome}
@@ -20,6 +22,7 @@ use Rattle.expr_lower.specs.Following.{Follows, CutsOff}
 use Rattle.expr_lower.specs.Held.{Keeps}
 use Rattle.expr_lower.specs.Names.{Name}
 use Rattle.expr_lower.specs.Placed.{StandsAt, World, state}
+use Rattle.list_lower.specs.Filling.{IsFill}
 use Rattle.stmt_lower.specs.Bodies.{IsReady}
 use Rattle.stmt_lower.specs.Procedures.{Routines}
 
@@ -47,12 +50,35 @@ pub record IsOutputCode (fs : List Function) (names : List Name) (ports : List P
   pub once : o.repeat ≡ None
   pub stored : AreStored fs names (kind_of_port ports o.port) parts n base (n + length parts) code m
 
+-- a type of lists of so many single values; of which type these are doesn't matter to the code that fills cells
+abbrev pub items_of_any : ℕ → Shape
+items_of_any n = Many n (Single scalar.Bool)
+
+-- Code of a list whose items are sent: the list fills the next cells, as many as it has numbers, and then each number is
+-- stored in the type of the port.
+pub record IsSentList (fs : List Function) (names : List Name) (e : Tree) (t : Shape) (kind : Scalar) (base n : ℕ) (code : List Instr) (m : ℕ) : Type 0 where
+  pub body : List Instr
+  pub is : code ≡ body ++ op.Copy n n (scalars_of_type t) (Some kind) ∷ []
+  pub filled : IsFill fs names e t n base (n + scalars_of_type t) body m
+
+-- code of an output of one list, which is repeated
+pub record IsListOutput (fs : List Function) (names : List Name) (ports : List Port) (o : Output) (base n : ℕ) (code : List Instr) (m : ℕ) : Type 0 where
+  pub value : Tree
+  pub is_value : o.values ≡ listed (value ∷ [])
+  pub times : ℕ
+  pub repeated : o.repeat ≡ Some times
+  pub stored : IsSentList fs names value (items_of_any times) (kind_of_port ports o.port) base n code m
+
 -- code of outputs, one after the other, with the first cell of each
 pub data AreOutputs (fs : List Function) (names : List Name) (ports : List Port) :
     List Output → List ℕ → ℕ → ℕ → List Instr → ℕ → Type 0 where
   no_output : (base n : ℕ) → AreOutputs fs names ports [] [] base n [] n
   output_more : (o : Output) (others : List Output) (firsts : List ℕ) (base n k m : ℕ)
       (a b : List Instr) → IsOutputCode fs names ports o base n a k
+      → AreOutputs fs names ports others firsts (base + length a) k b m
+      → AreOutputs fs names ports (o ∷ others) (n ∷ firsts) base n (a ++ b) m
+  list_output_more : (o : Output) (others : List Output) (firsts : List ℕ) (base n k m : ℕ)
+      (a b : List Instr) → IsListOutput fs names ports o base n a k
       → AreOutputs fs names ports others firsts (base + length a) k b m
       → AreOutputs fs names ports (o ∷ others) (n ∷ firsts) base n (a ++ b) m
 

@@ -15,6 +15,7 @@ pub mod Counting
 pub mod Blocking
 pub mod ListStarting
 pub mod ListBlocks
+pub mod StartingLists
 pub mod ProcCalls
 pub mod Executed
 pub mod FittedStmts

@@ -1,5 +1,5 @@
 -- The words of the contracts of calls that lower the start of a list.
--- Trusted but for `AddsStartAt` and `HasTakenList`: part of what a promise means.
+-- Trusted but for `AddsStartAt`: part of what a promise means.
 use Rattle.std.specs.Prelude.{◌≡◌, ◌<◌, ◌^◌, ℕ, ◌+◌, List, Option, Some}
 use Rattle.cal_ast.specs.Tree.{Tree}
 use Rattle.cal_ast.specs.View.{optional_expr}

@@ -18,5 +18,5 @@ mod targets;
 
 pub use callees::ProcCallee;
 pub use procedures::lower_procedure;
-pub use starts::start_list;
+pub use starts::{Row, start_list, take_list};
 pub use stmts::{lower_calling_stmts, lower_stmts};

@@ -21,7 +21,7 @@ use list_lower::fill;
 
 /// The cells of a list: the first of them, and how many there are.
 #[derive(Clone, Copy)]
-pub(crate) struct Row {
+pub struct Row {
     pub first: u32,
     pub size: u32,
 }
@@ -55,8 +55,12 @@ pub fn start_list(
     Ok(row.first)
 }
 
-/// Takes as many cells as a list has numbers. If there aren't so many left, all are taken.
-fn take_list(shape: &Shape, draft: &mut Draft) -> Result<Row, LowerFault>
+/// Takes as many cells as a list has numbers.
+///
+/// # Errors
+///
+/// `TooManyCells` if there aren't so many left; then all are taken.
+pub fn take_list(shape: &Shape, draft: &mut Draft) -> Result<Row, LowerFault>
     ensures taken { IfOk result (HasTakenList (shape_view shape.now) draft.old draft.new) }
     ensures fault { IfErr result
         (λ fault. (fault ≡ TooManyCells) × (2 ^ 32 ≤ draft.new.cells + 3)) }
