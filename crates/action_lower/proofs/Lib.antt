@@ -1,9 +1,11 @@
+pub mod TypeSizes
 pub mod PatternRates
 pub mod Holding
 pub mod BelowState
 pub mod GuardCode
 pub mod Answering
 pub mod ActionAt
+pub mod ListSending
 pub mod Storing
 pub mod OutputCode
 pub mod FirstCells

@@ -42,7 +42,7 @@ index_erased : (fs : List Function) (names : List Name) (t : Shape) (e : Tree) (
 index_erased fs names (Single t) e at = out_erased fs names e
 index_erased fs names (Many n items) e at = ap (in_cells fs (map erase names) e (Many n items) at) (part_erased names e) ∙ go (part_named names e)
   where
-    at_seat : (seat : Seat) → elim (first_cell (erase_seat seat)) [ None ↦ Some at | Some c ↦ left_out_places fs (map erase names) e ] ≡ elim (first_cell seat) [ None ↦ Some at | Some c ↦ left_out_places fs names e ]
+    at_seat : (seat : Seat) → ◌≡◌ {A = Option ℕ} (elim (first_cell (erase_seat seat)) [ None ↦ Some at | Some c ↦ left_out_places fs (map erase names) e ]) (elim (first_cell seat) [ None ↦ Some at | Some c ↦ left_out_places fs names e ])
     at_seat (Cell c) = places_erased fs names e
     at_seat (Tokens port first step) = refl
 

@@ -1,5 +1,6 @@
 pub mod MeantIs
 pub mod ShapeIs
+pub mod TypeWeights
 pub mod Moving
 pub mod Shapes
 pub mod Steps

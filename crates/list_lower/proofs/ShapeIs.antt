@@ -1,6 +1,6 @@
 -- A type that is seen to be one is that, and is allowed.
-use Rattle.std.proofs.Common.{◌≡◌, ℕ, pos, ◌*◌, ◌≤◌, Bool, true, false, refl, sym, ap, ◌∙◌, subst, List, [], ◌∷◌, Option, None, Some, arith}
-use Rattle.std.specs.Prelude.{if◌then◌else◌, codes, nat_le, ◌&&◌}
+use Rattle.std.proofs.Common.{◌≡◌, ℕ, pos, ◌*◌, ◌<◌, ◌≤◌, Bool, true, false, refl, sym, ap, ◌∙◌, subst, List, [], ◌∷◌, length, Option, None, Some, arith}
+use Rattle.std.specs.Prelude.{get_or, if◌then◌else◌, codes, nat_le, ◌&&◌}
 use Rattle.std.specs.Str.{bytes_eq}
 use Rattle.std.proofs.lemmas.Bool.Decides.{nat_tests}
 use Rattle.std.proofs.lemmas.Slice.Eq.{bytes_eq-Decides}
@@ -10,7 +10,7 @@ use Rattle.rvc_base.specs.Arithmetic as arithmetic
 use Rattle.rvc_base.specs.Turns.{max_turns}
 use Rattle.rvc_base.specs.Width.{is_num}
 use Rattle.cal_ast.specs.Tree as tree
-use Rattle.cal_ast.specs.Tree.{Tree}
+use Rattle.cal_ast.specs.Tree.{Tree, listed}
 use Rattle.cal_model.specs.Value.{Shape, Single, Many, Value, Num, IsType, max_list_scalars, scalars_of_type}
 use Rattle.cal_model.specs.Outcome.{Out, Gives, alone, and_then, needed}
 use Rattle.cal_model.specs.Env.{Env}
@@ -93,16 +93,16 @@ none_found t e = cc
 
 mutual
   pub shape_is : (shape : Tree) (t : Shape) (calls : Calls) (env : Env) (left : ℕ) → shape_meant shape ≡ Some t → type_meant shape calls env left ≡ Gives t left
-  shape_is (tree.type_of (tree.ident name place) args at) t calls env left e = go (single_meant (tree.type_of (tree.ident name place) args at)) refl e
+  shape_is (tree.type_of (tree.ident name place) args at) t calls env left e = go (λ is h. items_are name args t calls env left is h) (single_meant (tree.type_of (tree.ident name place) args at)) refl e
     where
-      list_of : (b : Bool) → bytes_eq name (codes "List") ≡ b → ◌≡◌ {A = Option Shape} (if b then items_of_type args else None) (Some t) → type_meant (tree.type_of (tree.ident name place) args at) calls env left ≡ Gives t left
-      list_of true is h = items_are name args t calls env left is h
-      list_of false is h = cc
+      list_of : (bytes_eq name (codes "List") ≡ true → items_of_type args ≡ Some t → type_meant (tree.type_of (tree.ident name place) args at) calls env left ≡ Gives t left) → (b : Bool) → bytes_eq name (codes "List") ≡ b → ◌≡◌ {A = Option Shape} (if b then items_of_type args else None) (Some t) → type_meant (tree.type_of (tree.ident name place) args at) calls env left ≡ Gives t left
+      list_of items true is h = items is h
+      list_of items false is h = cc
 
-      go : (o : Option Scalar) → single_meant (tree.type_of (tree.ident name place) args at) ≡ o
+      go : (bytes_eq name (codes "List") ≡ true → items_of_type args ≡ Some t → type_meant (tree.type_of (tree.ident name place) args at) calls env left ≡ Gives t left) → (o : Option Scalar) → single_meant (tree.type_of (tree.ident name place) args at) ≡ o
           → ◌≡◌ {A = Option Shape} (elim o [ None ↦ if bytes_eq name (codes "List") then items_of_type args else None | Some s ↦ Some (Single s) ]) (Some t) → type_meant (tree.type_of (tree.ident name place) args at) calls env left ≡ Gives t left
-      go (Some s) is h = let same : Single s ≡ t = cc in meant_is (tree.type_of (tree.ident name place) args at) s calls env left is ∙ ap (λ u. Gives u left) same
-      go None is h = list_of (bytes_eq name (codes "List")) refl h
+      go items (Some s) is h = let same : Single s ≡ t = cc in meant_is (tree.type_of (tree.ident name place) args at) s calls env left is ∙ ap (λ u. Gives u left) same
+      go items None is h = list_of items (bytes_eq name (codes "List")) refl h
   shape_is other t calls env left e = absurd (none_found t e)
 
   items_are : (name : List ℕ) (args : Tree) (t : Shape) (calls : Calls) (env : Env) (left : ℕ) → bytes_eq name (codes "List") ≡ true → items_of_type args ≡ Some t → and_then (args_given args calls env left) (λ g m. needed (type_named name g) m) ≡ Gives t left
@@ -128,13 +128,13 @@ list_typed n items t f typed = subst IsType (sym f.is) (f.some, f.few, typed)
 
 mutual
   pub shape_typed : (shape : Tree) (t : Shape) → shape_meant shape ≡ Some t → IsType t
-  shape_typed (tree.type_of (tree.ident name place) args at) t e = go (single_meant (tree.type_of (tree.ident name place) args at)) (bytes_eq name (codes "List")) refl e
+  shape_typed (tree.type_of (tree.ident name place) args at) t e = go (λ h. items_typed args t h) (single_meant (tree.type_of (tree.ident name place) args at)) (bytes_eq name (codes "List")) refl e
     where
-      go : (o : Option Scalar) (b : Bool) → single_meant (tree.type_of (tree.ident name place) args at) ≡ o
+      go : (items_of_type args ≡ Some t → IsType t) → (o : Option Scalar) (b : Bool) → single_meant (tree.type_of (tree.ident name place) args at) ≡ o
           → ◌≡◌ {A = Option Shape} (elim o [ None ↦ if b then items_of_type args else None | Some s ↦ Some (Single s) ]) (Some t) → IsType t
-      go (Some s) b is h = let same : Single s ≡ t = cc in subst IsType same (meant_sized (tree.type_of (tree.ident name place) args at) s is)
-      go None true is h = items_typed args t h
-      go None false is h = cc
+      go items (Some s) b is h = let same : Single s ≡ t = cc in subst IsType same (meant_sized (tree.type_of (tree.ident name place) args at) s is)
+      go items None true is h = items h
+      go items None false is h = cc
   shape_typed other t e = absurd (none_found t e)
 
   items_typed : (args : Tree) (t : Shape) → items_of_type args ≡ Some t → IsType t
@@ -145,3 +145,33 @@ mutual
       let f : AreMeant (literal_size value) (shape_meant shape) t = many_found (literal_size value) (shape_meant shape) t e in
       list_typed f.n f.items t f.list (shape_typed shape f.items f.items_are)
   items_typed other t e = absurd (none_found t e)
+
+-- ---- arguments that are too few or too many
+
+pub one_arg : (x : Tree) → items_of_type (tree.cons x tree.nil) ≡ None
+one_arg (tree.shape_arg name shape) = refl
+one_arg (tree.value_arg name value) = refl
+one_arg other = refl
+
+pub three_args : (x y z rest : Tree) → items_of_type (tree.cons x (tree.cons y (tree.cons z rest))) ≡ None
+three_args (tree.shape_arg name shape) y z rest = refl
+three_args (tree.value_arg name value) (tree.shape_arg other shape) z rest = refl
+three_args (tree.value_arg name value) y z rest = refl
+three_args x y z rest = refl
+
+pub few_args : (xs : List Tree) → length xs < 2 → items_of_type (listed xs) ≡ None
+few_args [] h = refl
+few_args (x ∷ []) h = one_arg x
+few_args (x ∷ y ∷ xs) h = absurd (omega arith)
+
+pub two_are : {A : Type 0} (xs : List A) (d e : A) → 2 ≤ length xs → length xs < 3 → d ≡ get_or xs 0 d → e ≡ get_or xs 1 e → xs ≡ d ∷ e ∷ []
+two_are [] d e low high p q = absurd (omega arith)
+two_are (x ∷ []) d e low high p q = absurd (omega arith)
+two_are (x ∷ y ∷ []) d e low high p q = ap (λ u. u ∷ y ∷ []) (sym p) ∙ ap (λ u. d ∷ u ∷ []) (sym q)
+two_are (x ∷ y ∷ z ∷ xs) d e low high p q = absurd (omega arith)
+
+pub many_args : (xs : List Tree) → 3 ≤ length xs → items_of_type (listed xs) ≡ None
+many_args [] h = absurd (omega arith)
+many_args (x ∷ []) h = absurd (omega arith)
+many_args (x ∷ y ∷ []) h = absurd (omega arith)
+many_args (x ∷ y ∷ z ∷ xs) h = three_args x y z (listed xs)

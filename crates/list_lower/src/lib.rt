@@ -8,11 +8,11 @@ mod counting;
 mod generators;
 pub mod laws;
 mod lists;
-mod shapes;
+mod meanings;
 mod sizes;
 mod taking;
 mod types;
 
 pub use lists::{fill, lower_list};
-pub use shapes::shape_meant;
+pub use meanings::shape_meant;
 pub use types::single_meant;

@@ -165,7 +165,7 @@ each_erased : (rs : Routines) (names : List Name) (text : List ℕ) (from to bod
 each_erased rs names text from to body at None h = refl
 each_erased rs names text from to body at (Some t) h = both_same (out_erased rs.functions names from) (both_same (out_erased rs.functions names to) (h t))
 
-list_start_erased : (fs : List Function) (names : List Name) (t : Shape) (start : Tree) → left_out_list_start fs (map erase names) t start ≡ left_out_list_start fs names t start
+pub list_start_erased : (fs : List Function) (names : List Name) (t : Shape) (start : Tree) → left_out_list_start fs (map erase names) t start ≡ left_out_list_start fs names t start
 list_start_erased fs names t tree.absent = refl
 list_start_erased fs names t (tree.present e) = fill_erased fs names t e
 list_start_erased fs names t other = refl

@@ -1,6 +1,6 @@
 //! Types as they are written.
 
-ghost use Rattle.std.specs.Prelude.{◌≡◌, IfOk, map, option_map};
+ghost use Rattle.std.specs.Prelude.{◌≡◌, ◌∷◌, [], IfOk, map, option_map};
 ghost use Rattle.cal_ast.specs.Tree.{listed};
 ghost use Rattle.cal_ast.specs.View.{type_arg_tree, type_tree};
 ghost use Rattle.cal_model.specs.View.{shape_view};
@@ -33,12 +33,25 @@ fn items_of_type(alloc: Global, args: &[TypeArg]) -> Result<Option<Shape>, Alloc
         ≡ items_of_type (listed (map type_arg_tree args.now))) }
 {
     match args {
-        [TypeArg::Shape { name: _, shape }, size] => many_meant(alloc, size_of_arg(size), shape),
-        [
-            TypeArg::Value { name: _, value },
-            TypeArg::Shape { name: _, shape },
-        ] => many_meant(alloc, literal_size(value), shape),
+        [] => Ok(None),
+        [_] => Ok(None),
+        [first, second] => two_args(alloc, first, second),
         _ => Ok(None),
+    }
+}
+
+/// The list of which these two are the arguments.
+#[cycle(shape_meant)]
+fn two_args(alloc: Global, first: &TypeArg, second: &TypeArg) -> Result<Option<Shape>, AllocError>
+    ensures { IfOk result (λ t. option_map shape_view t ≡ items_of_type
+        (listed (type_arg_tree first.now ∷ type_arg_tree second.now ∷ []))) }
+{
+    match first {
+        TypeArg::Shape { name: _, shape } => many_meant(alloc, size_of_arg(second), shape),
+        TypeArg::Value { name: _, value } => match second {
+            TypeArg::Shape { name: _, shape } => many_meant(alloc, literal_size(value), shape),
+            TypeArg::Value { name: _, value: _ } => Ok(None),
+        },
     }
 }
 
