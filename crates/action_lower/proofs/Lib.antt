@@ -11,6 +11,7 @@ pub mod OutputCode
 pub mod FirstCells
 pub mod AddingLocals
 pub mod LocalRuns
+pub mod FittedParts
 pub mod StateSeats
 pub mod FiringRuns
 pub mod AddingFirings

@@ -618,15 +618,15 @@ variable_open rs names shape start vars body text place at c t changes meant e =
 
 pub list_open : (rs : Routines) (names : List Name) (shape start vars body : Tree) (text : List ℕ) (place at c : ℕ) (t : Shape) (changes : Bool) → single_meant shape ≡ None → shape_meant shape ≡ Some t → left_out_list_start rs.functions names t start ≡ None
     → left_out_vars rs names (tree.cons (tree.var shape (tree.ident text place) start changes at) vars) (λ inner. left_out_all rs inner body) ≡ left_out_vars rs (local_of text t c ∷ names) vars (λ inner. left_out_all rs inner body)
-list_open rs names shape start vars body text place at c t changes none meant e =
-    ap (λ o. in_either o (shape_meant shape) at (λ s. left_out_start rs.functions names start or_else left_out_vars rs (local text s 0 ∷ names) vars (λ inner. left_out_all rs inner body)) (λ s. left_out_list_start rs.functions names s start or_else left_out_vars rs (local_of text s 0 ∷ names) vars (λ inner. left_out_all rs inner body))) none
+list_open rs names shape start vars body text place at c t changes no_single meant e =
+    ap (λ o. in_either o (shape_meant shape) at (λ s. left_out_start rs.functions names start or_else left_out_vars rs (local text s 0 ∷ names) vars (λ inner. left_out_all rs inner body)) (λ s. left_out_list_start rs.functions names s start or_else left_out_vars rs (local_of text s 0 ∷ names) vars (λ inner. left_out_all rs inner body))) no_single
     ∙ ap (λ p. in_either None p at (λ s. left_out_start rs.functions names start or_else left_out_vars rs (local text s 0 ∷ names) vars (λ inner. left_out_all rs inner body)) (λ s. left_out_list_start rs.functions names s start or_else left_out_vars rs (local_of text s 0 ∷ names) vars (λ inner. left_out_all rs inner body))) meant
     ∙ ap (λ x. x or_else left_out_vars rs (local_of text t 0 ∷ names) vars (λ inner. left_out_all rs inner body)) e ∙ sym (any_cell_vars rs names text t c vars body)
 
-pub list_adds : {rs : Routines} (names : List Name) (shape start vars body : Tree) (text : List ℕ) (place at c : ℕ) (t : Shape) (changes : Bool) (old mid new : Draft)
+pub list_variable_adds : {rs : Routines} (names : List Name) (shape start vars body : Tree) (text : List ℕ) (place at c : ℕ) (t : Shape) (changes : Bool) (old mid new : Draft)
     → shape_meant shape ≡ Some t → c ≡ old.cells → Adds (TakesListStart rs.functions names t start) old mid → Adds (IsBlock rs (local_of text t c ∷ names) vars body) mid new
     → Adds (IsBlock rs names (tree.cons (tree.var shape (tree.ident text place) start changes at) vars) body) old new
-list_adds {rs = rs} names shape start vars body text place at c t changes old mid new meant is f g =
+list_variable_adds {rs = rs} names shape start vars body text place at c t changes old mid new meant is f g =
     let n : ℕ = old.cells in
     let base : ℕ = length old.instrs.items in
     let g1 : Adds (IsBlock rs (local_of text t n ∷ names) vars body) mid new = subst (λ x. Adds (IsBlock rs (local_of text t x ∷ names) vars body) mid new) is g in

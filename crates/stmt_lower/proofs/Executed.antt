@@ -239,7 +239,6 @@ module _ (rs : Routines) (outer : List Name) (w : World) (serves : Serves w oute
         let x = grows_start g in
         block_more rs outer w serves frames runs inner (λ env left. exec_all body w.calls runs env left) shape start vars text place at base n k m a b t changes e x (grows_block d)
         (subst (λ ns. IsStart rs.functions ns t n start base (n + 1) a k) is g) (performs_block (local text t n ∷ inner) (ap (λ ns. local text t n ∷ ns) is) d)
-
     performs_block inner is (list_more names shape start vars body text place at base n k m a b t changes e g d) =
         block_list rs outer w serves frames runs inner (λ env left. exec_all body w.calls runs env left) shape start vars text place at base n k m a b t changes e (grows_block d)
         (subst (λ ns. IsListStart rs.functions ns t n start base (n + scalars_of_type t) a k) is g) (performs_block (local_of text t n ∷ inner) (ap (λ ns. local_of text t n ∷ ns) is) d)

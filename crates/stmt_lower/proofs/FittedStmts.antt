@@ -269,7 +269,6 @@ module _ (code : Code) (callable limit : ℕ) where
           let wide : n ≤ n + 1 = omega arith in
           plain_then code callable limit base h h h a b (fits_start names t n h sized (omega (arith, x, y, le)) (below_more n (n + 1) names wide below) (omega (arith, y, le)) g)
           (fits_block h (cell_below n k names text t x below) (local_typed n names text t sized typed) le (stands_right code.instrs base a b stands) d)
-
       fits_block h below typed le stands (list_more names shape start vars body text place at base n k m a b t changes e g d) =
           let x = grows_list_start g in
           let y = grows_block d in

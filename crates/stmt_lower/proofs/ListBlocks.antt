@@ -1,5 +1,5 @@
 -- The code of a block whose first variable is a list does what executing it does.
-use Rattle.std.proofs.Common.{◌≡◌, ℕ, ◌+◌, ◌≤◌, inl, inr, ⊎_elim, ℤ, List, [], ◌∷◌, ◌++◌, length, Bool, refl, sym, ap, ◌∙◌, subst, Some, arith, length-append}
+use Rattle.std.proofs.Common.{◌≡◌, ℕ, ◌+◌, ◌≤◌, inl, inr, ⊎_elim, List, ◌∷◌, ◌++◌, length, Bool, sym, ap, ◌∙◌, subst, Some, arith, length-append}
 use Rattle.cal_ast.specs.Tree as tree
 use Rattle.cal_ast.specs.Tree.{Tree}
 use Rattle.cal_model.specs.Value.{Shape, Value, IsType, scalars_of_type}

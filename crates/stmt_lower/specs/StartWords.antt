@@ -1,6 +1,6 @@
 -- The words of the contracts of calls that lower the start of a list.
 -- Trusted but for `AddsStartAt`: part of what a promise means.
-use Rattle.std.specs.Prelude.{◌≡◌, ◌<◌, ◌^◌, ℕ, ◌+◌, List, Option, Some}
+use Rattle.std.specs.Prelude.{◌≡◌, ℕ, ◌+◌, List, Option, Some}
 use Rattle.cal_ast.specs.Tree.{Tree}
 use Rattle.cal_ast.specs.View.{optional_expr}
 use Rattle.cal_ast.specs.declared.expr.Expr.{Expr}

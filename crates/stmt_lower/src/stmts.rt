@@ -371,30 +371,11 @@ fn block(
         (IsFault (left_out_block (called scope.now) (seen scope.now) vars.now body.now) draft.new) }
 {
     match vars.split_first() {
-        Some((first, rest)) => variable(scope, first, rest, body, draft),
+        Some((first, rest)) => match single_meant(&first.shape) {
+            Some(kind) => one_variable(scope, first, kind, rest, body, draft),
+            None => list_variable(scope, first, rest, body, draft),
+        },
         None => lower_all(scope, body, draft),
-    }
-}
-
-/// Appends a variable of a block, and what sees it.
-#[cycle(lower_stmt)]
-fn variable(
-    scope: &StmtScope,
-    first: &VarDecl,
-    rest: &[VarDecl],
-    body: &[Stmt],
-    draft: &mut Draft,
-) -> Result<(), LowerFault>
-    ensures ok { OnOk result
-        (AddsBlock (called scope.now) (seen scope.now) (first.now ∷ rest.now) body.now draft.old draft.new) }
-    ensures whole { OnOk result
-        (left_out_block (called scope.now) (seen scope.now) (first.now ∷ rest.now) body.now ≡ None) }
-    ensures fault { IfErr result
-        (IsFault (left_out_block (called scope.now) (seen scope.now) (first.now ∷ rest.now) body.now) draft.new) }
-{
-    match single_meant(&first.shape) {
-        Some(kind) => one_variable(scope, first, kind, rest, body, draft),
-        None => list_variable(scope, first, rest, body, draft),
     }
 }
 
@@ -418,15 +399,7 @@ fn one_variable(
 {
     let cell = take_cell(draft)?;
     start(&scope.values, &first.start, cell, kind, draft)?;
-    behind(
-        scope,
-        first,
-        &Shape::Scalar(kind),
-        cell,
-        rest,
-        body,
-        draft,
-    )
+    behind(scope, first, &Shape::Scalar(kind), cell, rest, body, draft)
 }
 
 /// Appends a variable of a list, and what sees it.

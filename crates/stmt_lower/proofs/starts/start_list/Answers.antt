@@ -1,4 +1,3 @@
-use Rattle.std.proofs.Common.{◌≡◌, sym, subst}
 use Rattle.cal_ast.specs.View.{optional_expr}
 use Rattle.cal_model.specs.View.{shape_view}
 use Rattle.expr_lower.specs.Seen.{called, seen}
