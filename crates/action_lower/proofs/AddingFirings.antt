@@ -124,8 +124,9 @@ repeated_erased fs names times (e ∷ f ∷ es) = refl
 output_erased : (fs : List Function) (names : List Name) (o : BoundOutput) → left_out_output fs (map erase names) o ≡ left_out_output fs names o
 output_erased fs names o = go o.repeat
   where
-    go : (r : Option ℕ) → elim r [ None ↦ left_out_values fs (map erase names) (map expr_tree o.values.items) | Some times ↦ left_out_repeated fs (map erase names) times o.values.items ]
-        ≡ elim r [ None ↦ left_out_values fs names (map expr_tree o.values.items) | Some times ↦ left_out_repeated fs names times o.values.items ]
+    go : (r : Option ℕ)
+        → ◌≡◌ {A = Option ℕ} (elim r [ None ↦ left_out_values fs (map erase names) (map expr_tree o.values.items) | Some times ↦ left_out_repeated fs (map erase names) times o.values.items ])
+        (elim r [ None ↦ left_out_values fs names (map expr_tree o.values.items) | Some times ↦ left_out_repeated fs names times o.values.items ])
     go None = values_erased fs names (map expr_tree o.values.items)
     go (Some times) = repeated_erased fs names times o.values.items
 

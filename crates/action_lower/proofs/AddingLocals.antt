@@ -73,17 +73,17 @@ list_adds fs names x size c old new sized is f =
 
 started_then : {fs : List Function} {names mid behind : List Name} {xs ys : List Local} {base n k m : ℕ} {a b : List Instr} → AreStarted fs names xs mid base n a k → AreStarted fs mid ys behind (base + length a) k b m
     → AreStarted fs names (xs ++ ys) behind base n (a ++ b) m
-started_then {behind = behind} {ys = ys} {m = m} {b = b} (none_started names base n) later =
+started_then {fs = fs} {behind = behind} {ys = ys} {m = m} {b = b} (none_started names base n) later =
     let same : base + 0 ≡ base = omega arith in
-    subst (λ p. AreStarted _ names ys behind p n b m) same later
-started_then {behind = behind} {ys = ys} {m = m} {b = b} (start_more names mid x others t base n j k c d shape first rest) later =
+    subst (λ p. AreStarted fs names ys behind p n b m) same later
+started_then {fs = fs} {behind = behind} {ys = ys} {m = m} {b = b} (start_more names mid x others t base n j k c d shape first rest) later =
     let place : base + length (c ++ d) ≡ base + length c + length d = omega (arith, length-append c d) in
-    subst (λ code. AreStarted _ names (x ∷ (others ++ ys)) behind base n code m) (sym (append_assoc c d b))
-    (start_more names behind x (others ++ ys) t base n j m c (d ++ b) shape first (started_then rest (subst (λ p. AreStarted _ mid ys behind p k b m) place later)))
-started_then {behind = behind} {ys = ys} {m = m} {b = b} (list_more names mid x others base n j k c d typed first rest) later =
+    subst (λ code. AreStarted fs names (x ∷ (others ++ ys)) behind base n code m) (sym (append_assoc c d b))
+    (start_more names behind x (others ++ ys) t base n j m c (d ++ b) shape first (started_then rest (subst (λ p. AreStarted fs mid ys behind p k b m) place later)))
+started_then {fs = fs} {behind = behind} {ys = ys} {m = m} {b = b} (list_more names mid x others base n j k c d typed first rest) later =
     let place : base + length (c ++ d) ≡ base + length c + length d = omega (arith, length-append c d) in
-    subst (λ code. AreStarted _ names (x ∷ (others ++ ys)) behind base n code m) (sym (append_assoc c d b))
-    (list_more names behind x (others ++ ys) base n j m c (d ++ b) typed first (started_then rest (subst (λ p. AreStarted _ mid ys behind p k b m) place later)))
+    subst (λ code. AreStarted fs names (x ∷ (others ++ ys)) behind base n code m) (sym (append_assoc c d b))
+    (list_more names behind x (others ++ ys) base n j m c (d ++ b) typed first (started_then rest (subst (λ p. AreStarted fs mid ys behind p k b m) place later)))
 
 pub locals_add : (fs : List Function) (names mid behind : List Name) (xs ys : List Local) (old d1 new : Draft) → Adds (AreStarted fs names xs mid) old d1 → Adds (AreStarted fs mid ys behind) d1 new → Adds (AreStarted fs names (xs ++ ys) behind) old new
 locals_add fs names mid behind xs ys old d1 new a b =

@@ -1,15 +1,14 @@
 -- The code of a list that is sent leaves its items in cells, each stored in the type of the port.
-use Rattle.std.proofs.Common.{◌≡◌, ℕ, zero, suc, ◌+◌, ◌<◌, ◌≤◌, inr, ℤ, pos, List, [], ◌∷◌, ◌++◌, length, map, refl, sym, ap, ◌∙◌, subst, None, Some, arith, length-append}
+use Rattle.std.proofs.Common.{◌≡◌, ℕ, zero, suc, ◌+◌, ◌<◌, ◌≤◌, inr, ℤ, List, [], ◌∷◌, ◌++◌, length, map, refl, sym, ap, ◌∙◌, subst, Some, arith, length-append}
 use Rattle.std.specs.Prelude.{slice_get}
 use Rattle.rvc_base.specs.declared.scalar.Scalar.{Scalar}
 use Rattle.rvc_base.specs.Storing.{conv}
-use Rattle.rvc_base.specs.Arithmetic.{truth}
 use Rattle.cal_ast.specs.Tree.{Tree, listed}
 use Rattle.cal_model.specs.Env.{Env}
 use Rattle.cal_model.specs.Expression.{eval, eval_all}
-use Rattle.cal_model.specs.Firing.{interleaved, number_at, number_of}
+use Rattle.cal_model.specs.Firing.{interleaved, number_at}
 use Rattle.cal_model.specs.Outcome.{Gives}
-use Rattle.cal_model.specs.Value.{Shape, Single, Value, Num, Truth, Items, Values, Nil, Cons, count, scalars_of_type, value_at}
+use Rattle.cal_model.specs.Value.{Shape, Single, Value, Num, Truth, Items, Values, Nil, Cons, count, scalars_of_type}
 use Rattle.code_ir.specs.declared.instr.Instr.{Instr}
 use Rattle.code_ir.specs.declared.instr.Instr.TheVariants as op
 use Rattle.code_ir.specs.Effect.{copied, stored as in_cell}

@@ -158,7 +158,6 @@ module _ (rs : Routines) (outer : List Name) (w : World) (serves : Serves w oute
             ends = ends_join p.reaches q.ends;
             keeps = but_join (but_wider n m (omega arith) more (keeps_but (inner ++ outer) p.keeps)) (but_local (inner ++ outer) x.name kind n n k m w.low w.high p.cells q.cells (omega arith) (omega (arith, up, more)) (omega (arith, up)) q.keeps);
           })
-
   locals_move inner {behind = behind} is (list_more names _ x xs base n k m a b typed first rest) sizes stack cells env left stands laid apart room holds as_many =
       subst (λ (o : Out Value). Follows (and_then o (λ v j. declared xs w.calls (with_local (variable x.name x.shape x.changes v) env) j)) (Inner behind n m s end) (CutShort w (inner ++ outer) outer n m s)) (first_same x.shape x.start w.calls env left)
       (follows_then (first_of x.shape (optional x.start) w.calls env left) (λ v j. declared xs w.calls (with_local (variable x.name x.shape x.changes v) env) j) (StartedList rs outer w serves frames runs x.shape n k s (base + length a)) (CutShort w (inner ++ outer) outer n k s)

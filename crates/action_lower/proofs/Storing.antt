@@ -289,7 +289,6 @@ module _ (rs : Routines) (outer : List Name) (w : World) (serves : Serves w oute
       (λ now j keeps. outputs-sent now j rest (stands_right w.code.instrs base a b stands) (let size = keeps.size in omega (arith, size, room))
       (laid_more rs outer w.tokens w.low w.high n k inner (omega (arith, grows)) laid) (apart_last n k m w.low w.high (omega (arith, grows)) far)
       (inside_still rs outer w.tokens w.low w.high n k inner cells now env laid keeps holds))))
-
   outputs-sent cells left (list_output_more o others firsts base n k m a b first rest) stands room laid far holds =
       let e : Tree = first.value in
       let more : k ≤ m = outputs-grow rest in

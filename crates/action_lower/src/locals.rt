@@ -116,12 +116,7 @@ fn list_local(
     let Some(_) = type_size(&x.shape) else {
         return Err(LowerFault::NotLowered { at: 0 });
     };
-    let cell = start_list(
-        &Scope::outermost(names, callees),
-        &x.shape,
-        &x.start,
-        draft,
-    )?;
+    let cell = start_list(&Scope::outermost(names, callees), &x.shape, &x.start, draft)?;
     put_front(names, x, cell)
 }
 

@@ -40,13 +40,7 @@ pub(crate) fn type_size(t: &Shape) -> Option<u32>
     ensures { result ≡ type_size (shape_view t.now) }
 {
     match t {
-        Shape::Scalar(kind) => {
-            if is_size(*kind) {
-                Some(1)
-            } else {
-                None
-            }
-        }
+        Shape::Scalar(kind) => { if is_size(*kind) { Some(1) } else { None } }
         Shape::List(count, items) => numbers_of_items(*count, type_size(items)),
     }
 }
@@ -92,8 +86,5 @@ pub(crate) fn pattern_shape(
 pub(crate) fn items_of_any(alloc: Global, count: u32) -> Result<Shape, AllocError>
     ensures { IfOk result (λ shape. shape_view shape ≡ items_of_any count) }
 {
-    Ok(Shape::List(
-        count,
-        Box::new(alloc, Shape::Scalar(Scalar::Bool))?,
-    ))
+    Ok(Shape::List(count, Box::new(alloc, Shape::Scalar(Scalar::Bool))?))
 }

@@ -1,22 +1,15 @@
-use Rattle.std.proofs.Common.{◌≡◌, ◌∷◌, [], ◌∙◌, List, None, Some, ap, length, map, rules, string_bytes, subst, sym}
+use Rattle.std.proofs.Common.{◌≡◌, ◌∷◌, [], List, None, length, map, rules, subst, sym}
 use Rattle.std.specs.Prelude.{IfErr, OnOk}
 use Rattle.std.proofs.lemmas.Result.{on_ok_weaker}
 use Rattle.cal_model.specs.Actor.{Local}
-use Rattle.cal_model.specs.View.{local_view, shape_view}
+use Rattle.cal_model.specs.View.{local_view}
 use Rattle.expr_lower.specs.Callees.{Function, functions_view}
 use Rattle.expr_lower.specs.Growing.{IsFault}
-use Rattle.expr_lower.specs.Listed.{single_of}
 use Rattle.expr_lower.specs.Lowered.{Adds}
 use Rattle.expr_lower.specs.Names.{Name, names_view}
 use Rattle.expr_lower.proofs.Adding.{no_items}
-use Rattle.expr_lower.specs.Seen.{called, seen}
-use Rattle.expr_lower.specs.Starting.{IsStart, left_out_start}
-use Rattle.cal_ast.specs.View.{optional}
-use Rattle.stmt_lower.specs.ListStarting.{left_out_list_start, local_of}
-use Rattle.stmt_lower.specs.StartWords.{TakesListStart}
-use Rattle.action_lower.specs.LocalCode.{AreStarted, left_out_list, left_out_local, left_out_locals}
+use Rattle.action_lower.specs.LocalCode.{AreStarted, left_out_locals}
 use Rattle.action_lower.specs.LocalWords.{IsInFront}
-use Rattle.action_lower.specs.Types.{type_size}
 use Rattle.action_lower.proofs.AddingLocals.{locals_add, locals_open, none_adds}
 use Rattle.action_lower.proofs.locals.+lower_locals.Goals as goal
 
