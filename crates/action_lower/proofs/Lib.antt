@@ -1,4 +1,3 @@
-pub mod TypeSizes
 pub mod PatternRates
 pub mod Holding
 pub mod BelowState

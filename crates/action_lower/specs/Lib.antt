@@ -1,4 +1,3 @@
-pub mod Types
 pub mod Seats
 pub mod Guarding
 pub mod GuardWords

@@ -1,6 +1,6 @@
 -- Code of the locals of an action, whose starts may call functions, and what it does.
 -- Trusted: part of what a promise means.
-use Rattle.std.specs.Prelude.{◌≡◌, ℕ, ◌+◌, ℤ, List, [], ◌∷◌, ◌++◌, length, map, Option, None, Some}
+use Rattle.std.specs.Prelude.{◌≡◌, ℕ, ◌+◌, ℤ, List, [], ◌∷◌, ◌++◌, length, map, Option, None}
 use Rattle.rvc_base.specs.declared.scalar.Scalar.{Scalar}
 use Rattle.cal_ast.specs.View.{optional}
 use Rattle.cal_model.specs.declared.bound.BoundLocal.{BoundLocal}
@@ -21,16 +21,14 @@ use Rattle.expr_lower.specs.Callees.{Function}
 use Rattle.expr_lower.specs.Following.{Follows}
 use Rattle.expr_lower.specs.Growing.{◌or_else◌}
 use Rattle.expr_lower.specs.Held.{Keeps}
-use Rattle.expr_lower.specs.Listed.{single_of}
 use Rattle.expr_lower.specs.Lowered.{Adds}
 use Rattle.expr_lower.specs.Names.{Name, local, names_view}
 use Rattle.expr_lower.specs.Placed.{StandsAt, World, state}
 use Rattle.expr_lower.specs.Routining.{LocalsSized}
-use Rattle.expr_lower.specs.Starting.{IsStart, left_out_start}
+use Rattle.expr_lower.specs.Starting.{IsStart}
 use Rattle.stmt_lower.specs.Bodies.{AreLaid, CutShort, HoldsBody, IsReady, KeepsOver}
-use Rattle.stmt_lower.specs.ListStarting.{IsListStart, left_out_list_start, local_of}
+use Rattle.stmt_lower.specs.ListStarting.{IsListStart, left_out_local, local_of}
 use Rattle.stmt_lower.specs.Procedures.{Routines}
-use Rattle.action_lower.specs.Types.{type_size}
 
 -- ---- code
 
@@ -97,20 +95,8 @@ pub record StartsAs (rs : Routines) (names : List Name) (xs : List Local) (behin
 
 -- ---- what a call does
 
--- a list, of a type whose sizes are allowed
-abbrev pub left_out_list : List Function → List Name → Local → Option ℕ
-left_out_list fs names x = elim (type_size x.shape)
-    [ None ↦ Some 0 | Some size ↦ left_out_list_start fs names x.shape (optional x.start) ]
-
--- the place of the first part of the start of a local for which no code is made, or 0 if the sizes of its type aren't
--- allowed
-abbrev pub left_out_local : List Function → List Name → Local → Option ℕ
-left_out_local fs names x = elim (single_of x.shape) [
-  | None ↦ left_out_list fs names x
-  | Some t ↦ left_out_start fs names (optional x.start)
-]
-
--- .. of locals, each of which sees those before it; which cells these have doesn't matter here
+-- the first part of the starts of locals for which no code is made; each of them sees those before it, and which cells
+-- these have doesn't matter here
 abbrev pub left_out_locals : List Function → List Name → List Local → Option ℕ
 left_out_locals fs names [] = None
 left_out_locals fs names (x ∷ xs) = left_out_local fs names x

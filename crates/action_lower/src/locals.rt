@@ -1,21 +1,19 @@
 //! The locals of an action as code.
 
-ghost use Rattle.std.specs.Prelude.{◌≡◌, ◌∷◌, [], IfErr, None, OnOk, Some, map, string_bytes};
+ghost use Rattle.std.specs.Prelude.{◌≡◌, ◌∷◌, [], IfErr, None, OnOk, map, string_bytes};
 ghost use Rattle.cal_model.specs.View.{local_view, shape_view};
 ghost use Rattle.expr_lower.specs.Callees.{functions_view};
 ghost use Rattle.expr_lower.specs.declared.fault.LowerFault.TheVariants.{Memory};
 ghost use Rattle.expr_lower.specs.Growing.{IsFault};
-ghost use Rattle.expr_lower.specs.Listed.{single_of};
 ghost use Rattle.expr_lower.specs.Names.{names_view};
-ghost use Rattle.stmt_lower.specs.ListStarting.{local_of};
-ghost use Rattle.action_lower.specs.LocalCode.{AddsLocals, left_out_list, left_out_local, left_out_locals};
+ghost use Rattle.stmt_lower.specs.ListStarting.{left_out_local, local_of};
+ghost use Rattle.action_lower.specs.LocalCode.{AddsLocals, left_out_locals};
 ghost use Rattle.action_lower.specs.LocalWords.{IsInFront};
 
-use crate::shapes::{copy_shape, type_size};
+use crate::shapes::copy_shape;
 use cal_model::BoundLocal;
-use expr_lower::{Callee, Draft, LowerFault, Named, Scope, Seat, single, start, take_cell};
-use rvc_base::Scalar;
-use stmt_lower::start_list;
+use expr_lower::{Callee, Draft, LowerFault, Named, Scope, Seat};
+use stmt_lower::start_local;
 
 /// Appends the code of locals, one after the other, and puts the name of each in front of `names`.
 ///
@@ -63,60 +61,7 @@ fn lower_local(
     ensures fault { IfErr result (IsFault (left_out_local (functions_view callees.now)
         (names_view names.old.items) (local_view x.now)) draft.new) }
 {
-    match single(&x.shape) {
-        Some(kind) => one_local(names, callees, x, kind, draft),
-        None => list_local(names, callees, x, draft),
-    }
-}
-
-/// Appends the code of a local of single values, and puts its name in front of names.
-fn one_local(
-    names: &mut Vec<Named>,
-    callees: &[Callee],
-    x: &BoundLocal,
-    kind: Scalar,
-    draft: &mut Draft,
-) -> Result<(), LowerFault>
-    requires one { single_of (shape_view x.now.shape) ≡ Some kind }
-    ensures code { OnOk result (AddsLocals (functions_view callees.now) (x.now ∷ [])
-        names.old.items names.new.items draft.old draft.new) }
-    ensures front { OnOk result (IsInFront x.now names.old.items names.new.items) }
-    ensures whole { OnOk result (left_out_local (functions_view callees.now)
-        (names_view names.old.items) (local_view x.now) ≡ None) }
-    ensures fault { IfErr result (IsFault (left_out_local (functions_view callees.now)
-        (names_view names.old.items) (local_view x.now)) draft.new) }
-{
-    let cell = take_cell(draft)?;
-    start(
-        &Scope::outermost(names, callees),
-        &x.start,
-        cell,
-        kind,
-        draft,
-    )?;
-    put_front(names, x, cell)
-}
-
-/// Appends the code of a local that is a list, and puts its name in front of names.
-fn list_local(
-    names: &mut Vec<Named>,
-    callees: &[Callee],
-    x: &BoundLocal,
-    draft: &mut Draft,
-) -> Result<(), LowerFault>
-    requires not_one { single_of (shape_view x.now.shape) ≡ None }
-    ensures code { OnOk result (AddsLocals (functions_view callees.now) (x.now ∷ [])
-        names.old.items names.new.items draft.old draft.new) }
-    ensures front { OnOk result (IsInFront x.now names.old.items names.new.items) }
-    ensures whole { OnOk result (left_out_list (functions_view callees.now)
-        (names_view names.old.items) (local_view x.now) ≡ None) }
-    ensures fault { IfErr result (IsFault (left_out_list (functions_view callees.now)
-        (names_view names.old.items) (local_view x.now)) draft.new) }
-{
-    let Some(_) = type_size(&x.shape) else {
-        return Err(LowerFault::NotLowered { at: 0 });
-    };
-    let cell = start_list(&Scope::outermost(names, callees), &x.shape, &x.start, draft)?;
+    let cell = start_local(&Scope::outermost(names, callees), x, draft)?;
     put_front(names, x, cell)
 }
 

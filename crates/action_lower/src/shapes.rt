@@ -5,10 +5,9 @@ ghost use Rattle.cal_model.specs.Value.{IsType, scalars_of_type};
 ghost use Rattle.cal_model.specs.View.{shape_view};
 ghost use Rattle.action_lower.specs.Seats.{pattern_shape};
 ghost use Rattle.action_lower.specs.Sending.{items_of_any};
-ghost use Rattle.action_lower.specs.Types.{is_size, numbers_of_items, type_size};
 
-use cal_model::{MAX_LIST_SCALARS, Shape};
-use rvc_base::{MAX_SIZE, Scalar};
+use cal_model::Shape;
+use rvc_base::Scalar;
 use std::alloc::{AllocError, Global};
 
 /// The same type once more.
@@ -32,39 +31,6 @@ pub(crate) fn scalars(t: &Shape) -> u32
     match t {
         Shape::Scalar(_) => 1,
         Shape::List(size, items) => *size * scalars(items),
-    }
-}
-
-/// How many numbers a type has, if its sizes are allowed.
-pub(crate) fn type_size(t: &Shape) -> Option<u32>
-    ensures { result ≡ type_size (shape_view t.now) }
-{
-    match t {
-        Shape::Scalar(kind) => { if is_size(*kind) { Some(1) } else { None } }
-        Shape::List(count, items) => numbers_of_items(*count, type_size(items)),
-    }
-}
-
-/// How many numbers so many items have, if a list may have as many.
-fn numbers_of_items(count: u32, each: Option<u32>) -> Option<u32>
-    ensures { result ≡ numbers_of_items count each }
-{
-    let each = each?;
-    let all = count.checked_mul(each)?;
-    if count < 1 || all > MAX_LIST_SCALARS {
-        return None;
-    }
-    Some(all)
-}
-
-/// Whether a type of numbers has a size that is allowed.
-fn is_size(kind: Scalar) -> bool
-    ensures { result ≡ is_size kind }
-{
-    match kind {
-        Scalar::Bool => true,
-        Scalar::Int(size) => size >= 1 && size <= MAX_SIZE,
-        Scalar::Uint(size) => size >= 1 && size <= MAX_SIZE,
     }
 }
 

@@ -1,3 +1,4 @@
+pub mod TypeSizes
 pub mod Assigning
 pub mod Fewer
 pub mod Scoping

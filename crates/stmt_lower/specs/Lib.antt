@@ -1,3 +1,4 @@
+pub mod Types
 pub mod Changing
 pub mod Procedures
 pub mod StmtSeen
