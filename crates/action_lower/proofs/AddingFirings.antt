@@ -3,7 +3,7 @@ use Rattle.std.proofs.Common.{◌≡◌, ℕ, ◌+◌, ◌≤◌, ⊎_elim, true
 use Rattle.std.specs.Str.{bytes_eq}
 use Rattle.cal_ast.specs.View.{expr_tree}
 use Rattle.cal_ast.specs.declared.expr.Expr.{Expr}
-use Rattle.cal_ast.specs.Tree.{Tree}
+use Rattle.cal_ast.specs.Tree.{Tree, listed}
 use Rattle.cal_model.specs.declared.bound.BoundAction.{BoundAction}
 use Rattle.cal_model.specs.declared.bound.BoundOutput.{BoundOutput}
 use Rattle.cal_model.specs.Actor.{Action, Local, Port}
@@ -28,7 +28,7 @@ use Rattle.stmt_lower.specs.Procedures.{Routines}
 use Rattle.stmt_lower.specs.StmtGrowing.{left_out_all}
 use Rattle.stmt_lower.specs.StmtWords.{body_of}
 use Rattle.stmt_lower.proofs.ErasedStmts.{all_erased}
-use Rattle.list_lower.proofs.Erased.{fill_erased}
+use Rattle.list_lower.proofs.Erased.{fills_erased}
 use Rattle.stmt_lower.specs.ListStarting.{local_of}
 use Rattle.stmt_lower.proofs.Executed.{grows_start}
 use Rattle.stmt_lower.proofs.ListStarting.{grows_list_start}
@@ -118,8 +118,7 @@ values_erased fs names (e ∷ es) = ap (λ o. o or_else left_out_values fs (map 
 
 repeated_erased : (fs : List Function) (names : List Name) (times : ℕ) (es : List Expr) → left_out_repeated fs (map erase names) times es ≡ left_out_repeated fs names times es
 repeated_erased fs names times [] = refl
-repeated_erased fs names times (e ∷ []) = fill_erased fs names (items_of_any times) (expr_tree e)
-repeated_erased fs names times (e ∷ f ∷ es) = refl
+repeated_erased fs names times (e ∷ es) = fills_erased fs names (items_of_any times) (listed (map expr_tree (e ∷ es)))
 
 output_erased : (fs : List Function) (names : List Name) (o : BoundOutput) → left_out_output fs (map erase names) o ≡ left_out_output fs names o
 output_erased fs names o = go o.repeat

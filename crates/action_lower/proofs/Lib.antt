@@ -5,6 +5,7 @@ pub mod GuardCode
 pub mod Answering
 pub mod ActionAt
 pub mod ListSending
+pub mod TurnSending
 pub mod Storing
 pub mod OutputCode
 pub mod FirstCells

@@ -47,7 +47,7 @@ item_number t (Cons (Items us) vs) k h low = absurd h.0
 item_number t (Cons (Num z) vs) (suc k) h low = item_number t vs k h.1 (omega (arith, low))
 item_number t (Cons (Truth b) vs) (suc k) h low = item_number t vs k h.1 (omega (arith, low))
 
-list_number : (n : ℕ) (v : Value) (k : ℕ) → IsShaped (items_of_any n) v → k < n → slice_get (flat v) k ≡ Some (number_at v k)
+pub list_number : (n : ℕ) (v : Value) (k : ℕ) → IsShaped (items_of_any n) v → k < n → slice_get (flat v) k ≡ Some (number_at v k)
 list_number n (Num z) k h low = absurd h
 list_number n (Truth b) k h low = absurd h
 list_number n (Items vs) k h low = let many = h.0 in item_number _ vs k h.1 (omega (arith, low, many))

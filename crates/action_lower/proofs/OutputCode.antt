@@ -1,12 +1,11 @@
 -- Code of outputs that is added to a draft.
-use Rattle.std.proofs.Common.{◌≡◌, ℕ, suc, ◌+◌, ◌<◌, ◌≤◌, ◌⊎◌, inl, inr, ⊎_elim, List, [], ◌∷◌, ◌++◌, length, map, take, drop, refl, sym, ap, subst, ◌∙◌, Option, None, Some, arith, append_assoc, append-nil, length-append}
+use Rattle.std.proofs.Common.{◌≡◌, ℕ, suc, ◌+◌, ◌*◌, ◌<◌, ◌≤◌, ◌⊎◌, inl, inr, ⊎_elim, List, [], ◌∷◌, ◌++◌, length, map, take, drop, refl, sym, ap, subst, ◌∙◌, Option, None, Some, arith, append_assoc, append-nil, length-append}
 use Rattle.std.specs.Prelude.{get_or}
 use Rattle.std.proofs.lemmas.List.{length-map, map-append, take_more, take-append-drop}
 use Rattle.rvc_base.specs.declared.scalar.Scalar.{Scalar}
 use Rattle.cal_ast.specs.Tree.{Tree, listed}
 use Rattle.cal_ast.specs.View.{expr_tree}
 use Rattle.cal_model.specs.declared.bound.BoundOutput.{BoundOutput}
-use Rattle.cal_ast.specs.declared.expr.Expr.{Expr}
 use Rattle.cal_model.specs.Value.{Shape, scalars_of_type}
 use Rattle.cal_model.specs.Actor.{Output, Port}
 use Rattle.cal_model.specs.Selection.{kind_of_port}
@@ -24,11 +23,14 @@ use Rattle.expr_lower.specs.Lowered.{Adds, IsPut}
 use Rattle.expr_lower.specs.Names.{Name}
 use Rattle.expr_lower.proofs.Adding.{same_adds, then_put}
 use Rattle.expr_lower.proofs.PartValues.{sized_is}
-use Rattle.list_lower.specs.Filling.{IsFill}
+use Rattle.expr_lower.specs.Parted.{sized}
+use Rattle.list_lower.specs.Filling.{AreFills, IsFill}
+use Rattle.list_lower.specs.LeftOut.{left_out_fill, left_out_fills}
+use Rattle.action_lower.specs.declared.turns.Area.{Area}
 use Rattle.stmt_lower.specs.declared.starts.Row.{Row}
 use Rattle.stmt_lower.specs.StartWords.{HasTakenList}
-use Rattle.action_lower.specs.SendWords.{AddsOutput, AddsOutputs, AddsSent, HasTaken, IsSendFault, left_out_output, left_out_outputs, left_out_repeated, left_out_values}
-use Rattle.action_lower.specs.Sending.{AreOutputs, AreStored, IsListOutput, IsOutputCode, IsSentList, IsStored, items_of_any, list_output_more, no_output, no_value, output_more, value_more}
+use Rattle.action_lower.specs.SendWords.{AddsOutput, AddsOutputs, AddsSent, HasArea, HasTaken, IsSendFault, left_out_output, left_out_outputs, left_out_repeated, left_out_values}
+use Rattle.action_lower.specs.Sending.{AreOutputs, AreStored, IsListOutput, IsOutputCode, IsRepeated, IsSentList, IsStored, in_turns, items_of_any, list_output_more, no_output, no_value, one_list, output_more, turn_stores, value_more}
 use Rattle.action_lower.proofs.Storing.{sends-as}
 
 first-taken : {X Y : Type 0} (f : X → Y) (xs : List X) (x : X) (i : ℕ) → i < length xs → x ≡ get_or xs i x → map f (take (i + 1) xs) ≡ map f (take i xs) ++ f x ∷ []
@@ -166,24 +168,66 @@ output-added fs names ports o es kind count first old mid new once values many o
       }),
     )
 
-pub list-added : (fs : List Function) (names : List Name) (ports : List Port) (o : BoundOutput) (value : Expr) (times : ℕ) (shape : Shape) (kind : Scalar) (first : ℕ) (old new : Draft) → o.repeat ≡ Some times → o.values.items ≡ value ∷ [] → shape ≡ items_of_any times
-    → kind ≡ kind_of_port ports o.port → first ≡ old.cells → Adds (IsSentList fs names (expr_tree value) shape kind) old new → AddsOutput fs names ports (output_view o) first old new
-list-added fs names ports o value times shape kind first old new repeated values any of_port is a = (
+pub repeated-added : (fs : List Function) (names : List Name) (ports : List Port) (o : BoundOutput) (times : ℕ) (kind : Scalar) (first : ℕ) (old new : Draft) → o.repeat ≡ Some times → kind ≡ kind_of_port ports o.port → first ≡ old.cells
+    → Adds (IsRepeated fs names kind times (map expr_tree o.values.items)) old new → AddsOutput fs names ports (output_view o) first old new
+repeated-added fs names ports o times kind first old new repeated of_port is a = (
   is,
   inr (record {
     code = a.code;
     is = a.is;
     routines = a.routines;
     has = record {
-      value = expr_tree value;
-      is_value = ap (λ es. listed (map expr_tree es)) values;
+      parts = map expr_tree o.values.items;
+      are = refl;
       times = times;
       repeated = repeated;
-      stored = subst (λ k. IsSentList fs names (expr_tree value) (items_of_any times) k (length old.instrs.items) old.cells a.code new.cells) of_port
-          (subst (λ t. IsSentList fs names (expr_tree value) t kind (length old.instrs.items) old.cells a.code new.cells) any a.has);
+      stored = subst (λ k. IsRepeated fs names k times (map expr_tree o.values.items) (length old.instrs.items) old.cells a.code new.cells) of_port a.has;
     };
   }),
 )
+
+pub one-repeated : (fs : List Function) (names : List Name) (e : Tree) (times : ℕ) (shape : Shape) (kind : Scalar) (old new : Draft) → shape ≡ items_of_any times → Adds (IsSentList fs names e shape kind) old new → Adds (IsRepeated fs names kind times (e ∷ [])) old new
+one-repeated fs names e times shape kind old new any a =
+    same_adds (IsSentList fs names e (items_of_any times) kind) (IsRepeated fs names kind times (e ∷ [])) old new (λ base n m code h. one_list e base n m code h) (subst (λ t. Adds (IsSentList fs names e t kind) old new) any a)
+
+pub turns-added : (fs : List Function) (names : List Name) (es : List Tree) (times : ℕ) (shape : Shape) (kind : Scalar) (area : Area) (old d1 d2 new : Draft) → shape ≡ items_of_any times → HasArea (length es) shape old d1 area
+    → Adds (AreFills fs names (listed es) shape area.rows) d1 d2 → IsPut (turn_stores kind area.each area.lists times area.tokens area.rows) d2 new → Adds (IsRepeated fs names kind times es) old new
+turns-added fs names es times shape kind area old d1 d2 new any taken f p =
+    let lists : ℕ = length es in
+    let n : ℕ = old.cells in
+    let base : ℕ = length old.instrs.items in
+    let each : area.each ≡ times =
+    sym (sized_is (items_of_any times) area.each (subst (λ t. sized t ≡ Some area.each) any taken.is.each)) ∙ (let one : times * 1 ≡ times = omega arith in one) in
+    let rows : area.rows ≡ n + lists * times = taken.is.rows ∙ ap (λ k. n + lists * k) each in
+    let end : d1.cells ≡ area.rows + lists * times = taken.cells ∙ taken.is.end ∙ ap (λ k. n + lists * k + lists * k) each ∙ ap (λ k. k + lists * times) (sym rows) in
+    let last : List Instr = turn_stores kind times lists times n area.rows in
+    let same : turn_stores kind area.each area.lists times area.tokens area.rows ≡ last =
+    ap (λ k. turn_stores kind k area.lists times area.tokens area.rows) each ∙ ap (λ k. turn_stores kind times k times area.tokens area.rows) taken.is.lists ∙ ap (λ k. turn_stores kind times lists times k area.rows) taken.is.tokens in
+    let a : Adds (AreFills fs names (listed es) (items_of_any times) area.rows) d1 d2 = subst (λ t. Adds (AreFills fs names (listed es) t area.rows) d1 d2) any f in
+    let all : new.instrs.items ≡ (old.instrs.items ++ a.code) ++ last = p.is ∙ ap (λ is. d2.instrs.items ++ is) same ∙ ap (λ is. is ++ last) (a.is ∙ ap (λ is. is ++ a.code) taken.instrs) in
+    record {
+      code = a.code ++ last;
+      is = all ∙ append_assoc old.instrs.items a.code last;
+      routines = p.routines ∙ a.routines ∙ taken.routines;
+      has = in_turns es base n new.cells area.rows a.code rows
+          (subst (λ m. AreFills fs names (listed es) (items_of_any times) area.rows base (area.rows + lists * times) a.code m) (sym p.cells)
+          (subst (λ k. AreFills fs names (listed es) (items_of_any times) area.rows base k a.code d2.cells) end
+          (subst (λ is. AreFills fs names (listed es) (items_of_any times) area.rows (length is) d1.cells a.code d2.cells) taken.instrs a.has)));
+    }
+
+-- a list of one
+pub one-is : {X : Type 0} (xs : List X) (x : X) → 1 ≤ length xs → length xs < 2 → x ≡ get_or xs 0 x → xs ≡ x ∷ []
+one-is [] x low high is = absurd (omega arith)
+one-is (y ∷ []) x low high is = ap (λ z. z ∷ []) (sym is)
+one-is (y ∷ z ∷ ys) x low high is = absurd (omega arith)
+
+-- what is left out of one list that is repeated
+pub one-left : (fs : List Function) (names : List Name) (t : Shape) (e : Tree) → left_out_fills fs names t (listed (e ∷ [])) ≡ left_out_fill fs names t e
+one-left fs names t e = go (left_out_fill fs names t e)
+  where
+    go : (o : Option ℕ) → o or_else None ≡ o
+    go None = refl
+    go (Some x) = refl
 
 -- the code of a list in cells that were taken
 pub sent-list : (fs : List Function) (names : List Name) (e : Tree) (t : Shape) (kind : Scalar) (row : Row) (old d1 d2 new : Draft) → HasTakenList t old d1 row → Adds (IsFill fs names e t row.first) d1 d2 → IsPut (op.Copy row.first row.first row.size (Some kind) ∷ []) d2 new

@@ -39,7 +39,8 @@ use Rattle.stmt_lower.specs.Procedures.{Routines}
 use Rattle.stmt_lower.proofs.Evaluating.{does_there, singles_there}
 use Rattle.stmt_lower.proofs.Scoping.{AreLaid, HoldsInside, inside_still, laid_more}
 use Rattle.action_lower.specs.Sending.{AreOutputs, AreStored, EndsSent, IsStored, Sends, SendsAs, StandFrom, list_output_more, no_output, no_value, output_more, value_more}
-use Rattle.action_lower.proofs.ListSending.{SendsList, list-grows, list_sent}
+use Rattle.action_lower.proofs.ListSending.{SendsList}
+use Rattle.action_lower.proofs.TurnSending.{repeated-grows, repeated_sent}
 use Rattle.action_lower.proofs.LocalRuns.{inside_from}
 
 -- the number of a single value
@@ -55,7 +56,7 @@ stored-grows (value_more e es c base n k m a b first rest) = let x = grows first
 pub outputs-grow : {fs : List Function} {names : List Name} {ports : List Port} {os : List Output} {firsts : List ℕ} {base n m : ℕ} {part : List Instr} → AreOutputs fs names ports os firsts base n part m → n ≤ m
 outputs-grow (no_output base n) = omega arith
 outputs-grow (output_more o others firsts base n k m a b first rest) = let x = stored-grows first.stored in let y = outputs-grow rest in omega (arith, x, y)
-outputs-grow (list_output_more o others firsts base n k m a b first rest) = let x = list-grows first.stored in let y = outputs-grow rest in omega (arith, x, y)
+outputs-grow (list_output_more o others firsts base n k m a b first rest) = let x = repeated-grows first.stored in let y = outputs-grow rest in omega (arith, x, y)
 
 module _ (rs : Routines) (outer : List Name) (w : World) (serves : Serves w outer rs.functions) (frames : List ℕ) (inner : List Name) (t : Scalar) (env : Env) (stack : List ℤ) where
   abbrev fs : List Function
@@ -227,18 +228,18 @@ module _ (rs : Routines) (outer : List Name) (w : World) (serves : Serves w oute
               q.keeps.cell (n + h) (inl (omega (arith, within, many, low)))
               (one-apart rs outer w serves frames inner (kind_of_port ports port) env stack n (n + h) m (omega arith) (omega (arith, within, many, low, le)) far) ∙ p.stand h z e
 
-  -- a repeated output of one list
-  abbrev list-of : ℕ → Tree → ℕ → Output
-  list-of port e times = record { port = port; values = listed (e ∷ []); repeat = Some times }
+  -- a repeated output
+  abbrev list-of : ℕ → List Tree → ℕ → Output
+  list-of port es times = record { port = port; values = listed es; repeat = Some times }
 
   -- .. and those behind it
-  join-list : (port times : ℕ) (e : Tree) (others : List Output) (firsts : List ℕ) (n base k m mid end : ℕ) (cells : List ℤ) (left : ℕ) → n ≤ k → k ≤ m → AreApart n m w.low w.high
-      → Follows (eval_all (listed (e ∷ [])) w.calls env left) (SendsList rs outer w serves frames inner (kind_of_port ports port) env stack times n k (state base stack frames cells left) mid) (CutsOff w n k (state base stack frames cells left))
+  join-list : (port times : ℕ) (es : List Tree) (others : List Output) (firsts : List ℕ) (n base k m mid end : ℕ) (cells : List ℤ) (left : ℕ) → n ≤ k → k ≤ m → AreApart n m w.low w.high
+      → Follows (eval_all (listed es) w.calls env left) (SendsList rs outer w serves frames inner (kind_of_port ports port) env stack times n k (state base stack frames cells left) mid) (CutsOff w n k (state base stack frames cells left))
       → ((now : List ℤ) (j : ℕ) → Keeps n k w.low w.high cells now
       → Follows (outputs ports others w.calls env j) (Sends w firsts k m (state mid stack frames now j) end) (CutsOff w k m (state mid stack frames now j)))
-      → Follows (outputs ports (list-of port e times ∷ others) w.calls env left) (Sends w (n ∷ firsts) n m (state base stack frames cells left) end) (CutsOff w n m (state base stack frames cells left))
-  join-list port times e others firsts n base k m mid end cells left low le far first rest =
-      follows_then (eval_all (listed (e ∷ [])) w.calls env left) (λ vs j. and_then (outputs ports others w.calls env j) (λ sent i. Gives ((port, map (conv (kind_of_port ports port)) (interleaved times 0 vs)) ∷ sent) i))
+      → Follows (outputs ports (list-of port es times ∷ others) w.calls env left) (Sends w (n ∷ firsts) n m (state base stack frames cells left) end) (CutsOff w n m (state base stack frames cells left))
+  join-list port times es others firsts n base k m mid end cells left low le far first rest =
+      follows_then (eval_all (listed es) w.calls env left) (λ vs j. and_then (outputs ports others w.calls env j) (λ sent i. Gives ((port, map (conv (kind_of_port ports port)) (interleaved times 0 vs)) ∷ sent) i))
       (SendsList rs outer w serves frames inner (kind_of_port ports port) env stack times n k s mid) (CutsOff w n k s) (Sends w (n ∷ firsts) n m s end) (CutsOff w n m s)
       first
       (λ vs j p. follows_then (outputs ports others w.calls env j) (λ sent i. Gives ((port, map (conv (kind_of_port ports port)) (interleaved times 0 vs)) ∷ sent) i)
@@ -290,15 +291,15 @@ module _ (rs : Routines) (outer : List Name) (w : World) (serves : Serves w oute
       (laid_more rs outer w.tokens w.low w.high n k inner (omega (arith, grows)) laid) (apart_last n k m w.low w.high (omega (arith, grows)) far)
       (inside_still rs outer w.tokens w.low w.high n k inner cells now env laid keeps holds))))
   outputs-sent cells left (list_output_more o others firsts base n k m a b first rest) stands room laid far holds =
-      let e : Tree = first.value in
+      let es : List Tree = first.parts in
       let more : k ≤ m = outputs-grow rest in
-      let grows : n ≤ k = list-grows first.stored in
+      let grows : n ≤ k = repeated-grows first.stored in
       let end : base + length a + length b ≡ base + length (a ++ b) = omega (arith, length-append a b) in
-      let same : list-of o.port e first.times ≡ o = ap (λ v. record { port = o.port; values = v; repeat = Some first.times }) (sym first.is_value) ∙ ap (λ r. record { port = o.port; values = o.values; repeat = r }) (sym first.repeated) in
+      let same : list-of o.port es first.times ≡ o = ap (λ v. record { port = o.port; values = v; repeat = Some first.times }) (sym first.are) ∙ ap (λ r. record { port = o.port; values = o.values; repeat = r }) (sym first.repeated) in
       subst (λ p. Follows (outputs ports (p ∷ others) w.calls env left) (Sends w (n ∷ firsts) n m (state base stack frames cells left) (base + length (a ++ b))) (CutsOff w n m (state base stack frames cells left))) same
-      (subst (λ q. Follows (outputs ports (list-of o.port e first.times ∷ others) w.calls env left) (Sends w (n ∷ firsts) n m (state base stack frames cells left) q) (CutsOff w n m (state base stack frames cells left))) end
-      (join-list o.port first.times e others firsts n base k m (base + length a) (base + length a + length b) cells left grows more far
-      (list_sent rs outer w serves frames inner (kind_of_port ports o.port) env stack e first.times base n k a cells left first.stored (stands_left w.code.instrs base a b stands) (omega (arith, more, room)) laid (apart_first n k m w.low w.high more far) holds)
+      (subst (λ q. Follows (outputs ports (list-of o.port es first.times ∷ others) w.calls env left) (Sends w (n ∷ firsts) n m (state base stack frames cells left) q) (CutsOff w n m (state base stack frames cells left))) end
+      (join-list o.port first.times es others firsts n base k m (base + length a) (base + length a + length b) cells left grows more far
+      (repeated_sent rs outer w serves frames inner (kind_of_port ports o.port) env stack first.times cells left first.stored (stands_left w.code.instrs base a b stands) (omega (arith, more, room)) laid (apart_first n k m w.low w.high more far) holds)
       (λ now j keeps. outputs-sent now j rest (stands_right w.code.instrs base a b stands) (let size = keeps.size in omega (arith, size, room))
       (laid_more rs outer w.tokens w.low w.high n k inner grows laid) (apart_last n k m w.low w.high grows far)
       (inside_still rs outer w.tokens w.low w.high n k inner cells now env laid keeps holds))))

@@ -10,18 +10,21 @@ ghost use Rattle.expr_lower.specs.Lowered.{Adds};
 ghost use Rattle.expr_lower.specs.Names.{names_view};
 ghost use Rattle.expr_lower.specs.declared.fault.LowerFault.TheVariants.{TooManyCells};
 ghost use Rattle.cal_model.specs.View.{shape_view};
-ghost use Rattle.list_lower.specs.LeftOut.{left_out_fill};
+ghost use Rattle.list_lower.specs.LeftOut.{left_out_fill, left_out_fills};
+ghost use Rattle.expr_lower.specs.PartView.{places_of};
 ghost use Rattle.action_lower.specs.SendWords.{AddsOutput, AddsOutputs, AddsSent, HasTaken, IsSendFault};
 ghost use Rattle.action_lower.specs.SendWords.{left_out_output, left_out_outputs, left_out_repeated, left_out_values};
-ghost use Rattle.action_lower.specs.Sending.{AreStored, IsSentList, IsStored};
+ghost use Rattle.action_lower.specs.Sending.{AreStored, IsStored, items_of_any};
+ghost use Rattle.action_lower.specs.SendWords.{AddsRepeated, AddsSentList};
 
 use crate::seats::kind_on;
 use crate::shapes::items_of_any;
+use crate::turns::{put_turns, take_area};
 use cal_ast::Expr;
 use cal_model::{BoundOutput, Port, Shape};
 use code_ir::Instr;
 use expr_lower::{Callee, Draft, LowerFault, Named, Scope, lower, put};
-use list_lower::fill;
+use list_lower::{fill, fill_all};
 use rvc_base::Scalar;
 use std::alloc::Global;
 use stmt_lower::take_list;
@@ -37,7 +40,7 @@ use stmt_lower::take_list;
 ///
 /// `NotLowered` with the offset of the first part for which no code is made: such a part of a value, as
 /// [`lower_calling`](expr_lower::lower_calling) or, of a list that is repeated, [`lower_list`](list_lower::lower_list)
-/// says, or the first value of a repeated output of several lists. `TooLong` if the draft has 2 to the power of 32
+/// says. `TooLong` if the draft has 2 to the power of 32
 /// instructions. `TooManyCells` if it has so many cells that those of an output don't fit. `Memory` if memory runs out.
 pub fn lower_outputs(
     alloc: Global,
@@ -125,15 +128,46 @@ fn put_repeated(
     ensures fault { IfErr result
         (IsSendFault (left_out_repeated (functions_view callees.now) (names_view names.now) times output.now.values.items) draft.new) }
 {
-    let Some((value, others)) = output.values.split_first() else {
-        return Err(LowerFault::NotLowered { at: 0 });
-    };
-    if !others.is_empty() {
-        return Err(LowerFault::NotLowered { at: value.at });
-    }
     let kind = kind_on(ports, output.port);
     let shape = items_of_any(alloc, times)?;
-    put_list(names, callees, value, &shape, kind, draft)
+    match output.values.as_slice() {
+        [] => Err(LowerFault::NotLowered { at: 0 }),
+        [value] => put_list(names, callees, value, &shape, kind, draft),
+        values => put_lists(names, callees, values, &shape, times, kind, draft),
+    }
+}
+
+/// Takes cells for lists and for what they send, and appends the code that fills the lists and then stores their items in
+/// a type, so that the lists take turns. The first cell of what is sent comes back.
+fn put_lists(
+    names: &[Named],
+    callees: &[Callee],
+    values: &[Expr],
+    shape: &Shape,
+    times: u32,
+    kind: Scalar,
+    draft: &mut Draft,
+) -> Result<u32, LowerFault>
+    requires some { 1 ≤ length values.now }
+    requires shape { shape_view shape.now ≡ items_of_any times }
+    ensures code { IfOk result (λ first. AddsRepeated (functions_view callees.now) (names_view names.now)
+        kind times (map expr_tree values.now) first draft.old draft.new) }
+    ensures whole { OnOk result (left_out_fills (functions_view callees.now) (names_view names.now)
+        (shape_view shape.now) (places_of values.now) ≡ None) }
+    ensures fault { IfErr result (IsFault (left_out_fills (functions_view callees.now) (names_view names.now)
+        (shape_view shape.now) (places_of values.now)) draft.new) }
+{
+    let area = take_area(values.len(), shape, draft)?;
+    fill_all(
+        &Scope::outermost(names, callees),
+        values,
+        shape,
+        area.each,
+        area.rows,
+        draft,
+    )?;
+    put_turns(kind, area, times, area.tokens, area.rows, draft)?;
+    Ok(area.tokens)
 }
 
 /// Takes cells for a list, and appends the code that fills them and stores each item in a type. The first cell comes
@@ -146,9 +180,8 @@ fn put_list(
     kind: Scalar,
     draft: &mut Draft,
 ) -> Result<u32, LowerFault>
-    ensures first { IfOk result (λ first. first ≡ draft.old.cells) }
-    ensures code { OnOk result (Adds (IsSentList (functions_view callees.now) (names_view names.now)
-        (expr_tree value.now) (shape_view shape.now) kind) draft.old draft.new) }
+    ensures code { IfOk result (λ first. AddsSentList (functions_view callees.now) (names_view names.now)
+        (expr_tree value.now) (shape_view shape.now) kind first draft.old draft.new) }
     ensures whole { OnOk result (left_out_fill (functions_view callees.now) (names_view names.now)
         (shape_view shape.now) (expr_tree value.now) ≡ None) }
     ensures fault { IfErr result (IsFault (left_out_fill (functions_view callees.now) (names_view names.now)

@@ -162,7 +162,7 @@ module _ (code : Code) (callable limit : ℕ) where
           (plain_then code callable limit (base + 1) h h h head instrs (fits_first (base + 1) h (n + 1) gens r.count (omega (arith, wide, le)))
           (at_place turn_at (base + 1 + length head) h instrs f rest (λ st. fits_elements h (below_more c (n + 1) names up below) (omega (arith, room)) (omega arith) le st g)))
 
-      fits_fills : {names : List Name} {es : Tree} {t : Shape} {c base n m : ℕ} {instrs : List Instr} (h : ℕ) → AreBelow c names → c + number_of es * scalars_of_type t ≤ n → m ≤ limit → StandsAt code.instrs base instrs → AreFills fs names es t c base n instrs m → Whole base h instrs h
+      pub fits_fills : {names : List Name} {es : Tree} {t : Shape} {c base n m : ℕ} {instrs : List Instr} (h : ℕ) → AreBelow c names → c + number_of es * scalars_of_type t ≤ n → m ≤ limit → StandsAt code.instrs base instrs → AreFills fs names es t c base n instrs m → Whole base h instrs h
       fits_fills h below room le stands (no_item names t c base n) = fits_none code callable limit base h
       fits_fills h below room le stands (item_more names e es t c base n k m a b g d) =
           let x = grows_fill g in let y = grows_fills d in

@@ -332,9 +332,9 @@ fn list(
     }
 }
 
-/// Appends items, one after the other.
+/// Appends code that fills the cells from one on with items of a type, one after the other.
 #[cycle(fill)]
-fn fill_all(
+pub fn fill_all(
     scope: &Scope,
     items: &[Expr],
     shape: &Shape,

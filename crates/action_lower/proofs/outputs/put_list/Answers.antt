@@ -17,4 +17,4 @@ returns-clause-code c =
     let filled : Adds (IsFill fs names (expr_tree c.args.value.now) (shape_view c.args.shape.now) c.in_ok-row.row.first) c.take_list.new.draft c.fill.new.draft =
     subst (λ gs. Adds (IsFill gs names (expr_tree c.args.value.now) (shape_view c.args.shape.now) c.in_ok-row.row.first) c.take_list.new.draft c.fill.new.draft) c.outermost.ensures.callees
     (subst (λ ns. Adds (IsFill (called c.outermost.result) ns (expr_tree c.args.value.now) (shape_view c.args.shape.now) c.in_ok-row.row.first) c.take_list.new.draft c.fill.new.draft) there c.in_ok-fill.ensures.ok) in
-    sent-list fs names (expr_tree c.args.value.now) (shape_view c.args.shape.now) c.args.kind c.in_ok-row.row c.args.draft.now c.take_list.new.draft c.fill.new.draft c.put.new.draft c.in_ok-row.ensures.taken filled c.in_ok-put.ensures.added
+    (c.in_ok-row.ensures.taken.is, sent-list fs names (expr_tree c.args.value.now) (shape_view c.args.shape.now) c.args.kind c.in_ok-row.row c.args.draft.now c.take_list.new.draft c.fill.new.draft c.put.new.draft c.in_ok-row.ensures.taken filled c.in_ok-put.ensures.added)
