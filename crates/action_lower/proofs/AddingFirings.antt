@@ -1,14 +1,13 @@
 -- Code of firings that was added to a draft, part by part.
 use Rattle.std.proofs.Common.{◌≡◌, ℕ, ◌+◌, ◌≤◌, ⊎_elim, true, false, List, [], ◌∷◌, ◌++◌, length, map, sym, ap, ◌∙◌, refl, subst, Option, None, Some, arith, append_assoc, length-append}
 use Rattle.std.specs.Str.{bytes_eq}
-use Rattle.rvc_base.specs.Storing.{IsSize}
-use Rattle.rvc_base.specs.declared.scalar.Scalar.{Scalar}
 use Rattle.cal_ast.specs.View.{expr_tree}
-use Rattle.cal_ast.specs.Tree.{Tree}
+use Rattle.cal_ast.specs.declared.expr.Expr.{Expr}
+use Rattle.cal_ast.specs.Tree.{Tree, listed}
 use Rattle.cal_model.specs.declared.bound.BoundAction.{BoundAction}
 use Rattle.cal_model.specs.declared.bound.BoundOutput.{BoundOutput}
 use Rattle.cal_model.specs.Actor.{Action, Local, Port}
-use Rattle.cal_model.specs.Value.{IsType, scalars_of_type}
+use Rattle.cal_model.specs.Value.{Shape, Single, IsType, scalars_of_type}
 use Rattle.cal_model.specs.View.{local_view}
 use Rattle.code_ir.specs.declared.instr.Instr.{Instr}
 use Rattle.code_ir.specs.declared.instr.Instr.TheVariants as op
@@ -18,7 +17,6 @@ use Rattle.expr_lower.specs.declared.fault.LowerFault.TheVariants.{Memory, NotLo
 use Rattle.expr_lower.specs.Callees.{Function}
 use Rattle.expr_lower.specs.Growing.{IsFault, left_out_in, ◌or_else◌}
 use Rattle.expr_lower.specs.Held.{AreBelow, SeatIsBelow}
-use Rattle.expr_lower.specs.Listed.{single_of}
 use Rattle.expr_lower.specs.Lowered.{Adds, IsPut}
 use Rattle.expr_lower.specs.Names.{Name, local, named}
 use Rattle.expr_lower.specs.Routining.{LocalsSized}
@@ -30,13 +28,16 @@ use Rattle.stmt_lower.specs.Procedures.{Routines}
 use Rattle.stmt_lower.specs.StmtGrowing.{left_out_all}
 use Rattle.stmt_lower.specs.StmtWords.{body_of}
 use Rattle.stmt_lower.proofs.ErasedStmts.{all_erased}
+use Rattle.list_lower.proofs.Erased.{fills_erased}
+use Rattle.stmt_lower.specs.ListStarting.{local_of}
 use Rattle.stmt_lower.proofs.Executed.{grows_start}
+use Rattle.stmt_lower.proofs.ListStarting.{grows_list_start}
 use Rattle.stmt_lower.proofs.Scoping.{choose_name}
 use Rattle.action_lower.specs.FiringCode.{IsFiringCode}
 use Rattle.action_lower.specs.FiringWords.{IsBehindCode, behind_locals, left_out_behind, left_out_firing}
-use Rattle.action_lower.specs.LocalCode.{AreStarted, left_out_locals, none_started, start_more}
-use Rattle.action_lower.specs.SendWords.{IsSendFault, first_at, left_out_output, left_out_outputs, left_out_values}
-use Rattle.action_lower.specs.Sending.{AreOutputs}
+use Rattle.action_lower.specs.LocalCode.{AreStarted, left_out_locals, list_more, none_started, start_more}
+use Rattle.action_lower.specs.SendWords.{IsSendFault, left_out_output, left_out_outputs, left_out_repeated, left_out_values}
+use Rattle.action_lower.specs.Sending.{AreOutputs, items_of_any}
 
 -- ---- code
 
@@ -87,25 +88,27 @@ firing_adds rs names behind ports act firsts old d1 new f g =
 
 -- ---- names behind locals
 
-local_below : (n k : ℕ) (names : List Name) (text : List ℕ) (t : Scalar) → n + 1 ≤ k → AreBelow n names → AreBelow k (local text t n ∷ names)
-local_below n k names text t le below other y e =
-    ⊎_elim (λ (f : (bytes_eq text other ≡ true) × (local text t n ≡ y)). subst (λ (z : Name). SeatIsBelow k (scalars_of_type z.shape) z.seat) f.1 (omega (arith, le)))
+any_below : (n k : ℕ) (names : List Name) (text : List ℕ) (t : Shape) → n + scalars_of_type t ≤ k → AreBelow n names → AreBelow k (local_of text t n ∷ names)
+any_below n k names text t le below other y e =
+    ⊎_elim (λ (f : (bytes_eq text other ≡ true) × (local_of text t n ≡ y)). subst (λ (z : Name). SeatIsBelow k (scalars_of_type z.shape) z.seat) f.1 (omega (arith, le)))
     (λ (f : (bytes_eq text other ≡ false) × (named other names ≡ Some y)). below_more n k names (omega (arith, le)) below other y f.1)
-    (choose_name (bytes_eq text other) (local text t n) (named other names) y e)
+    (choose_name (bytes_eq text other) (local_of text t n) (named other names) y e)
 
-local_typed : (c : ℕ) (names : List Name) (text : List ℕ) (t : Scalar) → IsSize t → AreTyped names → AreTyped (local text t c ∷ names)
-local_typed c names text t sized typed other y e =
-    ⊎_elim (λ (f : (bytes_eq text other ≡ true) × (local text t c ≡ y)). subst (λ (z : Name). IsType z.shape) f.1 sized)
+any_typed : (c : ℕ) (names : List Name) (text : List ℕ) (t : Shape) → IsType t → AreTyped names → AreTyped (local_of text t c ∷ names)
+any_typed c names text t one typed other y e =
+    ⊎_elim (λ (f : (bytes_eq text other ≡ true) × (local_of text t c ≡ y)). subst (λ (z : Name). IsType z.shape) f.1 one)
     (λ (f : (bytes_eq text other ≡ false) × (named other names ≡ Some y)). typed other y f.1)
-    (choose_name (bytes_eq text other) (local text t c) (named other names) y e)
+    (choose_name (bytes_eq text other) (local_of text t c) (named other names) y e)
 
 pub started_below : {fs : List Function} {names behind : List Name} {xs : List Local} {base n m : ℕ} {code : List Instr} → AreStarted fs names xs behind base n code m → AreBelow n names → AreBelow m behind
 started_below (none_started names base n) below = below
-started_below (start_more names behind x others t base n k m a b shape first rest) below = started_below rest (local_below n k names x.name t (grows_start first) below)
+started_below (start_more names behind x others t base n k m a b shape first rest) below = started_below rest (any_below n k names x.name (Single t) (grows_start first) below)
+started_below (list_more names behind x others base n k m a b typed first rest) below = started_below rest (any_below n k names x.name x.shape (grows_list_start first) below)
 
 pub started_typed : {fs : List Function} {names behind : List Name} {xs : List Local} {base n m : ℕ} {code : List Instr} → AreStarted fs names xs behind base n code m → LocalsSized xs → AreTyped names → AreTyped behind
 started_typed (none_started names base n) sizes typed = typed
-started_typed (start_more names behind x others t base n k m a b shape first rest) sizes typed = started_typed rest sizes.1 (local_typed n names x.name t (sizes.0 t shape) typed)
+started_typed (start_more names behind x others t base n k m a b shape first rest) sizes typed = started_typed rest sizes.1 (any_typed n names x.name (Single t) (sizes.0 t shape) typed)
+started_typed (list_more names behind x others base n k m a b one first rest) sizes typed = started_typed rest sizes.1 (any_typed n names x.name x.shape one typed)
 
 -- ---- which cells names have doesn't matter
 
@@ -113,11 +116,18 @@ values_erased : (fs : List Function) (names : List Name) (es : List Tree) → le
 values_erased fs names [] = refl
 values_erased fs names (e ∷ es) = ap (λ o. o or_else left_out_values fs (map erase names) es) (out_erased fs names e) ∙ ap (λ o. left_out_in fs names e or_else o) (values_erased fs names es)
 
-abbrev left_once : Option ℕ → Option ℕ → ℕ → Option ℕ
-left_once r o at = elim r [ None ↦ o | Some times ↦ Some at ]
+repeated_erased : (fs : List Function) (names : List Name) (times : ℕ) (es : List Expr) → left_out_repeated fs (map erase names) times es ≡ left_out_repeated fs names times es
+repeated_erased fs names times [] = refl
+repeated_erased fs names times (e ∷ es) = fills_erased fs names (items_of_any times) (listed (map expr_tree (e ∷ es)))
 
 output_erased : (fs : List Function) (names : List Name) (o : BoundOutput) → left_out_output fs (map erase names) o ≡ left_out_output fs names o
-output_erased fs names o = ap (λ v. left_once o.repeat v (first_at o.values.items)) (values_erased fs names (map expr_tree o.values.items))
+output_erased fs names o = go o.repeat
+  where
+    go : (r : Option ℕ)
+        → ◌≡◌ {A = Option ℕ} (elim r [ None ↦ left_out_values fs (map erase names) (map expr_tree o.values.items) | Some times ↦ left_out_repeated fs (map erase names) times o.values.items ])
+        (elim r [ None ↦ left_out_values fs names (map expr_tree o.values.items) | Some times ↦ left_out_repeated fs names times o.values.items ])
+    go None = values_erased fs names (map expr_tree o.values.items)
+    go (Some times) = repeated_erased fs names times o.values.items
 
 outputs_erased : (fs : List Function) (names : List Name) (os : List BoundOutput) → left_out_outputs fs (map erase names) os ≡ left_out_outputs fs names os
 outputs_erased fs names [] = refl
@@ -128,16 +138,13 @@ behind_erased rs names act =
     ap (λ o. o or_else left_out_outputs rs.functions (map erase names) act.outputs.items) (all_erased rs names (body_of act.body.items))
     ∙ ap (λ o. left_out_all rs names (body_of act.body.items) or_else o) (outputs_erased rs.functions names act.outputs.items)
 
-abbrev behind_kind : Option Scalar → List Name → (Scalar → List Name) → List Name
-behind_kind o names f = elim o [ None ↦ names | Some t ↦ f t ]
-
 same_behind : {fs : List Function} {names behind : List Name} {xs : List Local} {base n m : ℕ} {code : List Instr} (others : List Name) → AreStarted fs names xs behind base n code m → map erase names ≡ map erase others
     → map erase behind ≡ map erase (behind_locals others xs)
 same_behind others (none_started names base n) e = e
 same_behind others (start_more names behind x xs t base n k m a b shape first rest) e =
-    let single : single_of x.shape ≡ Some t = ap single_of shape in
-    same_behind (local x.name t 0 ∷ others) rest (ap (λ ns. local x.name t 0 ∷ ns) e)
-    ∙ ap (λ o. map erase (behind_kind o others (λ s. behind_locals (local x.name s 0 ∷ others) xs))) (sym single)
+    same_behind (local_of x.name x.shape 0 ∷ others) rest (ap (λ ns. local x.name t 0 ∷ ns) e ∙ ap (λ (s : Shape). local_of x.name s 0 ∷ map erase others) (sym shape))
+same_behind others (list_more names behind x xs base n k m a b typed first rest) e =
+    same_behind (local_of x.name x.shape 0 ∷ others) rest (ap (λ ns. local_of x.name x.shape 0 ∷ ns) e)
 
 -- a firing whose locals leave out nothing leaves out what is left out behind them
 pub firing_open : (rs : Routines) (names behind : List Name) (act : BoundAction) {base n m : ℕ} {code : List Instr} → AreStarted rs.functions names (map local_view act.locals.items) behind base n code m

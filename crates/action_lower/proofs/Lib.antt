@@ -4,11 +4,14 @@ pub mod BelowState
 pub mod GuardCode
 pub mod Answering
 pub mod ActionAt
+pub mod ListSending
+pub mod TurnSending
 pub mod Storing
 pub mod OutputCode
 pub mod FirstCells
 pub mod AddingLocals
 pub mod LocalRuns
+pub mod FittedParts
 pub mod StateSeats
 pub mod FiringRuns
 pub mod AddingFirings

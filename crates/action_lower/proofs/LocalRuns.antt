@@ -6,7 +6,7 @@ use Rattle.cal_model.specs.Call.{declared, first_value}
 use Rattle.cal_model.specs.Env.{Env, Var, variable, with_local}
 use Rattle.cal_model.specs.Outcome.{Out, Gives, Traps, Lacks, Clashes, and_then}
 use Rattle.cal_model.specs.Statement.{Runs, first_of}
-use Rattle.cal_model.specs.Value.{Shape, Single, Value}
+use Rattle.cal_model.specs.Value.{Shape, Single, Value, scalars_of_type}
 use Rattle.cal_ast.specs.Tree.{Tree}
 use Rattle.std.specs.Prelude.{Option}
 use Rattle.cal_model.specs.Expression.{Calls}
@@ -21,22 +21,25 @@ use Rattle.expr_lower.specs.Names.{Name, local}
 use Rattle.expr_lower.specs.Placed.{StandsAt, World, state}
 use Rattle.expr_lower.specs.Routining.{LocalsSized}
 use Rattle.expr_lower.specs.Starting.{IsStart}
-use Rattle.expr_lower.proofs.Keeping.{apart_last, keeps_all, keeps_join, keeps_wider}
+use Rattle.expr_lower.proofs.Keeping.{apart_first, apart_last, keeps_all, keeps_join, keeps_wider}
 use Rattle.expr_lower.proofs.Runs.{ends_back, ends_join, follows_more, follows_then, reaches_join, stands_left, stands_right}
 use Rattle.stmt_lower.specs.Bodies.{CutShort, HoldLocals, IsReady, KeepsOver}
 use Rattle.stmt_lower.specs.Changing.{HoldsVars}
 use Rattle.stmt_lower.specs.Procedures.{Routines}
 use Rattle.stmt_lower.proofs.Blocking.{Started, start_moves}
+use Rattle.stmt_lower.specs.ListStarting.{IsListStart, local_of}
 use Rattle.stmt_lower.proofs.Executed.{grows_start}
-use Rattle.stmt_lower.proofs.Locals.{but_local, local_held}
+use Rattle.stmt_lower.proofs.ListStarting.{StartedList, grows_list_start, list_start_moves}
+use Rattle.stmt_lower.proofs.Locals.{any_held, but_any, but_local, local_held}
 use Rattle.stmt_lower.proofs.Performing.{but_join, but_wider, keeps_but}
 use Rattle.stmt_lower.proofs.ProcServed.{globals_behind}
 use Rattle.stmt_lower.proofs.Scoping.{AreLaid, HoldsInside, inside_still}
-use Rattle.action_lower.specs.LocalCode.{AreStarted, EndsStarted, Starts, StartsAs, none_started, start_more}
+use Rattle.action_lower.specs.LocalCode.{AreStarted, EndsStarted, Starts, StartsAs, list_more, none_started, start_more}
 
 pub started_grows : (rs : Routines) {names behind : List Name} {xs : List Local} {base n m : ℕ} {code : List Instr} → AreStarted rs.functions names xs behind base n code m → n ≤ m
 started_grows rs (none_started names base n) = omega arith
 started_grows rs (start_more names behind x others t base n k m a b shape first rest) = let g = grows_start first in let h = started_grows rs rest in omega (arith, g, h)
+started_grows rs (list_more names behind x others base n k m a b typed first rest) = let g = grows_list_start first in let h = started_grows rs rest in omega (arith, g, h)
 
 -- a value at first, in the words of a block
 first_same : (t : Shape) (start : Option Tree) (calls : Calls) (env : Env) (left : ℕ) → first_of t (optional start) calls env left ≡ first_value t start calls env left
@@ -154,6 +157,61 @@ module _ (rs : Routines) (outer : List Name) (w : World) (serves : Serves w oute
             cells = q.cells;
             ends = ends_join p.reaches q.ends;
             keeps = but_join (but_wider n m (omega arith) more (keeps_but (inner ++ outer) p.keeps)) (but_local (inner ++ outer) x.name kind n n k m w.low w.high p.cells q.cells (omega arith) (omega (arith, up, more)) (omega (arith, up)) q.keeps);
+          })
+  locals_move inner {behind = behind} is (list_more names _ x xs base n k m a b typed first rest) sizes stack cells env left stands laid apart room holds as_many =
+      subst (λ (o : Out Value). Follows (and_then o (λ v j. declared xs w.calls (with_local (variable x.name x.shape x.changes v) env) j)) (Inner behind n m s end) (CutShort w (inner ++ outer) outer n m s)) (first_same x.shape x.start w.calls env left)
+      (follows_then (first_of x.shape (optional x.start) w.calls env left) (λ v j. declared xs w.calls (with_local (variable x.name x.shape x.changes v) env) j) (StartedList rs outer w serves frames runs x.shape n k s (base + length a)) (CutShort w (inner ++ outer) outer n k s)
+      (Inner behind n m s end) (CutShort w (inner ++ outer) outer n m s)
+      (list_start_moves rs outer w serves frames runs inner x.shape n typed (subst (λ ns. IsListStart rs.functions ns x.shape n (optional x.start) base (n + scalars_of_type x.shape) a k) is first) stack cells env left (stands_left w.code.instrs base a b stands) laid (apart_first n k m w.low w.high more apart) (omega (arith, room, more)) holds)
+      (λ v j p.
+      let var : Var = variable x.name x.shape x.changes v in
+      let size_same = p.keeps.size in
+      let held : HoldsInside rs outer w.tokens w.low w.high (local_of x.name x.shape n ∷ inner) p.cells (with_local var env) =
+      any_held rs outer w serves frames inner x.name x.shape n p.cells env x.changes v p.kind p.stands (inside_still rs outer w.tokens w.low w.high n k inner cells p.cells env laid p.keeps holds) in
+      let away : AreApart n (n + scalars_of_type x.shape) w.low w.high = ⊎_elim (λ (g : m ≤ w.low). inl (omega (arith, g, up, more))) (λ (g : w.high ≤ n). inr g) apart in
+      let deeper : AreLaid rs outer w.tokens w.low w.high k (local_of x.name x.shape n ∷ inner) = (n, (omega arith, up), omega (arith, up), typed, away, laid) in
+      later v j p
+      (locals_move (local_of x.name x.shape n ∷ inner) (ap (λ ns. local_of x.name x.shape n ∷ ns) is) rest sizes.1 stack p.cells (with_local var env) j (stands_right w.code.instrs base a b stands) deeper
+      (apart_last n k m w.low w.high (omega (arith, up)) apart) (omega (arith, room, size_same)) held (ap suc as_many)))
+      (λ d q. record { cells = q.cells; ends = q.ends; keeps = but_wider n m (omega arith) more q.keeps }))
+    where
+      s : State
+      s = state base stack frames cells left
+
+      end : ℕ
+      end = base + length (a ++ b)
+
+      finish : base + length a + length b ≡ end
+      finish = omega (arith, length-append a b)
+
+      up : n + scalars_of_type x.shape ≤ k
+      up = grows_list_start first
+
+      more : k ≤ m
+      more = started_grows rs rest
+
+      later : (v : Value) (j : ℕ) (p : StartedList rs outer w serves frames runs x.shape n k s (base + length a) v j)
+          → Follows (declared xs w.calls (with_local (variable x.name x.shape x.changes v) env) j) (Inner behind k m (state (base + length a) stack frames p.cells j) (base + length a + length b))
+          (CutShort w ((local_of x.name x.shape n ∷ inner) ++ outer) outer k m (state (base + length a) stack frames p.cells j))
+          → Follows (declared xs w.calls (with_local (variable x.name x.shape x.changes v) env) j) (Inner behind n m s end) (CutShort w (inner ++ outer) outer n m s)
+      later v j p done =
+          let var : Var = variable x.name x.shape x.changes v in
+          let u : State = state (base + length a) stack frames p.cells j in
+          follows_more (declared xs w.calls (with_local var env) j) (Inner behind k m u (base + length a + length b)) (CutShort w ((local_of x.name x.shape n ∷ inner) ++ outer) outer k m u) (Inner behind n m s end) (CutShort w (inner ++ outer) outer n m s) done
+          (λ now i q. record {
+            inner = q.inner;
+            are = q.are;
+            cells = q.cells;
+            reaches = subst (λ p. Reaches w.code w.tokens s (state p stack frames q.cells i)) finish (reaches_join p.reaches q.reaches);
+            keeps = keeps_join (keeps_wider n m (omega arith) more p.keeps) (keeps_wider n m (omega (arith, up)) (omega arith) q.keeps);
+            laid = q.laid;
+            holds = q.holds;
+            as_many = q.as_many;
+          })
+          (λ d q. record {
+            cells = q.cells;
+            ends = ends_join p.reaches q.ends;
+            keeps = but_join (but_wider n m (omega arith) more (keeps_but (inner ++ outer) p.keeps)) (but_any (inner ++ outer) x.name x.shape n n k m w.low w.high p.cells q.cells (omega arith) (omega (arith, up, more)) (omega (arith, up)) q.keeps);
           })
 
 -- ---- both directions

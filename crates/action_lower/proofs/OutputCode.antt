@@ -1,11 +1,12 @@
 -- Code of outputs that is added to a draft.
-use Rattle.std.proofs.Common.{◌≡◌, ℕ, suc, ◌+◌, ◌<◌, ◌≤◌, List, [], ◌∷◌, ◌++◌, length, map, take, drop, refl, sym, ap, subst, ◌∙◌, Option, None, Some, arith, append_assoc, append-nil, length-append}
+use Rattle.std.proofs.Common.{◌≡◌, ℕ, suc, ◌+◌, ◌*◌, ◌<◌, ◌≤◌, ◌⊎◌, inl, inr, ⊎_elim, List, [], ◌∷◌, ◌++◌, length, map, take, drop, refl, sym, ap, subst, ◌∙◌, Option, None, Some, arith, append_assoc, append-nil, length-append}
 use Rattle.std.specs.Prelude.{get_or}
 use Rattle.std.proofs.lemmas.List.{length-map, map-append, take_more, take-append-drop}
 use Rattle.rvc_base.specs.declared.scalar.Scalar.{Scalar}
 use Rattle.cal_ast.specs.Tree.{Tree, listed}
 use Rattle.cal_ast.specs.View.{expr_tree}
 use Rattle.cal_model.specs.declared.bound.BoundOutput.{BoundOutput}
+use Rattle.cal_model.specs.Value.{Shape, scalars_of_type}
 use Rattle.cal_model.specs.Actor.{Output, Port}
 use Rattle.cal_model.specs.Selection.{kind_of_port}
 use Rattle.cal_model.specs.Sound.{Each, max_rate}
@@ -20,9 +21,16 @@ use Rattle.expr_lower.specs.Coding.{IsCode}
 use Rattle.expr_lower.specs.Growing.{IsFault, left_out_in, ◌or_else◌}
 use Rattle.expr_lower.specs.Lowered.{Adds, IsPut}
 use Rattle.expr_lower.specs.Names.{Name}
-use Rattle.expr_lower.proofs.Adding.{then_put}
-use Rattle.action_lower.specs.SendWords.{AddsOutput, AddsOutputs, AddsSent, HasTaken, IsSendFault, first_at, left_out_output, left_out_outputs, left_out_values}
-use Rattle.action_lower.specs.Sending.{AreOutputs, AreStored, IsOutputCode, IsStored, no_output, no_value, output_more, value_more}
+use Rattle.expr_lower.proofs.Adding.{same_adds, then_put}
+use Rattle.expr_lower.proofs.PartValues.{sized_is}
+use Rattle.expr_lower.specs.Parted.{sized}
+use Rattle.list_lower.specs.Filling.{AreFills, IsFill}
+use Rattle.list_lower.specs.LeftOut.{left_out_fill, left_out_fills}
+use Rattle.action_lower.specs.declared.turns.Area.{Area}
+use Rattle.stmt_lower.specs.declared.starts.Row.{Row}
+use Rattle.stmt_lower.specs.StartWords.{HasTakenList}
+use Rattle.action_lower.specs.SendWords.{AddsOutput, AddsOutputs, AddsSent, HasArea, HasTaken, IsSendFault, left_out_output, left_out_outputs, left_out_repeated, left_out_values}
+use Rattle.action_lower.specs.Sending.{AreOutputs, AreStored, IsListOutput, IsOutputCode, IsRepeated, IsSentList, IsStored, in_turns, items_of_any, list_output_more, no_output, no_value, one_list, output_more, turn_stores, value_more}
 use Rattle.action_lower.proofs.Storing.{sends-as}
 
 first-taken : {X Y : Type 0} (f : X → Y) (xs : List X) (x : X) (i : ℕ) → i < length xs → x ≡ get_or xs i x → map f (take (i + 1) xs) ≡ map f (take i xs) ++ f x ∷ []
@@ -137,14 +145,14 @@ value-fault fs names o draft TooManyCells once h = omega (arith, h)
 value-fault fs names o draft (NotLowered at) once h = single-output fs names o once ∙ h
   where
     single-output : (fs : List Function) (names : List Name) (o : BoundOutput) → o.repeat ≡ None → left_out_output fs names o ≡ left_out_values fs names (map expr_tree o.values.items)
-    single-output fs names o e = ap (λ (r : Option ℕ). elim r [ None ↦ left_out_values fs names (map expr_tree o.values.items) | Some times ↦ Some (first_at o.values.items) ]) e
+    single-output fs names o e = ap (λ (r : Option ℕ). elim r [ None ↦ left_out_values fs names (map expr_tree o.values.items) | Some times ↦ left_out_repeated fs names times o.values.items ]) e
 
 pub output-added : (fs : List Function) (names : List Name) (ports : List Port) (o : BoundOutput) (es : List Tree) (kind : Scalar) (count first : ℕ) (old mid new : Draft) → o.repeat ≡ None → es ≡ map expr_tree o.values.items → count ≡ length es
     → kind ≡ kind_of_port ports o.port → HasTaken count first old mid → Adds (AreStored fs names kind es first) mid new → AddsOutput fs names ports (output_view o) first old new
 output-added fs names ports o es kind count first old mid new once values many of_port taken a =
     let cells : mid.cells ≡ old.cells + length es = taken.cells ∙ ap (λ n. old.cells + n) many in (
       taken.is,
-      record {
+      inl (record {
         code = a.code;
         is = a.is ∙ ap (λ is. is ++ a.code) taken.instrs;
         routines = a.routines ∙ taken.routines;
@@ -157,22 +165,131 @@ output-added fs names ports o es kind count first old mid new once values many o
               (subst (λ n. AreStored fs names kind es first (length old.instrs.items) n a.code new.cells) cells
               (subst (λ is. AreStored fs names kind es first (length is) mid.cells a.code new.cells) taken.instrs a.has)));
         };
-      },
+      }),
     )
+
+pub repeated-added : (fs : List Function) (names : List Name) (ports : List Port) (o : BoundOutput) (times : ℕ) (kind : Scalar) (first : ℕ) (old new : Draft) → o.repeat ≡ Some times → kind ≡ kind_of_port ports o.port → first ≡ old.cells
+    → Adds (IsRepeated fs names kind times (map expr_tree o.values.items)) old new → AddsOutput fs names ports (output_view o) first old new
+repeated-added fs names ports o times kind first old new repeated of_port is a = (
+  is,
+  inr (record {
+    code = a.code;
+    is = a.is;
+    routines = a.routines;
+    has = record {
+      parts = map expr_tree o.values.items;
+      are = refl;
+      times = times;
+      repeated = repeated;
+      stored = subst (λ k. IsRepeated fs names k times (map expr_tree o.values.items) (length old.instrs.items) old.cells a.code new.cells) of_port a.has;
+    };
+  }),
+)
+
+pub one-repeated : (fs : List Function) (names : List Name) (e : Tree) (times : ℕ) (shape : Shape) (kind : Scalar) (old new : Draft) → shape ≡ items_of_any times → Adds (IsSentList fs names e shape kind) old new → Adds (IsRepeated fs names kind times (e ∷ [])) old new
+one-repeated fs names e times shape kind old new any a =
+    same_adds (IsSentList fs names e (items_of_any times) kind) (IsRepeated fs names kind times (e ∷ [])) old new (λ base n m code h. one_list e base n m code h) (subst (λ t. Adds (IsSentList fs names e t kind) old new) any a)
+
+pub turns-added : (fs : List Function) (names : List Name) (es : List Tree) (times : ℕ) (shape : Shape) (kind : Scalar) (area : Area) (old d1 d2 new : Draft) → shape ≡ items_of_any times → HasArea (length es) shape old d1 area
+    → Adds (AreFills fs names (listed es) shape area.rows) d1 d2 → IsPut (turn_stores kind area.each area.lists times area.tokens area.rows) d2 new → Adds (IsRepeated fs names kind times es) old new
+turns-added fs names es times shape kind area old d1 d2 new any taken f p =
+    let lists : ℕ = length es in
+    let n : ℕ = old.cells in
+    let base : ℕ = length old.instrs.items in
+    let each : area.each ≡ times =
+    sym (sized_is (items_of_any times) area.each (subst (λ t. sized t ≡ Some area.each) any taken.is.each)) ∙ (let one : times * 1 ≡ times = omega arith in one) in
+    let rows : area.rows ≡ n + lists * times = taken.is.rows ∙ ap (λ k. n + lists * k) each in
+    let end : d1.cells ≡ area.rows + lists * times = taken.cells ∙ taken.is.end ∙ ap (λ k. n + lists * k + lists * k) each ∙ ap (λ k. k + lists * times) (sym rows) in
+    let last : List Instr = turn_stores kind times lists times n area.rows in
+    let same : turn_stores kind area.each area.lists times area.tokens area.rows ≡ last =
+    ap (λ k. turn_stores kind k area.lists times area.tokens area.rows) each ∙ ap (λ k. turn_stores kind times k times area.tokens area.rows) taken.is.lists ∙ ap (λ k. turn_stores kind times lists times k area.rows) taken.is.tokens in
+    let a : Adds (AreFills fs names (listed es) (items_of_any times) area.rows) d1 d2 = subst (λ t. Adds (AreFills fs names (listed es) t area.rows) d1 d2) any f in
+    let all : new.instrs.items ≡ (old.instrs.items ++ a.code) ++ last = p.is ∙ ap (λ is. d2.instrs.items ++ is) same ∙ ap (λ is. is ++ last) (a.is ∙ ap (λ is. is ++ a.code) taken.instrs) in
+    record {
+      code = a.code ++ last;
+      is = all ∙ append_assoc old.instrs.items a.code last;
+      routines = p.routines ∙ a.routines ∙ taken.routines;
+      has = in_turns es base n new.cells area.rows a.code rows
+          (subst (λ m. AreFills fs names (listed es) (items_of_any times) area.rows base (area.rows + lists * times) a.code m) (sym p.cells)
+          (subst (λ k. AreFills fs names (listed es) (items_of_any times) area.rows base k a.code d2.cells) end
+          (subst (λ is. AreFills fs names (listed es) (items_of_any times) area.rows (length is) d1.cells a.code d2.cells) taken.instrs a.has)));
+    }
+
+-- a list of one
+pub one-is : {X : Type 0} (xs : List X) (x : X) → 1 ≤ length xs → length xs < 2 → x ≡ get_or xs 0 x → xs ≡ x ∷ []
+one-is [] x low high is = absurd (omega arith)
+one-is (y ∷ []) x low high is = ap (λ z. z ∷ []) (sym is)
+one-is (y ∷ z ∷ ys) x low high is = absurd (omega arith)
+
+-- what is left out of one list that is repeated
+pub one-left : (fs : List Function) (names : List Name) (t : Shape) (e : Tree) → left_out_fills fs names t (listed (e ∷ [])) ≡ left_out_fill fs names t e
+one-left fs names t e = go (left_out_fill fs names t e)
+  where
+    go : (o : Option ℕ) → o or_else None ≡ o
+    go None = refl
+    go (Some x) = refl
+
+-- the code of a list in cells that were taken
+pub sent-list : (fs : List Function) (names : List Name) (e : Tree) (t : Shape) (kind : Scalar) (row : Row) (old d1 d2 new : Draft) → HasTakenList t old d1 row → Adds (IsFill fs names e t row.first) d1 d2 → IsPut (op.Copy row.first row.first row.size (Some kind) ∷ []) d2 new
+    → Adds (IsSentList fs names e t kind) old new
+sent-list fs names e t kind row old d1 d2 new taken a p =
+    let n : ℕ = old.cells in
+    let size : scalars_of_type t ≡ row.size = sized_is t row.size taken.size in
+    let last : List Instr = op.Copy n n (scalars_of_type t) (Some kind) ∷ [] in
+    let same : op.Copy row.first row.first row.size (Some kind) ∷ [] ≡ last = ap (λ c. op.Copy c c row.size (Some kind) ∷ []) taken.is ∙ ap (λ k. op.Copy n n k (Some kind) ∷ []) (sym size) in
+    let all : new.instrs.items ≡ (old.instrs.items ++ a.code) ++ last = p.is ∙ ap (λ is. d2.instrs.items ++ is) same ∙ ap (λ is. is ++ last) (a.is ∙ ap (λ is. is ++ a.code) taken.instrs) in
+    record {
+      code = a.code ++ last;
+      is = all ∙ append_assoc old.instrs.items a.code last;
+      routines = p.routines ∙ a.routines ∙ taken.routines;
+      has = record {
+        body = a.code;
+        is = refl;
+        filled = subst (λ m. IsFill fs names e t n (length old.instrs.items) (n + scalars_of_type t) a.code m) (sym p.cells)
+            (subst (λ k. IsFill fs names e t n (length old.instrs.items) (n + k) a.code d2.cells) (sym size)
+            (subst (λ c. IsFill fs names e t c (length old.instrs.items) (old.cells + row.size) a.code d2.cells) taken.is
+            (subst (λ c. IsFill fs names e t row.first (length old.instrs.items) c a.code d2.cells) taken.cells
+            (subst (λ is. IsFill fs names e t row.first (length is) d1.cells a.code d2.cells) taken.instrs a.has))));
+      };
+    }
+
+-- what is left out of a repeated output
+pub repeated-output : (fs : List Function) (names : List Name) (o : BoundOutput) (times : ℕ) → o.repeat ≡ Some times → left_out_output fs names o ≡ left_out_repeated fs names times o.values.items
+repeated-output fs names o times e = ap (λ (r : Option ℕ). elim r [ None ↦ left_out_values fs names (map expr_tree o.values.items) | Some times ↦ left_out_repeated fs names times o.values.items ]) e
 
 -- ---- outputs
 
+-- code of an output, of single values or of a list
+abbrev IsEither : List Function → List Name → List Port → Output → ℕ → ℕ → List Instr → ℕ → Type 0
+IsEither fs names ports o base n code m = IsOutputCode fs names ports o base n code m ⊎ IsListOutput fs names ports o base n code m
+
+output-first : (fs : List Function) (names : List Name) (ports : List Port) (o : Output) (os : List Output) (firsts : List ℕ) (base n k m : ℕ) (a b : List Instr) → IsEither fs names ports o base n a k → AreOutputs fs names ports os firsts (base + length a) k b m
+    → AreOutputs fs names ports (o ∷ os) (n ∷ firsts) base n (a ++ b) m
+output-first fs names ports o os firsts base n k m a b one rest =
+    ⊎_elim (λ (x : IsOutputCode fs names ports o base n a k). output_more o os firsts base n k m a b x rest)
+    (λ (y : IsListOutput fs names ports o base n a k). list_output_more o os firsts base n k m a b y rest) one
+
 output-last : (fs : List Function) (names : List Name) (ports : List Port) (o : Output) (m : ℕ) (b : List Instr) {os : List Output} {firsts : List ℕ} {base n k : ℕ} {a : List Instr} → AreOutputs fs names ports os firsts base n a k
-    → IsOutputCode fs names ports o (base + length a) k b m → AreOutputs fs names ports (os ++ o ∷ []) (firsts ++ k ∷ []) base n (a ++ b) m
+    → IsEither fs names ports o (base + length a) k b m → AreOutputs fs names ports (os ++ o ∷ []) (firsts ++ k ∷ []) base n (a ++ b) m
 output-last fs names ports o m b (no_output base n) last =
     let place : base + 0 ≡ base = omega arith in
     subst (λ code. AreOutputs fs names ports (o ∷ []) (n ∷ []) base n code m) (append-nil b)
-    (output_more o [] [] base n m m b [] (subst (λ p. IsOutputCode fs names ports o p n b m) place last) (no_output (base + length b) m))
+    (output-first fs names ports o [] [] base n m m b [] (subst (λ p. IsEither fs names ports o p n b m) place last) (no_output (base + length b) m))
 output-last fs names ports o m b (output_more h os firsts base n j k a d first more) last =
     let place : base + length (a ++ d) ≡ base + length a + length d = omega (arith, length-append a d) in
     let rest : AreOutputs fs names ports (os ++ o ∷ []) (firsts ++ k ∷ []) (base + length a) j (d ++ b) m =
-    output-last fs names ports o m b more (subst (λ p. IsOutputCode fs names ports o p k b m) place last) in
+    output-last fs names ports o m b more (subst (λ p. IsEither fs names ports o p k b m) place last) in
     subst (λ code. AreOutputs fs names ports (h ∷ (os ++ o ∷ [])) (n ∷ (firsts ++ k ∷ [])) base n code m) (sym (append_assoc a d b)) (output_more h (os ++ o ∷ []) (firsts ++ k ∷ []) base n j m a (d ++ b) first rest)
+output-last fs names ports o m b (list_output_more h os firsts base n j k a d first more) last =
+    let place : base + length (a ++ d) ≡ base + length a + length d = omega (arith, length-append a d) in
+    let rest : AreOutputs fs names ports (os ++ o ∷ []) (firsts ++ k ∷ []) (base + length a) j (d ++ b) m =
+    output-last fs names ports o m b more (subst (λ p. IsEither fs names ports o p k b m) place last) in
+    subst (λ code. AreOutputs fs names ports (h ∷ (os ++ o ∷ [])) (n ∷ (firsts ++ k ∷ [])) base n code m) (sym (append_assoc a d b)) (list_output_more h (os ++ o ∷ []) (firsts ++ k ∷ []) base n j m a (d ++ b) first rest)
+
+either-added : (fs : List Function) (names : List Name) (ports : List Port) (o : Output) (old new : Draft) → Adds (IsOutputCode fs names ports o) old new ⊎ Adds (IsListOutput fs names ports o) old new → Adds (IsEither fs names ports o) old new
+either-added fs names ports o old new one =
+    ⊎_elim (λ (a : Adds (IsOutputCode fs names ports o) old new). same_adds (IsOutputCode fs names ports o) (IsEither fs names ports o) old new (λ base n m code h. inl h) a)
+    (λ (a : Adds (IsListOutput fs names ports o) old new). same_adds (IsListOutput fs names ports o) (IsEither fs names ports o) old new (λ base n m code h. inr h) a) one
 
 -- these outputs are added, with these first cells
 pub record AreSentSoFar (fs : List Function) (names : List Name) (ports : List Port) (os : List BoundOutput) (firsts : List ℕ) (old new : Draft) : Type 0 where
@@ -189,7 +306,7 @@ pub more-sent : (fs : List Function) (names : List Name) (ports : List Port) (xs
     → AreSentSoFar fs names ports (take i xs) firsts old mid → AddsOutput fs names ports (output_view x) first mid new → left_out_output fs names x ≡ None → news ≡ firsts ++ first ∷ [] → AreSentSoFar fs names ports (take (i + 1) xs) news old new
 more-sent fs names ports xs x i firsts news first old mid new small is before now whole is_news =
     let a = before.added in
-    let b = now.1 in
+    let b : Adds (IsEither fs names ports (output_view x)) mid new = either-added fs names ports (output_view x) mid new now.1 in
     let place : length mid.instrs.items ≡ length old.instrs.items + length a.code = ap length a.is ∙ length-append old.instrs.items a.code in
     let split : take (i + 1) xs ≡ take i xs ++ x ∷ [] = take_more xs i x small ∙ ap (λ y. take i xs ++ y ∷ []) (sym is) in
     record {
@@ -199,7 +316,7 @@ more-sent fs names ports xs x i firsts news first old mid new small is before no
         routines = b.routines ∙ a.routines;
         has = subst (λ os. AreOutputs fs names ports os news (length old.instrs.items) old.cells (a.code ++ b.code) new.cells) (sym (first-taken output_view xs x i small is))
             (subst (λ gs. AreOutputs fs names ports (map output_view (take i xs) ++ output_view x ∷ []) gs (length old.instrs.items) old.cells (a.code ++ b.code) new.cells) (ap (λ d. firsts ++ d ∷ []) (sym now.0) ∙ sym is_news)
-            (output-last fs names ports (output_view x) new.cells b.code a.has (subst (λ p. IsOutputCode fs names ports (output_view x) p mid.cells b.code new.cells) place b.has)));
+            (output-last fs names ports (output_view x) new.cells b.code a.has (subst (λ p. IsEither fs names ports (output_view x) p mid.cells b.code new.cells) place b.has)));
       };
       whole = ap (left_out_outputs fs names) split ∙ left-more (left_out_output fs names) (left_out_outputs fs names) refl (λ y ys. refl) (take i xs) x before.whole ∙ whole;
     }

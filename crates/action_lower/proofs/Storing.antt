@@ -9,7 +9,7 @@ use Rattle.cal_ast.specs.Tree.{Tree, listed}
 use Rattle.cal_model.specs.Actor.{Output, Port}
 use Rattle.cal_model.specs.Env.{Env}
 use Rattle.cal_model.specs.Expression.{eval, eval_all}
-use Rattle.cal_model.specs.Firing.{number_of, numbers_of, outputs}
+use Rattle.cal_model.specs.Firing.{interleaved, number_of, numbers_of, outputs}
 use Rattle.cal_model.specs.Statement.{Runs}
 use Rattle.cal_model.specs.Outcome.{Out, Gives, Traps, Lacks, Clashes, and_then}
 use Rattle.cal_model.specs.Selection.{kind_of_port}
@@ -38,7 +38,9 @@ use Rattle.stmt_lower.specs.Bodies.{IsReady}
 use Rattle.stmt_lower.specs.Procedures.{Routines}
 use Rattle.stmt_lower.proofs.Evaluating.{does_there, singles_there}
 use Rattle.stmt_lower.proofs.Scoping.{AreLaid, HoldsInside, inside_still, laid_more}
-use Rattle.action_lower.specs.Sending.{AreOutputs, AreStored, EndsSent, IsStored, Sends, SendsAs, StandFrom, no_output, no_value, output_more, value_more}
+use Rattle.action_lower.specs.Sending.{AreOutputs, AreStored, EndsSent, IsStored, Sends, SendsAs, StandFrom, list_output_more, no_output, no_value, output_more, value_more}
+use Rattle.action_lower.proofs.ListSending.{SendsList}
+use Rattle.action_lower.proofs.TurnSending.{repeated-grows, repeated_sent}
 use Rattle.action_lower.proofs.LocalRuns.{inside_from}
 
 -- the number of a single value
@@ -54,6 +56,7 @@ stored-grows (value_more e es c base n k m a b first rest) = let x = grows first
 pub outputs-grow : {fs : List Function} {names : List Name} {ports : List Port} {os : List Output} {firsts : List ℕ} {base n m : ℕ} {part : List Instr} → AreOutputs fs names ports os firsts base n part m → n ≤ m
 outputs-grow (no_output base n) = omega arith
 outputs-grow (output_more o others firsts base n k m a b first rest) = let x = stored-grows first.stored in let y = outputs-grow rest in omega (arith, x, y)
+outputs-grow (list_output_more o others firsts base n k m a b first rest) = let x = repeated-grows first.stored in let y = outputs-grow rest in omega (arith, x, y)
 
 module _ (rs : Routines) (outer : List Name) (w : World) (serves : Serves w outer rs.functions) (frames : List ℕ) (inner : List Name) (t : Scalar) (env : Env) (stack : List ℤ) where
   abbrev fs : List Function
@@ -225,6 +228,44 @@ module _ (rs : Routines) (outer : List Name) (w : World) (serves : Serves w oute
               q.keeps.cell (n + h) (inl (omega (arith, within, many, low)))
               (one-apart rs outer w serves frames inner (kind_of_port ports port) env stack n (n + h) m (omega arith) (omega (arith, within, many, low, le)) far) ∙ p.stand h z e
 
+  -- a repeated output
+  abbrev list-of : ℕ → List Tree → ℕ → Output
+  list-of port es times = record { port = port; values = listed es; repeat = Some times }
+
+  -- .. and those behind it
+  join-list : (port times : ℕ) (es : List Tree) (others : List Output) (firsts : List ℕ) (n base k m mid end : ℕ) (cells : List ℤ) (left : ℕ) → n ≤ k → k ≤ m → AreApart n m w.low w.high
+      → Follows (eval_all (listed es) w.calls env left) (SendsList rs outer w serves frames inner (kind_of_port ports port) env stack times n k (state base stack frames cells left) mid) (CutsOff w n k (state base stack frames cells left))
+      → ((now : List ℤ) (j : ℕ) → Keeps n k w.low w.high cells now
+      → Follows (outputs ports others w.calls env j) (Sends w firsts k m (state mid stack frames now j) end) (CutsOff w k m (state mid stack frames now j)))
+      → Follows (outputs ports (list-of port es times ∷ others) w.calls env left) (Sends w (n ∷ firsts) n m (state base stack frames cells left) end) (CutsOff w n m (state base stack frames cells left))
+  join-list port times es others firsts n base k m mid end cells left low le far first rest =
+      follows_then (eval_all (listed es) w.calls env left) (λ vs j. and_then (outputs ports others w.calls env j) (λ sent i. Gives ((port, map (conv (kind_of_port ports port)) (interleaved times 0 vs)) ∷ sent) i))
+      (SendsList rs outer w serves frames inner (kind_of_port ports port) env stack times n k s mid) (CutsOff w n k s) (Sends w (n ∷ firsts) n m s end) (CutsOff w n m s)
+      first
+      (λ vs j p. follows_then (outputs ports others w.calls env j) (λ sent i. Gives ((port, map (conv (kind_of_port ports port)) (interleaved times 0 vs)) ∷ sent) i)
+      (Sends w firsts k m (state mid stack frames p.cells j) end) (CutsOff w k m (state mid stack frames p.cells j)) (Sends w (n ∷ firsts) n m s end) (CutsOff w n m s)
+      (rest p.cells j p.keeps)
+      (λ sent i q. both vs j p sent i q)
+      (λ cause q. record { cells = q.cells; ends = ends_join p.reaches q.ends; keeps = keeps_join (keeps_wider n m (omega arith) le p.keeps) (keeps_wider n m low (omega arith) q.keeps) }))
+      (λ cause q. record { cells = q.cells; ends = q.ends; keeps = keeps_wider n m (omega arith) le q.keeps })
+    where
+      s : State
+      s = state base stack frames cells left
+
+      both : (vs : Values) (j : ℕ) (p : SendsList rs outer w serves frames inner (kind_of_port ports port) env stack times n k s mid vs j) (sent : List (ℕ × List ℤ)) (i : ℕ) → Sends w firsts k m (state mid stack frames p.cells j) end sent i
+          → Sends w (n ∷ firsts) n m s end ((port, map (conv (kind_of_port ports port)) (interleaved times 0 vs)) ∷ sent) i
+      both vs j p sent i q = record {
+        cells = q.cells;
+        reaches = reaches_join p.reaches q.reaches;
+        keeps = keeps_join (keeps_wider n m (omega arith) le p.keeps) (keeps_wider n m low (omega arith) q.keeps);
+        stand = (stand, q.stand);
+      }
+        where
+          stand : StandFrom n (map (conv (kind_of_port ports port)) (interleaved times 0 vs)) q.cells
+          stand h z e =
+              let within : n + h < k = p.within h z e in
+              q.keeps.cell (n + h) (inl within) (one-apart rs outer w serves frames inner (kind_of_port ports port) env stack n (n + h) m (omega arith) (omega (arith, within, le)) far) ∙ p.stand h z e
+
   outputs-sent : {os : List Output} {firsts : List ℕ} {base n m : ℕ} {part : List Instr} (cells : List ℤ) (left : ℕ) → AreOutputs rs.functions (inner ++ outer) ports os firsts base n part m → StandsAt w.code.instrs base part → m ≤ length cells
       → AreLaid rs outer w.tokens w.low w.high n inner → AreApart n m w.low w.high → HoldsInside rs outer w.tokens w.low w.high inner cells env
       → Follows (outputs ports os w.calls env left) (Sends w firsts n m (state base stack frames cells left) (base + length part)) (CutsOff w n m (state base stack frames cells left))
@@ -248,6 +289,19 @@ module _ (rs : Routines) (outer : List Name) (w : World) (serves : Serves w oute
       (values-stored rs outer w serves frames inner (kind_of_port ports o.port) env stack cells left first.stored (stands_left w.code.instrs base a b stands) (omega arith) (omega (arith, more, room)) laid (apart_first n k m w.low w.high more far) holds)
       (λ now j keeps. outputs-sent now j rest (stands_right w.code.instrs base a b stands) (let size = keeps.size in omega (arith, size, room))
       (laid_more rs outer w.tokens w.low w.high n k inner (omega (arith, grows)) laid) (apart_last n k m w.low w.high (omega (arith, grows)) far)
+      (inside_still rs outer w.tokens w.low w.high n k inner cells now env laid keeps holds))))
+  outputs-sent cells left (list_output_more o others firsts base n k m a b first rest) stands room laid far holds =
+      let es : List Tree = first.parts in
+      let more : k ≤ m = outputs-grow rest in
+      let grows : n ≤ k = repeated-grows first.stored in
+      let end : base + length a + length b ≡ base + length (a ++ b) = omega (arith, length-append a b) in
+      let same : list-of o.port es first.times ≡ o = ap (λ v. record { port = o.port; values = v; repeat = Some first.times }) (sym first.are) ∙ ap (λ r. record { port = o.port; values = o.values; repeat = r }) (sym first.repeated) in
+      subst (λ p. Follows (outputs ports (p ∷ others) w.calls env left) (Sends w (n ∷ firsts) n m (state base stack frames cells left) (base + length (a ++ b))) (CutsOff w n m (state base stack frames cells left))) same
+      (subst (λ q. Follows (outputs ports (list-of o.port es first.times ∷ others) w.calls env left) (Sends w (n ∷ firsts) n m (state base stack frames cells left) q) (CutsOff w n m (state base stack frames cells left))) end
+      (join-list o.port first.times es others firsts n base k m (base + length a) (base + length a + length b) cells left grows more far
+      (repeated_sent rs outer w serves frames inner (kind_of_port ports o.port) env stack first.times cells left first.stored (stands_left w.code.instrs base a b stands) (omega (arith, more, room)) laid (apart_first n k m w.low w.high more far) holds)
+      (λ now j keeps. outputs-sent now j rest (stands_right w.code.instrs base a b stands) (let size = keeps.size in omega (arith, size, room))
+      (laid_more rs outer w.tokens w.low w.high n k inner grows laid) (apart_last n k m w.low w.high grows far)
       (inside_still rs outer w.tokens w.low w.high n k inner cells now env laid keeps holds))))
 
 -- ---- both directions

@@ -9,10 +9,10 @@ use Rattle.code_ir.specs.declared.instr.Instr.{Instr}
 use Rattle.code_ir.specs.declared.instr.Instr.TheVariants as op
 use Rattle.expr_lower.specs.declared.draft.Draft.{Draft}
 use Rattle.expr_lower.specs.Growing.{◌or_else◌}
-use Rattle.expr_lower.specs.Listed.{single_of}
 use Rattle.expr_lower.specs.Lowered.{Adds}
-use Rattle.expr_lower.specs.Names.{Name, local}
+use Rattle.expr_lower.specs.Names.{Name}
 use Rattle.stmt_lower.specs.Bodies.{IsExecutedCalling}
+use Rattle.stmt_lower.specs.ListStarting.{local_of}
 use Rattle.stmt_lower.specs.Procedures.{Routines}
 use Rattle.stmt_lower.specs.StmtGrowing.{left_out_all}
 use Rattle.stmt_lower.specs.StmtWords.{body_of}
@@ -27,8 +27,7 @@ use Rattle.action_lower.specs.Sending.{AreOutputs}
 -- the names that are seen behind locals; which cells they have doesn't matter here
 abbrev pub behind_locals : List Name → List Local → List Name
 behind_locals names [] = names
-behind_locals names (x ∷ xs) = elim (single_of x.shape)
-    [ None ↦ names | Some t ↦ behind_locals (local x.name t 0 ∷ names) xs ]
+behind_locals names (x ∷ xs) = behind_locals (local_of x.name x.shape 0 ∷ names) xs
 
 -- the place of the first part of the body and of the outputs for which no code is made
 abbrev pub left_out_behind : Routines → List Name → BoundAction → Option ℕ

@@ -5,5 +5,6 @@ pub mod Sending
 pub mod SendWords
 pub mod Laws
 pub mod LocalCode
+pub mod LocalWords
 pub mod FiringCode
 pub mod FiringWords

@@ -1,6 +1,6 @@
 -- Code of the locals of an action, whose starts may call functions, and what it does.
 -- Trusted: part of what a promise means.
-use Rattle.std.specs.Prelude.{◌≡◌, ℕ, ◌+◌, ℤ, List, [], ◌∷◌, ◌++◌, length, map, Option, None, Some}
+use Rattle.std.specs.Prelude.{◌≡◌, ℕ, ◌+◌, ℤ, List, [], ◌∷◌, ◌++◌, length, map, Option, None}
 use Rattle.rvc_base.specs.declared.scalar.Scalar.{Scalar}
 use Rattle.cal_ast.specs.View.{optional}
 use Rattle.cal_model.specs.declared.bound.BoundLocal.{BoundLocal}
@@ -9,7 +9,7 @@ use Rattle.cal_model.specs.Call.{declared}
 use Rattle.cal_model.specs.Env.{Env}
 use Rattle.cal_model.specs.Outcome.{Out, Gives, Traps, Lacks, Clashes}
 use Rattle.cal_model.specs.Statement.{Runs}
-use Rattle.cal_model.specs.Value.{Single}
+use Rattle.cal_model.specs.Value.{Single, IsType, scalars_of_type}
 use Rattle.cal_model.specs.View.{local_view}
 use Rattle.code_ir.specs.declared.instr.Instr.{Instr}
 use Rattle.code_ir.specs.declared.outcome.Outcome.{Outcome}
@@ -21,19 +21,19 @@ use Rattle.expr_lower.specs.Callees.{Function}
 use Rattle.expr_lower.specs.Following.{Follows}
 use Rattle.expr_lower.specs.Growing.{◌or_else◌}
 use Rattle.expr_lower.specs.Held.{Keeps}
-use Rattle.expr_lower.specs.Listed.{single_of}
 use Rattle.expr_lower.specs.Lowered.{Adds}
 use Rattle.expr_lower.specs.Names.{Name, local, names_view}
 use Rattle.expr_lower.specs.Placed.{StandsAt, World, state}
 use Rattle.expr_lower.specs.Routining.{LocalsSized}
-use Rattle.expr_lower.specs.Starting.{IsStart, left_out_start}
+use Rattle.expr_lower.specs.Starting.{IsStart}
 use Rattle.stmt_lower.specs.Bodies.{AreLaid, CutShort, HoldsBody, IsReady, KeepsOver}
+use Rattle.stmt_lower.specs.ListStarting.{IsListStart, left_out_local, local_of}
 use Rattle.stmt_lower.specs.Procedures.{Routines}
 
 -- ---- code
 
--- Code of locals of single values, one after the other, and the names that are seen behind them: the start of each
--- stands in a cell of its own, in front of the names that it sees.
+-- Code of locals, one after the other, and the names that are seen behind them: each stands in cells of its own, in
+-- front of the names that its start sees.
 pub data AreStarted (fs : List Function) :
     List Name → List Local → List Name → ℕ → ℕ → List Instr → ℕ → Type 0 where
   none_started : (names : List Name) (base n : ℕ) → AreStarted fs names [] names base n [] n
@@ -41,6 +41,12 @@ pub data AreStarted (fs : List Function) :
       (base n k m : ℕ) (a b : List Instr)
       → x.shape ≡ Single t → IsStart fs names t n (optional x.start) base (n + 1) a k
       → AreStarted fs (local x.name t n ∷ names) others behind (base + length a) k b m
+      → AreStarted fs names (x ∷ others) behind base n (a ++ b) m
+  list_more : (names behind : List Name) (x : Local) (others : List Local) (base n k m : ℕ)
+      (a b : List Instr)
+      → IsType x.shape
+      → IsListStart fs names x.shape n (optional x.start) base (n + scalars_of_type x.shape) a k
+      → AreStarted fs (local_of x.name x.shape n ∷ names) others behind (base + length a) k b m
       → AreStarted fs names (x ∷ others) behind base n (a ++ b) m
 
 -- ---- what a run of it leaves
@@ -89,16 +95,12 @@ pub record StartsAs (rs : Routines) (names : List Name) (xs : List Local) (behin
 
 -- ---- what a call does
 
--- the place of the first part of the starts of locals for which no code is made, or 0 if one before it is no single
--- value
+-- the first part of the starts of locals for which no code is made; each of them sees those before it, and which cells
+-- these have doesn't matter here
 abbrev pub left_out_locals : List Function → List Name → List Local → Option ℕ
 left_out_locals fs names [] = None
-left_out_locals fs names (x ∷ xs) =
-    elim (single_of x.shape) [
-      | None ↦ Some 0
-      | Some t ↦ left_out_start fs names (optional x.start) or_else left_out_locals fs
-          (local x.name t 0 ∷ names) xs
-    ]
+left_out_locals fs names (x ∷ xs) = left_out_local fs names x
+    or_else left_out_locals fs (local_of x.name x.shape 0 ∷ names) xs
 
 -- the code of locals was added to a draft, and the names that are seen behind them
 abbrev pub AddsLocals : List Function → List BoundLocal → List Named → List Named → Draft → Draft → Type 0

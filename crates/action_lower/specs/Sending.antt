@@ -1,7 +1,8 @@
--- Code of what an action sends: single values, stored in cells side by side.
+-- Code of what an action sends: single values, or the items of lists in turn, stored in cells side by side.
 -- Trusted: part of what a promise means.
-use Rattle.std.specs.Prelude.{◌≡◌, ℕ, ◌+◌, ℤ, List, [], ◌∷◌, ◌++◌, length, None, Some, slice_get}
+use Rattle.std.specs.Prelude.{◌≡◌, ℕ, zero, suc, ◌+◌, ◌*◌, ℤ, List, [], ◌∷◌, ◌++◌, length, None, Some, slice_get}
 use Rattle.rvc_base.specs.declared.scalar.Scalar.{Scalar}
+use Rattle.rvc_base.specs.declared.scalar.Scalar.TheVariants as scalar
 use Rattle.cal_ast.specs.Tree.{Tree, listed}
 use Rattle.cal_model.specs.Actor.{Port, Output}
 use Rattle.cal_model.specs.Env.{Env}
@@ -9,6 +10,7 @@ use Rattle.cal_model.specs.Firing.{outputs}
 use Rattle.cal_model.specs.Outcome.{Out, Gives, Traps, Lacks, Clashes}
 use Rattle.cal_model.specs.Selection.{kind_of_port}
 use Rattle.cal_model.specs.Statement.{Runs}
+use Rattle.cal_model.specs.Value.{Shape, Single, Many, scalars_of_type}
 use Rattle.code_ir.specs.declared.instr.Instr.{Instr}
 use Rattle.code_ir.specs.declared.instr.Instr.TheVariants as op
 use Rattle.code_ir.specs.declared.outcome.Outcome.{Outcome}
@@ -20,6 +22,7 @@ use Rattle.expr_lower.specs.Following.{Follows, CutsOff}
 use Rattle.expr_lower.specs.Held.{Keeps}
 use Rattle.expr_lower.specs.Names.{Name}
 use Rattle.expr_lower.specs.Placed.{StandsAt, World, state}
+use Rattle.list_lower.specs.Filling.{AreFills, IsFill}
 use Rattle.stmt_lower.specs.Bodies.{IsReady}
 use Rattle.stmt_lower.specs.Procedures.{Routines}
 
@@ -47,12 +50,61 @@ pub record IsOutputCode (fs : List Function) (names : List Name) (ports : List P
   pub once : o.repeat ≡ None
   pub stored : AreStored fs names (kind_of_port ports o.port) parts n base (n + length parts) code m
 
+-- a type of lists of so many single values; of which type these are doesn't matter to the code that fills cells
+abbrev pub items_of_any : ℕ → Shape
+items_of_any n = Many n (Single scalar.Bool)
+
+-- Code of a list whose items are sent: the list fills the next cells, as many as it has numbers, and then each number is
+-- stored in the type of the port.
+pub record IsSentList (fs : List Function) (names : List Name) (e : Tree) (t : Shape) (kind : Scalar) (base n : ℕ) (code : List Instr) (m : ℕ) : Type 0 where
+  pub body : List Instr
+  pub is : code ≡ body ++ op.Copy n n (scalars_of_type t) (Some kind) ∷ []
+  pub filled : IsFill fs names e t n base (n + scalars_of_type t) body m
+
+-- one item of each of so many lists, which stand one behind the other with so many numbers each, goes to the cells from
+-- one on, stored in a type
+abbrev pub item_stores : Scalar → ℕ → ℕ → ℕ → ℕ → List Instr
+item_stores t each zero to from = []
+item_stores t each (suc lists) to from =
+    op.Copy to from 1 (Some t) ∷ item_stores t each lists (to + 1) (from + each)
+
+-- .. so many items, so that the lists take turns
+abbrev pub turn_stores : Scalar → ℕ → ℕ → ℕ → ℕ → ℕ → List Instr
+turn_stores t each lists zero to from = []
+turn_stores t each lists (suc count) to from =
+    item_stores t each lists to from ++ turn_stores t each lists count (to + lists) (from + 1)
+
+-- Code of lists that are sent in turn: one list fills the cells of the output; several fill cells behind those, from which
+-- their items go there in turn.
+pub data IsRepeated (fs : List Function) (names : List Name) (kind : Scalar) (times : ℕ) :
+    List Tree → ℕ → ℕ → List Instr → ℕ → Type 0 where
+  one_list : (e : Tree) (base n m : ℕ) (code : List Instr)
+      → IsSentList fs names e (items_of_any times) kind base n code m
+      → IsRepeated fs names kind times (e ∷ []) base n code m
+  in_turns : (es : List Tree) (base n m rows : ℕ) (body : List Instr)
+      → rows ≡ n + length es * times
+      → AreFills fs names (listed es) (items_of_any times) rows base (rows + length es * times) body m
+      → IsRepeated fs names kind times es base n
+      (body ++ turn_stores kind times (length es) times n rows) m
+
+-- code of an output that is repeated
+pub record IsListOutput (fs : List Function) (names : List Name) (ports : List Port) (o : Output) (base n : ℕ) (code : List Instr) (m : ℕ) : Type 0 where
+  pub parts : List Tree
+  pub are : o.values ≡ listed parts
+  pub times : ℕ
+  pub repeated : o.repeat ≡ Some times
+  pub stored : IsRepeated fs names (kind_of_port ports o.port) times parts base n code m
+
 -- code of outputs, one after the other, with the first cell of each
 pub data AreOutputs (fs : List Function) (names : List Name) (ports : List Port) :
     List Output → List ℕ → ℕ → ℕ → List Instr → ℕ → Type 0 where
   no_output : (base n : ℕ) → AreOutputs fs names ports [] [] base n [] n
   output_more : (o : Output) (others : List Output) (firsts : List ℕ) (base n k m : ℕ)
       (a b : List Instr) → IsOutputCode fs names ports o base n a k
+      → AreOutputs fs names ports others firsts (base + length a) k b m
+      → AreOutputs fs names ports (o ∷ others) (n ∷ firsts) base n (a ++ b) m
+  list_output_more : (o : Output) (others : List Output) (firsts : List ℕ) (base n k m : ℕ)
+      (a b : List Instr) → IsListOutput fs names ports o base n a k
       → AreOutputs fs names ports others firsts (base + length a) k b m
       → AreOutputs fs names ports (o ∷ others) (n ∷ firsts) base n (a ++ b) m
 

@@ -1,6 +1,7 @@
 //! What holds of the code of actions. Each law is a function that does nothing: its contract is what is proved.
 
-ghost use Rattle.action_lower.specs.Laws.{FiringsAreFired, LocalsAreStarted, OutputsAreSent, SeenIsHeld};
+ghost use Rattle.action_lower.specs.Laws.{FiringsAreFired, LocalsAreStarted, LocalsFit, OutputsAreSent, OutputsFit};
+ghost use Rattle.action_lower.specs.Laws.{SeenIsHeld};
 
 use cal_model::actions_fire_or_trap;
 
@@ -16,7 +17,7 @@ pub fn outputs_are_sent()
     ensures { OutputsAreSent }
 {}
 
-/// Code of locals of single values leaves cells that hold the environment that declaring the locals gives, or traps as
+/// Code of locals leaves cells that hold the environment that declaring the locals gives, or traps as
 /// that does; and a run of it has no other end.
 pub fn locals_are_started()
     ensures { LocalsAreStarted }
@@ -31,3 +32,13 @@ pub fn firings_are_fired()
     // it tells that the body of an eligible action gives a state or traps
     actions_fire_or_trap();
 }
+
+/// Code of locals is admitted wherever it stands in code that has the routines: it fits there.
+pub fn locals_fit()
+    ensures { LocalsFit }
+{}
+
+/// Code of outputs is admitted wherever it stands in code that has the routines: it fits there.
+pub fn outputs_fit()
+    ensures { OutputsFit }
+{}

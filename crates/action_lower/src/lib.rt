@@ -15,6 +15,7 @@ mod locals;
 mod outputs;
 mod seats;
 mod shapes;
+mod turns;
 
 pub use firing::{Firing, lower_firing};
 pub use first::first_cells;

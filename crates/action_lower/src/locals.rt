@@ -1,28 +1,31 @@
 //! The locals of an action as code.
 
-ghost use Rattle.std.specs.Prelude.{◌≡◌, ◌∷◌, IfErr, OnOk, None, map, string_bytes};
-ghost use Rattle.cal_model.specs.View.{local_view};
+ghost use Rattle.std.specs.Prelude.{◌≡◌, ◌∷◌, [], IfErr, None, OnOk, map, string_bytes};
+ghost use Rattle.cal_model.specs.View.{local_view, shape_view};
 ghost use Rattle.expr_lower.specs.Callees.{functions_view};
 ghost use Rattle.expr_lower.specs.declared.fault.LowerFault.TheVariants.{Memory};
 ghost use Rattle.expr_lower.specs.Growing.{IsFault};
-ghost use Rattle.expr_lower.specs.Names.{local, names_view};
+ghost use Rattle.expr_lower.specs.Names.{names_view};
+ghost use Rattle.stmt_lower.specs.ListStarting.{left_out_local, local_of};
 ghost use Rattle.action_lower.specs.LocalCode.{AddsLocals, left_out_locals};
+ghost use Rattle.action_lower.specs.LocalWords.{IsInFront};
 
-use cal_model::{BoundLocal, Shape};
-use expr_lower::{Callee, Draft, LowerFault, Named, Scope, Seat, single, start, take_cell};
-use rvc_base::Scalar;
+use crate::shapes::copy_shape;
+use cal_model::BoundLocal;
+use expr_lower::{Callee, Draft, LowerFault, Named, Scope, Seat};
+use stmt_lower::start_local;
 
 /// Appends the code of locals, one after the other, and puts the name of each in front of `names`.
 ///
 /// `names` holds the names that the starts use; the first of several that are the same is meant. Each start sees the
-/// locals before it. It may call `callees`. A local takes a cell, which is added to the draft: the code leaves there its
-/// start, stored in its type, or 0 or false if it has none. What stood in the draft stays.
+/// locals before it. It may call `callees`. A local takes a cell for each of its numbers, which are added to the draft:
+/// the code leaves there its start, stored in its type, or 0 and false if it has none. What stood in the draft stays.
 ///
 /// # Errors
 ///
-/// `NotLowered` if a local is no single value, with the offset 0, or if a start has a part for which no code is made,
-/// with its offset. `TooLong` if the draft has 2 to the power of 32 instructions. `TooManyCells` if the numbers of the
-/// cells that are used don't fit. `Memory` if memory runs out.
+/// `NotLowered` if a start has a part for which no code is made, with its offset, or with the offset 0 if a local is a
+/// list of a type whose sizes aren't allowed. `TooLong` if the draft has 2 to the power of 32 instructions.
+/// `TooManyCells` if the numbers of the cells that are used don't fit. `Memory` if memory runs out.
 pub fn lower_locals(
     names: &mut Vec<Named>,
     callees: &[Callee],
@@ -39,35 +42,39 @@ pub fn lower_locals(
     let Some((first, rest)) = locals.split_first() else {
         return Ok(());
     };
-    let Some(kind) = single(&first.shape) else {
-        return Err(LowerFault::NotLowered { at: 0 });
-    };
-    let cell = take_cell(draft)?;
-    start(
-        &Scope::outermost(names, callees),
-        &first.start,
-        cell,
-        kind,
-        draft,
-    )?;
-    put_first(names, first, kind, cell)?;
+    lower_local(names, callees, first, draft)?;
     lower_locals(names, callees, rest, draft)
 }
 
-/// Puts the name of a local of single values, which stands in a cell, in front of names.
-fn put_first(
+/// Appends the code of a local, and puts its name in front of names.
+fn lower_local(
     names: &mut Vec<Named>,
+    callees: &[Callee],
     x: &BoundLocal,
-    kind: Scalar,
-    cell: u32,
+    draft: &mut Draft,
 ) -> Result<(), LowerFault>
+    ensures code { OnOk result (AddsLocals (functions_view callees.now) (x.now ∷ [])
+        names.old.items names.new.items draft.old draft.new) }
+    ensures front { OnOk result (IsInFront x.now names.old.items names.new.items) }
+    ensures whole { OnOk result (left_out_local (functions_view callees.now)
+        (names_view names.old.items) (local_view x.now) ≡ None) }
+    ensures fault { IfErr result (IsFault (left_out_local (functions_view callees.now)
+        (names_view names.old.items) (local_view x.now)) draft.new) }
+{
+    let cell = start_local(&Scope::outermost(names, callees), x, draft)?;
+    put_front(names, x, cell)
+}
+
+/// Puts the name of a local, whose value stands in the cells from one on, in front of names.
+fn put_front(names: &mut Vec<Named>, x: &BoundLocal, cell: u32) -> Result<(), LowerFault>
     ensures front { OnOk result (names_view names.new.items
-        ≡ local (string_bytes x.now.name) kind cell ∷ names_view names.old.items) }
+        ≡ local_of (string_bytes x.now.name) (shape_view x.now.shape) cell ∷ names_view names.old.items) }
     ensures memory { IfErr result (λ fault. fault ≡ Memory) }
 {
+    let alloc = *names.allocator();
     let named = Named {
         name: x.name.clone()?,
-        shape: Shape::Scalar(kind),
+        shape: copy_shape(alloc, &x.shape)?,
         seat: Seat::Cell(cell),
     };
     names.insert(0, named)?;

@@ -1,6 +1,6 @@
 //! The outputs of an action as code.
 
-ghost use Rattle.std.specs.Prelude.{◌≡◌, ◌+◌, ◌≤◌, ◌^◌, IfErr, IfOk, OnOk, None, length, map};
+ghost use Rattle.std.specs.Prelude.{◌≡◌, ◌+◌, ◌≤◌, ◌^◌, IfErr, IfOk, OnOk, None, Some, length, map};
 ghost use Rattle.cal_ast.specs.View.{expr_tree};
 ghost use Rattle.cal_model.specs.Sound.{Each, max_rate};
 ghost use Rattle.cal_model.specs.View.{output_view, port_view};
@@ -9,30 +9,39 @@ ghost use Rattle.expr_lower.specs.Callees.{functions_view};
 ghost use Rattle.expr_lower.specs.Lowered.{Adds};
 ghost use Rattle.expr_lower.specs.Names.{names_view};
 ghost use Rattle.expr_lower.specs.declared.fault.LowerFault.TheVariants.{TooManyCells};
-ghost use Rattle.action_lower.specs.SendWords.{AddsOutput, AddsOutputs, AddsSent, HasTaken, IsSendFault, first_at, left_out_output, left_out_outputs, left_out_values};
-ghost use Rattle.action_lower.specs.Sending.{AreStored, IsStored};
+ghost use Rattle.cal_model.specs.View.{shape_view};
+ghost use Rattle.list_lower.specs.LeftOut.{left_out_fill, left_out_fills};
+ghost use Rattle.expr_lower.specs.PartView.{places_of};
+ghost use Rattle.action_lower.specs.SendWords.{AddsOutput, AddsOutputs, AddsSent, HasTaken, IsSendFault};
+ghost use Rattle.action_lower.specs.SendWords.{left_out_output, left_out_outputs, left_out_repeated, left_out_values};
+ghost use Rattle.action_lower.specs.Sending.{AreStored, IsStored, items_of_any};
+ghost use Rattle.action_lower.specs.SendWords.{AddsRepeated, AddsSentList};
 
 use crate::seats::kind_on;
+use crate::shapes::items_of_any;
+use crate::turns::{put_turns, take_area};
 use cal_ast::Expr;
-use cal_model::{BoundOutput, Port};
+use cal_model::{BoundOutput, Port, Shape};
 use code_ir::Instr;
 use expr_lower::{Callee, Draft, LowerFault, Named, Scope, lower, put};
+use list_lower::{fill, fill_all};
 use rvc_base::Scalar;
 use std::alloc::Global;
+use stmt_lower::take_list;
 
 /// Appends the code of outputs, one after the other. The first cell of each comes back.
 ///
 /// `names` holds the names that the outputs use, and `callees` the functions that they may call; the first of several
 /// that are the same is meant. An output takes as
-/// many cells more as it has values. The code leaves there what the output sends, each token stored in the type of the
+/// many cells more as it sends tokens. The code leaves there what the output sends, each token stored in the type of the
 /// output's port, and changes no cell that there was. What stood in the draft stays.
 ///
 /// # Errors
 ///
 /// `NotLowered` with the offset of the first part for which no code is made: such a part of a value, as
-/// [`lower_calling`](expr_lower::lower_calling) says, or the first value of a repeated output. `TooLong` if the draft has 2
-/// to the power of 32 instructions. `TooManyCells` if it has so many cells that those of an output don't fit. `Memory`
-/// if memory runs out.
+/// [`lower_calling`](expr_lower::lower_calling) or, of a list that is repeated, [`lower_list`](list_lower::lower_list)
+/// says. `TooLong` if the draft has 2 to the power of 32
+/// instructions. `TooManyCells` if it has so many cells that those of an output don't fit. `Memory` if memory runs out.
 pub fn lower_outputs(
     alloc: Global,
     names: &[Named],
@@ -52,7 +61,7 @@ pub fn lower_outputs(
 {
     let mut firsts = Vec::new(alloc);
     for output in outputs {
-        let first = put_output(names, callees, ports, output, draft)?;
+        let first = put_output(alloc, names, callees, ports, output, draft)?;
         firsts.push(first)?;
     }
     Ok(firsts)
@@ -60,6 +69,7 @@ pub fn lower_outputs(
 
 /// Appends the code of an output. Its first cell comes back.
 fn put_output(
+    alloc: Global,
     names: &[Named],
     callees: &[Callee],
     ports: &[Port],
@@ -73,25 +83,123 @@ fn put_output(
     ensures fault { IfErr result
         (IsSendFault (left_out_output (functions_view callees.now) (names_view names.now) output.now) draft.new) }
 {
-    if output.repeat.is_some() {
-        return Err(LowerFault::NotLowered {
-            at: first_at(&output.values),
-        });
+    match output.repeat {
+        Some(times) => put_repeated(alloc, names, callees, ports, output, times, draft),
+        None => put_once(names, callees, ports, output, draft),
     }
+}
+
+/// Appends the code of an output of single values. Its first cell comes back.
+fn put_once(
+    names: &[Named],
+    callees: &[Callee],
+    ports: &[Port],
+    output: &BoundOutput,
+    draft: &mut Draft,
+) -> Result<u32, LowerFault>
+    requires once { output.now.repeat ≡ None }
+    requires few { length output.now.values.items ≤ max_rate }
+    ensures code { IfOk result (λ first. AddsOutput (functions_view callees.now) (names_view names.now)
+        (map port_view ports.now) (output_view output.now) first draft.old draft.new) }
+    ensures whole { OnOk result (left_out_output (functions_view callees.now) (names_view names.now) output.now ≡ None) }
+    ensures fault { IfErr result
+        (IsSendFault (left_out_output (functions_view callees.now) (names_view names.now) output.now) draft.new) }
+{
     let first = take_cells(output.values.len(), draft)?;
     let kind = kind_on(ports, output.port);
     put_values(names, callees, &output.values, first, kind, draft)?;
     Ok(first)
 }
 
-/// The offset of the first of some expressions, and 0 if there is none.
-fn first_at(values: &[Expr]) -> u32
-    ensures { result ≡ first_at values.now }
+/// Appends the code of a repeated output. Its first cell comes back.
+fn put_repeated(
+    alloc: Global,
+    names: &[Named],
+    callees: &[Callee],
+    ports: &[Port],
+    output: &BoundOutput,
+    times: u32,
+    draft: &mut Draft,
+) -> Result<u32, LowerFault>
+    requires repeated { output.now.repeat ≡ Some times }
+    ensures code { IfOk result (λ first. AddsOutput (functions_view callees.now) (names_view names.now)
+        (map port_view ports.now) (output_view output.now) first draft.old draft.new) }
+    ensures whole { OnOk result (left_out_repeated (functions_view callees.now) (names_view names.now) times output.now.values.items ≡ None) }
+    ensures fault { IfErr result
+        (IsSendFault (left_out_repeated (functions_view callees.now) (names_view names.now) times output.now.values.items) draft.new) }
 {
-    match values.split_first() {
-        Some((first, _)) => first.at,
-        None => 0,
+    let kind = kind_on(ports, output.port);
+    let shape = items_of_any(alloc, times)?;
+    match output.values.as_slice() {
+        [] => Err(LowerFault::NotLowered { at: 0 }),
+        [value] => put_list(names, callees, value, &shape, kind, draft),
+        values => put_lists(names, callees, values, &shape, times, kind, draft),
     }
+}
+
+/// Takes cells for lists and for what they send, and appends the code that fills the lists and then stores their items in
+/// a type, so that the lists take turns. The first cell of what is sent comes back.
+fn put_lists(
+    names: &[Named],
+    callees: &[Callee],
+    values: &[Expr],
+    shape: &Shape,
+    times: u32,
+    kind: Scalar,
+    draft: &mut Draft,
+) -> Result<u32, LowerFault>
+    requires some { 1 ≤ length values.now }
+    requires shape { shape_view shape.now ≡ items_of_any times }
+    ensures code { IfOk result (λ first. AddsRepeated (functions_view callees.now) (names_view names.now)
+        kind times (map expr_tree values.now) first draft.old draft.new) }
+    ensures whole { OnOk result (left_out_fills (functions_view callees.now) (names_view names.now)
+        (shape_view shape.now) (places_of values.now) ≡ None) }
+    ensures fault { IfErr result (IsFault (left_out_fills (functions_view callees.now) (names_view names.now)
+        (shape_view shape.now) (places_of values.now)) draft.new) }
+{
+    let area = take_area(values.len(), shape, draft)?;
+    fill_all(
+        &Scope::outermost(names, callees),
+        values,
+        shape,
+        area.each,
+        area.rows,
+        draft,
+    )?;
+    put_turns(kind, area, times, area.tokens, area.rows, draft)?;
+    Ok(area.tokens)
+}
+
+/// Takes cells for a list, and appends the code that fills them and stores each item in a type. The first cell comes
+/// back.
+fn put_list(
+    names: &[Named],
+    callees: &[Callee],
+    value: &Expr,
+    shape: &Shape,
+    kind: Scalar,
+    draft: &mut Draft,
+) -> Result<u32, LowerFault>
+    ensures code { IfOk result (λ first. AddsSentList (functions_view callees.now) (names_view names.now)
+        (expr_tree value.now) (shape_view shape.now) kind first draft.old draft.new) }
+    ensures whole { OnOk result (left_out_fill (functions_view callees.now) (names_view names.now)
+        (shape_view shape.now) (expr_tree value.now) ≡ None) }
+    ensures fault { IfErr result (IsFault (left_out_fill (functions_view callees.now) (names_view names.now)
+        (shape_view shape.now) (expr_tree value.now)) draft.new) }
+{
+    let row = take_list(shape, draft)?;
+    fill(
+        &Scope::outermost(names, callees),
+        value,
+        shape,
+        row.first,
+        draft,
+    )?;
+    put(
+        draft,
+        Instr::Copy(row.first, row.first, row.size, Some(kind)),
+    )?;
+    Ok(row.first)
 }
 
 /// Takes cells more. The first of them comes back.

@@ -4,6 +4,7 @@ ghost use Rattle.std.specs.Prelude.{◌≡◌, IfOk};
 ghost use Rattle.cal_model.specs.Value.{IsType, scalars_of_type};
 ghost use Rattle.cal_model.specs.View.{shape_view};
 ghost use Rattle.action_lower.specs.Seats.{pattern_shape};
+ghost use Rattle.action_lower.specs.Sending.{items_of_any};
 
 use cal_model::Shape;
 use rvc_base::Scalar;
@@ -45,4 +46,11 @@ pub(crate) fn pattern_shape(
         Some(times) => Ok(Shape::List(times, Box::new(alloc, Shape::Scalar(kind))?)),
         None => Ok(Shape::Scalar(kind)),
     }
+}
+
+/// A type of lists of so many single values; of which type these are doesn't matter to the code that fills cells.
+pub(crate) fn items_of_any(alloc: Global, count: u32) -> Result<Shape, AllocError>
+    ensures { IfOk result (λ shape. shape_view shape ≡ items_of_any count) }
+{
+    Ok(Shape::List(count, Box::new(alloc, Shape::Scalar(Scalar::Bool))?))
 }

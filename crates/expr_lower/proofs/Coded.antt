@@ -161,7 +161,7 @@ module _ (fs : List Function) (globals names : List Name) (w : World) (serves : 
     does_args (arg_more e es base n k m a b h g) =
         does_arg_more fs globals names w env frames e es base n k m a b (grows h) (grows_args g) (does_in h) (λ cells left below apart holds. singles_in fs w.calls names w.tokens cells env (kinds_in fs globals w serves env.globals n cells below.1 apart.1 holds.1 holds.2) holds.0 h left) (does_args g)
 
-    offsets : {e : Tree} {base n m : ℕ} {code : List Instr} → IsOffset fs names e base n code m → DoesOffset fs globals names w env frames e base n code m
+    pub offsets : {e : Tree} {base n m : ℕ} {code : List Instr} → IsOffset fs names e base n code m → DoesOffset fs globals names w env frames e base n code m
     offsets (whole text at base n) = does_whole fs globals names w env frames text at base n
     offsets (row e place at base n k m a b r g h d) = does_row fs globals names w env frames e place at base n k m a b r g (grows_offset h) (grows d) (offsets h) (does_in d)
 

@@ -182,7 +182,7 @@ mutual
   args_erased fs names (tree.cons e es) = both_same (out_erased fs names e) (args_erased fs names es)
   args_erased fs names other = refl
 
-  places_erased : (fs : List Function) (names : List Name) (e : Tree) → left_out_places fs (map erase names) e ≡ left_out_places fs names e
+  pub places_erased : (fs : List Function) (names : List Name) (e : Tree) → left_out_places fs (map erase names) e ≡ left_out_places fs names e
   places_erased fs names (tree.index base place at) = both_same (places_erased fs names base) (out_erased fs names place)
   places_erased fs names other = refl
 

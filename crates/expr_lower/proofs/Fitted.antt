@@ -407,7 +407,7 @@ module _ (code : Code) (callable limit : ℕ) where
           subst (λ j. Plain base h (a ++ b) j) sum
           (plain_then base h (h + 1) (h + 1 + number_of es) a b (fits_in h below (omega (arith, y, le)) g) (fits_args (h + 1) (below_more n k names x below) le d))
 
-      fits_offset : {e : Tree} {base n m : ℕ} {instrs : List Instr} (h : ℕ) → AreBelow n names → m ≤ limit → IsOffset fs names e base n instrs m → Plain base h instrs (h + 1)
+      pub fits_offset : {e : Tree} {base n m : ℕ} {instrs : List Instr} (h : ℕ) → AreBelow n names → m ≤ limit → IsOffset fs names e base n instrs m → Plain base h instrs (h + 1)
       fits_offset h below le (whole text at base n) = fits_const base h (pos 0)
       fits_offset h below le (row e place at base n k m a b r g d q) =
           let x = grows_offset d in let y = grows q in

@@ -3,17 +3,14 @@ use Rattle.std.proofs.Common.{◌≡◌, ℕ, List, ◌∷◌, ◌++◌, Bool, t
 use Rattle.std.specs.Prelude.{if◌then◌else◌}
 use Rattle.std.specs.Str.{bytes_eq}
 use Rattle.std.proofs.lemmas.Slice.Eq.{bytes_eq-Decides}
-use Rattle.rvc_base.specs.declared.scalar.Scalar.{Scalar}
 use Rattle.cal_ast.specs.Tree as tree
 use Rattle.cal_model.specs.Value.{Shape, Single, Many}
 use Rattle.expr_lower.specs.declared.names.ItemList.{ItemList}
-use Rattle.expr_lower.specs.declared.names.OneCell.{OneCell}
 use Rattle.expr_lower.specs.declared.names.OneSeat.{OneSeat}
 use Rattle.expr_lower.specs.declared.names.Seat.{Seat}
-use Rattle.expr_lower.specs.declared.names.Seat.TheVariants.{Cell}
 use Rattle.expr_lower.specs.Growing.{left_out_name}
 use Rattle.expr_lower.specs.Listed.{items_of, list_named}
-use Rattle.expr_lower.specs.Names.{local, Name, named}
+use Rattle.expr_lower.specs.Names.{Name, named}
 use Rattle.expr_lower.specs.Seen.{IsHidden, IsNotLocal, one_in, one_of, one_named}
 use Rattle.expr_lower.specs.Callees.{Function}
 use Rattle.expr_lower.specs.Truths.{is_truth, is_truth_shape}
@@ -90,33 +87,37 @@ one_truth fs names text = go (named text names)
 
 -- ---- locals
 
-pub hidden_one : (text : List ℕ) (locals outer : List Name) (c : OneCell) → IsHidden text locals c → one_named (locals ++ outer) text ≡ Some (record { seat = Cell c.cell; kind = c.kind })
-hidden_one text locals outer c h = ap one_in_name (h outer)
+pub hidden_one : (text : List ℕ) (locals outer : List Name) (x : Name) → IsHidden text locals x → one_named (locals ++ outer) text ≡ one_of x
+hidden_one text locals outer x h = ap one_in_name (h outer)
 
 pub outside_one : (text : List ℕ) (locals outer : List Name) → IsNotLocal text locals → one_named (locals ++ outer) text ≡ one_named outer text
 outside_one text locals outer h = ap one_in_name (h outer)
 
-pub hidden_list : (text : List ℕ) (locals outer : List Name) (c : OneCell) → IsHidden text locals c → list_named (locals ++ outer) (tree.variable text 0) ≡ None
-hidden_list text locals outer c h = ap list_in_name (h outer)
+pub hidden_list : (text : List ℕ) (locals outer : List Name) (x : Name) → IsHidden text locals x → list_named (locals ++ outer) (tree.variable text 0) ≡ items_of x
+hidden_list text locals outer x h = ap list_in_name (h outer)
 
 pub outside_list : (text : List ℕ) (locals outer : List Name) → IsNotLocal text locals → list_named (locals ++ outer) (tree.variable text 0) ≡ list_named outer (tree.variable text 0)
 outside_list text locals outer h = ap list_in_name (h outer)
 
 -- ---- a local, and those outside it
 
-pub local_here : (text n : List ℕ) (k : Scalar) (c : ℕ) (locals rest : List Name) → locals ≡ local n k c ∷ rest → bytes_eq n text ≡ true
-    → (outer : List Name) → named text (locals ++ outer) ≡ Some (local text k c)
-local_here text n k c locals rest is e outer =
-    ap (λ ls. named text (ls ++ outer)) is ∙ go (bytes_eq n text) e ∙ ap (λ t. Some (local t k c)) ((bytes_eq-Decides n text).0 e)
+-- a name at a seat
+abbrev at_seat : List ℕ → Shape → Seat → Name
+at_seat text shape seat = record { text = text; shape = shape; seat = seat }
+
+pub local_here : (text n : List ℕ) (shape : Shape) (seat : Seat) (locals rest : List Name) → locals ≡ at_seat n shape seat ∷ rest → bytes_eq n text ≡ true
+    → (outer : List Name) → named text (locals ++ outer) ≡ Some (at_seat text shape seat)
+local_here text n shape seat locals rest is e outer =
+    ap (λ ls. named text (ls ++ outer)) is ∙ go (bytes_eq n text) e ∙ ap (λ t. Some (at_seat t shape seat)) ((bytes_eq-Decides n text).0 e)
   where
-    go : (b : Bool) → b ≡ true → (if b then Some (local n k c) else named text (rest ++ outer)) ≡ Some (local n k c)
+    go : (b : Bool) → b ≡ true → (if b then Some (at_seat n shape seat) else named text (rest ++ outer)) ≡ Some (at_seat n shape seat)
     go true h = refl
     go false h = cc
 
-pub local_past : (text n : List ℕ) (k : Scalar) (c : ℕ) (locals rest : List Name) → locals ≡ local n k c ∷ rest → bytes_eq n text ≡ false
+pub local_past : (text n : List ℕ) (shape : Shape) (seat : Seat) (locals rest : List Name) → locals ≡ at_seat n shape seat ∷ rest → bytes_eq n text ≡ false
     → (outer : List Name) → named text (locals ++ outer) ≡ named text (rest ++ outer)
-local_past text n k c locals rest is e outer = ap (λ ls. named text (ls ++ outer)) is ∙ go (bytes_eq n text) e
+local_past text n shape seat locals rest is e outer = ap (λ ls. named text (ls ++ outer)) is ∙ go (bytes_eq n text) e
   where
-    go : (b : Bool) → b ≡ false → (if b then Some (local n k c) else named text (rest ++ outer)) ≡ named text (rest ++ outer)
+    go : (b : Bool) → b ≡ false → (if b then Some (at_seat n shape seat) else named text (rest ++ outer)) ≡ named text (rest ++ outer)
     go true h = cc
     go false h = refl

@@ -3,15 +3,17 @@
 use Rattle.std.specs.Prelude.{◌≡◌, ℕ, List, [], ◌∷◌, ◌++◌, Option, None, Some}
 use Rattle.std.specs.Borrow.{Bor}
 use Rattle.cal_model.specs.Value.{Shape, Single, Many}
-use Rattle.expr_lower.specs.declared.names.OneCell.{OneCell}
+use Rattle.cal_model.specs.View.{shape_view}
 use Rattle.expr_lower.specs.declared.names.OneSeat.{OneSeat}
 use Rattle.expr_lower.specs.declared.names.Seat.{Seat}
+use Rattle.expr_lower.specs.declared.names.Seat.TheVariants.{Cell}
 use Rattle.expr_lower.specs.declared.scope.Frame.{Frame}
+use Rattle.expr_lower.specs.declared.scope.Local.{Local}
 use Rattle.expr_lower.specs.declared.scope.Frame.TheOpen.{Frame-F}
 use Rattle.expr_lower.specs.declared.scope.Frame.TheFolds.{fold-Frame}
 use Rattle.expr_lower.specs.declared.scope.Scope.{Scope}
 use Rattle.expr_lower.specs.Callees.{Function, functions_view}
-use Rattle.expr_lower.specs.Names.{local, Name, named, names_view}
+use Rattle.expr_lower.specs.Names.{Name, named, names_view}
 
 abbrev pub outer_locals : Option (Bor (List Name)) → List Name
 outer_locals None = []
@@ -19,7 +21,7 @@ outer_locals (Some names) = names.now
 
 -- the local of a frame
 abbrev pub local_in : {A : Type 0} → Frame-F A → Name
-local_in x = local x.name.now x.kind x.cell
+local_in x = record { text = x.name.now; shape = shape_view x.shape.now; seat = Cell x.cell }
 
 abbrev pub frame_step : Frame-F (List Name) → List Name
 frame_step x = local_in x ∷ outer_locals x.outer
@@ -39,14 +41,19 @@ called s = functions_view s.callees.now
 abbrev pub seen : Scope → List Name
 seen s = locals_of s.frame ++ names_view s.names.now
 
--- ---- single values that are named
+-- the name of a local that a text means
+abbrev pub local_name : List ℕ → Local → Name
+local_name text x = record { text = text; shape = shape_view x.shape.now; seat = Cell x.cell }
 
--- a text means no local, or this one
-abbrev pub IsHidden : List ℕ → List Name → OneCell → Type 0
-IsHidden text locals c = (outer : List Name) → named text (locals ++ outer) ≡ Some (local text c.kind c.cell)
+-- a text means this local, whatever is outside
+abbrev pub IsHidden : List ℕ → List Name → Name → Type 0
+IsHidden text locals x = (outer : List Name) → named text (locals ++ outer) ≡ Some x
 
+-- .. or no local
 abbrev pub IsNotLocal : List ℕ → List Name → Type 0
 IsNotLocal text locals = (outer : List Name) → named text (locals ++ outer) ≡ named text outer
+
+-- ---- single values that are named
 
 abbrev pub one_in : Seat → Shape → Option OneSeat
 one_in seat (Single t) = Some (record { seat = seat; kind = t })

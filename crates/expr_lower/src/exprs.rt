@@ -183,7 +183,7 @@ fn row(scope: &Scope, base: &Expr, place: &Expr, draft: &mut Draft) -> Result<()
 
 /// Appends the offset of the part of a list that a chain of indexes gives.
 #[cycle(lower)]
-fn offset(scope: &Scope, e: &Expr, draft: &mut Draft) -> Result<(), LowerFault>
+pub fn offset(scope: &Scope, e: &Expr, draft: &mut Draft) -> Result<(), LowerFault>
     requires part { IsPart (seen scope.now) (expr_tree e.now) }
     ensures ok { OnOk result (Offsets scope.now (expr_tree e.now) draft.old draft.new) }
     ensures whole { OnOk result (AreAllPlaces scope.now (expr_tree e.now)) }

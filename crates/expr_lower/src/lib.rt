@@ -20,12 +20,12 @@ mod truths;
 
 pub use callees::{Callee, Formal, function_for, put_call, put_formals};
 pub use draft::{Draft, next_place, put, put_all, take_cell};
-pub use exprs::{close, link, lower, lower_args, lower_calling, lower_expr, lower_test};
+pub use exprs::{close, link, lower, lower_args, lower_calling, lower_expr, lower_test, offset};
 pub use fault::LowerFault;
 pub use names::{
     ItemList, Named, OneCell, OneSeat, Seat, list_called, list_named, one_named, single,
 };
-pub use parts::{Part, Rows, scalars, whole_called};
+pub use parts::{Part, Rows, part_named, scalars, whole_called};
 pub use routines::{lower_function, take_formals};
 pub use scope::{Frame, Scope};
 pub use starts::start;

@@ -4,9 +4,9 @@ ghost use Rattle.std.specs.Prelude.{◌≡◌, option_map};
 ghost use Rattle.cal_ast.specs.Tree as tree;
 ghost use Rattle.cal_ast.specs.View.{expr_tree};
 ghost use Rattle.cal_model.specs.View.{shape_view};
-ghost use Rattle.expr_lower.specs.Listed.{items_of, list_named, single_of};
+ghost use Rattle.expr_lower.specs.Listed.{items_in, items_of, list_named, single_of};
 ghost use Rattle.expr_lower.specs.Names.{name_view, named, names_view};
-ghost use Rattle.expr_lower.specs.Seen.{one_named, one_of, seen};
+ghost use Rattle.expr_lower.specs.Seen.{one_in, one_named, one_of, seen};
 
 use crate::scope::{Scope, local_named};
 use cal_ast::{Expr, ExprForm};
@@ -57,10 +57,7 @@ pub fn one_named(scope: &Scope, text: &str) -> Option<OneSeat>
     ensures { result ≡ one_named (seen scope.now) text.now }
 {
     match local_named(text, scope.frame) {
-        Some(local) => Some(OneSeat {
-            seat: Seat::Cell(local.cell),
-            kind: local.kind,
-        }),
+        Some(local) => one_in(Seat::Cell(local.cell), local.shape),
         None => one_outside(scope.names, text),
     }
 }
@@ -79,11 +76,15 @@ fn one_outside(names: &[Named], text: &str) -> Option<OneSeat>
 fn one_of(named: &Named) -> Option<OneSeat>
     ensures { result ≡ one_of (name_view named.now) }
 {
-    let kind = single(&named.shape)?;
-    Some(OneSeat {
-        seat: named.seat,
-        kind,
-    })
+    one_in(named.seat, &named.shape)
+}
+
+/// The single value of a type at a seat, if the type is one of single values.
+fn one_in(seat: Seat, shape: &Shape) -> Option<OneSeat>
+    ensures { result ≡ one_in seat (shape_view shape.now) }
+{
+    let kind = single(shape)?;
+    Some(OneSeat { seat, kind })
 }
 
 /// The list of single values that an expression names, if it names one.
@@ -96,12 +97,12 @@ pub fn list_named(scope: &Scope, e: &Expr) -> Option<ItemList>
     }
 }
 
-/// The list of single values that a text names, if it names one. A local is none.
+/// The list of single values that a text names, if it names one.
 pub fn list_called(scope: &Scope, text: &str) -> Option<ItemList>
     ensures { result ≡ list_named (seen scope.now) (tree.variable text.now 0) }
 {
     match local_named(text, scope.frame) {
-        Some(_) => None,
+        Some(local) => items_in(Seat::Cell(local.cell), local.shape),
         None => list_outside(scope.names, text),
     }
 }
@@ -120,12 +121,19 @@ fn list_outside(names: &[Named], text: &str) -> Option<ItemList>
 fn items_of(named: &Named) -> Option<ItemList>
     ensures { result ≡ items_of (name_view named.now) }
 {
-    match &named.shape {
+    items_in(named.seat, &named.shape)
+}
+
+/// The items of a list at a seat, if its type is one of lists of single values.
+fn items_in(seat: Seat, shape: &Shape) -> Option<ItemList>
+    ensures { result ≡ items_in seat (shape_view shape.now) }
+{
+    match shape {
         Shape::Scalar(_) => None,
         Shape::List(size, items) => {
             let kind = single(items)?;
             Some(ItemList {
-                seat: named.seat,
+                seat,
                 size: *size,
                 kind,
             })

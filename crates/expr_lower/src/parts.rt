@@ -7,7 +7,7 @@ ghost use Rattle.cal_model.specs.View.{shape_view};
 ghost use Rattle.expr_lower.specs.Names.{name_view, named, names_view};
 ghost use Rattle.expr_lower.specs.PartView.{part_view};
 ghost use Rattle.expr_lower.specs.Parted.{deep_named, item_of, part_named, rows_in, rows_named};
-ghost use Rattle.expr_lower.specs.Parted.{singles_in, sized, whole_of};
+ghost use Rattle.expr_lower.specs.Parted.{singles_in, sized, whole_in, whole_of};
 ghost use Rattle.expr_lower.specs.Seen.{seen};
 
 use crate::names::{ItemList, Named, Seat, find};
@@ -50,7 +50,7 @@ pub(crate) fn rows_named(scope: &Scope, e: &Expr) -> Option<Rows>
 
 /// The part that a chain of indexes on a name gives, whatever the indexes are.
 #[cycle(part_named)]
-fn part_named<'a>(scope: &Scope<'a>, e: &Expr) -> Option<Part<'a>>
+pub fn part_named<'a>(scope: &Scope<'a>, e: &Expr) -> Option<Part<'a>>
     ensures { option_map part_view result ≡ part_named (seen scope.now) (expr_tree e.now) }
 {
     match &e.form {
@@ -70,13 +70,13 @@ fn item_named<'a>(scope: &Scope<'a>, base: &Expr) -> Option<Part<'a>>
     item_of(part)
 }
 
-/// The list that a text names, if it names one. A local is none.
+/// The list that a text names, if it names one.
 pub fn whole_called<'a>(scope: &Scope<'a>, text: &str) -> Option<Part<'a>>
     ensures { option_map part_view result ≡
         part_named (seen scope.now) (tree.variable text.now 0) }
 {
     match local_named(text, scope.frame) {
-        Some(_) => None,
+        Some(local) => whole_in(Seat::Cell(local.cell), local.shape),
         None => whole_outside(scope.names, text),
     }
 }
@@ -96,15 +96,18 @@ fn whole_outside<'a>(names: &'a [Named], text: &str) -> Option<Part<'a>>
 fn whole_of<'a>(named: &'a Named) -> Option<Part<'a>>
     ensures { option_map part_view result ≡ whole_of (name_view named.now) }
 {
-    match &named.shape {
+    whole_in(named.seat, &named.shape)
+}
+
+/// The whole list of a type at a seat, if the type is one of lists, and 32 bits hold how many numbers it has.
+fn whole_in<'a>(seat: Seat, shape: &'a Shape) -> Option<Part<'a>>
+    ensures { option_map part_view result ≡ whole_in seat (shape_view shape.entry.now) }
+{
+    match shape {
         Shape::Scalar(_) => None,
         Shape::List(_, _) => {
-            let size = scalars(&named.shape)?;
-            Some(Part {
-                seat: named.seat,
-                size,
-                shape: &named.shape,
-            })
+            let size = scalars(shape)?;
+            Some(Part { seat, size, shape })
         }
     }
 }

@@ -16,7 +16,7 @@ use crate::fault::LowerFault;
 use crate::names::{Named, single};
 use crate::scope::{Frame, Scope};
 use crate::starts::start;
-use cal_model::{BoundFun, BoundLocal};
+use cal_model::{BoundFun, BoundLocal, Shape};
 use code_ir::{Instr, Routine};
 use std::alloc::Global;
 
@@ -109,9 +109,10 @@ fn in_formals(
     let Some((formal, others)) = cells.split_first() else {
         return in_locals(scope, &f.locals, f, draft);
     };
+    let shape = Shape::Scalar(formal.kind);
     let frame = Frame {
         name: first.name.as_str(),
-        kind: formal.kind,
+        shape: &shape,
         cell: formal.cell,
         outer: scope.frame,
     };
@@ -141,9 +142,10 @@ fn in_locals(
     };
     let cell = take_cell(draft)?;
     start(scope, &first.start, cell, kind, draft)?;
+    let shape = Shape::Scalar(kind);
     let frame = Frame {
         name: first.name.as_str(),
-        kind,
+        shape: &shape,
         cell,
         outer: scope.frame,
     };

@@ -3,20 +3,27 @@
 ghost use Rattle.std.specs.Prelude.{◌≡◌, ◌∷◌, IfNone, IfSome, List};
 ghost use Rattle.expr_lower.specs.Callees.{functions_view};
 ghost use Rattle.expr_lower.specs.Names.{names_view};
-ghost use Rattle.expr_lower.specs.Seen.{IsHidden, IsNotLocal, called, local_in, locals_of, seen};
+ghost use Rattle.expr_lower.specs.Seen.{IsHidden, IsNotLocal, called, local_in, local_name, locals_of, seen};
 
 use crate::callees::Callee;
-use crate::names::{Named, OneCell};
-use rvc_base::Scalar;
+use crate::names::Named;
+use cal_model::Shape;
 
-/// A local of a single value, and the locals outside it.
+/// A local, whose value stands in the cells from one on, and the locals outside it.
 #[derive(Clone, Copy, Drop)]
 pub struct Frame<'a> {
     pub name: &'a str,
-    pub kind: Scalar,
+    pub shape: &'a Shape,
     pub cell: u32,
     /// The local outside it, if one stands there.
     pub outer: Option<&'a Frame<'a>>,
+}
+
+/// Where the value of a local stands, and its type.
+#[derive(Clone, Copy)]
+pub(crate) struct Local<'a> {
+    pub shape: &'a Shape,
+    pub cell: u32,
 }
 
 /// What a part sees: names, and the locals that hide them.
@@ -60,17 +67,18 @@ impl<'a> Scope<'a> {
     }
 }
 
-/// The cell of the local that a text means, if it means one.
-pub(crate) fn local_named<'a>(text: &str, frame: Option<&'a Frame<'a>>) -> Option<OneCell>
-    ensures hidden { IfSome result (IsHidden text.now (locals_of frame.entry)) }
+/// The local that a text means, if it means one.
+pub(crate) fn local_named<'a>(text: &str, frame: Option<&'a Frame<'a>>) -> Option<Local<'a>>
+    ensures hidden { IfSome result
+        (λ x. IsHidden text.now (locals_of frame.entry) (local_name text.now x)) }
     ensures outside { IfNone result (IsNotLocal text.now (locals_of frame.entry)) }
 {
     let mut at = frame;
     'outwards: while let Some(here) = at {
         if here.name == text {
-            return Some(OneCell {
+            return Some(Local {
+                shape: here.shape,
                 cell: here.cell,
-                kind: here.kind,
             });
         }
         at = here.outer;

@@ -11,21 +11,24 @@ use Rattle.code_ir.specs.declared.instr.Instr.{Instr}
 use Rattle.code_ir.specs.declared.instr.Instr.TheVariants as op
 use Rattle.expr_lower.specs.declared.draft.Draft.{Draft}
 use Rattle.expr_lower.specs.Callees.{Function}
-use Rattle.expr_lower.specs.Coding.{IsCode, IsOpenTest, aimed}
+use Rattle.expr_lower.specs.declared.names.Seat.{Seat}
+use Rattle.expr_lower.specs.declared.names.Seat.TheVariants.{Cell, Tokens}
+use Rattle.expr_lower.specs.Coding.{IsCode, IsOffset, IsOpenTest, aimed}
 use Rattle.expr_lower.specs.Linking.{Links}
 use Rattle.expr_lower.specs.Listed.{single_of}
 use Rattle.expr_lower.specs.Lowered.{Adds, IsPut}
 use Rattle.expr_lower.specs.Names.{Name, local}
 use Rattle.expr_lower.specs.Parted.{Part, number_of, part_named, sized}
-use Rattle.expr_lower.proofs.Adding.{put_adds, same_adds, then_adds}
+use Rattle.expr_lower.proofs.Adding.{put_adds, same_adds, then_adds, then_put}
 use Rattle.expr_lower.proofs.PartValues.{IsWhole, sized_is, sized_list, whole_found}
 use Rattle.expr_lower.proofs.Rowed.{small_num}
 use Rattle.list_lower.specs.declared.lists.Target.{Target}
 use Rattle.list_lower.specs.FillWords.{AddsIn}
 use Rattle.list_lower.specs.Filling as filling
-use Rattle.list_lower.specs.Filling.{AreElements, AreFills, IsFill, alike, at_first, either_list, each_number, filled_more, item_more, list_element, next_number, no_item, one_element, take_instr, whole_list}
+use Rattle.list_lower.specs.Filling.{AreElements, AreFills, IsFill, alike, at_first, either_list, each_number, filled_more, item_more, list_element, next_number, no_item, one_element, part_list, take_instr, whole_list}
 use Rattle.list_lower.specs.Generators.{AllCount, Counted, counted_by, how_many, spanned, times}
 use Rattle.list_lower.specs.GoingOn.{GoesOn}
+use Rattle.list_lower.specs.LeftOut.{first_cell}
 use Rattle.list_lower.specs.Reserving.{HasMore}
 
 length_join : (old mid a : List Instr) → mid ≡ old ++ a → length mid ≡ length old + length a
@@ -42,6 +45,17 @@ module _ (fs : List Function) (names : List Name) where
       let instr : take_instr c size p.seat ≡ take_instr c (scalars_of_type t) f.x.seat = ap (λ k. take_instr c k p.seat) (sym wide) ∙ ap (λ s. take_instr c (scalars_of_type t) s) (sym f.seat) in
       put_adds (IsFill fs names (tree.variable text at) t c) (take_instr c (scalars_of_type t) f.x.seat ∷ []) old new (subst (λ i. IsPut (i ∷ []) old new) instr put)
       (λ base n. whole_list names text t at c base n f.x f.is (subst (λ u. alike t u ≡ true) (sym f.shape) same))
+
+  pub part_adds : (e : Tree) (t : Shape) (c size from : ℕ) (p : Part) (old mid new : Draft) → part_named names e ≡ Some p → alike t p.shape ≡ true → first_cell p.seat ≡ Some from → sized t ≡ Some size
+      → Adds (IsOffset fs names e) old mid → IsPut (op.CopyFrom c from p.size size ∷ []) mid new → Adds (IsFill fs names e t c) old new
+  part_adds e t c size from p old mid new is same cell wide a put =
+      let many : size ≡ scalars_of_type t = sym (sized_is t size wide) in
+      then_put (IsOffset fs names e) (IsFill fs names e t c) (op.CopyFrom c from p.size (scalars_of_type t) ∷ []) old mid new
+      (λ base n m code h. part_list names e t c base n m from code p is (in_cell p.seat from cell) same h) a (subst (λ k. IsPut (op.CopyFrom c from p.size k ∷ []) mid new) many put)
+    where
+      in_cell : (seat : Seat) (from : ℕ) → first_cell seat ≡ Some from → seat ≡ Cell from
+      in_cell (Cell s) from e = let same : s ≡ from = cc in ap Cell same
+      in_cell (Tokens port first step) from e = cc
 
   pub items_add : (es : Tree) (t : Shape) (at c count : ℕ) (old new : Draft) → number_of es ≡ count → Adds (AreFills fs names es t c) old new → Adds (IsFill fs names (tree.list es at) (Many count t) c) old new
   items_add es t at c count old new e a =

@@ -7,13 +7,15 @@ use Rattle.cal_ast.specs.Tree as tree
 use Rattle.cal_ast.specs.Tree.{Tree}
 use Rattle.cal_model.specs.Value.{Shape, Single, Many}
 use Rattle.expr_lower.specs.Callees.{Function}
-use Rattle.expr_lower.specs.Growing.{left_out_in}
+use Rattle.expr_lower.specs.declared.names.Seat.{Seat}
+use Rattle.expr_lower.specs.declared.names.Seat.TheVariants.{Cell, Tokens}
+use Rattle.expr_lower.specs.Growing.{left_out_in, left_out_places}
 use Rattle.expr_lower.specs.Names.{Name, local}
 use Rattle.expr_lower.specs.Parted.{Part, number_of, part_named}
-use Rattle.expr_lower.proofs.Erased.{both_same, erase, erased_part, out_erased, part_erased}
+use Rattle.expr_lower.proofs.Erased.{both_same, erase, erase_seat, erased_part, out_erased, part_erased, places_erased}
 use Rattle.list_lower.specs.Filling.{alike}
 use Rattle.list_lower.specs.Generators.{Counted, counted_by, how_many}
-use Rattle.list_lower.specs.LeftOut.{left_out_element, left_out_fill, left_out_fills, left_out_gens, left_out_many, left_out_name, left_out_single}
+use Rattle.list_lower.specs.LeftOut.{first_cell, left_out_element, left_out_fill, left_out_fills, left_out_gens, left_out_index, left_out_many, left_out_name, left_out_single}
 
 single_erased : (fs : List Function) (names : List Name) (t : Shape) (e : Tree) (at : ℕ) → left_out_single fs (map erase names) t e at ≡ left_out_single fs names t e at
 single_erased fs names (Single t) e at = out_erased fs names e
@@ -29,6 +31,24 @@ name_erased fs names (Many n items) text at = ap (in_part (Many n items) at) (pa
     go : (o : Option Part) → in_part (Many n items) at (erased_part o) ≡ in_part (Many n items) at o
     go None = refl
     go (Some p) = refl
+
+abbrev in_cells : List Function → List Name → Tree → Shape → ℕ → Option Part → Option ℕ
+in_cells fs names e t at o = elim o [
+  | None ↦ Some at
+  | Some p ↦ if alike t p.shape then elim (first_cell p.seat) [ None ↦ Some at | Some c ↦ left_out_places fs names e ] else Some at
+]
+
+index_erased : (fs : List Function) (names : List Name) (t : Shape) (e : Tree) (at : ℕ) → left_out_index fs (map erase names) t e at ≡ left_out_index fs names t e at
+index_erased fs names (Single t) e at = out_erased fs names e
+index_erased fs names (Many n items) e at = ap (in_cells fs (map erase names) e (Many n items) at) (part_erased names e) ∙ go (part_named names e)
+  where
+    at_seat : (seat : Seat) → ◌≡◌ {A = Option ℕ} (elim (first_cell (erase_seat seat)) [ None ↦ Some at | Some c ↦ left_out_places fs (map erase names) e ]) (elim (first_cell seat) [ None ↦ Some at | Some c ↦ left_out_places fs names e ])
+    at_seat (Cell c) = places_erased fs names e
+    at_seat (Tokens port first step) = refl
+
+    go : (o : Option Part) → in_cells fs (map erase names) e (Many n items) at (erased_part o) ≡ in_cells fs names e (Many n items) at o
+    go None = refl
+    go (Some p) = ap (λ o. if alike (Many n items) p.shape then o else Some at) (at_seat p.seat)
 
 many_same : (t : Shape) (at : ℕ) (many : Option ℕ) (f g : Shape → Option ℕ) → ((items : Shape) → f items ≡ g items) → left_out_many t at many f ≡ left_out_many t at many g
 many_same (Single t) at many f g h = refl
@@ -66,7 +86,7 @@ mutual
       (λ items. left_out_gens names gens (λ inner. left_out_element items (left_out_in fs inner item) (left_out_fill fs inner items item)))
       (λ items. gens_erased names gens (λ inner. left_out_element items (left_out_in fs inner item) (left_out_fill fs inner items item))
       (λ inner. element_same items (left_out_in fs (map erase inner) item) (left_out_in fs inner item) (left_out_fill fs (map erase inner) items item) (left_out_fill fs inner items item) (out_erased fs inner item) (fill_erased fs inner items item)))
-  fill_erased fs names t (tree.index base place at) = single_erased fs names t (tree.index base place at) at
+  fill_erased fs names t (tree.index base place at) = index_erased fs names t (tree.index base place at) at
   fill_erased fs names t other = refl
 
   pub fills_erased : (fs : List Function) (names : List Name) (t : Shape) (es : Tree) → left_out_fills fs (map erase names) t es ≡ left_out_fills fs names t es

@@ -15,14 +15,15 @@ use Rattle.expr_lower.specs.Calling.{HasRoutines}
 use Rattle.expr_lower.specs.Fitting.{Fits}
 use Rattle.expr_lower.specs.Held.{AreBelow, SeatIsBelow}
 use Rattle.expr_lower.specs.Names.{Name, named}
-use Rattle.expr_lower.specs.Parted.{number_of}
+use Rattle.expr_lower.specs.Parted.{Part, number_of, part_named}
+use Rattle.expr_lower.proofs.PartValues.{IsPartOf, part_found, sized_is}
 use Rattle.expr_lower.specs.Placed.{StandsAt}
-use Rattle.expr_lower.proofs.Coded.{grows, grows_test}
-use Rattle.expr_lower.proofs.Fitted.{Plain, branch, fits_branch, fits_const, fits_in, fits_jump, fits_one, fits_test_in, plain_then}
+use Rattle.expr_lower.proofs.Coded.{grows, grows_offset, grows_test}
+use Rattle.expr_lower.proofs.Fitted.{Plain, branch, fits_branch, fits_const, fits_in, fits_jump, fits_offset, fits_one, fits_test_in, plain_then}
 use Rattle.expr_lower.proofs.Keeping.{below_more}
 use Rattle.expr_lower.proofs.Routined.{front_below}
 use Rattle.expr_lower.proofs.Runs.{stands_left, stands_right}
-use Rattle.list_lower.specs.Filling.{AreElements, AreFills, IsFill, at_first, either_list, elements as comprehension, each_number, filled_more, in_parens, item_more, items, list_element, next_number, no_item, one_cell, one_element, set_number, take_instr, whole_list}
+use Rattle.list_lower.specs.Filling.{AreElements, AreFills, IsFill, at_first, either_list, elements as comprehension, each_number, filled_more, in_parens, item_more, items, list_element, next_number, no_item, one_cell, one_element, part_list, set_number, take_instr, whole_list}
 use Rattle.list_lower.specs.Generators.{AllCount, Counted}
 use Rattle.list_lower.proofs.Counters.{width}
 use Rattle.list_lower.proofs.Filled.{AreCounted, grows_elements, grows_fill, grows_fills}
@@ -111,6 +112,13 @@ module _ (code : Code) (callable limit : ℕ) where
   name_below : (c : ℕ) (t : Shape) (x : Name) (names : List Name) (text : List ℕ) → AreBelow c names → named text names ≡ Some x → scalars_of_type t ≡ scalars_of_type x.shape → c ≤ limit → SeatIsBelow limit (scalars_of_type t) x.seat
   name_below c t x names text below is same le = subst (λ n. SeatIsBelow limit n x.seat) (sym same) (below_more c limit names le below text x is)
 
+  -- the whole list in which a part is lies below
+  part_there : (c from : ℕ) (names : List Name) (e : Tree) (p : Part) → AreBelow c names → part_named names e ≡ Some p → p.seat ≡ Cell from → from + p.size ≤ c
+  part_there c from names e p below is seat =
+      let f : IsPartOf names p = part_found names e p is in
+      let many : scalars_of_type f.x.shape ≡ p.size = sized_is f.x.shape p.size f.size in
+      subst (λ k. from + k ≤ c) many (subst (λ z. SeatIsBelow c (scalars_of_type f.x.shape) z) (f.seat ∙ seat) (below f.text f.x f.is))
+
   -- what fits at a place fits at another that is the same
   at_place : (place base h : ℕ) (instrs : List Instr) → place ≡ base → StandsAt code.instrs base instrs → (StandsAt code.instrs place instrs → Whole place h instrs h) → Whole base h instrs h
   at_place place base h instrs same stands fits = subst (λ p. Whole p h instrs h) same (fits (subst (λ p. StandsAt code.instrs p instrs) (sym same) stands))
@@ -123,6 +131,12 @@ module _ (code : Code) (callable limit : ℕ) where
           plain_then code callable limit base h (h + 1) h instrs (op.Store c None ∷ []) (fits_in code callable limit fs has names h (below_more c n names up below) le g) (store code callable limit (base + length instrs) h c (omega (arith, room, x, le)))
       fits_fill h below room le stands (whole_list names text t at c base n x is same) =
           fits_take base h c (scalars_of_type t) x.seat (omega (arith, room, le)) (name_below c t x names text below is (alike_sizes t x.shape same) (omega (arith, room, le)))
+      fits_fill h below room le stands (part_list names e t c base n m from instrs p is seat same g) =
+          let x = grows_offset g in
+          let up : c ≤ n = omega (arith, room) in
+          let there : from + p.size ≤ c = part_there c from names e p below is seat in
+          plain_then code callable limit base h (h + 1) h instrs (op.CopyFrom c from p.size (scalars_of_type t) ∷ []) (fits_offset code callable limit fs has names h (below_more c n names up below) le g)
+          (fits_one code callable limit (base + length instrs) (h + 1) h (op.CopyFrom c from p.size (scalars_of_type t)) (omega arith) (omega arith) refl (omega (arith, room, x, le), omega (arith, there, room, x, le)) tt tt tt)
       fits_fill h below room le stands (in_parens names e t at c base n m instrs g) = fits_fill h below room le stands g
       fits_fill h below room le stands (items names es t at c base n m instrs g) = fits_fills h below room le stands g
       fits_fill h below room le stands (either_list names test first other t at c base n k j m else_at end a b d x y z e f) =
@@ -148,7 +162,7 @@ module _ (code : Code) (callable limit : ℕ) where
           (plain_then code callable limit (base + 1) h h h head instrs (fits_first (base + 1) h (n + 1) gens r.count (omega (arith, wide, le)))
           (at_place turn_at (base + 1 + length head) h instrs f rest (λ st. fits_elements h (below_more c (n + 1) names up below) (omega (arith, room)) (omega arith) le st g)))
 
-      fits_fills : {names : List Name} {es : Tree} {t : Shape} {c base n m : ℕ} {instrs : List Instr} (h : ℕ) → AreBelow c names → c + number_of es * scalars_of_type t ≤ n → m ≤ limit → StandsAt code.instrs base instrs → AreFills fs names es t c base n instrs m → Whole base h instrs h
+      pub fits_fills : {names : List Name} {es : Tree} {t : Shape} {c base n m : ℕ} {instrs : List Instr} (h : ℕ) → AreBelow c names → c + number_of es * scalars_of_type t ≤ n → m ≤ limit → StandsAt code.instrs base instrs → AreFills fs names es t c base n instrs m → Whole base h instrs h
       fits_fills h below room le stands (no_item names t c base n) = fits_none code callable limit base h
       fits_fills h below room le stands (item_more names e es t c base n k m a b g d) =
           let x = grows_fill g in let y = grows_fills d in

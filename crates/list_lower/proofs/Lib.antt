@@ -1,8 +1,11 @@
 pub mod MeantIs
+pub mod ShapeIs
+pub mod TypeWeights
 pub mod Moving
 pub mod Shapes
 pub mod Steps
 pub mod Forms
+pub mod PartForms
 pub mod Generated
 pub mod Counters
 pub mod Nexts

@@ -25,7 +25,7 @@ none_some : (size : Option ℕ) → ◌≡◌ {A = Option (Option ℕ)} None (So
 none_some size e = cc
 
 -- what an argument gives
-arg_is : (arg : Tree) (size : Option ℕ) (calls : Calls) (env : Env) (left : ℕ) → size_of_arg arg ≡ Some size → args_given (tree.cons arg tree.nil) calls env left ≡ Gives (given size) left
+pub arg_is : (arg : Tree) (size : Option ℕ) (calls : Calls) (env : Env) (left : ℕ) → size_of_arg arg ≡ Some size → args_given (tree.cons arg tree.nil) calls env left ≡ Gives (given size) left
 arg_is (tree.value_arg name (tree.number k at)) size calls env left e = go (is_num (pos k)) refl e
   where
     go : (b : Bool) → is_num (pos k) ≡ b → (if b then Some (Some k) else None) ≡ Some size

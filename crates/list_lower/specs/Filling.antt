@@ -12,9 +12,9 @@ use Rattle.code_ir.specs.declared.instr.Instr.TheVariants as op
 use Rattle.expr_lower.specs.declared.names.Seat.{Seat}
 use Rattle.expr_lower.specs.declared.names.Seat.TheVariants.{Cell, Tokens}
 use Rattle.expr_lower.specs.Callees.{Function}
-use Rattle.expr_lower.specs.Coding.{IsCode, IsTest}
+use Rattle.expr_lower.specs.Coding.{IsCode, IsOffset, IsTest}
 use Rattle.expr_lower.specs.Names.{Name, named, local}
-use Rattle.expr_lower.specs.Parted.{number_of}
+use Rattle.expr_lower.specs.Parted.{Part, number_of, part_named}
 use Rattle.list_lower.specs.Generators.{Counted, counted_by, how_many}
 
 -- two types are of lists of as many items at each depth
@@ -65,6 +65,12 @@ mutual
         → named text names ≡ Some x → alike t x.shape ≡ true
         → IsFill fs names (tree.variable text at) t c base n
         (take_instr c (scalars_of_type t) x.seat ∷ []) n
+    -- a part of a list that stands in cells: its offset in the whole list, and then its numbers, from there on
+    part_list : (names : List Name) (e : Tree) (t : Shape) (c base n m from : ℕ) (code : List Instr)
+        (p : Part)
+        → part_named names e ≡ Some p → p.seat ≡ Cell from → alike t p.shape ≡ true
+        → IsOffset fs names e base n code m
+        → IsFill fs names e t c base n (code ++ op.CopyFrom c from p.size (scalars_of_type t) ∷ []) m
     in_parens : (names : List Name) (e : Tree) (t : Shape) (at c base n m : ℕ) (code : List Instr)
         → IsFill fs names e t c base n code m
         → IsFill fs names (tree.paren e at) t c base n code m

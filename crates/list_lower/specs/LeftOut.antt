@@ -4,8 +4,10 @@ use Rattle.std.specs.Prelude.{ℕ, nat_eq, if◌then◌else◌, List, ◌∷◌,
 use Rattle.cal_ast.specs.Tree as tree
 use Rattle.cal_ast.specs.Tree.{Tree}
 use Rattle.cal_model.specs.Value.{Shape, Single, Many}
+use Rattle.expr_lower.specs.declared.names.Seat.{Seat}
+use Rattle.expr_lower.specs.declared.names.Seat.TheVariants.{Cell, Tokens}
 use Rattle.expr_lower.specs.Callees.{Function}
-use Rattle.expr_lower.specs.Growing.{left_out_in, ◌or_else◌}
+use Rattle.expr_lower.specs.Growing.{left_out_in, left_out_places, ◌or_else◌}
 use Rattle.expr_lower.specs.Names.{Name, local}
 use Rattle.expr_lower.specs.Parted.{number_of, part_named}
 use Rattle.list_lower.specs.Filling.{alike}
@@ -20,6 +22,24 @@ left_out_single fs names (Many n items) e at = Some at
 abbrev pub left_out_whole : List Name → Shape → List ℕ → ℕ → Option ℕ
 left_out_whole names t text at = elim (part_named names (tree.variable text at))
     [ None ↦ Some at | Some p ↦ if alike t p.shape then None else Some at ]
+
+-- the first cell of a seat in cells
+abbrev pub first_cell : Seat → Option ℕ
+first_cell (Cell c) = Some c
+first_cell (Tokens port first step) = None
+
+-- a part that a chain of indexes gives, where a list is meant: of a list in cells, with as many items at each depth
+abbrev pub left_out_part : List Function → List Name → Shape → Tree → ℕ → Option ℕ
+left_out_part fs names t e at = elim (part_named names e) [
+  | None ↦ Some at
+  | Some p ↦ if alike t p.shape then elim (first_cell p.seat)
+      [ None ↦ Some at | Some c ↦ left_out_places fs names e ] else Some at
+]
+
+-- an index
+abbrev pub left_out_index : List Function → List Name → Shape → Tree → ℕ → Option ℕ
+left_out_index fs names (Single t) e at = left_out_in fs names e
+left_out_index fs names (Many n items) e at = left_out_part fs names (Many n items) e at
 
 -- a name
 abbrev pub left_out_name : List Function → List Name → Shape → List ℕ → ℕ → Option ℕ
@@ -47,9 +67,9 @@ left_out_gens names other inside = inside names
 
 abbrev mutual
   -- The place of the first part of an expression for which no code is made that fills cells, if it is to be of this type
-  -- but for the sizes of its numbers: an index into lists of lists or a call that is to give a list, a name or a list
-  -- with another number of items, a comprehension whose generators aren't written out, or such a part of a single
-  -- value. Which cells the variables of generators have doesn't matter here.
+  -- but for the sizes of its numbers: an index that is to give a list of anything but a named list in cells, a call that
+  -- is to give one, a name, a part or a list with another number of items, a comprehension whose generators aren't
+  -- written out, or such a part of a single value. Which cells the variables of generators have doesn't matter here.
   pub left_out_fill : List Function → List Name → Shape → Tree → Option ℕ
   left_out_fill fs names t (tree.number k at) = left_out_single fs names t (tree.number k at) at
   left_out_fill fs names t (tree.truth b at) = left_out_single fs names t (tree.truth b at) at
@@ -68,7 +88,7 @@ abbrev mutual
       (λ items. left_out_gens names gens
       (λ inner. left_out_element items (left_out_in fs inner item) (left_out_fill fs inner items item)))
   left_out_fill fs names t (tree.index base place at) =
-      left_out_single fs names t (tree.index base place at) at
+      left_out_index fs names t (tree.index base place at) at
   left_out_fill fs names t other = Some 0
 
   pub left_out_fills : List Function → List Name → Shape → Tree → Option ℕ

@@ -1,4 +1,5 @@
 pub mod Meant
+pub mod ShapeMeant
 pub mod Generators
 pub mod Filling
 pub mod Shaped

@@ -8,9 +8,11 @@ mod counting;
 mod generators;
 pub mod laws;
 mod lists;
+mod meanings;
 mod sizes;
 mod taking;
 mod types;
 
-pub use lists::{fill, lower_list};
+pub use lists::{fill, fill_all, lower_list};
+pub use meanings::shape_meant;
 pub use types::single_meant;

@@ -23,7 +23,8 @@ ghost use Rattle.list_lower.specs.FillWords.{BeginsAt, HasCells, IsAllLaid, IsSi
 ghost use Rattle.list_lower.specs.FillWords.{IsFaultOfList, IsWholeList};
 ghost use Rattle.list_lower.specs.FillWords.{Lays, LaysAll, comp_of, list_of};
 ghost use Rattle.list_lower.specs.FillWords.{left_out_elements, left_out_inside, left_out_item};
-ghost use Rattle.list_lower.specs.LeftOut.{left_out_name, left_out_single, left_out_whole};
+ghost use Rattle.list_lower.specs.LeftOut.{first_cell, left_out_index, left_out_name, left_out_part};
+ghost use Rattle.list_lower.specs.LeftOut.{left_out_single, left_out_whole};
 
 use crate::counting::{put_first, put_more, put_next};
 use crate::generators::{Counter, counted_by, how_many};
@@ -33,8 +34,8 @@ use cal_ast::{Expr, ExprForm, Gen};
 use cal_model::Shape;
 use code_ir::Instr;
 use expr_lower::{
-    Callee, Draft, Frame, LowerFault, Named, Scope, Seat, link, lower, lower_test, next_place, put,
-    put_all, scalars, whole_called,
+    Callee, Draft, Frame, LowerFault, Named, Scope, Seat, link, lower, lower_test, next_place,
+    offset, part_named, put, put_all, scalars, whole_called,
 };
 
 /// The cells that a comprehension fills, how many they are, the cell that counts those that are filled, and the place
@@ -78,7 +79,7 @@ pub fn fill(
         ExprForm::Call { name: _, args: _ } => single(scope, e, shape, cell, e.at, draft),
         ExprForm::List(items) => list(scope, items, shape, cell, e.at, draft),
         ExprForm::Comp { item, gens } => comp(scope, item, gens, shape, cell, e.at, draft),
-        ExprForm::Index { base: _, place: _ } => single(scope, e, shape, cell, e.at, draft),
+        ExprForm::Index { base: _, place: _ } => index(scope, e, shape, cell, e.at, draft),
     }
 }
 
@@ -167,6 +168,76 @@ fn whole(
         unreachable!();
     };
     put(draft, take_instr(cell, size, part.seat))
+}
+
+/// Appends an index: of a single value, or of a list, where one is meant.
+fn index(
+    scope: &Scope,
+    e: &Expr,
+    shape: &Shape,
+    cell: u32,
+    at: u32,
+    draft: &mut Draft,
+) -> Result<(), LowerFault>
+    requires cells { HasCells (shape_view shape.now) cell draft.old }
+    ensures ok { OnOk result
+        (Lays scope.now (expr_tree e.now) (shape_view shape.now) cell draft.old draft.new) }
+    ensures whole { OnOk result
+        (left_out_index (called scope.now) (seen scope.now) (shape_view shape.now) (expr_tree e.now) at ≡ None) }
+    ensures fault { IfErr result (IsFault
+        (left_out_index (called scope.now) (seen scope.now) (shape_view shape.now) (expr_tree e.now) at) draft.new) }
+{
+    match shape {
+        Shape::Scalar(_) => one(scope, e, cell, draft),
+        Shape::List(_, _) => part(scope, e, shape, cell, at, draft),
+    }
+}
+
+/// Appends a part of a named list that stands in cells: its offset, and the instruction that copies its numbers.
+fn part(
+    scope: &Scope,
+    e: &Expr,
+    shape: &Shape,
+    cell: u32,
+    at: u32,
+    draft: &mut Draft,
+) -> Result<(), LowerFault>
+    requires cells { HasCells (shape_view shape.now) cell draft.old }
+    ensures ok { OnOk result
+        (Lays scope.now (expr_tree e.now) (shape_view shape.now) cell draft.old draft.new) }
+    ensures whole { OnOk result
+        (left_out_part (called scope.now) (seen scope.now) (shape_view shape.now) (expr_tree e.now) at ≡ None) }
+    ensures fault { IfErr result (IsFault
+        (left_out_part (called scope.now) (seen scope.now) (shape_view shape.now) (expr_tree e.now) at) draft.new) }
+{
+    let Some(part) = part_named(scope, e) else {
+        return Err(LowerFault::NotLowered { at });
+    };
+    if !alike(shape, part.shape) {
+        return Err(LowerFault::NotLowered { at });
+    }
+    let Some(from) = first_cell(part.seat) else {
+        return Err(LowerFault::NotLowered { at });
+    };
+    let Some(size) = scalars(shape) else {
+        unreachable!();
+    };
+    offset(scope, e, draft)?;
+    put(draft, Instr::CopyFrom(cell, from, part.size, size))
+}
+
+/// The first cell of a seat, if it is in cells.
+fn first_cell(seat: Seat) -> Option<u32>
+    ensures { result ≡ first_cell seat }
+{
+    match seat {
+        Seat::Cell(cell) => Some(cell),
+        Seat::Tokens {
+            port: _,
+            first: _,
+            step: _,
+        } => None,
+    }
 }
 
 /// The instruction that copies the numbers of a seat.
@@ -261,9 +332,9 @@ fn list(
     }
 }
 
-/// Appends items, one after the other.
+/// Appends code that fills the cells from one on with items of a type, one after the other.
 #[cycle(fill)]
-fn fill_all(
+pub fn fill_all(
     scope: &Scope,
     items: &[Expr],
     shape: &Shape,
@@ -435,9 +506,10 @@ fn inside(
         (left_out_inside scope.now (counter_view x.entry) (k + 1) rest.now (shape_view items.now) item.now) draft.new) }
 {
     fitting(draft.cells);
+    let shape = Shape::Scalar(x.kind);
     let frame = Frame {
         name: x.name,
-        kind: x.kind,
+        shape: &shape,
         cell: k + 1,
         outer: scope.frame,
     };
@@ -526,14 +598,16 @@ fn list_element(
 /// the draft stays.
 ///
 /// Code is made for single values as by [`lower_calling`](expr_lower::lower_calling), and for lists, also in lists, that
-/// are named or written out, for `if`, and for comprehensions whose types and bounds are written out.
+/// are named or written out, for items of named lists in cells that are lists, for `if`, and for comprehensions whose
+/// types and bounds are written out.
 ///
 /// # Errors
 ///
 /// `NotLowered` if the expression has a part for which no code is made, with the offset of the first one (`fault`):
-/// beside those of single values an index into lists of lists or a call that is to give a list, a name or a list with
-/// another number of items, or a comprehension whose generators aren't written out or make none. `TooLong` if the draft
-/// has 2 to the power of 32 instructions, `TooManyCells` if it has as many cells. `Memory` if memory runs out.
+/// beside those of single values an index that is to give a list of anything but a named list in cells, a call that is
+/// to give one, a name, an item or a list with another number of items, or a comprehension whose generators aren't
+/// written out or make none. `TooLong` if the draft has 2 to the power of 32 instructions, `TooManyCells` if it has as
+/// many cells. `Memory` if memory runs out.
 pub fn lower_list(
     names: &[Named],
     callees: &[Callee],

@@ -34,7 +34,7 @@ fn size_written(args: &[TypeArg]) -> Option<Option<u128>>
 }
 
 /// The size that an argument gives.
-fn size_of_arg(arg: &TypeArg) -> Option<Option<u128>>
+pub(crate) fn size_of_arg(arg: &TypeArg) -> Option<Option<u128>>
     ensures { result ≡ size_of_arg (type_arg_tree arg.now) }
 {
     match arg {
@@ -44,7 +44,7 @@ fn size_of_arg(arg: &TypeArg) -> Option<Option<u128>>
 }
 
 /// The size that a literal is.
-fn literal_size(e: &Expr) -> Option<Option<u128>>
+pub(crate) fn literal_size(e: &Expr) -> Option<Option<u128>>
     ensures { result ≡ literal_size (expr_tree e.now) }
 {
     match &e.form {

@@ -1,25 +1,24 @@
 -- Code of procedures that was added to a draft, part by part.
-use Rattle.std.proofs.Common.{◌≡◌, ℕ, ◌+◌, List, [], ◌∷◌, ◌++◌, length, map, sym, ap, ◌∙◌, refl, subst, Option, None, Some, append_assoc, length-append}
-use Rattle.rvc_base.specs.declared.scalar.Scalar.{Scalar}
+use Rattle.std.proofs.Common.{◌≡◌, ℕ, ◌+◌, List, [], ◌∷◌, ◌++◌, length, map, sym, ap, ◌∙◌, refl, subst, None, append_assoc, length-append}
 use Rattle.cal_ast.specs.Tree.{Tree}
-use Rattle.cal_ast.specs.View.{optional}
 use Rattle.cal_model.specs.Actor.{Local, Proc}
+use Rattle.cal_model.specs.Value.{Shape}
+use Rattle.code_ir.specs.declared.instr.Instr.{Instr}
 use Rattle.code_ir.specs.declared.instr.Instr.TheVariants as op
 use Rattle.expr_lower.specs.declared.callees.Formal.{Formal}
 use Rattle.expr_lower.specs.declared.draft.Draft.{Draft}
 use Rattle.expr_lower.specs.Growing.{◌or_else◌}
-use Rattle.expr_lower.specs.Listed.{single_of}
 use Rattle.expr_lower.specs.Lowered.{Adds, IsPut}
-use Rattle.expr_lower.specs.Names.{local, Name}
+use Rattle.expr_lower.specs.Names.{Name}
 use Rattle.expr_lower.specs.Routining.{StandForFormals, behind_formals, left_out_formals, some_formal}
-use Rattle.expr_lower.specs.Starting.{IsStart, left_out_start}
-use Rattle.expr_lower.specs.Taking.{HasOneMore}
-use Rattle.expr_lower.proofs.AddingRoutines.{formals_erased, single_is}
-use Rattle.expr_lower.proofs.Erased.{erase, start_erased}
-use Rattle.stmt_lower.specs.Proceeding.{IsProcBody, left_out_proc, left_out_proc_body, local_more, no_local}
+use Rattle.expr_lower.proofs.AddingRoutines.{formals_erased}
+use Rattle.expr_lower.proofs.Erased.{both_same, erase}
+use Rattle.stmt_lower.specs.Proceeding.{IsProcBody, left_out_proc, left_out_proc_body, local_list, local_more, no_local}
+use Rattle.stmt_lower.specs.ListStarting.{StartsLocal, left_out_local, local_of, starts_list, starts_one}
 use Rattle.stmt_lower.specs.Procedures.{Routines}
 use Rattle.stmt_lower.specs.Stating.{AreStmts}
 use Rattle.stmt_lower.proofs.ErasedStmts.{all_erased}
+use Rattle.stmt_lower.proofs.StartingLists.{local_erased}
 
 pub return_adds : {rs : Routines} (names : List Name) (body : Tree) (old mid new : Draft) → Adds (AreStmts rs names body) old mid → IsPut (op.Return ∷ []) mid new → Adds (IsProcBody rs body names []) old new
 return_adds {rs = rs} names body old mid new a p = record {
@@ -29,47 +28,37 @@ return_adds {rs = rs} names body old mid new a p = record {
   has = subst (λ m. IsProcBody rs body names [] (length old.instrs.items) old.cells (a.code ++ op.Return ∷ []) m) (sym p.cells) (no_local names (length old.instrs.items) old.cells mid.cells a.code a.has);
 }
 
-pub proc_local_adds : {rs : Routines} (names : List Name) (e : Tree) (x : Local) (xs : List Local) (kind : Scalar) (c : ℕ) (old d1 d2 new : Draft) → single_of x.shape ≡ Some kind → HasOneMore old d1 c
-    → Adds (IsStart rs.functions names kind c (optional x.start)) d1 d2 → Adds (IsProcBody rs e (local x.name kind c ∷ names) xs) d2 new → Adds (IsProcBody rs e names (x ∷ xs)) old new
-proc_local_adds {rs = rs} names e x xs kind c old d1 d2 new shape taken f g =
+pub proc_local_adds : {rs : Routines} (names : List Name) (e : Tree) (x : Local) (xs : List Local) (c : ℕ) (old mid new : Draft) → c ≡ old.cells → Adds (StartsLocal rs.functions names x) old mid → Adds (IsProcBody rs e (local_of x.name x.shape c ∷ names) xs) mid new
+    → Adds (IsProcBody rs e names (x ∷ xs)) old new
+proc_local_adds {rs = rs} names e x xs c old mid new is f g =
     let n : ℕ = old.cells in
     let base : ℕ = length old.instrs.items in
-    let f1 : Adds (IsStart rs.functions names kind n (optional x.start)) d1 d2 = subst (λ y. Adds (IsStart rs.functions names kind y (optional x.start)) d1 d2) taken.is f in
-    let g1 : Adds (IsProcBody rs e (local x.name kind n ∷ names) xs) d2 new = subst (λ y. Adds (IsProcBody rs e (local x.name kind y ∷ names) xs) d2 new) taken.is g in
-    let e2 : d2.instrs.items ≡ old.instrs.items ++ f1.code = f1.is ∙ ap (λ ys. ys ++ f1.code) taken.instrs in
-    let s2 : length d2.instrs.items ≡ base + length f1.code = ap length e2 ∙ length-append old.instrs.items f1.code in
+    let g1 : Adds (IsProcBody rs e (local_of x.name x.shape n ∷ names) xs) mid new = subst (λ y. Adds (IsProcBody rs e (local_of x.name x.shape y ∷ names) xs) mid new) is g in
+    let s2 : length mid.instrs.items ≡ base + length f.code = ap length f.is ∙ length-append old.instrs.items f.code in
     record {
-      code = f1.code ++ g1.code;
-      is = g1.is ∙ ap (λ ys. ys ++ g1.code) e2 ∙ append_assoc old.instrs.items f1.code g1.code;
-      routines = g1.routines ∙ f1.routines ∙ taken.routines;
-      has = local_more names x xs kind base n d2.cells new.cells f1.code g1.code (single_is x.shape kind shape)
-          (subst (λ p. IsStart rs.functions names kind n (optional x.start) p (n + 1) f1.code d2.cells) (ap length taken.instrs) (subst (λ y. IsStart rs.functions names kind n (optional x.start) (length d1.instrs.items) y f1.code d2.cells) taken.cells f1.has))
-          (subst (λ p. IsProcBody rs e (local x.name kind n ∷ names) xs p d2.cells g1.code new.cells) s2 g1.has);
+      code = f.code ++ g1.code;
+      is = g1.is ∙ ap (λ ys. ys ++ g1.code) f.is ∙ append_assoc old.instrs.items f.code g1.code;
+      routines = g1.routines ∙ f.routines;
+      has = local_then names e x xs base n mid.cells new.cells f.code g1.code f.has (subst (λ p. IsProcBody rs e (local_of x.name x.shape n ∷ names) xs p mid.cells g1.code new.cells) s2 g1.has);
     }
+  where
+    local_then : {rs : Routines} (names : List Name) (e : Tree) (x : Local) (xs : List Local) (base n k m : ℕ) (a b : List Instr) → StartsLocal rs.functions names x base n a k → IsProcBody rs e (local_of x.name x.shape n ∷ names) xs (base + length a) k b m → IsProcBody rs e names (x ∷ xs) base n (a ++ b) m
+    local_then {rs = rs} names e x xs base n k m a b (starts_one t _ _ _ _ shape h) rest =
+        local_more names x xs t base n k m a b shape h (subst (λ (s : Shape). IsProcBody rs e (local_of x.name s n ∷ names) xs (base + length a) k b m) shape rest)
+    local_then names e x xs base n k m a b (starts_list _ _ _ _ typed h) rest = local_list names x xs base n k m a b typed h rest
 
 -- ---- which cells names have doesn't matter
 
-abbrev each_kind : Option Scalar → (Scalar → Option ℕ) → Option ℕ
-each_kind o f = elim o [ None ↦ Some 0 | Some t ↦ f t ]
-
 proc_erased : (rs : Routines) (names : List Name) (xs : List Local) (e : Tree) → left_out_proc_body rs (map erase names) xs e ≡ left_out_proc_body rs names xs e
 proc_erased rs names [] e = all_erased rs names e
-proc_erased rs names (x ∷ xs) e = go (single_of x.shape) (λ t. proc_erased rs (local x.name t 0 ∷ names) xs e)
-  where
-    go : (o : Option Scalar) → ((t : Scalar) → left_out_proc_body rs (local x.name t 0 ∷ map erase names) xs e ≡ left_out_proc_body rs (local x.name t 0 ∷ names) xs e)
-        → each_kind o (λ t. left_out_start rs.functions (map erase names) (optional x.start) or_else left_out_proc_body rs (local x.name t 0 ∷ map erase names) xs e)
-        ≡ each_kind o (λ t. left_out_start rs.functions names (optional x.start) or_else left_out_proc_body rs (local x.name t 0 ∷ names) xs e)
-    go None later = refl
-    go (Some t) later =
-        ap (λ y. y or_else left_out_proc_body rs (local x.name t 0 ∷ map erase names) xs e) (start_erased rs.functions names (optional x.start)) ∙ ap (λ y. left_out_start rs.functions names (optional x.start) or_else y) (later t)
+proc_erased rs names (x ∷ xs) e = both_same (local_erased rs.functions names x) (proc_erased rs (local_of x.name x.shape 0 ∷ names) xs e)
 
 -- behind a local, once its start leaves out nothing
-pub proc_local_open : (rs : Routines) (names : List Name) (x : Local) (xs : List Local) (e : Tree) (kind : Scalar) (c : ℕ) → single_of x.shape ≡ Some kind → left_out_start rs.functions names (optional x.start) ≡ None
-    → left_out_proc_body rs names (x ∷ xs) e ≡ left_out_proc_body rs (local x.name kind c ∷ names) xs e
-proc_local_open rs names x xs e kind c shape start =
-    ap (λ o. each_kind o (λ t. left_out_start rs.functions names (optional x.start) or_else left_out_proc_body rs (local x.name t 0 ∷ names) xs e)) shape
-    ∙ ap (λ y. y or_else left_out_proc_body rs (local x.name kind 0 ∷ names) xs e) start
-    ∙ sym (proc_erased rs (local x.name kind 0 ∷ names) xs e) ∙ proc_erased rs (local x.name kind c ∷ names) xs e
+pub proc_local_open : (rs : Routines) (names : List Name) (x : Local) (xs : List Local) (e : Tree) (c : ℕ) → left_out_local rs.functions names x ≡ None
+    → left_out_proc_body rs names (x ∷ xs) e ≡ left_out_proc_body rs (local_of x.name x.shape c ∷ names) xs e
+proc_local_open rs names x xs e c none =
+    ap (λ y. y or_else left_out_proc_body rs (local_of x.name x.shape 0 ∷ names) xs e) none
+    ∙ sym (proc_erased rs (local_of x.name x.shape 0 ∷ names) xs e) ∙ proc_erased rs (local_of x.name x.shape c ∷ names) xs e
 
 -- formals in other cells
 pub proc_anywhere : (rs : Routines) (names : List Name) (xs : List Local) (ys : List Formal) (ls : List Local) (e : Tree) → StandForFormals xs ys

@@ -35,7 +35,10 @@ use Rattle.expr_lower.specs.Linking.{Closes, Links}
 use Rattle.stmt_lower.specs.Jumping.{SetsExit, SetsJump}
 use Rattle.expr_lower.specs.Lowered.{Adds, IsPut}
 use Rattle.list_lower.specs.Meant.{single_meant}
-use Rattle.stmt_lower.specs.Stating.{IsKept, IsStmt, copy_code, deep_tail, no_place, place_more, set_deep, set_filled, set_items, set_list, step_code, AreStmts, set, set_item, if_alone, if_else, while_code, each_code, none, one_more, IsBlock, variable_more, counter_at, each_bounds, each_head, each_less, each_next, each_tail, each_turn, call, run_code}
+use Rattle.list_lower.specs.ShapeMeant.{shape_meant}
+use Rattle.stmt_lower.specs.ListStarting.{left_out_list_start, local_of}
+use Rattle.stmt_lower.specs.StartWords.{TakesListStart}
+use Rattle.stmt_lower.specs.Stating.{IsKept, IsStmt, copy_code, deep_tail, no_place, place_more, set_deep, set_filled, set_items, set_list, step_code, AreStmts, set, set_item, if_alone, if_else, while_code, each_code, none, one_more, IsBlock, variable_more, counter_at, each_bounds, each_head, each_less, each_next, each_tail, each_turn, call, run_code, list_more}
 use Rattle.expr_lower.specs.Starting.{IsStart, left_out_start}
 use Rattle.stmt_lower.specs.Reserving.{HasKept, HasMore, HasTaken}
 use Rattle.expr_lower.specs.Taking.{HasOneMore}
@@ -602,17 +605,39 @@ variable_adds {rs = rs} names shape start vars body text place at c t changes ol
           (subst (λ p. IsBlock rs (local text t n ∷ names) vars body p d2.cells g1.code new.cells) s2 g1.has);
     }
 
+-- what is left out of a variable of a type that may be seen, and behind it
+abbrev in_either : Option Scalar → Option Shape → ℕ → (Scalar → Option ℕ) → (Shape → Option ℕ) → Option ℕ
+in_either o p at f g = elim o [ None ↦ elim p [ None ↦ Some at | Some t ↦ g t ] | Some t ↦ f t ]
+
 -- a block of which nothing is left out before what stands behind its first variable
 pub variable_open : (rs : Routines) (names : List Name) (shape start vars body : Tree) (text : List ℕ) (place at c : ℕ) (t : Scalar) (changes : Bool) → single_meant shape ≡ Some t → left_out_start rs.functions names start ≡ None
     → left_out_vars rs names (tree.cons (tree.var shape (tree.ident text place) start changes at) vars) (λ inner. left_out_all rs inner body) ≡ left_out_vars rs (local text t c ∷ names) vars (λ inner. left_out_all rs inner body)
 variable_open rs names shape start vars body text place at c t changes meant e =
-    go (single_meant shape) meant ∙ ap (λ x. x or_else left_out_vars rs (local text t 0 ∷ names) vars (λ inner. left_out_all rs inner body)) e ∙ sym (any_cell_vars rs names text t c vars body)
-  where
-    go : (o : Option Scalar) → o ≡ Some t
-        → each_left o at (λ s. left_out_start rs.functions names start or_else left_out_vars rs (local text s 0 ∷ names) vars (λ inner. left_out_all rs inner body))
-        ≡ left_out_start rs.functions names start or_else left_out_vars rs (local text t 0 ∷ names) vars (λ inner. left_out_all rs inner body)
-    go None h = cc
-    go (Some s) h = let same : s ≡ t = cc in ap (λ r. left_out_start rs.functions names start or_else left_out_vars rs (local text r 0 ∷ names) vars (λ inner. left_out_all rs inner body)) same
+    ap (λ o. in_either o (shape_meant shape) at (λ s. left_out_start rs.functions names start or_else left_out_vars rs (local text s 0 ∷ names) vars (λ inner. left_out_all rs inner body)) (λ s. left_out_list_start rs.functions names s start or_else left_out_vars rs (local_of text s 0 ∷ names) vars (λ inner. left_out_all rs inner body))) meant
+    ∙ ap (λ x. x or_else left_out_vars rs (local text t 0 ∷ names) vars (λ inner. left_out_all rs inner body)) e ∙ sym (any_cell_vars rs names text (Single t) c vars body)
+
+pub list_open : (rs : Routines) (names : List Name) (shape start vars body : Tree) (text : List ℕ) (place at c : ℕ) (t : Shape) (changes : Bool) → single_meant shape ≡ None → shape_meant shape ≡ Some t → left_out_list_start rs.functions names t start ≡ None
+    → left_out_vars rs names (tree.cons (tree.var shape (tree.ident text place) start changes at) vars) (λ inner. left_out_all rs inner body) ≡ left_out_vars rs (local_of text t c ∷ names) vars (λ inner. left_out_all rs inner body)
+list_open rs names shape start vars body text place at c t changes no_single meant e =
+    ap (λ o. in_either o (shape_meant shape) at (λ s. left_out_start rs.functions names start or_else left_out_vars rs (local text s 0 ∷ names) vars (λ inner. left_out_all rs inner body)) (λ s. left_out_list_start rs.functions names s start or_else left_out_vars rs (local_of text s 0 ∷ names) vars (λ inner. left_out_all rs inner body))) no_single
+    ∙ ap (λ p. in_either None p at (λ s. left_out_start rs.functions names start or_else left_out_vars rs (local text s 0 ∷ names) vars (λ inner. left_out_all rs inner body)) (λ s. left_out_list_start rs.functions names s start or_else left_out_vars rs (local_of text s 0 ∷ names) vars (λ inner. left_out_all rs inner body))) meant
+    ∙ ap (λ x. x or_else left_out_vars rs (local_of text t 0 ∷ names) vars (λ inner. left_out_all rs inner body)) e ∙ sym (any_cell_vars rs names text t c vars body)
+
+pub list_variable_adds : {rs : Routines} (names : List Name) (shape start vars body : Tree) (text : List ℕ) (place at c : ℕ) (t : Shape) (changes : Bool) (old mid new : Draft)
+    → shape_meant shape ≡ Some t → c ≡ old.cells → Adds (TakesListStart rs.functions names t start) old mid → Adds (IsBlock rs (local_of text t c ∷ names) vars body) mid new
+    → Adds (IsBlock rs names (tree.cons (tree.var shape (tree.ident text place) start changes at) vars) body) old new
+list_variable_adds {rs = rs} names shape start vars body text place at c t changes old mid new meant is f g =
+    let n : ℕ = old.cells in
+    let base : ℕ = length old.instrs.items in
+    let g1 : Adds (IsBlock rs (local_of text t n ∷ names) vars body) mid new = subst (λ x. Adds (IsBlock rs (local_of text t x ∷ names) vars body) mid new) is g in
+    let s2 : length mid.instrs.items ≡ base + length f.code = ap length f.is ∙ length-append old.instrs.items f.code in
+    record {
+      code = f.code ++ g1.code;
+      is = g1.is ∙ ap (λ xs. xs ++ g1.code) f.is ∙ append_assoc old.instrs.items f.code g1.code;
+      routines = g1.routines ∙ f.routines;
+      has = list_more names shape start vars body text place at base n mid.cells new.cells f.code g1.code t changes meant f.has
+          (subst (λ p. IsBlock rs (local_of text t n ∷ names) vars body p mid.cells g1.code new.cells) s2 g1.has);
+    }
 
 -- ---- calls of procedures
 

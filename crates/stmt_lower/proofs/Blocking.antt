@@ -62,7 +62,7 @@ then_then Lacks f g = refl
 then_then Clashes f g = refl
 
 -- leaving all locals is leaving the later ones and then the first
-leave_twice : (M : Env → ℕ → Out Env) (v : Var) (env : Env) (o : Out Env)
+pub leave_twice : (M : Env → ℕ → Out Env) (v : Var) (env : Env) (o : Out Env)
     → and_then o (λ x k. inside env x M k) ≡ and_then (and_then o (λ x k. inside (with_local v env) x M k)) (λ next k. Gives (back_to env next) k)
 leave_twice M v env (Gives x k) = go (M x k)
   where
@@ -80,7 +80,7 @@ leave_twice M v env Clashes = refl
 zero_num : IsNum (pos 0)
 zero_num = is-num (pos 0) refl
 
-zero_kind : (t : Scalar) → HasKind (kind_of_scalar t) (of_number t (pos 0)) × (flat (of_number t (pos 0)) ≡ pos 0 ∷ [])
+pub zero_kind : (t : Scalar) → HasKind (kind_of_scalar t) (of_number t (pos 0)) × (flat (of_number t (pos 0)) ≡ pos 0 ∷ [])
 zero_kind scalar.Bool = (tt, refl)
 zero_kind (scalar.Int n) = (zero_num, refl)
 zero_kind (scalar.Uint n) = (zero_num, refl)

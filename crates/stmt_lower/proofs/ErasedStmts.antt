@@ -16,6 +16,8 @@ use Rattle.expr_lower.specs.Names.{local, Name, named}
 use Rattle.list_lower.specs.LeftOut.{left_out_fill}
 use Rattle.list_lower.proofs.Erased.{fill_erased}
 use Rattle.list_lower.specs.Meant.{single_meant}
+use Rattle.list_lower.specs.ShapeMeant.{shape_meant}
+use Rattle.stmt_lower.specs.ListStarting.{left_out_list_start, local_of}
 use Rattle.expr_lower.specs.Parted.{Part, number_of, part_named}
 use Rattle.stmt_lower.specs.Targets.{deep_cells_at, deep_cells_in, deep_cells_named, leaf_in, leaf_of, cell_of, cell_named, cells_of, cells_named}
 use Rattle.stmt_lower.specs.StmtGrowing.{left_out_all, left_out_copy, left_out_deep, left_out_each, left_out_filled, left_out_items, left_out_list, left_out_part, left_out_whole, left_out_set, left_out_stmt, left_out_vars}
@@ -163,15 +165,24 @@ each_erased : (rs : Routines) (names : List Name) (text : List ℕ) (from to bod
 each_erased rs names text from to body at None h = refl
 each_erased rs names text from to body at (Some t) h = both_same (out_erased rs.functions names from) (both_same (out_erased rs.functions names to) (h t))
 
+pub list_start_erased : (fs : List Function) (names : List Name) (t : Shape) (start : Tree) → left_out_list_start fs (map erase names) t start ≡ left_out_list_start fs names t start
+list_start_erased fs names t tree.absent = refl
+list_start_erased fs names t (tree.present e) = fill_erased fs names t e
+list_start_erased fs names t other = refl
+
+abbrev in_either : Option Scalar → Option Shape → ℕ → (Scalar → Option ℕ) → (Shape → Option ℕ) → Option ℕ
+in_either o p at f g = elim o [ None ↦ elim p [ None ↦ Some at | Some t ↦ g t ] | Some t ↦ f t ]
+
 vars_erased : (rs : Routines) (names : List Name) (vars : Tree) (body : List Name → Option ℕ) → ((inner : List Name) → body (map erase inner) ≡ body inner) → left_out_vars rs (map erase names) vars body ≡ left_out_vars rs names vars body
 vars_erased rs names tree.nil body h = h names
-vars_erased rs names (tree.cons (tree.var shape (tree.ident text place) start changes at) vars) body h = go (single_meant shape) (λ t. vars_erased rs (local text t 0 ∷ names) vars body h)
+vars_erased rs names (tree.cons (tree.var shape (tree.ident text place) start changes at) vars) body h = go (single_meant shape) (shape_meant shape) (λ t. vars_erased rs (local_of text t 0 ∷ names) vars body h)
   where
-    go : (o : Option Scalar) → ((t : Scalar) → left_out_vars rs (local text t 0 ∷ map erase names) vars body ≡ left_out_vars rs (local text t 0 ∷ names) vars body)
-        → left_each o at (λ t. left_out_start rs.functions (map erase names) start or_else left_out_vars rs (local text t 0 ∷ map erase names) vars body)
-        ≡ left_each o at (λ t. left_out_start rs.functions names start or_else left_out_vars rs (local text t 0 ∷ names) vars body)
-    go None later = refl
-    go (Some t) later = both_same (start_erased rs.functions names start) (later t)
+    go : (o : Option Scalar) (p : Option Shape) → ((t : Shape) → left_out_vars rs (local_of text t 0 ∷ map erase names) vars body ≡ left_out_vars rs (local_of text t 0 ∷ names) vars body)
+        → in_either o p at (λ t. left_out_start rs.functions (map erase names) start or_else left_out_vars rs (local text t 0 ∷ map erase names) vars body) (λ t. left_out_list_start rs.functions (map erase names) t start or_else left_out_vars rs (local_of text t 0 ∷ map erase names) vars body)
+        ≡ in_either o p at (λ t. left_out_start rs.functions names start or_else left_out_vars rs (local text t 0 ∷ names) vars body) (λ t. left_out_list_start rs.functions names t start or_else left_out_vars rs (local_of text t 0 ∷ names) vars body)
+    go None None later = refl
+    go None (Some t) later = both_same (list_start_erased rs.functions names t start) (later t)
+    go (Some t) p later = both_same (start_erased rs.functions names start) (later (Single t))
 vars_erased rs names other body h = refl
 
 mutual
@@ -198,8 +209,8 @@ pub any_cell : (rs : Routines) (names : List Name) (text : List ℕ) (t : Scalar
 any_cell rs names text t c body = sym (all_erased rs (local text t c ∷ names) body) ∙ all_erased rs (local text t 0 ∷ names) body
 
 -- .. and so do the variables of a block behind it
-pub any_cell_vars : (rs : Routines) (names : List Name) (text : List ℕ) (t : Scalar) (c : ℕ) (vars body : Tree)
-    → left_out_vars rs (local text t c ∷ names) vars (λ inner. left_out_all rs inner body) ≡ left_out_vars rs (local text t 0 ∷ names) vars (λ inner. left_out_all rs inner body)
+pub any_cell_vars : (rs : Routines) (names : List Name) (text : List ℕ) (t : Shape) (c : ℕ) (vars body : Tree)
+    → left_out_vars rs (local_of text t c ∷ names) vars (λ inner. left_out_all rs inner body) ≡ left_out_vars rs (local_of text t 0 ∷ names) vars (λ inner. left_out_all rs inner body)
 any_cell_vars rs names text t c vars body =
-    sym (vars_erased rs (local text t c ∷ names) vars (λ inner. left_out_all rs inner body) (λ inner. all_erased rs inner body))
-    ∙ vars_erased rs (local text t 0 ∷ names) vars (λ inner. left_out_all rs inner body) (λ inner. all_erased rs inner body)
+    sym (vars_erased rs (local_of text t c ∷ names) vars (λ inner. left_out_all rs inner body) (λ inner. all_erased rs inner body))
+    ∙ vars_erased rs (local_of text t 0 ∷ names) vars (λ inner. left_out_all rs inner body) (λ inner. all_erased rs inner body)

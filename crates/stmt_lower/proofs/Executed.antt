@@ -17,7 +17,7 @@ use Rattle.expr_lower.specs.Names.{Name, named, local}
 use Rattle.expr_lower.specs.Held.{AreBelow, AllApart, AreApart}
 use Rattle.stmt_lower.specs.Changing.{AreTyped, HoldsVars, KeepsBut, NamesApart}
 use Rattle.expr_lower.specs.Coding.{AreArgs, IsCode, IsTest}
-use Rattle.stmt_lower.specs.Stating.{IsStmt, AreStmts, IsKept, call, set, set_deep, set_item, set_filled, set_items, set_list, if_alone, if_else, while_code, each_code, block_code, none, one_more, IsBlock, no_more, variable_more}
+use Rattle.stmt_lower.specs.Stating.{IsStmt, AreStmts, IsKept, call, set, set_deep, set_item, set_filled, set_items, set_list, if_alone, if_else, while_code, each_code, block_code, none, one_more, IsBlock, list_more, no_more, variable_more}
 use Rattle.expr_lower.specs.Starting.{IsStart, at_zero, at_value}
 use Rattle.expr_lower.specs.Placed.{StandsAt, World, state}
 use Rattle.expr_lower.specs.Following.{Follows}
@@ -37,7 +37,10 @@ use Rattle.list_lower.proofs.Filled.{grows_fill}
 use Rattle.stmt_lower.proofs.FillingRuns.{set_filled_performs}
 use Rattle.stmt_lower.proofs.ItemsKept.{set_items_performs}
 use Rattle.stmt_lower.proofs.Setting.{set_performs, set_item_performs}
+use Rattle.stmt_lower.specs.ListStarting.{IsListStart, local_of}
 use Rattle.stmt_lower.proofs.Blocking.{block_more, block_none, blocked}
+use Rattle.stmt_lower.proofs.ListBlocks.{block_list}
+use Rattle.stmt_lower.proofs.ListStarting.{grows_list_start}
 use Rattle.stmt_lower.proofs.Eaching.{each_performs}
 use Rattle.stmt_lower.specs.Procedures.{Routines, no_routines}
 use Rattle.expr_lower.specs.Calling.{Serves}
@@ -190,6 +193,7 @@ mutual
   pub grows_block : {rs : Routines} {names : List Name} {vars body : Tree} {base n m : ℕ} {code : List Instr} → IsBlock rs names vars body base n code m → n ≤ m
   grows_block (no_more names body base n m code g) = grows_all g
   grows_block (variable_more names shape start vars body text place at base n k m a b t changes e g d) = let x = grows_start g in let y = grows_block d in omega (arith, x, y)
+  grows_block (list_more names shape start vars body text place at base n k m a b t changes e g d) = let x = grows_list_start g in let y = grows_block d in omega (arith, x, y)
 
   pub grows_all : {rs : Routines} {names : List Name} {ss : Tree} {base n m : ℕ} {code : List Instr} → AreStmts rs names ss base n code m → n ≤ m
   grows_all (none names base n) = omega arith
@@ -235,6 +239,9 @@ module _ (rs : Routines) (outer : List Name) (w : World) (serves : Serves w oute
         let x = grows_start g in
         block_more rs outer w serves frames runs inner (λ env left. exec_all body w.calls runs env left) shape start vars text place at base n k m a b t changes e x (grows_block d)
         (subst (λ ns. IsStart rs.functions ns t n start base (n + 1) a k) is g) (performs_block (local text t n ∷ inner) (ap (λ ns. local text t n ∷ ns) is) d)
+    performs_block inner is (list_more names shape start vars body text place at base n k m a b t changes e g d) =
+        block_list rs outer w serves frames runs inner (λ env left. exec_all body w.calls runs env left) shape start vars text place at base n k m a b t changes e (grows_block d)
+        (subst (λ ns. IsListStart rs.functions ns t n start base (n + scalars_of_type t) a k) is g) (performs_block (local_of text t n ∷ inner) (ap (λ ns. local_of text t n ∷ ns) is) d)
 
     pub performs_all : {names : List Name} {ss : Tree} {base n m : ℕ} {code : List Instr} (inner : List Name) → names ≡ inner ++ outer → AreStmts rs names ss base n code m
         → Performs rs outer w serves frames inner (λ env left. exec_all ss w.calls runs env left) base n code m

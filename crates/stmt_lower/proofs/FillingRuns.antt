@@ -1,5 +1,5 @@
 -- The code that stores a list which was filled apart does what executing the assignment does.
-use Rattle.std.proofs.Common.{◌≡◌, ℕ, ◌+◌, ◌<◌, ◌≤◌, inr, ℤ, List, [], ◌∷◌, ◌++◌, length, refl, sym, ap, ◌∙◌, subst, Some, arith, length-append}
+use Rattle.std.proofs.Common.{◌≡◌, ℕ, ◌+◌, ◌*◌, ◌<◌, ◌≤◌, inr, ℤ, List, [], ◌∷◌, ◌++◌, length, refl, sym, ap, ◌∙◌, subst, Some, arith, length-append}
 use Rattle.std.specs.Prelude.{slice_get}
 use Rattle.std.proofs.lemmas.Option.{slice_get_within}
 use Rattle.rvc_base.specs.declared.scalar.Scalar.{Scalar}
@@ -7,7 +7,7 @@ use Rattle.cal_ast.specs.Tree as tree
 use Rattle.cal_ast.specs.Tree.{Tree}
 use Rattle.cal_model.specs.Value.{Shape, Nil, IsType, scalars_of_type, stored}
 use Rattle.cal_model.specs.Env.{Env, assign}
-use Rattle.cal_model.specs.Expression.{eval}
+use Rattle.cal_model.specs.Expression.{eval, eval_all}
 use Rattle.cal_model.specs.Statement.{Runs, exec}
 use Rattle.code_ir.specs.declared.instr.Instr.{Instr}
 use Rattle.code_ir.specs.declared.instr.Instr.TheVariants as op
@@ -25,8 +25,10 @@ use Rattle.expr_lower.proofs.Coded.{no_serves}
 use Rattle.expr_lower.proofs.Runs.{follows_then, stands_left, stands_right}
 use Rattle.expr_lower.proofs.Written.{Written}
 use Rattle.list_lower.specs.Filled.{Fills}
-use Rattle.list_lower.specs.Filling.{IsFill}
-use Rattle.list_lower.proofs.Filled.{fills_in, grows_fill}
+use Rattle.expr_lower.specs.Parted.{number_of}
+use Rattle.list_lower.specs.Filling.{AreFills, IsFill}
+use Rattle.list_lower.proofs.Filled.{fills_each, fills_in, grows_fill}
+use Rattle.list_lower.proofs.Forms.{FillsAll}
 use Rattle.list_lower.proofs.Moving.{AreMoved, copied_are, copy_leaves}
 use Rattle.list_lower.proofs.Shapes.{flat_shaped}
 use Rattle.list_lower.proofs.Steps.{straight_reaches}
@@ -54,7 +56,7 @@ no_room high cells some = absurd (omega (arith, some))
 
 module _ (rs : Routines) (outer : List Name) (w : World) (serves : Serves w outer rs.functions) (frames : List ℕ) where
   -- code of a list fills cells with it, whatever it calls
-  fills_there : (inner : List Name) {e : Tree} {t : Shape} {base n k m : ℕ} {code : List Instr} → IsFill rs.functions (inner ++ outer) e t n base k code m → n + scalars_of_type t ≤ k → (stack cells : List ℤ) (env : Env) (left : ℕ) → StandsAt w.code.instrs base code
+  pub fills_there : (inner : List Name) {e : Tree} {t : Shape} {base n k m : ℕ} {code : List Instr} → IsFill rs.functions (inner ++ outer) e t n base k code m → n + scalars_of_type t ≤ k → (stack cells : List ℤ) (env : Env) (left : ℕ) → StandsAt w.code.instrs base code
       → AreLaid rs outer w.tokens w.low w.high n inner → AreApart n m w.low w.high → m ≤ length cells → HoldsInside rs outer w.tokens w.low w.high inner cells env
       → Follows (eval e w.calls env left) (Fills w n m n t (state base stack frames cells left) (base + length code)) (CutsOff w n m (state base stack frames cells left))
   fills_there inner {e = e} {t = t} {base = base} {n = n} {k = k} {m = m} {code = code} coded wide stack cells env left stands laid apart room holds =
@@ -73,6 +75,33 @@ module _ (rs : Routines) (outer : List Name) (w : World) (serves : Serves w oute
       by (f ∷ fs) serve coded can =
           let g = can (omega arith) in
           fills_in (f ∷ fs) outer w serve frames coded wide env stack cells left stands (record {
+            below = (laid_below rs outer w.tokens w.low w.high n inner laid, outer_below rs outer w.tokens w.low w.high n inner laid);
+            apart = (laid_apart rs outer w.tokens w.low w.high n inner laid, outer_apart rs outer w.tokens w.low w.high n inner laid);
+            free = apart;
+            room = room;
+            held = (names_held rs outer w.tokens w.low w.high inner cells env holds, g.vars.0, λ some. g.room);
+          })
+
+  -- .. and so does code of items, one after the other
+  pub all_there : (inner : List Name) {es : Tree} {t : Shape} {base n k m : ℕ} {code : List Instr} → AreFills rs.functions (inner ++ outer) es t n base k code m → n + number_of es * scalars_of_type t ≤ k → (stack cells : List ℤ) (env : Env) (left : ℕ) → StandsAt w.code.instrs base code
+      → AreLaid rs outer w.tokens w.low w.high n inner → AreApart n m w.low w.high → m ≤ length cells → HoldsInside rs outer w.tokens w.low w.high inner cells env
+      → Follows (eval_all es w.calls env left) (FillsAll w n m n t (number_of es) (state base stack frames cells left) (base + length code)) (CutsOff w n m (state base stack frames cells left))
+  all_there inner {es = es} {t = t} {base = base} {n = n} {k = k} {m = m} {code = code} coded wide stack cells env left stands laid apart room holds =
+      by rs.functions serves coded (λ some. globals_held rs outer w.tokens w.low w.high inner cells env holds (omega (arith, some)))
+    where
+      by : (fs : List Function) → Serves w outer fs → AreFills fs (inner ++ outer) es t n base k code m → (0 < length fs → GlobalsHeld outer w.tokens w.high cells env)
+          → Follows (eval_all es w.calls env left) (FillsAll w n m n t (number_of es) (state base stack frames cells left) (base + length code)) (CutsOff w n m (state base stack frames cells left))
+      by [] serve coded can =
+          fills_each [] [] w (no_serves w) frames coded wide env stack cells left stands (record {
+            below = (laid_below rs outer w.tokens w.low w.high n inner laid, no_below n);
+            apart = (laid_apart rs outer w.tokens w.low w.high n inner laid, no_apart w.low w.high);
+            free = apart;
+            room = room;
+            held = (names_held rs outer w.tokens w.low w.high inner cells env holds, no_held w.tokens cells (outside env.globals), no_room w.high cells);
+          })
+      by (f ∷ fs) serve coded can =
+          let g = can (omega arith) in
+          fills_each (f ∷ fs) outer w serve frames coded wide env stack cells left stands (record {
             below = (laid_below rs outer w.tokens w.low w.high n inner laid, outer_below rs outer w.tokens w.low w.high n inner laid);
             apart = (laid_apart rs outer w.tokens w.low w.high n inner laid, outer_apart rs outer w.tokens w.low w.high n inner laid);
             free = apart;

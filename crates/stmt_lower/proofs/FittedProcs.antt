@@ -2,6 +2,7 @@
 use Rattle.std.proofs.Common.{ℕ, ◌+◌, ◌≤◌, List, [], ◌∷◌, ◌++◌, length, refl, sym, ap, ◌∙◌, arith, append_assoc}
 use Rattle.cal_ast.specs.Tree.{Tree}
 use Rattle.cal_model.specs.Actor.{Local, Proc}
+use Rattle.cal_model.specs.Value.{scalars_of_type}
 use Rattle.code_ir.specs.declared.instr.Instr.{Instr}
 use Rattle.code_ir.specs.declared.instr.Instr.TheVariants as op
 use Rattle.code_ir.specs.Code.{Code}
@@ -17,10 +18,11 @@ use Rattle.expr_lower.proofs.Runs.{stands_left, stands_right}
 use Rattle.expr_lower.proofs.Served.{formals_below, sizes_of}
 use Rattle.stmt_lower.specs.Calls.{HasRunRoutines}
 use Rattle.stmt_lower.specs.Changing.{AreTyped}
-use Rattle.stmt_lower.specs.Proceeding.{FitsAsProc, IsProcBody, IsProcRoutine, ProcSized, local_more, no_local}
+use Rattle.stmt_lower.specs.Proceeding.{FitsAsProc, IsProcBody, IsProcRoutine, ProcSized, local_list, local_more, no_local}
 use Rattle.stmt_lower.specs.Procedures.{Procedure, Routines}
 use Rattle.stmt_lower.proofs.Executed.{grows_start}
-use Rattle.stmt_lower.proofs.FittedStmts.{cell_below, fits_all, fits_start, local_typed}
+use Rattle.stmt_lower.proofs.FittedStmts.{any_typed, cell_below, cells_below, fits_all, fits_list_start, fits_start, local_typed}
+use Rattle.stmt_lower.proofs.ListStarting.{grows_list_start}
 use Rattle.stmt_lower.proofs.ProcServed.{proc_grows}
 
 module _ (whole : Code) (callable limit : ℕ) where
@@ -45,6 +47,17 @@ module _ (whole : Code) (callable limit : ℕ) where
           is = ap (λ is. a ++ is) r.is ∙ sym (append_assoc a r.body (op.Return ∷ []));
           fits = plain_then whole callable limit base 0 0 0 a r.body
               (fits_start whole callable limit rs has names kind n 0 (sizes.0 kind shape) (omega (arith, up, more, le)) (below_more n (n + 1) names (omega arith) below) (omega (arith, more, le)) first) r.fits;
+        }
+    body_fits below typed sizes le stands (local_list names x xs base n k m a b one first rest) =
+        let up : n + scalars_of_type x.shape ≤ k = grows_list_start first in
+        let more : k ≤ m = proc_grows rest in
+        let r : FitsAsProc whole callable limit (base + length a) b =
+        body_fits (cells_below whole callable limit n k names x.name x.shape up below) (any_typed whole callable limit n names x.name x.shape one typed) sizes.1 le (stands_right whole.instrs base a b stands) rest in
+        record {
+          body = a ++ r.body;
+          is = ap (λ is. a ++ is) r.is ∙ sym (append_assoc a r.body (op.Return ∷ []));
+          fits = plain_then whole callable limit base 0 0 0 a r.body
+              (fits_list_start whole callable limit rs has names x.shape n 0 one (omega arith) below (omega (arith, more, le)) (stands_left whole.instrs base a b stands) first) r.fits;
         }
 
     pub proc_fits : (globals : List Name) (p : Proc) (g : Procedure) (base n m : ℕ) (code : List Instr) → AreBelow n globals → AreTyped globals → ProcSized p → m ≤ limit → StandsAt whole.instrs base code → IsProcRoutine globals rs p g base n code m

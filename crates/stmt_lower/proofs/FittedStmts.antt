@@ -18,7 +18,7 @@ use Rattle.stmt_lower.specs.Changing.{AreTyped}
 use Rattle.expr_lower.specs.Fitting.{Fits}
 use Rattle.expr_lower.specs.Parted.{number_of, sized}
 use Rattle.expr_lower.specs.Placed.{StandsAt}
-use Rattle.stmt_lower.specs.Stating.{IsKept, IsStmt, AreStmts, copy_code, deep_tail, no_place, place_more, set, set_deep, set_item, set_filled, set_items, set_list, step_code, step_in, if_alone, if_else, while_code, each_code, each_head, each_tail, block_code, none, one_more, IsBlock, no_more, variable_more, call, run_code}
+use Rattle.stmt_lower.specs.Stating.{IsKept, IsStmt, AreStmts, copy_code, deep_tail, no_place, place_more, set, set_deep, set_item, set_filled, set_items, set_list, step_code, step_in, if_alone, if_else, while_code, each_code, each_head, each_tail, block_code, none, one_more, IsBlock, list_more, no_more, variable_more, call, run_code}
 use Rattle.expr_lower.specs.Starting.{IsStart, at_zero, at_value}
 use Rattle.expr_lower.proofs.Coded.{grows, grows_test}
 use Rattle.stmt_lower.proofs.DeepItems.{grows_kept, leaf_sized}
@@ -33,6 +33,9 @@ use Rattle.stmt_lower.proofs.Leaves.{leaf_size}
 use Rattle.list_lower.proofs.FittedJumps.{fits_back, fits_goto, fits_none}
 use Rattle.expr_lower.proofs.Keeping.{below_more}
 use Rattle.list_lower.proofs.MeantIs.{meant_sized}
+use Rattle.list_lower.proofs.ShapeIs.{shape_typed}
+use Rattle.stmt_lower.specs.ListStarting.{IsListStart, all_filled, all_zero, local_of}
+use Rattle.stmt_lower.proofs.ListStarting.{grows_list_start}
 use Rattle.stmt_lower.proofs.Scoping.{choose_name}
 use Rattle.expr_lower.proofs.Runs.{stands_left, stands_right}
 use Rattle.code_ir.specs.Code.{results_of}
@@ -84,6 +87,19 @@ module _ (code : Code) (callable limit : ℕ) where
       (λ (f : (bytes_eq text other ≡ false) × (named other names ≡ Some y)). below_more n k names (omega (arith, le)) below other y f.1)
       (choose_name (bytes_eq text other) (local text t n) (named other names) y e)
 
+  -- a local in the next cells
+  pub cells_below : (n k : ℕ) (names : List Name) (text : List ℕ) (t : Shape) → n + scalars_of_type t ≤ k → AreBelow n names → AreBelow k (local_of text t n ∷ names)
+  cells_below n k names text t le below other y e =
+      ⊎_elim (λ (f : (bytes_eq text other ≡ true) × (local_of text t n ≡ y)). subst (λ (z : Name). SeatIsBelow k (scalars_of_type z.shape) z.seat) f.1 (omega (arith, le)))
+      (λ (f : (bytes_eq text other ≡ false) × (named other names ≡ Some y)). below_more n k names (omega (arith, le)) below other y f.1)
+      (choose_name (bytes_eq text other) (local_of text t n) (named other names) y e)
+
+  pub any_typed : (c : ℕ) (names : List Name) (text : List ℕ) (t : Shape) → IsType t → AreTyped names → AreTyped (local_of text t c ∷ names)
+  any_typed c names text t sized typed other y e =
+      ⊎_elim (λ (f : (bytes_eq text other ≡ true) × (local_of text t c ≡ y)). subst (λ (z : Name). IsType z.shape) f.1 sized)
+      (λ (f : (bytes_eq text other ≡ false) × (named other names ≡ Some y)). typed other y f.1)
+      (choose_name (bytes_eq text other) (local_of text t c) (named other names) y e)
+
   -- ---- calls
 
   fits_run : (base h : ℕ) (p : Procedure) → p.routine < callable → results_of code p.routine ≡ 0 → HasCells 0 limit p.formals → Plain code callable limit base (h + length p.formals) (run_code p) h
@@ -101,6 +117,16 @@ module _ (code : Code) (callable limit : ℕ) where
         (fits_one code callable limit (base + 1) (h + 1) h (op.Store c None) (omega arith) (omega arith) refl room tt tt tt)
     fits_start names t c h sized room below le (at_value e base n m instrs g) =
         plain_then code callable limit base h (h + 1) h instrs (op.Store c (Some t) ∷ []) (fits_in code callable limit rs.functions has.functions names h below le g) (fits_store (base + length instrs) h c t room sized)
+
+    pub fits_list_start : (names : List Name) (t : Shape) (c : ℕ) {start : Tree} {base n m : ℕ} {a : List Instr} (h : ℕ) → IsType t → c + scalars_of_type t ≤ n → AreBelow c names → m ≤ limit → StandsAt code.instrs base a → IsListStart rs.functions names t c start base n a m → Plain code callable limit base h a h
+    fits_list_start names t c h typed room below le stands (all_zero base n) =
+        fits_one code callable limit base h h (op.Zero c (scalars_of_type t)) (omega arith) (omega arith) refl (omega (arith, room, le)) tt tt tt
+    fits_list_start names t c h typed room below le stands (all_filled e base n m instrs g) =
+        let wide = grows_fill g in
+        let i : Instr = op.Copy c c (scalars_of_type t) (Some (leaf_of t)) in
+        let there : c + scalars_of_type t ≤ limit = omega (arith, room, wide, le) in
+        plain_then code callable limit base h h h instrs (i ∷ []) (fits_fill code callable limit rs.functions has.functions h below room le (stands_left code.instrs base instrs (i ∷ []) stands) g)
+        (fits_one code callable limit (base + length instrs) h h i (omega arith) (omega arith) refl (there, there) tt tt (leaf_size t typed))
 
     fits_kept : (names : List Name) {c : ℕ} {places : Tree} {base n m : ℕ} {instrs : List Instr} (h : ℕ) → c + number_of places ≤ n → AreBelow c names → m ≤ limit → IsKept rs.functions names c places base n instrs m → Plain code callable limit base h instrs h
     fits_kept names h room below le (no_place c base n) = fits_none code callable limit base h
@@ -243,6 +269,12 @@ module _ (code : Code) (callable limit : ℕ) where
           let wide : n ≤ n + 1 = omega arith in
           plain_then code callable limit base h h h a b (fits_start names t n h sized (omega (arith, x, y, le)) (below_more n (n + 1) names wide below) (omega (arith, y, le)) g)
           (fits_block h (cell_below n k names text t x below) (local_typed n names text t sized typed) le (stands_right code.instrs base a b stands) d)
+      fits_block h below typed le stands (list_more names shape start vars body text place at base n k m a b t changes e g d) =
+          let x = grows_list_start g in
+          let y = grows_block d in
+          let one : IsType t = shape_typed shape t e in
+          plain_then code callable limit base h h h a b (fits_list_start names t n h one (omega arith) below (omega (arith, y, le)) (stands_left code.instrs base a b stands) g)
+          (fits_block h (cells_below n k names text t x below) (any_typed n names text t one typed) le (stands_right code.instrs base a b stands) d)
 
       pub fits_all : {names : List Name} {ss : Tree} {base n m : ℕ} {instrs : List Instr} (h : ℕ) → AreBelow n names → AreTyped names → m ≤ limit → StandsAt code.instrs base instrs → AreStmts rs names ss base n instrs m → Plain code callable limit base h instrs h
       fits_all h below typed le stands (none names base n) = fits_none code callable limit base h

@@ -32,15 +32,17 @@ use Rattle.expr_lower.specs.Routining.{LocalsSized, StandForFormals, behind_form
 use Rattle.expr_lower.specs.Starting.{IsStart}
 use Rattle.expr_lower.proofs.Runs.{ends_back, ends_join, follows_more, follows_then, obeys, reaches_join, stands_left, stands_right}
 use Rattle.expr_lower.proofs.Served.{routines_low, served_within, sizes_of}
-use Rattle.expr_lower.proofs.Keeping.{apart_last}
+use Rattle.expr_lower.proofs.Keeping.{apart_first, apart_last}
 use Rattle.stmt_lower.specs.Acting.{ActsAs, ComesBack, EndsAsRun, ServesRuns}
 use Rattle.stmt_lower.specs.Changing.{AreTyped, HoldsVars, IsOfNone, KeepsBut, NamesApart}
 use Rattle.stmt_lower.specs.Executing.{BreaksOff}
-use Rattle.stmt_lower.specs.Proceeding.{AreProcRoutines, IsProcBody, IsProcRoutine, ProcSized, local_more, no_local, no_procedure, procedure_more}
+use Rattle.stmt_lower.specs.Proceeding.{AreProcRoutines, IsProcBody, IsProcRoutine, ProcSized, local_list, local_more, no_local, no_procedure, procedure_more}
 use Rattle.stmt_lower.specs.Procedures.{Procedure, Routines, procedure_named}
 use Rattle.stmt_lower.proofs.Blocking.{Started, start_moves, then_then}
 use Rattle.stmt_lower.proofs.Executed.{grows_all, grows_start, performs_all}
-use Rattle.stmt_lower.proofs.Locals.{local_held}
+use Rattle.stmt_lower.specs.ListStarting.{IsListStart, local_of}
+use Rattle.stmt_lower.proofs.ListStarting.{StartedList, grows_list_start, list_start_moves}
+use Rattle.stmt_lower.proofs.Locals.{any_held, local_held}
 use Rattle.stmt_lower.proofs.Performing.{Moves}
 use Rattle.stmt_lower.proofs.Scoping.{AreLaid, HoldsInside, choose_name, inside_still}
 use Rattle.stmt_lower.specs.Bodies.{CutShort, KeepsOver, SeatLies}
@@ -48,6 +50,7 @@ use Rattle.stmt_lower.specs.Bodies.{CutShort, KeepsOver, SeatLies}
 pub proc_grows : {rs : Routines} {body : Tree} {names : List Name} {xs : List Local} {base n m : ℕ} {code : List Instr} → IsProcBody rs body names xs base n code m → n ≤ m
 proc_grows (no_local names base n m code h) = grows_all h
 proc_grows (local_more names x xs kind base n k m a b shape first rest) = let g = grows_start first in let h = proc_grows rest in omega (arith, g, h)
+proc_grows (local_list names x xs base n k m a b typed first rest) = let g = grows_list_start first in let h = proc_grows rest in omega (arith, g, h)
 
 -- a value at first, in the words of a block
 first_same : (t : Shape) (start : Option Tree) (calls : Calls) (env : Env) (left : ℕ) → first_of t (optional start) calls env left ≡ first_value t start calls env left
@@ -174,6 +177,45 @@ module _ (rs : Routines) (outer : List Name) (w : World) (serves : Serves w oute
           → Follows (ends_proc body xs (with_local (variable x.name (Single kind) x.changes v) env) j) (Finishes from m s) (BreaksOff w outer from m s)
       later v j p done =
           let var : Var = variable x.name (Single kind) x.changes v in
+          let u : State = state (base + length a) stack open_frames p.cells j in
+          let kept : KeepsBut outer from m w.low w.high cells p.cells = record {
+            size = p.keeps.size;
+            cell = λ c free apart none. p.keeps.cell c (⊎_elim (λ (a : c < from). inl (omega (arith, a, le))) (λ (a : m ≤ c). inr (omega (arith, a, more))) free) apart;
+          } in
+          follows_more (ends_proc body xs (with_local var env) j) (Finishes from m u) (BreaksOff w outer from m u) (Finishes from m s) (BreaksOff w outer from m s) done
+          (λ vars i q. record { cells = q.cells; reaches = reaches_join p.reaches q.reaches; keeps = joins_but kept q.keeps; holds = q.holds })
+          (λ d q. record { cells = q.cells; ends = ends_join p.reaches q.ends; keeps = joins_but kept q.keeps })
+  body_comes_back from body inner is (local_list names x xs base n k m a b typed first rest) sizes stack cells env left stands laid all le apart room holds as_many =
+      subst (λ (o : Out (List Var)). Follows o (Finishes from m s) (BreaksOff w outer from m s)) (sym (then_then (first_value x.shape x.start w.calls env left) (λ v j. declared xs w.calls (with_local (variable x.name x.shape x.changes v) env) j) (λ now i. and_then (exec_all body w.calls runs now i) (λ last q. Gives last.globals q))))
+      (subst (λ (o : Out Value). Follows (and_then o (λ v j. ends_proc body xs (with_local (variable x.name x.shape x.changes v) env) j)) (Finishes from m s) (BreaksOff w outer from m s)) (first_same x.shape x.start w.calls env left)
+      (follows_then (first_of x.shape (optional x.start) w.calls env left) (λ v j. ends_proc body xs (with_local (variable x.name x.shape x.changes v) env) j) (StartedList rs outer w serves open_frames runs x.shape n k s (base + length a)) (CutShort w (inner ++ outer) outer n k s) (Finishes from m s) (BreaksOff w outer from m s)
+      (list_start_moves rs outer w serves open_frames runs inner x.shape n typed (subst (λ ns. IsListStart rs.functions ns x.shape n (optional x.start) base (n + scalars_of_type x.shape) a k) is first) stack cells env left (stands_left w.code.instrs base a b stands) laid (apart_first n k m w.low w.high more apart) (omega (arith, room, more)) holds)
+      (λ v j p.
+      let var : Var = variable x.name x.shape x.changes v in
+      let size_same = p.keeps.size in
+      let held : HoldsInside rs outer w.tokens w.low w.high (local_of x.name x.shape n ∷ inner) p.cells (with_local var env) =
+      any_held rs outer w serves open_frames inner x.name x.shape n p.cells env x.changes v p.kind p.stands (inside_still rs outer w.tokens w.low w.high n k inner cells p.cells env laid p.keeps holds) in
+      let away : AreApart n (n + scalars_of_type x.shape) w.low w.high = ⊎_elim (λ (g : m ≤ w.low). inl (omega (arith, g, up, more))) (λ (g : w.high ≤ n). inr g) apart in
+      let deeper : AreLaid rs outer w.tokens w.low w.high k (local_of x.name x.shape n ∷ inner) = (n, (omega arith, up), omega (arith, up), typed, away, laid) in
+      later v j p
+      (body_comes_back from body (local_of x.name x.shape n ∷ inner) (ap (λ ns. local_of x.name x.shape n ∷ ns) is) rest sizes.1 stack p.cells (with_local var env) j (stands_right w.code.instrs base a b stands) deeper (le, all) (omega (arith, le, up))
+      (apart_last n k m w.low w.high (omega (arith, up)) apart) (omega (arith, room, size_same)) held (ap suc as_many)))
+      (λ d q. record { cells = q.cells; ends = q.ends; keeps = keeps_outer rs outer w.tokens w.low w.high from n k m inner laid all le (omega (arith, up, more)) more q.keeps })))
+    where
+      s : State
+      s = state base stack open_frames cells left
+
+      up : n + scalars_of_type x.shape ≤ k
+      up = grows_list_start first
+
+      more : k ≤ m
+      more = proc_grows rest
+
+      later : (v : Value) (j : ℕ) (p : StartedList rs outer w serves open_frames runs x.shape n k s (base + length a) v j)
+          → Follows (ends_proc body xs (with_local (variable x.name x.shape x.changes v) env) j) (Finishes from m (state (base + length a) stack open_frames p.cells j)) (BreaksOff w outer from m (state (base + length a) stack open_frames p.cells j))
+          → Follows (ends_proc body xs (with_local (variable x.name x.shape x.changes v) env) j) (Finishes from m s) (BreaksOff w outer from m s)
+      later v j p done =
+          let var : Var = variable x.name x.shape x.changes v in
           let u : State = state (base + length a) stack open_frames p.cells j in
           let kept : KeepsBut outer from m w.low w.high cells p.cells = record {
             size = p.keeps.size;

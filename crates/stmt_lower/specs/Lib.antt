@@ -1,6 +1,10 @@
+pub mod Types
 pub mod Changing
 pub mod Procedures
 pub mod StmtSeen
+pub mod Targets
+pub mod ListStarting
+pub mod StartWords
 pub mod Stating
 pub mod Executing
 pub mod Acting
@@ -12,5 +16,4 @@ pub mod Reserving
 pub mod SeenStmts
 pub mod Proceeding
 pub mod ProcWords
-pub mod Targets
 pub mod Bodies

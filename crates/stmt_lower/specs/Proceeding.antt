@@ -4,7 +4,7 @@ use Rattle.std.specs.Prelude.{◌≡◌, ℕ, ◌+◌, List, [], ◌∷◌, ◌+
 use Rattle.rvc_base.specs.declared.scalar.Scalar.{Scalar}
 use Rattle.cal_ast.specs.Tree.{Tree}
 use Rattle.cal_ast.specs.View.{optional}
-use Rattle.cal_model.specs.Value.{Single}
+use Rattle.cal_model.specs.Value.{Single, IsType, scalars_of_type}
 use Rattle.cal_model.specs.Actor.{Fun, Local, Proc}
 use Rattle.cal_model.specs.Statement.{proc_named}
 use Rattle.code_ir.specs.declared.instr.Instr.{Instr}
@@ -19,12 +19,12 @@ use Rattle.expr_lower.specs.Callees.{Function}
 use Rattle.expr_lower.specs.Calling.{AreInRow}
 use Rattle.expr_lower.specs.Fitting.{Fits}
 use Rattle.expr_lower.specs.Growing.{IsFault, ◌or_else◌}
-use Rattle.expr_lower.specs.Listed.{single_of}
 use Rattle.expr_lower.specs.Names.{Name, local, names_view}
 use Rattle.expr_lower.specs.Placed.{StandsAt}
 use Rattle.expr_lower.specs.Routining.{AreRoutines, LocalsSized, StandForFormals, behind_formals, left_out_formals, some_formal}
-use Rattle.expr_lower.specs.Starting.{IsStart, left_out_start}
+use Rattle.expr_lower.specs.Starting.{IsStart}
 use Rattle.stmt_lower.specs.declared.callees.ProcCallee.{ProcCallee}
+use Rattle.stmt_lower.specs.ListStarting.{IsListStart, left_out_local, local_of}
 use Rattle.stmt_lower.specs.Procedures.{Procedure, Routines, procedure_view, routines_of}
 use Rattle.stmt_lower.specs.Stating.{AreStmts}
 use Rattle.stmt_lower.specs.StmtGrowing.{left_out_all}
@@ -40,6 +40,12 @@ pub data IsProcBody (rs : Routines) (body : Tree) :
       → x.shape ≡ Single kind
       → IsStart rs.functions names kind n (optional x.start) base (n + 1) a k
       → IsProcBody rs body (local x.name kind n ∷ names) xs (base + length a) k b m
+      → IsProcBody rs body names (x ∷ xs) base n (a ++ b) m
+  local_list : (names : List Name) (x : Local) (xs : List Local) (base n k m : ℕ)
+      (a b : List Instr)
+      → IsType x.shape
+      → IsListStart rs.functions names x.shape n (optional x.start) base (n + scalars_of_type x.shape) a k
+      → IsProcBody rs body (local_of x.name x.shape n ∷ names) xs (base + length a) k b m
       → IsProcBody rs body names (x ∷ xs) base n (a ++ b) m
 
 -- The code of a procedure as a routine that is called by this name: its formals stand side by side in cells from n on.
@@ -73,15 +79,11 @@ pub data AreProcRoutines (globals : List Name) (whole : Code) (funs : List Fun) 
 
 -- ---- what is left out
 
--- a local that is no single value, or the first part of its start or of the statements for which no code is made
+-- the first part of the start of a local or of the statements for which no code is made
 abbrev pub left_out_proc_body : Routines → List Name → List Local → Tree → Option ℕ
 left_out_proc_body rs names [] body = left_out_all rs names body
-left_out_proc_body rs names (x ∷ xs) body =
-    elim (single_of x.shape) [
-      | None ↦ Some 0
-      | Some t ↦ left_out_start rs.functions names (optional x.start) or_else left_out_proc_body rs
-          (local x.name t 0 ∷ names) xs body
-    ]
+left_out_proc_body rs names (x ∷ xs) body = left_out_local rs.functions names x
+    or_else left_out_proc_body rs (local_of x.name x.shape 0 ∷ names) xs body
 
 abbrev pub left_out_proc : Routines → List Name → Proc → Option ℕ
 left_out_proc rs names p =

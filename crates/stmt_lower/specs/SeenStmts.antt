@@ -1,7 +1,7 @@
 -- The words of the contracts of the parts that lower statements, over what they see.
 -- Not trusted: no promise is read with it.
 use Rattle.std.specs.Prelude.{◌≡◌, ℕ, List, ◌∷◌, map, Option, None, string_bytes}
-use Rattle.rvc_base.specs.declared.scalar.Scalar.{Scalar}
+use Rattle.cal_model.specs.Value.{Shape}
 use Rattle.cal_ast.specs.Tree.{Tree, listed}
 use Rattle.cal_ast.specs.View.{expr_tree, var_tree}
 use Rattle.cal_ast.specs.declared.member.VarDecl.{VarDecl}
@@ -16,6 +16,7 @@ use Rattle.expr_lower.specs.Growing.{IsFault}
 use Rattle.expr_lower.specs.Lowered.{Adds}
 use Rattle.expr_lower.specs.Names.{Name, local}
 use Rattle.expr_lower.specs.PartView.{places_of}
+use Rattle.stmt_lower.specs.ListStarting.{local_of}
 use Rattle.stmt_lower.specs.StmtSeen.{called, seen}
 use Rattle.stmt_lower.specs.declared.counter.Counter.{Counter}
 use Rattle.stmt_lower.specs.Stating.{AreStmts, IsBlock, IsKept, IsStmt}
@@ -92,5 +93,5 @@ left_out_block rs names vars body =
     left_out_vars rs names (listed (map var_tree vars)) (λ inner. left_out_all rs inner (body_of body))
 
 -- the names that are seen behind a variable
-abbrev pub behind : VarDecl → Scalar → ℕ → StmtScope → List Name
-behind v t c scope = local (string_bytes v.name.text) t c ∷ seen scope
+abbrev pub behind : VarDecl → Shape → ℕ → StmtScope → List Name
+behind v t c scope = local_of (string_bytes v.name.text) t c ∷ seen scope

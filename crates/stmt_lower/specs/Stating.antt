@@ -18,6 +18,8 @@ use Rattle.expr_lower.specs.Coding.{AreArgs, IsCode, IsTest, formal_stores}
 use Rattle.expr_lower.specs.Listed.{list_named}
 use Rattle.list_lower.specs.Filling.{IsFill}
 use Rattle.list_lower.specs.Meant.{single_meant}
+use Rattle.list_lower.specs.ShapeMeant.{shape_meant}
+use Rattle.stmt_lower.specs.ListStarting.{IsListStart, local_of}
 use Rattle.stmt_lower.specs.Procedures.{Procedure, Routines, procedure_for}
 use Rattle.stmt_lower.specs.Targets.{leaf_in, leaf_of}
 use Rattle.expr_lower.specs.Parted.{number_of, sized}
@@ -191,6 +193,13 @@ mutual
         (place at base n k m : ℕ) (a b : List Instr) (t : Scalar) (changes : Bool)
         → single_meant shape ≡ Some t → IsStart rs.functions names t n start base (n + 1) a k
         → IsBlock rs (local text t n ∷ names) vars body (base + length a) k b m
+        → IsBlock rs names (tree.cons (tree.var shape (tree.ident text place) start changes at) vars)
+        body base n (a ++ b) m
+    list_more : (names : List Name) (shape start vars body : Tree) (text : List ℕ)
+        (place at base n k m : ℕ) (a b : List Instr) (t : Shape) (changes : Bool)
+        → shape_meant shape ≡ Some t
+        → IsListStart rs.functions names t n start base (n + scalars_of_type t) a k
+        → IsBlock rs (local_of text t n ∷ names) vars body (base + length a) k b m
         → IsBlock rs names (tree.cons (tree.var shape (tree.ident text place) start changes at) vars)
         body base n (a ++ b) m
 

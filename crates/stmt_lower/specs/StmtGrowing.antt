@@ -14,6 +14,8 @@ use Rattle.expr_lower.specs.Listed.{list_named}
 use Rattle.expr_lower.specs.Names.{local, Name}
 use Rattle.list_lower.specs.Meant.{single_meant}
 use Rattle.list_lower.specs.LeftOut.{left_out_fill}
+use Rattle.list_lower.specs.ShapeMeant.{shape_meant}
+use Rattle.stmt_lower.specs.ListStarting.{left_out_list_start, local_of}
 use Rattle.stmt_lower.specs.Targets.{deep_cells_named, whole_cells_in}
 use Rattle.expr_lower.specs.Parted.{Part, number_of, part_named}
 
@@ -82,16 +84,20 @@ abbrev pub left_out_vars : Routines → List Name → Tree → (List Name → Op
 left_out_vars rs names tree.nil body = body names
 left_out_vars rs names (tree.cons (tree.var shape (tree.ident text place) start changes at) vars) body =
     elim (single_meant shape) [
-      | None ↦ Some at
+      | None ↦ elim (shape_meant shape) [
+        | None ↦ Some at
+        | Some t ↦ left_out_list_start rs.functions names t start or_else left_out_vars rs (local_of text t 0 ∷ names) vars body
+      ]
       | Some t ↦ left_out_start rs.functions names start or_else left_out_vars rs (local text t 0 ∷ names) vars body
     ]
 left_out_vars rs names other body = Some 0
 
 abbrev mutual
   -- The place of the first part of a statement for which no code is made: an assignment to what isn't a variable of
-  -- single values, an item of lists of them or such a list whole, each in cells, a call of what is none of these procedures or that has not as many arguments, or a `foreach` or a variable of a block
-  -- whose type isn't seen to be one of single values; or such a part of an expression. Of a `while` the body comes first, as in its
-  -- code. Which cell a local has doesn't matter here.
+  -- single values, an item of lists of them or such a list whole, each in cells, a call of what is none of these
+  -- procedures or that has not as many arguments, a `foreach` whose type isn't seen to be one of single values, or a
+  -- variable of a block whose type isn't seen; or such a part of an expression. Of a `while` the body comes first, as in
+  -- its code. Which cell a local has doesn't matter here.
   pub left_out_stmt : Routines → List Name → Tree → Option ℕ
   left_out_stmt rs names (tree.assign (tree.ident text place) places value at) =
       left_out_set rs.functions names text places value at

@@ -12,9 +12,12 @@ pub mod laws;
 mod lists;
 mod procedures;
 mod scope;
+mod sizes;
+mod starts;
 mod stmts;
 mod targets;
 
 pub use callees::ProcCallee;
 pub use procedures::lower_procedure;
+pub use starts::{Row, start_list, start_local, take_list};
 pub use stmts::{lower_calling_stmts, lower_stmts};

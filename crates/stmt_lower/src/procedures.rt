@@ -9,13 +9,11 @@ ghost use Rattle.stmt_lower.specs.StmtSeen.{seen};
 
 use crate::callees::ProcCallee;
 use crate::scope::StmtScope;
+use crate::starts::start_local;
 use crate::stmts::lower_all;
-use cal_model::{BoundLocal, BoundProc};
+use cal_model::{BoundLocal, BoundProc, Shape};
 use code_ir::{Instr, Routine};
-use expr_lower::{
-    Callee, Draft, Formal, Frame, LowerFault, Named, next_place, put, single, start, take_cell,
-    take_formals,
-};
+use expr_lower::{Callee, Draft, Formal, Frame, LowerFault, Named, next_place, put, take_formals};
 use std::alloc::Global;
 
 /// Appends the routine of a procedure, and answers how it is called.
@@ -27,8 +25,8 @@ use std::alloc::Global;
 ///
 /// # Errors
 ///
-/// `NotLowered` if a formal or a local is no single value, with the offset 0, or if a start of a local or the body has a
-/// part for which no code is made, with its offset. `TooLong` if the draft has 2 to the power of 32 instructions.
+/// `NotLowered` with the offset 0 if a formal is no single value or the sizes of a local's type aren't allowed, or if a
+/// start of a local or the body has a part for which no code is made, with its offset. `TooLong` if the draft has 2 to the power of 32 instructions.
 /// `TooManyCells` if the numbers of the cells that are used don't fit. `Memory` if memory runs out.
 pub fn lower_procedure(
     alloc: Global,
@@ -86,9 +84,10 @@ fn in_formals(
     let Some((formal, others)) = cells.split_first() else {
         return in_locals(scope, &p.locals, p, draft);
     };
+    let shape = Shape::Scalar(formal.kind);
     let frame = Frame {
         name: first.name.as_str(),
-        kind: formal.kind,
+        shape: &shape,
         cell: formal.cell,
         outer: scope.values.frame,
     };
@@ -113,14 +112,10 @@ fn in_locals(
     let Some((first, rest)) = locals.split_first() else {
         return come_back(scope, p, draft);
     };
-    let Some(kind) = single(&first.shape) else {
-        return Err(LowerFault::NotLowered { at: 0 });
-    };
-    let cell = take_cell(draft)?;
-    start(&scope.values, &first.start, cell, kind, draft)?;
+    let cell = start_local(&scope.values, first, draft)?;
     let frame = Frame {
         name: first.name.as_str(),
-        kind,
+        shape: &first.shape,
         cell,
         outer: scope.values.frame,
     };

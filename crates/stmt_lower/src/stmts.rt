@@ -1,7 +1,9 @@
 //! Statements as code: one small function a form.
 
 ghost use Rattle.std.specs.Prelude.{◌≡◌, ◌∷◌, ℕ, IfErr, None, OnOk, Some, string_bytes};
-ghost use Rattle.cal_ast.specs.View.{stmt_tree};
+ghost use Rattle.cal_ast.specs.View.{stmt_tree, type_tree};
+ghost use Rattle.cal_model.specs.View.{shape_view};
+ghost use Rattle.list_lower.specs.Meant.{single_meant};
 ghost use Rattle.stmt_lower.specs.Bodies.{AddsCalling, AreWholeCalling, IsFaultCalling};
 ghost use Rattle.stmt_lower.specs.Changing.{AreTyped, NamesApart};
 ghost use Rattle.expr_lower.specs.Held.{AreBelow};
@@ -22,14 +24,16 @@ use crate::deep::set_deep;
 use crate::jumps::{exit_at, jump_at};
 use crate::lists::{set_copy, set_filled, set_items};
 use crate::scope::StmtScope;
+use crate::starts::start_list;
 use crate::targets::{cell_named, cells_named};
 use cal_ast::{Expr, ExprForm, Ident, Stmt, StmtForm, TypeExpr, VarDecl};
+use cal_model::Shape;
 use code_ir::Instr;
 use expr_lower::{
     Callee, Draft, Frame, LowerFault, Named, close, link, lower, lower_args, lower_test,
     next_place, put, put_all, start, take_cell,
 };
-use list_lower::single_meant;
+use list_lower::{shape_meant, single_meant};
 use rvc_base::Scalar;
 
 /// Appends code that executes a statement.
@@ -342,9 +346,10 @@ fn each_body(
     ensures fault { IfErr result
         (IsWhyNoBody name.now counter scope.now (body_of body.now) draft.new) }
 {
+    let shape = Shape::Scalar(counter.kind);
     let frame = Frame {
         name: name.text.as_str(),
-        kind: counter.kind,
+        shape: &shape,
         cell: counter.variable,
         outer: scope.values.frame,
     };
@@ -366,20 +371,25 @@ fn block(
         (IsFault (left_out_block (called scope.now) (seen scope.now) vars.now body.now) draft.new) }
 {
     match vars.split_first() {
-        Some((first, rest)) => variable(scope, first, rest, body, draft),
+        Some((first, rest)) => match single_meant(&first.shape) {
+            Some(kind) => one_variable(scope, first, kind, rest, body, draft),
+            None => list_variable(scope, first, rest, body, draft),
+        },
         None => lower_all(scope, body, draft),
     }
 }
 
-/// Appends a variable of a block, and what sees it.
+/// Appends a variable of single values, and what sees it.
 #[cycle(lower_stmt)]
-fn variable(
+fn one_variable(
     scope: &StmtScope,
     first: &VarDecl,
+    kind: Scalar,
     rest: &[VarDecl],
     body: &[Stmt],
     draft: &mut Draft,
 ) -> Result<(), LowerFault>
+    requires meant { single_meant (type_tree first.now.shape) ≡ Some kind }
     ensures ok { OnOk result
         (AddsBlock (called scope.now) (seen scope.now) (first.now ∷ rest.now) body.now draft.old draft.new) }
     ensures whole { OnOk result
@@ -387,12 +397,33 @@ fn variable(
     ensures fault { IfErr result
         (IsFault (left_out_block (called scope.now) (seen scope.now) (first.now ∷ rest.now) body.now) draft.new) }
 {
-    let Some(kind) = single_meant(&first.shape) else {
-        return Err(LowerFault::NotLowered { at: first.at });
-    };
     let cell = take_cell(draft)?;
     start(&scope.values, &first.start, cell, kind, draft)?;
-    behind(scope, first, kind, cell, rest, body, draft)
+    behind(scope, first, &Shape::Scalar(kind), cell, rest, body, draft)
+}
+
+/// Appends a variable of a list, and what sees it.
+#[cycle(lower_stmt)]
+fn list_variable(
+    scope: &StmtScope,
+    first: &VarDecl,
+    rest: &[VarDecl],
+    body: &[Stmt],
+    draft: &mut Draft,
+) -> Result<(), LowerFault>
+    requires not_one { single_meant (type_tree first.now.shape) ≡ None }
+    ensures ok { OnOk result
+        (AddsBlock (called scope.now) (seen scope.now) (first.now ∷ rest.now) body.now draft.old draft.new) }
+    ensures whole { OnOk result
+        (left_out_block (called scope.now) (seen scope.now) (first.now ∷ rest.now) body.now ≡ None) }
+    ensures fault { IfErr result
+        (IsFault (left_out_block (called scope.now) (seen scope.now) (first.now ∷ rest.now) body.now) draft.new) }
+{
+    let Some(shape) = shape_meant(*draft.instrs.allocator(), &first.shape)? else {
+        return Err(LowerFault::NotLowered { at: first.at });
+    };
+    let cell = start_list(&scope.values, &shape, &first.start, draft)?;
+    behind(scope, first, &shape, cell, rest, body, draft)
 }
 
 /// Appends what stands behind a variable of a block, and sees it.
@@ -400,22 +431,22 @@ fn variable(
 fn behind(
     scope: &StmtScope,
     first: &VarDecl,
-    kind: Scalar,
+    shape: &Shape,
     cell: u32,
     rest: &[VarDecl],
     body: &[Stmt],
     draft: &mut Draft,
 ) -> Result<(), LowerFault>
     ensures ok { OnOk result
-        (AddsBlock (called scope.now) (behind first.now kind cell scope.now) rest.now body.now draft.old draft.new) }
+        (AddsBlock (called scope.now) (behind first.now (shape_view shape.now) cell scope.now) rest.now body.now draft.old draft.new) }
     ensures whole { OnOk result
-        (left_out_block (called scope.now) (behind first.now kind cell scope.now) rest.now body.now ≡ None) }
+        (left_out_block (called scope.now) (behind first.now (shape_view shape.now) cell scope.now) rest.now body.now ≡ None) }
     ensures fault { IfErr result
-        (IsFault (left_out_block (called scope.now) (behind first.now kind cell scope.now) rest.now body.now) draft.new) }
+        (IsFault (left_out_block (called scope.now) (behind first.now (shape_view shape.now) cell scope.now) rest.now body.now) draft.new) }
 {
     let frame = Frame {
         name: first.name.text.as_str(),
-        kind,
+        shape,
         cell,
         outer: scope.values.frame,
     };
@@ -431,10 +462,10 @@ fn behind(
 ///
 /// Code is made for assignments to variables of single values, to items of lists of them at any depth, and to whole
 /// lists, `if`, `while`, and `foreach` and blocks whose types are written without names, over the expressions for which
-/// [`lower_expr`](expr_lower::lower_expr) or, of lists, [`lower_list`](list_lower::lower_list) makes code. A `foreach`
-/// uses three cells more, a variable of a block one, an item of lists in lists one for each of its places and one for
-/// its value, and a list that isn't copied from a name one for each of its numbers, beside those of its generators;
-/// they are added to the draft.
+/// [`lower_expr`](expr_lower::lower_expr) or, of lists, [`lower_list`](list_lower::lower_list) makes code. The variables
+/// of a block may be lists at any depth. A `foreach` uses three cells more, a variable of a block one for each of its
+/// numbers, an item of lists in lists one for each of its places and one for its value, and a list that isn't copied
+/// from a name one for each of its numbers, beside those of its generators; they are added to the draft.
 ///
 /// # Errors
 ///

@@ -72,7 +72,7 @@ pub(crate) fn whole_cells(whole: Part) -> Option<ListCells>
 }
 
 /// The type of the single values of a list at any depth.
-fn leaf_of(shape: &Shape) -> Scalar
+pub(crate) fn leaf_of(shape: &Shape) -> Scalar
     ensures { result ≡ leaf_of (shape_view shape.now) }
 {
     match shape {

@@ -4,6 +4,7 @@ use Rattle.std.proofs.lemmas.Result.{on_ok_weaker}
 use Rattle.cal_ast.specs.View.{expr_tree}
 use Rattle.cal_model.specs.Actor.{Local}
 use Rattle.cal_model.specs.View.{local_view}
+use Rattle.cal_model.specs.declared.kind.Shape as shapes
 use Rattle.expr_lower.specs.declared.scope.Frame as chain
 use Rattle.expr_lower.specs.Growing.{IsFault}
 use Rattle.expr_lower.specs.Listed.{single_of}
@@ -19,7 +20,7 @@ returns-clause-ok t c =
     let x : Local = local_view c.in-Some.first.now in
     let opened : map local_view c.args.locals.now ≡ x ∷ map local_view c.in-Some.rest.now = search rules in
     let kind : single_of x.shape ≡ Some c.in-Some-single.kind = sym c.in-Some-single.ensures in
-    let inner : seen c.under-inner.result ≡ local x.name c.in-Some-single.kind c.in_ok-cell.cell ∷ seen c.args.scope.now = search (rules, chain.the_lemmas) in
+    let inner : seen c.under-inner.result ≡ local x.name c.in-Some-single.kind c.in_ok-cell.cell ∷ seen c.args.scope.now = search (rules, chain.the_lemmas, shapes.the_lemmas) in
     on_ok_weaker c.in_locals.result
     (λ h. subst (λ xs. Adds (IsBody (called c.args.scope.now) c.args.f.now.result (expr_tree c.args.f.now.body) (seen c.args.scope.now) xs) c.args.draft.now c.in_locals.new.draft) (sym opened)
     (local_adds (seen c.args.scope.now) c.args.f.now.result (expr_tree c.args.f.now.body) x (map local_view c.in-Some.rest.now) c.in-Some-single.kind c.in_ok-cell.cell c.args.draft.now c.take_cell.new.draft c.start.new.draft c.in_locals.new.draft kind c.in_ok-cell.ensures.taken c.in_ok-start.ensures.ok
@@ -32,7 +33,7 @@ returns-clause-whole t c =
     let x : Local = local_view c.in-Some.first.now in
     let opened : map local_view c.args.locals.now ≡ x ∷ map local_view c.in-Some.rest.now = search rules in
     let kind : single_of x.shape ≡ Some c.in-Some-single.kind = sym c.in-Some-single.ensures in
-    let inner : seen c.under-inner.result ≡ local x.name c.in-Some-single.kind c.in_ok-cell.cell ∷ seen c.args.scope.now = search (rules, chain.the_lemmas) in
+    let inner : seen c.under-inner.result ≡ local x.name c.in-Some-single.kind c.in_ok-cell.cell ∷ seen c.args.scope.now = search (rules, chain.the_lemmas, shapes.the_lemmas) in
     let same : left_out_body (called c.args.scope.now) (seen c.args.scope.now) (x ∷ map local_view c.in-Some.rest.now) (expr_tree c.args.f.now.body)
     ≡ left_out_body (called c.args.scope.now) (local x.name c.in-Some-single.kind c.in_ok-cell.cell ∷ seen c.args.scope.now) (map local_view c.in-Some.rest.now) (expr_tree c.args.f.now.body) =
     local_open (called c.args.scope.now) (seen c.args.scope.now) x (map local_view c.in-Some.rest.now) (expr_tree c.args.f.now.body) c.in-Some-single.kind c.in_ok-cell.cell kind c.in_ok-start.ensures.whole in
@@ -46,7 +47,7 @@ returns-clause-fault t c =
     let x : Local = local_view c.in-Some.first.now in
     let opened : map local_view c.args.locals.now ≡ x ∷ map local_view c.in-Some.rest.now = search rules in
     let kind : single_of x.shape ≡ Some c.in-Some-single.kind = sym c.in-Some-single.ensures in
-    let inner : seen c.under-inner.result ≡ local x.name c.in-Some-single.kind c.in_ok-cell.cell ∷ seen c.args.scope.now = search (rules, chain.the_lemmas) in
+    let inner : seen c.under-inner.result ≡ local x.name c.in-Some-single.kind c.in_ok-cell.cell ∷ seen c.args.scope.now = search (rules, chain.the_lemmas, shapes.the_lemmas) in
     let same : left_out_body (called c.args.scope.now) (seen c.args.scope.now) (x ∷ map local_view c.in-Some.rest.now) (expr_tree c.args.f.now.body)
     ≡ left_out_body (called c.args.scope.now) (local x.name c.in-Some-single.kind c.in_ok-cell.cell ∷ seen c.args.scope.now) (map local_view c.in-Some.rest.now) (expr_tree c.args.f.now.body) =
     local_open (called c.args.scope.now) (seen c.args.scope.now) x (map local_view c.in-Some.rest.now) (expr_tree c.args.f.now.body) c.in-Some-single.kind c.in_ok-cell.cell kind c.in_ok-start.ensures.whole in

@@ -220,7 +220,7 @@ inside-returns-clause-fault t c =
     let gens : Tree = gens_of c.args.rest.now in
     let item : Tree = expr_tree c.args.item.now in
     let items : Shape = shape_view c.args.items.now in
-    let inner : seen c.under-inner.result ≡ local c.args.x.name.now c.args.x.kind (c.args.k + 1) ∷ seen c.args.scope.now = search (rules, chain.the_lemmas) in
+    let inner : seen c.under-inner.result ≡ local c.args.x.name.now c.args.x.kind (c.args.k + 1) ∷ seen c.args.scope.now = search (rules, chain.the_lemmas, shapes.the_lemmas) in
     subst (λ names. IfErr c.elements.result (IsFault (left_out_gens names gens (λ ns. left_out_element items (left_out_in (called c.args.scope.now) ns item) (left_out_fill (called c.args.scope.now) ns items item))) c.elements.new.draft)) inner
     (subst (λ fs. IfErr c.elements.result (IsFault (left_out_gens (seen c.under-inner.result) gens (λ ns. left_out_element items (left_out_in fs ns item) (left_out_fill fs ns items item))) c.elements.new.draft)) c.under-inner.ensures.callees
     c.elements.ensures.fault)

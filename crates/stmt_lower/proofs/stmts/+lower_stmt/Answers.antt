@@ -5,16 +5,20 @@ use Rattle.cal_ast.specs.Tree as tree
 use Rattle.cal_ast.specs.Tree.{Tree, listed}
 use Rattle.cal_ast.specs.View.{expr_tree, optional_expr, stmt_tree, type_tree, var_tree}
 use Rattle.cal_ast.specs.declared.member.VarDecl.{VarDecl}
+use Rattle.cal_model.specs.Value.{Single}
+use Rattle.cal_model.specs.View.{shape_view}
+use Rattle.cal_model.specs.declared.kind.Shape as shapes
 use Rattle.expr_lower.specs.Growing.{IsFault}
 use Rattle.code_ir.specs.declared.instr.Instr.TheVariants as op
 use Rattle.stmt_lower.specs.declared.counter.Counter.{Counter}
 use Rattle.stmt_lower.specs.Stating.{AreStmts, IsBlock, IsStmt, block_code, each_next, no_more}
 use Rattle.list_lower.specs.Meant.{single_meant}
+use Rattle.list_lower.specs.ShapeMeant.{shape_meant}
 use Rattle.stmt_lower.specs.StmtSeen.{called, seen}
 use Rattle.stmt_lower.specs.SeenStmts.{AddsBlock, AddsStmt, AreWhyNot, IsWhyNot, behind, left_out_block}
 use Rattle.stmt_lower.specs.StmtWords.{body_of, foreach_of}
 use Rattle.expr_lower.proofs.Adding.{length_join, same_adds, no_items}
-use Rattle.stmt_lower.proofs.AddingStmts.{each_adds, each_fault, each_whole, none_added, variable_adds, variable_open, more_added, fault_among, alone_adds, fork_adds, while_adds, weight_item}
+use Rattle.stmt_lower.proofs.AddingStmts.{each_adds, each_fault, each_whole, none_added, list_open, list_variable_adds, variable_adds, variable_open, more_added, fault_among, alone_adds, fork_adds, while_adds, weight_item}
 use Rattle.stmt_lower.proofs.StmtForms.{stmt_block, stmt_foreach, stmt_if, stmt_while}
 use Rattle.stmt_lower.proofs.stmts.+lower_stmt.Goals as goal
 
@@ -137,27 +141,54 @@ block-returns-in-None-clause-ok t c =
     (same_adds (AreStmts (called c.args.scope.now) (seen c.args.scope.now) (body_of c.args.body.now)) (IsBlock (called c.args.scope.now) (seen c.args.scope.now) tree.nil (body_of c.args.body.now)) c.args.draft.now c.lower_all.new.draft (λ base n m code h. no_more (seen c.args.scope.now) (body_of c.args.body.now) base n m code h))
     c.lower_all.ensures.ok)
 
-pub variable-returns-clause-ok : goal.variable-returns-clause-ok
-variable-returns-clause-ok t c =
+pub one_variable-returns-clause-ok : goal.one_variable-returns-clause-ok
+one_variable-returns-clause-ok t c =
     let v : VarDecl = c.args.first.now in
-    let found : single_meant (type_tree v.shape) ≡ Some c.in-Some.kind = sym c.in-Some.ensures in
+    let one : shape_view (shapes.Scalar c.args.kind) ≡ Single c.args.kind = search (rules, shapes.the_lemmas) in
     on_ok_weaker c.behind.result
-    (variable_adds (seen c.args.scope.now) (type_tree v.shape) (optional_expr v.start) (listed (map var_tree c.args.rest.now)) (body_of c.args.body.now) (string_bytes v.name.text) v.name.at v.at c.in_ok-cell.cell c.in-Some.kind v.changes
-    c.args.draft.now c.take_cell.new.draft c.start.new.draft c.behind.new.draft found c.in_ok-cell.ensures.taken c.in_ok-start.ensures.ok)
+    (variable_adds (seen c.args.scope.now) (type_tree v.shape) (optional_expr v.start) (listed (map var_tree c.args.rest.now)) (body_of c.args.body.now) (string_bytes v.name.text) v.name.at v.at c.in_ok-cell.cell c.args.kind v.changes
+    c.args.draft.now c.take_cell.new.draft c.start.new.draft c.behind.new.draft c.requires.meant c.in_ok-cell.ensures.taken c.in_ok-start.ensures.ok)
+    (subst (λ s. OnOk c.behind.result (AddsBlock (called c.args.scope.now) (behind v s c.in_ok-cell.cell c.args.scope.now) c.args.rest.now c.args.body.now c.start.new.draft c.behind.new.draft)) one c.behind.ensures.ok)
+
+pub one_variable-returns-clause-whole : goal.one_variable-returns-clause-whole
+one_variable-returns-clause-whole t c =
+    let v : VarDecl = c.args.first.now in
+    let same : left_out_block (called c.args.scope.now) (seen c.args.scope.now) (v ∷ c.args.rest.now) c.args.body.now ≡ left_out_block (called c.args.scope.now) (behind v (Single c.args.kind) c.in_ok-cell.cell c.args.scope.now) c.args.rest.now c.args.body.now =
+    variable_open (called c.args.scope.now) (seen c.args.scope.now) (type_tree v.shape) (optional_expr v.start) (listed (map var_tree c.args.rest.now)) (body_of c.args.body.now) (string_bytes v.name.text) v.name.at v.at c.in_ok-cell.cell c.args.kind v.changes c.requires.meant c.in_ok-start.ensures.whole in
+    let one : shape_view (shapes.Scalar c.args.kind) ≡ Single c.args.kind = search (rules, shapes.the_lemmas) in
+    subst (λ o. OnOk c.behind.result (o ≡ None)) (sym same) (subst (λ s. OnOk c.behind.result (left_out_block (called c.args.scope.now) (behind v s c.in_ok-cell.cell c.args.scope.now) c.args.rest.now c.args.body.now ≡ None)) one c.behind.ensures.whole)
+
+pub one_variable-returns-clause-fault : goal.one_variable-returns-clause-fault
+one_variable-returns-clause-fault t c =
+    let v : VarDecl = c.args.first.now in
+    let same : left_out_block (called c.args.scope.now) (seen c.args.scope.now) (v ∷ c.args.rest.now) c.args.body.now ≡ left_out_block (called c.args.scope.now) (behind v (Single c.args.kind) c.in_ok-cell.cell c.args.scope.now) c.args.rest.now c.args.body.now =
+    variable_open (called c.args.scope.now) (seen c.args.scope.now) (type_tree v.shape) (optional_expr v.start) (listed (map var_tree c.args.rest.now)) (body_of c.args.body.now) (string_bytes v.name.text) v.name.at v.at c.in_ok-cell.cell c.args.kind v.changes c.requires.meant c.in_ok-start.ensures.whole in
+    let one : shape_view (shapes.Scalar c.args.kind) ≡ Single c.args.kind = search (rules, shapes.the_lemmas) in
+    subst (λ o. IfErr c.behind.result (IsFault o c.behind.new.draft)) (sym same) (subst (λ s. IfErr c.behind.result (IsFault (left_out_block (called c.args.scope.now) (behind v s c.in_ok-cell.cell c.args.scope.now) c.args.rest.now c.args.body.now) c.behind.new.draft)) one c.behind.ensures.fault)
+
+-- ---- variables that are lists
+
+pub list_variable-returns-clause-ok : goal.list_variable-returns-clause-ok
+list_variable-returns-clause-ok t c =
+    let v : VarDecl = c.args.first.now in
+    let meant : shape_meant (type_tree v.shape) ≡ Some (shape_view c.in-Some.shape) = search rules in
+    on_ok_weaker c.behind.result
+    (list_variable_adds (seen c.args.scope.now) (type_tree v.shape) (optional_expr v.start) (listed (map var_tree c.args.rest.now)) (body_of c.args.body.now) (string_bytes v.name.text) v.name.at v.at c.in_ok-cell.cell (shape_view c.in-Some.shape) v.changes
+    c.args.draft.now c.start_list.new.draft c.behind.new.draft meant c.in_ok-cell.ensures.cell c.in_ok-cell.ensures.ok)
     c.behind.ensures.ok
 
-pub variable-returns-clause-whole : goal.variable-returns-clause-whole
-variable-returns-clause-whole t c =
+pub list_variable-returns-clause-whole : goal.list_variable-returns-clause-whole
+list_variable-returns-clause-whole t c =
     let v : VarDecl = c.args.first.now in
-    let found : single_meant (type_tree v.shape) ≡ Some c.in-Some.kind = sym c.in-Some.ensures in
-    let same : left_out_block (called c.args.scope.now) (seen c.args.scope.now) (v ∷ c.args.rest.now) c.args.body.now ≡ left_out_block (called c.args.scope.now) (behind v c.in-Some.kind c.in_ok-cell.cell c.args.scope.now) c.args.rest.now c.args.body.now =
-    variable_open (called c.args.scope.now) (seen c.args.scope.now) (type_tree v.shape) (optional_expr v.start) (listed (map var_tree c.args.rest.now)) (body_of c.args.body.now) (string_bytes v.name.text) v.name.at v.at c.in_ok-cell.cell c.in-Some.kind v.changes found c.in_ok-start.ensures.whole in
+    let meant : shape_meant (type_tree v.shape) ≡ Some (shape_view c.in-Some.shape) = search rules in
+    let same : left_out_block (called c.args.scope.now) (seen c.args.scope.now) (v ∷ c.args.rest.now) c.args.body.now ≡ left_out_block (called c.args.scope.now) (behind v (shape_view c.in-Some.shape) c.in_ok-cell.cell c.args.scope.now) c.args.rest.now c.args.body.now =
+    list_open (called c.args.scope.now) (seen c.args.scope.now) (type_tree v.shape) (optional_expr v.start) (listed (map var_tree c.args.rest.now)) (body_of c.args.body.now) (string_bytes v.name.text) v.name.at v.at c.in_ok-cell.cell (shape_view c.in-Some.shape) v.changes c.requires.not_one meant c.in_ok-cell.ensures.whole in
     subst (λ o. OnOk c.behind.result (o ≡ None)) (sym same) c.behind.ensures.whole
 
-pub variable-returns-clause-fault : goal.variable-returns-clause-fault
-variable-returns-clause-fault t c =
+pub list_variable-returns-clause-fault : goal.list_variable-returns-clause-fault
+list_variable-returns-clause-fault t c =
     let v : VarDecl = c.args.first.now in
-    let found : single_meant (type_tree v.shape) ≡ Some c.in-Some.kind = sym c.in-Some.ensures in
-    let same : left_out_block (called c.args.scope.now) (seen c.args.scope.now) (v ∷ c.args.rest.now) c.args.body.now ≡ left_out_block (called c.args.scope.now) (behind v c.in-Some.kind c.in_ok-cell.cell c.args.scope.now) c.args.rest.now c.args.body.now =
-    variable_open (called c.args.scope.now) (seen c.args.scope.now) (type_tree v.shape) (optional_expr v.start) (listed (map var_tree c.args.rest.now)) (body_of c.args.body.now) (string_bytes v.name.text) v.name.at v.at c.in_ok-cell.cell c.in-Some.kind v.changes found c.in_ok-start.ensures.whole in
+    let meant : shape_meant (type_tree v.shape) ≡ Some (shape_view c.in-Some.shape) = search rules in
+    let same : left_out_block (called c.args.scope.now) (seen c.args.scope.now) (v ∷ c.args.rest.now) c.args.body.now ≡ left_out_block (called c.args.scope.now) (behind v (shape_view c.in-Some.shape) c.in_ok-cell.cell c.args.scope.now) c.args.rest.now c.args.body.now =
+    list_open (called c.args.scope.now) (seen c.args.scope.now) (type_tree v.shape) (optional_expr v.start) (listed (map var_tree c.args.rest.now)) (body_of c.args.body.now) (string_bytes v.name.text) v.name.at v.at c.in_ok-cell.cell (shape_view c.in-Some.shape) v.changes c.requires.not_one meant c.in_ok-cell.ensures.whole in
     subst (λ o. IfErr c.behind.result (IsFault o c.behind.new.draft)) (sym same) c.behind.ensures.fault

@@ -36,8 +36,11 @@ decreases-each_body l = 2 + weight (listed (map stmt_tree l.body.now))
 abbrev pub decreases-block : goal.decreases-block
 decreases-block l = 4 + spread (listed (map var_tree l.vars.now)) + weight (listed (map stmt_tree l.body.now))
 
-abbrev pub decreases-variable : goal.decreases-variable
-decreases-variable l = 6 + spread (listed (map var_tree l.rest.now)) + weight (listed (map stmt_tree l.body.now))
+abbrev pub decreases-one_variable : goal.decreases-one_variable
+decreases-one_variable l = 6 + spread (listed (map var_tree l.rest.now)) + weight (listed (map stmt_tree l.body.now))
+
+abbrev pub decreases-list_variable : goal.decreases-list_variable
+decreases-list_variable l = 6 + spread (listed (map var_tree l.rest.now)) + weight (listed (map stmt_tree l.body.now))
 
 abbrev pub decreases-behind : goal.decreases-behind
 decreases-behind l = 5 + spread (listed (map var_tree l.rest.now)) + weight (listed (map stmt_tree l.body.now))

@@ -1,0 +1,13 @@
+-- The words of the contracts of the parts that lower locals.
+-- Not trusted: no promise is read with it.
+use Rattle.std.specs.Prelude.{◌≡◌, ℕ, List, ◌∷◌, string_bytes}
+use Rattle.cal_model.specs.declared.bound.BoundLocal.{BoundLocal}
+use Rattle.cal_model.specs.View.{shape_view}
+use Rattle.expr_lower.specs.declared.names.Named.{Named}
+use Rattle.expr_lower.specs.Names.{names_view}
+use Rattle.stmt_lower.specs.ListStarting.{local_of}
+
+-- the name of a local, which stands in some cells, was put in front of names
+abbrev pub IsInFront : BoundLocal → List Named → List Named → Type 0
+IsInFront x old new = (c : ℕ) × (names_view new
+    ≡ local_of (string_bytes x.name) (shape_view x.shape) c ∷ names_view old)

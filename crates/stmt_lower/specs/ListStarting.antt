@@ -1,0 +1,65 @@
+-- The code of the start of a local that may be a list, which stands in the cells from one on.
+-- Trusted: part of what a promise means.
+use Rattle.std.specs.Prelude.{◌≡◌, ℕ, ◌+◌, List, [], ◌∷◌, ◌++◌, Option, None, Some}
+use Rattle.rvc_base.specs.declared.scalar.Scalar.{Scalar}
+use Rattle.cal_ast.specs.Tree as tree
+use Rattle.cal_ast.specs.Tree.{Tree}
+use Rattle.cal_ast.specs.View.{optional}
+use Rattle.cal_model.specs.Actor.{Local}
+use Rattle.cal_model.specs.Value.{Shape, Single, IsType, scalars_of_type}
+use Rattle.code_ir.specs.declared.instr.Instr.{Instr}
+use Rattle.code_ir.specs.declared.instr.Instr.TheVariants as op
+use Rattle.expr_lower.specs.declared.names.Seat.TheVariants.{Cell}
+use Rattle.expr_lower.specs.Callees.{Function}
+use Rattle.expr_lower.specs.Listed.{single_of}
+use Rattle.expr_lower.specs.Names.{Name}
+use Rattle.expr_lower.specs.Starting.{IsStart, left_out_start}
+use Rattle.list_lower.specs.Filling.{IsFill}
+use Rattle.list_lower.specs.LeftOut.{left_out_fill}
+use Rattle.stmt_lower.specs.Targets.{leaf_of}
+use Rattle.stmt_lower.specs.Types.{type_size}
+
+-- a name inside others, with its value in the cells from one on
+abbrev pub local_of : List ℕ → Shape → ℕ → Name
+local_of text t c = record { text = text; shape = t; seat = Cell c }
+
+-- Code that gives a local of a type its start, in the cells from c on: zeros, or the list, each number of which is then
+-- stored in its type.
+pub data IsListStart (fs : List Function) (names : List Name) (t : Shape) (c : ℕ) :
+    Tree → ℕ → ℕ → List Instr → ℕ → Type 0 where
+  all_zero : (base n : ℕ)
+      → IsListStart fs names t c tree.absent base n (op.Zero c (scalars_of_type t) ∷ []) n
+  all_filled : (e : Tree) (base n m : ℕ) (code : List Instr) → IsFill fs names e t c base n code m
+      → IsListStart fs names t c (tree.present e) base n
+      (code ++ op.Copy c c (scalars_of_type t) (Some (leaf_of t)) ∷ []) m
+
+-- what is left out of it
+abbrev pub left_out_list_start : List Function → List Name → Shape → Tree → Option ℕ
+left_out_list_start fs names t tree.absent = None
+left_out_list_start fs names t (tree.present e) = left_out_fill fs names t e
+left_out_list_start fs names t other = Some 0
+
+-- ---- any local
+
+-- Code that starts a local in the next cells, as many as it has numbers.
+pub data StartsLocal (fs : List Function) (names : List Name) (x : Local) :
+    ℕ → ℕ → List Instr → ℕ → Type 0 where
+  starts_one : (t : Scalar) (base n m : ℕ) (code : List Instr) → x.shape ≡ Single t
+      → IsStart fs names t n (optional x.start) base (n + 1) code m
+      → StartsLocal fs names x base n code m
+  starts_list : (base n m : ℕ) (code : List Instr) → IsType x.shape
+      → IsListStart fs names x.shape n (optional x.start) base (n + scalars_of_type x.shape) code m
+      → StartsLocal fs names x base n code m
+
+-- a list, of a type whose sizes are allowed
+abbrev pub left_out_list_local : List Function → List Name → Local → Option ℕ
+left_out_list_local fs names x = elim (type_size x.shape)
+    [ None ↦ Some 0 | Some size ↦ left_out_list_start fs names x.shape (optional x.start) ]
+
+-- the place of the first part of the start of a local for which no code is made, or 0 if the sizes of its type aren't
+-- allowed
+abbrev pub left_out_local : List Function → List Name → Local → Option ℕ
+left_out_local fs names x = elim (single_of x.shape) [
+  | None ↦ left_out_list_local fs names x
+  | Some t ↦ left_out_start fs names (optional x.start)
+]
