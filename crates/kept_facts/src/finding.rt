@@ -21,10 +21,27 @@ pub(crate) fn body_at(
     let scratch = parts.code.cells().saturating_sub(parts.kept) as usize;
     let mut needed = vec![in alloc; false; scratch]?;
     let mut rows = rows_from(alloc, &needed, begin, end)?;
-    pass(parts, routines, begin, &mut rows, &mut needed)?;
+    settle(parts, routines, begin, &mut rows, &mut needed)?;
     let mut rows = rows_from(alloc, &needed, begin, end)?;
-    pass(parts, routines, begin, &mut rows, &mut needed)?;
+    settle(parts, routines, begin, &mut rows, &mut needed)?;
     Ok(Body { begin, end, rows })
+}
+
+/// Goes through a body as long as that changes what is set.
+fn settle(
+    parts: &Parts,
+    routines: &[Option<Body>],
+    begin: usize,
+    rows: &mut Vec<Vec<bool>>,
+    needed: &mut Vec<bool>,
+) -> Result<(), AllocError> {
+    for _pass in 0..rows.len() {
+        let changed = pass(parts, routines, begin, rows, needed)?;
+        if !changed {
+            return Ok(());
+        }
+    }
+    Ok(())
 }
 
 /// The place behind the first instruction from one on that ends a body.
@@ -62,26 +79,29 @@ fn rows_from(
     Ok(rows)
 }
 
-/// Goes once through a body: at a place behind another one is set what was set there or is written there, on each way.
-/// What is read and isn't set is needed at the begin.
+/// Goes once through a body: at a place that may come next is set what was set before or is written there, on each way.
+/// What is read and isn't set is needed at the begin. Whether anything changed comes back.
 fn pass(
     parts: &Parts,
     routines: &[Option<Body>],
     begin: usize,
     rows: &mut Vec<Vec<bool>>,
     needed: &mut Vec<bool>,
-) -> Result<(), AllocError> {
+) -> Result<bool, AllocError> {
     let instrs = parts.code.instrs();
+    let mut changed = false;
     for k in 0..rows.len() {
         let place = begin.saturating_add(k);
         if place < instrs.len() {
             let mut row = rows[k].clone()?;
             read(parts.kept, routines, &instrs[place], &mut row, needed);
             write(parts.kept, &instrs[place], &mut row);
-            pass_on(begin, place, &instrs[place], &row, rows);
+            if pass_on(begin, place, &instrs[place], &row, rows) {
+                changed = true;
+            }
         }
     }
-    Ok(())
+    Ok(changed)
 }
 
 /// What an instruction reads is needed at the begin if it isn't set.
@@ -156,30 +176,43 @@ fn write_each(kept: u32, cell: u32, count: u32, row: &mut [bool]) {
     }
 }
 
-/// At the places that may come next no more is set than this. Places before one are passed on already.
-fn pass_on(begin: usize, place: usize, instr: &Instr, row: &[bool], rows: &mut [Vec<bool>]) {
+/// At the places that may come next no more is set than this. Whether less is set there than before comes back.
+fn pass_on(
+    begin: usize,
+    place: usize,
+    instr: &Instr,
+    row: &[bool],
+    rows: &mut [Vec<bool>],
+) -> bool {
+    let mut changed = false;
     if goes_on(instr) {
-        meet_at(begin, place.saturating_add(1), row, rows);
+        changed = meet_at(begin, place.saturating_add(1), row, rows);
     }
     if let Some(to) = target(instr) {
-        if to as usize > place {
-            meet_at(begin, to as usize, row, rows);
+        if meet_at(begin, to as usize, row, rows) {
+            changed = true;
         }
     }
+    changed
 }
 
 /// At a place no more is set than this.
-fn meet_at(begin: usize, place: usize, row: &[bool], rows: &mut [Vec<bool>]) {
+fn meet_at(begin: usize, place: usize, row: &[bool], rows: &mut [Vec<bool>]) -> bool {
     if begin <= place && place - begin < rows.len() {
-        meet(&mut rows[place - begin], row);
+        meet(&mut rows[place - begin], row)
+    } else {
+        false
     }
 }
 
 /// No more is set than this.
-fn meet(into: &mut [bool], row: &[bool]) {
+fn meet(into: &mut [bool], row: &[bool]) -> bool {
+    let mut changed = false;
     for k in 0..into.len() {
-        if k < row.len() && !row[k] {
+        if k < row.len() && into[k] && !row[k] {
             into[k] = false;
+            changed = true;
         }
     }
+    changed
 }
