@@ -1,5 +1,5 @@
 -- Code that stands in a draft stands there still once more is written behind it.
-use Rattle.std.proofs.Common.{◌≡◌, ℕ, ◌≤◌, List, [], ◌++◌, length, sym, ap, subst, ◌∙◌, Some, arith, append_assoc}
+use Rattle.std.proofs.Common.{◌≡◌, ℕ, ◌≤◌, true, ℤ, List, [], ◌++◌, length, sym, ap, subst, ◌∙◌, Some, arith, append_assoc}
 use Rattle.std.specs.Prelude.{slice_get}
 use Rattle.cal_model.specs.Actor.{Action, Actor}
 use Rattle.code_ir.specs.declared.instr.Instr.{Instr}
@@ -13,11 +13,14 @@ use Rattle.stmt_lower.specs.Calls.{HasRunRoutines}
 use Rattle.stmt_lower.specs.Proceeding.{AreProcRoutines}
 use Rattle.stmt_lower.specs.Procedures.{Routines}
 use Rattle.stmt_lower.proofs.ProcServed.{acts_within, functions_served}
-use Rattle.action_lower.specs.FiringCode.{Fires, globals_of}
+use Rattle.cal_model.specs.ActorState.{IsActorState, AreTokensOf}
+use Rattle.cal_model.specs.Eligible.{eligible}
+use Rattle.cal_model.specs.Selection.{State, has_its_tokens}
+use Rattle.action_lower.specs.FiringCode.{Fires, FiresAs, globals_of}
 use Rattle.action_lower.specs.FiringWords.{AddsFired, AddsFiring}
 use Rattle.action_lower.specs.Guarding.{AreGuards, guard_more, no_guard}
 use Rattle.action_lower.specs.GuardWords.{AddsGuards, AnswerAsGuards}
-use Rattle.action_lower.specs.Seats.{state_cells, taken}
+use Rattle.action_lower.specs.Seats.{HoldVars, state_cells, taken}
 use Rattle.action_lower.proofs.StateSeats.{globals-laid}
 use Rattle.action_lower.proofs.Answering.{stands-in}
 use Rattle.action_lower.proofs.LocalRuns.{started_grows}
@@ -86,7 +89,21 @@ coded-more actor a coded old new grown h = record {
   sends = h.sends;
 }
 
--- code of a firing fires from its entry
+-- code of a firing fires where it stands, in code that has the routines
+pub fires-at : (actor : Actor) (a : ℕ) (act : Action) (rs : Routines) (firsts : List ℕ) (base n m high : ℕ) (code : List Instr) → IsSound actor → FiresAs actor a act rs firsts base n code m → (whole : Code)
+    → AreProcRoutines (globals_of actor) whole actor.funs actor.procs (state_cells actor) rs.functions rs.procedures high → state_cells actor ≤ high → high ≤ n → StandsAt whole.instrs base code → (x : State) (u : List (List ℤ)) (cells : List ℤ)
+    → m ≤ length cells → IsActorState actor x → AreTokensOf actor u → eligible actor x.at a ≡ true → has_its_tokens actor u a ≡ true → HoldVars actor x cells → Fires actor a act firsts whole base x u cells
+fires-at actor a act rs firsts base n m high code sound fires whole routines state below stands x u cells room in_state of_ports may has hold =
+    let low = state_cells actor in
+    let laid : AreLaid (globals_of actor) low high low [] = globals-laid actor.vars low high low sound.vars (omega arith) (omega arith) in
+    fires whole low high x u cells stands
+    (record {
+      functions = λ text f e. functions_served (globals_of actor) whole (taken actor u a) actor.funs actor.procs low rs.functions laid.0 high routines (omega arith) text f e;
+      procedures = λ text p e. acts_within (globals_of actor) whole (taken actor u a) actor.funs actor.procs low rs.functions laid.0 laid.1 laid.2 (length actor.procs) high routines (omega arith) text p e;
+    })
+    (omega arith) state below room in_state of_ports may has hold
+
+-- .. and so from its entry
 pub fires-from : (actor : Actor) (a : ℕ) (rs : Routines) (firsts : List ℕ) (entry : ℕ) (old new : Draft) → IsSound actor → IsServed actor rs old → entry ≡ length old.instrs.items → AddsFired rs actor a firsts old new
     → FiresFrom actor a entry firsts new
 fires-from actor a rs firsts entry old new sound served at added act whole more x u cells is goes room in_state of_ports may has hold =
@@ -94,13 +111,6 @@ fires-from actor a rs firsts entry old new sound served at added act whole more 
     let placed : whole.instrs ≡ old.instrs.items ++ (one.code ++ more) = goes.0 ∙ ap (λ is. is ++ more) one.is ∙ append_assoc old.instrs.items one.code more in
     let stands : StandsAt whole.instrs (length old.instrs.items) one.code =
     subst (λ all. StandsAt all (length old.instrs.items) one.code) (sym placed) (stands-in old.instrs.items one.code more) in
-    let low = state_cells actor in
-    let laid : AreLaid (globals_of actor) low served.high low [] = globals-laid actor.vars low served.high low sound.vars (omega arith) (omega arith) in
-    let routines : AreProcRoutines (globals_of actor) whole actor.funs actor.procs low rs.functions rs.procedures served.high = served.stand whole (one.code ++ more) (placed, goes.1 ∙ one.routines) in
     subst (λ e. Fires actor a act firsts whole e x u cells) (sym at)
-    (one.has whole low served.high x u cells stands
-    (record {
-      functions = λ text f e. functions_served (globals_of actor) whole (taken actor u a) actor.funs actor.procs low rs.functions laid.0 served.high routines (omega arith) text f e;
-      procedures = λ text p e. acts_within (globals_of actor) whole (taken actor u a) actor.funs actor.procs low rs.functions laid.0 laid.1 laid.2 (length actor.procs) served.high routines (omega arith) text p e;
-    })
-    (omega arith) served.state served.below room in_state of_ports may has hold)
+    (fires-at actor a act rs firsts (length old.instrs.items) old.cells new.cells served.high one.code sound one.has whole (served.stand whole (one.code ++ more) (placed, goes.1 ∙ one.routines)) served.state served.below stands x u cells
+    room in_state of_ports may has hold)

@@ -8,3 +8,4 @@ pub mod BodyRows
 pub mod Rowed
 pub mod Routined
 pub mod Chosen
+pub mod Cleared

@@ -19,7 +19,7 @@ use Rattle.action_lower.proofs.ActionAt.{at-place}
 use Rattle.actor_lower.specs.Coded.{AddsBodies, AreCodedActions, AreSends, IsCodedAction, IsMore}
 use Rattle.actor_lower.specs.Faults.{AreWhole, left_out_at}
 use Rattle.actor_lower.proofs.Extending.{coded-more, firing-added, guards-added}
-use Rattle.actor_lower.proofs.Rowed.{action-bodies}
+use Rattle.actor_lower.proofs.Rowed.{firing-bodies, guards-bodies}
 use Rattle.actor_lower.specs.Drafted.{IsServed}
 use Rattle.cal_model.specs.Sound.{IsSound}
 
@@ -29,7 +29,7 @@ there (x ∷ xs) zero h = (x, refl)
 there (x ∷ xs) (suc k) h = there xs k (omega arith)
 
 module _ (b : Bound) (a : ℕ) (low : a < length b.actions.items) where
-  action-there : (act : Action) × (slice_get (actor_of b).actions a ≡ Some act)
+  pub action-there : (act : Action) × (slice_get (actor_of b).actions a ≡ Some act)
   action-there = there (actor_of b).actions a (let e = length-map b.actions.items action_view in omega (arith, low, e))
 
   pub guards-grown : (es : List ℕ) (old new : Draft) → AddsGuards (actor_of b) a es old new → IsMore old new
@@ -38,10 +38,11 @@ module _ (b : Bound) (a : ℕ) (low : a < length b.actions.items) where
   pub firing-grown : (rs : Routines) (entry : ℕ) (firsts : List ℕ) (old new : Draft) → AddsFiring rs (actor_of b) a entry firsts old new → IsMore old new
   firing-grown rs entry firsts old new added = firing-added rs (actor_of b) a action-there.0 entry firsts old new action-there.1 added
 
-  pub bodies-grown : (rs : Routines) (es : List ℕ) (entry : ℕ) (firsts : List ℕ) (old mid new : Draft) → IsSound (actor_of b) → IsServed (actor_of b) rs mid → AddsGuards (actor_of b) a es old mid
-      → AddsFiring rs (actor_of b) a entry firsts mid new → AddsBodies (es ++ entry ∷ []) old new
-  bodies-grown rs es entry firsts old mid new sound served guards firing =
-      action-bodies (actor_of b) a action-there.0 rs es entry firsts old mid new sound served action-there.1 (firing-grown rs entry firsts mid new firing) guards firing
+  pub guards-alone : (es : List ℕ) (old new : Draft) → AddsGuards (actor_of b) a es old new → AddsBodies es old new
+  guards-alone es old new added = guards-bodies (actor_of b) a action-there.0 es old new action-there.1 added
+
+  pub firing-alone : (rs : Routines) (entry : ℕ) (firsts : List ℕ) (old new : Draft) → IsSound (actor_of b) → IsServed (actor_of b) rs old → AddsFiring rs (actor_of b) a entry firsts old new → AddsBodies (entry ∷ []) old new
+  firing-alone rs entry firsts old new sound served added = firing-bodies (actor_of b) a action-there.0 rs entry firsts old new sound served action-there.1 added
 
 -- where the outputs of an action are sent from
 pub sends-are : (b : Bound) (a n : ℕ) (act : BoundAction) (same : n ≡ a) (there : a < length b.actions.items) (is : act ≡ slice_index_or b.actions.items n act)

@@ -99,18 +99,18 @@ stood-in whole old new code more is all =
     let placed : whole.instrs ≡ old ++ (code ++ more) = all ∙ ap (λ xs. xs ++ more) is ∙ append_assoc old code more in
     subst (λ xs. StandsAt xs (length old) code) (sym placed) (stands-in old code more)
 
-guards-bodies : (actor : Actor) (a : ℕ) (act : Action) (es : List ℕ) (old new : Draft) → slice_get actor.actions a ≡ Some act → AddsGuards actor a es old new → AddsBodies es old new
+pub guards-bodies : (actor : Actor) (a : ℕ) (act : Action) (es : List ℕ) (old new : Draft) → slice_get actor.actions a ≡ Some act → AddsGuards actor a es old new → AddsBodies es old new
 guards-bodies actor a act es old new e added whole more number rest goes room behind rows =
     let one = added act e in
     let is = goes.0 in
     let size : length new.instrs.items ≡ length old.instrs.items + length one.code = ap length one.is ∙ length-append old.instrs.items one.code in
     guards-rows one.has whole (stood-in whole old.instrs.items new.instrs.items one.code more one.is is) room number behind rest (subst (λ k. AreBodies whole k (number + length es) rest) size rows)
 
-second-sized : (ps qs : List Port) → Each (λ p. IsSize p.kind) (ps ++ qs) → Each (λ p. IsSize p.kind) qs
+pub second-sized : (ps qs : List Port) → Each (λ p. IsSize p.kind) (ps ++ qs) → Each (λ p. IsSize p.kind) qs
 second-sized [] qs h = h
 second-sized (p ∷ ps) qs h = second-sized ps qs h.1
 
-firing-bodies : (actor : Actor) (a : ℕ) (act : Action) (rs : Routines) (entry : ℕ) (firsts : List ℕ) (old new : Draft) → IsSound actor → IsServed actor rs old → slice_get actor.actions a ≡ Some act
+pub firing-bodies : (actor : Actor) (a : ℕ) (act : Action) (rs : Routines) (entry : ℕ) (firsts : List ℕ) (old new : Draft) → IsSound actor → IsServed actor rs old → slice_get actor.actions a ≡ Some act
     → AddsFiring rs actor a entry firsts old new → AddsBodies (entry ∷ []) old new
 firing-bodies actor a act rs entry firsts old new sound served e added whole more number rest goes room behind rows =
     let one = added.1 act e in
@@ -134,12 +134,6 @@ bodies-join es fs one two three grown f g whole more number rest goes room behin
     (f whole (grown.code ++ more) number (fs ++ rest) (goes.0 ∙ ap (λ xs. xs ++ more) grown.is ∙ append_assoc two.instrs.items grown.code more, goes.1 ∙ grown.routines)
     (let le = grown.cells in omega (arith, le, room)) behind
     (g whole more (number + length es) rest goes room (omega (arith, behind)) (subst (λ k. AreBodies whole (length three.instrs.items) k rest) count rows)))
-
--- those of one action
-pub action-bodies : (actor : Actor) (a : ℕ) (act : Action) (rs : Routines) (es : List ℕ) (entry : ℕ) (firsts : List ℕ) (old mid new : Draft) → IsSound actor → IsServed actor rs mid → slice_get actor.actions a ≡ Some act → IsMore mid new
-    → AddsGuards actor a es old mid → AddsFiring rs actor a entry firsts mid new → AddsBodies (es ++ entry ∷ []) old new
-action-bodies actor a act rs es entry firsts old mid new sound served e grown guards firing =
-    bodies-join es (entry ∷ []) old mid new grown (guards-bodies actor a act es old mid e guards) (firing-bodies actor a act rs entry firsts mid new sound served e firing)
 
 -- ---- all actions
 

@@ -5,14 +5,16 @@ ghost use Rattle.cal_model.specs.Sound.{IsSound};
 ghost use Rattle.cal_model.specs.View.{actor_of};
 ghost use Rattle.stmt_lower.specs.Procedures.{routines_of};
 ghost use Rattle.action_lower.specs.GuardWords.{AnswerAsGuards};
+ghost use Rattle.action_lower.specs.Seats.{state_cells};
 ghost use Rattle.actor_tables.specs.Tables.{AreRates, AreRatesOf};
 ghost use Rattle.actor_lower.specs.Coded.{AddsBodies, AreCodedActions, FiresFrom, IsCodedAction, IsMore, all_entries, entries_of};
 ghost use Rattle.actor_lower.specs.Drafted.{IsServed};
 ghost use Rattle.actor_lower.specs.Faults.{AreWhole, IsWhyAction, IsWhyActions, left_out_at};
 
 use crate::fault::ActorFault;
+use crate::firings::put_firing;
 use crate::sends::sends_of;
-use action_lower::{lower_firing, lower_guards};
+use action_lower::lower_guards;
 use actor_tables::Rates;
 use cal_model::Bound;
 use expr_lower::{Callee, Draft, LowerFault};
@@ -35,10 +37,12 @@ pub(crate) fn lower_actions(
     b: &Bound,
     callees: &[Callee],
     procedures: &[ProcCallee],
+    kept: u32,
     rates: &[Rates],
     draft: &mut Draft,
 ) -> Result<Vec<ActionCode>, ActorFault>
     requires sound { IsSound (actor_of b.now) }
+    requires kept { kept ≡ state_cells (actor_of b.now) }
     requires served { IsServed (actor_of b.now) (routines_of callees.now procedures.now) draft.old }
     requires rates { AreRates (actor_of b.now) (length b.now.actions.items) rates.now }
     ensures coded { IfOk result (λ actions. AreCodedActions (actor_of b.now)
@@ -58,6 +62,7 @@ pub(crate) fn lower_actions(
             b,
             callees,
             procedures,
+            kept,
             action,
             &rates[usize::from(action)],
             draft,
@@ -73,12 +78,14 @@ fn lower_action(
     b: &Bound,
     callees: &[Callee],
     procedures: &[ProcCallee],
+    kept: u32,
     action: u16,
     rates: &Rates,
     draft: &mut Draft,
 ) -> Result<ActionCode, LowerFault>
     requires sound { IsSound (actor_of b.now) }
     requires action { action < length b.now.actions.items }
+    requires kept { kept ≡ state_cells (actor_of b.now) }
     requires served { IsServed (actor_of b.now) (routines_of callees.now procedures.now) draft.old }
     requires rates { AreRatesOf (actor_of b.now) action rates.now.needs.items rates.now.gives.items }
     ensures coded { IfOk result (λ coded. IsCodedAction (actor_of b.now) action coded draft.new) }
@@ -89,7 +96,7 @@ fn lower_action(
     ensures fault { IfErr result
         (IsWhyAction (routines_of callees.now procedures.now) b.now action) }
 {
-    let entries = lower_entries(alloc, b, callees, procedures, action, draft)?;
+    let entries = lower_entries(alloc, b, callees, procedures, kept, action, draft)?;
     let outputs = &b.actions[usize::from(action)].outputs;
     let sends = sends_of(alloc, outputs, &entries.firsts, b.outs.len() as u32)?;
     Ok(ActionCode {
@@ -107,11 +114,13 @@ fn lower_entries(
     b: &Bound,
     callees: &[Callee],
     procedures: &[ProcCallee],
+    kept: u32,
     action: u16,
     draft: &mut Draft,
 ) -> Result<Entries, LowerFault>
     requires sound { IsSound (actor_of b.now) }
     requires action { action < length b.now.actions.items }
+    requires kept { kept ≡ state_cells (actor_of b.now) }
     requires served { IsServed (actor_of b.now) (routines_of callees.now procedures.now) draft.old }
     ensures guards { IfOk result
         (λ entries. AnswerAsGuards (actor_of b.now) action entries.guards.items draft.new) }
@@ -126,7 +135,7 @@ fn lower_entries(
         (IsWhyAction (routines_of callees.now procedures.now) b.now action) }
 {
     let guards = lower_guards(alloc, b, action, draft)?;
-    let firing = lower_firing(alloc, b, action, callees, procedures, draft)?;
+    let firing = put_firing(alloc, b, callees, procedures, kept, action, draft)?;
     Ok(Entries {
         guards,
         fire: firing.entry,

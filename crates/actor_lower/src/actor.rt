@@ -52,6 +52,7 @@ pub fn lower(alloc: Global, b: &Bound) -> Result<Lowered, ActorFault>
         b,
         &called.callees,
         &called.procedures,
+        tables.kept,
         &tables.rates,
         &mut draft,
     )?;

@@ -10,6 +10,7 @@ mod actions;
 mod actor;
 mod code;
 mod fault;
+mod firings;
 mod functions;
 mod globals;
 pub mod laws;
